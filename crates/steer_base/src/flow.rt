@@ -1,0 +1,30 @@
+//! The flow that a packet belongs to.
+
+/// The source and the destination address of an IP packet, each as one number.
+#[derive(Clone, Copy, Debug, PartialEq, Eq)]
+pub enum Pair {
+    /// Two IPv4 addresses of 32 bits.
+    V4 { src: u32, dst: u32 },
+    /// Two IPv6 addresses of 128 bits.
+    V6 { src: u128, dst: u128 },
+}
+
+/// The transport protocols whose ports are part of a flow.
+#[derive(Clone, Copy, Debug, PartialEq, Eq)]
+pub enum Proto {
+    /// Protocol number 6.
+    Tcp,
+    /// Protocol number 17.
+    Udp,
+}
+
+/// What a frame tells of its flow. All frames without an IP packet are one flow.
+#[derive(Clone, Copy, Debug, PartialEq, Eq)]
+pub enum Flow {
+    /// No IP packet was found.
+    Bare,
+    /// The addresses alone, as of a fragment or of another protocol than TCP and UDP.
+    Two(Pair),
+    /// The addresses, the protocol, the source port and the destination port.
+    Four(Pair, Proto, u16, u16),
+}
