@@ -2,7 +2,9 @@
 #![tactic(auto)]
 
 mod flow;
+mod ids;
 mod memory;
 
 pub use flow::{Flow, Pair, Proto};
+pub use ids::{AppId, Cpu, PacketId, RxQueue, TxQueue};
 pub use memory::OutOfMemory;
