@@ -1,10 +1,30 @@
 //! The names and types that the parts of the replayer share.
 #![tactic(auto)]
 
+mod app;
+mod choice;
+mod command;
+mod counter;
+mod cpu_mask;
+mod filter;
 mod flow;
+mod idle;
 mod ids;
 mod memory;
+mod packet;
+mod put;
+mod step;
 
+pub use app::app_of;
+pub use choice::{Choice, Chosen, Entry, Why};
+pub use command::{Answer, Busy, Command, Refused, User};
+pub use counter::{reached, round_up};
+pub use cpu_mask::CpuMask;
+pub use filter::Filter;
 pub use flow::{Flow, Pair, Proto};
+pub use idle::Idle;
 pub use ids::{AppId, Cpu, PacketId, RxQueue, TxQueue};
 pub use memory::OutOfMemory;
+pub use packet::Packet;
+pub use put::{DropCause, LaneDrop, Put};
+pub use step::{Detach, Step};

@@ -1,0 +1,53 @@
+-- When a packet that is put to a lane is dropped: by a full backlog (`netdev_max_backlog`), or by the flow limit of the
+-- kernel scaling chapter (section RPS flow limit: 4,096 buckets, a window of 256 packets, from half of the backlog on).
+use Rattle.std.specs.Prelude.{ℕ, ◌+◌, ◌-◌, ◌*◌, ◌%◌, Bool, ◌&&◌, List, [], ◌∷◌, ◌++◌, Option, Some, None, ◌==◌, nat_lt, length, drop, map, filter, count_by, if◌then◌else◌}
+use Rattle.std.specs.List.{filter_map}
+use Rattle.std.specs.Option.{option_map}
+use Rattle.steer_base.specs.Lanes.{LaneLists}
+use Rattle.steer_base.specs.declared.put.DropCause.{DropCause}
+use Rattle.steer_base.specs.declared.put.DropCause.TheVariants.{Full, Flow}
+use Rattle.steer_base.specs.declared.put.LaneDrop.{LaneDrop}
+
+-- the bucket of a packet: none without a hash
+abbrev pub bucket_of : Option ℕ → Option ℕ
+bucket_of hash = option_map (λ h. h % 4096) hash
+
+-- the last n of a list
+abbrev pub last_of : {X : Type 0} → ℕ → List X → List X
+last_of n xs = drop (length xs - n) xs
+
+-- the buckets of the last 256 offers that have one
+abbrev pub window : List (Option ℕ) → List ℕ
+window offers = last_of 256 (filter_map (λ bucket. bucket) offers)
+
+-- how often a bucket stands among the last 256 offers, this packet's included
+abbrev pub bucket_count : List (Option ℕ) → ℕ → ℕ
+bucket_count offers bucket = count_by (λ b. b == bucket) (window (offers ++ Some bucket ∷ []))
+
+-- the flow limit: more than half of the limit waits, and the bucket's offers are over 128
+abbrev pub over_flow_limit : Bool → ℕ → ℕ → List (Option ℕ) → Option ℕ → Option DropCause
+over_flow_limit limited limit waiting offers None = None
+over_flow_limit limited limit waiting offers (Some bucket) =
+    if limited && nat_lt limit (2 * waiting) && nat_lt 128 (bucket_count offers bucket)
+    then Some (Flow (bucket_count offers bucket)) else None
+
+-- The cause of which a put is a drop, if it is one: a full backlog first, then the flow limit.
+abbrev pub drop_cause : Bool → ℕ → ℕ → List (Option ℕ) → Option ℕ → Option DropCause
+drop_cause limited limit waiting offers hash =
+    if waiting == limit then Some Full else over_flow_limit limited limit waiting offers (bucket_of hash)
+
+-- the same at a lane, whose accepted packets wait until they are pulled
+abbrev pub lane_drop_cause : LaneLists → Option ℕ → Option DropCause
+lane_drop_cause l hash = drop_cause l.limited l.limit (length l.accepted - l.pulled) l.offers hash
+
+-- the packets that were dropped when so many had been accepted, in the order of their numbers
+abbrev pub dropped_after : ℕ → List LaneDrop → List ℕ
+dropped_after n drops = map (λ d. d.id) (filter (λ d. d.accepted == n) drops)
+
+-- The offers of a lane in the order of their puts: each drop stands after the accepted packets that it counted.
+abbrev pub offers_from : ℕ → List ℕ → List LaneDrop → List ℕ
+offers_from n [] drops = dropped_after n drops
+offers_from n (x ∷ xs) drops = dropped_after n drops ++ x ∷ offers_from (n + 1) xs drops
+
+abbrev pub offers_of : List ℕ → List LaneDrop → List ℕ
+offers_of accepted drops = offers_from 0 accepted drops

@@ -1,0 +1,12 @@
+pub mod Apps
+pub mod Arrivals
+pub mod Choices
+pub mod Commands
+pub mod Counters
+pub mod Drops
+pub mod Entries
+pub mod Filters
+pub mod Lanes
+pub mod Orders
+pub mod Sets
+pub mod Sends

@@ -1,0 +1,29 @@
+-- Sets of processors and of queues, and the members of a list of candidates.
+use Rattle.std.specs.Prelude.{ℕ, Bool, true, false, List, [], ◌∷◌, ◌==◌, ◌&&◌, nat_lt, ◌%◌, length, slice_index, filter, if◌then◌else◌}
+use Rattle.std.specs.Int.{bit_at}
+use Rattle.std.specs.List.{range_with_len}
+use Rattle.steer_base.specs.declared.cpu_mask.CpuMask.{CpuMask}
+
+-- whether a number is in the set: bit n, for numbers below the width
+abbrev pub in_bits : ℕ → ℕ → ℕ → Bool
+in_bits width bits n = nat_lt n width && bit_at bits n == 1
+
+-- whether a processor is in the set; 32 and more are in none
+abbrev pub has : CpuMask → ℕ → Bool
+has mask cpu = in_bits 32 mask.0 cpu
+
+-- whether a receive queue is in the set; 16 and more are in none
+abbrev pub has_queue : ℕ → ℕ → Bool
+has_queue queues queue = in_bits 16 queues queue
+
+-- those of the numbers below n that pass the test, ascending
+abbrev pub those_below : ℕ → (ℕ → Bool) → List ℕ
+those_below n test = filter test (range_with_len 0 n)
+
+abbrev pub is_empty : List ℕ → Bool
+is_empty [] = true
+is_empty (x ∷ xs) = false
+
+-- the candidate at the index `hash mod k` among k
+abbrev pub at_hash : List ℕ → ℕ → ℕ
+at_hash candidates hash = slice_index candidates (hash % length candidates)

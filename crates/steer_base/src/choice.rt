@@ -1,0 +1,64 @@
+//! The choice of a lane for a packet, after the receive flow steering of the kernel's scaling chapter.
+ghost use Rattle.std.specs.Prelude.{◌≡◌};
+
+use crate::ids::PacketId;
+
+/// Why a packet goes to its lane.
+#[derive(Clone, Copy, Debug, PartialEq, Eq)]
+pub enum Why {
+    /// It has no class, so no entry is asked.
+    Plain,
+    /// The current lane of its class is the desired one.
+    Same,
+    /// Its class has no current lane.
+    Unset,
+    /// The current lane of its class is offline.
+    Offline,
+    /// The head of the current lane has reached the recorded tail.
+    Passed,
+    /// The current lane may still hold packets of the class.
+    Kept,
+}
+
+impl Why {
+    ghost use Rattle.steer_base.specs.Choices.{has_moved};
+
+    /// Whether the class got the desired lane as a new one: the three conditions under which the scaling chapter
+    /// lets a flow change its processor.
+    pub fn moved(&self) -> bool
+        ensures { result ≡ has_moved self.now }
+    {
+        matches!(self, Why::Unset | Why::Offline | Why::Passed)
+    }
+}
+
+/// The choice of a lane with all that was seen for it.
+#[derive(Clone, Copy, Debug, PartialEq, Eq)]
+pub struct Choice {
+    /// The class of the packet, if it has one.
+    pub class: Option<u32>,
+    /// The lane that was wanted, as it was seen.
+    pub want: Option<u8>,
+    /// The head of the current lane, where the rule looked at it.
+    pub head: Option<u32>,
+    /// The recorded tail of the class before this choice.
+    pub tail: Option<u32>,
+    /// The lane.
+    pub lane: u8,
+    /// The rule's case.
+    pub why: Why,
+}
+
+/// What is recorded of a class: its current lane, if it has one, and the recorded tail, a counter number.
+#[derive(Clone, Copy, Debug, PartialEq, Eq)]
+pub struct Entry {
+    pub lane: Option<u8>,
+    pub tail: u32,
+}
+
+/// A packet and the choice for it.
+#[derive(Clone, Copy, Debug, PartialEq, Eq)]
+pub struct Chosen {
+    pub id: PacketId,
+    pub choice: Choice,
+}
