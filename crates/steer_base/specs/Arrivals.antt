@@ -1,6 +1,6 @@
 -- The receive queue of an arriving packet (kernel scaling chapter, sections RSS and accelerated RFS; 128 entries as the
 -- redirection table of the Intel 82599).
-use Rattle.std.specs.Prelude.{ℕ, ◌%◌, ◌≡◌, List, Option, Some, None}
+use Rattle.std.specs.Prelude.{ℕ, ◌%◌, ◌≡◌, Option, Some, None}
 use Rattle.steer_base.specs.Choices.{class_of}
 
 -- the filter that a hash is looked up at, among so many

@@ -1,6 +1,6 @@
 -- When a hardware filter is written and when it may go (kernel scaling chapter, section accelerated RFS; the expiry is
 -- after the drivers' use of `rps_may_expire_flow`).
-use Rattle.std.specs.Prelude.{ℕ, ◌-◌, ◌*◌, max, Bool, List, Option, Some, None, ◌==◌, position, if◌then◌else◌}
+use Rattle.std.specs.Prelude.{ℕ, ◌-◌, ◌*◌, max, Bool, List, Option, None, ◌==◌, position, if◌then◌else◌}
 use Rattle.std.specs.Option.{option_map}
 use Rattle.steer_base.specs.Choices.{has_moved}
 use Rattle.steer_base.specs.Counters.{has_reached}

@@ -1,5 +1,5 @@
 -- The transmit queue that a reply is sent on (kernel scaling chapter, section XPS).
-use Rattle.std.specs.Prelude.{ℕ, Bool, true, List, Option, Some, None, unwrap_or, if◌then◌else◌}
+use Rattle.std.specs.Prelude.{ℕ, Bool, true, List, Option, unwrap_or, if◌then◌else◌}
 use Rattle.steer_base.specs.Sets.{those_below, is_empty, at_hash}
 
 -- the first list with a member, else the last
@@ -11,9 +11,9 @@ first_filled first second third = if is_empty first then (if is_empty second the
 abbrev pub candidates : ℕ → (ℕ → ℕ → Bool) → (ℕ → ℕ → Bool) → ℕ → ℕ → List ℕ
 candidates count by_queue by_cpu rxq cpu =
     first_filled
-      (those_below count (λ tx. by_queue tx rxq))
-      (those_below count (λ tx. by_cpu tx cpu))
-      (those_below count (λ tx. true))
+    (those_below count (λ tx. by_queue tx rxq))
+    (those_below count (λ tx. by_cpu tx cpu))
+    (those_below count (λ tx. true))
 
 -- The pick: the candidate at `hash mod k` among k, and the first without a hash.
 abbrev pub pick_of : ℕ → (ℕ → ℕ → Bool) → (ℕ → ℕ → Bool) → ℕ → ℕ → Option ℕ → ℕ

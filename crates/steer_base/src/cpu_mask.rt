@@ -15,3 +15,15 @@ impl CpuMask {
         cpu < 32 && self.0 >> cpu & 1 == 1
     }
 }
+
+#[cfg(test)]
+mod tests {
+    use super::*;
+
+    #[test]
+    fn bit_c_is_processor_c(rt: HostRuntime) {
+        let mask = CpuMask(0x8000_0002);
+        assert!(rt; mask.has(1) && mask.has(31));
+        assert!(rt; !mask.has(0) && !mask.has(30) && !mask.has(32) && !mask.has(255));
+    }
+}
