@@ -1,0 +1,44 @@
+-- What the calls of a desk leave, where it tells its bytes.
+use Rattle.std.specs.Prelude.{◌<◌, ◌≤◌, ℕ, List, Bool, true, false, length, take, ⊤, Option, Some, None, IsSome}
+use Rattle.std.specs.Io.KnownBytes.{Keeps, Consumes, IsAtEnd}
+use Rattle.outside_io.specs.declared.desk.Begin.{Begin}
+use Rattle.outside_io.specs.declared.desk.Begin.TheVariants as begin
+use Rattle.outside_io.specs.declared.desk.Got.{Got}
+use Rattle.outside_io.specs.declared.desk.Got.TheVariants as got
+
+-- no name's bytes are told
+abbrev pub untold : List ℕ → Option (List ℕ)
+untold name = None
+
+-- bytes that were told are still told, be they others
+abbrev pub GoesOnTelling : Option (List ℕ) → Option (List ℕ) → Type 0
+GoesOnTelling None now = ⊤
+GoesOnTelling (Some bytes) now = IsSome now
+
+-- a file that was begun has all the bytes of its name left
+abbrev pub Begins : Begin → Option (List ℕ) → Option (List ℕ) → Type 0
+Begins begin.Ok named left = Keeps named left
+Begins begin.Failed named left = ⊤
+
+-- a read gives the first bytes of those left, or there are none, or it fails and takes none
+abbrev pub Reads : Got → List ℕ → Option (List ℕ) → Option (List ℕ) → Type 0
+Reads (got.Bytes n) buf old new = (0 < n) × (n ≤ length buf) × Consumes old new (take n buf)
+Reads got.End buf old new = IsAtEnd old × Keeps old new
+Reads got.Failed buf old new = Keeps old new
+
+-- how many bytes a read gave
+abbrev pub count_of : Got → ℕ
+count_of (got.Bytes n) = n
+count_of got.End = 0
+count_of got.Failed = 0
+
+-- whether a `begin` failed
+abbrev pub has_failed : Begin → Bool
+has_failed begin.Ok = false
+has_failed begin.Failed = true
+
+-- whether a read failed
+abbrev pub is_failed : Got → Bool
+is_failed (got.Bytes n) = false
+is_failed got.End = false
+is_failed got.Failed = true

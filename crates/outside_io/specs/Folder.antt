@@ -1,0 +1,29 @@
+-- Files in memory: pairs of a name and its bytes, of which the first of a name counts.
+use Rattle.std.specs.Prelude.{ℕ, List, [], drop, Option, slice_get, position, bytes_eq, String, string_bytes, Vec, option_and_then}
+use Rattle.std.specs.Option.{option_map, option_map_or}
+use Rattle.std.specs.declared.alloc.Global.{Global}
+use Rattle.outside_io.specs.declared.folder.Folder.{Folder}
+
+-- the place of a name
+abbrev pub place_of : List (String Global × Vec ℕ Global) → List ℕ → Option ℕ
+place_of files name = position (λ f. bytes_eq (string_bytes f.0) name) files
+
+-- the bytes of the file at a place
+abbrev pub bytes_at : List (String Global × Vec ℕ Global) → ℕ → Option (List ℕ)
+bytes_at files place = option_map (λ f. f.1.items) (slice_get files place)
+
+-- the bytes of a name, where it is held
+abbrev pub bytes_of : List (String Global × Vec ℕ Global) → List ℕ → Option (List ℕ)
+bytes_of files name = option_and_then (bytes_at files) (place_of files name)
+
+-- the bytes of the file at a place from an offset on, and none where there is no place
+abbrev pub bytes_from : List (String Global × Vec ℕ Global) → Option ℕ → ℕ → List ℕ
+bytes_from files place at = option_map_or (drop at) (option_and_then (bytes_at files) place) []
+
+-- the bytes of a name in a folder, where it is held
+abbrev pub held_in : Folder → List ℕ → Option (List ℕ)
+held_in folder = bytes_of folder.files.items
+
+-- the bytes left of the file that was begun, and none where nothing is begun
+abbrev pub left_in : Folder → List ℕ
+left_in folder = bytes_from folder.files.items folder.begun folder.at

@@ -1,0 +1,9 @@
+pub mod Counts
+pub mod Desk
+pub mod Failures
+pub mod Folder
+pub mod MemoryDesk
+pub mod MemorySink
+pub mod Sink
+pub mod SureDesk
+pub use Rattle.std.specs.Io.KnownBytes

@@ -1,0 +1,30 @@
+-- What a desk in memory holds, and which of its calls fail.
+use Rattle.std.specs.Prelude.{List, ℕ, Bool, ◌||◌, Option, is_none}
+use Rattle.outside_io.specs.Failures.{next_fails}
+use Rattle.outside_io.specs.Folder.{held_in, left_in}
+use Rattle.outside_io.specs.declared.failures.Failures.{Failures}
+use Rattle.outside_io.specs.declared.memory_desk.MemoryDesk.{MemoryDesk}
+
+-- the bytes of a name, where it is held
+abbrev pub held_by : MemoryDesk → List ℕ → Option (List ℕ)
+held_by desk = held_in desk.folder
+
+-- the bytes left of the file that was begun, and none where nothing is begun
+abbrev pub left_on : MemoryDesk → List ℕ
+left_on desk = left_in desk.folder
+
+-- its calls, and those that are to fail
+abbrev pub failures_of : MemoryDesk → Failures
+failures_of desk = desk.failures
+
+-- how many of them failed
+abbrev pub faults_of : MemoryDesk → ℕ
+faults_of desk = desk.failures.faults
+
+-- a `begin` fails where its number is listed or the name is not held
+abbrev pub begin_fails : MemoryDesk → List ℕ → Bool
+begin_fails desk name = next_fails (failures_of desk) || is_none (held_by desk name)
+
+-- a `read` fails where its number is listed
+abbrev pub read_fails : MemoryDesk → Bool
+read_fails desk = next_fails (failures_of desk)

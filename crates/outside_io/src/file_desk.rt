@@ -1,0 +1,124 @@
+//! The desk over the files of the system.
+ghost use Rattle.std.specs.Prelude.{◌≡◌, ◌<◌, ◌≤◌, None, IsSome, length};
+ghost use Rattle.outside_io.specs.Counts.{Rose, counted, last_count, raised};
+ghost use Rattle.outside_io.specs.Desk.{Begins, GoesOnTelling, Reads, count_of};
+ghost use Rattle.outside_io.specs.Desk.{has_failed, is_failed, untold};
+
+use crate::{Begin, Desk, Got};
+use std::fs;
+use std::io::Read;
+use std::rt::Files;
+
+/// The files of the system, by path. It tells no bytes, and counts neither bytes nor reads. A name
+/// that can't be opened fails at `begin`, a folder or a bad disk at `read`.
+#[derive(Drop)]
+pub struct FileDesk<R: Files + Drop> {
+    rt: R,
+    file: Option<R::File>,
+    faults: u64,
+}
+
+impl<R: Files + Drop> FileDesk<R> {
+    /// Nothing is begun, and no call has failed.
+    pub fn make(rt: R) -> Self
+        ensures begun { result.file ≡ None }
+        ensures faults { result.faults ≡ 0 }
+    {
+        FileDesk {
+            rt,
+            file: None,
+            faults: 0,
+        }
+    }
+}
+
+impl<R: Files + Drop> Desk for FileDesk<R> {
+    ghost held = { λ _. untold };
+
+    ghost left = { λ _. None };
+
+    ghost taken = { λ _. last_count };
+
+    ghost reads = { λ _. last_count };
+
+    ghost faults = { λ desk. desk.faults };
+
+    fn begin(&mut self, name: &str) -> Begin
+        ensures held { untold ≡ untold }
+        ensures left { Begins result None None }
+        ensures told { GoesOnTelling None None }
+        ensures taken { last_count ≡ last_count }
+        ensures reads { last_count ≡ last_count }
+        ensures later { self.old.faults ≤ self.new.faults }
+        ensures failed { result ≡ Begin.Failed → Rose self.old.faults self.new.faults }
+
+        ensures begun { result ≡ Begin.Ok → IsSome self.new.file }
+        ensures stopped { result ≡ Begin.Failed → self.new.file ≡ None }
+        ensures counted { self.new.faults ≡ counted (has_failed result) self.old.faults }
+    {
+        self.file = None;
+        let Ok(file) = fs::open(&self.rt, name) else {
+            self.faults = self.faults.saturating_add(1);
+            return Begin::Failed;
+        };
+        self.file = Some(file);
+        Begin::Ok
+    }
+
+    fn read(&mut self, buf: &mut [u8]) -> Got
+        requires { 0 < length buf.old }
+        ensures held { untold ≡ untold }
+        ensures left { Reads result buf.new None None }
+        ensures taken { last_count ≡ raised (count_of result) last_count }
+        ensures reads { last_count ≡ raised 1 last_count }
+        ensures later { self.old.faults ≤ self.new.faults }
+        ensures failed { result ≡ Got.Failed → Rose self.old.faults self.new.faults }
+
+        ensures nothing_begun { self.old.file ≡ None → result ≡ Got.End }
+        ensures counted { self.new.faults ≡ counted (is_failed result) self.old.faults }
+    {
+        let Some(file) = &mut self.file else {
+            return Got::End;
+        };
+        match file.read(buf) {
+            Ok(0) => Got::End,
+            Ok(count) => Got::Bytes(count),
+            Err(_) => {
+                self.faults = self.faults.saturating_add(1);
+                Got::Failed
+            }
+        }
+    }
+}
+
+#[cfg(test)]
+mod tests {
+    use super::*;
+    use crate::{ReadWhole, read_whole};
+    use std::test::Fail;
+
+    #[test]
+    fn files_are_read_and_folders_and_missing_names_fail(rt: HostRuntime) -> Result<(), Fail> {
+        let alloc = rt.alloc();
+        let long = vec![in alloc; b'x'; 10_000]?;
+        fs::write(&rt, "long", long.as_slice())?;
+        fs::write(&rt, "short", b"abc")?;
+        let mut desk = FileDesk::make(rt.clone()?);
+        let bytes = read_whole(alloc, &mut desk, "long", 10_000)?;
+        assert_eq!(rt; bytes.as_slice(), long.as_slice());
+        for (name, limit, want) in [
+            ("short", 3, Ok(3)),
+            ("short", 2, Err(ReadWhole::TooLong)),
+            (".", 3, Err(ReadWhole::Fault)),
+            ("missing", 3, Err(ReadWhole::Fault)),
+        ] {
+            let got = read_whole(alloc, &mut desk, name, limit).map(|bytes| bytes.len());
+            assert_eq!(rt; got, want, "{name} with limit {limit}");
+        }
+        assert_eq!(rt; desk.begin("missing"), Begin::Failed);
+        assert_eq!(rt; desk.read(&mut [0]), Got::End);
+        fs::remove_file(&rt, "long")?;
+        fs::remove_file(&rt, "short")?;
+        Ok(())
+    }
+}

@@ -1,0 +1,26 @@
+//! Files that are read by name and streams that are written to, over the system or in memory.
+#![tactic(auto)]
+
+mod desk;
+mod failures;
+mod file_desk;
+mod folder;
+mod memory_desk;
+mod memory_sink;
+mod reading;
+mod sink;
+mod std_sink;
+mod sure_desk;
+mod sure_sink;
+mod writing;
+
+pub use desk::{Begin, Desk, Got};
+pub use file_desk::FileDesk;
+pub use memory_desk::MemoryDesk;
+pub use memory_sink::MemorySink;
+pub use reading::{ReadWhole, read_whole};
+pub use sink::{Sink, Took};
+pub use std_sink::StdSink;
+pub use sure_desk::SureDesk;
+pub use sure_sink::SureSink;
+pub use writing::{WriteFault, write_whole};

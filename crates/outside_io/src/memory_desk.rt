@@ -1,0 +1,93 @@
+//! A desk in memory, which fails at the calls that are listed.
+ghost use Rattle.std.specs.Prelude.{if◌then◌else◌, ◌≡◌, ◌<◌, ◌≤◌, ℕ, [], Some, List, length};
+ghost use Rattle.outside_io.specs.Counts.{Rose, last_count, raised};
+ghost use Rattle.outside_io.specs.Desk.{Begins, GoesOnTelling, Reads, count_of, is_failed};
+ghost use Rattle.outside_io.specs.Failures.{Counts, IsFresh};
+ghost use Rattle.outside_io.specs.Folder.{bytes_of};
+
+use crate::failures::Failures;
+use crate::folder::Folder;
+use crate::{Begin, Desk, Got};
+
+/// Files in memory. The calls of `begin` and `read` are numbered together from 1, and those listed
+/// fail. So does a `begin` of a name that isn't held. After a failed `begin`, and before any, nothing
+/// is begun. It keeps no count of its bytes and reads.
+#[derive(Drop)]
+pub struct MemoryDesk {
+    folder: Folder,
+    failures: Failures,
+}
+
+impl MemoryDesk {
+    ghost use Rattle.outside_io.specs.MemoryDesk.{failures_of, held_by, left_on};
+
+    /// A desk with these files, names with their bytes, of which the first of a name counts.
+    pub fn make(files: Vec<(String, Vec<u8>)>, failing: Vec<u64>) -> Self
+        ensures held { held_by result ≡ bytes_of files.items }
+        ensures left { left_on result ≡ [] }
+        ensures fresh { IsFresh (failures_of result) failing.items }
+    {
+        MemoryDesk {
+            folder: Folder::make(files),
+            failures: Failures::make(failing),
+        }
+    }
+}
+
+impl Desk for MemoryDesk {
+    ghost use Rattle.outside_io.specs.MemoryDesk.{begin_fails, read_fails};
+    ghost use Rattle.outside_io.specs.MemoryDesk.{failures_of, faults_of, held_by, left_on};
+
+    ghost held = { held_by };
+
+    ghost left = { λ desk. Some (left_on desk) };
+
+    ghost taken = { λ _. last_count };
+
+    ghost reads = { λ _. last_count };
+
+    ghost faults = { λ desk. faults_of desk };
+
+    fn begin(&mut self, name: &str) -> Begin
+        ensures held { held_by self.new ≡ held_by self.old }
+        ensures left { Begins result (held_by self.old name.now) (Some (left_on self.new)) }
+        ensures told { GoesOnTelling (Some (left_on self.old)) (Some (left_on self.new)) }
+        ensures taken { last_count ≡ last_count }
+        ensures reads { last_count ≡ last_count }
+        ensures later { faults_of self.old ≤ faults_of self.new }
+        ensures failed { result ≡ Begin.Failed → Rose (faults_of self.old) (faults_of self.new) }
+
+        ensures exact { result ≡ (if begin_fails self.old name.now then Begin.Failed else Begin.Ok) }
+        ensures counted { Counts (failures_of self.old) (failures_of self.new) (begin_fails self.old name.now) }
+        ensures stopped { result ≡ Begin.Failed → left_on self.new ≡ [] }
+    {
+        if self.failures.next_call() || !self.folder.begin(name) {
+            self.folder.stop();
+            self.failures.count_fault();
+            return Begin::Failed;
+        }
+        Begin::Ok
+    }
+
+    fn read(&mut self, buf: &mut [u8]) -> Got
+        requires { 0 < length buf.old }
+        ensures held { held_by self.new ≡ held_by self.old }
+        ensures left { Reads result buf.new (Some (left_on self.old)) (Some (left_on self.new)) }
+        ensures taken { last_count ≡ raised (count_of result) last_count }
+        ensures reads { last_count ≡ raised 1 last_count }
+        ensures later { faults_of self.old ≤ faults_of self.new }
+        ensures failed { result ≡ Got.Failed → Rose (faults_of self.old) (faults_of self.new) }
+
+        ensures exact { is_failed result ≡ read_fails self.old }
+        ensures counted { Counts (failures_of self.old) (failures_of self.new) (read_fails self.old) }
+    {
+        if self.failures.next_call() {
+            self.failures.count_fault();
+            return Got::Failed;
+        }
+        match self.folder.read(buf) {
+            0 => Got::End,
+            count => Got::Bytes(count),
+        }
+    }
+}

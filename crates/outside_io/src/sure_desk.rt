@@ -1,0 +1,73 @@
+//! A desk in memory that never fails.
+ghost use Rattle.std.specs.Prelude.{◌≡◌, ℕ, List, [], Some, unwrap_or};
+ghost use Rattle.outside_io.specs.Counts.{last_count};
+ghost use Rattle.outside_io.specs.Folder.{bytes_of};
+
+use crate::folder::Folder;
+use crate::{Begin, Desk, Got};
+
+/// Files in memory, where a name that isn't held is an empty file. No call fails.
+#[derive(Drop)]
+pub struct SureDesk {
+    folder: Folder,
+}
+
+impl SureDesk {
+    ghost use Rattle.outside_io.specs.SureDesk.{held_by, left_on};
+
+    /// A desk with these files, names with their bytes, of which the first of a name counts.
+    pub fn make(files: Vec<(String, Vec<u8>)>) -> Self
+        ensures held { (name : List ℕ) → held_by result name ≡ Some (unwrap_or (bytes_of files.items name) []) }
+        ensures left { left_on result ≡ [] }
+    {
+        SureDesk {
+            folder: Folder::make(files),
+        }
+    }
+}
+
+impl Desk for SureDesk {
+    ghost use Rattle.outside_io.specs.SureDesk.{held_by, left_on};
+
+    ghost held = { held_by };
+
+    ghost left = { λ desk. Some (left_on desk) };
+
+    ghost taken = { λ _. last_count };
+
+    ghost reads = { λ _. last_count };
+
+    ghost faults = { λ _. 0 };
+
+    fn begin(&mut self, name: &str) -> Begin {
+        self.folder.begin(name);
+        Begin::Ok
+    }
+
+    fn read(&mut self, buf: &mut [u8]) -> Got {
+        match self.folder.read(buf) {
+            0 => Got::End,
+            count => Got::Bytes(count),
+        }
+    }
+}
+
+#[cfg(test)]
+mod tests {
+    use super::*;
+    use crate::read_whole;
+    use std::test::Fail;
+
+    #[test]
+    fn a_name_that_is_not_held_is_an_empty_file(rt: HostRuntime) -> Result<(), Fail> {
+        let alloc = rt.alloc();
+        let mut files = Vec::new(alloc);
+        files.push((String::from_str(alloc, "a")?, vec![in alloc; 1, 2]?))?;
+        let mut desk = SureDesk::make(files);
+        let held = read_whole(alloc, &mut desk, "a", 2)?;
+        assert_eq!(rt; held.as_slice(), [1, 2].as_slice());
+        let unknown = read_whole(alloc, &mut desk, "b", 2)?;
+        assert!(rt; unknown.is_empty());
+        Ok(())
+    }
+}

@@ -1,0 +1,61 @@
+//! A sink that never fails and keeps nothing.
+ghost use Rattle.std.specs.Prelude.{◌≡◌, ◌<◌, ◌≤◌, ℕ, None, length};
+ghost use Rattle.outside_io.specs.Counts.{Rose, raised};
+ghost use Rattle.outside_io.specs.Sink.{Takes};
+
+use crate::{Sink, Took};
+
+/// Counts the bytes that it is given, up to `u64::MAX`, and keeps none. No call fails.
+#[derive(Drop)]
+pub struct SureSink {
+    count: u64,
+}
+
+impl SureSink {
+    /// No byte was written.
+    pub fn make() -> Self
+        ensures { result.count ≡ 0 }
+    {
+        SureSink { count: 0 }
+    }
+
+    /// How many bytes were written.
+    pub fn count(&self) -> u64
+        ensures { result ≡ self.now.count }
+    {
+        self.count
+    }
+}
+
+impl Sink for SureSink {
+    ghost written = { λ _. None };
+
+    ghost faults = { λ _. 0 };
+
+    fn write(&mut self, bytes: &[u8]) -> Took
+        requires { 0 < length bytes.now }
+        ensures written { Takes result bytes.now None None }
+        ensures later { 0 ≤ 0 }
+        ensures failed { result ≡ Took.Failed → Rose 0 0 }
+
+        ensures whole { result ≡ Took.Bytes (length bytes.now) }
+        ensures count { self.new.count ≡ raised (length bytes.now) self.old.count }
+    {
+        self.count = self.count.saturating_add(bytes.len() as u64);
+        Took::Bytes(bytes.len())
+    }
+}
+
+#[cfg(test)]
+mod tests {
+    use super::*;
+    use crate::write_whole;
+
+    #[test]
+    fn bytes_are_counted(rt: HostRuntime) {
+        let mut out = SureSink::make();
+        assert_eq!(rt; write_whole(&mut out, b"steer"), Ok(()));
+        assert_eq!(rt; write_whole(&mut out, b" 1\n"), Ok(()));
+        assert_eq!(rt; out.count(), 8);
+    }
+}
