@@ -1,0 +1,9 @@
+pub mod Pieces
+pub mod Rows
+pub mod Walk
+pub mod Openings
+pub mod Bodies
+pub mod Reading
+pub mod Verdicts
+pub mod Written
+pub mod Magic

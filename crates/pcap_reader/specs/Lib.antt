@@ -1,0 +1,6 @@
+pub mod Numbers
+pub mod Captures
+pub mod Faults
+pub mod Fronts
+pub mod Writing
+pub mod Laws

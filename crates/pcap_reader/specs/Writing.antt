@@ -1,0 +1,45 @@
+-- The bytes of a capture that is written: little-endian, with microseconds, of Ethernet frames.
+use Rattle.std.specs.Prelude.{◌≤◌, ◌<◌, ℕ, ◌+◌, ◌^◌, false, List, [], ◌∷◌, ◌++◌, length, None}
+use Rattle.std.specs.List.{flat_map}
+use Rattle.byteorder.specs.Endian.{little_bytes}
+use Rattle.pcap_reader.specs.declared.record.PcapRecord.{PcapRecord}
+use Rattle.pcap_reader.specs.declared.capture.Capture.{Capture}
+
+-- the header: magic, version 2.4, two unused fields, the largest frame 65535, and Ethernet
+unfoldable pub header_bytes : List ℕ
+header_bytes =
+    0xd4 ∷ 0xc3 ∷ 0xb2 ∷ 0xa1 ∷ 2 ∷ 0 ∷ 4 ∷ 0 ∷ 0 ∷ 0 ∷ 0 ∷ 0 ∷ 0 ∷ 0 ∷ 0 ∷ 0 ∷ 0xff ∷ 0xff ∷ 0 ∷ 0 ∷ 1 ∷ 0 ∷ 0 ∷ 0 ∷ []
+
+-- the 16 bytes before a frame of this length
+unfoldable pub record_header : ℕ → ℕ → ℕ → List ℕ
+record_header sec frac len = ((little_bytes 4 sec ++ little_bytes 4 frac) ++ little_bytes 4 len) ++ little_bytes 4 len
+
+-- a packet to be written: its time and its frame
+pub record Packet : Type 0 where
+  pub sec : ℕ
+  pub frac : ℕ
+  pub frame : List ℕ
+
+-- the numbers of a packet fit the fields of a record
+pub record CanBeWritten (p : Packet) : Type 0 where
+  pub sec : p.sec < 2 ^ 32
+  pub frac : p.frac < 2 ^ 32
+  pub frame : length p.frame ≤ 262144
+
+abbrev pub packet_bytes : Packet → List ℕ
+packet_bytes p = record_header p.sec p.frac (length p.frame) ++ p.frame
+
+-- the header, and then each packet
+abbrev pub capture_bytes : List Packet → List ℕ
+capture_bytes packets = header_bytes ++ flat_map packet_bytes packets
+
+-- the records of packets that begin at this place of the file
+abbrev pub records_from : ℕ → List Packet → List PcapRecord
+records_from place [] = []
+records_from place (p ∷ ps) =
+    record { sec = p.sec; frac = p.frac; start = place + 16; len = length p.frame; orig = length p.frame }
+    ∷ records_from (place + (16 + length p.frame)) ps
+
+-- the capture of packets, which ends behind the last of them
+abbrev pub capture_of : List Packet → Capture
+capture_of packets = record { big = false; nano = false; records = records_from 24 packets; cut = None }

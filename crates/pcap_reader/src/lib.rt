@@ -1,0 +1,21 @@
+//! The classic pcap file format, version 2.4: captures of Ethernet frames are read and written.
+#![tactic(auto)]
+
+mod capture;
+mod fault;
+mod front;
+mod laws;
+mod read;
+mod record;
+mod records;
+#[cfg(test)]
+mod tests;
+mod write;
+
+pub use capture::Capture;
+pub use fault::CaptureFault;
+pub use laws::{captures_read_back, one_capture_or_fault};
+pub use read::read_capture;
+pub use record::PcapRecord;
+pub use records::Records;
+pub use write::{put_header, put_packet};

@@ -1,0 +1,160 @@
+//! Reading a capture: one walk over its bytes.
+ghost use Rattle.std.specs.Prelude.{◌≡◌, ◌≢◌, ◌≤◌, ◌⊎◌, length, take, drop, All, IfOk, IfErr, OnOk, IfSome, IfNone, IsErrAnd, MatchResult, Bool};
+ghost use Rattle.pcap_reader.specs.declared.capture.Capture.{Capture as ACapture};
+ghost use Rattle.pcap_reader.specs.declared.fault.CaptureFault.{CaptureFault as AFault};
+ghost use Rattle.pcap_reader.specs.declared.fault.CaptureFault.TheVariants.{OutOfMemory as NoMemory};
+ghost use Rattle.pcap_reader.specs.Numbers.{number_of, HasMagic};
+ghost use Rattle.pcap_reader.specs.Captures.{IsEthernet, HasRecords, HasCapture, IsWithin};
+ghost use Rattle.pcap_reader.specs.Faults.{HeaderHasFault, RecordsHaveFault, PartsHaveFault, HasFault};
+
+use crate::capture::Capture;
+use crate::fault::CaptureFault;
+use crate::front::{Front, RECORD_HEADER};
+use crate::records::Records;
+use byteorder::{BigEndian, ByteOrder, LittleEndian};
+use std::alloc::Global;
+
+/// The most packets that a capture may have.
+const MAX_PACKETS: usize = 262_144;
+
+/// The bytes of a file before its first record.
+const HEADER: usize = 24;
+
+/// Reads the bytes of a pcap file, version 2.4, of Ethernet frames: of either byte order, with
+/// microseconds or nanoseconds. The fault is the first in the order of the file. Takes memory for
+/// the records alone.
+pub fn read_capture(alloc: Global, bytes: &[u8]) -> Result<Capture, CaptureFault>
+    // Ok exactly where the bytes have a capture, and memory is left.
+    ensures found { IfOk result (λ capture. HasCapture bytes.now capture) }
+    ensures complete { (capture : ACapture) → HasCapture bytes.now capture
+        → MatchResult result (λ c. c ≡ capture) (λ e. e ≡ NoMemory) }
+
+    // Each fault exactly where the bytes have it, and memory is left.
+    ensures fault { IfErr result (λ e. e ≢ NoMemory → HasFault bytes.now e) }
+    ensures exact { (fault : AFault) → HasFault bytes.now fault
+        → IsErrAnd result (λ e. (e ≡ fault) ⊎ (e ≡ NoMemory)) }
+
+    ensures few { IfOk result (λ capture. length capture.records ≤ 262144) }
+    ensures within { IfOk result (λ capture. All (IsWithin bytes.now) capture.records) }
+{
+    read_file(alloc, bytes)
+}
+
+/// Reads the file. That no other answer is right follows from what captures and faults are.
+fn read_file(alloc: Global, bytes: &[u8]) -> Result<Capture, CaptureFault>
+    ensures found { IfOk result (λ capture. HasCapture bytes.now capture) }
+    ensures fault { IfErr result (λ e. e ≢ NoMemory → HasFault bytes.now e) }
+{
+    if bytes.len() < HEADER {
+        return Err(CaptureFault::ShortHeader { len: bytes.len() });
+    }
+    let Some((big, nano)) = magic_of(bytes) else {
+        return Err(CaptureFault::BadMagic {
+            magic: LittleEndian::read_u32(bytes),
+        });
+    };
+    let (records, cut) = read_ordered(alloc, big, bytes)?;
+    Ok(Capture {
+        big,
+        nano,
+        records,
+        cut,
+    })
+}
+
+/// The byte order and the unit of time that the first four bytes tell.
+fn magic_of(bytes: &[u8]) -> Option<(bool, bool)>
+    requires { 24 ≤ length bytes.now }
+    ensures some { IfSome result (λ m. HasMagic m.0 m.1 bytes.now) }
+    ensures none { IfNone result ((big nano : Bool) → HasMagic big nano bytes.now → ⊥) }
+{
+    match &bytes[..4] {
+        [0xd4, 0xc3, 0xb2, 0xa1] => Some((false, false)),
+        [0x4d, 0x3c, 0xb2, 0xa1] => Some((false, true)),
+        [0xa1, 0xb2, 0xc3, 0xd4] => Some((true, false)),
+        [0xa1, 0xb2, 0x3c, 0x4d] => Some((true, true)),
+        _ => None,
+    }
+}
+
+/// Reads all but the magic number. `big` has the highest byte of a number first.
+fn read_ordered(
+    alloc: Global,
+    big: bool,
+    bytes: &[u8],
+) -> Result<(Records, Option<u32>), CaptureFault>
+    requires { 24 ≤ length bytes.now }
+    ensures ethernet { OnOk result (IsEthernet (number_of big) (take 24 bytes.now)) }
+    ensures found { IfOk result (λ r. HasRecords (number_of big) (drop 24 bytes.now) r.0 r.1) }
+    ensures fault { IfErr result (λ e. e ≢ NoMemory
+        → PartsHaveFault (number_of big) (take 24 bytes.now) (drop 24 bytes.now) e) }
+{
+    if big {
+        read_parts::<BigEndian>(alloc, bytes)
+    } else {
+        read_parts::<LittleEndian>(alloc, bytes)
+    }
+}
+
+/// The same, in the byte order `T`.
+fn read_parts<T: ByteOrder>(
+    alloc: Global,
+    bytes: &[u8],
+) -> Result<(Records, Option<u32>), CaptureFault>
+    requires { 24 ≤ length bytes.now }
+    ensures ethernet { OnOk result (IsEthernet T.number_of (take 24 bytes.now)) }
+    ensures found { IfOk result (λ r. HasRecords T.number_of (drop 24 bytes.now) r.0 r.1) }
+    ensures fault { IfErr result (λ e. e ≢ NoMemory
+        → PartsHaveFault T.number_of (take 24 bytes.now) (drop 24 bytes.now) e) }
+{
+    check_header::<T>(&bytes[..HEADER])?;
+    read_records::<T>(alloc, bytes)
+}
+
+/// Whether the header is of version 2.4 and of Ethernet.
+fn check_header<T: ByteOrder>(header: &[u8]) -> Result<(), CaptureFault>
+    requires { length header.now ≡ 24 }
+    ensures ok { OnOk result (IsEthernet T.number_of header.now) }
+    ensures fault { IfErr result (λ e. HeaderHasFault T.number_of header.now e) }
+{
+    let major = T::read_u16(&header[4..]);
+    let minor = T::read_u16(&header[6..]);
+    if major != 2 || minor != 4 {
+        return Err(CaptureFault::BadVersion { major, minor });
+    }
+    let link = T::read_u32(&header[20..]);
+    if link % (1 << 16) != 1 {
+        return Err(CaptureFault::BadLink { link });
+    }
+    Ok(())
+}
+
+/// Reads the records of a file, and counts the bytes of a last one that is cut.
+fn read_records<T: ByteOrder>(
+    alloc: Global,
+    bytes: &[u8],
+) -> Result<(Records, Option<u32>), CaptureFault>
+    requires { 24 ≤ length bytes.now }
+    ensures found { IfOk result (λ r. HasRecords T.number_of (drop 24 bytes.now) r.0 r.1) }
+    ensures fault { IfErr result (λ e. e ≢ NoMemory → RecordsHaveFault T.number_of (drop 24 bytes.now) e) }
+{
+    let mut records = Records::new(alloc);
+    let (_, mut rest) = bytes.split_at(HEADER);
+    while !rest.is_empty() {
+        if records.len() >= MAX_PACKETS {
+            return Err(CaptureFault::TooManyPackets);
+        }
+        match Front::of::<T>(rest, bytes.len() - rest.len()) {
+            Front::Whole(record) => {
+                records.push(record)?;
+                rest = rest.split_at(RECORD_HEADER + record.len as usize).1;
+            }
+            Front::TooLong(len) => {
+                let at = records.len() as u32;
+                return Err(CaptureFault::RecordTooLong { at, len });
+            }
+            Front::Cut => return Ok((records, Some(rest.len() as u32))),
+        }
+    }
+    Ok((records, None))
+}
