@@ -1,0 +1,4 @@
+pub mod Tags
+pub mod Extensions
+pub mod Found
+pub mod Longer
