@@ -1,0 +1,3 @@
+pub mod Toeplitz
+pub mod Flows
+pub mod Tables

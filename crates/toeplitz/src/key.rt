@@ -1,0 +1,119 @@
+//! The key of the hash.
+ghost use Rattle.std.specs.Prelude.{◌≡◌, ◌+◌, ◌*◌, ◌-◌, ◌/◌, ◌%◌, ◌^◌, ◌<◌, ◌≤◌, length};
+ghost use Rattle.toeplitz.specs.Toeplitz.{number_of, hash_of, verification_key as the_verification_key};
+ghost use Rattle.toeplitz.specs.Tables.{word_of};
+ghost use Rattle.toeplitz.specs.Flows.{hash_of_flow};
+
+use crate::input::Input;
+use crate::kinds::Kinds;
+use std::marker::Model;
+use steer_base::Flow;
+
+/// The 40 bytes of the key of Microsoft's verification suite for the RSS hash.
+pub const VERIFICATION_KEY_BYTES: [u8; 40] = [
+    0x6d, 0x5a, 0x56, 0xda, 0x25, 0x5b, 0x0e, 0xc2, 0x41, 0x67, 0x25, 0x3d, 0x43, 0xa3, 0x8f, 0xb0,
+    0xd0, 0xca, 0x2b, 0xcb, 0xae, 0x7b, 0x30, 0xb4, 0x77, 0xcb, 0x2d, 0xa3, 0x80, 0x30, 0xf2, 0x0c,
+    0x6a, 0x42, 0xb7, 0x3b, 0xbe, 0xac, 0x01, 0xfa,
+];
+
+// What a window of 32 bits is below.
+const WINDOW: u64 = 1 << 32;
+
+/// A key of 320 bits.
+#[derive(Drop)]
+pub struct Key {
+    bytes: [u8; 40],
+}
+
+impl Model for Key {
+    ghost use Rattle.std.specs.Prelude.{ℕ};
+
+    ghost Value = { ℕ };
+
+    ghost use Rattle.toeplitz.specs.Toeplitz.{number_of};
+
+    ghost view = { λ key. number_of key.bytes };
+}
+
+impl Key {
+    /// The key that these bytes are as one number, the first byte the highest.
+    pub fn make(bytes: [u8; 40]) -> Self
+        ensures { result ≡ number_of bytes }
+    {
+        Key { bytes }
+    }
+
+    /// The Toeplitz hash of a flow (Intel 82599 datasheet; Microsoft's description of the RSS hash). The source address, the
+    /// destination address, the source port and the destination port are hashed in network order where their kind is on, else
+    /// the two addresses alone where theirs is on. Otherwise there is no hash.
+    pub fn hash(&self, flow: &Flow, kinds: Kinds) -> Option<u32>
+        ensures { result ≡ hash_of_flow self.now flow.now kinds.0 }
+    {
+        match Input::of_flow(*flow, kinds) {
+            Some(input) => Some(self.hash_bytes(input.as_slice())),
+            None => None,
+        }
+    }
+
+    fn hash_bytes(&self, input: &[u8]) -> u32
+        requires { length input.now ≤ 36 }
+        ensures { result ≡ hash_of self.now input.now }
+    {
+        let mut hash = 0;
+        for place in 0..input.len() {
+            hash ^= self.word(place, input[place]);
+        }
+        hash
+    }
+
+    // What a byte at this place of the input adds to the hash.
+    pub(crate) fn word(&self, place: usize, byte: u8) -> u32
+        requires { place < 36 }
+        ensures { result ≡ word_of self.now place byte }
+    {
+        let span = span(&self.bytes, place);
+        let mut word = 0;
+        for bit in 0..8u8 {
+            if byte >> (7 - bit) & 1 == 1 {
+                word ^= ((span >> (8 - bit)) % WINDOW) as u32;
+            }
+        }
+        word
+    }
+
+    // The same key once more.
+    pub(crate) fn copied(&self) -> Self
+        ensures { result ≡ self.now }
+    {
+        Key { bytes: self.bytes }
+    }
+}
+
+/// The key of Microsoft's verification suite for the RSS hash.
+pub fn verification_key() -> Key
+    ensures number { result ≡ the_verification_key }
+    ensures bytes { result ≡ number_of VERIFICATION_KEY_BYTES }
+{
+    Key::make(VERIFICATION_KEY_BYTES)
+}
+
+// The 40 bits of the key that hold the windows of the bits of the input byte at this place.
+fn span(key: &[u8], place: usize) -> u64
+    requires whole { length key.now ≡ 40 }
+    requires within { place < 36 }
+    ensures { result ≡ number_of key.now / 2 ^ (8 * (35 - place)) % 2 ^ 40 }
+{
+    number(&key[place..place + 5])
+}
+
+// The number that at most 5 bytes are.
+fn number(bytes: &[u8]) -> u64
+    requires { length bytes.now ≤ 5 }
+    ensures { result ≡ number_of bytes.now }
+{
+    let mut number = 0;
+    for byte in bytes {
+        number = number * 256 + u64::from(*byte);
+    }
+    number
+}

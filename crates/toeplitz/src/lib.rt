@@ -1,0 +1,15 @@
+//! The Toeplitz hash of a flow, as network cards compute it to spread packets over their receive queues.
+#![tactic(auto)]
+
+mod input;
+mod key;
+mod kinds;
+mod laws;
+mod tabled_key;
+#[cfg(test)]
+mod vectors;
+
+pub use key::{Key, VERIFICATION_KEY_BYTES, verification_key};
+pub use kinds::Kinds;
+pub use laws::a_hash_needs_a_kind;
+pub use tabled_key::TabledKey;

@@ -1,0 +1,89 @@
+//! The key as a table, for many hashes.
+ghost use Rattle.std.specs.Prelude.{◌≡◌, ◌<◌, ◌≤◌, length, IfOk};
+ghost use Rattle.toeplitz.specs.Toeplitz.{hash_of};
+ghost use Rattle.toeplitz.specs.Tables.{word_of, IsTable};
+ghost use Rattle.toeplitz.specs.Flows.{hash_of_flow};
+
+use crate::input::Input;
+use crate::key::Key;
+use crate::kinds::Kinds;
+use std::alloc::Global;
+use std::marker::Model;
+use steer_base::{Flow, OutOfMemory};
+
+// A row for each place of an input byte.
+const ROWS: usize = 36;
+
+// A word for each byte in a row.
+const ROW: usize = 256;
+
+/// A key with a table of 36 rows of 256 words, so that a hash takes one XOR for each byte of its input.
+#[derive(Drop)]
+pub struct TabledKey {
+    key: Key,
+    words: Vec<u32>,
+}
+
+impl Model for TabledKey {
+    ghost use Rattle.std.specs.Prelude.{ℕ};
+    ghost use Rattle.toeplitz.specs.Tables.{IsTable};
+
+    ghost Value = { ℕ };
+
+    ghost view = { λ tabled. tabled.key };
+
+    ghost invariant = { λ tabled. IsTable tabled.key tabled.words.items };
+}
+
+impl TabledKey {
+    /// The table of a key.
+    pub fn make(alloc: Global, key: &Key) -> Result<Self, OutOfMemory>
+        ensures { IfOk result (λ tabled. tabled ≡ key.now) }
+    {
+        let words = table(alloc, key)?;
+        Ok(TabledKey {
+            key: key.copied(),
+            words,
+        })
+    }
+
+    /// The hash that [`Key::hash`] gives.
+    pub fn hash(&self, flow: &Flow, kinds: Kinds) -> Option<u32>
+        ensures { result ≡ hash_of_flow self.now flow.now kinds.0 }
+    {
+        match Input::of_flow(*flow, kinds) {
+            Some(input) => Some(self.hash_bytes(input.as_slice())),
+            None => None,
+        }
+    }
+
+    fn hash_bytes(&self, input: &[u8]) -> u32
+        requires { length input.now ≤ 36 }
+        ensures { result ≡ hash_of self.now input.now }
+    {
+        let mut hash = 0;
+        for place in 0..input.len() {
+            hash ^= self.word(place, input[place]);
+        }
+        hash
+    }
+
+    // What a byte at this place of the input adds to the hash.
+    fn word(&self, place: usize, byte: u8) -> u32
+        requires { place < 36 }
+        ensures { result ≡ word_of self.now place byte }
+    {
+        self.words[ROW * place + usize::from(byte)]
+    }
+}
+
+// The rows of a key, one after another.
+fn table(alloc: Global, key: &Key) -> Result<Vec<u32>, OutOfMemory>
+    ensures { IfOk result (λ words. IsTable key.now words.items) }
+{
+    let mut words = Vec::with_capacity(alloc, ROWS * ROW)?;
+    for at in 0..ROWS * ROW {
+        words.push(key.word(at / ROW, (at % ROW) as u8))?;
+    }
+    Ok(words)
+}
