@@ -1,0 +1,104 @@
+//! The redirection table of 128 entries.
+ghost use Rattle.std.specs.Prelude.{◌≡◌, ◌<◌, ◌≤◌, is_ok, OnOk, OnErr};
+ghost use Rattle.rss_table.specs.Redirection.{even_table, is_in_range, with_entry, queue_of, IsRedirection};
+
+use std::marker::Model;
+use steer_base::RxQueue;
+
+const ENTRIES: usize = 128;
+
+/// There is no such entry, or no such queue.
+#[derive(Clone, Copy, Debug, PartialEq, Eq)]
+pub struct EntryRange;
+
+/// A table of 128 entries, each one of 1 to 16 receive queues (Intel 82599 datasheet, redirection table).
+#[derive(Drop)]
+pub struct Reta {
+    queues: u8,
+    entries: [RxQueue; ENTRIES],
+}
+
+impl Model for Reta {
+    ghost use Rattle.rss_table.specs.Redirection.{IsRedirection, Redirection};
+
+    ghost Value = { Redirection };
+
+    ghost view = { λ r. record { queues = r.queues; entries = r.entries } };
+
+    ghost invariant = { λ r. IsRedirection (record { queues = r.queues; entries = r.entries }) };
+}
+
+impl Reta {
+    /// The table by which so many queues, 1 to 16, get the entries in turn: entry i has queue `i mod queues`.
+    pub fn even(queues: u8) -> Self
+        requires some { 0 < queues }
+        requires few { queues ≤ 16 }
+        ensures { result ≡ even_table queues }
+    {
+        let mut entries = [RxQueue(0); ENTRIES];
+        for i in 0..ENTRIES {
+            entries[i] = RxQueue((i % usize::from(queues)) as u8);
+        }
+        Reta { queues, entries }
+    }
+
+    /// Gives entry `i` to a queue. Refused, with nothing changed, where there is no such entry or no such queue.
+    pub fn set(&mut self, i: u8, queue: RxQueue) -> Result<(), EntryRange>
+        ensures answer { is_ok result ≡ is_in_range self.old i queue }
+        ensures done { OnOk result (self.new ≡ with_entry self.old i queue) }
+        ensures refused { OnErr result (self.new ≡ self.old) }
+    {
+        if usize::from(i) < ENTRIES && queue.0 < self.queues {
+            self.entries[usize::from(i)] = queue;
+            Ok(())
+        } else {
+            Err(EntryRange)
+        }
+    }
+
+    /// The queue of a packet: that of entry `hash mod 128`, and queue 0 without a hash.
+    pub fn queue(&self, hash: Option<u32>) -> RxQueue
+        ensures value { result ≡ queue_of self.now hash }
+        ensures within { result < self.now.queues }
+        ensures table { IsRedirection self.now }
+    {
+        match hash {
+            Some(hash) => self.entries[hash as usize % ENTRIES],
+            None => RxQueue(0),
+        }
+    }
+}
+
+#[cfg(test)]
+mod tests {
+    use super::*;
+
+    #[test]
+    fn spreads_hashes_over_the_queues(rt: HostRuntime) {
+        for (queues, hash, queue) in [
+            (4, Some(0x51ccc178), 0),
+            (4, Some(0x323e8fc2), 2),
+            (16, Some(0xc626b0ea), 10),
+            (16, None, 0),
+            (1, Some(0xffff_ffff), 0),
+        ] {
+            let table = Reta::even(queues);
+            assert_eq!(rt;
+                table.queue(hash),
+                RxQueue(queue),
+                "{hash:?} over {queues} queues"
+            );
+        }
+    }
+
+    #[test]
+    fn moves_one_entry(rt: HostRuntime) {
+        let mut table = Reta::even(4);
+        assert_eq!(rt; table.set(120, RxQueue(3)), Ok(()));
+        assert_eq!(rt; table.set(128, RxQueue(0)), Err(EntryRange));
+        assert_eq!(rt; table.set(66, RxQueue(4)), Err(EntryRange));
+        assert_eq!(rt; table.queue(Some(0x51ccc178)), RxQueue(3));
+        assert_eq!(rt; table.queue(Some(0x323e8fc2)), RxQueue(2));
+        assert_eq!(rt; table.queue(None), RxQueue(0));
+    }
+}
