@@ -1,0 +1,117 @@
+//! A line that is built in memory and then goes to a sink as one piece.
+ghost use Rattle.std.specs.Prelude.{◌≡◌, ◌<◌, ◌≤◌, ◌+◌, ◌++◌, ◌^◌, [], length, decimal, IfOk, OnOk, OnErr};
+ghost use Rattle.std.specs.Io.KnownBytes.{Appends};
+ghost use Rattle.outside_io.specs.Counts.{Rose};
+ghost use Rattle.outside_io.specs.Sink.{AppendsSome};
+ghost use Rattle.report.specs.Numbers.{hex_digits};
+
+use crate::numbers::hex_digit;
+use itoa::Buffer;
+use outside_io::{Sink, WriteFault, write_whole};
+use std::alloc::Global;
+use std::marker::Model;
+use steer_base::OutOfMemory;
+
+/// The most bytes that a line may have.
+const ROOM: usize = 512;
+
+/// The bytes of a line so far, at most 512 of them, all reserved when it is made. No call but `make` takes memory.
+#[derive(Drop)]
+pub struct LineBuf {
+    bytes: Vec<u8>,
+}
+
+impl Model for LineBuf {
+    ghost use Rattle.std.specs.Prelude.{ℕ, ◌≤◌, List, vec_len, vec_capacity};
+
+    ghost Value = { List ℕ };
+
+    ghost view = { λ line. line.bytes.items };
+
+    ghost invariant = { λ line. (vec_len line.bytes ≤ 512) × (512 ≤ vec_capacity line.bytes) };
+}
+
+impl LineBuf {
+    /// An empty line with its room reserved.
+    pub fn make(alloc: Global) -> Result<LineBuf, OutOfMemory>
+        ensures { IfOk result (λ line. line ≡ []) }
+    {
+        let bytes = Vec::with_capacity(alloc, ROOM)?;
+        Ok(LineBuf { bytes })
+    }
+
+    /// Puts a text behind the line.
+    pub fn push(&mut self, text: &[u8])
+        requires { length self.old + length text.now ≤ 512 }
+        ensures { self.new ≡ self.old ++ text.now }
+    {
+        self.bytes.extend_from_slice(text).unwrap();
+    }
+
+    /// Puts the decimal digits of a number behind the line, at most 20 of them.
+    pub fn push_decimal(&mut self, number: u64)
+        requires { length self.old + 20 ≤ 512 }
+        ensures value { self.new ≡ self.old ++ decimal number }
+        ensures grows { length self.new ≤ length self.old + 20 }
+    {
+        let mut buffer = Buffer::new();
+        let digits = buffer.format(number).as_bytes();
+        self.push(digits);
+    }
+
+    /// Puts the lowest so many hexadecimal digits of a number behind the line, the highest of them first.
+    pub fn push_hex(&mut self, number: u128, digits: u32)
+        requires few { digits ≤ 32 }
+        requires room { length self.old + digits ≤ 512 }
+        ensures value { self.new ≡ self.old ++ hex_digits digits number }
+        ensures grows { length self.new ≡ length self.old + digits }
+    {
+        for place in (0..digits).rev() {
+            let digit = ((number >> (4 * place)) % 16) as u32;
+            self.push(&[hex_digit(digit)]);
+        }
+    }
+
+    /// Writes the line as one piece and clears it, also where the sink fails.
+    pub fn write<K: Sink>(&mut self, out: &mut K) -> Result<(), WriteFault>
+        ensures cleared { self.new ≡ [] }
+        ensures whole { OnOk result (Appends (K.written out.old) (K.written out.new) self.old) }
+        ensures part { OnErr result (AppendsSome (K.written out.old) (K.written out.new) self.old) }
+        ensures fault { OnErr result (Rose (K.faults out.old) (K.faults out.new)) }
+        ensures later { K.faults out.old ≤ K.faults out.new }
+    {
+        let done = write_whole(out, &self.bytes);
+        self.bytes.clear();
+        done
+    }
+}
+
+#[cfg(test)]
+mod tests {
+    use super::*;
+    use outside_io::MemorySink;
+    use std::test::Fail;
+
+    #[test]
+    fn a_line_goes_out_as_one_piece(rt: HostRuntime) -> Result<(), Fail> {
+        let alloc = rt.alloc();
+        // The second write fails, so a line in two pieces would not go out.
+        let mut out = MemorySink::make(alloc, 64, vec![in alloc; 2]?)?;
+        let mut line = LineBuf::make(alloc)?;
+        line.push(b"hash ");
+        line.push_hex(0x51cc_c178, 8);
+        line.push(b" of ");
+        line.push_hex(0xfe40_efab, 12);
+        line.push(b" entry ");
+        line.push_decimal(120);
+        assert_eq!(rt; line.write(&mut out), Ok(()));
+        assert_eq!(rt;
+            out.bytes(),
+            b"hash 51ccc178 of 0000fe40efab entry 120".as_slice()
+        );
+        line.push(b"more");
+        assert_eq!(rt; line.write(&mut out), Err(WriteFault));
+        assert_eq!(rt; out.bytes().len(), 39);
+        Ok(())
+    }
+}
