@@ -1,0 +1,4 @@
+pub mod Lines
+pub mod Numerals
+pub mod Statuses
+pub mod Tellings

@@ -1,0 +1,74 @@
+-- The text of the command `hash`: a line for each packet, and a line that counts them.
+use Rattle.std.specs.Prelude.{ℕ, ◌+◌, List, [], ◌∷◌, ◌++◌, length, codes, decimal, Option, Some, None}
+use Rattle.steer_base.specs.declared.flow.Pair.{Pair}
+use Rattle.steer_base.specs.declared.flow.Pair.TheVariants.{V4, V6}
+use Rattle.steer_base.specs.declared.flow.Proto.{Proto}
+use Rattle.steer_base.specs.declared.flow.Proto.TheVariants.{Tcp, Udp}
+use Rattle.steer_base.specs.declared.flow.Flow.{Flow}
+use Rattle.steer_base.specs.declared.flow.Flow.TheVariants.{Bare, Two, Four}
+use Rattle.steer_base.specs.Arrivals.{table_place}
+use Rattle.report.specs.Numbers.{hex_digits}
+use Rattle.pcap_reader.specs.Captures.{frame_of}
+use Rattle.pcap_reader.specs.declared.capture.Capture.{Capture}
+use Rattle.pcap_reader.specs.declared.record.PcapRecord.{PcapRecord}
+use Rattle.flow_dissector.specs.Frame.{flow_of}
+use Rattle.toeplitz.specs.Flows.{hash_of_flow}
+use Rattle.toeplitz.specs.Toeplitz.{verification_key}
+use Rattle.rss_table.specs.Redirection.{Redirection, even_table, queue_of}
+
+-- the digit that tells the version of IP
+unfoldable pub version_text : Pair → List ℕ
+version_text (V4 src dst) = codes "4 "
+version_text (V6 src dst) = codes "6 "
+
+-- the source and the destination address in hexadecimal digits
+unfoldable pub pair_text : Pair → List ℕ
+pair_text (V4 src dst) = hex_digits 8 src ++ codes " " ++ hex_digits 8 dst
+pair_text (V6 src dst) = hex_digits 32 src ++ codes " " ++ hex_digits 32 dst
+
+unfoldable pub proto_text : Proto → List ℕ
+proto_text Tcp = codes "tcp"
+proto_text Udp = codes "udp"
+
+-- a flow: its kind, its addresses, and its ports where it has them
+unfoldable pub flow_text : Flow → List ℕ
+flow_text Bare = codes "none"
+flow_text (Two pair) = codes "two" ++ version_text pair ++ pair_text pair
+flow_text (Four pair proto sport dport) =
+    proto_text proto ++ version_text pair ++ pair_text pair ++ codes " " ++ decimal sport ++ codes " " ++ decimal dport
+
+-- the hash and the entry of the redirection table that it is looked up at
+unfoldable pub hash_text : Option ℕ → List ℕ
+hash_text None = codes " hash - entry -"
+hash_text (Some hash) = codes " hash " ++ hex_digits 8 hash ++ codes " entry " ++ decimal (table_place hash)
+
+-- the line of a packet with this number, flow, hash and receive queue
+unfoldable pub packet_line : ℕ → Flow → Option ℕ → ℕ → List ℕ
+packet_line number flow hash queue =
+    codes "packet " ++ decimal number ++ codes " " ++ flow_text flow ++ hash_text hash ++ codes " queue " ++ decimal queue ++ codes "\n"
+
+-- the line of a frame, by the verification key and these kinds and table
+unfoldable pub frame_line : ℕ → Redirection → ℕ → List ℕ → List ℕ
+frame_line kinds table number frame =
+    let hash = hash_of_flow verification_key (flow_of frame) kinds in
+    packet_line number (flow_of frame) hash (queue_of table hash)
+
+-- the lines of these records of a file's bytes, numbered from here on
+unfoldable pub packet_lines : ℕ → Redirection → List ℕ → ℕ → List PcapRecord → List ℕ
+packet_lines kinds table bytes number [] = []
+packet_lines kinds table bytes number (r ∷ rs) =
+    frame_line kinds table number (frame_of bytes r) ++ packet_lines kinds table bytes (number + 1) rs
+
+-- how many packets there are, and how many bytes of a cut one
+unfoldable pub count_line : ℕ → Option ℕ → List ℕ
+count_line packets None = codes "packets " ++ decimal packets ++ codes "\n"
+count_line packets (Some cut) = codes "packets " ++ decimal packets ++ codes " cut " ++ decimal cut ++ codes "\n"
+
+-- the text of a capture, by these kinds and this table
+unfoldable pub hasher_text : ℕ → Redirection → List ℕ → Capture → List ℕ
+hasher_text kinds table bytes capture =
+    packet_lines kinds table bytes 0 capture.records ++ count_line (length capture.records) capture.cut
+
+-- the text of a capture, with the even table over so many queues
+abbrev pub capture_text : ℕ → ℕ → List ℕ → Capture → List ℕ
+capture_text queues kinds bytes capture = hasher_text kinds (even_table queues) bytes capture

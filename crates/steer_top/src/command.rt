@@ -1,0 +1,15 @@
+//! The commands of the program.
+ghost use Rattle.std.specs.Prelude.{◌≤◌};
+
+/// The command `hash` with its arguments.
+#[derive(Drop)]
+pub struct HashCommand<'a> {
+    /// The name of the capture.
+    pub capture: &'a str,
+    /// The number of receive queues.
+    pub queues: u8,
+    /// The hash kinds, a bit each.
+    pub kinds: u8,
+    ghost some_queue: { 1 ≤ queues },
+    ghost few_queues: { queues ≤ 16 },
+}

@@ -1,0 +1,125 @@
+//! The lines of the command `hash`.
+ghost use Rattle.std.specs.Prelude.{◌≡◌, ◌≤◌, ◌+◌, ◌++◌, ◌^◌, ◌<◌, [], length};
+ghost use Rattle.steer_top.specs.HashText.{version_text, pair_text, proto_text, flow_text, hash_text, packet_line, count_line};
+
+use report::LineBuf;
+use steer_base::{Flow, Pair, Proto, RxQueue};
+
+#[tactic(auto, unfolding(crate::specs::HashText::version_text))]
+fn push_version(line: &mut LineBuf, pair: Pair)
+    requires { length line.old ≤ 400 }
+    ensures value { line.new ≡ line.old ++ version_text pair }
+    ensures grows { length line.new ≤ length line.old + 2 }
+{
+    match pair {
+        Pair::V4 { .. } => line.push(b"4 "),
+        Pair::V6 { .. } => line.push(b"6 "),
+    }
+}
+
+#[tactic(auto, unfolding(crate::specs::HashText::pair_text))]
+fn push_pair(line: &mut LineBuf, pair: Pair)
+    requires { length line.old ≤ 400 }
+    ensures value { line.new ≡ line.old ++ pair_text pair }
+    ensures grows { length line.new ≤ length line.old + 65 }
+{
+    match pair {
+        Pair::V4 { src, dst } => {
+            line.push_hex(u128::from(src), 8);
+            line.push(b" ");
+            line.push_hex(u128::from(dst), 8);
+        }
+        Pair::V6 { src, dst } => {
+            line.push_hex(src, 32);
+            line.push(b" ");
+            line.push_hex(dst, 32);
+        }
+    }
+}
+
+#[tactic(auto, unfolding(crate::specs::HashText::proto_text))]
+fn push_proto(line: &mut LineBuf, proto: Proto)
+    requires { length line.old ≤ 400 }
+    ensures value { line.new ≡ line.old ++ proto_text proto }
+    ensures grows { length line.new ≤ length line.old + 3 }
+{
+    match proto {
+        Proto::Tcp => line.push(b"tcp"),
+        Proto::Udp => line.push(b"udp"),
+    }
+}
+
+/// Puts the text of a flow behind the line.
+#[tactic(auto, unfolding(crate::specs::HashText::flow_text))]
+pub fn push_flow(line: &mut LineBuf, flow: Flow)
+    requires { length line.old ≤ 300 }
+    ensures value { line.new ≡ line.old ++ flow_text flow }
+    ensures grows { length line.new ≤ length line.old + 112 }
+{
+    match flow {
+        Flow::Bare => line.push(b"none"),
+        Flow::Two(pair) => {
+            line.push(b"two");
+            push_version(line, pair);
+            push_pair(line, pair);
+        }
+        Flow::Four(pair, proto, sport, dport) => {
+            push_proto(line, proto);
+            push_version(line, pair);
+            push_pair(line, pair);
+            line.push(b" ");
+            line.push_decimal(u64::from(sport));
+            line.push(b" ");
+            line.push_decimal(u64::from(dport));
+        }
+    }
+}
+
+/// Puts the text of a hash and its table entry behind the line.
+#[tactic(auto, unfolding(crate::specs::HashText::hash_text))]
+pub fn push_hash(line: &mut LineBuf, hash: Option<u32>)
+    requires { length line.old ≤ 400 }
+    ensures value { line.new ≡ line.old ++ hash_text hash }
+    ensures grows { length line.new ≤ length line.old + 41 }
+{
+    match hash {
+        None => line.push(b" hash - entry -"),
+        Some(hash) => {
+            line.push(b" hash ");
+            line.push_hex(u128::from(hash), 8);
+            line.push(b" entry ");
+            line.push_decimal(u64::from(hash % 128));
+        }
+    }
+}
+
+/// Puts the whole line of a packet in an empty line.
+#[tactic(auto, unfolding(crate::specs::HashText::packet_line))]
+pub fn push_packet(line: &mut LineBuf, number: u64, flow: Flow, hash: Option<u32>, queue: RxQueue)
+    requires { line.old ≡ [] }
+    ensures { line.new ≡ packet_line number flow hash queue }
+{
+    line.push(b"packet ");
+    line.push_decimal(number);
+    line.push(b" ");
+    push_flow(line, flow);
+    push_hash(line, hash);
+    line.push(b" queue ");
+    line.push_decimal(u64::from(queue.0));
+    line.push(b"\n");
+}
+
+/// Puts the line that counts the packets in an empty line.
+#[tactic(auto, unfolding(crate::specs::HashText::count_line))]
+pub fn push_count(line: &mut LineBuf, packets: u64, cut: Option<u32>)
+    requires { line.old ≡ [] }
+    ensures { line.new ≡ count_line packets cut }
+{
+    line.push(b"packets ");
+    line.push_decimal(packets);
+    if let Some(cut) = cut {
+        line.push(b" cut ");
+        line.push_decimal(u64::from(cut));
+    }
+    line.push(b"\n");
+}
