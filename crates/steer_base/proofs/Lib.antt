@@ -1,1 +1,2 @@
 pub mod CountersLemmas
+pub mod SetsLemmas

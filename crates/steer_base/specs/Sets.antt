@@ -16,8 +16,8 @@ has mask cpu = in_bits 32 mask.0 cpu
 abbrev pub has_queue : ℕ → ℕ → Bool
 has_queue queues queue = in_bits 16 queues queue
 
--- those of the numbers below n that pass the test, ascending
-abbrev pub those_below : ℕ → (ℕ → Bool) → List ℕ
+-- those of the numbers below n that pass the test, ascending; closed, since n is often a numeral
+unfoldable pub those_below : ℕ → (ℕ → Bool) → List ℕ
 those_below n test = filter test (range_with_len 0 n)
 
 abbrev pub is_empty : List ℕ → Bool
