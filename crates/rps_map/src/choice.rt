@@ -1,0 +1,105 @@
+//! The choice among the processors of a mask.
+ghost use Rattle.std.specs.Prelude.{◌≡◌, ◌<◌, ◌≤◌, ◌⊎◌, ◌&&◌, IsTrue, length, slice_index};
+ghost use Rattle.steer_base.specs.Choices.{rps_choice_of};
+ghost use Rattle.steer_base.specs.Sets.{has, those_below};
+
+use steer_base::{Cpu, CpuMask};
+
+/// The processor that receive packet steering gives a packet (kernel scaling chapter, section RPS): of the `k`
+/// processors of the mask, ascending, the one at index `hash mod k`. It is the home processor without a hash, for an
+/// empty mask, and where that processor is offline.
+pub fn rps_choice(mask: CpuMask, hash: Option<u32>, online: CpuMask, home: Cpu) -> Cpu
+    ensures value { result ≡ rps_choice_of mask hash online home }
+    ensures among { (result ≡ home) ⊎ IsTrue (has mask result && has online result) }
+{
+    let Some(hash) = hash else {
+        return home;
+    };
+    let count = member_count(mask);
+    if count == 0 {
+        return home;
+    }
+    let chosen = member_at(mask, hash % count);
+    if online.has(chosen.0) { chosen } else { home }
+}
+
+// How many processors are in the set.
+#[tactic(auto, using(steer_base::proofs::SetsLemmas::members))]
+fn member_count(mask: CpuMask) -> u32
+    ensures value { result ≡ length (those_below 32 (has mask)) }
+{
+    let mut count = 0;
+    for cpu in 0..32 {
+        if mask.has(cpu) {
+            count += 1;
+        }
+    }
+    count
+}
+
+// The processor of the set that so many others of it are below.
+#[tactic(auto, using(steer_base::proofs::SetsLemmas::members))]
+fn member_at(mask: CpuMask, index: u32) -> Cpu
+    requires { index < length (those_below 32 (has mask)) }
+    ensures value { result ≡ slice_index (those_below 32 (has mask)) index }
+    ensures member { IsTrue (has mask result) }
+{
+    let mut left = index;
+    for cpu in 0..32 {
+        if mask.has(cpu) {
+            if left == 0 {
+                return Cpu(cpu);
+            }
+            left -= 1;
+        }
+    }
+    unreachable!()
+}
+
+#[cfg(test)]
+mod tests {
+    use super::*;
+
+    const ALL: CpuMask = CpuMask(0xffff_ffff);
+
+    #[test]
+    fn a_hash_chooses_among_the_members(rt: HostRuntime) {
+        // Port hashes of published verification frames; the index is the hash mod 3.
+        let cases = [
+            (0x51cc_c178u32, 2u8),
+            (0xc626_b0ea, 2),
+            (0x5c2b_394a, 3),
+            (0xafc7_327f, 3),
+            (0x10e8_28a2, 1),
+        ];
+        for (hash, wanted) in cases {
+            assert_eq!(rt;
+                rps_choice(CpuMask(0b1110), Some(hash), ALL, Cpu(0)),
+                Cpu(wanted),
+                "{hash}"
+            );
+        }
+    }
+
+    #[test]
+    fn the_home_stays_without_a_choice(rt: HostRuntime) {
+        let cases = [
+            // An empty mask.
+            (0u32, Some(0x51cc_c178u32), 0xffff_ffffu32, 0u8, 0u8),
+            (0, Some(7), 0xffff_ffff, 5, 5),
+            // No hash.
+            (0b1110, None, 0xffff_ffff, 0, 0),
+            // The processor at the index is offline, and no other one of the mask is taken.
+            (0b1110, Some(0x51cc_c178), 0b1011, 0, 0),
+            // The highest processor.
+            (0x8000_0001, Some(1), 0xffff_ffff, 4, 31),
+        ];
+        for (mask, hash, online, home, wanted) in cases {
+            assert_eq!(rt;
+                rps_choice(CpuMask(mask), hash, CpuMask(online), Cpu(home)),
+                Cpu(wanted),
+                "{mask} {hash:?}"
+            );
+        }
+    }
+}
