@@ -1,0 +1,119 @@
+//! The table of socket flow entries.
+ghost use Rattle.std.specs.Prelude.{◌≡◌, ◌<◌, ◌≤◌, IfOk, IfSome, length, nat_lt};
+ghost use Rattle.steer_base.specs.Counters.{rounded_up};
+ghost use Rattle.sock_flow_table.specs.Sockets.{noted, place_of, unset, wanted};
+
+use std::alloc::Global;
+use std::marker::Model;
+use steer_base::{Cpu, OutOfMemory, round_up};
+
+const ROOM: usize = 65536;
+
+/// For each entry the processor noted there last (kernel scaling chapter, section RFS: `rps_sock_flow_table`, whose
+/// size is `rps_sock_flow_entries` rounded up to a power of two).
+#[derive(Drop)]
+pub struct SockTable {
+    entries: Vec<Option<Cpu>>,
+}
+
+impl Model for SockTable {
+    ghost use Rattle.std.specs.Prelude.{◌≤◌, ℕ, List, Option, length, vec_capacity};
+
+    ghost Value = { List (Option ℕ) };
+
+    ghost view = { λ t. t.entries.items };
+
+    ghost invariant = { λ t. (length t.entries.items ≤ 65536) × (65536 ≤ vec_capacity t.entries) };
+}
+
+impl SockTable {
+    /// A table without a note, of at least so many entries: 65,536 at most, and none for 0. The memory of the largest
+    /// table is reserved.
+    pub fn make(alloc: Global, entries: u32) -> Result<SockTable, OutOfMemory>
+        requires { entries ≤ 65536 }
+        ensures { IfOk result (λ table. table ≡ unset (rounded_up entries)) }
+    {
+        let mut table = SockTable {
+            entries: Vec::with_capacity(alloc, ROOM)?,
+        };
+        table.resize(entries);
+        Ok(table)
+    }
+
+    /// Writes the processor at entry `hash mod size`. Answers false, with nothing written, where the table has no entries.
+    pub fn note(&mut self, hash: u32, cpu: Cpu) -> bool
+        ensures answer { result ≡ nat_lt 0 (length self.old) }
+        ensures table { self.new ≡ noted self.old hash cpu }
+    {
+        let Some(place) = self.place(hash) else {
+            return false;
+        };
+        self.entries[place] = Some(cpu);
+        true
+    }
+
+    /// The processor at entry `hash mod size`, if one was noted there since the table was cleared.
+    pub fn desired(&self, hash: u32) -> Option<Cpu>
+        ensures { result ≡ wanted self.now hash }
+    {
+        let place = self.place(hash)?;
+        self.entries[place]
+    }
+
+    /// Clears the table and gives it another size, at least so many entries.
+    pub fn resize(&mut self, entries: u32)
+        requires { entries ≤ 65536 }
+        ensures { self.new ≡ unset (rounded_up entries) }
+    {
+        self.entries.clear();
+        self.entries
+            .resize(round_up(entries) as usize, None)
+            .unwrap();
+    }
+
+    // The entry of a hash, if the table has entries.
+    fn place(&self, hash: u32) -> Option<usize>
+        ensures value { result ≡ place_of self.now hash }
+        ensures within { IfSome result (λ place. place < length self.now) }
+    {
+        let size = self.entries.len() as u32;
+        if size == 0 {
+            None
+        } else {
+            Some((hash % size) as usize)
+        }
+    }
+}
+
+#[cfg(test)]
+mod tests {
+    use super::*;
+    use std::test::Fail;
+
+    #[test]
+    fn the_last_note_of_an_entry_stands(rt: HostRuntime) -> Result<(), Fail> {
+        let mut table = SockTable::make(rt.alloc(), 3)?;
+        assert_eq!(rt; table.desired(5), None);
+        // Three entries are rounded up to four, so 5 and 9 have entry 1, and 6 has entry 2.
+        assert!(rt; table.note(5, Cpu(1)));
+        assert!(rt; table.note(9, Cpu(2)));
+        assert!(rt; table.note(6, Cpu(0)));
+        assert_eq!(rt; table.desired(5), Some(Cpu(2)));
+        assert_eq!(rt; table.desired(4294967294), Some(Cpu(0)));
+        assert_eq!(rt; table.desired(7), None);
+        table.resize(4);
+        assert_eq!(rt; table.desired(5), None);
+        Ok(())
+    }
+
+    #[test]
+    fn a_table_without_entries_takes_no_note(rt: HostRuntime) -> Result<(), Fail> {
+        let mut table = SockTable::make(rt.alloc(), 65536)?;
+        assert!(rt; table.note(65535, Cpu(7)));
+        assert_eq!(rt; table.desired(65535), Some(Cpu(7)));
+        table.resize(0);
+        assert!(rt; !table.note(65535, Cpu(7)));
+        assert_eq!(rt; table.desired(65535), None);
+        Ok(())
+    }
+}
