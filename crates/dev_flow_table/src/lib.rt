@@ -1,0 +1,15 @@
+//! The flow table of a receive queue, or of an application: what is recorded of each class of packets, and the rule by
+//! which a class moves to another lane.
+#![tactic(auto)]
+
+mod laws;
+mod rule;
+mod table;
+#[cfg(test)]
+mod tests;
+
+pub use laws::{
+    a_choice_leaves_other_classes, a_class_moves_by_three_conditions,
+    a_move_goes_to_the_desired_lane,
+};
+pub use table::DevTable;
