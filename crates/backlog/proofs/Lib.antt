@@ -1,0 +1,4 @@
+pub mod ExplainedLemmas
+pub mod OffersLemmas
+pub mod PagesLemmas
+pub mod WindowLemmas

@@ -1,0 +1,34 @@
+//! The bucket that a packet's hash falls into, for the flow limit.
+ghost use Rattle.std.specs.Prelude.{◌≡◌, ◌<◌};
+ghost use Rattle.std.specs.Option.{ForSome};
+ghost use Rattle.steer_base.specs.Drops.{bucket_of};
+ghost use Rattle.backlog.specs.Causes.{cause_by};
+
+use steer_base::DropCause;
+
+/// One of 4,096 buckets, and none without a hash.
+pub fn bucket_of(hash: Option<u32>) -> Option<u16>
+    ensures bucket { result ≡ bucket_of hash }
+    ensures within { ForSome result (λ bucket. bucket < 4096) }
+{
+    match hash {
+        None => None,
+        Some(hash) => Some((hash % 4096) as u16),
+    }
+}
+
+/// The cause of which a packet is dropped, if it is, where so many packets wait and so many of the last offers have its
+/// bucket: a full backlog, or more than 128 offers where more than half of the limit waits.
+pub fn drop_cause(limited: bool, limit: u32, waiting: u32, count: Option<u32>) -> Option<DropCause>
+    ensures { result ≡ cause_by limited limit waiting count }
+{
+    if waiting == limit {
+        return Some(DropCause::Full);
+    }
+    match count {
+        Some(count) if limited && 2 * u64::from(waiting) > u64::from(limit) && count > 128 => {
+            Some(DropCause::Flow(count))
+        }
+        _ => None,
+    }
+}

@@ -1,0 +1,25 @@
+//! Laws over the lists of a lane, each the contract of a function that does nothing.
+ghost use Rattle.std.specs.Prelude.{ℕ, Bool, Option};
+ghost use Rattle.steer_base.specs.Drops.{bucket_of};
+ghost use Rattle.steer_base.specs.Lanes.{LaneLists};
+ghost use Rattle.backlog.specs.Offers.{AllExplained, AreOffers};
+ghost use Rattle.backlog.specs.Puts.{after_put, after_take, new_lane};
+
+/// An empty lane has no offers and no drops.
+pub fn a_new_lane_is_explained()
+    ensures offers { (hash : ℕ → Option ℕ) (limit room start : ℕ) (limited : Bool) → AreOffers hash (new_lane limit room start limited) }
+    ensures drops { (hash : ℕ → Option ℕ) (limit room start : ℕ) (limited : Bool) → AllExplained hash (new_lane limit room start limited) }
+{}
+
+/// A put of a packet with its own hash keeps that the offers are those of the accepted and dropped packets in the
+/// order of their puts, and that each drop has the cause that its two counts and the offers before it give.
+pub fn a_put_is_explained()
+    ensures offers { (hash : ℕ → Option ℕ) (l : LaneLists) (id : ℕ) → AreOffers hash l → AreOffers hash (after_put l id (hash id)) }
+    ensures drops { (hash : ℕ → Option ℕ) (l : LaneLists) (id : ℕ) → AreOffers hash l → AllExplained hash l → AllExplained hash (after_put l id (hash id)) }
+{}
+
+/// A take keeps both.
+pub fn a_take_is_explained()
+    ensures offers { (hash : ℕ → Option ℕ) (l : LaneLists) → AreOffers hash l → AreOffers hash (after_take l) }
+    ensures drops { (hash : ℕ → Option ℕ) (l : LaneLists) → AllExplained hash l → AllExplained hash (after_take l) }
+{}

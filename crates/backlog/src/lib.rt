@@ -1,0 +1,15 @@
+//! A lane of packets: the backlog of a processor, or a transmit queue.
+#![tactic(auto)]
+
+mod bucket;
+mod lane;
+mod laws;
+mod offers;
+mod pages;
+mod queue;
+#[cfg(test)]
+mod tests;
+mod window;
+
+pub use lane::Lane;
+pub use laws::{a_new_lane_is_explained, a_put_is_explained, a_take_is_explained};

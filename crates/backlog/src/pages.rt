@@ -1,0 +1,121 @@
+//! A list that grows without memory, up to a room that was reserved for it in pages.
+ghost use Rattle.std.specs.Prelude.{ℕ, ◌≡◌, ◌<◌, ◌*◌, ◌≤◌, List, [], ◌∷◌, ◌++◌, length, IfOk, replicate, slice_get, vec_capacity};
+ghost use Rattle.backlog.specs.Journals.{Holds, grown, journal, joined};
+
+use std::alloc::Global;
+use std::marker::Model;
+use steer_base::OutOfMemory;
+
+/// The items of a page.
+const PAGE: usize = 4096;
+
+/// One page, seen as the list of its items.
+#[derive(Drop)]
+struct Page<T> {
+    items: Vec<T>,
+}
+
+impl<T> Model for Page<T> {
+    ghost Value = { List T };
+
+    ghost view = { λ p. p.items.items };
+
+    ghost invariant = { λ p. 4096 ≤ vec_capacity p.items };
+}
+
+impl<T: Copy> Page<T> {
+    fn make(alloc: Global) -> Result<Page<T>, OutOfMemory>
+        ensures { IfOk result (λ page. page ≡ []) }
+    {
+        let items = Vec::with_capacity(alloc, PAGE)?;
+        Ok(Page { items })
+    }
+
+    fn push(&mut self, item: T)
+        requires { length self.old < 4096 }
+        ensures { self.new ≡ self.old ++ item ∷ [] }
+    {
+        self.items.push(item).unwrap();
+    }
+
+    fn get(&self, index: usize) -> Option<T>
+        ensures { result ≡ slice_get self.now index }
+    {
+        self.items.get(index).copied()
+    }
+}
+
+/// A list of at most `room` items, seen as a journal.
+#[derive(Drop)]
+pub struct Pages<T> {
+    pages: Vec<Page<T>>,
+    len: u32,
+    room: u32,
+}
+
+impl<T> Model for Pages<T> {
+    ghost use Rattle.backlog.specs.Journals.{IsPaged, Journal, journal, journal_code, joined};
+
+    ghost Value = { Journal T };
+
+    ghost coded = { journal_code T.code };
+
+    ghost view = { λ p. journal (joined p.pages.items) p.room };
+
+    ghost invariant = { λ p. IsPaged p.len p.room p.pages.items };
+}
+
+impl<T: Copy> Pages<T> {
+    /// An empty list, with all memory for `room` items.
+    pub fn make(alloc: Global, room: u32) -> Result<Pages<T>, OutOfMemory>
+        requires { room ≤ 262144 }
+        ensures { IfOk result (λ pages. pages ≡ journal [] room) }
+    {
+        let pages = empty_pages(alloc, room.div_ceil(PAGE as u32))?;
+        Ok(Pages {
+            pages,
+            len: 0,
+            room,
+        })
+    }
+
+    /// Adds an item.
+    pub fn push_reserved(&mut self, item: T)
+        requires { length self.old.items < self.old.room }
+        ensures { self.new ≡ grown self.old item }
+    {
+        let page = &mut self.pages[self.len as usize / PAGE];
+        page.push(item);
+        self.len += 1;
+    }
+
+    /// The item at an index, if the list is so long.
+    pub fn get(&self, index: u32) -> Option<T>
+        ensures { result ≡ slice_get self.now.items index }
+    {
+        if index >= self.len {
+            return None;
+        }
+        let page = &self.pages[index as usize / PAGE];
+        page.get(index as usize % PAGE)
+    }
+
+    /// The number of items.
+    pub fn len(&self) -> u32
+        ensures len { result ≡ length self.now.items }
+        ensures fits { result ≤ self.now.room }
+    {
+        self.len
+    }
+}
+
+// So many empty pages.
+fn empty_pages<T: Copy>(alloc: Global, count: u32) -> Result<Vec<Page<T>>, OutOfMemory>
+    ensures { IfOk result (λ pages. pages.items ≡ replicate count []) }
+{
+    let mut pages = Vec::with_capacity(alloc, count as usize)?;
+    for _ in 0..count {
+        pages.push(Page::make(alloc)?)?;
+    }
+    Ok(pages)
+}

@@ -1,0 +1,96 @@
+//! The accepted packets of a lane, and those of them that wait.
+ghost use Rattle.std.specs.Prelude.{ℕ, ◌≡◌, ◌+◌, ◌-◌, ◌<◌, ◌≤◌, List, [], ◌∷◌, ◌++◌, length, IfOk, nat_lt, slice_get, if◌then◌else◌};
+ghost use Rattle.backlog.specs.Queues.{QueueLists};
+
+use crate::pages::Pages;
+use circular_buffer::HeapCircularBuffer;
+use std::alloc::Global;
+use std::marker::Model;
+use steer_base::{OutOfMemory, PacketId};
+
+/// The accepted packets and how many of them were pulled. Those that wait stand in a ring besides.
+#[derive(Drop)]
+pub struct Queue {
+    accepted: Pages<PacketId>,
+    waiting: HeapCircularBuffer<PacketId>,
+    pulled: u32,
+    limit: u32,
+}
+
+impl Model for Queue {
+    ghost use Rattle.backlog.specs.Queues.{IsRingOf, QueueLists};
+
+    ghost Value = { QueueLists };
+
+    ghost view = { λ q. record { accepted = q.accepted.items; pulled = q.pulled; limit = q.limit; room = q.accepted.room } };
+
+    ghost invariant = { λ q. IsRingOf (record { accepted = q.accepted.items; pulled = q.pulled; limit = q.limit; room = q.accepted.room }) q.waiting };
+}
+
+impl Queue {
+    /// An empty queue, with memory for `room` packets, of which at most `limit` wait at once.
+    pub fn make(alloc: Global, limit: u32, room: u32) -> Result<Queue, OutOfMemory>
+        requires { room ≤ 262144 }
+        ensures { IfOk result (λ queue. queue ≡ record { accepted = []; pulled = 0; limit = limit; room = room }) }
+    {
+        let accepted = Pages::make(alloc, room)?;
+        let waiting = HeapCircularBuffer::with_capacity(alloc, limit.min(room.max(1)) as usize)?;
+        Ok(Queue {
+            accepted,
+            waiting,
+            pulled: 0,
+            limit,
+        })
+    }
+
+    /// Accepts a packet.
+    pub fn put(&mut self, id: PacketId)
+        requires room { length self.old.accepted < self.old.room }
+        requires limit { length self.old.accepted - self.old.pulled < self.old.limit }
+        ensures { self.new ≡ record self.old { accepted = self.old.accepted ++ id ∷ [] } }
+    {
+        self.accepted.push_reserved(id);
+        self.waiting.try_push_back(id).unwrap();
+    }
+
+    /// Pulls the next packet that waits, if one does.
+    pub fn take(&mut self) -> Option<PacketId>
+        ensures lists { self.new ≡ (if nat_lt self.old.pulled (length self.old.accepted) then record self.old { pulled = self.old.pulled + 1 } else self.old) }
+        ensures packet { result ≡ slice_get self.old.accepted self.old.pulled }
+    {
+        let id = self.waiting.pop_front()?;
+        self.pulled += 1;
+        Some(id)
+    }
+
+    /// How many packets wait.
+    pub fn waiting(&self) -> u32
+        ensures waiting { result ≡ length self.now.accepted - self.now.pulled }
+        ensures limited { result ≤ self.now.limit }
+    {
+        self.waiting.len() as u32
+    }
+
+    /// How many packets were accepted.
+    pub fn accepted(&self) -> u32
+        ensures accepted { result ≡ length self.now.accepted }
+        ensures fits { result ≤ self.now.room }
+    {
+        self.accepted.len()
+    }
+
+    /// How many packets were pulled.
+    pub fn pulled(&self) -> u32
+        ensures pulled { result ≡ self.now.pulled }
+        ensures within { result ≤ length self.now.accepted }
+    {
+        self.pulled
+    }
+
+    /// The packet that was accepted at an index from 0, if there is one.
+    pub fn get(&self, index: u32) -> Option<PacketId>
+        ensures { result ≡ slice_get self.now.accepted index }
+    {
+        self.accepted.get(index)
+    }
+}

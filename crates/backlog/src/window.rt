@@ -1,0 +1,86 @@
+//! The buckets of the last offers of a lane, with how often each bucket stands among them.
+ghost use Rattle.std.specs.Prelude.{ℕ, ◌≡◌, ◌<◌, ◌≤◌, ◌==◌, List, [], ◌∷◌, ◌++◌, count_by, drop, length, replicate, IfOk};
+ghost use Rattle.steer_base.specs.Drops.{last_of};
+
+use circular_buffer::HeapCircularBuffer;
+use std::alloc::Global;
+use std::marker::Model;
+use steer_base::OutOfMemory;
+
+/// How many offers are looked back at.
+const WINDOW: usize = 256;
+
+/// The number of buckets.
+const BUCKETS: usize = 4096;
+
+/// The last 256 buckets, seen as their list.
+#[derive(Drop)]
+pub struct Window {
+    last: HeapCircularBuffer<u16>,
+    counts: Vec<u16>,
+}
+
+impl Model for Window {
+    ghost use Rattle.std.specs.Prelude.{ℕ, List};
+    ghost use Rattle.backlog.specs.Counted.{IsWindow};
+
+    ghost Value = { List ℕ };
+
+    ghost view = { λ w. w.last.items };
+
+    ghost invariant = { λ w. IsWindow w.last w.counts.items };
+}
+
+impl Window {
+    /// The window before any offer.
+    pub fn make(alloc: Global) -> Result<Window, OutOfMemory>
+        ensures { IfOk result (λ window. window ≡ []) }
+    {
+        let last = HeapCircularBuffer::with_capacity(alloc, WINDOW)?;
+        let counts = zeros(alloc)?;
+        Ok(Window { last, counts })
+    }
+
+    /// Takes the bucket of an offer in, and lets go of the oldest one if there are 256.
+    pub fn push(&mut self, bucket: u16)
+        requires { bucket < 4096 }
+        ensures { self.new ≡ last_of 256 (self.old ++ bucket ∷ []) }
+    {
+        if self.last.is_full() {
+            self.forget_oldest();
+        }
+        self.add(bucket);
+    }
+
+    /// How often a bucket stands in the window.
+    pub fn count(&self, bucket: u16) -> u32
+        requires { bucket < 4096 }
+        ensures { result ≡ count_by (λ b. b == bucket) self.now }
+    {
+        self.counts[bucket as usize] as u32
+    }
+
+    fn forget_oldest(&mut self)
+        ensures { self.new ≡ drop 1 self.old }
+    {
+        if let Some(oldest) = self.last.pop_front() {
+            self.counts[oldest as usize] -= 1;
+        }
+    }
+
+    fn add(&mut self, bucket: u16)
+        requires room { length self.old < 256 }
+        requires bucket { bucket < 4096 }
+        ensures { self.new ≡ self.old ++ bucket ∷ [] }
+    {
+        self.last.try_push_back(bucket).unwrap();
+        self.counts[bucket as usize] += 1;
+    }
+}
+
+// A count of 0 for each bucket.
+fn zeros(alloc: Global) -> Result<Vec<u16>, OutOfMemory>
+    ensures { IfOk result (λ counts. counts.items ≡ replicate 4096 0) }
+{
+    Ok(Vec::from_elem(alloc, 0, BUCKETS)?)
+}
