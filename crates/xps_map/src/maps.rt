@@ -1,0 +1,188 @@
+//! The maps of the transmit queues.
+ghost use Rattle.std.specs.Prelude.{◌≡◌, ◌<◌, ◌≤◌, IsTrue, length, slice_index, slice_set};
+ghost use Rattle.steer_base.specs.Sends.{candidates};
+ghost use Rattle.steer_base.specs.Sets.{has_queue, those_below};
+ghost use Rattle.xps_map.specs.Maps.{empty_maps, picked, serves_cpu, serves_queue};
+ghost use Rattle.xps_map.specs.Stages.{passes_at};
+
+use crate::stage::Stage;
+use std::marker::Model;
+use steer_base::{Cpu, CpuMask, RxQueue, TxQueue};
+
+const MOST: usize = 32;
+
+/// For each of 1 to 32 transmit queues the processors and the receive queues that are mapped to it (kernel scaling
+/// chapter, section XPS: `xps_cpus` and `xps_rxqs`).
+#[derive(Drop)]
+pub struct XpsMaps {
+    count: u8,
+    cpus: [CpuMask; MOST],
+    queues: [u16; MOST],
+}
+
+impl Model for XpsMaps {
+    ghost use Rattle.std.specs.Prelude.{◌≡◌, ◌<◌, ◌≤◌, length, take};
+    ghost use Rattle.xps_map.specs.Maps.{Maps};
+
+    ghost Value = { Maps };
+
+    ghost view = { λ m. record { count = m.count; cpus = take m.count m.cpus; queues = take m.count m.queues } };
+
+    ghost invariant = { λ m. (0 < m.count) × (m.count ≤ 32) };
+}
+
+impl XpsMaps {
+    /// The maps of so many transmit queues, 1 to 32, all of them empty.
+    pub fn make(queues: u8) -> XpsMaps
+        requires some { 1 ≤ queues }
+        requires few { queues ≤ 32 }
+        ensures { result ≡ empty_maps queues }
+    {
+        XpsMaps {
+            count: queues,
+            cpus: [CpuMask(0); MOST],
+            queues: [0; MOST],
+        }
+    }
+
+    /// Gives a transmit queue other processors.
+    pub fn set_cpus(&mut self, tx: TxQueue, mask: CpuMask)
+        requires { tx < self.old.count }
+        ensures { self.new ≡ record self.old { cpus = slice_set self.old.cpus tx mask } }
+    {
+        self.cpus[usize::from(tx.0)] = mask;
+    }
+
+    /// Gives a transmit queue other receive queues: bit q is receive queue q.
+    pub fn set_queues(&mut self, tx: TxQueue, mask: u16)
+        requires { tx < self.old.count }
+        ensures { self.new ≡ record self.old { queues = slice_set self.old.queues tx mask } }
+    {
+        self.queues[usize::from(tx.0)] = mask;
+    }
+
+    /// The transmit queue of a packet that came by `rxq` and is sent from `cpu`. The candidates, ascending, are the
+    /// transmit queues whose receive-queue map has `rxq`; with none, those whose processor map has `cpu`; with none of
+    /// these either, all. Of `k` candidates it is the one at index `hash mod k`, and the first without a hash.
+    pub fn pick(&self, rxq: RxQueue, cpu: Cpu, hash: Option<u32>) -> TxQueue
+        ensures value { result ≡ picked self.now rxq cpu hash }
+        ensures within { result < self.now.count }
+    {
+        let stage = self.stage(rxq, cpu);
+        let index = hash.unwrap_or(0) % self.candidate_count(stage, rxq, cpu);
+        self.candidate_at(stage, rxq, cpu, index)
+    }
+
+    // The first stage at which a transmit queue passes.
+    fn stage(&self, rxq: RxQueue, cpu: Cpu) -> Stage
+        ensures candidates { those_below self.now.count (passes_at result self.now rxq cpu) ≡ candidates self.now.count (serves_queue self.now) (serves_cpu self.now) rxq cpu }
+        ensures some { 0 < length (those_below self.now.count (passes_at result self.now rxq cpu)) }
+    {
+        if self.candidate_count(Stage::ByQueue, rxq, cpu) > 0 {
+            Stage::ByQueue
+        } else if self.candidate_count(Stage::ByCpu, rxq, cpu) > 0 {
+            Stage::ByCpu
+        } else {
+            Stage::All
+        }
+    }
+
+    // How many transmit queues pass at a stage.
+    #[tactic(auto, using(steer_base::proofs::SetsLemmas::members))]
+    fn candidate_count(&self, stage: Stage, rxq: RxQueue, cpu: Cpu) -> u32
+        ensures value { result ≡ length (those_below self.now.count (passes_at stage self.now rxq cpu)) }
+        ensures some { 0 < self.now.count }
+    {
+        let mut count = 0;
+        for tx in 0..self.count {
+            if self.passes(stage, rxq, cpu, TxQueue(tx)) {
+                count += 1;
+            }
+        }
+        count
+    }
+
+    // The transmit queue that passes and that so many others which pass are below.
+    #[tactic(auto, using(steer_base::proofs::SetsLemmas::members))]
+    fn candidate_at(&self, stage: Stage, rxq: RxQueue, cpu: Cpu, index: u32) -> TxQueue
+        requires { index < length (those_below self.now.count (passes_at stage self.now rxq cpu)) }
+        ensures value { result ≡ slice_index (those_below self.now.count (passes_at stage self.now rxq cpu)) index }
+        ensures within { result < self.now.count }
+    {
+        let mut left = index;
+        for tx in 0..self.count {
+            if self.passes(stage, rxq, cpu, TxQueue(tx)) {
+                if left == 0 {
+                    return TxQueue(tx);
+                }
+                left -= 1;
+            }
+        }
+        unreachable!()
+    }
+
+    // Whether a transmit queue passes at a stage.
+    fn passes(&self, stage: Stage, rxq: RxQueue, cpu: Cpu, tx: TxQueue) -> bool
+        requires { tx < self.now.count }
+        ensures { result ≡ passes_at stage self.now rxq cpu tx }
+    {
+        match stage {
+            Stage::ByQueue => has_receive_queue(self.queues[usize::from(tx.0)], rxq),
+            Stage::ByCpu => self.cpus[usize::from(tx.0)].has(cpu.0),
+            Stage::All => true,
+        }
+    }
+}
+
+// Whether a receive queue is in a set: bit q is receive queue q.
+fn has_receive_queue(queues: u16, rxq: RxQueue) -> bool
+    ensures { result ≡ has_queue queues rxq }
+{
+    rxq.0 < 16 && queues >> rxq.0 & 1 == 1
+}
+
+#[cfg(test)]
+mod tests {
+    use super::*;
+
+    // Port hashes of published verification frames.
+    const A: u32 = 0x51cc_c178;
+
+    const D: u32 = 0xafc7_327f;
+
+    #[test]
+    fn receive_queue_maps_come_first(rt: HostRuntime) {
+        let mut maps = XpsMaps::make(4);
+        maps.set_queues(TxQueue(1), 0b1);
+        maps.set_queues(TxQueue(2), 0b1);
+        maps.set_cpus(TxQueue(3), CpuMask(0b100));
+        let cases = [
+            // The candidates are 1 and 2: A is even and D is odd.
+            (0u8, 2u8, Some(A), 1u8),
+            (0, 2, Some(D), 2),
+            (0, 2, None, 1),
+            // No map has receive queue 1, and the map of transmit queue 3 has processor 2.
+            (1, 2, Some(A), 3),
+            (1, 2, Some(D), 3),
+            (1, 2, None, 3),
+            // No map has either, so all four are candidates: A is 0 and D is 3 modulo 4.
+            (1, 1, Some(A), 0),
+            (1, 1, Some(D), 3),
+            (1, 1, None, 0),
+        ];
+        for (rxq, cpu, hash, wanted) in cases {
+            assert_eq!(rt;
+                maps.pick(RxQueue(rxq), Cpu(cpu), hash),
+                TxQueue(wanted),
+                "{rxq} {cpu} {hash:?}"
+            );
+        }
+        let mut most = XpsMaps::make(32);
+        most.set_cpus(TxQueue(31), CpuMask(1 << 31));
+        assert_eq!(rt; most.pick(RxQueue(15), Cpu(31), Some(A)), TxQueue(31));
+        most.set_queues(TxQueue(30), 1 << 15);
+        assert_eq!(rt; most.pick(RxQueue(15), Cpu(31), Some(A)), TxQueue(30));
+        most.set_queues(TxQueue(30), 0);
+        assert_eq!(rt; most.pick(RxQueue(15), Cpu(31), Some(A)), TxQueue(31));
+    }
+}
