@@ -1,0 +1,145 @@
+//! The processors that are online.
+ghost use Rattle.std.specs.Prelude.{◌≡◌, ◌<◌, ◌≤◌, ◌==◌, None, Some, IfErr, IfSome, OnOk, length, position};
+ghost use Rattle.steer_base.specs.Commands.{refusal, user_of};
+
+use steer_base::{AppId, Command, Cpu, CpuMask, Refused, RxQueue, User};
+
+/// The set of processors that are online.
+#[derive(Clone, Copy, Debug, PartialEq, Eq)]
+pub struct Online {
+    /// Bit c is processor c.
+    pub mask: CpuMask,
+}
+
+impl Online {
+    /// Whether a command may be given at all. An offline processor can neither go offline nor be stood on, an online one
+    /// cannot come online, and one cannot go offline that is home to a receive queue or stood on by an application: the
+    /// answer names the lowest such queue, else the lowest such application. `homes` has the home processor of each
+    /// receive queue, and `stands` the processor of each application.
+    pub fn may(&self, command: &Command, homes: &[Cpu], stands: &[Cpu]) -> Result<(), Refused>
+        requires homes { length homes.now ≤ 32 }
+        requires stands { length stands.now ≤ 32 }
+        ensures ok { OnOk result (refusal self.now.mask command.now homes.now stands.now ≡ None) }
+        ensures refused { IfErr result (λ why. refusal self.now.mask command.now homes.now stands.now ≡ Some why) }
+    {
+        match command {
+            Command::Offline(cpu) => self.may_go_offline(*cpu, homes, stands),
+            Command::Stand(_, cpu) if !self.mask.has(cpu.0) => Err(Refused::CpuOffline),
+            Command::Online(cpu) if self.mask.has(cpu.0) => Err(Refused::AlreadyOnline),
+            _ => Ok(()),
+        }
+    }
+
+    // Whether a processor may go offline.
+    fn may_go_offline(&self, cpu: Cpu, homes: &[Cpu], stands: &[Cpu]) -> Result<(), Refused>
+        requires homes { length homes.now ≤ 32 }
+        requires stands { length stands.now ≤ 32 }
+        ensures ok { OnOk result (refusal self.now.mask (Command.Offline cpu) homes.now stands.now ≡ None) }
+        ensures refused { IfErr result (λ why. refusal self.now.mask (Command.Offline cpu) homes.now stands.now ≡ Some why) }
+    {
+        if !self.mask.has(cpu.0) {
+            return Err(Refused::CpuOffline);
+        }
+        match who_uses(cpu, homes, stands) {
+            Some(user) => Err(Refused::CpuInUse(user)),
+            None => Ok(()),
+        }
+    }
+}
+
+// The lowest receive queue whose home the processor is, else the lowest application that stands on it.
+fn who_uses(cpu: Cpu, homes: &[Cpu], stands: &[Cpu]) -> Option<User>
+    requires homes { length homes.now ≤ 32 }
+    requires stands { length stands.now ≤ 32 }
+    ensures { result ≡ user_of homes.now stands.now cpu }
+{
+    if let Some(queue) = place_of(cpu, homes) {
+        return Some(User::Queue(RxQueue(queue as u8)));
+    }
+    if let Some(app) = place_of(cpu, stands) {
+        return Some(User::App(AppId(app as u8)));
+    }
+    None
+}
+
+// The first place of a processor in a list.
+fn place_of(cpu: Cpu, cpus: &[Cpu]) -> Option<usize>
+    ensures value { result ≡ position (λ other. other == cpu) cpus.now }
+    ensures within { IfSome result (λ place. place < length cpus.now) }
+{
+    cpus.iter().position(|other| *other == cpu)
+}
+
+#[cfg(test)]
+mod tests {
+    use super::*;
+    use steer_base::TxQueue;
+
+    #[test]
+    fn commands_are_refused(rt: HostRuntime) {
+        let all = Online {
+            mask: CpuMask(0b1111),
+        };
+        let without_2 = Online {
+            mask: CpuMask(0b1011),
+        };
+        let home = [Cpu(0)];
+        let cases = [
+            // Processor 0 is home to queue 0, and application 0 stands on processor 2.
+            (
+                all,
+                Command::Offline(Cpu(0)),
+                2,
+                Err(Refused::CpuInUse(User::Queue(RxQueue(0)))),
+            ),
+            (
+                all,
+                Command::Offline(Cpu(2)),
+                2,
+                Err(Refused::CpuInUse(User::App(AppId(0)))),
+            ),
+            (all, Command::Stand(AppId(0), Cpu(3)), 2, Ok(())),
+            // It stands on processor 3 now.
+            (all, Command::Offline(Cpu(2)), 3, Ok(())),
+            // Processor 2 is offline now.
+            (
+                without_2,
+                Command::Offline(Cpu(2)),
+                3,
+                Err(Refused::CpuOffline),
+            ),
+            (
+                without_2,
+                Command::Stand(AppId(0), Cpu(2)),
+                3,
+                Err(Refused::CpuOffline),
+            ),
+            (
+                without_2,
+                Command::Online(Cpu(3)),
+                3,
+                Err(Refused::AlreadyOnline),
+            ),
+            (without_2, Command::Online(Cpu(2)), 3, Ok(())),
+            (without_2, Command::XCpus(TxQueue(0), CpuMask(0)), 3, Ok(())),
+        ];
+        for (online, command, stand, wanted) in cases {
+            assert_eq!(rt;
+                online.may(&command, &home, &[Cpu(stand)]),
+                wanted,
+                "{command:?}"
+            );
+        }
+        // The lowest queue is named before an application, and the lowest application.
+        let homes = [Cpu(0), Cpu(1), Cpu(1)];
+        let stands = [Cpu(3), Cpu(2), Cpu(1), Cpu(2)];
+        assert_eq!(rt;
+            all.may(&Command::Offline(Cpu(1)), &homes, &stands),
+            Err(Refused::CpuInUse(User::Queue(RxQueue(1))))
+        );
+        assert_eq!(rt;
+            all.may(&Command::Offline(Cpu(2)), &homes, &stands),
+            Err(Refused::CpuInUse(User::App(AppId(1))))
+        );
+    }
+}
