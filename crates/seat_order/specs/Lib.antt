@@ -1,0 +1,5 @@
+pub mod Closings
+pub mod Hands
+pub mod Orders
+pub mod Rules
+pub mod Seats

@@ -1,0 +1,33 @@
+-- What contracts see of seats.
+use Rattle.std.specs.Prelude.{◌≡◌, ℕ, zero, suc, ◌+◌, List, [], ◌∷◌, map, All}
+use Rattle.std.specs.List.{Contains}
+use Rattle.atomic_table.specs.Seated.{TableId}
+use Rattle.seat_order.specs.Orders.{Entry, steps_of}
+
+-- a seat's table, its number there, and its own steps
+pub record SeatView (D : Type 0) : Type 0 where
+  pub table : TableId
+  pub number : ℕ
+  pub steps : List D
+
+module _ {D : Type 0} where
+  abbrev pub seat_view : TableId → ℕ → List D → SeatView D
+  seat_view z p ds = record { table = z; number = p; steps = ds }
+
+  -- k seats of a table that have made no step, numbered from n on
+  abbrev pub new_seats : TableId → ℕ → ℕ → List (SeatView D)
+  new_seats z n zero = []
+  new_seats z n (suc k) = seat_view z n [] ∷ new_seats z (n + 1) k
+
+  -- the seat's steps are its part of the order
+  abbrev pub HasPart : List (Entry D) → SeatView D → Type 0
+  HasPart order s = s.steps ≡ steps_of s.number order
+
+  -- one of the seats made the step
+  abbrev pub IsByOne : List (SeatView D) → Entry D → Type 0
+  IsByOne seats e = Contains (map (λ (s : SeatView D). s.number) seats) e.by
+
+-- the seats' steps are the parts of this one order, which has no others
+pub record ArePartsOf {D : Type 0} (order : List (Entry D)) (seats : List (SeatView D)) : Type 0 where
+  pub each : All (HasPart order) seats
+  pub whole : All (IsByOne seats) order
