@@ -1,0 +1,21 @@
+-- Where the values of loads come from.
+use Rattle.std.specs.Prelude.{◌≢◌, ℕ, List, All}
+use Rattle.std.specs.List.{Contains}
+use Rattle.seat_order.specs.Seats.{SeatView}
+use Rattle.hint_words.specs.declared.step.HintStep.{HintStep}
+use Rattle.hint_words.specs.declared.step.HintStep.TheVariants.{Load, Store, ClearIf}
+
+-- one of the seats has a store of n at the word i
+pub record IsStoredBy (seats : List (SeatView HintStep)) (i n : ℕ) : Type 0 where
+  pub seat : SeatView HintStep
+  pub among : Contains seats seat
+  pub stores : Contains seat.steps (Store i n)
+
+-- if the step is a load that is not 0, one of the seats has a store of its value at its word
+abbrev pub ComesFrom : List (SeatView HintStep) → HintStep → Type 0
+ComesFrom seats (Load i n) = n ≢ 0 → IsStoredBy seats i n
+ComesFrom seats (Store i n) = Unit {0}
+ComesFrom seats (ClearIf i n done) = Unit {0}
+
+abbrev pub LoadsAreStored : List (SeatView HintStep) → Type 0
+LoadsAreStored seats = All (λ (s : SeatView HintStep). All (ComesFrom seats) s.steps) seats

@@ -1,0 +1,67 @@
+//! The words, and how they are made and closed.
+ghost use Rattle.std.specs.Prelude.{◌≡◌, ℕ, List, IfOk, All};
+ghost use Rattle.std.specs.Vec.{vec_len};
+ghost use Rattle.seat_order.specs.Orders.{Entry};
+ghost use Rattle.seat_order.specs.Seats.{new_seats, ArePartsOf};
+ghost use Rattle.hint_words.specs.Steps.{IsLawful};
+ghost use Rattle.hint_words.specs.Loads.{LoadsAreStored};
+
+use crate::rule::LastWrites;
+use crate::sizes::Sizes;
+use crate::step::HintStep;
+use atomic_table::Table;
+use seat_order::{Hands, OneOrder, OrderedSeat, close, deal};
+use std::alloc::Global;
+use std::marker::Model;
+use steer_base::OutOfMemory;
+
+/// One thread's right to make steps on the words.
+pub type HintSeat = OrderedSeat<(), HintStep>;
+
+/// Words of 64 bits that any thread with a seat may load, store and clear. Each begins as 0.
+#[derive(Drop)]
+pub struct Hints {
+    pub(crate) table: Table<(), Hands<HintStep>, Sizes, OneOrder<LastWrites>, Global>,
+}
+
+impl Model for Hints {
+    ghost use Rattle.std.specs.Prelude.{◌≡◌, ◌+◌};
+    ghost use Rattle.hint_words.specs.Views.{HintsView};
+
+    ghost Value = { HintsView };
+
+    ghost view = { λ h. record { table = h.table.shared.table_id; words = h.table.shared.key.words; seats = h.table.shared.key.seats } };
+
+    ghost invariant = { λ h. (h.table.shared.table_id.words ≡ h.table.shared.key.words + 1) × (h.table.shared.table_id.slots ≡ 0) };
+}
+
+impl Hints {
+    /// Makes `words` words, each 0, with all their seats, which are numbered from 0 on.
+    pub fn make(
+        alloc: Global,
+        words: u32,
+        seats: u32,
+    ) -> Result<(Hints, Vec<HintSeat>), OutOfMemory>
+        ensures words { IfOk result (λ r. r.0.words ≡ words) }
+        ensures seats { IfOk result (λ r. r.0.seats ≡ seats) }
+        ensures given { IfOk result (λ r. r.1.items ≡ new_seats r.0.table 0 seats) }
+        ensures table { IfOk result (λ r. All (λ s. s.table ≡ r.0.table) r.1.items) }
+        ensures all { IfOk result (λ r. vec_len r.1 ≡ seats) }
+    {
+        let zeros = vec![in alloc; 0; words as usize + 1]?;
+        let about = Sizes { words, seats };
+        let (table, main) = Table::of_words(alloc, &zeros, &about)?;
+        let given = deal(alloc, &table.shared, main, seats)?;
+        Ok((Hints { table }, given))
+    }
+
+    /// Ends the words. It takes all seats that came with them, in any order, and no memory.
+    pub fn close_hints(self, seats: Vec<HintSeat>)
+        requires table { All (λ s. s.table ≡ self.table) seats.items }
+        requires all { vec_len seats ≡ self.seats }
+        ensures order { (order : List (Entry HintStep)) × IsLawful order × ArePartsOf order seats.items }
+        ensures stored { LoadsAreStored seats.items }
+    {
+        close(self.table, seats).free();
+    }
+}

@@ -1,0 +1,17 @@
+//! Words that threads load and store with no lock, each in single atomic steps.
+#![tactic(auto)]
+
+mod calls;
+mod hints;
+mod laws;
+mod making;
+mod rule;
+mod sizes;
+mod step;
+
+pub use hints::{HintSeat, Hints};
+pub use laws::last_write;
+pub use step::HintStep;
+
+#[cfg(test)]
+mod tests;

@@ -1,0 +1,14 @@
+//! The rule of the words: each holds what was written there last, in one order of all seats' steps.
+use crate::sizes::Sizes;
+use crate::step::HintStep;
+use seat_order::StepRule;
+
+pub struct LastWrites;
+
+impl StepRule<(), HintStep, Sizes> for LastWrites {
+    ghost use Rattle.hint_words.specs.Tables.{HasLastWrites};
+
+    ghost seats = { λ about. about.seats };
+
+    ghost lawful = { HasLastWrites };
+}
