@@ -1,0 +1,8 @@
+mod Numbers
+mod Sets
+mod Faults
+pub mod Loops
+mod Views
+mod BitsOfItems
+mod Evens
+mod Bytes

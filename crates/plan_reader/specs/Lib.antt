@@ -1,0 +1,16 @@
+pub mod Causes
+pub mod Texts
+pub mod Words
+pub mod StepTexts
+pub mod Seeds
+pub mod Plans
+pub mod Ranges
+pub mod Faults
+pub mod Readings
+pub use Rattle.serde_json.specs.Data
+pub use Rattle.serde_json.specs.Find
+pub use Rattle.serde_json.specs.Read
+pub use Rattle.serde_json.specs.View
+pub mod PlanTexts
+pub mod Parts
+pub mod Settings

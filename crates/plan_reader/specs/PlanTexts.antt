@@ -1,0 +1,152 @@
+-- The plan of a JSON value, and of bytes.
+use Rattle.std.specs.Prelude.{◌≡◌, ℕ, List, [], ◌∷◌, drop, length, Option, Some, None, Result, Ok, Err, if◌then◌else◌, codes}
+use Rattle.std.specs.Str.{is_utf8}
+use Rattle.serde_json.specs.Data.{Data}
+use Rattle.serde_json.specs.Read.{read}
+use Rattle.plan_reader.specs.declared.key.TheConstants.{VERIFICATION_KEY}
+use Rattle.plan_reader.specs.declared.cause.Cause.{Cause}
+use Rattle.plan_reader.specs.declared.cause.Cause.TheVariants as cause
+use Rattle.plan_reader.specs.declared.fault.Fault.{Fault}
+use Rattle.plan_reader.specs.declared.fault.Refusal.{Refusal}
+use Rattle.plan_reader.specs.declared.fault.Refusal.TheVariants as refusal
+use Rattle.plan_reader.specs.declared.parts.Parts.{Parts}
+use Rattle.plan_reader.specs.declared.parts.Receive.{Receive}
+use Rattle.plan_reader.specs.declared.parts.Tables.{Tables}
+use Rattle.plan_reader.specs.declared.parts.Sends.{Sends}
+use Rattle.plan_reader.specs.declared.plan.Plan.{Plan}
+use Rattle.plan_reader.specs.declared.plan_fault.PlanFault.{PlanFault}
+use Rattle.plan_reader.specs.declared.plan_fault.PlanFault.TheVariants as fault
+use Rattle.plan_reader.specs.declared.sizes.Sizes.{Sizes}
+use Rattle.plan_reader.specs.Settings.{Settings}
+use Rattle.plan_reader.specs.Causes.{◌>>=◌}
+use Rattle.plan_reader.specs.Faults.{here}
+use Rattle.plan_reader.specs.Readings.{number, number_below, set, list_of, required, optional, an_object, only, queue_of, tx_of, detach_of, key_of, steps_of, even_table}
+
+-- ---- the fields, in their order
+
+unfoldable pub receive_of : Data → Result Receive Fault
+receive_of d = do
+  cpus ← required (codes "cpus") (λ v. here (number 1 32 v)) d
+  queues ← required (codes "queues") (list_of (queue_of cpus) 1 16) d
+  key ← optional (codes "key") (λ v. here (key_of v)) VERIFICATION_KEY d
+  kinds ← optional (codes "kinds") (λ v. here (number 0 63 v)) 63 d
+  reta ← optional (codes "reta") (list_of (λ v. here (number_below (length queues) v)) 128 128) (even_table (length queues)) d
+  Ok (record { cpus = cpus; queues = queues; key = key; kinds = kinds; reta = reta })
+
+unfoldable pub tables_of : ℕ → Data → Result Tables Fault
+tables_of cpus d = do
+  sock ← required (codes "sock") (λ v. here (number 0 65536 v)) d
+  filters ← optional (codes "filters") (λ v. here (number 0 4096 v)) 0 d
+  backlog ← optional (codes "backlog") (λ v. here (number 1 65536 v)) 1000 d
+  start ← optional (codes "start") (λ v. here (number 0 4294967295 v)) 0 d
+  limited ← optional (codes "limited") (set 32 cpus) 0 d
+  Ok (record { sock = sock; filters = filters; backlog = backlog; start = start; limited = record { 0 = limited } })
+
+unfoldable pub sends_of : ℕ → ℕ → Data → Result Sends Fault
+sends_of cpus queues d = do
+  apps ← required (codes "apps") (list_of (λ v. here (number_below cpus v)) 1 32) d
+  tx ← required (codes "tx") (list_of (tx_of cpus queues) 1 32) d
+  workers ← optional (codes "workers") (λ v. here (number 1 32 v)) 1 d
+  tries ← optional (codes "tries") (λ v. here (number 1 64 v)) 1 d
+  detach ← optional (codes "detach") (list_of detach_of 0 32) [] d
+  Ok (record { apps = apps; tx = tx; workers = workers; tries = tries; detach = detach })
+
+-- every key of a plan, in the order in which it is looked at
+abbrev pub plan_keys : List (List ℕ)
+plan_keys = codes "cpus" ∷ codes "queues" ∷ codes "key" ∷ codes "kinds" ∷ codes "reta" ∷ codes "sock" ∷ codes "filters"
+    ∷ codes "backlog" ∷ codes "start" ∷ codes "limited" ∷ codes "apps" ∷ codes "tx" ∷ codes "workers" ∷ codes "tries"
+    ∷ codes "detach" ∷ codes "steps" ∷ []
+
+abbrev pub joined : Parts → Settings
+joined parts = record {
+  cpus = parts.receive.cpus;
+  queues = parts.receive.queues;
+  key = parts.receive.key;
+  kinds = parts.receive.kinds;
+  reta = parts.receive.reta;
+  sock = parts.tables.sock;
+  filters = parts.tables.filters;
+  backlog = parts.tables.backlog;
+  start = parts.tables.start;
+  limited = parts.tables.limited;
+  apps = parts.sends.apps;
+  tx = parts.sends.tx;
+  workers = parts.sends.workers;
+  tries = parts.sends.tries;
+  detach = parts.sends.detach;
+  steps = parts.steps;
+}
+
+-- how many of each these parts have
+abbrev pub sizes_with : Receive → Sends → Sizes
+sizes_with receive sends = record { cpus = receive.cpus; queues = length receive.queues; apps = length sends.apps; tx = length sends.tx }
+
+-- the plan of a value, or the first that is wrong with it
+unfoldable pub settings_in : Data → Result Settings Fault
+settings_in d = do
+  is ← an_object d
+  receive ← receive_of d
+  tables ← tables_of receive.cpus d
+  sends ← sends_of receive.cpus (length receive.queues) d
+  steps ← required (codes "steps") (steps_of (sizes_with receive sends)) d
+  none ← only plan_keys d
+  Ok (joined (record { receive = receive; tables = tables; sends = sends; steps = steps }))
+
+-- ---- bytes
+
+-- the JSON value of bytes, which are to be UTF-8
+abbrev pub value_of : List ℕ → Option Data
+value_of bytes = if is_utf8 bytes then read bytes else None
+
+-- that value, where there is one
+abbrev pub json_of : Option Data → Result Data Fault
+json_of None = here (Err cause.NotJson)
+json_of (Some d) = Ok d
+
+abbrev pub settings_of_bytes : List ℕ → Result Settings Fault
+settings_of_bytes bytes = do
+  d ← json_of (value_of bytes)
+  settings_in d
+
+-- a fault by its name; the path is joined by slashes, so the first slash goes
+abbrev pub named_as : Cause → List ℕ → PlanFault
+named_as cause.NotJson path = fault.NotJson
+named_as cause.Missing path = fault.Missing path
+named_as cause.WrongKind path = fault.WrongKind path
+named_as (cause.Range n) path = fault.Range path n
+named_as cause.UnknownKey path = fault.UnknownKey path
+named_as (cause.TooLong n) path = fault.TooLong n
+
+abbrev pub named : Result Settings Fault → Result Settings PlanFault
+named (Ok settings) = Ok settings
+named (Err found) = Err (named_as found.cause (drop 1 found.path))
+
+-- the plan of bytes, or their fault
+unfoldable pub plan_of : List ℕ → Result Settings PlanFault
+plan_of bytes = named (settings_of_bytes bytes)
+
+-- what a refusal is called outside
+abbrev pub IsNamed : Refusal → PlanFault → Type 0
+IsNamed refusal.Memory named = named ≡ fault.OutOfMemory
+IsNamed (refusal.Fault found) named = named ≡ named_as found.cause (drop 1 found.path)
+
+-- what a plan says
+abbrev pub settings_of : Plan → Settings
+settings_of plan = record {
+  cpus = plan.cpus;
+  queues = plan.queues;
+  key = plan.key;
+  kinds = plan.kinds;
+  reta = plan.reta;
+  sock = plan.sock;
+  filters = plan.filters;
+  backlog = plan.backlog;
+  start = plan.start;
+  limited = plan.limited;
+  apps = plan.apps;
+  tx = plan.tx;
+  workers = plan.workers;
+  tries = plan.tries;
+  detach = plan.detach;
+  steps = plan.steps;
+}

@@ -1,0 +1,94 @@
+-- The step of a text: the whole text is held against the grammar first, then its numbers against the plan from the left.
+use Rattle.std.specs.Prelude.{ℕ, Bool, ◌||◌, List, Option, Some, None, Result, Ok, Err, is_some, if◌then◌else◌, bytes_eq, codes}
+use Rattle.steer_base.specs.declared.command.Command.TheVariants.{Mask, Flows, Sock, XCpus, XQueues, Reta, Stand}
+use Rattle.steer_base.specs.declared.step.Step.{Step}
+use Rattle.steer_base.specs.declared.step.Step.TheVariants.{Record, Give}
+use Rattle.plan_reader.specs.declared.cause.Cause.{Cause}
+use Rattle.plan_reader.specs.declared.cause.Cause.TheVariants.{WrongKind}
+use Rattle.plan_reader.specs.declared.sizes.Sizes.{Sizes}
+use Rattle.plan_reader.specs.Causes.{◌>>=◌, kind, below}
+use Rattle.plan_reader.specs.Texts.{number_of, set_of, merged, before, after}
+use Rattle.plan_reader.specs.Words.{bare_step, queue_step, cpu_step, app_step, tx_step}
+
+-- a step about one of so many
+abbrev pub one_of : ℕ → ℕ → (ℕ → Option Step) → Result Step Cause
+one_of limit n step = do
+  n ← below limit n
+  kind (step n)
+
+-- a word with one number
+unfoldable pub number_step : Sizes → List ℕ → ℕ → Result Step Cause
+number_step sizes word n =
+    if is_some (queue_step word 0) then one_of sizes.queues n (queue_step word)
+    else (if is_some (cpu_step word 0) then one_of sizes.cpus n (cpu_step word)
+    else (if is_some (app_step word 0) then one_of sizes.apps n (app_step word)
+    else (if is_some (tx_step word 0) then one_of sizes.tx n (tx_step word)
+    else (if bytes_eq word (codes "record") then one_of 262144 n (λ flow. Some (Record flow))
+    else (if bytes_eq word (codes "sock") then one_of 65537 n (λ size. Some (Give (Sock size)))
+    else Err WrongKind)))))
+
+-- a word with two numbers
+unfoldable pub pair_step : Sizes → List ℕ → ℕ → ℕ → Result Step Cause
+pair_step sizes word first second =
+    if bytes_eq word (codes "flows") then (do
+      queue ← below sizes.queues first
+      count ← below 32769 second
+      Ok (Give (Flows queue count)))
+    else (if bytes_eq word (codes "reta") then (do
+      place ← below 128 first
+      queue ← below sizes.queues second
+      Ok (Give (Reta place queue)))
+    else (if bytes_eq word (codes "stand") then (do
+      app ← below sizes.apps first
+      cpu ← below sizes.cpus second
+      Ok (Give (Stand app cpu)))
+    else Err WrongKind))
+
+-- a word with a number and a set
+unfoldable pub set_step : Sizes → List ℕ → ℕ → List ℕ → Result Step Cause
+set_step sizes word first members =
+    if bytes_eq word (codes "mask") then (do
+      queue ← below sizes.queues first
+      cpus ← merged sizes.cpus members
+      Ok (Give (Mask queue (record { 0 = cpus }))))
+    else (if bytes_eq word (codes "xcpus") then (do
+      tx ← below sizes.tx first
+      cpus ← merged sizes.cpus members
+      Ok (Give (XCpus tx (record { 0 = cpus }))))
+    else (if bytes_eq word (codes "xqueues") then (do
+      tx ← below sizes.tx first
+      queues ← merged sizes.queues members
+      Ok (Give (XQueues tx queues)))
+    else Err WrongKind))
+
+-- whether the second argument of the word is a set
+unfoldable pub takes_set : List ℕ → Bool
+takes_set word = bytes_eq word (codes "mask") || bytes_eq word (codes "xcpus") || bytes_eq word (codes "xqueues")
+
+-- a word and two arguments
+abbrev pub two_arguments : Sizes → List ℕ → List ℕ → List ℕ → Result Step Cause
+two_arguments sizes word first second =
+    if takes_set word then (do
+      number ← kind (number_of first)
+      members ← kind (set_of second)
+      set_step sizes word number members)
+    else (do
+      number ← kind (number_of first)
+      other ← kind (number_of second)
+      pair_step sizes word number other)
+
+-- a word and one argument, or two where something follows the space behind the first
+abbrev pub some_arguments : Sizes → List ℕ → List ℕ → Option (List ℕ) → Result Step Cause
+some_arguments sizes word first None = do
+  number ← kind (number_of first)
+  number_step sizes word number
+some_arguments sizes word first (Some second) = two_arguments sizes word first second
+
+-- a word, and its arguments where something follows the space behind it
+abbrev pub arguments : Sizes → List ℕ → Option (List ℕ) → Result Step Cause
+arguments sizes word None = bare_step word
+arguments sizes word (Some rest) = some_arguments sizes word (before 32 rest) (after 32 rest)
+
+-- the step of a text: words with one space between them
+unfoldable pub step_of : Sizes → List ℕ → Result Step Cause
+step_of sizes text = arguments sizes (before 32 text) (after 32 text)

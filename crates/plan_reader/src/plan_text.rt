@@ -1,0 +1,123 @@
+//! The plan of bytes.
+ghost use Rattle.std.specs.Prelude.{◌≡◌, ◌≢◌, drop, IfOk, IfErr, Ok, Err};
+ghost use Rattle.serde_json.specs.View.{view};
+ghost use Rattle.plan_reader.specs.Faults.{GivesAs};
+ghost use Rattle.plan_reader.specs.Parts.{PartsAreWithin};
+ghost use Rattle.plan_reader.specs.PlanTexts.{IsNamed, json_of, joined, plan_of, settings_of, settings_of_bytes, value_of};
+
+use crate::cause::Cause;
+use crate::commands::commands_of;
+use crate::fault::Refusal;
+use crate::list::List;
+use crate::parts::Parts;
+use crate::placed::here;
+use crate::plan::Plan;
+use crate::plan_fault::PlanFault;
+use serde_json::Value;
+use std::alloc::{AllocError, Global};
+
+/// The JSON value of bytes.
+fn value_of(alloc: Global, bytes: &[u8]) -> Result<Value, Refusal>
+    ensures { GivesAs view result (json_of (value_of bytes.now)) }
+{
+    match Value::from_slice(alloc, bytes) {
+        Ok(value) => Ok(value),
+        Err(error) => {
+            if error.is_memory() {
+                return Err(Refusal::Memory);
+            }
+            here(alloc, Err(Cause::NotJson))
+        }
+    }
+}
+
+/// The fields of the plan of bytes. Their JSON value is given up at the end.
+fn parts_of(alloc: Global, bytes: &[u8]) -> Result<Parts, Refusal>
+    ensures gives { GivesAs joined result (settings_of_bytes bytes.now) }
+    ensures within { IfOk result PartsAreWithin }
+{
+    let value = value_of(alloc, bytes)?;
+    Parts::read(alloc, &value)
+}
+
+/// The path without its first slash.
+fn without_slash(path: List<u8>) -> List<u8>
+    ensures { result ≡ drop 1 path }
+{
+    let mut bytes = path.into_vec();
+    if !bytes.is_empty() {
+        let _slash = bytes.remove(0);
+    }
+    List::from_vec(bytes)
+}
+
+/// A refusal by its name.
+fn named(refusal: Refusal) -> PlanFault
+    ensures { IsNamed refusal result }
+{
+    let fault = match refusal {
+        Refusal::Memory => return PlanFault::OutOfMemory,
+        Refusal::Fault(fault) => fault,
+    };
+    let path = without_slash(fault.path);
+    match fault.cause {
+        Cause::NotJson => PlanFault::NotJson,
+        Cause::Missing => PlanFault::Missing { path },
+        Cause::WrongKind => PlanFault::WrongKind { path },
+        Cause::Range(value) => PlanFault::Range { path, value },
+        Cause::UnknownKey => PlanFault::UnknownKey { path },
+        Cause::TooLong(steps) => PlanFault::TooLong { steps },
+    }
+}
+
+/// The plan of these fields.
+fn plan_with(alloc: Global, parts: Parts) -> Result<Plan, AllocError>
+    requires { PartsAreWithin parts }
+    ensures { IfOk result (λ plan. settings_of plan ≡ joined parts) }
+{
+    let commands = commands_of(alloc, &parts.steps)?;
+    let Parts {
+        receive,
+        tables,
+        sends,
+        steps,
+    } = parts;
+    let key = receive.key;
+    Ok(Plan {
+        cpus: receive.cpus,
+        queues: receive.queues,
+        key,
+        kinds: receive.kinds,
+        reta: receive.reta,
+        sock: tables.sock,
+        filters: tables.filters,
+        backlog: tables.backlog,
+        start: tables.start,
+        limited: tables.limited,
+        apps: sends.apps,
+        tx: sends.tx,
+        workers: sends.workers,
+        tries: sends.tries,
+        detach: sends.detach,
+        steps,
+        commands,
+    })
+}
+
+/// The plan of a JSON text (RFC 8259), or the first that is wrong with it.
+///
+/// Memory may run out at any text; then the answer says nothing of the plan.
+#[tactic(auto, unfolding(crate::specs::PlanTexts::plan_of))]
+pub fn read_plan(alloc: Global, bytes: &[u8]) -> Result<Plan, PlanFault>
+    ensures plan { IfOk result (λ plan. plan_of bytes.now ≡ Ok (settings_of plan)) }
+    ensures fault { IfErr result
+        (λ fault. fault ≢ PlanFault.OutOfMemory → plan_of bytes.now ≡ Err fault) }
+{
+    match parts_of(alloc, bytes) {
+        Ok(parts) => match plan_with(alloc, parts) {
+            Ok(plan) => Ok(plan),
+            Err(_) => Err(PlanFault::OutOfMemory),
+        },
+        Err(refusal) => Err(named(refusal)),
+    }
+}

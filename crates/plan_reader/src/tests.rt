@@ -1,0 +1,319 @@
+use super::*;
+use crate::seeds::word_of;
+use std::alloc::Global;
+use std::test::Fail;
+use steer_base::{AppId, Command, Cpu, CpuMask, RxQueue, Step, TxQueue};
+
+/// A plan of four processors and one of all else, with further keys and these steps.
+fn text_with(alloc: Global, more: &str, steps: &str) -> Result<Vec<u8>, Fail> {
+    let mut text = Vec::new(alloc);
+    text.extend_from_slice(b"{\"cpus\":4,\"queues\":[{\"home\":0,\"mask\":[1],\"flows\":1}],")?;
+    text.extend_from_slice(b"\"sock\":4,\"apps\":[2],\"tx\":[{\"cpus\":[],\"queues\":[]}]")?;
+    text.extend_from_slice(more.as_bytes())?;
+    text.extend_from_slice(b",\"steps\":")?;
+    text.extend_from_slice(steps.as_bytes())?;
+    text.push(b'}')?;
+    Ok(text)
+}
+
+/// The words, the path and the number of a line that names a fault.
+fn shown(fault: &PlanFault) -> (&str, &[u8], u64) {
+    match fault {
+        PlanFault::NotJson => ("not json", b"", 0),
+        PlanFault::Missing { path } => ("missing", path.as_slice(), 0),
+        PlanFault::WrongKind { path } => ("wrong kind", path.as_slice(), 0),
+        PlanFault::Range { path, value } => ("range", path.as_slice(), *value),
+        PlanFault::UnknownKey { path } => ("unknown key", path.as_slice(), 0),
+        PlanFault::TooLong { steps } => ("too long", b"", *steps),
+        PlanFault::OutOfMemory => ("out of memory", b"", 0),
+    }
+}
+
+/// Whether the bytes have this fault.
+fn has_fault(alloc: Global, bytes: &[u8], kind: &str, path: &str, value: u64) -> bool {
+    match read_plan(alloc, bytes) {
+        Ok(_) => false,
+        Err(fault) => {
+            let (words, place, number) = shown(&fault);
+            words == kind && place == path.as_bytes() && number == value
+        }
+    }
+}
+
+#[test]
+fn faults_of_whole_texts(rt: HostRuntime) {
+    let cases: [(&str, &str, &str, u64); 16] = [
+        ("{", "not json", "", 0),
+        ("", "not json", "", 0),
+        ("{\"cpus\":1e400}", "not json", "", 0),
+        ("{\"zeal\":\"\\ud800\"}", "not json", "", 0),
+        ("{}", "missing", "cpus", 0),
+        ("[]", "wrong kind", "", 0),
+        ("null", "wrong kind", "", 0),
+        ("{\"cpus\":33}", "range", "cpus", 33),
+        ("{\"cpus\":0}", "range", "cpus", 0),
+        ("{\"cpus\":null}", "wrong kind", "cpus", 0),
+        ("{\"cpus\":-0}", "wrong kind", "cpus", 0),
+        ("{\"cpus\":18446744073709551616}", "wrong kind", "cpus", 0),
+        (
+            "{\"cpus\":18446744073709551615}",
+            "range",
+            "cpus",
+            18446744073709551615,
+        ),
+        ("{\"cpus\":1,\"cp\\u0075s\":34}", "range", "cpus", 34),
+        (
+            "{\"cpus\":4,\"queues\":[{}],\"zeal\":1}",
+            "missing",
+            "queues/0/home",
+            0,
+        ),
+        ("{\"cpus\":4,\"queues\":[]}", "range", "queues", 0),
+    ];
+    for (i, &(text, kind, path, value)) in cases.iter().enumerate() {
+        assert!(rt;
+            has_fault(rt.alloc(), text.as_bytes(), kind, path, value),
+            "case {i}"
+        );
+    }
+    assert!(rt; has_fault(rt.alloc(), b"{\"a\":\"\xff\"}", "not json", "", 0));
+}
+
+#[test]
+fn faults_of_keys_and_steps(rt: HostRuntime) -> Result<(), Fail> {
+    let cases: [(&str, &str, &str, &str, u64); 24] = [
+        (",\"zeal\":1", "[]", "unknown key", "zeal", 0),
+        (",\"zeal\":1,\"\":2", "[]", "unknown key", "", 0),
+        (",\"sock\":4.0", "[]", "wrong kind", "sock", 0),
+        (",\"sock\":-1", "[]", "wrong kind", "sock", 0),
+        (",\"sock\":65537", "[]", "range", "sock", 65537),
+        (
+            ",\"queues\":[{\"home\":4,\"mask\":[],\"flows\":0}]",
+            "[]",
+            "range",
+            "queues/0/home",
+            4,
+        ),
+        (
+            ",\"queues\":[{\"home\":0,\"mask\":[1,4],\"flows\":0}]",
+            "[]",
+            "range",
+            "queues/0/mask/1",
+            4,
+        ),
+        (
+            ",\"queues\":[{\"home\":0,\"mask\":[],\"flows\":0,\"b\":0,\"a\":0}]",
+            "[]",
+            "unknown key",
+            "queues/0/a",
+            0,
+        ),
+        (",\"key\":\"6d5a\"", "[]", "wrong kind", "key", 0),
+        (",\"reta\":[]", "[]", "range", "reta", 0),
+        (",\"backlog\":0", "[]", "range", "backlog", 0),
+        (",\"start\":4294967296", "[]", "range", "start", 4294967296),
+        (",\"limited\":[true]", "[]", "wrong kind", "limited/0", 0),
+        (",\"tx\":[{\"cpus\":[]}]", "[]", "missing", "tx/0/queues", 0),
+        (
+            ",\"tx\":[{\"cpus\":[],\"queues\":[1]}]",
+            "[]",
+            "range",
+            "tx/0/queues/0",
+            1,
+        ),
+        (
+            ",\"detach\":[{\"tap\":0,\"after\":0},{\"tap\":32}]",
+            "[]",
+            "range",
+            "detach/1/tap",
+            32,
+        ),
+        ("", "4", "wrong kind", "steps", 0),
+        ("", "{\"seed\":1}", "missing", "steps/count", 0),
+        (
+            "",
+            "{\"seed\":1,\"count\":1000000}",
+            "range",
+            "steps/count",
+            1000000,
+        ),
+        ("", "[\"poll x\"]", "wrong kind", "steps/0", 0),
+        ("", "[\"arrive\",\"poll 0 \"]", "wrong kind", "steps/1", 0),
+        ("", "[\"mask 1 0,9,x\"]", "wrong kind", "steps/0", 0),
+        ("", "[\"mask 1 0,9,8\"]", "range", "steps/0", 1),
+        ("", "[\"mask 0 0,9,8\"]", "range", "steps/0", 9),
+    ];
+    for (i, &(more, steps, kind, path, value)) in cases.iter().enumerate() {
+        let text = text_with(rt.alloc(), more, steps)?;
+        assert!(rt; has_fault(rt.alloc(), &text, kind, path, value), "case {i}");
+    }
+    Ok(())
+}
+
+/// So many of a byte between two texts.
+fn repeated(
+    alloc: Global,
+    first: &str,
+    piece: &str,
+    count: usize,
+    last: &str,
+) -> Result<Vec<u8>, Fail> {
+    let mut text = Vec::new(alloc);
+    text.extend_from_slice(first.as_bytes())?;
+    for _ in 0..count {
+        text.extend_from_slice(piece.as_bytes())?;
+    }
+    text.extend_from_slice(last.as_bytes())?;
+    Ok(text)
+}
+
+#[test]
+fn long_and_deep_texts(rt: HostRuntime) -> Result<(), Fail> {
+    let alloc = rt.alloc();
+    let many = repeated(alloc, "[0", ",0", 999_999, "]")?;
+    let steps = String::from_utf8(many)?;
+    let text = text_with(alloc, "", steps.as_str())?;
+    assert!(rt; has_fault(alloc, &text, "wrong kind", "steps/0", 0));
+    let more = repeated(alloc, "[0", ",0", 1_000_000, "]")?;
+    let steps = String::from_utf8(more)?;
+    let text = text_with(alloc, "", steps.as_str())?;
+    assert!(rt; has_fault(alloc, &text, "too long", "", 1_000_001));
+    for (depth, kind) in [(127, "wrong kind"), (128, "not json"), (200, "not json")] {
+        let open = repeated(alloc, "", "[", depth, "")?;
+        let text = String::from_utf8(open)?;
+        let text = repeated(alloc, text.as_str(), "]", depth, "")?;
+        assert!(rt; has_fault(alloc, &text, kind, "", 0), "depth {depth}");
+    }
+    Ok(())
+}
+
+/// The plan of a text.
+fn plan_from(alloc: Global, more: &str, steps: &str) -> Result<Plan, Fail> {
+    let text = text_with(alloc, more, steps)?;
+    match read_plan(alloc, &text) {
+        Ok(plan) => Ok(plan),
+        Err(_) => Err("a fault")?,
+    }
+}
+
+#[test]
+fn fields_and_defaults(rt: HostRuntime) -> Result<(), Fail> {
+    let plan = plan_from(
+        rt.alloc(),
+        ",\"limited\":[3,0,3],\"tries\":64",
+        "[\"sweep\"]",
+    )?;
+    assert_eq!(rt; plan.cpus, 4);
+    assert_eq!(rt;
+        plan.queues.as_slice(),
+        [QueuePlan {
+            home: Cpu(0),
+            mask: CpuMask(2),
+            flows: 1
+        }]
+        .as_slice()
+    );
+    assert_eq!(rt; plan.key.as_slice(), key::VERIFICATION_KEY.as_slice());
+    assert_eq!(rt; plan.kinds, 63);
+    assert_eq!(rt; plan.reta.len(), 128);
+    assert_eq!(rt;
+        (plan.sock, plan.filters, plan.backlog, plan.start),
+        (4, 0, 1000, 0)
+    );
+    assert_eq!(rt; plan.limited, CpuMask(9));
+    assert_eq!(rt; plan.apps.as_slice(), [Cpu(2)].as_slice());
+    assert_eq!(rt;
+        plan.tx.as_slice(),
+        [TxPlan {
+            cpus: CpuMask(0),
+            queues: 0
+        }]
+        .as_slice()
+    );
+    assert_eq!(rt; (plan.workers, plan.tries), (1, 64));
+    assert_eq!(rt; plan.detach.len(), 0);
+    assert_eq!(rt; plan.commands().len(), 0);
+    Ok(())
+}
+
+#[test]
+fn texts_of_steps(rt: HostRuntime) -> Result<(), Fail> {
+    let cases: [(&str, Step); 12] = [
+        ("[\"arrive\"]", Step::Arrive),
+        ("[\"record 0000000009\"]", Step::Record(9)),
+        ("[\"pull 3\"]", Step::Pull(3)),
+        ("[\"tretire 0\"]", Step::TRetire(0)),
+        ("[\"expire\"]", Step::Give(Command::Expire)),
+        (
+            "[\"mask 0 3,0,3\"]",
+            Step::Give(Command::Mask(RxQueue(0), CpuMask(9))),
+        ),
+        (
+            "[\"mask 0 -\"]",
+            Step::Give(Command::Mask(RxQueue(0), CpuMask(0))),
+        ),
+        (
+            "[\"flows 0 32768\"]",
+            Step::Give(Command::Flows(RxQueue(0), 32768)),
+        ),
+        ("[\"sock 65536\"]", Step::Give(Command::Sock(65536))),
+        (
+            "[\"xqueues 0 0\"]",
+            Step::Give(Command::XQueues(TxQueue(0), 1)),
+        ),
+        (
+            "[\"reta 127 0\"]",
+            Step::Give(Command::Reta(127, RxQueue(0))),
+        ),
+        (
+            "[\"stand 0 3\"]",
+            Step::Give(Command::Stand(AppId(0), Cpu(3))),
+        ),
+    ];
+    for (i, &(text, step)) in cases.iter().enumerate() {
+        let plan = plan_from(rt.alloc(), "", text)?;
+        let Steps::List(list) = &plan.steps else {
+            return Err("a seed")?;
+        };
+        assert_eq!(rt; list.as_slice(), [step].as_slice(), "case {i}");
+    }
+    Ok(())
+}
+
+#[test]
+fn commands_of_a_list(rt: HostRuntime) -> Result<(), Fail> {
+    let plan = plan_from(
+        rt.alloc(),
+        "",
+        "[\"arrive\",\"sock 0\",\"sweep\",\"online 1\"]",
+    )?;
+    let wanted = [Command::Sock(0), Command::Online(Cpu(1))];
+    assert_eq!(rt; plan.commands(), wanted.as_slice());
+    Ok(())
+}
+
+#[test]
+fn words_and_steps_of_a_seed(rt: HostRuntime) -> Result<(), Fail> {
+    let words = [0xa15c02b7, 0x7b47f409, 0xba1d3330];
+    for (i, &word) in words.iter().enumerate() {
+        assert_eq!(rt; word_of(42, i as u32), word);
+    }
+    let four = "{\"home\":0,\"mask\":[],\"flows\":0}";
+    let mut more = Vec::new(rt.alloc());
+    more.extend_from_slice(b",\"queues\":[")?;
+    for _ in 0..3 {
+        more.extend_from_slice(four.as_bytes())?;
+        more.push(b',')?;
+    }
+    more.extend_from_slice(four.as_bytes())?;
+    more.push(b']')?;
+    let more = String::from_utf8(more)?;
+    let plan = plan_from(rt.alloc(), more.as_str(), "{\"seed\":42,\"count\":3}")?;
+    let wanted = [Step::Poll(3), Step::Drain(0), Step::Arrive, Step::Sweep];
+    assert_eq!(rt; plan.step_count(), 4);
+    for (i, &step) in wanted.iter().enumerate() {
+        assert_eq!(rt; plan.step_at(i as u32), step, "step {i}");
+    }
+    assert_eq!(rt; plan.commands().len(), 0);
+    Ok(())
+}
