@@ -106,7 +106,9 @@ fn plan_with(alloc: Global, parts: Parts) -> Result<Plan, AllocError>
 
 /// The plan of a JSON text (RFC 8259), or the first that is wrong with it.
 ///
-/// Memory may run out at any text; then the answer says nothing of the plan.
+/// Memory may run out at any text; then the answer says nothing of the plan. The
+/// JSON value of the text, which can take a hundred times its bytes, is given up
+/// once the fields are read out of it, before the commands are listed.
 #[tactic(auto, unfolding(crate::specs::PlanTexts::plan_of))]
 pub fn read_plan(alloc: Global, bytes: &[u8]) -> Result<Plan, PlanFault>
     ensures plan { IfOk result (λ plan. plan_of bytes.now ≡ Ok (settings_of plan)) }

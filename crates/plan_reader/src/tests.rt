@@ -81,7 +81,7 @@ fn faults_of_whole_texts(rt: HostRuntime) {
 
 #[test]
 fn faults_of_keys_and_steps(rt: HostRuntime) -> Result<(), Fail> {
-    let cases: [(&str, &str, &str, &str, u64); 24] = [
+    let cases: [(&str, &str, &str, &str, u64); 32] = [
         (",\"zeal\":1", "[]", "unknown key", "zeal", 0),
         (",\"zeal\":1,\"\":2", "[]", "unknown key", "", 0),
         (",\"sock\":4.0", "[]", "wrong kind", "sock", 0),
@@ -108,6 +108,7 @@ fn faults_of_keys_and_steps(rt: HostRuntime) -> Result<(), Fail> {
             "queues/0/a",
             0,
         ),
+        (",\"queues\":[7]", "[]", "wrong kind", "queues/0", 0),
         (",\"key\":\"6d5a\"", "[]", "wrong kind", "key", 0),
         (",\"reta\":[]", "[]", "range", "reta", 0),
         (",\"backlog\":0", "[]", "range", "backlog", 0),
@@ -120,6 +121,35 @@ fn faults_of_keys_and_steps(rt: HostRuntime) -> Result<(), Fail> {
             "range",
             "tx/0/queues/0",
             1,
+        ),
+        (",\"tx\":[{\"cpus\":1}]", "[]", "wrong kind", "tx/0/cpus", 0),
+        (
+            ",\"tx\":[{\"cpus\":[],\"queues\":[],\"zeal\":1}]",
+            "[]",
+            "unknown key",
+            "tx/0/zeal",
+            0,
+        ),
+        (
+            ",\"detach\":[{\"tap\":0}]",
+            "[]",
+            "missing",
+            "detach/0/after",
+            0,
+        ),
+        (
+            ",\"detach\":[{\"tap\":\"0\"}]",
+            "[]",
+            "wrong kind",
+            "detach/0/tap",
+            0,
+        ),
+        (
+            ",\"detach\":[{\"tap\":0,\"after\":0,\"zeal\":1}]",
+            "[]",
+            "unknown key",
+            "detach/0/zeal",
+            0,
         ),
         (
             ",\"detach\":[{\"tap\":0,\"after\":0},{\"tap\":32}]",
@@ -136,6 +166,14 @@ fn faults_of_keys_and_steps(rt: HostRuntime) -> Result<(), Fail> {
             "range",
             "steps/count",
             1000000,
+        ),
+        ("", "{\"seed\":1.0}", "wrong kind", "steps/seed", 0),
+        (
+            "",
+            "{\"seed\":1,\"count\":1,\"zeal\":1}",
+            "unknown key",
+            "steps/zeal",
+            0,
         ),
         ("", "[\"poll x\"]", "wrong kind", "steps/0", 0),
         ("", "[\"arrive\",\"poll 0 \"]", "wrong kind", "steps/1", 0),
