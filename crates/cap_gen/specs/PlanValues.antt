@@ -1,0 +1,48 @@
+-- The plan of a generated capture as a JSON value, with the keys of each object in the order of their bytes.
+use Rattle.std.specs.Prelude.{ℕ, ◌*◌, codes, min}
+use Rattle.serde_json.specs.Data.{Data, number, unsigned, array, object, item, no_items, member, no_members}
+
+-- how many steps are made of the seed: four for each packet, and no more than a plan may have
+abbrev pub step_count : ℕ → ℕ
+step_count packets = min 999999 (4 * packets)
+
+abbrev pub whole : ℕ → Data
+whole n = number (unsigned n)
+
+-- the numbers 0 to 3
+abbrev pub all_four : Data
+all_four = array (item (whole 0) (item (whole 1) (item (whole 2) (item (whole 3) no_items))))
+
+-- one value for each of the numbers 0 to 3
+abbrev pub for_each : (ℕ → Data) → Data
+for_each value = array (item (value 0) (item (value 1) (item (value 2) (item (value 3) no_items))))
+
+-- receive queue q, at home on processor q
+abbrev pub queue_value : ℕ → Data
+queue_value q =
+    object (member (codes "flows") (whole 256)
+    (member (codes "home") (whole q)
+    (member (codes "mask") all_four no_members)))
+
+-- transmit queue t, of processor t
+abbrev pub tx_value : ℕ → Data
+tx_value t =
+    object (member (codes "cpus") (array (item (whole t) no_items))
+    (member (codes "queues") (array no_items) no_members))
+
+-- so many steps of a seed
+abbrev pub steps_value : ℕ → ℕ → Data
+steps_value seed count =
+    object (member (codes "count") (whole count)
+    (member (codes "seed") (whole seed) no_members))
+
+-- the plan, without the keys whose value is the default
+abbrev pub plan_value : ℕ → ℕ → Data
+plan_value seed count =
+    object (member (codes "apps") all_four
+    (member (codes "cpus") (whole 4)
+    (member (codes "queues") (for_each queue_value)
+    (member (codes "sock") (whole 1024)
+    (member (codes "steps") (steps_value seed count)
+    (member (codes "tx") (for_each tx_value)
+    (member (codes "workers") (whole 4) no_members)))))))

@@ -1,0 +1,61 @@
+//! Generated input.
+ghost use Rattle.std.specs.Prelude.{◌≡◌, ◌≤◌, IfOk, Ok, map};
+ghost use Rattle.pcap_reader.specs.Captures.{HasCapture, frame_of};
+ghost use Rattle.pcap_reader.specs.Writing.{capture_bytes, capture_of};
+ghost use Rattle.plan_reader.specs.PlanTexts.{plan_of};
+ghost use Rattle.serde_json.specs.Written.{compact_text};
+ghost use Rattle.cap_gen.specs.Packets.{packets_of};
+ghost use Rattle.cap_gen.specs.PlanValues.{plan_value, step_count};
+ghost use Rattle.cap_gen.specs.Plans.{plan_for};
+
+use crate::capture::capture_bytes;
+use crate::plan_text::plan_text;
+use pcap_reader::captures_read_back;
+use std::alloc::Global;
+use steer_base::OutOfMemory;
+
+/// The most steps that a plan makes of a seed.
+const MOST_STEPS: u32 = 999_999;
+
+/// A capture, and the text of a plan for it.
+#[derive(Drop)]
+pub struct Generated {
+    pub capture: Vec<u8>,
+    pub plan: Vec<u8>,
+}
+
+/// Makes the input of a seed: a capture of so many packets over so many flows, and a plan with
+/// four steps of the same seed for each packet, 999,999 at most.
+///
+/// Packet i is of flow `w mod flows`, where w is word i of the generator PCG XSH RR 64/32 on
+/// stream 54. Flow k is TCP from 10.0.0.0 + k and port `1024 + k mod 32768` to port 80 of
+/// 10.128.0.1. The capture is a little-endian pcap file, and packet i is of second i.
+pub fn generate(
+    alloc: Global,
+    seed: u64,
+    packets: u32,
+    flows: u32,
+) -> Result<Generated, OutOfMemory>
+    requires few_packets { packets ≤ 262144 }
+    requires some_flow { 1 ≤ flows }
+    requires few_flows { flows ≤ 65536 }
+
+    // The capture is that of the packets, with just their times and frames and no cut.
+    ensures capture_bytes { IfOk result
+        (λ made. made.capture.items ≡ capture_bytes (packets_of seed flows packets)) }
+    ensures capture { IfOk result
+        (λ made. HasCapture made.capture.items (capture_of (packets_of seed flows packets))) }
+    ensures frames { IfOk result
+        (λ made. map (frame_of made.capture.items) (capture_of (packets_of seed flows packets)).records
+        ≡ map (λ packet. packet.frame) (packets_of seed flows packets)) }
+
+    // The text is the compact JSON of the plan's value, and is read as the plan.
+    ensures plan_text { IfOk result
+        (λ made. made.plan.items ≡ compact_text (plan_value seed (step_count packets))) }
+    ensures plan { IfOk result (λ made. plan_of made.plan.items ≡ Ok (plan_for seed (step_count packets))) }
+{
+    captures_read_back();
+    let capture = capture_bytes(alloc, seed, packets, flows)?;
+    let plan = plan_text(alloc, seed, (4 * packets).min(MOST_STEPS))?;
+    Ok(Generated { capture, plan })
+}

@@ -1,0 +1,11 @@
+//! Generated input: a capture of so many flows and a plan for it, both made from a seed.
+#![tactic(auto)]
+
+mod capture;
+mod frame;
+mod input;
+mod plan_text;
+#[cfg(test)]
+mod tests;
+
+pub use input::{Generated, generate};
