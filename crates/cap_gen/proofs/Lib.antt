@@ -1,3 +1,4 @@
 pub mod Words
 pub mod Captures
+pub mod Flows
 pub mod Plans

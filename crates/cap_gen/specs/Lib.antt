@@ -1,3 +1,4 @@
 pub mod Packets
+pub mod Flows
 pub mod PlanValues
 pub mod Plans

@@ -1,5 +1,5 @@
 //! Captures and plans worked out by hand.
-use crate::{Generated, generate};
+use crate::{Generated, a_frame_is_of_its_flow, generate};
 use std::test::Fail;
 
 /// The header of a little-endian capture with microseconds.
@@ -53,6 +53,7 @@ fn one_packet_of_one_flow(rt: HostRuntime) -> Result<(), Fail> {
 
 #[test]
 fn sources_of_a_seed(rt: HostRuntime) -> Result<(), Fail> {
+    a_frame_is_of_its_flow();
     let made = generate(rt.alloc(), 42, 3, 65_536)?;
     assert_eq!(rt; made.capture.len(), 234);
     let wanted: [([u8; 4], u16); 3] = [
