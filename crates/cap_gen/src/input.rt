@@ -20,7 +20,9 @@ const MOST_STEPS: u32 = 999_999;
 /// A capture, and the text of a plan for it.
 #[derive(Drop)]
 pub struct Generated {
+    /// A classic pcap file.
     pub capture: Vec<u8>,
+    /// JSON without blanks.
     pub plan: Vec<u8>,
 }
 
