@@ -1,0 +1,13 @@
+pub mod AllSteps
+pub mod Entries
+pub mod Gathered
+pub mod GateSteps
+pub mod LaneSteps
+pub mod Lists
+pub mod ProducerSteps
+pub mod Puts
+pub mod PutSteps
+pub mod Rooms
+pub mod Sound
+pub mod Standing
+pub mod Stands
