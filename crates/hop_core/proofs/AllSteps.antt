@@ -29,37 +29,30 @@ use Rattle.hop_core.proofs.Sound.{same_choice, in_hand_not_put, position-added, 
 use Rattle.hop_core.proofs.Standing.{by_entry-lane, current_lane-in}
 use Rattle.hop_core.proofs.Puts.{Puts-weigh, Puts-put, Puts-add, Places-accept, Places-fall, Places-deliver}
 use Rattle.hop_core.proofs.Stands.{Stands-retire, Stands-resize, Stands-weigh, Stands-accept, Past-retire, Past-weigh, Past-same, Past-resize}
+use Rattle.hop_core.proofs.Cases.{Enabled, by_cases}
 use Rattle.hop_core.proofs.ProducerSteps.{Sound-arrive, Sound-take, Sound-weigh, emptied-all}
 use Rattle.hop_core.proofs.PutSteps.{Sound-put}
 use Rattle.hop_core.proofs.LaneSteps.{Sound-pull, Sound-deliver, Sound-retire}
 use Rattle.hop_core.proofs.GateSteps.{Sound-enter, Sound-leave, Sound-close, Sound-reopen, Sound-resize}
 
--- what holds on both sides of a test
-choose : (b : Bool) (x y : Outcome) → (b ≡ true → Sound x.0) → (b ≡ false → Sound y.0) → Sound (cond b x y).0
-choose true x y f g = f refl
-choose false x y f g = g refl
+sound-enabled : (s : HopState) (e : HopEvent) → MayAsk s e → Sound s → Enabled Sound s e
+sound-enabled s (event.Arrive p id) m h = Sound-arrive s p id m.0 m.1 m.2 h
+sound-enabled s (event.Take p) m h = λ free more. Sound-take s p m free more h
+sound-enabled s (event.Enter a) m h = λ out' open'. Sound-enter s a m out' open' h
+sound-enabled s (event.Leave a) m h = λ inside done. Sound-leave s a m inside done h
+sound-enabled s (event.Weigh p class want desired online) m h =
+    λ inside more. Sound-weigh s p class want desired online m.0 m.1 (emptied-all s h (λ d. has online d ≡ false) m.4) inside more h
+sound-enabled s (event.Put p hash) m h = λ inside more. Sound-put s p hash m inside more h
+sound-enabled s (event.Pull c) m h = λ free more. Sound-pull s c m free more h
+sound-enabled s (event.Deliver c o) m h = λ more. Sound-deliver s c o m.0 m.1 more h
+sound-enabled s (event.Retire c) m h = λ more. Sound-retire s c m more h
+sound-enabled s (event.Resize p count) m h =
+    Sound-resize s p (rounded_up count) m.0 m.3 (λ d. emptied-all s h (λ _. Unit {0}) (λ c lt _. m.4 c lt) d tt) h
+sound-enabled s event.Close m h = λ none. Sound-close s none h
+sound-enabled s event.Reopen m h = Sound-reopen s h
 
 pub Sound-happens : (s : HopState) (e : HopEvent) → MayAsk s e → Sound s → Sound (happens s e).0
-Sound-happens s (event.Arrive p id) m h = Sound-arrive s p id m.0 m.1 m.2 h
-Sound-happens s (event.Take p) m h =
-    choose _ _ _ (λ _. h) (λ e. choose _ _ _ (λ f. Sound-take s p m (ltb-false _ _ e) (ltb-true _ _ f) h) (λ _. h))
-Sound-happens s (event.Enter a) m h =
-    choose _ _ _ (λ _. h) (λ e. choose _ _ _ (λ _. h) (λ f. Sound-enter s a m e f h))
-Sound-happens s (event.Leave a) m h =
-    choose _ _ _ (λ _. h) (λ e. choose _ _ _ (λ _. h) (λ f. Sound-leave s a m (not-false _ e) (ltb-false _ _ f) h))
-Sound-happens s (event.Weigh p class want desired online) m h =
-    choose _ _ _ (λ _. h) (λ e. choose _ _ _ (λ f. Sound-weigh s p class want desired online m.0 m.1 (emptied-all s h (λ d. has online d ≡ false) m.4) (not-false _ e) (ltb-true _ _ f) h) (λ _. h))
-Sound-happens s (event.Put p hash) m h =
-    choose _ _ _ (λ _. h) (λ e. choose _ _ _ (λ f. Sound-put s p hash m (not-false _ e) (ltb-true _ _ f) h) (λ _. h))
-Sound-happens s (event.Pull c) m h =
-    choose _ _ _ (λ _. h) (λ e. choose _ _ _ (λ f. Sound-pull s c m (ltb-false _ _ e) (ltb-true _ _ f) h) (λ _. h))
-Sound-happens s (event.Deliver c o) m h =
-    choose _ _ _ (λ e. Sound-deliver s c o m.0 m.1 (ltb-true _ _ e) h) (λ _. choose _ _ _ (λ _. h) (λ _. h))
-Sound-happens s (event.Retire c) m h =
-    choose _ _ _ (λ e. Sound-retire s c m (ltb-true _ _ e) h) (λ _. choose _ _ _ (λ _. h) (λ _. h))
-Sound-happens s (event.Resize p count) m h = Sound-resize s p (rounded_up count) m.0 m.3 (λ d. emptied-all s h (λ _. Unit {0}) (λ c lt _. m.4 c lt) d tt) h
-Sound-happens s event.Close m h = choose _ _ _ (λ e. Sound-close s (eqb-true _ _ e) h) (λ _. h)
-Sound-happens s event.Reopen m h = Sound-reopen s h
+Sound-happens s e m h = by_cases Sound s e h (sound-enabled s e m h)
 
 pub Sound-run : (es : List HopEvent) (s : HopState) → AllMayAsk es s → Sound s → Sound (run es s)
 Sound-run [] s m h = h

@@ -1,7 +1,11 @@
 pub mod Events
+pub mod Flows
 pub mod Gathered
 pub mod Hop
+pub mod Laws
 pub mod Order
+pub mod Pairs
 pub mod Shape
+pub mod Sizes
 pub mod Sound
 pub mod Standing

@@ -2,7 +2,14 @@
 #![tactic(auto)]
 
 mod event;
+mod laws;
 mod shape;
 
 pub use event::{HopAnswer, HopEvent};
+pub use laws::{
+    ample_lanes_drop_nothing, each_choice_is_by_the_rule, each_drop_is_explained,
+    each_event_keeps_flows, each_event_keeps_order, each_packet_has_one_place,
+    every_event_keeps_a_hop_sound, order_holds_from_end_to_end, pairs_in_order_make_a_prefix,
+    tight_sets_are_delivered_in_order,
+};
 pub use shape::HopShape;

@@ -1,0 +1,4 @@
+use Rattle.hop_core.proofs.laws.ample_lanes_drop_nothing.Goals as goal
+
+pub returns : goal.returns
+returns c = ?
