@@ -1,6 +1,8 @@
 pub mod Alone
 pub mod AllSteps
 pub mod Cases
+pub mod Choices
+pub mod Drops
 pub mod EndToEnd
 pub mod Entries
 pub mod Flows
