@@ -1,17 +1,17 @@
 -- A set of one class has all its packets that are not retired at one lane.
-use Rattle.std.proofs.Common.{ℕ, ◌+◌, ◌-◌, ◌≤◌, ◌<◌, ◌≡◌, ◌≢◌, ◌⊎◌, Bool, true, false, not, ◌&&◌, cond, List, [], ◌∷◌, ◌++◌, Option, Some, None, length, refl, ap, ◌∙◌, sym, subst, arith, rules, suc, zero, inl, inr, get_or, set, take, drop, map}
-use Rattle.std.specs.Prelude.{◌==◌, slice_index}
-use Rattle.std.specs.Option.{option_map, unwrap_or}
+use Rattle.std.proofs.Common.{ℕ, ◌+◌, ◌-◌, ◌≤◌, ◌<◌, ◌≡◌, ◌≢◌, Bool, true, List, [], ◌∷◌, ◌++◌, Some, length, refl, ap, ◌∙◌, sym, arith, suc, zero, inl, inr, get_or, set, take, drop}
+use Rattle.std.specs.Prelude.{slice_index}
+use Rattle.std.specs.Option.{unwrap_or}
 use Rattle.std.specs.List.{All, filter}
-use Rattle.std.proofs.lemmas.List.{get_or-drop, length-drop, get_or-take, length-take-le, drop-append-le}
-use Rattle.std.proofs.lemmas.List.Elements.{All-head, All-tail, All-get_or}
-use Rattle.std.proofs.lemmas.Bool.{cases_eq, cases_Bool, eqb-true, ne_eqb, eq-eqb, cases_lt}
+use Rattle.std.proofs.lemmas.List.{get_or-drop, length-drop, length-take-le, drop-append-le}
+use Rattle.std.proofs.lemmas.List.Elements.{All-head, All-tail}
+use Rattle.std.proofs.lemmas.Bool.{cases_Bool, ne_eqb, eq-eqb, cases_lt}
 use Rattle.steer_base.specs.Entries.{place_in, position, of_class, is_class, current_lane, recorded_count}
 use Rattle.hop_core.proofs.Entries.{current_lane-push}
 use Rattle.steer_base.specs.declared.choice.Chosen.{Chosen}
-use Rattle.hop_core.specs.Hop.{nobody, chosen_at, HopState, accepted_at, retired_at, arrivals_of, choices_of, taken_of, placed_of, since_of, recent, in_hand}
+use Rattle.hop_core.specs.Hop.{nobody, chosen_at, HopState, accepted_at, retired_at, arrivals_of, choices_of, placed_of, since_of, recent, in_hand}
 use Rattle.hop_core.specs.Standing.{StandsAt}
-use Rattle.hop_core.specs.Sound.{Distinct, Sound}
+use Rattle.hop_core.specs.Sound.{Sound}
 use Rattle.hop_core.specs.Order.{OnlyAt, OneClass}
 use Rattle.hop_core.proofs.Lists.{front_and_last}
 use Rattle.hop_core.proofs.Stands.{of_class-yes}

@@ -1,14 +1,12 @@
 -- Events leave the choices that were made, and the entries that they were made by.
-use Rattle.std.proofs.Common.{ℕ, ◌+◌, ◌≤◌, ◌<◌, ◌≡◌, ◌≢◌, Bool, true, false, List, [], ◌∷◌, ◌++◌, Option, Some, None, length, refl, ap, ◌∙◌, sym, subst, arith, inl, inr, get_or, set as set_list, take, drop}
-use Rattle.std.specs.Prelude.{slice_index, nat_lt, not}
-use Rattle.std.specs.List.{All}
+use Rattle.std.proofs.Common.{ℕ, ◌<◌, ◌≡◌, ◌≢◌, Bool, List, [], ◌∷◌, ◌++◌, Option, Some, None, length, refl, ap, ◌∙◌, sym, subst, arith, inl, inr, get_or, set as set_list, take, drop}
 use Rattle.std.proofs.lemmas.List.{get_or-take, length-take-le, take-append-le}
 use Rattle.std.proofs.Math.Seq.{take-append_seam}
 use Rattle.std.proofs.lemmas.Bool.{cases_eq, lt-ltb}
 use Rattle.steer_base.specs.Choices.{migrate, by_entry}
 use Rattle.steer_base.specs.Counters.{number}
 use Rattle.steer_base.specs.Drops.{bucket_of, lane_drop_cause}
-use Rattle.steer_base.specs.Entries.{position, entry, of_class, recorded_count, current_lane}
+use Rattle.steer_base.specs.Entries.{position, entry, of_class, current_lane}
 use Rattle.steer_base.specs.Sets.{has}
 use Rattle.steer_base.specs.declared.choice.Chosen.{Chosen}
 use Rattle.steer_base.specs.declared.choice.Choice.{Choice}
@@ -17,18 +15,17 @@ use Rattle.steer_base.specs.declared.cpu_mask.CpuMask.{CpuMask}
 use Rattle.steer_base.specs.declared.put.DropCause.{DropCause}
 use Rattle.hop_core.specs.declared.event.HopEvent.{HopEvent}
 use Rattle.hop_core.specs.declared.event.HopEvent.TheVariants as event
-use Rattle.hop_core.specs.Hop.{nobody, HopState, accepted_at, head_at, arrivals_of, choices_of, chosen_at, taken_of, placed_of, since_of, inside_of, in_hand, next_of, lane_of, choice_of, chose}
+use Rattle.hop_core.specs.Hop.{nobody, HopState, accepted_at, head_at, arrivals_of, choices_of, chosen_at, taken_of, placed_of, since_of, in_hand, next_of, lane_of, choice_of, chose}
 use Rattle.hop_core.specs.Events.{happens, MayAsk, AllMayAsk, run}
 use Rattle.hop_core.specs.Sound.{Sound}
 use Rattle.hop_core.specs.Laws.{entries_before, ChoicesStay, ChoiceIsByTheRule}
-use Rattle.hop_core.proofs.Lists.{Changed, Changed-set, chosen-push_front, chosen-push_last, length-push}
+use Rattle.hop_core.proofs.Lists.{Changed-set, chosen-push_front, chosen-push_last, length-push}
 use Rattle.hop_core.proofs.Entries.{recorded_count-same}
 use Rattle.hop_core.proofs.Gathered.{Added}
 use Rattle.hop_core.proofs.Sound.{same_choice, position-added}
 use Rattle.hop_core.proofs.Stands.{positions}
 use Rattle.hop_core.proofs.Cases.{Enabled, by_cases}
 use Rattle.hop_core.proofs.PutSteps.{put_as}
-use Rattle.hop_core.proofs.Sizes.{Sizes-happens}
 use Rattle.hop_core.proofs.AllSteps.{Sound-happens}
 
 -- an accepted put leaves the position of every other choice

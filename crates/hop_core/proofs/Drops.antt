@@ -1,6 +1,6 @@
 -- Each drop has its cause, and ample lanes drop nothing.
-use Rattle.std.proofs.Common.{ℕ, ◌+◌, ◌-◌, ◌≤◌, ◌<◌, ◌≡◌, ◌≢◌, Bool, true, false, cond, List, [], ◌∷◌, ◌++◌, Option, Some, None, length, refl, ap, ◌∙◌, sym, subst, arith, inl, inr, get_or, set as set_list, map}
-use Rattle.std.specs.Prelude.{◌==◌, slice_index}
+use Rattle.std.proofs.Common.{ℕ, ◌+◌, ◌-◌, ◌≤◌, ◌<◌, ◌≡◌, ◌≢◌, Bool, false, List, [], ◌∷◌, ◌++◌, Option, Some, None, length, refl, ◌∙◌, sym, subst, arith, inl, inr, get_or}
+use Rattle.std.specs.Prelude.{slice_index}
 use Rattle.std.proofs.lemmas.Bool.{cases_eq, ne_eqb}
 use Rattle.std.proofs.Math.ListN.{length-replicate}
 use Rattle.steer_base.specs.Drops.{bucket_of, drop_cause, over_flow_limit, lane_drop_cause}
@@ -13,13 +13,12 @@ use Rattle.backlog.specs.Puts.{put_by}
 use Rattle.backlog.proofs.ExplainedLemmas.{AreOffers-put, AllExplained-put}
 use Rattle.hop_core.specs.declared.event.HopEvent.{HopEvent}
 use Rattle.hop_core.specs.declared.event.HopEvent.TheVariants as event
-use Rattle.hop_core.specs.declared.shape.HopShape.{HopShape}
 use Rattle.hop_core.specs.Hop.{Fixed, Bare, HopState, accepted_at, offers_at, drops_at, fell_at, pulled_at, arrivals_of, choices_of, placed_of, in_hand, lane_of, landed}
 use Rattle.hop_core.specs.Events.{happens, MayAsk, AllMayAsk, run}
-use Rattle.hop_core.specs.Shape.{IsShape, new_hop}
-use Rattle.hop_core.specs.Sound.{Wide, Puts, Sound}
+use Rattle.hop_core.specs.Shape.{new_hop}
+use Rattle.hop_core.specs.Sound.{Puts, Sound}
 use Rattle.hop_core.specs.Laws.{IsHashed, AllHashed, DropsExplained, ExplainsDrops, EachExplainsDrops, NeverDrops}
-use Rattle.hop_core.proofs.Lists.{Changed, Changed-set}
+use Rattle.hop_core.proofs.Lists.{Changed-set}
 use Rattle.hop_core.proofs.Cases.{Enabled, by_cases}
 use Rattle.hop_core.proofs.ProducerSteps.{in_hand_absent}
 use Rattle.hop_core.proofs.PutSteps.{put_as}

@@ -1,12 +1,11 @@
 -- Prefixes of prefixes, and order from end to end.
-use Rattle.std.proofs.Common.{ℕ, ◌≡◌, Bool, true, false, not, ◌&&◌, ◌||◌, List, [], ◌∷◌, ◌++◌, suc, zero, refl, ap, ◌∙◌, sym, append_assoc, cond, get_or}
-use Rattle.std.specs.List.{filter, list_any}
+use Rattle.std.proofs.Common.{ℕ, ◌≡◌, Bool, true, false, not, ◌&&◌, List, [], ◌∷◌, ◌++◌, suc, refl, ap, ◌∙◌, sym, append_assoc, get_or}
+use Rattle.std.specs.List.{filter}
 use Rattle.std.proofs.lemmas.List.Elements.{filter-append, filter_agree}
-use Rattle.std.specs.Prelude.{◌==◌}
 use Rattle.steer_base.specs.Orders.{IsPrefix, was_dropped}
 use Rattle.steer_base.specs.declared.put.LaneDrop.{LaneDrop}
-use Rattle.hop_core.specs.Hop.{HopState, out_at, drops_at, arrivals_of}
-use Rattle.hop_core.specs.Order.{IsInOrder, is_kept}
+use Rattle.hop_core.specs.Hop.{out_at, arrivals_of}
+use Rattle.hop_core.specs.Order.{is_kept}
 use Rattle.hop_core.specs.Laws.{EndToEnd}
 
 pub prefix_through : (xs ys zs : List ℕ) → IsPrefix xs ys → IsPrefix ys zs → IsPrefix xs zs

@@ -1,20 +1,19 @@
 -- Every event keeps each flow of each producer in order, where its puts and deliveries are allowed for the flow.
-use Rattle.std.proofs.Common.{ℕ, ◌+◌, ◌-◌, ◌≤◌, ◌<◌, ◌≡◌, ◌≢◌, ◌⊎◌, Bool, true, false, not, ◌&&◌, cond, List, [], ◌∷◌, ◌++◌, Option, Some, None, length, refl, ap, ◌∙◌, sym, arith, suc, zero, inl, inr, get_or, drop}
-use Rattle.std.specs.Prelude.{◌==◌, slice_index, nat_lt}
-use Rattle.std.specs.List.{All, filter, list_any}
+use Rattle.std.proofs.Common.{ℕ, ◌+◌, ◌≤◌, ◌<◌, ◌≡◌, Bool, true, List, [], ◌∷◌, ◌++◌, Option, Some, None, length, refl, ◌∙◌, sym, arith, suc, inl, inr, get_or, drop}
+use Rattle.std.specs.Prelude.{◌==◌, slice_index}
+use Rattle.std.specs.List.{list_any}
 use Rattle.std.proofs.lemmas.List.{get_or-drop, length-drop}
-use Rattle.std.proofs.lemmas.Bool.{cases_Bool, cases_eq, eqb-true, eq-eqb, or_cases, and_parts}
-use Rattle.steer_base.specs.declared.choice.Chosen.{Chosen}
+use Rattle.std.proofs.lemmas.Bool.{cases_eq, eqb-true, or_cases, and_parts}
 use Rattle.hop_core.specs.declared.event.HopEvent.{HopEvent}
 use Rattle.hop_core.specs.declared.event.HopEvent.TheVariants as event
-use Rattle.hop_core.specs.Hop.{nobody, HopState, accepted_at, delivered_at, retired_at, pulled_at, arrivals_of, choices_of, chosen_at, taken_of, placed_of, since_of, recent, in_hand, next_out, inside_of, lane_of, arrived}
-use Rattle.hop_core.specs.Events.{Outcome, happens, MayAsk}
+use Rattle.hop_core.specs.Hop.{HopState, accepted_at, retired_at, arrivals_of, choices_of, chosen_at, placed_of, recent, in_hand, next_out, lane_of, arrived}
+use Rattle.hop_core.specs.Events.{happens, MayAsk}
 use Rattle.hop_core.specs.Sound.{Sound}
-use Rattle.hop_core.specs.Order.{IsInOrder, OnlyAt, OneClass, Tight, Ordered}
-use Rattle.hop_core.specs.Flows.{ArrivesAt, FlowOrdered, FlowAt, FlowAllowed, came_by}
+use Rattle.hop_core.specs.Order.{IsInOrder, OnlyAt, Tight}
+use Rattle.hop_core.specs.Flows.{ArrivesAt, FlowOrdered, FlowAllowed, came_by}
 use Rattle.steer_base.specs.Drops.{bucket_of, lane_drop_cause}
 use Rattle.steer_base.specs.declared.put.DropCause.{DropCause}
-use Rattle.hop_core.proofs.Lists.{Changed, Changed-set, chosen-push_front, chosen-push_last, length-push}
+use Rattle.hop_core.proofs.Lists.{Changed-set, chosen-push_last, length-push}
 use Rattle.hop_core.proofs.Alone.{filter-none}
 use Rattle.hop_core.proofs.Puts.{kept_at}
 use Rattle.hop_core.proofs.PutSteps.{put_as}

@@ -21,3 +21,4 @@ pub mod Sizes
 pub mod Sound
 pub mod Standing
 pub mod Stands
+pub mod Work

@@ -1,7 +1,6 @@
 -- A hop in which nothing has happened.
-use Rattle.std.proofs.Common.{ℕ, ◌+◌, ◌≤◌, ◌<◌, ◌≡◌, Bool, true, false, cond, List, [], ◌∷◌, Option, length, refl, ap, ◌∙◌, sym, arith, rules, suc, zero, get_or, take, drop, replicate, map}
-use Rattle.std.specs.Prelude.{count_by, filter}
-use Rattle.std.specs.List.{All}
+use Rattle.std.proofs.Common.{ℕ, ◌+◌, ◌<◌, ◌≡◌, Bool, false, cond, List, [], length, refl, arith, suc, zero, get_or, replicate}
+use Rattle.std.specs.Prelude.{count_by}
 use Rattle.std.proofs.Math.ListN.{length-replicate}
 use Rattle.std.proofs.lemmas.List.{length-map}
 use Rattle.std.proofs.lemmas.List.Sums.{sum_by-cons}

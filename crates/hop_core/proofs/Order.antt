@@ -1,26 +1,22 @@
 -- What keeps each tight set in order: every event, and every list of events.
-use Rattle.std.proofs.Common.{ℕ, ◌+◌, ◌-◌, ◌≤◌, ◌<◌, ◌≡◌, ◌≢◌, ◌⊎◌, Bool, true, false, not, ◌&&◌, ◌||◌, cond, List, [], ◌∷◌, ◌++◌, Option, Some, None, length, refl, ap, ◌∙◌, sym, subst, arith, rules, suc, zero, inl, inr, get_or, set as set_list, take, drop, map, append_assoc}
-use Rattle.std.specs.Prelude.{◌==◌, slice_index, slice_set, nat_lt}
-use Rattle.std.specs.List.{All, filter, list_any}
-use Rattle.std.proofs.lemmas.List.{take-append-le, take_more, take-append-drop, append-nil, map-append, length-take-le, get_or-take}
+use Rattle.std.proofs.Common.{ℕ, ◌+◌, ◌≤◌, ◌<◌, ◌≡◌, ◌≢◌, Bool, true, false, ◌||◌, List, [], ◌∷◌, ◌++◌, Option, Some, None, length, refl, ap, ◌∙◌, sym, arith, suc, zero, inl, inr, get_or, set as set_list, take, drop, map, append_assoc}
+use Rattle.std.specs.Prelude.{◌==◌, slice_index}
+use Rattle.std.specs.List.{filter, list_any}
+use Rattle.std.proofs.lemmas.List.{take-append-le, take_more, take-append-drop, append-nil, length-take-le, get_or-take}
 use Rattle.std.proofs.Math.Bool.{or_assoc, or-false, or-true}
 use Rattle.std.proofs.lemmas.List.Elements.{filter-append}
 use Rattle.std.proofs.lemmas.List.Folds.{list_any-append}
-use Rattle.std.proofs.lemmas.Bool.{cases_eq, cases_Bool, eqb-true, ne_eqb, eq-eqb, ltb-true, ltb-false, not-false, or_cases, and_parts, and_right}
+use Rattle.std.proofs.lemmas.Bool.{cases_eq, cases_Bool, ne_eqb, eq-eqb, and_right}
 use Rattle.steer_base.specs.Drops.{bucket_of, lane_drop_cause}
-use Rattle.steer_base.specs.Orders.{IsPrefix, was_dropped}
-use Rattle.steer_base.specs.declared.choice.Chosen.{Chosen}
+use Rattle.steer_base.specs.Orders.{was_dropped}
 use Rattle.steer_base.specs.declared.put.DropCause.{DropCause}
 use Rattle.steer_base.specs.declared.put.LaneDrop.{LaneDrop}
-use Rattle.steer_base.specs.declared.idle.Idle.TheVariants as idle
 use Rattle.hop_core.specs.declared.event.HopEvent.{HopEvent}
 use Rattle.hop_core.specs.declared.event.HopEvent.TheVariants as event
-use Rattle.hop_core.specs.declared.event.HopAnswer.TheVariants as answer
-use Rattle.hop_core.specs.Gathered.{Gathered}
-use Rattle.hop_core.specs.Hop.{nobody, Bare, HopState, accepted_at, offers_at, drops_at, fell_at, delivered_at, retired_at, pulled_at, out_at, arrivals_of, choices_of, taken_of, placed_of, since_of, inside_of, recent, in_hand, next_out, lane_of, landed, put_at, deliver_at, retire_at, put_one, arrived, with_bare, with_closed, with_visit}
-use Rattle.hop_core.specs.Events.{Outcome, happens, MayAsk, AllMayAsk, run, idles}
-use Rattle.hop_core.specs.Sound.{Distinct, Sound}
-use Rattle.hop_core.specs.Order.{is_kept, IsInOrder, OnlyAt, OneClass, Tight, AllTight, Ordered}
+use Rattle.hop_core.specs.Hop.{Bare, HopState, accepted_at, fell_at, delivered_at, retired_at, pulled_at, out_at, arrivals_of, choices_of, placed_of, in_hand, next_out, lane_of, deliver_at, retire_at, put_one, arrived, with_bare}
+use Rattle.hop_core.specs.Events.{happens, MayAsk, AllMayAsk, run}
+use Rattle.hop_core.specs.Sound.{Sound}
+use Rattle.hop_core.specs.Order.{is_kept, IsInOrder, OnlyAt, Tight, AllTight, Ordered}
 use Rattle.hop_core.proofs.Lists.{Changed, Changed-set, filter-same}
 use Rattle.hop_core.proofs.Gathered.{Added, Gathered-retire, Gathered-other, Gathered-put, Gathered-pass, Gathered-deliver, filter-no}
 use Rattle.hop_core.proofs.Puts.{added_at}

@@ -1,5 +1,5 @@
 -- Two lists whose pairs are in order: one is a prefix of the other.
-use Rattle.std.proofs.Common.{ℕ, ◌+◌, ◌≤◌, ◌<◌, ◌≡◌, ◌≢◌, List, [], ◌∷◌, length, refl, ap, ◌∙◌, sym, arith, suc, zero, inl, inr, get_or}
+use Rattle.std.proofs.Common.{ℕ, ◌<◌, ◌≡◌, ◌≢◌, List, [], ◌∷◌, length, refl, ap, ◌∙◌, sym, arith, suc, zero, inl, inr, get_or}
 use Rattle.std.proofs.lemmas.Bool.{cases_eq}
 use Rattle.steer_base.specs.Orders.{IsPrefix}
 use Rattle.hop_core.specs.Pairs.{Pairwise}

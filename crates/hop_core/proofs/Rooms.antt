@@ -1,5 +1,5 @@
 -- Distinct numbers below n are at most n.
-use Rattle.std.proofs.Common.{ℕ, ◌+◌, ◌≤◌, ◌<◌, ◌≡◌, ◌≢◌, Bool, true, false, List, [], ◌∷◌, ◌++◌, length, sym, arith, suc, inl, inr, get_or, eqb}
+use Rattle.std.proofs.Common.{ℕ, ◌+◌, ◌≤◌, ◌<◌, ◌≡◌, ◌≢◌, true, false, List, [], ◌∷◌, ◌++◌, length, sym, arith, suc, inl, inr, get_or, eqb}
 use Rattle.std.specs.List.{IsDistinct, AllByRecursion, list_any}
 use Rattle.std.proofs.lemmas.List.{length-append, append-nil}
 use Rattle.std.proofs.lemmas.Bool.{ne_eqb, eqb-true, or_cases}
@@ -10,15 +10,15 @@ others : (x : ℕ) (xs : List ℕ) → ((j : ℕ) → j < length xs → get_or x
 others x [] h = tt
 others x (y ∷ ys) h = (ne_eqb x y (λ e. h 0 (omega arith) (sym e)), others x ys (λ j in'. h (suc j) (omega arith)))
 
-distinct_none : IsDistinct eqb []
+pub distinct_none : IsDistinct eqb []
 unfolding IsDistinct
 distinct_none = tt
 
-both : (P : ℕ → Type 0) (xs ys : List ℕ) → AllByRecursion P xs → AllByRecursion P ys → AllByRecursion P (xs ++ ys)
+pub both : (P : ℕ → Type 0) (xs ys : List ℕ) → AllByRecursion P xs → AllByRecursion P ys → AllByRecursion P (xs ++ ys)
 both P [] ys a b = b
 both P (x ∷ xs) ys a b = (a.0, both P xs ys a.1 b)
 
-distinct : (xs ys : List ℕ) → ((i j : ℕ) → i < length xs → j < length xs → get_or xs i 0 ≡ get_or xs j 0 → i ≡ j)
+pub distinct : (xs ys : List ℕ) → ((i j : ℕ) → i < length xs → j < length xs → get_or xs i 0 ≡ get_or xs j 0 → i ≡ j)
     → ((i j : ℕ) → i < length xs → j < length ys → get_or xs i 0 ≢ get_or ys j 0) → IsDistinct eqb ys → IsDistinct eqb (xs ++ ys)
 distinct [] ys one apart h = h
 distinct (x ∷ xs) ys one apart h =
@@ -26,12 +26,12 @@ distinct (x ∷ xs) ys one apart h =
     (both (λ y. eqb x y ≡ false) xs ys (others x xs (λ j in' e. let f : suc j ≡ 0 = one (suc j) 0 (omega arith) (omega arith) e in omega arith)) (others x ys (λ j in' e. apart 0 j (omega arith) in' (sym e))))
     (distinct xs ys (λ i j a b e. let f : suc i ≡ suc j = one (suc i) (suc j) (omega arith) (omega arith) e in omega arith) (λ i j a b. apart (suc i) j (omega arith) b) h)
 
-below : (n : ℕ) (xs : List ℕ) → AllByRecursion (λ y. y < n) xs → (q : ℕ) → list_any (eqb q) xs ≡ true → q < n
+pub below : (n : ℕ) (xs : List ℕ) → AllByRecursion (λ y. y < n) xs → (q : ℕ) → list_any (eqb q) xs ≡ true → q < n
 below n [] h q e = absurd cc
 below n (x ∷ xs) h q e =
     elim (or_cases (eqb q x) (list_any (eqb q) xs) e) [ inl f ↦ (let g : q ≡ x = eqb-true q x f in rw g h.0) | inr f ↦ below n xs h.1 q f ]
 
-all_below : (n : ℕ) (xs : List ℕ) → ((i : ℕ) → i < length xs → get_or xs i 0 < n) → AllByRecursion (λ y. y < n) xs
+pub all_below : (n : ℕ) (xs : List ℕ) → ((i : ℕ) → i < length xs → get_or xs i 0 < n) → AllByRecursion (λ y. y < n) xs
 all_below n [] h = tt
 all_below n (x ∷ xs) h = (h 0 (omega arith), all_below n xs (λ i in'. h (suc i) (omega arith)))
 

@@ -1,16 +1,12 @@
-use Rattle.std.proofs.Common.{ℕ, ◌+◌, ◌≤◌, ◌<◌, ◌≡◌, ◌≢◌, ◌⊎◌, Bool, true, false, cond, List, [], ◌∷◌, ◌++◌, Option, Some, None, length, refl, ap, ◌∙◌, sym, subst, arith, suc, rules, inl, inr, get_or, take, drop}
-use Rattle.std.specs.List.{All, filter}
-use Rattle.std.proofs.lemmas.Bool.{cases_eq, cases_Bool}
-use Rattle.steer_base.specs.Entries.{place_in, position, of_class, is_class}
+use Rattle.std.proofs.Common.{ℕ, ◌+◌, ◌≤◌, ◌<◌, ◌≡◌, ◌≢◌, ◌⊎◌, List, [], ◌∷◌, ◌++◌, length, refl, ap, ◌∙◌, sym, arith, inl, inr, get_or}
+use Rattle.std.proofs.lemmas.Bool.{cases_eq}
+use Rattle.steer_base.specs.Entries.{position}
 use Rattle.hop_core.proofs.Entries.{place_in-other}
 use Rattle.steer_base.specs.declared.choice.Chosen.{Chosen}
-use Rattle.steer_base.specs.declared.put.LaneDrop.{LaneDrop}
 use Rattle.hop_core.specs.Hop.{nobody, chosen_at}
-use Rattle.hop_core.specs.Standing.{Standing}
-use Rattle.hop_core.specs.Sound.{Hands, Distinct, Counts, WasPut, Puts, Stands, Past}
-use Rattle.hop_core.proofs.Lists.{Changed, place_in-none, chosen-push_front, chosen-push_last, length-push}
+use Rattle.hop_core.specs.Sound.{Hands, Distinct, Counts, WasPut}
+use Rattle.hop_core.proofs.Lists.{Changed, chosen-push_front, chosen-push_last, length-push}
 use Rattle.hop_core.proofs.Gathered.{Added}
-use Rattle.hop_core.proofs.Standing.{Standing-same, Standing-accept, Standing-weigh, Standing-retire}
 
 -- two choices of one packet are one choice
 pub same_choice : (arrivals : ℕ → List ℕ) (taken : ℕ → ℕ) (choices : ℕ → List Chosen) (placed since : ℕ → ℕ) → Hands arrivals taken choices placed since → Distinct arrivals

@@ -1,12 +1,12 @@
-use Rattle.std.proofs.Common.{ℕ, ◌+◌, ◌≤◌, ◌<◌, ◌≡◌, ◌≢◌, Bool, true, false, cond, List, [], ◌∷◌, ◌++◌, Option, Some, None, length, refl, ap, ◌∙◌, sym, subst, arith, suc, rules, inl, inr, leb, get_or, ◌⊎◌, map}
+use Rattle.std.proofs.Common.{ℕ, ◌+◌, ◌≤◌, ◌<◌, ◌≡◌, Bool, true, false, cond, List, [], ◌∷◌, ◌++◌, Option, Some, None, length, refl, ap, ◌∙◌, sym, arith, inl, inr, get_or, ◌⊎◌, map}
 use Rattle.std.specs.Prelude.{◌==◌, nat_le, ◌^◌}
 use Rattle.std.specs.List.{All}
 use Rattle.std.proofs.lemmas.List.Elements.{All-push, All-pop, All-head, All-tail}
-use Rattle.std.proofs.lemmas.Bool.{cases_Bool, eqb-true, leb-true}
+use Rattle.std.proofs.lemmas.Bool.{cases_Bool, leb-true}
 use Rattle.steer_base.specs.Choices.{has_moved}
 use Rattle.steer_base.specs.Choices.{by_entry}
 use Rattle.steer_base.specs.Counters.{has_reached, number}
-use Rattle.steer_base.specs.Entries.{last_or, place_in, position, current_lane, recorded_count}
+use Rattle.steer_base.specs.Entries.{last_or, position, current_lane, recorded_count}
 use Rattle.steer_base.proofs.CountersLemmas.{has_reached-counts}
 use Rattle.hop_core.proofs.Entries.{place_in-le, place_in-new, current_lane-push, recorded_count-push, recorded_count-accept, recorded_count-same, recorded_count-le}
 use Rattle.steer_base.specs.declared.choice.Choice.{Choice}

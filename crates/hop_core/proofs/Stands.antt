@@ -1,20 +1,19 @@
-use Rattle.std.proofs.Common.{ℕ, ◌+◌, ◌≤◌, ◌<◌, ◌≡◌, ◌≢◌, ◌⊎◌, Bool, true, false, cond, List, [], ◌∷◌, ◌++◌, Option, Some, None, length, refl, ap, ◌∙◌, sym, subst, arith, rules, inl, inr, get_or, take, drop}
+use Rattle.std.proofs.Common.{ℕ, ◌≤◌, ◌<◌, ◌≡◌, ◌≢◌, Bool, true, false, List, [], ◌∷◌, ◌++◌, Option, Some, None, length, refl, ◌∙◌, sym, arith, inl, inr, drop}
 use Rattle.std.specs.Prelude.{◌==◌, ◌^◌}
 use Rattle.std.proofs.Math.Seq.{drop-length}
-use Rattle.std.specs.List.{All, filter}
-use Rattle.std.proofs.lemmas.List.{append-nil, drop-append-le, take-append-drop}
+use Rattle.std.specs.List.{All}
+use Rattle.std.proofs.lemmas.List.{append-nil, drop-append-le}
 use Rattle.std.proofs.lemmas.List.Elements.{All-filter, All-drop, filter-append, All-from_get_or}
 use Rattle.std.proofs.lemmas.Bool.{cases_eq, cases_Bool, eqb-true}
 use Rattle.steer_base.specs.Choices.{migrate}
 use Rattle.steer_base.specs.Counters.{number}
-use Rattle.steer_base.specs.Entries.{place_in, position, of_class, is_class, entry}
+use Rattle.steer_base.specs.Entries.{position, of_class, is_class, entry}
 use Rattle.hop_core.proofs.Entries.{place_in-le}
 use Rattle.steer_base.specs.declared.choice.Chosen.{Chosen}
-use Rattle.steer_base.specs.declared.choice.Choice.{Choice}
 use Rattle.hop_core.specs.Hop.{nobody, chosen_at}
 use Rattle.hop_core.specs.Standing.{Standing}
 use Rattle.hop_core.specs.Sound.{Stands, Past}
-use Rattle.hop_core.proofs.Lists.{Changed, chosen-push_front, chosen-push_last, length-push}
+use Rattle.hop_core.proofs.Lists.{Changed, chosen-push_front}
 use Rattle.hop_core.proofs.Gathered.{Added}
 use Rattle.hop_core.proofs.Standing.{Standing-same, Standing-accept, Standing-weigh, Standing-retire, by_entry-class}
 

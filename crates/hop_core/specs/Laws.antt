@@ -1,8 +1,8 @@
 -- The laws of a hop, over every list of events that may be asked.
-use Rattle.std.specs.Prelude.{ℕ, ◌+◌, ◌≤◌, ◌<◌, ◌≡◌, ◌++◌, Bool, true, false, List, [], ◌∷◌, Option, length, take, drop, filter}
+use Rattle.std.specs.Prelude.{ℕ, ◌≤◌, ◌<◌, ◌≡◌, Bool, true, false, List, [], ◌∷◌, Option, length, take, drop, filter}
 use Rattle.steer_base.specs.Choices.{migrate}
 use Rattle.steer_base.specs.Entries.{entry}
-use Rattle.steer_base.specs.Orders.{IsPrefix, was_dropped}
+use Rattle.steer_base.specs.Orders.{IsPrefix}
 use Rattle.steer_base.specs.Sets.{has}
 use Rattle.steer_base.specs.declared.choice.Entry.{Entry}
 use Rattle.steer_base.specs.declared.cpu_mask.CpuMask.{CpuMask}

@@ -9,3 +9,4 @@ pub mod Shape
 pub mod Sizes
 pub mod Sound
 pub mod Standing
+pub mod Work

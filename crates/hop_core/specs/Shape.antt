@@ -1,5 +1,5 @@
 -- The shape that a hop is made with, and the hop in which nothing has happened.
-use Rattle.std.specs.Prelude.{ℕ, ◌+◌, ◌<◌, ◌≤◌, ◌≡◌, ◌^◌, Bool, true, false, List, [], length, map, replicate, if◌then◌else◌}
+use Rattle.std.specs.Prelude.{ℕ, ◌+◌, ◌<◌, ◌≤◌, ◌≡◌, ◌^◌, Bool, false, [], length, map, replicate, if◌then◌else◌}
 use Rattle.std.specs.List.{All}
 use Rattle.steer_base.specs.Counters.{rounded_up}
 use Rattle.hop_core.specs.declared.shape.HopShape.{HopShape}

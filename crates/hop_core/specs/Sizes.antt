@@ -1,5 +1,5 @@
 -- What no event changes: what a hop keeps for good, and how many actors, lanes and out lanes it has.
-use Rattle.std.specs.Prelude.{ℕ, ◌≡◌, length}
+use Rattle.std.specs.Prelude.{◌≡◌, length}
 use Rattle.hop_core.specs.Hop.{HopState}
 
 pub record SameSizes (s t : HopState) : Type 0 where

@@ -1,5 +1,5 @@
 -- What holds of a hop after any events.
-use Rattle.std.specs.Prelude.{ℕ, ◌+◌, ◌≤◌, ◌<◌, ◌≡◌, ◌≢◌, ◌^◌, Bool, true, List, Some, length, drop, count_by, slice_index}
+use Rattle.std.specs.Prelude.{ℕ, ◌+◌, ◌≤◌, ◌<◌, ◌≡◌, ◌≢◌, ◌^◌, true, List, Some, length, drop, count_by, slice_index}
 use Rattle.steer_base.specs.Entries.{of_class, position}
 use Rattle.steer_base.specs.declared.choice.Chosen.{Chosen}
 use Rattle.hop_core.specs.Hop.{HopState, accepted_at, fell_at, out_at, pulled_at, delivered_at, retired_at, arrivals_of, choices_of, chosen_at, taken_of, placed_of, since_of, inside_of}

@@ -1,5 +1,6 @@
 //! Laws over the lists of a hop, each the contract of a function that does nothing.
 ghost use Rattle.hop_core.specs.Laws.{ChoiceIsByTheRule, ChoicesStay, EachExplainsDrops, EachKeepsFlows, EachKeepsOrder, EachKeepsSound, EndToEnd, ExplainsDrops, FlowIsInOrder, KeepsOrder, KeepsPlaces, NeverDrops, NewIsOrdered, NewIsSound, OrderedIsInOrder, PairsMakePrefix};
+ghost use Rattle.hop_core.specs.Work.{WorkGoesOn, WorkIsBounded, WorkStays};
 
 /// What holds of every hop holds of a new one, and every event keeps it.
 pub fn every_event_keeps_a_hop_sound()
@@ -57,4 +58,12 @@ pub fn ample_lanes_drop_nothing()
 pub fn each_choice_is_by_the_rule()
     ensures rule { ChoiceIsByTheRule }
     ensures stay { ChoicesStay }
+{}
+
+/// Each event that gets a packet on adds one to the work or is idle, no other event changes it, and there are at most
+/// seven steps of work for each packet: so a machine that goes on as long as work is done comes to an end.
+pub fn work_goes_on_and_is_bounded()
+    ensures on { WorkGoesOn }
+    ensures stays { WorkStays }
+    ensures bounded { WorkIsBounded }
 {}
