@@ -15,7 +15,7 @@ count_set : (xs : List Bool) (a : ℕ) (b : Bool) → a < length xs → count_by
 count_set xs a b in' = sum_by-set (λ b. cond b 1 0) xs a b false in'
 
 -- who is inside counts
-count_some : (xs : List Bool) (a : ℕ) → get_or xs a false ≡ true → 0 < count_by (λ b. b) xs
+pub count_some : (xs : List Bool) (a : ℕ) → get_or xs a false ≡ true → 0 < count_by (λ b. b) xs
 count_some [] a h = absurd (let f : false ≡ true = h in cc)
 count_some (b ∷ bs) zero h = let e : b ≡ true = h in rw (sum_by-cons (λ b. cond b 1 0) b bs, e) (omega arith)
 count_some (b ∷ bs) (suc a) h = let i = count_some bs a h in rw (sum_by-cons (λ b. cond b 1 0) b bs) (omega arith)

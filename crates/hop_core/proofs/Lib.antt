@@ -1,11 +1,13 @@
 pub mod Alone
 pub mod AllSteps
+pub mod Apart
 pub mod Cases
 pub mod Choices
 pub mod Drops
 pub mod EndToEnd
 pub mod Entries
 pub mod Flows
+pub mod Gate
 pub mod Gathered
 pub mod GateSteps
 pub mod LaneSteps

@@ -1,16 +1,17 @@
 -- The laws of a hop, over every list of events that may be asked.
-use Rattle.std.specs.Prelude.{ℕ, ◌≤◌, ◌<◌, ◌≡◌, Bool, true, false, List, [], ◌∷◌, Option, length, take, drop, filter}
+use Rattle.std.specs.Prelude.{ℕ, ◌++◌, ◌≤◌, ◌<◌, ◌≡◌, ◌≢◌, Bool, true, false, List, [], ◌∷◌, Option, length, map, take, drop, filter}
 use Rattle.steer_base.specs.Choices.{migrate}
 use Rattle.steer_base.specs.Entries.{entry}
-use Rattle.steer_base.specs.Orders.{IsPrefix}
+use Rattle.steer_base.specs.Orders.{Apart, IsPrefix}
 use Rattle.steer_base.specs.Sets.{has}
 use Rattle.steer_base.specs.declared.choice.Entry.{Entry}
 use Rattle.steer_base.specs.declared.cpu_mask.CpuMask.{CpuMask}
 use Rattle.backlog.specs.Offers.{AreOffers, AllExplained}
 use Rattle.hop_core.specs.declared.event.HopEvent.{HopEvent}
 use Rattle.hop_core.specs.declared.event.HopEvent.TheVariants as event
+use Rattle.hop_core.specs.declared.event.HopAnswer.TheVariants as answer
 use Rattle.hop_core.specs.declared.shape.HopShape.{HopShape}
-use Rattle.hop_core.specs.Hop.{HopState, accepted_at, fell_at, drops_at, delivered_at, out_at, head_at, arrivals_of, choices_of, chosen_at, taken_of, placed_of, since_of, inside_of, in_hand, lane_of}
+use Rattle.hop_core.specs.Hop.{Bare, HopState, accepted_at, fell_at, drops_at, delivered_at, out_at, head_at, arrivals_of, choices_of, chosen_at, taken_of, placed_of, since_of, inside_of, in_hand, lane_of}
 use Rattle.hop_core.specs.Events.{happens, MayAsk, AllMayAsk, run}
 use Rattle.hop_core.specs.Shape.{IsShape, new_hop}
 use Rattle.hop_core.specs.Sound.{Sound, Places, Puts}
@@ -27,15 +28,36 @@ NewIsSound = (shape : HopShape) → IsShape shape → Sound (new_hop shape)
 abbrev pub EachKeepsSound : Type 0
 EachKeepsSound = (s : HopState) (e : HopEvent) → MayAsk s e → Sound s → Sound (happens s e).0
 
--- Each packet is at most at one place, once; in an out lane only where it was accepted and delivered; and accepted or
--- dropped by a lane only where a choice sent it there.
+-- the packets that each lane dropped
+abbrev pub fallen : Bare → List (List ℕ)
+fallen b = map (λ drops. map (λ d. d.id) drops) b.drops
+
+-- Each packet is at most at one place, once: in the lists of accepted and of dropped packets together, and in the out
+-- lanes; in an out lane only where it was accepted and delivered; and accepted or dropped by a lane only where a choice
+-- sent it there.
 pub record HasPlaces (s : HopState) : Type 0 where
+  pub lanes : Apart (s.bare.accepted ++ fallen s.bare)
+  pub outs : Apart s.bare.outs
   pub places : Places (accepted_at s.bare) (fell_at s.bare) (delivered_at s.bare) (out_at s.bare)
   pub accepted : Puts (accepted_at s.bare) (choices_of s) (placed_of s)
   pub dropped : Puts (fell_at s.bare) (choices_of s) (placed_of s)
 
 abbrev pub KeepsPlaces : Type 0
 KeepsPlaces = (shape : HopShape) (es : List HopEvent) → IsShape shape → AllMayAsk es (new_hop shape) → HasPlaces (run es (new_hop shape))
+
+-- A close is answered with the number of those inside exactly where somebody is, and an entry that the gate is closed
+-- exactly where it is.
+abbrev pub InsideIsExact : Type 0
+InsideIsExact =
+    (s : HopState)
+    → ((n : ℕ) → (happens s event.Close).1 ≡ answer.Inside n → (s.bare.inside ≡ n) × (n ≢ 0))
+    × (s.bare.inside ≢ 0 → (happens s event.Close).1 ≡ answer.Inside s.bare.inside)
+
+abbrev pub ClosedIsExact : Type 0
+ClosedIsExact =
+    (s : HopState) (a : ℕ) → Sound s
+    → ((happens s (event.Enter a)).1 ≡ answer.Closed → s.bare.closed ≡ true)
+    × (s.bare.closed ≡ true → (happens s (event.Enter a)).1 ≡ answer.Closed)
 
 -- ---- delivery in order
 

@@ -1,11 +1,17 @@
 //! Laws over the lists of a hop, each the contract of a function that does nothing.
-ghost use Rattle.hop_core.specs.Laws.{ChoiceIsByTheRule, ChoicesStay, EachExplainsDrops, EachKeepsFlows, EachKeepsOrder, EachKeepsSound, EndToEnd, ExplainsDrops, FlowIsInOrder, KeepsOrder, KeepsPlaces, NeverDrops, NewIsOrdered, NewIsSound, OrderedIsInOrder, PairsMakePrefix};
+ghost use Rattle.hop_core.specs.Laws.{ChoiceIsByTheRule, ChoicesStay, ClosedIsExact, EachExplainsDrops, EachKeepsFlows, EachKeepsOrder, EachKeepsSound, EndToEnd, ExplainsDrops, FlowIsInOrder, InsideIsExact, KeepsOrder, KeepsPlaces, NeverDrops, NewIsOrdered, NewIsSound, OrderedIsInOrder, PairsMakePrefix};
 ghost use Rattle.hop_core.specs.Work.{WorkGoesOn, WorkIsBounded, WorkStays};
 
 /// What holds of every hop holds of a new one, and every event keeps it.
 pub fn every_event_keeps_a_hop_sound()
     ensures new { NewIsSound }
     ensures each { EachKeepsSound }
+{}
+
+/// A gate is kept open exactly by those inside, and turns actors away exactly where it is closed.
+pub fn the_gate_answers_exactly()
+    ensures inside { InsideIsExact }
+    ensures closed { ClosedIsExact }
 {}
 
 /// Whatever events come, each packet is at most at one place, once.
