@@ -1,5 +1,5 @@
-pub mod Alone
 pub mod AllSteps
+pub mod Alone
 pub mod Apart
 pub mod Cases
 pub mod Choices
@@ -8,16 +8,17 @@ pub mod EndToEnd
 pub mod Entries
 pub mod Flows
 pub mod Gate
-pub mod Gathered
 pub mod GateSteps
+pub mod Gathered
 pub mod LaneSteps
+pub mod LaneTables
 pub mod Lists
 pub mod New
 pub mod Order
 pub mod Pairs
 pub mod ProducerSteps
-pub mod Puts
 pub mod PutSteps
+pub mod Puts
 pub mod Rooms
 pub mod Sizes
 pub mod Sound

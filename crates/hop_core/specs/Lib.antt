@@ -1,7 +1,10 @@
 pub mod Events
+pub mod FlowTables
 pub mod Flows
 pub mod Gathered
 pub mod Hop
+pub mod Journals
+pub mod LaneTable
 pub mod Laws
 pub mod Order
 pub mod Pairs

@@ -3,7 +3,10 @@
 
 mod event;
 mod laws;
+mod journals;
+mod lanes;
 mod shape;
+mod tables;
 
 pub use event::{HopAnswer, HopEvent};
 pub use laws::{
