@@ -1,3 +1,4 @@
+pub mod Emptied
 pub mod Events
 pub mod FlowTables
 pub mod Flows
@@ -8,8 +9,11 @@ pub mod LaneTable
 pub mod Laws
 pub mod Order
 pub mod Pairs
+pub mod Reads
 pub mod Shape
 pub mod Sizes
 pub mod Sound
 pub mod Standing
+pub mod View
+pub mod Whole
 pub mod Work

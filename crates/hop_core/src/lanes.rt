@@ -20,14 +20,14 @@ pub struct Lanes {
 }
 
 impl Model for Lanes {
-    ghost use Rattle.std.specs.Prelude.{◌≤◌, map};
+    ghost use Rattle.std.specs.Prelude.{◌≤◌, length, map};
     ghost use Rattle.hop_core.specs.LaneTable.{AreShaped, LaneTable};
 
     ghost Value = { LaneTable };
 
     ghost view = { λ t. record { accepted = map (λ l. l.accepted) t.lanes.items; offers = map (λ l. l.offers) t.lanes.items; drops = map (λ l. l.drops) t.lanes.items; pulled = map (λ l. l.pulled) t.lanes.items; limit = t.limit; room = t.room; start = t.start; limited = t.limited } };
 
-    ghost invariant = { λ t. (t.room ≤ 262144) × AreShaped t.limit t.room t.start t.limited t.lanes.items };
+    ghost invariant = { λ t. (t.room ≤ 262144) × (length t.lanes.items ≤ 255) × AreShaped t.limit t.room t.start t.limited t.lanes.items };
 }
 
 impl Lanes {
@@ -107,10 +107,10 @@ impl Lanes {
     }
 
     /// The number of lanes.
-    pub fn count(&self) -> usize
+    pub fn count(&self) -> u8
         ensures { result ≡ length self.now.accepted }
     {
-        self.lanes.len()
+        self.lanes.len() as u8
     }
 
     /// The number that the counter of a lane shows at a count.

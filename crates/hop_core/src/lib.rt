@@ -3,6 +3,7 @@
 
 mod event;
 mod laws;
+mod hop;
 mod journals;
 mod lanes;
 mod shape;
@@ -15,4 +16,5 @@ pub use laws::{
     every_event_keeps_a_hop_sound, order_holds_from_end_to_end, pairs_in_order_make_a_prefix,
     the_gate_answers_exactly, tight_sets_are_delivered_in_order, work_goes_on_and_is_bounded,
 };
+pub use hop::Hop;
 pub use shape::HopShape;
