@@ -6,6 +6,7 @@ pub mod Choices
 pub mod Drops
 pub mod EndToEnd
 pub mod Entries
+pub mod Fits
 pub mod Flows
 pub mod Gate
 pub mod GateSteps
@@ -24,4 +25,6 @@ pub mod Sizes
 pub mod Sound
 pub mod Standing
 pub mod Stands
+pub mod TableSteps
+pub mod Wholes
 pub mod Work

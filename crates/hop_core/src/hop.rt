@@ -72,15 +72,13 @@ impl Hop {
             outs,
             limit,
             room,
-            mut counts,
+            counts,
             exact,
             start,
             limited,
         } = shape;
         let tables = Tables::make(alloc, &counts, start, exact)?;
-        if !exact {
-            round(&mut counts);
-        }
+        let counts = class_counts(alloc, &counts, exact)?;
         Ok(Hop {
             arrivals: Journals::make(alloc, producers, room)?,
             taken: zeros(alloc, producers)?,
@@ -150,12 +148,21 @@ fn nobody(alloc: Global, count: u8) -> Result<Vec<bool>, OutOfMemory>
     Ok(Vec::from_elem(alloc, false, count as usize)?)
 }
 
-// Rounds numbers of classes up to powers of two.
-fn round(counts: &mut [u32])
-    requires { All (λ count. count ≤ most_classes false) counts.old }
-    ensures { counts.new ≡ map (classes_for false) counts.old }
+// The numbers of classes: rounded up to powers of two, but where they are exact.
+fn class_counts(alloc: Global, counts: &[u32], exact: bool) -> Result<Vec<u32>, OutOfMemory>
+    requires { All (λ count. count ≤ most_classes exact) counts.now }
+    ensures { IfOk result (λ classes. classes.items ≡ map (classes_for exact) counts.now) }
 {
-    for count in counts.iter_mut() {
-        *count = round_up(*count);
+    let mut classes = Vec::with_capacity(alloc, counts.len())?;
+    for count in counts {
+        classes.push(classes_for(*count, exact))?;
     }
+    Ok(classes)
+}
+
+fn classes_for(count: u32, exact: bool) -> u32
+    requires { count ≤ most_classes exact }
+    ensures { result ≡ classes_for exact count }
+{
+    if exact { count } else { round_up(count) }
 }

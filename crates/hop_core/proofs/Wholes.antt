@@ -1,0 +1,204 @@
+-- The parts of a hop stay whole in each event.
+use Rattle.std.proofs.Common.{ℕ, ◌+◌, ◌≤◌, ◌<◌, ◌≡◌, ◌≢◌, Bool, true, false, cond, List, [], ◌∷◌, ◌++◌, Option, Some, None, length, refl, ap, ◌∙◌, sym, subst, arith, inl, inr, get_or, set, replicate}
+use Rattle.std.specs.Prelude.{nat_lt, slice_index, slice_index_or, slice_set}
+use Rattle.std.proofs.Math.ListN.{length-set}
+use Rattle.std.proofs.lemmas.Bool.{cases_Bool, ltb-true}
+use Rattle.std.proofs.lemmas.List.{length-map, set-get_or}
+use Rattle.backlog.specs.Puts.{after_put, after_take, answer_by, put_answer, put_by, put_count}
+use Rattle.dev_flow_table.specs.Tables.{unset, weighed}
+use Rattle.steer_base.specs.Counters.{rounded_up}
+use Rattle.steer_base.specs.Drops.{bucket_of, lane_drop_cause}
+use Rattle.steer_base.specs.Sets.{has}
+use Rattle.steer_base.specs.declared.choice.Chosen.{Chosen}
+use Rattle.steer_base.specs.declared.cpu_mask.CpuMask.{CpuMask}
+use Rattle.steer_base.specs.declared.put.DropCause.{DropCause}
+use Rattle.hop_core.specs.Events.{IsClassBelow, IsEmptied}
+use Rattle.hop_core.specs.FlowTables.{noted, table_at, with_rows}
+use Rattle.hop_core.specs.Hop.{HopState, accepted_at, arrivals_of, choice_of, choices_of, delivered_at, in_hand, inside_of, next_of, next_out, out_at, placed_of, pulled_at, retired_at, taken_of}
+use Rattle.hop_core.specs.Journals.{list_at, pushed}
+use Rattle.hop_core.specs.LaneTable.{LaneTable, lane_at, with_lane}
+use Rattle.hop_core.specs.Sound.{Sound}
+use Rattle.hop_core.specs.View.{HopParts, state_of}
+use Rattle.hop_core.specs.Whole.{IsWhole, Tabled}
+use Rattle.hop_core.proofs.Drops.{room-put}
+use Rattle.hop_core.proofs.Fits.{room-arrive, room-deliver, room-weigh}
+use Rattle.hop_core.proofs.LaneSteps.{Sound-deliver, Sound-pull, Sound-retire}
+use Rattle.hop_core.proofs.GateSteps.{Sound-resize}
+use Rattle.hop_core.proofs.ProducerSteps.{Sound-arrive, Sound-weigh, emptied-all}
+use Rattle.hop_core.proofs.PutSteps.{Sound-put, put_as}
+use Rattle.hop_core.proofs.TableSteps.{Tabled-put, Tabled-resize, Tabled-weigh}
+
+-- ---- an arrival
+
+pub fits-arrive : (h : HopParts) (p x : ℕ) → p < length h.arrivals.lists → x < h.lanes.room
+    → ((q i : ℕ) → i < length (arrivals_of (state_of h) q) → slice_index (arrivals_of (state_of h) q) i ≢ x)
+    → IsWhole h → length (list_at h.arrivals p) < h.arrivals.room
+fits-arrive h p x named below fresh w = rw w.arrivals_room (room-arrive (state_of h) p x named below fresh w.sound)
+
+pub whole-arrive : (h : HopParts) (p x : ℕ) → p < length h.arrivals.lists → x < h.lanes.room
+    → ((q i : ℕ) → i < length (arrivals_of (state_of h) q) → slice_index (arrivals_of (state_of h) q) i ≢ x)
+    → IsWhole h → IsWhole (record h { arrivals = pushed h.arrivals p x })
+whole-arrive h p x named below fresh w =
+    let t = w.tabled in
+    record {
+      sound = Sound-arrive (state_of h) p x named below fresh w.sound;
+      tabled = record { start = t.start; many = t.many ∙ sym (length-set h.arrivals.lists p (list_at h.arrivals p ++ x ∷ [])); long = t.long; rows = t.rows; classes = t.classes };
+      actors = w.actors;
+      lanes = w.lanes;
+      arrivals_room = w.arrivals_room;
+      choices_room = w.choices_room;
+      outs_room = w.outs_room;
+    }
+
+-- ---- a weigh
+
+pub whole-weigh : (h : HopParts) (p : ℕ) (class want : Option ℕ) (desired : ℕ) (online : CpuMask) → p < length h.arrivals.lists
+    → desired < length h.lanes.accepted → IsClassBelow (slice_index h.counts p) class
+    → ((c : ℕ) → c < length h.lanes.accepted → has online c ≡ false → IsEmptied (state_of h).bare c)
+    → inside_of (state_of h) p ≡ true → length (choices_of (state_of h) p) < taken_of (state_of h) p → IsWhole h
+    → IsWhole (record h {
+      choices = pushed h.choices p (record { id = next_of (state_of h) p; choice = choice_of (state_of h) p class want desired online });
+      tables = with_rows h.tables p (weighed (table_at h.tables p) class (choice_of (state_of h) p class want desired online)).rows;
+    })
+whole-weigh h p class want desired online named lane ok empty inside more w =
+    let s : HopState = state_of h in
+    record {
+      sound = Sound-weigh s p class want desired online named lane (emptied-all s w.sound (λ c. has online c ≡ false) empty) inside more w.sound;
+      tabled = Tabled-weigh s p class want desired online h.tables named ok more w.sound w.tabled;
+      actors = w.actors;
+      lanes = w.lanes;
+      arrivals_room = w.arrivals_room;
+      choices_room = w.choices_room;
+      outs_room = w.outs_room;
+    }
+
+-- ---- a put
+
+-- the parts after a put, whatever the cause of a drop
+abbrev pub put_parts : HopParts → ℕ → Option DropCause → Option ℕ → HopParts
+put_parts h p cause bucket =
+    let c : Chosen = in_hand (state_of h) p in
+    record h {
+      placed = slice_set h.placed p (slice_index h.placed p + 1);
+      tables = with_rows h.tables p (noted (table_at h.tables p) c.choice.class (answer_by cause (lane_at h.lanes c.choice.lane))).rows;
+      lanes = with_lane h.lanes c.choice.lane (put_by cause (lane_at h.lanes c.choice.lane) c.id bucket);
+    }
+
+pub state_of-put : (h : HopParts) (p : ℕ) (cause : Option DropCause) (bucket : Option ℕ) → state_of (put_parts h p cause bucket) ≡ put_as (state_of h) p cause bucket
+state_of-put h p None bucket =
+    let c : ℕ = (in_hand (state_of h) p).choice.lane in
+    rw (set-get_or h.lanes.drops c [], set-get_or h.lanes.pulled c 0) refl
+state_of-put h p (Some cause) bucket =
+    let c : ℕ = (in_hand (state_of h) p).choice.lane in
+    rw (set-get_or h.lanes.accepted c [], set-get_or h.lanes.pulled c 0) refl
+
+put-lanes : (h : HopParts) (p : ℕ) (cause : Option DropCause) (bucket : Option ℕ)
+    → length (put_parts h p cause bucket).lanes.accepted ≡ length h.lanes.accepted
+put-lanes h p cause bucket =
+    let c : Chosen = in_hand (state_of h) p in
+    length-set h.lanes.accepted c.choice.lane (put_by cause (lane_at h.lanes c.choice.lane) c.id bucket).accepted
+
+pub whole-put : (h : HopParts) (p : ℕ) (hash : Option ℕ) → p < length h.arrivals.lists → inside_of (state_of h) p ≡ true
+    → placed_of (state_of h) p < length (choices_of (state_of h) p) → IsWhole h
+    → IsWhole (put_parts h p (lane_drop_cause (lane_at h.lanes (in_hand (state_of h) p).choice.lane) hash) (bucket_of hash))
+whole-put h p hash named inside more w =
+    let s : HopState = state_of h in
+    let cause : Option DropCause = lane_drop_cause (lane_at h.lanes (in_hand s p).choice.lane) hash in
+    let bucket : Option ℕ = bucket_of hash in
+    let new : HopParts = put_parts h p cause bucket in
+    let is = sym (state_of-put h p cause bucket) in
+    record {
+      sound = subst Sound is (Sound-put s p hash named inside more w.sound);
+      tabled = subst (λ t. Tabled t new.tables) is (Tabled-put s p cause bucket h.tables named more w.sound w.tabled);
+      actors = w.actors;
+      lanes = rw (put-lanes h p cause bucket) w.lanes;
+      arrivals_room = w.arrivals_room;
+      choices_room = w.choices_room;
+      outs_room = w.outs_room;
+    }
+
+-- ---- a pull, a delivery and a retirement
+
+take-lanes : (t : LaneTable) (c : ℕ) → with_lane t c (after_take (lane_at t c))
+    ≡ cond (nat_lt (slice_index t.pulled c) (length (slice_index_or t.accepted c []))) (record t { pulled = set t.pulled c (slice_index t.pulled c + 1) }) t
+take-lanes t c =
+    elim (cases_Bool (nat_lt (slice_index t.pulled c) (length (slice_index_or t.accepted c [])))) [
+      | inl e ↦ rw (e, set-get_or t.accepted c [], set-get_or t.offers c [], set-get_or t.drops c []) refl
+      | inr e ↦ rw (e, set-get_or t.accepted c [], set-get_or t.offers c [], set-get_or t.drops c [], set-get_or t.pulled c 0) refl
+    ]
+
+cond_cases : (P : LaneTable → Type 0) (t u : LaneTable) (b : Bool) → (b ≡ true → P u) → P t → P (cond b u t)
+cond_cases P t u true f h = f refl
+cond_cases P t u false f h = h
+
+pub whole-pull : (h : HopParts) (c : ℕ) → c < length h.lanes.accepted → slice_index h.lanes.pulled c ≤ slice_index h.retired c → IsWhole h
+    → IsWhole (record h { lanes = with_lane h.lanes c (after_take (lane_at h.lanes c)) })
+whole-pull h c named free w =
+    let t = w.tabled in
+    let P : LaneTable → Type 0 = λ l. IsWhole (record h { lanes = l }) in
+    subst P (sym (take-lanes h.lanes c))
+    (cond_cases P h.lanes (record h.lanes { pulled = set h.lanes.pulled c (slice_index h.lanes.pulled c + 1) })
+    (nat_lt (slice_index h.lanes.pulled c) (length (slice_index_or h.lanes.accepted c [])))
+    (λ e. record {
+      sound = Sound-pull (state_of h) c named free (ltb-true (slice_index h.lanes.pulled c) (length (slice_index_or h.lanes.accepted c [])) e) w.sound;
+      tabled = record { start = t.start; many = t.many; long = t.long; rows = t.rows; classes = t.classes };
+      actors = w.actors;
+      lanes = w.lanes;
+      arrivals_room = w.arrivals_room;
+      choices_room = w.choices_room;
+      outs_room = w.outs_room;
+    }) w)
+
+pub fits-deliver : (h : HopParts) (c o : ℕ) → c < length h.lanes.accepted → o < length h.outs.lists
+    → delivered_at (state_of h).bare c < pulled_at (state_of h).bare c → IsWhole h → length (list_at h.outs o) < h.outs.room
+fits-deliver h c o named out more w = rw w.outs_room (room-deliver (state_of h) c o named out more w.sound)
+
+pub whole-deliver : (h : HopParts) (c o : ℕ) → c < length h.lanes.accepted → o < length h.outs.lists
+    → delivered_at (state_of h).bare c < pulled_at (state_of h).bare c → IsWhole h
+    → IsWhole (record h { delivered = slice_set h.delivered c (slice_index h.delivered c + 1); outs = pushed h.outs o (next_out (state_of h).bare c) })
+whole-deliver h c o named out more w =
+    let t = w.tabled in
+    record {
+      sound = Sound-deliver (state_of h) c o named out more w.sound;
+      tabled = record { start = t.start; many = t.many; long = t.long; rows = t.rows; classes = t.classes };
+      actors = w.actors;
+      lanes = w.lanes;
+      arrivals_room = w.arrivals_room;
+      choices_room = w.choices_room;
+      outs_room = w.outs_room;
+    }
+
+pub whole-retire : (h : HopParts) (c : ℕ) → c < length h.lanes.accepted → retired_at (state_of h).bare c < delivered_at (state_of h).bare c → IsWhole h
+    → IsWhole (record h { retired = slice_set h.retired c (slice_index h.retired c + 1) })
+whole-retire h c named more w =
+    let t = w.tabled in
+    record {
+      sound = Sound-retire (state_of h) c named more w.sound;
+      tabled = record { start = t.start; many = t.many; long = t.long; rows = t.rows; classes = t.classes };
+      actors = w.actors;
+      lanes = w.lanes;
+      arrivals_room = w.arrivals_room;
+      choices_room = w.choices_room;
+      outs_room = w.outs_room;
+    }
+
+-- ---- a resize
+
+pub whole-resize : (h : HopParts) (p count : ℕ) → p < length h.arrivals.lists → h.closed ≡ true
+    → ((c : ℕ) → c < length h.lanes.accepted → IsEmptied (state_of h).bare c) → IsWhole h
+    → IsWhole (record h {
+      since = slice_set h.since p (length (list_at h.choices p));
+      counts = slice_set h.counts p count;
+      tables = with_rows h.tables p (replicate count (unset h.tables.start));
+    })
+whole-resize h p count named shut empty w =
+    let s : HopState = state_of h in
+    record {
+      sound = Sound-resize s p count named shut (λ c. emptied-all s w.sound (λ c. Unit {0}) (λ c lt _. empty c lt) c tt) w.sound;
+      tabled = Tabled-resize s p count h.tables named w.sound w.tabled;
+      actors = w.actors;
+      lanes = w.lanes;
+      arrivals_room = w.arrivals_room;
+      choices_room = w.choices_room;
+      outs_room = w.outs_room;
+    }
