@@ -2,7 +2,7 @@
 use Rattle.std.proofs.Common.{ℕ, ◌+◌, ◌≤◌, ◌<◌, ◌≡◌, ◌≢◌, Bool, true, false, cond, List, [], ◌∷◌, ◌++◌, Option, Some, None, length, refl, ap, ◌∙◌, sym, subst, arith, inl, inr, get_or, set, replicate}
 use Rattle.std.specs.Prelude.{nat_lt, slice_index, slice_index_or, slice_set}
 use Rattle.std.proofs.Math.ListN.{length-set}
-use Rattle.std.proofs.lemmas.Bool.{cases_Bool, ltb-true}
+use Rattle.std.proofs.lemmas.Bool.{cases_Bool, lt-ltb, ltb-true}
 use Rattle.std.proofs.lemmas.List.{length-map, set-get_or}
 use Rattle.backlog.specs.Puts.{after_put, after_take, answer_by, put_answer, put_by, put_count}
 use Rattle.dev_flow_table.specs.Tables.{unset, weighed}
@@ -12,7 +12,7 @@ use Rattle.steer_base.specs.Sets.{has}
 use Rattle.steer_base.specs.declared.choice.Chosen.{Chosen}
 use Rattle.steer_base.specs.declared.cpu_mask.CpuMask.{CpuMask}
 use Rattle.steer_base.specs.declared.put.DropCause.{DropCause}
-use Rattle.hop_core.specs.Events.{IsClassBelow, IsEmptied}
+use Rattle.hop_core.specs.Events.{IsClassBelow, IsEmptied, put}
 use Rattle.hop_core.specs.FlowTables.{noted, table_at, with_rows}
 use Rattle.hop_core.specs.Hop.{HopState, accepted_at, arrivals_of, choice_of, choices_of, delivered_at, in_hand, inside_of, next_of, next_out, out_at, placed_of, pulled_at, retired_at, taken_of}
 use Rattle.hop_core.specs.Journals.{list_at, pushed}
@@ -52,6 +52,9 @@ whole-arrive h p x named below fresh w =
 
 -- ---- a weigh
 
+pub fits-weigh : (h : HopParts) (p : ℕ) → length (list_at h.choices p) < taken_of (state_of h) p → IsWhole h → length (list_at h.choices p) < h.choices.room
+fits-weigh h p more w = rw w.choices_room (room-weigh (state_of h) p more w.sound)
+
 pub whole-weigh : (h : HopParts) (p : ℕ) (class want : Option ℕ) (desired : ℕ) (online : CpuMask) → p < length h.arrivals.lists
     → desired < length h.lanes.accepted → IsClassBelow (slice_index h.counts p) class
     → ((c : ℕ) → c < length h.lanes.accepted → has online c ≡ false → IsEmptied (state_of h).bare c)
@@ -74,6 +77,9 @@ whole-weigh h p class want desired online named lane ok empty inside more w =
 
 -- ---- a put
 
+pub fits-put : (h : HopParts) (p c : ℕ) → placed_of (state_of h) p < length (choices_of (state_of h) p) → IsWhole h → put_count (lane_at h.lanes c) < h.lanes.room
+fits-put h p c more w = rw length-map at (room-put (state_of h) p w.sound more c)
+
 -- the parts after a put, whatever the cause of a drop
 abbrev pub put_parts : HopParts → ℕ → Option DropCause → Option ℕ → HopParts
 put_parts h p cause bucket =
@@ -91,6 +97,13 @@ state_of-put h p None bucket =
 state_of-put h p (Some cause) bucket =
     let c : ℕ = (in_hand (state_of h) p).choice.lane in
     rw (set-get_or h.lanes.accepted c [], set-get_or h.lanes.pulled c 0) refl
+
+pub state_of-put_enabled : (h : HopParts) (p : ℕ) (hash : Option ℕ) → inside_of (state_of h) p ≡ true
+    → placed_of (state_of h) p < length (choices_of (state_of h) p)
+    → state_of (put_parts h p (lane_drop_cause (lane_at h.lanes (in_hand (state_of h) p).choice.lane) hash) (bucket_of hash)) ≡ (put (state_of h) p hash).0
+state_of-put_enabled h p hash inside more =
+    rw (inside, lt-ltb (placed_of (state_of h) p) (length (choices_of (state_of h) p)) more)
+    (state_of-put h p (lane_drop_cause (lane_at h.lanes (in_hand (state_of h) p).choice.lane) hash) (bucket_of hash))
 
 put-lanes : (h : HopParts) (p : ℕ) (cause : Option DropCause) (bucket : Option ℕ)
     → length (put_parts h p cause bucket).lanes.accepted ≡ length h.lanes.accepted
