@@ -4,6 +4,7 @@ pub mod Apart
 pub mod Cases
 pub mod Choices
 pub mod Drops
+pub mod Empties
 pub mod EndToEnd
 pub mod Entries
 pub mod Fits

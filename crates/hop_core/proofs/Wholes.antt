@@ -1,7 +1,7 @@
 -- The parts of a hop stay whole in each event.
-use Rattle.std.proofs.Common.{ℕ, ◌+◌, ◌≤◌, ◌<◌, ◌≡◌, ◌≢◌, Bool, true, false, cond, List, [], ◌∷◌, ◌++◌, Option, Some, None, length, refl, ap, ◌∙◌, sym, subst, arith, inl, inr, get_or, set, replicate}
+use Rattle.std.proofs.Common.{ℕ, ◌+◌, ◌≤◌, ◌<◌, ◌≡◌, ◌≢◌, Bool, true, false, cond, List, [], ◌∷◌, ◌++◌, Option, Some, None, length, refl, ap, ◌∙◌, sym, subst, arith, inl, inr, get_or, set, replicate, map, zero, suc}
 use Rattle.std.specs.Prelude.{nat_lt, slice_index, slice_index_or, slice_set}
-use Rattle.std.proofs.Math.ListN.{length-set}
+use Rattle.std.proofs.Math.ListN.{length-replicate, length-set}
 use Rattle.std.proofs.lemmas.Bool.{cases_Bool, lt-ltb, ltb-true}
 use Rattle.std.proofs.lemmas.List.{length-map, set-get_or}
 use Rattle.backlog.specs.Puts.{after_put, after_take, answer_by, put_answer, put_by, put_count}
@@ -12,20 +12,26 @@ use Rattle.steer_base.specs.Sets.{has}
 use Rattle.steer_base.specs.declared.choice.Chosen.{Chosen}
 use Rattle.steer_base.specs.declared.cpu_mask.CpuMask.{CpuMask}
 use Rattle.steer_base.specs.declared.put.DropCause.{DropCause}
-use Rattle.hop_core.specs.Events.{IsClassBelow, IsEmptied, put}
-use Rattle.hop_core.specs.FlowTables.{noted, table_at, with_rows}
+use Rattle.hop_core.specs.Events.{IsClassBelow, IsEmptied, happens, put}
+use Rattle.hop_core.specs.FlowTables.{FlowTables, new_tables, noted, table_at, with_rows}
 use Rattle.hop_core.specs.Hop.{HopState, accepted_at, arrivals_of, choice_of, choices_of, delivered_at, in_hand, inside_of, next_of, next_out, out_at, placed_of, pulled_at, retired_at, taken_of}
-use Rattle.hop_core.specs.Journals.{list_at, pushed}
-use Rattle.hop_core.specs.LaneTable.{LaneTable, lane_at, with_lane}
+use Rattle.hop_core.specs.Journals.{Journals, list_at, new_journals, pushed}
+use Rattle.hop_core.specs.LaneTable.{LaneTable, lane_at, new_lanes, with_lane}
+use Rattle.hop_core.specs.Shape.{IsShape, classes_for, new_hop}
+use Rattle.hop_core.specs.Sizes.{SameSizes}
 use Rattle.hop_core.specs.Sound.{Sound}
 use Rattle.hop_core.specs.View.{HopParts, state_of}
 use Rattle.hop_core.specs.Whole.{IsWhole, Tabled}
+use Rattle.hop_core.specs.declared.event.HopEvent.{HopEvent}
+use Rattle.hop_core.specs.declared.shape.HopShape.{HopShape}
 use Rattle.hop_core.proofs.Drops.{room-put}
 use Rattle.hop_core.proofs.Fits.{room-arrive, room-deliver, room-weigh}
 use Rattle.hop_core.proofs.LaneSteps.{Sound-deliver, Sound-pull, Sound-retire}
 use Rattle.hop_core.proofs.GateSteps.{Sound-resize}
+use Rattle.hop_core.proofs.New.{Sound-new, at_new}
 use Rattle.hop_core.proofs.ProducerSteps.{Sound-arrive, Sound-weigh, emptied-all}
 use Rattle.hop_core.proofs.PutSteps.{Sound-put, put_as}
+use Rattle.hop_core.proofs.Sizes.{Sizes-happens}
 use Rattle.hop_core.proofs.TableSteps.{Tabled-put, Tabled-resize, Tabled-weigh}
 
 -- ---- an arrival
@@ -215,3 +221,84 @@ whole-resize h p count named shut empty w =
       choices_room = w.choices_room;
       outs_room = w.outs_room;
     }
+
+-- ---- a new hop
+
+-- the parts of a hop in which nothing has happened
+abbrev pub new_parts : HopShape → HopParts
+new_parts shape =
+    record {
+      arrivals = new_journals shape.producers shape.room;
+      taken = replicate shape.producers 0;
+      choices = new_journals shape.producers shape.room;
+      placed = replicate shape.producers 0;
+      since = replicate shape.producers 0;
+      visits = replicate (shape.producers + shape.guests) false;
+      counts = map (classes_for shape.exact) shape.counts.items;
+      tables = new_tables shape.counts.items shape.start shape.exact;
+      lanes = new_lanes shape.lanes shape.limit shape.room shape.start shape.limited;
+      delivered = replicate shape.lanes 0;
+      retired = replicate shape.lanes 0;
+      outs = new_journals shape.outs shape.room;
+      inside = 0;
+      closed = false;
+    }
+
+new-rows : (counts : List ℕ) (start : ℕ) (exact : Bool) (p : ℕ)
+    → get_or (new_tables counts start exact).rows p [] ≡ replicate (get_or (map (classes_for exact) counts) p 0) (unset start)
+new-rows [] start exact p = refl
+new-rows (n ∷ ns) start exact zero = refl
+new-rows (n ∷ ns) start exact (suc p) = new-rows ns start exact p
+
+pub whole-new : (shape : HopShape) → IsShape shape → IsWhole (new_parts shape)
+whole-new shape is =
+    let s : HopState = new_hop shape in
+    let choices : (p : ℕ) → choices_of s p ≡ [] = λ p. at_new shape.producers p [] in
+    let rows : (p : ℕ) → get_or (new_tables shape.counts.items shape.start shape.exact).rows p [] ≡ replicate (slice_index s.counts p) (unset shape.start) =
+    λ p. new-rows shape.counts.items shape.start shape.exact p in
+    record {
+      sound = Sound-new shape is;
+      tabled = record {
+        start = refl;
+        many = rw (length-map, length-replicate) is.counts;
+        long = λ p. rw rows (length-replicate (slice_index s.counts p) (unset shape.start));
+        rows = λ p k lt. rw (rows p, choices p, at_new {X = ℕ} shape.producers p 0) (at_new (slice_index s.counts p) k (unset shape.start));
+        classes = λ p i late lt. absurd (let e : length (choices_of s p) ≡ 0 = rw (choices p) refl in omega arith);
+      };
+      actors = rw length-replicate (let p = is.few_producers in let g = is.guests in omega arith);
+      lanes = rw length-replicate is.few_lanes;
+      arrivals_room = refl;
+      choices_room = refl;
+      outs_room = refl;
+    }
+
+-- an event leaves the sizes
+pub sizes-stay : (s t : HopState) (e : HopEvent) → t ≡ (happens s e).0 → SameSizes s t
+sizes-stay s t e is = rw is (Sizes-happens s e)
+
+-- a hop whose parts are the new ones
+pub whole-made : (shape : HopShape) → IsShape shape → (arrivals : Journals ℕ) (taken : List ℕ) (choices : Journals Chosen) (placed since : List ℕ) (visits : List Bool)
+    (counts : List ℕ) (tables : FlowTables) (lanes : LaneTable) (delivered retired : List ℕ) (outs : Journals ℕ)
+    → arrivals ≡ new_journals shape.producers shape.room → taken ≡ replicate shape.producers 0 → choices ≡ new_journals shape.producers shape.room
+    → placed ≡ replicate shape.producers 0 → since ≡ replicate shape.producers 0 → visits ≡ replicate (shape.producers + shape.guests) false
+    → counts ≡ map (classes_for shape.exact) shape.counts.items → tables ≡ new_tables shape.counts.items shape.start shape.exact
+    → lanes ≡ new_lanes shape.lanes shape.limit shape.room shape.start shape.limited → delivered ≡ replicate shape.lanes 0
+    → retired ≡ replicate shape.lanes 0 → outs ≡ new_journals shape.outs shape.room
+    → IsWhole (record {
+      arrivals = arrivals;
+      taken = taken;
+      choices = choices;
+      placed = placed;
+      since = since;
+      visits = visits;
+      counts = counts;
+      tables = tables;
+      lanes = lanes;
+      delivered = delivered;
+      retired = retired;
+      outs = outs;
+      inside = 0;
+      closed = false;
+    })
+whole-made shape is arrivals taken choices placed since visits counts tables lanes delivered retired outs a b c d e f g h i j k l =
+    rw (a, b, c, d, e, f, g, h, i, j, k, l) (whole-new shape is)

@@ -2,8 +2,10 @@
 ghost use Rattle.std.specs.Prelude.{◌≡◌, ℕ, ◌+◌, ◌<◌, ◌≤◌, false, length, IfOk, map, replicate};
 ghost use Rattle.std.specs.List.{All};
 ghost use Rattle.hop_core.specs.Events.{MayAsk, happens};
+ghost use Rattle.hop_core.specs.Journals.{new_journals};
 ghost use Rattle.hop_core.specs.Reads.{FitsRoom};
 ghost use Rattle.hop_core.specs.Shape.{classes_for, most_classes, new_hop};
+ghost use Rattle.hop_core.specs.Sizes.{SameSizes};
 ghost use Rattle.hop_core.specs.Sound.{Sound};
 
 mod events;
@@ -79,19 +81,25 @@ impl Hop {
         } = shape;
         let tables = Tables::make(alloc, &counts, start, exact)?;
         let counts = class_counts(alloc, &counts, exact)?;
+        let rings = Rings::make(alloc, producers, room)?;
+        let visits = nobody(alloc, producers + guests)?;
+        let lanes_made = Lanes::make(alloc, lanes, limit, room, start, limited)?;
+        let delivered = zeros(alloc, lanes)?;
+        let retired = zeros(alloc, lanes)?;
+        let outs = Journals::make(alloc, outs, room)?;
         Ok(Hop {
-            arrivals: Journals::make(alloc, producers, room)?,
-            taken: zeros(alloc, producers)?,
-            choices: Journals::make(alloc, producers, room)?,
-            placed: zeros(alloc, producers)?,
-            since: zeros(alloc, producers)?,
-            visits: nobody(alloc, producers + guests)?,
+            arrivals: rings.arrivals,
+            taken: rings.taken,
+            choices: rings.choices,
+            placed: rings.placed,
+            since: rings.since,
+            visits,
             counts,
             tables,
-            lanes: Lanes::make(alloc, lanes, limit, room, start, limited)?,
-            delivered: zeros(alloc, lanes)?,
-            retired: zeros(alloc, lanes)?,
-            outs: Journals::make(alloc, outs, room)?,
+            lanes: lanes_made,
+            delivered,
+            retired,
+            outs,
             inside: 0,
             closed: false,
         })
@@ -99,6 +107,16 @@ impl Hop {
 
     /// One step of one actor. It takes no memory.
     pub fn step(&mut self, e: HopEvent) -> HopAnswer
+        requires { MayAsk self.old e }
+        ensures state { self.new ≡ (happens self.old e).0 }
+        ensures answer { result ≡ (happens self.old e).1 }
+        ensures sizes { SameSizes self.old self.new }
+    {
+        self.act(e)
+    }
+
+    // The step, by the events one by one.
+    fn act(&mut self, e: HopEvent) -> HopAnswer
         requires { MayAsk self.old e }
         ensures state { self.new ≡ (happens self.old e).0 }
         ensures answer { result ≡ (happens self.old e).1 }
@@ -131,6 +149,35 @@ impl Hop {
         ensures fits { FitsRoom self.now }
     {
         let _ = &self.closed;
+    }
+}
+
+// What is kept of each producer: its ring and how far it is in it, its choices and how far these are put and cleared.
+#[derive(Drop)]
+struct Rings {
+    arrivals: Journals<PacketId>,
+    taken: Vec<u32>,
+    choices: Journals<Chosen>,
+    placed: Vec<u32>,
+    since: Vec<u32>,
+}
+
+impl Rings {
+    fn make(alloc: Global, producers: u8, room: u32) -> Result<Rings, OutOfMemory>
+        requires { room ≤ 262144 }
+        ensures arrivals { IfOk result (λ rings. rings.arrivals ≡ new_journals producers room) }
+        ensures taken { IfOk result (λ rings. rings.taken.items ≡ replicate producers 0) }
+        ensures choices { IfOk result (λ rings. rings.choices ≡ new_journals producers room) }
+        ensures placed { IfOk result (λ rings. rings.placed.items ≡ replicate producers 0) }
+        ensures since { IfOk result (λ rings. rings.since.items ≡ replicate producers 0) }
+    {
+        Ok(Rings {
+            arrivals: Journals::make(alloc, producers, room)?,
+            taken: zeros(alloc, producers)?,
+            choices: Journals::make(alloc, producers, room)?,
+            placed: zeros(alloc, producers)?,
+            since: zeros(alloc, producers)?,
+        })
     }
 }
 
