@@ -1,7 +1,7 @@
 //! What callers read of a hop.
-ghost use Rattle.std.specs.Prelude.{◌≡◌, ℕ, ◌-◌, ◌<◌, length, slice_get, slice_index};
+ghost use Rattle.std.specs.Prelude.{◌≡◌, ◌↔◌, ℕ, ◌-◌, ◌<◌, IsOk, length, slice_get, slice_index};
 ghost use Rattle.steer_base.specs.Choices.{class_of};
-ghost use Rattle.hop_core.specs.Emptied.{emptied};
+ghost use Rattle.hop_core.specs.Emptied.{AreEmptied, emptied};
 ghost use Rattle.hop_core.specs.Hop.{accepted_at, head_at, inside_of, out_at, pulled_at, retired_at, tail_at, taken_of};
 ghost use Rattle.hop_core.specs.Reads.{last_choice, to_deliver, to_weigh};
 
@@ -11,7 +11,8 @@ use steer_base::{Busy, Chosen, CpuMask, PacketId};
 impl Hop {
     /// Whether each of these lanes is empty; else the first one that is not, with the numbers of its head and tail.
     pub fn emptied(&self, lanes: CpuMask) -> Result<(), Busy>
-        ensures { result ≡ emptied self.now lanes }
+        ensures answer { result ≡ emptied self.now lanes }
+        ensures ok { IsOk result ↔ AreEmptied self.now lanes }
     {
         for lane in 0..self.lanes.count() {
             let (head, tail) = (self.head(lane), self.tail(lane));
