@@ -10,6 +10,8 @@ ghost use Rattle.hop_core.specs.Sound.{Sound};
 
 mod events;
 mod readers;
+#[cfg(test)]
+mod tests;
 
 use crate::journals::Journals;
 use crate::lanes::Lanes;

@@ -51,6 +51,20 @@ impl<T: Copy> Journals<T> {
         list.push(item).unwrap();
     }
 
+    /// The number of lists.
+    pub fn count(&self) -> usize
+        ensures { result ≡ length self.now.lists }
+    {
+        self.lists.len()
+    }
+
+    /// How many items each list has room for.
+    pub fn room(&self) -> u32
+        ensures { result ≡ self.now.room }
+    {
+        self.room
+    }
+
     /// The number of items of a list.
     pub fn len_of(&self, i: u8) -> u32
         requires { i < length self.now.lists }
