@@ -18,7 +18,7 @@ use Rattle.hop_core.proofs.Fits.{fits_room}
 same_number : (start a b : ℕ) → start < 2 ^ 32 → a ≤ 262144 → b ≤ 262144 → number start a ≡ number start b → a ≡ b
 same_number start a b s ha hb e = omega arith
 
-head_is_tail : (s : HopState) (c : ℕ) → Sound s → head_at s.fixed.start s.bare c ≡ tail_at s.fixed.start s.bare c → retired_at s.bare c ≡ length (accepted_at s.bare c)
+pub head_is_tail : (s : HopState) (c : ℕ) → Sound s → head_at s.fixed.start s.bare c ≡ tail_at s.fixed.start s.bare c → retired_at s.bare c ≡ length (accepted_at s.bare c)
 head_is_tail s c h e =
     let f = (fits_room s h).puts c in let r = h.small.room in
     let a = h.counts.retired_first c in let b = h.counts.delivered_first c in let d = h.counts.pulled_first c in
