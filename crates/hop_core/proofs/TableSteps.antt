@@ -127,7 +127,8 @@ Tabled-put s p None bucket tables named more h t =
     let rows : List Entry = (noted (table_at tables p) c.choice.class (At n)).rows in
     let cht : Changed (λ q. slice_index_or tables.rows q []) (λ q. slice_index_or (set tables.rows p rows) q []) p rows =
     Changed-set tables.rows p rows [] (let m = t.many in omega arith) in
-    let ok = class-of_table (table_at tables p) (slice_index s.counts p) c.choice.class (t.long p) (t.classes p (placed_of s p) (h.hands.past p) more) in
+    let ok : IsClassOf (table_at tables p) c.choice.class =
+    class-of_table (table_at tables p) (slice_index s.counts p) c.choice.class (t.long p) (t.classes p (placed_of s p) (h.hands.past p) more) in
     record {
       start = t.start;
       many = length-set tables.rows p rows ∙ t.many;
@@ -146,6 +147,12 @@ Tabled-put s p None bucket tables named more h t =
       ];
       classes = t.classes;
     }
+
+-- the class of the packet in hand is one of its table's
+pub IsClassOf-in_hand : (s : HopState) (p : ℕ) (tables : FlowTables) → placed_of s p < length (choices_of s p) → Sound s → Tabled s tables
+    → IsClassOf (table_at tables p) (in_hand s p).choice.class
+IsClassOf-in_hand s p tables more h t =
+    class-of_table (table_at tables p) (slice_index s.counts p) (in_hand s p).choice.class (t.long p) (t.classes p (placed_of s p) (h.hands.past p) more)
 
 is_set-class : (s : HopState) (p : ℕ) (tables : FlowTables) (class : Option ℕ) → (in_hand s p).choice.class ≡ class
     → placed_of s p < length (choices_of s p) → Sound s → Tabled s tables → IsSet (table_at tables p) class

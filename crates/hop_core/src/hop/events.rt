@@ -106,7 +106,8 @@ impl Hop {
         ensures state { self.new ≡ (put self.old p hash).0 }
         ensures answer { result ≡ (put self.old p hash).1 }
     {
-        if !self.visits[p as usize] {
+        let inside = self.visits[p as usize];
+        if !inside {
             return HopAnswer::Idle(Idle::NotInside);
         }
         let placed = self.placed[p as usize];

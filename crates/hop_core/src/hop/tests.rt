@@ -463,7 +463,7 @@ fn the_gate_closes_where_nobody_is_inside(rt: HostRuntime) -> Result<(), Fail> {
 #[test]
 fn the_largest_hop_is_made(rt: HostRuntime) -> Result<(), Fail> {
     let mut counts = Vec::with_capacity(rt.alloc(), 32)?;
-    for _ in 0..32 {
+    for _ in 0..32u8 {
         counts.push(262144u32)?;
     }
     let shape = HopShape {

@@ -2,7 +2,7 @@ use Rattle.std.proofs.Common.{◌≡◌, ℕ, ◌<◌, length, [], arith, get_or
 use Rattle.std.proofs.lemmas.List.{get_or_default}
 use Rattle.hop_core.specs.Hop.{nobody}
 use Rattle.hop_core.specs.View.{HopParts}
-use Rattle.hop_core.proofs.TableSteps.{IsSet-in_hand}
+use Rattle.hop_core.proofs.TableSteps.{IsClassOf-in_hand, IsSet-in_hand}
 use Rattle.hop_core.proofs.Wholes.{fits-put, state_of-put_enabled, whole-put}
 use Rattle.hop_core.proofs.hop.Hop.put.Goals as goal
 
@@ -16,6 +16,20 @@ put-went-requires-clause-room c =
     let l = c.len_of.ensures.len in
     let more : get_or i.placed.items c.args.p 0 < length (get_or i.choices.lists c.args.p []) = omega (arith, c.if-placed-len_of.false) in
     fits-put _ c.args.p c.get-chosen.result.choice.lane more c.self.invariant
+
+pub note-requires-clause-class : goal.note-requires-clause-class
+note-requires-clause-class c =
+    let i = c.self.inside in
+    let w = c.self.invariant.sound.wide in
+    let named : c.args.p < length i.arrivals.lists = rw (← c.self.view_is) at c.requires.producer in
+    let e : c.index-placed.result.now ≡ get_or i.placed.items c.args.p 0 =
+    c.index-placed.ensures ∙ get_or_default i.placed.items c.args.p c.index-placed.result.now 0 (omega arith) in
+    let l = c.len_of.ensures.len in
+    let more : get_or i.placed.items c.args.p 0 < length (get_or i.choices.lists c.args.p []) = omega (arith, c.if-placed-len_of.false) in
+    let chosen : c.get-chosen.result ≡ get_or (get_or i.choices.lists c.args.p []) (get_or i.placed.items c.args.p 0) nobody =
+    c.get-chosen.ensures ∙ get_or_default (get_or i.choices.lists c.args.p []) c.index-placed.result.now c.get-chosen.result nobody (omega arith)
+    ∙ ap (λ k. get_or (get_or i.choices.lists c.args.p []) k nobody) e in
+    rw chosen (IsClassOf-in_hand _ c.args.p i.tables more c.self.invariant.sound c.self.invariant.tabled)
 
 pub note-requires-clause-set : goal.note-requires-clause-set
 note-requires-clause-set c =
@@ -41,7 +55,7 @@ invariant_of-self c =
     let l = c.len_of.ensures.len in
     let more : get_or i.placed.items c.args.p 0 < length (get_or i.choices.lists c.args.p []) = omega (arith, c.if-placed-len_of.false) in
     let inside : get_or i.visits.items c.args.p false ≡ true =
-    sym (c.index.ensures ∙ get_or_default i.visits.items c.args.p c.index.result.now false (omega arith)) ∙ c.if-not-index.false in
+    sym (c.index-inside.ensures ∙ get_or_default i.visits.items c.args.p c.index-inside.result.now false (omega arith)) ∙ c.if-not-inside.false in
     let chosen : c.get-chosen.result ≡ get_or (get_or i.choices.lists c.args.p []) (get_or i.placed.items c.args.p 0) nobody =
     c.get-chosen.ensures ∙ get_or_default (get_or i.choices.lists c.args.p []) c.index-placed.result.now c.get-chosen.result nobody (omega arith)
     ∙ ap (λ k. get_or (get_or i.choices.lists c.args.p []) k nobody) e in
@@ -76,7 +90,7 @@ returns-clause-state c =
     let l = c.len_of.ensures.len in
     let more : get_or i.placed.items c.args.p 0 < length (get_or i.choices.lists c.args.p []) = omega (arith, c.if-placed-len_of.false) in
     let inside : get_or i.visits.items c.args.p false ≡ true =
-    sym (c.index.ensures ∙ get_or_default i.visits.items c.args.p c.index.result.now false (omega arith)) ∙ c.if-not-index.false in
+    sym (c.index-inside.ensures ∙ get_or_default i.visits.items c.args.p c.index-inside.result.now false (omega arith)) ∙ c.if-not-inside.false in
     let chosen : c.get-chosen.result ≡ get_or (get_or i.choices.lists c.args.p []) (get_or i.placed.items c.args.p 0) nobody =
     c.get-chosen.ensures ∙ get_or_default (get_or i.choices.lists c.args.p []) c.index-placed.result.now c.get-chosen.result nobody (omega arith)
     ∙ ap (λ k. get_or (get_or i.choices.lists c.args.p []) k nobody) e in
