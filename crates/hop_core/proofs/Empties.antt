@@ -1,7 +1,7 @@
 -- A loop over the lanes that looks for the first one that is not empty.
 use Rattle.std.proofs.Common.{ℕ, ◌+◌, ◌≤◌, ◌<◌, ◌≡◌, ◌≢◌, Bool, true, false, List, [], ◌∷◌, length, ◌++◌, ◌-◌, ◌⊎◌, refl, ap, ◌∙◌, sym, arith, inl, inr, cond, zero, suc, append_assoc}
-use Rattle.std.specs.Prelude.{◌↔◌, Err, IsOk, not, ◌&&◌, ◌==◌, ◌^◌, Ok}
-use Rattle.std.proofs.lemmas.Bool.{cases_Bool, cases_eq, eq-eqb, eqb-true, ne_eqb, not-false}
+use Rattle.std.specs.Prelude.{◌↔◌, Err, IsOk, not, ◌==◌, ◌^◌, Ok}
+use Rattle.std.proofs.lemmas.Bool.{cases_Bool, cases_eq, eq-eqb, ne_eqb}
 use Rattle.std.proofs.lemmas.List.{length-append}
 use Rattle.steer_base.specs.Counters.{number}
 use Rattle.steer_base.specs.Sets.{has, those_below}

@@ -1,11 +1,11 @@
 -- A hop's lists fit its room, since distinct packets below the room are at most as many.
-use Rattle.std.proofs.Common.{ℕ, ◌+◌, ◌-◌, ◌≤◌, ◌<◌, ◌≡◌, ◌≢◌, ◌⊎◌, List, [], ◌∷◌, ◌++◌, length, refl, ap, ◌∙◌, sym, arith, inl, inr, get_or, map}
+use Rattle.std.proofs.Common.{ℕ, ◌+◌, ◌-◌, ◌≤◌, ◌<◌, ◌≡◌, ◌≢◌, ◌⊎◌, List, [], ◌∷◌, ◌++◌, length, ◌∙◌, sym, arith, inl, inr, get_or}
 use Rattle.std.specs.Prelude.{slice_index}
 use Rattle.std.proofs.Math.ListN.{get_or-append}
 use Rattle.std.proofs.Math.Seq.{get_or-append_right}
 use Rattle.std.proofs.lemmas.Bool.{cases_lt}
 use Rattle.std.proofs.lemmas.List.{length-append, length-map}
-use Rattle.hop_core.specs.Hop.{HopState, accepted_at, arrivals_of, arrived, choices_of, chosen_at, deliver_at, delivered_at, drops_at, fell_at, out_at, placed_of, pulled_at, taken_of, with_bare}
+use Rattle.hop_core.specs.Hop.{HopState, accepted_at, arrivals_of, arrived, choices_of, deliver_at, delivered_at, fell_at, out_at, placed_of, pulled_at, taken_of, with_bare}
 use Rattle.hop_core.specs.Reads.{FitsRoom}
 use Rattle.hop_core.specs.Sound.{Puts, Sound}
 use Rattle.hop_core.proofs.LaneSteps.{Sound-deliver}

@@ -1,12 +1,11 @@
 -- One of many lanes, tables or lists was changed, seen in the lists of them all.
-use Rattle.std.proofs.Common.{ℕ, ◌+◌, ◌≤◌, ◌<◌, ◌≡◌, Bool, List, [], ◌∷◌, ◌++◌, length, refl, ap, ◌∙◌, sym, arith, zero, suc, get_or, set, map, replicate, inl, inr}
+use Rattle.std.proofs.Common.{ℕ, ◌+◌, ◌<◌, ◌≡◌, Bool, List, [], ◌∷◌, ◌++◌, length, refl, ap, ◌∙◌, sym, arith, get_or, set, map, replicate, inl, inr}
 use Rattle.std.proofs.Math.Seq.{map-set, get_or-append_seam}
 use Rattle.std.proofs.Math.ListN.{length-set, get_or-append}
 use Rattle.std.proofs.lemmas.List.{get_or-map, get_or-set_same, get_or-set_other, length-append, map-append, replicate-append-replicate}
 use Rattle.std.proofs.lemmas.Bool.{cases_eq}
 use Rattle.steer_base.specs.Lanes.{LaneLists}
 use Rattle.steer_base.specs.Sets.{has}
-use Rattle.steer_base.specs.declared.choice.Entry.{Entry}
 use Rattle.steer_base.specs.declared.cpu_mask.CpuMask.{CpuMask}
 use Rattle.backlog.specs.Puts.{SameShape, new_lane}
 use Rattle.dev_flow_table.specs.Tables.{Table}

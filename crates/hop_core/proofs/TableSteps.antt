@@ -1,8 +1,6 @@
 -- The flow tables hold the entries of the lists after each event that changes these.
-use Rattle.std.proofs.Common.{ℕ, ◌+◌, ◌≤◌, ◌<◌, ◌≡◌, ◌≢◌, Bool, true, false, cond, List, [], ◌∷◌, ◌++◌, Option, Some, None, length, refl, ap, ◌∙◌, sym, subst, arith, inl, inr, get_or, set, take, drop, replicate, eqb}
-use Rattle.std.specs.Prelude.{slice_index, slice_index_or, slice_set}
-use Rattle.std.specs.List.{All}
-use Rattle.std.specs.Option.{IsSome}
+use Rattle.std.proofs.Common.{ℕ, ◌+◌, ◌<◌, ◌≡◌, true, false, cond, List, [], ◌∷◌, ◌++◌, Option, Some, None, length, refl, ap, ◌∙◌, sym, subst, arith, inl, inr, get_or, set, take, drop, replicate, eqb}
+use Rattle.std.specs.Prelude.{slice_index, slice_index_or}
 use Rattle.std.proofs.Math.ListN.{length-replicate, length-set}
 use Rattle.std.proofs.Math.Seq.{drop-length}
 use Rattle.std.proofs.lemmas.Bool.{cases_eq, cases_Bool, eq-eqb, ne_eqb}
@@ -22,7 +20,7 @@ use Rattle.steer_base.specs.declared.put.DropCause.{DropCause}
 use Rattle.steer_base.specs.declared.put.Put.TheVariants.{At, Dropped}
 use Rattle.hop_core.specs.Events.{IsClassBelow}
 use Rattle.hop_core.specs.FlowTables.{FlowTables, IsSet, LanesBelow, noted, table_at, with_rows}
-use Rattle.hop_core.specs.Hop.{HopState, accepted_at, choice_of, choices_of, chose, chosen_at, head_at, in_hand, lane_of, next_of, nobody, placed_of, recent, resized, retired_at, since_of, taken_of}
+use Rattle.hop_core.specs.Hop.{HopState, accepted_at, choice_of, choices_of, chose, head_at, in_hand, lane_of, next_of, nobody, placed_of, recent, resized, retired_at, since_of, taken_of}
 use Rattle.hop_core.specs.Sound.{Sound}
 use Rattle.hop_core.specs.Whole.{Tabled}
 use Rattle.hop_core.proofs.Choices.{put_positions}

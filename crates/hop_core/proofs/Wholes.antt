@@ -1,12 +1,11 @@
 -- The parts of a hop stay whole in each event.
-use Rattle.std.proofs.Common.{ℕ, ◌+◌, ◌≤◌, ◌<◌, ◌≡◌, ◌≢◌, Bool, true, false, cond, List, [], ◌∷◌, ◌++◌, Option, Some, None, length, refl, ap, ◌∙◌, sym, subst, arith, inl, inr, get_or, set, replicate, map, zero, suc}
+use Rattle.std.proofs.Common.{ℕ, ◌+◌, ◌≤◌, ◌<◌, ◌≡◌, ◌≢◌, Bool, true, false, cond, List, [], ◌∷◌, ◌++◌, Option, Some, None, length, refl, ◌∙◌, sym, subst, arith, inl, inr, get_or, set, replicate, map, zero, suc}
 use Rattle.std.specs.Prelude.{nat_lt, slice_index, slice_index_or, slice_set}
 use Rattle.std.proofs.Math.ListN.{length-replicate, length-set}
 use Rattle.std.proofs.lemmas.Bool.{cases_Bool, lt-ltb, ltb-true}
 use Rattle.std.proofs.lemmas.List.{length-map, set-get_or}
-use Rattle.backlog.specs.Puts.{after_put, after_take, answer_by, put_answer, put_by, put_count}
+use Rattle.backlog.specs.Puts.{after_take, answer_by, put_by, put_count}
 use Rattle.dev_flow_table.specs.Tables.{unset, weighed}
-use Rattle.steer_base.specs.Counters.{rounded_up}
 use Rattle.steer_base.specs.Drops.{bucket_of, lane_drop_cause}
 use Rattle.steer_base.specs.Sets.{has}
 use Rattle.steer_base.specs.declared.choice.Chosen.{Chosen}
@@ -14,7 +13,7 @@ use Rattle.steer_base.specs.declared.cpu_mask.CpuMask.{CpuMask}
 use Rattle.steer_base.specs.declared.put.DropCause.{DropCause}
 use Rattle.hop_core.specs.Events.{IsClassBelow, IsEmptied, happens, put}
 use Rattle.hop_core.specs.FlowTables.{FlowTables, new_tables, noted, table_at, with_rows}
-use Rattle.hop_core.specs.Hop.{HopState, accepted_at, arrivals_of, choice_of, choices_of, delivered_at, in_hand, inside_of, next_of, next_out, out_at, placed_of, pulled_at, retired_at, taken_of}
+use Rattle.hop_core.specs.Hop.{HopState, arrivals_of, choice_of, choices_of, delivered_at, in_hand, inside_of, next_of, next_out, placed_of, pulled_at, retired_at, taken_of}
 use Rattle.hop_core.specs.Journals.{Journals, list_at, new_journals, pushed}
 use Rattle.hop_core.specs.LaneTable.{LaneTable, lane_at, new_lanes, with_lane}
 use Rattle.hop_core.specs.Shape.{IsShape, classes_for, new_hop}

@@ -18,86 +18,83 @@ const SECOND: u32 = 0xc626_b0ea;
 
 const ALL: CpuMask = CpuMask(0b1111);
 
-impl Hop {
-    // Whether the packet is new to the hop.
-    fn is_new(&self, id: PacketId) -> bool
-        ensures { IsTrue result → (q i : ℕ) → i < length (arrivals_of self.now q) → slice_index (arrivals_of self.now q) i ≢ id }
-    {
-        for p in 0..self.taken.len() {
-            for n in 0..self.arrivals.len_of(p as u8) {
-                if self.arrivals.get(p as u8, n) == id {
-                    return false;
-                }
-            }
-        }
-        true
-    }
-
-    // Whether each lane that is offline is empty.
-    fn is_empty_but(&self, online: CpuMask) -> bool
-        ensures { IsTrue result → (c : ℕ) → c < length self.now.bare.accepted → has online c ≡ false → IsEmptied self.now.bare c }
-    {
-        for lane in 0..self.lanes.count() {
-            let (head, tail) = (self.head(lane), self.tail(lane));
-            if !online.has(lane) && head != tail {
+// Whether the packet is new to the hop.
+fn is_new(hop: &Hop, id: PacketId) -> bool
+    ensures { IsTrue result → (q i : ℕ) → i < length (arrivals_of hop.now q) → slice_index (arrivals_of hop.now q) i ≢ id }
+{
+    for p in 0..hop.taken.len() {
+        for n in 0..hop.arrivals.len_of(p as u8) {
+            if hop.arrivals.get(p as u8, n) == id {
                 return false;
             }
         }
-        true
     }
+    true
+}
 
-    // Whether the class, where there is one, is one of the producer's.
-    fn has_class(&self, p: u8, class: Option<u32>) -> bool
-        requires { p < length self.now.arrivals }
-        ensures { IsTrue result → IsClassBelow (slice_index self.now.counts p) class }
-    {
-        match class {
-            Some(class) => class < self.counts[p as usize],
-            None => true,
+// Whether each lane that is offline is empty.
+fn is_empty_but(hop: &Hop, online: CpuMask) -> bool
+    ensures { IsTrue result → (c : ℕ) → c < length hop.now.bare.accepted → has online c ≡ false → IsEmptied hop.now.bare c }
+{
+    for lane in 0..hop.lanes.count() {
+        let (head, tail) = (hop.head(lane), hop.tail(lane));
+        if !online.has(lane) && head != tail {
+            return false;
         }
     }
+    true
+}
 
-    // Whether the event may be asked; a resize is not asked here.
-    fn may_ask(&self, e: HopEvent) -> bool
-        ensures { IsTrue result → MayAsk self.now e }
-    {
-        let producers = self.taken.len();
-        let actors = self.visits.len();
-        let lanes = self.lanes.count();
-        match e {
-            HopEvent::Arrive { p, id } => {
-                (p as usize) < producers && id.0 < self.arrivals.room() && self.is_new(id)
-            }
-            HopEvent::Take { p } => (p as usize) < producers,
-            HopEvent::Enter { p } => (p as usize) < actors,
-            HopEvent::Leave { p } => (p as usize) < actors,
-            HopEvent::Weigh {
-                p,
-                class,
-                desired,
-                online,
-                ..
-            } => {
-                (p as usize) < producers
-                    && desired < lanes
-                    && self.has_class(p, class)
-                    && online.has(desired)
-                    && self.is_empty_but(online)
-            }
-            HopEvent::Put { p, .. } => (p as usize) < producers,
-            HopEvent::Pull { lane } => lane < lanes,
-            HopEvent::Deliver { lane, to } => lane < lanes && (to as usize) < self.outs.count(),
-            HopEvent::Retire { lane } => lane < lanes,
-            HopEvent::Resize { .. } => false,
-            HopEvent::Close => !self.closed,
-            HopEvent::Reopen => self.closed,
-        }
+// Whether the class, where there is one, is one of the producer's.
+fn has_class(hop: &Hop, p: u8, class: Option<u32>) -> bool
+    requires { p < length hop.now.arrivals }
+    ensures { IsTrue result → IsClassBelow (slice_index hop.now.counts p) class }
+{
+    match class {
+        Some(class) => class < hop.counts[p as usize],
+        None => true,
     }
 }
 
+// Whether the event may be asked; a resize is not asked here.
+fn may_ask(hop: &Hop, e: HopEvent) -> bool
+    ensures { IsTrue result → MayAsk hop.now e }
+{
+    let producers = hop.taken.len();
+    let actors = hop.visits.len();
+    let lanes = hop.lanes.count();
+    match e {
+        HopEvent::Arrive { p, id } => {
+            (p as usize) < producers && id.0 < hop.arrivals.room() && is_new(hop, id)
+        }
+        HopEvent::Take { p } => (p as usize) < producers,
+        HopEvent::Enter { p } => (p as usize) < actors,
+        HopEvent::Leave { p } => (p as usize) < actors,
+        HopEvent::Weigh {
+            p,
+            class,
+            desired,
+            online,
+            ..
+        } => {
+            (p as usize) < producers
+                && desired < lanes
+                && has_class(hop, p, class)
+                && online.has(desired)
+                && is_empty_but(hop, online)
+        }
+        HopEvent::Put { p, .. } => (p as usize) < producers,
+        HopEvent::Pull { lane } => lane < lanes,
+        HopEvent::Deliver { lane, to } => lane < lanes && (to as usize) < hop.outs.count(),
+        HopEvent::Retire { lane } => lane < lanes,
+        HopEvent::Resize { .. } => false,
+        HopEvent::Close => !hop.closed,
+        HopEvent::Reopen => hop.closed,
+    }
+}
 // Plays an event that may be asked.
 fn ask(rt: &impl Abort, hop: &mut Hop, e: HopEvent) -> HopAnswer {
-    assert!(rt; hop.may_ask(e), "{e:?} may be asked");
+    assert!(rt; may_ask(hop, e), "{e:?} may be asked");
     hop.step(e)
 }
 

@@ -1,4 +1,3 @@
-use Rattle.std.proofs.Common.{◌≡◌, ℕ, ◌<◌, length}
 use Rattle.hop_core.proofs.Wholes.{fits-arrive, whole-arrive}
 use Rattle.hop_core.proofs.hop.Hop.arrive.Goals as goal
 

@@ -1,4 +1,4 @@
-use Rattle.std.proofs.Common.{◌≡◌, ℕ, ◌<◌, length, arith, get_or, ap, ◌∙◌}
+use Rattle.std.proofs.Common.{◌≡◌, ◌<◌, length, arith, get_or, ◌∙◌}
 use Rattle.std.proofs.lemmas.List.{get_or_default}
 use Rattle.hop_core.proofs.Wholes.{fits-deliver, whole-deliver}
 use Rattle.hop_core.proofs.hop.Hop.deliver.Goals as goal

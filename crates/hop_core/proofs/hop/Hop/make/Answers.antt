@@ -1,4 +1,4 @@
-use Rattle.std.proofs.Common.{◌≡◌, ℕ, map, ap, ◌∙◌}
+use Rattle.std.proofs.Common.{map, ap, ◌∙◌}
 use Rattle.hop_core.specs.FlowTables.{new_tables}
 use Rattle.hop_core.specs.Shape.{IsShape, classes_for}
 use Rattle.hop_core.proofs.Wholes.{whole-made}

@@ -1,4 +1,4 @@
-use Rattle.std.proofs.Common.{◌≡◌, ℕ, ◌<◌, ◌≤◌, Option, Some, None, length, arith, get_or, refl, sym, ◌∙◌, inl, inr}
+use Rattle.std.proofs.Common.{◌≡◌, ℕ, ◌<◌, ◌≤◌, Some, None, length, arith, get_or, refl, sym, ◌∙◌, inl, inr}
 use Rattle.std.specs.List.{slice_get}
 use Rattle.std.proofs.lemmas.Bool.{le-ltb, lt-ltb}
 use Rattle.std.proofs.lemmas.List.{get_or_default}
@@ -6,7 +6,6 @@ use Rattle.std.proofs.lemmas.Option.{get_or_from_slice_get, slice_get_cases, sli
 use Rattle.steer_base.specs.declared.idle.Idle.TheVariants as idle
 use Rattle.hop_core.specs.Events.{pull}
 use Rattle.hop_core.specs.Hop.{HopState, accepted_at, pulled_at, retired_at}
-use Rattle.hop_core.specs.declared.event.HopAnswer.{HopAnswer}
 use Rattle.hop_core.specs.declared.event.HopAnswer.TheVariants as answer
 use Rattle.hop_core.proofs.Wholes.{whole-pull}
 use Rattle.hop_core.proofs.hop.Hop.pull.Goals as goal

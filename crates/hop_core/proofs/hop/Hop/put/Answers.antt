@@ -1,4 +1,4 @@
-use Rattle.std.proofs.Common.{◌≡◌, ℕ, ◌<◌, length, [], arith, get_or, sym, ap, ◌∙◌, true, false}
+use Rattle.std.proofs.Common.{◌≡◌, ◌<◌, length, [], arith, get_or, sym, ap, ◌∙◌, true, false}
 use Rattle.std.proofs.lemmas.List.{get_or_default}
 use Rattle.hop_core.specs.Hop.{nobody}
 use Rattle.hop_core.specs.View.{HopParts}

@@ -1,4 +1,3 @@
-use Rattle.std.proofs.Common.{◌≡◌, ℕ, ◌<◌, length, ap, ◌∙◌}
 use Rattle.hop_core.proofs.Wholes.{whole-resize}
 use Rattle.hop_core.proofs.hop.Hop.resize.Goals as goal
 

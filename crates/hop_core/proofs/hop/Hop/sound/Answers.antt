@@ -1,7 +1,4 @@
-use Rattle.std.proofs.Common.{ap, subst}
-use Rattle.hop_core.specs.Reads.{FitsRoom}
 use Rattle.hop_core.proofs.Fits.{fits_room}
-use Rattle.hop_core.proofs.TableSteps.{Tabled-put}
 use Rattle.hop_core.proofs.hop.Hop.sound.Goals as goal
 
 pub returns-clause-fits : goal.returns-clause-fits

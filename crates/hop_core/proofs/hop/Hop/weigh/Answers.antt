@@ -1,6 +1,5 @@
-use Rattle.std.proofs.Common.{◌≡◌, ℕ, ◌<◌, length, [], arith, get_or, sym, ap, ◌∙◌, true, false}
+use Rattle.std.proofs.Common.{◌≡◌, ◌<◌, length, [], arith, get_or, sym, ap, ◌∙◌, true, false}
 use Rattle.std.proofs.lemmas.List.{get_or_default}
-use Rattle.hop_core.proofs.Fits.{room-weigh}
 use Rattle.hop_core.proofs.TableSteps.{LanesBelow-tables, choice-by_table}
 use Rattle.hop_core.proofs.Wholes.{fits-weigh, whole-weigh}
 use Rattle.hop_core.proofs.hop.Hop.weigh.Goals as goal

@@ -1,4 +1,4 @@
-use Rattle.std.proofs.Common.{◌≡◌, ℕ, ◌≤◌, [], List, length, map, replicate, vec_capacity}
+use Rattle.std.proofs.Common.{◌≡◌, ◌≤◌, [], length, map, replicate, vec_capacity}
 use Rattle.std.specs.List.{All}
 use Rattle.hop_core.proofs.journals.Journals.make.Given as goal
 

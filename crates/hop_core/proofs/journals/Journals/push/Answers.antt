@@ -1,4 +1,4 @@
-use Rattle.std.proofs.Common.{◌≡◌, ℕ, ◌<◌, ◌∷◌, ◌++◌, [], List, length, map, arith, ap, sym, ◌∙◌, get_or}
+use Rattle.std.proofs.Common.{◌≡◌, ◌<◌, ◌∷◌, ◌++◌, [], length, arith, ap, get_or}
 use Rattle.std.proofs.lemmas.List.{length-map}
 use Rattle.hop_core.specs.Journals.{journals}
 use Rattle.hop_core.proofs.journals.Journals.push.Goals as goal

@@ -1,4 +1,4 @@
-use Rattle.std.proofs.Common.{◌≡◌, ℕ, List, [], length, map, replicate}
+use Rattle.std.proofs.Common.{◌≡◌, [], length, map, replicate}
 use Rattle.hop_core.specs.LaneTable.{AreShaped}
 use Rattle.hop_core.proofs.lanes.Lanes.make.Given as goal
 

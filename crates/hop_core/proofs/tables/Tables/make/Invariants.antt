@@ -1,4 +1,4 @@
-use Rattle.std.proofs.Common.{◌≡◌, ℕ, List, map, replicate, take}
+use Rattle.std.proofs.Common.{◌≡◌, map, replicate, take}
 use Rattle.std.specs.List.{All}
 use Rattle.dev_flow_table.specs.Tables.{unset}
 use Rattle.hop_core.specs.Shape.{classes_for}

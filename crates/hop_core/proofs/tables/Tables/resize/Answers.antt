@@ -1,4 +1,4 @@
-use Rattle.std.proofs.Common.{◌≡◌, ℕ, ◌<◌, List, false, length, replicate, ap, ◌∙◌}
+use Rattle.std.proofs.Common.{◌<◌, false, length, replicate, ap, ◌∙◌}
 use Rattle.std.proofs.lemmas.List.{length-map}
 use Rattle.steer_base.specs.Counters.{rounded_up}
 use Rattle.dev_flow_table.specs.Tables.{Table, cleared, unset}
