@@ -1,0 +1,113 @@
+-- A loop over the lanes that looks for the first one that is not empty.
+use Rattle.std.proofs.Common.{ℕ, ◌+◌, ◌≤◌, ◌<◌, ◌≡◌, ◌≢◌, Bool, true, false, List, [], ◌∷◌, length, ◌++◌, ◌-◌, ◌⊎◌, refl, ap, ◌∙◌, sym, arith, inl, inr, cond, zero, suc, append_assoc}
+use Rattle.std.specs.Prelude.{◌↔◌, Err, IsOk, not, ◌==◌, ◌^◌, Ok}
+use Rattle.std.proofs.lemmas.Bool.{cases_Bool, cases_eq, eq-eqb, ne_eqb}
+use Rattle.std.proofs.lemmas.List.{length-append}
+use Rattle.steer_base.specs.Counters.{number}
+use Rattle.steer_base.specs.Sets.{has, those_below}
+use Rattle.steer_base.specs.declared.command.Busy.TheVariants.{NotEmpty}
+use Rattle.steer_base.specs.declared.cpu_mask.CpuMask.{CpuMask}
+use Rattle.steer_base.proofs.SetsLemmas.{those_below-more, those_below-zero, those_below_fail}
+use Rattle.hop_core.specs.Emptied.{AreEmptied, emptied, first_busy, is_waiting, waiting}
+use Rattle.hop_core.specs.Events.{IsEmptied}
+use Rattle.hop_core.specs.Hop.{HopState, accepted_at, head_at, retired_at, tail_at}
+use Rattle.hop_core.specs.Sound.{Sound}
+use Rattle.hop_core.proofs.Fits.{fits_room}
+
+-- numbers of small counts are equal where the counts are
+same_number : (start a b : ℕ) → start < 2 ^ 32 → a ≤ 262144 → b ≤ 262144 → number start a ≡ number start b → a ≡ b
+same_number start a b s ha hb e = omega arith
+
+pub head_is_tail : (s : HopState) (c : ℕ) → Sound s → head_at s.fixed.start s.bare c ≡ tail_at s.fixed.start s.bare c → retired_at s.bare c ≡ length (accepted_at s.bare c)
+head_is_tail s c h e =
+    let f = (fits_room s h).puts c in let r = h.small.room in
+    let a = h.counts.retired_first c in let b = h.counts.delivered_first c in let d = h.counts.pulled_first c in
+    same_number s.fixed.start (retired_at s.bare c) (length (accepted_at s.bare c)) h.small.start (omega arith) (omega arith) e
+
+-- a lane whose head is its tail does not wait, and no lane that is not in the set
+pub waits_not : (s : HopState) (lanes : CpuMask) (c : ℕ) → Sound s
+    → ((has lanes c ≡ true) × (head_at s.fixed.start s.bare c ≡ tail_at s.fixed.start s.bare c)) ⊎ (has lanes c ≡ false) → is_waiting s lanes c ≡ false
+waits_not s lanes c h (inl a) = rw (a.0, eq-eqb (retired_at s.bare c) (length (accepted_at s.bare c)) (head_is_tail s c h a.1)) refl
+waits_not s lanes c h (inr b) = rw b refl
+
+pub waits : (s : HopState) (lanes : CpuMask) (c : ℕ) → has lanes c ≡ true → head_at s.fixed.start s.bare c ≢ tail_at s.fixed.start s.bare c
+    → is_waiting s lanes c ≡ true
+waits s lanes c named apart =
+    let ne : retired_at s.bare c ≢ length (accepted_at s.bare c) = λ e. apart (ap (number s.fixed.start) e) in
+    rw (named, ne_eqb (retired_at s.bare c) (length (accepted_at s.bare c)) ne) refl
+
+-- what stands behind a number that passes
+split : (test : ℕ → Bool) (c : ℕ) → test c ≡ true → (m : ℕ) → (rest : List ℕ) × (those_below (c + 1 + m) test ≡ those_below c test ++ c ∷ rest)
+split test c passes zero = (
+  [],
+  ap (λ k. those_below k test) (let e : c + 1 + 0 ≡ c + 1 = omega arith in e) ∙ those_below-more c test
+      ∙ ap (λ b. those_below c test ++ cond b (c ∷ []) []) passes,
+)
+split test c passes (suc m) =
+    let more = split test c passes m in
+    let new : List ℕ = cond (test (c + 1 + m)) ((c + 1 + m) ∷ []) [] in
+    let e : c + 1 + suc m ≡ c + 1 + m + 1 = omega arith in (
+      more.0 ++ new,
+      ap (λ k. those_below k test) e ∙ those_below-more (c + 1 + m) test ∙ ap (λ xs. xs ++ new) more.1 ∙ append_assoc (those_below c test) (c ∷ more.0) new,
+    )
+
+split-below : (n : ℕ) (test : ℕ → Bool) (c : ℕ) → c < n → test c ≡ true → (rest : List ℕ) × (those_below n test ≡ those_below c test ++ c ∷ rest)
+split-below n test c lt passes =
+    let s = split test c passes (n - (c + 1)) in
+    let e : n ≡ c + 1 + (n - (c + 1)) = omega arith in (s.0, ap (λ k. those_below k test) e ∙ s.1)
+
+-- none passes: each fails, and the other way round
+none-each : (n : ℕ) (test : ℕ → Bool) → those_below n test ≡ [] → (c : ℕ) → c < n → test c ≡ false
+none-each n test none c lt =
+    elim (cases_Bool (test c)) [
+      | inl passes ↦ absurd (
+          let s = split-below n test c lt passes in
+          let long : length (those_below c test ++ c ∷ s.0) ≡ 0 = ap length (sym s.1 ∙ none) in
+          let both = length-append (those_below c test) (c ∷ s.0) in omega arith)
+      | inr fails ↦ fails
+    ]
+
+each-none : (n : ℕ) (test : ℕ → Bool) → ((c : ℕ) → c < n → test c ≡ false) → those_below n test ≡ []
+each-none zero test each = those_below-zero test
+each-none (suc n) test each =
+    let e : suc n ≡ n + 1 = omega arith in
+    ap (λ k. those_below k test) e ∙ those_below_fail n test (each n (omega arith)) ∙ each-none n test (λ c lt. each c (omega arith))
+
+pub busy_at : (s : HopState) (lanes : CpuMask) (c : ℕ) → those_below c (is_waiting s lanes) ≡ [] → c < length s.bare.accepted → is_waiting s lanes c ≡ true
+    → Err (NotEmpty c (head_at s.fixed.start s.bare c) (tail_at s.fixed.start s.bare c)) ≡ emptied s lanes
+busy_at s lanes c none lt passes =
+    let f = split-below (length s.bare.accepted) (is_waiting s lanes) c lt passes in
+    let first : waiting s lanes ≡ c ∷ f.0 = rw none at f.1 in
+    rw first refl
+
+pub all_empty : (s : HopState) (lanes : CpuMask) → waiting s lanes ≡ [] → Ok tt ≡ emptied s lanes
+all_empty s lanes none = rw none refl
+
+empty_at : (s : HopState) (lanes : CpuMask) (c : ℕ) → is_waiting s lanes c ≡ false → has lanes c ≡ true → IsEmptied s.bare c
+empty_at s lanes c quiet named =
+    let f : not (retired_at s.bare c == length (accepted_at s.bare c)) ≡ false = rw named at quiet in
+    elim (cases_eq (retired_at s.bare c) (length (accepted_at s.bare c))) [
+      | inl e ↦ e
+      | inr ne ↦ absurd (let g : true ≡ false = rw (ne_eqb (retired_at s.bare c) (length (accepted_at s.bare c)) ne) at f in cc)
+    ]
+
+quiet_at : (s : HopState) (lanes : CpuMask) (c : ℕ) → (has lanes c ≡ true → IsEmptied s.bare c) → is_waiting s lanes c ≡ false
+quiet_at s lanes c empty =
+    elim (cases_Bool (has lanes c)) [
+      | inl named ↦ rw (named, eq-eqb (retired_at s.bare c) (length (accepted_at s.bare c)) (empty named)) refl
+      | inr other ↦ rw other refl
+    ]
+
+ok-waiting : (s : HopState) (lanes : CpuMask) (xs : List ℕ) → waiting s lanes ≡ xs → IsOk (first_busy s xs) ↔ AreEmptied s lanes
+ok-waiting s lanes [] e = (
+  λ ok c lt named. empty_at s lanes c (none-each (length s.bare.accepted) (is_waiting s lanes) e c lt) named,
+  λ all. refl,
+)
+ok-waiting s lanes (x ∷ xs) e = (
+  λ ok. absurd cc,
+  λ all. absurd (let f = each-none (length s.bare.accepted) (is_waiting s lanes) (λ c lt. quiet_at s lanes c (all c lt)) in let g : (x ∷ xs) ≡ [] = sym e ∙ f in cc),
+)
+
+-- the answer is Ok exactly where each lane of the set is empty
+pub ok-empty : (s : HopState) (lanes : CpuMask) → IsOk (emptied s lanes) ↔ AreEmptied s lanes
+ok-empty s lanes = ok-waiting s lanes (waiting s lanes) refl

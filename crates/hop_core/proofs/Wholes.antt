@@ -1,0 +1,303 @@
+-- The parts of a hop stay whole in each event.
+use Rattle.std.proofs.Common.{ℕ, ◌+◌, ◌≤◌, ◌<◌, ◌≡◌, ◌≢◌, Bool, true, false, cond, List, [], ◌∷◌, ◌++◌, Option, Some, None, length, refl, ◌∙◌, sym, subst, arith, inl, inr, get_or, set, replicate, map, zero, suc}
+use Rattle.std.specs.Prelude.{nat_lt, slice_index, slice_index_or, slice_set}
+use Rattle.std.proofs.Math.ListN.{length-replicate, length-set}
+use Rattle.std.proofs.lemmas.Bool.{cases_Bool, lt-ltb, ltb-true}
+use Rattle.std.proofs.lemmas.List.{length-map, set-get_or}
+use Rattle.backlog.specs.Puts.{after_take, answer_by, put_by, put_count}
+use Rattle.dev_flow_table.specs.Tables.{unset, weighed}
+use Rattle.steer_base.specs.Drops.{bucket_of, lane_drop_cause}
+use Rattle.steer_base.specs.Sets.{has}
+use Rattle.steer_base.specs.declared.choice.Chosen.{Chosen}
+use Rattle.steer_base.specs.declared.cpu_mask.CpuMask.{CpuMask}
+use Rattle.steer_base.specs.declared.put.DropCause.{DropCause}
+use Rattle.hop_core.specs.Events.{IsClassBelow, IsEmptied, happens, put}
+use Rattle.hop_core.specs.FlowTables.{FlowTables, new_tables, noted, table_at, with_rows}
+use Rattle.hop_core.specs.Hop.{HopState, arrivals_of, choice_of, choices_of, delivered_at, in_hand, inside_of, next_of, next_out, placed_of, pulled_at, retired_at, taken_of}
+use Rattle.hop_core.specs.Journals.{Journals, list_at, new_journals, pushed}
+use Rattle.hop_core.specs.LaneTable.{LaneTable, lane_at, new_lanes, with_lane}
+use Rattle.hop_core.specs.Shape.{IsShape, classes_for, new_hop}
+use Rattle.hop_core.specs.Sizes.{SameSizes}
+use Rattle.hop_core.specs.Sound.{Sound}
+use Rattle.hop_core.specs.View.{HopParts, state_of}
+use Rattle.hop_core.specs.Whole.{IsWhole, Tabled}
+use Rattle.hop_core.specs.declared.event.HopEvent.{HopEvent}
+use Rattle.hop_core.specs.declared.shape.HopShape.{HopShape}
+use Rattle.hop_core.proofs.Drops.{room-put}
+use Rattle.hop_core.proofs.Fits.{room-arrive, room-deliver, room-weigh}
+use Rattle.hop_core.proofs.LaneSteps.{Sound-deliver, Sound-pull, Sound-retire}
+use Rattle.hop_core.proofs.GateSteps.{Sound-resize}
+use Rattle.hop_core.proofs.New.{Sound-new, at_new}
+use Rattle.hop_core.proofs.ProducerSteps.{Sound-arrive, Sound-weigh, emptied-all}
+use Rattle.hop_core.proofs.PutSteps.{Sound-put, put_as}
+use Rattle.hop_core.proofs.Sizes.{Sizes-happens}
+use Rattle.hop_core.proofs.TableSteps.{Tabled-put, Tabled-resize, Tabled-weigh}
+
+-- ---- an arrival
+
+pub fits-arrive : (h : HopParts) (p x : ℕ) → p < length h.arrivals.lists → x < h.lanes.room
+    → ((q i : ℕ) → i < length (arrivals_of (state_of h) q) → slice_index (arrivals_of (state_of h) q) i ≢ x)
+    → IsWhole h → length (list_at h.arrivals p) < h.arrivals.room
+fits-arrive h p x named below fresh w = rw w.arrivals_room (room-arrive (state_of h) p x named below fresh w.sound)
+
+pub whole-arrive : (h : HopParts) (p x : ℕ) → p < length h.arrivals.lists → x < h.lanes.room
+    → ((q i : ℕ) → i < length (arrivals_of (state_of h) q) → slice_index (arrivals_of (state_of h) q) i ≢ x)
+    → IsWhole h → IsWhole (record h { arrivals = pushed h.arrivals p x })
+whole-arrive h p x named below fresh w =
+    let t = w.tabled in
+    record {
+      sound = Sound-arrive (state_of h) p x named below fresh w.sound;
+      tabled = record { start = t.start; many = t.many ∙ sym (length-set h.arrivals.lists p (list_at h.arrivals p ++ x ∷ [])); long = t.long; rows = t.rows; classes = t.classes };
+      actors = w.actors;
+      lanes = w.lanes;
+      arrivals_room = w.arrivals_room;
+      choices_room = w.choices_room;
+      outs_room = w.outs_room;
+    }
+
+-- ---- a weigh
+
+pub fits-weigh : (h : HopParts) (p : ℕ) → length (list_at h.choices p) < taken_of (state_of h) p → IsWhole h → length (list_at h.choices p) < h.choices.room
+fits-weigh h p more w = rw w.choices_room (room-weigh (state_of h) p more w.sound)
+
+pub whole-weigh : (h : HopParts) (p : ℕ) (class want : Option ℕ) (desired : ℕ) (online : CpuMask) → p < length h.arrivals.lists
+    → desired < length h.lanes.accepted → IsClassBelow (slice_index h.counts p) class
+    → ((c : ℕ) → c < length h.lanes.accepted → has online c ≡ false → IsEmptied (state_of h).bare c)
+    → inside_of (state_of h) p ≡ true → length (choices_of (state_of h) p) < taken_of (state_of h) p → IsWhole h
+    → IsWhole (record h {
+      choices = pushed h.choices p (record { id = next_of (state_of h) p; choice = choice_of (state_of h) p class want desired online });
+      tables = with_rows h.tables p (weighed (table_at h.tables p) class (choice_of (state_of h) p class want desired online)).rows;
+    })
+whole-weigh h p class want desired online named lane ok empty inside more w =
+    let s : HopState = state_of h in
+    record {
+      sound = Sound-weigh s p class want desired online named lane (emptied-all s w.sound (λ c. has online c ≡ false) empty) inside more w.sound;
+      tabled = Tabled-weigh s p class want desired online h.tables named ok more w.sound w.tabled;
+      actors = w.actors;
+      lanes = w.lanes;
+      arrivals_room = w.arrivals_room;
+      choices_room = w.choices_room;
+      outs_room = w.outs_room;
+    }
+
+-- ---- a put
+
+pub fits-put : (h : HopParts) (p c : ℕ) → placed_of (state_of h) p < length (choices_of (state_of h) p) → IsWhole h → put_count (lane_at h.lanes c) < h.lanes.room
+fits-put h p c more w = rw length-map at (room-put (state_of h) p w.sound more c)
+
+-- the parts after a put, whatever the cause of a drop
+abbrev pub put_parts : HopParts → ℕ → Option DropCause → Option ℕ → HopParts
+put_parts h p cause bucket =
+    let c : Chosen = in_hand (state_of h) p in
+    record h {
+      placed = slice_set h.placed p (slice_index h.placed p + 1);
+      tables = with_rows h.tables p (noted (table_at h.tables p) c.choice.class (answer_by cause (lane_at h.lanes c.choice.lane))).rows;
+      lanes = with_lane h.lanes c.choice.lane (put_by cause (lane_at h.lanes c.choice.lane) c.id bucket);
+    }
+
+pub state_of-put : (h : HopParts) (p : ℕ) (cause : Option DropCause) (bucket : Option ℕ) → state_of (put_parts h p cause bucket) ≡ put_as (state_of h) p cause bucket
+state_of-put h p None bucket =
+    let c : ℕ = (in_hand (state_of h) p).choice.lane in
+    rw (set-get_or h.lanes.drops c [], set-get_or h.lanes.pulled c 0) refl
+state_of-put h p (Some cause) bucket =
+    let c : ℕ = (in_hand (state_of h) p).choice.lane in
+    rw (set-get_or h.lanes.accepted c [], set-get_or h.lanes.pulled c 0) refl
+
+pub state_of-put_enabled : (h : HopParts) (p : ℕ) (hash : Option ℕ) → inside_of (state_of h) p ≡ true
+    → placed_of (state_of h) p < length (choices_of (state_of h) p)
+    → state_of (put_parts h p (lane_drop_cause (lane_at h.lanes (in_hand (state_of h) p).choice.lane) hash) (bucket_of hash)) ≡ (put (state_of h) p hash).0
+state_of-put_enabled h p hash inside more =
+    rw (inside, lt-ltb (placed_of (state_of h) p) (length (choices_of (state_of h) p)) more)
+    (state_of-put h p (lane_drop_cause (lane_at h.lanes (in_hand (state_of h) p).choice.lane) hash) (bucket_of hash))
+
+put-lanes : (h : HopParts) (p : ℕ) (cause : Option DropCause) (bucket : Option ℕ)
+    → length (put_parts h p cause bucket).lanes.accepted ≡ length h.lanes.accepted
+put-lanes h p cause bucket =
+    let c : Chosen = in_hand (state_of h) p in
+    length-set h.lanes.accepted c.choice.lane (put_by cause (lane_at h.lanes c.choice.lane) c.id bucket).accepted
+
+pub whole-put : (h : HopParts) (p : ℕ) (hash : Option ℕ) → p < length h.arrivals.lists → inside_of (state_of h) p ≡ true
+    → placed_of (state_of h) p < length (choices_of (state_of h) p) → IsWhole h
+    → IsWhole (put_parts h p (lane_drop_cause (lane_at h.lanes (in_hand (state_of h) p).choice.lane) hash) (bucket_of hash))
+whole-put h p hash named inside more w =
+    let s : HopState = state_of h in
+    let cause : Option DropCause = lane_drop_cause (lane_at h.lanes (in_hand s p).choice.lane) hash in
+    let bucket : Option ℕ = bucket_of hash in
+    let new : HopParts = put_parts h p cause bucket in
+    let is = sym (state_of-put h p cause bucket) in
+    record {
+      sound = subst Sound is (Sound-put s p hash named inside more w.sound);
+      tabled = subst (λ t. Tabled t new.tables) is (Tabled-put s p cause bucket h.tables named more w.sound w.tabled);
+      actors = w.actors;
+      lanes = rw (put-lanes h p cause bucket) w.lanes;
+      arrivals_room = w.arrivals_room;
+      choices_room = w.choices_room;
+      outs_room = w.outs_room;
+    }
+
+-- ---- a pull, a delivery and a retirement
+
+take-lanes : (t : LaneTable) (c : ℕ) → with_lane t c (after_take (lane_at t c))
+    ≡ cond (nat_lt (slice_index t.pulled c) (length (slice_index_or t.accepted c []))) (record t { pulled = set t.pulled c (slice_index t.pulled c + 1) }) t
+take-lanes t c =
+    elim (cases_Bool (nat_lt (slice_index t.pulled c) (length (slice_index_or t.accepted c [])))) [
+      | inl e ↦ rw (e, set-get_or t.accepted c [], set-get_or t.offers c [], set-get_or t.drops c []) refl
+      | inr e ↦ rw (e, set-get_or t.accepted c [], set-get_or t.offers c [], set-get_or t.drops c [], set-get_or t.pulled c 0) refl
+    ]
+
+cond_cases : (P : LaneTable → Type 0) (t u : LaneTable) (b : Bool) → (b ≡ true → P u) → P t → P (cond b u t)
+cond_cases P t u true f h = f refl
+cond_cases P t u false f h = h
+
+pub whole-pull : (h : HopParts) (c : ℕ) → c < length h.lanes.accepted → slice_index h.lanes.pulled c ≤ slice_index h.retired c → IsWhole h
+    → IsWhole (record h { lanes = with_lane h.lanes c (after_take (lane_at h.lanes c)) })
+whole-pull h c named free w =
+    let t = w.tabled in
+    let P : LaneTable → Type 0 = λ l. IsWhole (record h { lanes = l }) in
+    subst P (sym (take-lanes h.lanes c))
+    (cond_cases P h.lanes (record h.lanes { pulled = set h.lanes.pulled c (slice_index h.lanes.pulled c + 1) })
+    (nat_lt (slice_index h.lanes.pulled c) (length (slice_index_or h.lanes.accepted c [])))
+    (λ e. record {
+      sound = Sound-pull (state_of h) c named free (ltb-true (slice_index h.lanes.pulled c) (length (slice_index_or h.lanes.accepted c [])) e) w.sound;
+      tabled = record { start = t.start; many = t.many; long = t.long; rows = t.rows; classes = t.classes };
+      actors = w.actors;
+      lanes = w.lanes;
+      arrivals_room = w.arrivals_room;
+      choices_room = w.choices_room;
+      outs_room = w.outs_room;
+    }) w)
+
+pub fits-deliver : (h : HopParts) (c o : ℕ) → c < length h.lanes.accepted → o < length h.outs.lists
+    → delivered_at (state_of h).bare c < pulled_at (state_of h).bare c → IsWhole h → length (list_at h.outs o) < h.outs.room
+fits-deliver h c o named out more w = rw w.outs_room (room-deliver (state_of h) c o named out more w.sound)
+
+pub whole-deliver : (h : HopParts) (c o : ℕ) → c < length h.lanes.accepted → o < length h.outs.lists
+    → delivered_at (state_of h).bare c < pulled_at (state_of h).bare c → IsWhole h
+    → IsWhole (record h { delivered = slice_set h.delivered c (slice_index h.delivered c + 1); outs = pushed h.outs o (next_out (state_of h).bare c) })
+whole-deliver h c o named out more w =
+    let t = w.tabled in
+    record {
+      sound = Sound-deliver (state_of h) c o named out more w.sound;
+      tabled = record { start = t.start; many = t.many; long = t.long; rows = t.rows; classes = t.classes };
+      actors = w.actors;
+      lanes = w.lanes;
+      arrivals_room = w.arrivals_room;
+      choices_room = w.choices_room;
+      outs_room = w.outs_room;
+    }
+
+pub whole-retire : (h : HopParts) (c : ℕ) → c < length h.lanes.accepted → retired_at (state_of h).bare c < delivered_at (state_of h).bare c → IsWhole h
+    → IsWhole (record h { retired = slice_set h.retired c (slice_index h.retired c + 1) })
+whole-retire h c named more w =
+    let t = w.tabled in
+    record {
+      sound = Sound-retire (state_of h) c named more w.sound;
+      tabled = record { start = t.start; many = t.many; long = t.long; rows = t.rows; classes = t.classes };
+      actors = w.actors;
+      lanes = w.lanes;
+      arrivals_room = w.arrivals_room;
+      choices_room = w.choices_room;
+      outs_room = w.outs_room;
+    }
+
+-- ---- a resize
+
+pub whole-resize : (h : HopParts) (p count : ℕ) → p < length h.arrivals.lists → h.closed ≡ true
+    → ((c : ℕ) → c < length h.lanes.accepted → IsEmptied (state_of h).bare c) → IsWhole h
+    → IsWhole (record h {
+      since = slice_set h.since p (length (list_at h.choices p));
+      counts = slice_set h.counts p count;
+      tables = with_rows h.tables p (replicate count (unset h.tables.start));
+    })
+whole-resize h p count named shut empty w =
+    let s : HopState = state_of h in
+    record {
+      sound = Sound-resize s p count named shut (λ c. emptied-all s w.sound (λ c. Unit {0}) (λ c lt _. empty c lt) c tt) w.sound;
+      tabled = Tabled-resize s p count h.tables named w.sound w.tabled;
+      actors = w.actors;
+      lanes = w.lanes;
+      arrivals_room = w.arrivals_room;
+      choices_room = w.choices_room;
+      outs_room = w.outs_room;
+    }
+
+-- ---- a new hop
+
+-- the parts of a hop in which nothing has happened
+abbrev pub new_parts : HopShape → HopParts
+new_parts shape =
+    record {
+      arrivals = new_journals shape.producers shape.room;
+      taken = replicate shape.producers 0;
+      choices = new_journals shape.producers shape.room;
+      placed = replicate shape.producers 0;
+      since = replicate shape.producers 0;
+      visits = replicate (shape.producers + shape.guests) false;
+      counts = map (classes_for shape.exact) shape.counts.items;
+      tables = new_tables shape.counts.items shape.start shape.exact;
+      lanes = new_lanes shape.lanes shape.limit shape.room shape.start shape.limited;
+      delivered = replicate shape.lanes 0;
+      retired = replicate shape.lanes 0;
+      outs = new_journals shape.outs shape.room;
+      inside = 0;
+      closed = false;
+    }
+
+new-rows : (counts : List ℕ) (start : ℕ) (exact : Bool) (p : ℕ)
+    → get_or (new_tables counts start exact).rows p [] ≡ replicate (get_or (map (classes_for exact) counts) p 0) (unset start)
+new-rows [] start exact p = refl
+new-rows (n ∷ ns) start exact zero = refl
+new-rows (n ∷ ns) start exact (suc p) = new-rows ns start exact p
+
+pub whole-new : (shape : HopShape) → IsShape shape → IsWhole (new_parts shape)
+whole-new shape is =
+    let s : HopState = new_hop shape in
+    let choices : (p : ℕ) → choices_of s p ≡ [] = λ p. at_new shape.producers p [] in
+    let rows : (p : ℕ) → get_or (new_tables shape.counts.items shape.start shape.exact).rows p [] ≡ replicate (slice_index s.counts p) (unset shape.start) =
+    λ p. new-rows shape.counts.items shape.start shape.exact p in
+    record {
+      sound = Sound-new shape is;
+      tabled = record {
+        start = refl;
+        many = rw (length-map, length-replicate) is.counts;
+        long = λ p. rw rows (length-replicate (slice_index s.counts p) (unset shape.start));
+        rows = λ p k lt. rw (rows p, choices p, at_new {X = ℕ} shape.producers p 0) (at_new (slice_index s.counts p) k (unset shape.start));
+        classes = λ p i late lt. absurd (let e : length (choices_of s p) ≡ 0 = rw (choices p) refl in omega arith);
+      };
+      actors = rw length-replicate (let p = is.few_producers in let g = is.guests in omega arith);
+      lanes = rw length-replicate is.few_lanes;
+      arrivals_room = refl;
+      choices_room = refl;
+      outs_room = refl;
+    }
+
+-- an event leaves the sizes
+pub sizes-stay : (s t : HopState) (e : HopEvent) → t ≡ (happens s e).0 → SameSizes s t
+sizes-stay s t e is = rw is (Sizes-happens s e)
+
+-- a hop whose parts are the new ones
+pub whole-made : (shape : HopShape) → IsShape shape → (arrivals : Journals ℕ) (taken : List ℕ) (choices : Journals Chosen) (placed since : List ℕ) (visits : List Bool)
+    (counts : List ℕ) (tables : FlowTables) (lanes : LaneTable) (delivered retired : List ℕ) (outs : Journals ℕ)
+    → arrivals ≡ new_journals shape.producers shape.room → taken ≡ replicate shape.producers 0 → choices ≡ new_journals shape.producers shape.room
+    → placed ≡ replicate shape.producers 0 → since ≡ replicate shape.producers 0 → visits ≡ replicate (shape.producers + shape.guests) false
+    → counts ≡ map (classes_for shape.exact) shape.counts.items → tables ≡ new_tables shape.counts.items shape.start shape.exact
+    → lanes ≡ new_lanes shape.lanes shape.limit shape.room shape.start shape.limited → delivered ≡ replicate shape.lanes 0
+    → retired ≡ replicate shape.lanes 0 → outs ≡ new_journals shape.outs shape.room
+    → IsWhole (record {
+      arrivals = arrivals;
+      taken = taken;
+      choices = choices;
+      placed = placed;
+      since = since;
+      visits = visits;
+      counts = counts;
+      tables = tables;
+      lanes = lanes;
+      delivered = delivered;
+      retired = retired;
+      outs = outs;
+      inside = 0;
+      closed = false;
+    })
+whole-made shape is arrivals taken choices placed since visits counts tables lanes delivered retired outs a b c d e f g h i j k l =
+    rw (a, b, c, d, e, f, g, h, i, j, k, l) (whole-new shape is)

@@ -1,0 +1,8 @@
+use Rattle.hop_core.proofs.Flows.{FlowOrdered-happens, FlowInOrder-from}
+use Rattle.hop_core.proofs.laws.each_event_keeps_flows.Goals as goal
+
+pub returns-clause-each : goal.returns-clause-each
+returns-clause-each c = λ test p o s e may allowed h all. FlowOrdered-happens test p o s e may h allowed all
+
+pub returns-clause-order : goal.returns-clause-order
+returns-clause-order c = λ test p o s h all. FlowInOrder-from test p o s h all

@@ -1,0 +1,61 @@
+-- The lanes of a hop, by the lists of each.
+use Rattle.std.specs.Prelude.{ℕ, ◌<◌, List, [], Option, length, slice_index, slice_index_or, slice_set, replicate}
+use Rattle.steer_base.specs.Lanes.{LaneLists}
+use Rattle.steer_base.specs.Sets.{has}
+use Rattle.steer_base.specs.declared.cpu_mask.CpuMask.{CpuMask}
+use Rattle.steer_base.specs.declared.put.LaneDrop.{LaneDrop}
+use Rattle.backlog.specs.Puts.{SameShape, new_lane}
+
+-- Lanes of one limit, one room and one start of their counters, with the set of those under the flow limit.
+pub record LaneTable : Type 0 where
+  pub accepted : List (List ℕ)
+  pub offers : List (List (Option ℕ))
+  pub drops : List (List LaneDrop)
+  pub pulled : List ℕ
+  pub limit : ℕ
+  pub room : ℕ
+  pub start : ℕ
+  pub limited : CpuMask
+
+-- the lane of this number
+abbrev pub lane_at : LaneTable → ℕ → LaneLists
+lane_at t c =
+    record {
+      accepted = slice_index_or t.accepted c [];
+      offers = slice_index_or t.offers c [];
+      drops = slice_index_or t.drops c [];
+      pulled = slice_index t.pulled c;
+      limit = t.limit;
+      room = t.room;
+      start = t.start;
+      limited = has t.limited c;
+    }
+
+-- one of the lanes has other lists
+abbrev pub with_lane : LaneTable → ℕ → LaneLists → LaneTable
+with_lane t c l =
+    record t {
+      accepted = slice_set t.accepted c l.accepted;
+      offers = slice_set t.offers c l.offers;
+      drops = slice_set t.drops c l.drops;
+      pulled = slice_set t.pulled c l.pulled;
+    }
+
+-- so many lanes that no packet was put to
+abbrev pub new_lanes : ℕ → ℕ → ℕ → ℕ → CpuMask → LaneTable
+new_lanes count limit room start limited =
+    record {
+      accepted = replicate count [];
+      offers = replicate count [];
+      drops = replicate count [];
+      pulled = replicate count 0;
+      limit = limit;
+      room = room;
+      start = start;
+      limited = limited;
+    }
+
+-- each lane has this limit, room and start, and is limited where the set has it
+abbrev pub AreShaped : ℕ → ℕ → ℕ → CpuMask → List LaneLists → Type 0
+AreShaped limit room start limited lanes =
+    (c : ℕ) (d : LaneLists) → c < length lanes → SameShape (new_lane limit room start (has limited c)) (slice_index_or lanes c d)

@@ -1,0 +1,53 @@
+-- The values of a hop's parts, and the state that they stand for.
+use Rattle.std.specs.Prelude.{ℕ, Bool, List}
+use Rattle.steer_base.specs.declared.choice.Chosen.{Chosen}
+use Rattle.hop_core.specs.FlowTables.{FlowTables}
+use Rattle.hop_core.specs.Hop.{HopState}
+use Rattle.hop_core.specs.Journals.{Journals}
+use Rattle.hop_core.specs.LaneTable.{LaneTable}
+
+pub record HopParts : Type 0 where
+  pub arrivals : Journals ℕ
+  pub taken : List ℕ
+  pub choices : Journals Chosen
+  pub placed : List ℕ
+  pub since : List ℕ
+  pub visits : List Bool
+  pub counts : List ℕ
+  pub tables : FlowTables
+  pub lanes : LaneTable
+  pub delivered : List ℕ
+  pub retired : List ℕ
+  pub outs : Journals ℕ
+  pub inside : ℕ
+  pub closed : Bool
+
+abbrev pub state_of : HopParts → HopState
+state_of h =
+    record {
+      fixed = record {
+        limit = h.lanes.limit;
+        room = h.lanes.room;
+        start = h.lanes.start;
+        exact = h.tables.exact;
+        limited = h.lanes.limited;
+      };
+      bare = record {
+        accepted = h.lanes.accepted;
+        offers = h.lanes.offers;
+        drops = h.lanes.drops;
+        pulled = h.lanes.pulled;
+        delivered = h.delivered;
+        retired = h.retired;
+        outs = h.outs.lists;
+        inside = h.inside;
+        closed = h.closed;
+      };
+      counts = h.counts;
+      arrivals = h.arrivals.lists;
+      taken = h.taken;
+      choices = h.choices.lists;
+      placed = h.placed;
+      since = h.since;
+      visits = h.visits;
+    }

@@ -1,0 +1,54 @@
+-- How much was done in a hop: the packets that arrived, and how many of them were taken up, weighed, put, pulled,
+-- delivered and retired.
+use Rattle.std.specs.Prelude.{ℕ, ◌+◌, ◌*◌, ◌≤◌, ◌≡◌, ◌⊎◌, Bool, true, false, List, [], ◌∷◌, length}
+use Rattle.steer_base.specs.declared.idle.Idle.{Idle}
+use Rattle.hop_core.specs.declared.event.HopEvent.{HopEvent}
+use Rattle.hop_core.specs.declared.event.HopEvent.TheVariants as event
+use Rattle.hop_core.specs.declared.event.HopAnswer.TheVariants as answer
+use Rattle.hop_core.specs.Hop.{HopState}
+use Rattle.hop_core.specs.Events.{happens, MayAsk}
+use Rattle.hop_core.specs.Sound.{Sound}
+
+-- how many members lists have together
+unfoldable pub total : {X : Type 0} → List (List X) → ℕ
+total [] = 0
+total (list ∷ lists) = length list + total lists
+
+unfoldable pub sum_of : List ℕ → ℕ
+sum_of [] = 0
+sum_of (n ∷ ns) = n + sum_of ns
+
+abbrev pub work : HopState → ℕ
+work s =
+    total s.arrivals + sum_of s.taken + total s.choices + sum_of s.placed
+    + sum_of s.bare.pulled + sum_of s.bare.delivered + sum_of s.bare.retired
+
+-- the events that get a packet on
+abbrev pub is_work : HopEvent → Bool
+is_work (event.Arrive p id) = true
+is_work (event.Take p) = true
+is_work (event.Enter a) = false
+is_work (event.Leave a) = false
+is_work (event.Weigh p class want desired online) = true
+is_work (event.Put p hash) = true
+is_work (event.Pull c) = true
+is_work (event.Deliver c to) = true
+is_work (event.Retire c) = true
+is_work (event.Resize p count) = false
+is_work event.Close = false
+is_work event.Reopen = false
+
+-- the event was idle, and the state is as it was
+abbrev pub WasIdle : HopState → HopEvent → Type 0
+WasIdle s e = (why : Idle) × ((happens s e).1 ≡ answer.Idle why) × ((happens s e).0 ≡ s)
+
+-- An event that gets a packet on adds one to the work, or is idle. No other event changes the work. There is no more
+-- work than seven steps for each packet.
+abbrev pub WorkGoesOn : Type 0
+WorkGoesOn = (s : HopState) (e : HopEvent) → MayAsk s e → Sound s → is_work e ≡ true → (work (happens s e).0 ≡ work s + 1) ⊎ WasIdle s e
+
+abbrev pub WorkStays : Type 0
+WorkStays = (s : HopState) (e : HopEvent) → MayAsk s e → Sound s → is_work e ≡ false → work (happens s e).0 ≡ work s
+
+abbrev pub WorkIsBounded : Type 0
+WorkIsBounded = (s : HopState) → Sound s → work s ≤ 7 * s.fixed.room

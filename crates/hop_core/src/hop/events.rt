@@ -1,0 +1,209 @@
+//! The events of a hop, one by one.
+ghost use Rattle.std.specs.Prelude.{◌≡◌, ℕ, ◌<◌, ◌≤◌, ◌≢◌, true, false, length, slice_index};
+ghost use Rattle.steer_base.specs.Counters.{rounded_up};
+ghost use Rattle.steer_base.specs.Sets.{has};
+ghost use Rattle.hop_core.specs.Events.{IsClassBelow, IsEmptied, close, deliver, enter, leave, pull, put, retire, take, weigh};
+ghost use Rattle.hop_core.specs.Hop.{arrivals_of, arrived, resized, with_bare, with_closed};
+ghost use Rattle.hop_core.specs.declared.event.HopAnswer.TheVariants as answer;
+
+use crate::HopAnswer;
+use crate::hop::Hop;
+use steer_base::{Chosen, CpuMask, Idle, PacketId, round_up};
+
+impl Hop {
+    pub(super) fn arrive(&mut self, p: u8, id: PacketId) -> HopAnswer
+        requires producer { p < length self.old.arrivals }
+        requires below { id < self.old.fixed.room }
+        requires fresh { (q i : ℕ) → i < length (arrivals_of self.old q) → slice_index (arrivals_of self.old q) i ≢ id }
+        ensures state { self.new ≡ arrived self.old p id }
+        ensures answer { result ≡ answer.Done }
+    {
+        self.arrivals.push(p, id);
+        HopAnswer::Done
+    }
+
+    pub(super) fn take(&mut self, p: u8) -> HopAnswer
+        requires producer { p < length self.old.arrivals }
+        ensures state { self.new ≡ (take self.old p).0 }
+        ensures answer { result ≡ (take self.old p).1 }
+    {
+        let taken = self.taken[p as usize];
+        if self.placed[p as usize] < taken {
+            return HopAnswer::Idle(Idle::HandFull);
+        }
+        if taken < self.arrivals.len_of(p) {
+            self.taken[p as usize] = taken + 1;
+            HopAnswer::Took(self.arrivals.get(p, taken))
+        } else {
+            HopAnswer::Idle(Idle::RingEmpty)
+        }
+    }
+
+    pub(super) fn enter(&mut self, a: u8) -> HopAnswer
+        requires actor { a < length self.old.visits }
+        ensures state { self.new ≡ (enter self.old a).0 }
+        ensures answer { result ≡ (enter self.old a).1 }
+    {
+        if self.visits[a as usize] {
+            return HopAnswer::Idle(Idle::AlreadyInside);
+        }
+        if self.closed {
+            return HopAnswer::Closed;
+        }
+        self.visits[a as usize] = true;
+        self.inside += 1;
+        HopAnswer::Done
+    }
+
+    pub(super) fn leave(&mut self, a: u8) -> HopAnswer
+        requires actor { a < length self.old.visits }
+        ensures state { self.new ≡ (leave self.old a).0 }
+        ensures answer { result ≡ (leave self.old a).1 }
+    {
+        if !self.visits[a as usize] {
+            return HopAnswer::Idle(Idle::NotInside);
+        }
+        if (a as usize) < self.placed.len() && self.placed[a as usize] < self.choices.len_of(a) {
+            return HopAnswer::Idle(Idle::MidPacket);
+        }
+        self.visits[a as usize] = false;
+        self.inside -= 1;
+        HopAnswer::Done
+    }
+
+    pub(super) fn weigh(
+        &mut self,
+        p: u8,
+        class: Option<u32>,
+        want: Option<u8>,
+        desired: u8,
+        online: CpuMask,
+    ) -> HopAnswer
+        requires producer { p < length self.old.arrivals }
+        requires desired { desired < length self.old.bare.accepted }
+        requires class { IsClassBelow (slice_index self.old.counts p) class }
+        requires empty { (c : ℕ) → c < length self.old.bare.accepted → has online c ≡ false → IsEmptied self.old.bare c }
+        ensures state { self.new ≡ (weigh self.old p class want desired online).0 }
+        ensures answer { result ≡ (weigh self.old p class want desired online).1 }
+    {
+        if !self.visits[p as usize] {
+            return HopAnswer::Idle(Idle::NotInside);
+        }
+        let count = self.choices.len_of(p);
+        if count >= self.taken[p as usize] {
+            return HopAnswer::Idle(Idle::WrongStage);
+        }
+        let id = self.arrivals.get(p, count);
+        let choice = self
+            .tables
+            .choose(&self.retired, p, class, want, desired, online);
+        self.choices.push(p, Chosen { id, choice });
+        HopAnswer::Chose(choice)
+    }
+
+    pub(super) fn put(&mut self, p: u8, hash: Option<u32>) -> HopAnswer
+        requires producer { p < length self.old.arrivals }
+        ensures state { self.new ≡ (put self.old p hash).0 }
+        ensures answer { result ≡ (put self.old p hash).1 }
+    {
+        let inside = self.visits[p as usize];
+        if !inside {
+            return HopAnswer::Idle(Idle::NotInside);
+        }
+        let placed = self.placed[p as usize];
+        if placed >= self.choices.len_of(p) {
+            return HopAnswer::Idle(Idle::WrongStage);
+        }
+        let chosen = self.choices.get(p, placed);
+        let went = self.lanes.put(chosen.choice.lane, chosen.id, hash);
+        self.placed[p as usize] = placed + 1;
+        self.tables.note(p, chosen.choice.class, went);
+        HopAnswer::Went(went)
+    }
+
+    pub(super) fn pull(&mut self, lane: u8) -> HopAnswer
+        requires lane { lane < length self.old.bare.accepted }
+        ensures state { self.new ≡ (pull self.old lane).0 }
+        ensures answer { result ≡ (pull self.old lane).1 }
+    {
+        if self.retired[lane as usize] < self.lanes.pulled(lane) {
+            return HopAnswer::Idle(Idle::HandFull);
+        }
+        match self.lanes.take(lane) {
+            Some(id) => HopAnswer::Took(id),
+            None => HopAnswer::Idle(Idle::NothingWaiting),
+        }
+    }
+
+    pub(super) fn deliver(&mut self, lane: u8, to: u8) -> HopAnswer
+        requires lane { lane < length self.old.bare.accepted }
+        requires out { to < length self.old.bare.outs }
+        ensures state { self.new ≡ (deliver self.old lane to).0 }
+        ensures answer { result ≡ (deliver self.old lane to).1 }
+    {
+        let delivered = self.delivered[lane as usize];
+        if delivered < self.lanes.pulled(lane) {
+            let id = self.lanes.accepted_at(lane, delivered);
+            let place = self.outs.len_of(to) + 1;
+            self.outs.push(to, id);
+            self.delivered[lane as usize] = delivered + 1;
+            HopAnswer::Position(place)
+        } else if self.retired[lane as usize] < delivered {
+            HopAnswer::Idle(Idle::AlreadyDelivered)
+        } else {
+            HopAnswer::Idle(Idle::HandEmpty)
+        }
+    }
+
+    pub(super) fn retire(&mut self, lane: u8) -> HopAnswer
+        requires lane { lane < length self.old.bare.accepted }
+        ensures state { self.new ≡ (retire self.old lane).0 }
+        ensures answer { result ≡ (retire self.old lane).1 }
+    {
+        let retired = self.retired[lane as usize];
+        if retired < self.delivered[lane as usize] {
+            self.retired[lane as usize] = retired + 1;
+            HopAnswer::Done
+        } else if self.delivered[lane as usize] < self.lanes.pulled(lane) {
+            HopAnswer::Idle(Idle::NotDelivered)
+        } else {
+            HopAnswer::Idle(Idle::HandEmpty)
+        }
+    }
+
+    pub(super) fn resize(&mut self, p: u8, count: u32) -> HopAnswer
+        requires producer { p < length self.old.arrivals }
+        requires count { count ≤ 32768 }
+        requires rounded { self.old.fixed.exact ≡ false }
+        requires closed { self.old.bare.closed ≡ true }
+        requires empty { (c : ℕ) → c < length self.old.bare.accepted → IsEmptied self.old.bare c }
+        ensures state { self.new ≡ resized self.old p (rounded_up count) }
+        ensures answer { result ≡ answer.Done }
+    {
+        self.tables.resize(p, count);
+        self.counts[p as usize] = round_up(count);
+        self.since[p as usize] = self.choices.len_of(p);
+        HopAnswer::Done
+    }
+
+    pub(super) fn close(&mut self) -> HopAnswer
+        requires { self.old.bare.closed ≡ false }
+        ensures state { self.new ≡ (close self.old).0 }
+        ensures answer { result ≡ (close self.old).1 }
+    {
+        if self.inside == 0 {
+            self.closed = true;
+            HopAnswer::Done
+        } else {
+            HopAnswer::Inside(self.inside)
+        }
+    }
+
+    pub(super) fn reopen(&mut self) -> HopAnswer
+        ensures state { self.new ≡ with_bare self.old (with_closed self.old.bare false) }
+        ensures answer { result ≡ answer.Done }
+    {
+        self.closed = false;
+        HopAnswer::Done
+    }
+}

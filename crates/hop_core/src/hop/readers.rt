@@ -1,0 +1,135 @@
+//! What callers read of a hop.
+ghost use Rattle.std.specs.Prelude.{◌≡◌, ◌↔◌, ℕ, ◌-◌, ◌<◌, IsOk, length, slice_get, slice_index};
+ghost use Rattle.steer_base.specs.Choices.{class_of};
+ghost use Rattle.hop_core.specs.Emptied.{AreEmptied, emptied};
+ghost use Rattle.hop_core.specs.Hop.{accepted_at, head_at, inside_of, out_at, pulled_at, retired_at, tail_at, taken_of};
+ghost use Rattle.hop_core.specs.Reads.{last_choice, to_deliver, to_weigh};
+
+use crate::hop::Hop;
+use steer_base::{Busy, Chosen, CpuMask, PacketId};
+
+impl Hop {
+    /// Whether each of these lanes is empty; else the first one that is not, with the numbers of its head and tail.
+    pub fn emptied(&self, lanes: CpuMask) -> Result<(), Busy>
+        ensures answer { result ≡ emptied self.now lanes }
+        ensures ok { IsOk result ↔ AreEmptied self.now lanes }
+    {
+        for lane in 0..self.lanes.count() {
+            let (head, tail) = (self.head(lane), self.tail(lane));
+            if lanes.has(lane) && head != tail {
+                return Err(Busy::NotEmpty { lane, head, tail });
+            }
+        }
+        Ok(())
+    }
+
+    /// The number of a lane's head.
+    pub fn head(&self, lane: u8) -> u32
+        requires { lane < length self.now.bare.accepted }
+        ensures { result ≡ head_at self.now.fixed.start self.now.bare lane }
+    {
+        self.lanes.number_at(self.retired[lane as usize])
+    }
+
+    /// The number of a lane's tail.
+    pub fn tail(&self, lane: u8) -> u32
+        requires { lane < length self.now.bare.accepted }
+        ensures { result ≡ tail_at self.now.fixed.start self.now.bare lane }
+    {
+        self.lanes.tail(lane)
+    }
+
+    /// How many packets of a lane were pulled.
+    pub fn pulled(&self, lane: u8) -> u32
+        requires { lane < length self.now.bare.accepted }
+        ensures { result ≡ pulled_at self.now.bare lane }
+    {
+        self.lanes.pulled(lane)
+    }
+
+    /// How many packets of a lane were retired.
+    pub fn retired(&self, lane: u8) -> u32
+        requires { lane < length self.now.bare.accepted }
+        ensures { result ≡ retired_at self.now.bare lane }
+    {
+        self.retired[lane as usize]
+    }
+
+    /// The packet in a lane's hand that is delivered next, if there is one.
+    pub fn next_out(&self, lane: u8) -> Option<PacketId>
+        requires { lane < length self.now.bare.accepted }
+        ensures { result ≡ to_deliver self.now.bare lane }
+    {
+        let delivered = self.delivered[lane as usize];
+        if delivered < self.lanes.pulled(lane) {
+            Some(self.lanes.accepted_at(lane, delivered))
+        } else {
+            None
+        }
+    }
+
+    /// How many packets were delivered to an out lane.
+    pub fn out_len(&self, to: u8) -> u32
+        requires { to < length self.now.bare.outs }
+        ensures { result ≡ length (out_at self.now.bare to) }
+    {
+        self.outs.len_of(to)
+    }
+
+    /// Whether an actor is inside the gate.
+    pub fn is_inside(&self, a: u8) -> bool
+        requires { a < length self.now.visits }
+        ensures { result ≡ inside_of self.now a }
+    {
+        self.visits[a as usize]
+    }
+
+    /// Whether the gate is closed.
+    pub fn is_closed(&self) -> bool
+        ensures { result ≡ self.now.bare.closed }
+    {
+        self.closed
+    }
+
+    /// The class of a hash among those of a producer.
+    pub fn class(&self, p: u8, hash: Option<u32>) -> Option<u32>
+        requires { p < length self.now.arrivals }
+        ensures { result ≡ class_of (slice_index self.now.counts p) hash }
+    {
+        self.tables.class(p, hash)
+    }
+
+    /// How many packets a producer has taken up.
+    pub fn taken(&self, p: u8) -> u32
+        requires { p < length self.now.arrivals }
+        ensures { result ≡ taken_of self.now p }
+    {
+        self.taken[p as usize]
+    }
+
+    /// The packet that a producer has taken up and weighs next, if there is one.
+    pub fn next_of(&self, p: u8) -> Option<PacketId>
+        requires { p < length self.now.arrivals }
+        ensures { result ≡ to_weigh self.now p }
+    {
+        let count = self.choices.len_of(p);
+        if count < self.taken[p as usize] {
+            Some(self.arrivals.get(p, count))
+        } else {
+            None
+        }
+    }
+
+    /// The last choice of a producer, if it made one.
+    pub fn last_choice(&self, p: u8) -> Option<Chosen>
+        requires { p < length self.now.arrivals }
+        ensures { result ≡ last_choice self.now p }
+    {
+        let count = self.choices.len_of(p);
+        if count == 0 {
+            None
+        } else {
+            Some(self.choices.get(p, count - 1))
+        }
+    }
+}

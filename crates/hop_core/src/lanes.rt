@@ -1,0 +1,123 @@
+//! The lanes of a hop.
+ghost use Rattle.std.specs.Prelude.{◌≡◌, ℕ, ◌^◌, ◌<◌, ◌≤◌, length, slice_index, IfOk};
+ghost use Rattle.steer_base.specs.Counters.{number};
+ghost use Rattle.backlog.specs.Puts.{after_put, after_take, next_waiting, put_answer, put_count};
+ghost use Rattle.hop_core.specs.LaneTable.{lane_at, new_lanes, with_lane};
+
+use backlog::Lane;
+use std::alloc::Global;
+use std::marker::Model;
+use steer_base::{CpuMask, OutOfMemory, PacketId, Put};
+
+/// So many lanes of one limit and one room.
+#[derive(Drop)]
+pub struct Lanes {
+    lanes: Vec<Lane>,
+    limit: u32,
+    room: u32,
+    start: u32,
+    limited: CpuMask,
+}
+
+impl Model for Lanes {
+    ghost use Rattle.std.specs.Prelude.{◌≤◌, length, map};
+    ghost use Rattle.hop_core.specs.LaneTable.{AreShaped, LaneTable};
+
+    ghost Value = { LaneTable };
+
+    ghost view = { λ t. record { accepted = map (λ l. l.accepted) t.lanes.items; offers = map (λ l. l.offers) t.lanes.items; drops = map (λ l. l.drops) t.lanes.items; pulled = map (λ l. l.pulled) t.lanes.items; limit = t.limit; room = t.room; start = t.start; limited = t.limited } };
+
+    ghost invariant = { λ t. (t.room ≤ 262144) × (length t.lanes.items ≤ 255) × AreShaped t.limit t.room t.start t.limited t.lanes.items };
+}
+
+impl Lanes {
+    /// So many empty lanes. Their counters show `start` at no packet, and `limited` has those under the flow limit.
+    pub fn make(
+        alloc: Global,
+        count: u8,
+        limit: u32,
+        room: u32,
+        start: u32,
+        limited: CpuMask,
+    ) -> Result<Lanes, OutOfMemory>
+        requires limit { 1 ≤ limit }
+        requires room { room ≤ 262144 }
+        ensures lanes { IfOk result (λ lanes. lanes ≡ new_lanes count limit room start limited) }
+        ensures wide { start < 2 ^ 32 }
+    {
+        let mut lanes = Vec::with_capacity(alloc, count as usize)?;
+        for lane in 0..count {
+            lanes.push(Lane::make(alloc, limit, room, start, limited.has(lane))?)?;
+        }
+        Ok(Lanes {
+            lanes,
+            limit,
+            room,
+            start,
+            limited,
+        })
+    }
+
+    /// Offers a packet to a lane.
+    pub fn put(&mut self, lane: u8, id: PacketId, hash: Option<u32>) -> Put
+        requires lane { lane < length self.old.accepted }
+        requires room { put_count (lane_at self.old lane) < self.old.room }
+        ensures lists { self.new ≡ with_lane self.old lane (after_put (lane_at self.old lane) id hash) }
+        ensures answer { result ≡ put_answer (lane_at self.old lane) hash }
+    {
+        let lane = &mut self.lanes[lane as usize];
+        lane.put(id, hash)
+    }
+
+    /// Pulls the next packet of a lane, if one waits.
+    pub fn take(&mut self, lane: u8) -> Option<PacketId>
+        requires { lane < length self.old.accepted }
+        ensures lists { self.new ≡ with_lane self.old lane (after_take (lane_at self.old lane)) }
+        ensures packet { result ≡ next_waiting (lane_at self.old lane) }
+    {
+        let lane = &mut self.lanes[lane as usize];
+        lane.take()
+    }
+
+    /// The accepted packet of a lane at an index.
+    pub fn accepted_at(&self, lane: u8, n: u32) -> PacketId
+        requires lane { lane < length self.now.accepted }
+        requires within { n < length (lane_at self.now lane).accepted }
+        ensures { result ≡ slice_index (lane_at self.now lane).accepted n }
+    {
+        let lane = &self.lanes[lane as usize];
+        lane.accepted_at(n).unwrap()
+    }
+
+    /// How many packets of a lane were pulled.
+    pub fn pulled(&self, lane: u8) -> u32
+        requires { lane < length self.now.accepted }
+        ensures { result ≡ slice_index self.now.pulled lane }
+    {
+        let lane = &self.lanes[lane as usize];
+        lane.pulled()
+    }
+
+    /// The number of a lane's tail.
+    pub fn tail(&self, lane: u8) -> u32
+        requires { lane < length self.now.accepted }
+        ensures { result ≡ number self.now.start (length (lane_at self.now lane).accepted) }
+    {
+        let lane = &self.lanes[lane as usize];
+        lane.tail()
+    }
+
+    /// The number of lanes.
+    pub fn count(&self) -> u8
+        ensures { result ≡ length self.now.accepted }
+    {
+        self.lanes.len() as u8
+    }
+
+    /// The number that the counter of a lane shows at a count.
+    pub fn number_at(&self, count: u32) -> u32
+        ensures { result ≡ number self.now.start count }
+    {
+        self.start.wrapping_add(count)
+    }
+}

@@ -1,0 +1,75 @@
+//! Laws over the lists of a hop, each the contract of a function that does nothing.
+ghost use Rattle.hop_core.specs.Laws.{ChoiceIsByTheRule, ChoicesStay, ClosedIsExact, EachExplainsDrops, EachKeepsFlows, EachKeepsOrder, EachKeepsSound, EndToEnd, ExplainsDrops, FlowIsInOrder, InsideIsExact, KeepsOrder, KeepsPlaces, NeverDrops, NewIsOrdered, NewIsSound, OrderedIsInOrder, PairsMakePrefix};
+ghost use Rattle.hop_core.specs.Work.{WorkGoesOn, WorkIsBounded, WorkStays};
+
+/// What holds of every hop holds of a new one, and every event keeps it.
+pub fn every_event_keeps_a_hop_sound()
+    ensures new { NewIsSound }
+    ensures each { EachKeepsSound }
+{}
+
+/// A gate is kept open exactly by those inside, and turns actors away exactly where it is closed.
+pub fn the_gate_answers_exactly()
+    ensures inside { InsideIsExact }
+    ensures closed { ClosedIsExact }
+{}
+
+/// Whatever events come, each packet is at most at one place, once.
+pub fn each_packet_has_one_place()
+    ensures { KeepsPlaces }
+{}
+
+/// Whatever events come, the packets of a tight set are delivered in the order in which they arrived, without those that
+/// were dropped. Collisions of flows, drops, resizes, offline lanes and a closing gate never put them out of order.
+pub fn tight_sets_are_delivered_in_order()
+    ensures { KeepsOrder }
+{}
+
+/// The same from event to event, for a set of packets.
+pub fn each_event_keeps_order()
+    ensures new { NewIsOrdered }
+    ensures each { EachKeepsOrder }
+    ensures order { OrderedIsInOrder }
+{}
+
+/// The same from event to event, for the flow of a producer.
+pub fn each_event_keeps_flows()
+    ensures each { EachKeepsFlows }
+    ensures order { FlowIsInOrder }
+{}
+
+/// Order through a hop, a prefix that is sent on, and order through a second hop without drops are order from end to end.
+pub fn order_holds_from_end_to_end()
+    ensures { EndToEnd }
+{}
+
+/// Two lists of which each pair is in order: the second is a prefix of the first.
+pub fn pairs_in_order_make_a_prefix()
+    ensures { PairsMakePrefix }
+{}
+
+/// Whatever events come, each drop has its cause: a full backlog or the flow limit.
+pub fn each_drop_is_explained()
+    ensures all { ExplainsDrops }
+    ensures each { EachExplainsDrops }
+{}
+
+/// Nothing is dropped where all packets may wait and no lane is under the flow limit.
+pub fn ample_lanes_drop_nothing()
+    ensures { NeverDrops }
+{}
+
+/// Each choice is the migration rule over the entry of its class at its moment, and later events change neither the
+/// choice nor that entry.
+pub fn each_choice_is_by_the_rule()
+    ensures rule { ChoiceIsByTheRule }
+    ensures stay { ChoicesStay }
+{}
+
+/// Each event that gets a packet on adds one to the work or is idle, no other event changes it, and there are at most
+/// seven steps of work for each packet: so a machine that goes on as long as work is done comes to an end.
+pub fn work_goes_on_and_is_bounded()
+    ensures on { WorkGoesOn }
+    ensures stays { WorkStays }
+    ensures bounded { WorkIsBounded }
+{}
