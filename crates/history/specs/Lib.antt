@@ -1,0 +1,5 @@
+pub mod Finding
+pub mod Lines
+pub mod Lists
+pub mod Places
+pub mod Regular
