@@ -37,11 +37,18 @@ choice_of h x = first_some (choice_in x) h.choices
 abbrev pub tx_choice_of : History → ℕ → Option Choice
 tx_choice_of h x = first_some (choice_in x) h.tx_choices
 
--- the position of a packet at a lane, a counter number
-abbrev pub position_in : ℕ → ℕ → LaneList → Option ℕ
-position_in start x lane = option_map (number start) (place_in x lane.accepted)
+-- the place of a packet among those that a lane accepted, from 1, at the first lane that did
+abbrev pub accepted_place : List LaneList → ℕ → Option ℕ
+accepted_place lanes x = first_some (λ lane. place_in x lane.accepted) lanes
 
--- the drop of a packet at a lane, with its number
+-- its position at the processors, and at the transmit queues: the counter number of this place
+abbrev pub position_of : History → ℕ → Option ℕ
+position_of h x = option_map (number h.start) (accepted_place h.lanes x)
+
+abbrev pub tx_position_of : History → ℕ → Option ℕ
+tx_position_of h x = option_map (number h.start) (accepted_place h.tx_lanes x)
+
+-- the drop of a packet at a lane, with its number, from 1
 abbrev pub dropped_as : LaneDrop → ℕ → Put
 dropped_as d n = Dropped n d.accepted d.pulled d.cause
 
@@ -49,16 +56,9 @@ abbrev pub drop_in : ℕ → LaneList → Option Put
 drop_in x lane =
     option_and_then (λ d. option_map (dropped_as d) (place_in x (drop_ids lane))) (found (λ d. d.id) x lane.drops)
 
--- what became of a packet at a lane: its position, or else its drop
-abbrev pub put_in : ℕ → ℕ → LaneList → Option Put
-put_in start x lane = option_or (option_map (λ n. At n) (position_in start x lane)) (drop_in x lane)
-
--- the same at the processors, and its position at the transmit queues
+-- what became of a packet at the processors: its position, or else its drop
 abbrev pub put_of : History → ℕ → Option Put
-put_of h x = first_some (put_in h.start x) h.lanes
-
-abbrev pub tx_position_of : History → ℕ → Option ℕ
-tx_position_of h x = first_some (position_in h.start x) h.tx_lanes
+put_of h x = option_or (option_map (λ n. At n) (position_of h x)) (first_some (drop_in x) h.lanes)
 
 -- its place in the inboxes, from 1
 abbrev pub inbox_place_of : History → ℕ → Option ℕ
