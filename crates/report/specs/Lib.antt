@@ -1,1 +1,5 @@
 pub mod Numbers
+pub mod Texts
+pub mod Lines
+pub mod Commands
+pub mod Report
