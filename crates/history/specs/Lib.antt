@@ -3,3 +3,4 @@ pub mod Lines
 pub mod Lists
 pub mod Places
 pub mod Regular
+pub mod Shown

@@ -3,6 +3,7 @@
 
 mod arrival;
 mod commanded;
+mod found_again;
 mod history;
 mod items;
 mod lane_list;
@@ -14,6 +15,7 @@ mod sock_write;
 
 pub use arrival::Arrival;
 pub use commanded::Commanded;
+pub use found_again::histories_are_found_again;
 pub use history::History;
 pub use items::Items;
 pub use lane_list::LaneList;
