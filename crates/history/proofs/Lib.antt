@@ -5,3 +5,4 @@ pub mod Traces
 pub mod SamePuts
 pub mod SameArrivals
 pub mod FoundAgain
+pub mod LinesFit

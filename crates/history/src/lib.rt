@@ -15,7 +15,7 @@ mod sock_write;
 
 pub use arrival::Arrival;
 pub use commanded::Commanded;
-pub use found_again::histories_are_found_again;
+pub use found_again::{histories_are_found_again, lines_fit};
 pub use history::History;
 pub use items::Items;
 pub use lane_list::LaneList;

@@ -1,1 +1,4 @@
 pub mod NumbersLemmas
+pub mod Digits
+pub mod Cuts
+pub mod Sections
