@@ -62,7 +62,7 @@ same_front [] (y ∷ ys) t u l e = absurd (omega (arith, l))
 same_front (x ∷ xs) [] t u l e = absurd (omega (arith, l))
 same_front (x ∷ xs) (y ∷ ys) t u l e = let rest = same_front xs ys t u (omega (arith, l)) (ap rear e) in ((λ i. ap (front 0) e i ∷ rest.0 i), rest.1)
 
-abbrev is_field : List ℕ → Bool
+abbrev pub is_field : List ℕ → Bool
 is_field [] = true
 is_field (x ∷ xs) = not (x == 32) && not (x == 10) && is_field xs
 

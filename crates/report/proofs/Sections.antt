@@ -200,6 +200,13 @@ same_sections l m h k texts more e =
     (commands-of h) (commands-of k) (past_commands h texts) (past_commands k more) w.1 in
     let a = section-split 8 (tap_rows texts) (tap_rows more) (last_rows h) (last_rows k) (taps-of texts) (taps-of more) (past_taps h) (past_taps k) o.1 in
     record {
-      packets = p.0; replies = r.0; queues = q.0; cpus = c.0; txs = t.0; writes = w.0; commands = o.0; taps = a.0;
+      packets = p.0;
+      replies = r.0;
+      queues = q.0;
+      cpus = c.0;
+      txs = t.0;
+      writes = w.0;
+      commands = o.0;
+      taps = a.0;
       last = ap (first (Tap 0 [])) a.1;
     }

@@ -3,3 +3,4 @@ pub mod Texts
 pub mod Lines
 pub mod Commands
 pub mod Report
+pub mod Laws

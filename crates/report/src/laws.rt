@@ -1,0 +1,24 @@
+//! Laws over the text of a report, each the contract of a function that does nothing.
+ghost use Rattle.report.specs.Laws.{AreFoundInText, HasOneHistory, HasRows};
+
+use history::{histories_are_found_again, lines_fit};
+
+/// No field of a report has a space or a line feed, and only the row of a tap begins as one.
+pub fn a_report_has_rows()
+    ensures { HasRows }
+{}
+
+/// Two lists of rows are equal where their texts are.
+pub fn rows_are_found_in_their_text()
+    ensures { AreFoundInText }
+{}
+
+/// One report has one history: two histories of one start are equal where their reports are, and so are the texts of
+/// their taps, whatever these are. The histories are regular for the packets of one capture and one number of
+/// applications, each arrival is at the queue that its values lead to, and the numbers fit the fields that hold them.
+pub fn a_report_has_one_history()
+    ensures { HasOneHistory }
+{
+    histories_are_found_again();
+    lines_fit();
+}
