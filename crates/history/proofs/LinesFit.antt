@@ -110,17 +110,18 @@ sent-fits : (h : History) → HistoryFits h → (x : ℕ) → IfSome (sent_of h 
 sent-fits h f x = first_some-fits (found (λ s. s.id) x) [] SentFits h.sent (λ a l. found-fits SentFits (λ s. s.id) x (list_at h.sent a) (f.sent a [] l))
 
 pub lines_fit : HaveLinesThatFit
-lines_fit packets apps h small r f x =
-    (record {
-      queue = queue-fits (found (λ a. a.id) x h.arrivals) (found-fits ArrivalFits (λ a. a.id) x h.arrivals f.arrivals);
-      choice = choices-fit x h.choices f.choices;
-      put = put-fits packets apps h small r f x;
-      inbox = inbox-fits packets apps h small r x;
-    },
-    map-fits (line_of_sent packets apps h x) SentFits ReplyFits (sent_of h x) (sent-fits h f x) (λ s g. record {
-      rxq = g.rxq;
-      cpu = g.cpu;
-      choice = choices-fit x h.tx_choices f.tx_choices;
-      put = position-fits h.start (accepted_place h.tx_lanes x);
-      port = place-fits x h.port (few_shipped packets apps h small r);
-    }))
+lines_fit packets apps h small r f x = (
+  record {
+    queue = queue-fits (found (λ a. a.id) x h.arrivals) (found-fits ArrivalFits (λ a. a.id) x h.arrivals f.arrivals);
+    choice = choices-fit x h.choices f.choices;
+    put = put-fits packets apps h small r f x;
+    inbox = inbox-fits packets apps h small r x;
+  },
+  map-fits (line_of_sent packets apps h x) SentFits ReplyFits (sent_of h x) (sent-fits h f x) (λ s g. record {
+    rxq = g.rxq;
+    cpu = g.cpu;
+    choice = choices-fit x h.tx_choices f.tx_choices;
+    put = position-fits h.start (accepted_place h.tx_lanes x);
+    port = place-fits x h.port (few_shipped packets apps h small r);
+  }),
+)

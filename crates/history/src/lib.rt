@@ -3,6 +3,7 @@
 
 mod arrival;
 mod commanded;
+mod fits;
 mod found_again;
 mod history;
 mod items;

@@ -6,3 +6,4 @@ pub mod Spelling
 pub mod CommandSpelling
 pub mod ReportRows
 pub mod OneHistory
+pub mod OneReply
