@@ -1,2 +1,3 @@
 pub mod FindingLemmas
+pub mod IndexLemmas
 pub mod PositionLemmas

@@ -1,4 +1,5 @@
 pub mod Finding
+pub mod Index
 pub mod Lines
 pub mod Lists
 pub mod Places

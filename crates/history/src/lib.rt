@@ -4,6 +4,7 @@
 mod arrival;
 mod commanded;
 mod history;
+mod index;
 mod items;
 mod lane_list;
 mod packet_line;
