@@ -1,5 +1,6 @@
 pub mod Finding
 pub mod Index
+pub mod Known
 pub mod Lines
 pub mod Lists
 pub mod Places
