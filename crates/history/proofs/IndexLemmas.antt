@@ -1,13 +1,12 @@
 -- What the slots of an index have after a pass over a list, and over the lists of lists one by one.
-use Rattle.std.proofs.Common.{ℕ, ◌+◌, ◌≤◌, ◌<◌, ◌≡◌, ◌≢◌, ◌⊎◌, Bool, true, false, cond, List, [], ◌∷◌, Option, Some, None, map, length, take, drop, replicate, refl, ap, ◌∙◌, sym, arith, suc, zero, inl, inr, get_or, set, subst}
+use Rattle.std.proofs.Common.{ℕ, ◌+◌, ◌<◌, ◌≡◌, List, [], ◌∷◌, Option, Some, None, map, length, take, replicate, refl, ap, ◌∙◌, sym, arith, suc, zero, inl, inr, get_or, subst}
 use Rattle.std.specs.Prelude.{◌==◌, if◌then◌else◌}
 use Rattle.std.specs.Option.{option_or, option_map, option_and_then}
-use Rattle.std.proofs.lemmas.Bool.{cases_Bool, cases_eq, ne_eqb, eq-eqb, eqb-true}
+use Rattle.std.proofs.lemmas.Bool.{cases_Bool, cases_eq, ne_eqb, eq-eqb}
 use Rattle.std.proofs.lemmas.List.{get_or-set_same, get_or-set_other, get_or-replicate, length-set, length-replicate}
 use Rattle.steer_base.specs.Entries.{place_in}
 use Rattle.steer_base.specs.declared.choice.Chosen.{Chosen}
 use Rattle.steer_base.specs.declared.put.LaneDrop.{LaneDrop}
-use Rattle.steer_base.specs.declared.put.Put.{Put}
 use Rattle.steer_base.specs.declared.put.Put.TheVariants.{Dropped}
 use Rattle.history.specs.Finding.{found, first_some}
 use Rattle.history.specs.Index.{noted, noted_by, IsIndex}
@@ -118,8 +117,8 @@ value_at-drops_from x (d ∷ ds) i =
       | inl t ↦ rw t refl
       | inr t ↦ rw t (value_at-drops_from x ds (suc i)
           ∙ (elim (found (λ d. d.id) x ds) as (λ o. option_and_then (λ d. option_map (λ n. dropped_as d (suc i + n)) (place_in x (map (λ e. e.id) ds))) o
-              ≡ option_and_then (λ d. option_map (λ n. dropped_as d (i + n)) (option_map suc (place_in x (map (λ e. e.id) ds)))) o)
-            [ None ↦ refl | Some e ↦ map-suc (dropped_as e) i (place_in x (map (λ e. e.id) ds)) ]))
+          ≡ option_and_then (λ d. option_map (λ n. dropped_as d (i + n)) (option_map suc (place_in x (map (λ e. e.id) ds)))) o)
+          [ None ↦ refl | Some e ↦ map-suc (dropped_as e) i (place_in x (map (λ e. e.id) ds)) ]))
     ]
 
 fall-zero : (o : Option LaneDrop) (p : Option ℕ) → option_and_then (λ d. option_map (λ n. dropped_as d (0 + n)) p) o ≡ option_and_then (λ d. option_map (dropped_as d) p) o

@@ -1,10 +1,10 @@
 -- Lists of which at most one, the own one, has anything: what the first of them has, and which is the first that passes.
-use Rattle.std.proofs.Common.{ℕ, ◌+◌, ◌≤◌, ◌<◌, ◌≡◌, ◌≢◌, ◌⊎◌, Bool, true, false, cond, List, [], ◌∷◌, Option, Some, None, length, refl, ap, ◌∙◌, sym, arith, suc, zero, inl, inr, get_or, subst}
+use Rattle.std.proofs.Common.{ℕ, ◌<◌, ◌≡◌, Bool, true, false, List, [], ◌∷◌, Option, Some, None, length, refl, ap, ◌∙◌, sym, arith, suc, zero, inl, inr, get_or}
 use Rattle.std.specs.Prelude.{if◌then◌else◌}
 use Rattle.std.specs.List.{position}
 use Rattle.std.specs.Option.{option_or, option_and_then, is_some}
 use Rattle.std.proofs.Math.ListN.{get_or-eq_default}
-use Rattle.std.proofs.lemmas.Bool.{cases_Bool, cases_eq, cases_lt}
+use Rattle.std.proofs.lemmas.Bool.{cases_Bool, cases_lt}
 use Rattle.history.specs.Finding.{first_some}
 use Rattle.history.proofs.PositionLemmas.{position-only, position-none}
 

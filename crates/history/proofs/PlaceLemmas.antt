@@ -1,6 +1,6 @@
 -- The place of a packet of a regular history: at the lane of its choice, or in the inbox of its application.
-use Rattle.std.proofs.Common.{ℕ, ◌+◌, ◌≤◌, ◌<◌, ◌≡◌, ◌≢◌, ◌⊎◌, Bool, true, false, cond, List, [], ◌∷◌, Option, Some, None, map, length, take, refl, ap, ◌∙◌, sym, arith, suc, zero, inl, inr, get_or, subst}
-use Rattle.std.specs.Prelude.{◌==◌, ◌&&◌, nat_lt, nat_le, if◌then◌else◌}
+use Rattle.std.proofs.Common.{ℕ, ◌<◌, ◌≡◌, Bool, true, false, List, [], ◌∷◌, Option, Some, None, length, take, refl, ap, ◌∙◌, sym, arith, suc, zero, inl, inr, get_or}
+use Rattle.std.specs.Prelude.{◌==◌, nat_lt, nat_le, if◌then◌else◌}
 use Rattle.std.specs.List.{position}
 use Rattle.std.specs.Option.{option_map, option_and, option_and_then, is_some}
 use Rattle.std.proofs.Math.ListN.{get_or-eq_default}
@@ -11,13 +11,13 @@ use Rattle.steer_base.specs.declared.put.LaneDrop.{LaneDrop}
 use Rattle.history.specs.Finding.{is_in, is_among, found, first_some}
 use Rattle.history.specs.Known.{pulled_by}
 use Rattle.history.specs.Lines.{accepted_place, choice_of, drop_in, dropped_as, inbox_place_of}
-use Rattle.history.specs.Lists.{app_at, drop_ids, lane_at, list_at, no_lane}
+use Rattle.history.specs.Lists.{app_at, drop_ids, lane_at, no_lane}
 use Rattle.history.specs.Places.{place_by, place_of, was_taken}
 use Rattle.history.specs.Regular.{Regular}
 use Rattle.history.specs.declared.history.History.{History}
 use Rattle.history.specs.declared.lane_list.LaneList.{LaneList}
 use Rattle.history.proofs.FindingLemmas.{is_in-here, is_in-past, is_in-among}
-use Rattle.history.proofs.OwnLemmas.{own-first, own-position, not-true}
+use Rattle.history.proofs.OwnLemmas.{own-first, own-position}
 use Rattle.history.proofs.RegularLemmas.{is_some-found, lane-accepted, lane-dropped}
 
 -- what is found has a place
@@ -37,13 +37,13 @@ module _ {B T : Type 0} (look : B → Option T) (p : B → Bool) (d : B) (same :
       let f = own-first look d xs o none (λ i e. h i (sym (same (get_or xs i d)) ∙ e)) in
       let g = own-position p d xs o (sym (same d) ∙ ap is_some none) h in
       let m : option_and (option_and_then (λ c. look (get_or xs c d)) o) o ≡ option_and_then (λ c. if p (get_or xs c d) then Some c else None) o =
-        elim o as (λ o. option_and (option_and_then (λ c. look (get_or xs c d)) o) o ≡ option_and_then (λ c. if p (get_or xs c d) then Some c else None) o) [
-          | None ↦ refl
-          | Some c ↦ rw (← same (get_or xs c d)) (elim (look (get_or xs c d)) as (λ q. option_and q (Some c) ≡ (if is_some q then Some c else None)) [ None ↦ refl | Some a ↦ refl ])
-        ] in
+      elim o as (λ o. option_and (option_and_then (λ c. look (get_or xs c d)) o) o ≡ option_and_then (λ c. if p (get_or xs c d) then Some c else None) o) [
+        | None ↦ refl
+        | Some c ↦ rw (← same (get_or xs c d)) (elim (look (get_or xs c d)) as (λ q. option_and q (Some c) ≡ (if is_some q then Some c else None)) [ None ↦ refl | Some a ↦ refl ])
+      ] in
       ap (λ q. option_and q o) f ∙ m ∙ sym g
 
-abbrev within : ℕ → Option ℕ → Bool
+abbrev pub within : ℕ → Option ℕ → Bool
 within n None = false
 within n (Some k) = nat_le k n
 
@@ -56,7 +56,7 @@ within-zero None = refl
 within-zero (Some k) = grind arith
 
 -- a packet is among the first of a list exactly where its place is at most so much
-among-place : (x n : ℕ) (xs : List ℕ) → is_among n x xs ≡ within n (place_in x xs)
+pub among-place : (x n : ℕ) (xs : List ℕ) → is_among n x xs ≡ within n (place_in x xs)
 among-place x zero [] = refl
 among-place x (suc n) [] = refl
 among-place x zero (y ∷ ys) = elim (cases_Bool (x == y)) [ inl t ↦ rw t (grind arith) | inr t ↦ rw t (sym (within-zero (place_in x ys))) ]
@@ -104,7 +104,7 @@ module _ (packets : List Packet) (apps : ℕ) (h : History) (regular : Regular p
       ap (pulled_by h.lanes lane_of) (own-first (λ lane. place_in x lane.accepted) no_lane h.lanes lane_of refl (λ c s. lane-accepted packets apps h regular c x s))
       ∙ by-own h.lanes x lane_of
       ∙ sym (own-position (λ lane. is_among lane.pulled x lane.accepted) no_lane h.lanes lane_of refl
-          (λ c s. lane-accepted packets apps h regular c x (is_in-among (lane_at h.lanes c).pulled x (lane_at h.lanes c).accepted s)))
+      (λ c s. lane-accepted packets apps h regular c x (is_in-among (lane_at h.lanes c).pulled x (lane_at h.lanes c).accepted s)))
 
   pub inbox-at : option_and (inbox_place_of h x) (Some (app_at packets apps x)) ≡ position (is_in x) h.inboxes
   inbox-at = own-some (place_in x) (is_in x) [] (λ inbox. refl) refl h.inboxes (Some (app_at packets apps x)) (λ a s. ap (λ n. Some n) (regular.delivered.own a x s))

@@ -1,8 +1,8 @@
 -- The first index at which a test passes.
-use Rattle.std.proofs.Common.{ℕ, ◌≤◌, ◌<◌, ◌≡◌, ◌≢◌, ◌⊎◌, Bool, true, false, cond, List, Option, Some, None, length, refl, ap, ◌∙◌, sym, arith, inl, inr, get_or, subst, ltb}
+use Rattle.std.proofs.Common.{ℕ, ◌<◌, ◌≡◌, Bool, true, false, List, Some, None, length, refl, ap, arith, inl, inr, get_or, subst}
 use Rattle.std.specs.Prelude.{nat_lt}
 use Rattle.std.specs.List.{position, position_or_len}
-use Rattle.std.proofs.lemmas.Bool.{cases_Bool, cases_lt}
+use Rattle.std.proofs.lemmas.Bool.{cases_Bool}
 use Rattle.std.proofs.lemmas.List.Sums.{position_or_len_is, passes_at_first}
 
 -- it is in the list, and the test passes there
@@ -22,8 +22,8 @@ pub position-only : {A : Type 0} (p : A → Bool) (xs : List A) (d : A) (i : ℕ
     → ((k : ℕ) → k < length xs → p (get_or xs k d) ≡ true → k ≡ i) → position p xs ≡ Some i
 position-only p xs d i l t only =
     let n : position_or_len p xs ≡ i = position_or_len_is p xs i d (omega arith)
-      (λ k b. elim (cases_Bool (p (get_or xs k d))) [ inl s ↦ let e : k ≡ i = only k (omega arith) s in absurd (omega arith) | inr s ↦ s ])
-      (λ _. t) in
+    (λ k b. elim (cases_Bool (p (get_or xs k d))) [ inl s ↦ let e : k ≡ i = only k (omega arith) s in absurd (omega arith) | inr s ↦ s ])
+    (λ _. t) in
     let b : nat_lt (position_or_len p xs) (length xs) ≡ true = rw n (grind arith) in
     rw b (ap (λ m. Some m) n)
 

@@ -1,25 +1,18 @@
 -- What follows of a regular history: each packet's own queue, lane, application and transmit queue, and short lists.
-use Rattle.std.proofs.Common.{ℕ, ◌+◌, ◌-◌, ◌≤◌, ◌<◌, ◌≡◌, ◌≢◌, ◌⊎◌, Bool, true, false, cond, List, [], ◌∷◌, ◌++◌, Option, Some, None, map, length, take, drop, refl, ap, ◌∙◌, sym, arith, suc, zero, inl, inr, get_or, subst, eqb}
+use Rattle.std.proofs.Common.{ℕ, ◌+◌, ◌<◌, ◌≡◌, ◌≢◌, true, List, [], ◌∷◌, ◌++◌, Option, Some, None, map, length, refl, ap, ◌∙◌, sym, arith, suc, zero, inl, inr, get_or, subst}
 use Rattle.std.specs.Prelude.{◌==◌}
-use Rattle.std.specs.List.{filter, range_with_len, IsDistinct, list_any}
-use Rattle.std.specs.Option.{option_map, option_and_then, is_some}
-use Rattle.std.proofs.Math.ListN.{get_or-eq_default, get_or-append}
-use Rattle.std.proofs.lemmas.Bool.{cases_Bool, cases_eq, cases_lt, ne_eqb, eq-eqb, eqb-true, or_cases}
-use Rattle.std.proofs.lemmas.List.{get_or-append-add, length-append, get_or-map, length-map}
-use Rattle.std.proofs.lemmas.Map.Keys.{IsDistinct-from_apart}
-use Rattle.std.proofs.lemmas.Map.Steps.{length-le_from_distinct_below}
-use Rattle.steer_base.specs.Entries.{place_in}
-use Rattle.steer_base.specs.Orders.{Apart, IsPrefix}
-use Rattle.steer_base.specs.declared.choice.Choice.{Choice}
+use Rattle.std.specs.List.{range_with_len}
+use Rattle.std.specs.Option.{option_map, is_some}
+use Rattle.std.proofs.lemmas.Bool.{cases_Bool, cases_eq, eqb-true}
+use Rattle.steer_base.specs.Orders.{IsPrefix}
 use Rattle.steer_base.specs.declared.choice.Chosen.{Chosen}
 use Rattle.steer_base.specs.declared.packet.Packet.{Packet}
-use Rattle.history.specs.Finding.{is_in, is_among, found, first_some, Once}
+use Rattle.history.specs.Finding.{is_in, found}
 use Rattle.history.specs.Lines.{choice_in, choice_of, tx_choice_of}
-use Rattle.history.specs.Lists.{no_arrival, no_lane, list_at, lane_at, drop_ids, accepted_lists, dropped_lists, arrival_of, arrivals_at, app_at}
+use Rattle.history.specs.Lists.{no_arrival, list_at, lane_at, drop_ids, arrival_of, arrivals_at, app_at}
 use Rattle.history.specs.Regular.{Regular, HasChoice}
 use Rattle.history.specs.declared.arrival.Arrival.{Arrival}
 use Rattle.history.specs.declared.history.History.{History}
-use Rattle.history.specs.declared.lane_list.LaneList.{LaneList}
 use Rattle.history.proofs.FindingLemmas.{is_in-here, is_in-past, found-here, found-past}
 use Rattle.history.proofs.OwnLemmas.{own-first}
 
@@ -101,8 +94,8 @@ at-queue q x i [] e h = absurd (cc)
 at-queue q x i (a ∷ rest) e h =
     let here : a.id ≡ i = numbered-head i a rest e in
     let further = λ (k : is_in x (arrivals_at rest q) ≡ true).
-        let w = at-queue q x (i + 1) rest (numbered-tail i a rest e) k in
-        let p : (j : ℕ) × (j < length (a ∷ rest)) × (x ≡ i + j) × ((get_or (a ∷ rest) j no_arrival).queue ≡ q) = (suc w.0, omega (arith, w.1), omega (arith, w.2), w.3) in p in
+    let w = at-queue q x (i + 1) rest (numbered-tail i a rest e) k in
+    let p : (j : ℕ) × (j < length (a ∷ rest)) × (x ≡ i + j) × ((get_or (a ∷ rest) j no_arrival).queue ≡ q) = (suc w.0, omega (arith, w.1), omega (arith, w.2), w.3) in p in
     elim (cases_Bool (a.queue == q)) [
       | inl t ↦
           let f : is_in x (arrivals_at (a ∷ rest) q) ≡ is_in x (a.id ∷ arrivals_at rest q) = rw t refl in

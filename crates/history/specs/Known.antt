@@ -1,5 +1,5 @@
 -- What the passes over the lists of a history tell of each packet.
-use Rattle.std.specs.Prelude.{ℕ, ◌<◌, ◌^◌, ◌≡◌, Bool, ◌&&◌, List, Option, Some, None, length, nat_lt, nat_le, slice_index, if◌then◌else◌}
+use Rattle.std.specs.Prelude.{ℕ, ◌<◌, ◌^◌, ◌&&◌, List, Option, Some, None, length, nat_lt, nat_le, if◌then◌else◌}
 use Rattle.steer_base.specs.Entries.{place_in}
 use Rattle.history.specs.Finding.{first_some}
 use Rattle.history.specs.Index.{IsIndex}

@@ -1,3 +1,4 @@
+pub mod Counted
 pub mod Finding
 pub mod Index
 pub mod Known

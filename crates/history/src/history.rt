@@ -79,28 +79,40 @@ impl History {
     fn dropped_at(&self, id: PacketId) -> Option<usize>
         ensures { result ≡ position (λ lane. is_in id (drop_ids lane)) self.now.lanes }
     {
-        self.lanes.as_slice().iter().position(|lane| lane.has_dropped(id))
+        self.lanes
+            .as_slice()
+            .iter()
+            .position(|lane| lane.has_dropped(id))
     }
 
     // The first inbox that has the packet.
     fn inbox_of(&self, id: PacketId) -> Option<usize>
         ensures { result ≡ position (λ inbox. is_in id inbox) self.now.inboxes }
     {
-        self.inboxes.as_slice().iter().position(|inbox| inbox.has(id))
+        self.inboxes
+            .as_slice()
+            .iter()
+            .position(|inbox| inbox.has(id))
     }
 
     // The first processor that has the packet among those that were pulled there.
     fn pulled_at(&self, id: PacketId) -> Option<usize>
         ensures { result ≡ position (λ lane. is_among lane.pulled id lane.accepted) self.now.lanes }
     {
-        self.lanes.as_slice().iter().position(|lane| lane.has_pulled(id))
+        self.lanes
+            .as_slice()
+            .iter()
+            .position(|lane| lane.has_pulled(id))
     }
 
     // The first processor that accepted the packet.
     fn accepted_at(&self, id: PacketId) -> Option<usize>
         ensures { result ≡ position (λ lane. is_in id lane.accepted) self.now.lanes }
     {
-        self.lanes.as_slice().iter().position(|lane| lane.has_accepted(id))
+        self.lanes
+            .as_slice()
+            .iter()
+            .position(|lane| lane.has_accepted(id))
     }
 
     // Whether the poller of its queue took a packet that arrived.

@@ -1,12 +1,12 @@
 //! What the lists of a history tell of each packet, and the lines of a packet that follow.
-ghost use Rattle.std.specs.Prelude.{◌≡◌, ◌<◌, ◌≤◌, length, IfOk};
+ghost use Rattle.std.specs.Prelude.{◌≡◌, ◌<◌, ◌≤◌, length, map, IfOk};
+ghost use Rattle.std.specs.List.{range_with_len};
 ghost use Rattle.std.specs.Option.{option_and, option_map, option_or};
 ghost use Rattle.steer_base.specs.Counters.{number};
 ghost use Rattle.steer_base.specs.declared.put.Put.TheVariants.{At as at_position};
 ghost use Rattle.history.specs.Known.{HasShortLists, IsKnown, pulled_by};
 ghost use Rattle.history.specs.Lines.{packet_line as line_of_packet, reply_line as line_of_reply, via_of as via_of_arrival};
 ghost use Rattle.history.specs.Places.{place_by as first_place, place_of as place_of_packet, was_taken};
-ghost use Rattle.history.specs.Lists.{app_at};
 ghost use Rattle.history.specs.Regular.{Regular};
 
 use crate::arrival::Arrival;
@@ -56,40 +56,87 @@ impl Known {
     }
 }
 
-// The line of a packet that arrived.
-pub(crate) fn packet_line(
+// The lines of all packets that arrived.
+pub(crate) fn packet_lines(
+    alloc: Global,
     h: &History,
     known: &Known,
     packets: &[Packet],
     apps: u8,
-    taken: bool,
+    taken: &[bool],
+) -> Result<Vec<PacketLine>, OutOfMemory>
+    requires regular { Regular packets.now apps h.now }
+    requires known { IsKnown h.now known.now }
+    requires apps { 1 ≤ apps }
+    requires few { length packets.now ≤ 262144 }
+    requires taken { taken.now ≡ map (was_taken h.now) (range_with_len 0 (length h.now.arrivals)) }
+    ensures { IfOk result (λ v. v.items ≡ map (line_of_packet packets.now apps h.now) (range_with_len 0 (length h.now.arrivals))) }
+{
+    let mut lines = Vec::with_capacity(alloc, taken.len())?;
+    for (x, taken) in taken.iter().enumerate() {
+        let id = PacketId(x as u32);
+        let place = place_of(h, known, packets, apps, *taken, id);
+        lines.push(packet_line(h, known, packets, apps, place, id))?;
+    }
+    Ok(lines)
+}
+
+// The lines of the replies to them.
+pub(crate) fn reply_lines(
+    alloc: Global,
+    h: &History,
+    known: &Known,
+    packets: &[Packet],
+    apps: u8,
+) -> Result<Vec<Option<ReplyLine>>, OutOfMemory>
+    requires known { IsKnown h.now known.now }
+    requires apps { 1 ≤ apps }
+    requires packets { length h.now.arrivals ≤ length packets.now }
+    requires few { length packets.now ≤ 262144 }
+    ensures { IfOk result (λ v. v.items ≡ map (line_of_reply packets.now apps h.now) (range_with_len 0 (length h.now.arrivals))) }
+{
+    let count = h.arrivals.len();
+    let mut lines = Vec::with_capacity(alloc, count)?;
+    for x in 0..count {
+        let id = PacketId(x as u32);
+        lines.push(reply_line(h, known, packets, apps, id))?;
+    }
+    Ok(lines)
+}
+
+// The line of a packet that arrived.
+fn packet_line(
+    h: &History,
+    known: &Known,
+    packets: &[Packet],
+    apps: u8,
+    place: Place,
     id: PacketId,
 ) -> PacketLine
     requires regular { Regular packets.now apps h.now }
     requires known { IsKnown h.now known.now }
     requires apps { 1 ≤ apps }
     requires arrived { id < length h.now.arrivals }
-    requires taken { taken ≡ was_taken h.now id }
+    requires place { place ≡ place_of_packet h.now id }
     ensures { result ≡ line_of_packet packets.now apps h.now id }
 {
     let arrival = h.arrivals.get(id.0 as usize);
     let packet = packets[id.0 as usize];
-    let app = app_of(packet.hash, apps);
     PacketLine {
         id,
         queue: arrival.queue,
         via: via_of(arrival),
         choice: known.choices.get(id),
         put: put_of(h.start, known.accepted.get(id), known.drops.get(id)),
-        app,
+        app: app_of(packet.hash, apps),
         inbox: known.inboxes.get(id),
-        place: place_of(h, known, packets, apps, app, taken, id),
+        place,
         flow_number: packet.flow_number,
     }
 }
 
 // The line of the reply to a packet, where one was begun.
-pub(crate) fn reply_line(
+fn reply_line(
     h: &History,
     known: &Known,
     packets: &[Packet],
@@ -122,17 +169,17 @@ fn place_of(
     known: &Known,
     packets: &[Packet],
     apps: u8,
-    app: AppId,
     taken: bool,
     id: PacketId,
 ) -> Place
     requires regular { Regular packets.now apps h.now }
     requires known { IsKnown h.now known.now }
+    requires apps { 1 ≤ apps }
     requires arrived { id < length h.now.arrivals }
-    requires app { app ≡ app_at packets.now apps id }
     requires taken { taken ≡ was_taken h.now id }
     ensures { result ≡ place_of_packet h.now id }
 {
+    let app = app_of(packets[id.0 as usize].hash, apps);
     let cpu = lane_of(known.choices.get(id));
     let accepted = known.accepted.get(id);
     let pulled = pulled_at(&h.lanes, cpu, accepted);

@@ -3,6 +3,7 @@
 
 mod arrival;
 mod commanded;
+mod counted;
 mod history;
 mod index;
 mod items;

@@ -1,8 +1,6 @@
 use Rattle.std.proofs.Common.{take}
-use Rattle.steer_base.specs.Entries.{place_in}
 use Rattle.history.specs.Finding.{first_some, found}
 use Rattle.history.specs.Index.{IsIndex}
-use Rattle.history.specs.Lines.{accepted_place, choice_in, drop_in}
 use Rattle.history.proofs.index.index_sent.Given as goal
 
 abbrev pub invariant-loop-list : goal.invariant-loop-list

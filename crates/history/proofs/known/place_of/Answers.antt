@@ -1,6 +1,3 @@
-use Rattle.std.proofs.Common.{◌≡◌, sym, ◌∙◌, ap}
-use Rattle.std.specs.Option.{option_map}
-use Rattle.history.specs.Lines.{choice_of}
 use Rattle.history.proofs.PlaceLemmas.{place-known}
 use Rattle.history.proofs.known.place_of.Goals as goal
 

@@ -1,4 +1,4 @@
-use Rattle.std.proofs.Common.{◌≡◌, ◌+◌, suc, sym, ◌∙◌, arith, ap, drop}
+use Rattle.std.proofs.Common.{◌+◌, sym, ◌∙◌, arith, ap, drop}
 use Rattle.history.specs.Finding.{is_among}
 use Rattle.history.specs.Lists.{arrivals_at}
 use Rattle.history.proofs.FindingLemmas.{among-here, among-same_queue, among-other_queue}

@@ -1,4 +1,4 @@
-use Rattle.std.proofs.Common.{◌≡◌, ◌<◌, sym, ◌∙◌, arith, []}
+use Rattle.std.proofs.Common.{◌<◌, sym, ◌∙◌, arith, []}
 use Rattle.history.specs.Finding.{is_in, is_among}
 use Rattle.history.specs.Lists.{no_lane, drop_ids}
 use Rattle.history.proofs.FindingLemmas.{is_in-among}
