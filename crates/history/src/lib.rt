@@ -3,11 +3,15 @@
 
 mod arrival;
 mod commanded;
+mod counted;
 mod fits;
 mod found_again;
 mod history;
+mod index;
 mod items;
+mod known;
 mod lane_list;
+mod lines;
 mod packet_line;
 mod place;
 mod reply_line;
@@ -20,6 +24,7 @@ pub use found_again::{histories_are_found_again, lines_fit};
 pub use history::History;
 pub use items::Items;
 pub use lane_list::LaneList;
+pub use lines::Lines;
 pub use packet_line::{PacketLine, Via};
 pub use place::Place;
 pub use reply_line::ReplyLine;
