@@ -1,12 +1,12 @@
 -- One spelling: the fields of a command and of its answer determine them.
-use Rattle.std.proofs.Common.{◌≡◌, ◌≢◌, ◌⊎◌, ℕ, zero, suc, ◌<◌, ◌^◌, ◌≤◌, ◌+◌, ◌*◌, Bool, true, false, cond, List, [], ◌∷◌, ◌++◌, Option, length, refl, sym, ap, ◌∙◌, subst, arith, decimal, get_or, drop, inl, inr}
-use Rattle.std.specs.Prelude.{codes, ⊤, ◌==◌, ◌&&◌, nat_lt}
+use Rattle.std.proofs.Common.{◌≡◌, ◌≢◌, ℕ, zero, suc, ◌<◌, ◌^◌, ◌≤◌, ◌+◌, ◌*◌, Bool, true, false, cond, List, [], ◌∷◌, ◌++◌, length, refl, sym, ap, ◌∙◌, arith, decimal, inl, inr}
+use Rattle.std.specs.Prelude.{codes, ⊤, ◌==◌, nat_lt}
 use Rattle.std.specs.List.{filter, range_with_len}
 use Rattle.std.specs.Int.{bit_at}
 use Rattle.std.proofs.lemmas.Bool.{cases_Bool, eq-eqb, eqb-true, lt-ltb}
 use Rattle.std.proofs.lemmas.Fmt.{decimal_nonempty}
 use Rattle.std.proofs.lemmas.Nat.Bits.{same_from_bits_below, bit_at-lt}
-use Rattle.steer_base.specs.Sets.{has, has_queue, in_bits, those_below}
+use Rattle.steer_base.specs.Sets.{in_bits, those_below}
 use Rattle.steer_base.specs.declared.command.Command.{Command}
 use Rattle.steer_base.specs.declared.command.Command.TheVariants as command
 use Rattle.steer_base.specs.declared.command.Answer.{Answer}
@@ -18,9 +18,8 @@ use Rattle.steer_base.specs.declared.command.User.TheVariants.{Queue, App}
 use Rattle.steer_base.specs.declared.cpu_mask.CpuMask.{CpuMask}
 use Rattle.steer_base.specs.declared.idle.Idle.{Idle}
 use Rattle.steer_base.specs.declared.idle.Idle.TheVariants.{AlreadyOnline}
-use Rattle.history.specs.Ranges.{CommandFits, AnswerFits, CommandedFits}
+use Rattle.history.specs.Ranges.{CommandFits, AnswerFits}
 use Rattle.history.specs.Regular.{has_text, is_online}
-use Rattle.history.specs.declared.commanded.Commanded.{Commanded}
 use Rattle.report.specs.Commands.{with_commas, set_field, cpus_field, queues_field, command_fields, answer_fields, busy_fields, user_fields}
 use Rattle.report.proofs.Cuts.{front, rear}
 use Rattle.report.proofs.Digits.{AreDigits, decimal-AreDigits}

@@ -1,6 +1,6 @@
 -- A list of rows is found again in its text.
-use Rattle.std.proofs.Common.{◌≡◌, ◌≢◌, ◌⊎◌, ℕ, zero, suc, ◌<◌, ◌^◌, ◌≤◌, ◌+◌, List, [], ◌∷◌, ◌++◌, length, refl, sym, ap, ◌∙◌, subst, arith, decimal, append_assoc, inl, inr, get_or, Bool, true, false, not}
-use Rattle.std.specs.Prelude.{◌==◌, ◌&&◌, codes, ⊤}
+use Rattle.std.proofs.Common.{◌≡◌, ◌⊎◌, ℕ, List, [], ◌∷◌, ◌++◌, length, refl, sym, ap, ◌∙◌, arith, append_assoc, inl, inr, get_or, Bool, true, false, not}
+use Rattle.std.specs.Prelude.{◌==◌, ◌&&◌, codes}
 use Rattle.std.proofs.lemmas.Bool.{eq-eqb}
 use Rattle.std.proofs.lemmas.Fmt.{decimal_injective}
 use Rattle.report.specs.Texts.{Row, word, fields, body, further, row_text, text_of, IsField, AreFields, IsRow, AreRows}

@@ -1,9 +1,10 @@
-pub mod NumbersLemmas
-pub mod Digits
-pub mod Cuts
-pub mod Sections
-pub mod Spelling
 pub mod CommandSpelling
-pub mod ReportRows
+pub mod Cuts
+pub mod Digits
+pub mod KnownRows
+pub mod NumbersLemmas
 pub mod OneHistory
 pub mod OneReply
+pub mod ReportRows
+pub mod Sections
+pub mod Spelling

@@ -1,26 +1,25 @@
 -- Two histories of one report have the same lines, sums, writes and commands.
-use Rattle.std.proofs.Common.{◌≡◌, ◌⊎◌, ℕ, zero, suc, ◌<◌, ◌^◌, ◌≤◌, ◌+◌, Bool, true, false, List, [], ◌∷◌, ◌++◌, Option, Some, None, length, map, refl, sym, ap, ◌∙◌, subst, arith, decimal, get_or, drop}
-use Rattle.std.specs.Prelude.{codes, ⊤, slice_index}
-use Rattle.std.specs.List.{All, filter_map, cons_option, range_with_len}
+use Rattle.std.proofs.Common.{◌≡◌, ℕ, zero, suc, ◌<◌, ◌^◌, ◌≤◌, ◌+◌, true, List, [], ◌∷◌, Option, Some, None, length, map, refl, sym, ap, ◌∙◌, subst, arith, decimal}
+use Rattle.std.specs.Prelude.{⊤, slice_index}
+use Rattle.std.specs.List.{All, cons_option, range_with_len}
 use Rattle.std.specs.Option.{option_map, IfSome}
 use Rattle.std.proofs.lemmas.Fmt.{decimal_injective}
 use Rattle.std.proofs.lemmas.List.Elements.{All-head, All-tail}
 use Rattle.steer_base.specs.declared.packet.Packet.{Packet}
-use Rattle.history.specs.Lines.{LineLists, packet_line, reply_line, line_of_sent, sent_of, lines_of}
-use Rattle.history.specs.Ranges.{FitsIn, LaneFits, WriteFits, CommandedFits, HistoryFits, ReplyFits, HaveLinesThatFit}
-use Rattle.history.specs.Regular.{Regular, has_text}
-use Rattle.history.specs.Shown.{Sums, sums_of, SameReply, SameShown, IsFoundAgain}
+use Rattle.history.specs.Lines.{packet_line, reply_line, line_of_sent, sent_of, lines_of}
+use Rattle.history.specs.Ranges.{FitsIn, LaneFits, WriteFits, CommandedFits, ReplyFits, HaveLinesThatFit}
+use Rattle.history.specs.Regular.{has_text}
+use Rattle.history.specs.Shown.{sums_of, SameReply, SameShown, IsFoundAgain}
 use Rattle.history.specs.declared.commanded.Commanded.{Commanded}
 use Rattle.history.specs.declared.history.History.{History}
 use Rattle.history.specs.declared.lane_list.LaneList.{LaneList}
-use Rattle.history.specs.declared.packet_line.PacketLine.{PacketLine}
 use Rattle.history.specs.declared.reply_line.ReplyLine.{ReplyLine}
 use Rattle.history.specs.declared.sent.Sent.{Sent}
 use Rattle.history.specs.declared.sock_write.SockWrite.{SockWrite}
 use Rattle.report.specs.Commands.{command_row, answer_fields}
-use Rattle.report.specs.Laws.{TextsFit, IsReportable, HasOneHistory}
-use Rattle.report.specs.Lines.{packet_row, reply_row, queue_row, cpu_row, tx_row, write_row, end_row, cut_fields}
-use Rattle.report.specs.Report.{numbered, packet_rows, reply_rows, write_rows, tap_rows, rows_of}
+use Rattle.report.specs.Laws.{IsReportable, HasOneHistory}
+use Rattle.report.specs.Lines.{packet_row, reply_row, queue_row, cpu_row, tx_row, write_row, cut_fields}
+use Rattle.report.specs.Report.{numbered, reply_rows, write_rows, tap_rows, rows_of}
 use Rattle.report.specs.Texts.{Row, fields}
 use Rattle.report.specs.Texts.Row.{Line, Tap}
 use Rattle.report.proofs.CommandSpelling.{command-same, answer-same}

@@ -1,10 +1,10 @@
 -- A report that is known from outside: one packet that was steered without a flow table, delivered and replied to. Its
 -- history is reportable, so the laws over reports speak of some histories.
-use Rattle.std.proofs.Common.{◌≡◌, ◌≢◌, ◌⊎◌, ℕ, zero, suc, ◌<◌, ◌^◌, ◌≤◌, ◌+◌, Bool, true, false, List, [], ◌∷◌, ◌++◌, Option, Some, None, length, map, refl, sym, ap, ◌∙◌, subst, arith, get_or, inl, inr}
-use Rattle.std.specs.Prelude.{codes, ⊤, ◌==◌, slice_index, slice_index_or}
+use Rattle.std.proofs.Common.{◌≡◌, ◌≢◌, ◌⊎◌, ℕ, zero, suc, ◌<◌, ◌^◌, ◌≤◌, true, false, List, [], ◌∷◌, ◌++◌, Some, None, length, map, refl, sym, ◌∙◌, subst, arith, inl, inr}
+use Rattle.std.specs.Prelude.{codes, ◌==◌, slice_index, slice_index_or}
 use Rattle.std.specs.Fmt.{digits}
 use Rattle.std.specs.List.{All}
-use Rattle.std.specs.Option.{is_some, IsSome}
+use Rattle.std.specs.Option.{IsSome}
 use Rattle.std.proofs.lemmas.Bool.{cases_Bool, eq-eqb, eqb-true}
 use Rattle.std.proofs.lemmas.List.Elements.{All-nil, All-cons}
 use Rattle.steer_base.specs.Arrivals.{IsRoute}
@@ -21,7 +21,7 @@ use Rattle.history.specs.Ranges.{HistoryFits, ArrivalFits, ChosenFits, LaneFits,
 use Rattle.history.specs.Regular.{Regular, AreQueued, HasChoice, has_text, route_of}
 use Rattle.history.specs.declared.history.History.{History}
 use Rattle.history.specs.declared.lane_list.LaneList.{LaneList}
-use Rattle.report.specs.Laws.{TextsFit, IsReportable}
+use Rattle.report.specs.Laws.{IsReportable}
 use Rattle.report.specs.Report.{report}
 
 abbrev packets : List Packet

@@ -1,6 +1,6 @@
 -- No field of a report has a space or a line feed, and only the row of a tap begins as one.
-use Rattle.std.proofs.Common.{◌≡◌, ◌≢◌, ℕ, zero, suc, ◌<◌, ◌^◌, ◌≤◌, ◌+◌, ◌*◌, Bool, true, false, List, [], ◌∷◌, ◌++◌, Option, Some, None, length, map, refl, sym, ap, ◌∙◌, arith, decimal}
-use Rattle.std.specs.Prelude.{codes, ⊤, ◌==◌, slice_index}
+use Rattle.std.proofs.Common.{◌≡◌, ◌≢◌, ℕ, suc, ◌<◌, ◌^◌, ◌≤◌, ◌+◌, ◌*◌, true, false, List, [], ◌∷◌, ◌++◌, Option, Some, None, length, map, refl, ap, arith, decimal}
+use Rattle.std.specs.Prelude.{codes, ◌==◌, slice_index}
 use Rattle.std.specs.List.{All, cons_option}
 use Rattle.std.specs.Option.{option_map}
 use Rattle.std.proofs.lemmas.Bool.{eq-eqb}
@@ -21,9 +21,7 @@ use Rattle.steer_base.specs.declared.put.DropCause.{DropCause}
 use Rattle.steer_base.specs.declared.put.DropCause.TheVariants.{Full, Flow}
 use Rattle.steer_base.specs.declared.put.Put.{Put}
 use Rattle.steer_base.specs.declared.put.Put.TheVariants.{At, Dropped as FellAs}
-use Rattle.history.specs.Lines.{LineLists}
 use Rattle.history.specs.declared.commanded.Commanded.{Commanded}
-use Rattle.history.specs.declared.history.History.{History}
 use Rattle.history.specs.declared.lane_list.LaneList.{LaneList}
 use Rattle.history.specs.declared.packet_line.PacketLine.{PacketLine}
 use Rattle.history.specs.declared.packet_line.Via.{Via}
@@ -33,9 +31,9 @@ use Rattle.history.specs.declared.place.Place.TheVariants.{Ring, Poller, Backlog
 use Rattle.history.specs.declared.reply_line.ReplyLine.{ReplyLine}
 use Rattle.history.specs.declared.sock_write.SockWrite.{SockWrite}
 use Rattle.report.specs.Commands.{with_commas, set_field, cpus_field, queues_field, command_fields, idle_fields, busy_fields, user_fields, answer_fields, command_row}
-use Rattle.report.specs.Laws.{TextsFit, HasRows}
+use Rattle.report.specs.Laws.{HasRows}
 use Rattle.report.specs.Lines.{or_dash, via_word, why_word, place_word, class_in, want_in, head_in, tail_in, lane_in, why_in, cause_fields, put_fields, last_fields, packet_fields, packet_row, reply_fields, reply_row, queue_row, lane_fields, cpu_row, tx_row, write_row, cut_fields, end_row}
-use Rattle.report.specs.Report.{numbered, first_row, packet_rows, reply_rows, queue_rows, cpu_rows, tx_rows, write_rows, command_rows, tap_rows, rows_of}
+use Rattle.report.specs.Report.{numbered, packet_rows, reply_rows, queue_rows, cpu_rows, tx_rows, write_rows, command_rows, tap_rows}
 use Rattle.report.specs.Texts.{Row, IsField, AreFields, IsRow, AreRows}
 use Rattle.report.specs.Texts.Row.{Line, Tap}
 use Rattle.report.proofs.Cuts.{is_field, word-IsField}

@@ -1,8 +1,8 @@
 -- The sections of a report are found again in its rows, by the first words of these.
-use Rattle.std.proofs.Common.{◌≡◌, ◌≢◌, ◌⊎◌, ℕ, zero, suc, ◌<◌, ◌≤◌, ◌+◌, Bool, true, false, List, [], ◌∷◌, ◌++◌, Option, Some, None, length, map, refl, sym, ap, ◌∙◌, subst, arith}
+use Rattle.std.proofs.Common.{◌≡◌, ℕ, suc, ◌<◌, List, [], ◌∷◌, ◌++◌, Option, Some, None, length, map, refl, sym, ap, subst, arith}
 use Rattle.std.specs.Prelude.{codes, ⊤, if◌then◌else◌, slice_index}
 use Rattle.std.specs.Str.{bytes_eq}
-use Rattle.std.specs.List.{filter_map, cons_option}
+use Rattle.std.specs.List.{cons_option}
 use Rattle.std.specs.Option.{option_map}
 use Rattle.history.specs.Lines.{LineLists}
 use Rattle.history.specs.declared.history.History.{History}
@@ -14,7 +14,7 @@ use Rattle.report.specs.Commands.{command_row}
 use Rattle.report.specs.Lines.{packet_row, reply_row, queue_row, cpu_row, tx_row, write_row, end_row}
 use Rattle.report.specs.Report.{numbered, packet_rows, reply_rows, queue_rows, cpu_rows, tx_rows, write_rows, command_rows, tap_rows, rows_of}
 use Rattle.report.specs.Texts.{Row, word}
-use Rattle.report.specs.Texts.Row.{Line, Tap}
+use Rattle.report.specs.Texts.Row.{Tap}
 
 abbrev pub Each : (Row → Type 0) → List Row → Type 0
 Each P [] = ⊤

@@ -1,23 +1,22 @@
 -- One spelling: a field of a line determines its value.
-use Rattle.std.proofs.Common.{◌≡◌, ◌⊎◌, ℕ, zero, suc, ◌<◌, ◌^◌, ◌≤◌, ◌+◌, Bool, true, false, List, [], ◌∷◌, ◌++◌, Option, Some, None, length, refl, sym, ap, ◌∙◌, arith, decimal, get_or, drop, inl, inr}
-use Rattle.std.specs.Prelude.{slice_index, codes, ⊤, if◌then◌else◌}
+use Rattle.std.proofs.Common.{◌≡◌, ℕ, ◌<◌, ◌^◌, List, [], ◌∷◌, ◌++◌, Option, Some, None, refl, sym, ap, ◌∙◌, arith, decimal, get_or, drop, inl, inr}
+use Rattle.std.specs.Prelude.{slice_index, codes, if◌then◌else◌}
 use Rattle.std.specs.Str.{bytes_eq}
 use Rattle.std.specs.Option.{option_map, IfSome}
 use Rattle.std.proofs.lemmas.Fmt.{decimal_injective}
 use Rattle.steer_base.specs.declared.choice.Choice.{Choice}
 use Rattle.steer_base.specs.declared.choice.Why.{Why}
 use Rattle.steer_base.specs.declared.choice.Why.TheVariants.{Plain, Same, Unset, Offline, Passed, Kept}
-use Rattle.steer_base.specs.declared.put.DropCause.{DropCause}
 use Rattle.steer_base.specs.declared.put.DropCause.TheVariants.{Full, Flow}
 use Rattle.steer_base.specs.declared.put.Put.{Put}
 use Rattle.steer_base.specs.declared.put.Put.TheVariants.{At, Dropped as FellAs}
-use Rattle.history.specs.Ranges.{FitsIn, ChoiceFits, CauseFits, PutFits, PacketFits, ReplyFits}
+use Rattle.history.specs.Ranges.{FitsIn, ChoiceFits, PutFits, PacketFits, ReplyFits}
 use Rattle.history.specs.Shown.{SamePacket, shown_of, without_class}
 use Rattle.history.specs.declared.packet_line.PacketLine.{PacketLine}
 use Rattle.history.specs.declared.packet_line.Via.{Via}
 use Rattle.history.specs.declared.packet_line.Via.TheVariants.{Filter, Reta, Unhashed}
 use Rattle.history.specs.declared.reply_line.ReplyLine.{ReplyLine}
-use Rattle.report.specs.Lines.{or_dash, via_word, why_word, put_fields, cause_fields, class_in, want_in, head_in, tail_in, lane_in, why_in, last_fields, packet_fields, reply_fields}
+use Rattle.report.specs.Lines.{or_dash, via_word, why_word, put_fields, class_in, want_in, head_in, tail_in, lane_in, why_in, last_fields, packet_fields, reply_fields}
 use Rattle.report.proofs.Digits.{no_number}
 
 -- a field of a row, and the fields from one on
