@@ -17,7 +17,7 @@ use Rattle.history.specs.declared.reply_line.ReplyLine.{ReplyLine}
 use Rattle.history.specs.declared.sent.Sent.{Sent}
 use Rattle.history.specs.declared.sock_write.SockWrite.{SockWrite}
 use Rattle.report.specs.Commands.{command_row, answer_fields}
-use Rattle.report.specs.Laws.{IsReportable, HasOneHistory}
+use Rattle.report.specs.Laws.{IsReportOf, HasOneHistory}
 use Rattle.report.specs.Lines.{packet_row, reply_row, queue_row, cpu_row, tx_row, write_row, cut_fields}
 use Rattle.report.specs.Report.{numbered, reply_rows, write_rows, tap_rows, rows_of}
 use Rattle.report.specs.Texts.{Row, fields}
@@ -219,16 +219,16 @@ bytes_of (Tap k bytes) = bytes
 same_taps : (texts more : List (List ℕ)) → tap_rows texts ≡ tap_rows more → texts ≡ more
 same_taps texts more e = same_values (λ t. ⊤) Tap Tap (λ i a b p q f. ap bytes_of f) texts more (λ k d l. tt) (λ k d l. tt) e
 
-same_shown : HaveLinesThatFit → (packets : List Packet) (apps : ℕ) (h k : History) (texts more : List (List ℕ)) → length packets ≤ 262144 → apps < 2 ^ 64
-    → IsReportable packets apps h texts → IsReportable packets apps k more → h.start ≡ k.start
+same_shown : HaveLinesThatFit → (packets : List Packet) (apps : ℕ) (start : ℕ) (h k : History) (texts more : List (List ℕ)) (bytes : List ℕ)
+    → length packets ≤ 262144 → apps < 2 ^ 64 → IsReportOf packets apps start h texts bytes → IsReportOf packets apps start k more bytes
     → SameSections (lines_of packets apps h) (lines_of packets apps k) h k texts more → SameShown packets apps h k
-same_shown fit packets apps h k texts more small few a b start s =
+same_shown fit packets apps start h k texts more bytes small few a b s =
     let n = length h.arrivals in
     let p = same_map packet_row (packet_line packets apps h) (packet_line packets apps k) 0 n (length k.arrivals) s.packets in
     let r : rows_from (reply_line packets apps h) 0 n ≡ rows_from (reply_line packets apps k) 0 n =
     s.replies ∙ ap (λ m. rows_from (reply_line packets apps k) 0 m) (sym p.0) in
     record {
-      start = start;
+      start = a.starts ∙ sym b.starts;
       total = number-same h.total k.total a.numbers.total b.numbers.total (ap (λ r. field 2 (fields r)) s.last);
       cut = same_cut h.cut k.cut a.numbers.cut b.numbers.cut (ap (λ r. after 3 (fields r)) s.last);
       arrived = p.0;
@@ -261,12 +261,12 @@ same_shown fit packets apps h k texts more small few a b start s =
 
 -- One report has one history.
 pub one_history : IsFoundAgain → HaveLinesThatFit → HasOneHistory
-one_history found fit packets apps h k texts more small few a b start e =
+one_history found fit packets apps start h k texts more bytes small few a b =
     let one = lines_of packets apps h in
     let two = lines_of packets apps k in
     let rows : rows_of one h texts ≡ rows_of two k more =
-    same_rows (rows_of one h texts) (rows_of two k more) (has_rows one h texts a.taps) (has_rows two k more b.taps) e in
+    same_rows (rows_of one h texts) (rows_of two k more) (has_rows one h texts a.taps) (has_rows two k more b.taps) (a.text ∙ sym b.text) in
     let s = same_sections one two h k texts more rows in (
-      found packets apps h k small a.regular a.queued b.regular b.queued (same_shown fit packets apps h k texts more small few a b start s),
+      found packets apps h k small a.regular a.queued b.regular b.queued (same_shown fit packets apps start h k texts more bytes small few a b s),
       same_taps texts more s.taps,
     )

@@ -1,5 +1,5 @@
 -- A report that is known from outside: one packet that was steered without a flow table, delivered and replied to. Its
--- history is reportable, so the laws over reports speak of some histories.
+-- history is regular, so the laws over reports speak of some histories.
 use Rattle.std.proofs.Common.{◌≡◌, ◌≢◌, ◌⊎◌, ℕ, zero, suc, ◌<◌, ◌^◌, ◌≤◌, true, false, List, [], ◌∷◌, ◌++◌, Some, None, length, map, refl, sym, ◌∙◌, subst, arith, inl, inr}
 use Rattle.std.specs.Prelude.{codes, ◌==◌, slice_index, slice_index_or}
 use Rattle.std.specs.Fmt.{digits}
@@ -21,7 +21,7 @@ use Rattle.history.specs.Ranges.{HistoryFits, ArrivalFits, ChosenFits, LaneFits,
 use Rattle.history.specs.Regular.{Regular, AreQueued, HasChoice, has_text, route_of}
 use Rattle.history.specs.declared.history.History.{History}
 use Rattle.history.specs.declared.lane_list.LaneList.{LaneList}
-use Rattle.report.specs.Laws.{IsReportable}
+use Rattle.report.specs.Laws.{IsReportOf}
 use Rattle.report.specs.Report.{report}
 
 abbrev packets : List Packet
@@ -55,8 +55,11 @@ history = record {
   start = 0;
 }
 
--- the report, as it is written with pencil and paper
-known : report packets 1 history [] ≡ codes "steer 1\np 0 q 0 via reta class - want - head - tail - cpu 1 why plain at 1 app 0 in 1 place inbox\nr 0 app 0 rxq 0 cpu 2 pick 0 head - tail 0 tx 0 why unset at 1 port 1\nqueue 0 arrived 1 taken 1\ncpu 0 accepted 0 pulled 0 delivered 0 retired 0 dropped 0\ncpu 1 accepted 1 pulled 1 delivered 1 retired 1 dropped 0\ncpu 2 accepted 0 pulled 0 delivered 0 retired 0 dropped 0\ntx 0 accepted 1 pulled 1 delivered 1 retired 1\nend 1 of 1\n"
+-- its report, written by hand
+abbrev text : List ℕ
+text = codes "steer 1\np 0 q 0 via reta class - want - head - tail - cpu 1 why plain at 1 app 0 in 1 place inbox\nr 0 app 0 rxq 0 cpu 2 pick 0 head - tail 0 tx 0 why unset at 1 port 1\nqueue 0 arrived 1 taken 1\ncpu 0 accepted 0 pulled 0 delivered 0 retired 0 dropped 0\ncpu 1 accepted 1 pulled 1 delivered 1 retired 1 dropped 0\ncpu 2 accepted 0 pulled 0 delivered 0 retired 0 dropped 0\ntx 0 accepted 1 pulled 1 delivered 1 retired 1\nend 1 of 1\n"
+
+known : report packets 1 history [] ≡ text
 unfolding digits
 known = refl
 
@@ -210,5 +213,12 @@ numbers = record {
   start = omega arith;
 }
 
-pub one_reply : IsReportable packets 1 history []
-one_reply = record { regular = regular; queued = queued; numbers = numbers; taps = record { count = omega arith; bytes = All-nil (λ text. length text < 2 ^ 64) } }
+pub one_reply : IsReportOf packets 1 0 history [] text
+one_reply = record {
+  regular = regular;
+  queued = queued;
+  numbers = numbers;
+  taps = record { count = omega arith; bytes = All-nil (λ bytes. length bytes < 2 ^ 64) };
+  starts = refl;
+  text = known;
+}

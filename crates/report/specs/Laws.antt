@@ -22,18 +22,21 @@ HasRows = (lines : LineLists) (h : History) (texts : List (List ℕ)) → TextsF
 abbrev pub AreFoundInText : Type 0
 AreFoundInText = (rows others : List Row) → AreRows rows → AreRows others → text_of rows ≡ text_of others → rows ≡ others
 
--- A history that a report tells of: it is regular for the packets of the capture and the number of applications, each
--- arrival is at the queue that its values lead to, and its numbers and the texts of its taps are such as a program holds.
-pub record IsReportable (packets : List Packet) (apps : ℕ) (h : History) (texts : List (List ℕ)) : Type 0 where
+-- Bytes are the report of a history with this start and of the texts of its taps. The history is regular for the packets
+-- of the capture and the number of applications, each arrival is at the queue that its values lead to, and the numbers
+-- and the texts are such as a program holds.
+pub record IsReportOf (packets : List Packet) (apps start : ℕ) (h : History) (texts : List (List ℕ)) (bytes : List ℕ) : Type 0 where
   pub regular : Regular packets apps h
   pub queued : AreQueued packets h
   pub numbers : HistoryFits h
   pub taps : TextsFit texts
+  pub starts : h.start ≡ start
+  pub text : report packets apps h texts ≡ bytes
 
--- One report has one history: two histories of one start are equal where their reports are, for the packets of one
--- capture and one number of applications, whatever the texts of their taps; and so are these texts.
+-- One report has one history: bytes are the report of at most one history with a given start, for the packets of a
+-- capture and a number of applications, and of the texts of its taps, whatever these are.
 abbrev pub HasOneHistory : Type 0
 HasOneHistory =
-    (packets : List Packet) (apps : ℕ) (h k : History) (texts others : List (List ℕ)) → length packets ≤ 262144 → apps < 2 ^ 64
-    → IsReportable packets apps h texts → IsReportable packets apps k others → h.start ≡ k.start
-    → report packets apps h texts ≡ report packets apps k others → (h ≡ k) × (texts ≡ others)
+    (packets : List Packet) (apps start : ℕ) (h k : History) (texts others : List (List ℕ)) (bytes : List ℕ)
+    → length packets ≤ 262144 → apps < 2 ^ 64
+    → IsReportOf packets apps start h texts bytes → IsReportOf packets apps start k others bytes → (h ≡ k) × (texts ≡ others)

@@ -13,9 +13,8 @@ pub fn rows_are_found_in_their_text()
     ensures { AreFoundInText }
 {}
 
-/// One report has one history: two histories of one start are equal where their reports are, and so are the texts of
-/// their taps, whatever these are. The histories are regular for the packets of one capture and one number of
-/// applications, each arrival is at the queue that its values lead to, and the numbers fit the fields that hold them.
+/// One report has one history: bytes are the report of at most one history with a given start, for the packets of a
+/// capture and a number of applications, and of the texts of its taps, whatever these are.
 pub fn a_report_has_one_history()
     ensures { HasOneHistory }
 {
