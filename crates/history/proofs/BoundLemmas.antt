@@ -1,5 +1,5 @@
 -- The lists of a regular history hold no more packets than arrived.
-use Rattle.std.proofs.Common.{ℕ, ◌+◌, ◌≤◌, ◌<◌, ◌≡◌, true, false, List, [], ◌∷◌, ◌++◌, length, ap, ◌∙◌, sym, arith, inl, inr, get_or, subst, eqb}
+use Rattle.std.proofs.Common.{ℕ, ◌+◌, ◌≤◌, ◌<◌, ◌≡◌, true, false, List, [], ◌∷◌, ◌++◌, length, ap, ◌∙◌, sym, arith, suc, zero, refl, inl, inr, get_or, subst, eqb}
 use Rattle.std.specs.Prelude.{◌==◌}
 use Rattle.std.specs.List.{IsDistinct, list_any}
 use Rattle.std.proofs.Math.ListN.{get_or-eq_default, get_or-append}
@@ -12,7 +12,7 @@ use Rattle.steer_base.specs.Orders.{Apart}
 use Rattle.steer_base.specs.declared.packet.Packet.{Packet}
 use Rattle.history.specs.Finding.{is_in, Once}
 use Rattle.history.specs.Known.{HasShortLists}
-use Rattle.history.specs.Lists.{no_lane, list_at, lane_at, drop_ids, accepted_lists, dropped_lists}
+use Rattle.history.specs.Lists.{app_at, no_lane, list_at, lane_at, drop_ids, accepted_lists, dropped_lists}
 use Rattle.history.specs.Regular.{Regular}
 use Rattle.history.specs.declared.history.History.{History}
 use Rattle.history.specs.declared.lane_list.LaneList.{LaneList}
@@ -106,3 +106,23 @@ short-lists packets apps h r few =
           let l : length h.port ≤ length h.arrivals = at-most h.port (length h.arrivals) r.shipped.port_once (λ x s. arrived-port packets apps h r x s) in
           omega arith;
     }
+
+-- No packet is in two inboxes: each is in that of its application.
+in-index : (xs : List ℕ) (i : ℕ) → i < length xs → is_in (get_or xs i 0) xs ≡ true
+in-index [] i l = absurd (omega arith)
+in-index (y ∷ ys) zero l = is_in-here y y ys refl
+in-index (y ∷ ys) (suc i) l =
+    elim (cases_eq (get_or ys i 0) y) [
+      | inl e ↦ is_in-here (get_or ys i 0) y ys e
+      | inr ne ↦ is_in-past (get_or ys i 0) y ys ne ∙ in-index ys i (omega arith)
+    ]
+
+pub inboxes-apart : (packets : List Packet) (apps : ℕ) (h : History) → Regular packets apps h → Apart h.inboxes
+inboxes-apart packets apps h r p q i j a b k l e =
+    let x = get_or (list_at h.inboxes p) i 0 in
+    let left : app_at packets apps x ≡ p = r.delivered.own p x (in-index (list_at h.inboxes p) i k) in
+    let right : app_at packets apps x ≡ q = r.delivered.own q x (subst (λ y. is_in y (list_at h.inboxes q) ≡ true) (sym e) (in-index (list_at h.inboxes q) j l)) in
+    let same : p ≡ q = sym left ∙ right in
+    let l' : j < length (list_at h.inboxes p) = subst (λ n. j < length (list_at h.inboxes n)) (sym same) l in
+    let e' : get_or (list_at h.inboxes p) i 0 ≡ get_or (list_at h.inboxes p) j 0 = e ∙ ap (λ n. get_or (list_at h.inboxes n) j 0) (sym same) in
+    (same, r.delivered.once p i j k l' e')

@@ -1,6 +1,6 @@
 -- What a history has of one packet: the line of its way in, and the line of its reply.
-use Rattle.std.specs.Prelude.{ℕ, List, Option, is_some, length, map, if◌then◌else◌}
-use Rattle.std.specs.List.{range_with_len}
+use Rattle.std.specs.Prelude.{ℕ, Bool, List, Option, is_some, length, map, if◌then◌else◌}
+use Rattle.std.specs.List.{list_any, range_with_len}
 use Rattle.std.specs.Option.{option_map, option_or, option_and_then}
 use Rattle.steer_base.specs.Counters.{number}
 use Rattle.steer_base.specs.Entries.{place_in}
@@ -10,7 +10,7 @@ use Rattle.steer_base.specs.declared.packet.Packet.{Packet}
 use Rattle.steer_base.specs.declared.put.LaneDrop.{LaneDrop}
 use Rattle.steer_base.specs.declared.put.Put.{Put}
 use Rattle.steer_base.specs.declared.put.Put.TheVariants.{At, Dropped}
-use Rattle.history.specs.Finding.{found, first_some}
+use Rattle.history.specs.Finding.{is_in, found, first_some}
 use Rattle.history.specs.Lists.{packet_at, app_at, arrival_of, arrivals_at, drop_ids}
 use Rattle.history.specs.Places.{place_of}
 use Rattle.history.specs.declared.arrival.Arrival.{Arrival}
@@ -67,6 +67,10 @@ inbox_place_of h x = first_some (place_in x) h.inboxes
 -- the reply to it, where one was begun
 abbrev pub sent_of : History → ℕ → Option Sent
 sent_of h x = first_some (found (λ s. s.id) x) h.sent
+
+-- whether a reply to it was begun
+abbrev pub is_replied : History → ℕ → Bool
+is_replied h x = list_any (λ list. is_in x (map (λ s. s.id) list)) h.sent
 
 -- The line of an arrived packet.
 abbrev pub packet_line : List Packet → ℕ → History → ℕ → PacketLine

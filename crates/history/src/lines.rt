@@ -1,6 +1,8 @@
 //! The lines of all packets and replies of a history.
-ghost use Rattle.std.specs.Prelude.{◌≡◌, ℕ, ◌<◌, ◌≤◌, None, length, slice_index, slice_index_or, IfOk};
-ghost use Rattle.history.specs.Lines.{lines_of, reply_line as line_of_reply};
+ghost use Rattle.std.specs.Prelude.{◌≡◌, ℕ, ◌<◌, ◌≤◌, None, is_some, length, slice_index, slice_index_or, IfOk};
+ghost use Rattle.history.specs.Lines.{is_replied, lines_of, packet_line, reply_line};
+ghost use Rattle.history.specs.Lists.{arrivals_at};
+ghost use Rattle.history.specs.declared.packet_line.PacketLine.{PacketLine};
 ghost use Rattle.history.specs.Regular.{Regular};
 
 use crate::counted::Counted;
@@ -41,7 +43,12 @@ impl Lines {
         requires apps { 1 ≤ apps }
         requires few { length packets.now ≤ 262144 }
         ensures lines { IfOk result (λ l. l ≡ lines_of packets.now apps h.now) }
-        ensures reply { IfOk result (λ l. (x : ℕ) → slice_index_or l.replies x None ≡ line_of_reply packets.now apps h.now x) }
+
+        // Each line, one by one; a reply has one exactly where it was begun.
+        ensures packet { IfOk result (λ l. (x : ℕ) (d : PacketLine) → x < length h.now.arrivals → slice_index_or l.packets x d ≡ packet_line packets.now apps h.now x) }
+        ensures reply { IfOk result (λ l. (x : ℕ) → slice_index_or l.replies x None ≡ reply_line packets.now apps h.now x) }
+        ensures begun { IfOk result (λ l. (x : ℕ) → is_some (slice_index_or l.replies x None) ≡ is_replied h.now x) }
+        ensures arrived { IfOk result (λ l. (q : ℕ) → q < length h.now.taken → slice_index l.arrived q ≡ length (arrivals_at h.now.arrivals q)) }
     {
         let known = Known::make(alloc, h)?;
         let counted = Counted::make(alloc, h)?;
