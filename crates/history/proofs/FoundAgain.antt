@@ -1,32 +1,37 @@
 -- The replies of a regular history are found again, and so is the history.
-use Rattle.std.proofs.Common.{ℕ, ◌≤◌, ◌<◌, ◌≡◌, ◌≢◌, ◌⊎◌, List, [], Option, Some, None, map, length, refl, ap, ◌∙◌, sym, arith, inl, inr, subst}
+use Rattle.std.proofs.Common.{ℕ, ◌≤◌, ◌<◌, ◌≡◌, ◌≢◌, ◌⊎◌, List, [], Option, Some, None, map, length, refl, ap, ◌∙◌, sym, arith, inl, inr, subst, ◌^◌, true, false}
 use Rattle.std.specs.Option.{option_map, is_some}
 use Rattle.std.proofs.lemmas.Bool.{cases_lt}
 use Rattle.steer_base.specs.Counters.{number}
 use Rattle.steer_base.specs.Entries.{place_in}
+use Rattle.steer_base.specs.Orders.{Apart}
 use Rattle.steer_base.specs.declared.choice.Choice.{Choice}
 use Rattle.steer_base.specs.declared.packet.Packet.{Packet}
-use Rattle.history.specs.Finding.{found}
+use Rattle.history.specs.Finding.{found, Once}
 use Rattle.history.specs.Lines.{choice_in, tx_choice_of, accepted_place, tx_position_of, sent_of, line_of_sent}
-use Rattle.history.specs.Lists.{app_at, packet_at, list_at, lane_at, no_lane}
+use Rattle.history.specs.Lists.{app_at, packet_at, list_at, lane_at, no_lane, accepted_lists}
 use Rattle.history.specs.Regular.{Regular}
 use Rattle.history.specs.Shown.{without_class, shown_of, IsFoundAgain}
 use Rattle.history.specs.declared.history.History.{History}
+use Rattle.history.specs.declared.lane_list.LaneList.{LaneList}
 use Rattle.history.specs.declared.reply_line.ReplyLine.{ReplyLine}
 use Rattle.history.specs.declared.sent.Sent.{Sent}
+use Rattle.history.proofs.BoundLemmas.{list-accepted, once-apart, short-lists}
 use Rattle.history.proofs.Looks.{first_some-none, first_some-only, same_looks}
+use Rattle.history.proofs.RegularLemmas.{found-key, tx_choice-own}
+use Rattle.history.proofs.ReplyLemmas.{sent-app, sent-own}
 use Rattle.history.proofs.SameArrivals.{Both, same_arrivals, same_choices, same_found, same_lanes, same_inboxes, same_lane, sums-at, as_many}
-use Rattle.history.proofs.SamePlaces.{some_same, none_unless, map_some, place-bounds, found-key, found-all, same_firsts, same_places, same_lists, Once-front}
+use Rattle.history.proofs.SamePlaces.{some_same, no_value, map_some, place-bounds, found-all, same_firsts, same_places, same_lists, Once-front}
 use Rattle.history.proofs.SamePuts.{position-place}
-use Rattle.history.proofs.Traces.{lane_or, sent-there, sent-elsewhere, sent-at, tx_choice-there, tx_choice-elsewhere, tx_choice-at, tx_accepted-chose, tx_chose-lane, port-chose, accepted-once, few_tx_accepted}
+use Rattle.history.proofs.Traces.{lane_or, sent-elsewhere, tx_choice-elsewhere, tx_choice-replied, tx_accepted-lane, tx_accepted-replied, port-replied}
 
 -- a reply that was begun is of an arrived packet, and names it
 sent-arrived : (packets : List Packet) (apps : ℕ) (h : History) (x : ℕ) (s : Sent) → Regular packets apps h → sent_of h x ≡ Some s
     → (x < length h.arrivals) × (s.id ≡ x)
 sent-arrived packets apps h x s r e =
     let a = app_at packets apps x in
-    let f : found (λ t. t.id) x (list_at h.sent a) ≡ Some s = sym (sent-at packets apps h x r) ∙ e in
-    ((sent-there packets apps h a x s r f).0, found-key (λ t. t.id) x (list_at h.sent a) s f)
+    let f : found (λ t. t.id) x (list_at h.sent a) ≡ Some s = sym (sent-own packets apps h r x) ∙ e in
+    ((sent-app packets apps h r a x (ap is_some f)).0, found-key (λ t. t.id) x (list_at h.sent a) s f)
 
 abbrev rxq_of : Option ReplyLine → ℕ
 rxq_of None = 0
@@ -84,8 +89,8 @@ same_sent_of : (packets : List Packet) (apps : ℕ) (h k : History) → Both pac
 same_sent_of packets apps h k b x = elim (cases_lt x (length h.arrivals)) [
   | inl l ↦ (replied packets apps h k b x l).sent
   | inr l ↦
-      none_unless (sent_of h x) (λ s e. let f = (sent-arrived packets apps h x s b.left e).0 in omega (arith, f, l))
-      ∙ sym (none_unless (sent_of k x) (λ s e. let f = (sent-arrived packets apps k x s b.right e).0 in omega (arith, f, l, b.shown.arrived)))
+      no_value (sent_of h x) (λ s e. let f = (sent-arrived packets apps h x s b.left e).0 in omega (arith, f, l))
+      ∙ sym (no_value (sent_of k x) (λ s e. let f = (sent-arrived packets apps k x s b.right e).0 in omega (arith, f, l, b.shown.arrived)))
 ]
 
 same_sent : (packets : List Packet) (apps : ℕ) (h k : History) → Both packets apps h k → h.sent ≡ k.sent
@@ -95,7 +100,7 @@ same_sent packets apps h k b =
     same_firsts (λ s. s.id) (list_at h.inboxes a) (list_at h.sent a) (list_at k.sent a) (b.left.delivered.once a) (b.left.replies.sent a)
     ((b.right.replies.sent a).0, (b.right.replies.sent a).1 ∙ sym (ap (λ i. list_at i a) inboxes))
     (λ x. same_looks (found (λ s. s.id) x) [] refl h.sent k.sent (app_at packets apps x)
-    (λ d ne. sent-elsewhere packets apps h d x b.left ne) (λ d ne. sent-elsewhere packets apps k d x b.right ne)
+    (λ d ne. sent-elsewhere packets apps h b.left d x ne) (λ d ne. sent-elsewhere packets apps k b.right d x ne)
     (same_sent_of packets apps h k b x) a))
 
 -- The transmit choices: their class, which the report does not show, is the flow number.
@@ -103,7 +108,7 @@ tx_choice-class : (packets : List Packet) (apps : ℕ) (h : History) (x : ℕ) (
     → c.class ≡ Some (packet_at packets x).flow_number
 tx_choice-class packets apps h x c r e =
     let cs = list_at h.tx_choices (app_at packets apps x) in
-    let m = map_some (λ d. d.choice) (found (λ d. d.id) x cs) c (sym (tx_choice-at packets apps h x r) ∙ e) in
+    let m = map_some (λ d. d.choice) (found (λ d. d.id) x cs) c (sym (tx_choice-own packets apps h r x) ∙ e) in
     let p = found-all (λ d. d.choice.class ≡ Some (packet_at packets d.id).flow_number) (λ d. d.id) x cs m.0 (r.replies.class (app_at packets apps x)) m.1 in
     let i : m.0.id ≡ x = found-key (λ d. d.id) x cs m.0 m.1 in
     let q : m.0.choice.class ≡ Some (packet_at packets x).flow_number = subst (λ y. m.0.choice.class ≡ Some (packet_at packets y).flow_number) i p in
@@ -121,9 +126,9 @@ same_class (Some c) (Some d) n a b e =
 
 -- without a reply there is no choice for it
 unreplied : (packets : List Packet) (apps : ℕ) (h : History) (x : ℕ) → Regular packets apps h → sent_of h x ≡ None → tx_choice_of h x ≡ None
-unreplied packets apps h x r e = none_unless (tx_choice_of h x) (λ c f.
-    let s = tx_choice-there packets apps h (app_at packets apps x) x c r (sym (tx_choice-at packets apps h x r) ∙ f) in
-    let g : Some s.0 ≡ None = sym s.1 ∙ sym (sent-at packets apps h x r) ∙ e in cc)
+unreplied packets apps h x r e = no_value (tx_choice_of h x) (λ c f.
+    let s : is_some (sent_of h x) ≡ true = tx_choice-replied packets apps h r x c f in
+    let n : is_some (sent_of h x) ≡ false = ap is_some e in cc)
 
 sent_or_not : (o : Option Sent) → ((s : Sent) × (o ≡ Some s)) ⊎ (o ≡ None)
 sent_or_not None = inr refl
@@ -150,14 +155,18 @@ same_tx_choices packets apps h k b =
     ((b.right.replies.chosen a).0, (b.right.replies.chosen a).1 ∙ sym (ap (λ i. map (λ s. s.id) (list_at i a)) sent))
     (λ x. same_found x (list_at h.tx_choices a) (list_at k.tx_choices a)
     (same_looks (choice_in x) [] refl h.tx_choices k.tx_choices (app_at packets apps x)
-    (λ d ne. tx_choice-elsewhere packets apps h d x b.left ne) (λ d ne. tx_choice-elsewhere packets apps k d x b.right ne)
+    (λ d ne. tx_choice-elsewhere packets apps h b.left d x ne) (λ d ne. tx_choice-elsewhere packets apps k b.right d x ne)
     (same_tx_choice packets apps h k b x) a)))
 
--- The transmit lanes. A packet stands at no other lane than that of its reply's choice.
+-- The transmit lanes.
+once-tx : (lanes : List LaneList) → Apart (accepted_lists lanes) → (t : ℕ) → Once (lane_at lanes t).accepted
+once-tx lanes apart t = subst Once (list-accepted lanes t) (once-apart (accepted_lists lanes) t apart)
+
+-- A packet stands at no other lane than that of its reply's choice.
 tx_accepted-elsewhere : (packets : List Packet) (apps : ℕ) (h : History) (x t : ℕ) → Regular packets apps h → t ≢ lane_or (tx_choice_of h x)
     → place_in x (lane_at h.tx_lanes t).accepted ≡ None
-tx_accepted-elsewhere packets apps h x t r ne = none_unless (place_in x (lane_at h.tx_lanes t).accepted) (λ n e.
-    ne (tx_chose-lane h x t (tx_accepted-chose packets apps h t x r (ap is_some e))))
+tx_accepted-elsewhere packets apps h x t r ne = no_value (place_in x (lane_at h.tx_lanes t).accepted) (λ n e.
+    ne (tx_accepted-lane packets apps h r t x (ap is_some e)))
 
 tx_accepted-at : (packets : List Packet) (apps : ℕ) (h : History) (x : ℕ) → Regular packets apps h
     → accepted_place h.tx_lanes x ≡ place_in x (lane_at h.tx_lanes (lane_or (tx_choice_of h x))).accepted
@@ -165,18 +174,19 @@ tx_accepted-at packets apps h x r =
     first_some-only (λ lane. place_in x lane.accepted) no_lane refl h.tx_lanes (lane_or (tx_choice_of h x)) (λ t ne. tx_accepted-elsewhere packets apps h x t r ne)
 
 tx_accepted-bound : (packets : List Packet) (apps : ℕ) (h : History) (x n : ℕ) → Regular packets apps h → length packets ≤ 262144
-    → accepted_place h.tx_lanes x ≡ Some n → n ≤ 262144
+    → accepted_place h.tx_lanes x ≡ Some n → n < 2 ^ 32
 tx_accepted-bound packets apps h x n r small e =
     let t = lane_or (tx_choice_of h x) in
     let p = place-bounds x (lane_at h.tx_lanes t).accepted n (sym (tx_accepted-at packets apps h x r) ∙ e) in
-    let few = few_tx_accepted packets apps h t r small in
+    let few = (short-lists packets apps h r small).shipped t in
     omega (arith, p.1, few)
 
 -- nor at any, where no reply was begun
 tx_accepted-unreplied : (packets : List Packet) (apps : ℕ) (h : History) (x : ℕ) → Regular packets apps h → sent_of h x ≡ None → accepted_place h.tx_lanes x ≡ None
 tx_accepted-unreplied packets apps h x r e = first_some-none (λ lane. place_in x lane.accepted) no_lane h.tx_lanes (λ t.
-    none_unless (place_in x (lane_at h.tx_lanes t).accepted) (λ n f.
-    let w = tx_accepted-chose packets apps h t x r (ap is_some f) in let g : Some w.sent ≡ None = sym w.replied ∙ e in cc))
+    no_value (place_in x (lane_at h.tx_lanes t).accepted) (λ n f.
+    let s : is_some (sent_of h x) ≡ true = tx_accepted-replied packets apps h r t x (ap is_some f) in
+    let n : is_some (sent_of h x) ≡ false = ap is_some e in cc))
 
 same_tx_place : (packets : List Packet) (apps : ℕ) (h k : History) → Both packets apps h k → (x : ℕ) → accepted_place h.tx_lanes x ≡ accepted_place k.tx_lanes x
 same_tx_place packets apps h k b x = elim (sent_or_not (sent_of h x)) [
@@ -201,14 +211,15 @@ same_tx_lanes : (packets : List Packet) (apps : ℕ) (h k : History) → Both pa
 same_tx_lanes packets apps h k b = same_lists no_lane h.tx_lanes k.tx_lanes (as_many h.tx_lanes k.tx_lanes b.shown.tx_lanes) (λ t l.
     same_lane (lane_at h.tx_lanes t) (lane_at k.tx_lanes t)
     (same_places (lane_at h.tx_lanes t).accepted (lane_at k.tx_lanes t).accepted
-    (accepted-once h.tx_lanes t b.left.shipped.once) (accepted-once k.tx_lanes t b.right.shipped.once) (same_tx_accepted packets apps h k b t))
+    (once-tx h.tx_lanes b.left.shipped.once t) (once-tx k.tx_lanes b.right.shipped.once t) (same_tx_accepted packets apps h k b t))
     (b.left.shipped.no_drops t ∙ sym (b.right.shipped.no_drops t))
     (sums-at h.tx_lanes k.tx_lanes t b.shown.tx_lanes l))
 
 -- The port.
 port-unreplied : (packets : List Packet) (apps : ℕ) (h : History) (x : ℕ) → Regular packets apps h → sent_of h x ≡ None → place_in x h.port ≡ None
-port-unreplied packets apps h x r e = none_unless (place_in x h.port) (λ n f.
-    let w = (port-chose packets apps h x r (ap is_some f)).1 in let g : Some w.sent ≡ None = sym w.replied ∙ e in cc)
+port-unreplied packets apps h x r e = no_value (place_in x h.port) (λ n f.
+    let s : is_some (sent_of h x) ≡ true = port-replied packets apps h r x (ap is_some f) in
+    let n : is_some (sent_of h x) ≡ false = ap is_some e in cc)
 
 same_port_place : (packets : List Packet) (apps : ℕ) (h k : History) → Both packets apps h k → (x : ℕ) → place_in x h.port ≡ place_in x k.port
 same_port_place packets apps h k b x = elim (sent_or_not (sent_of h x)) [

@@ -1,29 +1,23 @@
 -- The numbers in the lines of a regular history are within the types of the lines' fields.
-use Rattle.std.proofs.Common.{ℕ, zero, suc, ◌+◌, ◌≤◌, ◌<◌, ◌^◌, ◌≡◌, List, [], ◌∷◌, Option, Some, None, map, length, refl, ap, ◌∙◌, sym, arith, get_or, subst}
-use Rattle.std.specs.Prelude.{⊤}
+use Rattle.std.proofs.Common.{ℕ, suc, ◌≤◌, ◌<◌, ◌^◌, ◌≡◌, List, [], ◌∷◌, Option, Some, None, length, refl, arith, get_or}
 use Rattle.std.specs.List.{All}
-use Rattle.std.specs.Option.{option_map, option_or, option_and_then, is_some, unwrap_or, IfSome}
+use Rattle.std.specs.Option.{option_map, option_or, option_and_then, unwrap_or, IfSome}
 use Rattle.std.proofs.lemmas.List.{length-map}
 use Rattle.steer_base.specs.Counters.{number}
 use Rattle.steer_base.specs.Entries.{place_in}
-use Rattle.steer_base.specs.declared.choice.Choice.{Choice}
 use Rattle.steer_base.specs.declared.choice.Chosen.{Chosen}
 use Rattle.steer_base.specs.declared.packet.Packet.{Packet}
 use Rattle.steer_base.specs.declared.put.LaneDrop.{LaneDrop}
-use Rattle.steer_base.specs.declared.put.Put.{Put}
-use Rattle.steer_base.specs.declared.put.Put.TheVariants.{At, Dropped}
-use Rattle.history.specs.Finding.{is_in, found, first_some}
-use Rattle.history.specs.Lines.{choice_in, choice_of, tx_choice_of, accepted_place, position_of, tx_position_of, dropped_as, drop_in, put_of, inbox_place_of, sent_of, line_of_sent, packet_line, reply_line}
-use Rattle.history.specs.Lists.{list_at, lane_at, no_lane, no_arrival, drop_ids, arrival_of}
-use Rattle.history.specs.Ranges.{FitsIn, ArrivalFits, ChoiceFits, ChosenFits, CauseFits, DropFits, LaneFits, SentFits, HistoryFits, PutFits, PacketFits, ReplyFits, HaveLinesThatFit}
+use Rattle.steer_base.specs.declared.put.Put.TheVariants.{At}
+use Rattle.history.specs.Finding.{found, first_some}
+use Rattle.history.specs.Lines.{choice_in, accepted_place, position_of, dropped_as, drop_in, put_of, inbox_place_of, sent_of, line_of_sent}
+use Rattle.history.specs.Lists.{list_at, lane_at, no_lane, no_arrival, drop_ids}
+use Rattle.history.specs.Ranges.{FitsIn, ArrivalFits, ChoiceFits, ChosenFits, DropFits, SentFits, HistoryFits, PutFits, ReplyFits, HaveLinesThatFit}
 use Rattle.history.specs.Regular.{Regular}
 use Rattle.history.specs.declared.arrival.Arrival.{Arrival}
 use Rattle.history.specs.declared.history.History.{History}
-use Rattle.history.specs.declared.lane_list.LaneList.{LaneList}
-use Rattle.history.specs.declared.reply_line.ReplyLine.{ReplyLine}
-use Rattle.history.specs.declared.sent.Sent.{Sent}
-use Rattle.history.proofs.SamePlaces.{place-bounds, found-all, Once-length}
-use Rattle.history.proofs.Traces.{Chose, TxChose, dropped-chose, inbox-arrived, port-chose, dropped-once}
+use Rattle.history.proofs.BoundLemmas.{short-lists}
+use Rattle.history.proofs.SamePlaces.{place-bounds, found-all}
 
 -- an option, by what each value of it has
 if_some : {A : Type 0} (P : A → Type 0) (o : Option A) → ((a : A) → o ≡ Some a → P a) → IfSome o P
@@ -70,20 +64,15 @@ fall-fits None p a b = tt
 fall-fits (Some d) None a b = tt
 fall-fits (Some d) (Some n) a b = (b, a.accepted, a.pulled, a.cause)
 
-place-fits : (x : ℕ) (xs : List ℕ) → length xs ≤ 262144 → FitsIn 32 (place_in x xs)
+place-fits : (x : ℕ) (xs : List ℕ) → length xs < 2 ^ 32 → FitsIn 32 (place_in x xs)
 place-fits x xs few = if_some (λ n. n < 2 ^ 32) (place_in x xs) (λ n e. let b = (place-bounds x xs n e).1 in omega (arith, b, few))
-
-few_drops : (packets : List Packet) (apps : ℕ) (h : History) (c : ℕ) → length packets ≤ 262144 → Regular packets apps h → length (drop_ids (lane_at h.lanes c)) ≤ 262144
-few_drops packets apps h c small r =
-    let n = Once-length (drop_ids (lane_at h.lanes c)) (length h.arrivals) (dropped-once h.lanes c r.steered.once) (λ x e. (dropped-chose packets apps h c x r e).arrived) in
-    omega (arith, n, small, r.arrived.of_the_capture)
 
 drops-fit : (packets : List Packet) (apps : ℕ) (h : History) → length packets ≤ 262144 → Regular packets apps h → HistoryFits h
     → (x : ℕ) → IfSome (first_some (drop_in x) h.lanes) PutFits
 drops-fit packets apps h small r f x = first_some-fits (drop_in x) no_lane PutFits h.lanes (λ c l.
     let lane = lane_at h.lanes c in
     fall-fits (found (λ d. d.id) x lane.drops) (place_in x (drop_ids lane))
-    (found-fits DropFits (λ d. d.id) x lane.drops (f.lanes c no_lane l).drops) (place-fits x (drop_ids lane) (few_drops packets apps h c small r)))
+    (found-fits DropFits (λ d. d.id) x lane.drops (f.lanes c no_lane l).drops) (place-fits x (drop_ids lane) (omega (arith, (short-lists packets apps h r small).dropped c, length-map lane.drops (λ d. d.id)))))
 
 put-fits : (packets : List Packet) (apps : ℕ) (h : History) → length packets ≤ 262144 → Regular packets apps h → HistoryFits h
     → (x : ℕ) → IfSome (put_of h x) PutFits
@@ -92,19 +81,9 @@ put-fits packets apps h small r f x =
     (map-fits (λ n. At n) (λ n. n < 2 ^ 32) PutFits (position_of h x) (position-fits h.start (accepted_place h.lanes x)) (λ n l. l))
     (drops-fit packets apps h small r f x)
 
-few_delivered : (packets : List Packet) (apps : ℕ) (h : History) (a : ℕ) → length packets ≤ 262144 → Regular packets apps h → length (list_at h.inboxes a) ≤ 262144
-few_delivered packets apps h a small r =
-    let n = Once-length (list_at h.inboxes a) (length h.arrivals) (r.delivered.once a) (λ x e. (inbox-arrived packets apps h a x r e).0) in
-    omega (arith, n, small, r.arrived.of_the_capture)
-
-few_shipped : (packets : List Packet) (apps : ℕ) (h : History) → length packets ≤ 262144 → Regular packets apps h → length h.port ≤ 262144
-few_shipped packets apps h small r =
-    let n = Once-length h.port (length h.arrivals) r.shipped.port_once (λ x e. (port-chose packets apps h x r e).1.arrived) in
-    omega (arith, n, small, r.arrived.of_the_capture)
-
 inbox-fits : (packets : List Packet) (apps : ℕ) (h : History) → length packets ≤ 262144 → Regular packets apps h → (x : ℕ) → FitsIn 32 (inbox_place_of h x)
 inbox-fits packets apps h small r x =
-    first_some-fits (place_in x) [] (λ n. n < 2 ^ 32) h.inboxes (λ a l. place-fits x (list_at h.inboxes a) (few_delivered packets apps h a small r))
+    first_some-fits (place_in x) [] (λ n. n < 2 ^ 32) h.inboxes (λ a l. place-fits x (list_at h.inboxes a) ((short-lists packets apps h r small).inboxes a))
 
 sent-fits : (h : History) → HistoryFits h → (x : ℕ) → IfSome (sent_of h x) SentFits
 sent-fits h f x = first_some-fits (found (λ s. s.id) x) [] SentFits h.sent (λ a l. found-fits SentFits (λ s. s.id) x (list_at h.sent a) (f.sent a [] l))
@@ -122,6 +101,6 @@ lines_fit packets apps h small r f x = (
     cpu = g.cpu;
     choice = choices-fit x h.tx_choices f.tx_choices;
     put = position-fits h.start (accepted_place h.tx_lanes x);
-    port = place-fits x h.port (few_shipped packets apps h small r);
+    port = place-fits x h.port (short-lists packets apps h r small).port;
   }),
 )

@@ -1,8 +1,8 @@
 -- What the first of some lists has, where only one of them has anything.
 use Rattle.std.proofs.Common.{ℕ, zero, suc, ◌≡◌, ◌≢◌, List, [], ◌∷◌, Option, Some, None, refl, ap, ◌∙◌, sym, arith, inl, inr, get_or}
 use Rattle.std.specs.Option.{option_or}
+use Rattle.std.proofs.lemmas.Bool.{cases_eq}
 use Rattle.history.specs.Finding.{first_some}
-use Rattle.history.proofs.SamePlaces.{same_or}
 
 or_none : {B : Type 0} (o : Option B) → option_or o None ≡ o
 or_none None = refl
@@ -28,7 +28,7 @@ first_some-only look d z (x ∷ xs) (suc n) h =
 pub same_looks : {A B : Type 0} (look : A → Option B) (d : A) → look d ≡ None → (xs ys : List A) (n : ℕ)
     → ((i : ℕ) → i ≢ n → look (get_or xs i d) ≡ None) → ((i : ℕ) → i ≢ n → look (get_or ys i d) ≡ None)
     → first_some look xs ≡ first_some look ys → (i : ℕ) → look (get_or xs i d) ≡ look (get_or ys i d)
-same_looks look d z xs ys n h k e i = elim (same_or i n) [
+same_looks look d z xs ys n h k e i = elim (cases_eq i n) [
   | inl f ↦ rw f (sym (first_some-only look d z xs n h) ∙ e ∙ first_some-only look d z ys n k)
   | inr ne ↦ h i ne ∙ sym (k i ne)
 ]

@@ -1,5 +1,5 @@
 -- The arrivals, the choices, the lanes and the inboxes of a regular history are found again.
-use Rattle.std.proofs.Common.{ℕ, zero, suc, ◌≤◌, ◌<◌, ◌≡◌, ◌≢◌, true, List, [], ◌∷◌, Option, Some, None, map, length, refl, ap, ◌∙◌, sym, arith, inl, inr, get_or}
+use Rattle.std.proofs.Common.{ℕ, zero, suc, ◌≤◌, ◌<◌, ◌≡◌, ◌≢◌, true, List, [], ◌∷◌, Option, Some, None, map, length, refl, ap, ◌∙◌, sym, arith, inl, inr, get_or, ◌^◌}
 use Rattle.std.specs.Option.{option_map, is_some}
 use Rattle.std.proofs.lemmas.Bool.{cases_lt}
 use Rattle.steer_base.specs.Arrivals.{route}
@@ -16,11 +16,14 @@ use Rattle.history.specs.declared.arrival.Arrival.{Arrival}
 use Rattle.history.specs.declared.history.History.{History}
 use Rattle.history.specs.declared.lane_list.LaneList.{LaneList}
 use Rattle.history.specs.declared.packet_line.Via.TheVariants.{Filter, Reta}
-use Rattle.history.proofs.Arrivals.{arrival-get, arrival-id, arrivals-once}
+use Rattle.history.proofs.Arrivals.{arrival-id, arrivals-once}
+use Rattle.history.proofs.BoundLemmas.{once-accepted, once-dropped, short-lists}
 use Rattle.history.proofs.Looks.{first_some-none, first_some-only, same_looks}
-use Rattle.history.proofs.SamePlaces.{some_same, none_unless, false_unless, no_place, place-bounds, found-key, rear, same_firsts, same_places, same_items, same_lists}
+use Rattle.history.proofs.OwnLemmas.{not-true}
+use Rattle.history.proofs.RegularLemmas.{found-key, arrival-at, arrived-accepted, arrived-dropped, arrived-inbox}
+use Rattle.history.proofs.SamePlaces.{some_same, no_value, no_place, place-bounds, rear, same_firsts, same_places, same_items, same_lists}
 use Rattle.history.proofs.SamePuts.{position-place, drop-no_position, put-parts, no_drop, drop-parts}
-use Rattle.history.proofs.Traces.{queue_at, choice-elsewhere, choice-arrived, lane_or, chose-lane, accepted-chose, dropped-chose, inbox-arrived, accepted-once_of_both, dropped-once, never_both, few_accepted}
+use Rattle.history.proofs.Traces.{queue_at, choice-elsewhere, choice-arrived, lane_or, accepted-lane, dropped-lane, never_both}
 
 -- Two histories and what they have in common.
 pub record Both (packets : List Packet) (apps : ℕ) (h k : History) : Type 0 where
@@ -72,8 +75,8 @@ same_arrivals packets apps h k b = same_lists no_arrival h.arrivals k.arrivals b
     let s = b.shown.packet x l in
     let one = get_or h.arrivals x no_arrival in
     let two = get_or k.arrivals x no_arrival in
-    let e : arrival_of h.arrivals x ≡ one = arrival-get x h.arrivals b.left.arrived.numbered l in
-    let f : arrival_of k.arrivals x ≡ two = arrival-get x k.arrivals b.right.arrived.numbered l' in
+    let e : arrival_of h.arrivals x ≡ one = arrival-at x h.arrivals b.left.arrived.numbered l in
+    let f : arrival_of k.arrivals x ≡ two = arrival-at x k.arrivals b.right.arrived.numbered l' in
     let ids : one.id ≡ two.id = arrival-id 0 x h.arrivals b.left.arrived.numbered l ∙ sym (arrival-id 0 x k.arrivals b.right.arrived.numbered l') in
     let v = b.left_queued x no_arrival l in
     let w = b.right_queued x no_arrival l' in
@@ -87,8 +90,8 @@ pub same_choice : (packets : List Packet) (apps : ℕ) (h k : History) → Both 
 same_choice packets apps h k b x = elim (cases_lt x (length h.arrivals)) [
   | inl l ↦ (b.shown.packet x l).choice
   | inr l ↦
-      none_unless (choice_of h x) (λ c e. let f = choice-arrived packets apps h x c b.left e in omega (arith, f, l))
-      ∙ sym (none_unless (choice_of k x) (λ c e. let f = choice-arrived packets apps k x c b.right e in omega (arith, f, l, b.shown.arrived)))
+      no_value (choice_of h x) (λ c e. let f = choice-arrived packets apps h b.left x c e in omega (arith, f, l))
+      ∙ sym (no_value (choice_of k x) (λ c e. let f = choice-arrived packets apps k b.right x c e in omega (arith, f, l, b.shown.arrived)))
 ]
 
 -- items that are found under one key, by what is found of them
@@ -116,31 +119,31 @@ same_choices packets apps h k b =
     ((b.right.arrived.chosen q).0, (b.right.arrived.chosen q).1 ∙ sym (ap (λ a. arrivals_at a q) arr))
     (λ x. same_found x (list_at h.choices q) (list_at k.choices q)
     (same_looks (choice_in x) [] refl h.choices k.choices (queue_at h x)
-    (λ p ne. choice-elsewhere packets apps h p x b.left ne)
-    (λ p ne. choice-elsewhere packets apps k p x b.right (λ e. ne (e ∙ sym (ap (λ a. (arrival_of a x).queue) arr))))
+    (λ p ne. choice-elsewhere packets apps h b.left p x ne)
+    (λ p ne. choice-elsewhere packets apps k b.right p x (λ e. ne (e ∙ sym (ap (λ a. (arrival_of a x).queue) arr))))
     (same_choice packets apps h k b x) q)))
 
 -- The lanes. A packet stands in the lists of no other lane than that of its choice.
 accepted-elsewhere : (packets : List Packet) (apps : ℕ) (h : History) (x c : ℕ) → Regular packets apps h → c ≢ lane_or (choice_of h x)
     → place_in x (lane_at h.lanes c).accepted ≡ None
-accepted-elsewhere packets apps h x c r ne = none_unless (place_in x (lane_at h.lanes c).accepted) (λ n e.
-    ne (chose-lane h x c (accepted-chose packets apps h c x r (ap is_some e))))
+accepted-elsewhere packets apps h x c r ne = no_value (place_in x (lane_at h.lanes c).accepted) (λ n e.
+    ne (accepted-lane packets apps h r c x (ap is_some e)))
 
 drop-elsewhere : (packets : List Packet) (apps : ℕ) (h : History) (x c : ℕ) → Regular packets apps h → c ≢ lane_or (choice_of h x)
     → drop_in x (lane_at h.lanes c) ≡ None
 drop-elsewhere packets apps h x c r ne =
-    no_drop x (lane_at h.lanes c) (none_unless (place_in x (drop_ids (lane_at h.lanes c))) (λ n e.
-    ne (chose-lane h x c (dropped-chose packets apps h c x r (ap is_some e)))))
+    no_drop x (lane_at h.lanes c) (no_value (place_in x (drop_ids (lane_at h.lanes c))) (λ n e.
+    ne (dropped-lane packets apps h r c x (ap is_some e))))
 
 -- and a packet that did not arrive in none
 accepted-unarrived : (packets : List Packet) (apps : ℕ) (h : History) (x : ℕ) → Regular packets apps h → length h.arrivals ≤ x → accepted_place h.lanes x ≡ None
 accepted-unarrived packets apps h x r l = first_some-none (λ lane. place_in x lane.accepted) no_lane h.lanes (λ c.
-    none_unless (place_in x (lane_at h.lanes c).accepted) (λ n e. let f = (accepted-chose packets apps h c x r (ap is_some e)).arrived in omega (arith, f, l)))
+    no_value (place_in x (lane_at h.lanes c).accepted) (λ n e. let f = arrived-accepted packets apps h r c x (ap is_some e) in omega (arith, f, l)))
 
 drop-unarrived : (packets : List Packet) (apps : ℕ) (h : History) (x : ℕ) → Regular packets apps h → length h.arrivals ≤ x → first_some (drop_in x) h.lanes ≡ None
 drop-unarrived packets apps h x r l = first_some-none (drop_in x) no_lane h.lanes (λ c.
-    no_drop x (lane_at h.lanes c) (none_unless (place_in x (drop_ids (lane_at h.lanes c))) (λ n e.
-    let f = (dropped-chose packets apps h c x r (ap is_some e)).arrived in omega (arith, f, l))))
+    no_drop x (lane_at h.lanes c) (no_value (place_in x (drop_ids (lane_at h.lanes c))) (λ n e.
+    let f = arrived-dropped packets apps h r c x (ap is_some e) in omega (arith, f, l))))
 
 -- the place among the accepted packets is that at the lane of the choice
 accepted-at : (packets : List Packet) (apps : ℕ) (h : History) (x : ℕ) → Regular packets apps h
@@ -149,11 +152,11 @@ accepted-at packets apps h x r =
     first_some-only (λ lane. place_in x lane.accepted) no_lane refl h.lanes (lane_or (choice_of h x)) (λ c ne. accepted-elsewhere packets apps h x c r ne)
 
 accepted-bound : (packets : List Packet) (apps : ℕ) (h : History) (x n : ℕ) → Regular packets apps h → length packets ≤ 262144
-    → accepted_place h.lanes x ≡ Some n → n ≤ 262144
+    → accepted_place h.lanes x ≡ Some n → n < 2 ^ 32
 accepted-bound packets apps h x n r small e =
     let c = lane_or (choice_of h x) in
     let p = place-bounds x (lane_at h.lanes c).accepted n (sym (accepted-at packets apps h x r) ∙ e) in
-    let few = few_accepted packets apps h c r small in
+    let few = (short-lists packets apps h r small).accepted c in
     omega (arith, p.1, few)
 
 -- an accepted packet has no drop
@@ -163,7 +166,7 @@ accepted-no_drop packets apps h x n r e =
     let c = lane_or (choice_of h x) in
     let has : is_in x (lane_at h.lanes c).accepted ≡ true = ap is_some (sym (accepted-at packets apps h x r) ∙ e) in
     first_some-only (drop_in x) no_lane refl h.lanes c (λ d ne. drop-elsewhere packets apps h x d r ne)
-    ∙ no_drop x (lane_at h.lanes c) (no_place x (drop_ids (lane_at h.lanes c)) (false_unless (is_in x (drop_ids (lane_at h.lanes c)))
+    ∙ no_drop x (lane_at h.lanes c) (no_place x (drop_ids (lane_at h.lanes c)) (not-true (is_in x (drop_ids (lane_at h.lanes c)))
     (λ t. never_both h.lanes c x r.steered.once has t)))
 
 abbrev SameFate : History → History → ℕ → Type 0
@@ -239,20 +242,20 @@ same_lanes packets apps h k b = same_lists no_lane h.lanes k.lanes (as_many h.la
     let parts = λ (x : ℕ). drop-parts x (lane_at h.lanes c) (lane_at k.lanes c) (same_drop packets apps h k b c x) in
     same_lane (lane_at h.lanes c) (lane_at k.lanes c)
     (same_places (lane_at h.lanes c).accepted (lane_at k.lanes c).accepted
-    (accepted-once_of_both h.lanes c b.left.steered.once) (accepted-once_of_both k.lanes c b.right.steered.once) (same_accepted packets apps h k b c))
+    (once-accepted h.lanes b.left.steered.once c) (once-accepted k.lanes b.right.steered.once c) (same_accepted packets apps h k b c))
     (same_items (λ d. d.id) (lane_at h.lanes c).drops (lane_at k.lanes c).drops
-    (dropped-once h.lanes c b.left.steered.once) (dropped-once k.lanes c b.right.steered.once) (λ x. (parts x).0) (λ x. (parts x).1))
+    (once-dropped h.lanes b.left.steered.once c) (once-dropped k.lanes b.right.steered.once c) (λ x. (parts x).0) (λ x. (parts x).1))
     (sums-at h.lanes k.lanes c b.shown.lanes l))
 
 -- The inboxes. A packet stands in no other inbox than that of its application.
 inbox-elsewhere : (packets : List Packet) (apps : ℕ) (h : History) (x a : ℕ) → Regular packets apps h → a ≢ app_at packets apps x
     → place_in x (list_at h.inboxes a) ≡ None
-inbox-elsewhere packets apps h x a r ne = none_unless (place_in x (list_at h.inboxes a)) (λ n e.
-    ne (sym (inbox-arrived packets apps h a x r (ap is_some e)).1))
+inbox-elsewhere packets apps h x a r ne = no_value (place_in x (list_at h.inboxes a)) (λ n e.
+    ne (sym (r.delivered.own a x (ap is_some e))))
 
 inbox-unarrived : (packets : List Packet) (apps : ℕ) (h : History) (x : ℕ) → Regular packets apps h → length h.arrivals ≤ x → inbox_place_of h x ≡ None
 inbox-unarrived packets apps h x r l = first_some-none (place_in x) [] h.inboxes (λ a.
-    none_unless (place_in x (list_at h.inboxes a)) (λ n e. let f = (inbox-arrived packets apps h a x r (ap is_some e)).0 in omega (arith, f, l)))
+    no_value (place_in x (list_at h.inboxes a)) (λ n e. let f = arrived-inbox packets apps h r a x (ap is_some e) in omega (arith, f, l)))
 
 same_inbox : (packets : List Packet) (apps : ℕ) (h k : History) → Both packets apps h k → (x : ℕ) → inbox_place_of h x ≡ inbox_place_of k x
 same_inbox packets apps h k b x = elim (cases_lt x (length h.arrivals)) [

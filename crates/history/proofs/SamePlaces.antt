@@ -1,14 +1,13 @@
 -- Lists in which each number has the same place, or each key the same item, are equal.
-use Rattle.std.proofs.Common.{ℕ, zero, suc, ◌≤◌, ◌<◌, ◌≡◌, ◌≢◌, ◌⊎◌, Bool, true, false, List, [], ◌∷◌, ◌++◌, Option, Some, None, map, length, refl, ap, ◌∙◌, sym, arith, inl, inr, get_or, subst, eqb}
-use Rattle.std.specs.Prelude.{◌==◌}
-use Rattle.std.specs.List.{IsDistinct, AllByRecursion, list_any}
+use Rattle.std.proofs.Common.{ℕ, zero, suc, ◌≤◌, ◌<◌, ◌≡◌, ◌≢◌, true, false, List, [], ◌∷◌, ◌++◌, Option, Some, None, map, length, refl, ap, ◌∙◌, sym, arith, inl, inr, get_or, subst}
 use Rattle.std.specs.Option.{option_map, is_some}
-use Rattle.std.proofs.lemmas.Bool.{cases_Bool, ne_eqb, eq-eqb, eqb-true}
-use Rattle.std.proofs.lemmas.Map.Keys.{IsDistinct-cons}
-use Rattle.std.proofs.lemmas.Map.Steps.{length-le_from_distinct_below}
+use Rattle.std.proofs.lemmas.Bool.{cases_eq, ne_eqb, eq-eqb}
 use Rattle.steer_base.specs.Entries.{place_in}
 use Rattle.steer_base.specs.Orders.{IsPrefix}
 use Rattle.history.specs.Finding.{is_in, found, Once}
+use Rattle.history.proofs.FindingLemmas.{is_some-suc, found-here, found-past}
+use Rattle.history.proofs.OwnLemmas.{none-unless}
+use Rattle.history.proofs.RegularLemmas.{is_some-found}
 
 abbrev pub front_or : {A : Type 0} → A → List A → A
 front_or d [] = d
@@ -25,30 +24,14 @@ some_or d (Some a) = a
 pub some_same : {A : Type 0} (a b : A) → Some a ≡ Some b → a ≡ b
 some_same a b e = ap (some_or a) e
 
-pub none_without : {A : Type 0} (o : Option A) → is_some o ≡ false → o ≡ None
-none_without None h = refl
-none_without (Some a) h = absurd (cc)
-
 -- an option with no value
-pub none_unless : {A : Type 0} (o : Option A) → ((a : A) → o ≡ Some a → ⊥) → o ≡ None
-none_unless None h = refl
-none_unless (Some a) h = absurd (h a refl)
-
-pub some_of : {A : Type 0} (o : Option A) → is_some o ≡ true → (a : A) × (o ≡ Some a)
-some_of None h = absurd (cc)
-some_of (Some a) h = (a, refl)
-
-pub false_unless : (b : Bool) → (b ≡ true → ⊥) → b ≡ false
-false_unless true h = absurd (h refl)
-false_unless false h = refl
+pub no_value : {A : Type 0} (o : Option A) → ((a : A) → o ≡ Some a → ⊥) → o ≡ None
+no_value None h = refl
+no_value (Some a) h = absurd (h a refl)
 
 pub map_some : {A B : Type 0} (f : A → B) (o : Option A) (b : B) → option_map f o ≡ Some b → (a : A) × (o ≡ Some a) × (b ≡ f a)
 map_some f None b h = absurd (cc)
 map_some f (Some a) b h = (a, refl, sym (some_same (f a) b h))
-
-pub is_some-suc : (o : Option ℕ) → is_some (option_map suc o) ≡ is_some o
-is_some-suc None = refl
-is_some-suc (Some n) = refl
 
 none_suc : (o : Option ℕ) → option_map suc o ≡ None → o ≡ None
 none_suc None e = refl
@@ -67,26 +50,13 @@ place-here x y ys e = rw (eq-eqb x y e) refl
 pub place-past : (x y : ℕ) (ys : List ℕ) → x ≢ y → place_in x (y ∷ ys) ≡ option_map suc (place_in x ys)
 place-past x y ys ne = rw (ne_eqb x y ne) refl
 
-pub found-at : {A : Type 0} (key : A → ℕ) (x : ℕ) (a : A) (rest : List A) → x ≡ key a → found key x (a ∷ rest) ≡ Some a
-found-at key x a rest e = rw (eq-eqb x (key a) e) refl
-
-pub found-behind : {A : Type 0} (key : A → ℕ) (x : ℕ) (a : A) (rest : List A) → x ≢ key a → found key x (a ∷ rest) ≡ found key x rest
-found-behind key x a rest ne = rw (ne_eqb x (key a) ne) refl
-
--- which of the two it is
-pub same_or : (x y : ℕ) → (x ≡ y) ⊎ (x ≢ y)
-same_or x y = elim (cases_Bool (x == y)) [
-  | inl t ↦ inl (eqb-true x y t)
-  | inr t ↦ inr (λ e. let f : (x == y) ≡ true = eq-eqb x y e in cc)
-]
-
 pub no_place : (x : ℕ) (xs : List ℕ) → is_in x xs ≡ false → place_in x xs ≡ None
-no_place x xs h = none_without (place_in x xs) h
+no_place x xs h = none-unless (place_in x xs) h
 
 -- a place is one of the list's
 pub place-bounds : (x : ℕ) (xs : List ℕ) (n : ℕ) → place_in x xs ≡ Some n → (0 < n) × (n ≤ length xs)
 place-bounds x [] n h = absurd (cc)
-place-bounds x (y ∷ ys) n h = elim (same_or x y) [
+place-bounds x (y ∷ ys) n h = elim (cases_eq x y) [
   | inl e ↦ let g : n ≡ 1 = some_same n 1 (sym h ∙ place-here x y ys e) in (omega (arith, g), omega (arith, g))
   | inr ne ↦
       let m = map_some suc (place_in x ys) n (sym (place-past x y ys ne) ∙ h) in
@@ -97,7 +67,7 @@ place-bounds x (y ∷ ys) n h = elim (same_or x y) [
 -- at the place of a number the list has it
 pub place-index : (x : ℕ) (xs : List ℕ) → is_in x xs ≡ true → (i : ℕ) × (i < length xs) × (get_or xs i 0 ≡ x)
 place-index x [] h = absurd (cc)
-place-index x (y ∷ ys) h = elim (same_or x y) [
+place-index x (y ∷ ys) h = elim (cases_eq x y) [
   | inl e ↦ (0, omega arith, sym e)
   | inr ne ↦
       let w = place-index x ys (sym (is_some-suc (place_in x ys)) ∙ sym (ap is_some (place-past x y ys ne)) ∙ h) in
@@ -115,21 +85,12 @@ place-nowhere x (y ∷ ys) h =
 -- a number that is not in a list is not in a front of it
 pub lacks-front : (x : ℕ) (xs ys : List ℕ) → place_in x (xs ++ ys) ≡ None → place_in x xs ≡ None
 lacks-front x [] ys h = refl
-lacks-front x (y ∷ rest) ys h = elim (same_or x y) [
+lacks-front x (y ∷ rest) ys h = elim (cases_eq x y) [
   | inl e ↦ let f : place_in x (y ∷ (rest ++ ys)) ≡ Some 1 = place-here x y (rest ++ ys) e in absurd (cc)
   | inr ne ↦
       let f : place_in x (y ∷ (rest ++ ys)) ≡ option_map suc (place_in x (rest ++ ys)) = place-past x y (rest ++ ys) ne in
       let g : place_in x rest ≡ None = lacks-front x rest ys (none_suc (place_in x (rest ++ ys)) (sym f ∙ h)) in
       place-past x y rest ne ∙ ap (λ o. option_map suc o) g
-]
-
--- what a front of a list has, the list has
-pub is_in-front : (x : ℕ) (xs ys : List ℕ) → IsPrefix xs ys → is_in x xs ≡ true → is_in x ys ≡ true
-is_in-front x xs ys p h = elim (cases_Bool (is_in x ys)) [
-  | inl t ↦ t
-  | inr t ↦
-      let f : place_in x (xs ++ p.0) ≡ None = ap (λ zs. place_in x zs) p.1 ∙ no_place x ys t in
-      let g : place_in x xs ≡ None = lacks-front x xs p.0 f in absurd (cc)
 ]
 
 -- Lists without repeats.
@@ -145,7 +106,7 @@ Once-none i j k l e = absurd (omega (arith, k))
 absent : (x : ℕ) (xs : List ℕ) → place_in x xs ≡ None → (j : ℕ) → j < length xs → get_or xs j 0 ≡ x → ⊥
 absent x [] h j l e = omega (arith, l)
 absent x (y ∷ ys) h zero l e = let f : place_in x (y ∷ ys) ≡ Some 1 = place-here x y ys (sym e) in cc
-absent x (y ∷ ys) h (suc j) l e = elim (same_or x y) [
+absent x (y ∷ ys) h (suc j) l e = elim (cases_eq x y) [
   | inl t ↦ let f : place_in x (y ∷ ys) ≡ Some 1 = place-here x y ys t in absurd (cc)
   | inr ne ↦ absent x ys (none_suc (place_in x ys) (sym (place-past x y ys ne) ∙ h)) j (omega (arith, l)) e
 ]
@@ -165,37 +126,12 @@ Once-front (x ∷ xs) (y ∷ ys) p o =
     let no' : place_in x (xs ++ p.0) ≡ None = ap (λ zs. place_in x zs) rest ∙ ap (λ z. place_in z ys) e ∙ Once-head y ys o in
     Once-cons x xs (lacks-front x xs p.0 no') (Once-front xs ys (p.0, rest) (Once-tail y ys o))
 
--- a list without repeats of numbers below n has at most n
-distinct_none : IsDistinct eqb []
-unfolding IsDistinct
-distinct_none = tt
-
-others : (x : ℕ) (xs : List ℕ) → ((j : ℕ) → j < length xs → get_or xs j 0 ≢ x) → AllByRecursion (λ y. eqb x y ≡ false) xs
-others x [] h = tt
-others x (y ∷ ys) h = (ne_eqb x y (λ e. h 0 (omega arith) (sym e)), others x ys (λ j l. h (suc j) (omega arith)))
-
-distinct : (xs : List ℕ) → Once xs → IsDistinct eqb xs
-distinct [] o = distinct_none
-distinct (x ∷ xs) o =
-    IsDistinct-cons eqb x xs (others x xs (λ j l e. let f : suc j ≡ 0 = o (suc j) 0 (omega arith) (omega arith) e in omega (arith, f)))
-    (distinct xs (Once-tail x xs o))
-
-listed : (x : ℕ) (xs : List ℕ) → list_any (eqb x) xs ≡ true → is_in x xs ≡ true
-listed x [] e = absurd (cc)
-listed x (y ∷ ys) e = elim (cases_Bool (x == y)) [
-  | inl t ↦ rw t refl
-  | inr t ↦ let f : list_any (eqb x) ys ≡ true = rw t at e in rw t (is_some-suc (place_in x ys) ∙ listed x ys f)
-]
-
-pub Once-length : (xs : List ℕ) (n : ℕ) → Once xs → ((x : ℕ) → is_in x xs ≡ true → x < n) → length xs ≤ n
-Once-length xs n o h = length-le_from_distinct_below xs n (distinct xs o) (λ q e. h q (listed q xs e))
-
 not_zero : (x : ℕ) (xs : List ℕ) → place_in x xs ≡ Some 0 → ⊥
 not_zero x xs h = let b = place-bounds x xs 0 h in omega (arith, b.0)
 
 -- where the place is 1, it is the first
 place-first : (x y : ℕ) (ys : List ℕ) → place_in x (y ∷ ys) ≡ Some 1 → x ≡ y
-place-first x y ys h = elim (same_or x y) [
+place-first x y ys h = elim (cases_eq x y) [
   | inl e ↦ e
   | inr ne ↦
       let m = map_some suc (place_in x ys) 1 (sym (place-past x y ys ne) ∙ h) in
@@ -210,7 +146,7 @@ same_places [] (y ∷ ys) o p h = let f : place_in y [] ≡ Some 1 = h y ∙ pla
 same_places (x ∷ xs) [] o p h = let f : Some 1 ≡ place_in x [] = sym (place-here x x xs refl) ∙ h x in absurd (cc)
 same_places (x ∷ xs) (y ∷ ys) o p h =
     let e : x ≡ y = place-first x y ys (sym (h x) ∙ place-here x x xs refl) in
-    let rest : (z : ℕ) → place_in z xs ≡ place_in z ys = λ z. elim (same_or z x) [
+    let rest : (z : ℕ) → place_in z xs ≡ place_in z ys = λ z. elim (cases_eq z x) [
       | inl f ↦
           let a : place_in z xs ≡ None = rw f (Once-head x xs o) in
           let b : place_in z ys ≡ None = rw (f ∙ e) (Once-head y ys p) in a ∙ sym b
@@ -220,54 +156,37 @@ same_places (x ∷ xs) (y ∷ ys) o p h =
     let tails = same_places xs ys (Once-tail x xs o) (Once-tail y ys p) rest in
     λ i. e i ∷ tails i
 
--- Items by their keys: the item that is found has the key.
-pub found-key : {A : Type 0} (key : A → ℕ) (x : ℕ) (xs : List A) (a : A) → found key x xs ≡ Some a → key a ≡ x
-found-key key x [] a h = absurd (cc)
-found-key key x (b ∷ xs) a h = elim (same_or x (key b)) [
-  | inl e ↦ let g : b ≡ a = some_same b a (sym (found-at key x b xs e) ∙ h) in sym (e ∙ ap key g)
-  | inr ne ↦ found-key key x xs a (sym (found-behind key x b xs ne) ∙ h)
-]
-
--- an item is found exactly where the key has a place
-pub found-is_in : {A : Type 0} (key : A → ℕ) (x : ℕ) (xs : List A) → is_some (found key x xs) ≡ is_in x (map key xs)
-found-is_in key x [] = refl
-found-is_in key x (a ∷ xs) = elim (same_or x (key a)) [
-  | inl e ↦ ap is_some (found-at key x a xs e) ∙ sym (ap is_some (place-here x (key a) (map key xs) e))
-  | inr ne ↦
-      ap is_some (found-behind key x a xs ne) ∙ found-is_in key x xs ∙ sym (is_some-suc (place_in x (map key xs)))
-      ∙ sym (ap is_some (place-past x (key a) (map key xs) ne))
-]
-
+-- Items by their keys.
 pub found-none : {A : Type 0} (key : A → ℕ) (x : ℕ) (xs : List A) → place_in x (map key xs) ≡ None → found key x xs ≡ None
-found-none key x xs h = none_without (found key x xs) (found-is_in key x xs ∙ ap is_some h)
+found-none key x xs h = none-unless (found key x xs) (is_some-found key x xs ∙ ap is_some h)
 
 -- a found item has what all items have
 pub found-all : {A : Type 0} (P : A → Type 0) (key : A → ℕ) (x : ℕ) (xs : List A) (a : A)
     → ((k : ℕ) (d : A) → k < length xs → P (get_or xs k d)) → found key x xs ≡ Some a → P a
 found-all P key x [] a h f = absurd (cc)
-found-all P key x (b ∷ xs) a h f = elim (same_or x (key b)) [
-  | inl e ↦ subst P (some_same b a (sym (found-at key x b xs e) ∙ f)) (h 0 a (omega arith))
-  | inr ne ↦ found-all P key x xs a (λ k d l. h (suc k) d (omega (arith, l))) (sym (found-behind key x b xs ne) ∙ f)
+found-all P key x (b ∷ xs) a h f = elim (cases_eq x (key b)) [
+  | inl e ↦ subst P (some_same b a (sym (found-here key x b xs e) ∙ f)) (h 0 a (omega arith))
+  | inr ne ↦ found-all P key x xs a (λ k d l. h (suc k) d (omega (arith, l))) (sym (found-past key x b xs ne) ∙ f)
 ]
 
 -- the items are of the first of these numbers, and each number has the same item
 pub same_firsts : {A : Type 0} (key : A → ℕ) (ids : List ℕ) (xs ys : List A) → Once ids → IsPrefix (map key xs) ids → IsPrefix (map key ys) ids
     → ((x : ℕ) → found key x xs ≡ found key x ys) → xs ≡ ys
 same_firsts key ids [] [] o p q h = refl
-same_firsts key ids [] (y ∷ ys) o p q h = let f : found key (key y) [] ≡ Some y = h (key y) ∙ found-at key (key y) y ys refl in absurd (cc)
-same_firsts key ids (x ∷ xs) [] o p q h = let f : Some x ≡ found key (key x) [] = sym (found-at key (key x) x xs refl) ∙ h (key x) in absurd (cc)
+same_firsts key ids [] (y ∷ ys) o p q h = let f : found key (key y) [] ≡ Some y = h (key y) ∙ found-here key (key y) y ys refl in absurd (cc)
+same_firsts key ids (x ∷ xs) [] o p q h = let f : Some x ≡ found key (key x) [] = sym (found-here key (key x) x xs refl) ∙ h (key x) in absurd (cc)
 same_firsts key [] (x ∷ xs) (y ∷ ys) o p q h = let f : key x ∷ (map key xs ++ p.0) ≡ [] = p.1 in absurd (cc)
 same_firsts key (i ∷ ids) (x ∷ xs) (y ∷ ys) o p q h =
     let kx : key x ≡ i = ap (front_or 0) p.1 in
     let ky : key y ≡ i = ap (front_or 0) q.1 in
     let xt : map key xs ++ p.0 ≡ ids = ap rear p.1 in
     let yt : map key ys ++ q.0 ≡ ids = ap rear q.1 in
-    let e : x ≡ y = some_same x y (sym (found-at key (key x) x xs refl) ∙ h (key x) ∙ found-at key (key x) y ys (kx ∙ sym ky)) in
+    let e : x ≡ y = some_same x y (sym (found-here key (key x) x xs refl) ∙ h (key x) ∙ found-here key (key x) y ys (kx ∙ sym ky)) in
     let ax : found key i xs ≡ None = found-none key i xs (lacks-front i (map key xs) p.0 (ap (λ zs. place_in i zs) xt ∙ Once-head i ids o)) in
     let ay : found key i ys ≡ None = found-none key i ys (lacks-front i (map key ys) q.0 (ap (λ zs. place_in i zs) yt ∙ Once-head i ids o)) in
-    let rest : (z : ℕ) → found key z xs ≡ found key z ys = λ z. elim (same_or z i) [
+    let rest : (z : ℕ) → found key z xs ≡ found key z ys = λ z. elim (cases_eq z i) [
       | inl f ↦ rw f (ax ∙ sym ay)
-      | inr ne ↦ sym (found-behind key z x xs (λ f. ne (f ∙ kx))) ∙ h z ∙ found-behind key z y ys (λ f. ne (f ∙ ky))
+      | inr ne ↦ sym (found-past key z x xs (λ f. ne (f ∙ kx))) ∙ h z ∙ found-past key z y ys (λ f. ne (f ∙ ky))
     ] in
     let tails = same_firsts key ids xs ys (Once-tail i ids o) (p.0, xt) (q.0, yt) rest in
     λ j. e j ∷ tails j

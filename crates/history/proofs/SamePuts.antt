@@ -1,5 +1,5 @@
 -- A put is a position or else a drop, and two equal puts are of one place and one drop.
-use Rattle.std.proofs.Common.{ℕ, ◌≤◌, ◌≡◌, List, [], ◌∷◌, Option, Some, None, refl, ap, ◌∙◌, sym, arith}
+use Rattle.std.proofs.Common.{ℕ, ◌≡◌, List, [], ◌∷◌, Option, Some, None, refl, ap, ◌∙◌, sym, arith, ◌<◌, ◌^◌}
 use Rattle.std.specs.Option.{option_map, option_or, option_and_then, is_some}
 use Rattle.steer_base.specs.Counters.{number}
 use Rattle.steer_base.specs.Entries.{place_in}
@@ -12,14 +12,15 @@ use Rattle.history.specs.Finding.{found, first_some}
 use Rattle.history.specs.Lines.{dropped_as, drop_in}
 use Rattle.history.specs.Lists.{drop_ids}
 use Rattle.history.specs.declared.lane_list.LaneList.{LaneList}
-use Rattle.history.proofs.SamePlaces.{some_same, found-is_in, found-key, found-none}
+use Rattle.history.proofs.RegularLemmas.{found-key, is_some-found}
+use Rattle.history.proofs.SamePlaces.{some_same, found-none}
 
 -- the number of a count has one count
-pub number-count : (start m n : ℕ) → m ≤ 262144 → n ≤ 262144 → number start m ≡ number start n → m ≡ n
+pub number-count : (start m n : ℕ) → m < 2 ^ 32 → n < 2 ^ 32 → number start m ≡ number start n → m ≡ n
 number-count start m n a b e = omega (arith, a, b, e)
 
--- a place that is few is found again in its number
-pub position-place : (start : ℕ) (o p : Option ℕ) → ((n : ℕ) → o ≡ Some n → n ≤ 262144) → ((n : ℕ) → p ≡ Some n → n ≤ 262144)
+-- a place is found again in its number
+pub position-place : (start : ℕ) (o p : Option ℕ) → ((n : ℕ) → o ≡ Some n → n < 2 ^ 32) → ((n : ℕ) → p ≡ Some n → n < 2 ^ 32)
     → option_map (number start) o ≡ option_map (number start) p → o ≡ p
 position-place start None None a b e = refl
 position-place start None (Some n) a b e = absurd (cc)
@@ -101,5 +102,5 @@ pub drop-parts : (x : ℕ) (l m : LaneList) → drop_in x l ≡ drop_in x m
     → (place_in x (drop_ids l) ≡ place_in x (drop_ids m)) × (found (λ d. d.id) x l.drops ≡ found (λ d. d.id) x m.drops)
 drop-parts x l m e =
     same_fall x (found (λ d. d.id) x l.drops) (found (λ d. d.id) x m.drops) (place_in x (drop_ids l)) (place_in x (drop_ids m))
-    (found-is_in (λ d. d.id) x l.drops) (found-is_in (λ d. d.id) x m.drops)
+    (is_some-found (λ d. d.id) x l.drops) (is_some-found (λ d. d.id) x m.drops)
     (λ d. found-key (λ c. c.id) x l.drops d) (λ d. found-key (λ c. c.id) x m.drops d) e
