@@ -6,5 +6,5 @@ pub mod NumbersLemmas
 pub mod OneHistory
 pub mod OneReply
 pub mod ReportRows
-pub mod Sections
+pub mod SameSections
 pub mod Spelling

@@ -25,7 +25,7 @@ use Rattle.report.specs.Texts.Row.{Line, Tap}
 use Rattle.report.proofs.CommandSpelling.{command-same, answer-same}
 use Rattle.report.proofs.Cuts.{same_rows}
 use Rattle.report.proofs.ReportRows.{has_rows}
-use Rattle.report.proofs.Sections.{Each, first, others, split, Each-append, Each-map, SameSections, same_sections}
+use Rattle.report.proofs.SameSections.{Each, first, others, split, Each-append, Each-map, SameSections, same_sections}
 use Rattle.report.proofs.Spelling.{field, after, number-same, byte-same, packet-same, reply-same}
 
 -- The lines of packets.
