@@ -2,6 +2,7 @@ pub mod CommandSpelling
 pub mod Cuts
 pub mod Digits
 pub mod KnownRows
+pub mod NeededPremises
 pub mod NumbersLemmas
 pub mod OneHistory
 pub mod OneReply

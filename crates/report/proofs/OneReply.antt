@@ -24,20 +24,20 @@ use Rattle.history.specs.declared.lane_list.LaneList.{LaneList}
 use Rattle.report.specs.Laws.{IsReportOf}
 use Rattle.report.specs.Report.{report}
 
-abbrev packets : List Packet
+abbrev pub packets : List Packet
 packets = record { flow = Four (V4 1107924411 2710463568) Tcp 2794 1766; hash = Some 1372373368; len = 54; flow_number = 0 } ∷ []
 
 -- the choice of processor 1 by the packet-steering mask, and of transmit queue 0
-abbrev way_in : Choice
+abbrev pub way_in : Choice
 way_in = record { class = None; want = None; head = None; tail = None; lane = 1; why = Plain }
 
-abbrev way_out : Choice
+abbrev pub way_out : Choice
 way_out = record { class = Some 0; want = Some 0; head = None; tail = Some 0; lane = 0; why = Unset }
 
-abbrev lane : LaneList
+abbrev pub lane : LaneList
 lane = record { accepted = 0 ∷ []; drops = []; pulled = 1; delivered = 1; retired = 1 }
 
-abbrev history : History
+abbrev pub history : History
 history = record {
   total = 1;
   cut = None;
@@ -56,7 +56,7 @@ history = record {
 }
 
 -- its report, written by hand
-abbrev text : List ℕ
+abbrev pub text : List ℕ
 text = codes "steer 1\np 0 q 0 via reta class - want - head - tail - cpu 1 why plain at 1 app 0 in 1 place inbox\nr 0 app 0 rxq 0 cpu 2 pick 0 head - tail 0 tx 0 why unset at 1 port 1\nqueue 0 arrived 1 taken 1\ncpu 0 accepted 0 pulled 0 delivered 0 retired 0 dropped 0\ncpu 1 accepted 1 pulled 1 delivered 1 retired 1 dropped 0\ncpu 2 accepted 0 pulled 0 delivered 0 retired 0 dropped 0\ntx 0 accepted 1 pulled 1 delivered 1 retired 1\nend 1 of 1\n"
 
 known : report packets 1 history [] ≡ text
