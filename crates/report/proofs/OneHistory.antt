@@ -28,13 +28,12 @@ use Rattle.report.proofs.ReportRows.{has_rows}
 use Rattle.report.proofs.SameSections.{Each, first, others, split, Each-append, Each-map, SameSections, same_sections}
 use Rattle.report.proofs.Spelling.{field, after, number-same, byte-same, packet-same, reply-same}
 
--- The lines of packets.
-further_on : {A : Type 0} (row : A → Row) (f g : ℕ → A) (i n x : ℕ) → row (f i) ≡ row (g i)
-    → ((y : ℕ) → y < n → row (f (i + 1 + y)) ≡ row (g (i + 1 + y))) → x < suc n → row (f (i + x)) ≡ row (g (i + x))
-further_on row f g i n zero h r l = let e : i + 0 ≡ i = omega arith in rw e h
-further_on row f g i n (suc x) h r l = let e : i + suc x ≡ i + 1 + x = omega arith in rw e (r x (omega (arith, l)))
+-- what holds of the first number and of those behind it holds of all
+further_on : {A : Type 0} (f g : ℕ → A) (i n x : ℕ) → f i ≡ g i → ((y : ℕ) → y < n → f (i + 1 + y) ≡ g (i + 1 + y)) → x < suc n → f (i + x) ≡ g (i + x)
+further_on f g i n zero h r l = let e : i + 0 ≡ i = omega arith in rw e h
+further_on f g i n (suc x) h r l = let e : i + suc x ≡ i + 1 + x = omega arith in rw e (r x (omega (arith, l)))
 
--- rows of numbered things
+-- the lines of packets: rows that are made of as many numbers are equal number by number
 same_map : {A : Type 0} (row : A → Row) (f g : ℕ → A) (i n m : ℕ) → map row (map f (range_with_len i n)) ≡ map row (map g (range_with_len i m))
     → (n ≡ m) × ((x : ℕ) → x < n → row (f (i + x)) ≡ row (g (i + x)))
 same_map row f g i zero zero e = (refl, λ x l. absurd (omega (arith, l)))
@@ -42,7 +41,7 @@ same_map row f g i zero (suc m) e = absurd (cc)
 same_map row f g i (suc n) zero e = absurd (cc)
 same_map row f g i (suc n) (suc m) e =
     let rest = same_map row f g (i + 1) n m (ap others e) in
-    (ap suc rest.0, λ x l. further_on row f g i n x (ap (first (row (f i))) e) rest.1 l)
+    (ap suc rest.0, λ x l. further_on (λ j. row (f j)) (λ j. row (g j)) i n x (ap (first (row (f i))) e) rest.1 l)
 
 -- The lines of replies: a row shows its number.
 abbrev shown : Row → List ℕ
@@ -68,24 +67,22 @@ first_case f i n b t ih (Some c) h e =
     let p : i + 0 ≡ i = omega arith in
     (0, omega arith, ap (row_at f) p ∙ h ∙ ap (λ x. Some x) (ap (first c) e))
 
+-- it is of one of the numbers
 first_in : (f : ℕ → Option ReplyLine) (i n : ℕ) (b : Row) (t : List Row) → rows_from f i n ≡ b ∷ t → (j : ℕ) × (j < n) × (row_at f (i + j) ≡ Some b)
 first_in f i zero b t e = absurd (cc)
 first_in f i (suc n) b t e = first_case f i n b t (first_in f (i + 1) n b t) (row_at f i) refl e
 
-next : (f g : ℕ → Option ReplyLine) (i n x : ℕ) → row_at f i ≡ row_at g i → ((y : ℕ) → y < n → row_at f (i + 1 + y) ≡ row_at g (i + 1 + y))
-    → x < suc n → row_at f (i + x) ≡ row_at g (i + x)
-next f g i n zero h r l = let e : i + 0 ≡ i = omega arith in rw e h
-next f g i n (suc x) h r l = let e : i + suc x ≡ i + 1 + x = omega arith in rw e (r x (omega (arith, l)))
-
+-- one row shows one number
 clash : (i j : ℕ) (xs : List ℕ) → i < 2 ^ 32 → j < 2 ^ 32 → i < j → xs ≡ decimal i → xs ≡ decimal j → ⊥
 clash i j xs a b l e f = let g : i ≡ j = number-same i j a b (sym e ∙ f) in omega (arith, l, g)
 
+-- both have a row of the first number, or neither has: else the other's first row would show a later number
 same_case : (f g : ℕ → Option ReplyLine) → Shows f → Shows g → (i n : ℕ) → i + suc n ≤ 262144
     → (rows_from f (i + 1) n ≡ rows_from g (i + 1) n → (x : ℕ) → x < n → row_at f (i + 1 + x) ≡ row_at g (i + 1 + x))
     → (o r : Option Row) → row_at f i ≡ o → row_at g i ≡ r → cons_option o (rows_from f (i + 1) n) ≡ cons_option r (rows_from g (i + 1) n)
     → (x : ℕ) → x < suc n → row_at f (i + x) ≡ row_at g (i + x)
-same_case f g p q i n s ih None None a b e x l = next f g i n x (a ∙ sym b) (ih e) l
-same_case f g p q i n s ih (Some c) (Some d) a b e x l = next f g i n x (a ∙ ap (λ y. Some y) (ap (first c) e) ∙ sym b) (ih (ap others e)) l
+same_case f g p q i n s ih None None a b e x l = further_on (row_at f) (row_at g) i n x (a ∙ sym b) (ih e) l
+same_case f g p q i n s ih (Some c) (Some d) a b e x l = further_on (row_at f) (row_at g) i n x (a ∙ ap (λ y. Some y) (ap (first c) e) ∙ sym b) (ih (ap others e)) l
 same_case f g p q i n s ih None (Some d) a b e x l =
     let w = first_in f (i + 1) n d (rows_from g (i + 1) n) e in
     absurd (clash i (i + 1 + w.0) (shown d) (omega (arith, s)) (omega (arith, s, w.1)) (omega arith) (q i d b) (p (i + 1 + w.0) d w.2))
@@ -93,6 +90,7 @@ same_case f g p q i n s ih (Some c) None a b e x l =
     let w = first_in g (i + 1) n c (rows_from f (i + 1) n) (sym e) in
     absurd (clash i (i + 1 + w.0) (shown c) (omega (arith, s)) (omega (arith, s, w.1)) (omega arith) (p i c a) (q (i + 1 + w.0) c w.2))
 
+-- rows that show their numbers are equal number by number
 same_replies : (f g : ℕ → Option ReplyLine) → Shows f → Shows g → (i n : ℕ) → i + n ≤ 262144 → rows_from f i n ≡ rows_from g i n
     → (x : ℕ) → x < n → row_at f (i + x) ≡ row_at g (i + x)
 same_replies f g p q i zero s e x l = absurd (omega (arith, l))
@@ -102,6 +100,7 @@ abbrev row_or : Row → Option Row → Row
 row_or d None = d
 row_or d (Some r) = r
 
+-- the row of a reply shows the number of its packet
 shown_by : (packets : List Packet) (apps : ℕ) (h : History) (x : ℕ) (b : Row) (o : Option Sent)
     → option_map reply_row (option_map (line_of_sent packets apps h x) o) ≡ Some b → shown b ≡ decimal x
 shown_by packets apps h x b None e = absurd (cc)
@@ -110,6 +109,7 @@ shown_by packets apps h x b (Some s) e = sym (ap (λ o. shown (row_or (Tap 0 [])
 shows_number : (packets : List Packet) (apps : ℕ) (h : History) → Shows (reply_line packets apps h)
 shows_number packets apps h x b e = shown_by packets apps h x b (sent_of h x) e
 
+-- equal rows are of lines that show the same
 reply_of : (packets : List Packet) (apps : ℕ) (h k : History) (x : ℕ) (o p : Option Sent)
     → IfSome (option_map (line_of_sent packets apps h x) o) ReplyFits → IfSome (option_map (line_of_sent packets apps k x) p) ReplyFits
     → option_map reply_row (option_map (line_of_sent packets apps h x) o) ≡ option_map reply_row (option_map (line_of_sent packets apps k x) p)
@@ -170,6 +170,7 @@ same_list a (v ∷ vs) (w ∷ ws) f g e =
 abbrev Of : ℕ → Row → Type 0
 Of a r = field 1 (fields r) ≡ decimal a
 
+-- no row of a later application is
 later : (a b : ℕ) (writes : List (List SockWrite)) → a < b → b + length writes ≤ 2 ^ 64 → Each (λ r. Of a r → ⊥) (write_rows b writes)
 later a b [] l s = tt
 later a b (ws ∷ rest) l s =
@@ -219,6 +220,7 @@ bytes_of (Tap k bytes) = bytes
 same_taps : (texts more : List (List ℕ)) → tap_rows texts ≡ tap_rows more → texts ≡ more
 same_taps texts more e = same_values (λ t. ⊤) Tap Tap (λ i a b p q f. ap bytes_of f) texts more (λ k d l. tt) (λ k d l. tt) e
 
+-- The sections show lines, sums, writes and commands.
 same_shown : HaveLinesThatFit → (packets : List Packet) (apps : ℕ) (start : ℕ) (h k : History) (texts more : List (List ℕ)) (bytes : List ℕ)
     → length packets ≤ 262144 → apps < 2 ^ 64 → IsReportOf packets apps start h texts bytes → IsReportOf packets apps start k more bytes
     → SameSections (lines_of packets apps h) (lines_of packets apps k) h k texts more → SameShown packets apps h k
