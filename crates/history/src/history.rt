@@ -48,6 +48,18 @@ pub struct History {
 }
 
 impl History {
+    /// Whether a packet arrived.
+    pub fn has_arrived(&self, id: PacketId) -> bool
+        ensures { result ≡ has_arrived self.now id }
+    {
+        for arrival in self.arrivals.as_slice() {
+            if arrival.id == id {
+                return true;
+            }
+        }
+        false
+    }
+
     /// The place of a packet that arrived: the first that holds of dropped, in an inbox, pulled, accepted, and taken from
     /// the ring. Where several lanes or inboxes have it, which is never so in a regular history, it is at the one with
     /// the least number. It takes no memory, and walks the lists once.

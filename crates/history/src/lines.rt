@@ -88,6 +88,13 @@ impl Lines {
         }
     }
 
+    /// How many receive queues there are.
+    pub fn queues(&self) -> usize
+        ensures { result ≡ length self.now.arrived }
+    {
+        self.arrived.len()
+    }
+
     /// How many packets arrived at a receive queue.
     pub fn arrived_at(&self, queue: usize) -> u32
         requires { queue < length self.now.arrived }
