@@ -1,0 +1,9 @@
+pub mod BoundLemmas
+pub mod CountLemmas
+pub mod FindingLemmas
+pub mod IndexLemmas
+pub mod OwnLemmas
+pub mod PlaceLemmas
+pub mod PositionLemmas
+pub mod RegularLemmas
+pub mod ReplyLemmas

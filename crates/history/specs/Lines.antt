@@ -1,5 +1,5 @@
 -- What a history has of one packet: the line of its way in, and the line of its reply.
-use Rattle.std.specs.Prelude.{ℕ, List, [], Option, Some, None, is_some, length, map, if◌then◌else◌}
+use Rattle.std.specs.Prelude.{ℕ, List, Option, is_some, length, map, if◌then◌else◌}
 use Rattle.std.specs.List.{range_with_len}
 use Rattle.std.specs.Option.{option_map, option_or, option_and_then}
 use Rattle.steer_base.specs.Counters.{number}

@@ -1,5 +1,5 @@
 -- The lists of a history, read by number; beyond its lists a history has empty ones.
-use Rattle.std.specs.Prelude.{ℕ, List, [], Option, None, ◌==◌, map, slice_index_or}
+use Rattle.std.specs.Prelude.{ℕ, List, [], None, ◌==◌, map, slice_index_or}
 use Rattle.std.specs.List.{filter}
 use Rattle.std.specs.Option.{unwrap_or}
 use Rattle.steer_base.specs.Apps.{app_of}

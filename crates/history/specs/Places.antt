@@ -1,5 +1,5 @@
 -- The place of a packet.
-use Rattle.std.specs.Prelude.{ℕ, ◌≡◌, ◌<◌, ◌++◌, Bool, true, false, List, Option, Some, None, map, slice_index}
+use Rattle.std.specs.Prelude.{ℕ, ◌≡◌, ◌<◌, ◌++◌, Bool, true, false, Option, Some, None, map, slice_index}
 use Rattle.std.specs.List.{position}
 use Rattle.steer_base.specs.Orders.{Apart}
 use Rattle.history.specs.Finding.{is_in, is_among}

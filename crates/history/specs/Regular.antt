@@ -1,6 +1,6 @@
 -- Which histories are regular, for the packets of a capture and a number of applications; and when each arrival is at
 -- the queue that its values lead to.
-use Rattle.std.specs.Prelude.{ℕ, ◌≡◌, ◌<◌, ◌≤◌, ◌++◌, Bool, true, false, List, [], Option, Some, IsSome, length, map, slice_index}
+use Rattle.std.specs.Prelude.{ℕ, ◌≡◌, ◌≤◌, ◌++◌, Bool, true, false, List, [], Some, IsSome, length, map, slice_index}
 use Rattle.std.specs.List.{All, range_with_len}
 use Rattle.steer_base.specs.Arrivals.{Route, IsRoute}
 use Rattle.steer_base.specs.Orders.{Apart, IsPrefix}

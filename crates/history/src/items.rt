@@ -1,7 +1,9 @@
 //! A list that contracts see as a list.
 ghost use Rattle.std.specs.Prelude.{◌≡◌, ◌<◌, length, slice_index_or};
+ghost use Rattle.history.specs.Finding.{is_among, is_in};
 
 use std::marker::Model;
+use steer_base::PacketId;
 
 /// Items in order. A list of lists is seen as one, too.
 #[derive(Debug, Drop)]
@@ -46,4 +48,36 @@ impl<T> Items<T> {
     {
         &self.items
     }
+}
+
+impl Items<PacketId> {
+    // Whether the packet is in the list.
+    pub(crate) fn has(&self, id: PacketId) -> bool
+        ensures { result ≡ is_in id self.now }
+    {
+        has_packet(&self.items, id)
+    }
+
+    // Whether it is among the first of the list.
+    pub(crate) fn has_among(&self, count: usize, id: PacketId) -> bool
+        ensures { result ≡ is_among count id self.now }
+    {
+        if count < self.items.len() {
+            has_packet(&self.items[..count], id)
+        } else {
+            has_packet(&self.items, id)
+        }
+    }
+}
+
+// Whether the packet is among these.
+fn has_packet(packets: &[PacketId], id: PacketId) -> bool
+    ensures { result ≡ is_in id packets.now }
+{
+    for packet in packets {
+        if *packet == id {
+            return true;
+        }
+    }
+    false
 }

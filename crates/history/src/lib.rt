@@ -3,9 +3,13 @@
 
 mod arrival;
 mod commanded;
+mod counted;
 mod history;
+mod index;
 mod items;
+mod known;
 mod lane_list;
+mod lines;
 mod packet_line;
 mod place;
 mod reply_line;
@@ -17,6 +21,7 @@ pub use commanded::Commanded;
 pub use history::History;
 pub use items::Items;
 pub use lane_list::LaneList;
+pub use lines::Lines;
 pub use packet_line::{PacketLine, Via};
 pub use place::Place;
 pub use reply_line::ReplyLine;
