@@ -1,5 +1,6 @@
 pub mod BoundLemmas
 pub mod CountLemmas
+pub mod ExampleLemmas
 pub mod FindingLemmas
 pub mod IndexLemmas
 pub mod OwnLemmas
