@@ -169,8 +169,12 @@ fn delivered_packets_are_in_the_inbox(rt: HostRuntime) {
         lane(&rt, rt.alloc(), &[0, 1, 2], &[], 3),
         lane(&rt, rt.alloc(), &[3], &[], 0),
     );
-    let inbox = Place::Inbox(AppId(0));
-    let places = [inbox, inbox, inbox, Place::Backlog(Cpu(2))];
+    let places = [
+        Place::Inbox(AppId(0)),
+        Place::Inbox(AppId(0)),
+        Place::Inbox(AppId(0)),
+        Place::Backlog(Cpu(2)),
+    ];
     has_places(
         &rt,
         history(&rt, rt.alloc(), &[0, 0, 0, 0], 4, lanes, &[0, 1, 2]),
