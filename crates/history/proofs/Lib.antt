@@ -1,6 +1,7 @@
 pub mod Arrivals
 pub mod BoundLemmas
 pub mod CountLemmas
+pub mod ExampleLemmas
 pub mod FindingLemmas
 pub mod FoundAgain
 pub mod IndexLemmas

@@ -1,4 +1,5 @@
 pub mod Counted
+pub mod Examples
 pub mod Finding
 pub mod Index
 pub mod Known

@@ -178,7 +178,7 @@ pub(crate) fn index_drops(
     Ok(index)
 }
 
-fn note_drops(index: &mut Index<Put>, list: &Items<LaneDrop>)
+pub(crate) fn note_drops(index: &mut Index<Put>, list: &Items<LaneDrop>)
     requires { length list.now < 2 ^ 32 }
     ensures { index.new ≡ noted_by (λ d. d.id) (λ i d. dropped (i + 1) d.accepted d.pulled d.cause) 0 index.old list.now }
 {

@@ -242,7 +242,7 @@ fn position_of(start: u32, place: Option<u32>) -> Option<u32>
 }
 
 // The position of an accepted packet, or else its drop.
-fn put_of(start: u32, accepted: Option<u32>, dropped: Option<Put>) -> Option<Put>
+pub(crate) fn put_of(start: u32, accepted: Option<u32>, dropped: Option<Put>) -> Option<Put>
     ensures { result ≡ option_or (option_map (λ n. at_position n) (option_map (number start) accepted)) dropped }
 {
     match position_of(start, accepted) {
