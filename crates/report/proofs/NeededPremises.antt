@@ -3,6 +3,7 @@
 use Rattle.std.proofs.Common.{◌≡◌, [], ◌∷◌, Some, None, refl}
 use Rattle.std.specs.Fmt.{digits}
 use Rattle.steer_base.specs.Sets.{those_below}
+use Rattle.steer_base.specs.declared.choice.Why.TheVariants.{Unset}
 use Rattle.steer_base.specs.declared.command.Command.TheVariants as command
 use Rattle.steer_base.specs.declared.command.Answer.TheVariants as answer
 use Rattle.steer_base.specs.declared.idle.Idle.TheVariants as idle
@@ -10,7 +11,7 @@ use Rattle.steer_base.specs.declared.put.DropCause.TheVariants.{Full}
 use Rattle.history.specs.Lists.{no_lane}
 use Rattle.history.specs.declared.history.History.{History}
 use Rattle.report.specs.Report.{report}
-use Rattle.report.proofs.OneReply.{packets, history, lane, way_out}
+use Rattle.report.proofs.OneReply.{packets, history, lane}
 
 abbrev Same : History → History → Type 0
 Same h k = report packets 1 h [] ≡ report packets 1 k []
@@ -21,7 +22,7 @@ unfolding digits
 queue_rule = refl
 
 -- the class of a reply is not printed
-class : Same history (record history { tx_choices = (record { id = 0; choice = record way_out { class = Some 9 } } ∷ []) ∷ [] })
+class : Same history (record history { tx_choices = (record { id = 0; choice = record { class = Some 9; want = Some 0; head = None; tail = Some 0; lane = 0; why = Unset } } ∷ []) ∷ [] })
 unfolding digits
 class = refl
 
