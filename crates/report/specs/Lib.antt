@@ -3,3 +3,7 @@ pub mod Texts
 pub mod Lines
 pub mod Commands
 pub mod Report
+pub mod Pieces
+pub mod Written
+pub mod Made
+pub mod Parts
