@@ -1,1 +1,16 @@
+pub mod CommandSpelling
+pub mod Cuts
+pub mod Digits
+pub mod KnownRows
+pub mod NeededPremises
 pub mod NumbersLemmas
+pub mod OneHistory
+pub mod OneReply
+pub mod PiecesLemmas
+pub mod ReportRows
+pub mod RowsLemmas
+pub mod SameSections
+pub mod SetsLemmas
+pub mod SmallHistoryLemmas
+pub mod Spelling
+pub mod WrittenLemmas

@@ -1,1 +1,10 @@
+pub mod Commands
+pub mod Laws
+pub mod Lines
+pub mod Made
 pub mod Numbers
+pub mod Parts
+pub mod Pieces
+pub mod Report
+pub mod Texts
+pub mod Written

@@ -40,6 +40,13 @@ impl LineBuf {
         Ok(LineBuf { bytes })
     }
 
+    /// Empties the line.
+    pub(crate) fn clear(&mut self)
+        ensures { self.new ≡ [] }
+    {
+        self.bytes.clear();
+    }
+
     /// Puts a text behind the line.
     pub fn push(&mut self, text: &[u8])
         requires { length self.old + length text.now ≤ 512 }
@@ -81,7 +88,7 @@ impl LineBuf {
         ensures later { K.faults out.old ≤ K.faults out.new }
     {
         let done = write_whole(out, &self.bytes);
-        self.bytes.clear();
+        self.clear();
         done
     }
 }

@@ -1,0 +1,35 @@
+-- What the passes over the lists of a history tell of each packet.
+use Rattle.std.specs.Prelude.{ℕ, ◌<◌, ◌^◌, ◌&&◌, List, Option, Some, None, length, nat_lt, nat_le, if◌then◌else◌}
+use Rattle.steer_base.specs.Entries.{place_in}
+use Rattle.history.specs.Finding.{first_some}
+use Rattle.history.specs.Index.{IsIndex}
+use Rattle.history.specs.Lines.{accepted_place, choice_of, drop_in, inbox_place_of, sent_of, tx_choice_of}
+use Rattle.history.specs.Lists.{list_at, lane_at}
+use Rattle.history.specs.declared.history.History.{History}
+use Rattle.history.specs.declared.known.Known.{Known}
+use Rattle.history.specs.declared.lane_list.LaneList.{LaneList}
+
+-- The places in each list are numbers of 32 bits.
+pub record HasShortLists (h : History) : Type 0 where
+  pub accepted : (c : ℕ) → length (lane_at h.lanes c).accepted < 2 ^ 32
+  pub dropped : (c : ℕ) → length (lane_at h.lanes c).drops < 2 ^ 32
+  pub inboxes : (a : ℕ) → length (list_at h.inboxes a) < 2 ^ 32
+  pub shipped : (t : ℕ) → length (lane_at h.tx_lanes t).accepted < 2 ^ 32
+  pub port : length h.port < 2 ^ 32
+
+-- What is known of each packet that arrived is what its lines say.
+pub record IsKnown (h : History) (k : Known) : Type 0 where
+  pub choices : IsIndex (length h.arrivals) k.choices (choice_of h)
+  pub accepted : IsIndex (length h.arrivals) k.accepted (accepted_place h.lanes)
+  pub drops : IsIndex (length h.arrivals) k.drops (λ x. first_some (drop_in x) h.lanes)
+  pub inboxes : IsIndex (length h.arrivals) k.inboxes (inbox_place_of h)
+  pub sent : IsIndex (length h.arrivals) k.sent (sent_of h)
+  pub tx_choices : IsIndex (length h.arrivals) k.tx_choices (tx_choice_of h)
+  pub tx_accepted : IsIndex (length h.arrivals) k.tx_accepted (accepted_place h.tx_lanes)
+  pub port : IsIndex (length h.arrivals) k.port (λ x. place_in x h.port)
+
+-- the lane of a packet, where its place among the accepted ones there is among those that were pulled
+abbrev pub pulled_by : List LaneList → Option ℕ → Option ℕ → Option ℕ
+pulled_by lanes (Some c) (Some n) = if nat_lt c (length lanes) && nat_le n (lane_at lanes c).pulled then Some c else None
+pulled_by lanes (Some c) None = None
+pulled_by lanes None place = None

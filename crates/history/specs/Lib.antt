@@ -1,0 +1,11 @@
+pub mod Counted
+pub mod Examples
+pub mod Finding
+pub mod Index
+pub mod Known
+pub mod Lines
+pub mod Lists
+pub mod Places
+pub mod Ranges
+pub mod Regular
+pub mod Shown

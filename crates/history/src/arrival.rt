@@ -1,0 +1,13 @@
+//! The arrival of a packet at a receive queue.
+use steer_base::{PacketId, RxQueue};
+
+/// A packet that arrived, its receive queue, and the value that led to this queue.
+#[derive(Clone, Copy, Debug, PartialEq, Eq)]
+pub struct Arrival {
+    pub id: PacketId,
+    pub queue: RxQueue,
+    /// The queue that a hardware filter named, where one was seen.
+    pub filter: Option<RxQueue>,
+    /// The queue that the entry of the redirection table named, where it was looked at.
+    pub entry: Option<RxQueue>,
+}

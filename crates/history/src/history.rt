@@ -1,0 +1,172 @@
+//! The history of a run.
+ghost use Rattle.std.specs.Prelude.{◌≡◌, IsTrue, slice_index};
+ghost use Rattle.std.specs.List.{position};
+ghost use Rattle.history.specs.Finding.{is_among, is_in};
+ghost use Rattle.history.specs.Lists.{arrival_of, arrivals_at, drop_ids};
+ghost use Rattle.history.specs.Places.{IsInReach, has_arrived, place_of, was_taken};
+
+use crate::arrival::Arrival;
+use crate::commanded::Commanded;
+use crate::items::Items;
+use crate::lane_list::LaneList;
+use crate::place::Place;
+use crate::sent::Sent;
+use crate::sock_write::SockWrite;
+use steer_base::{AppId, Chosen, Cpu, PacketId, RxQueue};
+
+/// All that happened in a run, as lists in the order in which it happened.
+#[derive(Debug, Drop)]
+pub struct History {
+    /// How many packets the capture has.
+    pub total: u32,
+    /// The length of a cut record at the end of the capture, if there is one.
+    pub cut: Option<u32>,
+    /// The packets that arrived.
+    pub arrivals: Items<Arrival>,
+    /// For each receive queue, how many packets its poller took.
+    pub taken: Items<u32>,
+    /// For each receive queue, the choices of a processor.
+    pub choices: Items<Items<Chosen>>,
+    /// For each processor, its backlog.
+    pub lanes: Items<LaneList>,
+    /// For each application, the packets that were delivered to it.
+    pub inboxes: Items<Items<PacketId>>,
+    /// For each application, the replies that it began.
+    pub sent: Items<Items<Sent>>,
+    /// For each application, the choices of a transmit queue.
+    pub tx_choices: Items<Items<Chosen>>,
+    /// For each transmit queue, its packets.
+    pub tx_lanes: Items<LaneList>,
+    /// The replies that left by the port.
+    pub port: Items<PacketId>,
+    /// For each application, its writes of the socket flow table.
+    pub writes: Items<Items<SockWrite>>,
+    /// The commands that were given, each with its answer.
+    pub commands: Items<Commanded>,
+    /// The number that the counters of all lanes show before their first packet.
+    pub start: u32,
+}
+
+impl History {
+    /// Whether a packet arrived.
+    pub fn has_arrived(&self, id: PacketId) -> bool
+        ensures { result ≡ has_arrived self.now id }
+    {
+        for arrival in self.arrivals.as_slice() {
+            if arrival.id == id {
+                return true;
+            }
+        }
+        false
+    }
+
+    /// The place of a packet that arrived: the first that holds of dropped, in an inbox, pulled, accepted, and taken from
+    /// the ring. Where several lanes or inboxes have it, which is never so in a regular history, it is at the one with
+    /// the least number. It takes no memory, and walks the lists once.
+    pub fn place(&self, id: PacketId) -> Place
+        requires arrived { IsTrue (has_arrived self.now id) }
+        requires in_reach { IsInReach self.now id }
+        ensures { result ≡ place_of self.now id }
+    {
+        if let Some(cpu) = self.dropped_at(id) {
+            return Place::Dropped(Cpu(cpu as u8));
+        }
+        if let Some(app) = self.inbox_of(id) {
+            return Place::Inbox(AppId(app as u8));
+        }
+        if let Some(cpu) = self.pulled_at(id) {
+            return Place::Hand(Cpu(cpu as u8));
+        }
+        if let Some(cpu) = self.accepted_at(id) {
+            return Place::Backlog(Cpu(cpu as u8));
+        }
+        if self.was_taken(id) {
+            Place::Poller
+        } else {
+            Place::Ring
+        }
+    }
+
+    // The first processor that dropped the packet.
+    fn dropped_at(&self, id: PacketId) -> Option<usize>
+        ensures { result ≡ position (λ lane. is_in id (drop_ids lane)) self.now.lanes }
+    {
+        self.lanes
+            .as_slice()
+            .iter()
+            .position(|lane| lane.has_dropped(id))
+    }
+
+    // The first inbox that has the packet.
+    fn inbox_of(&self, id: PacketId) -> Option<usize>
+        ensures { result ≡ position (λ inbox. is_in id inbox) self.now.inboxes }
+    {
+        self.inboxes
+            .as_slice()
+            .iter()
+            .position(|inbox| inbox.has(id))
+    }
+
+    // The first processor that has the packet among those that were pulled there.
+    fn pulled_at(&self, id: PacketId) -> Option<usize>
+        ensures { result ≡ position (λ lane. is_among lane.pulled id lane.accepted) self.now.lanes }
+    {
+        self.lanes
+            .as_slice()
+            .iter()
+            .position(|lane| lane.has_pulled(id))
+    }
+
+    // The first processor that accepted the packet.
+    fn accepted_at(&self, id: PacketId) -> Option<usize>
+        ensures { result ≡ position (λ lane. is_in id lane.accepted) self.now.lanes }
+    {
+        self.lanes
+            .as_slice()
+            .iter()
+            .position(|lane| lane.has_accepted(id))
+    }
+
+    // Whether the poller of its queue took a packet that arrived.
+    fn was_taken(&self, id: PacketId) -> bool
+        requires { IsTrue (has_arrived self.now id) }
+        ensures { result ≡ was_taken self.now id }
+    {
+        let queue = self.queue_of(id);
+        let Some(count) = self.taken.as_slice().get(queue.0 as usize) else {
+            return false;
+        };
+        self.has_among_arrivals(queue, *count, id)
+    }
+
+    // The queue that a packet arrived at.
+    fn queue_of(&self, id: PacketId) -> RxQueue
+        ensures { result ≡ (arrival_of self.now.arrivals id).queue }
+    {
+        for arrival in self.arrivals.as_slice() {
+            if arrival.id == id {
+                return arrival.queue;
+            }
+        }
+        RxQueue(0)
+    }
+
+    // Whether a packet is among so many first arrivals of a queue.
+    fn has_among_arrivals(&self, queue: RxQueue, count: u32, id: PacketId) -> bool
+        ensures { result ≡ is_among count id (arrivals_at self.now.arrivals queue) }
+    {
+        let mut left = count;
+        for arrival in self.arrivals.as_slice() {
+            if left == 0 {
+                return false;
+            }
+            if arrival.queue == queue {
+                if arrival.id == id {
+                    return true;
+                }
+                left -= 1;
+            }
+        }
+        false
+    }
+}

@@ -1,0 +1,36 @@
+//! The history of a run as lists, the place of each packet, and the lines that a report shows of it.
+#![tactic(auto)]
+
+mod arrival;
+mod commanded;
+mod counted;
+mod fits;
+mod found_again;
+mod history;
+mod index;
+mod items;
+mod known;
+mod lane_list;
+mod laws;
+mod lines;
+mod packet_line;
+mod place;
+mod reply_line;
+mod sent;
+mod sock_write;
+#[cfg(test)]
+mod tests;
+
+pub use arrival::Arrival;
+pub use commanded::Commanded;
+pub use found_again::{histories_are_found_again, lines_fit};
+pub use history::History;
+pub use items::Items;
+pub use lane_list::LaneList;
+pub use laws::a_packet_has_one_place;
+pub use lines::Lines;
+pub use packet_line::{PacketLine, Via};
+pub use place::Place;
+pub use reply_line::ReplyLine;
+pub use sent::Sent;
+pub use sock_write::SockWrite;

@@ -1,0 +1,105 @@
+//! The lines of all packets and replies of a history.
+ghost use Rattle.std.specs.Prelude.{◌≡◌, ℕ, ◌<◌, ◌≤◌, None, is_some, length, slice_index, slice_index_or, IfOk};
+ghost use Rattle.history.specs.Lines.{is_replied, lines_of, packet_line, reply_line};
+ghost use Rattle.history.specs.Lists.{arrivals_at};
+ghost use Rattle.history.specs.declared.packet_line.PacketLine.{PacketLine};
+ghost use Rattle.history.specs.Regular.{Regular};
+
+use crate::counted::Counted;
+use crate::history::History;
+use crate::known::{Known, packet_lines, reply_lines};
+use crate::packet_line::PacketLine;
+use crate::reply_line::ReplyLine;
+use std::alloc::Global;
+use std::marker::Model;
+use steer_base::{OutOfMemory, Packet, PacketId};
+
+/// The lines of the packets that arrived and of their replies, and how many packets arrived at each queue.
+#[derive(Debug, Drop)]
+pub struct Lines {
+    packets: Vec<PacketLine>,
+    replies: Vec<Option<ReplyLine>>,
+    arrived: Vec<u32>,
+}
+
+impl Model for Lines {
+    ghost use Rattle.history.specs.Lines.{LineLists};
+
+    ghost Value = { LineLists };
+
+    ghost view = { λ l. record { packets = l.packets.items; replies = l.replies.items; arrived = l.arrived.items } };
+}
+
+impl Lines {
+    /// The lines of a history that is regular for these packets and so many applications, in time and memory linear in
+    /// its packets. All memory that they need is taken here.
+    pub fn make(
+        alloc: Global,
+        h: &History,
+        packets: &[Packet],
+        apps: u8,
+    ) -> Result<Lines, OutOfMemory>
+        requires regular { Regular packets.now apps h.now }
+        requires apps { 1 ≤ apps }
+        requires few { length packets.now ≤ 262144 }
+        ensures lines { IfOk result (λ l. l ≡ lines_of packets.now apps h.now) }
+
+        // Each line, one by one; a reply has one exactly where it was begun.
+        ensures packet { IfOk result (λ l. (x : ℕ) (d : PacketLine) → x < length h.now.arrivals → slice_index_or l.packets x d ≡ packet_line packets.now apps h.now x) }
+        ensures reply { IfOk result (λ l. (x : ℕ) → slice_index_or l.replies x None ≡ reply_line packets.now apps h.now x) }
+        ensures begun { IfOk result (λ l. (x : ℕ) → is_some (slice_index_or l.replies x None) ≡ is_replied h.now x) }
+        ensures arrived { IfOk result (λ l. (q : ℕ) → q < length h.now.taken → slice_index l.arrived q ≡ length (arrivals_at h.now.arrivals q)) }
+    {
+        let known = Known::make(alloc, h)?;
+        let counted = Counted::make(alloc, h)?;
+        let lines = packet_lines(alloc, h, &known, packets, apps, &counted.taken)?;
+        let replies = reply_lines(alloc, h, &known, packets, apps)?;
+        Ok(Lines {
+            packets: lines,
+            replies,
+            arrived: counted.arrived,
+        })
+    }
+
+    /// How many packets arrived.
+    pub fn len(&self) -> usize
+        ensures { result ≡ length self.now.packets }
+    {
+        self.packets.len()
+    }
+
+    /// The line of a packet that arrived.
+    pub fn packet(&self, id: PacketId) -> PacketLine
+        requires { id < length self.now.packets }
+        ensures { result ≡ slice_index_or self.now.packets id result }
+    {
+        self.packets[id.0 as usize]
+    }
+
+    /// The line of the reply to a packet, where one was begun.
+    pub fn reply(&self, id: PacketId) -> Option<ReplyLine>
+        ensures { result ≡ slice_index_or self.now.replies id None }
+    {
+        let at = id.0 as usize;
+        if at < self.replies.len() {
+            self.replies[at]
+        } else {
+            None
+        }
+    }
+
+    /// How many receive queues there are.
+    pub fn queues(&self) -> usize
+        ensures { result ≡ length self.now.arrived }
+    {
+        self.arrived.len()
+    }
+
+    /// How many packets arrived at a receive queue.
+    pub fn arrived_at(&self, queue: usize) -> u32
+        requires { queue < length self.now.arrived }
+        ensures { result ≡ slice_index self.now.arrived queue }
+    {
+        self.arrived[queue]
+    }
+}

@@ -1,0 +1,32 @@
+//! What a report tells of a packet on its way in.
+use crate::place::Place;
+use steer_base::{AppId, Choice, PacketId, Put, RxQueue};
+
+/// What led to the receive queue of a packet.
+#[derive(Clone, Copy, Debug, PartialEq, Eq)]
+pub enum Via {
+    /// A hardware filter.
+    Filter,
+    /// The redirection table.
+    Reta,
+    /// The packet has no hash.
+    Unhashed,
+}
+
+/// A packet that arrived: its queue, its choice of a processor, what became of it there, and where it is.
+#[derive(Clone, Copy, Debug, PartialEq, Eq)]
+pub struct PacketLine {
+    pub id: PacketId,
+    pub queue: RxQueue,
+    pub via: Via,
+    /// The choice of a processor, once it was weighed.
+    pub choice: Option<Choice>,
+    /// The position or the drop, once it was put.
+    pub put: Option<Put>,
+    /// The application of its hash.
+    pub app: AppId,
+    /// Its place in the inbox of that application, from 1.
+    pub inbox: Option<u32>,
+    pub place: Place,
+    pub flow_number: u32,
+}

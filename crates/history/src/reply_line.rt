@@ -1,0 +1,21 @@
+//! What a report tells of a reply.
+use steer_base::{AppId, Choice, Cpu, PacketId, RxQueue};
+
+/// A reply that was begun: what its transmit queue is picked by, the choice of the queue, and how far it came.
+#[derive(Clone, Copy, Debug, PartialEq, Eq)]
+pub struct ReplyLine {
+    /// The packet that is replied to.
+    pub id: PacketId,
+    pub app: AppId,
+    /// The receive queue of that packet.
+    pub rxq: RxQueue,
+    /// The processor on which the application stood.
+    pub cpu: Cpu,
+    /// The choice of a transmit queue, once it was weighed.
+    pub choice: Option<Choice>,
+    /// The position at that transmit queue, a counter number, once it was put.
+    pub put: Option<u32>,
+    /// Its place on the port, from 1.
+    pub port: Option<u32>,
+    pub flow_number: u32,
+}

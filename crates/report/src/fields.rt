@@ -1,0 +1,73 @@
+//! Fields of a line, each behind a space.
+ghost use Rattle.std.specs.Prelude.{◌≡◌, ◌≤◌, ◌+◌, ◌++◌, [], ◌∷◌, decimal, length};
+ghost use Rattle.report.specs.Lines.{or_dash};
+ghost use Rattle.report.specs.Pieces.{spaced};
+
+use crate::line::LineBuf;
+
+/// Begins a line with a word and a number.
+pub(crate) fn begin(buf: &mut LineBuf, word: &[u8], number: u64)
+    requires { length word.now ≤ 8 }
+    ensures text { buf.new ≡ word.now ++ spaced (decimal number ∷ []) }
+    ensures short { length buf.new ≤ length word.now + 21 }
+{
+    buf.clear();
+    buf.push(word);
+    push_number(buf, number);
+}
+
+/// Puts a number behind a line.
+pub(crate) fn push_number(buf: &mut LineBuf, number: u64)
+    requires { length buf.old + 21 ≤ 512 }
+    ensures text { buf.new ≡ buf.old ++ spaced (decimal number ∷ []) }
+    ensures grows { length buf.new ≤ length buf.old + 21 }
+{
+    buf.push(b" ");
+    buf.push_decimal(number);
+}
+
+/// Puts a word behind a line.
+pub(crate) fn push_word(buf: &mut LineBuf, word: &[u8])
+    requires { length buf.old + length word.now + 1 ≤ 512 }
+    ensures text { buf.new ≡ buf.old ++ spaced (word.now ∷ []) }
+    ensures grows { length buf.new ≤ length buf.old + length word.now + 1 }
+{
+    buf.push(b" ");
+    buf.push(word);
+}
+
+/// Puts a word and a number behind a line.
+pub(crate) fn push_named(buf: &mut LineBuf, name: &[u8], number: u64)
+    requires { length buf.old + length name.now + 22 ≤ 512 }
+    ensures text { buf.new ≡ buf.old ++ spaced (name.now ∷ decimal number ∷ []) }
+    ensures grows { length buf.new ≤ length buf.old + length name.now + 22 }
+{
+    push_word(buf, name);
+    push_number(buf, number);
+}
+
+/// Puts a word and a number behind a line, or a dash where there is no number.
+pub(crate) fn push_option(buf: &mut LineBuf, name: &[u8], number: Option<u32>)
+    requires { length buf.old + length name.now + 22 ≤ 512 }
+    ensures text { buf.new ≡ buf.old ++ spaced (name.now ∷ or_dash number ∷ []) }
+    ensures grows { length buf.new ≤ length buf.old + length name.now + 22 }
+{
+    push_word(buf, name);
+    match number {
+        Some(number) => push_number(buf, u64::from(number)),
+        None => push_word(buf, b"-"),
+    }
+}
+
+/// The same with a number of 8 bits.
+pub(crate) fn push_lane(buf: &mut LineBuf, name: &[u8], number: Option<u8>)
+    requires { length buf.old + length name.now + 22 ≤ 512 }
+    ensures text { buf.new ≡ buf.old ++ spaced (name.now ∷ or_dash number ∷ []) }
+    ensures grows { length buf.new ≤ length buf.old + length name.now + 22 }
+{
+    push_word(buf, name);
+    match number {
+        Some(number) => push_number(buf, u64::from(number)),
+        None => push_word(buf, b"-"),
+    }
+}

@@ -1,0 +1,4 @@
+pub mod CpusLemmas
+pub mod FlowsLemmas
+pub mod ShownLemmas
+pub mod WaitingLemmas

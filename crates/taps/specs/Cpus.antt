@@ -1,0 +1,22 @@
+-- The text of a tap that counts the packets of each processor.
+use Rattle.std.specs.Prelude.{ℕ, ◌==◌, Bool, false, List, [], Option, Some, None, codes, count_by, if◌then◌else◌}
+use Rattle.history.specs.declared.packet_line.PacketLine.{PacketLine}
+use Rattle.steer_base.specs.declared.choice.Choice.{Choice}
+use Rattle.taps.specs.Rows.{each_cpu, row}
+
+-- whether a choice is one of this processor
+abbrev pub is_of : ℕ → Option Choice → Bool
+is_of cpu None = false
+is_of cpu (Some choice) = choice.lane == cpu
+
+-- how many of these lines have a choice of the processor
+abbrev pub chosen_for : ℕ → List PacketLine → ℕ
+chosen_for cpu lines = count_by (λ line. is_of cpu line.choice) lines
+
+-- the line of a processor with so many packets, and none without packets
+abbrev pub cpu_row : ℕ → ℕ → List ℕ
+cpu_row cpu count = if count == 0 then [] else row (codes "cpu ") cpu (codes " packets ") count
+
+-- For each processor, ascending, with at least one line that has a choice of it: how many there are.
+abbrev pub per_cpu_text : List PacketLine → List ℕ
+per_cpu_text lines = each_cpu (λ cpu. cpu_row cpu (chosen_for cpu lines))

@@ -1,0 +1,17 @@
+//! Taps: observers that are shown the packet lines of a history and give a text.
+#![tactic(auto)]
+
+mod depth;
+mod feeding;
+mod per_cpu;
+mod per_flow;
+mod tap;
+#[cfg(test)]
+mod tests;
+mod text;
+
+pub use depth::Depth;
+pub use feeding::feed;
+pub use per_cpu::PerCpu;
+pub use per_flow::PerFlow;
+pub use tap::{Tap, TapText};

@@ -1,0 +1,81 @@
+//! A tap that counts the packets of each processor.
+ghost use Rattle.std.specs.Prelude.{◌≡◌, ◌==◌, ◌+◌, ◌++◌, ℕ, List, slice_index, IfOk, OnOk, OnErr, if◌then◌else◌};
+ghost use Rattle.history.specs.declared.packet_line.PacketLine.{PacketLine};
+ghost use Rattle.taps.specs.Cpus.{per_cpu_text, cpu_row};
+ghost use Rattle.taps.specs.Rows.{each_cpu};
+
+use crate::tap::{Tap, TapText};
+use crate::text::push_row;
+use history::PacketLine;
+use std::alloc::Global;
+use steer_base::OutOfMemory;
+
+/// Counts for each processor the packets that were chosen for it, and gives the line `cpu C packets N` for each that
+/// has one, ascending.
+#[derive(Drop)]
+pub struct PerCpu {
+    alloc: Global,
+    counts: [u64; 256],
+}
+
+impl PerCpu {
+    ghost use Rattle.taps.specs.PerCpu.{per_cpu_after};
+
+    /// A tap that was shown nothing yet.
+    pub fn make(alloc: Global) -> PerCpu
+        ensures { (lines : List PacketLine) → per_cpu_after result lines ≡ per_cpu_text lines }
+    {
+        PerCpu {
+            alloc,
+            counts: [0; 256],
+        }
+    }
+}
+
+impl Tap for PerCpu {
+    ghost use Rattle.taps.specs.PerCpu.{per_cpu_after};
+
+    ghost text = { per_cpu_after };
+
+    fn note(&mut self, line: &PacketLine) -> Result<(), OutOfMemory> {
+        if let Some(choice) = line.choice {
+            count_at(&mut self.counts, choice.lane)?;
+        }
+        Ok(())
+    }
+
+    fn finish(&mut self) -> Result<TapText, OutOfMemory> {
+        let bytes = rows(self.alloc, &self.counts)?;
+        Ok(TapText { bytes })
+    }
+}
+
+// Counts one packet more at a lane. A count at its end answers want of memory.
+fn count_at(counts: &mut [u64; 256], lane: u8) -> Result<(), OutOfMemory>
+    ensures counted { OnOk result ((cpu : ℕ) → slice_index counts.new cpu ≡ slice_index counts.old cpu + (if lane == cpu then 1 else 0)) }
+    ensures kept { OnErr result (counts.new ≡ counts.old) }
+{
+    let count = &mut counts[usize::from(lane)];
+    *count = count.checked_add(1).ok_or(OutOfMemory)?;
+    Ok(())
+}
+
+// The lines of all processors with a count.
+fn rows(alloc: Global, counts: &[u64; 256]) -> Result<Vec<u8>, OutOfMemory>
+    ensures { IfOk result (λ text. text.items ≡ each_cpu (λ cpu. cpu_row cpu (slice_index counts.now cpu))) }
+{
+    let mut text = Vec::new(alloc);
+    for cpu in 0..256u32 {
+        push_cpu(&mut text, cpu, counts[cpu as usize])?;
+    }
+    Ok(text)
+}
+
+fn push_cpu(text: &mut Vec<u8>, cpu: u32, count: u64) -> Result<(), OutOfMemory>
+    ensures { OnOk result (text.new.items ≡ text.old.items ++ cpu_row cpu count) }
+{
+    if count == 0 {
+        return Ok(());
+    }
+    push_row(text, b"cpu ", cpu, b" packets ", count)
+}
