@@ -95,11 +95,6 @@ with_rows-tables_of f ts start exact i old new below at s x is =
     let e : table_at (tables_of ts start exact) i ≡ old = rw (rows, ← s, ← x) refl in
     rw (map-set (λ t. t.rows) ts i new, is, e) refl
 
--- one list of many has one item more
-pub map-pushed : {V X : Type 0} (f : V → List X) (vs : List V) (i : ℕ) (v d : V) (x : X) → i < length vs → f v ≡ f (get_or vs i d) ++ x ∷ []
-    → map f (set vs i v) ≡ set (map f vs) i (get_or (map f vs) i [] ++ x ∷ [])
-map-pushed f vs i v d x below e = rw (map-set f vs i v, e, get_or-map f vs i d [] below) refl
-
 -- one more value, whose list is that of all the others
 pub map-replicate_more : {V X : Type 0} (f : V → X) (vs more : List V) (v : V) (x : X) (n : ℕ) → more ≡ vs ++ v ∷ [] → map f vs ≡ replicate n x
     → f v ≡ x → map f more ≡ replicate (n + 1) x

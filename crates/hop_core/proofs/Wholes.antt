@@ -1,9 +1,9 @@
 -- The parts of a hop stay whole in each event.
-use Rattle.std.proofs.Common.{ℕ, ◌+◌, ◌≤◌, ◌<◌, ◌≡◌, ◌≢◌, Bool, true, false, cond, List, [], ◌∷◌, ◌++◌, Option, Some, None, length, refl, ◌∙◌, sym, subst, arith, inl, inr, get_or, set, replicate, map, zero, suc}
+use Rattle.std.proofs.Common.{ap, ℕ, ◌+◌, ◌≤◌, ◌<◌, ◌≡◌, ◌≢◌, Bool, true, false, cond, List, [], ◌∷◌, ◌++◌, Option, Some, None, length, refl, ◌∙◌, sym, subst, arith, inl, inr, get_or, set, replicate, map, zero, suc}
 use Rattle.std.specs.Prelude.{nat_lt, slice_index, slice_index_or, slice_set}
 use Rattle.std.proofs.Math.ListN.{length-replicate, length-set}
 use Rattle.std.proofs.lemmas.Bool.{cases_Bool, lt-ltb, ltb-true}
-use Rattle.std.proofs.lemmas.List.{length-map, set-get_or}
+use Rattle.std.proofs.lemmas.List.{get_or_default, length-map, set-get_or}
 use Rattle.backlog.specs.Puts.{after_take, answer_by, put_by, put_count}
 use Rattle.dev_flow_table.specs.Tables.{unset, weighed}
 use Rattle.steer_base.specs.Drops.{bucket_of, lane_drop_cause}
@@ -13,7 +13,7 @@ use Rattle.steer_base.specs.declared.cpu_mask.CpuMask.{CpuMask}
 use Rattle.steer_base.specs.declared.put.DropCause.{DropCause}
 use Rattle.hop_core.specs.Events.{IsClassBelow, IsEmptied, happens, put}
 use Rattle.hop_core.specs.FlowTables.{FlowTables, new_tables, noted, table_at, with_rows}
-use Rattle.hop_core.specs.Hop.{HopState, arrivals_of, choice_of, choices_of, delivered_at, in_hand, inside_of, next_of, next_out, placed_of, pulled_at, retired_at, taken_of}
+use Rattle.hop_core.specs.Hop.{HopState, arrivals_of, choice_of, choices_of, delivered_at, in_hand, inside_of, next_of, next_out, nobody, placed_of, pulled_at, retired_at, taken_of}
 use Rattle.hop_core.specs.Journals.{Journals, list_at, new_journals, pushed}
 use Rattle.hop_core.specs.LaneTable.{LaneTable, lane_at, new_lanes, with_lane}
 use Rattle.hop_core.specs.Shape.{IsShape, classes_for, new_hop}
@@ -32,6 +32,31 @@ use Rattle.hop_core.proofs.ProducerSteps.{Sound-arrive, Sound-weigh, emptied-all
 use Rattle.hop_core.proofs.PutSteps.{Sound-put, put_as}
 use Rattle.hop_core.proofs.Sizes.{Sizes-happens}
 use Rattle.hop_core.proofs.TableSteps.{Tabled-put, Tabled-resize, Tabled-weigh}
+
+-- ---- what is read of the parts, with the default that the definitions have
+
+pub read-taken : (h : HopParts) (p x : ℕ) → IsWhole h → p < length h.arrivals.lists → x ≡ get_or h.taken p x → x ≡ taken_of (state_of h) p
+read-taken h p x w named at = let l = w.sound.wide in at ∙ get_or_default h.taken p x 0 (omega arith)
+
+pub read-placed : (h : HopParts) (p x : ℕ) → IsWhole h → p < length h.arrivals.lists → x ≡ get_or h.placed p x → x ≡ placed_of (state_of h) p
+read-placed h p x w named at = let l = w.sound.wide in at ∙ get_or_default h.placed p x 0 (omega arith)
+
+pub read-visit : (h : HopParts) (p : ℕ) (x : Bool) → IsWhole h → p < length h.arrivals.lists → x ≡ get_or h.visits p x → x ≡ inside_of (state_of h) p
+read-visit h p x w named at = let l = w.sound.wide in at ∙ get_or_default h.visits p x false (omega arith)
+
+pub read-delivered : (h : HopParts) (c x : ℕ) → IsWhole h → c < length h.lanes.accepted → x ≡ get_or h.delivered c x → x ≡ delivered_at (state_of h).bare c
+read-delivered h c x w named at = let l = w.sound.wide in at ∙ get_or_default h.delivered c x 0 (omega arith)
+
+pub read-retired : (h : HopParts) (c x : ℕ) → IsWhole h → c < length h.lanes.accepted → x ≡ get_or h.retired c x → x ≡ retired_at (state_of h).bare c
+read-retired h c x w named at = let l = w.sound.wide in at ∙ get_or_default h.retired c x 0 (omega arith)
+
+-- the packet that is weighed next
+pub read-next : (h : HopParts) (p n x : ℕ) → IsWhole h → n ≡ length (list_at h.choices p) → length (list_at h.choices p) < taken_of (state_of h) p
+    → x ≡ slice_index_or (list_at h.arrivals p) n x → x ≡ next_of (state_of h) p
+read-next h p n x w is more at =
+    let a = w.sound.hands.arrived p in
+    let lt : n < length (list_at h.arrivals p) = omega arith in
+    at ∙ get_or_default (list_at h.arrivals p) n x 0 lt ∙ ap (slice_index (list_at h.arrivals p)) is
 
 -- ---- an arrival
 
@@ -84,6 +109,23 @@ whole-weigh h p class want desired online named lane ok empty inside more w =
 
 pub fits-put : (h : HopParts) (p c : ℕ) → placed_of (state_of h) p < length (choices_of (state_of h) p) → IsWhole h → put_count (lane_at h.lanes c) < h.lanes.room
 fits-put h p c more w = rw length-map at (room-put (state_of h) p w.sound more c)
+
+-- what a put reads of a packet in hand
+pub record Finds (h : HopParts) (p n : ℕ) (x : Chosen) : Type 0 where
+  pub placed : n ≡ placed_of (state_of h) p
+  pub more : placed_of (state_of h) p < length (choices_of (state_of h) p)
+  pub chosen : x ≡ in_hand (state_of h) p
+
+pub put_finds : (h : HopParts) (p n len : ℕ) (x : Chosen) → IsWhole h → p < length h.arrivals.lists → n ≡ get_or h.placed p n
+    → len ≡ length (list_at h.choices p) → n < len → x ≡ slice_index_or (list_at h.choices p) n x → Finds h p n x
+put_finds h p n len x w named at l lt found =
+    let placed : n ≡ placed_of (state_of h) p = read-placed h p n w named at in
+    let more : n < length (list_at h.choices p) = omega arith in
+    record {
+      placed = placed;
+      more = rw placed at more;
+      chosen = found ∙ get_or_default (list_at h.choices p) n x nobody more ∙ ap (λ k. slice_index_or (list_at h.choices p) k nobody) placed;
+    }
 
 -- the parts after a put, whatever the cause of a drop
 abbrev pub put_parts : HopParts → ℕ → Option DropCause → Option ℕ → HopParts

@@ -72,8 +72,8 @@ impl Hop {
         let HopShape {
             producers,
             guests,
-            lanes,
-            outs,
+            lanes: lane_count,
+            outs: out_count,
             limit,
             room,
             counts,
@@ -85,10 +85,10 @@ impl Hop {
         let counts = class_counts(alloc, &counts, exact)?;
         let rings = Rings::make(alloc, producers, room)?;
         let visits = nobody(alloc, producers + guests)?;
-        let lanes_made = Lanes::make(alloc, lanes, limit, room, start, limited)?;
-        let delivered = zeros(alloc, lanes)?;
-        let retired = zeros(alloc, lanes)?;
-        let outs = Journals::make(alloc, outs, room)?;
+        let lanes = Lanes::make(alloc, lane_count, limit, room, start, limited)?;
+        let delivered = zeros(alloc, lane_count)?;
+        let retired = zeros(alloc, lane_count)?;
+        let outs = Journals::make(alloc, out_count, room)?;
         Ok(Hop {
             arrivals: rings.arrivals,
             taken: rings.taken,
@@ -98,7 +98,7 @@ impl Hop {
             visits,
             counts,
             tables,
-            lanes: lanes_made,
+            lanes,
             delivered,
             retired,
             outs,

@@ -1,27 +1,20 @@
-use Rattle.std.proofs.Common.{◌≡◌, ◌<◌, length, arith, get_or, ◌∙◌}
-use Rattle.std.proofs.lemmas.List.{get_or_default}
-use Rattle.hop_core.proofs.Wholes.{fits-deliver, whole-deliver}
+use Rattle.std.proofs.Common.{◌≡◌}
+use Rattle.hop_core.proofs.Wholes.{fits-deliver, read-delivered, whole-deliver}
 use Rattle.hop_core.proofs.hop.Hop.deliver.Goals as goal
 
 pub push-requires-clause-room : goal.push-requires-clause-room
 push-requires-clause-room c =
-    let i = c.self.inside in
-    let w = c.self.invariant.sound.wide in
-    let lane : c.args.lane < length i.lanes.accepted = rw (← c.self.view_is) at c.requires.lane in
-    let d : c.index-delivered.result.now ≡ get_or i.delivered.items c.args.lane 0 =
-    c.index-delivered.ensures ∙ get_or_default i.delivered.items c.args.lane c.index-delivered.result.now 0 (omega arith) in
-    let p = c.pulled.ensures in
-    let more : get_or i.delivered.items c.args.lane 0 < get_or i.lanes.pulled c.args.lane 0 = omega (arith, c.if-delivered-pulled.true) in
-    fits-deliver _ c.args.lane c.args.to lane (rw (← c.self.view_is) at c.requires.out) more c.self.invariant
+    let w = c.self.invariant in
+    let lane = rw (← c.self.view_is) at c.requires.lane in
+    let delivered = read-delivered _ c.args.lane c.index-delivered.result.now w lane c.index-delivered.ensures in
+    let more = rw (delivered, c.pulled.ensures) at c.if-delivered-pulled.true in
+    fits-deliver _ c.args.lane c.args.to lane (rw (← c.self.view_is) at c.requires.out) more w
 
 pub invariant_of-self : goal.invariant_of-self
 invariant_of-self c =
-    let i = c.self.inside in
-    let w = c.self.invariant.sound.wide in
-    let lane : c.args.lane < length i.lanes.accepted = rw (← c.self.view_is) at c.requires.lane in
-    let d : c.index-delivered.result.now ≡ get_or i.delivered.items c.args.lane 0 =
-    c.index-delivered.ensures ∙ get_or_default i.delivered.items c.args.lane c.index-delivered.result.now 0 (omega arith) in
-    let p = c.pulled.ensures in
-    let more : get_or i.delivered.items c.args.lane 0 < get_or i.lanes.pulled c.args.lane 0 = omega (arith, c.if-delivered-pulled.true) in
-    let outs = rw (c.accepted_at-id.ensures, d) at c.push.ensures in
-    rw (d, outs) (whole-deliver _ c.args.lane c.args.to lane (rw (← c.self.view_is) at c.requires.out) more c.self.invariant)
+    let w = c.self.invariant in
+    let lane = rw (← c.self.view_is) at c.requires.lane in
+    let delivered = read-delivered _ c.args.lane c.index-delivered.result.now w lane c.index-delivered.ensures in
+    let more = rw (delivered, c.pulled.ensures) at c.if-delivered-pulled.true in
+    let outs = rw (c.accepted_at-id.ensures, delivered) at c.push.ensures in
+    rw (delivered, outs) (whole-deliver _ c.args.lane c.args.to lane (rw (← c.self.view_is) at c.requires.out) more w)

@@ -19,7 +19,7 @@ invariant_of-result c =
       few_outs = asked.few_outs;
       counts = asked.counts;
       classes = asked.classes;
-      start = c.in_ok-lanes_made.ensures.wide;
+      start = c.in_ok-lanes.ensures.wide;
     } in
     whole-made c.args.shape is _ _ _ _ _ _ _ _ _ _ _ _
     c.in_ok-rings.ensures.arrivals
@@ -30,7 +30,7 @@ invariant_of-result c =
     c.in_ok-visits.ensures
     (c.in_ok-counts.ensures ∙ ap (map (classes_for c.args.shape.exact)) c.deref-2.ensures.value)
     (c.in_ok-tables.ensures ∙ ap (λ counts. new_tables counts c.args.shape.start c.args.shape.exact) c.deref.ensures.value)
-    c.in_ok-lanes_made.ensures.lanes
+    c.in_ok-lanes.ensures.lanes
     c.in_ok-delivered.ensures
     c.in_ok-retired.ensures
     c.in_ok-outs.ensures

@@ -1,13 +1,12 @@
 use Rattle.std.proofs.Common.{◌≡◌, ℕ, ◌<◌, ◌≤◌, Some, None, length, arith, get_or, refl, sym, ◌∙◌, inl, inr}
 use Rattle.std.specs.List.{slice_get}
 use Rattle.std.proofs.lemmas.Bool.{le-ltb, lt-ltb}
-use Rattle.std.proofs.lemmas.List.{get_or_default}
 use Rattle.std.proofs.lemmas.Option.{get_or_from_slice_get, slice_get_cases, slice_get_within}
 use Rattle.steer_base.specs.declared.idle.Idle.TheVariants as idle
 use Rattle.hop_core.specs.Events.{pull}
 use Rattle.hop_core.specs.Hop.{HopState, accepted_at, pulled_at, retired_at}
 use Rattle.hop_core.specs.declared.event.HopAnswer.TheVariants as answer
-use Rattle.hop_core.proofs.Wholes.{whole-pull}
+use Rattle.hop_core.proofs.Wholes.{read-retired, whole-pull}
 use Rattle.hop_core.proofs.hop.Hop.pull.Goals as goal
 use Rattle.hop_core.proofs.hop.Hop.pull.Goals.{in-Some, in-None}
 
@@ -31,24 +30,18 @@ found_none s c free is =
 
 pub invariant_of-self : goal.invariant_of-self
 invariant_of-self c =
-    let i = c.self.inside in
-    let w = c.self.invariant.sound.wide in
-    let named : c.args.lane < length i.lanes.accepted = rw (← c.self.view_is) at c.requires.lane in
-    let r : c.index.result.now ≡ get_or i.retired.items c.args.lane 0 =
-    c.index.ensures ∙ get_or_default i.retired.items c.args.lane c.index.result.now 0 (omega arith) in
-    let p = c.pulled.ensures in
-    let free : get_or i.lanes.pulled c.args.lane 0 ≤ get_or i.retired.items c.args.lane 0 = omega (arith, c.if-index-pulled.false) in
-    rw c.take.ensures.lists (whole-pull _ c.args.lane named free c.self.invariant)
+    let w = c.self.invariant in
+    let lane = rw (← c.self.view_is) at c.requires.lane in
+    let retired = read-retired _ c.args.lane c.index.result.now w lane c.index.ensures in
+    let free = rw (retired, c.pulled.ensures) at c.if-index-pulled.false in
+    rw c.take.ensures.lists (whole-pull _ c.args.lane lane free w)
 
 pub returns-clause-answer : goal.returns-clause-answer
 returns-clause-answer c =
-    let i = c.self.inside in
-    let w = c.self.invariant.sound.wide in
-    let named : c.args.lane < length i.lanes.accepted = rw (← c.self.view_is) at c.requires.lane in
-    let r : c.index.result.now ≡ get_or i.retired.items c.args.lane 0 =
-    c.index.ensures ∙ get_or_default i.retired.items c.args.lane c.index.result.now 0 (omega arith) in
-    let p = c.pulled.ensures in
-    let free : get_or i.lanes.pulled c.args.lane 0 ≤ get_or i.retired.items c.args.lane 0 = omega (arith, c.if-index-pulled.false) in
+    let w = c.self.invariant in
+    let lane = rw (← c.self.view_is) at c.requires.lane in
+    let retired = read-retired _ c.args.lane c.index.result.now w lane c.index.ensures in
+    let free = rw (retired, c.pulled.ensures) at c.if-index-pulled.false in
     rw (← c.self.view_is) (elim c.match-take.branch [
       | in-Some w ↦ w.result-is ∙ sym (took _ c.args.lane w.in-Some.id free (sym w.in-Some.ensures.packet))
       | in-None w ↦ w.result-is ∙ sym (found_none _ c.args.lane free (sym w.in-None.ensures.packet))

@@ -2,7 +2,7 @@ use Rattle.std.proofs.Common.{◌≡◌, ◌<◌, ◌∷◌, ◌++◌, [], lengt
 use Rattle.std.proofs.lemmas.List.{length-map}
 use Rattle.hop_core.specs.Journals.{journals}
 use Rattle.hop_core.proofs.journals.Journals.push.Goals as goal
-use Rattle.hop_core.proofs.LaneTables.{map-pushed}
+use Rattle.hop_core.proofs.Lists.{map-pushed}
 
 pub returns : goal.returns
 returns g c =
