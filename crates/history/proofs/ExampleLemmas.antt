@@ -1,36 +1,18 @@
--- The history of one packet is regular; and few lanes and inboxes are in reach.
-use Rattle.std.proofs.Common.{ℕ, ◌%◌, ◌≤◌, ◌<◌, ◌≡◌, ◌++◌, Bool, true, false, List, [], ◌∷◌, Option, Some, None, map, length, refl, ap, ◌∙◌, sym, arith, suc, zero, inl, inr, get_or, subst}
+-- The history of one packet is regular.
+use Rattle.std.proofs.Common.{ℕ, ◌≤◌, ◌<◌, ◌≡◌, ◌++◌, true, false, List, [], ◌∷◌, Option, Some, None, map, length, refl, ap, ◌∙◌, sym, arith, suc, zero, inl, inr, get_or, subst}
 use Rattle.std.specs.Prelude.{IsSome, slice_index}
 use Rattle.std.specs.List.{All}
-use Rattle.std.proofs.Math.ListN.{get_or-eq_default}
-use Rattle.std.proofs.lemmas.Bool.{cases_eq, cases_lt}
+use Rattle.std.proofs.lemmas.Bool.{cases_eq}
 use Rattle.steer_base.specs.Apps.{app_of}
 use Rattle.steer_base.specs.Orders.{Apart, IsPrefix}
 use Rattle.steer_base.specs.declared.packet.Packet.{Packet}
 use Rattle.history.specs.Examples.{one_packet}
 use Rattle.history.specs.Finding.{is_in, Once}
 use Rattle.history.specs.Lines.{choice_in}
-use Rattle.history.specs.Lists.{accepted_lists, app_at, arrival_of, arrivals_at, drop_ids, packet_at, dropped_lists, lane_at, list_at, no_lane}
-use Rattle.history.specs.Places.{IsInReach}
-use Rattle.history.specs.Regular.{AreDelivered, AreReplies, AreShipped, AreSteered, HasChoice, HaveArrived, Regular}
+use Rattle.history.specs.Lists.{accepted_lists, app_at, arrival_of, arrivals_at, drop_ids, packet_at, dropped_lists, lane_at, list_at}
+use Rattle.history.specs.Regular.{AreDelivered, AreSteered, Regular}
 use Rattle.history.specs.declared.history.History.{History}
 use Rattle.history.proofs.FindingLemmas.{is_in-past}
-
-pub in-reach : (h : History) (x : ℕ) → length h.lanes ≤ 256 → length h.inboxes ≤ 256 → IsInReach h x
-in-reach h x lanes inboxes = record {
-  accepted = λ c s. elim (cases_lt c (length h.lanes)) [
-    | inl l ↦ omega arith
-    | inr l ↦ let e : is_in x (lane_at h.lanes c).accepted ≡ false = ap (λ lane. is_in x lane.accepted) (get_or-eq_default h.lanes no_lane l) in absurd (cc)
-  ];
-  dropped = λ c s. elim (cases_lt c (length h.lanes)) [
-    | inl l ↦ omega arith
-    | inr l ↦ let e : is_in x (drop_ids (lane_at h.lanes c)) ≡ false = ap (λ lane. is_in x (drop_ids lane)) (get_or-eq_default h.lanes no_lane l) in absurd (cc)
-  ];
-  inbox = λ a s. elim (cases_lt a (length h.inboxes)) [
-    | inl l ↦ omega arith
-    | inr l ↦ let e : is_in x (list_at h.inboxes a) ≡ false = ap (is_in x) (get_or-eq_default h.inboxes [] l) in absurd (cc)
-  ];
-}
 
 -- a list of one packet
 in-one : (x : ℕ) → is_in x (0 ∷ []) ≡ true → x ≡ 0

@@ -1,5 +1,5 @@
 -- The place of a packet of a regular history: at the lane of its choice, or in the inbox of its application.
-use Rattle.std.proofs.Common.{ℕ, ◌<◌, ◌≡◌, Bool, true, false, List, [], ◌∷◌, Option, Some, None, length, take, refl, ap, ◌∙◌, sym, arith, suc, zero, inl, inr, get_or}
+use Rattle.std.proofs.Common.{ℕ, ◌<◌, ◌≤◌, ◌≡◌, Bool, true, false, List, [], ◌∷◌, Option, Some, None, length, take, refl, ap, ◌∙◌, sym, arith, suc, zero, inl, inr, get_or}
 use Rattle.std.specs.Prelude.{◌==◌, nat_lt, nat_le, if◌then◌else◌}
 use Rattle.std.specs.List.{position}
 use Rattle.std.specs.Option.{option_map, option_and, option_and_then, is_some}
@@ -11,8 +11,8 @@ use Rattle.steer_base.specs.declared.put.LaneDrop.{LaneDrop}
 use Rattle.history.specs.Finding.{is_in, is_among, found, first_some}
 use Rattle.history.specs.Known.{pulled_by}
 use Rattle.history.specs.Lines.{accepted_place, choice_of, drop_in, dropped_as, inbox_place_of}
-use Rattle.history.specs.Lists.{app_at, drop_ids, lane_at, no_lane}
-use Rattle.history.specs.Places.{place_by, place_of, was_taken}
+use Rattle.history.specs.Lists.{app_at, drop_ids, lane_at, list_at, no_lane}
+use Rattle.history.specs.Places.{IsInReach, place_by, place_of, was_taken}
 use Rattle.history.specs.Regular.{Regular}
 use Rattle.history.specs.declared.history.History.{History}
 use Rattle.history.specs.declared.lane_list.LaneList.{LaneList}
@@ -114,3 +114,20 @@ module _ (packets : List Packet) (apps : ℕ) (h : History) (regular : Regular p
       (pulled_by h.lanes lane_of (accepted_place h.lanes x)) (option_and (accepted_place h.lanes x) lane_of) (was_taken h x)
       ≡ place_of h x
   place-known = rw (dropped-at, inbox-at, pulled-at, accepted-at) refl
+
+-- Few lanes and inboxes are in reach.
+pub in-reach : (h : History) (x : ℕ) → length h.lanes ≤ 256 → length h.inboxes ≤ 256 → IsInReach h x
+in-reach h x lanes inboxes = record {
+  accepted = λ c s. elim (cases_lt c (length h.lanes)) [
+    | inl l ↦ omega arith
+    | inr l ↦ let e : is_in x (lane_at h.lanes c).accepted ≡ false = ap (λ lane. is_in x lane.accepted) (get_or-eq_default h.lanes no_lane l) in absurd (cc)
+  ];
+  dropped = λ c s. elim (cases_lt c (length h.lanes)) [
+    | inl l ↦ omega arith
+    | inr l ↦ let e : is_in x (drop_ids (lane_at h.lanes c)) ≡ false = ap (λ lane. is_in x (drop_ids lane)) (get_or-eq_default h.lanes no_lane l) in absurd (cc)
+  ];
+  inbox = λ a s. elim (cases_lt a (length h.inboxes)) [
+    | inl l ↦ omega arith
+    | inr l ↦ let e : is_in x (list_at h.inboxes a) ≡ false = ap (is_in x) (get_or-eq_default h.inboxes [] l) in absurd (cc)
+  ];
+}

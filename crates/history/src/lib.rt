@@ -27,7 +27,7 @@ pub use found_again::{histories_are_found_again, lines_fit};
 pub use history::History;
 pub use items::Items;
 pub use lane_list::LaneList;
-pub use laws::a_packet_has_one_place;
+pub use laws::{a_packet_has_one_place, few_lanes_are_in_reach};
 pub use lines::Lines;
 pub use packet_line::{PacketLine, Via};
 pub use place::Place;

@@ -1,4 +1,4 @@
-use Rattle.history.proofs.ExampleLemmas.{in-reach}
+use Rattle.history.proofs.PlaceLemmas.{in-reach}
 use Rattle.history.proofs.tests.is_in_reach.Goals as goal
 
 pub returns : goal.returns
