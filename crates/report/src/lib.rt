@@ -13,6 +13,8 @@ mod sums;
 #[cfg(test)]
 mod tests;
 mod whole;
+#[cfg(test)]
+mod worked;
 
 pub use fits::texts_fit;
 pub use laws::{a_report_has_one_history, a_report_has_rows, rows_are_found_in_their_text};
