@@ -1,5 +1,5 @@
 -- A loop over the lanes that looks for the first one that is not empty.
-use Rattle.std.proofs.Common.{ℕ, ◌+◌, ◌≤◌, ◌<◌, ◌≡◌, ◌≢◌, Bool, true, false, List, [], ◌∷◌, length, ◌++◌, ◌-◌, ◌⊎◌, refl, ap, ◌∙◌, sym, arith, inl, inr, cond, zero, suc, append_assoc}
+use Rattle.std.proofs.Common.{ℕ, ◌+◌, ◌%◌, ◌≤◌, ◌<◌, ◌≡◌, ◌≢◌, Bool, true, false, List, [], ◌∷◌, length, ◌++◌, ◌-◌, ◌⊎◌, refl, ap, ◌∙◌, sym, arith, inl, inr, cond, zero, suc, append_assoc}
 use Rattle.std.specs.Prelude.{◌↔◌, Err, IsOk, not, ◌==◌, ◌^◌, Ok}
 use Rattle.std.proofs.lemmas.Bool.{cases_Bool, cases_eq, eq-eqb, ne_eqb}
 use Rattle.std.proofs.lemmas.List.{length-append}
@@ -23,6 +23,17 @@ head_is_tail s c h e =
     let f = (fits_room s h).puts c in let r = h.small.room in
     let a = h.counts.retired_first c in let b = h.counts.delivered_first c in let d = h.counts.pulled_first c in
     same_number s.fixed.start (retired_at s.bare c) (length (accepted_at s.bare c)) h.small.start (omega arith) (omega arith) e
+
+-- the tail less the head is the difference of their counts
+number-less : (start a b : ℕ) → start < 2 ^ 32 → a ≤ 262144 → b ≤ a → (number start a + (2 ^ 32 - number start b)) % 2 ^ 32 ≡ a - b
+number-less start a b s ha le = omega arith
+
+pub unretired : (s : HopState) (c : ℕ) → Sound s
+    → (tail_at s.fixed.start s.bare c + (2 ^ 32 - head_at s.fixed.start s.bare c)) % 2 ^ 32 ≡ length (accepted_at s.bare c) - retired_at s.bare c
+unretired s c h =
+    let f = (fits_room s h).puts c in let r = h.small.room in
+    let a = h.counts.retired_first c in let b = h.counts.delivered_first c in let d = h.counts.pulled_first c in
+    number-less s.fixed.start (length (accepted_at s.bare c)) (retired_at s.bare c) h.small.start (omega arith) (omega arith)
 
 -- a lane whose head is its tail does not wait, and no lane that is not in the set
 pub waits_not : (s : HopState) (lanes : CpuMask) (c : ℕ) → Sound s

@@ -2,7 +2,7 @@
 ghost use Rattle.std.specs.Prelude.{◌≡◌, ◌↔◌, ℕ, ◌-◌, ◌<◌, IsOk, length, slice_get, slice_index};
 ghost use Rattle.steer_base.specs.Choices.{class_of};
 ghost use Rattle.hop_core.specs.Emptied.{AreEmptied, emptied};
-ghost use Rattle.hop_core.specs.Hop.{accepted_at, head_at, inside_of, out_at, pulled_at, retired_at, tail_at, taken_of};
+ghost use Rattle.hop_core.specs.Hop.{accepted_at, delivered_at, head_at, inside_of, out_at, pulled_at, retired_at, tail_at, taken_of};
 ghost use Rattle.hop_core.specs.Reads.{last_choice, to_deliver, to_weigh};
 
 use crate::hop::Hop;
@@ -47,6 +47,23 @@ impl Hop {
         self.lanes.pulled(lane)
     }
 
+    /// How many packets of a lane were delivered.
+    pub fn delivered(&self, lane: u8) -> u32
+        requires { lane < length self.now.bare.accepted }
+        ensures { result ≡ delivered_at self.now.bare lane }
+    {
+        self.delivered[lane as usize]
+    }
+
+    /// How many packets a lane accepted and has not retired.
+    pub fn unretired(&self, lane: u8) -> u32
+        requires { lane < length self.now.bare.accepted }
+        ensures { result ≡ length (accepted_at self.now.bare lane) - retired_at self.now.bare lane }
+    {
+        let head = self.lanes.number_at(self.retired[lane as usize]);
+        self.lanes.tail(lane).wrapping_sub(head)
+    }
+
     /// How many packets of a lane were retired.
     pub fn retired(&self, lane: u8) -> u32
         requires { lane < length self.now.bare.accepted }
@@ -74,6 +91,18 @@ impl Hop {
         ensures { result ≡ length (out_at self.now.bare to) }
     {
         self.outs.len_of(to)
+    }
+
+    /// The packet that was delivered to an out lane as number `n`, from 0, if so many were.
+    pub fn out_at(&self, to: u8, n: u32) -> Option<PacketId>
+        requires { to < length self.now.bare.outs }
+        ensures { result ≡ slice_get (out_at self.now.bare to) n }
+    {
+        if n < self.outs.len_of(to) {
+            Some(self.outs.get(to, n))
+        } else {
+            None
+        }
     }
 
     /// Whether an actor is inside the gate.

@@ -9,7 +9,7 @@ use crate::{HopAnswer, HopEvent, HopShape};
 use std::alloc::Global;
 use std::process::Abort;
 use std::test::Fail;
-use steer_base::{Busy, Choice, CpuMask, DropCause, Idle, OutOfMemory, PacketId, Put, Why};
+use steer_base::{Busy, Choice, Chosen, CpuMask, DropCause, Idle, OutOfMemory, PacketId, Put, Why};
 
 // The hashes of the flow 66.9.149.187:2794 to 161.142.100.80:1766 and of its neighbour in Microsoft's vectors, both TCP.
 const FIRST: u32 = 0x51cc_c178;
@@ -482,5 +482,57 @@ fn the_largest_hop_is_made(rt: HostRuntime) -> Result<(), Fail> {
         (HopEvent::Take { p: 31 }, HopAnswer::Took(last)),
     ];
     play(&rt, &mut hop, &turns);
+    Ok(())
+}
+
+// What is read of a hop in which one packet is in the hand of lane 1 and the next one in that of the producer.
+fn shows_its_hands(rt: &impl Abort, hop: &Hop, choice: Choice)
+    requires producer { 0 < length hop.now.arrivals }
+    requires actor { 0 < length hop.now.visits }
+    requires lane { 1 < length hop.now.bare.accepted }
+    requires out { 0 < length hop.now.bare.outs }
+{
+    let (first, second) = (PacketId(0), PacketId(1));
+    let id = first;
+    assert!(rt; hop.is_inside(0) && !hop.is_closed());
+    assert_eq!(rt; hop.taken(0), 2);
+    assert_eq!(rt; hop.next_of(0), Some(second));
+    assert_eq!(rt; hop.last_choice(0), Some(Chosen { id, choice }));
+    assert_eq!(rt; hop.class(0, Some(FIRST)), Some(0));
+    assert_eq!(rt; (hop.head(1), hop.tail(1)), (7, 8));
+    assert_eq!(rt;
+        (hop.pulled(1), hop.delivered(1), hop.retired(1)),
+        (1, 0, 0)
+    );
+    assert_eq!(rt; hop.unretired(1), 1);
+    assert_eq!(rt; hop.next_out(1), Some(first));
+    assert_eq!(rt; hop.out_len(0), 0);
+    assert_eq!(rt; hop.out_at(0, 0), None);
+    hop.sound();
+}
+
+#[test]
+fn a_hop_shows_its_hands(rt: HostRuntime) -> Result<(), Fail> {
+    let mut hop = receive_hop(rt.alloc(), 2, 1000, 2, 7, CpuMask(0))?;
+    let choice = chose(None, None, 7, 1, Why::Unset);
+    let packet = Packet {
+        id: 0,
+        hash: FIRST,
+        online: ALL,
+        desired: 1,
+        choice,
+        went: Put::At(8),
+    };
+    play(&rt, &mut hop, &[arrive(0), arrive(1)]);
+    poll(&rt, &mut hop, packet);
+    let turns = [
+        (HopEvent::Pull { lane: 1 }, HopAnswer::Took(PacketId(0))),
+        (HopEvent::Enter { p: 0 }, HopAnswer::Done),
+        (HopEvent::Take { p: 0 }, HopAnswer::Took(PacketId(1))),
+    ];
+    play(&rt, &mut hop, &turns);
+    assert!(rt; hop.lanes.count() == 4 && hop.outs.count() == 1);
+    assert!(rt; hop.taken.len() == 1 && hop.visits.len() == 3);
+    shows_its_hands(&rt, &hop, choice);
     Ok(())
 }
