@@ -16,6 +16,16 @@ use crate::plan_fault::PlanFault;
 use serde_json::Value;
 use std::alloc::{AllocError, Global};
 
+/// The most opening braces of a text whose JSON value is made. In memory an object takes up to
+/// 820 bytes, so that no value takes much more than 2 GB.
+const MOST_BRACES: usize = 2_500_000;
+
+/// Whether a text may have so many objects that its JSON value isn't made. No text of a plan has:
+/// there are at most 82 objects in one.
+fn has_too_many_objects(bytes: &[u8]) -> bool {
+    bytes.iter().filter(|byte| **byte == b'{').count() > MOST_BRACES
+}
+
 /// The JSON value of bytes.
 fn value_of(alloc: Global, bytes: &[u8]) -> Result<Value, Refusal>
     ensures { GivesAs view result (json_of (value_of bytes.now)) }
@@ -31,12 +41,22 @@ fn value_of(alloc: Global, bytes: &[u8]) -> Result<Value, Refusal>
     }
 }
 
+/// The JSON value of bytes, but for want of memory where the text may have too many objects.
+fn bounded_value(alloc: Global, bytes: &[u8]) -> Result<Value, Refusal>
+    ensures { GivesAs view result (json_of (value_of bytes.now)) }
+{
+    if has_too_many_objects(bytes) {
+        return Err(Refusal::Memory);
+    }
+    value_of(alloc, bytes)
+}
+
 /// The fields of the plan of bytes. Their JSON value is given up at the end.
 fn parts_of(alloc: Global, bytes: &[u8]) -> Result<Parts, Refusal>
     ensures gives { GivesAs joined result (settings_of_bytes bytes.now) }
     ensures within { IfOk result PartsAreWithin }
 {
-    let value = value_of(alloc, bytes)?;
+    let value = bounded_value(alloc, bytes)?;
     Parts::read(alloc, &value)
 }
 
@@ -108,7 +128,8 @@ fn plan_with(alloc: Global, parts: Parts) -> Result<Plan, AllocError>
 ///
 /// Memory may run out at any text; then the answer says nothing of the plan. The
 /// JSON value of the text, which can take a hundred times its bytes, is given up
-/// once the fields are read out of it, before the commands are listed.
+/// once the fields are read out of it, before the commands are listed. A text with
+/// more than 2,500,000 opening braces is answered with want of memory.
 #[tactic(auto, unfolding(crate::specs::PlanTexts::plan_of))]
 pub fn read_plan(alloc: Global, bytes: &[u8]) -> Result<Plan, PlanFault>
     ensures plan { IfOk result (λ plan. plan_of bytes.now ≡ Ok (settings_of plan)) }
