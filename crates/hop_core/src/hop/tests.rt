@@ -405,36 +405,39 @@ fn a_lane_is_empty_where_its_head_is_its_tail(rt: HostRuntime) -> Result<(), Fai
     Ok(())
 }
 
-// 200 packets of one flow and one of another, of which none is pulled. The first 151 are accepted. From then on more
-// than half of the limit waits, and the flow has more than 128 of the last offers.
+// Where a put of 200 packets of one flow, and of one of another behind them, leaves the packet of this number, where none
+// is pulled. The first 151 are accepted. From then on more than half of the limit of 300 waits, and the flow has more
+// than 128 of the last offers: so the others of it are dropped where the lane is limited.
+fn put_of(id: u32, limited: bool) -> Put {
+    let position = id.saturating_add(1);
+    match id {
+        151..=199 if limited => Put::Dropped {
+            number: id.saturating_sub(150),
+            accepted: 151,
+            pulled: 0,
+            cause: DropCause::Flow(position),
+        },
+        200 if limited => Put::At(152),
+        _ => Put::At(position),
+    }
+}
+
 #[test]
-fn a_large_flow_is_limited(rt: HostRuntime) -> Result<(), Fail> {
-    let mut hop = receive_hop(rt.alloc(), 0, 300, 201, 0, CpuMask(0b10))?;
-    for id in 0..201u32 {
-        let position = id.saturating_add(1);
-        let (hash, went) = match id {
-            0..=150 => (FIRST, Put::At(position)),
-            151..=199 => (
-                FIRST,
-                Put::Dropped {
-                    number: id.saturating_sub(150),
-                    accepted: 151,
-                    pulled: 0,
-                    cause: DropCause::Flow(position),
-                },
-            ),
-            _ => (SECOND, Put::At(152)),
-        };
-        let packet = Packet {
-            id,
-            hash,
-            online: ALL,
-            desired: 1,
-            choice: PLAIN,
-            went,
-        };
-        play(&rt, &mut hop, &[arrive(id)]);
-        poll(&rt, &mut hop, packet);
+fn a_large_flow_is_dropped_by_the_flow_limit_alone(rt: HostRuntime) -> Result<(), Fail> {
+    for (lanes, limited) in [(CpuMask(0b10), true), (CpuMask(0), false)] {
+        let mut hop = receive_hop(rt.alloc(), 0, 300, 201, 0, lanes)?;
+        for id in 0..201u32 {
+            let packet = Packet {
+                id,
+                hash: if id < 200 { FIRST } else { SECOND },
+                online: ALL,
+                desired: 1,
+                choice: PLAIN,
+                went: put_of(id, limited),
+            };
+            play(&rt, &mut hop, &[arrive(id)]);
+            poll(&rt, &mut hop, packet);
+        }
     }
     Ok(())
 }
