@@ -1,5 +1,5 @@
 -- Rows that are known from outside, as the definitions have them.
-use Rattle.std.proofs.Common.{◌≡◌, Some, None, refl}
+use Rattle.std.proofs.Common.{ℕ, ◌≡◌, List, Option, Some, None, refl}
 use Rattle.std.specs.Prelude.{codes}
 use Rattle.std.specs.Fmt.{digits}
 use Rattle.steer_base.specs.Sets.{those_below}
@@ -11,6 +11,7 @@ use Rattle.steer_base.specs.declared.command.Answer.TheVariants as answer
 use Rattle.steer_base.specs.declared.command.Busy.TheVariants.{Inside, NotEmpty}
 use Rattle.steer_base.specs.declared.command.User.TheVariants.{Queue, App}
 use Rattle.steer_base.specs.declared.idle.Idle.TheVariants.{AlreadyOnline}
+use Rattle.history.specs.declared.commanded.Commanded.{Commanded}
 use Rattle.history.specs.declared.packet_line.Via.TheVariants.{Reta, Unhashed}
 use Rattle.history.specs.declared.place.Place.TheVariants.{Ring, Backlog, Dropped}
 use Rattle.report.specs.Texts.{row_text}
@@ -39,41 +40,48 @@ limited : row_text (packet_row (record { id = 199; queue = 0; via = Reta; choice
 unfolding digits
 limited = refl
 
+-- the text of a command and of the last row
+abbrev command_text : ℕ → Commanded → List ℕ
+command_text number c = row_text (command_row number c)
+
+abbrev end_text : ℕ → ℕ → Option ℕ → List ℕ
+end_text arrived total cut = row_text (end_row arrived total cut)
+
 -- commands, each with one kind of answer
-busy : row_text (command_row 0 (record { command = command.Mask 0 (record { 0 = 4 }); answer = answer.Busy (NotEmpty 1 4294967295 0) })) ≡ codes "c 0 mask 0 2 busy lane 1 head 4294967295 tail 0\n"
+busy : command_text 0 (record { command = command.Mask 0 (record { 0 = 4 }); answer = answer.Busy (NotEmpty 1 4294967295 0) }) ≡ codes "c 0 mask 0 2 busy lane 1 head 4294967295 tail 0\n"
 unfolding digits those_below
 busy = refl
 
-inside : row_text (command_row 0 (record { command = command.Mask 0 (record { 0 = 4 }); answer = answer.Busy (Inside 1) })) ≡ codes "c 0 mask 0 2 busy inside 1\n"
+inside : command_text 0 (record { command = command.Mask 0 (record { 0 = 4 }); answer = answer.Busy (Inside 1) }) ≡ codes "c 0 mask 0 2 busy inside 1\n"
 unfolding digits those_below
 inside = refl
 
-home : row_text (command_row 0 (record { command = command.Offline 0; answer = answer.CpuInUse (Queue 0) })) ≡ codes "c 0 offline 0 in use queue 0\n"
+home : command_text 0 (record { command = command.Offline 0; answer = answer.CpuInUse (Queue 0) }) ≡ codes "c 0 offline 0 in use queue 0\n"
 unfolding digits
 home = refl
 
-stood_on : row_text (command_row 1 (record { command = command.Offline 2; answer = answer.CpuInUse (App 0) })) ≡ codes "c 1 offline 2 in use app 0\n"
+stood_on : command_text 1 (record { command = command.Offline 2; answer = answer.CpuInUse (App 0) }) ≡ codes "c 1 offline 2 in use app 0\n"
 unfolding digits
 stood_on = refl
 
-offline : row_text (command_row 4 (record { command = command.Offline 2; answer = answer.CpuOffline })) ≡ codes "c 4 offline 2 cpu offline\n"
+offline : command_text 4 (record { command = command.Offline 2; answer = answer.CpuOffline }) ≡ codes "c 4 offline 2 cpu offline\n"
 unfolding digits
 offline = refl
 
-online : row_text (command_row 6 (record { command = command.Online 3; answer = answer.Idle AlreadyOnline })) ≡ codes "c 6 online 3 idle online\n"
+online : command_text 6 (record { command = command.Online 3; answer = answer.Idle AlreadyOnline }) ≡ codes "c 6 online 3 idle online\n"
 unfolding digits
 online = refl
 
-expired : row_text (command_row 9 (record { command = command.Expire; answer = answer.Expired 0 })) ≡ codes "c 9 expire expired 0\n"
+expired : command_text 9 (record { command = command.Expire; answer = answer.Expired 0 }) ≡ codes "c 9 expire expired 0\n"
 unfolding digits
 expired = refl
 
 -- a set in ascending order, and the empty one
-set : row_text (command_row 7 (record { command = command.XCpus 0 (record { 0 = 2147483657 }); answer = answer.Done })) ≡ codes "c 7 xcpus 0 0,3,31 done\n"
+set : command_text 7 (record { command = command.XCpus 0 (record { 0 = 2147483657 }); answer = answer.Done }) ≡ codes "c 7 xcpus 0 0,3,31 done\n"
 unfolding digits those_below
 set = refl
 
-no_set : row_text (command_row 8 (record { command = command.XQueues 1 0; answer = answer.Done })) ≡ codes "c 8 xqueues 1 - done\n"
+no_set : command_text 8 (record { command = command.XQueues 1 0; answer = answer.Done }) ≡ codes "c 8 xqueues 1 - done\n"
 unfolding digits those_below
 no_set = refl
 
@@ -86,6 +94,6 @@ tap : row_text (Tap 0 (codes "cpu 1 packets 2\n")) ≡ codes "tap 0 bytes 16\ncp
 unfolding digits
 tap = refl
 
-cut : row_text (end_row 1 2 (Some 69)) ≡ codes "end 1 of 2 cut 69\n"
+cut : end_text 1 2 (Some 69) ≡ codes "end 1 of 2 cut 69\n"
 unfolding digits
 cut = refl
