@@ -96,28 +96,28 @@ same_lists hash s t f a o d all =
       causes = λ c. rw (f, a, d) (all.causes c);
     }
 
-explained-enabled : (hash : ℕ → Option ℕ) (s : HopState) (e : HopEvent) → MayAsk s e → IsHashed hash s e → Sound s → DropsExplained hash s
+explained-enabled : (hash : ℕ → Option ℕ) (s : HopState) (e : HopEvent) → IsHashed hash s e → Sound s → DropsExplained hash s
     → Enabled (DropsExplained hash) s e
-explained-enabled hash s (event.Arrive p id) m own h all = same_lists hash s _ refl refl refl refl all
-explained-enabled hash s (event.Take p) m own h all = λ _ _. same_lists hash s _ refl refl refl refl all
-explained-enabled hash s (event.Enter a) m own h all = λ _ _. same_lists hash s _ refl refl refl refl all
-explained-enabled hash s (event.Leave a) m own h all = λ _ _. same_lists hash s _ refl refl refl refl all
-explained-enabled hash s (event.Weigh p class want desired online) m own h all = λ _ _. same_lists hash s _ refl refl refl refl all
-explained-enabled hash s (event.Pull c) m own h all = λ _ _. same_lists hash s _ refl refl refl refl all
-explained-enabled hash s (event.Deliver c o) m own h all = λ _. same_lists hash s _ refl refl refl refl all
-explained-enabled hash s (event.Retire c) m own h all = λ _. same_lists hash s _ refl refl refl refl all
-explained-enabled hash s (event.Resize p count) m own h all = same_lists hash s _ refl refl refl refl all
-explained-enabled hash s event.Close m own h all = λ _. same_lists hash s _ refl refl refl refl all
-explained-enabled hash s event.Reopen m own h all = same_lists hash s _ refl refl refl refl all
-explained-enabled hash s (event.Put p g) m own h all = λ _ more. explained-put hash s p g h more (own more) all
+explained-enabled hash s (event.Arrive p id) own h all = same_lists hash s _ refl refl refl refl all
+explained-enabled hash s (event.Take p) own h all = λ _ _. same_lists hash s _ refl refl refl refl all
+explained-enabled hash s (event.Enter a) own h all = λ _ _. same_lists hash s _ refl refl refl refl all
+explained-enabled hash s (event.Leave a) own h all = λ _ _. same_lists hash s _ refl refl refl refl all
+explained-enabled hash s (event.Weigh p class want desired online) own h all = λ _ _. same_lists hash s _ refl refl refl refl all
+explained-enabled hash s (event.Pull c) own h all = λ _ _. same_lists hash s _ refl refl refl refl all
+explained-enabled hash s (event.Deliver c o) own h all = λ _. same_lists hash s _ refl refl refl refl all
+explained-enabled hash s (event.Retire c) own h all = λ _. same_lists hash s _ refl refl refl refl all
+explained-enabled hash s (event.Resize p count) own h all = same_lists hash s _ refl refl refl refl all
+explained-enabled hash s event.Close own h all = λ _. same_lists hash s _ refl refl refl refl all
+explained-enabled hash s event.Reopen own h all = same_lists hash s _ refl refl refl refl all
+explained-enabled hash s (event.Put p g) own h all = λ _ more. explained-put hash s p g h more (own more) all
 
 pub each_explains_drops : EachExplainsDrops
-each_explains_drops hash s e m own h all = by_cases (DropsExplained hash) s e all (explained-enabled hash s e m own h all)
+each_explains_drops hash s e own h all = by_cases (DropsExplained hash) s e all (explained-enabled hash s e own h all)
 
 explained-run : (hash : ℕ → Option ℕ) (es : List HopEvent) (s : HopState) → AllMayAsk es s → AllHashed hash es s → Sound s → DropsExplained hash s → DropsExplained hash (run es s)
 explained-run hash [] s m own h all = all
 explained-run hash (e ∷ es) s m own h all =
-    explained-run hash es (happens s e).0 m.1 own.1 (Sound-happens s e m.0 h) (each_explains_drops hash s e m.0 own.0 h all)
+    explained-run hash es (happens s e).0 m.1 own.1 (Sound-happens s e m.0 h) (each_explains_drops hash s e own.0 h all)
 
 pub explains_drops : ExplainsDrops
 explains_drops hash shape es is m own =

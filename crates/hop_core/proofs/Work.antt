@@ -83,7 +83,7 @@ rests s event.Close w = λ _. record { same = refl }
 rests s event.Reopen w = record { same = refl }
 
 pub work_stays : WorkStays
-work_stays s e m h w = (by_cases (SameWork s) s e (record { same = refl }) (rests s e w)).same
+work_stays s e w = (by_cases (SameWork s) s e (record { same = refl }) (rests s e w)).same
 
 -- ---- how much there can be
 

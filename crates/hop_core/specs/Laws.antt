@@ -70,7 +70,7 @@ KeepsOrder =
 -- The same event by event: each set is ordered in a new hop, an event leaves an ordered set ordered where the set is
 -- tight in it, and an ordered set is delivered in order.
 abbrev pub NewIsOrdered : Type 0
-NewIsOrdered = (shape : HopShape) (set : ℕ → Bool) (p o : ℕ) → IsShape shape → Ordered set p o (new_hop shape)
+NewIsOrdered = (shape : HopShape) (set : ℕ → Bool) (p o : ℕ) → Ordered set p o (new_hop shape)
 
 abbrev pub EachKeepsOrder : Type 0
 EachKeepsOrder =
@@ -135,7 +135,7 @@ ExplainsDrops =
 
 abbrev pub EachExplainsDrops : Type 0
 EachExplainsDrops =
-    (hash : ℕ → Option ℕ) (s : HopState) (e : HopEvent) → MayAsk s e → IsHashed hash s e → Sound s → DropsExplained hash s → DropsExplained hash (happens s e).0
+    (hash : ℕ → Option ℕ) (s : HopState) (e : HopEvent) → IsHashed hash s e → Sound s → DropsExplained hash s → DropsExplained hash (happens s e).0
 
 -- Where as many packets may wait as there can be, and no lane is under the flow limit, nothing is dropped.
 abbrev pub NeverDrops : Type 0

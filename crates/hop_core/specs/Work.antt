@@ -48,7 +48,7 @@ abbrev pub WorkGoesOn : Type 0
 WorkGoesOn = (s : HopState) (e : HopEvent) → MayAsk s e → Sound s → is_work e ≡ true → (work (happens s e).0 ≡ work s + 1) ⊎ WasIdle s e
 
 abbrev pub WorkStays : Type 0
-WorkStays = (s : HopState) (e : HopEvent) → MayAsk s e → Sound s → is_work e ≡ false → work (happens s e).0 ≡ work s
+WorkStays = (s : HopState) (e : HopEvent) → is_work e ≡ false → work (happens s e).0 ≡ work s
 
 abbrev pub WorkIsBounded : Type 0
 WorkIsBounded = (s : HopState) → Sound s → work s ≤ 7 * s.fixed.room

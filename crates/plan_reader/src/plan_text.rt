@@ -1,5 +1,5 @@
 //! The plan of bytes.
-ghost use Rattle.std.specs.Prelude.{◌≡◌, ◌≢◌, drop, IfOk, IfErr, Ok, Err};
+ghost use Rattle.std.specs.Prelude.{◌≡◌, ◌≢◌, ◌==◌, count_by, drop, nat_lt, IfOk, IfErr, Ok, Err};
 ghost use Rattle.serde_json.specs.View.{view};
 ghost use Rattle.plan_reader.specs.Faults.{GivesAs};
 ghost use Rattle.plan_reader.specs.Parts.{PartsAreWithin};
@@ -22,7 +22,9 @@ const MOST_BRACES: usize = 2_500_000;
 
 /// Whether a text may have so many objects that its JSON value isn't made. No text of a plan has:
 /// there are at most 82 objects in one.
-fn has_too_many_objects(bytes: &[u8]) -> bool {
+fn has_too_many_objects(bytes: &[u8]) -> bool
+    ensures { result ≡ nat_lt 2500000 (count_by (λ byte. byte == 123) bytes.now) }
+{
     bytes.iter().filter(|byte| **byte == b'{').count() > MOST_BRACES
 }
 

@@ -3,7 +3,7 @@ use Rattle.hop_core.proofs.Order.{Ordered-happens, InOrder-from}
 use Rattle.hop_core.proofs.laws.each_event_keeps_order.Goals as goal
 
 pub returns-clause-new : goal.returns-clause-new
-returns-clause-new c = λ shape set p o is. Ordered-new set p o shape
+returns-clause-new c = λ shape set p o. Ordered-new set p o shape
 
 pub returns-clause-each : goal.returns-clause-each
 returns-clause-each c = λ set p o s e may tight h g. Ordered-happens set p o s e may tight h g
