@@ -9,3 +9,4 @@ pub mod Places
 pub mod Ranges
 pub mod Regular
 pub mod Shown
+pub mod Tests

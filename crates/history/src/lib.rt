@@ -15,6 +15,7 @@ mod laws;
 mod lines;
 mod packet_line;
 mod place;
+mod regularity;
 mod reply_line;
 mod sent;
 mod sock_write;
