@@ -59,7 +59,7 @@ map-same [] = refl
 map-same (x ∷ xs) = ap (λ l. x ∷ l) (map-same xs)
 
 -- the arrivals of a queue, from one arrival on
-arrivals_at-drop : (q i j : ℕ) (arrivals : List Arrival) (a : Arrival) → i < length arrivals → a ≡ get_or arrivals i a → j ≡ suc i
+pub arrivals_at-drop : (q i j : ℕ) (arrivals : List Arrival) (a : Arrival) → i < length arrivals → a ≡ get_or arrivals i a → j ≡ suc i
     → arrivals_at (drop i arrivals) q ≡ cond (a.queue == q) (a.id ∷ arrivals_at (drop j arrivals) q) (arrivals_at (drop j arrivals) q)
 arrivals_at-drop q i j arrivals a l e f =
     rw (f, drop-cons arrivals i a l, ← e) (elim (cases_Bool (a.queue == q)) [ inl t ↦ rw t refl | inr t ↦ rw t refl ])

@@ -1,4 +1,5 @@
 pub mod Arrivals
+pub mod BeginsLemmas
 pub mod BoundLemmas
 pub mod CountLemmas
 pub mod ExampleLemmas
@@ -10,6 +11,7 @@ pub mod Looks
 pub mod OwnLemmas
 pub mod PlaceLemmas
 pub mod PositionLemmas
+pub mod RangeLemmas
 pub mod RegularLemmas
 pub mod ReplyLemmas
 pub mod SameArrivals

@@ -1,5 +1,5 @@
 //! Whether a history is regular, found in one pass over each of its lists.
-ghost use Rattle.std.specs.Prelude.{◌≡◌, ◌≤◌, ◌<◌, ◌==◌, ◌&&◌, ◌↔◌, IfOk, IsTrue, length, map, nat_le};
+ghost use Rattle.std.specs.Prelude.{◌≡◌, ◌≤◌, ◌<◌, ◌==◌, ◌&&◌, ◌↔◌, IfOk, IsTrue, length, map, nat_le, true};
 ghost use Rattle.std.specs.List.{list_all, range_with_len};
 ghost use Rattle.std.specs.Option.{option_map};
 ghost use Rattle.history.specs.Counted.{IsCounted, arrival_counts};
@@ -119,17 +119,32 @@ fn are_of_first(choices: &[Chosen], arrivals: &[Arrival], queue: usize) -> bool
     met >= choices.len()
 }
 
+// Whether no more are taken from a queue than arrived, and choices are of its first arrivals and no more than are taken.
+fn is_polled_by(
+    taken: u32,
+    arrived: u32,
+    choices: &[Chosen],
+    arrivals: &[Arrival],
+    queue: usize,
+) -> bool
+    ensures { result ≡ nat_le taken arrived && nat_le (length choices.now) taken && begins (map (λ c. c.id) choices.now) (arrivals_at arrivals.now queue) }
+{
+    taken <= arrived && choices.len() <= taken as usize && are_of_first(choices, arrivals, queue)
+}
+
 fn is_polled(h: &History, counted: &Counted, queue: usize) -> bool
     requires counted { IsCounted h.now counted.now }
     requires queue { queue < length h.now.taken }
     requires choices { length h.now.choices ≡ length h.now.taken }
     ensures { result ≡ is_polled h.now queue }
 {
-    let taken = *h.taken.get(queue);
-    let choices = h.choices.get(queue);
-    taken <= counted.arrived[queue]
-        && choices.len() <= taken as usize
-        && are_of_first(choices.as_slice(), h.arrivals.as_slice(), queue)
+    is_polled_by(
+        *h.taken.get(queue),
+        counted.arrived[queue],
+        h.choices.get(queue).as_slice(),
+        h.arrivals.as_slice(),
+        queue,
+    )
 }
 
 fn are_polled(h: &History, counted: &Counted) -> bool
@@ -424,4 +439,46 @@ fn are_shipped(h: &History, known: &Known) -> bool
     ensures { result ≡ are_shipped h.now }
 {
     have_queues(h, known) && have_left(h, known, h.port.as_slice())
+}
+
+// The rest of the test, over the lists' indices.
+fn passes(alloc: Global, h: &History, packets: &[Packet], apps: u8) -> Result<bool, OutOfMemory>
+    requires shape { has_shape packets.now apps h.now ≡ true }
+    requires short { has_short_lists h.now ≡ true }
+    requires apps { 1 ≤ apps }
+    requires few { length packets.now ≤ 262144 }
+    ensures { IfOk result (λ passed. passed ≡ passes packets.now apps h.now) }
+{
+    let known = Known::make(alloc, h)?;
+    let counted = Counted::make(alloc, h)?;
+    Ok(
+        are_polled(h, &counted)
+            && are_steered(h, &known)
+            && are_delivered(h, &known, packets, apps)
+            && have_replies(h, packets, apps as usize)
+            && are_shipped(h, &known)
+            && have_texts(h),
+    )
+}
+
+impl History {
+    /// Whether the history is regular for these packets and so many applications, which is what its lines are made for:
+    /// whether each list is of those before it in the way of a packet. It takes time and memory linear in the packets,
+    /// for each receive queue, and gives the memory back.
+    pub fn is_regular(
+        &self,
+        alloc: Global,
+        packets: &[Packet],
+        apps: u8,
+    ) -> Result<bool, OutOfMemory>
+        requires apps { 1 ≤ apps }
+        requires few { length packets.now ≤ 262144 }
+        ensures { IfOk result (λ regular. IsTrue regular ↔ Regular packets.now apps self.now) }
+    {
+        if has_shape(self, packets, apps as usize) && has_short_lists(self) {
+            passes(alloc, self, packets, apps)
+        } else {
+            Ok(false)
+        }
+    }
 }
