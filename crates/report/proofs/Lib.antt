@@ -11,6 +11,5 @@ pub mod ReportRows
 pub mod RowsLemmas
 pub mod SameSections
 pub mod SetsLemmas
-pub mod SmallHistoryLemmas
 pub mod Spelling
 pub mod WrittenLemmas

@@ -4,17 +4,19 @@
 mod commands;
 mod fields;
 mod fits;
+#[cfg(test)]
+mod histories;
 mod laws;
 mod line;
 mod numbers;
 mod packets;
+#[cfg(test)]
+mod reports;
 mod sections;
 mod sums;
 #[cfg(test)]
 mod tests;
 mod whole;
-#[cfg(test)]
-mod worked;
 
 pub use fits::texts_fit;
 pub use laws::{a_report_has_one_history, a_report_has_rows, rows_are_found_in_their_text};
