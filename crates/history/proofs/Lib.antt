@@ -8,6 +8,9 @@ pub mod IndexLemmas
 pub mod LinesFit
 pub mod Looks
 pub mod OwnLemmas
+pub mod PassingLanes
+pub mod PassingLemmas
+pub mod PassingLists
 pub mod PlaceLemmas
 pub mod PositionLemmas
 pub mod RegularLemmas
@@ -15,4 +18,5 @@ pub mod ReplyLemmas
 pub mod SameArrivals
 pub mod SamePlaces
 pub mod SamePuts
+pub mod ToTests
 pub mod Traces
