@@ -108,7 +108,7 @@ short-lists packets apps h r few =
     }
 
 -- No packet is in two inboxes: each is in that of its application.
-in-index : (xs : List ℕ) (i : ℕ) → i < length xs → is_in (get_or xs i 0) xs ≡ true
+pub in-index : (xs : List ℕ) (i : ℕ) → i < length xs → is_in (get_or xs i 0) xs ≡ true
 in-index [] i l = absurd (omega arith)
 in-index (y ∷ ys) zero l = is_in-here y y ys refl
 in-index (y ∷ ys) (suc i) l =

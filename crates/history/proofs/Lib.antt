@@ -9,6 +9,9 @@ pub mod IndexLemmas
 pub mod LinesFit
 pub mod Looks
 pub mod OwnLemmas
+pub mod PassingLanes
+pub mod PassingLemmas
+pub mod PassingLists
 pub mod PlaceLemmas
 pub mod PositionLemmas
 pub mod RangeLemmas
@@ -17,4 +20,5 @@ pub mod ReplyLemmas
 pub mod SameArrivals
 pub mod SamePlaces
 pub mod SamePuts
+pub mod ToTests
 pub mod Traces
