@@ -6,6 +6,8 @@ mod fields;
 mod fits;
 #[cfg(test)]
 mod histories;
+#[cfg(test)]
+mod large;
 mod laws;
 mod line;
 mod numbers;

@@ -1,0 +1,173 @@
+//! The report of as many packets as a capture may have.
+use crate::histories::{PLAIN, SEGMENT, lines_of, none, one};
+use crate::line::LineBuf;
+use crate::whole::render;
+use history::{Arrival, History, Items, LaneList, Sent};
+use outside_io::MemorySink;
+use std::alloc::{AllocError, Global};
+use std::test::Fail;
+use steer_base::{Choice, Chosen, Cpu, OutOfMemory, Packet, PacketId, RxQueue, Why};
+
+// The packets that a capture has at most. Those of each way are every fourth one.
+const PACKETS: u32 = 262_144;
+const EACH_WAY: u32 = PACKETS / 4;
+
+// What a list has of every fourth packet, from the one of this number.
+fn every_fourth<T: Drop>(
+    alloc: Global,
+    first: u8,
+    make: impl Fn(u32) -> T,
+) -> Result<Items<T>, OutOfMemory> {
+    let mut items = Vec::with_capacity(alloc, EACH_WAY as usize)?;
+    for k in 0..EACH_WAY {
+        items.push(make(4 * k + first as u32))?;
+    }
+    Ok(Items::of(items))
+}
+
+fn four<T: Drop>(
+    alloc: Global,
+    make: impl Fn(u8) -> Result<T, OutOfMemory>,
+) -> Result<Items<T>, OutOfMemory> {
+    let mut items = Vec::new(alloc);
+    for way in 0..4 {
+        items.push(make(way)?)?;
+    }
+    Ok(Items::of(items))
+}
+
+// The packets of one way, all of which were retired.
+fn lane(alloc: Global, way: u8) -> Result<LaneList, OutOfMemory> {
+    Ok(LaneList {
+        accepted: every_fourth(alloc, way, |id| PacketId(id))?,
+        drops: none(alloc),
+        pulled: EACH_WAY,
+        delivered: EACH_WAY,
+        retired: EACH_WAY,
+    })
+}
+
+fn arrivals(alloc: Global) -> Result<Items<Arrival>, OutOfMemory> {
+    let mut arrivals = Vec::with_capacity(alloc, PACKETS as usize)?;
+    for id in 0..PACKETS {
+        let queue = RxQueue((id % 4) as u8);
+        arrivals.push(Arrival {
+            id: PacketId(id),
+            queue,
+            filter: None,
+            entry: Some(queue),
+        })?;
+    }
+    Ok(Items::of(arrivals))
+}
+
+fn port(alloc: Global) -> Result<Items<PacketId>, OutOfMemory> {
+    let mut port = Vec::with_capacity(alloc, PACKETS as usize)?;
+    for id in 0..PACKETS {
+        port.push(PacketId(id))?;
+    }
+    Ok(Items::of(port))
+}
+
+// Each packet went its way, by the queue, the processor, the application and the transmit queue of one number.
+fn history(alloc: Global) -> Result<History, OutOfMemory> {
+    let chosen = |way: u8| {
+        every_fourth(alloc, way, |id| Chosen {
+            id: PacketId(id),
+            choice: Choice { lane: way, ..PLAIN },
+        })
+    };
+    let sent = |way: u8| {
+        every_fourth(alloc, way, |id| Sent {
+            id: PacketId(id),
+            rxq: RxQueue(way),
+            cpu: Cpu(way),
+        })
+    };
+    let tx_chosen = |way: u8| {
+        every_fourth(alloc, way, |id| Chosen {
+            id: PacketId(id),
+            choice: Choice {
+                class: Some(id % 512),
+                want: Some(way),
+                head: None,
+                tail: Some(0),
+                lane: way,
+                why: Why::Same,
+            },
+        })
+    };
+    Ok(History {
+        total: PACKETS,
+        cut: None,
+        arrivals: arrivals(alloc)?,
+        taken: four(alloc, |_| Ok(EACH_WAY))?,
+        choices: four(alloc, chosen)?,
+        lanes: four(alloc, |way| lane(alloc, way))?,
+        inboxes: four(alloc, |way| every_fourth(alloc, way, |id| PacketId(id)))?,
+        sent: four(alloc, sent)?,
+        tx_choices: four(alloc, tx_chosen)?,
+        tx_lanes: four(alloc, |way| lane(alloc, way))?,
+        port: port(alloc)?,
+        writes: four(alloc, |_| Ok(none(alloc)))?,
+        commands: none(alloc),
+        start: 0,
+    })
+}
+
+// The packets, in 512 flows.
+fn packets(alloc: Global) -> Result<Vec<Packet>, OutOfMemory> {
+    let mut packets = Vec::with_capacity(alloc, PACKETS as usize)?;
+    for id in 0..PACKETS {
+        packets.push(Packet {
+            hash: Some(id),
+            flow_number: id % 512,
+            ..SEGMENT
+        })?;
+    }
+    Ok(packets)
+}
+
+fn text(alloc: Global) -> Result<String, AllocError> {
+    let mut text = String::new(alloc);
+    text.push_str("steer 1\n")?;
+    for id in 0..PACKETS {
+        let way = id % 4;
+        let place = id / 4 + 1;
+        write!(text, "p {id} q {way} via reta class - want - head - tail - cpu {way} why plain at {place} app {way} in {place} place inbox\n")?;
+    }
+    for id in 0..PACKETS {
+        let way = id % 4;
+        let place = id / 4 + 1;
+        let left = id + 1;
+        write!(text, "r {id} app {way} rxq {way} cpu {way} pick {way} head - tail 0 tx {way} why same at {place} port {left}\n")?;
+    }
+    for way in 0..4 {
+        write!(text, "queue {way} arrived 65536 taken 65536\n")?;
+    }
+    for way in 0..4 {
+        write!(text, "cpu {way} accepted 65536 pulled 65536 delivered 65536 retired 65536 dropped 0\n")?;
+    }
+    for way in 0..4 {
+        write!(text, "tx {way} accepted 65536 pulled 65536 delivered 65536 retired 65536\n")?;
+    }
+    text.push_str("end 262144 of 262144\n")?;
+    Ok(text)
+}
+
+#[test]
+fn the_most_packets_are_reported(rt: HostRuntime) -> Result<(), Fail> {
+    let alloc = rt.alloc();
+    let h = history(alloc)?;
+    let packets = packets(alloc)?;
+    if packets.len() > 262_144 {
+        return Err(Fail::new("too many packets"));
+    }
+    let lines = lines_of(alloc, &h, &packets, 4)?;
+    let mut out = MemorySink::make(alloc, 67_108_864, Vec::new(alloc))?;
+    let mut buf = LineBuf::make(alloc)?;
+    let answer = render(&h, &lines, &[], &mut buf, &mut out);
+    assert!(&rt; answer.is_ok());
+    assert!(&rt; out.bytes() == text(alloc)?.as_bytes());
+    Ok(())
+}
