@@ -15,4 +15,5 @@ pub mod ReplyLemmas
 pub mod SameArrivals
 pub mod SamePlaces
 pub mod SamePuts
+pub mod TestLemmas
 pub mod Traces
