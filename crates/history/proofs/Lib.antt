@@ -4,6 +4,7 @@ pub mod CountLemmas
 pub mod ExampleLemmas
 pub mod FindingLemmas
 pub mod FoundAgain
+pub mod FromShape
 pub mod IndexLemmas
 pub mod LinesFit
 pub mod Looks
