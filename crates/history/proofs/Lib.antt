@@ -5,6 +5,7 @@ pub mod ExampleLemmas
 pub mod FindingLemmas
 pub mod FoundAgain
 pub mod FromShape
+pub mod FromTests
 pub mod IndexLemmas
 pub mod LinesFit
 pub mod Looks

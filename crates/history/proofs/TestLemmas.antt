@@ -3,7 +3,7 @@ use Rattle.std.proofs.Common.{ℕ, ◌+◌, ◌-◌, ◌<◌, ◌≤◌, ◌≡�
 use Rattle.std.specs.Prelude.{◌==◌, ◌&&◌}
 use Rattle.std.specs.List.{list_all, enumerate_from, range_with_len}
 use Rattle.std.specs.Option.{option_map, option_or, is_some}
-use Rattle.std.proofs.Math.ListN.{get_or-append}
+use Rattle.std.proofs.Math.ListN.{get_or-append, get_or-eq_default}
 use Rattle.std.proofs.lemmas.Bool.{and_parts, cases_eq, cases_lt, eqb-true}
 use Rattle.std.proofs.lemmas.List.{get_or-append_right, get_or-map, length-append, length-map}
 use Rattle.std.proofs.lemmas.List.FromFn.{get_or-range_with_len, length-range_with_len}
@@ -27,6 +27,15 @@ each-from test n (suc i) m (x ∷ xs) d e l f =
 
 pub each-at : {A : Type 0} (test : ℕ → A → Bool) (xs : List A) (i : ℕ) (d : A) → each test xs ≡ true → i < length xs → test i (get_or xs i d) ≡ true
 each-at test xs i d e l = each-from test 0 i i xs d e l (omega arith)
+
+-- a test of the keys of items is one of the list of the keys
+each-keys : {A B : Type 0} (test : ℕ → B → Bool) (key : A → B) (n : ℕ) (xs : List A)
+    → list_all (λ p. test p.0 (key p.1)) (enumerate_from n xs) ≡ list_all (λ p. test p.0 p.1) (enumerate_from n (map key xs))
+each-keys test key n [] = refl
+each-keys test key n (x ∷ xs) = ap (λ b. test n (key x) && b) (each-keys test key (n + 1) xs)
+
+pub each-map : {A B : Type 0} (test : ℕ → B → Bool) (key : A → B) (xs : List A) → each (λ i a. test i (key a)) xs ≡ each test (map key xs)
+each-map test key xs = each-keys test key 0 xs
 
 -- each number below n passes
 pub below-range : (test : ℕ → Bool) (n i : ℕ) → list_all test (range_with_len 0 n) ≡ true → i < n → test i ≡ true
@@ -94,11 +103,14 @@ index-in x (y ∷ ys) e =
       | inr ne ↦ let w = index-in x ys (sym (is_in-past x y ys ne) ∙ e) in (suc w.0, omega (arith, w.1), w.2)
     ]
 
-pub index-of : {A : Type 0} (key : A → ℕ) (x : ℕ) (xs : List A) (d : A) → is_in x (map key xs) ≡ true → (i : ℕ) × (i < length xs) × (key (get_or xs i d) ≡ x)
-index-of key x xs d e =
-    let w = index-in x (map key xs) e in
-    let l : w.0 < length xs = omega (arith, length-map xs key, w.1) in
-    (w.0, l, sym (get_or-map key xs w.0 d 0 l) ∙ w.2)
+-- so has what is in a list that is read from some items, and the list is one of theirs
+pub index-of : {B : Type 0} (of : B → List ℕ) (items : List B) (d : B) (c x : ℕ) → of d ≡ [] → is_in x (of (get_or items c d)) ≡ true
+    → (c < length items) × ((i : ℕ) × (i < length (of (get_or items c d))) × (get_or (of (get_or items c d)) i 0 ≡ x))
+index-of of items d c x n e =
+    elim (cases_lt c (length items)) [
+      | inl l ↦ (l, index-in x (of (get_or items c d)) e)
+      | inr l ↦ let f : is_in x (of (get_or items c d)) ≡ false = ap (λ b. is_in x (of b)) (get_or-eq_default items d l) ∙ ap (is_in x) n in absurd (cc)
+    ]
 
 -- what the first of some lists has, one of them has
 pub first-at : {A B : Type 0} (look : A → Option B) (xs : List A) (d : A) (b : B) → first_some look xs ≡ Some b → (i : ℕ) × (i < length xs) × (look (get_or xs i d) ≡ Some b)
@@ -120,14 +132,19 @@ some-at look xs d e =
 pub once-named : (xs : List ℕ) (place : ℕ → Option ℕ) → ((i : ℕ) → i < length xs → is_place (place (get_or xs i 0)) i ≡ true) → Once xs
 once-named xs place h i j k l e = same-place (place (get_or xs j 0)) i j (subst (λ x. is_place (place x) i ≡ true) e (h i k)) (h j l)
 
--- each member names its list and its index
-pub apart-named : (lists : List (List ℕ)) (own place : ℕ → Option ℕ)
-    → ((p i : ℕ) → p < length lists → i < length (list_at lists p) → (is_number (own (get_or (list_at lists p) i 0)) p ≡ true) × (is_place (place (get_or (list_at lists p) i 0)) i ≡ true))
-    → Apart lists
-apart-named lists own place h p q i j a b k l e =
-    let left = h p i a k in
-    let right = h q j b l in
-    let y = get_or (list_at lists q) j 0 in
+-- each member of a list names the list, by its number p, and its index
+abbrev pub Named : (ℕ → Option ℕ) → (ℕ → Option ℕ) → ℕ → List ℕ → Type 0
+Named own place p xs = (i : ℕ) → i < length xs → (is_number (own (get_or xs i 0)) p ≡ true) × (is_place (place (get_or xs i 0)) i ≡ true)
+
+-- lists whose members name them, read from some items
+pub apart-named : {B : Type 0} (of : B → List ℕ) (items : List B) (d : B) (own place : ℕ → Option ℕ) → ((p : ℕ) → p < length items → Named own place p (of (get_or items p d))) → Apart (map of items)
+apart-named of items d own place h p q i j a b k l e =
+    let m = length-map items of in
+    let named = λ (r : ℕ) (below : r < length (map of items)).
+    let s : r < length items = omega (arith, m) in subst (Named own place r) (sym (get_or-map of items r d [] s)) (h r s) in
+    let left = named p a i k in
+    let right = named q b j l in
+    let y = get_or (list_at (map of items) q) j 0 in
     (same-number (own y) p q (subst (λ x. is_number (own x) p ≡ true) e left.0) right.0,
     same-place (place y) i j (subst (λ x. is_place (place x) i ≡ true) e left.1) right.1)
 
