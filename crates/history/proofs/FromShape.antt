@@ -1,7 +1,6 @@
--- What the shape of a history that passes tells: its lists are as many as they have to be, its arrivals are numbered,
--- and where its lists are short they are those of few packets.
-use Rattle.std.proofs.Common.{ℕ, ◌<◌, ◌≤◌, ◌≡◌, true, List, [], length, map, ap, arith, inl, inr, get_or}
-use Rattle.std.specs.Prelude.{◌==◌, ◌&&◌, nat_le}
+-- What the test of the shape of a history tells: how many its lists are, that its arrivals are numbered, and that its lists are short.
+use Rattle.std.proofs.Common.{ℕ, ◌≤◌, ◌≡◌, true, List, [], length, map, ap, arith, inl, inr}
+use Rattle.std.specs.Prelude.{◌&&◌, nat_le}
 use Rattle.std.specs.List.{list_all, range_with_len}
 use Rattle.std.proofs.Math.ListN.{get_or-eq_default}
 use Rattle.std.proofs.lemmas.Bool.{and_parts, cases_lt, eqb-true, leb-true}
@@ -14,6 +13,7 @@ use Rattle.history.specs.declared.history.History.{History}
 use Rattle.history.specs.declared.lane_list.LaneList.{LaneList}
 use Rattle.history.proofs.TestLemmas.{numbers-of}
 
+-- The lists are as many as they have to be, the arrivals are numbered, and they are of the capture.
 pub record IsShaped (packets : List Packet) (apps : ℕ) (h : History) : Type 0 where
   pub choices : length h.choices ≡ length h.taken
   pub inboxes : length h.inboxes ≡ apps
@@ -45,7 +45,7 @@ pub numbered_from : (packets : List Packet) (apps : ℕ) (h : History) → has_s
     → map (λ a. a.id) h.arrivals ≡ range_with_len 0 (length h.arrivals)
 numbered_from packets apps h e = (shape_from packets apps h e).numbered
 
--- each lane and each list is within a bound
+-- Each lane is within a bound; those past the end are empty.
 short-lane : (n : ℕ) (lanes : List LaneList) (c : ℕ) → has_short_lanes n lanes ≡ true
     → (length (lane_at lanes c).accepted ≤ n) × (length (lane_at lanes c).drops ≤ n)
 short-lane n lanes c e =
@@ -59,6 +59,7 @@ short-lane n lanes c e =
           (omega arith, omega arith)
     ]
 
+-- So is each list of packets.
 short-list : (n : ℕ) (lists : List (List ℕ)) (a : ℕ) → list_all (λ list. nat_le (length list) n) lists ≡ true → length (list_at lists a) ≤ n
 short-list n lists a e =
     elim (cases_lt a (length lists)) [
@@ -66,6 +67,7 @@ short-list n lists a e =
       | inr l ↦ let z : length (list_at lists a) ≡ 0 = ap length (get_or-eq_default lists [] l) in omega arith
     ]
 
+-- The lists of a history of few packets are short.
 pub short_from : (packets : List Packet) (apps : ℕ) (h : History) → has_shape packets apps h ≡ true → has_short_lists h ≡ true
     → length packets ≤ 262144 → HasShortLists h
 short_from packets apps h shape short few =

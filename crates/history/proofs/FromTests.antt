@@ -1,11 +1,11 @@
 -- The test of a history is sound: one that passes is regular.
-use Rattle.std.proofs.Common.{ℕ, ◌+◌, ◌<◌, ◌≤◌, ◌≡◌, true, false, List, [], ◌∷◌, ◌++◌, Option, Some, None, map, length, refl, ap, ◌∙◌, sym, arith, inl, inr, get_or, subst}
+use Rattle.std.proofs.Common.{ℕ, ◌+◌, ◌<◌, ◌≤◌, ◌≡◌, true, false, List, [], ◌∷◌, ◌++◌, Option, Some, map, length, refl, ap, ◌∙◌, sym, arith, inl, inr, get_or, subst}
 use Rattle.std.specs.Prelude.{◌==◌, ◌&&◌, slice_index}
-use Rattle.std.specs.List.{All, list_all}
+use Rattle.std.specs.List.{All}
 use Rattle.std.specs.Option.{option_map, is_some, IsSome}
 use Rattle.std.proofs.Math.ListN.{get_or-eq_default}
 use Rattle.std.proofs.lemmas.Bool.{and_parts, cases_lt, eqb-true, leb-true, not-true}
-use Rattle.std.proofs.lemmas.List.{get_or-map, length-map}
+use Rattle.std.proofs.lemmas.List.{length-map}
 use Rattle.std.proofs.lemmas.List.Sums.{AllPass-from_list_all}
 use Rattle.steer_base.specs.Entries.{place_in}
 use Rattle.steer_base.specs.Orders.{Apart, IsPrefix}
@@ -31,6 +31,7 @@ module _ (packets : List Packet) (apps : ℕ) (h : History) (shape : IsShaped pa
   no-choices : (q : ℕ) → length h.taken ≤ q → list_at h.choices q ≡ []
   no-choices q l = let c : length h.choices ≡ length h.taken = shape.choices in let m : length h.choices ≤ q = omega arith in get_or-eq_default h.choices [] m
 
+  -- No more are taken than arrived, and the choices are of the first arrivals.
   pub arrived_from : HaveArrived packets h
   arrived_from = record {
     numbered = shape.numbered;
@@ -50,27 +51,29 @@ module _ (packets : List Packet) (apps : ℕ) (h : History) (shape : IsShaped pa
   }
 
 -- the choice of a lane is in one of the lists
-pub has-choice : (choices : List (List Chosen)) (x c : ℕ) → is_number (option_map (λ d. d.lane) (first_some (choice_in x) choices)) c ≡ true → HasChoice choices x c
+has-choice : (choices : List (List Chosen)) (x c : ℕ) → is_number (option_map (λ d. d.lane) (first_some (choice_in x) choices)) c ≡ true → HasChoice choices x c
 has-choice choices x c e =
     let m = mapped-is (λ d. d.lane) (first_some (choice_in x) choices) c e in
     let f = first-at (choice_in x) choices [] m.0 m.1 in
     (f.0, m.0, f.2, m.2)
 
+-- a list whose length is 0 has nothing
 none-of : {A : Type 0} (xs : List A) → (length xs == 0) ≡ true → xs ≡ []
 none-of [] e = refl
 none-of (x ∷ xs) e = let f : length (x ∷ xs) ≡ 0 = eqb-true (length (x ∷ xs)) 0 e in absurd (omega arith)
 
 -- What the processors accepted and dropped.
 module _ (h : History) (steered : are_steered h ≡ true) where
+  steered-at : (c : ℕ) → c < length h.lanes → (each (is_accepted h c) (lane_at h.lanes c).accepted && each (λ i d. is_fallen h c i d.id) (lane_at h.lanes c).drops) ≡ true
+  steered-at c l = each-at (λ c lane. each (is_accepted h c) lane.accepted && each (λ i d. is_fallen h c i d.id) lane.drops) h.lanes c no_lane steered l
+
   accepted-at : (c i : ℕ) → c < length h.lanes → i < length (lane_at h.lanes c).accepted → is_accepted h c i (get_or (lane_at h.lanes c).accepted i 0) ≡ true
   accepted-at c i l k =
-      let w = and_parts _ _ (each-at (λ c lane. each (is_accepted h c) lane.accepted && each (λ i d. is_fallen h c i d.id) lane.drops) h.lanes c no_lane steered l) in
-      each-at (is_accepted h c) (lane_at h.lanes c).accepted i 0 w.0 k
+      each-at (is_accepted h c) (lane_at h.lanes c).accepted i 0 (and_parts _ _ (steered-at c l)).0 k
 
   fallen-at : (c i : ℕ) → c < length h.lanes → i < length (drop_ids (lane_at h.lanes c)) → is_fallen h c i (get_or (drop_ids (lane_at h.lanes c)) i 0) ≡ true
   fallen-at c i l k =
-      let w = and_parts _ _ (each-at (λ c lane. each (is_accepted h c) lane.accepted && each (λ i d. is_fallen h c i d.id) lane.drops) h.lanes c no_lane steered l) in
-      each-at (is_fallen h c) (drop_ids (lane_at h.lanes c)) i 0 (sym (each-map (is_fallen h c) (λ d. d.id) (lane_at h.lanes c).drops) ∙ w.1) k
+      each-at (is_fallen h c) (drop_ids (lane_at h.lanes c)) i 0 (sym (each-map (is_fallen h c) (λ d. d.id) (lane_at h.lanes c).drops) ∙ (and_parts _ _ (steered-at c l)).1) k
 
   abbrev lane_of : ℕ → Option ℕ
   lane_of x = option_map (λ d. d.lane) (choice_of h x)
@@ -78,6 +81,7 @@ module _ (h : History) (steered : are_steered h ≡ true) where
   abbrev fall_of : ℕ → Option ℕ
   fall_of x = option_map drop_number (first_some (drop_in x) h.lanes)
 
+  -- what a lane has names the lane and its index
   accepted-named : (c : ℕ) → c < length h.lanes → Named lane_of (accepted_place h.lanes) c (lane_at h.lanes c).accepted
   accepted-named c l i k =
       let w = and_parts _ _ (and_parts _ _ (accepted-at c i l k)).0 in
@@ -123,7 +127,7 @@ module _ (h : History) (steered : are_steered h ≡ true) where
   }
 
 -- where a lane has a place for a packet, some lane accepted it
-pub lane-of-place : (lanes : List LaneList) (x : ℕ) → is_some (accepted_place lanes x) ≡ true → (c : ℕ) × (is_in x (lane_at lanes c).accepted ≡ true)
+lane-of-place : (lanes : List LaneList) (x : ℕ) → is_some (accepted_place lanes x) ≡ true → (c : ℕ) × (is_in x (lane_at lanes c).accepted ≡ true)
 lane-of-place lanes x e = let w = some-at (λ lane. place_in x lane.accepted) lanes no_lane e in (w.0, w.2)
 
 -- The inboxes.

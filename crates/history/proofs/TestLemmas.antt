@@ -8,7 +8,6 @@ use Rattle.std.proofs.lemmas.Bool.{and_parts, cases_eq, cases_lt, eqb-true}
 use Rattle.std.proofs.lemmas.List.{get_or-append_right, get_or-map, length-append, length-map}
 use Rattle.std.proofs.lemmas.List.FromFn.{get_or-range_with_len, length-range_with_len}
 use Rattle.std.proofs.lemmas.List.Sums.{AllPass-from_list_all}
-use Rattle.steer_base.specs.Entries.{place_in}
 use Rattle.steer_base.specs.Orders.{Apart, IsPrefix}
 use Rattle.history.specs.Finding.{is_in, first_some, Once}
 use Rattle.history.specs.Lists.{list_at}
@@ -80,11 +79,12 @@ pub some-place : {A : Type 0} (f : A → ℕ) (o : Option A) (i : ℕ) → is_pl
 some-place f None i e = absurd (cc)
 some-place f (Some a) i e = refl
 
+-- what has this number is there
 pub mapped-is : {A : Type 0} (f : A → ℕ) (o : Option A) (n : ℕ) → is_number (option_map f o) n ≡ true → (a : A) × (o ≡ Some a) × (f a ≡ n)
 mapped-is f None n e = absurd (cc)
 mapped-is f (Some a) n e = (a, refl, eqb-true (f a) n e)
 
--- ys begins with xs
+-- where ys begins with xs, xs is a prefix of it
 pub begins-prefix : (xs ys : List ℕ) → begins xs ys ≡ true → IsPrefix xs ys
 begins-prefix [] ys e = (ys, refl)
 begins-prefix (x ∷ xs) [] e = absurd (cc)
@@ -144,9 +144,10 @@ apart-named of items d own place h p q i j a b k l e =
     let s : r < length items = omega (arith, m) in subst (Named own place r) (sym (get_or-map of items r d [] s)) (h r s) in
     let left = named p a i k in
     let right = named q b j l in
-    let y = get_or (list_at (map of items) q) j 0 in
-    (same-number (own y) p q (subst (λ x. is_number (own x) p ≡ true) e left.0) right.0,
-    same-place (place y) i j (subst (λ x. is_place (place x) i ≡ true) e left.1) right.1)
+    let y = get_or (list_at (map of items) q) j 0 in (
+      same-number (own y) p q (subst (λ x. is_number (own x) p ≡ true) e left.0) right.0,
+      same-place (place y) i j (subst (λ x. is_place (place x) i ≡ true) e left.1) right.1,
+    )
 
 -- two joined lists of lists, with no member of both
 module _ (lists more : List (List ℕ)) (apart : Apart lists) (apart_more : Apart more)
