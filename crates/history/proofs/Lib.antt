@@ -5,6 +5,8 @@ pub mod CountLemmas
 pub mod ExampleLemmas
 pub mod FindingLemmas
 pub mod FoundAgain
+pub mod FromShape
+pub mod FromTests
 pub mod IndexLemmas
 pub mod LinesFit
 pub mod Looks
@@ -20,5 +22,6 @@ pub mod ReplyLemmas
 pub mod SameArrivals
 pub mod SamePlaces
 pub mod SamePuts
+pub mod TestLemmas
 pub mod ToTests
 pub mod Traces
