@@ -16,7 +16,6 @@ pub mod PassingLemmas
 pub mod PassingLists
 pub mod PlaceLemmas
 pub mod PositionLemmas
-pub mod RangeLemmas
 pub mod RegularLemmas
 pub mod ReplyLemmas
 pub mod SameArrivals

@@ -1,12 +1,13 @@
 -- How the tests of a history come to pass: each item by what holds at its index, a list by its first items, and a packet
 -- by its one place.
-use Rattle.std.proofs.Common.{ℕ, ◌+◌, ◌<◌, ◌≡◌, ◌≢◌, Bool, true, List, [], ◌∷◌, ◌++◌, Option, Some, None, map, length, refl, ap, ◌∙◌, sym, arith, suc, zero, inl, inr, get_or, subst}
+use Rattle.std.proofs.Common.{ℕ, ◌+◌, ◌<◌, ◌≡◌, ◌≢◌, Bool, true, false, List, [], ◌∷◌, ◌++◌, Option, Some, None, map, length, refl, ap, ◌∙◌, sym, arith, suc, zero, inl, inr, get_or, subst}
 use Rattle.std.specs.Prelude.{◌==◌}
 use Rattle.std.specs.List.{list_all, enumerate_from, range_with_len}
 use Rattle.std.specs.Option.{option_map, option_and_then, is_some}
 use Rattle.std.proofs.Math.ListN.{get_or-append, get_or-eq_default}
 use Rattle.std.proofs.lemmas.Bool.{and_from, cases_lt, eq-eqb}
 use Rattle.std.proofs.lemmas.List.{get_or-append-add, get_or-map, get_or_default, length-append, length-map}
+use Rattle.std.proofs.lemmas.List.Folds.{list_all_at}
 use Rattle.std.proofs.lemmas.List.FromFn.{get_or-range_with_len, length-range_with_len}
 use Rattle.std.proofs.lemmas.List.Sums.{list_all-from_AllPass}
 use Rattle.steer_base.specs.Entries.{place_in}
@@ -50,6 +51,12 @@ all-below test n h =
     let below : i < n = omega (arith, length-range_with_len 0 n) in
     let same : i ≡ get_or (range_with_len 0 n) i 0 = omega (arith, get_or-range_with_len 0 n i 0 below) in
     subst (λ m. test m ≡ true) same (h i below))
+
+-- one number that fails
+pub fails-below : (test : ℕ → Bool) (n q : ℕ) → q < n → test q ≡ false → list_all test (range_with_len 0 n) ≡ false
+fails-below test n q l e =
+    let at : get_or (range_with_len 0 n) q 0 ≡ q = omega (arith, get_or-range_with_len 0 n q 0 l) in
+    list_all_at test (range_with_len 0 n) q 0 (omega (arith, length-range_with_len 0 n)) (ap test at ∙ e)
 
 -- Numbers and places that are there.
 pub number-from : (o : Option ℕ) (n : ℕ) → o ≡ Some n → is_number o n ≡ true
