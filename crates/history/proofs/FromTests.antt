@@ -1,5 +1,5 @@
 -- The test of a history is sound: one that passes is regular.
-use Rattle.std.proofs.Common.{ℕ, ◌+◌, ◌<◌, ◌≤◌, ◌≡◌, true, false, List, [], ◌∷◌, ◌++◌, Option, Some, map, length, refl, ap, ◌∙◌, sym, arith, inl, inr, get_or, subst}
+use Rattle.std.proofs.Common.{ℕ, ◌<◌, ◌≤◌, ◌≡◌, true, false, List, [], ◌∷◌, ◌++◌, Option, Some, map, length, refl, ap, ◌∙◌, sym, arith, inl, inr, get_or, subst}
 use Rattle.std.specs.Prelude.{◌==◌, ◌&&◌, slice_index}
 use Rattle.std.specs.List.{All}
 use Rattle.std.specs.Option.{option_map, is_some, IsSome}

@@ -1,18 +1,17 @@
-//! Histories written by hand, with the places and the line fields that a report shows of them.
-ghost use Rattle.std.specs.Prelude.{◌≡◌, ◌∷◌, [], ◌≤◌, None, Some, length};
-ghost use Rattle.steer_base.specs.declared.choice.Why.TheVariants.{Plain as plain, Unset as unset};
-ghost use Rattle.history.specs.Examples.{one_packet};
-ghost use Rattle.history.specs.Lists.{no_lane};
+//! Histories written by hand, with the places and the line fields that a report shows of them, and which are regular.
+ghost use Rattle.std.specs.Prelude.{◌≤◌, length};
 ghost use Rattle.history.specs.Places.{IsInReach};
 
 use crate::index::{Index, index_list, note_drops};
 use crate::known::put_of;
-use crate::{Arrival, History, Items, LaneList, Lines, PacketLine, Place, ReplyLine, Sent, Via};
+use crate::{
+    Arrival, Commanded, History, Items, LaneList, Lines, PacketLine, Place, ReplyLine, Sent, Via,
+};
 use std::alloc::Global;
 use std::process::Abort;
 use steer_base::{
-    AppId, Choice, Chosen, Cpu, DropCause, Flow, LaneDrop, Packet, PacketId, Pair, Proto, Put,
-    RxQueue, Why,
+    Answer, AppId, Choice, Chosen, Command, Cpu, DropCause, Flow, Idle, LaneDrop, Packet, PacketId,
+    Pair, Proto, Put, RxQueue, Why,
 };
 
 // The packets of these numbers.
@@ -52,16 +51,12 @@ fn lane(
 }
 
 // A list of no item.
-fn none<T>(rt: &impl Abort, alloc: Global) -> Items<T>
-    ensures { result ≡ [] }
-{
+fn none<T>(rt: &impl Abort, alloc: Global) -> Items<T> {
     Items::of(Vec::new(alloc))
 }
 
 // A list of one.
-fn one<T: Drop>(rt: &impl Abort, alloc: Global, item: T) -> Items<T>
-    ensures { result ≡ item ∷ [] }
-{
+fn one<T: Drop>(rt: &impl Abort, alloc: Global, item: T) -> Items<T> {
     let mut items = Vec::new(alloc);
     items.push(item).expect(rt, "memory");
     Items::of(items)
@@ -310,9 +305,7 @@ fn drops_of_a_large_flow(rt: HostRuntime) {
 }
 
 // A lane of one packet that was retired.
-fn retired_lane(rt: &impl Abort, alloc: Global) -> LaneList
-    ensures { result ≡ record { accepted = 0 ∷ []; drops = []; pulled = 1; delivered = 1; retired = 1 } }
-{
+fn retired_lane(rt: &impl Abort, alloc: Global) -> LaneList {
     LaneList {
         accepted: one(rt, alloc, PacketId(0)),
         drops: none(rt, alloc),
@@ -323,9 +316,7 @@ fn retired_lane(rt: &impl Abort, alloc: Global) -> LaneList
 }
 
 // A lane of no packet.
-fn empty_lane(rt: &impl Abort, alloc: Global) -> LaneList
-    ensures { result ≡ no_lane }
-{
+fn empty_lane(rt: &impl Abort, alloc: Global) -> LaneList {
     LaneList {
         accepted: none(rt, alloc),
         drops: none(rt, alloc),
@@ -336,9 +327,7 @@ fn empty_lane(rt: &impl Abort, alloc: Global) -> LaneList
 }
 
 // The lanes of three processors, where one packet was retired at the second.
-fn three_lanes(rt: &impl Abort, alloc: Global) -> Items<LaneList>
-    ensures { result ≡ no_lane ∷ record { accepted = 0 ∷ []; drops = []; pulled = 1; delivered = 1; retired = 1 } ∷ no_lane ∷ [] }
-{
+fn three_lanes(rt: &impl Abort, alloc: Global) -> Items<LaneList> {
     let mut lanes = Vec::new(alloc);
     lanes.push(empty_lane(rt, alloc)).expect(rt, "memory");
     lanes.push(retired_lane(rt, alloc)).expect(rt, "memory");
@@ -347,9 +336,7 @@ fn three_lanes(rt: &impl Abort, alloc: Global) -> Items<LaneList>
 }
 
 // The choice of processor 1 without a class.
-fn plain_choice() -> Choice
-    ensures { result ≡ record { class = None; want = None; head = None; tail = None; lane = 1; why = plain } }
-{
+fn plain_choice() -> Choice {
     Choice {
         class: None,
         want: None,
@@ -361,9 +348,7 @@ fn plain_choice() -> Choice
 }
 
 // The first choice of a transmit queue.
-fn first_choice(start: u32) -> Choice
-    ensures { result ≡ record { class = Some 0; want = Some 0; head = None; tail = Some start; lane = 0; why = unset } }
-{
+fn first_choice(start: u32) -> Choice {
     Choice {
         class: Some(0),
         want: Some(0),
@@ -375,9 +360,7 @@ fn first_choice(start: u32) -> Choice
 }
 
 // One packet that was delivered, replied to, and sent.
-fn swept(rt: &impl Abort, alloc: Global, start: u32) -> History
-    ensures { result ≡ one_packet start }
-{
+fn swept(rt: &impl Abort, alloc: Global, start: u32) -> History {
     let id = PacketId(0);
     let queue = RxQueue(0);
     let arrival = Arrival {
@@ -418,9 +401,7 @@ fn swept(rt: &impl Abort, alloc: Global, start: u32) -> History
 }
 
 // The flow 66.9.149.187:2794 to 161.142.100.80:1766 of Microsoft's vectors, with its hash.
-fn packet() -> Packet
-    ensures { result.flow_number ≡ 0 }
-{
+fn packet() -> Packet {
     Packet {
         flow: Flow::Four(
             Pair::V4 {
@@ -439,7 +420,11 @@ fn packet() -> Packet
 
 // The lines of that history.
 fn swept_lines(rt: &impl Abort, alloc: Global, start: u32) -> Lines {
-    Lines::make(alloc, &swept(rt, alloc, start), &[packet()], 1).expect(rt, "memory")
+    let h = swept(rt, alloc, start);
+    let packets = [packet()];
+    let regular = h.is_regular(alloc, &packets, 1).expect(rt, "memory");
+    assert!(rt; regular);
+    Lines::make(alloc, &h, &packets, 1).expect(rt, "memory")
 }
 
 // They show the packet and its reply at this position.
@@ -477,4 +462,112 @@ fn has_lines(rt: &impl Abort, alloc: Global, start: u32, position: u32) {
 fn lines_of_a_packet_and_its_reply(rt: HostRuntime) {
     has_lines(&rt, rt.alloc(), 0, 1);
     has_lines(&rt, rt.alloc(), 4294967295, 0);
+}
+
+// What is wrong in a history.
+#[derive(Clone, Copy, Debug)]
+enum Fault {
+    MoreTakenThanArrived,
+    OtherLaneChosen,
+    AlsoDropped,
+    TwiceDelivered,
+    NotDelivered,
+    OtherQueue,
+    NoClass,
+    NoWant,
+    NotChosen,
+    NotQueued,
+    NoText,
+    MoreInboxes,
+}
+
+// The history of one packet with this fault.
+fn faulty(rt: &impl Abort, alloc: Global, fault: Fault) -> History {
+    let id = PacketId(0);
+    let mut h = swept(rt, alloc, 0);
+    match fault {
+        Fault::MoreTakenThanArrived => h.taken = one(rt, alloc, 2),
+        Fault::OtherLaneChosen => {
+            let choice = Choice {
+                lane: 2,
+                ..plain_choice()
+            };
+            h.choices = one(rt, alloc, one(rt, alloc, Chosen { id, choice }));
+        }
+        Fault::AlsoDropped => {
+            let twice = lane(rt, alloc, &[0], &[0], 1);
+            h.lanes = lanes(rt, alloc, twice, empty_lane(rt, alloc));
+        }
+        Fault::TwiceDelivered => h.inboxes = one(rt, alloc, ids(rt, alloc, &[0, 0])),
+        Fault::NotDelivered => h.inboxes = one(rt, alloc, none(rt, alloc)),
+        Fault::OtherQueue => {
+            let sent = Sent {
+                id,
+                rxq: RxQueue(1),
+                cpu: Cpu(2),
+            };
+            h.sent = one(rt, alloc, one(rt, alloc, sent));
+        }
+        Fault::NoClass => {
+            let choice = Choice {
+                class: None,
+                ..first_choice(0)
+            };
+            h.tx_choices = one(rt, alloc, one(rt, alloc, Chosen { id, choice }));
+        }
+        Fault::NoWant => {
+            let choice = Choice {
+                want: None,
+                ..first_choice(0)
+            };
+            h.tx_choices = one(rt, alloc, one(rt, alloc, Chosen { id, choice }));
+        }
+        Fault::NotChosen => h.tx_choices = one(rt, alloc, none(rt, alloc)),
+        Fault::NotQueued => h.tx_lanes = one(rt, alloc, empty_lane(rt, alloc)),
+        Fault::NoText => {
+            let commanded = Commanded {
+                command: Command::Expire,
+                answer: Answer::Idle(Idle::Nothing),
+            };
+            h.commands = one(rt, alloc, commanded);
+        }
+        Fault::MoreInboxes => {
+            let mut inboxes = Vec::new(alloc);
+            inboxes.push(ids(rt, alloc, &[0])).expect(rt, "memory");
+            inboxes.push(none(rt, alloc)).expect(rt, "memory");
+            h.inboxes = Items::of(inboxes);
+        }
+    }
+    h
+}
+
+#[test]
+fn each_fault_is_irregular(rt: HostRuntime) {
+    let alloc = rt.alloc();
+    let packets = [packet()];
+    let whole = swept(&rt, alloc, 0);
+    assert!(&rt; whole.is_regular(alloc, &packets, 1).expect(&rt, "memory"));
+    assert!(&rt; !whole.is_regular(alloc, &packets, 2).expect(&rt, "memory"));
+    assert!(&rt; !whole.is_regular(alloc, &[], 1).expect(&rt, "memory"));
+    let faults = [
+        Fault::MoreTakenThanArrived,
+        Fault::OtherLaneChosen,
+        Fault::AlsoDropped,
+        Fault::TwiceDelivered,
+        Fault::NotDelivered,
+        Fault::OtherQueue,
+        Fault::NoClass,
+        Fault::NoWant,
+        Fault::NotChosen,
+        Fault::NotQueued,
+        Fault::NoText,
+        Fault::MoreInboxes,
+    ];
+    for fault in faults {
+        let h = faulty(&rt, alloc, fault);
+        assert!(&rt;
+            !h.is_regular(alloc, &packets, 1).expect(&rt, "memory"),
+            "{fault:?}"
+        );
+    }
 }

@@ -10,14 +10,17 @@ use steer_base::{Choice, Chosen, Cpu, OutOfMemory, Packet, PacketId, RxQueue, Wh
 
 // The packets that a capture has at most. Those of each way are every fourth one.
 const PACKETS: u32 = 262_144;
+
 const EACH_WAY: u32 = PACKETS / 4;
 
 // What a list has of every fourth packet, from the one of this number.
-fn every_fourth<T: Drop>(
+fn every_fourth<T: Drop, F: Fn(u32) -> T>(
     alloc: Global,
     first: u8,
-    make: impl Fn(u32) -> T,
-) -> Result<Items<T>, OutOfMemory> {
+    make: F,
+) -> Result<Items<T>, OutOfMemory>
+    requires { F.IsAlwaysCallable make }
+{
     let mut items = Vec::with_capacity(alloc, EACH_WAY as usize)?;
     for k in 0..EACH_WAY {
         items.push(make(4 * k + first as u32))?;
@@ -25,10 +28,12 @@ fn every_fourth<T: Drop>(
     Ok(Items::of(items))
 }
 
-fn four<T: Drop>(
+fn four<T: Drop, F: Fn(u8) -> Result<T, OutOfMemory>>(
     alloc: Global,
-    make: impl Fn(u8) -> Result<T, OutOfMemory>,
-) -> Result<Items<T>, OutOfMemory> {
+    make: F,
+) -> Result<Items<T>, OutOfMemory>
+    requires { F.IsAlwaysCallable make }
+{
     let mut items = Vec::new(alloc);
     for way in 0..4 {
         items.push(make(way)?)?;
@@ -72,30 +77,42 @@ fn port(alloc: Global) -> Result<Items<PacketId>, OutOfMemory> {
 // Each packet went its way, by the queue, the processor, the application and the transmit queue of one number.
 fn history(alloc: Global) -> Result<History, OutOfMemory> {
     let chosen = |way: u8| {
-        every_fourth(alloc, way, |id| Chosen {
-            id: PacketId(id),
-            choice: Choice { lane: way, ..PLAIN },
-        })
+        every_fourth(
+            alloc,
+            way,
+            |id| Chosen {
+                id: PacketId(id),
+                choice: Choice { lane: way, ..PLAIN },
+            },
+        )
     };
     let sent = |way: u8| {
-        every_fourth(alloc, way, |id| Sent {
-            id: PacketId(id),
-            rxq: RxQueue(way),
-            cpu: Cpu(way),
-        })
+        every_fourth(
+            alloc,
+            way,
+            |id| Sent {
+                id: PacketId(id),
+                rxq: RxQueue(way),
+                cpu: Cpu(way),
+            },
+        )
     };
     let tx_chosen = |way: u8| {
-        every_fourth(alloc, way, |id| Chosen {
-            id: PacketId(id),
-            choice: Choice {
-                class: Some(id % 512),
-                want: Some(way),
-                head: None,
-                tail: Some(0),
-                lane: way,
-                why: Why::Same,
+        every_fourth(
+            alloc,
+            way,
+            |id| Chosen {
+                id: PacketId(id),
+                choice: Choice {
+                    class: Some(id % 512),
+                    want: Some(way),
+                    head: None,
+                    tail: Some(0),
+                    lane: way,
+                    why: Why::Same,
+                },
             },
-        })
+        )
     };
     Ok(History {
         total: PACKETS,
@@ -134,22 +151,34 @@ fn text(alloc: Global) -> Result<String, AllocError> {
     for id in 0..PACKETS {
         let way = id % 4;
         let place = id / 4 + 1;
-        write!(text, "p {id} q {way} via reta class - want - head - tail - cpu {way} why plain at {place} app {way} in {place} place inbox\n")?;
+        write!(
+            text,
+            "p {id} q {way} via reta class - want - head - tail - cpu {way} why plain at {place} app {way} in {place} place inbox\n"
+        )?;
     }
     for id in 0..PACKETS {
         let way = id % 4;
         let place = id / 4 + 1;
         let left = id + 1;
-        write!(text, "r {id} app {way} rxq {way} cpu {way} pick {way} head - tail 0 tx {way} why same at {place} port {left}\n")?;
+        write!(
+            text,
+            "r {id} app {way} rxq {way} cpu {way} pick {way} head - tail 0 tx {way} why same at {place} port {left}\n"
+        )?;
     }
     for way in 0..4 {
         write!(text, "queue {way} arrived 65536 taken 65536\n")?;
     }
     for way in 0..4 {
-        write!(text, "cpu {way} accepted 65536 pulled 65536 delivered 65536 retired 65536 dropped 0\n")?;
+        write!(
+            text,
+            "cpu {way} accepted 65536 pulled 65536 delivered 65536 retired 65536 dropped 0\n"
+        )?;
     }
     for way in 0..4 {
-        write!(text, "tx {way} accepted 65536 pulled 65536 delivered 65536 retired 65536\n")?;
+        write!(
+            text,
+            "tx {way} accepted 65536 pulled 65536 delivered 65536 retired 65536\n"
+        )?;
     }
     text.push_str("end 262144 of 262144\n")?;
     Ok(text)

@@ -191,15 +191,17 @@ fn the_flow_limit_drops(rt: HostRuntime) -> Result<(), Fail> {
     Ok(())
 }
 
-// The texts of a tap of processors, which is shown two lines, and a tap of flows.
-fn two_texts(alloc: Global, lines: &Lines) -> Result<Vec<TapText>, OutOfMemory> {
+// The texts of a tap of processors, which is shown two lines of four, and a tap of flows.
+fn two_texts(alloc: Global, lines: &Lines) -> Result<Vec<TapText>, Fail> {
+    if lines.len() != 4 {
+        return Err(Fail::new("four packets arrived"));
+    }
     let mut taps = Vec::new(alloc);
     let cpus: Box<dyn Tap> = Box::new(alloc, PerCpu::make(alloc))?;
     taps.push(cpus)?;
     let flows: Box<dyn Tap> = Box::new(alloc, PerFlow::make(alloc))?;
     taps.push(flows)?;
-    let arrived = lines.len() as u32;
-    feed(alloc, taps, lines, arrived, &[Detach { tap: 0, after: 2 }])
+    Ok(feed(alloc, taps, lines, 4, &[Detach { tap: 0, after: 2 }])?)
 }
 
 #[test]

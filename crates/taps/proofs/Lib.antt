@@ -1,4 +1,3 @@
 pub mod CpusLemmas
 pub mod FlowsLemmas
 pub mod ShownLemmas
-pub mod WaitingLemmas

@@ -1,6 +1,5 @@
 //! Texts of the three kinds, and taps of the tests that count their drops.
-ghost use Rattle.std.specs.Prelude.{◌≡◌, ◌≤◌, [], ◌∷◌, length, IfOk};
-ghost use Rattle.history.specs.Regular.{Regular};
+ghost use Rattle.std.specs.Prelude.{◌≡◌, length, IfOk};
 
 use crate::depth::Depth;
 use crate::feeding::feed;
@@ -158,24 +157,18 @@ impl Tap for Counting {
     }
 }
 
-fn none<T>(alloc: Global) -> Items<T>
-    ensures { result ≡ [] }
-{
+fn none<T>(alloc: Global) -> Items<T> {
     Items::of(Vec::new(alloc))
 }
 
 // One list without items.
-fn one_empty<T: Drop>(alloc: Global) -> Result<Items<Items<T>>, OutOfMemory>
-    ensures { IfOk result (λ lists. lists ≡ [] ∷ []) }
-{
+fn one_empty<T: Drop>(alloc: Global) -> Result<Items<Items<T>>, OutOfMemory> {
     let mut lists = Vec::new(alloc);
     lists.push(none(alloc))?;
     Ok(Items::of(lists))
 }
 
-fn arrival(id: u32) -> Arrival
-    ensures { result.id ≡ id }
-{
+fn arrival(id: u32) -> Arrival {
     Arrival {
         id: PacketId(id),
         queue: RxQueue(0),
@@ -185,11 +178,7 @@ fn arrival(id: u32) -> Arrival
 }
 
 // Three packets that wait in the ring of their queue.
-fn three_waiting(alloc: Global, packets: &[Packet]) -> Result<History, OutOfMemory>
-    requires { 3 ≤ length packets.now }
-    ensures regular { IfOk result (λ h. Regular packets.now 1 h) }
-    ensures three { IfOk result (λ h. length h.arrivals ≡ 3) }
-{
+fn three_waiting(alloc: Global) -> Result<History, OutOfMemory> {
     let arrivals = Vec::from_slice(alloc, &[arrival(0), arrival(1), arrival(2)])?;
     Ok(History {
         total: 3,
@@ -209,17 +198,32 @@ fn three_waiting(alloc: Global, packets: &[Packet]) -> Result<History, OutOfMemo
     })
 }
 
-#[test]
-fn every_tap_is_dropped_once(rt: HostRuntime) -> Result<(), Fail> {
-    let alloc = rt.alloc();
+// Their lines.
+fn three_lines(alloc: Global) -> Result<Lines, Fail>
+    ensures { IfOk result (λ lines. length lines.packets ≡ 3) }
+{
     let packets = [Packet {
         flow: Flow::Bare,
         hash: None,
         len: 60,
         flow_number: 0,
     }; 3];
-    let history = three_waiting(alloc, &packets)?;
+    let history = three_waiting(alloc)?;
+    if !history.is_regular(alloc, &packets, 1)? {
+        return Err(Fail::new("the history is not regular"));
+    }
     let lines = Lines::make(alloc, &history, &packets, 1)?;
+    if lines.len() == 3 {
+        Ok(lines)
+    } else {
+        Err(Fail::new("three packets arrived"))
+    }
+}
+
+#[test]
+fn every_tap_is_dropped_once(rt: HostRuntime) -> Result<(), Fail> {
+    let alloc = rt.alloc();
+    let lines = three_lines(alloc)?;
     let detach = [
         Detach { tap: 0, after: 2 },
         Detach { tap: 0, after: 1 },

@@ -1,4 +1,4 @@
-use Rattle.std.proofs.Common.{◌+◌, ◌≡◌, ◌<◌, ◌≤◌, ◌≢◌, sym, ◌∙◌, ap, arith, get_or, length, map}
+use Rattle.std.proofs.Common.{◌+◌, ◌≡◌, ◌<◌, ◌≢◌, sym, ◌∙◌, ap, arith, get_or, length, map}
 use Rattle.std.proofs.lemmas.Grind.{get_or_default_zero}
 use Rattle.std.proofs.lemmas.List.{get_or-map, length-map}
 use Rattle.history.proofs.BeginsLemmas.{pair-next, pair-short, pair-other}

@@ -1,4 +1,4 @@
-use Rattle.std.proofs.Common.{◌≡◌, Bool, true, false, sym, ◌∙◌, ap}
+use Rattle.std.proofs.Common.{◌≡◌, true, sym, ◌∙◌}
 use Rattle.std.specs.Prelude.{◌↔◌, IsTrue}
 use Rattle.std.proofs.lemmas.Bool.{false≢true}
 use Rattle.std.proofs.lemmas.Result.{IfOk-weaker}
@@ -20,10 +20,12 @@ returns-then-has_short_lists c =
 pub returns-else-has_shape : goal.returns-else-has_shape
 returns-else-has_shape c =
     let packets = c.args.packets.now in
-    let h = c.args.self.now in
-    (λ t. absurd (false≢true t), λ r. elim c.else-has_shape.branch [
-      | else-has_shape-via-then-has_shape+else-has_short_lists w ↦
-          let short : has_short_lists h ≡ true = to_short_lists packets c.args.apps h r in cc
-      | else-has_shape-via-else-has_shape w ↦
-          let shape : has_shape packets c.args.apps h ≡ true = to_shape packets c.args.apps h r in cc
-    ])
+    let h = c.args.self.now in (
+      λ t. absurd (false≢true t),
+      λ r. elim c.else-has_shape.branch [
+        | else-has_shape-via-then-has_shape+else-has_short_lists w ↦
+            let short : has_short_lists h ≡ true = to_short_lists packets c.args.apps h r in cc
+        | else-has_shape-via-else-has_shape w ↦
+            let shape : has_shape packets c.args.apps h ≡ true = to_shape packets c.args.apps h r in cc
+      ],
+    )
