@@ -1,25 +1,15 @@
-//! Lines and a whole report, by values that were worked out by hand.
-ghost use Rattle.std.specs.Prelude.{◌≡◌, ◌≤◌, [], ◌∷◌, length, IfOk};
-ghost use Rattle.history.specs.Lists.{no_lane};
-ghost use Rattle.history.specs.Regular.{Regular};
-ghost use Rattle.report.specs.Made.{AreLinesOf};
-
+//! Single lines, by values that were worked out by hand.
 use crate::commands::command_line;
+use crate::histories::PLAIN;
 use crate::line::LineBuf;
 use crate::packets::{packet_line, reply_line};
-use crate::whole::render;
-use history::{
-    Arrival, Commanded, History, Items, LaneList, Lines, PacketLine, Place, ReplyLine, SockWrite,
-    Via,
-};
+use history::{Commanded, PacketLine, Place, ReplyLine, Via};
 use outside_io::{MemorySink, WriteFault};
-use std::alloc::Global;
 use std::test::Fail;
 use steer_base::{
-    Answer, AppId, Busy, Choice, Command, Cpu, CpuMask, DropCause, Flow, Idle, OutOfMemory, Packet,
-    PacketId, Put, RxQueue, TxQueue, User, Why,
+    Answer, AppId, Busy, Choice, Command, Cpu, CpuMask, DropCause, Idle, PacketId, Put, RxQueue,
+    TxQueue, User, Why,
 };
-use taps::TapText;
 
 // A packet of queue 0 and application 0 that was neither weighed nor put.
 const WAITING: PacketLine = PacketLine {
@@ -32,16 +22,6 @@ const WAITING: PacketLine = PacketLine {
     inbox: None,
     place: Place::Poller,
     flow_number: 0,
-};
-
-// A choice of lane 1 without a class.
-const PLAIN: Choice = Choice {
-    class: None,
-    want: None,
-    head: None,
-    tail: None,
-    lane: 1,
-    why: Why::Plain,
 };
 
 fn put_packets(
@@ -217,6 +197,14 @@ fn mask(cpus: u32) -> Command {
     Command::Mask(RxQueue(0), CpuMask(cpus))
 }
 
+fn not_empty(head: u32, tail: u32) -> Answer {
+    Answer::Busy(Busy::NotEmpty {
+        lane: 1,
+        head,
+        tail,
+    })
+}
+
 fn commanded(command: Command, answer: Answer) -> Commanded {
     Commanded { command, answer }
 }
@@ -239,14 +227,8 @@ fn command_lines(rt: HostRuntime) -> Result<(), Fail> {
     let mut out = MemorySink::make(alloc, 2048, Vec::new(alloc))?;
     let mut buf = LineBuf::make(alloc)?;
     let commands = [
-        commanded(
-            mask(4),
-            Answer::Busy(Busy::NotEmpty {
-                lane: 1,
-                head: 4294967295,
-                tail: 0,
-            }),
-        ),
+        commanded(mask(4), not_empty(0, 1)),
+        commanded(mask(4), not_empty(4294967295, 0)),
         commanded(mask(4), Answer::Busy(Busy::Inside(1))),
         commanded(mask(4), Answer::Done),
         commanded(
@@ -259,6 +241,7 @@ fn command_lines(rt: HostRuntime) -> Result<(), Fail> {
         ),
         commanded(Command::Stand(AppId(0), Cpu(2)), Answer::CpuOffline),
         commanded(Command::Online(Cpu(3)), Answer::Idle(Idle::AlreadyOnline)),
+        commanded(Command::Expire, Answer::Expired(0)),
         commanded(Command::Expire, Answer::Expired(1)),
         commanded(Command::Reta(120, RxQueue(1)), Answer::Done),
         commanded(Command::Flows(RxQueue(1), 3), Answer::Done),
@@ -273,20 +256,22 @@ fn command_lines(rt: HostRuntime) -> Result<(), Fail> {
     put_commands(&commands, &mut buf, &mut out)
         .ok()
         .ok_or("a write failed")?;
-    let wanted = b"c 0 mask 0 2 busy lane 1 head 4294967295 tail 0
-c 1 mask 0 2 busy inside 1
-c 2 mask 0 2 done
-c 3 offline 0 in use queue 0
-c 4 offline 2 in use app 0
-c 5 stand 0 2 cpu offline
-c 6 online 3 idle online
-c 7 expire expired 1
-c 8 reta 120 1 done
-c 9 flows 1 3 done
-c 10 sock 16 done
-c 11 xcpus 0 0,3,31 done
-c 12 xqueues 1 0,15 done
-c 13 mask 0 - done
+    let wanted = b"c 0 mask 0 2 busy lane 1 head 0 tail 1
+c 1 mask 0 2 busy lane 1 head 4294967295 tail 0
+c 2 mask 0 2 busy inside 1
+c 3 mask 0 2 done
+c 4 offline 0 in use queue 0
+c 5 offline 2 in use app 0
+c 6 stand 0 2 cpu offline
+c 7 online 3 idle online
+c 8 expire expired 0
+c 9 expire expired 1
+c 10 reta 120 1 done
+c 11 flows 1 3 done
+c 12 sock 16 done
+c 13 xcpus 0 0,3,31 done
+c 14 xqueues 1 0,15 done
+c 15 mask 0 - done
 ";
     assert_eq!(rt; out.bytes(), wanted.as_slice());
     Ok(())
