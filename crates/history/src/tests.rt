@@ -369,29 +369,16 @@ fn swept(rt: &impl Abort, alloc: Global, start: u32) -> History {
         filter: None,
         entry: Some(queue),
     };
-    let choice = Chosen {
-        id,
-        choice: plain_choice(),
-    };
-    let sent = Sent {
-        id,
-        rxq: queue,
-        cpu: Cpu(2),
-    };
-    let tx_choice = Chosen {
-        id,
-        choice: first_choice(start),
-    };
     History {
         total: 1,
         cut: None,
         arrivals: one(rt, alloc, arrival),
         taken: one(rt, alloc, 1),
-        choices: one(rt, alloc, one(rt, alloc, choice)),
+        choices: chosen(rt, alloc, plain_choice()),
         lanes: three_lanes(rt, alloc),
         inboxes: one(rt, alloc, one(rt, alloc, id)),
-        sent: one(rt, alloc, one(rt, alloc, sent)),
-        tx_choices: one(rt, alloc, one(rt, alloc, tx_choice)),
+        sent: sent(rt, alloc, queue),
+        tx_choices: chosen(rt, alloc, first_choice(start)),
         tx_lanes: one(rt, alloc, retired_lane(rt, alloc)),
         port: one(rt, alloc, id),
         writes: one(rt, alloc, none(rt, alloc)),
@@ -481,62 +468,74 @@ enum Fault {
     MoreInboxes,
 }
 
+// A list of the one choice for packet 0.
+fn chosen(rt: &impl Abort, alloc: Global, choice: Choice) -> Items<Items<Chosen>> {
+    let id = PacketId(0);
+    one(rt, alloc, one(rt, alloc, Chosen { id, choice }))
+}
+
+// A list of the one reply to packet 0, of a queue.
+fn sent(rt: &impl Abort, alloc: Global, rxq: RxQueue) -> Items<Items<Sent>> {
+    let reply = Sent {
+        id: PacketId(0),
+        rxq,
+        cpu: Cpu(2),
+    };
+    one(rt, alloc, one(rt, alloc, reply))
+}
+
+// A command with an answer that a report cannot show.
+fn idle_command(rt: &impl Abort, alloc: Global) -> Items<Commanded> {
+    let commanded = Commanded {
+        command: Command::Expire,
+        answer: Answer::Idle(Idle::Nothing),
+    };
+    one(rt, alloc, commanded)
+}
+
+// One inbox too many.
+fn two_inboxes(rt: &impl Abort, alloc: Global) -> Items<Items<PacketId>> {
+    let mut inboxes = Vec::new(alloc);
+    inboxes.push(ids(rt, alloc, &[0])).expect(rt, "memory");
+    inboxes.push(none(rt, alloc)).expect(rt, "memory");
+    Items::of(inboxes)
+}
+
 // The history of one packet with this fault.
 fn faulty(rt: &impl Abort, alloc: Global, fault: Fault) -> History {
-    let id = PacketId(0);
+    let plain = plain_choice();
+    let first = first_choice(0);
     let mut h = swept(rt, alloc, 0);
     match fault {
         Fault::MoreTakenThanArrived => h.taken = one(rt, alloc, 2),
-        Fault::OtherLaneChosen => {
-            let choice = Choice {
-                lane: 2,
-                ..plain_choice()
-            };
-            h.choices = one(rt, alloc, one(rt, alloc, Chosen { id, choice }));
-        }
+        Fault::OtherLaneChosen => h.choices = chosen(rt, alloc, Choice { lane: 2, ..plain }),
         Fault::AlsoDropped => {
             let twice = lane(rt, alloc, &[0], &[0], 1);
             h.lanes = lanes(rt, alloc, twice, empty_lane(rt, alloc));
         }
         Fault::TwiceDelivered => h.inboxes = one(rt, alloc, ids(rt, alloc, &[0, 0])),
         Fault::NotDelivered => h.inboxes = one(rt, alloc, none(rt, alloc)),
-        Fault::OtherQueue => {
-            let sent = Sent {
-                id,
-                rxq: RxQueue(1),
-                cpu: Cpu(2),
-            };
-            h.sent = one(rt, alloc, one(rt, alloc, sent));
-        }
-        Fault::NoClass => {
-            let choice = Choice {
+        Fault::OtherQueue => h.sent = sent(rt, alloc, RxQueue(1)),
+        Fault::NoClass => h.tx_choices = chosen(
+            rt,
+            alloc,
+            Choice {
                 class: None,
-                ..first_choice(0)
-            };
-            h.tx_choices = one(rt, alloc, one(rt, alloc, Chosen { id, choice }));
-        }
-        Fault::NoWant => {
-            let choice = Choice {
+                ..first
+            },
+        ),
+        Fault::NoWant => h.tx_choices = chosen(
+            rt,
+            alloc,
+            Choice {
                 want: None,
-                ..first_choice(0)
-            };
-            h.tx_choices = one(rt, alloc, one(rt, alloc, Chosen { id, choice }));
-        }
+                ..first
+            },
+        ),
         Fault::NotChosen => h.tx_choices = one(rt, alloc, none(rt, alloc)),
         Fault::NotQueued => h.tx_lanes = one(rt, alloc, empty_lane(rt, alloc)),
-        Fault::NoText => {
-            let commanded = Commanded {
-                command: Command::Expire,
-                answer: Answer::Idle(Idle::Nothing),
-            };
-            h.commands = one(rt, alloc, commanded);
-        }
-        Fault::MoreInboxes => {
-            let mut inboxes = Vec::new(alloc);
-            inboxes.push(ids(rt, alloc, &[0])).expect(rt, "memory");
-            inboxes.push(none(rt, alloc)).expect(rt, "memory");
-            h.inboxes = Items::of(inboxes);
-        }
+        Fault::NoText => h.commands = idle_command(rt, alloc),
+        Fault::MoreInboxes => h.inboxes = two_inboxes(rt, alloc),
     }
     h
 }

@@ -74,56 +74,59 @@ fn port(alloc: Global) -> Result<Items<PacketId>, OutOfMemory> {
     Ok(Items::of(port))
 }
 
+fn chosen(alloc: Global, way: u8) -> Result<Items<Chosen>, OutOfMemory> {
+    every_fourth(
+        alloc,
+        way,
+        |id| Chosen {
+            id: PacketId(id),
+            choice: Choice { lane: way, ..PLAIN },
+        },
+    )
+}
+
+fn sent(alloc: Global, way: u8) -> Result<Items<Sent>, OutOfMemory> {
+    every_fourth(
+        alloc,
+        way,
+        |id| Sent {
+            id: PacketId(id),
+            rxq: RxQueue(way),
+            cpu: Cpu(way),
+        },
+    )
+}
+
+fn tx_chosen(alloc: Global, way: u8) -> Result<Items<Chosen>, OutOfMemory> {
+    every_fourth(
+        alloc,
+        way,
+        |id| Chosen {
+            id: PacketId(id),
+            choice: Choice {
+                class: Some(id % 512),
+                want: Some(way),
+                head: None,
+                tail: Some(0),
+                lane: way,
+                why: Why::Same,
+            },
+        },
+    )
+}
+
 // Each packet went its way, by the queue, the processor, the application and the transmit queue of one number.
 fn history(alloc: Global) -> Result<History, OutOfMemory> {
-    let chosen = |way: u8| {
-        every_fourth(
-            alloc,
-            way,
-            |id| Chosen {
-                id: PacketId(id),
-                choice: Choice { lane: way, ..PLAIN },
-            },
-        )
-    };
-    let sent = |way: u8| {
-        every_fourth(
-            alloc,
-            way,
-            |id| Sent {
-                id: PacketId(id),
-                rxq: RxQueue(way),
-                cpu: Cpu(way),
-            },
-        )
-    };
-    let tx_chosen = |way: u8| {
-        every_fourth(
-            alloc,
-            way,
-            |id| Chosen {
-                id: PacketId(id),
-                choice: Choice {
-                    class: Some(id % 512),
-                    want: Some(way),
-                    head: None,
-                    tail: Some(0),
-                    lane: way,
-                    why: Why::Same,
-                },
-            },
-        )
-    };
     Ok(History {
         total: PACKETS,
         cut: None,
         arrivals: arrivals(alloc)?,
         taken: four(alloc, |_| Ok(EACH_WAY))?,
-        choices: four(alloc, chosen)?,
+        choices: four(alloc, |way| chosen(alloc, way))?,
         lanes: four(alloc, |way| lane(alloc, way))?,
         inboxes: four(alloc, |way| every_fourth(alloc, way, |id| PacketId(id)))?,
-        sent: four(alloc, sent)?,
-        tx_choices: four(alloc, tx_chosen)?,
+        sent: four(alloc, |way| sent(alloc, way))?,
+        tx_choices: four(alloc, |way| tx_chosen(alloc, way))?,
         tx_lanes: four(alloc, |way| lane(alloc, way))?,
         port: port(alloc)?,
         writes: four(alloc, |_| Ok(none(alloc)))?,
