@@ -5,7 +5,7 @@ use Rattle.std.proofs.lemmas.List.{get_or_default}
 use Rattle.std.proofs.lemmas.List.FromFn.{get_or-map-range_with_len, length-map-range_with_len}
 use Rattle.history.specs.Lists.{arrivals_at, list_at}
 use Rattle.history.specs.Tests.{begins}
-use Rattle.history.proofs.regularity.is_polled.Goals as goal
+use Rattle.history.proofs.polling.is_polled.Goals as goal
 
 pub index-requires : goal.index-requires
 index-requires c =

@@ -2,8 +2,8 @@ use Rattle.std.proofs.Common.{◌+◌, ◌≡◌, ◌<◌, ◌≢◌, sym, ◌�
 use Rattle.std.proofs.lemmas.Grind.{get_or_default_zero}
 use Rattle.std.proofs.lemmas.List.{get_or-map, length-map}
 use Rattle.history.proofs.BeginsLemmas.{pair-next, pair-short, pair-other}
-use Rattle.history.proofs.regularity.are_to_first.Goals as goal
-use Rattle.history.proofs.regularity.are_to_first.Goals.{then-i-inbox-via-then-i-inbox, then-i-inbox-via-else-i-inbox+then-ne}
+use Rattle.history.proofs.replying.are_to_first.Goals as goal
+use Rattle.history.proofs.replying.are_to_first.Goals.{then-i-inbox-via-then-i-inbox, then-i-inbox-via-else-i-inbox+then-ne}
 
 pub returns-then-i-inbox : goal.returns-then-i-inbox
 returns-then-i-inbox c =

@@ -1,7 +1,7 @@
 use Rattle.std.proofs.Common.{sym, arith, length}
 use Rattle.history.specs.Tests.{is_polled}
 use Rattle.history.proofs.PassingLemmas.{fails-below, all-below}
-use Rattle.history.proofs.regularity.are_polled.Goals as goal
+use Rattle.history.proofs.polling.are_polled.Goals as goal
 
 pub returns-then-not-is_polled : goal.returns-then-not-is_polled
 returns-then-not-is_polled c =

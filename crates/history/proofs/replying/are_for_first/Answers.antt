@@ -1,8 +1,8 @@
 use Rattle.std.proofs.Common.{◌+◌, ◌≡◌, ◌<◌, ◌≢◌, sym, ◌∙◌, ap, arith, get_or, length, map}
 use Rattle.std.proofs.lemmas.List.{get_or-map, length-map}
 use Rattle.history.proofs.BeginsLemmas.{pair-next, pair-short, pair-other}
-use Rattle.history.proofs.regularity.are_for_first.Goals as goal
-use Rattle.history.proofs.regularity.are_for_first.Goals.{then-i-sent-via-then-i-sent, then-i-sent-via-else-i-sent+then-ne}
+use Rattle.history.proofs.replying.are_for_first.Goals as goal
+use Rattle.history.proofs.replying.are_for_first.Goals.{then-i-sent-via-then-i-sent, then-i-sent-via-else-i-sent+then-ne}
 
 pub returns-then-i-sent : goal.returns-then-i-sent
 returns-then-i-sent c =

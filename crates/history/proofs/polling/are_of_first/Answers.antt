@@ -5,8 +5,8 @@ use Rattle.std.proofs.lemmas.List.{get_or-map, length-map}
 use Rattle.history.specs.Lists.{arrivals_at}
 use Rattle.history.specs.Tests.{begins}
 use Rattle.history.proofs.BeginsLemmas.{arrival-same, arrival-differs, arrival-elsewhere, arrivals-end, begins-end, begins-short}
-use Rattle.history.proofs.regularity.are_of_first.Goals as goal
-use Rattle.history.proofs.regularity.are_of_first.Goals.{then-arrival-queue+else-ne, else-arrival-queue}
+use Rattle.history.proofs.polling.are_of_first.Goals as goal
+use Rattle.history.proofs.polling.are_of_first.Goals.{then-arrival-queue+else-ne, else-arrival-queue}
 
 pub returns-then-ne : goal.returns-then-ne
 returns-then-ne c =

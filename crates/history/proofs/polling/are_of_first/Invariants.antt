@@ -1,7 +1,7 @@
 use Rattle.std.proofs.Common.{◌≡◌, drop, map}
 use Rattle.history.specs.Lists.{arrivals_at}
 use Rattle.history.specs.Tests.{begins}
-use Rattle.history.proofs.regularity.are_of_first.Given as goal
+use Rattle.history.proofs.polling.are_of_first.Given as goal
 
 abbrev pub invariant-loop-arrival : goal.invariant-loop-arrival
 invariant-loop-arrival l =
