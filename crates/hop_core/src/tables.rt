@@ -55,6 +55,14 @@ impl Tables {
         })
     }
 
+    // Whether numbers of classes are exact.
+    #[cfg(test)]
+    pub(crate) fn is_exact(&self) -> bool
+        ensures { result ≡ self.now.exact }
+    {
+        self.exact
+    }
+
     /// The class of a hash in a producer's table.
     pub fn class(&self, p: u8, hash: Option<u32>) -> Option<u32>
         requires { p < length self.now.rows }

@@ -45,6 +45,19 @@ fn is_empty_but(hop: &Hop, online: CpuMask) -> bool
     true
 }
 
+// Whether each lane is empty.
+fn is_empty(hop: &Hop) -> bool
+    ensures { IsTrue result → (c : ℕ) → c < length hop.now.bare.accepted → IsEmptied hop.now.bare c }
+{
+    for lane in 0..hop.lanes.count() {
+        let (head, tail) = (hop.head(lane), hop.tail(lane));
+        if head != tail {
+            return false;
+        }
+    }
+    true
+}
+
 // Whether the class, where there is one, is one of the producer's.
 fn has_class(hop: &Hop, p: u8, class: Option<u32>) -> bool
     requires { p < length hop.now.arrivals }
@@ -56,7 +69,7 @@ fn has_class(hop: &Hop, p: u8, class: Option<u32>) -> bool
     }
 }
 
-// Whether the event may be asked; a resize is not asked here.
+// Whether the event may be asked.
 fn may_ask(hop: &Hop, e: HopEvent) -> bool
     ensures { IsTrue result → MayAsk hop.now e }
 {
@@ -87,7 +100,13 @@ fn may_ask(hop: &Hop, e: HopEvent) -> bool
         HopEvent::Pull { lane } => lane < lanes,
         HopEvent::Deliver { lane, to } => lane < lanes && (to as usize) < hop.outs.count(),
         HopEvent::Retire { lane } => lane < lanes,
-        HopEvent::Resize { .. } => false,
+        HopEvent::Resize { p, count } => {
+            (p as usize) < producers
+                && count <= 32768
+                && !hop.tables.is_exact()
+                && hop.closed
+                && is_empty(hop)
+        }
         HopEvent::Close => !hop.closed,
         HopEvent::Reopen => hop.closed,
     }
@@ -321,6 +340,38 @@ fn a_class_leaves_an_offline_lane(rt: HostRuntime) -> Result<(), Fail> {
     play(&rt, &mut hop, &[arrive(0), arrive(1)]);
     poll(&rt, &mut hop, first);
     drain(&rt, &mut hop, 1, 0, 1);
+    poll(&rt, &mut hop, second);
+    Ok(())
+}
+
+#[test]
+fn a_resize_unsets_the_classes(rt: HostRuntime) -> Result<(), Fail> {
+    let mut hop = receive_hop(rt.alloc(), 4, 1000, 2, 0, CpuMask(0))?;
+    let first = Packet {
+        id: 0,
+        hash: FIRST,
+        online: ALL,
+        desired: 1,
+        choice: chose(None, None, 0, 1, Why::Unset),
+        went: Put::At(1),
+    };
+    let second = Packet {
+        id: 1,
+        desired: 2,
+        choice: chose(None, None, 0, 2, Why::Unset),
+        ..first
+    };
+    let resize = HopEvent::Resize { p: 0, count: 2 };
+    play(&rt, &mut hop, &[arrive(0), arrive(1)]);
+    poll(&rt, &mut hop, first);
+    play(&rt, &mut hop, &[(HopEvent::Close, HopAnswer::Done)]);
+    assert!(&rt; !may_ask(&hop, resize));
+    drain(&rt, &mut hop, 1, 0, 1);
+    let turns = [
+        (resize, HopAnswer::Done),
+        (HopEvent::Reopen, HopAnswer::Done),
+    ];
+    play(&rt, &mut hop, &turns);
     poll(&rt, &mut hop, second);
     Ok(())
 }
