@@ -344,6 +344,8 @@ fn a_class_leaves_an_offline_lane(rt: HostRuntime) -> Result<(), Fail> {
     Ok(())
 }
 
+const RESIZE: HopEvent = HopEvent::Resize { p: 0, count: 2 };
+
 #[test]
 fn a_resize_unsets_the_classes(rt: HostRuntime) -> Result<(), Fail> {
     let mut hop = receive_hop(rt.alloc(), 4, 1000, 2, 0, CpuMask(0))?;
@@ -361,17 +363,19 @@ fn a_resize_unsets_the_classes(rt: HostRuntime) -> Result<(), Fail> {
         choice: chose(None, None, 0, 2, Why::Unset),
         ..first
     };
-    let resize = HopEvent::Resize { p: 0, count: 2 };
     play(&rt, &mut hop, &[arrive(0), arrive(1)]);
     poll(&rt, &mut hop, first);
     play(&rt, &mut hop, &[(HopEvent::Close, HopAnswer::Done)]);
-    assert!(&rt; !may_ask(&hop, resize));
+    assert!(&rt; !may_ask(&hop, RESIZE));
     drain(&rt, &mut hop, 1, 0, 1);
-    let turns = [
-        (resize, HopAnswer::Done),
-        (HopEvent::Reopen, HopAnswer::Done),
-    ];
-    play(&rt, &mut hop, &turns);
+    play(
+        &rt,
+        &mut hop,
+        &[
+            (RESIZE, HopAnswer::Done),
+            (HopEvent::Reopen, HopAnswer::Done),
+        ],
+    );
     poll(&rt, &mut hop, second);
     Ok(())
 }
