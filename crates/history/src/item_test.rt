@@ -1,15 +1,14 @@
 //! The test of each item of a history's lists, over what the lists tell of each packet.
-ghost use Rattle.std.specs.Prelude.{◌≡◌, ◌≤◌, ◌<◌, ◌==◌, ◌&&◌, length, map};
-ghost use Rattle.std.specs.List.{list_all, range_with_len};
+ghost use Rattle.std.specs.Prelude.{◌≡◌, ◌≤◌, ◌==◌, ◌&&◌, length, map};
+ghost use Rattle.std.specs.List.{range_with_len};
 ghost use Rattle.history.specs.Known.{IsKnown};
-ghost use Rattle.history.specs.Tests.{are_delivered, are_shipped, are_steered, begins, each, has_replies, have_replies, is_accepted, is_delivered, is_fallen, is_from_queue, is_of_flow, is_queued, is_shipped};
+ghost use Rattle.history.specs.Tests.{are_delivered, are_shipped, are_steered, each, is_accepted, is_delivered, is_fallen, is_queued, is_shipped};
 
 use crate::history::History;
 use crate::known::Known;
 use crate::lane_list::LaneList;
-use crate::sent::Sent;
-use crate::slots::{drop_is, is_number, is_place, lane_is};
-use steer_base::{Chosen, LaneDrop, Packet, PacketId, app_of};
+use crate::slots::{drop_is, is_place, lane_is};
+use steer_base::{LaneDrop, Packet, PacketId, app_of};
 
 /// A history with its slots, for the packets of a capture and so many applications.
 #[derive(Drop)]
