@@ -280,7 +280,7 @@ pub(crate) fn waiting(alloc: Global) -> Result<History, OutOfMemory> {
     Ok(h)
 }
 
-// The lines of a history with one application, which the test has to have made a regular one.
+// The lines of a history that the test made for these packets and so many applications. It has to be regular.
 pub(crate) fn lines_of(
     alloc: Global,
     h: &History,

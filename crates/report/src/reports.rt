@@ -9,6 +9,7 @@ use crate::whole::render;
 use history::{History, Lines};
 use outside_io::MemorySink;
 use std::alloc::{AllocError, Global};
+use std::process::Abort;
 use std::test::Fail;
 use steer_base::{Detach, OutOfMemory, Packet};
 use taps::{PerCpu, PerFlow, Tap, TapText, feed};
@@ -223,9 +224,9 @@ end 4 of 4
     Ok(())
 }
 
-// Each write of this report goes out as one of these pieces, and after a write that fails there is none.
+// The report goes out as these pieces, one a write, and nothing goes out from a write that fails on.
 fn goes_out(
-    rt: &impl std::process::Abort,
+    rt: &impl Abort,
     alloc: Global,
     h: &History,
     lines: &Lines,
