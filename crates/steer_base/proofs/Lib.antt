@@ -1,2 +1,3 @@
 pub mod CountersLemmas
+pub mod MasksLemmas
 pub mod SetsLemmas
