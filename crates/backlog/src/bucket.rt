@@ -1,8 +1,7 @@
 //! The bucket that a packet's hash falls into, for the flow limit.
 ghost use Rattle.std.specs.Prelude.{◌≡◌, ◌<◌};
 ghost use Rattle.std.specs.Option.{ForSome};
-ghost use Rattle.steer_base.specs.Drops.{bucket_of};
-ghost use Rattle.backlog.specs.Causes.{cause_by};
+ghost use Rattle.steer_base.specs.Drops.{bucket_of, cause_by};
 
 use steer_base::DropCause;
 
