@@ -4,3 +4,4 @@ pub mod Kept
 pub mod Offers
 pub mod Puts
 pub mod Queues
+pub mod Rising
