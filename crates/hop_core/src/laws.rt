@@ -1,10 +1,18 @@
 //! Laws over the lists of a hop, each the contract of a function that does nothing.
-ghost use Rattle.hop_core.specs.Laws.{ChoiceIsByTheRule, ChoicesStay, ClosedIsExact, EachExplainsDrops, EachKeepsFlows, EachKeepsOrder, EachKeepsSound, EndToEnd, ExplainsDrops, FlowIsInOrder, InsideIsExact, KeepsOrder, KeepsPlaces, NeverDrops, NewIsOrdered, NewIsSound, OrderedIsInOrder, PairsMakePrefix};
+ghost use Rattle.hop_core.specs.Laws.{ChoiceIsByTheRule, ChoicesStay, ClosedIsExact, EndToEnd};
+ghost use Rattle.hop_core.specs.Laws.{EachExplainsDrops, EachKeepsAmple, EachKeepsFlows};
+ghost use Rattle.hop_core.specs.Laws.{EachKeepsOrder, EachKeepsSound, ExplainsDrops, FlowIsInOrder};
+ghost use Rattle.hop_core.specs.Laws.{FreshFlowIsOrdered, FreshIsAmple, FreshIsExplained};
+ghost use Rattle.hop_core.specs.Laws.{FreshIsOrdered, FreshIsSound};
+ghost use Rattle.hop_core.specs.Laws.{InsideIsExact, KeepsOrder, KeepsPlaces, NeverDrops};
+ghost use Rattle.hop_core.specs.Laws.{NewIsOrdered, NewIsSound, NobodyWeighsOutside};
+ghost use Rattle.hop_core.specs.Laws.{OrderedIsInOrder, PairsMakePrefix, SoundHasPlaces};
 ghost use Rattle.hop_core.specs.Work.{WorkGoesOn, WorkIsBounded, WorkStays};
 
 /// What holds of every hop holds of a new one, and every event keeps it.
 pub fn every_event_keeps_a_hop_sound()
     ensures new { NewIsSound }
+    ensures fresh { FreshIsSound }
     ensures each { EachKeepsSound }
 {}
 
@@ -12,11 +20,13 @@ pub fn every_event_keeps_a_hop_sound()
 pub fn the_gate_answers_exactly()
     ensures inside { InsideIsExact }
     ensures closed { ClosedIsExact }
+    ensures outside { NobodyWeighsOutside }
 {}
 
 /// Whatever events come, each packet is at most at one place, once.
 pub fn each_packet_has_one_place()
-    ensures { KeepsPlaces }
+    ensures all { KeepsPlaces }
+    ensures sound { SoundHasPlaces }
 {}
 
 /// Whatever events come, the packets of a tight set are delivered in the order in which they arrived, without those that
@@ -28,12 +38,14 @@ pub fn tight_sets_are_delivered_in_order()
 /// The same from event to event, for a set of packets.
 pub fn each_event_keeps_order()
     ensures new { NewIsOrdered }
+    ensures fresh { FreshIsOrdered }
     ensures each { EachKeepsOrder }
     ensures order { OrderedIsInOrder }
 {}
 
 /// The same from event to event, for the flow of a producer.
 pub fn each_event_keeps_flows()
+    ensures fresh { FreshFlowIsOrdered }
     ensures each { EachKeepsFlows }
     ensures order { FlowIsInOrder }
 {}
@@ -51,12 +63,15 @@ pub fn pairs_in_order_make_a_prefix()
 /// Whatever events come, each drop has its cause: a full backlog or the flow limit.
 pub fn each_drop_is_explained()
     ensures all { ExplainsDrops }
+    ensures fresh { FreshIsExplained }
     ensures each { EachExplainsDrops }
 {}
 
 /// Nothing is dropped where all packets may wait and no lane is under the flow limit.
 pub fn ample_lanes_drop_nothing()
-    ensures { NeverDrops }
+    ensures all { NeverDrops }
+    ensures fresh { FreshIsAmple }
+    ensures each { EachKeepsAmple }
 {}
 
 /// Each choice is the migration rule over the entry of its class at its moment, and later events change neither the
