@@ -1,9 +1,10 @@
 -- The laws of a hop, over every list of events that may be asked.
-use Rattle.std.specs.Prelude.{ℕ, ◌++◌, ◌≤◌, ◌<◌, ◌≡◌, ◌≢◌, ◌^◌, Bool, true, false, List, [], ◌∷◌, Option, length, map, take, drop, filter}
+use Rattle.std.specs.Prelude.{ℕ, ◌++◌, ◌≤◌, ◌<◌, ◌≡◌, ◌≢◌, ◌^◌, Bool, true, false, List, [], ◌∷◌, Option, unwrap_or, length, map, take, drop, filter}
 use Rattle.steer_base.specs.Choices.{migrate}
 use Rattle.steer_base.specs.Entries.{entry}
 use Rattle.steer_base.specs.Orders.{Apart, IsPrefix}
 use Rattle.steer_base.specs.Sets.{has}
+use Rattle.steer_base.specs.declared.choice.Choice.{Choice}
 use Rattle.steer_base.specs.declared.choice.Entry.{Entry}
 use Rattle.steer_base.specs.declared.cpu_mask.CpuMask.{CpuMask}
 use Rattle.backlog.specs.Offers.{AreOffers, AllExplained}
@@ -193,6 +194,13 @@ EachKeepsAmple = (s : HopState) (e : HopEvent) → Sound s → Ample s → Ample
 -- the entries that a producer's first i choices give, but for those before a resize
 abbrev pub entries_before : HopState → ℕ → ℕ → ℕ → ℕ → Entry
 entries_before s p from i = entry s.fixed.start (accepted_at s.bare) (drop from (take i (choices_of s p)))
+
+-- A choice by the rule over the heads of all lanes is the choice over the head that it kept, alone.
+abbrev pub KeptHeadDecides : Type 0
+KeptHeadDecides =
+    (class want : Option ℕ) (desired : ℕ) (entries : ℕ → Entry) (head : ℕ → ℕ) (online : ℕ → Bool) (c : Choice)
+    → c ≡ migrate class want desired entries head online
+    → c ≡ migrate class want desired entries (λ lane. unwrap_or c.head 0) online
 
 -- Events leave each choice as it was made, and the entries of the choices before it too.
 abbrev pub ChoicesStay : Type 0

@@ -10,6 +10,7 @@ pub mod Laws
 pub mod Order
 pub mod Pairs
 pub mod Reads
+pub mod Rounds
 pub mod Shape
 pub mod Sizes
 pub mod Sound

@@ -1,12 +1,14 @@
 //! Laws over the lists of a hop, each the contract of a function that does nothing.
+ghost use Rattle.hop_core.specs.Emptied.{EmptiedIsExact, SetIsAsked};
 ghost use Rattle.hop_core.specs.Laws.{ChoiceIsByTheRule, ChoicesStay, ClosedIsExact, EndToEnd};
 ghost use Rattle.hop_core.specs.Laws.{EachExplainsDrops, EachKeepsAmple, EachKeepsFlows};
 ghost use Rattle.hop_core.specs.Laws.{EachKeepsOrder, EachKeepsSound, ExplainsDrops, FlowIsInOrder};
 ghost use Rattle.hop_core.specs.Laws.{FreshFlowIsOrdered, FreshIsAmple, FreshIsExplained};
 ghost use Rattle.hop_core.specs.Laws.{FreshIsOrdered, FreshIsSound};
-ghost use Rattle.hop_core.specs.Laws.{InsideIsExact, KeepsOrder, KeepsPlaces, NeverDrops};
+ghost use Rattle.hop_core.specs.Laws.{InsideIsExact, KeepsOrder, KeepsPlaces, KeptHeadDecides, NeverDrops};
 ghost use Rattle.hop_core.specs.Laws.{NewIsOrdered, NewIsSound, NobodyWeighsOutside};
 ghost use Rattle.hop_core.specs.Laws.{OrderedIsInOrder, PairsMakePrefix, SoundHasPlaces};
+ghost use Rattle.hop_core.specs.Rounds.{AsksAreJoined, RoundMayBeAsked, RoundRetiresOne, RunsAreJoined};
 ghost use Rattle.hop_core.specs.Work.{WorkGoesOn, WorkIsBounded, WorkStays};
 
 /// What holds of every hop holds of a new one, and every event keeps it.
@@ -79,6 +81,30 @@ pub fn ample_lanes_drop_nothing()
 pub fn each_choice_is_by_the_rule()
     ensures rule { ChoiceIsByTheRule }
     ensures stay { ChoicesStay }
+{}
+
+/// A choice by the rule over the heads of all lanes is the choice by the rule over the head that it kept.
+pub fn a_choice_is_decided_by_its_kept_head()
+    ensures { KeptHeadDecides }
+{}
+
+/// Lanes are answered to be empty exactly where each of them is, whether they are named by a set or by a test.
+pub fn emptied_answers_exactly()
+    ensures exact { EmptiedIsExact }
+    ensures asked { SetIsAsked }
+{}
+
+/// Two lists of events that are joined are the one after the other.
+pub fn lists_of_events_are_joined()
+    ensures run { RunsAreJoined }
+    ensures asks { AsksAreJoined }
+{}
+
+/// A round of a lane, that is a pull, a delivery and a retire, gets exactly one packet through where one waits and the
+/// hand is empty.
+pub fn a_round_retires_one_packet()
+    ensures asks { RoundMayBeAsked }
+    ensures one { RoundRetiresOne }
 {}
 
 /// Each event that gets a packet on adds one to the work or is idle, no other event changes it, and there are at most
