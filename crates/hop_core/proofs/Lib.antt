@@ -13,6 +13,7 @@ pub mod Flows
 pub mod Gate
 pub mod GateSteps
 pub mod Gathered
+pub mod KeptHeads
 pub mod LaneSteps
 pub mod LaneTables
 pub mod Leaves
@@ -25,6 +26,7 @@ pub mod ProducerSteps
 pub mod PutSteps
 pub mod Puts
 pub mod Rooms
+pub mod Rounds
 pub mod Sizes
 pub mod Sound
 pub mod Standing
