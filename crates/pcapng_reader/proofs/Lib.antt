@@ -1,0 +1,6 @@
+pub mod Checks
+pub mod Placed
+pub mod Walk
+pub mod Verdicts
+pub mod Wants
+pub mod Written
