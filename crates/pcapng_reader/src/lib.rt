@@ -10,9 +10,11 @@ mod place;
 mod read;
 mod reader;
 mod section;
+#[cfg(test)]
+mod tests;
 mod write;
 
 pub use fault::NgFault;
 pub use laws::{frames_are_read_back, one_capture_or_fault};
-pub use read::read_ng;
+pub use read::{is_pcapng, read_ng};
 pub use write::{put_enhanced, put_section};

@@ -1,5 +1,5 @@
 //! Reading a capture: one walk over the blocks of its file.
-ghost use Rattle.std.specs.Prelude.{◌≡◌, ◌≢◌, ◌≤◌, ◌⊎◌, length, All, IfOk, IfErr, IsErrAnd, MatchResult};
+ghost use Rattle.std.specs.Prelude.{◌≡◌, ◌≢◌, ◌≤◌, ◌⊎◌, ◌↔◌, length, All, IsTrue, IfOk, IfErr, IsErrAnd, MatchResult};
 ghost use Rattle.pcap_reader.specs.declared.capture.Capture.{Capture as ACapture};
 ghost use Rattle.pcap_reader.specs.Captures.{IsWithin};
 ghost use Rattle.pcapng_reader.specs.declared.fault.NgFault.{NgFault as AFault};
@@ -11,6 +11,13 @@ use crate::fault::NgFault;
 use crate::reader::Reader;
 use pcap_reader::Capture;
 use std::alloc::Global;
+
+/// Whether bytes begin as a pcapng file does, with the type of a section header.
+pub fn is_pcapng(bytes: &[u8]) -> bool
+    ensures { IsTrue result ↔ BeginsNg bytes.now }
+{
+    matches!(bytes, [0x0a, 0x0d, 0x0d, 0x0a, ..])
+}
 
 /// Reads the bytes of a pcapng file of Ethernet frames, which begin with the type of a section header,
 /// `0a 0d 0d 0a`: several sections, of either byte order, with their interfaces, enhanced and simple
