@@ -1,7 +1,7 @@
 -- A whole block lies within the bytes at whose front it stands, and so does the frame of its packet.
-use Rattle.std.proofs.Common.{◌≡◌, ◌≤◌, ◌<◌, ◌⊎◌, inl, inr, ℕ, ◌+◌, ◌*◌, ◌/◌, ◌%◌, Bool, true, false, not, cond, leb, ltb, eqb, List, length, Option, Some, None, Result, Ok, Err, refl, sym, ap, subst, ◌∙◌, arith}
+use Rattle.std.proofs.Common.{◌≡◌, ◌≤◌, ◌<◌, inl, inr, ℕ, ◌+◌, ◌%◌, Bool, true, false, not, leb, ltb, eqb, List, length, Option, Some, None, Ok, refl, subst, arith}
 use Rattle.std.proofs.lemmas.Bool.{ltb-false, leb-false, leb-true}
-use Rattle.std.proofs.lemmas.Bool.Decides.{eqb_tells, leb_tells}
+use Rattle.std.proofs.lemmas.Bool.Decides.{eqb_tells}
 use Rattle.pcap_reader.specs.declared.record.PcapRecord.{PcapRecord}
 use Rattle.pcapng_reader.specs.declared.section.Interface.{Interface}
 use Rattle.pcapng_reader.specs.declared.section.Section.{Section}
@@ -9,10 +9,8 @@ use Rattle.pcapng_reader.specs.declared.place.Place.{Place}
 use Rattle.pcapng_reader.specs.declared.block.Block.{Block}
 use Rattle.pcapng_reader.specs.declared.content.Content.{Content}
 use Rattle.pcapng_reader.specs.declared.content.Content.TheVariants as content
-use Rattle.pcapng_reader.specs.declared.fault.NgFault.{NgFault}
-use Rattle.pcapng_reader.specs.declared.fault.NgFault.TheVariants as fault
 use Rattle.pcapng_reader.specs.Numbers.{u16_at, u32_at}
-use Rattle.pcapng_reader.specs.Contents.{least_len, is_len, padded, and_then, linked, ethernet_of, framed, enhanced, kept, simple, content_at}
+use Rattle.pcapng_reader.specs.Contents.{least_len, is_len, padded, ethernet_of, framed, enhanced, simple, content_at}
 use Rattle.pcapng_reader.specs.Blocks.{kind_of, order_of, total_len, tail_len, block_in, ordered, block_at}
 use Rattle.pcapng_reader.proofs.Checks.{taken, passed, and_then_ok}
 

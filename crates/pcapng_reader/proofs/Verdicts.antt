@@ -1,5 +1,5 @@
 -- Bytes have one capture or one fault, and never two of these.
-use Rattle.std.proofs.Common.{◌≡◌, ◌≢◌, ◌≤◌, ◌⊎◌, inl, inr, ℕ, Bool, false, List, [], length, Option, Some, None, Result, Ok, Err, MatchResult, IfOk, IfErr, IsErrAnd, refl, sym, ap, ◌∙◌, arith}
+use Rattle.std.proofs.Common.{◌≡◌, ◌≢◌, ◌⊎◌, inl, inr, ℕ, Bool, false, List, length, Option, Result, Ok, Err, MatchResult, IfOk, IfErr, IsErrAnd, refl, sym, ap, ◌∙◌, arith}
 use Rattle.pcap_reader.specs.declared.record.PcapRecord.{PcapRecord}
 use Rattle.pcap_reader.specs.declared.capture.Capture.{Capture}
 use Rattle.pcapng_reader.specs.declared.block.Block.{Block}

@@ -1,26 +1,25 @@
 -- What is written is read back.
-use Rattle.std.proofs.Common.{◌≡◌, ◌≤◌, ◌<◌, ℕ, suc, ◌+◌, ◌-◌, ◌*◌, ◌/◌, ◌%◌, ◌^◌, Bool, true, false, leb, ltb, eqb, List, [], ◌∷◌, ◌++◌, length, take, drop, map, All, replicate, Option, Some, None, Result, Ok, Err, append-nil, append_assoc, length-append, refl, sym, ap, subst, ◌∙◌, arith}
+use Rattle.std.proofs.Common.{◌≡◌, ◌≤◌, ◌<◌, ℕ, ◌+◌, ◌-◌, ◌%◌, ◌^◌, Bool, true, false, leb, ltb, eqb, List, [], ◌∷◌, ◌++◌, length, take, drop, map, All, replicate, Some, None, Ok, append_assoc, length-append, refl, sym, ap, subst, ◌∙◌, arith}
 use Rattle.std.proofs.lemmas.List.{take_at, drop_at, length-replicate}
 use Rattle.std.proofs.lemmas.List.Elements.{All-head, All-tail}
-use Rattle.std.proofs.lemmas.Bool.{lt-ltb, le-ltb, le-leb, lt-leb}
+use Rattle.std.proofs.lemmas.Bool.{le-ltb, le-leb, lt-leb}
 use Rattle.std.proofs.lemmas.Bool.Decides.{nat_tests}
 use Rattle.std.specs.List.{flat_map}
 use Rattle.byteorder.specs.Endian.{little_number, little_bytes}
 use Rattle.byteorder.specs.Numbers.{little_number-reads_back}
 use Rattle.pcap_reader.specs.declared.record.PcapRecord.{PcapRecord}
 use Rattle.pcap_reader.specs.Captures.{frame_of}
-use Rattle.pcapng_reader.specs.declared.section.Interface.{Interface}
 use Rattle.pcapng_reader.specs.declared.section.Section.{Section}
 use Rattle.pcapng_reader.specs.declared.place.Place.{Place}
 use Rattle.pcapng_reader.specs.declared.block.Block.{Block}
 use Rattle.pcapng_reader.specs.declared.content.Content.{Content}
 use Rattle.pcapng_reader.specs.declared.content.Content.TheVariants as content
 use Rattle.pcapng_reader.specs.Numbers.{u16_at, u32_at}
-use Rattle.pcapng_reader.specs.Contents.{is_len, padded, linked, ethernet_of, framed, enhanced, simple, content_at}
-use Rattle.pcapng_reader.specs.Blocks.{kind_of, order_of, total_len, tail_len, block_in, ordered, block_at}
-use Rattle.pcapng_reader.specs.Captures.{no_section, file_start, packets_in, section_behind, place_behind, EndsWith, Reads, packets_of, first_order, HasNgCapture}
-use Rattle.pcapng_reader.specs.Writing.{section_bytes, enhanced_len, enhanced_header, enhanced_tail, enhanced_bytes, ng_bytes, records_from, ng_capture}
-use Rattle.pcapng_reader.specs.Laws.{BeginsWithSection, GrowsByFrame, ReadsBack, KeepsFrames}
+use Rattle.pcapng_reader.specs.Contents.{is_len, padded, ethernet_of, framed, enhanced, content_at}
+use Rattle.pcapng_reader.specs.Blocks.{kind_of, order_of, block_in, block_at}
+use Rattle.pcapng_reader.specs.Captures.{no_section, file_start, place_behind, Reads, packets_of}
+use Rattle.pcapng_reader.specs.Writing.{section_bytes, enhanced_len, enhanced_header, enhanced_tail, enhanced_bytes, records_from}
+use Rattle.pcapng_reader.specs.Laws.{ReadsBack, KeepsFrames}
 
 -- the section and the interface that are written
 abbrev written_section : Section

@@ -1,16 +1,14 @@
 -- The capture of a pcapng file's bytes, or its one fault, as a relation over the blocks of the file.
-use Rattle.std.specs.Prelude.{◌≡◌, ◌<◌, ◌≤◌, ℕ, ◌+◌, Bool, true, false, List, [], ◌∷◌, ◌++◌, length, take, drop, Option, Some, None, Result, Ok, Err}
+use Rattle.std.specs.Prelude.{◌≡◌, ◌<◌, ℕ, ◌+◌, Bool, false, List, [], ◌∷◌, ◌++◌, length, take, drop, Option, Some, None, Result, Ok, Err}
 use Rattle.std.specs.List.{flat_map}
 use Rattle.pcap_reader.specs.declared.record.PcapRecord.{PcapRecord}
 use Rattle.pcap_reader.specs.declared.capture.Capture.{Capture}
-use Rattle.pcapng_reader.specs.declared.section.Interface.{Interface}
 use Rattle.pcapng_reader.specs.declared.section.Section.{Section}
 use Rattle.pcapng_reader.specs.declared.place.Place.{Place}
 use Rattle.pcapng_reader.specs.declared.block.Block.{Block}
 use Rattle.pcapng_reader.specs.declared.content.Content.{Content}
 use Rattle.pcapng_reader.specs.declared.content.Content.TheVariants as content
 use Rattle.pcapng_reader.specs.declared.fault.NgFault.{NgFault}
-use Rattle.pcapng_reader.specs.declared.fault.NgFault.TheVariants as fault
 use Rattle.pcapng_reader.specs.Blocks.{block_at}
 
 -- before the first block there is no section, and nothing stands before it

@@ -1,6 +1,6 @@
 -- The bytes of a capture that is written: one little-endian section with one interface of Ethernet
 -- frames, and then enhanced packets at time 0.
-use Rattle.std.specs.Prelude.{◌≤◌, ℕ, ◌+◌, ◌-◌, false, List, [], ◌∷◌, ◌++◌, length, replicate, None}
+use Rattle.std.specs.Prelude.{ℕ, ◌+◌, ◌-◌, false, List, [], ◌∷◌, ◌++◌, length, replicate, None}
 use Rattle.std.specs.List.{flat_map}
 use Rattle.byteorder.specs.Endian.{little_bytes}
 use Rattle.pcap_reader.specs.declared.record.PcapRecord.{PcapRecord}
