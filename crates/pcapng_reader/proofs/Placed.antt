@@ -92,7 +92,7 @@ least_is_12 kind =
     ]
 
 -- what a length that fits its type tells
-is_len_tells : (kind len : ℕ) → is_len kind len ≡ true → 12 ≤ len
+pub is_len_tells : (kind len : ℕ) → is_len kind len ≡ true → 12 ≤ len
 is_len_tells kind len h = elim (eqb_tells (len % 4) 0) [
   | inl a ↦
       let least : least_len kind ≤ len = leb-true (least_len kind) len (rw a.0 at h) in
@@ -101,7 +101,7 @@ is_len_tells kind len h = elim (eqb_tells (len % 4) 0) [
   | inr a ↦ absurd (let e = rw a.0 at h in cc)
 ]
 
-not_false : (t : Bool) → not t ≡ false → t ≡ true
+pub not_false : (t : Bool) → not t ≡ false → t ≡ true
 not_false true h = refl
 not_false false h = absurd (cc)
 

@@ -107,8 +107,8 @@ unfolding u32_at
 written_tail f more few =
     let len = length f in
     let total = enhanced_len len in
-    let zeros = replicate (padded len - len) 0 in
-    let front = (enhanced_header len ++ f) ++ zeros in
+    let zeros : List ℕ = replicate (padded len - len) 0 in
+    let front : List ℕ = (enhanced_header len ++ f) ++ zeros in
     let total_fits : total < 256 ^ 4 = omega (arith, padded_bounds len) in
     let size : length front ≡ total - 4 =
     omega (

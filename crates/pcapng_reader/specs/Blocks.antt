@@ -27,8 +27,8 @@ total_len big block = u32_at big 4 block
 abbrev pub tail_len : Bool → List ℕ → ℕ
 tail_len big block = u32_at big (total_len big block - 4) block
 
--- a block of this byte order: its length fits its type, it is whole, it ends with its length, and it
--- tells what its type says
+-- a block of this byte order: its length fits its type, it is whole, it ends with its length, and
+-- it tells what its type says
 unfoldable pub block_in : Section → Place → Bool → List ℕ → Result (Option Block) NgFault
 block_in section place big rest =
     let len : ℕ = total_len big rest in
@@ -36,7 +36,9 @@ block_in section place big rest =
     if not (is_len kind len) then Err (fault.BadBlock place.block len)
     else if nat_lt (length rest) len then Ok None
     else if not (tail_len big rest == len) then Err (fault.BadTail place.block (tail_len big rest))
-    else and_then (λ content. Ok (Some (record { len = len; content = content }))) (content_at section place kind big len rest)
+    else
+    and_then (λ content. Ok (Some (record { len = len; content = content })))
+    (content_at section place kind big len rest)
 
 abbrev pub ordered : Section → Place → List ℕ → Option Bool → Result (Option Block) NgFault
 ordered section place rest None = Err (fault.BadOrder (u32_at false 8 rest))

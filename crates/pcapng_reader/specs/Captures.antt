@@ -1,4 +1,5 @@
--- The capture of a pcapng file's bytes, or its one fault, as a relation over the blocks of the file.
+-- The capture of a pcapng file's bytes, or its one fault, as a relation over the blocks of the
+-- file.
 use Rattle.std.specs.Prelude.{◌≡◌, ◌<◌, ℕ, ◌+◌, Bool, false, List, [], ◌∷◌, ◌++◌, length, take, drop, Option, Some, None, Result, Ok, Err}
 use Rattle.std.specs.List.{flat_map}
 use Rattle.pcap_reader.specs.declared.record.PcapRecord.{PcapRecord}
@@ -52,7 +53,8 @@ EndsWith section place rest (Ok (Some cut)) =
     (0 < length rest) × (block_at section place rest ≡ Ok None) × (cut ≡ length rest)
 EndsWith section place rest (Err e) = (0 < length rest) × (block_at section place rest ≡ Err e)
 
--- bytes that begin at this place, in this section, are these blocks one after another, and then this end
+-- bytes that begin at this place, in this section, are these blocks one after another, and then
+-- this end
 abbrev pub Reads : Section → Place → List ℕ → List Block → End → Type 0
 Reads section place bytes [] end = EndsWith section place bytes end
 Reads section place bytes (b ∷ bs) end =
@@ -78,7 +80,8 @@ abbrev pub first_order : List Block → Bool
 first_order [] = false
 first_order (b ∷ bs) = order_in b.content
 
--- a file's bytes have this capture: the packets of its blocks, and the bytes of a last block that is cut
+-- a file's bytes have this capture: the packets of its blocks, and the bytes of a last block that
+-- is cut
 pub record HasNgCapture (bytes : List ℕ) (capture : Capture) : Type 0 where
   pub begins : BeginsNg bytes
   pub blocks : List Block

@@ -75,14 +75,21 @@ unfoldable pub simple : Section → Place → ℕ → List ℕ → Result Conten
 simple section place len block =
     let orig : ℕ = u32_at section.big 8 block in
     let r : Interface → PcapRecord = λ interface.
-    record { sec = 0; frac = 0; start = place.start + 12; len = kept interface orig; orig = orig } in
+    record {
+      sec = 0;
+      frac = 0;
+      start = place.start + 12;
+      len = kept interface orig;
+      orig = orig;
+    } in
     and_then (λ interface. framed place len 12 (r interface)) (ethernet_of section place 0)
 
 -- what a whole block of this type, byte order and length tells
 unfoldable pub content_at : Section → Place → ℕ → Bool → ℕ → List ℕ → Result Content NgFault
 content_at section place kind big len block =
     if kind == 0x0a0d0d0a then
-    (if u16_at big 12 block == 1 then Ok (content.Section big) else Err (fault.BadMajor (u16_at big 12 block)))
+    (if u16_at big 12 block == 1 then Ok (content.Section big)
+    else Err (fault.BadMajor (u16_at big 12 block)))
     else if kind == 1 then
     Ok (content.Interface (record { link = u16_at big 8 block; snap = u32_at big 12 block }))
     else if kind == 6 then enhanced section place len block

@@ -14,4 +14,5 @@ pub record TakesIn (old : Reader) (b : Block) (new : Reader) : Type 0 where
 
 -- what was read, as the capture of a file that ends so
 abbrev pub capture_of : Reader → Option ℕ → Capture
-capture_of reader cut = record { big = reader.big; nano = false; records = reader.records; cut = cut }
+capture_of reader cut =
+    record { big = reader.big; nano = false; records = reader.records; cut = cut }

@@ -7,7 +7,8 @@ use Rattle.pcap_reader.specs.declared.record.PcapRecord.{PcapRecord}
 use Rattle.pcap_reader.specs.declared.capture.Capture.{Capture}
 use Rattle.pcapng_reader.specs.Contents.{padded}
 
--- a section header of version 1.0 and of no known length, and an interface that keeps 262144 bytes of a frame
+-- a section header of version 1.0 and of no known length, and an interface that keeps 262144 bytes
+-- of a frame
 unfoldable pub section_bytes : List ℕ
 section_bytes =
     0x0a ∷ 0x0d ∷ 0x0d ∷ 0x0a ∷ 28 ∷ 0 ∷ 0 ∷ 0 ∷ 0x4d ∷ 0x3c ∷ 0x2b ∷ 0x1a ∷ 1 ∷ 0 ∷ 0 ∷ 0
@@ -21,7 +22,8 @@ enhanced_len len = 32 + padded len
 -- the 28 bytes before a frame of this length: type, total length, interface 0, time 0, both lengths
 unfoldable pub enhanced_header : ℕ → List ℕ
 enhanced_header len =
-    (((little_bytes 4 6 ++ little_bytes 4 (enhanced_len len)) ++ replicate 12 0) ++ little_bytes 4 len) ++ little_bytes 4 len
+    (((little_bytes 4 6 ++ little_bytes 4 (enhanced_len len)) ++ replicate 12 0)
+    ++ little_bytes 4 len) ++ little_bytes 4 len
 
 -- the bytes behind it: the padding, and the total length again
 abbrev pub enhanced_tail : ℕ → List ℕ
@@ -43,4 +45,5 @@ records_from place (f ∷ fs) =
 
 -- the capture of frames, which ends behind the last of them
 abbrev pub ng_capture : List (List ℕ) → Capture
-ng_capture frames = record { big = false; nano = false; records = records_from 48 frames; cut = None }
+ng_capture frames =
+    record { big = false; nano = false; records = records_from 48 frames; cut = None }

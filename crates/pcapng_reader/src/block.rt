@@ -76,8 +76,8 @@ fn block_in(
     Ok(Some(Block { len, content }))
 }
 
-/// The block at the front of what is left of a file, which begins at this place, or `None` where the
-/// file ends within it.
+/// The block at the front of what is left of a file, which begins at this place, or `None` where
+/// the file ends within it.
 #[tactic(auto, unfolding(crate::specs::Blocks::block_at))]
 pub fn block_at(section: &Section, place: Place, rest: &[u8]) -> Result<Option<Block>, NgFault>
     requires { place.start + length rest.now < 2 ^ 64 }

@@ -8,10 +8,11 @@ use steer_base::OutOfMemory;
 /// records are counted from 0 over the whole file.
 #[derive(Clone, Copy, Debug, PartialEq, Eq)]
 pub enum NgFault {
-    /// A section header has a byte-order magic of neither order. It is shown as a little-endian number.
+    /// A section header has a byte-order magic of neither order. It is shown as a little-endian
+    /// number.
     BadOrder { magic: u32 },
-    /// The total length of a block, `len`, is no multiple of 4, or is below what a block of its type
-    /// has at the least, or leaves no room for the frame of its packet.
+    /// The total length of a block, `len`, is no multiple of 4, or is below what a block of its
+    /// type has at the least, or leaves no room for the frame of its packet.
     BadBlock { block: usize, len: u32 },
     /// The total length at the end of a block, `len`, is not the one at its beginning.
     BadTail { block: usize, len: u32 },

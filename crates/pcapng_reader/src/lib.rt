@@ -15,6 +15,6 @@ mod tests;
 mod write;
 
 pub use fault::NgFault;
-pub use laws::{frames_are_read_back, one_capture_or_fault};
+pub use laws::{a_block_is_four_pieces, frames_are_read_back, one_capture_or_fault};
 pub use read::{is_pcapng, read_ng};
 pub use write::{put_enhanced, put_section};

@@ -19,11 +19,11 @@ pub fn is_pcapng(bytes: &[u8]) -> bool
     matches!(bytes, [0x0a, 0x0d, 0x0d, 0x0a, ..])
 }
 
-/// Reads the bytes of a pcapng file of Ethernet frames, which begin with the type of a section header,
-/// `0a 0d 0d 0a`: several sections, of either byte order, with their interfaces, enhanced and simple
-/// packets; all other blocks are passed over. The fault is the first in the order of the file. The two
-/// words of a packet's time are its `sec` and `frac`, whatever the interface's unit is. Takes memory for
-/// the records and for the interfaces of a section.
+/// Reads the bytes of a pcapng file of Ethernet frames, which begin with the type of a section
+/// header, `0a 0d 0d 0a`: several sections, of either byte order, with their interfaces, enhanced
+/// and simple packets; all other blocks are passed over. The fault is the first in the order of the
+/// file. The two words of a packet's time are its `sec` and `frac`, whatever the interface's unit
+/// is. Takes memory for the records and for the interfaces of a section.
 pub fn read_ng(alloc: Global, bytes: &[u8]) -> Result<Capture, NgFault>
     requires { BeginsNg bytes.now }
 

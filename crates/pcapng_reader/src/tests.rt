@@ -1,7 +1,7 @@
 //! Files byte by byte, and what they are read as.
 use crate::{
-    NgFault, frames_are_read_back, is_pcapng, one_capture_or_fault, put_enhanced, put_section,
-    read_ng,
+    NgFault, a_block_is_four_pieces, frames_are_read_back, is_pcapng, one_capture_or_fault,
+    put_enhanced, put_section, read_ng,
 };
 use pcap_reader::{Capture, PcapRecord};
 use std::test::Fail;
@@ -112,8 +112,8 @@ fn writes_the_file_that_is_read(rt: HostRuntime) -> Result<(), Fail> {
 
 #[test]
 fn reads_sections_of_both_orders(rt: HostRuntime) -> Result<(), Fail> {
-    // A section with an option, two interfaces, a name resolution block, a packet of the second, and
-    // statistics; then a big-endian section with two simple packets; then one that keeps whole frames.
+    // A section with an option, two interfaces, a name resolution block, a packet of the second,
+    // and statistics; a big-endian section with two simple packets; one that keeps whole frames.
     let file = file_of(
         &rt,
         &[
@@ -306,5 +306,6 @@ fn counts_at_most_262144_packets(rt: HostRuntime) -> Result<(), Fail> {
 #[test]
 fn laws_may_be_called() {
     one_capture_or_fault();
+    a_block_is_four_pieces();
     frames_are_read_back();
 }

@@ -22,8 +22,8 @@ const ENHANCED_FIELDS: u32 = 32;
 /// What fills the last group of four bytes of a frame, at the most.
 const ZEROS: [u8; 3] = [0, 0, 0];
 
-/// Appends a section header and one interface, 48 bytes. Without memory `out` stays as it was; where it
-/// has room it takes none.
+/// Appends a section header and one interface, 48 bytes. Without memory `out` stays as it was;
+/// where it has room it takes none.
 #[tactic(auto, unfolding(crate::specs::Writing::section_bytes))]
 pub fn put_section(out: &mut Vec<u8>) -> Result<(), OutOfMemory>
     ensures ok { OnOk result (out.new.items ≡ out.old.items ++ section_bytes) }
@@ -34,9 +34,9 @@ pub fn put_section(out: &mut Vec<u8>) -> Result<(), OutOfMemory>
     Ok(())
 }
 
-/// Appends an enhanced packet of interface 0 at time 0, with the frame's length as both lengths, its
-/// bytes, and zeros that fill its last group of four. Without memory `out` stays as it was; where it
-/// has room it takes none.
+/// Appends an enhanced packet of interface 0 at time 0, with the frame's length as both lengths,
+/// its bytes, and zeros that fill its last group of four. Without memory `out` stays as it was;
+/// where it has room it takes none.
 pub fn put_enhanced(out: &mut Vec<u8>, frame: &[u8]) -> Result<(), OutOfMemory>
     requires { length frame.now ≤ 262144 }
     ensures ok { OnOk result (out.new.items ≡ out.old.items ++ enhanced_bytes frame.now) }

@@ -18,7 +18,8 @@ is_gre bytes =
     nat_le 4 (length bytes) && slice_index bytes 1 % 8 == 0 && slice_index bytes 0 / 64 % 2 == 0
     && nat_le (gre_header_len bytes) (length bytes)
 
--- the IP packet in bytes of this Ethernet type: the bytes themselves, or what a bridged frame carries
+-- the IP packet in bytes of this Ethernet type: the bytes themselves, or what a bridged frame
+-- carries
 unfoldable pub typed : ℕ → List ℕ → Option Carried
 typed kind bytes =
     if is_ip kind then carries kind bytes
@@ -28,4 +29,5 @@ typed kind bytes =
 -- the IP packet behind the header
 unfoldable pub gre_held : List ℕ → Option Carried
 gre_held bytes =
-    if is_gre bytes then typed (big_number 2 (drop 2 bytes)) (drop (gre_header_len bytes) bytes) else None
+    if is_gre bytes then typed (big_number 2 (drop 2 bytes)) (drop (gre_header_len bytes) bytes)
+    else None

@@ -4,11 +4,12 @@ use Rattle.byteorder.specs.Endian.{big_number}
 use Rattle.flow_dissector.specs.Carried.{Carried}
 use Rattle.flow_dissector.specs.Ethernet.{packet_in}
 
--- the segment begins with a whole UDP header to port 4789 and a whole VXLAN header, whose flag for a
--- valid network identifier, 0x08, is set
+-- the segment begins with a whole UDP header to port 4789 and a whole VXLAN header, whose flag for
+-- a valid network identifier, 0x08, is set
 unfoldable pub is_vxlan : List ℕ → Bool
 is_vxlan segment =
-    nat_le 16 (length segment) && big_number 2 (drop 2 segment) == 4789 && slice_index segment 8 / 8 % 2 == 1
+    nat_le 16 (length segment) && big_number 2 (drop 2 segment) == 4789
+    && slice_index segment 8 / 8 % 2 == 1
 
 -- the IP packet of the Ethernet frame behind both headers
 unfoldable pub vxlan_held : List ℕ → Option Carried

@@ -10,10 +10,14 @@ ethernet_header = 0x02 ∷ 0 ∷ 0 ∷ 0 ∷ 0 ∷ 0x02 ∷ 0x02 ∷ 0 ∷ 0 ∷
 abbrev pub folded : ℕ → ℕ
 folded sum = sum / 65536 + sum % 65536
 
--- the checksum of the header: what the one's complement sum of its other words lacks (RFC 1071)
+-- the sum of the header's words beside the checksum: the fixed ones, the length, the addresses
+abbrev pub header_sum : ℕ → ℕ → ℕ → ℕ
+header_sum total src dst =
+    0x4500 + 0x4011 + total + src / 65536 + src % 65536 + dst / 65536 + dst % 65536
+
+-- the checksum of the header: what that one's complement sum lacks (RFC 1071)
 abbrev pub header_checksum : ℕ → ℕ → ℕ → ℕ
-header_checksum total src dst =
-    65535 - folded (folded (0x4500 + 0x4011 + total + src / 65536 + src % 65536 + dst / 65536 + dst % 65536))
+header_checksum total src dst = 65535 - folded (folded (header_sum total src dst))
 
 -- 20 bytes with this total length: no fragment, a time to live of 64, UDP
 abbrev pub ipv4_header : ℕ → ℕ → ℕ → List ℕ
@@ -25,14 +29,16 @@ ipv4_header total src dst =
 abbrev pub udp_header : ℕ → List ℕ
 udp_header len = (0x04 ∷ 0x00 ∷ 0x12 ∷ 0xb5 ∷ []) ++ (big_bytes 2 len ++ (0 ∷ 0 ∷ []))
 
--- the flag of a valid network identifier, and the identifier in the upper 24 bits of the second word
+-- the flag of a valid network identifier, and the identifier in the upper 24 bits of the second
+-- word
 abbrev pub vxlan_header : ℕ → List ℕ
 vxlan_header vni = (0x08 ∷ 0 ∷ 0 ∷ 0 ∷ []) ++ big_bytes 4 (vni * 256)
 
 -- the 50 bytes before a frame of this length
 unfoldable pub vxlan_headers : ℕ → ℕ → ℕ → ℕ → List ℕ
 vxlan_headers src dst vni len =
-    ethernet_header ++ (ipv4_header (36 + len) src dst ++ (udp_header (16 + len) ++ vxlan_header vni))
+    ethernet_header
+    ++ (ipv4_header (36 + len) src dst ++ (udp_header (16 + len) ++ vxlan_header vni))
 
 abbrev pub vxlan_bytes : ℕ → ℕ → ℕ → List ℕ → List ℕ
 vxlan_bytes src dst vni frame = vxlan_headers src dst vni (length frame) ++ frame

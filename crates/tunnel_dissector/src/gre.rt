@@ -51,8 +51,8 @@ fn typed(kind: u16, bytes: &[u8]) -> Option<IpAt>
     }
 }
 
-/// Where the IP packet begins that is encapsulated in these bytes: an IP packet or an Ethernet frame
-/// behind a whole header.
+/// Where the IP packet begins that is encapsulated in these bytes: an IP packet or an Ethernet
+/// frame behind a whole header.
 #[tactic(auto, unfolding(crate::specs::Gre::is_gre, crate::specs::Gre::gre_held))]
 pub fn gre_held(bytes: &[u8]) -> Option<IpAt>
     ensures packet { option_map (packet_from bytes.now) result ≡ gre_held bytes.now }

@@ -7,6 +7,8 @@ mod inner;
 mod laws;
 mod level;
 mod place;
+#[cfg(test)]
+mod tests;
 mod vxlan;
 mod write;
 

@@ -17,8 +17,8 @@ const UDP_HEADER: usize = 8;
 
 const VXLAN_HEADER: usize = 8;
 
-/// Whether a UDP segment begins with whole headers, is sent to the port of VXLAN, and has the flag of a
-/// valid network identifier.
+/// Whether a UDP segment begins with whole headers, is sent to the port of VXLAN, and has the flag
+/// of a valid network identifier.
 #[tactic(auto, unfolding(crate::specs::Vxlan::is_vxlan))]
 fn is_vxlan(segment: &[u8]) -> bool
     ensures { result ≡ is_vxlan segment.now }

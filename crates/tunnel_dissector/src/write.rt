@@ -12,9 +12,9 @@ const IPV4_TO_VXLAN: u16 = 36;
 /// The bytes of a UDP header and a VXLAN header.
 const UDP_TO_VXLAN: u16 = 16;
 
-/// The headers before a frame, with zeros for the lengths, the checksum, the addresses and the network
-/// identifier: Ethernet, IPv4 without fragments and with a time to live of 64, UDP from port 1024 to
-/// 4789 without a checksum, and VXLAN.
+/// The headers before a frame, with zeros for the lengths, the checksum, the addresses and the
+/// network identifier: Ethernet, IPv4 without fragments and with a time to live of 64, UDP from
+/// port 1024 to 4789 without a checksum, and VXLAN.
 const HEADERS: [u8; 50] = [
     0x02, 0, 0, 0, 0, 0x02, 0x02, 0, 0, 0, 0, 0x01, 0x08, 0x00, // Ethernet
     0x45, 0, 0, 0, 0, 0, 0, 0, 64, 17, 0, 0, 0, 0, 0, 0, 0, 0, 0, 0, // IPv4
@@ -22,8 +22,8 @@ const HEADERS: [u8; 50] = [
     0x08, 0, 0, 0, 0, 0, 0, 0, // VXLAN
 ];
 
-/// Appends an Ethernet frame that carries this one in a VXLAN: from one IPv4 address to another, in the
-/// network `vni`. Without memory `out` stays as it was; where it has room it takes none.
+/// Appends an Ethernet frame that carries this one in a VXLAN: from one IPv4 address to another, in
+/// the network `vni`. Without memory `out` stays as it was; where it has room it takes none.
 pub fn put_vxlan(
     out: &mut Vec<u8>,
     src: u32,
