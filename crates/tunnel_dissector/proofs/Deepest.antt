@@ -1,13 +1,10 @@
 -- Entering the levels of a packet one by one.
-use Rattle.std.proofs.Common.{◌≡◌, ◌≤◌, ◌<◌, ℕ, zero, suc, ◌+◌, ◌-◌, List, drop, length, Option, Some, None, refl, sym, ap, ◌∙◌, arith, add_assoc}
-use Rattle.std.specs.Option.{option_map}
-use Rattle.flow_dissector.specs.declared.ethernet.IpAt.{IpAt}
+use Rattle.std.proofs.Common.{◌≡◌, ◌<◌, ℕ, zero, suc, ◌+◌, ◌-◌, List, Some, None, ap, ◌∙◌, arith}
 use Rattle.flow_dissector.specs.Carried.{Carried}
-use Rattle.flow_dissector.specs.Places.{packet_from}
 use Rattle.flow_dissector.specs.Frame.{ip_flow}
 use Rattle.tunnel_dissector.specs.declared.inner.Inner.{Inner}
 use Rattle.tunnel_dissector.specs.Levels.{entered}
-use Rattle.tunnel_dissector.specs.Inner.{above, deepest}
+use Rattle.tunnel_dissector.specs.Inner.{deepest}
 
 -- what was found so many levels below
 abbrev pub deeper : ℕ → Inner → Inner

@@ -1,18 +1,17 @@
 -- A frame in a VXLAN has the inner flow of that frame.
-use Rattle.std.proofs.Common.{◌≡◌, ◌≢◌, ◌≤◌, ◌<◌, ℕ, zero, suc, ◌+◌, ◌-◌, ◌*◌, ◌/◌, ◌%◌, Bool, true, false, cond, leb, ltb, eqb, List, [], ◌∷◌, ◌++◌, length, drop, slice_index, Option, Some, None, length-append, length-drop, refl, sym, ap, subst, ◌∙◌, arith, inl, inr}
+use Rattle.std.proofs.Common.{◌≡◌, ◌≢◌, ◌≤◌, ◌<◌, ℕ, zero, suc, ◌+◌, Bool, true, false, cond, leb, ltb, eqb, List, length, drop, Option, Some, None, length-append, length-drop, refl, sym, ap, ◌∙◌, arith, inl, inr}
 use Rattle.std.proofs.lemmas.Bool.{le-ltb, le-leb}
 use Rattle.std.proofs.lemmas.Bool.Decides.{eqb_tells}
 use Rattle.std.specs.Option.{option_map, option_and_then}
-use Rattle.byteorder.specs.Endian.{big_number}
 use Rattle.steer_base.specs.declared.flow.Flow.{Flow}
 use Rattle.steer_base.specs.declared.flow.Flow.TheVariants.{Bare, Two, Four}
 use Rattle.steer_base.specs.declared.flow.Pair.{Pair}
 use Rattle.steer_base.specs.declared.flow.Proto.{Proto}
 use Rattle.steer_base.specs.declared.flow.Proto.TheVariants.{Tcp, Udp}
 use Rattle.flow_dissector.specs.Carried.{Carried, carries}
-use Rattle.flow_dissector.specs.Ethernet.{is_tag, is_ip, after_tags, only_ip, packet_in}
+use Rattle.flow_dissector.specs.Ethernet.{after_tags, packet_in}
 use Rattle.flow_dissector.specs.Ports.{flow_with_ports, flow_between}
-use Rattle.flow_dissector.specs.Ipv4.{ipv4_header_len, is_ipv4, is_ipv4_fragment, ipv4_pair, ipv4_payload, ipv4_flow}
+use Rattle.flow_dissector.specs.Ipv4.{is_ipv4, ipv4_pair, ipv4_payload, ipv4_flow}
 use Rattle.flow_dissector.specs.Ipv6.{is_ipv6, ipv6_pair, ipv6_payload, ipv6_flow}
 use Rattle.flow_dissector.specs.Frame.{payload_in, ip_flow}
 use Rattle.tunnel_dissector.specs.declared.inner.Inner.{Inner}

@@ -1,5 +1,5 @@
 -- What holds of frames in tunnels.
-use Rattle.std.specs.Prelude.{◌≡◌, ◌≢◌, ◌<◌, ◌≤◌, ℕ, ◌+◌, List, length}
+use Rattle.std.specs.Prelude.{◌≡◌, ◌≢◌, ◌<◌, ◌≤◌, ℕ, ◌+◌, List}
 use Rattle.steer_base.specs.declared.flow.Flow.TheVariants.{Bare}
 use Rattle.tunnel_dissector.specs.Inner.{inner_of}
 use Rattle.tunnel_dissector.specs.Writing.{vxlan_bytes}

@@ -80,19 +80,19 @@ fn enters_each_kind_of_tunnel(rt: HostRuntime) -> Result<(), Fail> {
 #[test]
 fn reads_the_header_of_gre(rt: HostRuntime) -> Result<(), Fail> {
     // Flags and type, options, and whether a level is entered.
-    let cases: [([u8; 4], &[u8], bool); 12] = [
-        ([0, 0, 8, 0], &[], true),
-        ([0x80, 0, 8, 0], &[9; 4], true),
-        ([0x20, 0, 8, 0], &[9; 4], true),
-        ([0x10, 0, 8, 0], &[9; 4], true),
-        ([0xb0, 0, 8, 0], &[9; 12], true),
-        ([0x0f, 0xf8, 8, 0], &[], true),
-        ([0x80, 0, 8, 0], &[], false),
-        ([0, 1, 8, 0], &[], false),
-        ([0x40, 0, 8, 0], &[], false),
-        ([0, 0, 0x86, 0xdd], &[], false),
-        ([0, 0, 0x65, 0x58], &ETHERNET, true),
-        ([0, 0, 0x65, 0x58], &[], false),
+    let cases: [(&[u8], &[u8], bool); 12] = [
+        (&[0, 0, 8, 0], &[], true),
+        (&[0x80, 0, 8, 0], &[9; 4], true),
+        (&[0x20, 0, 8, 0], &[9; 4], true),
+        (&[0x10, 0, 8, 0], &[9; 4], true),
+        (&[0xb0, 0, 8, 0], &[9; 12], true),
+        (&[0x0f, 0xf8, 8, 0], &[], true),
+        (&[0x80, 0, 8, 0], &[], false),
+        (&[0, 1, 8, 0], &[], false),
+        (&[0x40, 0, 8, 0], &[], false),
+        (&[0, 0, 0x86, 0xdd], &[], false),
+        (&[0, 0, 0x65, 0x58], &ETHERNET, true),
+        (&[0, 0, 0x65, 0x58], &[], false),
     ];
     for (i, (header, options, enters)) in cases.iter().enumerate() {
         let want = if *enters { (tcp(), 1) } else { (outer(), 0) };
@@ -180,9 +180,9 @@ fn sums_up_the_header_that_it_puts(rt: HostRuntime) -> Result<(), Fail> {
         for i in 7..17usize {
             let high = u32::from(tunnel[2 * i]);
             let low = u32::from(tunnel[2 * i + 1]);
-            sum = (sum + high * 256 + low) % 65_535;
+            sum = sum.wrapping_add(high * 256 + low);
         }
-        assert_eq!(rt; sum, 0, "{address}");
+        assert_eq!(rt; sum % 65_535, 0, "{address}");
     }
     Ok(())
 }

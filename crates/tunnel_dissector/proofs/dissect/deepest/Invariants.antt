@@ -1,4 +1,4 @@
-use Rattle.std.proofs.Common.{◌≡◌, ◌≤◌, ◌+◌, ◌-◌, IsTrue}
+use Rattle.std.proofs.Common.{◌≤◌, ◌-◌, IsTrue}
 use Rattle.flow_dissector.specs.Ethernet.{is_ip}
 use Rattle.tunnel_dissector.proofs.Deepest.{Entered}
 use Rattle.tunnel_dissector.proofs.dissect.deepest.Given as goal
