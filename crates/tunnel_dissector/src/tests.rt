@@ -21,6 +21,11 @@ const SIX: [u8; 40] = [
     0, 0, 0, 0, 0, 0, 0, 0, 0, 2,
 ];
 
+/// An IPv4 header before GRE, from 10.0.0.1 to 10.0.0.2.
+const GRE: [u8; 20] = [
+    0x45, 0, 0, 0, 0, 0, 0, 0, 64, 47, 0, 0, 10, 0, 0, 1, 10, 0, 0, 2,
+];
+
 /// An IPv4 header with this protocol, from 10.0.0.1 to 10.0.0.2.
 fn ipv4(proto: u8) -> [u8; 20] {
     [
@@ -79,27 +84,34 @@ fn enters_each_kind_of_tunnel(rt: HostRuntime) -> Result<(), Fail> {
 
 #[test]
 fn reads_the_header_of_gre(rt: HostRuntime) -> Result<(), Fail> {
-    // Flags and type, options, and whether a level is entered.
-    let cases: [(&[u8], &[u8], bool); 12] = [
-        (&[0, 0, 8, 0], &[], true),
-        (&[0x80, 0, 8, 0], &[9; 4], true),
-        (&[0x20, 0, 8, 0], &[9; 4], true),
-        (&[0x10, 0, 8, 0], &[9; 4], true),
-        (&[0xb0, 0, 8, 0], &[9; 12], true),
-        (&[0x0f, 0xf8, 8, 0], &[], true),
-        (&[0x80, 0, 8, 0], &[], false),
-        (&[0, 1, 8, 0], &[], false),
-        (&[0x40, 0, 8, 0], &[], false),
-        (&[0, 0, 0x86, 0xdd], &[], false),
-        (&[0, 0, 0x65, 0x58], &ETHERNET, true),
-        (&[0, 0, 0x65, 0x58], &[], false),
+    // A header with its options, or with what stands between it and the packet.
+    let entered = (tcp(), 1);
+    let passed = (outer(), 0);
+    let cases: [(&[u8], (Flow, u8)); 12] = [
+        (&[0, 0, 8, 0], entered),
+        (&[0x80, 0, 8, 0, 9, 9, 9, 9], entered),
+        (&[0x20, 0, 8, 0, 9, 9, 9, 9], entered),
+        (&[0x10, 0, 8, 0, 9, 9, 9, 9], entered),
+        (
+            &[0xb0, 0, 8, 0, 9, 9, 9, 9, 9, 9, 9, 9, 9, 9, 9, 9],
+            entered,
+        ),
+        (&[0x0f, 0xf8, 8, 0], entered),
+        (&[0x80, 0, 8, 0], passed),
+        (&[0, 1, 8, 0], passed),
+        (&[0x40, 0, 8, 0], passed),
+        (&[0, 0, 0x86, 0xdd], passed),
+        (
+            &[0, 0, 0x65, 0x58, 2, 0, 0, 0, 0, 2, 2, 0, 0, 0, 0, 1, 8, 0],
+            entered,
+        ),
+        (&[0, 0, 0x65, 0x58], passed),
     ];
-    for (i, (header, options, enters)) in cases.iter().enumerate() {
-        let want = if *enters { (tcp(), 1) } else { (outer(), 0) };
-        let got = inner_of(&rt, &[&ETHERNET, &ipv4(47), header, options, &TCP])?;
-        assert_eq!(rt; got, want, "case {i}");
+    for (i, (header, want)) in cases.iter().enumerate() {
+        let got = inner_of(&rt, &[&ETHERNET, &GRE, header, &TCP])?;
+        assert_eq!(rt; got, *want, "case {i}");
     }
-    let got = inner_of(&rt, &[&ETHERNET, &ipv4(47), &[0xb0, 0, 8, 0], &[9; 11]])?;
+    let got = inner_of(&rt, &[&ETHERNET, &GRE, &[0xb0, 0, 8, 0], &[9; 11]])?;
     assert_eq!(rt; got, (outer(), 0), "a header that is cut");
     Ok(())
 }
