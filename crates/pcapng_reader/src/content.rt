@@ -32,6 +32,12 @@ const MAX_FRAME: u32 = 262_144;
 /// The most packets that a capture may have.
 const MAX_PACKETS: u32 = 262_144;
 
+/// Where the frame of an enhanced packet begins in its block.
+const ENHANCED_FRAME: u32 = 28;
+
+/// Where the frame of a simple packet begins in its block.
+const SIMPLE_FRAME: u32 = 12;
+
 /// The bytes of a block's second total length.
 const TAIL: u32 = 4;
 
@@ -133,11 +139,11 @@ fn enhanced(section: &Section, place: Place, len: u32, block: &[u8]) -> Result<C
     let packet = PcapRecord {
         sec: u32_at(big, 12, block),
         frac: u32_at(big, 16, block),
-        start: place.start + 28,
+        start: place.start + ENHANCED_FRAME as usize,
         len: u32_at(big, 20, block),
         orig: u32_at(big, 24, block),
     };
-    framed(place, len, 28, packet)
+    framed(place, len, ENHANCED_FRAME, packet)
 }
 
 /// What a simple packet block tells. Its interface is the section's first.
@@ -158,11 +164,11 @@ fn simple(section: &Section, place: Place, len: u32, block: &[u8]) -> Result<Con
     let packet = PcapRecord {
         sec: 0,
         frac: 0,
-        start: place.start + 12,
+        start: place.start + SIMPLE_FRAME as usize,
         len: kept,
         orig,
     };
-    framed(place, len, 12, packet)
+    framed(place, len, SIMPLE_FRAME, packet)
 }
 
 /// What a whole block of this type tells, where `big` is its byte order and `len` its total length.
