@@ -4,9 +4,8 @@ ghost use Rattle.std.specs.List.{range_with_len};
 ghost use Rattle.history.specs.Counted.{IsCounted};
 
 use crate::history::History;
-use crate::items::Items;
 use std::alloc::Global;
-use steer_base::{OutOfMemory, RxQueue};
+use steer_base::{List, OutOfMemory, RxQueue};
 
 /// How many packets arrived at each queue, and whether each packet was taken.
 #[derive(Drop)]
@@ -33,7 +32,7 @@ impl Counted {
 }
 
 // Counts an arrival at its queue, where there is one, and tells whether it is among those that were taken there.
-fn note_arrival(arrived: &mut Vec<u32>, taken: &Items<u32>, queue: RxQueue) -> bool
+fn note_arrival(arrived: &mut Vec<u32>, taken: &List<u32>, queue: RxQueue) -> bool
     requires queues { length arrived.old.items ≡ length taken.now }
     requires room { slice_index arrived.old.items queue + 1 < 2 ^ 32 }
     ensures count { arrived.new.items ≡ slice_set arrived.old.items queue (slice_index arrived.old.items queue + 1) }

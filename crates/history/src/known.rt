@@ -14,14 +14,13 @@ use crate::history::History;
 use crate::index::{
     Index, index_accepted, index_choices, index_drops, index_list, index_places, index_sent,
 };
-use crate::items::Items;
 use crate::lane_list::LaneList;
 use crate::packet_line::{PacketLine, Via};
 use crate::place::Place;
 use crate::reply_line::ReplyLine;
 use crate::sent::Sent;
 use std::alloc::Global;
-use steer_base::{AppId, Choice, Cpu, OutOfMemory, Packet, PacketId, Put, app_of};
+use steer_base::{AppId, Choice, Cpu, List, OutOfMemory, Packet, PacketId, Put, app_of};
 
 /// An index by packet for each kind of list.
 #[derive(Drop)]
@@ -220,7 +219,7 @@ fn lane_of(choice: Option<Choice>) -> Option<u8>
 }
 
 // The processor of a packet, where its place among the accepted ones there is among those that were pulled.
-fn pulled_at(lanes: &Items<LaneList>, cpu: Option<u8>, accepted: Option<u32>) -> Option<u8>
+fn pulled_at(lanes: &List<LaneList>, cpu: Option<u8>, accepted: Option<u32>) -> Option<u8>
     ensures { result ≡ pulled_by lanes.now cpu accepted }
 {
     let (Some(cpu), Some(place)) = (cpu, accepted) else {
