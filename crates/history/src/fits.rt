@@ -112,8 +112,9 @@ fn tell_lanes(lanes: &List<LaneList>)
 }
 
 impl History {
-    /// Tells that the numbers of a history are within the types of its fields, as those of every history that a program
-    /// holds are. It changes nothing and walks the lists once; it need never be called.
+    /// Tells that the numbers of a history are within the types of its fields, as those of every
+    /// history that a program holds are. It changes nothing and walks the lists once; it need never
+    /// be called.
     pub fn numbers_fit(&self)
         ensures { HistoryFits self.now }
     {

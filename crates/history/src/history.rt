@@ -60,9 +60,10 @@ impl History {
         false
     }
 
-    /// The place of a packet that arrived: the first that holds of dropped, in an inbox, pulled, accepted, and taken from
-    /// the ring. Where several lanes or inboxes have it, which is never so in a regular history, it is at the one with
-    /// the least number. It takes no memory, and walks the lists once.
+    /// The place of a packet that arrived: the first that holds of dropped, in an inbox, pulled,
+    /// accepted, and taken from the ring. Where several lanes or inboxes have it, which is never so
+    /// in a regular history, it is at the one with the least number. It takes no memory, and walks
+    /// the lists once.
     pub fn place(&self, id: PacketId) -> Place
         requires arrived { IsTrue (has_arrived self.now id) }
         requires in_reach { IsInReach self.now id }
@@ -151,7 +152,7 @@ impl History {
         RxQueue(0)
     }
 
-    // Whether a packet is among so many first arrivals of a queue.
+    // Whether a packet is among the first `count` arrivals of a queue.
     fn has_among_arrivals(&self, queue: RxQueue, count: u32, id: PacketId) -> bool
         ensures { result ≡ is_among count id (arrivals_at self.now.arrivals queue) }
     {

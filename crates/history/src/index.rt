@@ -28,7 +28,7 @@ impl<T> Model for Index<T> {
 }
 
 impl<T: Copy> Index<T> {
-    // So many empty slots.
+    // `count` empty slots.
     pub(crate) fn empty(alloc: Global, count: usize) -> Result<Index<T>, OutOfMemory>
         ensures { IfOk result (λ i. i ≡ replicate count None) }
     {
@@ -179,7 +179,9 @@ pub(crate) fn index_drops(
 
 pub(crate) fn note_drops(index: &mut Index<Put>, list: &List<LaneDrop>)
     requires { length list.now < 2 ^ 32 }
-    ensures { index.new ≡ noted_by (λ d. d.id) (λ i d. dropped (i + 1) d.accepted d.pulled d.cause) 0 index.old list.now }
+    ensures { index.new
+        ≡ noted_by (λ d. d.id)
+        (λ i d. dropped (i + 1) d.accepted d.pulled d.cause) 0 index.old list.now }
 {
     for (i, fallen) in list.as_slice().iter().enumerate() {
         let put = Put::Dropped {

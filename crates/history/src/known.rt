@@ -69,7 +69,9 @@ pub(crate) fn packet_lines(
     requires apps { 1 ≤ apps }
     requires few { length packets.now ≤ 262144 }
     requires taken { taken.now ≡ map (was_taken h.now) (range_with_len 0 (length h.now.arrivals)) }
-    ensures { IfOk result (λ v. v.items ≡ map (line_of_packet packets.now apps h.now) (range_with_len 0 (length h.now.arrivals))) }
+    ensures { IfOk result
+        (λ v. v.items
+        ≡ map (line_of_packet packets.now apps h.now) (range_with_len 0 (length h.now.arrivals))) }
 {
     let mut lines = Vec::with_capacity(alloc, taken.len())?;
     for (x, taken) in taken.iter().enumerate() {
@@ -92,7 +94,9 @@ pub(crate) fn reply_lines(
     requires apps { 1 ≤ apps }
     requires packets { length h.now.arrivals ≤ length packets.now }
     requires few { length packets.now ≤ 262144 }
-    ensures { IfOk result (λ v. v.items ≡ map (line_of_reply packets.now apps h.now) (range_with_len 0 (length h.now.arrivals))) }
+    ensures { IfOk result
+        (λ v. v.items
+        ≡ map (line_of_reply packets.now apps h.now) (range_with_len 0 (length h.now.arrivals))) }
 {
     let count = h.arrivals.len();
     let mut lines = Vec::with_capacity(alloc, count)?;
@@ -218,7 +222,8 @@ fn lane_of(choice: Option<Choice>) -> Option<u8>
     Some(choice?.lane)
 }
 
-// The processor of a packet, where its place among the accepted ones there is among those that were pulled.
+// The processor of a packet, where its place among the accepted ones there is among those that were
+// pulled.
 fn pulled_at(lanes: &List<LaneList>, cpu: Option<u8>, accepted: Option<u32>) -> Option<u8>
     ensures { result ≡ pulled_by lanes.now cpu accepted }
 {
@@ -242,7 +247,8 @@ fn position_of(start: u32, place: Option<u32>) -> Option<u32>
 
 // The position of an accepted packet, or else its drop.
 pub(crate) fn put_of(start: u32, accepted: Option<u32>, dropped: Option<Put>) -> Option<Put>
-    ensures { result ≡ option_or (option_map (λ n. at_position n) (option_map (number start) accepted)) dropped }
+    ensures { result
+        ≡ option_or (option_map (λ n. at_position n) (option_map (number start) accepted)) dropped }
 {
     match position_of(start, accepted) {
         Some(position) => Some(Put::At(position)),

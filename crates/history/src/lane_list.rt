@@ -6,7 +6,8 @@ ghost use Rattle.history.specs.Lists.{drop_ids};
 use crate::finding::{has_packet, has_packet_among};
 use steer_base::{LaneDrop, List, PacketId};
 
-/// The backlog of a processor, or a transmit queue: its packets in the order of their puts, and how far they came.
+/// The backlog of a processor, or a transmit queue: its packets in the order of their puts, and how
+/// far they came.
 #[derive(Debug, Drop)]
 pub struct LaneList {
     /// The packets that were accepted, in order: the n-th, from 1, has the position n.

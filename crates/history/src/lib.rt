@@ -1,4 +1,5 @@
-//! The history of a run as lists, the place of each packet, and the lines that a report shows of it.
+//! The history of a run as lists, the place of each packet, and the lines that a report shows of
+//! it.
 #![tactic(auto)]
 
 mod arrival;

@@ -1,4 +1,5 @@
-//! Histories written by hand, with the places and the line fields that a report shows of them, and which are regular.
+//! Histories written by hand, with the places and the line fields that a report shows of them, and
+//! which are regular.
 ghost use Rattle.std.specs.Prelude.{◌≤◌, length};
 ghost use Rattle.history.specs.Places.{IsInReach};
 
@@ -79,7 +80,7 @@ fn arrivals(rt: &impl Abort, alloc: Global, queues: &[u8]) -> List<Arrival> {
     List::from_vec(arrivals)
 }
 
-// A history with these arrivals, of which queue 0 took so many, these lanes and one inbox.
+// A history with these arrivals, of which queue 0 took `taken`, these lanes and one inbox.
 fn history(
     rt: &impl Abort,
     alloc: Global,
@@ -259,8 +260,8 @@ fn positions_and_drops(rt: HostRuntime) {
     );
 }
 
-// A lane under the flow limit: 151 packets of a flow were accepted, and then the next 49 dropped and one of another
-// flow accepted.
+// A lane under the flow limit: 151 packets of a flow were accepted, and then the next 49 dropped
+// and one of another flow accepted.
 fn limited_lane(rt: &impl Abort, alloc: Global) -> LaneList {
     let mut accepted = Vec::new(alloc);
     let mut drops = Vec::new(alloc);
