@@ -324,12 +324,12 @@ sizes-stay s t e is = rw is (Sizes-happens s e)
 -- parts that are made one by one
 pub are_new : (shape : HopShape) → (arrivals : Journals ℕ) (taken : List ℕ) (choices : Journals Chosen)
     (placed since : List ℕ) (visits : List Bool) (counts : List ℕ) (tables : FlowTables) (lanes : LaneTable)
-    (delivered retired : List ℕ) (outs : Journals ℕ)
+    (delivered retired : List ℕ) (outs : Journals ℕ) (inside : ℕ) (closed : Bool)
     → arrivals ≡ new_journals shape.producers shape.room → taken ≡ replicate shape.producers 0 → choices ≡ new_journals shape.producers shape.room
     → placed ≡ replicate shape.producers 0 → since ≡ replicate shape.producers 0 → visits ≡ replicate (shape.producers + shape.guests) false
     → counts ≡ map (classes_for shape.exact) shape.counts.items → tables ≡ new_tables shape.counts.items shape.start shape.exact
     → lanes ≡ new_lanes shape.lanes shape.limit shape.room shape.start shape.limited → delivered ≡ replicate shape.lanes 0
-    → retired ≡ replicate shape.lanes 0 → outs ≡ new_journals shape.outs shape.room
+    → retired ≡ replicate shape.lanes 0 → outs ≡ new_journals shape.outs shape.room → inside ≡ 0 → closed ≡ false
     → record {
       arrivals = arrivals;
       taken = taken;
@@ -343,11 +343,11 @@ pub are_new : (shape : HopShape) → (arrivals : Journals ℕ) (taken : List ℕ
       delivered = delivered;
       retired = retired;
       outs = outs;
-      inside = 0;
-      closed = false;
+      inside = inside;
+      closed = closed;
     } ≡ new_parts shape
-are_new shape arrivals taken choices placed since visits counts tables lanes delivered retired outs a b c d e f g h i j k l =
-    rw (a, b, c, d, e, f, g, h, i, j, k, l) refl
+are_new shape arrivals taken choices placed since visits counts tables lanes delivered retired outs inside closed a b c d e f g h i j k l m n =
+    rw (a, b, c, d, e, f, g, h, i, j, k, l, m, n) refl
 
 pub whole-made : (shape : HopShape) → IsShape shape → (h : HopParts) → h ≡ new_parts shape → IsWhole h × (state_of h ≡ new_hop shape)
 whole-made shape is h new = (subst IsWhole (sym new) (whole-new shape is), ap state_of new ∙ state_of-new shape is)

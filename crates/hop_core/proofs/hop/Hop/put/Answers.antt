@@ -1,5 +1,5 @@
 use Rattle.std.proofs.Common.{◌≡◌, sym, ◌∙◌}
-use Rattle.hop_core.specs.View.{HopParts}
+use Rattle.hop_core.specs.View.{HopParts, parts_of}
 use Rattle.hop_core.proofs.TableSteps.{IsClassOf-in_hand, IsSet-in_hand}
 use Rattle.hop_core.proofs.Wholes.{fits-put, put_finds, read-visit, state_of-put_enabled, whole-put}
 use Rattle.hop_core.proofs.hop.Hop.put.Goals as goal
@@ -42,22 +42,7 @@ invariant_of-self c =
 pub returns-clause-state : goal.returns-clause-state
 returns-clause-state c =
     let i = c.self.inside in
-    let h : HopParts = record {
-      arrivals = i.arrivals;
-      taken = i.taken.items;
-      choices = i.choices;
-      placed = i.placed.items;
-      since = i.since.items;
-      visits = i.visits.items;
-      counts = i.counts.items;
-      tables = i.tables;
-      lanes = i.lanes;
-      delivered = i.delivered.items;
-      retired = i.retired.items;
-      outs = i.outs;
-      inside = i.inside;
-      closed = i.closed;
-    } in
+    let h : HopParts = parts_of i.rings i.counts.items i.tables i.lanes i.hands i.outs i.gate in
     let w = c.self.invariant in
     let named = rw (← c.self.view_is) at c.requires.producer in
     let found = put_finds _ c.args.p c.index-placed.result.now c.len_of.result c.get-chosen.result w named c.index-placed.ensures c.len_of.ensures.len
