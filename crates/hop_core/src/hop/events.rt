@@ -108,10 +108,9 @@ impl Hop {
             return HopAnswer::Idle(Idle::NotInside);
         }
         let placed = self.rings.placed[p as usize];
-        if placed >= self.rings.choices.len_of(p) {
+        let Some(chosen) = self.to_put(p) else {
             return HopAnswer::Idle(Idle::WrongStage);
-        }
-        let chosen = self.rings.choices.get(p, placed);
+        };
         let went = self.lanes.put(chosen.choice.lane, chosen.id, hash);
         self.rings.placed[p as usize] = placed + 1;
         self.tables.note(p, chosen.choice.class, went);
