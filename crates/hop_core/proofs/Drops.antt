@@ -155,14 +155,14 @@ room-put s p h more c =
     (λ i j x y e. (h.places.once c c i j x y e).1) (λ i j x y e. (h.places.fell_once c c i j x y e).1)
     (λ i j x y. h.places.never_both c c i j x y)
 
-no_flow_cause : (limit waiting : ℕ) (offers : List (Option ℕ)) (bucket : Option ℕ) → over_flow_limit false limit waiting offers bucket ≡ None
-no_flow_cause limit waiting offers None = refl
-no_flow_cause limit waiting offers (Some b) = refl
+no_flow_cause : (limit waiting : ℕ) (count : Option ℕ) → over_flow_limit false limit waiting count ≡ None
+no_flow_cause limit waiting None = refl
+no_flow_cause limit waiting (Some count) = refl
 
 no_cause : (limited : Bool) (limit waiting : ℕ) (offers : List (Option ℕ)) (hash : Option ℕ) → limited ≡ false → waiting < limit
     → drop_cause limited limit waiting offers hash ≡ None
 no_cause limited limit waiting offers hash off less =
-    rw (ne_eqb waiting limit (λ e. omega arith), off) (no_flow_cause limit waiting offers (bucket_of hash))
+    rw (ne_eqb waiting limit (λ e. omega arith), off) (no_flow_cause limit waiting _)
 
 ample-landed : (s : HopState) (p : ℕ) (cause : Option DropCause) (bucket : Option ℕ) → cause ≡ None → Ample s → (c : ℕ) → drops_at (put_as s p cause bucket).bare c ≡ []
 ample-landed s p None bucket is a = a.none

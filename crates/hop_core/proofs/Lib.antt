@@ -1,6 +1,7 @@
 pub mod AllSteps
 pub mod Alone
 pub mod Apart
+pub mod Asked
 pub mod Cases
 pub mod Choices
 pub mod Drops
@@ -15,8 +16,10 @@ pub mod Gathered
 pub mod KeptHeads
 pub mod LaneSteps
 pub mod LaneTables
+pub mod Leaves
 pub mod Lists
 pub mod New
+pub mod NothingLost
 pub mod Order
 pub mod Pairs
 pub mod ProducerSteps

@@ -7,6 +7,7 @@ mod journals;
 mod lanes;
 mod laws;
 mod shape;
+mod state_laws;
 mod tables;
 
 pub use event::{HopAnswer, HopEvent};
@@ -20,3 +21,4 @@ pub use laws::{
     work_goes_on_and_is_bounded,
 };
 pub use shape::HopShape;
+pub use state_laws::{each_event_leaves_the_rest, nothing_is_lost};
