@@ -2,7 +2,7 @@
 ghost use Rattle.std.specs.Prelude.{◌≡◌, ℕ, ◌+◌, ◌<◌, ◌≤◌, false, length, IfOk, map, replicate};
 ghost use Rattle.std.specs.List.{All};
 ghost use Rattle.hop_core.specs.Events.{MayAsk, happens};
-ghost use Rattle.hop_core.specs.Journals.{new_journals};
+ghost use Rattle.steer_base.specs.Journals.{new_journals};
 ghost use Rattle.hop_core.specs.Reads.{FitsRoom};
 ghost use Rattle.hop_core.specs.Shape.{classes_for, most_classes, new_hop};
 ghost use Rattle.hop_core.specs.Sizes.{SameSizes};
@@ -13,13 +13,12 @@ mod readers;
 #[cfg(test)]
 mod tests;
 
-use crate::journals::Journals;
 use crate::lanes::Lanes;
 use crate::tables::Tables;
 use crate::{HopAnswer, HopEvent, HopShape};
 use std::alloc::Global;
 use std::marker::Model;
-use steer_base::{Chosen, OutOfMemory, PacketId, round_up};
+use steer_base::{Chosen, Journals, OutOfMemory, PacketId, round_up};
 
 /// One steered hop: in the receive direction from the queues over the processors' backlogs to the applications'
 /// inboxes, in the transmit direction from the applications over the transmit queues to the port.
