@@ -29,7 +29,7 @@ use Rattle.hop_core.proofs.AllSteps.{Sound-happens}
 
 -- ---- the lane that is put to, and the others
 
-lane-landed : (f : Fixed) (b : Bare) (cause : Option DropCause) (c x : ℕ) (bucket : Option ℕ) → c < length b.accepted
+pub lane-landed : (f : Fixed) (b : Bare) (cause : Option DropCause) (c x : ℕ) (bucket : Option ℕ) → c < length b.accepted
     → length b.offers ≡ length b.accepted → length b.drops ≡ length b.accepted
     → lane_of f (landed cause b c x bucket) c ≡ put_by cause (lane_of f b c) x bucket
 lane-landed f b None c x bucket in' offers drops =
@@ -42,7 +42,7 @@ lane-landed f b (Some cause) c x bucket in' offers drops =
     let o = (Changed-set b.offers c (offers_at b c ++ bucket ∷ []) [] (omega arith)).here in
     rw (d, o) refl
 
-lane-other : (f : Fixed) (b : Bare) (cause : Option DropCause) (c x : ℕ) (bucket : Option ℕ) → c < length b.accepted
+pub lane-other : (f : Fixed) (b : Bare) (cause : Option DropCause) (c x : ℕ) (bucket : Option ℕ) → c < length b.accepted
     → length b.offers ≡ length b.accepted → length b.drops ≡ length b.accepted
     → (d : ℕ) → d ≢ c → lane_of f (landed cause b c x bucket) d ≡ lane_of f b d
 lane-other f b None c x bucket in' offers drops d ne =

@@ -2,6 +2,7 @@ pub mod AllSteps
 pub mod Alone
 pub mod Apart
 pub mod Asked
+pub mod BareEvents
 pub mod Cases
 pub mod Choices
 pub mod Drops
@@ -25,6 +26,8 @@ pub mod ProducerSteps
 pub mod PutSteps
 pub mod Puts
 pub mod Rooms
+pub mod Settled
+pub mod SettledParts
 pub mod Sizes
 pub mod Sound
 pub mod Standing
