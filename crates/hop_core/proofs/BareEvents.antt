@@ -12,12 +12,11 @@ use Rattle.backlog.specs.Rising.{AreRising}
 use Rattle.backlog.proofs.RisingLemmas.{AreRising-new, AreRising-put, AreRising-take}
 use Rattle.hop_core.specs.declared.event.HopEvent.{HopEvent}
 use Rattle.hop_core.specs.declared.event.HopEvent.TheVariants as event
-use Rattle.hop_core.specs.declared.shape.HopShape.{HopShape}
-use Rattle.hop_core.specs.BareEvents.{BareEvent, BareKeepsLanes, EachIsBare, EachKeepsDropsRising, EachLaneIsItsOwn, HasLanes, MayBe, NewDropsRise, SoundHasLanes, bare_after, bare_event, lane_after}
+use Rattle.hop_core.specs.BareEvents.{BareEvent, BareKeepsLanes, EachIsBare, EachKeepsDropsRising, EachLaneIsItsOwn, HasLanes, MayBe, FreshDropsRise, SoundHasLanes, bare_after, bare_event, lane_after}
 use Rattle.hop_core.specs.BareEvents as bare
 use Rattle.hop_core.specs.Events.{MayAsk, happens}
 use Rattle.hop_core.specs.Hop.{Bare, Fixed, HopState, accepted_at, drops_at, lane_of, landed, offers_at, placed_of, pull_at, pulled_at, put_at}
-use Rattle.hop_core.specs.Shape.{new_hop}
+use Rattle.hop_core.specs.Shape.{fresh_hop}
 use Rattle.hop_core.specs.Sound.{Sound}
 use Rattle.hop_core.proofs.Asked.{asked_deliver}
 use Rattle.hop_core.proofs.Cases.{Enabled, by_cases}
@@ -124,15 +123,15 @@ rising-after bare.opens d l h = h
 rising-after (bare.delivers c o) d l h = h
 rising-after (bare.retires c) d l h = h
 
-pub new_drops_rise : NewDropsRise
-new_drops_rise shape c =
-    let s : HopState = new_hop shape in
-    let a : accepted_at s.bare c ≡ [] = at_new shape.lanes c [] in
-    let o : offers_at s.bare c ≡ [] = at_new shape.lanes c [] in
-    let d : drops_at s.bare c ≡ [] = at_new shape.lanes c [] in
-    let p : pulled_at s.bare c ≡ 0 = at_new shape.lanes c 0 in
-    let is : lane_of s.fixed s.bare c ≡ new_lane shape.limit shape.room shape.start (has shape.limited c) = rw (a, o, d, p) refl in
-    subst AreRising (sym is) (AreRising-new shape.limit shape.room shape.start (has shape.limited c))
+pub fresh_drops_rise : FreshDropsRise
+fresh_drops_rise fixed counts guests lanes outs c =
+    let s : HopState = fresh_hop fixed counts guests lanes outs in
+    let a : accepted_at s.bare c ≡ [] = at_new lanes c [] in
+    let o : offers_at s.bare c ≡ [] = at_new lanes c [] in
+    let d : drops_at s.bare c ≡ [] = at_new lanes c [] in
+    let p : pulled_at s.bare c ≡ 0 = at_new lanes c 0 in
+    let is : lane_of s.fixed s.bare c ≡ new_lane fixed.limit fixed.room fixed.start (has fixed.limited c) = rw (a, o, d, p) refl in
+    subst AreRising (sym is) (AreRising-new fixed.limit fixed.room fixed.start (has fixed.limited c))
 
 pub each_keeps_drops_rising : EachKeepsDropsRising
 each_keeps_drops_rising s e m h all c =

@@ -14,6 +14,7 @@ pub mod Flows
 pub mod Gate
 pub mod GateSteps
 pub mod Gathered
+pub mod KeptHeads
 pub mod LaneSteps
 pub mod LaneTables
 pub mod Leaves
@@ -26,6 +27,7 @@ pub mod ProducerSteps
 pub mod PutSteps
 pub mod Puts
 pub mod Rooms
+pub mod Rounds
 pub mod Settled
 pub mod SettledParts
 pub mod Sizes

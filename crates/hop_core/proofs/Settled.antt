@@ -14,13 +14,12 @@ use Rattle.steer_base.specs.declared.choice.Entry.{Entry}
 use Rattle.steer_base.specs.declared.put.DropCause.{DropCause}
 use Rattle.hop_core.specs.declared.event.HopEvent.{HopEvent}
 use Rattle.hop_core.specs.declared.event.HopEvent.TheVariants as event
-use Rattle.hop_core.specs.declared.shape.HopShape.{HopShape}
 use Rattle.hop_core.specs.Events.{MayAsk, happens}
 use Rattle.hop_core.specs.Flows.{FlowAt}
 use Rattle.hop_core.specs.Hop.{HopState, accepted_at, arrivals_of, choice_of, choices_of, chosen_at, head_at, in_hand, lane_of, next_of, nobody, placed_of, recent, resized, retire_at, retired_at, since_of, taken_of}
 use Rattle.hop_core.specs.Order.{OneClass}
-use Rattle.hop_core.specs.Settled.{AreAlike, EachKeepsSettled, IsBySettings, NewIsSettled, ResetSettles, ResizeSettles, SettledAllowsPuts, SettledIn}
-use Rattle.hop_core.specs.Shape.{new_hop}
+use Rattle.hop_core.specs.Settled.{AreAlike, EachKeepsSettled, IsBySettings, FreshIsSettled, ResetSettles, ResizeSettles, SettledAllowsPuts, SettledIn}
+use Rattle.hop_core.specs.Shape.{fresh_hop}
 use Rattle.hop_core.specs.Sound.{Sound}
 use Rattle.hop_core.proofs.Alone.{place_in-at}
 use Rattle.hop_core.proofs.Asked.{asked_resize, asked_weigh}
@@ -108,11 +107,11 @@ each_keeps_settled class_of plain s e m h by g = by_cases (SettledIn class_of pl
 pub resize_settles : ResizeSettles
 resize_settles class_of now_class_of plain s p count m h same g = settled-resize class_of now_class_of plain s p count (rounded_up count) m h same g
 
-pub new_is_settled : NewIsSettled
-new_is_settled class_of plain shape =
-    let s : HopState = new_hop shape in
-    let none : (p : ℕ) → choices_of s p ≡ [] = λ p. at_new shape.producers p [] in
-    let zero : (p : ℕ) → placed_of s p ≡ 0 = λ p. at_new shape.producers p 0 in
+pub fresh_is_settled : FreshIsSettled
+fresh_is_settled class_of plain fixed counts guests lanes outs =
+    let s : HopState = fresh_hop fixed counts guests lanes outs in
+    let none : (p : ℕ) → choices_of s p ≡ [] = λ p. at_new (length counts) p [] in
+    let zero : (p : ℕ) → placed_of s p ≡ 0 = λ p. at_new (length counts) p 0 in
     record {
       classes = λ p i from in'. absurd (let e : length (choices_of s p) ≡ 0 = ap (λ cs. length cs) (none p) in omega (arith, in', e));
       stands = λ p i from was free. absurd (let e = zero p in omega (arith, was, e));
@@ -160,5 +159,5 @@ tight_by test p s class_of plain None is alike h settled more member =
     ])
 
 pub settled_allows_puts : SettledAllowsPuts
-settled_allows_puts class_of plain test p o q hash s alike h g = λ more member.
+settled_allows_puts class_of plain test p o q hash s alike h g = λ own more member.
     tight_by test p s class_of plain (class_of p (in_hand s p).id) refl alike h g more member

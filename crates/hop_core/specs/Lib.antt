@@ -13,6 +13,7 @@ pub mod NothingLost
 pub mod Order
 pub mod Pairs
 pub mod Reads
+pub mod Rounds
 pub mod Settled
 pub mod Shape
 pub mod Sizes

@@ -1,13 +1,13 @@
 //! Laws over a state of a hop and one event, each the contract of a function that does nothing.
-ghost use Rattle.hop_core.specs.BareEvents.{BareKeepsLanes, EachIsBare, EachKeepsDropsRising, EachLaneIsItsOwn, NewDropsRise, SoundHasLanes};
+ghost use Rattle.hop_core.specs.BareEvents.{BareKeepsLanes, EachIsBare, EachKeepsDropsRising, EachLaneIsItsOwn, FreshDropsRise, SoundHasLanes};
 ghost use Rattle.hop_core.specs.Leaves.{EachLeaves};
-ghost use Rattle.hop_core.specs.NothingLost.{EachLosesNothing, EachPutIsOnce, LosesNothing, NewLosesNothing};
-ghost use Rattle.hop_core.specs.Settled.{EachKeepsSettled, NewIsSettled, ResetSettles, ResizeSettles, SettledAllowsPuts};
+ghost use Rattle.hop_core.specs.NothingLost.{EachLosesNothing, EachPutIsOnce, LosesNothing, FreshLosesNothing};
+ghost use Rattle.hop_core.specs.Settled.{EachKeepsSettled, FreshIsSettled, ResetSettles, ResizeSettles, SettledAllowsPuts};
 
 /// Nothing is lost, in a new hop and after any events: a packet that was put was accepted or dropped by the lane of its
 /// choice, and one that was delivered is in an out lane. So each packet that was put is at exactly one place.
 pub fn nothing_is_lost()
-    ensures new { NewLosesNothing }
+    ensures fresh { FreshLosesNothing }
     ensures each { EachLosesNothing }
     ensures all { LosesNothing }
     ensures once { EachPutIsOnce }
@@ -22,7 +22,7 @@ pub fn each_event_leaves_the_rest()
 /// may come with other classes at its producer, and other settings may come where nothing that they would move waits. In
 /// a settled hop each put is allowed for a flow that the settings give one class and one lane.
 pub fn settled_hops_let_flows_pass()
-    ensures new { NewIsSettled }
+    ensures fresh { FreshIsSettled }
     ensures each { EachKeepsSettled }
     ensures resize { ResizeSettles }
     ensures reset { ResetSettles }
@@ -41,6 +41,6 @@ pub fn each_event_is_one_of_the_bare_part()
 /// Along the drops of each lane neither of their two counts ever falls, and none is over the lane's count, in a new hop
 /// and after every event.
 pub fn counts_of_drops_never_fall()
-    ensures new { NewDropsRise }
+    ensures fresh { FreshDropsRise }
     ensures each { EachKeepsDropsRising }
 {}

@@ -1,8 +1,8 @@
-use Rattle.hop_core.proofs.Settled.{each_keeps_settled, new_is_settled, reset_settles, resize_settles, settled_allows_puts}
+use Rattle.hop_core.proofs.Settled.{each_keeps_settled, fresh_is_settled, reset_settles, resize_settles, settled_allows_puts}
 use Rattle.hop_core.proofs.state_laws.settled_hops_let_flows_pass.Goals as goal
 
-pub returns-clause-new : goal.returns-clause-new
-returns-clause-new c = new_is_settled
+pub returns-clause-fresh : goal.returns-clause-fresh
+returns-clause-fresh c = fresh_is_settled
 
 pub returns-clause-each : goal.returns-clause-each
 returns-clause-each c = each_keeps_settled
