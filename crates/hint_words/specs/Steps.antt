@@ -1,7 +1,8 @@
 -- Steps on words, and the values that an order of steps leaves. Orders have the newest step first.
-use Rattle.std.specs.Prelude.{◌≡◌, ℕ, ◌==◌, ◌&&◌, List, [], ◌∷◌, ◌++◌, if◌then◌else◌, Option, None, Some, All}
+use Rattle.std.specs.Prelude.{◌≡◌, ℕ, ◌==◌, ◌&&◌, List, [], ◌∷◌, ◌++◌, if◌then◌else◌, All}
+use Rattle.std.specs.Prelude.{Option, None, Some}
 use Rattle.std.specs.Option.{unwrap_or}
-use Rattle.seat_order.specs.Orders.{Entry}
+use Rattle.seat_order.specs.Orders.{StepBy}
 use Rattle.hint_words.specs.declared.step.HintStep.{HintStep}
 use Rattle.hint_words.specs.declared.step.HintStep.TheVariants.{Load, Store, ClearIf}
 
@@ -12,30 +13,30 @@ written i (Store j n) = if j == i then Some n else None
 written i (ClearIf j n done) = if (j == i) && done then Some 0 else None
 
 -- the word i after these steps: what was written there last, or 0 where nothing was
-abbrev pub word_after : ℕ → List (Entry HintStep) → ℕ
+abbrev pub word_after : ℕ → List (StepBy HintStep) → ℕ
 word_after i [] = 0
 word_after i (e ∷ es) = unwrap_or (written i e.step) (word_after i es)
 
 -- the step's answer is that of its word after the earlier steps
-abbrev pub AnswersAfter : List (Entry HintStep) → HintStep → Type 0
+abbrev pub AnswersAfter : List (StepBy HintStep) → HintStep → Type 0
 AnswersAfter es (Load i n) = n ≡ word_after i es
 AnswersAfter es (Store i n) = Unit {0}
 AnswersAfter es (ClearIf i n done) = done ≡ (word_after i es == n)
 
 -- each step answers by its word after the steps before it
-abbrev pub IsLawful : List (Entry HintStep) → Type 0
+abbrev pub IsLawful : List (StepBy HintStep) → Type 0
 IsLawful [] = Unit {0}
 IsLawful (e ∷ es) = AnswersAfter es e.step × IsLawful es
 
 -- no step of these writes at the word i
-abbrev pub NoneWrites : ℕ → List (Entry HintStep) → Type 0
-NoneWrites i order = All (λ (e : Entry HintStep). written i e.step ≡ None) order
+abbrev pub NoneWrites : ℕ → List (StepBy HintStep) → Type 0
+NoneWrites i order = All (λ (e : StepBy HintStep). written i e.step ≡ None) order
 
 -- one step wrote n at the word i, and no newer one wrote there
-pub record IsWrittenLast (i : ℕ) (order : List (Entry HintStep)) (n : ℕ) : Type 0 where
-  pub newer : List (Entry HintStep)
-  pub last : Entry HintStep
-  pub older : List (Entry HintStep)
+pub record IsWrittenLast (i : ℕ) (order : List (StepBy HintStep)) (n : ℕ) : Type 0 where
+  pub newer : List (StepBy HintStep)
+  pub last : StepBy HintStep
+  pub older : List (StepBy HintStep)
   pub cut : order ≡ newer ++ last ∷ older
   pub none_newer : NoneWrites i newer
   pub writes : written i last.step ≡ Some n

@@ -2,14 +2,16 @@
 use Rattle.std.specs.Prelude.{◌≡◌, ℕ, ◌+◌, ◌<◌, ◌==◌, List, length, slice_index}
 use mathlib.Core.Option.{Option}
 use Rattle.atomic_table.specs.Table.{Step}
-use Rattle.seat_order.specs.Orders.{Entry, AreBySeats}
+use Rattle.seat_order.specs.Orders.{StepBy}
 use Rattle.hint_words.specs.declared.step.HintStep.{HintStep}
 use Rattle.hint_words.specs.declared.step.HintStep.TheVariants.{Load, Store, ClearIf}
 use Rattle.hint_words.specs.declared.sizes.Sizes.{Sizes}
 use Rattle.hint_words.specs.Steps.{word_after, IsLawful}
 
--- the order is lawful, and each word is what it leaves there. One word more is nobody's, so that no table is without words
-pub record HasLastWrites (about : Sizes) (order : List (Entry HintStep)) (words : List ℕ) (homes : List (Option (Unit {0}))) : Type 0 where
+-- the order is lawful, and each word is what it leaves there. One word more is nobody's, so that no
+-- table is without words
+pub record HasLastWrites (about : Sizes) (order : List (StepBy HintStep)) (words : List ℕ)
+    (homes : List (Option (Unit {0}))) : Type 0 where
   pub lawful : IsLawful order
   pub counted : length words ≡ about.words + 1
   pub each : (i : ℕ) → i < about.words → slice_index words i ≡ word_after i order
@@ -23,9 +25,3 @@ store_of st n = Store st.word st.first
 
 abbrev pub clear_of : Step (Unit {0}) → ℕ → HintStep
 clear_of st n = ClearIf st.word st.first (n == st.first)
-
--- what was found is the last write of a lawful order of so many seats' steps
-pub record Found (seats : ℕ) (st : Step (Unit {0})) (n : ℕ) (order : List (Entry HintStep)) : Type 0 where
-  pub lawful : IsLawful order
-  pub by_seats : AreBySeats seats order
-  pub value : n ≡ word_after st.word order

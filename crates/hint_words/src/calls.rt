@@ -1,13 +1,13 @@
 //! The three calls on a word. Each is one atomic step, takes no memory and waits for nobody.
 ghost use Rattle.std.specs.Prelude.{◌≡◌, ℕ, ◌<◌, ◌==◌, List, ◌∷◌};
-ghost use Rattle.seat_order.specs.Orders.{Entry};
-ghost use Rattle.hint_words.specs.Steps.{word_after};
-ghost use Rattle.hint_words.specs.Moments.{IsPastOf};
+ghost use Rattle.seat_order.specs.Orders.{StepBy};
+ghost use Rattle.seat_order.specs.Moments.{IsPastOf};
+ghost use Rattle.hint_words.specs.Steps.{word_after, IsLawful};
 
 use crate::hints::{HintSeat, Hints};
-use crate::making::{Clears, Counted, Loads, Stores};
+use crate::making::{Clears, Loads, Stores};
 use crate::step::HintStep;
-use seat_order::Makes;
+use seat_order::{Counted, Makes};
 use std::marker::Brand;
 
 impl Hints {
@@ -16,8 +16,12 @@ impl Hints {
     pub fn load(&self, seat: &mut HintSeat, i: u32) -> u64
         requires table { seat.old.table ≡ self.now.table }
         requires inside { i < self.now.words }
-        ensures step { seat.new ≡ record seat.old { steps = HintStep.Load i result ∷ seat.old.steps } }
-        ensures word { (order : List (Entry HintStep)) × IsPastOf self.now.seats seat.old order × (result ≡ word_after i order) }
+        ensures step { seat.new ≡ record seat.old {
+          steps = HintStep.Load i result ∷ seat.old.steps;
+        } }
+        ensures word { (order : List (StepBy HintStep))
+            × IsPastOf IsLawful self.now.seats seat.old order
+            × (result ≡ word_after i order) }
     {
         self.load_as::<Brand>(seat, i)
     }
@@ -33,12 +37,17 @@ impl Hints {
             .store::<Makes<Stores>>(&mut seat.seat, i as usize, v);
     }
 
-    /// Stores 0 at the word `i` if it is `v`, and answers whether it was. Where it was not, nothing is written.
+    /// Stores 0 at the word `i` if it is `v`, and answers whether it was. Where it was not, nothing
+    /// is written.
     pub fn clear_if(&self, seat: &mut HintSeat, i: u32, v: u64) -> bool
         requires table { seat.old.table ≡ self.now.table }
         requires inside { i < self.now.words }
-        ensures step { seat.new ≡ record seat.old { steps = HintStep.ClearIf i v result ∷ seat.old.steps } }
-        ensures word { (order : List (Entry HintStep)) × IsPastOf self.now.seats seat.old order × (result ≡ (word_after i order == v)) }
+        ensures step { seat.new ≡ record seat.old {
+          steps = HintStep.ClearIf i v result ∷ seat.old.steps;
+        } }
+        ensures word { (order : List (StepBy HintStep))
+            × IsPastOf IsLawful self.now.seats seat.old order
+            × (result ≡ (word_after i order == v)) }
     {
         self.clear_as::<Brand>(seat, i, v)
     }
@@ -47,8 +56,12 @@ impl Hints {
         requires table { seat.old.table ≡ self.now.table }
         requires inside { i < self.now.words }
         requires counted { J.seats ≡ self.now.seats }
-        ensures step { seat.new ≡ record seat.old { steps = HintStep.Load i result ∷ seat.old.steps } }
-        ensures word { (order : List (Entry HintStep)) × IsPastOf self.now.seats seat.old order × (result ≡ word_after i order) }
+        ensures step { seat.new ≡ record seat.old {
+          steps = HintStep.Load i result ∷ seat.old.steps;
+        } }
+        ensures word { (order : List (StepBy HintStep))
+            × IsPastOf IsLawful self.now.seats seat.old order
+            × (result ≡ word_after i order) }
     {
         self.table
             .shared
@@ -59,8 +72,12 @@ impl Hints {
         requires table { seat.old.table ≡ self.now.table }
         requires inside { i < self.now.words }
         requires counted { J.seats ≡ self.now.seats }
-        ensures step { seat.new ≡ record seat.old { steps = HintStep.ClearIf i v result ∷ seat.old.steps } }
-        ensures word { (order : List (Entry HintStep)) × IsPastOf self.now.seats seat.old order × (result ≡ (word_after i order == v)) }
+        ensures step { seat.new ≡ record seat.old {
+          steps = HintStep.ClearIf i v result ∷ seat.old.steps;
+        } }
+        ensures word { (order : List (StepBy HintStep))
+            × IsPastOf IsLawful self.now.seats seat.old order
+            × (result ≡ (word_after i order == v)) }
     {
         let found = self
             .table

@@ -1,7 +1,7 @@
 //! The words, and how they are made and closed.
 ghost use Rattle.std.specs.Prelude.{◌≡◌, ℕ, List, IfOk, All};
 ghost use Rattle.std.specs.Vec.{vec_len};
-ghost use Rattle.seat_order.specs.Orders.{Entry};
+ghost use Rattle.seat_order.specs.Orders.{StepBy};
 ghost use Rattle.seat_order.specs.Seats.{new_seats, ArePartsOf};
 ghost use Rattle.hint_words.specs.Steps.{IsLawful};
 ghost use Rattle.hint_words.specs.Loads.{LoadsAreStored};
@@ -30,9 +30,14 @@ impl Model for Hints {
 
     ghost Value = { HintsView };
 
-    ghost view = { λ h. record { table = h.table.shared.table_id; words = h.table.shared.key.words; seats = h.table.shared.key.seats } };
+    ghost view = { λ h. record {
+      table = h.table.shared.table_id;
+      words = h.table.shared.key.words;
+      seats = h.table.shared.key.seats;
+    } };
 
-    ghost invariant = { λ h. (h.table.shared.table_id.words ≡ h.table.shared.key.words + 1) × (h.table.shared.table_id.slots ≡ 0) };
+    ghost invariant = { λ h. (h.table.shared.table_id.words ≡ h.table.shared.key.words + 1)
+        × (h.table.shared.table_id.slots ≡ 0) };
 }
 
 impl Hints {
@@ -59,7 +64,8 @@ impl Hints {
     pub fn close_hints(self, seats: Vec<HintSeat>)
         requires table { All (λ s. s.table ≡ self.table) seats.items }
         requires all { vec_len seats ≡ self.seats }
-        ensures order { (order : List (Entry HintStep)) × IsLawful order × ArePartsOf order seats.items }
+        ensures order { (order : List (StepBy HintStep))
+            × IsLawful order × ArePartsOf order seats.items }
         ensures stored { LoadsAreStored seats.items }
     {
         close(self.table, seats).free();

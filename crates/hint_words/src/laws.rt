@@ -1,13 +1,17 @@
 //! Laws of the definitions that the contracts cite.
 ghost use Rattle.std.specs.Prelude.{◌≡◌, ◌⊎◌, ℕ, List};
-ghost use Rattle.seat_order.specs.Orders.{Entry};
+ghost use Rattle.seat_order.specs.Orders.{StepBy};
 ghost use Rattle.hint_words.specs.Steps.{word_after, NoneWrites, IsWrittenLast};
 
 use crate::step::HintStep;
 
-/// What a word is after an order of steps: the value of the last write there, or 0 where no step wrote there.
+/// What a word is after an order of steps: the value of the last write there, or 0 where no step
+/// wrote.
 pub fn last_write()
-    ensures written { (i n : ℕ) (order : List (Entry HintStep)) → IsWrittenLast i order n → word_after i order ≡ n }
-    ensures unwritten { (i : ℕ) (order : List (Entry HintStep)) → NoneWrites i order → word_after i order ≡ 0 }
-    ensures either { (i : ℕ) (order : List (Entry HintStep)) → NoneWrites i order ⊎ IsWrittenLast i order (word_after i order) }
+    ensures written { (i n : ℕ) (order : List (StepBy HintStep))
+        → IsWrittenLast i order n → word_after i order ≡ n }
+    ensures unwritten { (i : ℕ) (order : List (StepBy HintStep))
+        → NoneWrites i order → word_after i order ≡ 0 }
+    ensures either { (i : ℕ) (order : List (StepBy HintStep))
+        → NoneWrites i order ⊎ IsWrittenLast i order (word_after i order) }
 {}

@@ -1,29 +1,20 @@
 //! What the calls add to their seat's list.
-ghost use Rattle.std.specs.Prelude.{ℕ};
-
 use crate::step::HintStep;
-use seat_order::Making;
-use std::marker::{Brand, PhantomData};
-
-/// How many seats there are. Each call picks it.
-pub trait Counted {
-    ghost seats: { ℕ };
-}
-
-impl Counted for Brand {
-    ghost seats = { 0 };
-}
+use seat_order::{Counted, Making};
+use std::marker::PhantomData;
 
 pub struct Loads<J> {
     of: PhantomData<J>,
 }
 
 impl<J: Counted> Making<(), HintStep> for Loads<J> {
-    ghost use Rattle.hint_words.specs.Tables.{load_of, Found};
+    ghost use Rattle.seat_order.specs.Moments.{Found};
+    ghost use Rattle.hint_words.specs.Steps.{word_after, IsLawful};
+    ghost use Rattle.hint_words.specs.Tables.{load_of};
 
     ghost makes = { load_of };
 
-    ghost tells = { Found J.seats };
+    ghost tells = { Found IsLawful word_after J.seats };
 }
 
 pub struct Clears<J> {
@@ -31,11 +22,13 @@ pub struct Clears<J> {
 }
 
 impl<J: Counted> Making<(), HintStep> for Clears<J> {
-    ghost use Rattle.hint_words.specs.Tables.{clear_of, Found};
+    ghost use Rattle.seat_order.specs.Moments.{Found};
+    ghost use Rattle.hint_words.specs.Steps.{word_after, IsLawful};
+    ghost use Rattle.hint_words.specs.Tables.{clear_of};
 
     ghost makes = { clear_of };
 
-    ghost tells = { Found J.seats };
+    ghost tells = { Found IsLawful word_after J.seats };
 }
 
 pub struct Stores;

@@ -1,6 +1,7 @@
 //! A step on a word.
 
-/// One atomic step, at the word with the number that comes first. No value of it is made: contracts list a seat's steps by it.
+/// One atomic step, at the word with the number that comes first. No value of it is made: contracts
+/// list a seat's steps by it.
 pub enum HintStep {
     /// A load of this value.
     Load(u32, u64),

@@ -71,7 +71,8 @@ fn threads_load_what_was_stored(rt: HostRuntime) {
     }
 }
 
-// Stores a thousand numbers at the own word, which no other seat stores, and loads the other word as often.
+// Stores a thousand numbers at the own word, which no other seat stores, and loads the other as
+// often.
 fn play(hints: &Hints, mut seat: HintSeat, own: u32, other: u32) -> (HintSeat, Kept)
     requires table { seat.table ≡ hints.now.table }
     requires own { own < hints.now.words }

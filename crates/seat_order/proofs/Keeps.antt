@@ -6,12 +6,12 @@ use Rattle.atomic_table.specs.Table.{Me, Step, Act, keeps, Valid, homes_after, c
 use Rattle.atomic_table.proofs.Lists.{set_else}
 use Rattle.seat_order.specs.declared.hands.Hand.{Hand}
 use Rattle.seat_order.specs.declared.hands.Hands.{Hands}
-use Rattle.seat_order.specs.Orders.{Entry, entry, steps_of, AreBySeats}
-use Rattle.seat_order.specs.Hands.{one, number_in, steps_in, no_hands, kept_hands, given_hands, joined_hands}
-use Rattle.seat_order.specs.Rules.{Ordered, Made}
-use Rattle.seat_order.proofs.Views.{views_step, views_own, views_sit, views_deal, views_gather}
+use Rattle.seat_order.specs.Orders.{StepBy, step_by, steps_of, AreBySeats}
+use Rattle.seat_order.specs.Hands.{hand, one, number_in, steps_in, no_hands, kept_hands, given_hands, joined_hands}
+use Rattle.seat_order.specs.Rules.{Ordered, Made, Moved}
+use Rattle.seat_order.proofs.Views.{views_step, views_sit, views_deal, views_gather}
 
-module _ {S D : Type 0} (seats : ℕ) (lawful : List (Entry D) → List ℕ → List (Option S) → Type 0) where
+module _ {S D : Type 0} (seats : ℕ) (lawful : List (StepBy D) → List ℕ → List (Option S) → Type 0) where
   pub sits : (slots i : ℕ) → Enters (Ordered seats lawful) slots i (λ n w. w ≡ no_hands)
   sits slots i s r _ _ = (no_hands, record { order = r.order; lawfully = r.lawfully; views_are = views_sit seats s.views r.order r.views_are }, refl)
 
@@ -25,11 +25,12 @@ module _ {S D : Type 0} (seats : ℕ) (lawful : List (Entry D) → List ℕ → 
     views_are = views_gather seats s.views r.order id other v w at ne (sym (set_else s.views id other (joined_hands v w) ne) ∙ at') r.views_are;
   }
 
-  -- Wherever the order, the words and the values at home are lawful, the seat has a step and an act that keep them so, and that tell what they should
+  -- Wherever the order, the words and the values at home are lawful, the seat, which is one of the table's, has a step
+  -- and an act that keep them so, and that tell what they should.
   abbrev pub MovesOn : ℕ → Me S (Hands D) → ℕ → (ℕ → ℕ) → (ℕ → Me S (Hands D) → Type 0) → Type 0
-  MovesOn slots me i f then = (order : List (Entry D)) (words : List ℕ) (homes : List (Option S)) → length homes ≡ slots → slice_index words i < 18446744073709551616 → AreBySeats seats order
-      → steps_in me.0 ≡ steps_of (number_in me.0) order → lawful order words homes
-      → (d : D) × (a : Act S) × Valid homes me.1 a × lawful (entry (number_in me.0) d ∷ order) (set words i (f (slice_index words i))) (homes_after homes me.1 a)
+  MovesOn slots me i f then = (order : List (StepBy D)) (words : List ℕ) (homes : List (Option S)) → length homes ≡ slots → slice_index words i < 18446744073709551616
+      → AreBySeats seats order → number_in me.0 < seats → steps_in me.0 ≡ steps_of (number_in me.0) order → lawful order words homes
+      → (d : D) × (a : Act S) × Valid homes me.1 a × lawful (step_by (number_in me.0) d ∷ order) (set words i (f (slice_index words i))) (homes_after homes me.1 a)
       × then (slice_index words i) (one (number_in me.0) (d ∷ steps_in me.0), carried_after me.1 a)
 
   pub moves : (slots id : ℕ) (me : Me S (Hands D)) (i : ℕ) (f : ℕ → ℕ) (then : ℕ → Me S (Hands D) → Type 0) → me.0 ≡ one (number_in me.0) (steps_in me.0) → MovesOn slots me i f then
@@ -37,21 +38,35 @@ module _ {S D : Type 0} (seats : ℕ) (lawful : List (Entry D) → List ℕ → 
   moves slots id me i f then alone on s r all at wide =
       let p : ℕ = number_in me.0 in let ds : List D = steps_in me.0 in
       let here : get_elem? s.views id ≡ some (one p ds) = at ∙ ap some alone in
-      let next = on r.order s.words s.homes all wide r.views_are.by_seats (views_own seats s.views r.order id p ds here r.views_are) r.lawfully in (
+      let own = r.views_are.each_hand id (one p ds) here 0 (hand p ds) refl in
+      let next = on r.order s.words s.homes all wide r.views_are.by_seats own.0 own.2 r.lawfully in (
         one p (next.0 ∷ ds),
         next.1,
         next.2,
-        record { order = entry p next.0 ∷ r.order; lawfully = next.3; views_are = views_step seats s.views r.order id p ds next.0 here r.views_are },
+        record { order = step_by p next.0 ∷ r.order; lawfully = next.3; views_are = views_step seats s.views r.order id p ds next.0 here r.views_are },
         next.4,
       )
 
-  -- the same for a step that leaves all slots where they are
-  abbrev pub GoesOn : ℕ → List D → ℕ → (ℕ → ℕ) → (ℕ → D) → (ℕ → List (Entry D) → Type 0) → Type 0
-  GoesOn p ds i f makes tells = (order : List (Entry D)) (words : List ℕ) (homes : List (Option S)) → AreBySeats seats order → ds ≡ steps_of p order → lawful order words homes
-      → lawful (entry p (makes (slice_index words i)) ∷ order) (set words i (f (slice_index words i))) homes × tells (slice_index words i) order
+  -- the same for a step that may take and give slots: it goes with the word found and what the seat carries before and after
+  abbrev pub MovesTaking : (ℕ → D → List (ℕ × S) → List (ℕ × S) → Type 0) → ℕ → Me S (Hands D) → ℕ → (ℕ → ℕ) → Type 0
+  MovesTaking goes_with slots me i f = (order : List (StepBy D)) (words : List ℕ) (homes : List (Option S)) → length homes ≡ slots → slice_index words i < 18446744073709551616
+      → AreBySeats seats order → number_in me.0 < seats → steps_in me.0 ≡ steps_of (number_in me.0) order → lawful order words homes
+      → (d : D) × (a : Act S) × Valid homes me.1 a × lawful (step_by (number_in me.0) d ∷ order) (set words i (f (slice_index words i))) (homes_after homes me.1 a)
+      × goes_with (slice_index words i) d me.1 (carried_after me.1 a)
 
-  pub goes : (makes : Step S → ℕ → D) (tells : Step S → ℕ → List (Entry D) → Type 0) (st : Step S) (slots id : ℕ) (me : Me S (Hands D)) (i : ℕ) (f : ℕ → ℕ) → me ≡ (one (number_in me.0) (steps_in me.0), [])
+  pub moves_taking : (moved : Step S → ℕ → D → List (ℕ × S) → List (ℕ × S) → Type 0) (st : Step S) (slots id : ℕ) (me : Me S (Hands D)) (i : ℕ) (f : ℕ → ℕ) → me.0 ≡ one (number_in me.0) (steps_in me.0)
+      → MovesTaking (moved st) slots me i f → Allows (Ordered seats lawful) slots id me i f (Moved moved st me)
+  moves_taking moved st slots id me i f alone on = moves slots id me i f (Moved moved st me) alone
+      (λ order words homes all wide by few own good. let next = on order words homes all wide by few own good in
+      (next.0, next.1, next.2, next.3, record { added = next.0; adds = refl; as_told = next.4 }))
+
+  -- the same for a step that leaves all slots where they are
+  abbrev pub GoesOn : ℕ → List D → ℕ → (ℕ → ℕ) → (ℕ → D) → (ℕ → List (StepBy D) → Type 0) → Type 0
+  GoesOn p ds i f makes tells = (order : List (StepBy D)) (words : List ℕ) (homes : List (Option S)) → AreBySeats seats order → p < seats → ds ≡ steps_of p order → lawful order words homes
+      → lawful (step_by p (makes (slice_index words i)) ∷ order) (set words i (f (slice_index words i))) homes × tells (slice_index words i) order
+
+  pub goes : (makes : Step S → ℕ → D) (tells : Step S → ℕ → List (StepBy D) → Type 0) (st : Step S) (slots id : ℕ) (me : Me S (Hands D)) (i : ℕ) (f : ℕ → ℕ) → me ≡ (one (number_in me.0) (steps_in me.0), [])
       → GoesOn (number_in me.0) (steps_in me.0) i f (makes st) (tells st) → Allows (Ordered seats lawful) slots id me i f (Made makes tells st me)
   goes makes tells st slots id me i f is on = moves slots id me i f (Made makes tells st me) (ap (λ m. m.0) is)
-      (λ order words homes _ _ by own good. let next = on order words homes by own good in
+      (λ order words homes _ _ by few own good. let next = on order words homes by few own good in
       (makes st (slice_index words i), keeps, tt, next.0, record { adds = refl; order = order; part = own; told = next.1 }))

@@ -6,17 +6,17 @@ use lib.ListN.{get_elem?}
 use Rattle.atomic_table.proofs.Lists.{at_set}
 use Rattle.seat_order.specs.declared.hands.Hand.{Hand}
 use Rattle.seat_order.specs.declared.hands.Hands.{Hands}
-use Rattle.seat_order.specs.Orders.{Entry, entry, steps_of}
+use Rattle.seat_order.specs.Orders.{StepBy, step_by, steps_of}
 use Rattle.seat_order.specs.Hands.{hand, one, no_hands, all_hands, fresh, kept_hands, given_hands, joined_hands}
 use Rattle.seat_order.specs.Rules.{IsPart, Views}
 use Rattle.seat_order.proofs.Lists.{if_same, if_other, at_end, at_either}
 use Rattle.seat_order.proofs.Places.{split_place, split_left, split_else, split_new, join_place, join_came, join_was, join_else}
 
 module _ {D : Type 0} where
-  pub steps_of_own : (p q : ℕ) (d : D) (es : List (Entry D)) → q ≡ p → steps_of p (entry q d ∷ es) ≡ d ∷ steps_of p es
+  pub steps_of_own : (p q : ℕ) (d : D) (es : List (StepBy D)) → q ≡ p → steps_of p (step_by q d ∷ es) ≡ d ∷ steps_of p es
   steps_of_own p q d es e = if_same q p (d ∷ steps_of p es) (steps_of p es) e
 
-  pub steps_of_other : (p q : ℕ) (d : D) (es : List (Entry D)) → q ≢ p → steps_of p (entry q d ∷ es) ≡ steps_of p es
+  pub steps_of_other : (p q : ℕ) (d : D) (es : List (StepBy D)) → q ≢ p → steps_of p (step_by q d ∷ es) ≡ steps_of p es
   steps_of_other p q d es ne = if_other q p (d ∷ steps_of p es) (steps_of p es) ne
 
   fresh_at : (n k m : ℕ) (h : Hand D) → get_elem? (fresh n k) m ≡ some h → (m < k) × (h ≡ hand (n + m) [])
@@ -37,29 +37,29 @@ module _ {D : Type 0} where
 module _ {D : Type 0} (seats : ℕ) where
   -- all hands at the first seat, before any step
   pub views_open : Views {D = D} seats [] (all_hands seats ∷ [])
-  views_open = record { place = λ p. (0, p); each_hand = first_view; by_seats = All-nil (λ (e : Entry D). e.by < seats) }
+  views_open = record { place = λ p. (0, p); each_hand = first_view; by_seats = All-nil (λ (e : StepBy D). e.by < seats) }
     where
       first_view : (j : ℕ) (v : Hands D) → get_elem? (all_hands seats ∷ []) j ≡ some v → (m : ℕ) (h : Hand D) → get_elem? v.hands m ≡ some h → IsPart seats [] (λ p. (0, p)) j m h
       first_view zero v at m h hm = let r = fresh_at 0 seats m h (hand_in (all_hands seats) v m h (some-injective (all_hands seats) v at) hm) in
           let l = r.0 in let n : h.number ≡ m = ap (λ (z : Hand D). z.number) r.1 ∙ omega arith in (omega arith, ap (λ (z : ℕ). (0, z)) n, ap (λ (z : Hand D). z.steps) r.1)
       first_view (suc j) v at m h hm = absurd (some-ne-none v (sym at))
 
-  abbrev Parts : List (Hands D) → List (Entry D) → (ℕ → ℕ × ℕ) → Type 0
+  abbrev Parts : List (Hands D) → List (StepBy D) → (ℕ → ℕ × ℕ) → Type 0
   Parts views order place = (j : ℕ) (v : Hands D) → get_elem? views j ≡ some v → (m : ℕ) (h : Hand D) → get_elem? v.hands m ≡ some h → IsPart seats order place j m h
 
-  own_hand : (order : List (Entry D)) (place : ℕ → ℕ × ℕ) (id p : ℕ) (ds : List D) (d : D) → IsPart seats order place id 0 (hand p ds)
-      → (m : ℕ) (h : Hand D) → get_elem? (hand p (d ∷ ds) ∷ []) m ≡ some h → IsPart seats (entry p d ∷ order) place id m h
-  own_hand order place id p ds d own zero h hm = subst (IsPart seats (entry p d ∷ order) place id 0) (some-injective (hand p (d ∷ ds)) h hm)
+  own_hand : (order : List (StepBy D)) (place : ℕ → ℕ × ℕ) (id p : ℕ) (ds : List D) (d : D) → IsPart seats order place id 0 (hand p ds)
+      → (m : ℕ) (h : Hand D) → get_elem? (hand p (d ∷ ds) ∷ []) m ≡ some h → IsPart seats (step_by p d ∷ order) place id m h
+  own_hand order place id p ds d own zero h hm = subst (IsPart seats (step_by p d ∷ order) place id 0) (some-injective (hand p (d ∷ ds)) h hm)
       (own.0, own.1, ap (λ l. d ∷ l) own.2 ∙ sym (steps_of_own p p d order refl))
   own_hand order place id p ds d own (suc m) h hm = absurd (some-ne-none h (sym hm))
 
   -- the hands of the views after a step of the seat id, which has one hand
-  parts_step : (views : List (Hands D)) (order : List (Entry D)) (place : ℕ → ℕ × ℕ) (id p : ℕ) (ds : List D) (d : D) → get_elem? views id ≡ some (one p ds)
-      → Parts views order place → Parts (set views id (one p (d ∷ ds))) (entry p d ∷ order) place
+  parts_step : (views : List (Hands D)) (order : List (StepBy D)) (place : ℕ → ℕ × ℕ) (id p : ℕ) (ds : List D) (d : D) → get_elem? views id ≡ some (one p ds)
+      → Parts views order place → Parts (set views id (one p (d ∷ ds))) (step_by p d ∷ order) place
   parts_step views order place id p ds d here each j v at m h hm =
       let own = each id (one p ds) here 0 (hand p ds) refl in
       ⊎_elim
-      (λ (t : (j ≡ id) × (one p (d ∷ ds) ≡ v)). subst (λ (z : ℕ). IsPart seats (entry p d ∷ order) place z m h) (sym t.0)
+      (λ (t : (j ≡ id) × (one p (d ∷ ds) ≡ v)). subst (λ (z : ℕ). IsPart seats (step_by p d ∷ order) place z m h) (sym t.0)
       (own_hand order place id p ds d own m h (hand_in (one p (d ∷ ds)) v m h t.1 hm)))
       (λ (t : (j ≢ id) × (get_elem? views j ≡ some v)).
       let was = each j v t.1 m h hm in
@@ -67,20 +67,16 @@ module _ {D : Type 0} (seats : ℕ) where
       (was.0, was.1, was.2 ∙ sym (steps_of_other h.number p d order apart)))
       (at_set views id j (one p (d ∷ ds)) v at)
 
-  pub views_step : (views : List (Hands D)) (order : List (Entry D)) (id p : ℕ) (ds : List D) (d : D) → get_elem? views id ≡ some (one p ds) → Views seats order views
-      → Views seats (entry p d ∷ order) (set views id (one p (d ∷ ds)))
+  pub views_step : (views : List (Hands D)) (order : List (StepBy D)) (id p : ℕ) (ds : List D) (d : D) → get_elem? views id ≡ some (one p ds) → Views seats order views
+      → Views seats (step_by p d ∷ order) (set views id (one p (d ∷ ds)))
   views_step views order id p ds d here r = let own = r.each_hand id (one p ds) here 0 (hand p ds) refl in record {
     place = r.place;
     each_hand = parts_step views order r.place id p ds d here r.each_hand;
-    by_seats = All-cons (λ (e : Entry D). e.by < seats) (entry p d) order own.0 r.by_seats;
+    by_seats = All-cons (λ (e : StepBy D). e.by < seats) (step_by p d) order own.0 r.by_seats;
   }
 
-  -- a seat's own steps are those of the order
-  pub views_own : (views : List (Hands D)) (order : List (Entry D)) (id p : ℕ) (ds : List D) → get_elem? views id ≡ some (one p ds) → Views seats order views → ds ≡ steps_of p order
-  views_own views order id p ds here r = (r.each_hand id (one p ds) here 0 (hand p ds) refl).2
-
   -- a new seat has no hand
-  pub views_sit : (views : List (Hands D)) (order : List (Entry D)) → Views seats order views → Views seats order (views ++ no_hands ∷ [])
+  pub views_sit : (views : List (Hands D)) (order : List (StepBy D)) → Views seats order views → Views seats order (views ++ no_hands ∷ [])
   views_sit views order r = record {
     place = r.place;
     each_hand = λ j v at m h hm. ⊎_elim (λ at'. r.each_hand j v at' m h hm)
@@ -88,7 +84,7 @@ module _ {D : Type 0} (seats : ℕ) where
     by_seats = r.by_seats;
   }
 
-  module _ (views : List (Hands D)) (order : List (Entry D)) (place : ℕ → ℕ × ℕ) (id : ℕ) (h0 : Hand D) (hs : List (Hand D)) (here : get_elem? views id ≡ some (record { hands = h0 ∷ hs })) (each : Parts views order place) where
+  module _ (views : List (Hands D)) (order : List (StepBy D)) (place : ℕ → ℕ × ℕ) (id : ℕ) (h0 : Hand D) (hs : List (Hand D)) (here : get_elem? views id ≡ some (record { hands = h0 ∷ hs })) (each : Parts views order place) where
     abbrev split_to : ℕ → ℕ × ℕ
     split_to = split_place (length views) id h0.number place
 
@@ -119,14 +115,14 @@ module _ {D : Type 0} (seats : ℕ) where
         (λ (t : (j ≡ length (set views id left)) × (right ≡ v)). split_given j v (t.0 ∙ length-set views id left) t.1 m h hm)
         (at_end (set views id left) right v j at)
 
-  pub views_deal : (views : List (Hands D)) (order : List (Entry D)) (id : ℕ) (v : Hands D) (h0 : Hand D) (hs : List (Hand D)) → v.hands ≡ h0 ∷ hs → get_elem? views id ≡ some v → Views seats order views
+  pub views_deal : (views : List (Hands D)) (order : List (StepBy D)) (id : ℕ) (v : Hands D) (h0 : Hand D) (hs : List (Hand D)) → v.hands ≡ h0 ∷ hs → get_elem? views id ≡ some v → Views seats order views
       → Views seats order (set views id (kept_hands v) ++ given_hands v ∷ [])
   views_deal views order id v h0 hs is at r =
       let v_is : v ≡ record { hands = h0 ∷ hs } = ap (λ (l : List (Hand D)). record { hands = l }) is in
       subst (λ (z : Hands D × Hands D). Views seats order (set views id z.0 ++ z.1 ∷ [])) (λ k. (kept_hands (sym v_is k), given_hands (sym v_is k)))
       record { place = split_place (length views) id h0.number r.place; each_hand = parts_split views order r.place id h0 hs (at ∙ ap some v_is) r.each_hand; by_seats = r.by_seats }
 
-  module _ (views : List (Hands D)) (order : List (Entry D)) (place : ℕ → ℕ × ℕ) (id other : ℕ) (v w : Hands D) (here : get_elem? views id ≡ some v) (ne : other ≢ id) (there : get_elem? views other ≡ some w) (each : Parts views order place) where
+  module _ (views : List (Hands D)) (order : List (StepBy D)) (place : ℕ → ℕ × ℕ) (id other : ℕ) (v w : Hands D) (here : get_elem? views id ≡ some v) (ne : other ≢ id) (there : get_elem? views other ≡ some w) (each : Parts views order place) where
     abbrev join_to : ℕ → ℕ × ℕ
     join_to = join_place id other (length w.hands) place
 
@@ -149,7 +145,7 @@ module _ {D : Type 0} (seats : ℕ) where
         (at_set views id j both u t.1))
         (at_set (set views id both) other j no_hands u at)
 
-  pub views_gather : (views : List (Hands D)) (order : List (Entry D)) (id other : ℕ) (v w : Hands D) → get_elem? views id ≡ some v → other ≢ id → get_elem? views other ≡ some w → Views seats order views
+  pub views_gather : (views : List (Hands D)) (order : List (StepBy D)) (id other : ℕ) (v w : Hands D) → get_elem? views id ≡ some v → other ≢ id → get_elem? views other ≡ some w → Views seats order views
       → Views seats order (set (set views id (joined_hands v w)) other no_hands)
   views_gather views order id other v w here ne there r =
       record { place = join_place id other (length w.hands) r.place; each_hand = parts_join views order r.place id other v w here ne there r.each_hand; by_seats = r.by_seats }

@@ -11,7 +11,8 @@ use crate::seat::OrderedSeat;
 use atomic_table::{Seat, Shared};
 use std::alloc::{AllocError, Global};
 
-/// Gives all seats of a table that no step was made on, numbered from 0 on. `main` is the seat that came with the table.
+/// Gives all seats of a table that no step was made on, numbered from 0 on. `main` is the seat that
+/// came with the table.
 pub fn deal<S, D, K, R: StepRule<S, D, K>>(
     alloc: Global,
     shared: &Shared<S, Hands<D>, K, OneOrder<R>>,

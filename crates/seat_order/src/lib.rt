@@ -1,18 +1,25 @@
-//! Numbered seats at a table of atomic words, each with the list of its own steps, under one order of all steps.
+//! Numbered seats at a table of atomic words, each with the list of its own steps, under one order
+//! of all steps.
 #![tactic(auto)]
 
 mod closing;
 mod dealing;
+mod gathered;
 mod hands;
+mod making;
+mod moving;
 mod passing;
 mod rule;
 mod seat;
 
 pub use closing::{close, gather};
 pub use dealing::deal;
+pub use gathered::Gathered;
 pub use hands::{Hand, Hands};
+pub use making::{Counted, Makes, Making};
+pub use moving::{Moves, Moving};
 pub use passing::{Deals, Gathers, Sits};
-pub use rule::{Makes, Making, OneOrder, StepRule};
+pub use rule::{OneOrder, StepRule};
 pub use seat::OrderedSeat;
 
 #[cfg(test)]

@@ -2,7 +2,7 @@
 ghost use Rattle.std.specs.Prelude.{◌≡◌, [], ◌∷◌, IfOk};
 ghost use Rattle.seat_order.specs.Hands.{all_hands};
 
-use crate::{Hands, OneOrder, StepRule, close, deal};
+use crate::{Gathered, Hands, OneOrder, StepRule, close, deal};
 use atomic_table::{Seat, Table};
 use std::alloc::{AllocError, Global};
 
@@ -37,6 +37,26 @@ fn a_table_closes_with_the_seats_that_were_dealt(rt: HostRuntime) {
     };
     assert_eq!(rt; seats.len(), 3);
     let closed = close(table, seats);
+    assert_eq!(rt; closed.word(0), 7);
+    closed.free();
+}
+
+#[test]
+fn seats_are_taken_back_one_by_one(rt: HostRuntime) {
+    let Ok((table, main)) = made(rt.alloc()) else {
+        panic!(rt; "no memory")
+    };
+    let Ok(mut seats) = deal(rt.alloc(), &table.shared, main, 3) else {
+        panic!(rt; "no memory")
+    };
+    let (Some(two), Some(one), Some(zero)) = (seats.pop(), seats.pop(), seats.pop()) else {
+        panic!(rt; "fewer than three seats")
+    };
+    let mut all = Gathered::sit(&table.shared);
+    all.join(&table.shared, one);
+    all.join(&table.shared, zero);
+    all.join(&table.shared, two);
+    let closed = all.finish(table);
     assert_eq!(rt; closed.word(0), 7);
     closed.free();
 }

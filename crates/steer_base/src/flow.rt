@@ -4,9 +4,19 @@
 #[derive(Clone, Copy, Debug, PartialEq, Eq)]
 pub enum Pair {
     /// Two IPv4 addresses of 32 bits.
-    V4 { src: u32, dst: u32 },
+    V4 {
+        /// The source.
+        src: u32,
+        /// The destination.
+        dst: u32,
+    },
     /// Two IPv6 addresses of 128 bits.
-    V6 { src: u128, dst: u128 },
+    V6 {
+        /// The source.
+        src: u128,
+        /// The destination.
+        dst: u128,
+    },
 }
 
 /// The transport protocols whose ports are part of a flow.
