@@ -1,2 +1,3 @@
 pub mod CountersLemmas
+pub mod ListLemmas
 pub mod SetsLemmas

@@ -6,6 +6,8 @@ pub mod Counters
 pub mod Drops
 pub mod Entries
 pub mod Filters
+pub mod HashTables
+pub mod Journals
 pub mod Lanes
 pub mod Orders
 pub mod Sets

@@ -1,0 +1,76 @@
+//! A list that contracts see as the list of its items.
+ghost use Rattle.std.specs.Prelude.{◌≡◌, ◌<◌, length, slice_index_or};
+
+use std::marker::Model;
+
+/// Items in their order, which never change. Contracts see a list, and a list of lists as one too.
+#[derive(Debug, Drop)]
+pub struct List<T> {
+    items: Vec<T>,
+}
+
+impl<T> Model for List<T> {
+    ghost use Rattle.std.specs.Prelude.{List as Items};
+    ghost use Rattle.std.specs.Coded.{coded_list};
+
+    ghost Value = { Items T };
+
+    ghost coded = { coded_list T.code };
+
+    ghost view = { λ l. l.items.items };
+}
+
+impl<T> List<T> {
+    /// The list of a vector's items. It takes no memory.
+    pub fn from_vec(items: Vec<T>) -> List<T>
+        ensures { result ≡ items.items }
+    {
+        List { items }
+    }
+
+    /// The number of items.
+    pub fn len(&self) -> usize
+        ensures { result ≡ length self.now }
+    {
+        self.items.len()
+    }
+
+    /// The item at an index, from 0.
+    pub fn get(&self, index: usize) -> &T
+        requires { index < length self.now }
+        ensures { result.now ≡ slice_index_or self.now index result.now }
+    {
+        &self.items[index]
+    }
+
+    /// The items as a slice.
+    pub fn as_slice(&self) -> &[T]
+        ensures { result.now ≡ self.now }
+    {
+        &self.items
+    }
+
+    /// The items as a vector, with the memory that they lie in.
+    pub fn into_vec(self) -> Vec<T>
+        ensures { result.items ≡ self }
+    {
+        let List { items } = self;
+        items
+    }
+}
+
+#[cfg(test)]
+mod tests {
+    use super::*;
+    use std::test::Fail;
+
+    #[test]
+    fn a_list_has_the_items_of_its_vector(rt: HostRuntime) -> Result<(), Fail> {
+        let list = List::from_vec([7u32, 5].to_vec(rt.alloc())?);
+        assert_eq!(rt; list.len(), 2);
+        assert_eq!(rt; *list.get(1), 5);
+        assert_eq!(rt; list.as_slice(), [7, 5].as_slice());
+        assert_eq!(rt; list.into_vec().as_slice(), [7, 5].as_slice());
+        Ok(())
+    }
+}
