@@ -1,11 +1,13 @@
 //! The table of socket flow entries.
-ghost use Rattle.std.specs.Prelude.{◌≡◌, ◌<◌, ◌≤◌, IfOk, IfSome, length, nat_lt};
+ghost use Rattle.std.specs.Prelude.{◌≡◌, ◌<◌, ◌≤◌, IfOk, IfSome, length, nat_lt, take};
+ghost use Rattle.std.specs.Vec.{vec_len, vec_capacity};
 ghost use Rattle.steer_base.specs.Counters.{rounded_up};
-ghost use Rattle.sock_flow_table.specs.Sockets.{noted, place_of, unset, wanted};
+ghost use Rattle.steer_base.specs.HashTables.{place_in_rows};
+ghost use Rattle.sock_flow_table.specs.Sockets.{noted, unset, wanted};
 
 use std::alloc::Global;
 use std::marker::Model;
-use steer_base::{Cpu, OutOfMemory, round_up};
+use steer_base::{Cpu, OutOfMemory, place_of_hash, round_up};
 
 /// The entries of the largest table.
 const LARGEST: usize = 65536;
@@ -74,19 +76,27 @@ impl SockTable {
         ensures { self.new ≡ unset (rounded_up entries) }
     {
         self.size = round_up(entries);
-        self.entries[..self.size as usize].fill(None);
+        clear(&mut self.entries, self.size as usize);
     }
 
     // The entry of a hash, if the table has entries.
     fn place(&self, hash: u32) -> Option<usize>
-        ensures value { result ≡ place_of self.now hash }
+        ensures value { result ≡ place_in_rows self.now (Some hash) }
         ensures within { IfSome result (λ place. place < length self.now) }
     {
-        if self.size == 0 {
-            None
-        } else {
-            Some((hash % self.size) as usize)
-        }
+        place_of_hash(Some(hash), self.size).map(|place| place as usize)
+    }
+}
+
+// Makes the first `count` entries unset.
+fn clear(entries: &mut Vec<Option<Cpu>>, count: usize)
+    requires { count ≤ vec_len entries.old }
+    ensures unset { take count entries.new.items ≡ unset count }
+    ensures len { vec_len entries.new ≡ vec_len entries.old }
+    ensures capacity { vec_capacity entries.new ≡ vec_capacity entries.old }
+{
+    for place in 0..count {
+        entries[place] = None;
     }
 }
 
