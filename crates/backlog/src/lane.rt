@@ -10,8 +10,8 @@ use std::alloc::Global;
 use std::marker::Model;
 use steer_base::{LaneDrop, OutOfMemory, PacketId, Put};
 
-/// A queue of packets with a limit on those that wait, after the kernel's backlog of a processor (`netdev_max_backlog`)
-/// and, where it is limited, the flow limit of the scaling chapter.
+/// A queue of packets with a limit on those that wait, after the kernel's backlog of a processor
+/// (`netdev_max_backlog`) and, where it is limited, the flow limit of the scaling chapter.
 #[derive(Drop)]
 pub struct Lane {
     queue: Queue,
@@ -36,8 +36,8 @@ impl Model for Lane {
 }
 
 impl Lane {
-    /// An empty lane, with the memory for `room` packets, accepted and dropped together. At most `limit` packets wait in
-    /// it. Its counter shows `start` at no packet. Whether the flow limit holds is `limited`.
+    /// An empty lane, with the memory for `room` packets, accepted and dropped together. At most `limit` packets
+    /// wait in it. Its counter shows `start` at no packet. Whether the flow limit holds is `limited`.
     pub fn make(
         alloc: Global,
         limit: u32,
@@ -63,8 +63,8 @@ impl Lane {
         })
     }
 
-    /// Offers a packet with this hash to the lane. It is dropped where as many packets wait as the limit allows, and
-    /// else where the flow limit says so; otherwise it is accepted.
+    /// Offers a packet with this hash to the lane. It is dropped where as many packets wait as the limit allows,
+    /// and else where the flow limit says so; otherwise it is accepted.
     pub fn put(&mut self, id: PacketId, hash: Option<u32>) -> Put
         requires { put_count self.old < self.old.room }
         ensures lists { self.new ≡ after_put self.old id hash }
@@ -108,7 +108,21 @@ impl Lane {
         self.queue.take()
     }
 
-    /// The packet that was accepted as number `n`, from 0, if so many were.
+    /// How many packets may still be put: the room less those that were accepted or dropped.
+    pub fn room(&self) -> u32
+        ensures { result + put_count self.now ≡ self.now.room }
+    {
+        self.room - self.offers.len()
+    }
+
+    /// How many packets were accepted.
+    pub fn accepted_len(&self) -> u32
+        ensures { result ≡ length self.now.accepted }
+    {
+        self.queue.accepted()
+    }
+
+    /// The packet at index `n`, from 0, among the accepted ones, if more than `n` were accepted.
     pub fn accepted_at(&self, n: u32) -> Option<PacketId>
         ensures { result ≡ slice_get self.now.accepted n }
     {

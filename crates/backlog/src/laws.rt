@@ -4,6 +4,7 @@ ghost use Rattle.steer_base.specs.Drops.{bucket_of};
 ghost use Rattle.steer_base.specs.Lanes.{LaneLists};
 ghost use Rattle.backlog.specs.Offers.{AllExplained, AreOffers};
 ghost use Rattle.backlog.specs.Puts.{after_put, after_take, new_lane};
+ghost use Rattle.backlog.specs.Rising.{AreRising};
 
 /// An empty lane has no offers and no drops.
 pub fn a_new_lane_is_explained()
@@ -22,4 +23,12 @@ pub fn a_put_is_explained()
 pub fn a_take_is_explained()
     ensures offers { (hash : ℕ → Option ℕ) (l : LaneLists) → AreOffers hash l → AreOffers hash (after_take l) }
     ensures drops { (hash : ℕ → Option ℕ) (l : LaneLists) → AllExplained hash l → AllExplained hash (after_take l) }
+{}
+
+/// Along a lane's drops neither of their two counts ever falls, and none is over the lane's count: from a new lane on, and
+/// after every put and take.
+pub fn counts_of_drops_never_fall()
+    ensures new { (limit room start : ℕ) (limited : Bool) → AreRising (new_lane limit room start limited) }
+    ensures put { (l : LaneLists) (id : ℕ) (hash : Option ℕ) → AreRising l → AreRising (after_put l id hash) }
+    ensures take { (l : LaneLists) → AreRising l → AreRising (after_take l) }
 {}

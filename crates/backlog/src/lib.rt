@@ -12,4 +12,6 @@ mod tests;
 mod window;
 
 pub use lane::Lane;
-pub use laws::{a_new_lane_is_explained, a_put_is_explained, a_take_is_explained};
+pub use laws::{
+    a_new_lane_is_explained, a_put_is_explained, a_take_is_explained, counts_of_drops_never_fall,
+};

@@ -2,16 +2,14 @@
 ghost use Rattle.std.specs.Prelude.{ℕ, ◌≡◌, ◌<◌, ◌≤◌, ◌==◌, List, [], ◌∷◌, ◌++◌, count_by, drop, length, replicate, IfOk};
 ghost use Rattle.steer_base.specs.Drops.{last_of};
 
+use crate::bucket::BUCKETS;
 use circular_buffer::HeapCircularBuffer;
 use std::alloc::Global;
 use std::marker::Model;
 use steer_base::OutOfMemory;
 
-/// How many offers are looked back at.
+/// How many offers the flow limit looks back at.
 const WINDOW: usize = 256;
-
-/// The number of buckets.
-const BUCKETS: usize = 4096;
 
 /// The last 256 buckets, seen as their list.
 #[derive(Drop)]
@@ -82,5 +80,5 @@ impl Window {
 fn zeros(alloc: Global) -> Result<Vec<u16>, OutOfMemory>
     ensures { IfOk result (λ counts. counts.items ≡ replicate 4096 0) }
 {
-    Ok(Vec::from_elem(alloc, 0, BUCKETS)?)
+    Ok(Vec::from_elem(alloc, 0, BUCKETS as usize)?)
 }

@@ -22,6 +22,9 @@ const ADDRESSES_AND_TYPE: usize = 14;
 /// How many VLAN tags are walked.
 const MAX_TAGS: usize = 2;
 
+/// The bytes of a tag: its value, and the type of what it carries.
+const TAG: usize = 4;
+
 /// Where the IP packet of a frame begins.
 #[derive(Clone, Copy, Debug, PartialEq, Eq)]
 pub struct IpAt {
@@ -49,11 +52,11 @@ fn after_tags(frame: &[u8]) -> Option<IpAt>
     let mut left = MAX_TAGS;
     while left > 0 && is_tag(kind) {
         let (_, rest) = frame.split_at(start);
-        if rest.len() < 4 {
+        if rest.len() < TAG {
             return None;
         }
         kind = BigEndian::read_u16(&rest[2..]);
-        start += 4;
+        start += TAG;
         left -= 1;
     }
     Some(IpAt { kind, start })

@@ -9,24 +9,31 @@ use crate::ports::flow_between;
 use byteorder::{BigEndian, ByteOrder};
 use steer_base::{Flow, Pair};
 
-// The bit that says that more fragments follow, and the bits of the offset, are below this one.
+/// The bit of a packet that may not be cut. Below it stand the bit that says that more fragments follow, and the
+/// offset of a fragment.
 const DONT_FRAGMENT: u16 = 0x4000;
+
+/// How many bytes a header has at the least.
+const MIN_HEADER: usize = 20;
+
+/// The bytes of a word, the unit in which a header tells its length.
+const WORD: usize = 4;
 
 // How many bytes the header says that it has.
 fn header_len(packet: &[u8]) -> usize
     requires { 1 ≤ length packet.now }
     ensures { result ≡ ipv4_header_len packet.now }
 {
-    4 * usize::from(packet[0] % 16)
+    WORD * usize::from(packet[0] % 16)
 }
 
 #[tactic(auto, unfolding(crate::specs::Ipv4::is_ipv4))]
 pub fn is_ipv4(packet: &[u8]) -> bool
     ensures { result ≡ is_ipv4 packet.now }
 {
-    packet.len() >= 20
+    packet.len() >= MIN_HEADER
         && packet[0] / 16 == 4
-        && header_len(packet) >= 20
+        && header_len(packet) >= MIN_HEADER
         && header_len(packet) <= packet.len()
 }
 

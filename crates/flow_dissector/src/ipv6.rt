@@ -15,8 +15,17 @@ const HEADER: usize = 40;
 /// How many extension headers are walked.
 const MAX_EXTENSIONS: usize = 8;
 
+/// The number of a hop-by-hop options header.
+const HOP_BY_HOP: u8 = 0;
+
+/// The number of a routing header.
+const ROUTING: u8 = 43;
+
 /// The number of a fragment header.
 const FRAGMENT: u8 = 44;
+
+/// The number of a destination options header.
+const DESTINATION_OPTIONS: u8 = 60;
 
 #[tactic(auto, unfolding(crate::specs::Ipv6::is_ipv6))]
 pub fn is_ipv6(packet: &[u8]) -> bool
@@ -25,11 +34,11 @@ pub fn is_ipv6(packet: &[u8]) -> bool
     packet.len() >= HEADER && packet[0] / 16 == 6
 }
 
-// Hop-by-hop options, a routing header, destination options.
+// Whether a header with this number is walked.
 fn is_extension(next: u8) -> bool
     ensures { result ≡ is_extension next }
 {
-    next == 0 || next == 43 || next == 60
+    next == HOP_BY_HOP || next == ROUTING || next == DESTINATION_OPTIONS
 }
 
 // What the extensions behind the fixed header carry.

@@ -8,15 +8,20 @@ use crate::payload::Payload;
 use byteorder::{BigEndian, ByteOrder};
 use steer_base::{Flow, Pair, Proto};
 
+/// The protocol number of TCP.
 const TCP: u8 = 6;
 
+/// The protocol number of UDP.
 const UDP: u8 = 17;
+
+/// The bytes of the two ports, with which both headers begin.
+const PORTS: usize = 4;
 
 #[tactic(auto, unfolding(crate::specs::Ports::flow_with_ports))]
 fn flow_with_ports(pair: Pair, proto: Proto, segment: &[u8]) -> Flow
     ensures { result ≡ flow_with_ports pair proto segment.now }
 {
-    if segment.len() < 4 {
+    if segment.len() < PORTS {
         return Flow::Two(pair);
     }
     let source = BigEndian::read_u16(segment);

@@ -98,7 +98,7 @@ stays-enabled s (event.Take q) m h p i ip = λ _ _. record { longer = ip; choice
 stays-enabled s (event.Enter a) m h p i ip = λ _ _. record { longer = ip; choice = refl; entries = λ from k. refl }
 stays-enabled s (event.Leave a) m h p i ip = λ _ _. record { longer = ip; choice = refl; entries = λ from k. refl }
 stays-enabled s (event.Weigh q class want desired online) m h p i ip =
-    λ _ _. stays-weigh s q (choice_of s q class want desired online) (let w = h.wide in let a = m.0 in omega arith) p i ip
+    λ _ _. stays-weigh s q (choice_of s q class want desired online) (let w = h.wide in let a = m.producer in omega arith) p i ip
 stays-enabled s (event.Put q hash) m h p i ip =
     λ _ more. stays-landed s q (lane_drop_cause (lane_of s.fixed s.bare (in_hand s q).choice.lane) hash) (bucket_of hash) h more p i ip
 stays-enabled s (event.Pull c) m h p i ip = λ _ _. record { longer = ip; choice = refl; entries = λ from k. refl }
@@ -154,4 +154,4 @@ choice_is_by_the_rule s p class want desired online es h m inside more after =
     subst (λ t. (chosen_at (choices_of (run es t) p) (length (choices_of s p))).choice
     ≡ migrate class want desired (entries_before (run es t) p (since_of s p) (length (choices_of s p))) (head_at s.fixed.start s.bare) (has online))
     (sym is)
-    (rule_from s p class want desired online es (let w = h.wide in let a = m.0 in omega arith) (subst Sound is sound) (subst (AllMayAsk es) is after))
+    (rule_from s p class want desired online es (let w = h.wide in let a = m.producer in omega arith) (subst Sound is sound) (subst (AllMayAsk es) is after))

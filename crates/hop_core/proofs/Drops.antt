@@ -1,5 +1,5 @@
 -- Each drop has its cause, and ample lanes drop nothing.
-use Rattle.std.proofs.Common.{ℕ, ◌+◌, ◌-◌, ◌≤◌, ◌<◌, ◌≡◌, ◌≢◌, Bool, false, List, [], ◌∷◌, ◌++◌, Option, Some, None, length, refl, ◌∙◌, sym, subst, arith, inl, inr, get_or}
+use Rattle.std.proofs.Common.{ℕ, ◌+◌, ◌-◌, ◌≤◌, ◌<◌, ◌≡◌, ◌≢◌, Bool, false, List, [], ◌∷◌, ◌++◌, Option, Some, None, length, refl, ◌∙◌, sym, subst, arith, inl, inr, get_or, map}
 use Rattle.std.specs.Prelude.{slice_index}
 use Rattle.std.proofs.lemmas.Bool.{cases_eq, ne_eqb}
 use Rattle.std.proofs.Math.ListN.{length-replicate}
@@ -15,9 +15,9 @@ use Rattle.hop_core.specs.declared.event.HopEvent.{HopEvent}
 use Rattle.hop_core.specs.declared.event.HopEvent.TheVariants as event
 use Rattle.hop_core.specs.Hop.{Fixed, Bare, HopState, accepted_at, offers_at, drops_at, fell_at, pulled_at, arrivals_of, choices_of, placed_of, in_hand, lane_of, landed}
 use Rattle.hop_core.specs.Events.{happens, MayAsk, AllMayAsk, run}
-use Rattle.hop_core.specs.Shape.{new_hop}
+use Rattle.hop_core.specs.Shape.{classes_for, fixed_of, fresh_hop, new_hop}
 use Rattle.hop_core.specs.Sound.{Puts, Sound}
-use Rattle.hop_core.specs.Laws.{IsHashed, AllHashed, DropsExplained, ExplainsDrops, EachExplainsDrops, NeverDrops}
+use Rattle.hop_core.specs.Laws.{IsHashed, AllHashed, DropsExplained, ExplainsDrops, EachExplainsDrops, NeverDrops, Ample, EachKeepsAmple, FreshIsAmple, FreshIsExplained}
 use Rattle.hop_core.proofs.Lists.{Changed-set}
 use Rattle.hop_core.proofs.Cases.{Enabled, by_cases}
 use Rattle.hop_core.proofs.ProducerSteps.{in_hand_absent}
@@ -119,17 +119,21 @@ explained-run hash [] s m own h all = all
 explained-run hash (e ∷ es) s m own h all =
     explained-run hash es (happens s e).0 m.1 own.1 (Sound-happens s e m.0 h) (each_explains_drops hash s e own.0 h all)
 
-pub explains_drops : ExplainsDrops
-explains_drops hash shape es is m own =
-    let s : HopState = new_hop shape in
-    let a : (c : ℕ) → accepted_at s.bare c ≡ [] = λ c. at_new shape.lanes c [] in
-    let o : (c : ℕ) → offers_at s.bare c ≡ [] = λ c. at_new shape.lanes c [] in
-    let d : (c : ℕ) → drops_at s.bare c ≡ [] = λ c. at_new shape.lanes c [] in
-    explained-run hash es s m own (Sound-new shape is)
-    (record {
+pub fresh_is_explained : FreshIsExplained
+fresh_is_explained hash fixed classes guests lanes outs =
+    let s : HopState = fresh_hop fixed classes guests lanes outs in
+    let a : (c : ℕ) → accepted_at s.bare c ≡ [] = λ c. at_new lanes c [] in
+    let o : (c : ℕ) → offers_at s.bare c ≡ [] = λ c. at_new lanes c [] in
+    let d : (c : ℕ) → drops_at s.bare c ≡ [] = λ c. at_new lanes c [] in
+    record {
       offers = λ c. record { buckets = rw (a c, o c, d c) refl; counts = rw (a c, d c) (λ k e lt. absurd (omega arith)) };
       causes = λ c k r at. absurd (let f = rw (d c) at at in cc);
-    })
+    }
+
+pub explains_drops : ExplainsDrops
+explains_drops hash shape es is m own =
+    explained-run hash es (new_hop shape) m own (Sound-new shape is)
+    (fresh_is_explained hash (fixed_of shape) (map (classes_for shape.exact) shape.counts.items) shape.guests shape.lanes shape.outs)
 
 -- ---- ample lanes drop nothing
 
@@ -151,20 +155,14 @@ room-put s p h more c =
     (λ i j x y e. (h.places.once c c i j x y e).1) (λ i j x y e. (h.places.fell_once c c i j x y e).1)
     (λ i j x y. h.places.never_both c c i j x y)
 
-no_flow_cause : (limit waiting : ℕ) (offers : List (Option ℕ)) (bucket : Option ℕ) → over_flow_limit false limit waiting offers bucket ≡ None
-no_flow_cause limit waiting offers None = refl
-no_flow_cause limit waiting offers (Some b) = refl
+no_flow_cause : (limit waiting : ℕ) (count : Option ℕ) → over_flow_limit false limit waiting count ≡ None
+no_flow_cause limit waiting None = refl
+no_flow_cause limit waiting (Some count) = refl
 
 no_cause : (limited : Bool) (limit waiting : ℕ) (offers : List (Option ℕ)) (hash : Option ℕ) → limited ≡ false → waiting < limit
     → drop_cause limited limit waiting offers hash ≡ None
 no_cause limited limit waiting offers hash off less =
-    rw (ne_eqb waiting limit (λ e. omega arith), off) (no_flow_cause limit waiting offers (bucket_of hash))
-
--- a hop whose lanes have room for all and no flow limit, and dropped nothing
-record Ample (s : HopState) : Type 0 where
-  room : s.fixed.room ≤ s.fixed.limit
-  unlimited : (c : ℕ) → c < length s.bare.accepted → has s.fixed.limited c ≡ false
-  none : (c : ℕ) → drops_at s.bare c ≡ []
+    rw (ne_eqb waiting limit (λ e. omega arith), off) (no_flow_cause limit waiting _)
 
 ample-landed : (s : HopState) (p : ℕ) (cause : Option DropCause) (bucket : Option ℕ) → cause ≡ None → Ample s → (c : ℕ) → drops_at (put_as s p cause bucket).bare c ≡ []
 ample-landed s p None bucket is a = a.none
@@ -197,23 +195,29 @@ ample-enabled s event.Close h a = λ _. record { none = a.none }
 ample-enabled s event.Reopen h a = record { none = a.none }
 ample-enabled s (event.Put p hash) h a = λ _ more. record { none = ample-put s p hash h more a }
 
-ample-run : (es : List HopEvent) (s : HopState) → AllMayAsk es s → Sound s → Ample s → Ample (run es s)
-ample-run [] s m h a = a
-ample-run (e ∷ es) s m h a =
+pub each_keeps_ample : EachKeepsAmple
+each_keeps_ample s e h a =
     let size = Sizes-happens s e in
     let none = by_cases NoDrops s e (record { none = a.none }) (ample-enabled s e h a) in
-    ample-run es (happens s e).0 m.1 (Sound-happens s e m.0 h)
-    (record {
+    record {
       room = rw size.fixed a.room;
       unlimited = λ c lt. rw size.fixed (a.unlimited c (rw size.lanes at lt));
       none = none.none;
-    })
+    }
+
+ample-run : (es : List HopEvent) (s : HopState) → AllMayAsk es s → Sound s → Ample s → Ample (run es s)
+ample-run [] s m h a = a
+ample-run (e ∷ es) s m h a = ample-run es (happens s e).0 m.1 (Sound-happens s e m.0 h) (each_keeps_ample s e h a)
+
+pub fresh_is_ample : FreshIsAmple
+fresh_is_ample fixed classes guests lanes outs ample off =
+    record {
+      room = ample;
+      unlimited = λ c lt. off c (rw length-replicate at lt);
+      none = λ c. at_new lanes c [];
+    }
 
 pub never_drops : NeverDrops
 never_drops shape es is ample off m =
     (ample-run es (new_hop shape) m (Sound-new shape is)
-    (record {
-      room = ample;
-      unlimited = λ c lt. off c (rw length-replicate at lt);
-      none = λ c. at_new shape.lanes c [];
-    })).none
+    (fresh_is_ample (fixed_of shape) (map (classes_for shape.exact) shape.counts.items) shape.guests shape.lanes shape.outs ample off)).none

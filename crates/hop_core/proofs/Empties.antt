@@ -1,6 +1,6 @@
 -- A loop over the lanes that looks for the first one that is not empty.
 use Rattle.std.proofs.Common.{ℕ, ◌+◌, ◌%◌, ◌≤◌, ◌<◌, ◌≡◌, ◌≢◌, Bool, true, false, List, [], ◌∷◌, length, ◌++◌, ◌-◌, ◌⊎◌, refl, ap, ◌∙◌, sym, arith, inl, inr, cond, zero, suc, append_assoc}
-use Rattle.std.specs.Prelude.{◌↔◌, Err, IsOk, not, ◌==◌, ◌^◌, Ok}
+use Rattle.std.specs.Prelude.{◌↔◌, Err, IsOk, not, ◌==◌, ◌&&◌, ◌^◌, Ok}
 use Rattle.std.proofs.lemmas.Bool.{cases_Bool, cases_eq, eq-eqb, ne_eqb}
 use Rattle.std.proofs.lemmas.List.{length-append}
 use Rattle.steer_base.specs.Counters.{number}
@@ -8,7 +8,7 @@ use Rattle.steer_base.specs.Sets.{has, those_below}
 use Rattle.steer_base.specs.declared.command.Busy.TheVariants.{NotEmpty}
 use Rattle.steer_base.specs.declared.cpu_mask.CpuMask.{CpuMask}
 use Rattle.steer_base.proofs.SetsLemmas.{those_below-more, those_below-zero, those_below_fail}
-use Rattle.hop_core.specs.Emptied.{AreEmptied, emptied, first_busy, is_waiting, waiting}
+use Rattle.hop_core.specs.Emptied.{AreEmptiedOf, EmptiedIsExact, SetIsAsked, emptied_of, first_busy, is_waiting, waiting}
 use Rattle.hop_core.specs.Events.{IsEmptied}
 use Rattle.hop_core.specs.Hop.{HopState, accepted_at, head_at, retired_at, tail_at}
 use Rattle.hop_core.specs.Sound.{Sound}
@@ -35,14 +35,22 @@ unretired s c h =
     let a = h.counts.retired_first c in let b = h.counts.delivered_first c in let d = h.counts.pulled_first c in
     number-less s.fixed.start (length (accepted_at s.bare c)) (retired_at s.bare c) h.small.start (omega arith) (omega arith)
 
+-- the tail less the number of no packet is the count
+pub accepted_count : (s : HopState) (c : ℕ) → Sound s
+    → (tail_at s.fixed.start s.bare c + (2 ^ 32 - number s.fixed.start 0)) % 2 ^ 32 ≡ length (accepted_at s.bare c)
+accepted_count s c h =
+    let f = (fits_room s h).puts c in let r = h.small.room in
+    let e = number-less s.fixed.start (length (accepted_at s.bare c)) 0 h.small.start (omega arith) (omega arith) in
+    e ∙ (let g : length (accepted_at s.bare c) - 0 ≡ length (accepted_at s.bare c) = omega arith in g)
+
 -- a lane whose head is its tail does not wait, and no lane that is not in the set
 pub waits_not : (s : HopState) (lanes : CpuMask) (c : ℕ) → Sound s
-    → ((has lanes c ≡ true) × (head_at s.fixed.start s.bare c ≡ tail_at s.fixed.start s.bare c)) ⊎ (has lanes c ≡ false) → is_waiting s lanes c ≡ false
+    → ((has lanes c ≡ true) × (head_at s.fixed.start s.bare c ≡ tail_at s.fixed.start s.bare c)) ⊎ (has lanes c ≡ false) → is_waiting s (has lanes) c ≡ false
 waits_not s lanes c h (inl a) = rw (a.0, eq-eqb (retired_at s.bare c) (length (accepted_at s.bare c)) (head_is_tail s c h a.1)) refl
 waits_not s lanes c h (inr b) = rw b refl
 
 pub waits : (s : HopState) (lanes : CpuMask) (c : ℕ) → has lanes c ≡ true → head_at s.fixed.start s.bare c ≢ tail_at s.fixed.start s.bare c
-    → is_waiting s lanes c ≡ true
+    → is_waiting s (has lanes) c ≡ true
 waits s lanes c named apart =
     let ne : retired_at s.bare c ≢ length (accepted_at s.bare c) = λ e. apart (ap (number s.fixed.start) e) in
     rw (named, ne_eqb (retired_at s.bare c) (length (accepted_at s.bare c)) ne) refl
@@ -78,47 +86,62 @@ none-each n test none c lt =
       | inr fails ↦ fails
     ]
 
+-- tests that agree below n leave the same numbers
+those_below-same : (n : ℕ) (f g : ℕ → Bool) → ((c : ℕ) → c < n → f c ≡ g c) → those_below n f ≡ those_below n g
+those_below-same zero f g same = those_below-zero f ∙ sym (those_below-zero g)
+those_below-same (suc n) f g same =
+    let e : suc n ≡ n + 1 = omega arith in
+    ap (λ k. those_below k f) e ∙ those_below-more n f
+    ∙ ap (λ xs. xs ++ cond (f n) (n ∷ []) []) (those_below-same n f g (λ c lt. same c (omega arith)))
+    ∙ ap (λ b. those_below n g ++ cond b (n ∷ []) []) (same n (omega arith))
+    ∙ sym (those_below-more n g) ∙ ap (λ k. those_below k g) (sym e)
+
 each-none : (n : ℕ) (test : ℕ → Bool) → ((c : ℕ) → c < n → test c ≡ false) → those_below n test ≡ []
 each-none zero test each = those_below-zero test
 each-none (suc n) test each =
     let e : suc n ≡ n + 1 = omega arith in
     ap (λ k. those_below k test) e ∙ those_below_fail n test (each n (omega arith)) ∙ each-none n test (λ c lt. each c (omega arith))
 
-pub busy_at : (s : HopState) (lanes : CpuMask) (c : ℕ) → those_below c (is_waiting s lanes) ≡ [] → c < length s.bare.accepted → is_waiting s lanes c ≡ true
-    → Err (NotEmpty c (head_at s.fixed.start s.bare c) (tail_at s.fixed.start s.bare c)) ≡ emptied s lanes
-busy_at s lanes c none lt passes =
-    let f = split-below (length s.bare.accepted) (is_waiting s lanes) c lt passes in
-    let first : waiting s lanes ≡ c ∷ f.0 = rw none at f.1 in
+pub busy_at : (s : HopState) (asked : ℕ → Bool) (c : ℕ) → those_below c (is_waiting s asked) ≡ [] → c < length s.bare.accepted → is_waiting s asked c ≡ true
+    → Err (NotEmpty c (head_at s.fixed.start s.bare c) (tail_at s.fixed.start s.bare c)) ≡ emptied_of s asked
+busy_at s asked c none lt passes =
+    let f = split-below (length s.bare.accepted) (is_waiting s asked) c lt passes in
+    let first : waiting s asked ≡ c ∷ f.0 = rw none at f.1 in
     rw first refl
 
-pub all_empty : (s : HopState) (lanes : CpuMask) → waiting s lanes ≡ [] → Ok tt ≡ emptied s lanes
-all_empty s lanes none = rw none refl
+pub all_empty : (s : HopState) (asked : ℕ → Bool) → waiting s asked ≡ [] → Ok tt ≡ emptied_of s asked
+all_empty s asked none = rw none refl
 
-empty_at : (s : HopState) (lanes : CpuMask) (c : ℕ) → is_waiting s lanes c ≡ false → has lanes c ≡ true → IsEmptied s.bare c
-empty_at s lanes c quiet named =
+empty_at : (s : HopState) (asked : ℕ → Bool) (c : ℕ) → is_waiting s asked c ≡ false → asked c ≡ true → IsEmptied s.bare c
+empty_at s asked c quiet named =
     let f : not (retired_at s.bare c == length (accepted_at s.bare c)) ≡ false = rw named at quiet in
     elim (cases_eq (retired_at s.bare c) (length (accepted_at s.bare c))) [
       | inl e ↦ e
       | inr ne ↦ absurd (let g : true ≡ false = rw (ne_eqb (retired_at s.bare c) (length (accepted_at s.bare c)) ne) at f in cc)
     ]
 
-quiet_at : (s : HopState) (lanes : CpuMask) (c : ℕ) → (has lanes c ≡ true → IsEmptied s.bare c) → is_waiting s lanes c ≡ false
-quiet_at s lanes c empty =
-    elim (cases_Bool (has lanes c)) [
+quiet_at : (s : HopState) (asked : ℕ → Bool) (c : ℕ) → (asked c ≡ true → IsEmptied s.bare c) → is_waiting s asked c ≡ false
+quiet_at s asked c empty =
+    elim (cases_Bool (asked c)) [
       | inl named ↦ rw (named, eq-eqb (retired_at s.bare c) (length (accepted_at s.bare c)) (empty named)) refl
       | inr other ↦ rw other refl
     ]
 
-ok-waiting : (s : HopState) (lanes : CpuMask) (xs : List ℕ) → waiting s lanes ≡ xs → IsOk (first_busy s xs) ↔ AreEmptied s lanes
-ok-waiting s lanes [] e = (
-  λ ok c lt named. empty_at s lanes c (none-each (length s.bare.accepted) (is_waiting s lanes) e c lt) named,
+ok-waiting : (s : HopState) (asked : ℕ → Bool) (xs : List ℕ) → waiting s asked ≡ xs → IsOk (first_busy s xs) ↔ AreEmptiedOf s asked
+ok-waiting s asked [] e = (
+  λ ok c lt named. empty_at s asked c (none-each (length s.bare.accepted) (is_waiting s asked) e c lt) named,
   λ all. refl,
 )
-ok-waiting s lanes (x ∷ xs) e = (
+ok-waiting s asked (x ∷ xs) e = (
   λ ok. absurd cc,
-  λ all. absurd (let f = each-none (length s.bare.accepted) (is_waiting s lanes) (λ c lt. quiet_at s lanes c (all c lt)) in let g : (x ∷ xs) ≡ [] = sym e ∙ f in cc),
+  λ all. absurd (let f = each-none (length s.bare.accepted) (is_waiting s asked) (λ c lt. quiet_at s asked c (all c lt)) in let g : (x ∷ xs) ≡ [] = sym e ∙ f in cc),
 )
 
--- the answer is Ok exactly where each lane of the set is empty
-pub ok-empty : (s : HopState) (lanes : CpuMask) → IsOk (emptied s lanes) ↔ AreEmptied s lanes
-ok-empty s lanes = ok-waiting s lanes (waiting s lanes) refl
+-- the answer is Ok exactly where each lane that is asked for is empty
+pub emptied_is_exact : EmptiedIsExact
+emptied_is_exact s asked = ok-waiting s asked (waiting s asked) refl
+
+pub set_is_asked : SetIsAsked
+set_is_asked s lanes asked same =
+    ap (first_busy s) (those_below-same (length s.bare.accepted) (is_waiting s (has lanes)) (is_waiting s asked)
+    (λ c lt. ap (λ b. b && not (retired_at s.bare c == length (accepted_at s.bare c))) (same c lt)))

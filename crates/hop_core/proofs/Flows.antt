@@ -57,10 +57,10 @@ arrives_before set p q x s in' h r i ir m =
 -- an arrival asks nothing of the machine
 pub FlowOrdered-arrive : (test : ℕ → Bool) (p o q x : ℕ) (s : HopState) → MayAsk s (event.Arrive q x) → Sound s → FlowOrdered test p o s → FlowOrdered test p o (arrived s q x)
 FlowOrdered-arrive test p o q x s may h all set within mine =
-    let ch = Changed-set s.arrivals q (arrivals_of s q ++ x ∷ []) [] may.0 in
+    let ch = Changed-set s.arrivals q (arrivals_of s q ++ x ∷ []) [] may.producer in
     Ordered-happens set p o s (event.Arrive q x) may
     (λ m. mine q (length (arrivals_of s q)) (rw (ch.here, length-push) (omega arith)) (rw (ch.here, chosen-push_last (arrivals_of s q) x 0) m))
-    h (all set within (arrives_before set p q x s may.0 mine))
+    h (all set within (arrives_before set p q x s may.producer mine))
 
 -- ---- only an arrival changes what arrived
 
@@ -120,7 +120,7 @@ FlowOrdered-happens test p o s (event.Put q hash) may h allowed all =
     let own : q ≡ p = (
     let a = h.hands.arrived q in let b = h.hands.chosen q in
     before q (placed_of s q) (omega arith) (rw (← h.hands.of_arrivals q (placed_of s q) more) member)) in
-    elim (allowed (rw own at more) (rw own at (within (in_hand s q).id member))) [
+    elim (allowed own (rw own at more) (rw own at (within (in_hand s q).id member))) [
       | inl c ↦ inl (c.0, λ i d in' m. c.1 i d in' (within (get_or (recent s p) i d).id m))
       | inr at ↦ inr (rw own (OnlyAt-from_flow test set p (in_hand s p).choice.lane s h within before at))
     ]) all

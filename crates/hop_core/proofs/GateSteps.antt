@@ -152,14 +152,18 @@ Sound-reopen s h =
       gate = record { inside = h.gate.inside; shut = λ e. absurd (let f : false ≡ true = e in cc); weighed = h.gate.weighed };
     }
 
--- with the gate closed nobody has weighed
-pub all_placed : (s : HopState) → Sound s → s.bare.closed ≡ true → (p : ℕ) → placed_of s p ≡ length (choices_of s p)
-all_placed s h shut p =
+-- with nobody inside nobody has weighed
+pub nobody_weighs : (s : HopState) → Sound s → s.bare.inside ≡ 0 → (p : ℕ) → placed_of s p ≡ length (choices_of s p)
+nobody_weighs s h alone p =
     let a = h.hands.put p in
     elim (cases_lt (placed_of s p) (length (choices_of s p))) [
-      | inl lt ↦ absurd (let i = count_some s.visits p (h.gate.weighed p lt) in let z = h.gate.shut shut in let g = h.gate.inside in omega arith)
+      | inl lt ↦ absurd (let i = count_some s.visits p (h.gate.weighed p lt) in let g = h.gate.inside in omega arith)
       | inr le ↦ omega arith
     ]
+
+-- with the gate closed nobody has weighed
+pub all_placed : (s : HopState) → Sound s → s.bare.closed ≡ true → (p : ℕ) → placed_of s p ≡ length (choices_of s p)
+all_placed s h shut p = nobody_weighs s h (h.gate.shut shut) p
 
 pub Sound-resize : (s : HopState) (p count : ℕ) → p < length s.arrivals → s.bare.closed ≡ true → ((d : ℕ) → IsEmptied s.bare d) → Sound s → Sound (resized s p count)
 Sound-resize s p count in' shut drained h =

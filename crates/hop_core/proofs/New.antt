@@ -1,16 +1,13 @@
 -- A hop in which nothing has happened.
-use Rattle.std.proofs.Common.{ℕ, ◌+◌, ◌<◌, ◌≡◌, Bool, false, cond, List, [], length, refl, arith, suc, zero, get_or, replicate}
+use Rattle.std.proofs.Common.{ℕ, ◌+◌, ◌<◌, ◌≡◌, Bool, false, cond, List, [], length, refl, arith, suc, zero, get_or, map, replicate}
 use Rattle.std.specs.Prelude.{count_by}
 use Rattle.std.proofs.Math.ListN.{length-replicate}
-use Rattle.std.proofs.lemmas.List.{length-map}
 use Rattle.std.proofs.lemmas.List.Sums.{sum_by-cons}
 use Rattle.steer_base.specs.declared.choice.Chosen.{Chosen}
 use Rattle.steer_base.specs.declared.put.LaneDrop.{LaneDrop}
-use Rattle.hop_core.specs.declared.shape.HopShape.{HopShape}
 use Rattle.hop_core.specs.Hop.{HopState, arrivals_of, choices_of, accepted_at, fell_at, out_at, since_of}
-use Rattle.hop_core.specs.Shape.{IsShape, new_hop}
-use Rattle.hop_core.specs.Sound.{Sound}
-use Rattle.hop_core.specs.Order.{Ordered}
+use Rattle.hop_core.specs.Laws.{FreshIsOrdered, FreshIsSound, NewIsOrdered, NewIsSound}
+use Rattle.hop_core.specs.Shape.{classes_for, fixed_of, fresh_hop}
 
 pub at_new : {X : Type 0} (n i : ℕ) (x : X) → get_or (replicate n x) i x ≡ x
 at_new zero i x = refl
@@ -28,25 +25,23 @@ nowhere i xs e h = absurd (let f : i < length xs = h in let g : length xs ≡ 0 
 no_choice : {P : Type 0} (i : ℕ) (xs : List Chosen) → xs ≡ [] → i < length xs → P
 no_choice i xs e h = absurd (let g : length xs ≡ 0 = rw e refl in omega arith)
 
-pub Sound-new : (shape : HopShape) → IsShape shape → Sound (new_hop shape)
-Sound-new shape is =
-    let producers : ℕ = shape.producers in
-    let lanes : ℕ = shape.lanes in
-    let outs : ℕ = shape.outs in
-    let s : HopState = new_hop shape in
+pub Sound-fresh : FreshIsSound
+Sound-fresh fixed classes guests lanes outs small wide =
+    let producers : ℕ = length classes in
+    let s : HopState = fresh_hop fixed classes guests lanes outs in
     let a : (p : ℕ) → arrivals_of s p ≡ [] = λ p. at_new producers p [] in
     let c : (p : ℕ) → choices_of s p ≡ [] = λ p. at_new producers p [] in
     let t : (d : ℕ) → accepted_at s.bare d ≡ [] = λ d. at_new {X = List ℕ} lanes d [] in
     let f : (d : ℕ) → fell_at s.bare d ≡ [] = λ d. rw (at_new {X = List LaneDrop} lanes d []) refl in
     let u : (o : ℕ) → out_at s.bare o ≡ [] = λ o. at_new {X = List ℕ} outs o [] in
     record {
-      small = record { below = λ p i h. nowhere i (arrivals_of s p) (a p) h; room = is.room; start = is.start };
+      small = record { below = λ p i h. nowhere i (arrivals_of s p) (a p) h; room = small; start = wide };
       wide = record {
         taken = rw (length-replicate, length-replicate) refl;
         choices = rw (length-replicate, length-replicate) refl;
         placed = rw (length-replicate, length-replicate) refl;
         since = rw (length-replicate, length-replicate) refl;
-        counts = rw (length-map, length-replicate) is.counts;
+        counts = rw length-replicate refl;
         visits = rw (length-replicate, length-replicate) (omega arith);
         offers = rw (length-replicate, length-replicate) refl;
         drops = rw (length-replicate, length-replicate) refl;
@@ -82,20 +77,29 @@ Sound-new shape is =
       past = λ p i n h. absurd (let e : since_of s p ≡ 0 = at_new {X = ℕ} producers p 0 in omega arith);
       lanes = λ p i h. no_choice i (choices_of s p) (c p) h;
       gate = record {
-        inside = none_inside (producers + shape.guests);
+        inside = none_inside (producers + guests);
         shut = λ e. refl;
         weighed = λ p h. no_choice 0 (choices_of s p) (c p) (omega arith);
       };
     }
 
-pub Ordered-new : (set : ℕ → Bool) (p o : ℕ) (shape : HopShape) → Ordered set p o (new_hop shape)
-Ordered-new set p o shape =
-    let s : HopState = new_hop shape in
+pub Sound-new : NewIsSound
+Sound-new shape is =
+    Sound-fresh (fixed_of shape) (map (classes_for shape.exact) shape.counts.items) shape.guests shape.lanes shape.outs is.room is.start
+
+pub Ordered-fresh : FreshIsOrdered
+Ordered-fresh fixed classes guests lanes outs set p o =
+    let producers : ℕ = length classes in
+    let s : HopState = fresh_hop fixed classes guests lanes outs in
     record {
-      mine = λ q i h m. nowhere i (arrivals_of s q) (at_new shape.producers q []) h;
+      mine = λ q i h m. nowhere i (arrivals_of s q) (at_new producers q []) h;
       lane = 0;
       gathered = record {
-        in_order = rw (at_new {X = List ℕ} shape.producers p [], at_new {X = ℕ} shape.producers p 0, at_new {X = List ℕ} shape.outs o [], at_new {X = List ℕ} shape.lanes 0 [], at_new {X = ℕ} shape.lanes 0 0) refl;
-        nowhere_else = λ d ne. rw (at_new {X = List ℕ} shape.lanes d [], at_new {X = ℕ} shape.lanes d 0) refl;
+        in_order = rw (at_new {X = List ℕ} producers p [], at_new {X = ℕ} producers p 0, at_new {X = List ℕ} outs o [], at_new {X = List ℕ} lanes 0 [], at_new {X = ℕ} lanes 0 0) refl;
+        nowhere_else = λ d ne. rw (at_new {X = List ℕ} lanes d [], at_new {X = ℕ} lanes d 0) refl;
       };
     }
+
+pub Ordered-new : NewIsOrdered
+Ordered-new shape set p o =
+    Ordered-fresh (fixed_of shape) (map (classes_for shape.exact) shape.counts.items) shape.guests shape.lanes shape.outs set p o

@@ -247,7 +247,7 @@ Ordered-retire set p o c s h in' g =
 
 ordered-enabled : (set : ℕ → Bool) (p o : ℕ) (s : HopState) (e : HopEvent) → MayAsk s e → Tight set p o s e → Sound s → Ordered set p o s
     → Enabled (Ordered set p o) s e
-ordered-enabled set p o s (event.Arrive q id) m t h g = Ordered-arrive set p o q id s h m.0 t g
+ordered-enabled set p o s (event.Arrive q id) m t h g = Ordered-arrive set p o q id s h m.producer t g
 ordered-enabled set p o s (event.Take q) m t h g = λ _ _. record { mine = g.mine; lane = g.lane; gathered = g.gathered }
 ordered-enabled set p o s (event.Enter a) m t h g = λ _ _. record { mine = g.mine; lane = g.lane; gathered = g.gathered }
 ordered-enabled set p o s (event.Leave a) m t h g = λ _ _. record { mine = g.mine; lane = g.lane; gathered = g.gathered }
@@ -258,7 +258,7 @@ ordered-enabled set p o s (event.Put q hash) m t h g =
       | inr alone ↦ alone
     ]) g
 ordered-enabled set p o s (event.Pull c) m t h g = λ _ _. record { mine = g.mine; lane = g.lane; gathered = g.gathered }
-ordered-enabled set p o s (event.Deliver c to) m t h g = λ more. Ordered-deliver set p o c to s h m.0 m.1 more (t more) g
+ordered-enabled set p o s (event.Deliver c to) m t h g = λ more. Ordered-deliver set p o c to s h m.lane m.out more (t more) g
 ordered-enabled set p o s (event.Retire c) m t h g = λ _. Ordered-retire set p o c s h m g
 ordered-enabled set p o s (event.Resize q count) m t h g = record { mine = g.mine; lane = g.lane; gathered = g.gathered }
 ordered-enabled set p o s event.Close m t h g = λ _. record { mine = g.mine; lane = g.lane; gathered = g.gathered }

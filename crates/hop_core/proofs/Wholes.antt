@@ -291,14 +291,18 @@ new-rows [] start exact p = refl
 new-rows (n ∷ ns) start exact zero = refl
 new-rows (n ∷ ns) start exact (suc p) = new-rows ns start exact p
 
-pub whole-new : (shape : HopShape) → IsShape shape → IsWhole (new_parts shape)
+-- they stand for the new hop of the shape
+pub state_of-new : (shape : HopShape) → IsShape shape → state_of (new_parts shape) ≡ new_hop shape
+state_of-new shape is = rw (length-map, is.counts) refl
+
+whole-new : (shape : HopShape) → IsShape shape → IsWhole (new_parts shape)
 whole-new shape is =
-    let s : HopState = new_hop shape in
+    let s : HopState = state_of (new_parts shape) in
     let choices : (p : ℕ) → choices_of s p ≡ [] = λ p. at_new shape.producers p [] in
     let rows : (p : ℕ) → get_or (new_tables shape.counts.items shape.start shape.exact).rows p [] ≡ replicate (slice_index s.counts p) (unset shape.start) =
     λ p. new-rows shape.counts.items shape.start shape.exact p in
     record {
-      sound = Sound-new shape is;
+      sound = subst Sound (sym (state_of-new shape is)) (Sound-new shape is);
       tabled = record {
         start = refl;
         many = rw (length-map, length-replicate) is.counts;
@@ -317,15 +321,16 @@ whole-new shape is =
 pub sizes-stay : (s t : HopState) (e : HopEvent) → t ≡ (happens s e).0 → SameSizes s t
 sizes-stay s t e is = rw is (Sizes-happens s e)
 
--- a hop whose parts are the new ones
-pub whole-made : (shape : HopShape) → IsShape shape → (arrivals : Journals ℕ) (taken : List ℕ) (choices : Journals Chosen) (placed since : List ℕ) (visits : List Bool)
-    (counts : List ℕ) (tables : FlowTables) (lanes : LaneTable) (delivered retired : List ℕ) (outs : Journals ℕ)
+-- parts that are made one by one
+pub are_new : (shape : HopShape) → (arrivals : Journals ℕ) (taken : List ℕ) (choices : Journals Chosen)
+    (placed since : List ℕ) (visits : List Bool) (counts : List ℕ) (tables : FlowTables) (lanes : LaneTable)
+    (delivered retired : List ℕ) (outs : Journals ℕ)
     → arrivals ≡ new_journals shape.producers shape.room → taken ≡ replicate shape.producers 0 → choices ≡ new_journals shape.producers shape.room
     → placed ≡ replicate shape.producers 0 → since ≡ replicate shape.producers 0 → visits ≡ replicate (shape.producers + shape.guests) false
     → counts ≡ map (classes_for shape.exact) shape.counts.items → tables ≡ new_tables shape.counts.items shape.start shape.exact
     → lanes ≡ new_lanes shape.lanes shape.limit shape.room shape.start shape.limited → delivered ≡ replicate shape.lanes 0
     → retired ≡ replicate shape.lanes 0 → outs ≡ new_journals shape.outs shape.room
-    → IsWhole (record {
+    → record {
       arrivals = arrivals;
       taken = taken;
       choices = choices;
@@ -340,6 +345,9 @@ pub whole-made : (shape : HopShape) → IsShape shape → (arrivals : Journals �
       outs = outs;
       inside = 0;
       closed = false;
-    })
-whole-made shape is arrivals taken choices placed since visits counts tables lanes delivered retired outs a b c d e f g h i j k l =
-    rw (a, b, c, d, e, f, g, h, i, j, k, l) (whole-new shape is)
+    } ≡ new_parts shape
+are_new shape arrivals taken choices placed since visits counts tables lanes delivered retired outs a b c d e f g h i j k l =
+    rw (a, b, c, d, e, f, g, h, i, j, k, l) refl
+
+pub whole-made : (shape : HopShape) → IsShape shape → (h : HopParts) → h ≡ new_parts shape → IsWhole h × (state_of h ≡ new_hop shape)
+whole-made shape is h new = (subst IsWhole (sym new) (whole-new shape is), ap state_of new ∙ state_of-new shape is)

@@ -41,14 +41,14 @@ landed-work s p None bucket in' = let b = sum-bump s.placed p in' in omega arith
 landed-work s p (Some cause) bucket in' = let b = sum-bump s.placed p in' in omega arith
 
 worked : (s : HopState) (e : HopEvent) → MayAsk s e → Sound s → is_work e ≡ true → Answered (Worked s) s e
-worked s (event.Arrive p id) m h w = record { on = inl (let b = total-push s.arrivals p id m.0 in omega arith) }
+worked s (event.Arrive p id) m h w = record { on = inl (let b = total-push s.arrivals p id m.producer in omega arith) }
 worked s (event.Take p) m h w = λ _ _. record { on = inl (let i = h.wide in let b = sum-bump s.taken p (omega arith) in omega arith) }
 worked s (event.Enter a) m h w = absurd cc
 worked s (event.Leave a) m h w = absurd cc
 worked s (event.Weigh p class want desired online) m h w =
     λ _ _. record {
       on = inl (
-          let i = h.wide in let a = m.0 in
+          let i = h.wide in let a = m.producer in
           let c : Chosen = record { id = next_of s p; choice = choice_of s p class want desired online } in
           let b : total (set_list s.choices p (choices_of s p ++ c ∷ [])) ≡ total s.choices + 1 = total-push s.choices p c (omega arith) in
           omega arith);
@@ -56,7 +56,7 @@ worked s (event.Weigh p class want desired online) m h w =
 worked s (event.Put p hash) m h w =
     λ _ _. record { on = inl (landed-work s p (lane_drop_cause (lane_of s.fixed s.bare (in_hand s p).choice.lane) hash) (bucket_of hash) (let i = h.wide in omega arith)) }
 worked s (event.Pull c) m h w = λ _ _. record { on = inl (let i = h.wide in let b = sum-bump s.bare.pulled c (omega arith) in omega arith) }
-worked s (event.Deliver c o) m h w = λ _. record { on = inl (let i = h.wide in let a = m.0 in let b = sum-bump s.bare.delivered c (omega arith) in omega arith) }
+worked s (event.Deliver c o) m h w = λ _. record { on = inl (let i = h.wide in let a = m.lane in let b = sum-bump s.bare.delivered c (omega arith) in omega arith) }
 worked s (event.Retire c) m h w = λ _. record { on = inl (let i = h.wide in let b = sum-bump s.bare.retired c (omega arith) in omega arith) }
 worked s (event.Resize p count) m h w = absurd cc
 worked s event.Close m h w = absurd cc

@@ -1,5 +1,6 @@
 -- Whether lanes are empty: all that each accepted is retired.
-use Rattle.std.specs.Prelude.{ℕ, ◌<◌, ◌≡◌, Bool, true, not, ◌&&◌, ◌==◌, List, [], ◌∷◌, Result, Ok, Err, length}
+use Rattle.std.specs.Prelude.{ℕ, ◌<◌, ◌≡◌, ◌↔◌, Bool, true, not, ◌&&◌, ◌==◌, List, [], ◌∷◌}
+use Rattle.std.specs.Prelude.{Result, Ok, Err, IsOk, length}
 use Rattle.steer_base.specs.Sets.{has, those_below}
 use Rattle.steer_base.specs.declared.command.Busy.{Busy}
 use Rattle.steer_base.specs.declared.command.Busy.TheVariants.{NotEmpty}
@@ -7,22 +8,39 @@ use Rattle.steer_base.specs.declared.cpu_mask.CpuMask.{CpuMask}
 use Rattle.hop_core.specs.Events.{IsEmptied}
 use Rattle.hop_core.specs.Hop.{HopState, accepted_at, head_at, retired_at, tail_at}
 
--- whether a lane is in the set, and its head is not its tail
-abbrev pub is_waiting : HopState → CpuMask → ℕ → Bool
-is_waiting s lanes c = has lanes c && not (retired_at s.bare c == length (accepted_at s.bare c))
+-- whether a lane is asked for, and its head is not its tail
+abbrev pub is_waiting : HopState → (ℕ → Bool) → ℕ → Bool
+is_waiting s asked c = asked c && not (retired_at s.bare c == length (accepted_at s.bare c))
 
--- the lanes of the set whose head is not their tail, ascending
-abbrev pub waiting : HopState → CpuMask → List ℕ
-waiting s lanes = those_below (length s.bare.accepted) (is_waiting s lanes)
+-- the lanes that are asked for and whose head is not their tail, ascending
+abbrev pub waiting : HopState → (ℕ → Bool) → List ℕ
+waiting s asked = those_below (length s.bare.accepted) (is_waiting s asked)
 
 -- the first of these lanes is what keeps a command from being done
 abbrev pub first_busy : HopState → List ℕ → Result (Unit {0}) Busy
 first_busy s [] = Ok tt
 first_busy s (c ∷ cs) = Err (NotEmpty c (head_at s.fixed.start s.bare c) (tail_at s.fixed.start s.bare c))
 
-abbrev pub emptied : HopState → CpuMask → Result (Unit {0}) Busy
-emptied s lanes = first_busy s (waiting s lanes)
+-- whether all lanes that pass a test are empty, else the first that is not; and the same of a set of lanes
+abbrev pub emptied_of : HopState → (ℕ → Bool) → Result (Unit {0}) Busy
+emptied_of s asked = first_busy s (waiting s asked)
 
--- Each lane of the set is empty.
+abbrev pub emptied : HopState → CpuMask → Result (Unit {0}) Busy
+emptied s lanes = emptied_of s (has lanes)
+
+-- Each lane that passes the test is empty; and each lane of a set.
+abbrev pub AreEmptiedOf : HopState → (ℕ → Bool) → Type 0
+AreEmptiedOf s asked = (c : ℕ) → c < length s.bare.accepted → asked c ≡ true → IsEmptied s.bare c
+
 abbrev pub AreEmptied : HopState → CpuMask → Type 0
-AreEmptied s lanes = (c : ℕ) → c < length s.bare.accepted → has lanes c ≡ true → IsEmptied s.bare c
+AreEmptied s lanes = AreEmptiedOf s (has lanes)
+
+-- The answer is Ok exactly where each lane that is asked for is empty.
+abbrev pub EmptiedIsExact : Type 0
+EmptiedIsExact = (s : HopState) (asked : ℕ → Bool) → IsOk (emptied_of s asked) ↔ AreEmptiedOf s asked
+
+-- A set of lanes is asked for as a test is that agrees with it.
+abbrev pub SetIsAsked : Type 0
+SetIsAsked =
+    (s : HopState) (lanes : CpuMask) (asked : ℕ → Bool)
+    → ((c : ℕ) → c < length s.bare.accepted → has lanes c ≡ asked c) → emptied s lanes ≡ emptied_of s asked

@@ -108,26 +108,46 @@ abbrev pub IsClassBelow : ℕ → Option ℕ → Type 0
 IsClassBelow count None = Unit {0}
 IsClassBelow count (Some class) = class < count
 
--- Each event names actors, lanes and classes that there are. A packet arrives once, below the room. A weigh names an
--- online lane as the desired one, and no packet waits or is in hand at a lane that is offline. The number of classes
--- changes in a closed gate with all lanes empty, where it is rounded up. Only an open gate closes, only a closed one opens.
+-- A packet arrives once, at a producer, and is a number below the room.
+pub record MayArrive (s : HopState) (p id : ℕ) : Type 0 where
+  pub producer : p < length s.arrivals
+  pub below : id < s.fixed.room
+  pub fresh : (q i : ℕ) → i < length (arrivals_of s q) → slice_index (arrivals_of s q) i ≢ id
+
+-- A weigh names a class of the producer and an online lane as the desired one, and no packet waits or is in hand at a
+-- lane that is offline.
+pub record MayWeigh (s : HopState) (p : ℕ) (class : Option ℕ) (desired : ℕ) (online : CpuMask)
+    : Type 0 where
+  pub producer : p < length s.arrivals
+  pub lane : desired < length s.bare.accepted
+  pub in_range : IsClassBelow (slice_index s.counts p) class
+  pub is_online : has online desired ≡ true
+  pub drained : (c : ℕ) → c < length s.bare.accepted → has online c ≡ false → IsEmptied s.bare c
+
+pub record MayDeliver (s : HopState) (c o : ℕ) : Type 0 where
+  pub lane : c < length s.bare.accepted
+  pub out : o < length s.bare.outs
+
+-- The number of classes changes in a closed gate with all lanes empty, where it is rounded up.
+pub record MayResize (s : HopState) (p count : ℕ) : Type 0 where
+  pub producer : p < length s.arrivals
+  pub within : count ≤ 32768
+  pub rounded : s.fixed.exact ≡ false
+  pub closed : s.bare.closed ≡ true
+  pub drained : (c : ℕ) → c < length s.bare.accepted → IsEmptied s.bare c
+
+-- Each event names actors and lanes that there are. Only an open gate closes, only a closed one opens.
 abbrev pub MayAsk : HopState → HopEvent → Type 0
-MayAsk s (event.Arrive p id) =
-    (p < length s.arrivals) × (id < s.fixed.room)
-    × ((q i : ℕ) → i < length (arrivals_of s q) → slice_index (arrivals_of s q) i ≢ id)
+MayAsk s (event.Arrive p id) = MayArrive s p id
 MayAsk s (event.Take p) = p < length s.arrivals
 MayAsk s (event.Enter a) = a < length s.visits
 MayAsk s (event.Leave a) = a < length s.visits
-MayAsk s (event.Weigh p class want desired online) =
-    (p < length s.arrivals) × (desired < length s.bare.accepted) × IsClassBelow (slice_index s.counts p) class × (has online desired ≡ true)
-    × ((c : ℕ) → c < length s.bare.accepted → has online c ≡ false → IsEmptied s.bare c)
+MayAsk s (event.Weigh p class want desired online) = MayWeigh s p class desired online
 MayAsk s (event.Put p hash) = p < length s.arrivals
 MayAsk s (event.Pull c) = c < length s.bare.accepted
-MayAsk s (event.Deliver c o) = (c < length s.bare.accepted) × (o < length s.bare.outs)
+MayAsk s (event.Deliver c o) = MayDeliver s c o
 MayAsk s (event.Retire c) = c < length s.bare.accepted
-MayAsk s (event.Resize p count) =
-    (p < length s.arrivals) × (count ≤ 32768) × (s.fixed.exact ≡ false) × (s.bare.closed ≡ true)
-    × ((c : ℕ) → c < length s.bare.accepted → IsEmptied s.bare c)
+MayAsk s (event.Resize p count) = MayResize s p count
 MayAsk s event.Close = s.bare.closed ≡ false
 MayAsk s event.Reopen = s.bare.closed ≡ true
 

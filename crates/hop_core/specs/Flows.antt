@@ -25,7 +25,7 @@ FlowAt test p lane s =
 -- that are not retired.
 abbrev pub FlowAllowed : (ℕ → Bool) → ℕ → ℕ → HopState → HopEvent → Type 0
 FlowAllowed test p o s (event.Put q hash) =
-    placed_of s p < length (choices_of s p) → test (in_hand s p).id ≡ true
+    q ≡ p → placed_of s p < length (choices_of s p) → test (in_hand s p).id ≡ true
     → ((k : ℕ) × OneClass test (recent s p) k) ⊎ FlowAt test p (in_hand s p).choice.lane s
 FlowAllowed test p o s (event.Deliver c to) = delivered_at s.bare c < pulled_at s.bare c → test (next_out s.bare c) ≡ true → to ≡ o
 FlowAllowed test p o s (event.Arrive q id) = Unit {0}

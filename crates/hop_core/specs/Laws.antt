@@ -1,9 +1,10 @@
 -- The laws of a hop, over every list of events that may be asked.
-use Rattle.std.specs.Prelude.{ℕ, ◌++◌, ◌≤◌, ◌<◌, ◌≡◌, ◌≢◌, Bool, true, false, List, [], ◌∷◌, Option, length, map, take, drop, filter}
+use Rattle.std.specs.Prelude.{ℕ, ◌++◌, ◌≤◌, ◌<◌, ◌≡◌, ◌≢◌, ◌^◌, Bool, true, false, List, [], ◌∷◌, Option, unwrap_or, length, map, take, drop, filter}
 use Rattle.steer_base.specs.Choices.{migrate}
 use Rattle.steer_base.specs.Entries.{entry}
 use Rattle.steer_base.specs.Orders.{Apart, IsPrefix}
 use Rattle.steer_base.specs.Sets.{has}
+use Rattle.steer_base.specs.declared.choice.Choice.{Choice}
 use Rattle.steer_base.specs.declared.choice.Entry.{Entry}
 use Rattle.steer_base.specs.declared.cpu_mask.CpuMask.{CpuMask}
 use Rattle.backlog.specs.Offers.{AreOffers, AllExplained}
@@ -11,9 +12,9 @@ use Rattle.hop_core.specs.declared.event.HopEvent.{HopEvent}
 use Rattle.hop_core.specs.declared.event.HopEvent.TheVariants as event
 use Rattle.hop_core.specs.declared.event.HopAnswer.TheVariants as answer
 use Rattle.hop_core.specs.declared.shape.HopShape.{HopShape}
-use Rattle.hop_core.specs.Hop.{Bare, HopState, accepted_at, fell_at, drops_at, delivered_at, out_at, head_at, arrivals_of, choices_of, chosen_at, taken_of, placed_of, since_of, inside_of, in_hand, lane_of}
+use Rattle.hop_core.specs.Hop.{Bare, Fixed, HopState, accepted_at, fell_at, drops_at, delivered_at, out_at, head_at, arrivals_of, choices_of, chosen_at, taken_of, placed_of, since_of, inside_of, in_hand, lane_of}
 use Rattle.hop_core.specs.Events.{happens, MayAsk, AllMayAsk, run}
-use Rattle.hop_core.specs.Shape.{IsShape, new_hop}
+use Rattle.hop_core.specs.Shape.{IsShape, fresh_hop, new_hop}
 use Rattle.hop_core.specs.Sound.{Sound, Places, Puts}
 use Rattle.hop_core.specs.Order.{is_kept, IsInOrder, Tight, AllTight, Ordered}
 use Rattle.hop_core.specs.Flows.{FlowOrdered, FlowAllowed, came_by}
@@ -24,6 +25,12 @@ use Rattle.hop_core.specs.Pairs.{Pairwise}
 -- A new hop is sound, and every event leaves a sound hop sound.
 abbrev pub NewIsSound : Type 0
 NewIsSound = (shape : HopShape) → IsShape shape → Sound (new_hop shape)
+
+-- The same of a hop that is given by plain lists.
+abbrev pub FreshIsSound : Type 0
+FreshIsSound =
+    (fixed : Fixed) (counts : List ℕ) (guests lanes outs : ℕ) → fixed.room ≤ 262144 → fixed.start < 2 ^ 32
+    → Sound (fresh_hop fixed counts guests lanes outs)
 
 abbrev pub EachKeepsSound : Type 0
 EachKeepsSound = (s : HopState) (e : HopEvent) → MayAsk s e → Sound s → Sound (happens s e).0
@@ -44,6 +51,14 @@ pub record HasPlaces (s : HopState) : Type 0 where
 
 abbrev pub KeepsPlaces : Type 0
 KeepsPlaces = (shape : HopShape) (es : List HopEvent) → IsShape shape → AllMayAsk es (new_hop shape) → HasPlaces (run es (new_hop shape))
+
+-- It is so of every sound hop, however it came about.
+abbrev pub SoundHasPlaces : Type 0
+SoundHasPlaces = (s : HopState) → Sound s → HasPlaces s
+
+-- While nobody is inside, each choice was put: no packet is between its choice and its put.
+abbrev pub NobodyWeighsOutside : Type 0
+NobodyWeighsOutside = (s : HopState) → Sound s → s.bare.inside ≡ 0 → (p : ℕ) → placed_of s p ≡ length (choices_of s p)
 
 -- A close is answered with the number of those inside exactly where somebody is, and an entry that the gate is closed
 -- exactly where it is.
@@ -72,6 +87,11 @@ KeepsOrder =
 abbrev pub NewIsOrdered : Type 0
 NewIsOrdered = (shape : HopShape) (set : ℕ → Bool) (p o : ℕ) → Ordered set p o (new_hop shape)
 
+abbrev pub FreshIsOrdered : Type 0
+FreshIsOrdered =
+    (fixed : Fixed) (counts : List ℕ) (guests lanes outs : ℕ) (set : ℕ → Bool) (p o : ℕ)
+    → Ordered set p o (fresh_hop fixed counts guests lanes outs)
+
 abbrev pub EachKeepsOrder : Type 0
 EachKeepsOrder =
     (set : ℕ → Bool) (p o : ℕ) (s : HopState) (e : HopEvent) → MayAsk s e → Tight set p o s e → Sound s → Ordered set p o s → Ordered set p o (happens s e).0
@@ -80,6 +100,11 @@ abbrev pub OrderedIsInOrder : Type 0
 OrderedIsInOrder = (set : ℕ → Bool) (p o : ℕ) (s : HopState) → Ordered set p o s → IsInOrder set p o s
 
 -- The same of the flow of a producer, whose packets are known by a test.
+abbrev pub FreshFlowIsOrdered : Type 0
+FreshFlowIsOrdered =
+    (fixed : Fixed) (counts : List ℕ) (guests lanes outs : ℕ) (test : ℕ → Bool) (p o : ℕ)
+    → FlowOrdered test p o (fresh_hop fixed counts guests lanes outs)
+
 abbrev pub EachKeepsFlows : Type 0
 EachKeepsFlows =
     (test : ℕ → Bool) (p o : ℕ) (s : HopState) (e : HopEvent) → MayAsk s e → FlowAllowed test p o s e → Sound s → FlowOrdered test p o s
@@ -133,6 +158,12 @@ ExplainsDrops =
     (hash : ℕ → Option ℕ) (shape : HopShape) (es : List HopEvent) → IsShape shape
     → AllMayAsk es (new_hop shape) → AllHashed hash es (new_hop shape) → DropsExplained hash (run es (new_hop shape))
 
+-- The same event by event: the drops of a new hop are explained, and every event leaves them so.
+abbrev pub FreshIsExplained : Type 0
+FreshIsExplained =
+    (hash : ℕ → Option ℕ) (fixed : Fixed) (counts : List ℕ) (guests lanes outs : ℕ)
+    → DropsExplained hash (fresh_hop fixed counts guests lanes outs)
+
 abbrev pub EachExplainsDrops : Type 0
 EachExplainsDrops =
     (hash : ℕ → Option ℕ) (s : HopState) (e : HopEvent) → IsHashed hash s e → Sound s → DropsExplained hash s → DropsExplained hash (happens s e).0
@@ -144,11 +175,32 @@ NeverDrops =
     → ((c : ℕ) → c < shape.lanes → has shape.limited c ≡ false) → AllMayAsk es (new_hop shape)
     → (c : ℕ) → drops_at (run es (new_hop shape)).bare c ≡ []
 
+-- The same event by event, of a hop whose lanes have room for all and no flow limit, and dropped nothing.
+pub record Ample (s : HopState) : Type 0 where
+  pub room : s.fixed.room ≤ s.fixed.limit
+  pub unlimited : (c : ℕ) → c < length s.bare.accepted → has s.fixed.limited c ≡ false
+  pub none : (c : ℕ) → drops_at s.bare c ≡ []
+
+abbrev pub FreshIsAmple : Type 0
+FreshIsAmple =
+    (fixed : Fixed) (counts : List ℕ) (guests lanes outs : ℕ) → fixed.room ≤ fixed.limit
+    → ((c : ℕ) → c < lanes → has fixed.limited c ≡ false) → Ample (fresh_hop fixed counts guests lanes outs)
+
+abbrev pub EachKeepsAmple : Type 0
+EachKeepsAmple = (s : HopState) (e : HopEvent) → Sound s → Ample s → Ample (happens s e).0
+
 -- ---- choices
 
 -- the entries that a producer's first i choices give, but for those before a resize
 abbrev pub entries_before : HopState → ℕ → ℕ → ℕ → ℕ → Entry
 entries_before s p from i = entry s.fixed.start (accepted_at s.bare) (drop from (take i (choices_of s p)))
+
+-- A choice by the rule over the heads of all lanes is the choice over the head that it kept, alone.
+abbrev pub KeptHeadDecides : Type 0
+KeptHeadDecides =
+    (class want : Option ℕ) (desired : ℕ) (entries : ℕ → Entry) (head : ℕ → ℕ) (online : ℕ → Bool) (c : Choice)
+    → c ≡ migrate class want desired entries head online
+    → c ≡ migrate class want desired entries (λ lane. unwrap_or c.head 0) online
 
 -- Events leave each choice as it was made, and the entries of the choices before it too.
 abbrev pub ChoicesStay : Type 0

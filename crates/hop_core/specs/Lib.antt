@@ -1,3 +1,4 @@
+pub mod BareEvents
 pub mod Emptied
 pub mod Events
 pub mod FlowTables
@@ -7,9 +8,13 @@ pub mod Hop
 pub mod Journals
 pub mod LaneTable
 pub mod Laws
+pub mod Leaves
+pub mod NothingLost
 pub mod Order
 pub mod Pairs
 pub mod Reads
+pub mod Rounds
+pub mod Settled
 pub mod Shape
 pub mod Sizes
 pub mod Sound

@@ -1,11 +1,16 @@
 -- What callers read of a hop, and how long its lists may be.
 use Rattle.std.specs.Prelude.{ℕ, ◌+◌, ◌-◌, ◌≤◌, nat_lt, Option, Some, None, length, slice_get, if◌then◌else◌}
 use Rattle.steer_base.specs.declared.choice.Chosen.{Chosen}
-use Rattle.hop_core.specs.Hop.{Bare, HopState, accepted_at, arrivals_of, choices_of, delivered_at, drops_at, next_of, next_out, out_at, pulled_at, taken_of}
+use Rattle.hop_core.specs.Hop.{Bare, HopState, accepted_at, arrivals_of, choices_of, delivered_at, drops_at}
+use Rattle.hop_core.specs.Hop.{in_hand, next_of, next_out, out_at, placed_of, pulled_at, taken_of}
 
 -- the packet that a producer has taken up and not weighed
 abbrev pub to_weigh : HopState → ℕ → Option ℕ
 to_weigh s p = if nat_lt (length (choices_of s p)) (taken_of s p) then Some (next_of s p) else None
+
+-- the choice of a producer that is to be put
+abbrev pub to_put : HopState → ℕ → Option Chosen
+to_put s p = if nat_lt (placed_of s p) (length (choices_of s p)) then Some (in_hand s p) else None
 
 -- the last choice of a producer, if it made one
 abbrev pub last_choice : HopState → ℕ → Option Chosen

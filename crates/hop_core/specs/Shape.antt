@@ -1,9 +1,10 @@
 -- The shape that a hop is made with, and the hop in which nothing has happened.
-use Rattle.std.specs.Prelude.{ℕ, ◌+◌, ◌<◌, ◌≤◌, ◌≡◌, ◌^◌, Bool, false, [], length, map, replicate, if◌then◌else◌}
+use Rattle.std.specs.Prelude.{ℕ, ◌+◌, ◌<◌, ◌≤◌, ◌≡◌, ◌^◌, Bool, false, List, []}
+use Rattle.std.specs.Prelude.{length, map, replicate, if◌then◌else◌}
 use Rattle.std.specs.List.{All}
 use Rattle.steer_base.specs.Counters.{rounded_up}
 use Rattle.hop_core.specs.declared.shape.HopShape.{HopShape}
-use Rattle.hop_core.specs.Hop.{HopState}
+use Rattle.hop_core.specs.Hop.{Fixed, HopState}
 
 -- the most classes of a producer
 abbrev pub most_classes : Bool → ℕ
@@ -29,26 +30,43 @@ pub record IsShape (shape : HopShape) : Type 0 where
 abbrev pub classes_for : Bool → ℕ → ℕ
 classes_for exact count = if exact then count else rounded_up count
 
-abbrev pub new_hop : HopShape → HopState
-new_hop shape =
+-- A hop in which nothing has happened, with one producer for each of these numbers of classes.
+abbrev pub fresh_hop : Fixed → List ℕ → ℕ → ℕ → ℕ → HopState
+fresh_hop fixed counts guests lanes outs =
     record {
-      fixed = record { limit = shape.limit; room = shape.room; start = shape.start; exact = shape.exact; limited = shape.limited };
+      fixed = fixed;
       bare = record {
-        accepted = replicate shape.lanes [];
-        offers = replicate shape.lanes [];
-        drops = replicate shape.lanes [];
-        pulled = replicate shape.lanes 0;
-        delivered = replicate shape.lanes 0;
-        retired = replicate shape.lanes 0;
-        outs = replicate shape.outs [];
+        accepted = replicate lanes [];
+        offers = replicate lanes [];
+        drops = replicate lanes [];
+        pulled = replicate lanes 0;
+        delivered = replicate lanes 0;
+        retired = replicate lanes 0;
+        outs = replicate outs [];
         inside = 0;
         closed = false;
       };
-      counts = map (classes_for shape.exact) shape.counts.items;
-      arrivals = replicate shape.producers [];
-      taken = replicate shape.producers 0;
-      choices = replicate shape.producers [];
-      placed = replicate shape.producers 0;
-      since = replicate shape.producers 0;
-      visits = replicate (shape.producers + shape.guests) false;
+      counts = counts;
+      arrivals = replicate (length counts) [];
+      taken = replicate (length counts) 0;
+      choices = replicate (length counts) [];
+      placed = replicate (length counts) 0;
+      since = replicate (length counts) 0;
+      visits = replicate (length counts + guests) false;
     }
+
+-- what a hop of this shape keeps for good
+abbrev pub fixed_of : HopShape → Fixed
+fixed_of shape =
+    record {
+      limit = shape.limit;
+      room = shape.room;
+      start = shape.start;
+      exact = shape.exact;
+      limited = shape.limited;
+    }
+
+-- the hop that is made with this shape
+abbrev pub new_hop : HopShape → HopState
+new_hop shape =
+    fresh_hop (fixed_of shape) (map (classes_for shape.exact) shape.counts.items) shape.guests shape.lanes shape.outs

@@ -84,7 +84,7 @@ impl Hop {
         let tables = Tables::make(alloc, &counts, start, exact)?;
         let counts = class_counts(alloc, &counts, exact)?;
         let rings = Rings::make(alloc, producers, room)?;
-        let visits = nobody(alloc, producers + guests)?;
+        let visits = all_outside(alloc, producers + guests)?;
         let lanes = Lanes::make(alloc, lane_count, limit, room, start, limited)?;
         let delivered = zeros(alloc, lane_count)?;
         let retired = zeros(alloc, lane_count)?;
@@ -183,15 +183,15 @@ impl Rings {
     }
 }
 
-// So many zeros.
+// `count` zeros.
 fn zeros(alloc: Global, count: u8) -> Result<Vec<u32>, OutOfMemory>
     ensures { IfOk result (λ zeros. zeros.items ≡ replicate count 0) }
 {
     Ok(Vec::from_elem(alloc, 0, count as usize)?)
 }
 
-// So many actors outside.
-fn nobody(alloc: Global, count: u8) -> Result<Vec<bool>, OutOfMemory>
+// `count` actors, each outside the gate.
+fn all_outside(alloc: Global, count: u8) -> Result<Vec<bool>, OutOfMemory>
     ensures { IfOk result (λ visits. visits.items ≡ replicate count false) }
 {
     Ok(Vec::from_elem(alloc, false, count as usize)?)

@@ -74,6 +74,15 @@ impl<T: Copy> Journals<T> {
         self.lists[i as usize].len() as u32
     }
 
+    /// One of the lists.
+    pub fn list(&self, i: u8) -> &[T]
+        requires { i < length self.now.lists }
+        ensures { result.now ≡ list_at self.now i }
+    {
+        let list = &self.lists[i as usize];
+        list
+    }
+
     /// The item of a list at an index.
     pub fn get(&self, i: u8, n: u32) -> T
         requires list { i < length self.now.lists }

@@ -1,5 +1,5 @@
 //! The lanes of a hop.
-ghost use Rattle.std.specs.Prelude.{◌≡◌, ℕ, ◌^◌, ◌<◌, ◌≤◌, length, slice_index, IfOk};
+ghost use Rattle.std.specs.Prelude.{◌≡◌, ℕ, ◌^◌, ◌<◌, ◌≤◌, length, slice_get, slice_index, IfOk};
 ghost use Rattle.steer_base.specs.Counters.{number};
 ghost use Rattle.backlog.specs.Puts.{after_put, after_take, next_waiting, put_answer, put_count};
 ghost use Rattle.hop_core.specs.LaneTable.{lane_at, new_lanes, with_lane};
@@ -7,7 +7,7 @@ ghost use Rattle.hop_core.specs.LaneTable.{lane_at, new_lanes, with_lane};
 use backlog::Lane;
 use std::alloc::Global;
 use std::marker::Model;
-use steer_base::{CpuMask, OutOfMemory, PacketId, Put};
+use steer_base::{CpuMask, LaneDrop, OutOfMemory, PacketId, Put};
 
 /// So many lanes of one limit and one room.
 #[derive(Drop)]
@@ -87,6 +87,24 @@ impl Lanes {
     {
         let lane = &self.lanes[lane as usize];
         lane.accepted_at(n).unwrap()
+    }
+
+    /// The packet that a lane accepted as number `n`, from 0, if so many were.
+    pub fn get(&self, lane: u8, n: u32) -> Option<PacketId>
+        requires { lane < length self.now.accepted }
+        ensures { result ≡ slice_get (lane_at self.now lane).accepted n }
+    {
+        let lane = &self.lanes[lane as usize];
+        lane.accepted_at(n)
+    }
+
+    /// The drops of a lane.
+    pub fn drops(&self, lane: u8) -> &[LaneDrop]
+        requires { lane < length self.now.accepted }
+        ensures { result.now ≡ (lane_at self.now lane).drops }
+    {
+        let lane = &self.lanes[lane as usize];
+        lane.drops()
     }
 
     /// How many packets of a lane were pulled.

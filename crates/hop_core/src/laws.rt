@@ -1,10 +1,20 @@
 //! Laws over the lists of a hop, each the contract of a function that does nothing.
-ghost use Rattle.hop_core.specs.Laws.{ChoiceIsByTheRule, ChoicesStay, ClosedIsExact, EachExplainsDrops, EachKeepsFlows, EachKeepsOrder, EachKeepsSound, EndToEnd, ExplainsDrops, FlowIsInOrder, InsideIsExact, KeepsOrder, KeepsPlaces, NeverDrops, NewIsOrdered, NewIsSound, OrderedIsInOrder, PairsMakePrefix};
+ghost use Rattle.hop_core.specs.Emptied.{EmptiedIsExact, SetIsAsked};
+ghost use Rattle.hop_core.specs.Laws.{ChoiceIsByTheRule, ChoicesStay, ClosedIsExact, EndToEnd};
+ghost use Rattle.hop_core.specs.Laws.{EachExplainsDrops, EachKeepsAmple, EachKeepsFlows};
+ghost use Rattle.hop_core.specs.Laws.{EachKeepsOrder, EachKeepsSound, ExplainsDrops, FlowIsInOrder};
+ghost use Rattle.hop_core.specs.Laws.{FreshFlowIsOrdered, FreshIsAmple, FreshIsExplained};
+ghost use Rattle.hop_core.specs.Laws.{FreshIsOrdered, FreshIsSound};
+ghost use Rattle.hop_core.specs.Laws.{InsideIsExact, KeepsOrder, KeepsPlaces, KeptHeadDecides, NeverDrops};
+ghost use Rattle.hop_core.specs.Laws.{NewIsOrdered, NewIsSound, NobodyWeighsOutside};
+ghost use Rattle.hop_core.specs.Laws.{OrderedIsInOrder, PairsMakePrefix, SoundHasPlaces};
+ghost use Rattle.hop_core.specs.Rounds.{AsksAreJoined, RoundMayBeAsked, RoundRetiresOne, RunsAreJoined};
 ghost use Rattle.hop_core.specs.Work.{WorkGoesOn, WorkIsBounded, WorkStays};
 
 /// What holds of every hop holds of a new one, and every event keeps it.
 pub fn every_event_keeps_a_hop_sound()
     ensures new { NewIsSound }
+    ensures fresh { FreshIsSound }
     ensures each { EachKeepsSound }
 {}
 
@@ -12,11 +22,13 @@ pub fn every_event_keeps_a_hop_sound()
 pub fn the_gate_answers_exactly()
     ensures inside { InsideIsExact }
     ensures closed { ClosedIsExact }
+    ensures outside { NobodyWeighsOutside }
 {}
 
 /// Whatever events come, each packet is at most at one place, once.
 pub fn each_packet_has_one_place()
-    ensures { KeepsPlaces }
+    ensures all { KeepsPlaces }
+    ensures sound { SoundHasPlaces }
 {}
 
 /// Whatever events come, the packets of a tight set are delivered in the order in which they arrived, without those that
@@ -28,12 +40,14 @@ pub fn tight_sets_are_delivered_in_order()
 /// The same from event to event, for a set of packets.
 pub fn each_event_keeps_order()
     ensures new { NewIsOrdered }
+    ensures fresh { FreshIsOrdered }
     ensures each { EachKeepsOrder }
     ensures order { OrderedIsInOrder }
 {}
 
 /// The same from event to event, for the flow of a producer.
 pub fn each_event_keeps_flows()
+    ensures fresh { FreshFlowIsOrdered }
     ensures each { EachKeepsFlows }
     ensures order { FlowIsInOrder }
 {}
@@ -51,12 +65,15 @@ pub fn pairs_in_order_make_a_prefix()
 /// Whatever events come, each drop has its cause: a full backlog or the flow limit.
 pub fn each_drop_is_explained()
     ensures all { ExplainsDrops }
+    ensures fresh { FreshIsExplained }
     ensures each { EachExplainsDrops }
 {}
 
 /// Nothing is dropped where all packets may wait and no lane is under the flow limit.
 pub fn ample_lanes_drop_nothing()
-    ensures { NeverDrops }
+    ensures all { NeverDrops }
+    ensures fresh { FreshIsAmple }
+    ensures each { EachKeepsAmple }
 {}
 
 /// Each choice is the migration rule over the entry of its class at its moment, and later events change neither the
@@ -64,6 +81,30 @@ pub fn ample_lanes_drop_nothing()
 pub fn each_choice_is_by_the_rule()
     ensures rule { ChoiceIsByTheRule }
     ensures stay { ChoicesStay }
+{}
+
+/// A choice by the rule over the heads of all lanes is the choice by the rule over the head that it kept.
+pub fn a_choice_is_decided_by_its_kept_head()
+    ensures { KeptHeadDecides }
+{}
+
+/// Lanes are answered to be empty exactly where each of them is, whether they are named by a set or by a test.
+pub fn emptied_answers_exactly()
+    ensures exact { EmptiedIsExact }
+    ensures asked { SetIsAsked }
+{}
+
+/// Two lists of events that are joined are the one after the other.
+pub fn lists_of_events_are_joined()
+    ensures run { RunsAreJoined }
+    ensures asks { AsksAreJoined }
+{}
+
+/// A round of a lane, that is a pull, a delivery and a retire, gets exactly one packet through where one waits and the
+/// hand is empty.
+pub fn a_round_retires_one_packet()
+    ensures asks { RoundMayBeAsked }
+    ensures one { RoundRetiresOne }
 {}
 
 /// Each event that gets a packet on adds one to the work or is idle, no other event changes it, and there are at most

@@ -20,6 +20,16 @@ const MAX_PACKETS: usize = 262_144;
 /// The bytes of a file before its first record.
 const HEADER: usize = 24;
 
+/// The version of the format that is read.
+const MAJOR: u16 = 2;
+
+const MINOR: u16 = 4;
+
+/// The link type of Ethernet (`LINKTYPE_ETHERNET`), in the low 16 bits of its field.
+const LINKTYPE_ETHERNET: u32 = 1;
+
+const LINKTYPE_BITS: u32 = 16;
+
 /// Reads the bytes of a pcap file, version 2.4, of Ethernet frames: of either byte order, with
 /// microseconds or nanoseconds. The fault is the first in the order of the file. Takes memory for
 /// the records alone.
@@ -119,11 +129,11 @@ fn check_header<T: ByteOrder>(header: &[u8]) -> Result<(), CaptureFault>
 {
     let major = T::read_u16(&header[4..]);
     let minor = T::read_u16(&header[6..]);
-    if major != 2 || minor != 4 {
+    if major != MAJOR || minor != MINOR {
         return Err(CaptureFault::BadVersion { major, minor });
     }
     let link = T::read_u32(&header[20..]);
-    if link % (1 << 16) != 1 {
+    if link % (1 << LINKTYPE_BITS) != LINKTYPE_ETHERNET {
         return Err(CaptureFault::BadLink { link });
     }
     Ok(())

@@ -1,3 +1,4 @@
 pub mod CountersLemmas
 pub mod ListLemmas
+pub mod MasksLemmas
 pub mod SetsLemmas

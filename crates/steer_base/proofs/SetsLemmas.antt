@@ -1,5 +1,5 @@
 -- What a loop over the numbers below n finds out of those that pass a test.
-use Rattle.std.proofs.Common.{ℕ, sym, zero, suc, ◌+◌, ◌<◌, ◌≡◌, Bool, true, false, cond, List, [], ◌∷◌, ◌++◌, length, get_or, refl, ap, ◌∙◌, arith, add-one, zero-add, length-append, append_assoc, append-nil, add-zero, ◌-◌}
+use Rattle.std.proofs.Common.{ℕ, sym, zero, suc, ◌+◌, ◌<◌, ◌≤◌, ◌≡◌, Bool, true, false, cond, List, [], ◌∷◌, ◌++◌, length, get_or, refl, ap, ◌∙◌, arith, add-one, zero-add, length-append, append_assoc, append-nil, add-zero, ◌-◌}
 use Rattle.std.specs.List.{All, range_with_len, filter}
 use Rattle.std.proofs.lemmas.List.{get_or-append-add}
 use Rattle.std.proofs.lemmas.List.Elements.{filter-append, filter_passes, All-filter, All-from_get_or}
@@ -82,6 +82,24 @@ length-those_below_all zero = ap length (those_below-zero (λ i. true))
 length-those_below_all (suc n) =
     ap (λ k. length (those_below k (λ i. true))) (sym (add-one n)) ∙ length-those_below_pass n (λ i. true) refl
     ∙ ap (λ k. k + 1) (length-those_below_all n) ∙ add-one n
+
+-- two tests that say the same of the numbers below the bound keep the same
+pub those_below-same : (n : ℕ) (f g : ℕ → Bool) → ((i : ℕ) → i < n → f i ≡ g i) → those_below n f ≡ those_below n g
+those_below-same zero f g same = those_below-zero f ∙ sym (those_below-zero g)
+those_below-same (suc n) f g same =
+    let e : suc n ≡ n + 1 = omega arith in
+    ap (λ k. those_below k f) e ∙ those_below-more n f
+    ∙ ap (λ xs. xs ++ cond (f n) (n ∷ []) []) (those_below-same n f g (λ i lt. same i (omega arith)))
+    ∙ ap (λ b. those_below n g ++ cond b (n ∷ []) []) (same n (omega arith))
+    ∙ sym (those_below-more n g) ∙ ap (λ k. those_below k g) (sym e)
+
+-- numbers that fail add nothing
+pub those_below-fewer : (n more : ℕ) (test : ℕ → Bool) → ((i : ℕ) → n ≤ i → test i ≡ false) → those_below (n + more) test ≡ those_below n test
+those_below-fewer n zero test fails = ap (λ k. those_below k test) (add-zero n)
+those_below-fewer n (suc more) test fails =
+    let e : n + suc more ≡ n + more + 1 = omega arith in
+    ap (λ k. those_below k test) e ∙ those_below_fail (n + more) test (fails (n + more) (omega arith))
+    ∙ those_below-fewer n more test fails
 
 -- the steps of a loop that counts or looks for those that pass
 pub ruleset members = (those_below-zero, length-those_below_pass, those_below_fail, slice_index-those_below)

@@ -1,6 +1,7 @@
 -- The receive queue of an arriving packet (kernel scaling chapter, sections RSS and accelerated RFS; 128 entries as the
 -- redirection table of the Intel 82599).
-use Rattle.std.specs.Prelude.{ℕ, ◌%◌, ◌≡◌, Option, Some, None}
+use Rattle.std.specs.Prelude.{ℕ, ◌%◌, ◌≡◌, List, Option, Some, None, map}
+use Rattle.std.specs.List.{range_with_len}
 use Rattle.steer_base.specs.Choices.{class_of}
 
 -- the filter that a hash is looked up at, among so many
@@ -10,6 +11,10 @@ filter_place filters hash = class_of filters hash
 -- the entry of the redirection table that a hash is looked up at
 abbrev pub table_place : ℕ → ℕ
 table_place hash = hash % 128
+
+-- the entries of the table by which so many queues get them in turn: entry i has queue `i mod queues`
+unfoldable pub even_entries : ℕ → List ℕ
+even_entries queues = map (λ i. i % queues) (range_with_len 0 128)
 
 -- a queue with the value that led to it: a filter's queue, an entry's queue, or neither
 pub record Route : Type 0 where

@@ -3,12 +3,14 @@ pub mod Arrivals
 pub mod Choices
 pub mod Commands
 pub mod Counters
+pub mod Decimals
 pub mod Drops
 pub mod Entries
 pub mod Filters
 pub mod HashTables
 pub mod Journals
 pub mod Lanes
+pub mod Moves
 pub mod Orders
-pub mod Sets
 pub mod Sends
+pub mod Sets

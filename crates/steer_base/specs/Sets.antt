@@ -1,5 +1,5 @@
 -- Sets of processors and of queues, and the members of a list of candidates.
-use Rattle.std.specs.Prelude.{ℕ, Bool, true, false, List, [], ◌∷◌, ◌==◌, ◌&&◌, nat_lt, ◌%◌, length, slice_index, filter}
+use Rattle.std.specs.Prelude.{ℕ, ◌-◌, ◌%◌, ◌^◌, Bool, true, false, List, [], ◌∷◌, ◌==◌, ◌&&◌, nat_lt, length, slice_index, filter, bit_and, bit_or}
 use Rattle.std.specs.Int.{bit_at}
 use Rattle.std.specs.List.{range_with_len}
 use Rattle.steer_base.specs.declared.cpu_mask.CpuMask.{CpuMask}
@@ -19,6 +19,21 @@ has_queue queues queue = in_bits 16 queues queue
 -- those of the numbers below n that pass the test, ascending; closed, since n is often a numeral
 unfoldable pub those_below : ℕ → (ℕ → Bool) → List ℕ
 those_below n test = filter test (range_with_len 0 n)
+
+-- the members of a set of processors, ascending
+abbrev pub members : CpuMask → List ℕ
+members mask = those_below 32 (has mask)
+
+-- the processors below a number
+abbrev pub first_cpus : ℕ → CpuMask
+first_cpus count = record { 0 = 2 ^ count - 1 }
+
+-- a set with a processor more, and with one less
+abbrev pub with_cpu : CpuMask → ℕ → CpuMask
+with_cpu mask cpu = record { 0 = bit_or mask.0 (2 ^ cpu) }
+
+abbrev pub without_cpu : CpuMask → ℕ → CpuMask
+without_cpu mask cpu = record { 0 = bit_and mask.0 (2 ^ 32 - 1 - 2 ^ cpu) }
 
 abbrev pub is_empty : List ℕ → Bool
 is_empty [] = true

@@ -14,7 +14,7 @@ pub enum Why {
     Unset,
     /// The current lane of its class is offline.
     Offline,
-    /// The head of the current lane has reached the recorded tail.
+    /// The head of the current lane has reached the recorded tail, so none of its packets waits there.
     Passed,
     /// The current lane may still hold packets of the class.
     Kept,
@@ -35,31 +35,35 @@ impl Why {
 /// The choice of a lane with all that was seen for it. In this order its fields take 28 bytes, and with a packet 32.
 #[derive(Clone, Copy, Debug, PartialEq, Eq)]
 pub struct Choice {
-    /// The class of the packet, if it has one.
+    /// The class of the packet, if it has one, from 0.
     pub class: Option<u32>,
-    /// The head of the current lane, where the rule looked at it.
+    /// The head of the current lane, where the rule looked at it: a counter number that wraps.
     pub head: Option<u32>,
-    /// The recorded tail of the class before this choice.
+    /// The recorded tail of the class before this choice, where there is a class: a counter number that wraps.
     pub tail: Option<u32>,
     /// The lane that was wanted, as it was seen.
     pub want: Option<u8>,
-    /// The lane.
+    /// The lane that was chosen.
     pub lane: u8,
     /// The rule's case.
     pub why: Why,
 }
 
-/// What is recorded of a class: its current lane, if it has one, and the recorded tail, a counter number.
+/// What is recorded of a class.
 #[derive(Clone, Copy, Debug, PartialEq, Eq)]
 pub struct Entry {
+    /// The current lane, if the class has one.
     pub lane: Option<u8>,
+    /// The recorded tail, a counter number that wraps.
     pub tail: u32,
 }
 
 /// A packet and the choice for it.
 #[derive(Clone, Copy, Debug, PartialEq, Eq)]
 pub struct Chosen {
+    /// The packet.
     pub id: PacketId,
+    /// What was chosen for it.
     pub choice: Choice,
 }
 

@@ -2,15 +2,16 @@
 use crate::cpu_mask::CpuMask;
 use crate::idle::Idle;
 use crate::ids::{AppId, Cpu, RxQueue, TxQueue};
+use std::fmt::{self, Display, Formatter, Write};
 
 /// A change of a setting.
 #[derive(Clone, Copy, Debug, PartialEq, Eq)]
 pub enum Command {
     /// The packet-steering processors of a receive queue (`rps_cpus`).
     Mask(RxQueue, CpuMask),
-    /// The flow count of a receive queue (`rps_flow_cnt`), as given.
+    /// The flow count of a receive queue (`rps_flow_cnt`), as given and not rounded up.
     Flows(RxQueue, u32),
-    /// The size of the socket flow table (`rps_sock_flow_entries`), as given.
+    /// The number of entries of the socket flow table (`rps_sock_flow_entries`), as given and not rounded up.
     Sock(u32),
     /// A processor goes offline.
     Offline(Cpu),
@@ -20,7 +21,7 @@ pub enum Command {
     XCpus(TxQueue, CpuMask),
     /// The receive queues of a transmit queue (`xps_rxqs`): bit q is receive queue q.
     XQueues(TxQueue, u16),
-    /// An entry of the redirection table.
+    /// An entry of the redirection table, 0 to 127, gets another receive queue.
     Reta(u8, RxQueue),
     /// The processor on which an application stands.
     Stand(AppId, Cpu),
@@ -31,10 +32,17 @@ pub enum Command {
 /// What keeps a gated command from being done.
 #[derive(Clone, Copy, Debug, PartialEq, Eq)]
 pub enum Busy {
-    /// So many actors are inside the gate.
+    /// The number of actors that are inside the gate.
     Inside(u32),
-    /// The first affected lane that is not empty, with its head and its tail, counter numbers.
-    NotEmpty { lane: u8, head: u32, tail: u32 },
+    /// An affected lane is not empty.
+    NotEmpty {
+        /// The first such lane.
+        lane: u8,
+        /// Its head, a counter number that wraps.
+        head: u32,
+        /// Its tail, a counter number that wraps.
+        tail: u32,
+    },
 }
 
 /// Who uses a processor that was to go offline.
@@ -49,19 +57,38 @@ pub enum User {
 /// Why a command may not be given at all.
 #[derive(Clone, Copy, Debug, PartialEq, Eq)]
 pub enum Refused {
+    /// The processor that was to go offline is in use.
     CpuInUse(User),
+    /// The processor that was to go offline, or to be stood on, is offline.
     CpuOffline,
+    /// The processor that was to come online is online.
     AlreadyOnline,
+}
+
+impl Display for Refused {
+    fn fmt<W: Write>(&self, f: &mut Formatter<W>) -> fmt::Result {
+        match self {
+            Refused::CpuInUse(User::Queue(queue)) => write!(f, "home to queue {}", queue.0),
+            Refused::CpuInUse(User::App(app)) => write!(f, "application {} stands on it", app.0),
+            Refused::CpuOffline => f.write_str("offline"),
+            Refused::AlreadyOnline => f.write_str("online"),
+        }
+    }
 }
 
 /// The answer to a step of the machine.
 #[derive(Clone, Copy, Debug, PartialEq, Eq)]
 pub enum Answer {
+    /// The step was made.
     Done,
+    /// The step was not enabled, and nothing changed.
     Idle(Idle),
+    /// A gated command was not done, since packets or actors are under way.
     Busy(Busy),
+    /// The processor that was to go offline is in use.
     CpuInUse(User),
+    /// The processor that was to go offline, or to be stood on, is offline.
     CpuOffline,
-    /// So many filters were cleared.
+    /// All filters were asked: the number of those that were cleared.
     Expired(u32),
 }

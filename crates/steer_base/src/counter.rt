@@ -1,6 +1,7 @@
 //! Counters of 32 bits that wrap, as the kernel's queue heads and tails, and sizes that are powers of two.
-ghost use Rattle.std.specs.Prelude.{◌≡◌, ◌≤◌};
-ghost use Rattle.steer_base.specs.Counters.{first_at_least, has_reached, rounded_up};
+ghost use Rattle.std.specs.Prelude.{ℕ, ◌≡◌, ◌<◌, ◌≤◌, ◌^◌};
+ghost use Rattle.std.specs.Int.{IsPowerOfTwo};
+ghost use Rattle.steer_base.specs.Counters.{has_reached, rounded_up};
 
 /// Whether the counter `head` stands at least `more` past `tail`, where the two are less than half of the number
 /// range apart: the comparison by signed difference that the kernel makes of its queue counters.
@@ -12,40 +13,18 @@ pub fn reached(head: u32, tail: u32, more: u32) -> bool
     past < 1 << 31 && past >= more
 }
 
-/// The powers of two that are table sizes.
-const TABLE_SIZES: [u32; 17] = [
-    1, 2, 4, 8, 16, 32, 64, 128, 256, 512, 1024, 2048, 4096, 8192, 16384, 32768, 65536,
-];
-
-/// The least power of two that is at least `n`, and 0 for 0, as the kernel rounds the sizes of its flow tables.
+/// The least power of two that is at least `n`, which is at most 65,536, and 0 for 0, as the kernel rounds the sizes of
+/// its flow tables.
 pub fn round_up(n: u32) -> u32
     requires { n ≤ 65536 }
     ensures value { result ≡ rounded_up n }
+    ensures power { 0 < n → IsPowerOfTwo result }
+    ensures least { (k : ℕ) → n ≤ 2 ^ k → result ≤ 2 ^ k }
     ensures enough { n ≤ result }
     ensures bounded { result ≤ 65536 }
     ensures receive_size { n ≤ 32768 → result ≤ 32768 }
 {
-    if n == 0 {
-        return 0;
-    }
-    first_size(&TABLE_SIZES, n)
-}
-
-// The first size that holds n, and 0 where none does.
-#[tactic(auto, unfolding(crate::specs::Counters::first_at_least))]
-fn first_size(sizes: &[u32], n: u32) -> u32
-    ensures { result ≡ first_at_least n sizes.now }
-{
-    match sizes {
-        [] => 0,
-        [size, rest @ ..] => {
-            if n <= *size {
-                *size
-            } else {
-                first_size(rest, n)
-            }
-        }
-    }
+    if n == 0 { 0 } else { n.next_power_of_two() }
 }
 
 #[cfg(test)]

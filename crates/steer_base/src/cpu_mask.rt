@@ -1,18 +1,101 @@
 //! A set of processors.
-ghost use Rattle.std.specs.Prelude.{◌≡◌};
+ghost use Rattle.std.specs.Prelude.{ℕ, ◌≡◌, ◌<◌, ◌≤◌, ◌==◌, ◌&&◌, ◌||◌, not, nat_lt, IsTrue, length, slice_index};
+ghost use Rattle.std.specs.List.{list_any};
+
+use crate::ids::Cpu;
 
 /// A set of processors: bit c is processor c. A number of 32 or more is in no set.
 #[derive(Clone, Copy, Debug, PartialEq, Eq)]
 pub struct CpuMask(pub u32);
 
 impl CpuMask {
-    ghost use Rattle.steer_base.specs.Sets.{has};
+    ghost use Rattle.steer_base.specs.Sets.{first_cpus, has, is_empty, members, with_cpu, without_cpu};
+
+    /// The processors below `count`, which is at most 32.
+    pub fn first_n(count: u8) -> CpuMask
+        requires { count ≤ 32 }
+        ensures value { result ≡ first_cpus count }
+        ensures members { (cpu : ℕ) → has result cpu ≡ nat_lt cpu count }
+    {
+        CpuMask(((1u64 << count) - 1) as u32)
+    }
+
+    /// The processors of a list. A number of 32 or more is left out.
+    pub fn from_cpus(cpus: &[Cpu]) -> CpuMask
+        ensures { (cpu : ℕ) → has result cpu
+            ≡ (nat_lt cpu 32 && list_any (λ other. other == cpu) cpus.now) }
+    {
+        let mut mask = CpuMask(0);
+        for cpu in cpus {
+            mask = mask.with(*cpu);
+        }
+        mask
+    }
 
     /// Whether the processor is in the set.
     pub fn has(self, cpu: u8) -> bool
         ensures { result ≡ has self cpu }
     {
         cpu < 32 && self.0 >> cpu & 1 == 1
+    }
+
+    /// Whether no processor is in the set.
+    pub fn is_empty(self) -> bool
+        ensures { result ≡ is_empty (members self) }
+    {
+        self.len() == 0
+    }
+
+    /// How many processors are in the set.
+    pub fn len(self) -> u32
+        ensures value { result ≡ length (members self) }
+        ensures most { result ≤ 32 }
+    {
+        self.0.count_ones()
+    }
+
+    /// The processor that `index` others of the set are below.
+    #[tactic(auto, using(crate::proofs::SetsLemmas::members))]
+    pub fn nth(self, index: u32) -> Cpu
+        requires { index < length (members self) }
+        ensures value { result ≡ slice_index (members self) index }
+        ensures member { IsTrue (has self result) }
+    {
+        let mut left = index;
+        for cpu in 0..32 {
+            if self.has(cpu) {
+                if left == 0 {
+                    return Cpu(cpu);
+                }
+                left -= 1;
+            }
+        }
+        unreachable!()
+    }
+
+    /// The set with one processor more. A number of 32 or more is left out.
+    pub fn with(self, cpu: Cpu) -> CpuMask
+        ensures value { cpu < 32 → result ≡ with_cpu self cpu }
+        ensures members { (other : ℕ) → has result other
+            ≡ (has self other || (nat_lt other 32 && cpu == other)) }
+    {
+        if cpu.0 < 32 {
+            CpuMask(self.0 | 1 << cpu.0)
+        } else {
+            self
+        }
+    }
+
+    /// The set with one processor less.
+    pub fn without(self, cpu: Cpu) -> CpuMask
+        ensures value { cpu < 32 → result ≡ without_cpu self cpu }
+        ensures members { (other : ℕ) → has result other ≡ (has self other && not (cpu == other)) }
+    {
+        if cpu.0 < 32 {
+            CpuMask(self.0 & !(1 << cpu.0))
+        } else {
+            self
+        }
     }
 }
 
@@ -25,5 +108,19 @@ mod tests {
         let mask = CpuMask(0x8000_0002);
         assert!(rt; mask.has(1) && mask.has(31));
         assert!(rt; !mask.has(0) && !mask.has(30) && !mask.has(32) && !mask.has(255));
+        assert_eq!(rt; mask.len(), 2);
+        assert!(rt; !mask.is_empty() && CpuMask(0).is_empty());
+    }
+
+    #[test]
+    fn sets_are_made(rt: HostRuntime) {
+        assert_eq!(rt; CpuMask::first_n(0), CpuMask(0));
+        assert_eq!(rt; CpuMask::first_n(3), CpuMask(0b111));
+        assert_eq!(rt; CpuMask::first_n(32), CpuMask(0xffff_ffff));
+        let some = CpuMask::from_cpus(&[Cpu(3), Cpu(31), Cpu(0), Cpu(3), Cpu(32)]);
+        assert_eq!(rt; some, CpuMask(0x8000_0009));
+        assert_eq!(rt; some.with(Cpu(1)), CpuMask(0x8000_000b));
+        assert_eq!(rt; some.without(Cpu(31)), CpuMask(0b1001));
+        assert_eq!(rt; some.without(Cpu(1)), some);
     }
 }

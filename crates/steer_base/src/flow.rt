@@ -1,16 +1,26 @@
 //! The flow that a packet belongs to.
 
 /// The source and the destination address of an IP packet, each as one number.
-#[derive(Clone, Copy, Debug, PartialEq, Eq)]
+#[derive(Clone, Copy, Debug, PartialEq, Eq, PartialOrd, Ord)]
 pub enum Pair {
     /// Two IPv4 addresses of 32 bits.
-    V4 { src: u32, dst: u32 },
+    V4 {
+        /// The source.
+        src: u32,
+        /// The destination.
+        dst: u32,
+    },
     /// Two IPv6 addresses of 128 bits.
-    V6 { src: u128, dst: u128 },
+    V6 {
+        /// The source.
+        src: u128,
+        /// The destination.
+        dst: u128,
+    },
 }
 
 /// The transport protocols whose ports are part of a flow.
-#[derive(Clone, Copy, Debug, PartialEq, Eq)]
+#[derive(Clone, Copy, Debug, PartialEq, Eq, PartialOrd, Ord)]
 pub enum Proto {
     /// Protocol number 6.
     Tcp,
@@ -19,7 +29,7 @@ pub enum Proto {
 }
 
 /// What a frame tells of its flow. All frames without an IP packet are one flow.
-#[derive(Clone, Copy, Debug, PartialEq, Eq)]
+#[derive(Clone, Copy, Debug, PartialEq, Eq, PartialOrd, Ord)]
 pub enum Flow {
     /// No IP packet was found.
     Bare,

@@ -6,6 +6,8 @@ mod choice;
 mod command;
 mod counter;
 mod cpu_mask;
+mod decimal;
+mod even;
 mod filter;
 mod flow;
 mod hash_place;
@@ -25,6 +27,8 @@ pub use choice::{Choice, Chosen, Entry, Why};
 pub use command::{Answer, Busy, Command, Refused, User};
 pub use counter::{reached, round_up};
 pub use cpu_mask::CpuMask;
+pub use decimal::decimal_number;
+pub use even::even_entries;
 pub use filter::Filter;
 pub use flow::{Flow, Pair, Proto};
 pub use hash_place::place_of_hash;
@@ -32,7 +36,9 @@ pub use idle::Idle;
 pub use ids::{AppId, Cpu, PacketId, RxQueue, TxQueue};
 pub use journal::Journal;
 pub use journals::Journals;
-pub use laws::numbers_compare_as_counts;
+pub use laws::{
+    a_class_moves_in_three_cases_alone, a_number_tells_its_count, numbers_compare_as_counts,
+};
 pub use list::List;
 pub use memory::OutOfMemory;
 pub use packet::Packet;

@@ -8,7 +8,7 @@ pub struct Packet {
     pub flow: Flow,
     /// The receive hash, where one of the flow's hash kinds is on.
     pub hash: Option<u32>,
-    /// The bytes of the frame that the capture has.
+    /// The number of bytes of the frame that the capture has.
     pub len: u32,
     /// The place of the flow among the distinct flows of the capture, in order of first appearance, from 0.
     pub flow_number: u32,

@@ -13,16 +13,17 @@ pub enum DropCause {
 /// Where a put left its packet.
 #[derive(Clone, Copy, Debug, PartialEq, Eq)]
 pub enum Put {
-    /// It was accepted at this position, a counter number.
+    /// It was accepted at this position, a counter number that wraps.
     At(u32),
     /// It was dropped.
     Dropped {
-        /// The number of this drop among those of the lane, from 1.
+        /// The number of this drop among those of the lane, from 1: a count.
         number: u32,
-        /// How many packets the lane had accepted.
+        /// How many packets the lane had accepted, a count.
         accepted: u32,
-        /// How many of these had been pulled.
+        /// How many of these had been pulled, a count.
         pulled: u32,
+        /// Why it was dropped.
         cause: DropCause,
     },
 }
@@ -30,8 +31,12 @@ pub enum Put {
 /// A dropped packet with the two counts that its put found.
 #[derive(Clone, Copy, Debug, PartialEq, Eq)]
 pub struct LaneDrop {
+    /// The packet.
     pub id: PacketId,
+    /// How many packets the lane had accepted, a count.
     pub accepted: u32,
+    /// How many of these had been pulled, a count.
     pub pulled: u32,
+    /// Why it was dropped.
     pub cause: DropCause,
 }

@@ -1,9 +1,9 @@
 //! The events of a hop, one by one.
-ghost use Rattle.std.specs.Prelude.{◌≡◌, ℕ, ◌<◌, ◌≤◌, ◌≢◌, true, false, length, slice_index};
+ghost use Rattle.std.specs.Prelude.{◌≡◌, ◌<◌, false, length};
 ghost use Rattle.steer_base.specs.Counters.{rounded_up};
-ghost use Rattle.steer_base.specs.Sets.{has};
-ghost use Rattle.hop_core.specs.Events.{IsClassBelow, IsEmptied, close, deliver, enter, leave, pull, put, retire, take, weigh};
-ghost use Rattle.hop_core.specs.Hop.{arrivals_of, arrived, resized, with_bare, with_closed};
+ghost use Rattle.hop_core.specs.Events.{MayArrive, MayDeliver, MayResize, MayWeigh};
+ghost use Rattle.hop_core.specs.Events.{close, deliver, enter, leave, pull, put, retire, take, weigh};
+ghost use Rattle.hop_core.specs.Hop.{arrived, resized, with_bare, with_closed};
 ghost use Rattle.hop_core.specs.declared.event.HopAnswer.TheVariants as answer;
 
 use crate::HopAnswer;
@@ -12,9 +12,7 @@ use steer_base::{Chosen, CpuMask, Idle, PacketId, round_up};
 
 impl Hop {
     pub(super) fn arrive(&mut self, p: u8, id: PacketId) -> HopAnswer
-        requires producer { p < length self.old.arrivals }
-        requires below { id < self.old.fixed.room }
-        requires fresh { (q i : ℕ) → i < length (arrivals_of self.old q) → slice_index (arrivals_of self.old q) i ≢ id }
+        requires { MayArrive self.old p id }
         ensures state { self.new ≡ arrived self.old p id }
         ensures answer { result ≡ answer.Done }
     {
@@ -79,10 +77,7 @@ impl Hop {
         desired: u8,
         online: CpuMask,
     ) -> HopAnswer
-        requires producer { p < length self.old.arrivals }
-        requires desired { desired < length self.old.bare.accepted }
-        requires class { IsClassBelow (slice_index self.old.counts p) class }
-        requires empty { (c : ℕ) → c < length self.old.bare.accepted → has online c ≡ false → IsEmptied self.old.bare c }
+        requires { MayWeigh self.old p class desired online }
         ensures state { self.new ≡ (weigh self.old p class want desired online).0 }
         ensures answer { result ≡ (weigh self.old p class want desired online).1 }
     {
@@ -136,8 +131,7 @@ impl Hop {
     }
 
     pub(super) fn deliver(&mut self, lane: u8, to: u8) -> HopAnswer
-        requires lane { lane < length self.old.bare.accepted }
-        requires out { to < length self.old.bare.outs }
+        requires { MayDeliver self.old lane to }
         ensures state { self.new ≡ (deliver self.old lane to).0 }
         ensures answer { result ≡ (deliver self.old lane to).1 }
     {
@@ -172,11 +166,7 @@ impl Hop {
     }
 
     pub(super) fn resize(&mut self, p: u8, count: u32) -> HopAnswer
-        requires producer { p < length self.old.arrivals }
-        requires count { count ≤ 32768 }
-        requires rounded { self.old.fixed.exact ≡ false }
-        requires closed { self.old.bare.closed ≡ true }
-        requires empty { (c : ℕ) → c < length self.old.bare.accepted → IsEmptied self.old.bare c }
+        requires { MayResize self.old p count }
         ensures state { self.new ≡ resized self.old p (rounded_up count) }
         ensures answer { result ≡ answer.Done }
     {

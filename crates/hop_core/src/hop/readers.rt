@@ -2,11 +2,12 @@
 ghost use Rattle.std.specs.Prelude.{◌≡◌, ◌↔◌, ℕ, ◌-◌, ◌<◌, IsOk, length, slice_get, slice_index};
 ghost use Rattle.steer_base.specs.Choices.{class_of};
 ghost use Rattle.hop_core.specs.Emptied.{AreEmptied, emptied};
-ghost use Rattle.hop_core.specs.Hop.{accepted_at, delivered_at, head_at, inside_of, out_at, pulled_at, retired_at, tail_at, taken_of};
-ghost use Rattle.hop_core.specs.Reads.{last_choice, to_deliver, to_weigh};
+ghost use Rattle.hop_core.specs.Hop.{accepted_at, choices_of, delivered_at, drops_at, head_at, inside_of};
+ghost use Rattle.hop_core.specs.Hop.{out_at, placed_of, pulled_at, retired_at, tail_at, taken_of};
+ghost use Rattle.hop_core.specs.Reads.{last_choice, to_deliver, to_put, to_weigh};
 
 use crate::hop::Hop;
-use steer_base::{Busy, Chosen, CpuMask, PacketId};
+use steer_base::{Busy, Chosen, CpuMask, LaneDrop, PacketId};
 
 impl Hop {
     /// Whether each of these lanes is empty; else the first one that is not, with the numbers of its head and tail.
@@ -73,7 +74,7 @@ impl Hop {
     }
 
     /// The packet in a lane's hand that is delivered next, if there is one.
-    pub fn next_out(&self, lane: u8) -> Option<PacketId>
+    pub fn to_deliver(&self, lane: u8) -> Option<PacketId>
         requires { lane < length self.now.bare.accepted }
         ensures { result ≡ to_deliver self.now.bare lane }
     {
@@ -85,24 +86,44 @@ impl Hop {
         }
     }
 
-    /// How many packets were delivered to an out lane.
-    pub fn out_len(&self, to: u8) -> u32
-        requires { to < length self.now.bare.outs }
-        ensures { result ≡ length (out_at self.now.bare to) }
+    /// How many packets a lane accepted.
+    pub fn accepted_len(&self, lane: u8) -> u32
+        requires { lane < length self.now.bare.accepted }
+        ensures { result ≡ length (accepted_at self.now.bare lane) }
     {
-        self.outs.len_of(to)
+        let none = self.lanes.number_at(0);
+        self.lanes.tail(lane).wrapping_sub(none)
     }
 
-    /// The packet that was delivered to an out lane as number `n`, from 0, if so many were.
-    pub fn out_at(&self, to: u8, n: u32) -> Option<PacketId>
-        requires { to < length self.now.bare.outs }
-        ensures { result ≡ slice_get (out_at self.now.bare to) n }
+    /// The packet that a lane accepted as number `n`, from 0, if it accepted more than `n`.
+    pub fn accepted_at(&self, lane: u8, n: u32) -> Option<PacketId>
+        requires { lane < length self.now.bare.accepted }
+        ensures { result ≡ slice_get (accepted_at self.now.bare lane) n }
     {
-        if n < self.outs.len_of(to) {
-            Some(self.outs.get(to, n))
-        } else {
-            None
-        }
+        self.lanes.get(lane, n)
+    }
+
+    /// The packets that a lane dropped, oldest first, each with the counts and the cause of its drop.
+    pub fn drops(&self, lane: u8) -> &[LaneDrop]
+        requires { lane < length self.now.bare.accepted }
+        ensures { result.now ≡ drops_at self.now.bare lane }
+    {
+        self.lanes.drops(lane)
+    }
+
+    /// The packets that were delivered to an out lane, oldest first.
+    pub fn out(&self, to: u8) -> &[PacketId]
+        requires { to < length self.now.bare.outs }
+        ensures { result.now ≡ out_at self.now.bare to }
+    {
+        self.outs.list(to)
+    }
+
+    /// How many actors are inside the gate.
+    pub fn inside(&self) -> u32
+        ensures { result ≡ self.now.bare.inside }
+    {
+        self.inside
     }
 
     /// Whether an actor is inside the gate.
@@ -137,7 +158,7 @@ impl Hop {
     }
 
     /// The packet that a producer has taken up and weighs next, if there is one.
-    pub fn next_of(&self, p: u8) -> Option<PacketId>
+    pub fn to_weigh(&self, p: u8) -> Option<PacketId>
         requires { p < length self.now.arrivals }
         ensures { result ≡ to_weigh self.now p }
     {
@@ -147,6 +168,35 @@ impl Hop {
         } else {
             None
         }
+    }
+
+    /// How many of a producer's choices were put.
+    pub fn placed(&self, p: u8) -> u32
+        requires { p < length self.now.arrivals }
+        ensures { result ≡ placed_of self.now p }
+    {
+        self.placed[p as usize]
+    }
+
+    /// The choice of a producer that is to be put, if there is one.
+    pub fn to_put(&self, p: u8) -> Option<Chosen>
+        requires { p < length self.now.arrivals }
+        ensures { result ≡ to_put self.now p }
+    {
+        let placed = self.placed[p as usize];
+        if placed < self.choices.len_of(p) {
+            Some(self.choices.get(p, placed))
+        } else {
+            None
+        }
+    }
+
+    /// The choices of a producer, oldest first.
+    pub fn choices(&self, p: u8) -> &[Chosen]
+        requires { p < length self.now.arrivals }
+        ensures { result.now ≡ choices_of self.now p }
+    {
+        self.choices.list(p)
     }
 
     /// The last choice of a producer, if it made one.

@@ -554,7 +554,7 @@ fn shows_its_hands(rt: &impl Abort, hop: &Hop, choice: Choice)
     let id = first;
     assert!(rt; hop.is_inside(0) && !hop.is_closed());
     assert_eq!(rt; hop.taken(0), 2);
-    assert_eq!(rt; hop.next_of(0), Some(second));
+    assert_eq!(rt; hop.to_weigh(0), Some(second));
     assert_eq!(rt; hop.last_choice(0), Some(Chosen { id, choice }));
     assert_eq!(rt; hop.class(0, Some(FIRST)), Some(0));
     assert_eq!(rt; (hop.head(1), hop.tail(1)), (7, 8));
@@ -563,9 +563,8 @@ fn shows_its_hands(rt: &impl Abort, hop: &Hop, choice: Choice)
         (1, 0, 0)
     );
     assert_eq!(rt; hop.unretired(1), 1);
-    assert_eq!(rt; hop.next_out(1), Some(first));
-    assert_eq!(rt; hop.out_len(0), 0);
-    assert_eq!(rt; hop.out_at(0, 0), None);
+    assert_eq!(rt; hop.to_deliver(1), Some(first));
+    assert!(rt; hop.out(0).is_empty());
     hop.sound();
 }
 

@@ -5,4 +5,4 @@ pub invariant_of-self : goal.invariant_of-self
 invariant_of-self c =
     let asked = rw (← c.self.view_is) at c.requires in
     rw (c.resize.ensures, c.round_up.ensures.value, c.len_of.ensures.len)
-    (whole-resize _ c.args.p _ asked.producer asked.closed asked.empty c.self.invariant)
+    (whole-resize _ c.args.p _ asked.producer asked.closed asked.drained c.self.invariant)

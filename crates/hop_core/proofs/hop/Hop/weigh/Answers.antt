@@ -25,8 +25,8 @@ invariant_of-self c =
     let inside = sym (read-visit _ c.args.p c.index.result.now w asked.producer c.index.ensures) ∙ c.if-not-index.false in
     let id = read-next _ c.args.p c.len_of-count.result c.get-id.result w c.len_of-count.ensures.len more c.get-id.ensures in
     let choice = (rw c.deref.ensures.value at c.choose-choice.ensures.choice)
-    ∙ choice-by_table _ c.args.p c.self.inside.tables w.tabled c.args.class c.args.want c.args.desired c.args.online asked.class in
+    ∙ choice-by_table _ c.args.p c.self.inside.tables w.tabled c.args.class c.args.want c.args.desired c.args.online asked.in_range in
     let tables = rw choice at c.choose-choice.ensures.tables in
     let lists = rw (id, choice) at c.push.ensures in
     rw (tables, lists)
-    (whole-weigh _ c.args.p c.args.class c.args.want c.args.desired c.args.online asked.producer asked.desired asked.class asked.empty inside more w)
+    (whole-weigh _ c.args.p c.args.class c.args.want c.args.desired c.args.online asked.producer asked.lane asked.in_range asked.drained inside more w)
