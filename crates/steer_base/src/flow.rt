@@ -1,7 +1,7 @@
 //! The flow that a packet belongs to.
 
 /// The source and the destination address of an IP packet, each as one number.
-#[derive(Clone, Copy, Debug, PartialEq, Eq)]
+#[derive(Clone, Copy, Debug, PartialEq, Eq, PartialOrd, Ord)]
 pub enum Pair {
     /// Two IPv4 addresses of 32 bits.
     V4 {
@@ -20,7 +20,7 @@ pub enum Pair {
 }
 
 /// The transport protocols whose ports are part of a flow.
-#[derive(Clone, Copy, Debug, PartialEq, Eq)]
+#[derive(Clone, Copy, Debug, PartialEq, Eq, PartialOrd, Ord)]
 pub enum Proto {
     /// Protocol number 6.
     Tcp,
@@ -29,7 +29,7 @@ pub enum Proto {
 }
 
 /// What a frame tells of its flow. All frames without an IP packet are one flow.
-#[derive(Clone, Copy, Debug, PartialEq, Eq)]
+#[derive(Clone, Copy, Debug, PartialEq, Eq, PartialOrd, Ord)]
 pub enum Flow {
     /// No IP packet was found.
     Bare,
