@@ -2,6 +2,7 @@ pub mod AllSteps
 pub mod Alone
 pub mod Apart
 pub mod Asked
+pub mod BareEvents
 pub mod Cases
 pub mod Choices
 pub mod Drops
@@ -27,6 +28,8 @@ pub mod PutSteps
 pub mod Puts
 pub mod Rooms
 pub mod Rounds
+pub mod Settled
+pub mod SettledParts
 pub mod Sizes
 pub mod Sound
 pub mod Standing
