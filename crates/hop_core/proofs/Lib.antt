@@ -8,7 +8,6 @@ pub mod Choices
 pub mod Drops
 pub mod Empties
 pub mod EndToEnd
-pub mod Entries
 pub mod Fits
 pub mod Flows
 pub mod Gate

@@ -31,7 +31,7 @@ use Rattle.hop_core.proofs.New.{at_new}
 use Rattle.hop_core.proofs.PutSteps.{put_as}
 use Rattle.hop_core.proofs.SettledParts.{Settled-put, Settled-resize, Settled-retire, Settled-set, Settled-weigh, positions_stay}
 use Rattle.hop_core.proofs.Sound.{same_choice}
-use Rattle.hop_core.proofs.Standing.{by_entry-class}
+use Rattle.steer_base.proofs.RuleLemmas.{by_entry-class}
 
 -- ---- events
 

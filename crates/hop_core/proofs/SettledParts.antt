@@ -6,7 +6,7 @@ use Rattle.steer_base.specs.declared.choice.Chosen.{Chosen}
 use Rattle.hop_core.specs.Hop.{chosen_at, nobody}
 use Rattle.hop_core.specs.Settled.{Settled}
 use Rattle.hop_core.specs.Sound.{Distinct, Hands}
-use Rattle.hop_core.proofs.Entries.{place_in-le, place_in-other}
+use Rattle.steer_base.proofs.EntriesLemmas.{place_in-le, place_in-other}
 use Rattle.hop_core.proofs.Gathered.{Added}
 use Rattle.hop_core.proofs.Lists.{Changed, chosen-push_front, chosen-push_last, length-push}
 use Rattle.hop_core.proofs.Sound.{same_choice}
