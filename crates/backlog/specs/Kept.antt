@@ -2,7 +2,7 @@
 use Rattle.std.specs.Prelude.{ℕ, ◌≡◌, ◌≤◌, Bool, List, Option}
 use Rattle.steer_base.specs.Lanes.{LaneLists}
 use Rattle.steer_base.specs.declared.put.LaneDrop.{LaneDrop}
-use Rattle.backlog.specs.Journals.{Journal}
+use Rattle.steer_base.specs.Journals.{Journal}
 use Rattle.backlog.specs.Puts.{IsLane}
 use Rattle.backlog.specs.Queues.{QueueLists}
 

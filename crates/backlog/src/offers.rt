@@ -2,7 +2,7 @@
 ghost use Rattle.std.specs.Prelude.{ℕ, ◌≡◌, ◌<◌, ◌≤◌, List, [], length, IfOk, Option};
 ghost use Rattle.std.specs.Option.{ForSome, option_map};
 ghost use Rattle.steer_base.specs.Drops.{bucket_count};
-ghost use Rattle.backlog.specs.Journals.{grown, journal};
+ghost use Rattle.steer_base.specs.Journals.{grown, journal};
 
 use crate::pages::Pages;
 use crate::window::Window;
@@ -20,7 +20,7 @@ pub struct Offers {
 impl Model for Offers {
     ghost use Rattle.std.specs.Prelude.{ℕ, ◌≡◌, Option};
     ghost use Rattle.steer_base.specs.Drops.{window as window_of};
-    ghost use Rattle.backlog.specs.Journals.{Journal};
+    ghost use Rattle.steer_base.specs.Journals.{Journal};
 
     ghost Value = { Journal (Option ℕ) };
 

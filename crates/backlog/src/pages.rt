@@ -1,6 +1,7 @@
 //! A list that grows without memory, up to a room that was reserved for it in pages.
 ghost use Rattle.std.specs.Prelude.{ℕ, ◌≡◌, ◌<◌, ◌*◌, ◌≤◌, List, [], ◌∷◌, ◌++◌, length, IfOk, replicate, slice_get, vec_capacity};
-ghost use Rattle.backlog.specs.Journals.{Holds, grown, journal, joined};
+ghost use Rattle.steer_base.specs.Journals.{grown, journal};
+ghost use Rattle.backlog.specs.Paged.{Holds, joined};
 
 use std::alloc::Global;
 use std::marker::Model;
@@ -54,7 +55,8 @@ pub struct Pages<T> {
 }
 
 impl<T> Model for Pages<T> {
-    ghost use Rattle.backlog.specs.Journals.{IsPaged, Journal, journal, journal_code, joined};
+    ghost use Rattle.steer_base.specs.Journals.{Journal, journal, journal_code};
+    ghost use Rattle.backlog.specs.Paged.{IsPaged, joined};
 
     ghost Value = { Journal T };
 

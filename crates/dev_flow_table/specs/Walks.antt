@@ -1,5 +1,5 @@
 -- The walk of a class from lane to lane, over the choices of one producer since its table was cleared.
-use Rattle.std.specs.Prelude.{ℕ, zero, suc, ◌≡◌, ◌≢◌, ◌≤◌, ◌<◌, ◌^◌, ◌⊎◌, ◌==◌, Bool, false, List, Option, Some, None}
+use Rattle.std.specs.Prelude.{ℕ, zero, suc, ◌≡◌, ◌≢◌, ◌≤◌, ◌<◌, ◌^◌, ◌⊎◌, ◌==◌, Bool, false, List, [], ◌∷◌, Option, Some, None}
 use Rattle.std.specs.Prelude.{length, slice_index_or, take, if◌then◌else◌}
 use Rattle.steer_base.specs.Choices.{by_entry}
 use Rattle.steer_base.specs.Counters.{number}
@@ -42,6 +42,13 @@ WalkKeepsOrder =
     → (slice_index_or cs i d).choice.class ≡ Some class → (slice_index_or cs j d).choice.class ≡ Some class
     → position accepted (slice_index_or cs i d) ≡ Some n
     → (n ≤ retired j (slice_index_or cs i d).choice.lane) ⊎ ((slice_index_or cs i d).choice.lane ≡ (slice_index_or cs j d).choice.lane)
+
+-- There are such choices, two of them for one class at two lanes.
+abbrev pub WalksMove : Type 0
+WalksMove =
+    (accepted : ℕ → List ℕ) × (retired : ℕ → ℕ → ℕ) × (first : Chosen) × (second : Chosen)
+    × IsWalk 0 accepted retired (first ∷ second ∷ []) × (first.choice.class ≡ Some 0) × (second.choice.class ≡ Some 0)
+    × (first.choice.lane ≢ second.choice.lane)
 
 -- ---- where a table was cleared
 

@@ -7,7 +7,7 @@ use Rattle.hop_core.specs.declared.event.HopEvent.{HopEvent}
 use Rattle.hop_core.specs.declared.event.HopEvent.TheVariants as event
 use Rattle.hop_core.specs.Events.{MayAsk, happens}
 use Rattle.hop_core.specs.Flows.{FlowAllowed}
-use Rattle.hop_core.specs.Hop.{Fixed, HopState, accepted_at, choices_of, chosen_at, next_of, placed_of, retired_at, since_of}
+use Rattle.hop_core.specs.Hop.{Fixed, HopState, accepted_at, choices_of, chosen_at, next_of, placed_of, retired_at, since_of, taken_of}
 use Rattle.hop_core.specs.Shape.{fresh_hop}
 use Rattle.hop_core.specs.Sound.{Sound}
 
@@ -32,10 +32,11 @@ abbrev pub SettledIn : (ℕ → ℕ → Option ℕ) → (ℕ → ℕ → ℕ) �
 SettledIn class_of plain s =
     Settled (choices_of s) (since_of s) (placed_of s) (accepted_at s.bare) (retired_at s.bare) class_of plain
 
--- A weigh is by the settings; the other events are free.
+-- A weigh that is enabled is by the settings; the other events are free.
 abbrev pub IsBySettings : (ℕ → ℕ → Option ℕ) → (ℕ → ℕ → ℕ) → HopState → HopEvent → Type 0
 IsBySettings class_of plain s (event.Weigh p class want desired online) =
-    (class ≡ class_of p (next_of s p)) × (class ≡ None → desired ≡ plain p (next_of s p))
+    length (choices_of s p) < taken_of s p
+    → (class ≡ class_of p (next_of s p)) × (class ≡ None → desired ≡ plain p (next_of s p))
 IsBySettings class_of plain s _ = Unit {0}
 
 -- Other settings may take the place of these: no packet is between its choice and its put; the choices since the last

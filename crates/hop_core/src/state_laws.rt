@@ -2,6 +2,7 @@
 ghost use Rattle.hop_core.specs.BareEvents.{BareKeepsLanes, EachIsBare, EachKeepsDropsRising, EachLaneIsItsOwn, FreshDropsRise, SoundHasLanes};
 ghost use Rattle.hop_core.specs.Leaves.{EachLeaves};
 ghost use Rattle.hop_core.specs.NothingLost.{EachLosesNothing, EachPutIsOnce, LosesNothing, FreshLosesNothing};
+ghost use Rattle.hop_core.specs.Others.{EachLeavesLanes, EachLeavesProducers};
 ghost use Rattle.hop_core.specs.Settled.{EachKeepsSettled, FreshIsSettled, ResetSettles, ResizeSettles, SettledAllowsPuts};
 
 /// Nothing is lost, in a new hop and after any events: a packet that was put was accepted or dropped by the lane of its
@@ -13,9 +14,12 @@ pub fn nothing_is_lost()
     ensures once { EachPutIsOnce }
 {}
 
-/// Each event leaves every field of a state that it has no part in.
+/// Each event leaves every field of a state that it has no part in, what the other producers have, and what the other
+/// lanes have.
 pub fn each_event_leaves_the_rest()
-    ensures { EachLeaves }
+    ensures fields { EachLeaves }
+    ensures producers { EachLeavesProducers }
+    ensures lanes { EachLeavesLanes }
 {}
 
 /// A hop is settled by the settings by which its choices were made, from a new hop on and through every event. A resize
