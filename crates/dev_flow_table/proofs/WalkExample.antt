@@ -77,21 +77,20 @@ ruled (suc zero) class d in' is = let e : Some 0 ≡ Some class = is in let z : 
 ruled (suc (suc i)) class d in' is = absurd (omega arith)
 
 pub walks_move : WalksMove
-walks_move =
-    (
-      accepted,
-      retired,
-      first,
-      second,
-      record {
-        start_small = lit< tt;
-        few = few;
-        few_retired = few_retired;
-        rising = rising;
-        in_order = in_order;
-        ruled = ruled;
-      },
-      refl,
-      refl,
-      λ e. absurd (omega arith),
-    )
+walks_move = (
+  accepted,
+  retired,
+  first,
+  second,
+  record {
+    start_small = lit< tt;
+    few = few;
+    few_retired = few_retired;
+    rising = rising;
+    in_order = in_order;
+    ruled = ruled;
+  },
+  refl,
+  refl,
+  λ e. absurd (omega arith),
+)

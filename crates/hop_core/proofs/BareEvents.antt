@@ -71,7 +71,7 @@ each_lane_is_its_own f b (bare.offers c id hash) w m d =
     let cause : Option DropCause = lane_drop_cause (lane_of f b c) hash in
     pick d c (lane_of f (put_at f b c id hash) d) (after_put (lane_of f b d) id hash) (lane_of f b d)
     (λ e. subst (λ k. lane_of f (put_at f b c id hash) k ≡ after_put (lane_of f b k) id hash) (sym e)
-      (lane-landed f b cause c id (bucket_of hash) m w.offers_long w.drops_long))
+    (lane-landed f b cause c id (bucket_of hash) m w.offers_long w.drops_long))
     (λ ne. lane-other f b cause c id (bucket_of hash) m w.offers_long w.drops_long d ne)
 each_lane_is_its_own f b (bare.pulls c) w m d =
     let in' : c < length b.pulled = (let i = m.0 in let l = w.pulled_long in omega arith) in

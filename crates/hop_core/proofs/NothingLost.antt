@@ -190,7 +190,7 @@ lost-run [] s m h g = g
 lost-run (e ∷ es) s m h g = lost-run es (happens s e).0 m.1 (Sound-happens s e m.0 h) (each_loses_nothing s e m.0 h g)
 
 pub loses_nothing : LosesNothing
-loses_nothing shape es is m = lost-run es (new_hop shape) m (Sound-new shape is) 
+loses_nothing shape es is m = lost-run es (new_hop shape) m (Sound-new shape is)
     (fresh_loses_nothing (fixed_of shape) (map (classes_for shape.exact) shape.counts.items) shape.guests shape.lanes shape.outs)
 
 -- ---- exactly one place

@@ -3,8 +3,10 @@ use Rattle.std.specs.Prelude.{ℕ, ◌≡◌, ◌≢◌, Option, Some, None, sli
 use Rattle.hop_core.specs.declared.event.HopEvent.{HopEvent}
 use Rattle.hop_core.specs.declared.event.HopEvent.TheVariants as event
 use Rattle.hop_core.specs.Events.{happens}
-use Rattle.hop_core.specs.Hop.{HopState, accepted_at, arrivals_of, choices_of, delivered_at, drops_at}
-use Rattle.hop_core.specs.Hop.{in_hand, offers_at, placed_of, pulled_at, retired_at, since_of, taken_of}
+use Rattle.hop_core.specs.Hop.{HopState, accepted_at, arrivals_of, choices_of, delivered_at}
+use Rattle.hop_core.specs.Hop.{drops_at}
+use Rattle.hop_core.specs.Hop.{in_hand, offers_at, placed_of, pulled_at, retired_at, since_of}
+use Rattle.hop_core.specs.Hop.{taken_of}
 
 -- the producer whose lists an event may change
 abbrev pub producer_of : HopEvent → Option ℕ
@@ -43,7 +45,8 @@ pub record SameLane (d : ℕ) (s t : HopState) : Type 0 where
 
 abbrev pub EachLeavesProducers : Type 0
 EachLeavesProducers =
-    (s : HopState) (e : HopEvent) (q : ℕ) → producer_of e ≢ Some q → SameProducer q s (happens s e).0
+    (s : HopState) (e : HopEvent) (q : ℕ) → producer_of e ≢ Some q
+    → SameProducer q s (happens s e).0
 
 abbrev pub EachLeavesLanes : Type 0
 EachLeavesLanes =
