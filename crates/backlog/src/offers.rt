@@ -30,7 +30,7 @@ impl Model for Offers {
 }
 
 impl Offers {
-    /// No offers yet, with room for so many.
+    /// No offers yet, with room for `room` of them.
     pub fn make(alloc: Global, room: u32) -> Result<Offers, OutOfMemory>
         requires { room ≤ 262144 }
         ensures { IfOk result (λ offers. offers ≡ journal [] room) }
@@ -40,7 +40,8 @@ impl Offers {
         Ok(Offers { buckets, window })
     }
 
-    /// Notes an offer, and answers how many of the last 256 offers with a hash have its bucket, itself included.
+    /// Notes an offer, and answers how many of the last 256 offers with a hash have its bucket,
+    /// itself included.
     pub fn note(&mut self, bucket: Option<u16>) -> Option<u32>
         requires room { length self.old.items < self.old.room }
         requires bucket { ForSome bucket (λ b. b < 4096) }

@@ -1,5 +1,6 @@
 //! A list that grows without memory, up to a room that was reserved for it in pages.
-ghost use Rattle.std.specs.Prelude.{ℕ, ◌≡◌, ◌<◌, ◌*◌, ◌≤◌, List, [], ◌∷◌, ◌++◌, length, IfOk, replicate, slice_get, vec_capacity};
+ghost use Rattle.std.specs.Prelude.{ℕ, ◌≡◌, ◌<◌, ◌*◌, ◌≤◌, List, [], ◌∷◌, ◌++◌, length, IfOk};
+ghost use Rattle.std.specs.Prelude.{replicate, slice_get, vec_capacity};
 ghost use Rattle.steer_base.specs.Journals.{grown, journal};
 ghost use Rattle.backlog.specs.Paged.{Holds, joined};
 
@@ -111,7 +112,7 @@ impl<T: Copy> Pages<T> {
     }
 }
 
-// So many empty pages.
+// `count` empty pages.
 fn empty_pages<T: Copy>(alloc: Global, count: u32) -> Result<Vec<Page<T>>, OutOfMemory>
     ensures { IfOk result (λ pages. pages.items ≡ replicate count []) }
 {
