@@ -42,16 +42,16 @@ unfoldable pub hash_text : Option ℕ → List ℕ
 hash_text None = codes " hash - entry -"
 hash_text (Some hash) = codes " hash " ++ hex_digits 8 hash ++ codes " entry " ++ decimal (table_place hash)
 
--- the line of a packet with this number, flow, hash and receive queue
-unfoldable pub packet_line : ℕ → Flow → Option ℕ → ℕ → List ℕ
-packet_line number flow hash queue =
-    codes "packet " ++ decimal number ++ codes " " ++ flow_text flow ++ hash_text hash ++ codes " queue " ++ decimal queue ++ codes "\n"
+-- a packet with this number, flow, hash and receive queue, without a line feed
+unfoldable pub packet_text : ℕ → Flow → Option ℕ → ℕ → List ℕ
+packet_text number flow hash queue =
+    codes "packet " ++ decimal number ++ codes " " ++ flow_text flow ++ hash_text hash ++ codes " queue " ++ decimal queue
 
 -- the line of a frame, by the verification key and these kinds and table
 unfoldable pub frame_line : ℕ → Redirection → ℕ → List ℕ → List ℕ
 frame_line kinds table number frame =
     let hash = hash_of_flow verification_key (flow_of frame) kinds in
-    packet_line number (flow_of frame) hash (queue_of table hash)
+    packet_text number (flow_of frame) hash (queue_of table hash) ++ codes "\n"
 
 -- the lines of these records of a file's bytes, numbered from here on
 unfoldable pub packet_lines : ℕ → Redirection → List ℕ → ℕ → List PcapRecord → List ℕ

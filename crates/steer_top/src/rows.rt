@@ -6,7 +6,7 @@ use crate::frames::{
     ARP, FRAGMENT, FRAME_A, FRAME_B, HEADER, NG_HEADER, OTHER_LINK, SYN, TAGGED_V6, VERSION_2_5,
     big_file, file, tcpdump_file,
 };
-use crate::{steer_still, steer_surely};
+use crate::steer_still;
 use outside_io::{Begin, Desk, Got, MemoryDesk, MemorySink, Sink, SureDesk, SureSink, Took};
 use std::alloc::Global;
 use std::test::Fail;
@@ -215,7 +215,7 @@ fn a_sure_desk_and_sure_sinks_serve(rt: HostRuntime) -> Result<(), Fail> {
     let mut err = SureSink::make();
     let words = words(alloc, &["hash", "a.pcap"])?;
     assert_eq!(rt;
-        steer_surely(alloc, &words, &mut desk, &mut out, &mut err),
+        steer_still(alloc, &words, &mut desk, &mut out, &mut err),
         0
     );
     assert_eq!(rt; out.count(), 84);
