@@ -9,8 +9,8 @@ use Rattle.steer_top.specs.HashText.{capture_text}
 use Rattle.steer_top.specs.Outcomes.{AreTold, Writes, roles_of, told_of}
 use Rattle.steer_top.specs.Words.{CommandWords}
 use Rattle.steer_top.specs.Words.CommandWords.{Hash}
-use Rattle.steer_top.specs.Endings.{Course, DeskFailed, OutFailed, NothingOut, Gave, Ends, EndsCommand, IsRefusal}
-use Rattle.steer_top.specs.Endings.{status_of, status_of_refusal, line_of, line_of_status}
+use Rattle.steer_top.specs.Endings.{Course, DeskFailed, OutFailed, Gave, EndsCommand, IsRefusal}
+use Rattle.steer_top.specs.Endings.{status_of, status_of_refusal}
 use Rattle.steer_top.specs.declared.ending.Role.{Role}
 use Rattle.steer_top.specs.declared.ending.Refusal.{Refusal}
 use Rattle.steer_top.specs.declared.ending.Refusal.TheVariants as refusal
@@ -30,55 +30,6 @@ no_refusal n four eight (inr is) = eight is
 other_status : {A : Type 0} (reason : Refusal) (n : ℕ) → status_of_refusal reason ≡ n → n ≢ 4 → n ≢ 8 → A
 other_status (refusal.Capture f) n is four eight = absurd (four (sym is))
 other_status (refusal.TooLong r) n is four eight = absurd (eight (sym is))
-
--- what is true of all words
-pub usage_only : (words : Option CommandWords) (course : Course) (e : Ending) → Ends e words course → status_of e ≡ 2 → words ≡ None
-usage_only None course e h s = refl
-usage_only (Some command) course ending.Usage (files, gave, by) s = absurd by
-usage_only (Some command) course (ending.Refuses reason) h s = other_status reason 2 s (omega arith) (omega arith)
-usage_only (Some command) course ending.Done h s = absurd (omega (arith, s))
-usage_only (Some command) course ending.ReadFault h s = absurd (omega (arith, s))
-usage_only (Some command) course ending.WriteFault h s = absurd (omega (arith, s))
-usage_only (Some command) course ending.OutOfMemory h s = absurd (omega (arith, s))
-
-pub usage_of : (words : Option CommandWords) (course : Course) (e : Ending) → Ends e words course → words ≡ None → status_of e ≡ 2
-usage_of None course e (is, kept) none = ap status_of is
-usage_of (Some command) course e h none = absurd (cc)
-
-pub read_fault_of : (words : Option CommandWords) (course : Course) (e : Ending) → Ends e words course → status_of e ≡ 5 → DeskFailed course
-read_fault_of None course e (is, kept) s = let two : status_of e ≡ 2 = ap status_of is in absurd (omega (arith, s, two))
-read_fault_of (Some command) course ending.ReadFault (files, gave, (at, failed, kept)) s = failed
-read_fault_of (Some command) course (ending.Refuses reason) h s = other_status reason 5 s (omega arith) (omega arith)
-read_fault_of (Some command) course ending.Usage h s = absurd (omega (arith, s))
-read_fault_of (Some command) course ending.Done h s = absurd (omega (arith, s))
-read_fault_of (Some command) course ending.WriteFault h s = absurd (omega (arith, s))
-read_fault_of (Some command) course ending.OutOfMemory h s = absurd (omega (arith, s))
-
-pub write_fault_of : (words : Option CommandWords) (course : Course) (e : Ending) → Ends e words course → status_of e ≡ 6 → OutFailed course
-write_fault_of None course e (is, kept) s = let two : status_of e ≡ 2 = ap status_of is in absurd (omega (arith, s, two))
-write_fault_of (Some command) course ending.WriteFault (files, gave, (all, failed, text, is_text, took)) s = failed
-write_fault_of (Some command) course (ending.Refuses reason) h s = other_status reason 6 s (omega arith) (omega arith)
-write_fault_of (Some command) course ending.Usage h s = absurd (omega (arith, s))
-write_fault_of (Some command) course ending.Done h s = absurd (omega (arith, s))
-write_fault_of (Some command) course ending.ReadFault h s = absurd (omega (arith, s))
-write_fault_of (Some command) course ending.OutOfMemory h s = absurd (omega (arith, s))
-
-pub nothing_of : (words : Option CommandWords) (course : Course) (e : Ending) → Ends e words course → status_of e ≢ 0 → status_of e ≢ 6 → NothingOut course
-nothing_of None course e (is, kept) done part = kept
-nothing_of (Some command) course ending.Done h done part = absurd (done refl)
-nothing_of (Some command) course ending.WriteFault h done part = absurd (part refl)
-nothing_of (Some command) course ending.Usage (files, gave, by) done part = absurd by
-nothing_of (Some command) course (ending.Refuses reason) (files, gave, (refused, kept)) done part = kept
-nothing_of (Some command) course ending.ReadFault (files, gave, (at, failed, kept)) done part = kept
-nothing_of (Some command) course ending.OutOfMemory (files, gave, kept) done part = kept
-
-pub line_is : (e : Ending) → (IsRefusal (status_of e) → ⊥) → line_of e ≡ line_of_status (status_of e)
-line_is ending.Done other = refl
-line_is ending.Usage other = refl
-line_is (ending.Refuses reason) other = absurd (other (is_refusal reason))
-line_is ending.ReadFault other = refl
-line_is ending.WriteFault other = refl
-line_is ending.OutOfMemory other = refl
 
 -- bytes that are told are those that were given
 given_is : (told : Option (List ℕ)) (bytes given : List ℕ) → told ≡ Some bytes → Keeps told (Some given) → given ≡ bytes

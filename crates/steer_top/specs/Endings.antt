@@ -89,8 +89,8 @@ line_of_status status =
     if status == 5 then codes "read fault\n" else
     if status == 6 then codes "write fault\n" else codes "out of memory\n"
 
--- what a call met: the bytes that the desk held by name, the counts of faults of the desk and of the
--- sink of the text before and after, and the bytes that this sink had taken before and after
+-- what a call met: the bytes that the desk held by name, the counts of faults of the desk and of
+-- the sink of the text before and after, and the bytes that this sink had taken before and after
 pub record Course : Type 0 where
   pub held : List ℕ → Option (List ℕ)
   pub desk_before : ℕ
@@ -117,7 +117,8 @@ Gave told files = (r : Role) → Keeps (told r) (Some (files r))
 -- a file of these roles could not be read, and those before it are accepted
 abbrev pub IsUnread : List Role → Files → Type 0
 IsUnread roles files =
-    (earlier later : List Role) × (r : Role) × (roles ≡ earlier ++ r ∷ later) × Accepted earlier files
+    (earlier later : List Role) × (r : Role)
+    × (roles ≡ earlier ++ r ∷ later) × Accepted earlier files
 
 -- what is true at an ending, by the files and the texts that the command may write of them
 abbrev pub EndsBy : List Role → Files → (List ℕ → Type 0) → Ending → Course → Type 0
@@ -145,8 +146,8 @@ abbrev pub Ends : Ending → Option CommandWords → Course → Type 0
 Ends e None course = (e ≡ ending.Usage) × NothingOut course
 Ends e (Some command) course = EndsCommand e command course
 
--- how a command ends that could not read a file of this role: the desk failed, or the file is too long
--- where its bytes are told, or memory ran out
+-- how a command ends that could not read a file of this role: the desk failed, or the file is too
+-- long where its bytes are told, or memory ran out
 abbrev pub EndsUnread : Ending → Role → Option (List ℕ) → ℕ → ℕ → Type 0
 EndsUnread ending.ReadFault r held before after = Rose before after
 EndsUnread (ending.Refuses (refusal.TooLong other)) r held before after =
@@ -155,12 +156,15 @@ EndsUnread ending.OutOfMemory r held before after = ⊤
 EndsUnread e r held before after = ⊥
 
 -- a command that was done is so still, or its flush failed; every other ending stays
-pub record Flushes (e e' : Ending) (faults faults' : ℕ) (written written' : Option (List ℕ)) : Type 0 where
+pub record Flushes (e e' : Ending) (faults faults' : ℕ) (written written' : Option (List ℕ))
+    : Type 0 where
   pub ends : (e' ≡ e) ⊎ ((e ≡ ending.Done) × (e' ≡ ending.WriteFault) × Rose faults faults')
   pub kept : Keeps written written'
   pub later : faults ≤ faults'
 
 -- a sink took the whole line, or its count of faults rose and it took a prefix of the line
-pub record Told (faults faults' : ℕ) (written written' : Option (List ℕ)) (line : List ℕ) : Type 0 where
+pub record Told (faults faults' : ℕ) (written written' : Option (List ℕ)) (line : List ℕ)
+    : Type 0 where
   pub later : faults ≤ faults'
-  pub took : Appends written written' line ⊎ (Rose faults faults' × AppendsSome written written' line)
+  pub took : Appends written written' line
+      ⊎ (Rose faults faults' × AppendsSome written written' line)

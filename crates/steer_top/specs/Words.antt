@@ -1,5 +1,7 @@
 -- The words of the command line, without the program's name.
-use Rattle.std.specs.Prelude.{ℕ, List, [], ◌∷◌, Bool, false, not, ◌&&◌, ◌==◌, nat_lt, nat_le, length, Option, Some, None, if◌then◌else◌, bytes_eq, codes, String, string_bytes, map}
+use Rattle.std.specs.Prelude.{ℕ, List, [], ◌∷◌, Bool, false, not, ◌&&◌, ◌==◌, nat_lt, nat_le}
+use Rattle.std.specs.Prelude.{length, Option, Some, None, if◌then◌else◌, bytes_eq, codes, String}
+use Rattle.std.specs.Prelude.{string_bytes, map}
 use Rattle.std.specs.declared.alloc.Global.{Global}
 use Rattle.std.specs.Option.{option_map}
 use Rattle.std.specs.Str.{all_ascii_digits}
@@ -37,14 +39,18 @@ abbrev pub hash_with : List ℕ → Option ℕ → Option ℕ → Option HashWor
 hash_with capture None kinds = None
 hash_with capture (Some queues) None = None
 hash_with capture (Some queues) (Some kinds) =
-    if is_name capture then Some (record { capture = capture; queues = queues; kinds = kinds }) else None
+    if is_name capture
+    then Some (record { capture = capture; queues = queues; kinds = kinds })
+    else None
 
--- what stands behind the word `hash`: CAPTURE [QUEUES [KINDS]], with 4 queues and all kinds where they are not given
+-- what stands behind the word `hash`: CAPTURE [QUEUES [KINDS]], with 4 queues and all kinds where
+-- they are not given
 unfoldable pub hash_arguments : List (List ℕ) → Option HashWords
 hash_arguments [] = None
 hash_arguments (capture ∷ []) = hash_with capture (Some 4) (Some 63)
 hash_arguments (capture ∷ queues ∷ []) = hash_with capture (number_within 1 16 queues) (Some 63)
-hash_arguments (capture ∷ queues ∷ kinds ∷ []) = hash_with capture (number_within 1 16 queues) (number_within 0 63 kinds)
+hash_arguments (capture ∷ queues ∷ kinds ∷ []) =
+    hash_with capture (number_within 1 16 queues) (number_within 0 63 kinds)
 hash_arguments (capture ∷ queues ∷ kinds ∷ more ∷ rest) = None
 
 -- a command with its numbers and the names of its files

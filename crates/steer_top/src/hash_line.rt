@@ -1,6 +1,7 @@
 //! The lines of the command `hash`.
 ghost use Rattle.std.specs.Prelude.{◌≡◌, ◌≤◌, ◌+◌, ◌++◌, ◌^◌, ◌<◌, [], length};
-ghost use Rattle.steer_top.specs.HashText.{version_text, pair_text, proto_text, flow_text, hash_text, packet_text, count_line};
+ghost use Rattle.steer_top.specs.HashText.{version_text, pair_text, proto_text, flow_text};
+ghost use Rattle.steer_top.specs.HashText.{hash_text, packet_text, count_line};
 
 use report::LineBuf;
 use steer_base::{Flow, Pair, Proto, RxQueue};

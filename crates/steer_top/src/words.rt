@@ -3,7 +3,9 @@ ghost use Rattle.std.specs.Prelude.{◌≡◌, ◌≤◌, Some, None, IfSome, ma
 ghost use Rattle.std.specs.Option.{option_map};
 ghost use Rattle.steer_top.specs.Commands.{hash_words_of, words_of};
 ghost use Rattle.std.specs.Str.{all_ascii_digits};
-ghost use Rattle.steer_top.specs.Words.{command_of, hash_with as hash_words, hash_arguments as the_arguments, is_name as names_a_file, number_of, number_within as the_number_within};
+ghost use Rattle.steer_top.specs.Words.{command_of, hash_with as hash_words};
+ghost use Rattle.steer_top.specs.Words.{hash_arguments as the_arguments, is_name as names_a_file};
+ghost use Rattle.steer_top.specs.Words.{number_of, number_within as the_number_within};
 
 use crate::command::{Command, HashCommand};
 
@@ -78,7 +80,8 @@ fn hash_with<'a>(
 // What stands behind the word `hash`.
 #[tactic(auto, unfolding(crate::specs::Words::hash_arguments))]
 fn hash_arguments(words: &[String]) -> Option<HashCommand<'_>>
-    ensures { option_map hash_words_of result ≡ the_arguments (map (λ word. string_bytes word) words.now) }
+    ensures { option_map hash_words_of result ≡
+        the_arguments (map (λ word. string_bytes word) words.now) }
 {
     match words {
         [capture] => hash_with(capture.as_str(), Some(4), Some(63)),
