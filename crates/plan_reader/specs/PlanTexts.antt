@@ -1,8 +1,10 @@
 -- The plan of a JSON value, and of bytes.
-use Rattle.std.specs.Prelude.{◌≡◌, ℕ, List, [], ◌∷◌, drop, length, Option, Some, None, Result, Ok, Err, if◌then◌else◌, codes}
+use Rattle.std.specs.Prelude.{◌≡◌, ℕ, List, [], ◌∷◌, drop, length, Option, Some, None, Result, Ok}
+use Rattle.std.specs.Prelude.{Err, if◌then◌else◌, codes}
 use Rattle.std.specs.Str.{is_utf8}
 use Rattle.serde_json.specs.Data.{Data}
 use Rattle.serde_json.specs.Read.{read}
+use Rattle.steer_base.specs.Arrivals.{even_entries}
 use Rattle.plan_reader.specs.declared.settings.key.TheConstants.{VERIFICATION_KEY}
 use Rattle.plan_reader.specs.declared.faults.cause.Cause.{Cause}
 use Rattle.plan_reader.specs.declared.faults.cause.Cause.TheVariants as cause
@@ -20,7 +22,9 @@ use Rattle.plan_reader.specs.declared.settings.sizes.Sizes.{Sizes}
 use Rattle.plan_reader.specs.Settings.{Settings}
 use Rattle.plan_reader.specs.Causes.{◌>>=◌}
 use Rattle.plan_reader.specs.Faults.{here}
-use Rattle.plan_reader.specs.Readings.{number, number_below, set, list_of, required, optional, an_object, only, queue_of, tx_of, detach_of, key_of, steps_of, even_table}
+use Rattle.plan_reader.specs.Readings.{number, number_below, set, list_of, required, optional}
+use Rattle.plan_reader.specs.Readings.{an_object, only, queue_of, tx_of, detach_of, key_of}
+use Rattle.plan_reader.specs.Readings.{steps_of}
 
 -- ---- the fields, in their order
 
@@ -31,7 +35,7 @@ receive_of d = do
   key ← optional (codes "key") (λ v. here (key_of v)) VERIFICATION_KEY d
   kinds ← optional (codes "kinds") (λ v. here (number 0 63 v)) 63 d
   reta ← optional (codes "reta") (list_of (λ v. here (number_below (length queues) v)) 128 128)
-      (even_table (length queues)) d
+      (even_entries (length queues)) d
   Ok (record { cpus = cpus; queues = queues; key = key; kinds = kinds; reta = reta })
 
 unfoldable pub tables_of : ℕ → Data → Result Tables Fault

@@ -174,12 +174,3 @@ listed_or_seeded sizes None d = seed_of d
 -- the steps: a list of texts, or an object with a seed and a count
 unfoldable pub steps_of : Sizes → Data → Result Steps Fault
 steps_of sizes d = listed_or_seeded sizes (as_array d) d
-
--- the queues j mod queues for a number of j, from i on
-unfoldable pub evens : ℕ → ℕ → ℕ → List ℕ
-evens queues i zero = []
-evens queues i (suc n) = i % queues ∷ evens queues (i + 1) n
-
--- the default redirection table: entry i is i mod queues
-abbrev pub even_table : ℕ → List ℕ
-even_table queues = evens queues 0 128

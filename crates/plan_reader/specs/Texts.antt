@@ -1,20 +1,15 @@
 -- The parts of a step text: numbers, sets, and the words between spaces.
-use Rattle.std.specs.Prelude.{ℕ, ◌+◌, ◌-◌, ◌*◌, ◌^◌, ◌&&◌, ◌==◌, List, [], ◌∷◌, length, Option, Some, None, Result, Ok, nat_le, nat_lt, if◌then◌else◌, option_map, option_and_then, bytes_eq, codes, bit_or}
+use Rattle.std.specs.Prelude.{ℕ, ◌+◌, ◌-◌, ◌*◌, ◌^◌, ◌&&◌, ◌==◌, List, [], ◌∷◌, length, Option}
+use Rattle.std.specs.Prelude.{Some, None, Result, Ok, nat_le, nat_lt, if◌then◌else◌, option_map}
+use Rattle.std.specs.Prelude.{option_and_then, bytes_eq, codes, bit_or}
 use Rattle.std.specs.List.{slice_split, position_or_len, before_first, after_first}
+use Rattle.steer_base.specs.Decimals.{decimal_number}
 use Rattle.plan_reader.specs.declared.faults.cause.Cause.{Cause}
 use Rattle.plan_reader.specs.Causes.{◌>>=◌, below}
 
--- the number that the digits go on with
-abbrev pub digits_from : ℕ → List ℕ → Option ℕ
-digits_from number [] = Some number
-digits_from number (digit ∷ digits) =
-    if nat_le 48 digit && nat_le digit 57 then digits_from (number * 10 + (digit - 48)) digits
-    else None
-
 -- one to ten decimal digits without a sign
-unfoldable pub number_of : List ℕ → Option ℕ
-number_of token =
-    if nat_lt 0 (length token) && nat_le (length token) 10 then digits_from 0 token else None
+abbrev pub number_of : List ℕ → Option ℕ
+number_of token = decimal_number 10 token
 
 -- every one of these tokens as a number
 abbrev pub numbers_of : List (List ℕ) → Option (List ℕ)

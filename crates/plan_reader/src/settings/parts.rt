@@ -73,7 +73,7 @@ impl Receive {
         let queues = required_list(alloc, sizes, value, "queues", 1, 16)?;
         let key = key_or_default(alloc, value)?;
         let kinds = number_or(alloc, value, "kinds", 0, 63, 63)? as u8;
-        let reta = reta_or_even(alloc, cpus, &queues, value)?;
+        let reta = reta_or_even(alloc, &queues, value)?;
         Ok(Receive {
             cpus,
             queues,

@@ -7,23 +7,13 @@ ghost use Rattle.plan_reader.specs.Texts.{number_of};
 
 use crate::faults::cause::Cause;
 use serde_json::Value;
+use steer_base::decimal_number;
 
 /// One to ten decimal digits without a sign.
-#[tactic(auto, unfolding(crate::specs::Texts::number_of))]
 pub fn number_of(token: &[u8]) -> Option<u64>
     ensures { result ≡ number_of token.now }
 {
-    if token.is_empty() || token.len() > 10 {
-        return None;
-    }
-    let mut number = 0u64;
-    for digit in token {
-        if *digit < b'0' || *digit > b'9' {
-            return None;
-        }
-        number = number * 10 + u64::from(*digit - b'0');
-    }
-    Some(number)
+    Some(decimal_number(token, 10)? as u64)
 }
 
 /// A number from `low` to `high`.
