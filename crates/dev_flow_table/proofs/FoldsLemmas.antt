@@ -38,7 +38,7 @@ module _ (start : ℕ) (accepted : ℕ → List ℕ) where
   not_put cs c none =
       rw (current_lane-push cs c) (rw (recorded_count-push accepted cs c none)
       (elim (has_moved c.choice.why) as (λ b. entry_of (Some c.choice.lane) (if b then number start 0 else number start (recorded_count accepted cs))
-          ≡ entry_of (Some c.choice.lane) (number start (cond b 0 (recorded_count accepted cs)))) [ true ↦ refl | false ↦ refl ]))
+      ≡ entry_of (Some c.choice.lane) (number start (cond b 0 (recorded_count accepted cs)))) [ true ↦ refl | false ↦ refl ]))
 
   one : (cs : List Chosen) (c : Chosen) (put : Option Put) → IsPutAt start (position accepted c) put
       → put_in put (entry_after start (left_by cs) c.choice) ≡ left_by (cs ++ c ∷ [])

@@ -98,8 +98,8 @@ module _ (start : ℕ) (accepted : ℕ → List ℕ) (retired : ℕ → ℕ → 
             elim (one_choice start h.start_small accepted h.few k c.choice.want b.desired b.head b.online home n (retired (suc j) home) (of_k (suc j)) c
             b.rule (b.seen home stays.0) (h.few_retired (suc j) home)
             (λ off. (
-                let gone = b.drained i n d (omega arith) (rw old off) (rw old at) in
-                rw old at gone))
+            let gone = b.drained i n d (omega arith) (rw old off) (rw old at) in
+            rw old at gone))
             (λ same m at'. let lt = h.in_order i (suc j) n m d (omega arith) in' (sym same) at at' in omega arith)
             stays) [
               | inl gone ↦ inl gone

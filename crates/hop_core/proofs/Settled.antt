@@ -86,8 +86,8 @@ settled-enabled class_of plain s (event.Weigh p class want desired online) m h b
     let same : c.choice.class ≡ class = migrate-class class want desired es hs (has online) in
     Settled-weigh (choices_of s) (λ q. get_or (set s.choices p (choices_of s p ++ c ∷ [])) q []) (since_of s) (placed_of s) (accepted_at s.bare) (retired_at s.bare)
     class_of plain p c (Changed-set s.choices p (choices_of s p ++ c ∷ []) [] (omega arith)) h.hands.put (omega arith)
-    (same ∙ by.0)
-    (λ none. migrate-plain class want desired es hs (has online) (sym same ∙ none) ∙ by.1 (sym same ∙ none)) g)
+    (same ∙ (by more).0)
+    (λ none. migrate-plain class want desired es hs (has online) (sym same ∙ none) ∙ (by more).1 (sym same ∙ none)) g)
 settled-enabled class_of plain s (event.Put p hash) m h by g = λ inside more.
     settled-landed class_of plain s p (lane_drop_cause (lane_of s.fixed s.bare (in_hand s p).choice.lane) hash) (bucket_of hash) m h more g
 settled-enabled class_of plain s (event.Pull c) m h by g = λ _ _. g
