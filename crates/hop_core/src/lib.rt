@@ -3,7 +3,6 @@
 
 mod event;
 mod hop;
-mod journals;
 mod lanes;
 mod laws;
 mod shape;
