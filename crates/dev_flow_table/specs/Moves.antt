@@ -7,8 +7,8 @@ use Rattle.steer_base.specs.Counters.{has_reached}
 use Rattle.steer_base.specs.declared.choice.Choice.{Choice}
 use Rattle.steer_base.specs.declared.choice.Entry.{Entry}
 use Rattle.steer_base.specs.declared.choice.Why.{Why}
-use Rattle.steer_base.specs.declared.choice.Why.TheVariants.{Plain, Same, Unset, Offline, Passed}
-use Rattle.steer_base.specs.declared.choice.Why.TheVariants.{Kept}
+use Rattle.steer_base.specs.declared.choice.Why.TheVariants.{Plain, Same, Unset}
+use Rattle.steer_base.specs.declared.choice.Why.TheVariants.{Offline, Passed, Kept}
 use Rattle.dev_flow_table.specs.Tables.{Table, entries, weighed}
 
 -- The condition that a case of the rule states for a move: no current lane, an offline one, or one
