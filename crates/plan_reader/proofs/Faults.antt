@@ -1,9 +1,9 @@
 -- What is passed on at a segment of a path.
 use Rattle.std.proofs.Common.{◌≡◌, ℕ, List, Result, Ok, Err, IfOk, refl, sym, subst, ap}
-use Rattle.plan_reader.specs.declared.cause.Cause.{Cause}
-use Rattle.plan_reader.specs.declared.fault.Fault.{Fault}
-use Rattle.plan_reader.specs.declared.fault.Refusal.{Refusal}
-use Rattle.plan_reader.specs.declared.fault.Refusal.TheVariants as refusal
+use Rattle.plan_reader.specs.declared.faults.cause.Cause.{Cause}
+use Rattle.plan_reader.specs.declared.faults.fault.Fault.{Fault}
+use Rattle.plan_reader.specs.declared.faults.fault.Refusal.{Refusal}
+use Rattle.plan_reader.specs.declared.faults.fault.Refusal.TheVariants as refusal
 use Rattle.plan_reader.specs.Faults.{here, under, Fails, Gives, GivesAs, IsUnder, IsPlaced}
 
 pub fails_under : {A : Type 0} (segment : List ℕ) (e passed : Refusal) (reading : Result A Fault) → Fails e reading → IsUnder segment e passed → Fails passed (under segment reading)

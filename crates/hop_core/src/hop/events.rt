@@ -2,7 +2,8 @@
 ghost use Rattle.std.specs.Prelude.{◌≡◌, ◌<◌, false, length};
 ghost use Rattle.steer_base.specs.Counters.{rounded_up};
 ghost use Rattle.hop_core.specs.Events.{MayArrive, MayDeliver, MayResize, MayWeigh};
-ghost use Rattle.hop_core.specs.Events.{close, deliver, enter, leave, pull, put, retire, take, weigh};
+ghost use Rattle.hop_core.specs.Events.{close, deliver, enter, leave, pull, put, retire, take};
+ghost use Rattle.hop_core.specs.Events.{weigh};
 ghost use Rattle.hop_core.specs.Hop.{arrived, resized, with_bare, with_closed};
 ghost use Rattle.hop_core.specs.declared.event.HopAnswer.TheVariants as answer;
 
