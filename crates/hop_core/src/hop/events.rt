@@ -87,11 +87,9 @@ impl Hop {
         if !self.gate.visits[p as usize] {
             return HopAnswer::Idle(Idle::NotInside);
         }
-        let count = self.rings.choices.len_of(p);
-        if count >= self.rings.taken[p as usize] {
+        let Some(id) = self.to_weigh(p) else {
             return HopAnswer::Idle(Idle::WrongStage);
-        }
-        let id = self.rings.arrivals.get(p, count);
+        };
         let choice = self
             .tables
             .choose(&self.hands.retired, p, class, want, desired, online);
