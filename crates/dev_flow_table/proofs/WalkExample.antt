@@ -1,10 +1,9 @@
 -- Two packets of one class: the first is retired in lane 0 before the second moves to lane 1.
-use Rattle.std.proofs.Common.{ℕ, zero, suc, ◌+◌, ◌≤◌, ◌<◌, ◌≡◌, ◌≢◌, Bool, true, false, List, [], ◌∷◌, Option, Some, None, length, refl, ap, ◌∙◌, sym, subst, arith, lit<, get_or, take}
-use Rattle.steer_base.specs.Entries.{entry, position}
-use Rattle.steer_base.specs.declared.choice.Choice.{Choice}
+use Rattle.std.proofs.Common.{ℕ, zero, suc, ◌≤◌, ◌<◌, ◌≡◌, true, false, List, [], ◌∷◌, Some, None, length, refl, subst, arith, lit<, get_or, take}
+use Rattle.steer_base.specs.Entries.{position}
 use Rattle.steer_base.specs.declared.choice.Chosen.{Chosen}
 use Rattle.steer_base.specs.declared.choice.Why.TheVariants.{Passed, Unset}
-use Rattle.dev_flow_table.specs.Walks.{IsRuled, IsWalk, WalksMove}
+use Rattle.dev_flow_table.specs.Walks.{IsRuled, WalksMove}
 
 abbrev first : Chosen
 first = record { id = 5; choice = record { class = Some 0; want = None; head = None; tail = Some 0; lane = 0; why = Unset } }

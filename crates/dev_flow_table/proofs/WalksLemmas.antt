@@ -12,7 +12,7 @@ use Rattle.steer_base.specs.declared.choice.Chosen.{Chosen}
 use Rattle.steer_base.proofs.CountersLemmas.{has_reached-counts}
 use Rattle.steer_base.proofs.EntriesLemmas.{current_lane-push, of_class-no, of_class-yes, recorded_count-accept, recorded_count-le, recorded_count-push}
 use Rattle.steer_base.proofs.RuleLemmas.{by_entry-ways}
-use Rattle.dev_flow_table.specs.Walks.{IsRuled, IsWalk, SinceIsLastChange, WalkKeepsOrder, since_of}
+use Rattle.dev_flow_table.specs.Walks.{IsWalk, SinceIsLastChange, WalkKeepsOrder, since_of}
 
 -- ---- one choice
 

@@ -1,7 +1,7 @@
 -- The walk of a class from lane to lane, over the choices of one producer since its table was
 -- cleared.
 use Rattle.std.specs.Prelude.{ℕ, zero, suc, ◌≡◌, ◌≢◌, ◌≤◌, ◌<◌, ◌^◌, ◌⊎◌, ◌==◌, Bool, false, List}
-use Rattle.std.specs.Prelude.{[], ◌∷◌, Option, Some, None}
+use Rattle.std.specs.Prelude.{[], ◌∷◌, Some}
 use Rattle.std.specs.Prelude.{length, slice_index_or, take, if◌then◌else◌}
 use Rattle.steer_base.specs.Choices.{by_entry}
 use Rattle.steer_base.specs.Counters.{number}
