@@ -1,5 +1,5 @@
 mod Sets
-mod Faults
+mod Placed
 pub mod Loops
 mod Views
 mod BitsOfItems

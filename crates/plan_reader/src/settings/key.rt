@@ -30,7 +30,7 @@ fn key_of(value: &Value) -> Result<[u8; 40], Cause>
 }
 
 /// The key of a plan, or that of the verification suite.
-#[tactic(auto, using(crate::proofs::Faults::gives_placed))]
+#[tactic(auto, using(crate::proofs::Placed::gives_placed))]
 pub fn key_or_default(alloc: Global, object: &Value) -> Result<[u8; 40], Refusal>
     ensures { Gives result
         (optional (codes "key") (λ v. here (key_of v)) VERIFICATION_KEY (view object.now)) }

@@ -78,7 +78,7 @@ fn steps_of(alloc: Global, sizes: Sizes, value: &Value) -> Result<Steps, Refusal
 }
 
 /// The steps of a plan.
-#[tactic(auto, using(crate::proofs::Faults::gives_placed, crate::proofs::Faults::if_placed))]
+#[tactic(auto, using(crate::proofs::Placed::gives_placed, crate::proofs::Placed::if_placed))]
 pub fn required_steps(alloc: Global, sizes: Sizes, object: &Value) -> Result<Steps, Refusal>
     requires cpus { sizes.cpus ≤ 32 }
     requires queues { sizes.queues ≤ 16 }

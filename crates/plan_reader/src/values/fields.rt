@@ -17,7 +17,7 @@ use std::alloc::Global;
 use steer_base::List;
 
 /// A number from `low` to `high` at a required key.
-#[tactic(auto, using(crate::proofs::Faults::gives_placed, crate::proofs::Faults::if_placed))]
+#[tactic(auto, using(crate::proofs::Placed::gives_placed, crate::proofs::Placed::if_placed))]
 pub fn required_number(
     alloc: Global,
     object: &Value,
@@ -36,7 +36,7 @@ pub fn required_number(
 }
 
 /// A number from `low` to `high` at a key, or the default.
-#[tactic(auto, using(crate::proofs::Faults::gives_placed, crate::proofs::Faults::if_placed))]
+#[tactic(auto, using(crate::proofs::Placed::gives_placed, crate::proofs::Placed::if_placed))]
 pub fn number_or(
     alloc: Global,
     object: &Value,
@@ -58,7 +58,7 @@ pub fn number_or(
 }
 
 /// A number below a size at a required key.
-#[tactic(auto, using(crate::proofs::Faults::gives_placed, crate::proofs::Faults::if_placed))]
+#[tactic(auto, using(crate::proofs::Placed::gives_placed, crate::proofs::Placed::if_placed))]
 pub fn required_below(alloc: Global, object: &Value, key: &str, size: u8) -> Result<u8, Refusal>
     ensures gives { Gives result
         (required key.now (λ v. here (number_below size v)) (view object.now)) }
@@ -71,7 +71,7 @@ pub fn required_below(alloc: Global, object: &Value, key: &str, size: u8) -> Res
 }
 
 /// A set of at most `most` numbers below `limit`, at a required key.
-#[tactic(auto, using(crate::proofs::Faults::gives_placed, crate::proofs::Faults::if_placed))]
+#[tactic(auto, using(crate::proofs::Placed::gives_placed, crate::proofs::Placed::if_placed))]
 pub fn required_set(
     alloc: Global,
     object: &Value,
@@ -90,7 +90,7 @@ pub fn required_set(
 }
 
 /// A set of at most `most` numbers below `limit` at a key, or the empty one.
-#[tactic(auto, using(crate::proofs::Faults::gives_placed, crate::proofs::Faults::if_placed))]
+#[tactic(auto, using(crate::proofs::Placed::gives_placed, crate::proofs::Placed::if_placed))]
 pub fn set_or_empty(
     alloc: Global,
     object: &Value,
@@ -109,7 +109,7 @@ pub fn set_or_empty(
 }
 
 /// The answer for an object without a required key.
-#[tactic(auto, using(crate::proofs::Faults::gives_placed))]
+#[tactic(auto, using(crate::proofs::Placed::gives_placed))]
 pub fn missing<T>(alloc: Global, key: &str) -> Result<T, Refusal>
     ensures { Gives result (under key.now (here (Err Cause.Missing))) }
 {
@@ -135,7 +135,7 @@ pub fn list<T: Member + Drop>(
 }
 
 /// Any whole number at a required key.
-#[tactic(auto, using(crate::proofs::Faults::gives_placed))]
+#[tactic(auto, using(crate::proofs::Placed::gives_placed))]
 pub fn required_whole(alloc: Global, object: &Value, key: &str) -> Result<u64, Refusal>
     ensures { Gives result (required key.now (λ v. here (whole v)) (view object.now)) }
 {
@@ -146,7 +146,7 @@ pub fn required_whole(alloc: Global, object: &Value, key: &str) -> Result<u64, R
 }
 
 /// A list of `low` to `high` members at a required key.
-#[tactic(auto, using(crate::proofs::Faults::gives_placed, crate::proofs::Faults::if_placed))]
+#[tactic(auto, using(crate::proofs::Placed::gives_placed, crate::proofs::Placed::if_placed))]
 pub fn required_list<T: Member + Drop>(
     alloc: Global,
     sizes: Sizes,
@@ -169,7 +169,7 @@ pub fn required_list<T: Member + Drop>(
 }
 
 /// A list of `low` to `high` members at a key, or the default.
-#[tactic(auto, using(crate::proofs::Faults::gives_placed, crate::proofs::Faults::if_placed))]
+#[tactic(auto, using(crate::proofs::Placed::gives_placed, crate::proofs::Placed::if_placed))]
 pub fn list_or<T: Member + Drop>(
     alloc: Global,
     sizes: Sizes,

@@ -50,7 +50,7 @@ fn unknown_key<'m>(object: &'m Map<String, Value>, keys: &[&str]) -> Option<&'m 
 }
 
 /// Refuses an object that has a key beside these.
-#[tactic(auto, using(crate::proofs::Faults::gives_placed))]
+#[tactic(auto, using(crate::proofs::Placed::gives_placed))]
 pub fn only(alloc: Global, value: &Value, keys: &[&str]) -> Result<(), Refusal>
     ensures { Gives result (only (map (λ known. known.now) keys.now) (view value.now)) }
 {

@@ -1,6 +1,6 @@
 use Rattle.std.proofs.Common.{◌<◌, length, Ok, IfOk, arith, subst}
 use Rattle.plan_reader.proofs.BitsOfItems.{set_more}
-use Rattle.plan_reader.proofs.Faults.{gives_placed, under_here_ok}
+use Rattle.plan_reader.proofs.Placed.{gives_placed, under_here_ok}
 use Rattle.plan_reader.proofs.Sets.{bits_fit}
 use Rattle.plan_reader.proofs.Views.{items_view-drop}
 use Rattle.plan_reader.proofs.values.bits.bits_of_items.Goals as goal
