@@ -8,8 +8,8 @@ use steer_base::DropCause;
 /// The number of buckets of the flow limit (kernel scaling chapter, section RPS flow limit).
 pub const BUCKETS: u32 = 4096;
 
-/// So many of the last offers may have a bucket before the flow limit drops its packets: half of
-/// the window.
+/// The most of the last offers that a bucket may have before the flow limit drops its packets: half
+/// of the window.
 const MOST_OFFERS: u32 = 128;
 
 /// The bucket of a packet with this hash, and none without a hash.

@@ -1,5 +1,5 @@
 -- Each event is one of the bare part, which does to each lane what the lane's own calls do.
-use Rattle.std.proofs.Common.{ℕ, ◌+◌, ◌<◌, ◌≡◌, ◌≢◌, ◌⊎◌, Bool, true, false, cond, List, [], Option, Some, None, length, refl, ap, ◌∙◌, sym, subst, arith, inl, inr}
+use Rattle.std.proofs.Common.{ℕ, ◌+◌, ◌<◌, ◌≡◌, ◌≢◌, ◌⊎◌, Bool, true, false, cond, [], Option, Some, None, length, refl, ap, ◌∙◌, sym, subst, arith, inl, inr}
 use Rattle.std.specs.Prelude.{◌==◌, nat_lt}
 use Rattle.std.proofs.Math.ListN.{length-set}
 use Rattle.std.proofs.lemmas.Bool.{cases_eq, eq-eqb, lt-ltb, ne_eqb}
@@ -71,7 +71,7 @@ each_lane_is_its_own f b (bare.offers c id hash) w m d =
     let cause : Option DropCause = lane_drop_cause (lane_of f b c) hash in
     pick d c (lane_of f (put_at f b c id hash) d) (after_put (lane_of f b d) id hash) (lane_of f b d)
     (λ e. subst (λ k. lane_of f (put_at f b c id hash) k ≡ after_put (lane_of f b k) id hash) (sym e)
-      (lane-landed f b cause c id (bucket_of hash) m w.offers_long w.drops_long))
+    (lane-landed f b cause c id (bucket_of hash) m w.offers_long w.drops_long))
     (λ ne. lane-other f b cause c id (bucket_of hash) m w.offers_long w.drops_long d ne)
 each_lane_is_its_own f b (bare.pulls c) w m d =
     let in' : c < length b.pulled = (let i = m.0 in let l = w.pulled_long in omega arith) in

@@ -21,6 +21,7 @@ pub mod Lists
 pub mod New
 pub mod NothingLost
 pub mod Order
+pub mod Others
 pub mod Pairs
 pub mod ProducerSteps
 pub mod PutSteps

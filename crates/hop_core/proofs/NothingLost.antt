@@ -13,7 +13,7 @@ use Rattle.hop_core.specs.declared.event.HopEvent.{HopEvent}
 use Rattle.hop_core.specs.declared.event.HopEvent.TheVariants as event
 use Rattle.hop_core.specs.Events.{AllMayAsk, MayAsk, happens, run}
 use Rattle.hop_core.specs.Hop.{HopState, accepted_at, choices_of, chosen_at, choice_of, deliver_at, delivered_at, drops_at, fell_at, in_hand, lane_of, next_of, next_out, nobody, out_at, placed_of, pulled_at}
-use Rattle.hop_core.specs.NothingLost.{EachLosesNothing, EachPutIsOnce, IsLeftOnce, IsOnceIn, IsOut, LosesNothing, FreshLosesNothing, NothingLost, WasLeft}
+use Rattle.hop_core.specs.NothingLost.{EachLosesNothing, EachPutIsOnce, IsOnceIn, IsOut, LosesNothing, FreshLosesNothing, NothingLost, WasLeft}
 use Rattle.hop_core.specs.Shape.{classes_for, fixed_of, fresh_hop, new_hop}
 use Rattle.hop_core.specs.Sound.{Sound}
 use Rattle.hop_core.proofs.AllSteps.{Sound-happens}
@@ -190,7 +190,7 @@ lost-run [] s m h g = g
 lost-run (e ∷ es) s m h g = lost-run es (happens s e).0 m.1 (Sound-happens s e m.0 h) (each_loses_nothing s e m.0 h g)
 
 pub loses_nothing : LosesNothing
-loses_nothing shape es is m = lost-run es (new_hop shape) m (Sound-new shape is) 
+loses_nothing shape es is m = lost-run es (new_hop shape) m (Sound-new shape is)
     (fresh_loses_nothing (fixed_of shape) (map (classes_for shape.exact) shape.counts.items) shape.guests shape.lanes shape.outs)
 
 -- ---- exactly one place

@@ -1,6 +1,5 @@
 -- Every event keeps a hop settled, and in a settled hop puts are allowed for the flows that the settings treat alike.
 use Rattle.std.proofs.Common.{ℕ, ◌+◌, ◌≤◌, ◌<◌, ◌≡◌, ◌≢◌, ◌⊎◌, Bool, true, List, [], ◌∷◌, ◌++◌, Option, Some, None, length, refl, ap, ◌∙◌, sym, arith, suc, inl, inr, get_or, set}
-use Rattle.std.specs.Prelude.{slice_index}
 use Rattle.std.proofs.lemmas.Bool.{cases_lt}
 use Rattle.std.proofs.lemmas.List.{get_or-drop, get_or_past, length-drop}
 use Rattle.std.proofs.lemmas.List.Elements.{All-from_get_or}
@@ -14,7 +13,7 @@ use Rattle.steer_base.specs.declared.choice.Entry.{Entry}
 use Rattle.steer_base.specs.declared.put.DropCause.{DropCause}
 use Rattle.hop_core.specs.declared.event.HopEvent.{HopEvent}
 use Rattle.hop_core.specs.declared.event.HopEvent.TheVariants as event
-use Rattle.hop_core.specs.Events.{MayAsk, happens}
+use Rattle.hop_core.specs.Events.{MayAsk}
 use Rattle.hop_core.specs.Flows.{FlowAt}
 use Rattle.hop_core.specs.Hop.{HopState, accepted_at, arrivals_of, choice_of, choices_of, chosen_at, head_at, in_hand, lane_of, next_of, nobody, placed_of, recent, resized, retire_at, retired_at, since_of, taken_of}
 use Rattle.hop_core.specs.Order.{OneClass}
@@ -86,8 +85,8 @@ settled-enabled class_of plain s (event.Weigh p class want desired online) m h b
     let same : c.choice.class ≡ class = migrate-class class want desired es hs (has online) in
     Settled-weigh (choices_of s) (λ q. get_or (set s.choices p (choices_of s p ++ c ∷ [])) q []) (since_of s) (placed_of s) (accepted_at s.bare) (retired_at s.bare)
     class_of plain p c (Changed-set s.choices p (choices_of s p ++ c ∷ []) [] (omega arith)) h.hands.put (omega arith)
-    (same ∙ by.0)
-    (λ none. migrate-plain class want desired es hs (has online) (sym same ∙ none) ∙ by.1 (sym same ∙ none)) g)
+    (same ∙ (by more).0)
+    (λ none. migrate-plain class want desired es hs (has online) (sym same ∙ none) ∙ (by more).1 (sym same ∙ none)) g)
 settled-enabled class_of plain s (event.Put p hash) m h by g = λ inside more.
     settled-landed class_of plain s p (lane_drop_cause (lane_of s.fixed s.bare (in_hand s p).choice.lane) hash) (bucket_of hash) m h more g
 settled-enabled class_of plain s (event.Pull c) m h by g = λ _ _. g

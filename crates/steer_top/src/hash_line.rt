@@ -1,6 +1,7 @@
 //! The lines of the command `hash`.
 ghost use Rattle.std.specs.Prelude.{◌≡◌, ◌≤◌, ◌+◌, ◌++◌, ◌^◌, ◌<◌, [], length};
-ghost use Rattle.steer_top.specs.HashText.{version_text, pair_text, proto_text, flow_text, hash_text, packet_line, count_line};
+ghost use Rattle.steer_top.specs.HashText.{version_text, pair_text, proto_text, flow_text};
+ghost use Rattle.steer_top.specs.HashText.{hash_text, packet_text, count_line};
 
 use report::LineBuf;
 use steer_base::{Flow, Pair, Proto, RxQueue};
@@ -93,11 +94,12 @@ pub fn push_hash(line: &mut LineBuf, hash: Option<u32>)
     }
 }
 
-/// Puts the whole line of a packet in an empty line.
-#[tactic(auto, unfolding(crate::specs::HashText::packet_line))]
+/// Puts the text of a packet in an empty line, without a line feed.
+#[tactic(auto, unfolding(crate::specs::HashText::packet_text))]
 pub fn push_packet(line: &mut LineBuf, number: u64, flow: Flow, hash: Option<u32>, queue: RxQueue)
     requires { line.old ≡ [] }
-    ensures { line.new ≡ packet_line number flow hash queue }
+    ensures value { line.new ≡ packet_text number flow hash queue }
+    ensures grows { length line.new ≤ 300 }
 {
     line.push(b"packet ");
     line.push_decimal(number);
@@ -106,7 +108,6 @@ pub fn push_packet(line: &mut LineBuf, number: u64, flow: Flow, hash: Option<u32
     push_hash(line, hash);
     line.push(b" queue ");
     line.push_decimal(u64::from(queue.0));
-    line.push(b"\n");
 }
 
 /// Puts the line that counts the packets in an empty line.
