@@ -13,7 +13,7 @@ use Rattle.hop_core.specs.declared.event.HopEvent.{HopEvent}
 use Rattle.hop_core.specs.declared.event.HopEvent.TheVariants as event
 use Rattle.hop_core.specs.Events.{AllMayAsk, MayAsk, happens, run}
 use Rattle.hop_core.specs.Hop.{HopState, accepted_at, choices_of, chosen_at, choice_of, deliver_at, delivered_at, drops_at, fell_at, in_hand, lane_of, next_of, next_out, nobody, out_at, placed_of, pulled_at}
-use Rattle.hop_core.specs.NothingLost.{EachLosesNothing, EachPutIsOnce, IsLeftOnce, IsOnceIn, IsOut, LosesNothing, FreshLosesNothing, NothingLost, WasLeft}
+use Rattle.hop_core.specs.NothingLost.{EachLosesNothing, EachPutIsOnce, IsOnceIn, IsOut, LosesNothing, FreshLosesNothing, NothingLost, WasLeft}
 use Rattle.hop_core.specs.Shape.{classes_for, fixed_of, fresh_hop, new_hop}
 use Rattle.hop_core.specs.Sound.{Sound}
 use Rattle.hop_core.proofs.AllSteps.{Sound-happens}

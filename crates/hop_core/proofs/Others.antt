@@ -1,5 +1,5 @@
 -- An event leaves the other producers and the other lanes.
-use Rattle.std.proofs.Common.{ℕ, ◌≡◌, ◌≢◌, List, [], Option, Some, None, refl, ap, sym}
+use Rattle.std.proofs.Common.{ℕ, ◌≢◌, [], Option, Some, None, refl, ap, sym}
 use Rattle.std.proofs.lemmas.List.{get_or-set_other}
 use Rattle.steer_base.specs.Drops.{bucket_of, lane_drop_cause}
 use Rattle.steer_base.specs.declared.put.DropCause.{DropCause}

@@ -1,6 +1,5 @@
 -- Every event keeps a hop settled, and in a settled hop puts are allowed for the flows that the settings treat alike.
 use Rattle.std.proofs.Common.{ℕ, ◌+◌, ◌≤◌, ◌<◌, ◌≡◌, ◌≢◌, ◌⊎◌, Bool, true, List, [], ◌∷◌, ◌++◌, Option, Some, None, length, refl, ap, ◌∙◌, sym, arith, suc, inl, inr, get_or, set}
-use Rattle.std.specs.Prelude.{slice_index}
 use Rattle.std.proofs.lemmas.Bool.{cases_lt}
 use Rattle.std.proofs.lemmas.List.{get_or-drop, get_or_past, length-drop}
 use Rattle.std.proofs.lemmas.List.Elements.{All-from_get_or}
@@ -14,7 +13,7 @@ use Rattle.steer_base.specs.declared.choice.Entry.{Entry}
 use Rattle.steer_base.specs.declared.put.DropCause.{DropCause}
 use Rattle.hop_core.specs.declared.event.HopEvent.{HopEvent}
 use Rattle.hop_core.specs.declared.event.HopEvent.TheVariants as event
-use Rattle.hop_core.specs.Events.{MayAsk, happens}
+use Rattle.hop_core.specs.Events.{MayAsk}
 use Rattle.hop_core.specs.Flows.{FlowAt}
 use Rattle.hop_core.specs.Hop.{HopState, accepted_at, arrivals_of, choice_of, choices_of, chosen_at, head_at, in_hand, lane_of, next_of, nobody, placed_of, recent, resized, retire_at, retired_at, since_of, taken_of}
 use Rattle.hop_core.specs.Order.{OneClass}
