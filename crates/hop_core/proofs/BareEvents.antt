@@ -18,7 +18,6 @@ use Rattle.hop_core.specs.Events.{MayAsk, happens}
 use Rattle.hop_core.specs.Hop.{Bare, Fixed, HopState, accepted_at, drops_at, lane_of, landed, offers_at, placed_of, pull_at, pulled_at, put_at}
 use Rattle.hop_core.specs.Shape.{fresh_hop}
 use Rattle.hop_core.specs.Sound.{Sound}
-use Rattle.hop_core.proofs.Asked.{asked_deliver}
 use Rattle.hop_core.proofs.Cases.{Enabled, by_cases}
 use Rattle.hop_core.proofs.Drops.{lane-landed, lane-other}
 use Rattle.hop_core.proofs.GateSteps.{count_some}
@@ -39,7 +38,7 @@ bare-enabled s (event.Leave a) m h = λ inside done. inl (rw h.gate.inside (coun
 bare-enabled s (event.Weigh p class want desired online) m h = λ _ _. inl (tt, refl)
 bare-enabled s (event.Put p hash) m h = λ inside more. inl (h.lanes p (placed_of s p) more, refl)
 bare-enabled s (event.Pull c) m h = λ free more. inl ((m, free, more), refl)
-bare-enabled s (event.Deliver c o) m h = λ more. (let a = asked_deliver s c o m in inl ((a.0, a.1, more), refl))
+bare-enabled s (event.Deliver c o) m h = λ more. inl ((m.lane, m.out, more), refl)
 bare-enabled s (event.Retire c) m h = λ more. inl ((m, more), refl)
 bare-enabled s (event.Resize p count) m h = inl (tt, refl)
 bare-enabled s event.Close m h = λ none. inl (none, refl)

@@ -1,7 +1,6 @@
 pub mod AllSteps
 pub mod Alone
 pub mod Apart
-pub mod Asked
 pub mod BareEvents
 pub mod Cases
 pub mod Choices

@@ -21,7 +21,6 @@ use Rattle.hop_core.specs.Settled.{AreAlike, EachKeepsSettled, IsBySettings, Fre
 use Rattle.hop_core.specs.Shape.{fresh_hop}
 use Rattle.hop_core.specs.Sound.{Sound}
 use Rattle.hop_core.proofs.Alone.{place_in-at}
-use Rattle.hop_core.proofs.Asked.{asked_resize, asked_weigh}
 use Rattle.hop_core.proofs.Cases.{Enabled, by_cases}
 use Rattle.hop_core.proofs.GateSteps.{all_placed}
 use Rattle.hop_core.proofs.LaneSteps.{retired_rises}
@@ -66,10 +65,10 @@ settled-landed class_of plain s q None bucket in' h more g =
 settled-resize : (class_of now_class_of : ℕ → ℕ → Option ℕ) (plain : ℕ → ℕ → ℕ) (s : HopState) (p count n : ℕ) → MayAsk s (event.Resize p count)
     → Sound s → ((q x : ℕ) → q ≢ p → now_class_of q x ≡ class_of q x) → SettledIn class_of plain s → SettledIn now_class_of plain (resized s p n)
 settled-resize class_of now_class_of plain s p count n m h same g =
-    let w = h.wide in let asked = asked_resize s p count m in
+    let w = h.wide in let named = m.producer in
     Settled-resize (choices_of s) (since_of s) (λ q. get_or (set s.since p (length (choices_of s p))) q 0) (placed_of s) (accepted_at s.bare) (retired_at s.bare)
-    class_of now_class_of plain p (λ q. let a = all_placed s h asked.1 q in omega arith) h.hands.put
-    (Changed-set s.since p (length (choices_of s p)) 0 (let i = asked.0 in omega arith)) same g
+    class_of now_class_of plain p (λ q. let a = all_placed s h m.closed q in omega arith) h.hands.put
+    (Changed-set s.since p (length (choices_of s p)) 0 (omega arith)) same g
 
 settled-enabled : (class_of : ℕ → ℕ → Option ℕ) (plain : ℕ → ℕ → ℕ) (s : HopState) (e : HopEvent) → MayAsk s e → Sound s
     → IsBySettings class_of plain s e → SettledIn class_of plain s → Enabled (SettledIn class_of plain) s e
@@ -78,7 +77,7 @@ settled-enabled class_of plain s (event.Take p) m h by g = λ _ _. g
 settled-enabled class_of plain s (event.Enter a) m h by g = λ _ _. g
 settled-enabled class_of plain s (event.Leave a) m h by g = λ _ _. g
 settled-enabled class_of plain s (event.Weigh p class want desired online) m h by g = λ inside more. (
-    let w = h.wide in let one = h.hands.one p in let named = asked_weigh s p class want desired online m in
+    let w = h.wide in let one = h.hands.one p in let named = m.producer in
     let c : Chosen = record { id = next_of s p; choice = choice_of s p class want desired online } in
     let es : ℕ → Entry = entry s.fixed.start (accepted_at s.bare) (recent s p) in
     let hs : ℕ → ℕ = head_at s.fixed.start s.bare in

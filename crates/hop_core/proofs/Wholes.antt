@@ -14,7 +14,7 @@ use Rattle.steer_base.specs.declared.put.DropCause.{DropCause}
 use Rattle.steer_base.specs.declared.put.Put.{Put}
 use Rattle.hop_core.specs.Events.{IsClassBelow, IsEmptied, happens, put}
 use Rattle.hop_core.specs.FlowTables.{FlowTables, new_tables, noted, table_at, with_rows}
-use Rattle.hop_core.specs.Hop.{HopState, arrivals_of, choice_of, choices_of, delivered_at, in_hand, inside_of, next_of, next_out, nobody, placed_of, pulled_at, retired_at, taken_of}
+use Rattle.hop_core.specs.Hop.{HopState, arrivals_of, choice_of, choices_of, delivered_at, in_hand, inside_of, next_of, next_out, placed_of, pulled_at, retired_at, taken_of}
 use Rattle.steer_base.specs.Journals.{Journals, list_at, new_journals, pushed}
 use Rattle.hop_core.specs.LaneTable.{LaneTable, lane_at, new_lanes, with_lane}
 use Rattle.hop_core.specs.Reads.{to_put, to_weigh}

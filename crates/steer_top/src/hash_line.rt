@@ -3,7 +3,7 @@ ghost use Rattle.std.specs.Prelude.{◌≡◌, ◌≤◌, ◌+◌, ◌++◌, ◌
 ghost use Rattle.steer_top.specs.HashText.{version_text, pair_text, proto_text, flow_text};
 ghost use Rattle.steer_top.specs.HashText.{hash_text, packet_text, count_line};
 
-use report::LineBuf;
+use report::{LineBuf, hex8};
 use steer_base::{Flow, Pair, Proto, RxQueue};
 
 #[tactic(auto, unfolding(crate::specs::HashText::version_text))]
@@ -26,9 +26,9 @@ fn push_pair(line: &mut LineBuf, pair: Pair)
 {
     match pair {
         Pair::V4 { src, dst } => {
-            line.push_hex(u128::from(src), 8);
+            line.push(&hex8(src));
             line.push(b" ");
-            line.push_hex(u128::from(dst), 8);
+            line.push(&hex8(dst));
         }
         Pair::V6 { src, dst } => {
             line.push_hex(src, 32);
@@ -87,7 +87,7 @@ pub fn push_hash(line: &mut LineBuf, hash: Option<u32>)
         None => line.push(b" hash - entry -"),
         Some(hash) => {
             line.push(b" hash ");
-            line.push_hex(u128::from(hash), 8);
+            line.push(&hex8(hash));
             line.push(b" entry ");
             line.push_decimal(u64::from(hash % 128));
         }

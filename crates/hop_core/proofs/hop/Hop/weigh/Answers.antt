@@ -1,5 +1,4 @@
-use Rattle.std.proofs.Common.{◌≡◌, ℕ, ◌<◌, length, [], arith, get_or, sym, ap, ◌∙◌}
-use Rattle.std.proofs.lemmas.List.{get_or_default}
+use Rattle.std.proofs.Common.{sym, ◌∙◌}
 use Rattle.hop_core.proofs.TableSteps.{LanesBelow-tables, choice-by_table}
 use Rattle.hop_core.proofs.Wholes.{fits-weigh, read-visit, weigh_finds, whole-weigh}
 use Rattle.hop_core.proofs.hop.Hop.weigh.Goals as goal
