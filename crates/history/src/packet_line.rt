@@ -13,11 +13,15 @@ pub enum Via {
     Unhashed,
 }
 
-/// A packet that arrived: its queue, its choice of a processor, what became of it there, and where it is.
+/// A packet that arrived: its queue, its choice of a processor, what became of it there, and where
+/// it is.
 #[derive(Clone, Copy, Debug, PartialEq, Eq)]
 pub struct PacketLine {
+    /// The packet.
     pub id: PacketId,
+    /// The receive queue that it arrived at.
     pub queue: RxQueue,
+    /// What led to that queue.
     pub via: Via,
     /// The choice of a processor, once it was weighed.
     pub choice: Option<Choice>,
@@ -27,6 +31,8 @@ pub struct PacketLine {
     pub app: AppId,
     /// Its place in the inbox of that application, from 1.
     pub inbox: Option<u32>,
+    /// Where it is.
     pub place: Place,
+    /// The place of its flow among the distinct flows of the capture, from 0.
     pub flow_number: u32,
 }

@@ -5,12 +5,12 @@ pub mod FlowTables
 pub mod Flows
 pub mod Gathered
 pub mod Hop
-pub mod Journals
 pub mod LaneTable
 pub mod Laws
 pub mod Leaves
 pub mod NothingLost
 pub mod Order
+pub mod Others
 pub mod Pairs
 pub mod Reads
 pub mod Rounds

@@ -1,5 +1,6 @@
 use super::*;
-use crate::seeds::word_of;
+use crate::settings::key::VERIFICATION_KEY;
+use crate::steps::seeds::word_of;
 use std::alloc::Global;
 use std::test::Fail;
 use steer_base::{AppId, Command, Cpu, CpuMask, RxQueue, Step, TxQueue};
@@ -188,7 +189,7 @@ fn faults_of_keys_and_steps(rt: HostRuntime) -> Result<(), Fail> {
     Ok(())
 }
 
-/// So many of a byte between two texts.
+/// `count` times a piece between two texts.
 fn repeated(
     alloc: Global,
     first: &str,
@@ -251,7 +252,7 @@ fn fields_and_defaults(rt: HostRuntime) -> Result<(), Fail> {
         }]
         .as_slice()
     );
-    assert_eq!(rt; plan.key.as_slice(), key::VERIFICATION_KEY.as_slice());
+    assert_eq!(rt; plan.key.as_slice(), VERIFICATION_KEY.as_slice());
     assert_eq!(rt; plan.kinds, 63);
     assert_eq!(rt; plan.reta.len(), 128);
     assert_eq!(rt;

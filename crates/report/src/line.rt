@@ -15,7 +15,8 @@ use steer_base::OutOfMemory;
 /// The most bytes that a line may have.
 const ROOM: usize = 512;
 
-/// The bytes of a line so far, at most 512 of them, all reserved when it is made. No call but `make` takes memory.
+/// The bytes of a line so far, at most 512 of them, all reserved when it is made. No call but
+/// `make` takes memory.
 #[derive(Drop)]
 pub struct LineBuf {
     bytes: Vec<u8>,
@@ -66,17 +67,20 @@ impl LineBuf {
         self.push(digits);
     }
 
-    /// Puts the lowest so many hexadecimal digits of a number behind the line, the highest of them first.
+    /// Puts the lowest `digits` hexadecimal digits of a number behind the line, the highest of them
+    /// first.
     pub fn push_hex(&mut self, number: u128, digits: u32)
         requires few { digits ≤ 32 }
         requires room { length self.old + digits ≤ 512 }
         ensures value { self.new ≡ self.old ++ hex_digits digits number }
         ensures grows { length self.new ≡ length self.old + digits }
     {
-        for place in (0..digits).rev() {
-            let digit = ((number >> (4 * place)) % 16) as u32;
-            self.push(&[hex_digit(digit)]);
+        let mut text = [0; 32];
+        for place in 0..digits {
+            let digit = ((number >> (4 * (digits - 1 - place))) % 16) as u32;
+            text[place as usize] = hex_digit(digit);
         }
+        self.push(&text[..digits as usize]);
     }
 
     /// Writes the line as one piece and clears it, also where the sink fails.

@@ -4,8 +4,8 @@ ghost use Rattle.steer_base.specs.Arrivals.{even_entries as entries_of};
 
 use crate::ids::RxQueue;
 
-/// The entries of the redirection table by which so many queues get them in turn: entry i has queue `i mod queues`
-/// (Intel 82599 datasheet, redirection table of 128 entries).
+/// The entries of the redirection table by which so many queues get them in turn: entry i has queue
+/// `i mod queues` (Intel 82599 datasheet, redirection table of 128 entries).
 pub fn even_entries(queues: u8) -> [RxQueue; 128]
     requires { 1 ≤ queues }
     ensures value { result ≡ entries_of queues }
@@ -25,8 +25,13 @@ mod tests {
     #[test]
     fn queues_get_entries_in_turn(rt: HostRuntime) {
         let entries = even_entries(3);
-        assert_eq!(rt; entries[0], RxQueue(0));
-        assert_eq!(rt; entries[5], RxQueue(2));
-        assert_eq!(rt; entries[127], RxQueue(1));
+        let cases = [(0usize, 0u8), (5, 2), (127, 1)];
+        for (place, queue) in cases {
+            assert_eq!(rt;
+                entries.as_slice().get(place),
+                Some(&RxQueue(queue)),
+                "{place}"
+            );
+        }
     }
 }

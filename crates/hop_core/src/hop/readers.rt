@@ -2,7 +2,8 @@
 ghost use Rattle.std.specs.Prelude.{◌≡◌, ◌↔◌, ℕ, ◌-◌, ◌<◌, IsOk, length, slice_get, slice_index};
 ghost use Rattle.steer_base.specs.Choices.{class_of};
 ghost use Rattle.hop_core.specs.Emptied.{AreEmptied, emptied};
-ghost use Rattle.hop_core.specs.Hop.{accepted_at, choices_of, delivered_at, drops_at, head_at, inside_of};
+ghost use Rattle.hop_core.specs.Hop.{accepted_at, choices_of, delivered_at, drops_at, head_at};
+ghost use Rattle.hop_core.specs.Hop.{inside_of};
 ghost use Rattle.hop_core.specs.Hop.{out_at, placed_of, pulled_at, retired_at, tail_at, taken_of};
 ghost use Rattle.hop_core.specs.Reads.{last_choice, to_deliver, to_put, to_weigh};
 
@@ -10,7 +11,8 @@ use crate::hop::Hop;
 use steer_base::{Busy, Chosen, CpuMask, LaneDrop, PacketId};
 
 impl Hop {
-    /// Whether each of these lanes is empty; else the first one that is not, with the numbers of its head and tail.
+    /// Whether each of these lanes is empty; else the first one that is not, with the numbers of
+    /// its head and tail.
     pub fn emptied(&self, lanes: CpuMask) -> Result<(), Busy>
         ensures answer { result ≡ emptied self.now lanes }
         ensures ok { IsOk result ↔ AreEmptied self.now lanes }
@@ -29,7 +31,7 @@ impl Hop {
         requires { lane < length self.now.bare.accepted }
         ensures { result ≡ head_at self.now.fixed.start self.now.bare lane }
     {
-        self.lanes.number_at(self.retired[lane as usize])
+        self.lanes.number_at(self.hands.retired[lane as usize])
     }
 
     /// The number of a lane's tail.
@@ -53,7 +55,7 @@ impl Hop {
         requires { lane < length self.now.bare.accepted }
         ensures { result ≡ delivered_at self.now.bare lane }
     {
-        self.delivered[lane as usize]
+        self.hands.delivered[lane as usize]
     }
 
     /// How many packets a lane accepted and has not retired.
@@ -61,7 +63,7 @@ impl Hop {
         requires { lane < length self.now.bare.accepted }
         ensures { result ≡ length (accepted_at self.now.bare lane) - retired_at self.now.bare lane }
     {
-        let head = self.lanes.number_at(self.retired[lane as usize]);
+        let head = self.lanes.number_at(self.hands.retired[lane as usize]);
         self.lanes.tail(lane).wrapping_sub(head)
     }
 
@@ -70,7 +72,7 @@ impl Hop {
         requires { lane < length self.now.bare.accepted }
         ensures { result ≡ retired_at self.now.bare lane }
     {
-        self.retired[lane as usize]
+        self.hands.retired[lane as usize]
     }
 
     /// The packet in a lane's hand that is delivered next, if there is one.
@@ -78,7 +80,7 @@ impl Hop {
         requires { lane < length self.now.bare.accepted }
         ensures { result ≡ to_deliver self.now.bare lane }
     {
-        let delivered = self.delivered[lane as usize];
+        let delivered = self.hands.delivered[lane as usize];
         if delivered < self.lanes.pulled(lane) {
             Some(self.lanes.accepted_at(lane, delivered))
         } else {
@@ -103,7 +105,8 @@ impl Hop {
         self.lanes.get(lane, n)
     }
 
-    /// The packets that a lane dropped, oldest first, each with the counts and the cause of its drop.
+    /// The packets that a lane dropped, oldest first, each with the counts and the cause of its
+    /// drop.
     pub fn drops(&self, lane: u8) -> &[LaneDrop]
         requires { lane < length self.now.bare.accepted }
         ensures { result.now ≡ drops_at self.now.bare lane }
@@ -123,7 +126,7 @@ impl Hop {
     pub fn inside(&self) -> u32
         ensures { result ≡ self.now.bare.inside }
     {
-        self.inside
+        self.gate.inside
     }
 
     /// Whether an actor is inside the gate.
@@ -131,14 +134,14 @@ impl Hop {
         requires { a < length self.now.visits }
         ensures { result ≡ inside_of self.now a }
     {
-        self.visits[a as usize]
+        self.gate.visits[a as usize]
     }
 
     /// Whether the gate is closed.
     pub fn is_closed(&self) -> bool
         ensures { result ≡ self.now.bare.closed }
     {
-        self.closed
+        self.gate.closed
     }
 
     /// The class of a hash among those of a producer.
@@ -154,7 +157,7 @@ impl Hop {
         requires { p < length self.now.arrivals }
         ensures { result ≡ taken_of self.now p }
     {
-        self.taken[p as usize]
+        self.rings.taken[p as usize]
     }
 
     /// The packet that a producer has taken up and weighs next, if there is one.
@@ -162,9 +165,9 @@ impl Hop {
         requires { p < length self.now.arrivals }
         ensures { result ≡ to_weigh self.now p }
     {
-        let count = self.choices.len_of(p);
-        if count < self.taken[p as usize] {
-            Some(self.arrivals.get(p, count))
+        let count = self.rings.choices.len_of(p);
+        if count < self.rings.taken[p as usize] {
+            Some(self.rings.arrivals.get(p, count))
         } else {
             None
         }
@@ -175,7 +178,7 @@ impl Hop {
         requires { p < length self.now.arrivals }
         ensures { result ≡ placed_of self.now p }
     {
-        self.placed[p as usize]
+        self.rings.placed[p as usize]
     }
 
     /// The choice of a producer that is to be put, if there is one.
@@ -183,9 +186,9 @@ impl Hop {
         requires { p < length self.now.arrivals }
         ensures { result ≡ to_put self.now p }
     {
-        let placed = self.placed[p as usize];
-        if placed < self.choices.len_of(p) {
-            Some(self.choices.get(p, placed))
+        let placed = self.rings.placed[p as usize];
+        if placed < self.rings.choices.len_of(p) {
+            Some(self.rings.choices.get(p, placed))
         } else {
             None
         }
@@ -196,7 +199,7 @@ impl Hop {
         requires { p < length self.now.arrivals }
         ensures { result.now ≡ choices_of self.now p }
     {
-        self.choices.list(p)
+        self.rings.choices.list(p)
     }
 
     /// The last choice of a producer, if it made one.
@@ -204,11 +207,11 @@ impl Hop {
         requires { p < length self.now.arrivals }
         ensures { result ≡ last_choice self.now p }
     {
-        let count = self.choices.len_of(p);
+        let count = self.rings.choices.len_of(p);
         if count == 0 {
             None
         } else {
-            Some(self.choices.get(p, count - 1))
+            Some(self.rings.choices.get(p, count - 1))
         }
     }
 }

@@ -1,0 +1,3 @@
+pub mod FoldsLemmas
+pub mod WalkExample
+pub mod WalksLemmas
