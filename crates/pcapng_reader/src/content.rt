@@ -99,7 +99,7 @@ fn ethernet_of(section: &Section, place: Place, id: u32) -> Result<Interface, Ng
     if interface.link != LINKTYPE_ETHERNET {
         return Err(NgFault::BadNgLink {
             block: place.block,
-            link: interface.link,
+            link: u32::from(interface.link),
         });
     }
     Ok(interface)

@@ -13,17 +13,17 @@ pub enum NgFault {
     BadOrder { magic: u32 },
     /// The total length of a block, `len`, is no multiple of 4, or is below what a block of its
     /// type has at the least, or leaves no room for the frame of its packet.
-    BadBlock { block: usize, len: u32 },
+    BadBlock { block: u64, len: u32 },
     /// The total length at the end of a block, `len`, is not the one at its beginning.
-    BadTail { block: usize, len: u32 },
+    BadTail { block: u64, len: u32 },
     /// The major version of a section is not 1.
     BadMajor { major: u16 },
     /// A packet stands behind 262,144 others.
     TooManyPackets,
     /// A packet names an interface that its section has not described.
-    BadInterface { block: usize, id: u32 },
+    BadInterface { block: u64, id: u32 },
     /// The link type of a packet's interface is not 1, Ethernet.
-    BadNgLink { block: usize, link: u16 },
+    BadNgLink { block: u64, link: u32 },
     /// The frame of this record has `len` bytes, more than 262,144.
     RecordTooLong { at: u32, len: u32 },
     /// There was no memory for the records, or for the interfaces of a section.

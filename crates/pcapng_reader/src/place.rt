@@ -4,7 +4,7 @@
 #[derive(Clone, Copy, Debug, PartialEq, Eq)]
 pub struct Place {
     /// How many blocks of the file.
-    pub block: usize,
+    pub block: u64,
     /// How many packets of the file.
     pub packets: u32,
     /// How many bytes of the file.
