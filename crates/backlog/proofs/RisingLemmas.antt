@@ -3,12 +3,12 @@ use Rattle.std.proofs.Common.{ℕ, ◌+◌, ◌-◌, ◌<◌, ◌≤◌, Bool, t
 use Rattle.std.specs.Prelude.{nat_lt, if◌then◌else◌}
 use Rattle.std.specs.List.{All}
 use Rattle.std.proofs.lemmas.List.Elements.{All-push}
-use Rattle.std.proofs.lemmas.List.Sorted.{IsNonDecreasingBy-push}
+use Rattle.std.proofs.lemmas.List.Sorted.{IsNonDecreasingBy-push, IsNonDecreasingBy-short}
 use Rattle.steer_base.specs.Drops.{bucket_of, lane_drop_cause}
 use Rattle.steer_base.specs.Lanes.{LaneLists}
 use Rattle.steer_base.specs.declared.put.DropCause.{DropCause}
 use Rattle.steer_base.specs.declared.put.LaneDrop.{LaneDrop}
-use Rattle.backlog.specs.Puts.{after_put, after_take, put_by}
+use Rattle.backlog.specs.Puts.{after_put, after_take, new_lane, put_by}
 use Rattle.backlog.specs.Rising.{AreRising}
 
 rising_by : (l : LaneLists) (cause : Option DropCause) (id : ℕ) (bucket : Option ℕ) → AreRising l → AreRising (put_by cause l id bucket)
@@ -43,3 +43,12 @@ taken l false h = h
 
 pub AreRising-take : (l : LaneLists) → AreRising l → AreRising (after_take l)
 AreRising-take l h = taken l (nat_lt l.pulled (length l.accepted)) h
+
+pub AreRising-new : (limit room start : ℕ) (limited : Bool) → AreRising (new_lane limit room start limited)
+AreRising-new limit room start limited =
+    record {
+      accepted = IsNonDecreasingBy-short (λ (d : LaneDrop). d.accepted) [] (omega arith);
+      pulled = IsNonDecreasingBy-short (λ (d : LaneDrop). d.pulled) [] (omega arith);
+      accepted_within = λ k d less. absurd (omega arith);
+      pulled_within = λ k d less. absurd (omega arith);
+    }

@@ -1,2 +1,4 @@
+pub mod Folds
 pub mod Moves
 pub mod Tables
+pub mod Walks

@@ -3,6 +3,7 @@
 #![tactic(auto)]
 
 mod laws;
+mod list_laws;
 mod rule;
 mod table;
 #[cfg(test)]
@@ -11,5 +12,9 @@ mod tests;
 pub use laws::{
     a_choice_leaves_other_classes, a_class_moves_by_three_conditions,
     a_move_goes_to_the_desired_lane,
+};
+pub use list_laws::{
+    a_class_walks_in_order, a_table_has_the_entries_of_the_lists,
+    a_table_was_cleared_at_the_last_change,
 };
 pub use table::DevTable;

@@ -13,7 +13,7 @@ use Rattle.steer_base.specs.declared.packet.Packet.{Packet}
 use Rattle.history.specs.Finding.{is_in, Once}
 use Rattle.history.specs.Known.{HasShortLists}
 use Rattle.history.specs.Lists.{app_at, no_lane, list_at, lane_at, drop_ids, accepted_lists, dropped_lists}
-use Rattle.history.specs.Regular.{Regular}
+use Rattle.history.specs.Regular.{AreDelivered, Regular}
 use Rattle.history.specs.declared.history.History.{History}
 use Rattle.history.specs.declared.lane_list.LaneList.{LaneList}
 use Rattle.history.proofs.FindingLemmas.{is_in-here, is_in-past}
@@ -117,12 +117,12 @@ in-index (y ∷ ys) (suc i) l =
       | inr ne ↦ is_in-past (get_or ys i 0) y ys ne ∙ in-index ys i (omega arith)
     ]
 
-pub inboxes-apart : (packets : List Packet) (apps : ℕ) (h : History) → Regular packets apps h → Apart h.inboxes
-inboxes-apart packets apps h r p q i j a b k l e =
+pub inboxes-apart : (packets : List Packet) (apps : ℕ) (h : History) → AreDelivered packets apps h → Apart h.inboxes
+inboxes-apart packets apps h delivered p q i j a b k l e =
     let x = get_or (list_at h.inboxes p) i 0 in
-    let left : app_at packets apps x ≡ p = r.delivered.own p x (in-index (list_at h.inboxes p) i k) in
-    let right : app_at packets apps x ≡ q = r.delivered.own q x (subst (λ y. is_in y (list_at h.inboxes q) ≡ true) (sym e) (in-index (list_at h.inboxes q) j l)) in
+    let left : app_at packets apps x ≡ p = delivered.own p x (in-index (list_at h.inboxes p) i k) in
+    let right : app_at packets apps x ≡ q = delivered.own q x (subst (λ y. is_in y (list_at h.inboxes q) ≡ true) (sym e) (in-index (list_at h.inboxes q) j l)) in
     let same : p ≡ q = sym left ∙ right in
     let l' : j < length (list_at h.inboxes p) = subst (λ n. j < length (list_at h.inboxes n)) (sym same) l in
     let e' : get_or (list_at h.inboxes p) i 0 ≡ get_or (list_at h.inboxes p) j 0 = e ∙ ap (λ n. get_or (list_at h.inboxes n) j 0) (sym same) in
-    (same, r.delivered.once p i j k l' e')
+    (same, delivered.once p i j k l' e')

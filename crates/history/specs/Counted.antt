@@ -7,9 +7,10 @@ use Rattle.history.specs.declared.arrival.Arrival.{Arrival}
 use Rattle.history.specs.declared.counted.Counted.{Counted}
 use Rattle.history.specs.declared.history.History.{History}
 
--- how many packets arrived at each of so many queues
+-- how many packets arrived at each of the queues below a number
 abbrev pub arrival_counts : List Arrival → ℕ → List ℕ
-arrival_counts arrivals queues = map (λ q. length (arrivals_at arrivals q)) (range_with_len 0 queues)
+arrival_counts arrivals queues =
+    map (λ q. length (arrivals_at arrivals q)) (range_with_len 0 queues)
 
 -- The counts are those of all arrivals, and for each packet it is known whether it was taken.
 pub record IsCounted (h : History) (c : Counted) : Type 0 where

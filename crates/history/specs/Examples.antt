@@ -1,4 +1,5 @@
--- A history for tests: one packet is steered by plain RPS to processor 1, delivered, replied to from processor 2, and sent.
+-- A history for tests: one packet is steered by plain RPS to processor 1, delivered, replied to
+-- from processor 2, and sent.
 use Rattle.std.specs.Prelude.{ℕ, [], ◌∷◌, Some, None}
 use Rattle.steer_base.specs.declared.choice.Why.TheVariants.{Plain, Unset}
 use Rattle.history.specs.Lists.{no_lane}
@@ -11,12 +12,37 @@ one_packet start =
       cut = None;
       arrivals = record { id = 0; queue = 0; filter = None; entry = Some 0 } ∷ [];
       taken = 1 ∷ [];
-      choices = (record { id = 0; choice = record { class = None; want = None; head = None; tail = None; lane = 1; why = Plain } } ∷ []) ∷ [];
-      lanes = no_lane ∷ record { accepted = 0 ∷ []; drops = []; pulled = 1; delivered = 1; retired = 1 } ∷ no_lane ∷ [];
+      choices =
+          (record {
+            id = 0;
+            choice = record {
+              class = None;
+              want = None;
+              head = None;
+              tail = None;
+              lane = 1;
+              why = Plain;
+            };
+          } ∷ []) ∷ [];
+      lanes =
+          no_lane ∷ record { accepted = 0 ∷ []; drops = []; pulled = 1; delivered = 1; retired = 1 }
+          ∷ no_lane ∷ [];
       inboxes = (0 ∷ []) ∷ [];
       sent = (record { id = 0; rxq = 0; cpu = 2 } ∷ []) ∷ [];
-      tx_choices = (record { id = 0; choice = record { class = Some 0; want = Some 0; head = None; tail = Some start; lane = 0; why = Unset } } ∷ []) ∷ [];
-      tx_lanes = record { accepted = 0 ∷ []; drops = []; pulled = 1; delivered = 1; retired = 1 } ∷ [];
+      tx_choices =
+          (record {
+            id = 0;
+            choice = record {
+              class = Some 0;
+              want = Some 0;
+              head = None;
+              tail = Some start;
+              lane = 0;
+              why = Unset;
+            };
+          } ∷ []) ∷ [];
+      tx_lanes =
+          record { accepted = 0 ∷ []; drops = []; pulled = 1; delivered = 1; retired = 1 } ∷ [];
       port = 0 ∷ [];
       writes = [] ∷ [];
       commands = [];

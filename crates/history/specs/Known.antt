@@ -28,8 +28,10 @@ pub record IsKnown (h : History) (k : Known) : Type 0 where
   pub tx_accepted : IsIndex (length h.arrivals) k.tx_accepted (accepted_place h.tx_lanes)
   pub port : IsIndex (length h.arrivals) k.port (λ x. place_in x h.port)
 
--- the lane of a packet, where its place among the accepted ones there is among those that were pulled
+-- the lane of a packet, where its place among the accepted ones there is among those that were
+-- pulled
 abbrev pub pulled_by : List LaneList → Option ℕ → Option ℕ → Option ℕ
-pulled_by lanes (Some c) (Some n) = if nat_lt c (length lanes) && nat_le n (lane_at lanes c).pulled then Some c else None
+pulled_by lanes (Some c) (Some n) =
+    if nat_lt c (length lanes) && nat_le n (lane_at lanes c).pulled then Some c else None
 pulled_by lanes (Some c) None = None
 pulled_by lanes None place = None

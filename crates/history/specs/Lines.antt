@@ -54,7 +54,8 @@ dropped_as d n = Dropped n d.accepted d.pulled d.cause
 
 abbrev pub drop_in : ℕ → LaneList → Option Put
 drop_in x lane =
-    option_and_then (λ d. option_map (dropped_as d) (place_in x (drop_ids lane))) (found (λ d. d.id) x lane.drops)
+    option_and_then (λ d. option_map (dropped_as d) (place_in x (drop_ids lane)))
+    (found (λ d. d.id) x lane.drops)
 
 -- what became of a packet at the processors: its position, or else its drop
 abbrev pub put_of : History → ℕ → Option Put
@@ -105,7 +106,8 @@ line_of_sent packets apps h x sent =
 abbrev pub reply_line : List Packet → ℕ → History → ℕ → Option ReplyLine
 reply_line packets apps h x = option_map (line_of_sent packets apps h x) (sent_of h x)
 
--- The lines of all packets that arrived, the lines of their replies, and the number of arrivals of each queue.
+-- The lines of all packets that arrived, the lines of their replies, and the number of arrivals of
+-- each queue.
 pub record LineLists : Type 0 where
   pub packets : List PacketLine
   pub replies : List (Option ReplyLine)

@@ -1,5 +1,5 @@
--- The numbers of a history are within the types of its fields: those of 8 bits, of 16 and of 32. So they are in every
--- history that a program holds.
+-- The numbers of a history are within the types of its fields: those of 8 bits, of 16 and of 32. So
+-- they are in every history that a program holds.
 use Rattle.std.specs.Prelude.{ℕ, ◌<◌, ◌≤◌, ◌^◌, ⊤, List, Option, length}
 use Rattle.std.specs.List.{All}
 use Rattle.std.specs.Option.{IfSome}
@@ -28,7 +28,7 @@ use Rattle.history.specs.declared.reply_line.ReplyLine.{ReplyLine}
 use Rattle.history.specs.declared.sent.Sent.{Sent}
 use Rattle.history.specs.declared.sock_write.SockWrite.{SockWrite}
 
--- a number of so many bits, where there is one
+-- a number below 2 to the power of `bits`, where there is one
 abbrev pub FitsIn : ℕ → Option ℕ → Type 0
 FitsIn bits o = IfSome o (λ n. n < 2 ^ bits)
 
@@ -91,7 +91,8 @@ abbrev pub AnswerFits : Answer → Type 0
 AnswerFits answer.Done = ⊤
 AnswerFits (answer.Idle why) = ⊤
 AnswerFits (answer.Busy (busy.Inside actors)) = actors < 2 ^ 32
-AnswerFits (answer.Busy (busy.NotEmpty lane head tail)) = (lane < 2 ^ 8) × (head < 2 ^ 32) × (tail < 2 ^ 32)
+AnswerFits (answer.Busy (busy.NotEmpty lane head tail)) =
+    (lane < 2 ^ 8) × (head < 2 ^ 32) × (tail < 2 ^ 32)
 AnswerFits (answer.CpuInUse (user.Queue queue)) = queue < 2 ^ 8
 AnswerFits (answer.CpuInUse (user.App app)) = app < 2 ^ 8
 AnswerFits answer.CpuOffline = ⊤
@@ -120,7 +121,8 @@ pub record HistoryFits (h : History) : Type 0 where
 
 abbrev pub PutFits : Put → Type 0
 PutFits (At position) = position < 2 ^ 32
-PutFits (Dropped number accepted pulled cause) = (number < 2 ^ 32) × (accepted < 2 ^ 32) × (pulled < 2 ^ 32) × CauseFits cause
+PutFits (Dropped number accepted pulled cause) =
+    (number < 2 ^ 32) × (accepted < 2 ^ 32) × (pulled < 2 ^ 32) × CauseFits cause
 
 -- The numbers of a packet's line that are not those of the packet itself.
 pub record PacketFits (l : PacketLine) : Type 0 where
@@ -140,5 +142,7 @@ pub record ReplyFits (r : ReplyLine) : Type 0 where
 -- The numbers in the lines of a regular history are within the types of the lines' fields.
 abbrev pub HaveLinesThatFit : Type 0
 HaveLinesThatFit =
-    (packets : List Packet) (apps : ℕ) (h : History) → length packets ≤ 262144 → Regular packets apps h → HistoryFits h
-    → (x : ℕ) → PacketFits (packet_line packets apps h x) × IfSome (reply_line packets apps h x) ReplyFits
+    (packets : List Packet) (apps : ℕ) (h : History) → length packets ≤ 262144
+    → Regular packets apps h → HistoryFits h
+    → (x : ℕ)
+    → PacketFits (packet_line packets apps h x) × IfSome (reply_line packets apps h x) ReplyFits

@@ -1,5 +1,5 @@
--- Which histories are regular, for the packets of a capture and a number of applications; and when each arrival is at
--- the queue that its values lead to.
+-- Which histories are regular, for the packets of a capture and a number of applications; and when
+-- each arrival is at the queue that its values lead to.
 use Rattle.std.specs.Prelude.{ℕ, ◌≡◌, ◌≤◌, ◌++◌, Bool, true, false, List, [], Some, IsSome, length, map, slice_index}
 use Rattle.std.specs.List.{All, range_with_len}
 use Rattle.steer_base.specs.Arrivals.{Route, IsRoute}
@@ -17,7 +17,8 @@ use Rattle.history.specs.Lists.{packet_at, app_at, list_at, lane_at, drop_ids, a
 use Rattle.history.specs.declared.arrival.Arrival.{Arrival}
 use Rattle.history.specs.declared.history.History.{History}
 
--- The lists per receive queue are equally many; those per application are as many as the applications.
+-- The lists per receive queue are equally many; those per application are as many as the
+-- applications.
 pub record AreMatched (apps : ℕ) (h : History) : Type 0 where
   pub choices : length h.choices ≡ length h.taken
   pub inboxes : length h.inboxes ≡ apps
@@ -25,8 +26,8 @@ pub record AreMatched (apps : ℕ) (h : History) : Type 0 where
   pub tx_choices : length h.tx_choices ≡ apps
   pub writes : length h.writes ≡ apps
 
--- The arrivals are the packets 0, 1, 2 and so on. No more are taken than arrived. The choices of a queue are of its
--- first arrivals, in order, and no more than were taken.
+-- The arrivals are the packets 0, 1, 2 and so on. No more are taken than arrived. The choices of a
+-- queue are of its first arrivals, in order, and no more than were taken.
 pub record HaveArrived (packets : List Packet) (h : History) : Type 0 where
   pub numbered : map (λ a. a.id) h.arrivals ≡ range_with_len 0 (length h.arrivals)
   pub of_the_capture : length h.arrivals ≤ length packets
@@ -36,9 +37,11 @@ pub record HaveArrived (packets : List Packet) (h : History) : Type 0 where
 
 -- some choice for a packet is of this lane
 abbrev pub HasChoice : List (List Chosen) → ℕ → ℕ → Type 0
-HasChoice choices x lane = (q : ℕ) × (c : Choice) × (choice_in x (list_at choices q) ≡ Some c) × (c.lane ≡ lane)
+HasChoice choices x lane =
+    (q : ℕ) × (c : Choice) × (choice_in x (list_at choices q) ≡ Some c) × (c.lane ≡ lane)
 
--- What a processor accepted or dropped has a choice of this processor. No packet stands twice in all these lists.
+-- What a processor accepted or dropped has a choice of this processor. No packet stands twice in
+-- all these lists.
 pub record AreSteered (h : History) : Type 0 where
   pub accepted : (c x : ℕ) → is_in x (lane_at h.lanes c).accepted ≡ true → HasChoice h.choices x c
   pub dropped : (c x : ℕ) → is_in x (drop_ids (lane_at h.lanes c)) ≡ true → HasChoice h.choices x c
@@ -46,29 +49,37 @@ pub record AreSteered (h : History) : Type 0 where
 
 -- An inbox has accepted packets of its own application, each once.
 pub record AreDelivered (packets : List Packet) (apps : ℕ) (h : History) : Type 0 where
-  pub accepted : (a x : ℕ) → is_in x (list_at h.inboxes a) ≡ true → (c : ℕ) × (is_in x (lane_at h.lanes c).accepted ≡ true)
+  pub accepted : (a x : ℕ) → is_in x (list_at h.inboxes a) ≡ true
+      → (c : ℕ) × (is_in x (lane_at h.lanes c).accepted ≡ true)
   pub own : (a x : ℕ) → is_in x (list_at h.inboxes a) ≡ true → app_at packets apps x ≡ a
   pub once : (a : ℕ) → Once (list_at h.inboxes a)
 
--- An application replied to the first packets of its inbox, in order, each with the queue of its arrival. Its transmit
--- choices are of its first replies, in order, each with the flow number as class and a want that is set.
+-- An application replied to the first packets of its inbox, in order, each with the queue of its
+-- arrival. Its transmit choices are of its first replies, in order, each with the flow number as
+-- class and a want that is set.
 pub record AreReplies (packets : List Packet) (h : History) : Type 0 where
   pub sent : (a : ℕ) → IsPrefix (map (λ s. s.id) (list_at h.sent a)) (list_at h.inboxes a)
   pub queue : (a : ℕ) → All (λ s. s.rxq ≡ (arrival_of h.arrivals s.id).queue) (list_at h.sent a)
-  pub chosen : (a : ℕ) → IsPrefix (map (λ c. c.id) (list_at h.tx_choices a)) (map (λ s. s.id) (list_at h.sent a))
-  pub class : (a : ℕ) → All (λ c. c.choice.class ≡ Some (packet_at packets c.id).flow_number) (list_at h.tx_choices a)
+  pub chosen : (a : ℕ)
+      → IsPrefix (map (λ c. c.id) (list_at h.tx_choices a)) (map (λ s. s.id) (list_at h.sent a))
+  pub class : (a : ℕ)
+      → All (λ c. c.choice.class ≡ Some (packet_at packets c.id).flow_number)
+      (list_at h.tx_choices a)
   pub want : (a : ℕ) → All (λ c. IsSome c.choice.want) (list_at h.tx_choices a)
 
--- What a transmit queue accepted has a transmit choice of this queue, and none stands twice. Transmit queues drop
--- nothing. The port has packets that a transmit queue accepted, each once.
+-- What a transmit queue accepted has a transmit choice of this queue, and none stands twice.
+-- Transmit queues drop nothing. The port has packets that a transmit queue accepted, each once.
 pub record AreShipped (h : History) : Type 0 where
-  pub accepted : (t x : ℕ) → is_in x (lane_at h.tx_lanes t).accepted ≡ true → HasChoice h.tx_choices x t
+  pub accepted : (t x : ℕ) → is_in x (lane_at h.tx_lanes t).accepted ≡ true
+      → HasChoice h.tx_choices x t
   pub once : Apart (accepted_lists h.tx_lanes)
   pub no_drops : (t : ℕ) → (lane_at h.tx_lanes t).drops ≡ []
-  pub port : (x : ℕ) → is_in x h.port ≡ true → (t : ℕ) × (is_in x (lane_at h.tx_lanes t).accepted ≡ true)
+  pub port : (x : ℕ) → is_in x h.port ≡ true
+      → (t : ℕ) × (is_in x (lane_at h.tx_lanes t).accepted ≡ true)
   pub port_once : Once h.port
 
--- The answers that a command has in a report: of the idle ones, that the processor is online already.
+-- The answers that a command has in a report: of the idle ones, that the processor is online
+-- already.
 abbrev pub is_online : Idle → Bool
 is_online idle.AlreadyOnline = true
 is_online _ = false

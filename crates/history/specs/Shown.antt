@@ -26,8 +26,8 @@ without_class c = record c { class = None }
 abbrev pub shown_of : ReplyLine → ReplyLine
 shown_of r = record r { choice = option_map without_class r.choice }
 
--- Two lines of one packet show the same. Its number, its application and its flow number are those of the packet, and
--- its place is not asked for.
+-- Two lines of one packet show the same. Its number, its application and its flow number are those
+-- of the packet, and its place is not asked for.
 pub record SamePacket (l m : PacketLine) : Type 0 where
   pub queue : l.queue ≡ m.queue
   pub via : l.via ≡ m.via
@@ -45,8 +45,10 @@ pub record SameShown (packets : List Packet) (apps : ℕ) (h k : History) : Type
   pub total : h.total ≡ k.total
   pub cut : h.cut ≡ k.cut
   pub arrived : length h.arrivals ≡ length k.arrivals
-  pub packet : (x : ℕ) → x < length h.arrivals → SamePacket (packet_line packets apps h x) (packet_line packets apps k x)
-  pub reply : (x : ℕ) → x < length h.arrivals → SameReply (reply_line packets apps h x) (reply_line packets apps k x)
+  pub packet : (x : ℕ) → x < length h.arrivals
+      → SamePacket (packet_line packets apps h x) (packet_line packets apps k x)
+  pub reply : (x : ℕ) → x < length h.arrivals
+      → SameReply (reply_line packets apps h x) (reply_line packets apps k x)
   pub taken : h.taken ≡ k.taken
   pub lanes : map sums_of h.lanes ≡ map sums_of k.lanes
   pub tx_lanes : map sums_of h.tx_lanes ≡ map sums_of k.tx_lanes

@@ -42,22 +42,28 @@ is_arrived h x = nat_lt x (length h.arrivals)
 -- The lists are as many as they have to be, the arrivals are numbered, and they are of the capture.
 abbrev pub has_shape : List Packet → ℕ → History → Bool
 has_shape packets apps h =
-    (length h.choices == length h.taken) && (length h.inboxes == apps) && (length h.sent == apps) && (length h.tx_choices == apps)
-    && (length h.writes == apps) && nat_le (length h.arrivals) (length packets) && each (λ i a. a.id == i) h.arrivals
+    (length h.choices == length h.taken) && (length h.inboxes == apps) && (length h.sent == apps)
+    && (length h.tx_choices == apps)
+    && (length h.writes == apps) && nat_le (length h.arrivals) (length packets)
+    && each (λ i a. a.id == i) h.arrivals
 
 -- No list of packets is longer than that of the arrivals.
 abbrev pub has_short_lanes : ℕ → List LaneList → Bool
-has_short_lanes n = list_all (λ lane. nat_le (length lane.accepted) n && nat_le (length lane.drops) n)
+has_short_lanes n =
+    list_all (λ lane. nat_le (length lane.accepted) n && nat_le (length lane.drops) n)
 
 abbrev pub has_short_lists : History → Bool
 has_short_lists h =
     let n = length h.arrivals in
-    has_short_lanes n h.lanes && has_short_lanes n h.tx_lanes && list_all (λ inbox. nat_le (length inbox) n) h.inboxes && nat_le (length h.port) n
+    has_short_lanes n h.lanes && has_short_lanes n h.tx_lanes
+    && list_all (λ inbox. nat_le (length inbox) n) h.inboxes && nat_le (length h.port) n
 
--- No more are taken from a queue than arrived, and its choices are of its first arrivals and no more than were taken.
+-- No more are taken from a queue than arrived, and its choices are of its first arrivals and no
+-- more than were taken.
 abbrev pub is_polled : History → ℕ → Bool
 is_polled h q =
-    nat_le (slice_index h.taken q) (length (arrivals_at h.arrivals q)) && nat_le (length (list_at h.choices q)) (slice_index h.taken q)
+    nat_le (slice_index h.taken q) (length (arrivals_at h.arrivals q))
+    && nat_le (length (list_at h.choices q)) (slice_index h.taken q)
     && begins (map (λ c. c.id) (list_at h.choices q)) (arrivals_at h.arrivals q)
 
 abbrev pub are_polled : History → Bool
@@ -68,11 +74,12 @@ abbrev pub drop_number : Put → ℕ
 drop_number (At position) = 0
 drop_number (Dropped number accepted pulled cause) = number
 
--- Processor c accepted packet x as that of index i: its choice is of this processor, this is its first place, and no
--- processor dropped it.
+-- Processor c accepted packet x as that of index i: its choice is of this processor, this is its
+-- first place, and no processor dropped it.
 abbrev pub is_accepted : History → ℕ → ℕ → ℕ → Bool
 is_accepted h c i x =
-    is_arrived h x && is_number (option_map (λ d. d.lane) (choice_of h x)) c && is_place (accepted_place h.lanes x) i
+    is_arrived h x && is_number (option_map (λ d. d.lane) (choice_of h x)) c
+    && is_place (accepted_place h.lanes x) i
     && not (is_some (first_some (drop_in x) h.lanes))
 
 -- It dropped the packet as that of index i.
@@ -82,16 +89,22 @@ is_fallen h c i x =
     && is_place (option_map drop_number (first_some (drop_in x) h.lanes)) i
 
 abbrev pub are_steered : History → Bool
-are_steered h = each (λ c lane. each (is_accepted h c) lane.accepted && each (λ i d. is_fallen h c i d.id) lane.drops) h.lanes
+are_steered h =
+    each
+    (λ c lane.
+    each (is_accepted h c) lane.accepted && each (λ i d. is_fallen h c i d.id) lane.drops)
+    h.lanes
 
--- The inbox of application a has packet x at index i: this is its first place, it is of this application, and some
--- processor accepted it.
+-- The inbox of application a has packet x at index i: this is its first place, it is of this
+-- application, and some processor accepted it.
 abbrev pub is_delivered : List Packet → ℕ → History → ℕ → ℕ → ℕ → Bool
 is_delivered packets apps h a i x =
-    is_arrived h x && is_place (inbox_place_of h x) i && (app_at packets apps x == a) && is_some (accepted_place h.lanes x)
+    is_arrived h x && is_place (inbox_place_of h x) i && (app_at packets apps x == a)
+    && is_some (accepted_place h.lanes x)
 
 abbrev pub are_delivered : List Packet → ℕ → History → Bool
-are_delivered packets apps h = each (λ a inbox. each (is_delivered packets apps h a) inbox) h.inboxes
+are_delivered packets apps h =
+    each (λ a inbox. each (is_delivered packets apps h a) inbox) h.inboxes
 
 -- A reply has the queue of the arrival of its packet.
 abbrev pub is_from_queue : History → Sent → Bool
@@ -99,28 +112,38 @@ is_from_queue h s = is_arrived h s.id && ((arrival_of h.arrivals s.id).queue == 
 
 -- A transmit choice has the flow number as class, and a want that is set.
 abbrev pub is_of_flow : List Packet → History → Chosen → Bool
-is_of_flow packets h c = is_arrived h c.id && is_number c.choice.class (packet_at packets c.id).flow_number && is_some c.choice.want
+is_of_flow packets h c =
+    is_arrived h c.id && is_number c.choice.class (packet_at packets c.id).flow_number
+    && is_some c.choice.want
 
--- An application replied to the first packets of its inbox, and its transmit choices are of its first replies.
+-- An application replied to the first packets of its inbox, and its transmit choices are of its
+-- first replies.
 abbrev pub has_replies : List Packet → History → ℕ → Bool
 has_replies packets h a =
-    begins (map (λ s. s.id) (list_at h.sent a)) (list_at h.inboxes a) && list_all (is_from_queue h) (list_at h.sent a)
+    begins (map (λ s. s.id) (list_at h.sent a)) (list_at h.inboxes a)
+    && list_all (is_from_queue h) (list_at h.sent a)
     && begins (map (λ c. c.id) (list_at h.tx_choices a)) (map (λ s. s.id) (list_at h.sent a))
     && list_all (is_of_flow packets h) (list_at h.tx_choices a)
 
 abbrev pub have_replies : List Packet → ℕ → History → Bool
 have_replies packets apps h = list_all (has_replies packets h) (range_with_len 0 apps)
 
--- Transmit queue t accepted packet x as that of index i: its choice is of this queue, and this is its first place.
+-- Transmit queue t accepted packet x as that of index i: its choice is of this queue, and this is
+-- its first place.
 abbrev pub is_queued : History → ℕ → ℕ → ℕ → Bool
-is_queued h t i x = is_arrived h x && is_number (option_map (λ d. d.lane) (tx_choice_of h x)) t && is_place (accepted_place h.tx_lanes x) i
+is_queued h t i x =
+    is_arrived h x && is_number (option_map (λ d. d.lane) (tx_choice_of h x)) t
+    && is_place (accepted_place h.tx_lanes x) i
 
 -- The port has packet x at index i: this is its first place, and some transmit queue accepted it.
 abbrev pub is_shipped : History → ℕ → ℕ → Bool
-is_shipped h i x = is_arrived h x && is_place (place_in x h.port) i && is_some (accepted_place h.tx_lanes x)
+is_shipped h i x =
+    is_arrived h x && is_place (place_in x h.port) i && is_some (accepted_place h.tx_lanes x)
 
 abbrev pub are_shipped : History → Bool
-are_shipped h = each (λ t lane. (length lane.drops == 0) && each (is_queued h t) lane.accepted) h.tx_lanes && each (is_shipped h) h.port
+are_shipped h =
+    each (λ t lane. (length lane.drops == 0) && each (is_queued h t) lane.accepted) h.tx_lanes
+    && each (is_shipped h) h.port
 
 abbrev pub have_texts : History → Bool
 have_texts h = list_all (λ c. has_text c.answer) h.commands
@@ -128,5 +151,6 @@ have_texts h = list_all (λ c. has_text c.answer) h.commands
 -- All of it, in the order in which it is looked at.
 abbrev pub passes : List Packet → ℕ → History → Bool
 passes packets apps h =
-    has_shape packets apps h && has_short_lists h && are_polled h && are_steered h && are_delivered packets apps h
+    has_shape packets apps h && has_short_lists h && are_polled h && are_steered h
+    && are_delivered packets apps h
     && have_replies packets apps h && are_shipped h && have_texts h

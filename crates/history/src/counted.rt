@@ -4,9 +4,8 @@ ghost use Rattle.std.specs.List.{range_with_len};
 ghost use Rattle.history.specs.Counted.{IsCounted};
 
 use crate::history::History;
-use crate::items::Items;
 use std::alloc::Global;
-use steer_base::{OutOfMemory, RxQueue};
+use steer_base::{List, OutOfMemory, RxQueue};
 
 /// How many packets arrived at each queue, and whether each packet was taken.
 #[derive(Drop)]
@@ -18,7 +17,8 @@ pub(crate) struct Counted {
 impl Counted {
     // Counts the arrivals, which are at most 262,144 and numbered.
     pub(crate) fn make(alloc: Global, h: &History) -> Result<Counted, OutOfMemory>
-        requires numbered { map (λ a. a.id) h.now.arrivals ≡ range_with_len 0 (length h.now.arrivals) }
+        requires numbered { map (λ a. a.id) h.now.arrivals
+            ≡ range_with_len 0 (length h.now.arrivals) }
         requires few { length h.now.arrivals ≤ 262144 }
         ensures { IfOk result (λ c. IsCounted h.now c) }
     {
@@ -32,12 +32,15 @@ impl Counted {
     }
 }
 
-// Counts an arrival at its queue, where there is one, and tells whether it is among those that were taken there.
-fn note_arrival(arrived: &mut Vec<u32>, taken: &Items<u32>, queue: RxQueue) -> bool
+// Counts an arrival at its queue, where there is one, and tells whether it is among those that were
+// taken there.
+fn note_arrival(arrived: &mut Vec<u32>, taken: &List<u32>, queue: RxQueue) -> bool
     requires queues { length arrived.old.items ≡ length taken.now }
     requires room { slice_index arrived.old.items queue + 1 < 2 ^ 32 }
-    ensures count { arrived.new.items ≡ slice_set arrived.old.items queue (slice_index arrived.old.items queue + 1) }
-    ensures taken { result ≡ nat_lt (slice_index arrived.old.items queue) (slice_index taken.now queue) }
+    ensures count { arrived.new.items
+        ≡ slice_set arrived.old.items queue (slice_index arrived.old.items queue + 1) }
+    ensures taken { result
+        ≡ nat_lt (slice_index arrived.old.items queue) (slice_index taken.now queue) }
 {
     let at = queue.0 as usize;
     if at >= arrived.len() {

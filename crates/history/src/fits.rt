@@ -6,11 +6,10 @@ ghost use Rattle.history.specs.Ranges.{ArrivalFits, ChosenFits, CommandedFits, D
 use crate::arrival::Arrival;
 use crate::commanded::Commanded;
 use crate::history::History;
-use crate::items::Items;
 use crate::lane_list::LaneList;
 use crate::sent::Sent;
 use crate::sock_write::SockWrite;
-use steer_base::{Chosen, LaneDrop, PacketId};
+use steer_base::{Chosen, LaneDrop, List, PacketId};
 
 // A value whose numbers are within its types.
 trait Typed: Copy {
@@ -76,7 +75,7 @@ impl Typed for Commanded {
 }
 
 // So are those of a list.
-fn tell_each<T: Typed>(list: &Items<T>)
+fn tell_each<T: Typed>(list: &List<T>)
     ensures { All T.fits list.now }
 {
     for item in list.as_slice() {
@@ -85,7 +84,7 @@ fn tell_each<T: Typed>(list: &Items<T>)
 }
 
 // So are those of lists.
-fn tell_lists<T: Typed>(lists: &Items<Items<T>>)
+fn tell_lists<T: Typed>(lists: &List<List<T>>)
     ensures { All (All T.fits) lists.now }
 {
     for list in lists.as_slice() {
@@ -104,7 +103,7 @@ fn tell_lane(lane: &LaneList)
     lane.retired.tell();
 }
 
-fn tell_lanes(lanes: &Items<LaneList>)
+fn tell_lanes(lanes: &List<LaneList>)
     ensures { All LaneFits lanes.now }
 {
     for lane in lanes.as_slice() {
@@ -113,8 +112,9 @@ fn tell_lanes(lanes: &Items<LaneList>)
 }
 
 impl History {
-    /// Tells that the numbers of a history are within the types of its fields, as those of every history that a program
-    /// holds are. It changes nothing and walks the lists once; it need never be called.
+    /// Tells that the numbers of a history are within the types of its fields, as those of every
+    /// history that a program holds are. It changes nothing and walks the lists once; it need never
+    /// be called.
     pub fn numbers_fit(&self)
         ensures { HistoryFits self.now }
     {

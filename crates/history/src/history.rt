@@ -7,12 +7,12 @@ ghost use Rattle.history.specs.Places.{IsInReach, has_arrived, place_of, was_tak
 
 use crate::arrival::Arrival;
 use crate::commanded::Commanded;
-use crate::items::Items;
+use crate::finding::has_packet;
 use crate::lane_list::LaneList;
 use crate::place::Place;
 use crate::sent::Sent;
 use crate::sock_write::SockWrite;
-use steer_base::{AppId, Chosen, Cpu, PacketId, RxQueue};
+use steer_base::{AppId, Chosen, Cpu, List, PacketId, RxQueue};
 
 /// All that happened in a run, as lists in the order in which it happened.
 #[derive(Debug, Drop)]
@@ -22,27 +22,27 @@ pub struct History {
     /// The length of a cut record at the end of the capture, if there is one.
     pub cut: Option<u32>,
     /// The packets that arrived.
-    pub arrivals: Items<Arrival>,
+    pub arrivals: List<Arrival>,
     /// For each receive queue, how many packets its poller took.
-    pub taken: Items<u32>,
+    pub taken: List<u32>,
     /// For each receive queue, the choices of a processor.
-    pub choices: Items<Items<Chosen>>,
+    pub choices: List<List<Chosen>>,
     /// For each processor, its backlog.
-    pub lanes: Items<LaneList>,
+    pub lanes: List<LaneList>,
     /// For each application, the packets that were delivered to it.
-    pub inboxes: Items<Items<PacketId>>,
+    pub inboxes: List<List<PacketId>>,
     /// For each application, the replies that it began.
-    pub sent: Items<Items<Sent>>,
+    pub sent: List<List<Sent>>,
     /// For each application, the choices of a transmit queue.
-    pub tx_choices: Items<Items<Chosen>>,
+    pub tx_choices: List<List<Chosen>>,
     /// For each transmit queue, its packets.
-    pub tx_lanes: Items<LaneList>,
+    pub tx_lanes: List<LaneList>,
     /// The replies that left by the port.
-    pub port: Items<PacketId>,
+    pub port: List<PacketId>,
     /// For each application, its writes of the socket flow table.
-    pub writes: Items<Items<SockWrite>>,
+    pub writes: List<List<SockWrite>>,
     /// The commands that were given, each with its answer.
-    pub commands: Items<Commanded>,
+    pub commands: List<Commanded>,
     /// The number that the counters of all lanes show before their first packet.
     pub start: u32,
 }
@@ -60,9 +60,10 @@ impl History {
         false
     }
 
-    /// The place of a packet that arrived: the first that holds of dropped, in an inbox, pulled, accepted, and taken from
-    /// the ring. Where several lanes or inboxes have it, which is never so in a regular history, it is at the one with
-    /// the least number. It takes no memory, and walks the lists once.
+    /// The place of a packet that arrived: the first that holds of dropped, in an inbox, pulled,
+    /// accepted, and taken from the ring. Where several lanes or inboxes have it, which is never so
+    /// in a regular history, it is at the one with the least number. It takes no memory, and walks
+    /// the lists once.
     pub fn place(&self, id: PacketId) -> Place
         requires arrived { IsTrue (has_arrived self.now id) }
         requires in_reach { IsInReach self.now id }
@@ -104,7 +105,7 @@ impl History {
         self.inboxes
             .as_slice()
             .iter()
-            .position(|inbox| inbox.has(id))
+            .position(|inbox| has_packet(inbox.as_slice(), id))
     }
 
     // The first processor that has the packet among those that were pulled there.
@@ -151,7 +152,7 @@ impl History {
         RxQueue(0)
     }
 
-    // Whether a packet is among so many first arrivals of a queue.
+    // Whether a packet is among the first `count` arrivals of a queue.
     fn has_among_arrivals(&self, queue: RxQueue, count: u32, id: PacketId) -> bool
         ensures { result ≡ is_among count id (arrivals_at self.now.arrivals queue) }
     {

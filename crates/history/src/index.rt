@@ -7,12 +7,11 @@ ghost use Rattle.history.specs.Index.{IsIndex, noted, noted_by};
 ghost use Rattle.history.specs.Lines.{accepted_place, choice_in, drop_in};
 ghost use Rattle.history.specs.Lists.{lane_at, list_at};
 
-use crate::items::Items;
 use crate::lane_list::LaneList;
 use crate::sent::Sent;
 use std::alloc::Global;
 use std::marker::Model;
-use steer_base::{Choice, Chosen, LaneDrop, OutOfMemory, PacketId, Put};
+use steer_base::{Choice, Chosen, LaneDrop, List, OutOfMemory, PacketId, Put};
 
 /// One slot for each packet. The first value that is noted for a packet stays.
 #[derive(Drop)]
@@ -29,7 +28,7 @@ impl<T> Model for Index<T> {
 }
 
 impl<T: Copy> Index<T> {
-    // So many empty slots.
+    // `count` empty slots.
     pub(crate) fn empty(alloc: Global, count: usize) -> Result<Index<T>, OutOfMemory>
         ensures { IfOk result (λ i. i ≡ replicate count None) }
     {
@@ -65,7 +64,7 @@ impl<T: Copy> Index<T> {
 pub(crate) fn index_choices(
     alloc: Global,
     count: usize,
-    lists: &Items<Items<Chosen>>,
+    lists: &List<List<Chosen>>,
 ) -> Result<Index<Choice>, OutOfMemory>
     ensures { IfOk result (λ i. IsIndex count i (λ x. first_some (choice_in x) lists.now)) }
 {
@@ -76,7 +75,7 @@ pub(crate) fn index_choices(
     Ok(index)
 }
 
-fn note_choices(index: &mut Index<Choice>, list: &Items<Chosen>)
+fn note_choices(index: &mut Index<Choice>, list: &List<Chosen>)
     ensures { index.new ≡ noted_by (λ c. c.id) (λ i c. c.choice) 0 index.old list.now }
 {
     for chosen in list.as_slice() {
@@ -88,7 +87,7 @@ fn note_choices(index: &mut Index<Choice>, list: &Items<Chosen>)
 pub(crate) fn index_sent(
     alloc: Global,
     count: usize,
-    lists: &Items<Items<Sent>>,
+    lists: &List<List<Sent>>,
 ) -> Result<Index<Sent>, OutOfMemory>
     ensures { IfOk result (λ i. IsIndex count i (λ x. first_some (found (λ s. s.id) x) lists.now)) }
 {
@@ -99,7 +98,7 @@ pub(crate) fn index_sent(
     Ok(index)
 }
 
-fn note_sent(index: &mut Index<Sent>, list: &Items<Sent>)
+fn note_sent(index: &mut Index<Sent>, list: &List<Sent>)
     ensures { index.new ≡ noted_by (λ s. s.id) (λ i s. s) 0 index.old list.now }
 {
     for sent in list.as_slice() {
@@ -111,7 +110,7 @@ fn note_sent(index: &mut Index<Sent>, list: &Items<Sent>)
 pub(crate) fn index_places(
     alloc: Global,
     count: usize,
-    lists: &Items<Items<PacketId>>,
+    lists: &List<List<PacketId>>,
 ) -> Result<Index<u32>, OutOfMemory>
     requires { (i : ℕ) → length (list_at lists.now i) < 2 ^ 32 }
     ensures { IfOk result (λ i. IsIndex count i (λ x. first_some (place_in x) lists.now)) }
@@ -127,7 +126,7 @@ pub(crate) fn index_places(
 pub(crate) fn index_list(
     alloc: Global,
     count: usize,
-    list: &Items<PacketId>,
+    list: &List<PacketId>,
 ) -> Result<Index<u32>, OutOfMemory>
     requires { length list.now < 2 ^ 32 }
     ensures { IfOk result (λ i. IsIndex count i (λ x. place_in x list.now)) }
@@ -141,7 +140,7 @@ pub(crate) fn index_list(
 pub(crate) fn index_accepted(
     alloc: Global,
     count: usize,
-    lanes: &Items<LaneList>,
+    lanes: &List<LaneList>,
 ) -> Result<Index<u32>, OutOfMemory>
     requires { (c : ℕ) → length (lane_at lanes.now c).accepted < 2 ^ 32 }
     ensures { IfOk result (λ i. IsIndex count i (λ x. accepted_place lanes.now x)) }
@@ -153,7 +152,7 @@ pub(crate) fn index_accepted(
     Ok(index)
 }
 
-fn note_places(index: &mut Index<u32>, list: &Items<PacketId>)
+fn note_places(index: &mut Index<u32>, list: &List<PacketId>)
     requires { length list.now < 2 ^ 32 }
     ensures { index.new ≡ noted_by (λ x. x) (λ i x. i + 1) 0 index.old list.now }
 {
@@ -166,7 +165,7 @@ fn note_places(index: &mut Index<u32>, list: &Items<PacketId>)
 pub(crate) fn index_drops(
     alloc: Global,
     count: usize,
-    lanes: &Items<LaneList>,
+    lanes: &List<LaneList>,
 ) -> Result<Index<Put>, OutOfMemory>
     requires { (c : ℕ) → length (lane_at lanes.now c).drops < 2 ^ 32 }
     ensures { IfOk result (λ i. IsIndex count i (λ x. first_some (drop_in x) lanes.now)) }
@@ -178,9 +177,11 @@ pub(crate) fn index_drops(
     Ok(index)
 }
 
-pub(crate) fn note_drops(index: &mut Index<Put>, list: &Items<LaneDrop>)
+pub(crate) fn note_drops(index: &mut Index<Put>, list: &List<LaneDrop>)
     requires { length list.now < 2 ^ 32 }
-    ensures { index.new ≡ noted_by (λ d. d.id) (λ i d. dropped (i + 1) d.accepted d.pulled d.cause) 0 index.old list.now }
+    ensures { index.new
+        ≡ noted_by (λ d. d.id)
+        (λ i d. dropped (i + 1) d.accepted d.pulled d.cause) 0 index.old list.now }
 {
     for (i, fallen) in list.as_slice().iter().enumerate() {
         let put = Put::Dropped {

@@ -10,7 +10,7 @@ use crate::lane_list::LaneList;
 use crate::slots::{drop_is, is_place, lane_is};
 use steer_base::{LaneDrop, Packet, PacketId, app_of};
 
-/// A history with its slots, for the packets of a capture and so many applications.
+/// A history with its slots, for the packets of a capture and `apps` applications.
 #[derive(Drop)]
 pub(crate) struct ItemTest<'a> {
     pub(crate) h: &'a History,
@@ -18,7 +18,8 @@ pub(crate) struct ItemTest<'a> {
     pub(crate) packets: &'a [Packet],
     pub(crate) apps: u8,
     ghost is_known: { IsKnown h.now known.now },
-    ghost are_numbered: { map (λ a. a.id) h.now.arrivals ≡ range_with_len 0 (length h.now.arrivals) },
+    ghost are_numbered: { map (λ a. a.id) h.now.arrivals
+        ≡ range_with_len 0 (length h.now.arrivals) },
     ghost of_the_capture: { length h.now.arrivals ≤ length packets.now },
     ghost has_apps: { 1 ≤ apps },
 }
@@ -62,7 +63,9 @@ impl ItemTest<'_> {
     }
 
     fn is_steered(&self, cpu: usize, lane: &LaneList) -> bool
-        ensures { result ≡ each (is_accepted self.now.h.now cpu) lane.now.accepted && each (λ i d. is_fallen self.now.h.now cpu i d.id) lane.now.drops }
+        ensures { result
+            ≡ each (is_accepted self.now.h.now cpu) lane.now.accepted
+            && each (λ i d. is_fallen self.now.h.now cpu i d.id) lane.now.drops }
     {
         self.are_accepted(cpu, lane.accepted.as_slice())
             && self.are_fallen(cpu, lane.drops.as_slice())
@@ -81,7 +84,8 @@ impl ItemTest<'_> {
 
     // Whether the inbox of an application has the packet as that of an index.
     fn is_delivered(&self, app: usize, index: usize, id: PacketId) -> bool
-        ensures { result ≡ is_delivered self.now.packets.now self.now.apps self.now.h.now app index id }
+        ensures { result
+            ≡ is_delivered self.now.packets.now self.now.apps self.now.h.now app index id }
     {
         let at = id.0 as usize;
         at < self.h.arrivals.len()
@@ -91,7 +95,8 @@ impl ItemTest<'_> {
     }
 
     fn has_inbox(&self, app: usize, inbox: &[PacketId]) -> bool
-        ensures { result ≡ each (is_delivered self.now.packets.now self.now.apps self.now.h.now app) inbox.now }
+        ensures { result
+            ≡ each (is_delivered self.now.packets.now self.now.apps self.now.h.now app) inbox.now }
     {
         inbox
             .iter()
@@ -129,13 +134,17 @@ impl ItemTest<'_> {
     }
 
     fn has_queue(&self, tx: usize, lane: &LaneList) -> bool
-        ensures { result ≡ (length lane.now.drops == 0) && each (is_queued self.now.h.now tx) lane.now.accepted }
+        ensures { result
+            ≡ (length lane.now.drops == 0) && each (is_queued self.now.h.now tx) lane.now.accepted }
     {
         lane.drops.len() == 0 && self.are_queued(tx, lane.accepted.as_slice())
     }
 
     fn have_queues(&self) -> bool
-        ensures { result ≡ each (λ t lane. (length lane.drops == 0) && each (is_queued self.now.h.now t) lane.accepted) self.now.h.now.tx_lanes }
+        ensures { result
+            ≡ each
+            (λ t lane. (length lane.drops == 0)
+            && each (is_queued self.now.h.now t) lane.accepted) self.now.h.now.tx_lanes }
     {
         self.h
             .tx_lanes

@@ -14,14 +14,13 @@ use crate::history::History;
 use crate::index::{
     Index, index_accepted, index_choices, index_drops, index_list, index_places, index_sent,
 };
-use crate::items::Items;
 use crate::lane_list::LaneList;
 use crate::packet_line::{PacketLine, Via};
 use crate::place::Place;
 use crate::reply_line::ReplyLine;
 use crate::sent::Sent;
 use std::alloc::Global;
-use steer_base::{AppId, Choice, Cpu, OutOfMemory, Packet, PacketId, Put, app_of};
+use steer_base::{AppId, Choice, Cpu, List, OutOfMemory, Packet, PacketId, Put, app_of};
 
 /// An index by packet for each kind of list.
 #[derive(Drop)]
@@ -70,7 +69,9 @@ pub(crate) fn packet_lines(
     requires apps { 1 ≤ apps }
     requires few { length packets.now ≤ 262144 }
     requires taken { taken.now ≡ map (was_taken h.now) (range_with_len 0 (length h.now.arrivals)) }
-    ensures { IfOk result (λ v. v.items ≡ map (line_of_packet packets.now apps h.now) (range_with_len 0 (length h.now.arrivals))) }
+    ensures { IfOk result
+        (λ v. v.items
+        ≡ map (line_of_packet packets.now apps h.now) (range_with_len 0 (length h.now.arrivals))) }
 {
     let mut lines = Vec::with_capacity(alloc, taken.len())?;
     for (x, taken) in taken.iter().enumerate() {
@@ -93,7 +94,9 @@ pub(crate) fn reply_lines(
     requires apps { 1 ≤ apps }
     requires packets { length h.now.arrivals ≤ length packets.now }
     requires few { length packets.now ≤ 262144 }
-    ensures { IfOk result (λ v. v.items ≡ map (line_of_reply packets.now apps h.now) (range_with_len 0 (length h.now.arrivals))) }
+    ensures { IfOk result
+        (λ v. v.items
+        ≡ map (line_of_reply packets.now apps h.now) (range_with_len 0 (length h.now.arrivals))) }
 {
     let count = h.arrivals.len();
     let mut lines = Vec::with_capacity(alloc, count)?;
@@ -219,8 +222,9 @@ fn lane_of(choice: Option<Choice>) -> Option<u8>
     Some(choice?.lane)
 }
 
-// The processor of a packet, where its place among the accepted ones there is among those that were pulled.
-fn pulled_at(lanes: &Items<LaneList>, cpu: Option<u8>, accepted: Option<u32>) -> Option<u8>
+// The processor of a packet, where its place among the accepted ones there is among those that were
+// pulled.
+fn pulled_at(lanes: &List<LaneList>, cpu: Option<u8>, accepted: Option<u32>) -> Option<u8>
     ensures { result ≡ pulled_by lanes.now cpu accepted }
 {
     let (Some(cpu), Some(place)) = (cpu, accepted) else {
@@ -243,7 +247,8 @@ fn position_of(start: u32, place: Option<u32>) -> Option<u32>
 
 // The position of an accepted packet, or else its drop.
 pub(crate) fn put_of(start: u32, accepted: Option<u32>, dropped: Option<Put>) -> Option<Put>
-    ensures { result ≡ option_or (option_map (λ n. at_position n) (option_map (number start) accepted)) dropped }
+    ensures { result
+        ≡ option_or (option_map (λ n. at_position n) (option_map (number start) accepted)) dropped }
 {
     match position_of(start, accepted) {
         Some(position) => Some(Put::At(position)),

@@ -3,16 +3,17 @@ ghost use Rattle.std.specs.Prelude.{◌≡◌};
 ghost use Rattle.history.specs.Finding.{is_among, is_in};
 ghost use Rattle.history.specs.Lists.{drop_ids};
 
-use crate::items::Items;
-use steer_base::{LaneDrop, PacketId};
+use crate::finding::{has_packet, has_packet_among};
+use steer_base::{LaneDrop, List, PacketId};
 
-/// The backlog of a processor, or a transmit queue: its packets in the order of their puts, and how far they came.
+/// The backlog of a processor, or a transmit queue: its packets in the order of their puts, and how
+/// far they came.
 #[derive(Debug, Drop)]
 pub struct LaneList {
     /// The packets that were accepted, in order: the n-th, from 1, has the position n.
-    pub accepted: Items<PacketId>,
+    pub accepted: List<PacketId>,
     /// The packets that were dropped, in the order of their numbers.
-    pub drops: Items<LaneDrop>,
+    pub drops: List<LaneDrop>,
     /// How many of the accepted packets were pulled.
     pub pulled: u32,
     /// How many of these were delivered.
@@ -38,13 +39,13 @@ impl LaneList {
     pub(crate) fn has_accepted(&self, id: PacketId) -> bool
         ensures { result ≡ is_in id self.now.accepted }
     {
-        self.accepted.has(id)
+        has_packet(self.accepted.as_slice(), id)
     }
 
     // Whether it is among the accepted ones that were pulled.
     pub(crate) fn has_pulled(&self, id: PacketId) -> bool
         ensures { result ≡ is_among self.now.pulled id self.now.accepted }
     {
-        self.accepted.has_among(self.pulled as usize, id)
+        has_packet_among(self.accepted.as_slice(), self.pulled as usize, id)
     }
 }

@@ -1,15 +1,16 @@
-//! The history of a run as lists, the place of each packet, and the lines that a report shows of it.
+//! The history of a run as lists, the place of each packet, and the lines that a report shows of
+//! it.
 #![tactic(auto)]
 
 mod arrival;
 mod commanded;
 mod counted;
+mod finding;
 mod fits;
 mod found_again;
 mod history;
 mod index;
 mod item_test;
-mod items;
 mod known;
 mod lane_list;
 mod laws;
@@ -31,7 +32,6 @@ pub use arrival::Arrival;
 pub use commanded::Commanded;
 pub use found_again::{histories_are_found_again, lines_fit};
 pub use history::History;
-pub use items::Items;
 pub use lane_list::LaneList;
 pub use laws::{a_packet_has_one_place, few_lanes_are_in_reach};
 pub use lines::Lines;

@@ -14,7 +14,8 @@ use std::alloc::Global;
 use std::marker::Model;
 use steer_base::{OutOfMemory, Packet, PacketId};
 
-/// The lines of the packets that arrived and of their replies, and how many packets arrived at each queue.
+/// The lines of the packets that arrived and of their replies, and how many packets arrived at each
+/// queue.
 #[derive(Debug, Drop)]
 pub struct Lines {
     packets: Vec<PacketLine>,
@@ -27,12 +28,16 @@ impl Model for Lines {
 
     ghost Value = { LineLists };
 
-    ghost view = { λ l. record { packets = l.packets.items; replies = l.replies.items; arrived = l.arrived.items } };
+    ghost view = { λ l. record {
+      packets = l.packets.items;
+      replies = l.replies.items;
+      arrived = l.arrived.items;
+    } };
 }
 
 impl Lines {
-    /// The lines of a history that is regular for these packets and so many applications, in time and memory linear in
-    /// its packets. All memory that they need is taken here.
+    /// The lines of a history that is regular for these packets and `apps` applications, in time
+    /// and memory linear in its packets. All memory that they need is taken here.
     pub fn make(
         alloc: Global,
         h: &History,
@@ -45,10 +50,16 @@ impl Lines {
         ensures lines { IfOk result (λ l. l ≡ lines_of packets.now apps h.now) }
 
         // Each line, one by one; a reply has one exactly where it was begun.
-        ensures packet { IfOk result (λ l. (x : ℕ) (d : PacketLine) → x < length h.now.arrivals → slice_index_or l.packets x d ≡ packet_line packets.now apps h.now x) }
-        ensures reply { IfOk result (λ l. (x : ℕ) → slice_index_or l.replies x None ≡ reply_line packets.now apps h.now x) }
-        ensures begun { IfOk result (λ l. (x : ℕ) → is_some (slice_index_or l.replies x None) ≡ is_replied h.now x) }
-        ensures arrived { IfOk result (λ l. (q : ℕ) → q < length h.now.taken → slice_index l.arrived q ≡ length (arrivals_at h.now.arrivals q)) }
+        ensures packet { IfOk result
+            (λ l. (x : ℕ) (d : PacketLine) → x < length h.now.arrivals
+            → slice_index_or l.packets x d ≡ packet_line packets.now apps h.now x) }
+        ensures reply { IfOk result
+            (λ l. (x : ℕ) → slice_index_or l.replies x None ≡ reply_line packets.now apps h.now x) }
+        ensures begun { IfOk result
+            (λ l. (x : ℕ) → is_some (slice_index_or l.replies x None) ≡ is_replied h.now x) }
+        ensures arrived { IfOk result
+            (λ l. (q : ℕ) → q < length h.now.taken
+            → slice_index l.arrived q ≡ length (arrivals_at h.now.arrivals q)) }
     {
         let known = Known::make(alloc, h)?;
         let counted = Counted::make(alloc, h)?;

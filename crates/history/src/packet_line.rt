@@ -13,7 +13,8 @@ pub enum Via {
     Unhashed,
 }
 
-/// A packet that arrived: its queue, its choice of a processor, what became of it there, and where it is.
+/// A packet that arrived: its queue, its choice of a processor, what became of it there, and where
+/// it is.
 #[derive(Clone, Copy, Debug, PartialEq, Eq)]
 pub struct PacketLine {
     pub id: PacketId,

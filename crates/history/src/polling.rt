@@ -28,7 +28,8 @@ fn are_of_first(choices: &[Chosen], arrivals: &[Arrival], queue: usize) -> bool
     met >= choices.len()
 }
 
-// Whether no more are taken from a queue than arrived, and choices are of its first arrivals and no more than are taken.
+// Whether no more are taken from a queue than arrived, and choices are of its first arrivals and no
+// more than are taken.
 fn is_polled_by(
     taken: u32,
     arrived: u32,
@@ -36,7 +37,9 @@ fn is_polled_by(
     arrivals: &[Arrival],
     queue: usize,
 ) -> bool
-    ensures { result ≡ nat_le taken arrived && nat_le (length choices.now) taken && begins (map (λ c. c.id) choices.now) (arrivals_at arrivals.now queue) }
+    ensures { result
+        ≡ nat_le taken arrived && nat_le (length choices.now) taken
+        && begins (map (λ c. c.id) choices.now) (arrivals_at arrivals.now queue) }
 {
     taken <= arrived && choices.len() <= taken as usize && are_of_first(choices, arrivals, queue)
 }

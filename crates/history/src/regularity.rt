@@ -55,9 +55,9 @@ fn passes(alloc: Global, h: &History, packets: &[Packet], apps: u8) -> Result<bo
 }
 
 impl History {
-    /// Whether the history is regular for these packets and so many applications, which is what its lines are made for:
-    /// whether each list is of those before it in the way of a packet. It takes time and memory linear in the packets,
-    /// for each receive queue, and gives the memory back.
+    /// Whether the history is regular for these packets and `apps` applications, which is what its
+    /// lines are made for: whether each list is of those before it in the way of a packet. It takes
+    /// time and memory linear in the packets, for each receive queue, and gives the memory back.
     pub fn is_regular(
         &self,
         alloc: Global,

@@ -1,7 +1,8 @@
 //! What a report tells of a reply.
 use steer_base::{AppId, Choice, Cpu, PacketId, RxQueue};
 
-/// A reply that was begun: what its transmit queue is picked by, the choice of the queue, and how far it came.
+/// A reply that was begun: what its transmit queue is picked by, the choice of the queue, and how
+/// far it came.
 #[derive(Clone, Copy, Debug, PartialEq, Eq)]
 pub struct ReplyLine {
     /// The packet that is replied to.

@@ -5,11 +5,10 @@ ghost use Rattle.history.specs.Tests.{each, has_shape, has_short_lanes, has_shor
 
 use crate::arrival::Arrival;
 use crate::history::History;
-use crate::items::Items;
 use crate::lane_list::LaneList;
-use steer_base::{Packet, PacketId};
+use steer_base::{List, Packet, PacketId};
 
-fn are_numbered(arrivals: &Items<Arrival>) -> bool
+fn are_numbered(arrivals: &List<Arrival>) -> bool
     ensures { result ≡ each (λ i a. a.id == i) arrivals.now }
 {
     arrivals
@@ -31,13 +30,13 @@ pub(crate) fn has_shape(h: &History, packets: &[Packet], apps: usize) -> bool
         && are_numbered(&h.arrivals)
 }
 
-fn has_short_lanes(lanes: &Items<LaneList>, count: usize) -> bool
+fn has_short_lanes(lanes: &List<LaneList>, count: usize) -> bool
     ensures { result ≡ has_short_lanes count lanes.now }
 {
     lanes.as_slice().iter().all(|lane| lane.accepted.len() <= count && lane.drops.len() <= count)
 }
 
-fn has_short_inboxes(inboxes: &Items<Items<PacketId>>, count: usize) -> bool
+fn has_short_inboxes(inboxes: &List<List<PacketId>>, count: usize) -> bool
     ensures { result ≡ list_all (λ inbox. nat_le (length inbox) count) inboxes.now }
 {
     inboxes.as_slice().iter().all(|inbox| inbox.len() <= count)

@@ -1,26 +1,27 @@
-//! Histories written by hand, with the places and the line fields that a report shows of them, and which are regular.
+//! Histories written by hand, with the places and the line fields that a report shows of them, and
+//! which are regular.
 ghost use Rattle.std.specs.Prelude.{◌≤◌, length};
 ghost use Rattle.history.specs.Places.{IsInReach};
 
 use crate::index::{Index, index_list, note_drops};
 use crate::known::put_of;
 use crate::{
-    Arrival, Commanded, History, Items, LaneList, Lines, PacketLine, Place, ReplyLine, Sent, Via,
+    Arrival, Commanded, History, LaneList, Lines, PacketLine, Place, ReplyLine, Sent, Via,
 };
 use std::alloc::Global;
 use std::process::Abort;
 use steer_base::{
-    Answer, AppId, Choice, Chosen, Command, Cpu, DropCause, Flow, Idle, LaneDrop, Packet, PacketId,
-    Pair, Proto, Put, RxQueue, Why,
+    Answer, AppId, Choice, Chosen, Command, Cpu, DropCause, Flow, Idle, LaneDrop, List, Packet,
+    PacketId, Pair, Proto, Put, RxQueue, Why,
 };
 
 // The packets of these numbers.
-fn ids(rt: &impl Abort, alloc: Global, numbers: &[u32]) -> Items<PacketId> {
+fn ids(rt: &impl Abort, alloc: Global, numbers: &[u32]) -> List<PacketId> {
     let mut packets = Vec::new(alloc);
     for number in numbers {
         packets.push(PacketId(*number)).expect(rt, "memory");
     }
-    Items::of(packets)
+    List::from_vec(packets)
 }
 
 // A lane that accepted these packets, and dropped these since one waited.
@@ -43,7 +44,7 @@ fn lane(
     }
     LaneList {
         accepted: ids(rt, alloc, accepted),
-        drops: Items::of(drops),
+        drops: List::from_vec(drops),
         pulled,
         delivered: 0,
         retired: 0,
@@ -51,19 +52,19 @@ fn lane(
 }
 
 // A list of no item.
-fn none<T>(rt: &impl Abort, alloc: Global) -> Items<T> {
-    Items::of(Vec::new(alloc))
+fn none<T>(rt: &impl Abort, alloc: Global) -> List<T> {
+    List::from_vec(Vec::new(alloc))
 }
 
 // A list of one.
-fn one<T: Drop>(rt: &impl Abort, alloc: Global, item: T) -> Items<T> {
+fn one<T: Drop>(rt: &impl Abort, alloc: Global, item: T) -> List<T> {
     let mut items = Vec::new(alloc);
     items.push(item).expect(rt, "memory");
-    Items::of(items)
+    List::from_vec(items)
 }
 
 // The arrivals at these queues, one after another.
-fn arrivals(rt: &impl Abort, alloc: Global, queues: &[u8]) -> Items<Arrival> {
+fn arrivals(rt: &impl Abort, alloc: Global, queues: &[u8]) -> List<Arrival> {
     let mut arrivals = Vec::new(alloc);
     let mut id = 0;
     for queue in queues {
@@ -76,16 +77,16 @@ fn arrivals(rt: &impl Abort, alloc: Global, queues: &[u8]) -> Items<Arrival> {
         arrivals.push(arrival).expect(rt, "memory");
         id = id.saturating_add(1);
     }
-    Items::of(arrivals)
+    List::from_vec(arrivals)
 }
 
-// A history with these arrivals, of which queue 0 took so many, these lanes and one inbox.
+// A history with these arrivals, of which queue 0 took `taken`, these lanes and one inbox.
 fn history(
     rt: &impl Abort,
     alloc: Global,
     queues: &[u8],
     taken: u32,
-    lanes: Items<LaneList>,
+    lanes: List<LaneList>,
     inbox: &[u32],
 ) -> History {
     History {
@@ -107,14 +108,14 @@ fn history(
 }
 
 // Three lanes, of which the first accepted nothing.
-fn lanes(rt: &impl Abort, alloc: Global, second: LaneList, third: LaneList) -> Items<LaneList> {
+fn lanes(rt: &impl Abort, alloc: Global, second: LaneList, third: LaneList) -> List<LaneList> {
     let mut lanes = Vec::new(alloc);
     lanes
         .push(lane(rt, alloc, &[], &[], 0))
         .expect(rt, "memory");
     lanes.push(second).expect(rt, "memory");
     lanes.push(third).expect(rt, "memory");
-    Items::of(lanes)
+    List::from_vec(lanes)
 }
 
 // A history with few lanes has each packet in reach.
@@ -259,8 +260,8 @@ fn positions_and_drops(rt: HostRuntime) {
     );
 }
 
-// A lane under the flow limit: 151 packets of a flow were accepted, and then the next 49 dropped and one of another
-// flow accepted.
+// A lane under the flow limit: 151 packets of a flow were accepted, and then the next 49 dropped
+// and one of another flow accepted.
 fn limited_lane(rt: &impl Abort, alloc: Global) -> LaneList {
     let mut accepted = Vec::new(alloc);
     let mut drops = Vec::new(alloc);
@@ -279,8 +280,8 @@ fn limited_lane(rt: &impl Abort, alloc: Global) -> LaneList {
     }
     accepted.push(PacketId(200)).expect(rt, "memory");
     LaneList {
-        accepted: Items::of(accepted),
-        drops: Items::of(drops),
+        accepted: List::from_vec(accepted),
+        drops: List::from_vec(drops),
         pulled: 0,
         delivered: 0,
         retired: 0,
@@ -327,12 +328,12 @@ fn empty_lane(rt: &impl Abort, alloc: Global) -> LaneList {
 }
 
 // The lanes of three processors, where one packet was retired at the second.
-fn three_lanes(rt: &impl Abort, alloc: Global) -> Items<LaneList> {
+fn three_lanes(rt: &impl Abort, alloc: Global) -> List<LaneList> {
     let mut lanes = Vec::new(alloc);
     lanes.push(empty_lane(rt, alloc)).expect(rt, "memory");
     lanes.push(retired_lane(rt, alloc)).expect(rt, "memory");
     lanes.push(empty_lane(rt, alloc)).expect(rt, "memory");
-    Items::of(lanes)
+    List::from_vec(lanes)
 }
 
 // The choice of processor 1 without a class.
@@ -469,13 +470,13 @@ enum Fault {
 }
 
 // A list of the one choice for packet 0.
-fn chosen(rt: &impl Abort, alloc: Global, choice: Choice) -> Items<Items<Chosen>> {
+fn chosen(rt: &impl Abort, alloc: Global, choice: Choice) -> List<List<Chosen>> {
     let id = PacketId(0);
     one(rt, alloc, one(rt, alloc, Chosen { id, choice }))
 }
 
 // A list of the one reply to packet 0, of a queue.
-fn sent(rt: &impl Abort, alloc: Global, rxq: RxQueue) -> Items<Items<Sent>> {
+fn sent(rt: &impl Abort, alloc: Global, rxq: RxQueue) -> List<List<Sent>> {
     let reply = Sent {
         id: PacketId(0),
         rxq,
@@ -485,7 +486,7 @@ fn sent(rt: &impl Abort, alloc: Global, rxq: RxQueue) -> Items<Items<Sent>> {
 }
 
 // A command with an answer that a report cannot show.
-fn idle_command(rt: &impl Abort, alloc: Global) -> Items<Commanded> {
+fn idle_command(rt: &impl Abort, alloc: Global) -> List<Commanded> {
     let commanded = Commanded {
         command: Command::Expire,
         answer: Answer::Idle(Idle::Nothing),
@@ -494,11 +495,11 @@ fn idle_command(rt: &impl Abort, alloc: Global) -> Items<Commanded> {
 }
 
 // One inbox too many.
-fn two_inboxes(rt: &impl Abort, alloc: Global) -> Items<Items<PacketId>> {
+fn two_inboxes(rt: &impl Abort, alloc: Global) -> List<List<PacketId>> {
     let mut inboxes = Vec::new(alloc);
     inboxes.push(ids(rt, alloc, &[0])).expect(rt, "memory");
     inboxes.push(none(rt, alloc)).expect(rt, "memory");
-    Items::of(inboxes)
+    List::from_vec(inboxes)
 }
 
 // The history of one packet with this fault.

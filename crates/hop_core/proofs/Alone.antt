@@ -7,14 +7,14 @@ use Rattle.std.proofs.lemmas.List.{get_or-drop, length-drop, length-take-le, dro
 use Rattle.std.proofs.lemmas.List.Elements.{All-head, All-tail}
 use Rattle.std.proofs.lemmas.Bool.{cases_Bool, ne_eqb, eq-eqb, cases_lt}
 use Rattle.steer_base.specs.Entries.{place_in, position, of_class, is_class, current_lane, recorded_count}
-use Rattle.hop_core.proofs.Entries.{current_lane-push}
+use Rattle.steer_base.proofs.EntriesLemmas.{current_lane-push}
 use Rattle.steer_base.specs.declared.choice.Chosen.{Chosen}
 use Rattle.hop_core.specs.Hop.{nobody, chosen_at, HopState, accepted_at, retired_at, arrivals_of, choices_of, placed_of, since_of, recent, in_hand}
 use Rattle.hop_core.specs.Standing.{StandsAt}
 use Rattle.hop_core.specs.Sound.{Sound}
 use Rattle.hop_core.specs.Order.{OnlyAt, OneClass}
 use Rattle.hop_core.proofs.Lists.{front_and_last}
-use Rattle.hop_core.proofs.Stands.{of_class-yes}
+use Rattle.steer_base.proofs.EntriesLemmas.{of_class-yes}
 
 -- the place of a packet that stands once
 pub place_in-at : (xs : List ℕ) (j : ℕ) → j < length xs → ((i : ℕ) → i < j → get_or xs i 0 ≢ get_or xs j 0) → place_in (get_or xs j 0) xs ≡ Some (suc j)

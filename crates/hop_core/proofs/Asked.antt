@@ -7,10 +7,10 @@ use Rattle.hop_core.specs.Hop.{HopState}
 
 pub asked_weigh : (s : HopState) (p : ℕ) (class want : Option ℕ) (desired : ℕ) (online : CpuMask)
     → MayAsk s (event.Weigh p class want desired online) → p < length s.arrivals
-asked_weigh s p class want desired online m = m.0
+asked_weigh s p class want desired online m = m.producer
 
 pub asked_deliver : (s : HopState) (c o : ℕ) → MayAsk s (event.Deliver c o) → (c < length s.bare.accepted) × (o < length s.bare.outs)
-asked_deliver s c o m = (m.0, m.1)
+asked_deliver s c o m = (m.lane, m.out)
 
 pub asked_resize : (s : HopState) (p count : ℕ) → MayAsk s (event.Resize p count) → (p < length s.arrivals) × (s.bare.closed ≡ true)
-asked_resize s p count m = (m.0, m.3)
+asked_resize s p count m = (m.producer, m.closed)

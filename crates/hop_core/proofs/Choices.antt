@@ -20,7 +20,7 @@ use Rattle.hop_core.specs.Events.{happens, MayAsk, AllMayAsk, run}
 use Rattle.hop_core.specs.Sound.{Sound}
 use Rattle.hop_core.specs.Laws.{entries_before, ChoicesStay, ChoiceIsByTheRule}
 use Rattle.hop_core.proofs.Lists.{Changed-set, chosen-push_front, chosen-push_last, length-push}
-use Rattle.hop_core.proofs.Entries.{recorded_count-same}
+use Rattle.steer_base.proofs.EntriesLemmas.{recorded_count-same}
 use Rattle.hop_core.proofs.Gathered.{Added}
 use Rattle.hop_core.proofs.Sound.{same_choice, position-added}
 use Rattle.hop_core.proofs.Stands.{positions}

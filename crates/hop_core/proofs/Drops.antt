@@ -1,9 +1,10 @@
 -- Each drop has its cause, and ample lanes drop nothing.
 use Rattle.std.proofs.Common.{ℕ, ◌+◌, ◌-◌, ◌≤◌, ◌<◌, ◌≡◌, ◌≢◌, Bool, false, List, [], ◌∷◌, ◌++◌, Option, Some, None, length, refl, ◌∙◌, sym, subst, arith, inl, inr, get_or, map}
+use Rattle.std.specs.Option.{option_map}
 use Rattle.std.specs.Prelude.{slice_index}
 use Rattle.std.proofs.lemmas.Bool.{cases_eq, ne_eqb}
 use Rattle.std.proofs.Math.ListN.{length-replicate}
-use Rattle.steer_base.specs.Drops.{bucket_of, drop_cause, over_flow_limit, lane_drop_cause}
+use Rattle.steer_base.specs.Drops.{bucket_count, bucket_of, drop_cause, flow_cause, lane_drop_cause}
 use Rattle.steer_base.specs.Lanes.{LaneLists}
 use Rattle.steer_base.specs.Sets.{has}
 use Rattle.steer_base.specs.declared.put.DropCause.{DropCause}
@@ -29,7 +30,7 @@ use Rattle.hop_core.proofs.AllSteps.{Sound-happens}
 
 -- ---- the lane that is put to, and the others
 
-lane-landed : (f : Fixed) (b : Bare) (cause : Option DropCause) (c x : ℕ) (bucket : Option ℕ) → c < length b.accepted
+pub lane-landed : (f : Fixed) (b : Bare) (cause : Option DropCause) (c x : ℕ) (bucket : Option ℕ) → c < length b.accepted
     → length b.offers ≡ length b.accepted → length b.drops ≡ length b.accepted
     → lane_of f (landed cause b c x bucket) c ≡ put_by cause (lane_of f b c) x bucket
 lane-landed f b None c x bucket in' offers drops =
@@ -42,7 +43,7 @@ lane-landed f b (Some cause) c x bucket in' offers drops =
     let o = (Changed-set b.offers c (offers_at b c ++ bucket ∷ []) [] (omega arith)).here in
     rw (d, o) refl
 
-lane-other : (f : Fixed) (b : Bare) (cause : Option DropCause) (c x : ℕ) (bucket : Option ℕ) → c < length b.accepted
+pub lane-other : (f : Fixed) (b : Bare) (cause : Option DropCause) (c x : ℕ) (bucket : Option ℕ) → c < length b.accepted
     → length b.offers ≡ length b.accepted → length b.drops ≡ length b.accepted
     → (d : ℕ) → d ≢ c → lane_of f (landed cause b c x bucket) d ≡ lane_of f b d
 lane-other f b None c x bucket in' offers drops d ne =
@@ -155,14 +156,14 @@ room-put s p h more c =
     (λ i j x y e. (h.places.once c c i j x y e).1) (λ i j x y e. (h.places.fell_once c c i j x y e).1)
     (λ i j x y. h.places.never_both c c i j x y)
 
-no_flow_cause : (limit waiting : ℕ) (count : Option ℕ) → over_flow_limit false limit waiting count ≡ None
+no_flow_cause : (limit waiting : ℕ) (count : Option ℕ) → flow_cause false limit waiting count ≡ None
 no_flow_cause limit waiting None = refl
-no_flow_cause limit waiting (Some count) = refl
+no_flow_cause limit waiting (Some n) = refl
 
 no_cause : (limited : Bool) (limit waiting : ℕ) (offers : List (Option ℕ)) (hash : Option ℕ) → limited ≡ false → waiting < limit
     → drop_cause limited limit waiting offers hash ≡ None
 no_cause limited limit waiting offers hash off less =
-    rw (ne_eqb waiting limit (λ e. omega arith), off) (no_flow_cause limit waiting _)
+    rw (ne_eqb waiting limit (λ e. omega arith), off) (no_flow_cause limit waiting (option_map (bucket_count offers) (bucket_of hash)))
 
 ample-landed : (s : HopState) (p : ℕ) (cause : Option DropCause) (bucket : Option ℕ) → cause ≡ None → Ample s → (c : ℕ) → drops_at (put_as s p cause bucket).bare c ≡ []
 ample-landed s p None bucket is a = a.none

@@ -2,12 +2,12 @@ pub mod AllSteps
 pub mod Alone
 pub mod Apart
 pub mod Asked
+pub mod BareEvents
 pub mod Cases
 pub mod Choices
 pub mod Drops
 pub mod Empties
 pub mod EndToEnd
-pub mod Entries
 pub mod Fits
 pub mod Flows
 pub mod Gate
@@ -27,6 +27,8 @@ pub mod PutSteps
 pub mod Puts
 pub mod Rooms
 pub mod Rounds
+pub mod Settled
+pub mod SettledParts
 pub mod Sizes
 pub mod Sound
 pub mod Standing

@@ -11,11 +11,10 @@ use Rattle.steer_base.specs.declared.put.DropCause.{DropCause}
 use Rattle.steer_base.specs.declared.put.LaneDrop.{LaneDrop}
 use Rattle.hop_core.specs.declared.event.HopEvent.{HopEvent}
 use Rattle.hop_core.specs.declared.event.HopEvent.TheVariants as event
-use Rattle.hop_core.specs.declared.shape.HopShape.{HopShape}
 use Rattle.hop_core.specs.Events.{AllMayAsk, MayAsk, happens, run}
 use Rattle.hop_core.specs.Hop.{HopState, accepted_at, choices_of, chosen_at, choice_of, deliver_at, delivered_at, drops_at, fell_at, in_hand, lane_of, next_of, next_out, nobody, out_at, placed_of, pulled_at}
-use Rattle.hop_core.specs.NothingLost.{EachLosesNothing, EachPutIsOnce, IsLeftOnce, IsOnceIn, IsOut, LosesNothing, NewLosesNothing, NothingLost, WasLeft}
-use Rattle.hop_core.specs.Shape.{IsShape, new_hop}
+use Rattle.hop_core.specs.NothingLost.{EachLosesNothing, EachPutIsOnce, IsLeftOnce, IsOnceIn, IsOut, LosesNothing, FreshLosesNothing, NothingLost, WasLeft}
+use Rattle.hop_core.specs.Shape.{classes_for, fixed_of, fresh_hop, new_hop}
 use Rattle.hop_core.specs.Sound.{Sound}
 use Rattle.hop_core.proofs.AllSteps.{Sound-happens}
 use Rattle.hop_core.proofs.Asked.{asked_deliver, asked_weigh}
@@ -178,11 +177,12 @@ lost-enabled s event.Reopen m h g = record { put = g.put; delivered = g.delivere
 pub each_loses_nothing : EachLosesNothing
 each_loses_nothing s e m h g = by_cases NothingLost s e g (lost-enabled s e m h g)
 
-pub new_loses_nothing : NewLosesNothing
-new_loses_nothing shape =
+pub fresh_loses_nothing : FreshLosesNothing
+fresh_loses_nothing fixed counts guests lanes outs =
+    let s : HopState = fresh_hop fixed counts guests lanes outs in
     record {
-      put = λ p i lt. absurd (let z : placed_of (new_hop shape) p ≡ 0 = at_new {X = ℕ} shape.producers p 0 in omega arith);
-      delivered = λ c i lt. absurd (let z : delivered_at (new_hop shape).bare c ≡ 0 = at_new {X = ℕ} shape.lanes c 0 in omega arith);
+      put = λ p i lt. absurd (let z : placed_of s p ≡ 0 = at_new {X = ℕ} (length counts) p 0 in omega arith);
+      delivered = λ c i lt. absurd (let z : delivered_at s.bare c ≡ 0 = at_new {X = ℕ} lanes c 0 in omega arith);
     }
 
 lost-run : (es : List HopEvent) (s : HopState) → AllMayAsk es s → Sound s → NothingLost s → NothingLost (run es s)
@@ -190,7 +190,8 @@ lost-run [] s m h g = g
 lost-run (e ∷ es) s m h g = lost-run es (happens s e).0 m.1 (Sound-happens s e m.0 h) (each_loses_nothing s e m.0 h g)
 
 pub loses_nothing : LosesNothing
-loses_nothing shape es is m = lost-run es (new_hop shape) m (Sound-new shape is) (new_loses_nothing shape)
+loses_nothing shape es is m = lost-run es (new_hop shape) m (Sound-new shape is) 
+    (fresh_loses_nothing (fixed_of shape) (map (classes_for shape.exact) shape.counts.items) shape.guests shape.lanes shape.outs)
 
 -- ---- exactly one place
 

@@ -16,7 +16,8 @@ use Rattle.hop_core.specs.Sound.{Puts, Sound}
 use Rattle.hop_core.proofs.Lists.{Changed, Changed-set, place_in-none, chosen-push_front, chosen-push_last, length-push}
 use Rattle.hop_core.proofs.Rooms.{room_all}
 use Rattle.hop_core.proofs.Sound.{in_hand_not_put, Hands-arrive, Hands-take, Hands-weigh, Distinct-arrive}
-use Rattle.hop_core.proofs.Standing.{by_entry-lane, current_lane-in}
+use Rattle.hop_core.proofs.Standing.{current_lane-in}
+use Rattle.steer_base.proofs.RuleLemmas.{by_entry-lane}
 use Rattle.hop_core.proofs.Puts.{Puts-weigh}
 use Rattle.hop_core.proofs.Stands.{Stands-weigh, Past-weigh}
 

@@ -1,7 +1,7 @@
 use Rattle.std.proofs.Common.{ℕ, ◌+◌, ◌≤◌, ◌<◌, ◌≡◌, ◌≢◌, ◌⊎◌, List, [], ◌∷◌, ◌++◌, length, refl, ap, ◌∙◌, sym, arith, inl, inr, get_or}
 use Rattle.std.proofs.lemmas.Bool.{cases_eq}
 use Rattle.steer_base.specs.Entries.{position}
-use Rattle.hop_core.proofs.Entries.{place_in-other}
+use Rattle.steer_base.proofs.EntriesLemmas.{place_in-other}
 use Rattle.steer_base.specs.declared.choice.Chosen.{Chosen}
 use Rattle.hop_core.specs.Hop.{nobody, chosen_at}
 use Rattle.hop_core.specs.Sound.{Hands, Distinct, Counts, WasPut}

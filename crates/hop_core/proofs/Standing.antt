@@ -8,7 +8,7 @@ use Rattle.steer_base.specs.Choices.{by_entry}
 use Rattle.steer_base.specs.Counters.{has_reached, number}
 use Rattle.steer_base.specs.Entries.{last_or, position, current_lane, recorded_count}
 use Rattle.steer_base.proofs.CountersLemmas.{has_reached-counts}
-use Rattle.hop_core.proofs.Entries.{place_in-le, place_in-new, current_lane-push, recorded_count-push, recorded_count-accept, recorded_count-same, recorded_count-le}
+use Rattle.steer_base.proofs.EntriesLemmas.{place_in-le, place_in-new, current_lane-push, recorded_count-push, recorded_count-accept, recorded_count-same, recorded_count-le}
 use Rattle.steer_base.specs.declared.choice.Choice.{Choice}
 use Rattle.steer_base.specs.declared.choice.Chosen.{Chosen}
 use Rattle.hop_core.specs.Standing.{StandsAt, Standing}
@@ -51,18 +51,6 @@ by_entry-cases k want desired tail head online (Some c) t e =
           | inr p ↦ rw (e, s, o, p) (inl (refl, refl))
         ]
         | inr o ↦ rw (e, s, o) (inr (refl, record { may = λ d h. let f : c ≡ d = cc in rw (← f) (inl o) }))
-      ]
-    ]
-
-pub by_entry-class : (k : ℕ) (want : Option ℕ) (desired tail : ℕ) (head : ℕ → ℕ) (online : ℕ → Bool) (current : Option ℕ)
-    → (by_entry k want desired tail head online current).class ≡ Some k
-by_entry-class k want desired tail head online None = refl
-by_entry-class k want desired tail head online (Some c) =
-    elim (cases_Bool (c == desired)) [
-      | inl s ↦ rw s refl
-      | inr s ↦ elim (cases_Bool (online c)) [
-        | inl o ↦ elim (cases_Bool (has_reached (head c) tail 0)) [ inl p ↦ rw (s, o, p) refl | inr p ↦ rw (s, o, p) refl ]
-        | inr o ↦ rw (s, o) refl
       ]
     ]
 
@@ -114,19 +102,6 @@ Standing-accept old new retired cs c same absent added h =
     let same_length : length (old c.choice.lane) ≡ length (old (get_or cs i d).choice.lane) = ap (λ x. length (old x)) l in
     (lane, omega arith))
     (λ n at r. let f : Some n ≡ Some (length (old c.choice.lane) + 1) = sym at ∙ here in let g : n ≡ length (old c.choice.lane) + 1 = cc in (refl, omega arith)))
-
--- the lane of a choice is the desired one or the current one
-pub by_entry-lane : (k : ℕ) (want : Option ℕ) (desired tail : ℕ) (head : ℕ → ℕ) (online : ℕ → Bool) (current : Option ℕ)
-    → ((by_entry k want desired tail head online current).lane ≡ desired) ⊎ (current ≡ Some (by_entry k want desired tail head online current).lane)
-by_entry-lane k want desired tail head online None = inl refl
-by_entry-lane k want desired tail head online (Some c) =
-    elim (cases_Bool (c == desired)) [
-      | inl s ↦ rw s (inr refl)
-      | inr s ↦ elim (cases_Bool (online c)) [
-        | inl o ↦ elim (cases_Bool (has_reached (head c) tail 0)) [ inl p ↦ rw (s, o, p) (inl refl) | inr p ↦ rw (s, o, p) (inr refl) ]
-        | inr o ↦ rw (s, o) (inl refl)
-      ]
-    ]
 
 last_in : (P : ℕ → Type 0) (d : Option ℕ) (cs : List Chosen) → ((m : ℕ) → d ≡ Some m → P m) → All (λ c. P c.choice.lane) cs
     → (l : ℕ) → last_or d (map (λ c. Some c.choice.lane) cs) ≡ Some l → P l

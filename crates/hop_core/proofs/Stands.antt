@@ -8,20 +8,15 @@ use Rattle.std.proofs.lemmas.Bool.{cases_eq, cases_Bool, eqb-true}
 use Rattle.steer_base.specs.Choices.{migrate}
 use Rattle.steer_base.specs.Counters.{number}
 use Rattle.steer_base.specs.Entries.{position, of_class, is_class, entry}
-use Rattle.hop_core.proofs.Entries.{place_in-le}
+use Rattle.steer_base.proofs.EntriesLemmas.{of_class-no, of_class-yes, place_in-le}
 use Rattle.steer_base.specs.declared.choice.Chosen.{Chosen}
 use Rattle.hop_core.specs.Hop.{nobody, chosen_at}
 use Rattle.hop_core.specs.Standing.{Standing}
 use Rattle.hop_core.specs.Sound.{Stands, Past}
 use Rattle.hop_core.proofs.Lists.{Changed, chosen-push_front}
 use Rattle.hop_core.proofs.Gathered.{Added}
-use Rattle.hop_core.proofs.Standing.{Standing-same, Standing-accept, Standing-weigh, Standing-retire, by_entry-class}
-
-pub of_class-yes : (k : ℕ) (cs : List Chosen) (c : Chosen) → is_class k c.choice.class ≡ true → of_class k (cs ++ c ∷ []) ≡ of_class k cs ++ c ∷ []
-of_class-yes k cs c h = rw (filter-append (λ c. is_class k c.choice.class) cs (c ∷ []), h) refl
-
-pub of_class-no : (k : ℕ) (cs : List Chosen) (c : Chosen) → is_class k c.choice.class ≡ false → of_class k (cs ++ c ∷ []) ≡ of_class k cs
-of_class-no k cs c h = rw (filter-append (λ c. is_class k c.choice.class) cs (c ∷ []), h) (append-nil (of_class k cs))
+use Rattle.hop_core.proofs.Standing.{Standing-same, Standing-accept, Standing-weigh, Standing-retire}
+use Rattle.steer_base.proofs.RuleLemmas.{by_entry-class}
 
 pub Stands-retire : (accepted : ℕ → List ℕ) (retired later : ℕ → ℕ) (choices : ℕ → List Chosen) (since : ℕ → ℕ) → ((d : ℕ) → retired d ≤ later d)
     → Stands accepted retired choices since → Stands accepted later choices since

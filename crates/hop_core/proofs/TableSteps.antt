@@ -24,13 +24,15 @@ use Rattle.hop_core.specs.Hop.{HopState, accepted_at, choice_of, choices_of, cho
 use Rattle.hop_core.specs.Sound.{Sound}
 use Rattle.hop_core.specs.Whole.{Tabled}
 use Rattle.hop_core.proofs.Choices.{put_positions}
-use Rattle.hop_core.proofs.Entries.{current_lane-push, place_in-new, recorded_count-accept, recorded_count-push, recorded_count-same}
+use Rattle.steer_base.proofs.EntriesLemmas.{current_lane-push, place_in-new, recorded_count-accept, recorded_count-push, recorded_count-same}
 use Rattle.hop_core.proofs.Gathered.{Added}
 use Rattle.hop_core.proofs.Lists.{Changed, Changed-set, chosen-push_front, chosen-push_last, front_and_last, length-push, place_in-none}
 use Rattle.hop_core.proofs.ProducerSteps.{in_hand_absent, new_absent}
 use Rattle.hop_core.proofs.PutSteps.{put_as}
-use Rattle.hop_core.proofs.Standing.{by_entry-class, current_lane-in}
-use Rattle.hop_core.proofs.Stands.{of_class-no, of_class-yes, positions}
+use Rattle.hop_core.proofs.Standing.{current_lane-in}
+use Rattle.steer_base.proofs.RuleLemmas.{by_entry-class}
+use Rattle.hop_core.proofs.Stands.{positions}
+use Rattle.steer_base.proofs.EntriesLemmas.{of_class-no, of_class-yes}
 
 abbrev pub entry_with : Option ℕ → ℕ → Entry
 entry_with lane tail = record { lane = lane; tail = tail }

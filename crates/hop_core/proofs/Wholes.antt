@@ -1,21 +1,23 @@
 -- The parts of a hop stay whole in each event.
 use Rattle.std.proofs.Common.{ap, ℕ, ◌+◌, ◌≤◌, ◌<◌, ◌≡◌, ◌≢◌, Bool, true, false, cond, List, [], ◌∷◌, ◌++◌, Option, Some, None, length, refl, ◌∙◌, sym, subst, arith, inl, inr, get_or, set, replicate, map, zero, suc}
-use Rattle.std.specs.Prelude.{nat_lt, slice_index, slice_index_or, slice_set}
+use Rattle.std.specs.Prelude.{◌^◌, nat_lt, slice_index, slice_index_or, slice_set, unwrap_or}
 use Rattle.std.proofs.Math.ListN.{length-replicate, length-set}
 use Rattle.std.proofs.lemmas.Bool.{cases_Bool, lt-ltb, ltb-true}
 use Rattle.std.proofs.lemmas.List.{get_or_default, length-map, set-get_or}
-use Rattle.backlog.specs.Puts.{after_take, answer_by, put_by, put_count}
+use Rattle.backlog.specs.Puts.{after_put, after_take, answer_by, put_answer, put_by, put_count}
 use Rattle.dev_flow_table.specs.Tables.{unset, weighed}
 use Rattle.steer_base.specs.Drops.{bucket_of, lane_drop_cause}
 use Rattle.steer_base.specs.Sets.{has}
 use Rattle.steer_base.specs.declared.choice.Chosen.{Chosen}
 use Rattle.steer_base.specs.declared.cpu_mask.CpuMask.{CpuMask}
 use Rattle.steer_base.specs.declared.put.DropCause.{DropCause}
+use Rattle.steer_base.specs.declared.put.Put.{Put}
 use Rattle.hop_core.specs.Events.{IsClassBelow, IsEmptied, happens, put}
 use Rattle.hop_core.specs.FlowTables.{FlowTables, new_tables, noted, table_at, with_rows}
 use Rattle.hop_core.specs.Hop.{HopState, arrivals_of, choice_of, choices_of, delivered_at, in_hand, inside_of, next_of, next_out, nobody, placed_of, pulled_at, retired_at, taken_of}
-use Rattle.hop_core.specs.Journals.{Journals, list_at, new_journals, pushed}
+use Rattle.steer_base.specs.Journals.{Journals, list_at, new_journals, pushed}
 use Rattle.hop_core.specs.LaneTable.{LaneTable, lane_at, new_lanes, with_lane}
+use Rattle.hop_core.specs.Reads.{to_put}
 use Rattle.hop_core.specs.Shape.{IsShape, classes_for, new_hop}
 use Rattle.hop_core.specs.Sizes.{SameSizes}
 use Rattle.hop_core.specs.Sound.{Sound}
@@ -24,7 +26,7 @@ use Rattle.hop_core.specs.Whole.{IsWhole, Tabled}
 use Rattle.hop_core.specs.declared.event.HopEvent.{HopEvent}
 use Rattle.hop_core.specs.declared.shape.HopShape.{HopShape}
 use Rattle.hop_core.proofs.Drops.{room-put}
-use Rattle.hop_core.proofs.Fits.{room-arrive, room-deliver, room-weigh}
+use Rattle.hop_core.proofs.Fits.{fits_room, room-arrive, room-deliver, room-weigh}
 use Rattle.hop_core.proofs.LaneSteps.{Sound-deliver, Sound-pull, Sound-retire}
 use Rattle.hop_core.proofs.GateSteps.{Sound-resize}
 use Rattle.hop_core.proofs.New.{Sound-new, at_new}
@@ -110,22 +112,27 @@ whole-weigh h p class want desired online named lane ok empty inside more w =
 pub fits-put : (h : HopParts) (p c : ℕ) → placed_of (state_of h) p < length (choices_of (state_of h) p) → IsWhole h → put_count (lane_at h.lanes c) < h.lanes.room
 fits-put h p c more w = rw length-map at (room-put (state_of h) p w.sound more c)
 
--- what a put reads of a packet in hand
+-- what a put finds: a packet in hand, chosen and not put
 pub record Finds (h : HopParts) (p n : ℕ) (x : Chosen) : Type 0 where
   pub placed : n ≡ placed_of (state_of h) p
   pub more : placed_of (state_of h) p < length (choices_of (state_of h) p)
   pub chosen : x ≡ in_hand (state_of h) p
+  pub fits : n + 1 < 2 ^ 32
 
-pub put_finds : (h : HopParts) (p n len : ℕ) (x : Chosen) → IsWhole h → p < length h.arrivals.lists → n ≡ get_or h.placed p n
-    → len ≡ length (list_at h.choices p) → n < len → x ≡ slice_index_or (list_at h.choices p) n x → Finds h p n x
-put_finds h p n len x w named at l lt found =
-    let placed : n ≡ placed_of (state_of h) p = read-placed h p n w named at in
-    let more : n < length (list_at h.choices p) = omega arith in
-    record {
-      placed = placed;
-      more = rw placed at more;
-      chosen = found ∙ get_or_default (list_at h.choices p) n x nobody more ∙ ap (λ k. slice_index_or (list_at h.choices p) k nobody) placed;
-    }
+to_put_cases : (b : Bool) (x y : Chosen) → Some x ≡ cond b (Some y) None → (b ≡ true) × (x ≡ y)
+to_put_cases true x y e = (refl, ap (λ o. unwrap_or o x) e)
+to_put_cases false x y e = absurd cc
+
+pub put_finds : (h : HopParts) (p n : ℕ) (x : Chosen) → IsWhole h → p < length h.arrivals.lists → n ≡ get_or h.placed p n
+    → Some x ≡ to_put (state_of h) p → Finds h p n x
+put_finds h p n x w named at is =
+    let s : HopState = state_of h in
+    let found = to_put_cases (nat_lt (placed_of s p) (length (choices_of s p))) x (in_hand s p) is in
+    let placed : n ≡ placed_of s p = read-placed h p n w named at in
+    let more : placed_of s p < length (choices_of s p) = ltb-true (placed_of s p) (length (choices_of s p)) found.0 in
+    let fits = (fits_room s w.sound).choices p in
+    let small = w.sound.small.room in
+    record { placed = placed; more = more; chosen = found.1; fits = omega arith }
 
 -- the parts after a put, whatever the cause of a drop
 abbrev pub put_parts : HopParts → ℕ → Option DropCause → Option ℕ → HopParts
@@ -145,7 +152,7 @@ state_of-put h p (Some cause) bucket =
     let c : ℕ = (in_hand (state_of h) p).choice.lane in
     rw (set-get_or h.lanes.accepted c [], set-get_or h.lanes.pulled c 0) refl
 
-pub state_of-put_enabled : (h : HopParts) (p : ℕ) (hash : Option ℕ) → inside_of (state_of h) p ≡ true
+state_of-put_enabled : (h : HopParts) (p : ℕ) (hash : Option ℕ) → inside_of (state_of h) p ≡ true
     → placed_of (state_of h) p < length (choices_of (state_of h) p)
     → state_of (put_parts h p (lane_drop_cause (lane_at h.lanes (in_hand (state_of h) p).choice.lane) hash) (bucket_of hash)) ≡ (put (state_of h) p hash).0
 state_of-put_enabled h p hash inside more =
@@ -158,7 +165,7 @@ put-lanes h p cause bucket =
     let c : Chosen = in_hand (state_of h) p in
     length-set h.lanes.accepted c.choice.lane (put_by cause (lane_at h.lanes c.choice.lane) c.id bucket).accepted
 
-pub whole-put : (h : HopParts) (p : ℕ) (hash : Option ℕ) → p < length h.arrivals.lists → inside_of (state_of h) p ≡ true
+whole-put : (h : HopParts) (p : ℕ) (hash : Option ℕ) → p < length h.arrivals.lists → inside_of (state_of h) p ≡ true
     → placed_of (state_of h) p < length (choices_of (state_of h) p) → IsWhole h
     → IsWhole (put_parts h p (lane_drop_cause (lane_at h.lanes (in_hand (state_of h) p).choice.lane) hash) (bucket_of hash))
 whole-put h p hash named inside more w =
@@ -176,6 +183,24 @@ whole-put h p hash named inside more w =
       choices_room = w.choices_room;
       outs_room = w.outs_room;
     }
+
+-- What a put leaves is whole, and stands for the state after the put.
+pub put_leaves : (h : HopParts) (p n : ℕ) (hash : Option ℕ) (inside : Bool) (x : Chosen) (lanes : LaneTable) (went : Put) (tables : FlowTables)
+    → IsWhole h → p < length h.arrivals.lists → inside ≡ get_or h.visits p inside → inside ≡ true → Finds h p n x
+    → lanes ≡ with_lane h.lanes x.choice.lane (after_put (lane_at h.lanes x.choice.lane) x.id hash)
+    → went ≡ put_answer (lane_at h.lanes x.choice.lane) hash
+    → tables ≡ with_rows h.tables p (noted (table_at h.tables p) x.choice.class went).rows
+    → IsWhole (record h { placed = slice_set h.placed p (n + 1); tables = tables; lanes = lanes })
+    × (state_of (record h { placed = slice_set h.placed p (n + 1); tables = tables; lanes = lanes }) ≡ (put (state_of h) p hash).0)
+put_leaves h p n hash inside x lanes went tables w named at here found put_lanes answer put_tables =
+    let s : HopState = state_of h in
+    let visit : inside_of s p ≡ true = sym (read-visit h p inside w named at) ∙ here in
+    let new : HopParts = put_parts h p (lane_drop_cause (lane_at h.lanes (in_hand s p).choice.lane) hash) (bucket_of hash) in
+    let is : record h { placed = slice_set h.placed p (n + 1); tables = tables; lanes = lanes } ≡ new =
+    rw (put_tables, put_lanes, answer, found.chosen, found.placed) refl in (
+      subst IsWhole (sym is) (whole-put h p hash named visit found.more w),
+      ap state_of is ∙ state_of-put_enabled h p hash visit found.more,
+    )
 
 -- ---- a pull, a delivery and a retirement
 
@@ -324,12 +349,12 @@ sizes-stay s t e is = rw is (Sizes-happens s e)
 -- parts that are made one by one
 pub are_new : (shape : HopShape) → (arrivals : Journals ℕ) (taken : List ℕ) (choices : Journals Chosen)
     (placed since : List ℕ) (visits : List Bool) (counts : List ℕ) (tables : FlowTables) (lanes : LaneTable)
-    (delivered retired : List ℕ) (outs : Journals ℕ)
+    (delivered retired : List ℕ) (outs : Journals ℕ) (inside : ℕ) (closed : Bool)
     → arrivals ≡ new_journals shape.producers shape.room → taken ≡ replicate shape.producers 0 → choices ≡ new_journals shape.producers shape.room
     → placed ≡ replicate shape.producers 0 → since ≡ replicate shape.producers 0 → visits ≡ replicate (shape.producers + shape.guests) false
     → counts ≡ map (classes_for shape.exact) shape.counts.items → tables ≡ new_tables shape.counts.items shape.start shape.exact
     → lanes ≡ new_lanes shape.lanes shape.limit shape.room shape.start shape.limited → delivered ≡ replicate shape.lanes 0
-    → retired ≡ replicate shape.lanes 0 → outs ≡ new_journals shape.outs shape.room
+    → retired ≡ replicate shape.lanes 0 → outs ≡ new_journals shape.outs shape.room → inside ≡ 0 → closed ≡ false
     → record {
       arrivals = arrivals;
       taken = taken;
@@ -343,11 +368,11 @@ pub are_new : (shape : HopShape) → (arrivals : Journals ℕ) (taken : List ℕ
       delivered = delivered;
       retired = retired;
       outs = outs;
-      inside = 0;
-      closed = false;
+      inside = inside;
+      closed = closed;
     } ≡ new_parts shape
-are_new shape arrivals taken choices placed since visits counts tables lanes delivered retired outs a b c d e f g h i j k l =
-    rw (a, b, c, d, e, f, g, h, i, j, k, l) refl
+are_new shape arrivals taken choices placed since visits counts tables lanes delivered retired outs inside closed a b c d e f g h i j k l m n =
+    rw (a, b, c, d, e, f, g, h, i, j, k, l, m, n) refl
 
 pub whole-made : (shape : HopShape) → IsShape shape → (h : HopParts) → h ≡ new_parts shape → IsWhole h × (state_of h ≡ new_hop shape)
 whole-made shape is h new = (subst IsWhole (sym new) (whole-new shape is), ap state_of new ∙ state_of-new shape is)

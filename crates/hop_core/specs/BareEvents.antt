@@ -5,10 +5,9 @@ use Rattle.backlog.specs.Puts.{after_put, after_take}
 use Rattle.backlog.specs.Rising.{AreRising}
 use Rattle.hop_core.specs.declared.event.HopEvent.{HopEvent}
 use Rattle.hop_core.specs.declared.event.HopEvent.TheVariants as event
-use Rattle.hop_core.specs.declared.shape.HopShape.{HopShape}
 use Rattle.hop_core.specs.Events.{MayAsk, happens}
 use Rattle.hop_core.specs.Hop.{Bare, Fixed, HopState, accepted_at, deliver_at, delivered_at, in_hand, lane_of, pull_at, pulled_at, put_at, retire_at, retired_at, with_closed, with_inside}
-use Rattle.hop_core.specs.Shape.{new_hop}
+use Rattle.hop_core.specs.Shape.{fresh_hop}
 use Rattle.hop_core.specs.Sound.{Sound}
 
 -- An event of the gate or of a lane, or nothing.
@@ -101,9 +100,9 @@ SoundHasLanes = (s : HopState) → Sound s → HasLanes s.bare
 abbrev pub BareKeepsLanes : Type 0
 BareKeepsLanes = (f : Fixed) (b : Bare) (e : BareEvent) → HasLanes b → HasLanes (bare_after f b e)
 
--- The counts of drops rise in a new hop, and every event leaves them so.
-abbrev pub NewDropsRise : Type 0
-NewDropsRise = (shape : HopShape) → DropsRise (new_hop shape)
+-- The counts of drops rise in a hop in which nothing has happened, and every event leaves them so.
+abbrev pub FreshDropsRise : Type 0
+FreshDropsRise = (fixed : Fixed) (counts : List ℕ) (guests lanes outs : ℕ) → DropsRise (fresh_hop fixed counts guests lanes outs)
 
 abbrev pub EachKeepsDropsRising : Type 0
 EachKeepsDropsRising = (s : HopState) (e : HopEvent) → MayAsk s e → Sound s → DropsRise s → DropsRise (happens s e).0

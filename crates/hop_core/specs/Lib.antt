@@ -5,7 +5,6 @@ pub mod FlowTables
 pub mod Flows
 pub mod Gathered
 pub mod Hop
-pub mod Journals
 pub mod LaneTable
 pub mod Laws
 pub mod Leaves

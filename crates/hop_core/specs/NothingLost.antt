@@ -5,8 +5,8 @@ use Rattle.steer_base.specs.declared.choice.Chosen.{Chosen}
 use Rattle.hop_core.specs.declared.event.HopEvent.{HopEvent}
 use Rattle.hop_core.specs.declared.shape.HopShape.{HopShape}
 use Rattle.hop_core.specs.Events.{AllMayAsk, MayAsk, happens, run}
-use Rattle.hop_core.specs.Hop.{HopState, accepted_at, chosen_at, choices_of, delivered_at, fell_at, out_at, placed_of}
-use Rattle.hop_core.specs.Shape.{IsShape, new_hop}
+use Rattle.hop_core.specs.Hop.{Fixed, HopState, accepted_at, chosen_at, choices_of, delivered_at, fell_at, out_at, placed_of}
+use Rattle.hop_core.specs.Shape.{IsShape, fresh_hop, new_hop}
 use Rattle.hop_core.specs.Sound.{Sound}
 
 -- The packet of a choice was accepted or dropped by the lane of that choice.
@@ -38,12 +38,15 @@ IsLeftOnce s c =
 
 -- ---- laws
 
-abbrev pub NewLosesNothing : Type 0
-NewLosesNothing = (shape : HopShape) → NothingLost (new_hop shape)
+-- Nothing is lost in a hop in which nothing has happened, and after every event.
+abbrev pub FreshLosesNothing : Type 0
+FreshLosesNothing =
+    (fixed : Fixed) (counts : List ℕ) (guests lanes outs : ℕ) → NothingLost (fresh_hop fixed counts guests lanes outs)
 
 abbrev pub EachLosesNothing : Type 0
 EachLosesNothing = (s : HopState) (e : HopEvent) → MayAsk s e → Sound s → NothingLost s → NothingLost (happens s e).0
 
+-- The same of every list of events from a new hop on.
 abbrev pub LosesNothing : Type 0
 LosesNothing =
     (shape : HopShape) (es : List HopEvent) → IsShape shape → AllMayAsk es (new_hop shape) → NothingLost (run es (new_hop shape))

@@ -5,11 +5,10 @@ use Rattle.steer_base.specs.Entries.{position}
 use Rattle.steer_base.specs.declared.choice.Chosen.{Chosen}
 use Rattle.hop_core.specs.declared.event.HopEvent.{HopEvent}
 use Rattle.hop_core.specs.declared.event.HopEvent.TheVariants as event
-use Rattle.hop_core.specs.declared.shape.HopShape.{HopShape}
 use Rattle.hop_core.specs.Events.{MayAsk, happens}
 use Rattle.hop_core.specs.Flows.{FlowAllowed}
-use Rattle.hop_core.specs.Hop.{HopState, accepted_at, choices_of, chosen_at, next_of, placed_of, retired_at, since_of}
-use Rattle.hop_core.specs.Shape.{new_hop}
+use Rattle.hop_core.specs.Hop.{Fixed, HopState, accepted_at, choices_of, chosen_at, next_of, placed_of, retired_at, since_of}
+use Rattle.hop_core.specs.Shape.{fresh_hop}
 use Rattle.hop_core.specs.Sound.{Sound}
 
 -- Where the packet of a choice is accepted and not retired, it stands where its producer sends such packets now.
@@ -51,9 +50,11 @@ pub record MayReset (s : HopState) (class_of now_class_of : ℕ → ℕ → Opti
 
 -- ---- laws
 
--- A new hop is settled by any settings.
-abbrev pub NewIsSettled : Type 0
-NewIsSettled = (class_of : ℕ → ℕ → Option ℕ) (plain : ℕ → ℕ → ℕ) (shape : HopShape) → SettledIn class_of plain (new_hop shape)
+-- A hop in which nothing has happened is settled by any settings.
+abbrev pub FreshIsSettled : Type 0
+FreshIsSettled =
+    (class_of : ℕ → ℕ → Option ℕ) (plain : ℕ → ℕ → ℕ) (fixed : Fixed) (counts : List ℕ) (guests lanes outs : ℕ)
+    → SettledIn class_of plain (fresh_hop fixed counts guests lanes outs)
 
 -- Every event keeps a hop settled where a weigh is by the settings, a resize included.
 abbrev pub EachKeepsSettled : Type 0

@@ -3,8 +3,11 @@ use Rattle.std.specs.Prelude.{ℕ, Bool, List}
 use Rattle.steer_base.specs.declared.choice.Chosen.{Chosen}
 use Rattle.hop_core.specs.FlowTables.{FlowTables}
 use Rattle.hop_core.specs.Hop.{HopState}
-use Rattle.hop_core.specs.Journals.{Journals}
+use Rattle.steer_base.specs.Journals.{Journals}
 use Rattle.hop_core.specs.LaneTable.{LaneTable}
+use Rattle.hop_core.specs.declared.hop.Gate.{Gate}
+use Rattle.hop_core.specs.declared.hop.Hands.{Hands}
+use Rattle.hop_core.specs.declared.hop.Rings.{Rings}
 
 pub record HopParts : Type 0 where
   pub arrivals : Journals ℕ
@@ -21,6 +24,25 @@ pub record HopParts : Type 0 where
   pub outs : Journals ℕ
   pub inside : ℕ
   pub closed : Bool
+
+abbrev pub parts_of : Rings → List ℕ → FlowTables → LaneTable → Hands → Journals ℕ → Gate → HopParts
+parts_of rings counts tables lanes hands outs gate =
+    record {
+      arrivals = rings.arrivals;
+      taken = rings.taken.items;
+      choices = rings.choices;
+      placed = rings.placed.items;
+      since = rings.since.items;
+      visits = gate.visits.items;
+      counts = counts;
+      tables = tables;
+      lanes = lanes;
+      delivered = hands.delivered.items;
+      retired = hands.retired.items;
+      outs = outs;
+      inside = gate.inside;
+      closed = gate.closed;
+    }
 
 abbrev pub state_of : HopParts → HopState
 state_of h =

@@ -2,7 +2,7 @@
 ghost use Rattle.std.specs.Prelude.{◌≡◌, ℕ, ◌+◌, ◌<◌, ◌≤◌, false, length, IfOk, map, replicate};
 ghost use Rattle.std.specs.List.{All};
 ghost use Rattle.hop_core.specs.Events.{MayAsk, happens};
-ghost use Rattle.hop_core.specs.Journals.{new_journals};
+ghost use Rattle.steer_base.specs.Journals.{new_journals};
 ghost use Rattle.hop_core.specs.Reads.{FitsRoom};
 ghost use Rattle.hop_core.specs.Shape.{classes_for, most_classes, new_hop};
 ghost use Rattle.hop_core.specs.Sizes.{SameSizes};
@@ -13,44 +13,36 @@ mod readers;
 #[cfg(test)]
 mod tests;
 
-use crate::journals::Journals;
 use crate::lanes::Lanes;
 use crate::tables::Tables;
 use crate::{HopAnswer, HopEvent, HopShape};
 use std::alloc::Global;
 use std::marker::Model;
-use steer_base::{Chosen, OutOfMemory, PacketId, round_up};
+use steer_base::{Chosen, Journals, OutOfMemory, PacketId, round_up};
 
 /// One steered hop: in the receive direction from the queues over the processors' backlogs to the applications'
 /// inboxes, in the transmit direction from the applications over the transmit queues to the port.
 #[derive(Drop)]
 pub struct Hop {
-    arrivals: Journals<PacketId>,
-    taken: Vec<u32>,
-    choices: Journals<Chosen>,
-    placed: Vec<u32>,
-    since: Vec<u32>,
-    visits: Vec<bool>,
+    rings: Rings,
     counts: Vec<u32>,
     tables: Tables,
     lanes: Lanes,
-    delivered: Vec<u32>,
-    retired: Vec<u32>,
+    hands: Hands,
     outs: Journals<PacketId>,
-    inside: u32,
-    closed: bool,
+    gate: Gate,
 }
 
 impl Model for Hop {
     ghost use Rattle.hop_core.specs.Hop.{HopState};
-    ghost use Rattle.hop_core.specs.View.{state_of};
+    ghost use Rattle.hop_core.specs.View.{parts_of, state_of};
     ghost use Rattle.hop_core.specs.Whole.{IsWhole};
 
     ghost Value = { HopState };
 
-    ghost view = { λ h. state_of (record { arrivals = h.arrivals; taken = h.taken.items; choices = h.choices; placed = h.placed.items; since = h.since.items; visits = h.visits.items; counts = h.counts.items; tables = h.tables; lanes = h.lanes; delivered = h.delivered.items; retired = h.retired.items; outs = h.outs; inside = h.inside; closed = h.closed }) };
+    ghost view = { λ h. state_of (parts_of h.rings h.counts.items h.tables h.lanes h.hands h.outs h.gate) };
 
-    ghost invariant = { λ h. IsWhole (record { arrivals = h.arrivals; taken = h.taken.items; choices = h.choices; placed = h.placed.items; since = h.since.items; visits = h.visits.items; counts = h.counts.items; tables = h.tables; lanes = h.lanes; delivered = h.delivered.items; retired = h.retired.items; outs = h.outs; inside = h.inside; closed = h.closed }) };
+    ghost invariant = { λ h. IsWhole (parts_of h.rings h.counts.items h.tables h.lanes h.hands h.outs h.gate) };
 }
 
 impl Hop {
@@ -84,26 +76,18 @@ impl Hop {
         let tables = Tables::make(alloc, &counts, start, exact)?;
         let counts = class_counts(alloc, &counts, exact)?;
         let rings = Rings::make(alloc, producers, room)?;
-        let visits = all_outside(alloc, producers + guests)?;
         let lanes = Lanes::make(alloc, lane_count, limit, room, start, limited)?;
-        let delivered = zeros(alloc, lane_count)?;
-        let retired = zeros(alloc, lane_count)?;
+        let hands = Hands::make(alloc, lane_count)?;
         let outs = Journals::make(alloc, out_count, room)?;
+        let gate = Gate::make(alloc, producers + guests)?;
         Ok(Hop {
-            arrivals: rings.arrivals,
-            taken: rings.taken,
-            choices: rings.choices,
-            placed: rings.placed,
-            since: rings.since,
-            visits,
+            rings,
             counts,
             tables,
             lanes,
-            delivered,
-            retired,
+            hands,
             outs,
-            inside: 0,
-            closed: false,
+            gate,
         })
     }
 
@@ -150,11 +134,13 @@ impl Hop {
         ensures sound { Sound self.now }
         ensures fits { FitsRoom self.now }
     {
-        let _ = &self.closed;
+        // A read of the hop, so that what holds of it is known here.
+        let _ = &self.gate.closed;
     }
 }
 
-// What is kept of each producer: its ring and how far it is in it, its choices and how far these are put and cleared.
+// What is kept of each producer: its ring and how far it is in it, its choices and how far these are put, and cleared by
+// the last resize.
 #[derive(Drop)]
 struct Rings {
     arrivals: Journals<PacketId>,
@@ -183,18 +169,52 @@ impl Rings {
     }
 }
 
+// Of each lane, how many packets were delivered and retired.
+#[derive(Drop)]
+struct Hands {
+    delivered: Vec<u32>,
+    retired: Vec<u32>,
+}
+
+impl Hands {
+    fn make(alloc: Global, lanes: u8) -> Result<Hands, OutOfMemory>
+        ensures delivered { IfOk result (λ hands. hands.delivered.items ≡ replicate lanes 0) }
+        ensures retired { IfOk result (λ hands. hands.retired.items ≡ replicate lanes 0) }
+    {
+        Ok(Hands {
+            delivered: zeros(alloc, lanes)?,
+            retired: zeros(alloc, lanes)?,
+        })
+    }
+}
+
+// Who is inside: each producer and then each guest, their number, and whether the gate is closed.
+#[derive(Drop)]
+struct Gate {
+    visits: Vec<bool>,
+    inside: u32,
+    closed: bool,
+}
+
+impl Gate {
+    fn make(alloc: Global, actors: u8) -> Result<Gate, OutOfMemory>
+        ensures visits { IfOk result (λ gate. gate.visits.items ≡ replicate actors false) }
+        ensures inside { IfOk result (λ gate. gate.inside ≡ 0) }
+        ensures closed { IfOk result (λ gate. gate.closed ≡ false) }
+    {
+        Ok(Gate {
+            visits: Vec::from_elem(alloc, false, actors as usize)?,
+            inside: 0,
+            closed: false,
+        })
+    }
+}
+
 // `count` zeros.
 fn zeros(alloc: Global, count: u8) -> Result<Vec<u32>, OutOfMemory>
     ensures { IfOk result (λ zeros. zeros.items ≡ replicate count 0) }
 {
     Ok(Vec::from_elem(alloc, 0, count as usize)?)
-}
-
-// `count` actors, each outside the gate.
-fn all_outside(alloc: Global, count: u8) -> Result<Vec<bool>, OutOfMemory>
-    ensures { IfOk result (λ visits. visits.items ≡ replicate count false) }
-{
-    Ok(Vec::from_elem(alloc, false, count as usize)?)
 }
 
 // The numbers of classes: rounded up to powers of two, but where they are exact.

@@ -3,7 +3,6 @@
 
 mod event;
 mod hop;
-mod journals;
 mod lanes;
 mod laws;
 mod shape;
@@ -21,4 +20,7 @@ pub use laws::{
     work_goes_on_and_is_bounded,
 };
 pub use shape::HopShape;
-pub use state_laws::{each_event_leaves_the_rest, nothing_is_lost};
+pub use state_laws::{
+    counts_of_drops_never_fall, each_event_is_one_of_the_bare_part, each_event_leaves_the_rest,
+    nothing_is_lost, settled_hops_let_flows_pass,
+};

@@ -1,6 +1,5 @@
 //! The lanes that a command affects.
-ghost use Rattle.std.specs.Prelude.{ℕ, ◌≡◌, ◌<◌, ◌≤◌, ◌||◌, ◌==◌, length, nat_lt};
-ghost use Rattle.std.specs.List.{list_any};
+ghost use Rattle.std.specs.Prelude.{ℕ, ◌≡◌, ◌<◌, ◌≤◌, length};
 ghost use Rattle.steer_base.specs.Commands.{is_affected};
 ghost use Rattle.steer_base.specs.Sets.{has};
 
@@ -17,45 +16,11 @@ pub fn affected(command: &Command, homes: &[Cpu], cpus: u8, txs: u8) -> CpuMask
     ensures lanes { (lane : ℕ) → lane < 32 → has result lane ≡ is_affected command.now homes.now cpus txs lane }
 {
     match command {
-        Command::Mask(..) | Command::Flows(..) | Command::Sock(_) => first(cpus),
-        Command::Offline(cpu) => with(CpuMask(0), *cpu),
-        Command::Online(_) => set_of(homes),
-        Command::XCpus(..) | Command::XQueues(..) => first(txs),
+        Command::Mask(..) | Command::Flows(..) | Command::Sock(_) => CpuMask::first_n(cpus),
+        Command::Offline(cpu) => CpuMask(0).with(*cpu),
+        Command::Online(_) => CpuMask::from_cpus(homes),
+        Command::XCpus(..) | Command::XQueues(..) => CpuMask::first_n(txs),
         Command::Reta(..) | Command::Stand(..) | Command::Expire => CpuMask(0),
-    }
-}
-
-// The first so many lanes.
-fn first(count: u8) -> CpuMask
-    requires { count ≤ 32 }
-    ensures { (lane : ℕ) → lane < 32 → has result lane ≡ nat_lt lane count }
-{
-    let mut mask = CpuMask(0);
-    for lane in 0..count {
-        mask = with(mask, Cpu(lane));
-    }
-    mask
-}
-
-// The processors of a list as a set.
-fn set_of(cpus: &[Cpu]) -> CpuMask
-    ensures { (lane : ℕ) → lane < 32 → has result lane ≡ list_any (λ cpu. cpu == lane) cpus.now }
-{
-    let mut mask = CpuMask(0);
-    for cpu in cpus {
-        mask = with(mask, *cpu);
-    }
-    mask
-}
-
-// A set with one processor more; 32 and more are in none.
-fn with(mask: CpuMask, cpu: Cpu) -> CpuMask
-    ensures { (lane : ℕ) → lane < 32 → has result lane ≡ (has mask lane || cpu == lane) }
-{
-    if cpu.0 < 32 {
-        CpuMask(mask.0 | 1 << cpu.0)
-    } else {
-        mask
     }
 }
 

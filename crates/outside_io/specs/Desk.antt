@@ -1,5 +1,6 @@
 -- What the calls of a desk leave, where it tells its bytes.
-use Rattle.std.specs.Prelude.{◌<◌, ◌≤◌, ℕ, List, Bool, true, false, length, take, ⊤, Option, Some, None, IsSome}
+use Rattle.std.specs.Prelude.{◌<◌, ◌≤◌, ℕ, List, Bool, true, false, length, take, ⊤, Option, Some}
+use Rattle.std.specs.Prelude.{None, IsSome}
 use Rattle.std.specs.Io.KnownBytes.{Keeps, Consumes, IsAtEnd}
 use Rattle.outside_io.specs.declared.desk.Begin.{Begin}
 use Rattle.outside_io.specs.declared.desk.Begin.TheVariants as begin

@@ -1,5 +1,6 @@
 -- Files in memory: pairs of a name and its bytes, of which the first of a name counts.
-use Rattle.std.specs.Prelude.{ℕ, List, [], drop, Option, slice_get, position, bytes_eq, String, string_bytes, Vec, option_and_then}
+use Rattle.std.specs.Prelude.{ℕ, List, [], drop, Option, slice_get, position, bytes_eq, String}
+use Rattle.std.specs.Prelude.{string_bytes, Vec, option_and_then}
 use Rattle.std.specs.Option.{option_map, option_map_or}
 use Rattle.std.specs.declared.alloc.Global.{Global}
 use Rattle.outside_io.specs.declared.folder.Folder.{Folder}

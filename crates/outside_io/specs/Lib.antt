@@ -1,9 +1,12 @@
 pub mod Counts
 pub mod Desk
 pub mod Failures
+pub mod FileDesk
 pub mod Folder
 pub mod MemoryDesk
 pub mod MemorySink
 pub mod Sink
+pub mod StdSink
 pub mod SureDesk
+pub mod SureSink
 pub use Rattle.std.specs.Io.KnownBytes

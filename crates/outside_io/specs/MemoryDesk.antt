@@ -28,3 +28,11 @@ begin_fails desk name = next_fails (failures_of desk) || is_none (held_by desk n
 -- a `read` fails where its number is listed
 abbrev pub read_fails : MemoryDesk → Bool
 read_fails desk = next_fails (failures_of desk)
+
+-- how many reads were made
+abbrev pub reads_of : MemoryDesk → ℕ
+reads_of desk = desk.reads
+
+-- how many bytes they gave
+abbrev pub taken_of : MemoryDesk → ℕ
+taken_of desk = desk.taken

@@ -1,8 +1,9 @@
 //! The desk over the files of the system.
-ghost use Rattle.std.specs.Prelude.{◌≡◌, ◌<◌, ◌≤◌, None, IsSome, length};
+ghost use Rattle.std.specs.Prelude.{◌≡◌, ◌<◌, ◌≤◌, None, IsSome, length, option_and_then};
 ghost use Rattle.outside_io.specs.Counts.{Rose, counted, last_count, raised};
 ghost use Rattle.outside_io.specs.Desk.{Begins, GoesOnTelling, Reads, count_of};
 ghost use Rattle.outside_io.specs.Desk.{has_failed, is_failed, untold};
+ghost use Rattle.outside_io.specs.FileDesk.{faults_of, file_of};
 
 use crate::{Begin, Desk, Got};
 use std::fs;
@@ -21,8 +22,8 @@ pub struct FileDesk<R: Files + Drop> {
 impl<R: Files + Drop> FileDesk<R> {
     /// Nothing is begun, and no call has failed.
     pub fn make(rt: R) -> Self
-        ensures begun { result.file ≡ None }
-        ensures faults { result.faults ≡ 0 }
+        ensures begun { file_of result ≡ None }
+        ensures faults { faults_of result ≡ 0 }
     {
         FileDesk {
             rt,
@@ -41,7 +42,7 @@ impl<R: Files + Drop> Desk for FileDesk<R> {
 
     ghost reads = { λ _. last_count };
 
-    ghost faults = { λ desk. desk.faults };
+    ghost faults = { λ desk. faults_of desk };
 
     fn begin(&mut self, name: &str) -> Begin
         ensures held { untold ≡ untold }
@@ -49,12 +50,12 @@ impl<R: Files + Drop> Desk for FileDesk<R> {
         ensures told { GoesOnTelling None None }
         ensures taken { last_count ≡ last_count }
         ensures reads { last_count ≡ last_count }
-        ensures later { self.old.faults ≤ self.new.faults }
-        ensures failed { result ≡ Begin.Failed → Rose self.old.faults self.new.faults }
+        ensures later { faults_of self.old ≤ faults_of self.new }
+        ensures failed { result ≡ Begin.Failed → Rose (faults_of self.old) (faults_of self.new) }
 
-        ensures begun { result ≡ Begin.Ok → IsSome self.new.file }
-        ensures stopped { result ≡ Begin.Failed → self.new.file ≡ None }
-        ensures counted { self.new.faults ≡ counted (has_failed result) self.old.faults }
+        ensures begun { result ≡ Begin.Ok → IsSome (file_of self.new) }
+        ensures stopped { result ≡ Begin.Failed → file_of self.new ≡ None }
+        ensures counted { faults_of self.new ≡ counted (has_failed result) (faults_of self.old) }
     {
         self.file = None;
         let Ok(file) = fs::open(&self.rt, name) else {
@@ -71,11 +72,13 @@ impl<R: Files + Drop> Desk for FileDesk<R> {
         ensures left { Reads result buf.new None None }
         ensures taken { last_count ≡ raised (count_of result) last_count }
         ensures reads { last_count ≡ raised 1 last_count }
-        ensures later { self.old.faults ≤ self.new.faults }
-        ensures failed { result ≡ Got.Failed → Rose self.old.faults self.new.faults }
+        ensures later { faults_of self.old ≤ faults_of self.new }
+        ensures failed { result ≡ Got.Failed → Rose (faults_of self.old) (faults_of self.new) }
 
-        ensures nothing_begun { self.old.file ≡ None → result ≡ Got.End }
-        ensures counted { self.new.faults ≡ counted (is_failed result) self.old.faults }
+        ensures nothing_begun { file_of self.old ≡ None → result ≡ Got.End }
+        ensures passed { Reads result buf.new (option_and_then R.File.remaining (file_of self.old))
+            (option_and_then R.File.remaining (file_of self.new)) }
+        ensures counted { faults_of self.new ≡ counted (is_failed result) (faults_of self.old) }
     {
         let Some(file) = &mut self.file else {
             return Got::End;

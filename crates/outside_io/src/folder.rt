@@ -1,5 +1,6 @@
 //! Files in memory, of which one at a time is read from its front.
-ghost use Rattle.std.specs.Prelude.{◌≡◌, ◌<◌, ◌+◌, ◌^◌, ◌++◌, ℕ, List, Option, [], min, take, length, is_some, unwrap_or};
+ghost use Rattle.std.specs.Prelude.{◌≡◌, ◌<◌, ◌+◌, ◌^◌, ◌++◌, ℕ, List, Option, [], min, take};
+ghost use Rattle.std.specs.Prelude.{length, is_some, unwrap_or};
 ghost use Rattle.outside_io.specs.Folder.{bytes_from, bytes_of, place_of};
 
 /// Names with their bytes. The first of a name counts.

@@ -1,6 +1,6 @@
 //! A desk in memory, which fails at the calls that are listed.
 ghost use Rattle.std.specs.Prelude.{if◌then◌else◌, ◌≡◌, ◌<◌, ◌≤◌, ℕ, [], Some, List, length};
-ghost use Rattle.outside_io.specs.Counts.{Rose, last_count, raised};
+ghost use Rattle.outside_io.specs.Counts.{Rose, raised};
 ghost use Rattle.outside_io.specs.Desk.{Begins, GoesOnTelling, Reads, count_of, is_failed};
 ghost use Rattle.outside_io.specs.Failures.{Counts, IsFresh};
 ghost use Rattle.outside_io.specs.Folder.{bytes_of};
@@ -10,41 +10,63 @@ use crate::folder::Folder;
 use crate::{Begin, Desk, Got};
 
 /// Files in memory. The calls of `begin` and `read` are numbered together from 1, and those listed
-/// fail. So does a `begin` of a name that isn't held. After a failed `begin`, and before any, nothing
-/// is begun. It keeps no count of its bytes and reads.
+/// fail. So does a `begin` of a name that isn't held. After a failed `begin`, and before any,
+/// nothing is begun. It counts its reads, the failed ones too, and the bytes that they gave.
 #[derive(Drop)]
 pub struct MemoryDesk {
     folder: Folder,
     failures: Failures,
+    reads: u64,
+    taken: u64,
 }
 
 impl MemoryDesk {
-    ghost use Rattle.outside_io.specs.MemoryDesk.{failures_of, held_by, left_on};
+    ghost use Rattle.outside_io.specs.MemoryDesk.{failures_of, held_by, left_on, reads_of};
+    ghost use Rattle.outside_io.specs.MemoryDesk.{taken_of};
 
     /// A desk with these files, names with their bytes, of which the first of a name counts.
     pub fn make(files: Vec<(String, Vec<u8>)>, failing: Vec<u64>) -> Self
         ensures held { held_by result ≡ bytes_of files.items }
         ensures left { left_on result ≡ [] }
         ensures fresh { IsFresh (failures_of result) failing.items }
+        ensures reads { reads_of result ≡ 0 }
+        ensures taken { taken_of result ≡ 0 }
     {
         MemoryDesk {
             folder: Folder::make(files),
             failures: Failures::make(failing),
+            reads: 0,
+            taken: 0,
         }
+    }
+
+    /// How many reads were made, up to `u64::MAX`.
+    pub fn reads(&self) -> u64
+        ensures { result ≡ reads_of self.now }
+    {
+        self.reads
+    }
+
+    /// How many bytes the reads gave, up to `u64::MAX`.
+    pub fn taken(&self) -> u64
+        ensures { result ≡ taken_of self.now }
+    {
+        self.taken
     }
 }
 
 impl Desk for MemoryDesk {
     ghost use Rattle.outside_io.specs.MemoryDesk.{begin_fails, read_fails};
     ghost use Rattle.outside_io.specs.MemoryDesk.{failures_of, faults_of, held_by, left_on};
+    ghost use Rattle.outside_io.specs.MemoryDesk.{reads_of, taken_of};
 
     ghost held = { held_by };
 
     ghost left = { λ desk. Some (left_on desk) };
 
-    ghost taken = { λ _. last_count };
+    ghost taken = { λ desk. taken_of desk };
 
-    ghost reads = { λ _. last_count };
+    ghost reads = { λ desk. reads_of desk };
 
     ghost faults = { λ desk. faults_of desk };
 
@@ -52,13 +74,15 @@ impl Desk for MemoryDesk {
         ensures held { held_by self.new ≡ held_by self.old }
         ensures left { Begins result (held_by self.old name.now) (Some (left_on self.new)) }
         ensures told { GoesOnTelling (Some (left_on self.old)) (Some (left_on self.new)) }
-        ensures taken { last_count ≡ last_count }
-        ensures reads { last_count ≡ last_count }
+        ensures taken { taken_of self.new ≡ taken_of self.old }
+        ensures reads { reads_of self.new ≡ reads_of self.old }
         ensures later { faults_of self.old ≤ faults_of self.new }
         ensures failed { result ≡ Begin.Failed → Rose (faults_of self.old) (faults_of self.new) }
 
-        ensures exact { result ≡ (if begin_fails self.old name.now then Begin.Failed else Begin.Ok) }
-        ensures counted { Counts (failures_of self.old) (failures_of self.new) (begin_fails self.old name.now) }
+        ensures exact { result ≡
+            (if begin_fails self.old name.now then Begin.Failed else Begin.Ok) }
+        ensures counted { Counts (failures_of self.old) (failures_of self.new)
+            (begin_fails self.old name.now) }
         ensures stopped { result ≡ Begin.Failed → left_on self.new ≡ [] }
     {
         if self.failures.next_call() || !self.folder.begin(name) {
@@ -73,21 +97,26 @@ impl Desk for MemoryDesk {
         requires { 0 < length buf.old }
         ensures held { held_by self.new ≡ held_by self.old }
         ensures left { Reads result buf.new (Some (left_on self.old)) (Some (left_on self.new)) }
-        ensures taken { last_count ≡ raised (count_of result) last_count }
-        ensures reads { last_count ≡ raised 1 last_count }
+        ensures taken { taken_of self.new ≡ raised (count_of result) (taken_of self.old) }
+        ensures reads { reads_of self.new ≡ raised 1 (reads_of self.old) }
         ensures later { faults_of self.old ≤ faults_of self.new }
         ensures failed { result ≡ Got.Failed → Rose (faults_of self.old) (faults_of self.new) }
 
         ensures exact { is_failed result ≡ read_fails self.old }
-        ensures counted { Counts (failures_of self.old) (failures_of self.new) (read_fails self.old) }
+        ensures counted { Counts (failures_of self.old) (failures_of self.new)
+            (read_fails self.old) }
     {
+        self.reads = self.reads.saturating_add(1);
         if self.failures.next_call() {
             self.failures.count_fault();
             return Got::Failed;
         }
         match self.folder.read(buf) {
             0 => Got::End,
-            count => Got::Bytes(count),
+            count => {
+                self.taken = self.taken.saturating_add(count as u64);
+                Got::Bytes(count)
+            }
         }
     }
 }

@@ -1,5 +1,6 @@
 //! A sink in memory, which fails at the writes that are listed and where it has no room.
-ghost use Rattle.std.specs.Prelude.{◌≡◌, ◌<◌, ◌≤◌, ℕ, [], Some, List, length, IfOk, vec_len, vec_capacity};
+ghost use Rattle.std.specs.Prelude.{◌≡◌, ◌<◌, ◌≤◌, ℕ, [], Some, List, length, IfOk, vec_len};
+ghost use Rattle.std.specs.Prelude.{vec_capacity};
 ghost use Rattle.outside_io.specs.Counts.{Rose};
 ghost use Rattle.outside_io.specs.Failures.{Counts, IsFresh};
 ghost use Rattle.outside_io.specs.Sink.{Takes};
@@ -54,12 +55,14 @@ impl Sink for MemorySink {
 
     fn write(&mut self, bytes: &[u8]) -> Took
         requires { 0 < length bytes.now }
-        ensures written { Takes result bytes.now (Some (written_to self.old)) (Some (written_to self.new)) }
+        ensures written { Takes result bytes.now (Some (written_to self.old))
+            (Some (written_to self.new)) }
         ensures later { faults_of self.old ≤ faults_of self.new }
         ensures failed { result ≡ Took.Failed → Rose (faults_of self.old) (faults_of self.new) }
 
         ensures exact { result ≡ write_answer self.old (length bytes.now) }
-        ensures counted { Counts (failures_of self.old) (failures_of self.new) (write_fails self.old (length bytes.now)) }
+        ensures counted { Counts (failures_of self.old) (failures_of self.new)
+            (write_fails self.old (length bytes.now)) }
         ensures room { room_of self.new ≡ room_of self.old }
     {
         if self.failures.next_call()

@@ -1,5 +1,6 @@
 //! All the bytes of a name, read through a desk.
-ghost use Rattle.std.specs.Prelude.{◌≡◌, ◌<◌, ◌≤◌, ◌+◌, ℕ, [], Some, length, IfOk, IfSome, IsErrOf, vec_len};
+ghost use Rattle.std.specs.Prelude.{◌≡◌, ◌<◌, ◌≤◌, ◌+◌, ℕ, [], Some, length, IfOk, IfSome, IsErrOf};
+ghost use Rattle.std.specs.Prelude.{vec_len};
 ghost use Rattle.std.specs.Io.KnownBytes.{Keeps};
 ghost use Rattle.outside_io.specs.Counts.{Rose, raised};
 ghost use Rattle.outside_io.specs.Desk.{GoesOnTelling};
@@ -27,7 +28,8 @@ impl From<AllocError> for ReadWhole {
     }
 }
 
-const PIECE: usize = 4096;
+// The most bytes that one read asks for.
+const PIECE: usize = 65_536;
 
 /// All the bytes of a name, of which there may be at most `limit`.
 ///
@@ -40,15 +42,20 @@ pub fn read_whole<D: Desk>(
 ) -> Result<Vec<u8>, ReadWhole>
     requires { limit ≤ 268435456 }
     ensures whole { IfOk result (λ bytes. Keeps (D.held desk.old name.now) (Some bytes.items)) }
-    ensures nothing_left { IfOk result (λ _. IfSome (D.held desk.old name.now) (λ _. D.left desk.new ≡ Some [])) }
+    ensures nothing_left { IfOk result (λ _.
+        IfSome (D.held desk.old name.now) (λ _. D.left desk.new ≡ Some [])) }
     ensures within { IfOk result (λ bytes. vec_len bytes ≤ limit) }
 
     // `TooLong` comes exactly where one byte more than the limit was read. No more ever are.
-    ensures too_long { IsErrOf result ReadWhole.TooLong → D.taken desk.new ≡ raised (limit + 1) (D.taken desk.old) }
-    ensures ok_read { IfOk result (λ bytes. D.taken desk.new ≡ raised (vec_len bytes) (D.taken desk.old)) }
-    ensures fault_read { IsErrOf result ReadWhole.Fault → D.taken desk.new ≤ D.taken desk.old + limit }
+    ensures too_long { IsErrOf result ReadWhole.TooLong →
+        D.taken desk.new ≡ raised (limit + 1) (D.taken desk.old) }
+    ensures ok_read { IfOk result (λ bytes.
+        D.taken desk.new ≡ raised (vec_len bytes) (D.taken desk.old)) }
+    ensures fault_read { IsErrOf result ReadWhole.Fault →
+        D.taken desk.new ≤ D.taken desk.old + limit }
     ensures at_most { D.taken desk.new ≤ D.taken desk.old + (limit + 1) }
-    ensures longer { IsErrOf result ReadWhole.TooLong → IfSome (D.held desk.old name.now) (λ bytes. limit < length bytes) }
+    ensures longer { IsErrOf result ReadWhole.TooLong →
+        IfSome (D.held desk.old name.now) (λ bytes. limit < length bytes) }
 
     ensures fault { IsErrOf result ReadWhole.Fault → Rose (D.faults desk.old) (D.faults desk.new) }
     ensures later { D.faults desk.old ≤ D.faults desk.new }
@@ -107,6 +114,27 @@ mod tests {
         }
         let bytes = read_whole(alloc, &mut desk, "three", 3)?;
         assert_eq!(rt; bytes.as_slice(), [7, 8, 9].as_slice());
+        Ok(())
+    }
+
+    // A file within the limit takes a read of its end besides, and of a longer one a byte more than
+    // the limit is read.
+    #[test]
+    fn reads_and_their_bytes_are_counted(rt: HostRuntime) -> Result<(), Fail> {
+        let alloc = rt.alloc();
+        for (name, limit, reads, taken) in [
+            ("three", 3, 2, 3),
+            ("three", 1, 1, 2),
+            ("empty", 0, 1, 0),
+            ("long", 10_000, 2, 10_000),
+            ("long", 9_000, 1, 9_001),
+            ("none", 9, 0, 0),
+        ] {
+            let mut desk = desk(alloc, Vec::new(alloc))?;
+            let _ = read_whole(alloc, &mut desk, name, limit);
+            assert_eq!(rt; desk.reads(), reads, "{name} with limit {limit}");
+            assert_eq!(rt; desk.taken(), taken, "{name} with limit {limit}");
+        }
         Ok(())
     }
 

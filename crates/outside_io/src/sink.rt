@@ -1,7 +1,10 @@
 //! A sink: a stream of bytes that is written to.
-ghost use Rattle.std.specs.Prelude.{◌≡◌, ◌<◌, ◌≤◌, List, ℕ, Option, length};
+ghost use Rattle.std.specs.Prelude.{◌≡◌, ◌<◌, ◌≤◌, List, ℕ, Option, OnErr, length};
+ghost use Rattle.std.specs.Io.KnownBytes.{Keeps};
 ghost use Rattle.outside_io.specs.Counts.{Rose};
 ghost use Rattle.outside_io.specs.Sink.{Takes};
+
+use crate::WriteFault;
 
 /// What a write came to.
 #[derive(Clone, Copy, Debug, PartialEq, Eq)]
@@ -17,7 +20,7 @@ pub trait Sink {
     /// The bytes written, where the sink tells them.
     ghost written: { Self → Option (List ℕ) };
 
-    /// How many writes failed.
+    /// How many writes and flushes failed.
     ghost faults: { Self → ℕ };
 
     /// Writes the first bytes of a piece, at least one.
@@ -26,4 +29,14 @@ pub trait Sink {
         ensures written { Takes result bytes.now (written self.old) (written self.new) }
         ensures later { faults self.old ≤ faults self.new }
         ensures failed { result ≡ Took.Failed → Rose (faults self.old) (faults self.new) };
+
+    /// Sends on the bytes that were taken and are still held back. It adds none to those written,
+    /// and a sink that holds none back needs no flush of its own.
+    fn flush(&mut self) -> Result<(), WriteFault>
+        ensures kept { Keeps (written self.old) (written self.new) }
+        ensures later { faults self.old ≤ faults self.new }
+        ensures failed { OnErr result (Rose (faults self.old) (faults self.new)) }
+    {
+        Ok(())
+    }
 }

@@ -1,12 +1,15 @@
 //! The sink over a stream of the system.
-ghost use Rattle.std.specs.Prelude.{◌≡◌, ◌<◌, ◌≤◌, None, length};
+ghost use Rattle.std.specs.Prelude.{◌≡◌, ◌<◌, ◌≤◌, None, OnErr, is_err, length};
+ghost use Rattle.std.specs.Io.KnownBytes.{Keeps};
 ghost use Rattle.outside_io.specs.Counts.{Rose, counted};
 ghost use Rattle.outside_io.specs.Sink.{Takes, is_failed};
+ghost use Rattle.outside_io.specs.StdSink.{faults_of, writer_of};
 
-use crate::{Sink, Took};
+use crate::{Sink, Took, WriteFault};
 use std::io::Write;
 
-/// A writer of the system, as standard output or standard error. It tells no bytes.
+/// A writer of the system, as standard output or standard error, or one that holds bytes back until
+/// it is flushed. It tells no bytes.
 #[derive(Drop)]
 pub struct StdSink<W: Write + Drop> {
     writer: W,
@@ -16,7 +19,8 @@ pub struct StdSink<W: Write + Drop> {
 impl<W: Write + Drop> StdSink<W> {
     /// No write has failed.
     pub fn make(writer: W) -> Self
-        ensures { result.faults ≡ 0 }
+        ensures writer { writer_of result ≡ writer }
+        ensures faults { faults_of result ≡ 0 }
     {
         StdSink { writer, faults: 0 }
     }
@@ -25,22 +29,41 @@ impl<W: Write + Drop> StdSink<W> {
 impl<W: Write + Drop> Sink for StdSink<W> {
     ghost written = { λ _. None };
 
-    ghost faults = { λ sink. sink.faults };
+    ghost faults = { λ sink. faults_of sink };
 
     // A writer that takes nothing has failed too, since a piece is never empty.
     fn write(&mut self, bytes: &[u8]) -> Took
         requires { 0 < length bytes.now }
         ensures written { Takes result bytes.now None None }
-        ensures later { self.old.faults ≤ self.new.faults }
-        ensures failed { result ≡ Took.Failed → Rose self.old.faults self.new.faults }
+        ensures later { faults_of self.old ≤ faults_of self.new }
+        ensures failed { result ≡ Took.Failed → Rose (faults_of self.old) (faults_of self.new) }
 
-        ensures counted { self.new.faults ≡ counted (is_failed result) self.old.faults }
+        ensures passed { Takes result bytes.now (W.contents (writer_of self.old))
+            (W.contents (writer_of self.new)) }
+        ensures counted { faults_of self.new ≡ counted (is_failed result) (faults_of self.old) }
     {
         match self.writer.write(bytes) {
             Ok(count) if count > 0 => Took::Bytes(count),
             _ => {
                 self.faults = self.faults.saturating_add(1);
                 Took::Failed
+            }
+        }
+    }
+
+    fn flush(&mut self) -> Result<(), WriteFault>
+        ensures kept { Keeps None None }
+        ensures later { faults_of self.old ≤ faults_of self.new }
+        ensures failed { OnErr result (Rose (faults_of self.old) (faults_of self.new)) }
+
+        ensures passed { Keeps (W.contents (writer_of self.old)) (W.contents (writer_of self.new)) }
+        ensures counted { faults_of self.new ≡ counted (is_err result) (faults_of self.old) }
+    {
+        match self.writer.flush() {
+            Ok(()) => Ok(()),
+            Err(_) => {
+                self.faults = self.faults.saturating_add(1);
+                Err(WriteFault)
             }
         }
     }
@@ -51,6 +74,7 @@ mod tests {
     use super::*;
     use crate::write_whole;
     use std::fs;
+    use std::io::BufWriter;
     use std::test::Fail;
 
     #[test]
@@ -69,6 +93,25 @@ mod tests {
         let mut read_only = StdSink::make(fs::open(&rt, "stream")?);
         assert_eq!(rt; read_only.write(b"p 1\n"), Took::Failed);
         fs::remove_file(&rt, "stream")?;
+        Ok(())
+    }
+
+    #[test]
+    fn bytes_that_are_held_back_go_out_at_the_flush(rt: HostRuntime) -> Result<(), Fail> {
+        let alloc = rt.alloc();
+        let file = fs::create(&rt, "held")?;
+        let mut out = StdSink::make(BufWriter::with_capacity(alloc, 64, file)?);
+        assert_eq!(rt; write_whole(&mut out, b"steer 1\n"), Ok(()));
+        assert!(rt; fs::read(&rt, "held")?.is_empty());
+        assert_eq!(rt; out.flush(), Ok(()));
+        let written = fs::read(&rt, "held")?;
+        assert_eq!(rt; written.as_slice(), b"steer 1\n".as_slice());
+
+        let file = fs::open(&rt, "held")?;
+        let mut read_only = StdSink::make(BufWriter::with_capacity(alloc, 64, file)?);
+        assert_eq!(rt; read_only.write(b"p 0\n"), Took::Bytes(4));
+        assert_eq!(rt; read_only.flush(), Err(WriteFault));
+        fs::remove_file(&rt, "held")?;
         Ok(())
     }
 }

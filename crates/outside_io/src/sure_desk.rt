@@ -17,7 +17,8 @@ impl SureDesk {
 
     /// A desk with these files, names with their bytes, of which the first of a name counts.
     pub fn make(files: Vec<(String, Vec<u8>)>) -> Self
-        ensures held { (name : List ℕ) → held_by result name ≡ Some (unwrap_or (bytes_of files.items name) []) }
+        ensures held { (name : List ℕ) →
+            held_by result name ≡ Some (unwrap_or (bytes_of files.items name) []) }
         ensures left { left_on result ≡ [] }
     {
         SureDesk {

@@ -12,22 +12,26 @@ pub struct SureSink {
 }
 
 impl SureSink {
+    ghost use Rattle.outside_io.specs.SureSink.{count_of};
+
     /// No byte was written.
     pub fn make() -> Self
-        ensures { result.count ≡ 0 }
+        ensures { count_of result ≡ 0 }
     {
         SureSink { count: 0 }
     }
 
     /// How many bytes were written.
     pub fn count(&self) -> u64
-        ensures { result ≡ self.now.count }
+        ensures { result ≡ count_of self.now }
     {
         self.count
     }
 }
 
 impl Sink for SureSink {
+    ghost use Rattle.outside_io.specs.SureSink.{count_of};
+
     ghost written = { λ _. None };
 
     ghost faults = { λ _. 0 };
@@ -39,7 +43,7 @@ impl Sink for SureSink {
         ensures failed { result ≡ Took.Failed → Rose 0 0 }
 
         ensures whole { result ≡ Took.Bytes (length bytes.now) }
-        ensures count { self.new.count ≡ raised (length bytes.now) self.old.count }
+        ensures count { count_of self.new ≡ raised (length bytes.now) (count_of self.old) }
     {
         self.count = self.count.saturating_add(bytes.len() as u64);
         Took::Bytes(bytes.len())

@@ -6,7 +6,7 @@ ghost use Rattle.outside_io.specs.Sink.{AppendsSome};
 
 use crate::{Sink, Took};
 
-/// The sink failed before it had taken all bytes.
+/// The sink failed before it had taken all bytes, or before it had sent on what it took.
 #[derive(Clone, Copy, Debug, PartialEq, Eq)]
 pub struct WriteFault;
 

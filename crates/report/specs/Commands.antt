@@ -71,4 +71,5 @@ answer_fields (answer.Expired filters) = codes "expired" ∷ decimal filters ∷
 
 -- the row of the command with this number
 abbrev pub command_row : ℕ → Commanded → Row
-command_row number c = Line (codes "c") (decimal number ∷ (command_fields c.command ++ answer_fields c.answer))
+command_row number c =
+    Line (codes "c") (decimal number ∷ (command_fields c.command ++ answer_fields c.answer))

@@ -16,16 +16,21 @@ pub record TextsFit (texts : List (List ℕ)) : Type 0 where
 
 -- No field of a report has a space or a line feed, and only the row of a tap begins as one.
 abbrev pub HasRows : Type 0
-HasRows = (lines : LineLists) (h : History) (texts : List (List ℕ)) → TextsFit texts → AreRows (rows_of lines h texts)
+HasRows =
+    (lines : LineLists) (h : History) (texts : List (List ℕ)) → TextsFit texts
+    → AreRows (rows_of lines h texts)
 
 -- Two lists of rows are equal where their texts are.
 abbrev pub AreFoundInText : Type 0
-AreFoundInText = (rows others : List Row) → AreRows rows → AreRows others → text_of rows ≡ text_of others → rows ≡ others
+AreFoundInText =
+    (rows others : List Row) → AreRows rows → AreRows others → text_of rows ≡ text_of others
+    → rows ≡ others
 
--- Bytes are the report of a history with this start and of the texts of its taps. The history is regular for the packets
--- of the capture and the number of applications, each arrival is at the queue that its values lead to, and the numbers
--- and the texts are such as a program holds.
-pub record IsReportOf (packets : List Packet) (apps start : ℕ) (h : History) (texts : List (List ℕ)) (bytes : List ℕ) : Type 0 where
+-- Bytes are the report of a history with this start and of the texts of its taps. The history is
+-- regular for the packets of the capture and the number of applications, each arrival is at the
+-- queue that its values lead to, and the numbers and the texts are such as a program holds.
+pub record IsReportOf (packets : List Packet) (apps start : ℕ) (h : History) (texts : List (List ℕ))
+    (bytes : List ℕ) : Type 0 where
   pub regular : Regular packets apps h
   pub queued : AreQueued packets h
   pub numbers : HistoryFits h
@@ -33,10 +38,13 @@ pub record IsReportOf (packets : List Packet) (apps start : ℕ) (h : History) (
   pub starts : h.start ≡ start
   pub text : report packets apps h texts ≡ bytes
 
--- One report has one history: bytes are the report of at most one history with a given start, for the packets of a
--- capture and a number of applications, and of the texts of its taps, whatever these are.
+-- One report has one history: bytes are the report of at most one history with a given start, for
+-- the packets of a capture and a number of applications, and of the texts of its taps, whatever
+-- these are.
 abbrev pub HasOneHistory : Type 0
 HasOneHistory =
-    (packets : List Packet) (apps start : ℕ) (h k : History) (texts others : List (List ℕ)) (bytes : List ℕ)
+    (packets : List Packet) (apps start : ℕ) (h k : History) (texts others : List (List ℕ))
+    (bytes : List ℕ)
     → length packets ≤ 262144 → apps < 2 ^ 64
-    → IsReportOf packets apps start h texts bytes → IsReportOf packets apps start k others bytes → (h ≡ k) × (texts ≡ others)
+    → IsReportOf packets apps start h texts bytes → IsReportOf packets apps start k others bytes
+    → (h ≡ k) × (texts ≡ others)

@@ -1,4 +1,5 @@
--- The rows of packets, of replies, and of the sums of queues and lanes. A field is its text, read by its place in the row.
+-- The rows of packets, of replies, and of the sums of queues and lanes. A field is its text, read
+-- by its place in the row.
 use Rattle.std.specs.Prelude.{ℕ, List, [], ◌∷◌, ◌++◌, Option, Some, None, codes, decimal, length}
 use Rattle.std.specs.Option.{option_map, option_and_then}
 use Rattle.steer_base.specs.declared.choice.Choice.{Choice}
@@ -71,8 +72,8 @@ abbrev pub cause_fields : DropCause → List (List ℕ)
 cause_fields Full = []
 cause_fields (Flow offers) = codes "flow" ∷ decimal offers ∷ []
 
--- The position; of a drop its number, how many packets were accepted and how many of them pulled, and its cause; a dash
--- before the put.
+-- The position; of a drop its number, how many packets were accepted and how many of them pulled,
+-- and its cause; a dash before the put.
 abbrev pub put_fields : Option Put → List (List ℕ)
 put_fields None = codes "-" ∷ []
 put_fields (Some (At position)) = decimal position ∷ []
@@ -80,15 +81,17 @@ put_fields (Some (FellAs number accepted pulled cause)) =
     codes "drop" ∷ decimal number ∷ decimal accepted ∷ decimal pulled ∷ cause_fields cause
 
 abbrev pub last_fields : PacketLine → List (List ℕ)
-last_fields l = codes "app" ∷ decimal l.app ∷ codes "in" ∷ or_dash l.inbox ∷ codes "place" ∷ place_word l.place ∷ []
+last_fields l =
+    codes "app" ∷ decimal l.app ∷ codes "in" ∷ or_dash l.inbox ∷ codes "place" ∷ place_word l.place
+    ∷ []
 
 abbrev pub packet_fields : PacketLine → List (List ℕ)
 packet_fields l =
-    decimal l.id ∷ codes "q" ∷ decimal l.queue ∷ codes "via" ∷ via_word l.via ∷
-    codes "class" ∷ or_dash (class_in l.choice) ∷ codes "want" ∷ or_dash (want_in l.choice) ∷
-    codes "head" ∷ or_dash (head_in l.choice) ∷ codes "tail" ∷ or_dash (tail_in l.choice) ∷
-    codes "cpu" ∷ or_dash (lane_in l.choice) ∷ codes "why" ∷ why_word (why_in l.choice) ∷
-    codes "at" ∷ (put_fields l.put ++ last_fields l)
+    decimal l.id ∷ codes "q" ∷ decimal l.queue ∷ codes "via" ∷ via_word l.via
+    ∷ codes "class" ∷ or_dash (class_in l.choice) ∷ codes "want" ∷ or_dash (want_in l.choice)
+    ∷ codes "head" ∷ or_dash (head_in l.choice) ∷ codes "tail" ∷ or_dash (tail_in l.choice)
+    ∷ codes "cpu" ∷ or_dash (lane_in l.choice) ∷ codes "why" ∷ why_word (why_in l.choice)
+    ∷ codes "at" ∷ (put_fields l.put ++ last_fields l)
 
 -- the row of an arrived packet
 abbrev pub packet_row : PacketLine → Row
@@ -96,10 +99,12 @@ packet_row l = Line (codes "p") (packet_fields l)
 
 abbrev pub reply_fields : ReplyLine → List (List ℕ)
 reply_fields r =
-    decimal r.id ∷ codes "app" ∷ decimal r.app ∷ codes "rxq" ∷ decimal r.rxq ∷ codes "cpu" ∷ decimal r.cpu ∷
-    codes "pick" ∷ or_dash (want_in r.choice) ∷ codes "head" ∷ or_dash (head_in r.choice) ∷
-    codes "tail" ∷ or_dash (tail_in r.choice) ∷ codes "tx" ∷ or_dash (lane_in r.choice) ∷
-    codes "why" ∷ why_word (why_in r.choice) ∷ codes "at" ∷ or_dash r.put ∷ codes "port" ∷ or_dash r.port ∷ []
+    decimal r.id ∷ codes "app" ∷ decimal r.app ∷ codes "rxq" ∷ decimal r.rxq
+    ∷ codes "cpu" ∷ decimal r.cpu
+    ∷ codes "pick" ∷ or_dash (want_in r.choice) ∷ codes "head" ∷ or_dash (head_in r.choice)
+    ∷ codes "tail" ∷ or_dash (tail_in r.choice) ∷ codes "tx" ∷ or_dash (lane_in r.choice)
+    ∷ codes "why" ∷ why_word (why_in r.choice) ∷ codes "at" ∷ or_dash r.put
+    ∷ codes "port" ∷ or_dash r.port ∷ []
 
 -- the row of a reply that was begun
 abbrev pub reply_row : ReplyLine → Row
@@ -108,17 +113,20 @@ reply_row r = Line (codes "r") (reply_fields r)
 -- the row of a receive queue: how many packets arrived there, and how many of them were taken
 abbrev pub queue_row : ℕ → ℕ → ℕ → Row
 queue_row queue arrived taken =
-    Line (codes "queue") (decimal queue ∷ codes "arrived" ∷ decimal arrived ∷ codes "taken" ∷ decimal taken ∷ [])
+    Line (codes "queue")
+    (decimal queue ∷ codes "arrived" ∷ decimal arrived ∷ codes "taken" ∷ decimal taken ∷ [])
 
 -- the sums of a lane
 abbrev pub lane_fields : LaneList → List (List ℕ)
 lane_fields l =
-    codes "accepted" ∷ decimal (length l.accepted) ∷ codes "pulled" ∷ decimal l.pulled ∷
-    codes "delivered" ∷ decimal l.delivered ∷ codes "retired" ∷ decimal l.retired ∷ []
+    codes "accepted" ∷ decimal (length l.accepted) ∷ codes "pulled" ∷ decimal l.pulled
+    ∷ codes "delivered" ∷ decimal l.delivered ∷ codes "retired" ∷ decimal l.retired ∷ []
 
 -- the row of a processor
 abbrev pub cpu_row : ℕ → LaneList → Row
-cpu_row cpu l = Line (codes "cpu") (decimal cpu ∷ (lane_fields l ++ codes "dropped" ∷ decimal (length l.drops) ∷ []))
+cpu_row cpu l =
+    Line (codes "cpu")
+    (decimal cpu ∷ (lane_fields l ++ codes "dropped" ∷ decimal (length l.drops) ∷ []))
 
 -- the row of a transmit queue
 abbrev pub tx_row : ℕ → LaneList → Row
@@ -126,12 +134,16 @@ tx_row tx l = Line (codes "tx") (decimal tx ∷ lane_fields l)
 
 -- the row of a socket write of an application
 abbrev pub write_row : ℕ → SockWrite → Row
-write_row app w = Line (codes "w") (codes "app" ∷ decimal app ∷ codes "entry" ∷ decimal w.entry ∷ codes "cpu" ∷ decimal w.cpu ∷ [])
+write_row app w =
+    Line (codes "w")
+    (codes "app" ∷ decimal app ∷ codes "entry" ∷ decimal w.entry ∷ codes "cpu" ∷ decimal w.cpu ∷ [])
 
 abbrev pub cut_fields : Option ℕ → List (List ℕ)
 cut_fields None = []
 cut_fields (Some bytes) = codes "cut" ∷ decimal bytes ∷ []
 
--- the last row: how many packets arrived, how many the capture has, and the bytes of its cut, where it has one
+-- the last row: how many packets arrived, how many the capture has, and the bytes of its cut, where
+-- it has one
 abbrev pub end_row : ℕ → ℕ → Option ℕ → Row
-end_row arrived total cut = Line (codes "end") (decimal arrived ∷ codes "of" ∷ decimal total ∷ cut_fields cut)
+end_row arrived total cut =
+    Line (codes "end") (decimal arrived ∷ codes "of" ∷ decimal total ∷ cut_fields cut)

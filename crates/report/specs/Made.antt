@@ -4,7 +4,8 @@ use Rattle.steer_base.specs.declared.packet.Packet.{Packet}
 use Rattle.history.specs.Lines.{LineLists, lines_of}
 use Rattle.history.specs.declared.history.History.{History}
 
--- The lines were made of this history, for the packets of some capture and some number of applications.
+-- The lines were made of this history, for the packets of some capture and some number of
+-- applications.
 pub record AreLinesOf (lines : LineLists) (h : History) : Type 0 where
   pub packets : List Packet
   pub apps : ℕ

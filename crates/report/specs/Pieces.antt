@@ -18,17 +18,23 @@ front_fields l = decimal l.id ∷ codes "q" ∷ decimal l.queue ∷ codes "via" 
 
 abbrev pub choice_fields : Option Choice → List (List ℕ)
 choice_fields o =
-    codes "class" ∷ or_dash (class_in o) ∷ codes "want" ∷ or_dash (want_in o) ∷ codes "head" ∷ or_dash (head_in o) ∷
-    codes "tail" ∷ or_dash (tail_in o) ∷ codes "cpu" ∷ or_dash (lane_in o) ∷ codes "why" ∷ why_word (why_in o) ∷ []
+    codes "class" ∷ or_dash (class_in o) ∷ codes "want" ∷ or_dash (want_in o)
+    ∷ codes "head" ∷ or_dash (head_in o)
+    ∷ codes "tail" ∷ or_dash (tail_in o) ∷ codes "cpu" ∷ or_dash (lane_in o)
+    ∷ codes "why" ∷ why_word (why_in o) ∷ []
 
--- the fields of a reply up to the choice, those of the choice of a transmit queue, and those behind it
+-- the fields of a reply up to the choice, those of the choice of a transmit queue, and those behind
+-- it
 abbrev pub reply_front_fields : ReplyLine → List (List ℕ)
-reply_front_fields r = decimal r.id ∷ codes "app" ∷ decimal r.app ∷ codes "rxq" ∷ decimal r.rxq ∷ codes "cpu" ∷ decimal r.cpu ∷ []
+reply_front_fields r =
+    decimal r.id ∷ codes "app" ∷ decimal r.app ∷ codes "rxq" ∷ decimal r.rxq
+    ∷ codes "cpu" ∷ decimal r.cpu ∷ []
 
 abbrev pub pick_fields : Option Choice → List (List ℕ)
 pick_fields o =
-    codes "pick" ∷ or_dash (want_in o) ∷ codes "head" ∷ or_dash (head_in o) ∷ codes "tail" ∷ or_dash (tail_in o) ∷
-    codes "tx" ∷ or_dash (lane_in o) ∷ codes "why" ∷ why_word (why_in o) ∷ []
+    codes "pick" ∷ or_dash (want_in o) ∷ codes "head" ∷ or_dash (head_in o)
+    ∷ codes "tail" ∷ or_dash (tail_in o)
+    ∷ codes "tx" ∷ or_dash (lane_in o) ∷ codes "why" ∷ why_word (why_in o) ∷ []
 
 abbrev pub reply_last_fields : ReplyLine → List (List ℕ)
 reply_last_fields r = codes "at" ∷ or_dash r.put ∷ codes "port" ∷ or_dash r.port ∷ []

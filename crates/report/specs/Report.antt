@@ -34,7 +34,8 @@ reply_rows lines = filter_map (λ line. option_map reply_row line) lines
 
 -- the receive queues: how many packets arrived at each, and how many were taken
 abbrev pub queue_rows : List ℕ → List ℕ → List Row
-queue_rows arrived taken = numbered (λ queue count. queue_row queue (slice_index arrived queue) count) 0 taken
+queue_rows arrived taken =
+    numbered (λ queue count. queue_row queue (slice_index arrived queue) count) 0 taken
 
 -- the processors
 abbrev pub cpu_rows : List LaneList → List Row
@@ -60,10 +61,18 @@ tap_rows texts = numbered Tap 0 texts
 -- The rows of a history, of the lines of its packets and replies, and of the texts of its taps.
 abbrev pub rows_of : LineLists → History → List (List ℕ) → List Row
 rows_of lines h texts =
-    first_row ∷ (packet_rows lines.packets ++ (reply_rows lines.replies ++ (queue_rows lines.arrived h.taken ++
-    (cpu_rows h.lanes ++ (tx_rows h.tx_lanes ++ (write_rows 0 h.writes ++ (command_rows h.commands ++ (tap_rows texts ++
-    (end_row (length h.arrivals) h.total h.cut ∷ [])))))))))
+    first_row
+    ∷ (packet_rows lines.packets
+    ++ (reply_rows lines.replies
+    ++ (queue_rows lines.arrived h.taken
+    ++ (cpu_rows h.lanes
+    ++ (tx_rows h.tx_lanes
+    ++ (write_rows 0 h.writes
+    ++ (command_rows h.commands
+    ++ (tap_rows texts
+    ++ (end_row (length h.arrivals) h.total h.cut ∷ [])))))))))
 
--- The report of a history with the texts of its taps, for the packets of the capture and a number of applications.
+-- The report of a history with the texts of its taps, for the packets of the capture and a number
+-- of applications.
 abbrev pub report : List Packet → ℕ → History → List (List ℕ) → List ℕ
 report packets apps h texts = text_of (rows_of (lines_of packets apps h) h texts)

@@ -1,5 +1,5 @@
--- A text of rows: the fields of a row with one space between them and a line feed behind the last; the row of a tap is
--- followed by the bytes of the tap's text.
+-- A text of rows: the fields of a row with one space between them and a line feed behind the last;
+-- the row of a tap is followed by the bytes of the tap's text.
 use Rattle.std.specs.Prelude.{ℕ, ◌≢◌, ◌<◌, ◌^◌, List, [], ◌∷◌, ◌++◌, ⊤, codes, decimal, length}
 
 -- A row: the first field of a line and its further fields, or the number of a tap and its text.
@@ -44,8 +44,8 @@ abbrev pub AreFields : List (List ℕ) → Type 0
 AreFields [] = ⊤
 AreFields (f ∷ fs) = IsField f × AreFields fs
 
--- The fields of a line have no space and no line feed, and a line begins otherwise than the row of a tap, whose number
--- and length are numbers of 64 bits.
+-- The fields of a line have no space and no line feed, and a line begins otherwise than the row of
+-- a tap, whose number and length are numbers of 64 bits.
 abbrev pub IsRow : Row → Type 0
 IsRow (Line first rest) = IsField first × AreFields rest × (first ≢ codes "tap")
 IsRow (Tap number bytes) = (number < 2 ^ 64) × (length bytes < 2 ^ 64)

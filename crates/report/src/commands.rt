@@ -61,7 +61,8 @@ fn push_command(buf: &mut LineBuf, command: Command)
 fn push_set(buf: &mut LineBuf, width: u8, bits: u32)
     requires width { width ≤ 32 }
     requires room { length buf.old ≤ 300 }
-    ensures text { buf.new ≡ buf.old ++ spaced (set_field (those_below width (in_bits width bits)) ∷ []) }
+    ensures text { buf.new
+        ≡ buf.old ++ spaced (set_field (those_below width (in_bits width bits)) ∷ []) }
     ensures grows { length buf.new ≤ length buf.old + 98 }
 {
     let mut first = true;

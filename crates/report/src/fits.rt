@@ -11,8 +11,8 @@ fn text_fits(text: &TapText)
     let _ = text.bytes.len();
 }
 
-/// Tells that numbers of 64 bits count the texts of the taps and the bytes of each, as they do in every program. It
-/// changes nothing, and need never be called.
+/// Tells that numbers of 64 bits count the texts of the taps and the bytes of each, as they do in
+/// every program. It changes nothing, and need never be called.
 pub fn texts_fit(texts: &[TapText])
     ensures { TextsFit texts.now }
 {

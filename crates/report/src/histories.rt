@@ -2,12 +2,12 @@
 ghost use Rattle.std.specs.Prelude.{◌≤◌, length, IfOk};
 ghost use Rattle.report.specs.Made.{AreLinesOf};
 
-use history::{Arrival, Commanded, History, Items, LaneList, Lines, Sent, SockWrite};
+use history::{Arrival, Commanded, History, LaneList, Lines, Sent, SockWrite};
 use std::alloc::Global;
 use std::test::Fail;
 use steer_base::{
-    Answer, Choice, Chosen, Command, Cpu, CpuMask, DropCause, Flow, LaneDrop, OutOfMemory, Packet,
-    PacketId, Pair, Proto, RxQueue, Why,
+    Answer, Choice, Chosen, Command, Cpu, CpuMask, DropCause, Flow, LaneDrop, List, OutOfMemory,
+    Packet, PacketId, Pair, Proto, RxQueue, Why,
 };
 
 // A TCP segment from 66.9.149.187:2794 to 161.142.100.80:1766, with its published hash.
@@ -52,22 +52,22 @@ pub(crate) const PLAIN: Choice = Choice {
     why: Why::Plain,
 };
 
-pub(crate) fn none<T>(alloc: Global) -> Items<T> {
-    Items::of(Vec::new(alloc))
+pub(crate) fn none<T>(alloc: Global) -> List<T> {
+    List::from_vec(Vec::new(alloc))
 }
 
-pub(crate) fn one<T: Drop>(alloc: Global, item: T) -> Result<Items<T>, OutOfMemory> {
+pub(crate) fn one<T: Drop>(alloc: Global, item: T) -> Result<List<T>, OutOfMemory> {
     let mut items = Vec::new(alloc);
     items.push(item)?;
-    Ok(Items::of(items))
+    Ok(List::from_vec(items))
 }
 
-fn ids(alloc: Global, numbers: &[u32]) -> Result<Items<PacketId>, OutOfMemory> {
+fn ids(alloc: Global, numbers: &[u32]) -> Result<List<PacketId>, OutOfMemory> {
     let mut packets = Vec::new(alloc);
     for number in numbers {
         packets.push(PacketId(*number))?;
     }
-    Ok(Items::of(packets))
+    Ok(List::from_vec(packets))
 }
 
 // A lane whose first packets were retired.
@@ -87,7 +87,7 @@ pub(crate) fn lanes(
     cpus: u32,
     second: LaneList,
     third: LaneList,
-) -> Result<Items<LaneList>, OutOfMemory> {
+) -> Result<List<LaneList>, OutOfMemory> {
     let mut lanes = Vec::new(alloc);
     lanes.push(lane(alloc, &[], 0)?)?;
     lanes.push(second)?;
@@ -95,11 +95,11 @@ pub(crate) fn lanes(
     for _ in 3..cpus {
         lanes.push(lane(alloc, &[], 0)?)?;
     }
-    Ok(Items::of(lanes))
+    Ok(List::from_vec(lanes))
 }
 
 // The arrivals of so many packets at queue 0, by the redirection table.
-fn arrivals(alloc: Global, count: u32) -> Result<Items<Arrival>, OutOfMemory> {
+fn arrivals(alloc: Global, count: u32) -> Result<List<Arrival>, OutOfMemory> {
     let mut arrivals = Vec::new(alloc);
     for id in 0..count {
         arrivals.push(Arrival {
@@ -109,11 +109,11 @@ fn arrivals(alloc: Global, count: u32) -> Result<Items<Arrival>, OutOfMemory> {
             entry: Some(RxQueue(0)),
         })?;
     }
-    Ok(Items::of(arrivals))
+    Ok(List::from_vec(arrivals))
 }
 
 // The first choice is for packet 0, the next for packet 1 and so on.
-fn chosen(alloc: Global, choices: &[Choice]) -> Result<Items<Chosen>, OutOfMemory> {
+fn chosen(alloc: Global, choices: &[Choice]) -> Result<List<Chosen>, OutOfMemory> {
     let mut list = Vec::new(alloc);
     for (choice, id) in choices.iter().zip(0u32..) {
         list.push(Chosen {
@@ -121,15 +121,16 @@ fn chosen(alloc: Global, choices: &[Choice]) -> Result<Items<Chosen>, OutOfMemor
             choice: *choice,
         })?;
     }
-    Ok(Items::of(list))
+    Ok(List::from_vec(list))
 }
 
-// So many packets arrived at the one queue, and were taken and weighed. The one application has not replied.
+// So many packets arrived at the one queue, and were taken and weighed. The one application has not
+// replied.
 pub(crate) fn received(
     alloc: Global,
     count: u32,
     choices: &[Choice],
-    lanes: Items<LaneList>,
+    lanes: List<LaneList>,
     inbox: &[u32],
 ) -> Result<History, OutOfMemory> {
     Ok(History {
@@ -162,8 +163,8 @@ fn classed(want: Option<u8>, head: Option<u32>, tail: u32, lane: u8, why: Why) -
     }
 }
 
-// Four packets of one flow, whose application stands on processor 2. Processor 1 keeps the flow until it has retired
-// three of them, and then the fourth moves. The counters begin at `start`.
+// Four packets of one flow, whose application stands on processor 2. Processor 1 keeps the flow
+// until it has retired three of them, and then the fourth moves. The counters begin at `start`.
 pub(crate) fn moved(alloc: Global, start: u32) -> Result<History, OutOfMemory> {
     let third = start.wrapping_add(3);
     let choices = [
@@ -225,8 +226,8 @@ pub(crate) fn replied(alloc: Global, start: u32) -> Result<History, OutOfMemory>
     Ok(h)
 }
 
-// The lane of processor 1 under the flow limit: 151 packets of a flow were accepted, the next 49 dropped, and one of
-// another flow accepted.
+// The lane of processor 1 under the flow limit: 151 packets of a flow were accepted, the next 49
+// dropped, and one of another flow accepted.
 fn limited_lane(alloc: Global) -> Result<LaneList, OutOfMemory> {
     let mut accepted = Vec::new(alloc);
     let mut drops = Vec::new(alloc);
@@ -244,8 +245,8 @@ fn limited_lane(alloc: Global) -> Result<LaneList, OutOfMemory> {
     }
     accepted.push(PacketId(200))?;
     Ok(LaneList {
-        accepted: Items::of(accepted),
-        drops: Items::of(drops),
+        accepted: List::from_vec(accepted),
+        drops: List::from_vec(drops),
         pulled: 0,
         delivered: 0,
         retired: 0,
@@ -263,7 +264,7 @@ pub(crate) fn waiting(alloc: Global) -> Result<History, OutOfMemory> {
     let mut lanes = Vec::new(alloc);
     lanes.push(lane(alloc, &[], 0)?)?;
     lanes.push(lane(alloc, &[], 0)?)?;
-    let mut h = received(alloc, 2, &[], Items::of(lanes), &[])?;
+    let mut h = received(alloc, 2, &[], List::from_vec(lanes), &[])?;
     h.total = 3;
     h.cut = Some(9);
     h.taken = one(alloc, 0)?;
@@ -280,7 +281,8 @@ pub(crate) fn waiting(alloc: Global) -> Result<History, OutOfMemory> {
     Ok(h)
 }
 
-// The lines of a history that the test made for these packets and so many applications. It has to be regular.
+// The lines of a history that the test made for these packets and so many applications. It has to
+// be regular.
 pub(crate) fn lines_of(
     alloc: Global,
     h: &History,

@@ -2,11 +2,11 @@
 use crate::histories::{PLAIN, SEGMENT, lines_of, none, one};
 use crate::line::LineBuf;
 use crate::whole::render;
-use history::{Arrival, History, Items, LaneList, Sent};
+use history::{Arrival, History, LaneList, Sent};
 use outside_io::MemorySink;
 use std::alloc::{AllocError, Global};
 use std::test::Fail;
-use steer_base::{Choice, Chosen, Cpu, OutOfMemory, Packet, PacketId, RxQueue, Why};
+use steer_base::{Choice, Chosen, Cpu, List, OutOfMemory, Packet, PacketId, RxQueue, Why};
 
 // The packets that a capture has at most. Those of each way are every fourth one.
 const PACKETS: u32 = 262_144;
@@ -18,27 +18,27 @@ fn every_fourth<T: Drop, F: Fn(u32) -> T>(
     alloc: Global,
     first: u8,
     make: F,
-) -> Result<Items<T>, OutOfMemory>
+) -> Result<List<T>, OutOfMemory>
     requires { F.IsAlwaysCallable make }
 {
     let mut items = Vec::with_capacity(alloc, EACH_WAY as usize)?;
     for k in 0..EACH_WAY {
         items.push(make(4 * k + first as u32))?;
     }
-    Ok(Items::of(items))
+    Ok(List::from_vec(items))
 }
 
 fn four<T: Drop, F: Fn(u8) -> Result<T, OutOfMemory>>(
     alloc: Global,
     make: F,
-) -> Result<Items<T>, OutOfMemory>
+) -> Result<List<T>, OutOfMemory>
     requires { F.IsAlwaysCallable make }
 {
     let mut items = Vec::new(alloc);
     for way in 0..4 {
         items.push(make(way)?)?;
     }
-    Ok(Items::of(items))
+    Ok(List::from_vec(items))
 }
 
 // The packets of one way, all of which were retired.
@@ -52,7 +52,7 @@ fn lane(alloc: Global, way: u8) -> Result<LaneList, OutOfMemory> {
     })
 }
 
-fn arrivals(alloc: Global) -> Result<Items<Arrival>, OutOfMemory> {
+fn arrivals(alloc: Global) -> Result<List<Arrival>, OutOfMemory> {
     let mut arrivals = Vec::with_capacity(alloc, PACKETS as usize)?;
     for id in 0..PACKETS {
         let queue = RxQueue((id % 4) as u8);
@@ -63,18 +63,18 @@ fn arrivals(alloc: Global) -> Result<Items<Arrival>, OutOfMemory> {
             entry: Some(queue),
         })?;
     }
-    Ok(Items::of(arrivals))
+    Ok(List::from_vec(arrivals))
 }
 
-fn port(alloc: Global) -> Result<Items<PacketId>, OutOfMemory> {
+fn port(alloc: Global) -> Result<List<PacketId>, OutOfMemory> {
     let mut port = Vec::with_capacity(alloc, PACKETS as usize)?;
     for id in 0..PACKETS {
         port.push(PacketId(id))?;
     }
-    Ok(Items::of(port))
+    Ok(List::from_vec(port))
 }
 
-fn chosen(alloc: Global, way: u8) -> Result<Items<Chosen>, OutOfMemory> {
+fn chosen(alloc: Global, way: u8) -> Result<List<Chosen>, OutOfMemory> {
     every_fourth(
         alloc,
         way,
@@ -85,7 +85,7 @@ fn chosen(alloc: Global, way: u8) -> Result<Items<Chosen>, OutOfMemory> {
     )
 }
 
-fn sent(alloc: Global, way: u8) -> Result<Items<Sent>, OutOfMemory> {
+fn sent(alloc: Global, way: u8) -> Result<List<Sent>, OutOfMemory> {
     every_fourth(
         alloc,
         way,
@@ -97,7 +97,7 @@ fn sent(alloc: Global, way: u8) -> Result<Items<Sent>, OutOfMemory> {
     )
 }
 
-fn tx_chosen(alloc: Global, way: u8) -> Result<Items<Chosen>, OutOfMemory> {
+fn tx_chosen(alloc: Global, way: u8) -> Result<List<Chosen>, OutOfMemory> {
     every_fourth(
         alloc,
         way,
@@ -115,7 +115,8 @@ fn tx_chosen(alloc: Global, way: u8) -> Result<Items<Chosen>, OutOfMemory> {
     )
 }
 
-// Each packet went its way, by the queue, the processor, the application and the transmit queue of one number.
+// Each packet went its way, by the queue, the processor, the application and the transmit queue of
+// one number.
 fn history(alloc: Global) -> Result<History, OutOfMemory> {
     Ok(History {
         total: PACKETS,

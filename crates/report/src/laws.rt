@@ -13,8 +13,9 @@ pub fn rows_are_found_in_their_text()
     ensures { AreFoundInText }
 {}
 
-/// One report has one history: bytes are the report of at most one history with a given start, for the packets of a
-/// capture and a number of applications, and of the texts of its taps, whatever these are.
+/// One report has one history: bytes are the report of at most one history with a given start, for
+/// the packets of a capture and a number of applications, and of the texts of its taps, whatever
+/// these are.
 pub fn a_report_has_one_history()
     ensures { HasOneHistory }
 {

@@ -1,4 +1,5 @@
-//! The text that the program writes: numbers, lines, one piece for the sink a line, and the report of a history.
+//! The text that the program writes: numbers, lines, one piece for the sink a line, and the report
+//! of a history.
 #![tactic(auto)]
 
 mod commands;

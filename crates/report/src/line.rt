@@ -15,7 +15,8 @@ use steer_base::OutOfMemory;
 /// The most bytes that a line may have.
 const ROOM: usize = 512;
 
-/// The bytes of a line so far, at most 512 of them, all reserved when it is made. No call but `make` takes memory.
+/// The bytes of a line so far, at most 512 of them, all reserved when it is made. No call but
+/// `make` takes memory.
 #[derive(Drop)]
 pub struct LineBuf {
     bytes: Vec<u8>,
@@ -66,7 +67,8 @@ impl LineBuf {
         self.push(digits);
     }
 
-    /// Puts the lowest so many hexadecimal digits of a number behind the line, the highest of them first.
+    /// Puts the lowest `digits` hexadecimal digits of a number behind the line, the highest of them
+    /// first.
     pub fn push_hex(&mut self, number: u128, digits: u32)
         requires few { digits ≤ 32 }
         requires room { length self.old + digits ≤ 512 }

@@ -9,9 +9,10 @@ use crate::line::LineBuf;
 use history::{PacketLine, Place, ReplyLine, Via};
 use steer_base::{Choice, DropCause, Put, Why};
 
-/// The line of a packet that arrived. No line of a report is longer than one of a packet that the flow limit dropped: 79
-/// bytes of words, spaces and the line feed, and at most 122 of values (9 numbers of ten digits, 4 of three, and the
-/// words for `via`, `why` and `place`), so 201 of the 512 that a line may have.
+/// The line of a packet that arrived. No line of a report is longer than one of a packet that the
+/// flow limit dropped: 79 bytes of words, spaces and the line feed, and at most 122 of values (9
+/// numbers of ten digits, 4 of three, and the words for `via`, `why` and `place`), so 201 of the
+/// 512 that a line may have.
 pub(crate) fn packet_line(buf: &mut LineBuf, line: &PacketLine)
     ensures { buf.new ≡ row_text (packet_row line.now) }
 {

@@ -224,7 +224,8 @@ end 4 of 4
     Ok(())
 }
 
-// The report goes out as these pieces, one a write, and nothing goes out from a write that fails on.
+// The report goes out as these pieces, one a write, and nothing goes out from a write that fails
+// on.
 fn goes_out(
     rt: &impl Abort,
     alloc: Global,

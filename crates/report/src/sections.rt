@@ -11,16 +11,18 @@ use crate::commands::command_line;
 use crate::line::LineBuf;
 use crate::packets::{packet_line, reply_line};
 use crate::sums::{cpu_line, queue_line, tap_line, tx_line, write_line};
-use history::{Commanded, Items, LaneList, Lines, ReplyLine, SockWrite};
+use history::{Commanded, LaneList, Lines, ReplyLine, SockWrite};
 use outside_io::{Sink, WriteFault, write_whole};
-use steer_base::PacketId;
+use steer_base::{List, PacketId};
 use taps::TapText;
 
 /// Writes the line that was built.
 pub(crate) fn put_line<K: Sink>(buf: &mut LineBuf, out: &mut K) -> Result<(), WriteFault>
-    ensures whole { OnOk result (Wrote (K.written out.old) (K.written out.new) (K.faults out.old) (K.faults out.new)
+    ensures whole { OnOk result
+        (Wrote (K.written out.old) (K.written out.new) (K.faults out.old) (K.faults out.new)
         buf.old) }
-    ensures part { OnErr result (Stopped (K.written out.old) (K.written out.new) (K.faults out.old) (K.faults out.new)
+    ensures part { OnErr result
+        (Stopped (K.written out.old) (K.written out.new) (K.faults out.old) (K.faults out.new)
         buf.old) }
 {
     buf.write(out)
@@ -34,9 +36,11 @@ pub(crate) fn write_packets<K: Sink>(
     out: &mut K,
 ) -> Result<(), WriteFault>
     requires { arrived ≡ length lines.now.packets }
-    ensures whole { OnOk result (Wrote (K.written out.old) (K.written out.new) (K.faults out.old) (K.faults out.new)
+    ensures whole { OnOk result
+        (Wrote (K.written out.old) (K.written out.new) (K.faults out.old) (K.faults out.new)
         (text_of (packet_rows lines.now.packets))) }
-    ensures part { OnErr result (Stopped (K.written out.old) (K.written out.new) (K.faults out.old) (K.faults out.new)
+    ensures part { OnErr result
+        (Stopped (K.written out.old) (K.written out.new) (K.faults out.old) (K.faults out.new)
         (text_of (packet_rows lines.now.packets))) }
 {
     for id in 0..arrived {
@@ -54,9 +58,11 @@ pub(crate) fn write_replies<K: Sink>(
     out: &mut K,
 ) -> Result<(), WriteFault>
     requires { arrived ≡ length lines.now.replies }
-    ensures whole { OnOk result (Wrote (K.written out.old) (K.written out.new) (K.faults out.old) (K.faults out.new)
+    ensures whole { OnOk result
+        (Wrote (K.written out.old) (K.written out.new) (K.faults out.old) (K.faults out.new)
         (text_of (reply_rows lines.now.replies))) }
-    ensures part { OnErr result (Stopped (K.written out.old) (K.written out.new) (K.faults out.old) (K.faults out.new)
+    ensures part { OnErr result
+        (Stopped (K.written out.old) (K.written out.new) (K.faults out.old) (K.faults out.new)
         (text_of (reply_rows lines.now.replies))) }
 {
     for id in 0..arrived {
@@ -70,9 +76,11 @@ fn write_reply<K: Sink>(
     buf: &mut LineBuf,
     out: &mut K,
 ) -> Result<(), WriteFault>
-    ensures whole { OnOk result (Wrote (K.written out.old) (K.written out.new) (K.faults out.old) (K.faults out.new)
+    ensures whole { OnOk result
+        (Wrote (K.written out.old) (K.written out.new) (K.faults out.old) (K.faults out.new)
         (reply_text line)) }
-    ensures part { OnErr result (Stopped (K.written out.old) (K.written out.new) (K.faults out.old) (K.faults out.new)
+    ensures part { OnErr result
+        (Stopped (K.written out.old) (K.written out.new) (K.faults out.old) (K.faults out.new)
         (reply_text line)) }
 {
     match line {
@@ -87,14 +95,16 @@ fn write_reply<K: Sink>(
 /// The receive queues.
 pub(crate) fn write_queues<K: Sink>(
     lines: &Lines,
-    taken: &Items<u32>,
+    taken: &List<u32>,
     buf: &mut LineBuf,
     out: &mut K,
 ) -> Result<(), WriteFault>
     requires { length lines.now.arrived ≡ length taken.now }
-    ensures whole { OnOk result (Wrote (K.written out.old) (K.written out.new) (K.faults out.old) (K.faults out.new)
+    ensures whole { OnOk result
+        (Wrote (K.written out.old) (K.written out.new) (K.faults out.old) (K.faults out.new)
         (text_of (queue_rows lines.now.arrived taken.now))) }
-    ensures part { OnErr result (Stopped (K.written out.old) (K.written out.new) (K.faults out.old) (K.faults out.new)
+    ensures part { OnErr result
+        (Stopped (K.written out.old) (K.written out.new) (K.faults out.old) (K.faults out.new)
         (text_of (queue_rows lines.now.arrived taken.now))) }
 {
     for queue in 0..taken.len() {
@@ -111,13 +121,15 @@ pub(crate) fn write_queues<K: Sink>(
 
 /// The processors.
 pub(crate) fn write_cpus<K: Sink>(
-    lanes: &Items<LaneList>,
+    lanes: &List<LaneList>,
     buf: &mut LineBuf,
     out: &mut K,
 ) -> Result<(), WriteFault>
-    ensures whole { OnOk result (Wrote (K.written out.old) (K.written out.new) (K.faults out.old) (K.faults out.new)
+    ensures whole { OnOk result
+        (Wrote (K.written out.old) (K.written out.new) (K.faults out.old) (K.faults out.new)
         (text_of (cpu_rows lanes.now))) }
-    ensures part { OnErr result (Stopped (K.written out.old) (K.written out.new) (K.faults out.old) (K.faults out.new)
+    ensures part { OnErr result
+        (Stopped (K.written out.old) (K.written out.new) (K.faults out.old) (K.faults out.new)
         (text_of (cpu_rows lanes.now))) }
 {
     for cpu in 0..lanes.len() {
@@ -129,13 +141,15 @@ pub(crate) fn write_cpus<K: Sink>(
 
 /// The transmit queues.
 pub(crate) fn write_txs<K: Sink>(
-    lanes: &Items<LaneList>,
+    lanes: &List<LaneList>,
     buf: &mut LineBuf,
     out: &mut K,
 ) -> Result<(), WriteFault>
-    ensures whole { OnOk result (Wrote (K.written out.old) (K.written out.new) (K.faults out.old) (K.faults out.new)
+    ensures whole { OnOk result
+        (Wrote (K.written out.old) (K.written out.new) (K.faults out.old) (K.faults out.new)
         (text_of (tx_rows lanes.now))) }
-    ensures part { OnErr result (Stopped (K.written out.old) (K.written out.new) (K.faults out.old) (K.faults out.new)
+    ensures part { OnErr result
+        (Stopped (K.written out.old) (K.written out.new) (K.faults out.old) (K.faults out.new)
         (text_of (tx_rows lanes.now))) }
 {
     for tx in 0..lanes.len() {
@@ -147,13 +161,15 @@ pub(crate) fn write_txs<K: Sink>(
 
 /// The socket writes of the applications, those of each in order.
 pub(crate) fn write_sock_writes<K: Sink>(
-    writes: &Items<Items<SockWrite>>,
+    writes: &List<List<SockWrite>>,
     buf: &mut LineBuf,
     out: &mut K,
 ) -> Result<(), WriteFault>
-    ensures whole { OnOk result (Wrote (K.written out.old) (K.written out.new) (K.faults out.old) (K.faults out.new)
+    ensures whole { OnOk result
+        (Wrote (K.written out.old) (K.written out.new) (K.faults out.old) (K.faults out.new)
         (text_of (write_rows 0 writes.now))) }
-    ensures part { OnErr result (Stopped (K.written out.old) (K.written out.new) (K.faults out.old) (K.faults out.new)
+    ensures part { OnErr result
+        (Stopped (K.written out.old) (K.written out.new) (K.faults out.old) (K.faults out.new)
         (text_of (write_rows 0 writes.now))) }
 {
     for app in 0..writes.len() {
@@ -164,13 +180,15 @@ pub(crate) fn write_sock_writes<K: Sink>(
 
 fn write_writes_of<K: Sink>(
     app: u64,
-    writes: &Items<SockWrite>,
+    writes: &List<SockWrite>,
     buf: &mut LineBuf,
     out: &mut K,
 ) -> Result<(), WriteFault>
-    ensures whole { OnOk result (Wrote (K.written out.old) (K.written out.new) (K.faults out.old) (K.faults out.new)
+    ensures whole { OnOk result
+        (Wrote (K.written out.old) (K.written out.new) (K.faults out.old) (K.faults out.new)
         (text_of (map (write_row app) writes.now))) }
-    ensures part { OnErr result (Stopped (K.written out.old) (K.written out.new) (K.faults out.old) (K.faults out.new)
+    ensures part { OnErr result
+        (Stopped (K.written out.old) (K.written out.new) (K.faults out.old) (K.faults out.new)
         (text_of (map (write_row app) writes.now))) }
 {
     for i in 0..writes.len() {
@@ -182,13 +200,15 @@ fn write_writes_of<K: Sink>(
 
 /// The commands, in order.
 pub(crate) fn write_commands<K: Sink>(
-    commands: &Items<Commanded>,
+    commands: &List<Commanded>,
     buf: &mut LineBuf,
     out: &mut K,
 ) -> Result<(), WriteFault>
-    ensures whole { OnOk result (Wrote (K.written out.old) (K.written out.new) (K.faults out.old) (K.faults out.new)
+    ensures whole { OnOk result
+        (Wrote (K.written out.old) (K.written out.new) (K.faults out.old) (K.faults out.new)
         (text_of (command_rows commands.now))) }
-    ensures part { OnErr result (Stopped (K.written out.old) (K.written out.new) (K.faults out.old) (K.faults out.new)
+    ensures part { OnErr result
+        (Stopped (K.written out.old) (K.written out.new) (K.faults out.old) (K.faults out.new)
         (text_of (command_rows commands.now))) }
 {
     for number in 0..commands.len() {
@@ -204,9 +224,11 @@ pub(crate) fn write_taps<K: Sink>(
     buf: &mut LineBuf,
     out: &mut K,
 ) -> Result<(), WriteFault>
-    ensures whole { OnOk result (Wrote (K.written out.old) (K.written out.new) (K.faults out.old) (K.faults out.new)
+    ensures whole { OnOk result
+        (Wrote (K.written out.old) (K.written out.new) (K.faults out.old) (K.faults out.new)
         (text_of (tap_rows texts.now))) }
-    ensures part { OnErr result (Stopped (K.written out.old) (K.written out.new) (K.faults out.old) (K.faults out.new)
+    ensures part { OnErr result
+        (Stopped (K.written out.old) (K.written out.new) (K.faults out.old) (K.faults out.new)
         (text_of (tap_rows texts.now))) }
 {
     for tap in 0..texts.len() {
@@ -221,9 +243,11 @@ fn write_tap<K: Sink>(
     buf: &mut LineBuf,
     out: &mut K,
 ) -> Result<(), WriteFault>
-    ensures whole { OnOk result (Wrote (K.written out.old) (K.written out.new) (K.faults out.old) (K.faults out.new)
+    ensures whole { OnOk result
+        (Wrote (K.written out.old) (K.written out.new) (K.faults out.old) (K.faults out.new)
         (row_text (Tap tap text.now))) }
-    ensures part { OnErr result (Stopped (K.written out.old) (K.written out.new) (K.faults out.old) (K.faults out.new)
+    ensures part { OnErr result
+        (Stopped (K.written out.old) (K.written out.new) (K.faults out.old) (K.faults out.new)
         (row_text (Tap tap text.now))) }
 {
     let bytes = text.bytes.as_slice();
@@ -234,9 +258,11 @@ fn write_tap<K: Sink>(
 }
 
 fn put_text<K: Sink>(text: &[u8], out: &mut K) -> Result<(), WriteFault>
-    ensures whole { OnOk result (Wrote (K.written out.old) (K.written out.new) (K.faults out.old) (K.faults out.new)
+    ensures whole { OnOk result
+        (Wrote (K.written out.old) (K.written out.new) (K.faults out.old) (K.faults out.new)
         text.now) }
-    ensures part { OnErr result (Stopped (K.written out.old) (K.written out.new) (K.faults out.old) (K.faults out.new)
+    ensures part { OnErr result
+        (Stopped (K.written out.old) (K.written out.new) (K.faults out.old) (K.faults out.new)
         text.now) }
 {
     write_whole(out, text)

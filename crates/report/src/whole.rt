@@ -19,8 +19,9 @@ use history::{History, Lines};
 use outside_io::{Sink, WriteFault};
 use taps::TapText;
 
-/// Writes the report of a history, from the lines that were made of it and the texts of the taps. Each line with its
-/// line feed is one piece for the sink, and each text of a tap is one. No memory is taken.
+/// Writes the report of a history, from the lines that were made of it and the texts of the taps.
+/// Each line with its line feed is one piece for the sink, and each text of a tap is one. No memory
+/// is taken.
 pub fn render<K: Sink>(
     h: &History,
     lines: &Lines,
@@ -29,8 +30,12 @@ pub fn render<K: Sink>(
     out: &mut K,
 ) -> Result<(), WriteFault>
     requires { AreLinesOf lines.now h.now }
-    ensures whole { OnOk result (Appends (K.written out.old) (K.written out.new) (text_of (rows_of lines.now h.now texts.now))) }
-    ensures part { OnErr result (AppendsSome (K.written out.old) (K.written out.new) (text_of (rows_of lines.now h.now texts.now))) }
+    ensures whole { OnOk result
+        (Appends (K.written out.old) (K.written out.new)
+        (text_of (rows_of lines.now h.now texts.now))) }
+    ensures part { OnErr result
+        (AppendsSome (K.written out.old) (K.written out.new)
+        (text_of (rows_of lines.now h.now texts.now))) }
     ensures fault { OnErr result (Rose (K.faults out.old) (K.faults out.new)) }
     ensures later { K.faults out.old ≤ K.faults out.new }
 {
@@ -48,9 +53,11 @@ fn render_packets<K: Sink>(
     out: &mut K,
 ) -> Result<(), WriteFault>
     requires { AreLinesOf lines.now h.now }
-    ensures whole { OnOk result (Wrote (K.written out.old) (K.written out.new) (K.faults out.old) (K.faults out.new)
+    ensures whole { OnOk result
+        (Wrote (K.written out.old) (K.written out.new) (K.faults out.old) (K.faults out.new)
         (packets_text lines.now)) }
-    ensures part { OnErr result (Stopped (K.written out.old) (K.written out.new) (K.faults out.old) (K.faults out.new)
+    ensures part { OnErr result
+        (Stopped (K.written out.old) (K.written out.new) (K.faults out.old) (K.faults out.new)
         (packets_text lines.now)) }
 {
     let arrived = h.arrivals.len() as u32;
@@ -69,9 +76,11 @@ fn render_sums<K: Sink>(
     out: &mut K,
 ) -> Result<(), WriteFault>
     requires { AreLinesOf lines.now h.now }
-    ensures whole { OnOk result (Wrote (K.written out.old) (K.written out.new) (K.faults out.old) (K.faults out.new)
+    ensures whole { OnOk result
+        (Wrote (K.written out.old) (K.written out.new) (K.faults out.old) (K.faults out.new)
         (sums_text lines.now h.now)) }
-    ensures part { OnErr result (Stopped (K.written out.old) (K.written out.new) (K.faults out.old) (K.faults out.new)
+    ensures part { OnErr result
+        (Stopped (K.written out.old) (K.written out.new) (K.faults out.old) (K.faults out.new)
         (sums_text lines.now h.now)) }
 {
     write_queues(lines, &h.taken, buf, out)?;
@@ -87,9 +96,11 @@ fn render_events<K: Sink>(
     buf: &mut LineBuf,
     out: &mut K,
 ) -> Result<(), WriteFault>
-    ensures whole { OnOk result (Wrote (K.written out.old) (K.written out.new) (K.faults out.old) (K.faults out.new)
+    ensures whole { OnOk result
+        (Wrote (K.written out.old) (K.written out.new) (K.faults out.old) (K.faults out.new)
         (events_text h.now texts.now)) }
-    ensures part { OnErr result (Stopped (K.written out.old) (K.written out.new) (K.faults out.old) (K.faults out.new)
+    ensures part { OnErr result
+        (Stopped (K.written out.old) (K.written out.new) (K.faults out.old) (K.faults out.new)
         (events_text h.now texts.now)) }
 {
     write_sock_writes(&h.writes, buf, out)?;

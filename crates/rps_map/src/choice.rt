@@ -1,7 +1,7 @@
 //! The choice among the processors of a mask.
-ghost use Rattle.std.specs.Prelude.{◌≡◌, ◌<◌, ◌≤◌, ◌⊎◌, ◌&&◌, IsTrue, length, slice_index};
+ghost use Rattle.std.specs.Prelude.{◌≡◌, ◌⊎◌, ◌&&◌, IsTrue};
 ghost use Rattle.steer_base.specs.Choices.{rps_choice_of};
-ghost use Rattle.steer_base.specs.Sets.{has, those_below};
+ghost use Rattle.steer_base.specs.Sets.{has};
 
 use steer_base::{Cpu, CpuMask};
 
@@ -15,45 +15,11 @@ pub fn rps_choice(mask: CpuMask, hash: Option<u32>, online: CpuMask, home: Cpu) 
     let Some(hash) = hash else {
         return home;
     };
-    let count = member_count(mask);
-    if count == 0 {
+    if mask.is_empty() {
         return home;
     }
-    let chosen = member_at(mask, hash % count);
+    let chosen = mask.nth(hash % mask.len());
     if online.has(chosen.0) { chosen } else { home }
-}
-
-// How many processors are in the set.
-#[tactic(auto, using(steer_base::proofs::SetsLemmas::members))]
-fn member_count(mask: CpuMask) -> u32
-    ensures value { result ≡ length (those_below 32 (has mask)) }
-{
-    let mut count = 0;
-    for cpu in 0..32 {
-        if mask.has(cpu) {
-            count += 1;
-        }
-    }
-    count
-}
-
-// The processor of the set that so many others of it are below.
-#[tactic(auto, using(steer_base::proofs::SetsLemmas::members))]
-fn member_at(mask: CpuMask, index: u32) -> Cpu
-    requires { index < length (those_below 32 (has mask)) }
-    ensures value { result ≡ slice_index (those_below 32 (has mask)) index }
-    ensures member { IsTrue (has mask result) }
-{
-    let mut left = index;
-    for cpu in 0..32 {
-        if mask.has(cpu) {
-            if left == 0 {
-                return Cpu(cpu);
-            }
-            left -= 1;
-        }
-    }
-    unreachable!()
 }
 
 #[cfg(test)]

@@ -1,8 +1,6 @@
 -- The redirection table of a card with receive side scaling (Intel 82599 datasheet, 128 entries).
-use Rattle.std.specs.Prelude.{◌≡◌, ℕ, ◌%◌, ◌<◌, ◌≤◌, Bool, ◌&&◌, nat_lt, List, length, map, slice_index, slice_set}
-use Rattle.std.specs.Prelude.{Option, Some, None}
-use Rattle.std.specs.List.{All, range_with_len}
-use Rattle.steer_base.specs.Arrivals.{table_place}
+use Rattle.std.specs.Prelude.{◌≡◌, ℕ, ◌<◌, ◌≤◌, All, Bool, ◌&&◌, nat_lt, List, length, Option, Some, None, slice_index, slice_set}
+use Rattle.steer_base.specs.Arrivals.{even_entries, table_place}
 
 -- a number of receive queues, and the queue of each entry
 pub record Redirection : Type 0 where
@@ -18,7 +16,7 @@ pub record IsRedirection (table : Redirection) : Type 0 where
 
 -- the default table: entry i is queue i mod the number of queues
 abbrev pub even_table : ℕ → Redirection
-even_table queues = record { queues = queues; entries = map (λ i. i % queues) (range_with_len 0 128) }
+even_table queues = record { queues = queues; entries = even_entries queues }
 
 -- whether there are such an entry and such a queue
 abbrev pub is_in_range : Redirection → ℕ → ℕ → Bool

@@ -1,9 +1,9 @@
 //! The redirection table of 128 entries.
-ghost use Rattle.std.specs.Prelude.{◌≡◌, ◌<◌, ◌≤◌, is_ok, OnOk, OnErr};
+ghost use Rattle.std.specs.Prelude.{◌≡◌, ◌<◌, ◌≤◌, All, is_ok, length, OnOk, OnErr};
 ghost use Rattle.rss_table.specs.Redirection.{even_table, is_in_range, with_entry, queue_of, IsRedirection};
 
 use std::marker::Model;
-use steer_base::RxQueue;
+use steer_base::{RxQueue, even_entries};
 
 const ENTRIES: usize = 128;
 
@@ -35,11 +35,26 @@ impl Reta {
         requires few { queues ≤ 16 }
         ensures { result ≡ even_table queues }
     {
-        let mut entries = [RxQueue(0); ENTRIES];
-        for i in 0..ENTRIES {
-            entries[i] = RxQueue((i % usize::from(queues)) as u8);
+        Reta {
+            queues,
+            entries: even_entries(queues),
         }
-        Reta { queues, entries }
+    }
+
+    /// The table of so many queues, 1 to 16, with these 128 entries.
+    pub fn from_entries(queues: u8, entries: &[RxQueue]) -> Self
+        requires some { 0 < queues }
+        requires few { queues ≤ 16 }
+        requires size { length entries.now ≡ 128 }
+        requires below { All (λ queue. queue < queues) entries.now }
+        ensures { result ≡ record { queues = queues; entries = entries.now } }
+    {
+        let mut table = [RxQueue(0); ENTRIES];
+        table.copy_from_slice(entries);
+        Reta {
+            queues,
+            entries: table,
+        }
     }
 
     /// Gives entry `i` to a queue. Refused, with nothing changed, where there is no such entry or no such queue.
@@ -56,11 +71,17 @@ impl Reta {
         }
     }
 
+    /// Says what every table keeps: 1 to 16 queues, and 128 entries that name one of them each.
+    pub fn sound(&self)
+        ensures sound { IsRedirection self.now }
+    {
+        let _ = &self.queues;
+    }
+
     /// The queue of a packet: that of entry `hash mod 128`, and queue 0 without a hash.
     pub fn queue(&self, hash: Option<u32>) -> RxQueue
         ensures value { result ≡ queue_of self.now hash }
         ensures within { result < self.now.queues }
-        ensures table { IsRedirection self.now }
     {
         match hash {
             Some(hash) => self.entries[hash as usize % ENTRIES],
@@ -100,5 +121,7 @@ mod tests {
         assert_eq!(rt; table.queue(Some(0x51ccc178)), RxQueue(3));
         assert_eq!(rt; table.queue(Some(0x323e8fc2)), RxQueue(2));
         assert_eq!(rt; table.queue(None), RxQueue(0));
+        let other = Reta::from_entries(3, &[RxQueue(2); 128]);
+        assert_eq!(rt; other.queue(Some(5)), RxQueue(2));
     }
 }

@@ -7,7 +7,8 @@ use Rattle.std.proofs.lemmas.Bool.{cases_Bool, cases_eq, ne_eqb, eq-eqb, ltb-tru
 use Rattle.std.proofs.Math.Nat.{mod-lt}
 use Rattle.steer_base.specs.Choices.{class_of}
 use Rattle.steer_base.specs.Entries.{last_or}
-use Rattle.sock_flow_table.specs.Sockets.{Note, at_place, wanted, noted, unset, after_notes, last_noted, share_entry}
+use Rattle.steer_base.specs.HashTables.{row_at}
+use Rattle.sock_flow_table.specs.Sockets.{Note, wanted, noted, unset, after_notes, last_noted, share_entry}
 
 length-noted : (entries : List (Option ℕ)) (hash cpu : ℕ) → length (noted entries hash cpu) ≡ length entries
 length-noted entries hash cpu =
@@ -27,7 +28,7 @@ written entries i cpu j in' =
 wanted-noted : (entries : List (Option ℕ)) (a cpu b : ℕ)
     → wanted (noted entries a cpu) b ≡ cond (share_entry (length entries) a b) (Some cpu) (wanted entries b)
 wanted-noted entries a cpu b =
-    ap (λ k. at_place (noted entries a cpu) (class_of k (Some b))) (length-noted entries a cpu)
+    ap (λ k. row_at None (noted entries a cpu) (class_of k (Some b))) (length-noted entries a cpu)
     ∙ elim (cases_Bool (nat_lt 0 (length entries))) [
       | inl some ↦ rw some (written entries (a % length entries) cpu (b % length entries) (mod-lt b (ltb-true 0 (length entries) some)))
       | inr none ↦ rw none refl
@@ -49,7 +50,7 @@ found-from size hash (n ∷ ns) entries long =
 
 wanted-unset : (size hash : ℕ) → wanted (unset size) hash ≡ None
 wanted-unset size hash =
-    ap (λ k. at_place (unset size) (class_of k (Some hash))) (length-replicate size None)
+    ap (λ k. row_at None (unset size) (class_of k (Some hash))) (length-replicate size None)
     ∙ elim (cases_Bool (nat_lt 0 size)) [
       | inl some ↦ rw some (get_or-replicate size (hash % size) None None (mod-lt hash (ltb-true 0 size some)))
       | inr none ↦ rw none refl

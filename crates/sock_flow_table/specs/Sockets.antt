@@ -1,35 +1,21 @@
--- The socket flow table (kernel scaling chapter, section RFS: `rps_sock_flow_table`), seen as the list of its entries:
--- each is the processor noted there last, or none since the table was cleared.
-use Rattle.std.specs.Prelude.{ℕ, ◌%◌, Bool, ◌&&◌, List, Option, Some, None, ◌==◌, nat_lt, length, map, filter, slice_set, slice_index_or, replicate}
+-- The socket flow table (kernel scaling chapter, section RFS: `rps_sock_flow_table`), seen as the list of
+-- its entries: each is the processor noted there last, or none since the table was cleared.
+use Rattle.std.specs.Prelude.{ℕ, ◌%◌, Bool, ◌&&◌, List, Option, Some, None, ◌==◌, nat_lt, map, filter}
 use Rattle.std.specs.List.{fold}
-use Rattle.steer_base.specs.Choices.{class_of}
+use Rattle.steer_base.specs.HashTables.{cleared_rows, place_in_rows, row_at, with_row}
 use Rattle.steer_base.specs.Entries.{last_or}
 
 -- a table of so many entries without a note
 abbrev pub unset : ℕ → List (Option ℕ)
-unset size = replicate size None
-
--- the entry of a hash, `hash mod size`; none in a table without entries
-abbrev pub place_of : List (Option ℕ) → ℕ → Option ℕ
-place_of entries hash = class_of (length entries) (Some hash)
-
--- what stands at a place
-abbrev pub at_place : List (Option ℕ) → Option ℕ → Option ℕ
-at_place entries None = None
-at_place entries (Some place) = slice_index_or entries place None
-
--- the table with a processor written at a place
-abbrev pub with_place : List (Option ℕ) → Option ℕ → ℕ → List (Option ℕ)
-with_place entries None cpu = entries
-with_place entries (Some place) cpu = slice_set entries place (Some cpu)
+unset size = cleared_rows size None
 
 -- the processor that a hash finds
 abbrev pub wanted : List (Option ℕ) → ℕ → Option ℕ
-wanted entries hash = at_place entries (place_of entries hash)
+wanted entries hash = row_at None entries (place_in_rows entries (Some hash))
 
 -- the table after a processor was noted for a hash
 abbrev pub noted : List (Option ℕ) → ℕ → ℕ → List (Option ℕ)
-noted entries hash cpu = with_place entries (place_of entries hash) cpu
+noted entries hash cpu = with_row entries (place_in_rows entries (Some hash)) (Some cpu)
 
 -- a processor noted for a hash
 pub record Note : Type 0 where

@@ -1,46 +1,56 @@
 //! The table of socket flow entries.
-ghost use Rattle.std.specs.Prelude.{◌≡◌, ◌<◌, ◌≤◌, IfOk, IfSome, length, nat_lt};
+ghost use Rattle.std.specs.Prelude.{◌≡◌, ◌<◌, ◌≤◌, IfOk, IfSome, length, nat_lt, take};
+ghost use Rattle.std.specs.Vec.{vec_len, vec_capacity};
 ghost use Rattle.steer_base.specs.Counters.{rounded_up};
-ghost use Rattle.sock_flow_table.specs.Sockets.{noted, place_of, unset, wanted};
+ghost use Rattle.steer_base.specs.HashTables.{place_in_rows};
+ghost use Rattle.sock_flow_table.specs.Sockets.{noted, unset, wanted};
 
 use std::alloc::Global;
 use std::marker::Model;
-use steer_base::{Cpu, OutOfMemory, round_up};
+use steer_base::{Cpu, OutOfMemory, place_of_hash, round_up};
 
-const ROOM: usize = 65536;
+/// The entries of the largest table.
+const LARGEST: usize = 65536;
 
-/// For each entry the processor noted there last (kernel scaling chapter, section RFS: `rps_sock_flow_table`, whose
-/// size is `rps_sock_flow_entries` rounded up to a power of two).
+/// For each entry the processor noted there last (kernel scaling chapter, section RFS:
+/// `rps_sock_flow_table`, whose size is `rps_sock_flow_entries` rounded up to a power of two).
 #[derive(Drop)]
 pub struct SockTable {
+    // As many as the largest table has, with no room for more. The first `size` are the table's.
     entries: Vec<Option<Cpu>>,
+    size: u32,
 }
 
 impl Model for SockTable {
-    ghost use Rattle.std.specs.Prelude.{◌≤◌, ℕ, List, Option, length, vec_capacity};
+    ghost use Rattle.std.specs.Prelude.{◌≡◌, ◌≤◌, ℕ, List, Option, take, vec_len, vec_capacity};
 
     ghost Value = { List (Option ℕ) };
 
-    ghost view = { λ t. t.entries.items };
+    ghost view = { λ t. take t.size t.entries.items };
 
-    ghost invariant = { λ t. (length t.entries.items ≤ 65536) × (65536 ≤ vec_capacity t.entries) };
+    ghost invariant = { λ t. (vec_len t.entries ≡ 65536) × (vec_capacity t.entries ≡ 65536)
+        × (t.size ≤ 65536) };
 }
 
 impl SockTable {
-    /// A table without a note, of at least so many entries: 65,536 at most, and none for 0. The memory of the largest
-    /// table is reserved.
+    /// A table without a note, of at least so many entries: 65,536 at most, and none for 0. It has the memory of
+    /// the largest table, and takes no more later.
     pub fn make(alloc: Global, entries: u32) -> Result<SockTable, OutOfMemory>
         requires { entries ≤ 65536 }
         ensures { IfOk result (λ table. table ≡ unset (rounded_up entries)) }
     {
-        let mut table = SockTable {
-            entries: Vec::with_capacity(alloc, ROOM)?,
-        };
-        table.resize(entries);
-        Ok(table)
+        let mut all = Vec::with_capacity(alloc, LARGEST)?;
+        for _ in 0..LARGEST {
+            all.push_reserved(None);
+        }
+        Ok(SockTable {
+            entries: all,
+            size: round_up(entries),
+        })
     }
 
-    /// Writes the processor at entry `hash mod size`. Answers false, with nothing written, where the table has no entries.
+    /// Writes the processor at entry `hash mod size`. Answers false, with nothing written, where the table has
+    /// no entries.
     pub fn note(&mut self, hash: u32, cpu: Cpu) -> bool
         ensures answer { result ≡ nat_lt 0 (length self.old) }
         ensures table { self.new ≡ noted self.old hash cpu }
@@ -65,23 +75,28 @@ impl SockTable {
         requires { entries ≤ 65536 }
         ensures { self.new ≡ unset (rounded_up entries) }
     {
-        self.entries.clear();
-        self.entries
-            .resize(round_up(entries) as usize, None)
-            .unwrap();
+        self.size = round_up(entries);
+        clear(&mut self.entries, self.size as usize);
     }
 
     // The entry of a hash, if the table has entries.
     fn place(&self, hash: u32) -> Option<usize>
-        ensures value { result ≡ place_of self.now hash }
+        ensures value { result ≡ place_in_rows self.now (Some hash) }
         ensures within { IfSome result (λ place. place < length self.now) }
     {
-        let size = self.entries.len() as u32;
-        if size == 0 {
-            None
-        } else {
-            Some((hash % size) as usize)
-        }
+        place_of_hash(Some(hash), self.size).map(|place| place as usize)
+    }
+}
+
+// Makes the first `count` entries unset.
+fn clear(entries: &mut Vec<Option<Cpu>>, count: usize)
+    requires { count ≤ vec_len entries.old }
+    ensures unset { take count entries.new.items ≡ unset count }
+    ensures len { vec_len entries.new ≡ vec_len entries.old }
+    ensures capacity { vec_capacity entries.new ≡ vec_capacity entries.old }
+{
+    for place in 0..count {
+        entries[place] = None;
     }
 }
 

@@ -1,7 +1,6 @@
 -- When a packet that is put to a lane is dropped: by a full backlog (`netdev_max_backlog`), or by the flow limit of the
 -- kernel scaling chapter (section RPS flow limit: 4,096 buckets, a window of 256 packets, from half of the backlog on).
-use Rattle.std.specs.Prelude.{ℕ, ◌+◌, ◌-◌, ◌*◌, ◌%◌, Bool, ◌&&◌, List, [], ◌∷◌, ◌++◌, Option, Some, None}
-use Rattle.std.specs.Prelude.{◌==◌, nat_lt, length, drop, map, filter, count_by, if◌then◌else◌}
+use Rattle.std.specs.Prelude.{ℕ, ◌+◌, ◌-◌, ◌*◌, ◌%◌, Bool, ◌&&◌, List, [], ◌∷◌, ◌++◌, Option, Some, None, ◌==◌, nat_lt, length, drop, map, filter, count_by, if◌then◌else◌}
 use Rattle.std.specs.List.{filter_map}
 use Rattle.std.specs.Option.{option_map}
 use Rattle.steer_base.specs.Lanes.{LaneLists}
@@ -25,19 +24,19 @@ window offers = last_of 256 (filter_map (λ bucket. bucket) offers)
 abbrev pub bucket_count : List (Option ℕ) → ℕ → ℕ
 bucket_count offers bucket = count_by (λ b. b == bucket) (window (offers ++ Some bucket ∷ []))
 
--- The flow limit, by how many of the last offers have the packet's bucket, where it has one: more than half of the limit
--- waits, and these offers are over 128.
-abbrev pub over_flow_limit : Bool → ℕ → ℕ → Option ℕ → Option DropCause
-over_flow_limit limited limit waiting None = None
-over_flow_limit limited limit waiting (Some count) =
+-- the flow limit, by how often the packet's bucket stands among the last offers: more than half of the limit waits, and
+-- the bucket stands there more than 128 times
+abbrev pub flow_cause : Bool → ℕ → ℕ → Option ℕ → Option DropCause
+flow_cause limited limit waiting None = None
+flow_cause limited limit waiting (Some count) =
     if limited && nat_lt limit (2 * waiting) && nat_lt 128 count then Some (Flow count) else None
 
--- The cause of which a put is a drop, if it is one: a full backlog first, then the flow limit.
+-- a full backlog first, then the flow limit
 abbrev pub cause_by : Bool → ℕ → ℕ → Option ℕ → Option DropCause
 cause_by limited limit waiting count =
-    if waiting == limit then Some Full else over_flow_limit limited limit waiting count
+    if waiting == limit then Some Full else flow_cause limited limit waiting count
 
--- the same after these offers, for a packet with this hash
+-- The cause of which a put is a drop, if it is one.
 abbrev pub drop_cause : Bool → ℕ → ℕ → List (Option ℕ) → Option ℕ → Option DropCause
 drop_cause limited limit waiting offers hash =
     cause_by limited limit waiting (option_map (bucket_count offers) (bucket_of hash))

@@ -7,4 +7,7 @@ use Rattle.taps.specs.declared.depth.Depth.{Depth}
 
 -- the text of the depths so far and these further lines
 abbrev pub depths_after : Depth → List PacketLine → List ℕ
-depths_after tap lines = each_cpu (λ cpu. depth_row cpu (depth_after (slice_index_or tap.depths cpu None) (positions_at cpu lines)))
+depths_after tap lines =
+    each_cpu
+    (λ cpu. depth_row cpu
+    (depth_after (slice_index_or tap.depths cpu None) (positions_at cpu lines)))

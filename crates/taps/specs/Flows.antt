@@ -25,4 +25,5 @@ flow_row flow count = row (codes "flow ") flow (codes " packets ") count
 
 -- For each flow, in the order of first showing: how many lines there are of it.
 abbrev pub per_flow_text : List PacketLine → List ℕ
-per_flow_text lines = flat_map (λ flow. flow_row flow (times flow (flows_of lines))) (once_each (flows_of lines))
+per_flow_text lines =
+    flat_map (λ flow. flow_row flow (times flow (flows_of lines))) (once_each (flows_of lines))

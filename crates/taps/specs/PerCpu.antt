@@ -7,4 +7,5 @@ use Rattle.taps.specs.declared.per_cpu.PerCpu.{PerCpu}
 
 -- the text of the packets counted so far and these further lines
 abbrev pub per_cpu_after : PerCpu → List PacketLine → List ℕ
-per_cpu_after tap lines = each_cpu (λ cpu. cpu_row cpu (slice_index tap.counts cpu + chosen_for cpu lines))
+per_cpu_after tap lines =
+    each_cpu (λ cpu. cpu_row cpu (slice_index tap.counts cpu + chosen_for cpu lines))

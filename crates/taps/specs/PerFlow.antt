@@ -9,7 +9,8 @@ use Rattle.taps.specs.declared.per_flow.PerFlow.{PerFlow}
 
 -- the counts after one more packet of a flow
 abbrev pub counted : List (ℕ × ℕ) → ℕ → List (ℕ × ℕ)
-counted counts flow = insert_entry nat_eq counts flow (unwrap_or (lookup (nat_eq flow) counts) 0 + 1)
+counted counts flow =
+    insert_entry nat_eq counts flow (unwrap_or (lookup (nat_eq flow) counts) 0 + 1)
 
 -- the counts after these
 abbrev pub counts_after : List (ℕ × ℕ) → List ℕ → List (ℕ × ℕ)

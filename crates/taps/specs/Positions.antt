@@ -10,7 +10,8 @@ use Rattle.taps.specs.Rows.{each_cpu, row}
 
 -- the position at this processor, where the packet was accepted there
 abbrev pub accepted_at : ℕ → Option Choice → Option Put → Option ℕ
-accepted_at cpu (Some choice) (Some (At position)) = if choice.lane == cpu then Some position else None
+accepted_at cpu (Some choice) (Some (At position)) =
+    if choice.lane == cpu then Some position else None
 accepted_at cpu (Some choice) (Some (Dropped number accepted pulled cause)) = None
 accepted_at cpu (Some choice) None = None
 accepted_at cpu None put = None
@@ -19,7 +20,8 @@ accepted_at cpu None put = None
 abbrev pub positions_at : ℕ → List PacketLine → List ℕ
 positions_at cpu lines = filter_map (λ line. accepted_at cpu line.choice line.put) lines
 
--- A later position takes the place of the depth where it has reached it. Positions are counter numbers, which wrap.
+-- A later position takes the place of the depth where it has reached it. Positions are counter
+-- numbers, which wrap.
 abbrev pub deepened : Option ℕ → ℕ → Option ℕ
 deepened None position = Some position
 deepened (Some depth) position = if has_reached position depth 0 then Some position else Some depth

@@ -6,7 +6,7 @@ use Rattle.std.specs.List.{flat_map, range_with_len}
 abbrev pub row : List ℕ → ℕ → List ℕ → ℕ → List ℕ
 row name subject measure value = name ++ decimal subject ++ measure ++ decimal value ++ codes "\n"
 
--- the texts of the processors from `first` on, so many of them, ascending
+-- the texts of `count` processors from `first` on, ascending
 abbrev pub rows_of_cpus : ℕ → ℕ → (ℕ → List ℕ) → List ℕ
 rows_of_cpus first count text = flat_map text (range_with_len first count)
 

@@ -5,7 +5,9 @@ use Rattle.steer_base.specs.declared.step.Detach.{Detach}
 
 -- the least of a number and of what the detachings of a tap say
 abbrev pub least_after : ℕ → List Detach → ℕ → ℕ
-least_after tap detach count = fold (λ least after. min least after) count (map (λ d. d.after) (filter (λ d. d.tap == tap) detach))
+least_after tap detach count =
+    fold (λ least after. min least after) count
+    (map (λ d. d.after) (filter (λ d. d.tap == tap) detach))
 
 -- The lines that a tap is shown: all, or only the first ones where it is detached.
 abbrev pub shown_to : ℕ → List Detach → List PacketLine → List PacketLine

@@ -10,9 +10,10 @@ use history::PacketLine;
 use std::alloc::Global;
 use steer_base::{OutOfMemory, Put, reached};
 
-/// Follows the positions of the accepted packets of each processor, and gives the line `depth cpu C at N` for each that
-/// has one, ascending: N is the greatest position along the lines. Positions are counter numbers that wrap, so a later
-/// position counts as greater where it has reached the earlier one.
+/// Follows the positions of the accepted packets of each processor, and gives the line `depth cpu C
+/// at N` for each that has one, ascending: N is the greatest position along the lines. Positions
+/// are counter numbers that wrap, so a later position counts as greater where it has reached the
+/// earlier one.
 #[derive(Drop)]
 pub struct Depth {
     alloc: Global,
@@ -53,7 +54,10 @@ impl Tap for Depth {
 
 // The depth of a lane after one position more.
 fn deepen_at(depths: &mut [Option<u32>; 256], lane: u8, position: u32)
-    ensures { (cpu : ℕ) → slice_index_or depths.new cpu None ≡ (if lane == cpu then deepened_to (slice_index_or depths.old cpu None) position else slice_index_or depths.old cpu None) }
+    ensures { (cpu : ℕ)
+        → slice_index_or depths.new cpu None
+        ≡ (if lane == cpu then deepened_to (slice_index_or depths.old cpu None) position
+        else slice_index_or depths.old cpu None) }
 {
     let depth = &mut depths[usize::from(lane)];
     *depth = deepened(*depth, position);
@@ -70,7 +74,9 @@ fn deepened(depth: Option<u32>, position: u32) -> Option<u32>
 
 // The lines of all processors with a depth.
 fn rows(alloc: Global, depths: &[Option<u32>; 256]) -> Result<Vec<u8>, OutOfMemory>
-    ensures { IfOk result (λ text. text.items ≡ each_cpu (λ cpu. depth_row cpu (slice_index_or depths.now cpu None))) }
+    ensures { IfOk result
+        (λ text. text.items
+        ≡ each_cpu (λ cpu. depth_row cpu (slice_index_or depths.now cpu None))) }
 {
     let mut text = Vec::new(alloc);
     for cpu in 0..256u32 {

@@ -9,9 +9,10 @@ use history::{Lines, PacketLine};
 use std::alloc::Global;
 use steer_base::{Detach, OutOfMemory, PacketId};
 
-/// Shows each tap the lines of the `arrived` packets in packet order, up to the least `after` of its detachings, and
-/// answers the texts in the order of the taps. A tap is finished and dropped after its last line; one with `after` 0
-/// is shown none. A detaching of a tap that isn't there is ignored. After want of memory all taps are dropped.
+/// Shows each tap the lines of the `arrived` packets in packet order, up to the least `after` of
+/// its detachings, and answers the texts in the order of the taps. A tap is finished and dropped
+/// after its last line; one with `after` 0 is shown none. A detaching of a tap that isn't there is
+/// ignored. After want of memory all taps are dropped.
 pub fn feed(
     alloc: Global,
     taps: Vec<Box<dyn Tap>>,
@@ -20,7 +21,10 @@ pub fn feed(
     detach: &[Detach],
 ) -> Result<Vec<TapText>, OutOfMemory>
     requires { arrived ≡ length lines.now.packets }
-    ensures { IfOk result (λ texts. texts.items ≡ map (λ p. text p.1 (shown_to p.0 detach.now lines.now.packets)) (enumerate_from 0 taps.items)) }
+    ensures { IfOk result
+        (λ texts. texts.items
+        ≡ map (λ p. text p.1 (shown_to p.0 detach.now lines.now.packets))
+        (enumerate_from 0 taps.items)) }
 {
     let mut texts = Vec::new(alloc);
     for tap in taps {
@@ -55,7 +59,8 @@ fn shown(tap: Box<dyn Tap>, lines: &Lines, count: u32) -> Result<TapText, OutOfM
 }
 
 fn note_one(tap: &mut Box<dyn Tap>, line: PacketLine) -> Result<(), OutOfMemory>
-    ensures { OnOk result ((lines : List PacketLine) → text tap.new lines ≡ text tap.old (line ∷ lines)) }
+    ensures { OnOk result
+        ((lines : List PacketLine) → text tap.new lines ≡ text tap.old (line ∷ lines)) }
 {
     tap.note(&line)
 }

@@ -10,8 +10,8 @@ use history::PacketLine;
 use std::alloc::Global;
 use steer_base::OutOfMemory;
 
-/// Counts for each processor the packets that were chosen for it, and gives the line `cpu C packets N` for each that
-/// has one, ascending.
+/// Counts for each processor the packets that were chosen for it, and gives the line `cpu C packets
+/// N` for each that has one, ascending.
 #[derive(Drop)]
 pub struct PerCpu {
     alloc: Global,
@@ -52,7 +52,10 @@ impl Tap for PerCpu {
 
 // Counts one packet more at a lane. A count at its end answers want of memory.
 fn count_at(counts: &mut [u64; 256], lane: u8) -> Result<(), OutOfMemory>
-    ensures counted { OnOk result ((cpu : ℕ) → slice_index counts.new cpu ≡ slice_index counts.old cpu + (if lane == cpu then 1 else 0)) }
+    ensures counted { OnOk result
+        ((cpu : ℕ)
+        → slice_index counts.new cpu
+        ≡ slice_index counts.old cpu + (if lane == cpu then 1 else 0)) }
     ensures kept { OnErr result (counts.new ≡ counts.old) }
 {
     let count = &mut counts[usize::from(lane)];
@@ -62,7 +65,8 @@ fn count_at(counts: &mut [u64; 256], lane: u8) -> Result<(), OutOfMemory>
 
 // The lines of all processors with a count.
 fn rows(alloc: Global, counts: &[u64; 256]) -> Result<Vec<u8>, OutOfMemory>
-    ensures { IfOk result (λ text. text.items ≡ each_cpu (λ cpu. cpu_row cpu (slice_index counts.now cpu))) }
+    ensures { IfOk result
+        (λ text. text.items ≡ each_cpu (λ cpu. cpu_row cpu (slice_index counts.now cpu))) }
 {
     let mut text = Vec::new(alloc);
     for cpu in 0..256u32 {

@@ -10,8 +10,8 @@ use indexmap::IndexMap;
 use std::alloc::Global;
 use steer_base::OutOfMemory;
 
-/// Counts the packets of each flow, and gives the line `flow F packets N` for each, in the order in which the flows were
-/// first shown.
+/// Counts the packets of each flow, and gives the line `flow F packets N` for each, in the order in
+/// which the flows were first shown.
 #[derive(Drop)]
 pub struct PerFlow {
     alloc: Global,

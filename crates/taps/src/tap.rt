@@ -18,19 +18,22 @@ impl Model for TapText {
     ghost view = { λ t. t.bytes.items };
 }
 
-/// An observer of the packets of a history. It means, for each list of further lines, the text that it would give
-/// after them.
+/// An observer of the packets of a history. It means, for each list of further lines, the text that
+/// it would give after them.
 pub trait Tap: Drop {
     /// The text that it would give after these further lines.
     ghost text: { Self → List PacketLine → List ℕ };
 
     /// Shows it the next line.
     fn note(&mut self, line: &PacketLine) -> Result<(), OutOfMemory>
-        ensures noted { OnOk result ((lines : List PacketLine) → text self.new lines ≡ text self.old (line.now ∷ lines)) }
-        ensures kept { OnErr result ((lines : List PacketLine) → text self.new lines ≡ text self.old lines) };
+        ensures noted { OnOk result
+            ((lines : List PacketLine) → text self.new lines ≡ text self.old (line.now ∷ lines)) }
+        ensures kept { OnErr result
+            ((lines : List PacketLine) → text self.new lines ≡ text self.old lines) };
 
     /// Gives the text, as it is when no further line comes.
     fn finish(&mut self) -> Result<TapText, OutOfMemory>
         ensures finished { IfOk result (λ t. t ≡ text self.old []) }
-        ensures kept { OnErr result ((lines : List PacketLine) → text self.new lines ≡ text self.old lines) };
+        ensures kept { OnErr result
+            ((lines : List PacketLine) → text self.new lines ≡ text self.old lines) };
 }

@@ -6,13 +6,14 @@ use crate::feeding::feed;
 use crate::per_cpu::PerCpu;
 use crate::per_flow::PerFlow;
 use crate::tap::{Tap, TapText};
-use history::{Arrival, History, Items, Lines, PacketLine, Place, Via};
+use history::{Arrival, History, Lines, PacketLine, Place, Via};
 use std::alloc::Global;
 use std::cell::Cell;
 use std::rc::Rc;
 use std::test::Fail;
 use steer_base::{
-    AppId, Choice, Cpu, Detach, DropCause, Flow, OutOfMemory, Packet, PacketId, Put, RxQueue, Why,
+    AppId, Choice, Cpu, Detach, DropCause, Flow, List, OutOfMemory, Packet, PacketId, Put, RxQueue,
+    Why,
 };
 
 // The line of a packet that was put to a lane.
@@ -157,15 +158,15 @@ impl Tap for Counting {
     }
 }
 
-fn none<T>(alloc: Global) -> Items<T> {
-    Items::of(Vec::new(alloc))
+fn none<T>(alloc: Global) -> List<T> {
+    List::from_vec(Vec::new(alloc))
 }
 
 // One list without items.
-fn one_empty<T: Drop>(alloc: Global) -> Result<Items<Items<T>>, OutOfMemory> {
+fn one_empty<T: Drop>(alloc: Global) -> Result<List<List<T>>, OutOfMemory> {
     let mut lists = Vec::new(alloc);
     lists.push(none(alloc))?;
-    Ok(Items::of(lists))
+    Ok(List::from_vec(lists))
 }
 
 fn arrival(id: u32) -> Arrival {
@@ -183,7 +184,7 @@ fn three_waiting(alloc: Global) -> Result<History, OutOfMemory> {
     Ok(History {
         total: 3,
         cut: None,
-        arrivals: Items::of(arrivals),
+        arrivals: List::from_vec(arrivals),
         taken: none(alloc),
         choices: none(alloc),
         lanes: none(alloc),
@@ -229,7 +230,8 @@ fn every_tap_is_dropped_once(rt: HostRuntime) -> Result<(), Fail> {
         Detach { tap: 0, after: 1 },
         Detach { tap: 9, after: 0 },
     ];
-    // The number of the line for which the second tap finds no memory, and how many lines the two taps see.
+    // The number of the line for which the second tap finds no memory, and how many lines the two
+    // taps see.
     for (failing, first, second) in [(9, 1, 3), (2, 1, 2)] {
         let drops = Rc::new(alloc, Cell::new(0))?;
         let seen = [Rc::new(alloc, Cell::new(0))?, Rc::new(alloc, Cell::new(0))?];

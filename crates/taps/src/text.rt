@@ -13,7 +13,8 @@ pub(crate) fn push_row(
     measure: &[u8],
     value: u64,
 ) -> Result<(), OutOfMemory>
-    ensures { OnOk result (text.new.items ≡ text.old.items ++ row name.now subject measure.now value) }
+    ensures { OnOk result
+        (text.new.items ≡ text.old.items ++ row name.now subject measure.now value) }
 {
     let mut buffer = Buffer::new();
     text.extend_from_slice(name)?;

@@ -30,11 +30,17 @@ among count by_queue by_cpu rxq cpu hash some =
     let cs : List ℕ = candidates count by_queue by_cpu rxq cpu in
     Contains-get_or cs (unwrap_or hash 0 % length cs) 0 (mod-lt (unwrap_or hash 0) (length-candidates count by_queue by_cpu rxq cpu some))
 
+-- a pick is below the number of queues where there is a candidate
+pub within_some : (count : ℕ) (by_queue by_cpu : ℕ → ℕ → Bool) (rxq cpu : ℕ) (hash : Option ℕ)
+    → 0 < length (candidates count by_queue by_cpu rxq cpu) → pick_of count by_queue by_cpu rxq cpu hash < count
+within_some count by_queue by_cpu rxq cpu hash some =
+    let cs : List ℕ = candidates count by_queue by_cpu rxq cpu in
+    All-get_or (λ i. i < count) cs (unwrap_or hash 0 % length cs) 0
+    (mod-lt (unwrap_or hash 0) some)
+    (All-first_filled count (those_below count (λ tx. by_queue tx rxq)) (those_below count (λ tx. by_cpu tx cpu)) (those_below count (λ tx. true))
+    (those_below-below count (λ tx. by_queue tx rxq)) (those_below-below count (λ tx. by_cpu tx cpu)) (those_below-below count (λ tx. true)))
+
 pub within : (count : ℕ) (by_queue by_cpu : ℕ → ℕ → Bool) (rxq cpu : ℕ) (hash : Option ℕ) → 0 < count
     → pick_of count by_queue by_cpu rxq cpu hash < count
 within count by_queue by_cpu rxq cpu hash some =
-    let cs : List ℕ = candidates count by_queue by_cpu rxq cpu in
-    All-get_or (λ i. i < count) cs (unwrap_or hash 0 % length cs) 0
-    (mod-lt (unwrap_or hash 0) (length-candidates count by_queue by_cpu rxq cpu some))
-    (All-first_filled count (those_below count (λ tx. by_queue tx rxq)) (those_below count (λ tx. by_cpu tx cpu)) (those_below count (λ tx. true))
-    (those_below-below count (λ tx. by_queue tx rxq)) (those_below-below count (λ tx. by_cpu tx cpu)) (those_below-below count (λ tx. true)))
+    within_some count by_queue by_cpu rxq cpu hash (length-candidates count by_queue by_cpu rxq cpu some)

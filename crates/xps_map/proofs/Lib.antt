@@ -1,1 +1,2 @@
-mod CandidatesLemmas
+pub mod CandidatesLemmas
+mod ServingLemmas

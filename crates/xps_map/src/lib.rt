@@ -3,7 +3,6 @@
 
 mod laws;
 mod maps;
-mod stage;
 
 pub use laws::a_pick_is_a_candidate;
 pub use maps::XpsMaps;

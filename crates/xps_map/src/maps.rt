@@ -1,11 +1,9 @@
 //! The maps of the transmit queues.
-ghost use Rattle.std.specs.Prelude.{◌≡◌, ◌<◌, ◌≤◌, IsTrue, length, slice_index, slice_set};
+ghost use Rattle.std.specs.Prelude.{◌≡◌, ◌<◌, ◌≤◌, length, slice_set};
 ghost use Rattle.steer_base.specs.Sends.{candidates};
-ghost use Rattle.steer_base.specs.Sets.{has_queue, those_below};
+ghost use Rattle.steer_base.specs.Sets.{has_queue, members, those_below};
 ghost use Rattle.xps_map.specs.Maps.{empty_maps, picked, serves_cpu, serves_queue};
-ghost use Rattle.xps_map.specs.Stages.{passes_at};
 
-use crate::stage::Stage;
 use std::marker::Model;
 use steer_base::{Cpu, CpuMask, RxQueue, TxQueue};
 
@@ -45,6 +43,26 @@ impl XpsMaps {
         }
     }
 
+    /// The maps of 1 to 32 transmit queues, by the processors and the receive queues of each.
+    pub fn from_lists(cpus: &[CpuMask], queues: &[u16]) -> XpsMaps
+        requires some { 1 ≤ length cpus.now }
+        requires few { length cpus.now ≤ 32 }
+        requires even { length queues.now ≡ length cpus.now }
+        ensures { result
+            ≡ record { count = length cpus.now; cpus = cpus.now; queues = queues.now } }
+    {
+        let count = cpus.len();
+        let mut all_cpus = [CpuMask(0); MOST];
+        all_cpus[..count].copy_from_slice(cpus);
+        let mut all_queues = [0; MOST];
+        all_queues[..count].copy_from_slice(queues);
+        XpsMaps {
+            count: count as u8,
+            cpus: all_cpus,
+            queues: all_queues,
+        }
+    }
+
     /// Gives a transmit queue other processors.
     pub fn set_cpus(&mut self, tx: TxQueue, mask: CpuMask)
         requires { tx < self.old.count }
@@ -68,69 +86,52 @@ impl XpsMaps {
         ensures value { result ≡ picked self.now rxq cpu hash }
         ensures within { result < self.now.count }
     {
-        let stage = self.stage(rxq, cpu);
-        let index = hash.unwrap_or(0) % self.candidate_count(stage, rxq, cpu);
-        self.candidate_at(stage, rxq, cpu, index)
+        let candidates = self.candidates(rxq, cpu);
+        let index = hash.unwrap_or(0) % candidates.len();
+        TxQueue(candidates.nth(index).0)
     }
 
-    // The first stage at which a transmit queue passes.
-    fn stage(&self, rxq: RxQueue, cpu: Cpu) -> Stage
-        ensures candidates { those_below self.now.count (passes_at result self.now rxq cpu) ≡ candidates self.now.count (serves_queue self.now) (serves_cpu self.now) rxq cpu }
-        ensures some { 0 < length (those_below self.now.count (passes_at result self.now rxq cpu)) }
+    // The candidates as a set: bit t is transmit queue t.
+    fn candidates(&self, rxq: RxQueue, cpu: Cpu) -> CpuMask
+        ensures value { members result
+            ≡ candidates self.now.count (serves_queue self.now) (serves_cpu self.now) rxq cpu }
+        ensures some { 0 < length (members result) }
     {
-        if self.candidate_count(Stage::ByQueue, rxq, cpu) > 0 {
-            Stage::ByQueue
-        } else if self.candidate_count(Stage::ByCpu, rxq, cpu) > 0 {
-            Stage::ByCpu
-        } else {
-            Stage::All
+        let by_queue = self.serving_queue(rxq);
+        if !by_queue.is_empty() {
+            return by_queue;
         }
+        let by_cpu = self.serving_cpu(cpu);
+        if !by_cpu.is_empty() {
+            return by_cpu;
+        }
+        CpuMask::first_n(self.count)
     }
 
-    // How many transmit queues pass at a stage.
-    #[tactic(auto, using(steer_base::proofs::SetsLemmas::members))]
-    fn candidate_count(&self, stage: Stage, rxq: RxQueue, cpu: Cpu) -> u32
-        ensures value { result ≡ length (those_below self.now.count (passes_at stage self.now rxq cpu)) }
-        ensures some { 0 < self.now.count }
+    // The transmit queues whose receive-queue map has the queue, as a set.
+    fn serving_queue(&self, rxq: RxQueue) -> CpuMask
+        ensures { members result ≡ those_below self.now.count (λ tx. serves_queue self.now tx rxq) }
     {
-        let mut count = 0;
+        let mut set = CpuMask(0);
         for tx in 0..self.count {
-            if self.passes(stage, rxq, cpu, TxQueue(tx)) {
-                count += 1;
+            if has_receive_queue(self.queues[usize::from(tx)], rxq) {
+                set = set.with(Cpu(tx));
             }
         }
-        count
+        set
     }
 
-    // The transmit queue that passes and that so many others which pass are below.
-    #[tactic(auto, using(steer_base::proofs::SetsLemmas::members))]
-    fn candidate_at(&self, stage: Stage, rxq: RxQueue, cpu: Cpu, index: u32) -> TxQueue
-        requires { index < length (those_below self.now.count (passes_at stage self.now rxq cpu)) }
-        ensures value { result ≡ slice_index (those_below self.now.count (passes_at stage self.now rxq cpu)) index }
-        ensures within { result < self.now.count }
+    // The transmit queues whose processor map has the processor, as a set.
+    fn serving_cpu(&self, cpu: Cpu) -> CpuMask
+        ensures { members result ≡ those_below self.now.count (λ tx. serves_cpu self.now tx cpu) }
     {
-        let mut left = index;
+        let mut set = CpuMask(0);
         for tx in 0..self.count {
-            if self.passes(stage, rxq, cpu, TxQueue(tx)) {
-                if left == 0 {
-                    return TxQueue(tx);
-                }
-                left -= 1;
+            if self.cpus[usize::from(tx)].has(cpu.0) {
+                set = set.with(Cpu(tx));
             }
         }
-        unreachable!()
-    }
-
-    // Whether a transmit queue passes at a stage.
-    fn passes(&self, stage: Stage, rxq: RxQueue, cpu: Cpu, tx: TxQueue) -> bool
-        requires { tx < self.now.count }
-        ensures { result ≡ passes_at stage self.now rxq cpu tx }
-    {
-        match stage {
-            Stage::ByQueue => has_receive_queue(self.queues[usize::from(tx.0)], rxq),
-            Stage::ByCpu => self.cpus[usize::from(tx.0)].has(cpu.0),
-            Stage::All => true,
-        }
+        set
     }
 }
 
@@ -177,6 +178,9 @@ mod tests {
                 "{rxq} {cpu} {hash:?}"
             );
         }
+        let lists = XpsMaps::from_lists(&[CpuMask(0), CpuMask(0b100)], &[0b10, 0]);
+        assert_eq!(rt; lists.pick(RxQueue(1), Cpu(2), Some(D)), TxQueue(0));
+        assert_eq!(rt; lists.pick(RxQueue(0), Cpu(2), Some(A)), TxQueue(1));
         let mut most = XpsMaps::make(32);
         most.set_cpus(TxQueue(31), CpuMask(1 << 31));
         assert_eq!(rt; most.pick(RxQueue(15), Cpu(31), Some(A)), TxQueue(31));

@@ -16,7 +16,7 @@ impl Hop {
         ensures state { self.new ≡ arrived self.old p id }
         ensures answer { result ≡ answer.Done }
     {
-        self.arrivals.push(p, id);
+        self.rings.arrivals.push(p, id);
         HopAnswer::Done
     }
 
@@ -25,13 +25,13 @@ impl Hop {
         ensures state { self.new ≡ (take self.old p).0 }
         ensures answer { result ≡ (take self.old p).1 }
     {
-        let taken = self.taken[p as usize];
-        if self.placed[p as usize] < taken {
+        let taken = self.rings.taken[p as usize];
+        if self.rings.placed[p as usize] < taken {
             return HopAnswer::Idle(Idle::HandFull);
         }
-        if taken < self.arrivals.len_of(p) {
-            self.taken[p as usize] = taken + 1;
-            HopAnswer::Took(self.arrivals.get(p, taken))
+        if taken < self.rings.arrivals.len_of(p) {
+            self.rings.taken[p as usize] = taken + 1;
+            HopAnswer::Took(self.rings.arrivals.get(p, taken))
         } else {
             HopAnswer::Idle(Idle::RingEmpty)
         }
@@ -42,14 +42,14 @@ impl Hop {
         ensures state { self.new ≡ (enter self.old a).0 }
         ensures answer { result ≡ (enter self.old a).1 }
     {
-        if self.visits[a as usize] {
+        if self.gate.visits[a as usize] {
             return HopAnswer::Idle(Idle::AlreadyInside);
         }
-        if self.closed {
+        if self.gate.closed {
             return HopAnswer::Closed;
         }
-        self.visits[a as usize] = true;
-        self.inside += 1;
+        self.gate.visits[a as usize] = true;
+        self.gate.inside += 1;
         HopAnswer::Done
     }
 
@@ -58,14 +58,16 @@ impl Hop {
         ensures state { self.new ≡ (leave self.old a).0 }
         ensures answer { result ≡ (leave self.old a).1 }
     {
-        if !self.visits[a as usize] {
+        if !self.gate.visits[a as usize] {
             return HopAnswer::Idle(Idle::NotInside);
         }
-        if (a as usize) < self.placed.len() && self.placed[a as usize] < self.choices.len_of(a) {
+        if (a as usize) < self.rings.placed.len()
+            && self.rings.placed[a as usize] < self.rings.choices.len_of(a)
+        {
             return HopAnswer::Idle(Idle::MidPacket);
         }
-        self.visits[a as usize] = false;
-        self.inside -= 1;
+        self.gate.visits[a as usize] = false;
+        self.gate.inside -= 1;
         HopAnswer::Done
     }
 
@@ -81,18 +83,18 @@ impl Hop {
         ensures state { self.new ≡ (weigh self.old p class want desired online).0 }
         ensures answer { result ≡ (weigh self.old p class want desired online).1 }
     {
-        if !self.visits[p as usize] {
+        if !self.gate.visits[p as usize] {
             return HopAnswer::Idle(Idle::NotInside);
         }
-        let count = self.choices.len_of(p);
-        if count >= self.taken[p as usize] {
+        let count = self.rings.choices.len_of(p);
+        if count >= self.rings.taken[p as usize] {
             return HopAnswer::Idle(Idle::WrongStage);
         }
-        let id = self.arrivals.get(p, count);
+        let id = self.rings.arrivals.get(p, count);
         let choice = self
             .tables
-            .choose(&self.retired, p, class, want, desired, online);
-        self.choices.push(p, Chosen { id, choice });
+            .choose(&self.hands.retired, p, class, want, desired, online);
+        self.rings.choices.push(p, Chosen { id, choice });
         HopAnswer::Chose(choice)
     }
 
@@ -101,17 +103,16 @@ impl Hop {
         ensures state { self.new ≡ (put self.old p hash).0 }
         ensures answer { result ≡ (put self.old p hash).1 }
     {
-        let inside = self.visits[p as usize];
+        let inside = self.gate.visits[p as usize];
         if !inside {
             return HopAnswer::Idle(Idle::NotInside);
         }
-        let placed = self.placed[p as usize];
-        if placed >= self.choices.len_of(p) {
+        let placed = self.rings.placed[p as usize];
+        let Some(chosen) = self.to_put(p) else {
             return HopAnswer::Idle(Idle::WrongStage);
-        }
-        let chosen = self.choices.get(p, placed);
+        };
         let went = self.lanes.put(chosen.choice.lane, chosen.id, hash);
-        self.placed[p as usize] = placed + 1;
+        self.rings.placed[p as usize] = placed + 1;
         self.tables.note(p, chosen.choice.class, went);
         HopAnswer::Went(went)
     }
@@ -121,7 +122,7 @@ impl Hop {
         ensures state { self.new ≡ (pull self.old lane).0 }
         ensures answer { result ≡ (pull self.old lane).1 }
     {
-        if self.retired[lane as usize] < self.lanes.pulled(lane) {
+        if self.hands.retired[lane as usize] < self.lanes.pulled(lane) {
             return HopAnswer::Idle(Idle::HandFull);
         }
         match self.lanes.take(lane) {
@@ -135,14 +136,14 @@ impl Hop {
         ensures state { self.new ≡ (deliver self.old lane to).0 }
         ensures answer { result ≡ (deliver self.old lane to).1 }
     {
-        let delivered = self.delivered[lane as usize];
+        let delivered = self.hands.delivered[lane as usize];
         if delivered < self.lanes.pulled(lane) {
             let id = self.lanes.accepted_at(lane, delivered);
             let place = self.outs.len_of(to) + 1;
             self.outs.push(to, id);
-            self.delivered[lane as usize] = delivered + 1;
+            self.hands.delivered[lane as usize] = delivered + 1;
             HopAnswer::Position(place)
-        } else if self.retired[lane as usize] < delivered {
+        } else if self.hands.retired[lane as usize] < delivered {
             HopAnswer::Idle(Idle::AlreadyDelivered)
         } else {
             HopAnswer::Idle(Idle::HandEmpty)
@@ -154,11 +155,11 @@ impl Hop {
         ensures state { self.new ≡ (retire self.old lane).0 }
         ensures answer { result ≡ (retire self.old lane).1 }
     {
-        let retired = self.retired[lane as usize];
-        if retired < self.delivered[lane as usize] {
-            self.retired[lane as usize] = retired + 1;
+        let retired = self.hands.retired[lane as usize];
+        if retired < self.hands.delivered[lane as usize] {
+            self.hands.retired[lane as usize] = retired + 1;
             HopAnswer::Done
-        } else if self.delivered[lane as usize] < self.lanes.pulled(lane) {
+        } else if self.hands.delivered[lane as usize] < self.lanes.pulled(lane) {
             HopAnswer::Idle(Idle::NotDelivered)
         } else {
             HopAnswer::Idle(Idle::HandEmpty)
@@ -172,7 +173,7 @@ impl Hop {
     {
         self.tables.resize(p, count);
         self.counts[p as usize] = round_up(count);
-        self.since[p as usize] = self.choices.len_of(p);
+        self.rings.since[p as usize] = self.rings.choices.len_of(p);
         HopAnswer::Done
     }
 
@@ -181,11 +182,11 @@ impl Hop {
         ensures state { self.new ≡ (close self.old).0 }
         ensures answer { result ≡ (close self.old).1 }
     {
-        if self.inside == 0 {
-            self.closed = true;
+        if self.gate.inside == 0 {
+            self.gate.closed = true;
             HopAnswer::Done
         } else {
-            HopAnswer::Inside(self.inside)
+            HopAnswer::Inside(self.gate.inside)
         }
     }
 
@@ -193,7 +194,7 @@ impl Hop {
         ensures state { self.new ≡ with_bare self.old (with_closed self.old.bare false) }
         ensures answer { result ≡ answer.Done }
     {
-        self.closed = false;
+        self.gate.closed = false;
         HopAnswer::Done
     }
 }

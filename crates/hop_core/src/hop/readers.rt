@@ -29,7 +29,7 @@ impl Hop {
         requires { lane < length self.now.bare.accepted }
         ensures { result ≡ head_at self.now.fixed.start self.now.bare lane }
     {
-        self.lanes.number_at(self.retired[lane as usize])
+        self.lanes.number_at(self.hands.retired[lane as usize])
     }
 
     /// The number of a lane's tail.
@@ -53,7 +53,7 @@ impl Hop {
         requires { lane < length self.now.bare.accepted }
         ensures { result ≡ delivered_at self.now.bare lane }
     {
-        self.delivered[lane as usize]
+        self.hands.delivered[lane as usize]
     }
 
     /// How many packets a lane accepted and has not retired.
@@ -61,7 +61,7 @@ impl Hop {
         requires { lane < length self.now.bare.accepted }
         ensures { result ≡ length (accepted_at self.now.bare lane) - retired_at self.now.bare lane }
     {
-        let head = self.lanes.number_at(self.retired[lane as usize]);
+        let head = self.lanes.number_at(self.hands.retired[lane as usize]);
         self.lanes.tail(lane).wrapping_sub(head)
     }
 
@@ -70,7 +70,7 @@ impl Hop {
         requires { lane < length self.now.bare.accepted }
         ensures { result ≡ retired_at self.now.bare lane }
     {
-        self.retired[lane as usize]
+        self.hands.retired[lane as usize]
     }
 
     /// The packet in a lane's hand that is delivered next, if there is one.
@@ -78,7 +78,7 @@ impl Hop {
         requires { lane < length self.now.bare.accepted }
         ensures { result ≡ to_deliver self.now.bare lane }
     {
-        let delivered = self.delivered[lane as usize];
+        let delivered = self.hands.delivered[lane as usize];
         if delivered < self.lanes.pulled(lane) {
             Some(self.lanes.accepted_at(lane, delivered))
         } else {
@@ -123,7 +123,7 @@ impl Hop {
     pub fn inside(&self) -> u32
         ensures { result ≡ self.now.bare.inside }
     {
-        self.inside
+        self.gate.inside
     }
 
     /// Whether an actor is inside the gate.
@@ -131,14 +131,14 @@ impl Hop {
         requires { a < length self.now.visits }
         ensures { result ≡ inside_of self.now a }
     {
-        self.visits[a as usize]
+        self.gate.visits[a as usize]
     }
 
     /// Whether the gate is closed.
     pub fn is_closed(&self) -> bool
         ensures { result ≡ self.now.bare.closed }
     {
-        self.closed
+        self.gate.closed
     }
 
     /// The class of a hash among those of a producer.
@@ -154,7 +154,7 @@ impl Hop {
         requires { p < length self.now.arrivals }
         ensures { result ≡ taken_of self.now p }
     {
-        self.taken[p as usize]
+        self.rings.taken[p as usize]
     }
 
     /// The packet that a producer has taken up and weighs next, if there is one.
@@ -162,9 +162,9 @@ impl Hop {
         requires { p < length self.now.arrivals }
         ensures { result ≡ to_weigh self.now p }
     {
-        let count = self.choices.len_of(p);
-        if count < self.taken[p as usize] {
-            Some(self.arrivals.get(p, count))
+        let count = self.rings.choices.len_of(p);
+        if count < self.rings.taken[p as usize] {
+            Some(self.rings.arrivals.get(p, count))
         } else {
             None
         }
@@ -175,7 +175,7 @@ impl Hop {
         requires { p < length self.now.arrivals }
         ensures { result ≡ placed_of self.now p }
     {
-        self.placed[p as usize]
+        self.rings.placed[p as usize]
     }
 
     /// The choice of a producer that is to be put, if there is one.
@@ -183,9 +183,9 @@ impl Hop {
         requires { p < length self.now.arrivals }
         ensures { result ≡ to_put self.now p }
     {
-        let placed = self.placed[p as usize];
-        if placed < self.choices.len_of(p) {
-            Some(self.choices.get(p, placed))
+        let placed = self.rings.placed[p as usize];
+        if placed < self.rings.choices.len_of(p) {
+            Some(self.rings.choices.get(p, placed))
         } else {
             None
         }
@@ -196,7 +196,7 @@ impl Hop {
         requires { p < length self.now.arrivals }
         ensures { result.now ≡ choices_of self.now p }
     {
-        self.choices.list(p)
+        self.rings.choices.list(p)
     }
 
     /// The last choice of a producer, if it made one.
@@ -204,11 +204,11 @@ impl Hop {
         requires { p < length self.now.arrivals }
         ensures { result ≡ last_choice self.now p }
     {
-        let count = self.choices.len_of(p);
+        let count = self.rings.choices.len_of(p);
         if count == 0 {
             None
         } else {
-            Some(self.choices.get(p, count - 1))
+            Some(self.rings.choices.get(p, count - 1))
         }
     }
 }

@@ -22,9 +22,9 @@ const ALL: CpuMask = CpuMask(0b1111);
 fn is_new(hop: &Hop, id: PacketId) -> bool
     ensures { IsTrue result → (q i : ℕ) → i < length (arrivals_of hop.now q) → slice_index (arrivals_of hop.now q) i ≢ id }
 {
-    for p in 0..hop.taken.len() {
-        for n in 0..hop.arrivals.len_of(p as u8) {
-            if hop.arrivals.get(p as u8, n) == id {
+    for p in 0..hop.rings.taken.len() {
+        for n in 0..hop.rings.arrivals.len_of(p as u8) {
+            if hop.rings.arrivals.get(p as u8, n) == id {
                 return false;
             }
         }
@@ -73,12 +73,12 @@ fn has_class(hop: &Hop, p: u8, class: Option<u32>) -> bool
 fn may_ask(hop: &Hop, e: HopEvent) -> bool
     ensures { IsTrue result → MayAsk hop.now e }
 {
-    let producers = hop.taken.len();
-    let actors = hop.visits.len();
+    let producers = hop.rings.taken.len();
+    let actors = hop.gate.visits.len();
     let lanes = hop.lanes.count();
     match e {
         HopEvent::Arrive { p, id } => {
-            (p as usize) < producers && id.0 < hop.arrivals.room() && is_new(hop, id)
+            (p as usize) < producers && id.0 < hop.rings.arrivals.room() && is_new(hop, id)
         }
         HopEvent::Take { p } => (p as usize) < producers,
         HopEvent::Enter { p } => (p as usize) < actors,
@@ -104,11 +104,11 @@ fn may_ask(hop: &Hop, e: HopEvent) -> bool
             (p as usize) < producers
                 && count <= 32768
                 && !hop.tables.is_exact()
-                && hop.closed
+                && hop.gate.closed
                 && is_empty(hop)
         }
-        HopEvent::Close => !hop.closed,
-        HopEvent::Reopen => hop.closed,
+        HopEvent::Close => !hop.gate.closed,
+        HopEvent::Reopen => hop.gate.closed,
     }
 }
 // Plays an event that may be asked.
@@ -589,7 +589,7 @@ fn a_hop_shows_its_hands(rt: HostRuntime) -> Result<(), Fail> {
     ];
     play(&rt, &mut hop, &turns);
     assert!(rt; hop.lanes.count() == 4 && hop.outs.count() == 1);
-    assert!(rt; hop.taken.len() == 1 && hop.visits.len() == 3);
+    assert!(rt; hop.rings.taken.len() == 1 && hop.gate.visits.len() == 3);
     shows_its_hands(&rt, &hop, choice);
     Ok(())
 }

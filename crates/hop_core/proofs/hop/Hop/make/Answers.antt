@@ -22,19 +22,21 @@ invariant_of-result c =
       start = c.in_ok-lanes.ensures.wide;
     } in
     (whole-made c.args.shape is _
-    (are_new c.args.shape _ _ _ _ _ _ _ _ _ _ _ _
+    (are_new c.args.shape _ _ _ _ _ _ _ _ _ _ _ _ _ _
     c.in_ok-rings.ensures.arrivals
     c.in_ok-rings.ensures.taken
     c.in_ok-rings.ensures.choices
     c.in_ok-rings.ensures.placed
     c.in_ok-rings.ensures.since
-    c.in_ok-visits.ensures
+    c.in_ok-gate.ensures.visits
     (c.in_ok-counts.ensures ∙ ap (map (classes_for c.args.shape.exact)) c.deref-2.ensures.value)
     (c.in_ok-tables.ensures ∙ ap (λ counts. new_tables counts c.args.shape.start c.args.shape.exact) c.deref.ensures.value)
     c.in_ok-lanes.ensures.lanes
-    c.in_ok-delivered.ensures
-    c.in_ok-retired.ensures
-    c.in_ok-outs.ensures)).0
+    c.in_ok-hands.ensures.delivered
+    c.in_ok-hands.ensures.retired
+    c.in_ok-outs.ensures
+    c.in_ok-gate.ensures.inside
+    c.in_ok-gate.ensures.closed)).0
 
 pub returns : goal.returns
 returns c =
@@ -54,16 +56,18 @@ returns c =
       start = c.in_ok-lanes.ensures.wide;
     } in
     (whole-made c.args.shape is _
-    (are_new c.args.shape _ _ _ _ _ _ _ _ _ _ _ _
+    (are_new c.args.shape _ _ _ _ _ _ _ _ _ _ _ _ _ _
     c.in_ok-rings.ensures.arrivals
     c.in_ok-rings.ensures.taken
     c.in_ok-rings.ensures.choices
     c.in_ok-rings.ensures.placed
     c.in_ok-rings.ensures.since
-    c.in_ok-visits.ensures
+    c.in_ok-gate.ensures.visits
     (c.in_ok-counts.ensures ∙ ap (map (classes_for c.args.shape.exact)) c.deref-2.ensures.value)
     (c.in_ok-tables.ensures ∙ ap (λ counts. new_tables counts c.args.shape.start c.args.shape.exact) c.deref.ensures.value)
     c.in_ok-lanes.ensures.lanes
-    c.in_ok-delivered.ensures
-    c.in_ok-retired.ensures
-    c.in_ok-outs.ensures)).1
+    c.in_ok-hands.ensures.delivered
+    c.in_ok-hands.ensures.retired
+    c.in_ok-outs.ensures
+    c.in_ok-gate.ensures.inside
+    c.in_ok-gate.ensures.closed)).1

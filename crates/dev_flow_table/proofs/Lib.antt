@@ -1,0 +1,2 @@
+pub mod FoldsLemmas
+pub mod WalksLemmas

@@ -1,0 +1,11 @@
+-- What a desk over the files of the system is made of.
+use Rattle.std.specs.Prelude.{ℕ, Option}
+use Rattle.outside_io.specs.declared.file_desk.FileDesk.{FileDesk}
+
+-- the file that was begun, if one is
+abbrev pub file_of : {R F D : Type 0} → FileDesk R F D → Option F
+file_of desk = desk.file
+
+-- how many of its calls failed
+abbrev pub faults_of : {R F D : Type 0} → FileDesk R F D → ℕ
+faults_of desk = desk.faults

@@ -1,9 +1,0 @@
-use Rattle.std.proofs.Common.{◌≡◌, ◌≤◌, length}
-use Rattle.steer_base.specs.Sets.{has, those_below}
-use Rattle.rps_map.proofs.choice.member_count.Given as goal
-
-abbrev pub invariant-loop-cpu : goal.invariant-loop-cpu
-invariant-loop-cpu l = record {
-  counted : l.count ≡ length (those_below l.cpu (has l.mask));
-  small : l.count ≤ l.cpu;
-}
