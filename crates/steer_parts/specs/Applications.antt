@@ -46,7 +46,7 @@ wrote m a hash =
     record m {
       socket = with_note m.socket hash (stand_of m a);
       writes = slice_set m.writes a
-      (list_at m.writes a ++ record { entry = hash % length m.socket; cpu = stand_of m a } ∷ []);
+          (list_at m.writes a ++ record { entry = hash % length m.socket; cpu = stand_of m a } ∷ []);
     }
 
 abbrev pub record_hash : Machine → ℕ → Outcome

@@ -60,7 +60,7 @@ WantsAreWritten i h at =
     → (chosen_at (list_at h.choices q) k).choice.want ≡ Some want
     → (place : ℕ)
     × (class_of (settings_at i h (at q k)).sock
-      (hash_of (setup_in i) (chosen_at (list_at h.choices q) k).id) ≡ Some place)
+    (hash_of (setup_in i) (chosen_at (list_at h.choices q) k).id) ≡ Some place)
     × WasWritten h (record { entry = place; cpu = want })
 
 -- ---- clause 5

@@ -1,5 +1,6 @@
 pub mod Setup
 pub mod Settings
+pub mod Given
 pub mod Notes
 pub mod Machine
 pub mod Outcomes
@@ -19,3 +20,7 @@ pub mod GoodCommands
 pub mod GoodReplies
 pub mod Good
 pub mod GoodLaws
+pub mod Numbering
+pub mod Packets
+pub mod PacketLaws
+pub mod StepLaws

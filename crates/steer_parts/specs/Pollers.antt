@@ -121,9 +121,11 @@ position_of _ = None
 
 -- what a poller does after its put
 abbrev pub put_by : Machine → ℕ → Option ℕ → HopAnswer → Outcome
-put_by m q (Some position) a =
-    (noted m q
-    (asking (filter_for m.setup.homes (length m.filters) (last_of m.rx q).choice position)), told a)
+put_by m q (Some position) a = (
+  noted m q
+      (asking (filter_for m.setup.homes (length m.filters) (last_of m.rx q).choice position)),
+  told a,
+)
 put_by m q None a = (m, told a)
 
 abbrev pub putting : Machine → ℕ → HopEvent
@@ -140,10 +142,12 @@ with_filter filters None filter = filters
 with_filter filters (Some hash) filter = steered filters hash filter
 
 abbrev pub ask_by : Machine → ℕ → Note → Outcome
-ask_by m q (note.Asking filter) =
-    (record (noted m q note.Nothing) {
-      filters = with_filter m.filters (hash_of m.setup (last_of m.rx q).id) filter;
-    }, says.Done)
+ask_by m q (note.Asking filter) = (
+  record (noted m q note.Nothing) {
+    filters = with_filter m.filters (hash_of m.setup (last_of m.rx q).id) filter;
+  },
+  says.Done,
+)
 ask_by m q note.Nothing = idles m idle.WrongStage
 ask_by m q (note.Looked want) = idles m idle.WrongStage
 

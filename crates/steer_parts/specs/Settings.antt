@@ -1,12 +1,13 @@
 -- What commands change (kernel scaling chapter, sections RSS, RPS, RFS and XPS).
-use Rattle.std.specs.Prelude.{ℕ, List, Option, slice_index, slice_index_or, slice_set}
+use Rattle.std.specs.Prelude.{ℕ, ◌<◌, ◌≤◌, ◌≡◌, true, List, Option, length}
+use Rattle.std.specs.Prelude.{slice_index, slice_index_or, slice_set}
 use Rattle.steer_base.specs.Choices.{class_of, rps_choice_of}
 use Rattle.steer_base.specs.Counters.{rounded_up}
 use Rattle.steer_base.specs.Sets.{with_cpu, without_cpu}
 use Rattle.steer_base.specs.declared.command.Command.{Command}
 use Rattle.steer_base.specs.declared.command.Command.TheVariants as give
 use Rattle.steer_base.specs.declared.cpu_mask.CpuMask.{CpuMask}
-use Rattle.rss_table.specs.Redirection.{Redirection, with_entry}
+use Rattle.rss_table.specs.Redirection.{Redirection, is_in_range, with_entry}
 use Rattle.xps_map.specs.Maps.{Maps}
 use Rattle.steer_parts.specs.Setup.{Setup, hash_of}
 
@@ -50,3 +51,16 @@ changed s (give.XQueues tx queues) =
 changed s (give.Reta place q) = record s { reta = with_entry s.reta place q }
 changed s (give.Stand app cpu) = record s { stands = slice_set s.stands app cpu }
 changed s give.Expire = s
+
+-- a command names what these settings have, with numbers in its range
+abbrev pub MayChange : Settings → Command → Type 0
+MayChange s (give.Mask q mask) = q < length s.masks
+MayChange s (give.Flows q count) = (q < length s.counts) × (count ≤ 32768)
+MayChange s (give.Sock size) = size ≤ 65536
+MayChange s (give.Offline cpu) = cpu < 32
+MayChange s (give.Online cpu) = cpu < 32
+MayChange s (give.XCpus tx mask) = tx < s.maps.count
+MayChange s (give.XQueues tx queues) = tx < s.maps.count
+MayChange s (give.Reta place q) = is_in_range s.reta place q ≡ true
+MayChange s (give.Stand app cpu) = app < length s.stands
+MayChange s give.Expire = Unit {0}

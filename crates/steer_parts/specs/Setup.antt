@@ -25,7 +25,10 @@ flow_of p x = (packet_at p.packets x).flow_number
 abbrev pub app_for : Setup → ℕ → ℕ
 app_for p x = app_at p.packets p.apps x
 
--- the hash of a flow, which is that of its first packet; none where the capture has no such flow
+-- the hash of a flow, which is that of its first packet; none where there is no such flow
+abbrev pub hash_of_flow : List Packet → ℕ → Option (Option ℕ)
+hash_of_flow packets flow =
+    option_map (λ packet. packet.hash) (found (λ packet. packet.flow_number) flow packets)
+
 abbrev pub flow_hash : Setup → ℕ → Option (Option ℕ)
-flow_hash p flow =
-    option_map (λ packet. packet.hash) (found (λ packet. packet.flow_number) flow p.packets)
+flow_hash p flow = hash_of_flow p.packets flow

@@ -1,8 +1,29 @@
 //! Laws of the machine and of its histories, each the contract of a function that does nothing.
 ghost use Rattle.steer_parts.specs.GoodLaws.{GoodByClauses};
+ghost use Rattle.steer_parts.specs.PacketLaws.{PacketsAreOfFlows, PacketsAreOne};
+ghost use Rattle.steer_parts.specs.StepLaws.{IdleLeavesAll, RefusedLeavesAll};
 
 /// Where no command was given, a history is good exactly where each clause holds by itself.
 pub fn a_history_is_good_by_its_clauses()
     ensures { GoodByClauses }
-{
-}
+{}
+
+/// A step of one event that is idle leaves the machine as it was.
+pub fn an_idle_step_leaves_all()
+    ensures { IdleLeavesAll }
+{}
+
+/// A command that is not done changes nothing but the list of commands.
+pub fn a_refused_command_leaves_all()
+    ensures { RefusedLeavesAll }
+{}
+
+/// A capture has one list of packets by a key and its kinds.
+pub fn a_capture_has_one_list_of_packets()
+    ensures { PacketsAreOne }
+{}
+
+/// The flow number of each packet of a capture is below the number of packets, and all packets of a flow have one hash.
+pub fn packets_are_of_flows()
+    ensures { PacketsAreOfFlows }
+{}
