@@ -1,12 +1,13 @@
 -- The table of the hashes of flows, packet by packet.
 use Rattle.std.proofs.Common.{ℕ, ◌+◌, ◌<◌, ◌≡◌, Bool, true, false, List, [], ◌∷◌, ◌++◌, Option, Some, None}
-use Rattle.std.proofs.Common.{length, refl, ap, ◌∙◌, sym, subst, arith, take, get_or, replicate, inl, inr}
+use Rattle.std.proofs.Common.{suc, zero, length, refl, ap, ◌∙◌, sym, subst, arith, take, get_or, replicate, inl, inr}
 use Rattle.std.specs.Prelude.{◌==◌, if◌then◌else◌}
 use Rattle.std.specs.Option.{option_map}
 use Rattle.std.proofs.lemmas.Bool.{cases_eq, ne_eqb, eq-eqb}
-use Rattle.std.proofs.lemmas.List.{get_or-set_same, get_or-set_other, get_or-replicate, length-set, take_more}
+use Rattle.std.proofs.lemmas.List.{get_or-set_same, get_or-set_other, get_or_default, take_more}
+use Rattle.history.specs.Lists.{no_packet}
 use Rattle.steer_base.specs.declared.packet.Packet.{Packet}
-use Rattle.steer_parts.specs.Given.{AreFlowHashes, hash_or, with_hash}
+use Rattle.steer_parts.specs.Given.{AreFlowHashes, AreOfFlows, hash_or, with_hash}
 use Rattle.steer_parts.specs.Setup.{hash_of_flow}
 
 -- the hash of a flow after a packet more, where the packet is of the flow or not
@@ -63,16 +64,22 @@ hashes-more xs hashes x lt table flow =
           ∙ sym (hash_of_flow-append xs x flow)
     ]
 
-pub hashes-next : (packets : List Packet) (i j : ℕ) (hashes : List (Option (Option ℕ))) (x : Packet)
-    → i < length packets → get_or packets i x ≡ x → i + 1 ≡ j → x.flow_number < length hashes
-    → AreFlowHashes (take i packets) hashes → AreFlowHashes (take j packets) (with_hash hashes x)
-hashes-next packets i j hashes x lt is up within table =
-    let more : take j packets ≡ take i packets ++ x ∷ [] =
-    ap (λ n. take n packets) (sym up) ∙ take_more packets i x lt
-    ∙ ap (λ y. take i packets ++ y ∷ []) is in
-    subst (λ xs. AreFlowHashes xs (with_hash hashes x)) (sym more)
-    (hashes-more (take i packets) hashes x within table)
+pub hashes-next : (packets : List Packet) (i : ℕ) (d : Packet) (hashes new : List (Option (Option ℕ)))
+    → i < length packets → length hashes ≡ length packets → AreOfFlows packets
+    → AreFlowHashes (take i packets) hashes → new ≡ with_hash hashes (get_or packets i d)
+    → AreFlowHashes (take (i + 1) packets) new
+hashes-next packets i d hashes new lt many flows table is =
+    let x : Packet = get_or packets i d in
+    let same : x ≡ get_or packets i no_packet = get_or_default packets i d no_packet lt in
+    let below : (get_or packets i no_packet).flow_number < length packets = flows.below i lt in
+    let within : x.flow_number < length hashes =
+    subst (λ (p : Packet). p.flow_number < length hashes) (sym same) (omega arith) in
+    subst (λ hs. AreFlowHashes (take (i + 1) packets) hs) (sym is)
+    (subst (λ xs. AreFlowHashes xs (with_hash hashes x)) (sym (take_more packets i d lt))
+    (hashes-more (take i packets) hashes x within table))
 
 -- a table of nothing, for no packets
-pub hashes-none : (n : ℕ) → AreFlowHashes [] (replicate n None)
-hashes-none n flow = get_or-replicate n flow None None
+pub hashes_none : (n : ℕ) → AreFlowHashes [] (replicate n None)
+hashes_none zero flow = refl
+hashes_none (suc n) zero = refl
+hashes_none (suc n) (suc flow) = hashes_none n flow

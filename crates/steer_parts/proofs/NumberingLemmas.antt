@@ -1,6 +1,6 @@
 -- The map from flows to their numbers, and the packets that were numbered by it.
 use Rattle.std.proofs.Common.{ℕ, ◌+◌, ◌<◌, ◌≤◌, ◌≡◌, Bool, true, false, cond, List, [], ◌∷◌, ◌++◌, Some, None}
-use Rattle.std.proofs.Common.{length, refl, ap, ◌∙◌, sym, subst, arith, inl, inr, get_or, length-append}
+use Rattle.std.proofs.Common.{◌⊎◌, length, refl, ap, ◌∙◌, sym, subst, arith, inl, inr, get_or, length-append}
 use Rattle.std.specs.BTreeMap.{BTreeMap, btree_map_len, get, is_at}
 use Rattle.std.specs.Map.{lookup}
 use Rattle.std.specs.Ordering.{is_eq}
@@ -33,12 +33,12 @@ pub record IsExact (cmp : Flow → Flow → Ordering) : Type 0 where
   pub own : (f : Flow) → is_eq (cmp f f) ≡ true
 
 -- a list with a packet more
-record IsLonger (packets : List Packet) (x : Packet) (more : List Packet) : Type 0 where
-  many : length more ≡ length packets + 1
-  old : (y : ℕ) → y < length packets → packet_at more y ≡ packet_at packets y
-  last : packet_at more (length packets) ≡ x
+pub record IsLonger (packets : List Packet) (x : Packet) (more : List Packet) : Type 0 where
+  pub many : length more ≡ length packets + 1
+  pub old : (y : ℕ) → y < length packets → packet_at more y ≡ packet_at packets y
+  pub last : packet_at more (length packets) ≡ x
 
-longer : (packets : List Packet) (x : Packet) → IsLonger packets x (packets ++ x ∷ [])
+pub longer : (packets : List Packet) (x : Packet) → IsLonger packets x (packets ++ x ∷ [])
 longer packets x =
     record {
       many = length-append packets (x ∷ []);
@@ -57,7 +57,7 @@ place-of {packets} {more} {x} l y lt =
 -- one number for each flow, by the map
 same-by : (cmp : Flow → Flow → Ordering) (numbers : BTreeMap Flow ℕ) (packets : List Packet)
     → ((y : ℕ) → y < length packets
-      → get cmp numbers (packet_at packets y).flow ≡ Some (packet_at packets y).flow_number)
+    → get cmp numbers (packet_at packets y).flow ≡ Some (packet_at packets y).flow_number)
     → (x y : ℕ) → x < length packets → y < length packets
     → (packet_at packets x).flow ≡ (packet_at packets y).flow
     → (packet_at packets x).flow_number ≡ (packet_at packets y).flow_number
@@ -65,19 +65,19 @@ same-by cmp numbers packets has x y lt within flow =
     let a = has x lt in
     let b = has y within in
     let c : get cmp numbers (packet_at packets x).flow ≡ get cmp numbers (packet_at packets y).flow =
-        ap (λ f. get cmp numbers f) flow in
+    ap (λ f. get cmp numbers f) flow in
     cc
 
 -- the numbering with a packet more, whose number is that of its flow or the next one
 numbered-more : (packets : List Packet) (x : Packet) (more : List Packet) → IsLonger packets x more
     → AreNumbered packets
     → ((a b : ℕ) → a < length more → b < length more
-      → (packet_at more a).flow ≡ (packet_at more b).flow
-      → (packet_at more a).flow_number ≡ (packet_at more b).flow_number)
+    → (packet_at more a).flow ≡ (packet_at more b).flow
+    → (packet_at more a).flow_number ≡ (packet_at more b).flow_number)
     → ((a : ℕ) → a < length packets → (packet_at packets a).flow_number ≡ x.flow_number
-      → (packet_at packets a).flow ≡ x.flow)
+    → (packet_at packets a).flow ≡ x.flow)
     → ((n : ℕ) → n < x.flow_number
-      → (y : ℕ) × (y < length packets) × ((packet_at packets y).flow_number ≡ n))
+    → (y : ℕ) × (y < length packets) × ((packet_at packets y).flow_number ≡ n))
     → AreNumbered more
 numbered-more packets x more l numbered same apart_last first_last =
     record { same = same; apart = apart; first = first }
@@ -98,24 +98,24 @@ numbered-more packets x more l numbered same apart_last first_last =
     apart a b la lb e =
         elim (place-of l a la) [
           | inl oa ↦ elim (place-of l b lb) [
-              | inl ob ↦
-                  flow-old a oa
-                  ∙ numbered.apart a b oa ob (sym (number-old a oa) ∙ e ∙ number-old b ob)
-                  ∙ sym (flow-old b ob)
-              | inr eb ↦
-                  let here = is-last b eb in
-                  flow-old a oa
-                  ∙ apart_last a oa (sym (number-old a oa) ∙ e ∙ ap (λ (p : Packet). p.flow_number) here)
-                  ∙ sym (ap (λ (p : Packet). p.flow) here)
-            ]
+            | inl ob ↦
+                flow-old a oa
+                ∙ numbered.apart a b oa ob (sym (number-old a oa) ∙ e ∙ number-old b ob)
+                ∙ sym (flow-old b ob)
+            | inr eb ↦
+                let here = is-last b eb in
+                flow-old a oa
+                ∙ apart_last a oa (sym (number-old a oa) ∙ e ∙ ap (λ (p : Packet). p.flow_number) here)
+                ∙ sym (ap (λ (p : Packet). p.flow) here)
+          ]
           | inr ea ↦ elim (place-of l b lb) [
-              | inl ob ↦
-                  let here = is-last a ea in
-                  ap (λ (p : Packet). p.flow) here
-                  ∙ sym (apart_last b ob (sym (number-old b ob) ∙ sym e ∙ ap (λ (p : Packet). p.flow_number) here))
-                  ∙ sym (flow-old b ob)
-              | inr eb ↦ ap (λ (p : Packet). p.flow) (is-last a ea ∙ sym (is-last b eb))
-            ]
+            | inl ob ↦
+                let here = is-last a ea in
+                ap (λ (p : Packet). p.flow) here
+                ∙ sym (apart_last b ob (sym (number-old b ob) ∙ sym e ∙ ap (λ (p : Packet). p.flow_number) here))
+                ∙ sym (flow-old b ob)
+            | inr eb ↦ ap (λ (p : Packet). p.flow) (is-last a ea ∙ sym (is-last b eb))
+          ]
         ]
 
     first : (a n : ℕ) → a < length more → n < (packet_at more a).flow_number
@@ -127,7 +127,7 @@ numbered-more packets x more l numbered same apart_last first_last =
               (before.0, before.1, number-old before.0 (omega (arith, before.1)) ∙ before.2)
           | inr ea ↦
               let at : (packet_at more a).flow_number ≡ x.flow_number =
-                  ap (λ (p : Packet). p.flow_number) (is-last a ea) in
+              ap (λ (p : Packet). p.flow_number) (is-last a ea) in
               let before = first_last n (subst (λ k. n < k) at lt) in
               (before.0, omega (arith, before.1, ea), number-old before.0 before.1 ∙ before.2)
         ]
@@ -146,8 +146,8 @@ known-step cmp numbers packets x more l h known =
           (y.0, omega (arith, y.1, l.many), ap (λ (p : Packet). p.flow_number) (l.old y.0 y.1) ∙ y.2));
       few = omega (arith, l.many, h.few);
       numbered = numbered-more packets x more l h.numbered (same-by cmp numbers more has)
-      (λ a la e. h.numbered.apart a twin.0 la twin.1 (e ∙ sym number) ∙ twin.2)
-      (λ n lt. (
+          (λ a la e. h.numbered.apart a twin.0 la twin.1 (e ∙ sym number) ∙ twin.2)
+          (λ n lt. (
           let before = h.numbered.first twin.0 n twin.1 (omega (arith, number)) in
           (before.0, omega (arith, before.1, twin.1), before.2)));
     }
@@ -167,12 +167,10 @@ known-step cmp numbers packets x more l h known =
     twin = h.from x.flow x.flow_number known
 
     number : (packet_at packets twin.0).flow_number ≡ x.flow_number
-    unfolding twin
     number =
-        let t = h.from x.flow x.flow_number known in
-        let a = h.has t.0 t.1 in
-        let b : get cmp numbers (packet_at packets t.0).flow ≡ get cmp numbers x.flow =
-            ap (λ f. get cmp numbers f) t.2 in
+        let a = h.has twin.0 twin.1 in
+        let b : get cmp numbers (packet_at packets twin.0).flow ≡ get cmp numbers x.flow =
+        ap (λ f. get cmp numbers f) twin.2 in
         cc
 
     below : (y : ℕ) → y < length more → (packet_at more y).flow_number < btree_map_len numbers
@@ -197,8 +195,8 @@ fresh-step cmp order old new packets x more l h fresh =
       every = every;
       few = omega (arith, l.many, h.few, fresh.longer);
       numbered = numbered-more packets x more l h.numbered (same-by cmp new more has)
-      (λ a la e. absurd (omega (arith, h.below a la, e, fresh.next)))
-      (λ n lt. h.every n (omega (arith, fresh.next)));
+          (λ a la e. absurd (omega (arith, h.below a la, e, fresh.next)))
+          (λ n lt. h.every n (omega (arith, fresh.next)));
     }
   where
     known : (flow : Flow) (n : ℕ) → get cmp old flow ≡ Some n → get cmp new flow ≡ Some n
@@ -236,7 +234,7 @@ fresh-step cmp order old new packets x more l h fresh =
               (length packets, omega (arith, l.many), ap (λ (p : Packet). p.flow) l.last ∙ order.exact x.flow flow t)
           | inr f ↦ (
               let before : get cmp old flow ≡ Some n =
-                  sym (fresh.updates.0 flow ∙ ap (λ b. cond b (Some x.flow_number) (get cmp old flow)) f) ∙ e in
+              sym (fresh.updates.0 flow ∙ ap (λ b. cond b (Some x.flow_number) (get cmp old flow)) f) ∙ e in
               let y = h.from flow n before in
               (y.0, omega (arith, y.1, l.many), ap (λ (p : Packet). p.flow) (l.old y.0 y.1) ∙ y.2))
         ]
@@ -246,11 +244,11 @@ fresh-step cmp order old new packets x more l h fresh =
         elim (place-of l y ly) [
           | inl o ↦ (
               let at : (packet_at more y).flow_number ≡ (packet_at packets y).flow_number =
-                  ap (λ (p : Packet). p.flow_number) (l.old y o) in
+              ap (λ (p : Packet). p.flow_number) (l.old y o) in
               omega (arith, at, h.below y o, fresh.longer))
           | inr e ↦ (
               let at : (packet_at more y).flow_number ≡ x.flow_number =
-                  ap (λ (p : Packet). p.flow_number) (ap (λ n. packet_at more n) e ∙ l.last) in
+              ap (λ (p : Packet). p.flow_number) (ap (λ n. packet_at more n) e ∙ l.last) in
               omega (arith, at, fresh.next, fresh.longer))
         ]
 
@@ -273,7 +271,7 @@ has-none cmp numbers empty =
     let many : btree_map_len numbers ≡ 0 = ap length empty in
     record {
       has = λ y lt. absurd (omega arith);
-      from = λ flow n e. absurd (none-some (sym (ap (λ es. lookup (is_at (cmp flow)) es) empty) ∙ e));
+      from = λ flow n e. absurd (none-some n (sym (ap (λ es. lookup (is_at (cmp flow)) es) empty) ∙ e));
       below = λ y lt. absurd (omega arith);
       every = λ n lt. absurd (omega (arith, many));
       few = omega (arith, many);

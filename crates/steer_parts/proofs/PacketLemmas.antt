@@ -1,10 +1,11 @@
 -- The packets of a capture are determined, and each has a number below their number.
-use Rattle.std.proofs.Common.{ℕ, ◌+◌, ◌-◌, ◌<◌, ◌≤◌, ◌≡◌, List, Some, length, refl, ap, ◌∙◌, sym, arith}
+use Rattle.std.proofs.Common.{ℕ, ◌+◌, ◌-◌, ◌<◌, ◌≤◌, ◌≡◌, List, Option, Some, length, refl, ap, ◌∙◌, sym, arith}
 use Rattle.std.proofs.Common.{[], ◌∷◌, suc, zero, inl, inr, slice_get, subst, get_or}
 use Rattle.std.proofs.lemmas.Bool.{cases_lt}
 use Rattle.std.proofs.lemmas.List.{get_or_default, same_lists}
 use Rattle.history.specs.Lists.{no_packet, packet_at}
 use Rattle.pcap_reader.specs.declared.record.PcapRecord.{PcapRecord}
+use Rattle.steer_base.specs.declared.flow.Flow.{Flow}
 use Rattle.steer_base.specs.declared.packet.Packet.{Packet}
 use Rattle.steer_parts.specs.Given.{AreOfFlows}
 use Rattle.steer_parts.specs.Packets.{AreNumbered, ArePackets, IsOfRecord}
@@ -78,6 +79,9 @@ record-at [] x lt = absurd (omega arith)
 record-at (from ∷ rest) zero lt = (from, refl)
 record-at (from ∷ rest) (suc x) lt = record-at rest x (omega arith)
 
+abbrev packet_of : Flow → Option ℕ → ℕ → ℕ → Packet
+packet_of flow hash len number = record { flow = flow; hash = hash; len = len; flow_number = number }
+
 same-packet : (key kinds : ℕ) (bytes : List ℕ) (from : PcapRecord) (p q : Packet)
     → IsOfRecord key kinds bytes from p → IsOfRecord key kinds bytes from q
     → p.flow_number ≡ q.flow_number → p ≡ q
@@ -85,7 +89,10 @@ same-packet key kinds bytes from p q a b number =
     let flow : p.flow ≡ q.flow = a.flow ∙ sym b.flow in
     let hash : p.hash ≡ q.hash = a.hash ∙ ap (λ f. hash_of_flow key f kinds) flow ∙ sym b.hash in
     let len : p.len ≡ q.len = a.len ∙ sym b.len in
-    cc
+    ap (λ f. packet_of f p.hash p.len p.flow_number) flow
+    ∙ ap (λ h. packet_of q.flow h p.len p.flow_number) hash
+    ∙ ap (λ n. packet_of q.flow q.hash n p.flow_number) len
+    ∙ ap (λ n. packet_of q.flow q.hash q.len n) number
 
 pub packets_are_one : (key kinds : ℕ) (bytes : List ℕ) (records : List PcapRecord) (packets others : List Packet)
     → ArePackets key kinds bytes records packets → ArePackets key kinds bytes records others

@@ -20,6 +20,7 @@ pub mod GoodCommands
 pub mod GoodReplies
 pub mod Good
 pub mod GoodLaws
+pub mod LastWrites
 pub mod Numbering
 pub mod Packets
 pub mod PacketLaws

@@ -2,7 +2,12 @@
 use Rattle.std.specs.Prelude.{ℕ, ◌+◌, ◌≡◌, ◌⊎◌, Some, None}
 use Rattle.std.specs.BTreeMap.{BTreeMap, Updates, btree_map_len, get}
 use Rattle.std.specs.declared.cmp.Ordering.{Ordering}
+use Rattle.steer_base.specs.contracts.flow.FlowOrd.TheImpl as flow_ord
 use Rattle.steer_base.specs.declared.flow.Flow.{Flow}
+
+-- the order of flows that a map has them in
+abbrev pub flow_order : Flow → Flow → Ordering
+flow_order = (flow_ord.ghosts).cmp
 
 -- a flow that is known keeps its number
 pub record IsKnown (cmp : Flow → Flow → Ordering) (old new : BTreeMap Flow ℕ) (flow : Flow) (number : ℕ)

@@ -1,5 +1,6 @@
 //! Laws of the machine and of its histories, each the contract of a function that does nothing.
 ghost use Rattle.steer_parts.specs.GoodLaws.{GoodByClauses};
+ghost use Rattle.steer_parts.specs.LastWrites.{ValuesAreLastWrites};
 ghost use Rattle.steer_parts.specs.PacketLaws.{PacketsAreOfFlows, PacketsAreOne};
 ghost use Rattle.steer_parts.specs.StepLaws.{IdleLeavesAll, RefusedLeavesAll};
 
@@ -26,4 +27,9 @@ pub fn a_capture_has_one_list_of_packets()
 /// The flow number of each packet of a capture is below the number of packets, and all packets of a flow have one hash.
 pub fn packets_are_of_flows()
     ensures { PacketsAreOfFlows }
+{}
+
+/// Each setting in force is that of the last done command for it, else the one before all commands.
+pub fn a_value_in_force_is_the_last_write()
+    ensures { ValuesAreLastWrites }
 {}

@@ -2,7 +2,7 @@
 ghost use Rattle.std.specs.Prelude.{◌<◌, ◌≤◌, ◌^◌, IfOk, length};
 ghost use Rattle.std.specs.BTreeMap.{btree_map_len};
 ghost use Rattle.std.specs.List.{All};
-ghost use Rattle.steer_parts.specs.Numbering.{IsNumberOf};
+ghost use Rattle.steer_parts.specs.Numbering.{IsNumberOf, flow_order};
 ghost use Rattle.steer_parts.specs.Packets.{ArePackets, FrameIsWithin};
 
 use flow_dissector::dissect;
@@ -47,7 +47,7 @@ pub fn packets(
 // The number of a flow: the one that it has, else the next one.
 fn number_of(numbers: &mut BTreeMap<Flow, u32>, flow: Flow) -> Result<u32, OutOfMemory>
     requires { btree_map_len numbers.old < 2 ^ 32 }
-    ensures { IfOk result (λ number. IsNumberOf ⟦<Flow as Ord>⟧.cmp numbers.old numbers.new flow number) }
+    ensures { IfOk result (λ number. IsNumberOf flow_order numbers.old numbers.new flow number) }
 {
     if let Some(number) = numbers.get(&flow) {
         return Ok(*number);
