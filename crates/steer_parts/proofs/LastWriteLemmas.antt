@@ -162,7 +162,7 @@ tx_cpus-keeps i s (give.Stand app cpu) lt = lt
 tx_cpus-keeps i s give.Expire lt = lt
 
 tx_cpus-writes : (i : ℕ) (s : Settings) (c : Command) → NamesCpu c → i < length s.maps.cpus
-    → slice_index_or (changed s c).map (changed s c).cpus i no_cpus ≡ unwrap_or (tx_cpus_for i c) (slice_index_or s.maps.cpus i no_cpus)
+    → slice_index_or (changed s c).maps.cpus i no_cpus ≡ unwrap_or (tx_cpus_for i c) (slice_index_or s.maps.cpus i no_cpus)
 tx_cpus-writes i s (give.Mask q mask) named lt = refl
 tx_cpus-writes i s (give.Flows q count) named lt = refl
 tx_cpus-writes i s (give.Sock size) named lt = refl
@@ -189,7 +189,7 @@ tx_queues-keeps i s (give.Stand app cpu) lt = lt
 tx_queues-keeps i s give.Expire lt = lt
 
 tx_queues-writes : (i : ℕ) (s : Settings) (c : Command) → NamesCpu c → i < length s.maps.queues
-    → slice_index (changed s c).map (changed s c).queues i ≡ unwrap_or (tx_queues_for i c) (slice_index s.maps.queues i)
+    → slice_index (changed s c).maps.queues i ≡ unwrap_or (tx_queues_for i c) (slice_index s.maps.queues i)
 tx_queues-writes i s (give.Mask q mask) named lt = refl
 tx_queues-writes i s (give.Flows q count) named lt = refl
 tx_queues-writes i s (give.Sock size) named lt = refl

@@ -2,7 +2,9 @@ pub mod FlowOrder
 pub mod HashLemmas
 pub mod IdleLemmas
 pub mod LastWriteLemmas
+pub mod Lift
 pub mod NoCommand
 pub mod NumberingLemmas
 pub mod PacketLemmas
 pub mod ReadLemmas
+pub mod SettingLemmas

@@ -24,4 +24,5 @@ pub mod LastWrites
 pub mod Numbering
 pub mod Packets
 pub mod PacketLaws
+pub mod SettingLaws
 pub mod StepLaws

@@ -2,6 +2,7 @@
 ghost use Rattle.steer_parts.specs.GoodLaws.{GoodByClauses};
 ghost use Rattle.steer_parts.specs.LastWrites.{ValuesAreLastWrites};
 ghost use Rattle.steer_parts.specs.PacketLaws.{PacketsAreOfFlows, PacketsAreOne};
+ghost use Rattle.steer_parts.specs.SettingLaws.{SettingsFollow};
 ghost use Rattle.steer_parts.specs.StepLaws.{IdleLeavesAll, RefusedLeavesAll};
 
 /// Where no command was given, a history is good exactly where each clause holds by itself.
@@ -32,4 +33,9 @@ pub fn packets_are_of_flows()
 /// Each setting in force is that of the last done command for it, else the one before all commands.
 pub fn a_value_in_force_is_the_last_write()
     ensures { ValuesAreLastWrites }
+{}
+
+/// After any steps the settings are those that the done ones of all commands leave of the first ones.
+pub fn settings_follow_the_commands()
+    ensures { SettingsFollow }
 {}
