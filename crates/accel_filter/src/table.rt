@@ -1,39 +1,55 @@
 //! The table of filters.
-ghost use Rattle.std.specs.Prelude.{◌≡◌, ◌<◌, ◌≤◌, IfOk, IfSome, None, length, slice_index_or, slice_set};
+ghost use Rattle.std.specs.Prelude.{◌≡◌, ◌<◌, ◌≤◌, IfOk, IfSome, None, length};
+ghost use Rattle.std.specs.Prelude.{slice_index_or, slice_set};
 ghost use Rattle.std.specs.Bool.{OnTrue, OnFalse};
-ghost use Rattle.accel_filter.specs.Table.{filter_of, is_over, place_of, steered, unset};
+ghost use Rattle.steer_base.specs.HashTables.{place_in_rows};
+ghost use Rattle.accel_filter.specs.Table.{filter_of, is_over, steered, unset};
 
+use crate::filter::may_expire;
 use std::alloc::Global;
 use std::marker::Model;
-use steer_base::{Filter, OutOfMemory, reached};
+use steer_base::{Filter, OutOfMemory, place_of_hash};
 
-/// The filters by which a card sends a flow to the receive queue of the processor that reads it (kernel scaling chapter,
-/// section accelerated RFS). Flows whose hashes agree modulo the number of filters share one.
+/// The filters by which a card sends a flow to the receive queue of the processor that reads it
+/// (kernel scaling chapter, section accelerated RFS). Flows whose hashes agree modulo the number of
+/// filters share one.
 #[derive(Drop)]
 pub struct FilterTable {
+    // With no room for more.
     filters: Vec<Option<Filter>>,
 }
 
 impl Model for FilterTable {
-    ghost use Rattle.std.specs.Prelude.{◌≤◌, List, Option, length};
+    ghost use Rattle.std.specs.Prelude.{◌≡◌, ◌≤◌, List, Option, vec_len, vec_capacity};
     ghost use Rattle.steer_base.specs.declared.filter.Filter.{Filter};
 
     ghost Value = { List (Option Filter) };
 
     ghost view = { λ t. t.filters.items };
 
-    ghost invariant = { λ t. length t.filters.items ≤ 4096 };
+    ghost invariant = { λ t. (vec_len t.filters ≤ 4096)
+        × (vec_capacity t.filters ≡ vec_len t.filters) };
 }
 
 impl FilterTable {
-    /// A table of so many filters, 4,096 at most, none of them set. With 0 there are no filters.
+    /// A table of so many filters, 4,096 at most, none of them set. With 0 there are no filters. It
+    /// takes no more memory later.
     pub fn make(alloc: Global, count: u32) -> Result<FilterTable, OutOfMemory>
         requires { count ≤ 4096 }
         ensures { IfOk result (λ table. table ≡ unset count) }
     {
-        let mut filters = Vec::new(alloc);
-        filters.resize(count as usize, None)?;
+        let mut filters = Vec::with_capacity(alloc, count as usize)?;
+        for _ in 0..count {
+            filters.push_reserved(None);
+        }
         Ok(FilterTable { filters })
+    }
+
+    /// How many filters there are, set or not.
+    pub fn count(&self) -> u32
+        ensures { result ≡ length self.now }
+    {
+        self.filters.len() as u32
     }
 
     /// Writes filter `hash mod count`, and nothing where there are no filters.
@@ -53,8 +69,8 @@ impl FilterTable {
         self.filters[place]
     }
 
-    /// Clears filter `i` where it is set and may go: where `head`, the head of its processor, stands ten times the flow
-    /// count `entries` of its queue, less one, past its mark (a count of 0 is taken as 1). Answers whether it was cleared.
+    /// Clears filter `i` where it is set and may go. `head` is the head of its processor, and
+    /// `entries` the flow count of its queue. Answers whether it was cleared.
     pub fn expire(&mut self, i: u32, head: u32, entries: u32) -> bool
         requires place { i < length self.old }
         requires few { entries ≤ 32768 }
@@ -65,8 +81,7 @@ impl FilterTable {
         let Some(filter) = self.filters[i as usize] else {
             return false;
         };
-        let distance = 10 * (entries.max(1) - 1);
-        let over = reached(head, filter.mark, distance);
+        let over = may_expire(filter, head, entries);
         if over {
             self.filters[i as usize] = None;
         }
@@ -75,15 +90,10 @@ impl FilterTable {
 
     // The place of a hash, if there are filters.
     fn place(&self, hash: u32) -> Option<usize>
-        ensures value { result ≡ place_of self.now hash }
+        ensures value { result ≡ place_in_rows self.now (Some hash) }
         ensures within { IfSome result (λ place. place < length self.now) }
     {
-        let count = self.filters.len() as u32;
-        if count == 0 {
-            None
-        } else {
-            Some((hash % count) as usize)
-        }
+        place_of_hash(Some(hash), self.count()).map(|place| place as usize)
     }
 }
 
@@ -97,13 +107,15 @@ mod tests {
 
     #[test]
     fn a_filter_goes_when_its_packets_have_gone(rt: HostRuntime) -> Result<(), Fail> {
-        // Two packets of one flow are accepted at processor 1, home of queue 1; the hash is 0 modulo 8.
+        // Two packets of one flow are accepted at processor 1, home of queue 1; the hash is 0
+        // modulo 8.
         let filter = |mark| Filter {
             queue: RxQueue(1),
             cpu: Cpu(1),
             mark,
         };
         let mut table = FilterTable::make(rt.alloc(), 8)?;
+        assert_eq!(rt; table.count(), 8);
         assert_eq!(rt; table.look(HASH), None);
         table.steer(HASH, filter(1));
         table.steer(HASH, filter(2));

@@ -2,7 +2,7 @@
 use Rattle.std.proofs.Common.{ℕ, zero, suc, ◌+◌, ◌-◌, ◌*◌, ◌/◌, ◌%◌, ◌<◌, ◌≤◌, ◌≡◌, List, [], ◌∷◌, ◌++◌, length, get_or, set, replicate, slice_get, arith, refl, sym, ap, ◌∙◌, subst, length-append, append-nil, append_assoc}
 use Rattle.std.proofs.lemmas.List.{nil_from_length, length-set, length-replicate}
 use Rattle.circular_buffer.proofs.Places.{slice_get-append_left, slice_get-append_right}
-use Rattle.backlog.specs.Journals.{Holds, IsPaged, joined}
+use Rattle.backlog.specs.Paged.{Holds, IsPaged, joined}
 
 pub Holds-empty : (X : Type 0) (k : ℕ) → Holds {X = X} 0 (replicate k [])
 Holds-empty X zero = refl

@@ -2,12 +2,13 @@
 use Rattle.std.specs.Prelude.{ℕ, ◌≡◌, ◌≤◌, Bool, List, Option}
 use Rattle.steer_base.specs.Lanes.{LaneLists}
 use Rattle.steer_base.specs.declared.put.LaneDrop.{LaneDrop}
-use Rattle.backlog.specs.Journals.{Journal}
+use Rattle.steer_base.specs.Journals.{Journal}
 use Rattle.backlog.specs.Puts.{IsLane}
 use Rattle.backlog.specs.Queues.{QueueLists}
 
 -- the lists of a lane from its parts
-abbrev pub lane_lists : QueueLists → Journal (Option ℕ) → List LaneDrop → ℕ → ℕ → ℕ → Bool → LaneLists
+abbrev pub lane_lists : QueueLists → Journal (Option ℕ) → List LaneDrop → ℕ → ℕ → ℕ → Bool
+    → LaneLists
 lane_lists queue offers drops limit room start limited =
     record {
       accepted = queue.accepted;
@@ -21,7 +22,8 @@ lane_lists queue offers drops limit room start limited =
     }
 
 -- A lane whose parts have its limit and its room, with memory for as many drops.
-pub record IsKept (l : LaneLists) (queue : QueueLists) (offers : Journal (Option ℕ)) (drops_capacity : ℕ) : Type 0 where
+pub record IsKept (l : LaneLists) (queue : QueueLists) (offers : Journal (Option ℕ))
+    (drops_capacity : ℕ) : Type 0 where
   pub lane : IsLane l
   pub limit : queue.limit ≡ l.limit
   pub queue_room : queue.room ≡ l.room

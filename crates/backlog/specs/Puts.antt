@@ -1,5 +1,6 @@
 -- What a put and a take do to a lane, and what they answer.
-use Rattle.std.specs.Prelude.{ℕ, ◌≡◌, ◌+◌, ◌≤◌, Bool, [], ◌∷◌, ◌++◌, Option, Some, None, nat_lt, length, slice_get, if◌then◌else◌}
+use Rattle.std.specs.Prelude.{ℕ, ◌≡◌, ◌+◌, ◌≤◌, Bool, [], ◌∷◌, ◌++◌, Option, Some, None, nat_lt}
+use Rattle.std.specs.Prelude.{length, slice_get, if◌then◌else◌}
 use Rattle.steer_base.specs.Counters.{number}
 use Rattle.steer_base.specs.Drops.{bucket_of, lane_drop_cause}
 use Rattle.steer_base.specs.Lanes.{LaneLists}
@@ -10,14 +11,31 @@ use Rattle.steer_base.specs.declared.put.Put.TheVariants.{At, Dropped}
 -- a lane that no packet was put to
 abbrev pub new_lane : ℕ → ℕ → ℕ → Bool → LaneLists
 new_lane limit room start limited =
-    record { accepted = []; offers = []; drops = []; pulled = 0; limit = limit; room = room; start = start; limited = limited }
+    record {
+      accepted = [];
+      offers = [];
+      drops = [];
+      pulled = 0;
+      limit = limit;
+      room = room;
+      start = start;
+      limited = limited;
+    }
 
--- The lane after a packet was dropped for a cause, or accepted where there is none. Either is an offer.
+-- The lane after a packet was dropped for a cause, or accepted where there is none. Either is an
+-- offer.
 abbrev pub put_by : Option DropCause → LaneLists → ℕ → Option ℕ → LaneLists
-put_by None l id bucket = record l { accepted = l.accepted ++ id ∷ []; offers = l.offers ++ bucket ∷ [] }
+put_by None l id bucket =
+    record l { accepted = l.accepted ++ id ∷ []; offers = l.offers ++ bucket ∷ [] }
 put_by (Some cause) l id bucket =
     record l {
-      drops = l.drops ++ record { id = id; accepted = length l.accepted; pulled = l.pulled; cause = cause } ∷ [];
+      drops = l.drops
+          ++ record {
+            id = id;
+            accepted = length l.accepted;
+            pulled = l.pulled;
+            cause = cause;
+          } ∷ [];
       offers = l.offers ++ bucket ∷ [];
     }
 
@@ -42,15 +60,16 @@ after_take l = if nat_lt l.pulled (length l.accepted) then record l { pulled = l
 abbrev pub next_waiting : LaneLists → Option ℕ
 next_waiting l = slice_get l.accepted l.pulled
 
--- What always holds of a lane: only accepted packets are pulled, no more wait than the limit, each offer was accepted
--- or dropped, and all offers fit the room.
+-- What always holds of a lane: only accepted packets are pulled, no more wait than the limit, each
+-- offer was accepted or dropped, and all offers fit the room.
 pub record IsLane (l : LaneLists) : Type 0 where
   pub pulled : l.pulled ≤ length l.accepted
   pub waiting : length l.accepted ≤ l.pulled + l.limit
   pub offers : length l.offers ≡ length l.accepted + length l.drops
   pub fits : length l.offers ≤ l.room
 
--- A put or a take leaves the limit, the room, the start of the counter, and whether the flow limit holds.
+-- A put or a take leaves the limit, the room, the start of the counter, and whether the flow limit
+-- holds.
 pub record SameShape (old new : LaneLists) : Type 0 where
   pub limit : new.limit ≡ old.limit
   pub room : new.room ≡ old.room

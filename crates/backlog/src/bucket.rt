@@ -8,7 +8,8 @@ use steer_base::DropCause;
 /// The number of buckets of the flow limit (kernel scaling chapter, section RPS flow limit).
 pub const BUCKETS: u32 = 4096;
 
-/// So many of the last offers may have a bucket before the flow limit drops its packets: half of the window.
+/// The most of the last offers that a bucket may have before the flow limit drops its packets: half
+/// of the window.
 const MOST_OFFERS: u32 = 128;
 
 /// The bucket of a packet with this hash, and none without a hash.
@@ -22,8 +23,9 @@ pub fn bucket_of(hash: Option<u32>) -> Option<u16>
     }
 }
 
-/// The cause of which a packet is dropped, if it is, where `waiting` packets wait and `count` of the last offers have its
-/// bucket: a full backlog, or more than 128 such offers where more than half of the limit waits.
+/// The cause of which a packet is dropped, if it is, where `waiting` packets wait and `count` of
+/// the last offers have its bucket: a full backlog, or more than 128 such offers where more than
+/// half of the limit waits.
 pub fn drop_cause(limited: bool, limit: u32, waiting: u32, count: Option<u32>) -> Option<DropCause>
     ensures { result ≡ cause_by limited limit waiting count }
 {

@@ -1,7 +1,8 @@
 //! A lane: what it accepted, what it dropped, and how much of it was pulled.
 ghost use Rattle.std.specs.Prelude.{ℕ, ◌≡◌, ◌+◌, ◌-◌, ◌<◌, ◌≤◌, length, IfOk, slice_get};
 ghost use Rattle.steer_base.specs.Counters.{number};
-ghost use Rattle.backlog.specs.Puts.{IsLane, SameShape, after_put, after_take, new_lane, next_waiting, put_answer, put_count};
+ghost use Rattle.backlog.specs.Puts.{IsLane, SameShape, after_put, after_take, new_lane};
+ghost use Rattle.backlog.specs.Puts.{next_waiting, put_answer, put_count};
 
 use crate::bucket::{bucket_of, drop_cause};
 use crate::offers::Offers;
@@ -30,14 +31,18 @@ impl Model for Lane {
 
     ghost Value = { LaneLists };
 
-    ghost view = { λ l. lane_lists l.queue l.offers l.drops.items l.limit l.room l.start l.limited };
+    ghost view = { λ l.
+        lane_lists l.queue l.offers l.drops.items l.limit l.room l.start l.limited };
 
-    ghost invariant = { λ l. IsKept (lane_lists l.queue l.offers l.drops.items l.limit l.room l.start l.limited) l.queue l.offers (vec_capacity l.drops) };
+    ghost invariant = { λ l.
+        IsKept (lane_lists l.queue l.offers l.drops.items l.limit l.room l.start l.limited)
+        l.queue l.offers (vec_capacity l.drops) };
 }
 
 impl Lane {
-    /// An empty lane, with the memory for `room` packets, accepted and dropped together. At most `limit` packets
-    /// wait in it. Its counter shows `start` at no packet. Whether the flow limit holds is `limited`.
+    /// An empty lane, with the memory for `room` packets, accepted and dropped together. At most
+    /// `limit` packets wait in it. Its counter shows `start` at no packet. Whether the flow limit
+    /// holds is `limited`.
     pub fn make(
         alloc: Global,
         limit: u32,
@@ -63,8 +68,8 @@ impl Lane {
         })
     }
 
-    /// Offers a packet with this hash to the lane. It is dropped where as many packets wait as the limit allows,
-    /// and else where the flow limit says so; otherwise it is accepted.
+    /// Offers a packet with this hash to the lane. It is dropped where as many packets wait as the
+    /// limit allows, and else where the flow limit says so; otherwise it is accepted.
     pub fn put(&mut self, id: PacketId, hash: Option<u32>) -> Put
         requires { put_count self.old < self.old.room }
         ensures lists { self.new ≡ after_put self.old id hash }

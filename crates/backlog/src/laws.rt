@@ -8,27 +8,36 @@ ghost use Rattle.backlog.specs.Rising.{AreRising};
 
 /// An empty lane has no offers and no drops.
 pub fn a_new_lane_is_explained()
-    ensures offers { (hash : ℕ → Option ℕ) (limit room start : ℕ) (limited : Bool) → AreOffers hash (new_lane limit room start limited) }
-    ensures drops { (hash : ℕ → Option ℕ) (limit room start : ℕ) (limited : Bool) → AllExplained hash (new_lane limit room start limited) }
+    ensures offers { (hash : ℕ → Option ℕ) (limit room start : ℕ) (limited : Bool)
+        → AreOffers hash (new_lane limit room start limited) }
+    ensures drops { (hash : ℕ → Option ℕ) (limit room start : ℕ) (limited : Bool)
+        → AllExplained hash (new_lane limit room start limited) }
 {}
 
-/// A put of a packet with its own hash keeps that the offers are those of the accepted and dropped packets in the
-/// order of their puts, and that each drop has the cause that its two counts and the offers before it give.
+/// A put of a packet with its own hash keeps that the offers are those of the accepted and dropped
+/// packets in the order of their puts, and that each drop has the cause that its two counts and the
+/// offers before it give.
 pub fn a_put_is_explained()
-    ensures offers { (hash : ℕ → Option ℕ) (l : LaneLists) (id : ℕ) → AreOffers hash l → AreOffers hash (after_put l id (hash id)) }
-    ensures drops { (hash : ℕ → Option ℕ) (l : LaneLists) (id : ℕ) → AreOffers hash l → AllExplained hash l → AllExplained hash (after_put l id (hash id)) }
+    ensures offers { (hash : ℕ → Option ℕ) (l : LaneLists) (id : ℕ) → AreOffers hash l
+        → AreOffers hash (after_put l id (hash id)) }
+    ensures drops { (hash : ℕ → Option ℕ) (l : LaneLists) (id : ℕ) → AreOffers hash l
+        → AllExplained hash l → AllExplained hash (after_put l id (hash id)) }
 {}
 
 /// A take keeps both.
 pub fn a_take_is_explained()
-    ensures offers { (hash : ℕ → Option ℕ) (l : LaneLists) → AreOffers hash l → AreOffers hash (after_take l) }
-    ensures drops { (hash : ℕ → Option ℕ) (l : LaneLists) → AllExplained hash l → AllExplained hash (after_take l) }
+    ensures offers { (hash : ℕ → Option ℕ) (l : LaneLists) → AreOffers hash l
+        → AreOffers hash (after_take l) }
+    ensures drops { (hash : ℕ → Option ℕ) (l : LaneLists) → AllExplained hash l
+        → AllExplained hash (after_take l) }
 {}
 
-/// Along a lane's drops neither of their two counts ever falls, and none is over the lane's count: from a new lane on, and
-/// after every put and take.
+/// Along a lane's drops neither of their two counts ever falls, and none is over the lane's count:
+/// from a new lane on, and after every put and take.
 pub fn counts_of_drops_never_fall()
-    ensures new { (limit room start : ℕ) (limited : Bool) → AreRising (new_lane limit room start limited) }
-    ensures put { (l : LaneLists) (id : ℕ) (hash : Option ℕ) → AreRising l → AreRising (after_put l id hash) }
+    ensures new { (limit room start : ℕ) (limited : Bool)
+        → AreRising (new_lane limit room start limited) }
+    ensures put { (l : LaneLists) (id : ℕ) (hash : Option ℕ) → AreRising l
+        → AreRising (after_put l id hash) }
     ensures take { (l : LaneLists) → AreRising l → AreRising (after_take l) }
 {}

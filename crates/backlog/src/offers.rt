@@ -2,7 +2,7 @@
 ghost use Rattle.std.specs.Prelude.{ℕ, ◌≡◌, ◌<◌, ◌≤◌, List, [], length, IfOk, Option};
 ghost use Rattle.std.specs.Option.{ForSome, option_map};
 ghost use Rattle.steer_base.specs.Drops.{bucket_count};
-ghost use Rattle.backlog.specs.Journals.{grown, journal};
+ghost use Rattle.steer_base.specs.Journals.{grown, journal};
 
 use crate::pages::Pages;
 use crate::window::Window;
@@ -20,7 +20,7 @@ pub struct Offers {
 impl Model for Offers {
     ghost use Rattle.std.specs.Prelude.{ℕ, ◌≡◌, Option};
     ghost use Rattle.steer_base.specs.Drops.{window as window_of};
-    ghost use Rattle.backlog.specs.Journals.{Journal};
+    ghost use Rattle.steer_base.specs.Journals.{Journal};
 
     ghost Value = { Journal (Option ℕ) };
 
@@ -30,7 +30,7 @@ impl Model for Offers {
 }
 
 impl Offers {
-    /// No offers yet, with room for so many.
+    /// No offers yet, with room for `room` of them.
     pub fn make(alloc: Global, room: u32) -> Result<Offers, OutOfMemory>
         requires { room ≤ 262144 }
         ensures { IfOk result (λ offers. offers ≡ journal [] room) }
@@ -40,7 +40,8 @@ impl Offers {
         Ok(Offers { buckets, window })
     }
 
-    /// Notes an offer, and answers how many of the last 256 offers with a hash have its bucket, itself included.
+    /// Notes an offer, and answers how many of the last 256 offers with a hash have its bucket,
+    /// itself included.
     pub fn note(&mut self, bucket: Option<u16>) -> Option<u32>
         requires room { length self.old.items < self.old.room }
         requires bucket { ForSome bucket (λ b. b < 4096) }

@@ -1,6 +1,8 @@
 //! A list that grows without memory, up to a room that was reserved for it in pages.
-ghost use Rattle.std.specs.Prelude.{ℕ, ◌≡◌, ◌<◌, ◌*◌, ◌≤◌, List, [], ◌∷◌, ◌++◌, length, IfOk, replicate, slice_get, vec_capacity};
-ghost use Rattle.backlog.specs.Journals.{Holds, grown, journal, joined};
+ghost use Rattle.std.specs.Prelude.{ℕ, ◌≡◌, ◌<◌, ◌*◌, ◌≤◌, List, [], ◌∷◌, ◌++◌, length, IfOk};
+ghost use Rattle.std.specs.Prelude.{replicate, slice_get, vec_capacity};
+ghost use Rattle.steer_base.specs.Journals.{grown, journal};
+ghost use Rattle.backlog.specs.Paged.{Holds, joined};
 
 use std::alloc::Global;
 use std::marker::Model;
@@ -54,7 +56,8 @@ pub struct Pages<T> {
 }
 
 impl<T> Model for Pages<T> {
-    ghost use Rattle.backlog.specs.Journals.{IsPaged, Journal, journal, journal_code, joined};
+    ghost use Rattle.steer_base.specs.Journals.{Journal, journal, journal_code};
+    ghost use Rattle.backlog.specs.Paged.{IsPaged, joined};
 
     ghost Value = { Journal T };
 
@@ -109,7 +112,7 @@ impl<T: Copy> Pages<T> {
     }
 }
 
-// So many empty pages.
+// `count` empty pages.
 fn empty_pages<T: Copy>(alloc: Global, count: u32) -> Result<Vec<Page<T>>, OutOfMemory>
     ensures { IfOk result (λ pages. pages.items ≡ replicate count []) }
 {

@@ -1,6 +1,8 @@
 //! The accepted packets of a lane, and those of them that wait.
-ghost use Rattle.std.specs.Prelude.{ℕ, ◌≡◌, ◌+◌, ◌-◌, ◌<◌, ◌≤◌, List, [], ◌∷◌, ◌++◌, length, IfOk, nat_lt, slice_get, if◌then◌else◌};
-ghost use Rattle.backlog.specs.Queues.{QueueLists};
+ghost use Rattle.std.specs.Prelude.{ℕ, ◌≡◌, ◌+◌, ◌-◌, ◌<◌, ◌≤◌, List, [], ◌∷◌, ◌++◌, length, IfOk};
+ghost use Rattle.std.specs.Prelude.{nat_lt, slice_get, if◌then◌else◌};
+ghost use Rattle.steer_base.specs.Journals.{journal};
+ghost use Rattle.backlog.specs.Queues.{QueueLists, queue_lists};
 
 use crate::pages::Pages;
 use circular_buffer::HeapCircularBuffer;
@@ -18,20 +20,20 @@ pub struct Queue {
 }
 
 impl Model for Queue {
-    ghost use Rattle.backlog.specs.Queues.{IsRingOf, QueueLists};
+    ghost use Rattle.backlog.specs.Queues.{IsRingOf, QueueLists, queue_lists};
 
     ghost Value = { QueueLists };
 
-    ghost view = { λ q. record { accepted = q.accepted.items; pulled = q.pulled; limit = q.limit; room = q.accepted.room } };
+    ghost view = { λ q. queue_lists q.accepted q.pulled q.limit };
 
-    ghost invariant = { λ q. IsRingOf (record { accepted = q.accepted.items; pulled = q.pulled; limit = q.limit; room = q.accepted.room }) q.waiting };
+    ghost invariant = { λ q. IsRingOf (queue_lists q.accepted q.pulled q.limit) q.waiting };
 }
 
 impl Queue {
     /// An empty queue, with memory for `room` packets, of which at most `limit` wait at once.
     pub fn make(alloc: Global, limit: u32, room: u32) -> Result<Queue, OutOfMemory>
         requires { room ≤ 262144 }
-        ensures { IfOk result (λ queue. queue ≡ record { accepted = []; pulled = 0; limit = limit; room = room }) }
+        ensures { IfOk result (λ queue. queue ≡ queue_lists (journal [] room) 0 limit) }
     {
         let accepted = Pages::make(alloc, room)?;
         let waiting = HeapCircularBuffer::with_capacity(alloc, limit.min(room.max(1)) as usize)?;
@@ -55,7 +57,8 @@ impl Queue {
 
     /// Pulls the next packet that waits, if one does.
     pub fn take(&mut self) -> Option<PacketId>
-        ensures lists { self.new ≡ (if nat_lt self.old.pulled (length self.old.accepted) then record self.old { pulled = self.old.pulled + 1 } else self.old) }
+        ensures lists { self.new ≡ (if nat_lt self.old.pulled (length self.old.accepted)
+            then record self.old { pulled = self.old.pulled + 1 } else self.old) }
         ensures packet { result ≡ slice_get self.old.accepted self.old.pulled }
     {
         let id = self.waiting.pop_front()?;

@@ -7,13 +7,15 @@ use std::process::Abort;
 use std::test::Fail;
 use steer_base::{DropCause, LaneDrop, PacketId, Put};
 
-// The hashes of the flow 66.9.149.187:2794 to 161.142.100.80:1766 and of its neighbour in Microsoft's vectors, both TCP.
+// The hashes of the flow 66.9.149.187:2794 to 161.142.100.80:1766 and of its neighbour in
+// Microsoft's vectors, both TCP.
 const FIRST: u32 = 0x51cc_c178;
 
 const SECOND: u32 = 0xc626_b0ea;
 
-// Puts `count` packets of one hash and one of another to a lane with the limit 300, of which none is taken. The first
-// 151 are accepted. From then on more than half of the limit waits, and the hash has more than 128 of the last offers.
+// Puts `count` packets of one hash and one of another to a lane with the limit 300, of which none
+// is taken. The first 151 are accepted. From then on more than half of the limit waits, and the
+// hash has more than 128 of the last offers.
 fn put_all(rt: &impl Abort, lane: &mut Lane, count: u32, limited: bool)
     requires { put_count lane.old + count + 1 ≤ lane.old.room }
 {

@@ -1,5 +1,6 @@
 //! The buckets of the last offers of a lane, with how often each bucket stands among them.
-ghost use Rattle.std.specs.Prelude.{ℕ, ◌≡◌, ◌<◌, ◌≤◌, ◌==◌, List, [], ◌∷◌, ◌++◌, count_by, drop, length, replicate, IfOk};
+ghost use Rattle.std.specs.Prelude.{ℕ, ◌≡◌, ◌<◌, ◌≤◌, ◌==◌, List, [], ◌∷◌, ◌++◌, count_by, drop};
+ghost use Rattle.std.specs.Prelude.{length, replicate, IfOk};
 ghost use Rattle.steer_base.specs.Drops.{last_of};
 
 use crate::bucket::BUCKETS;

@@ -5,7 +5,7 @@ use Rattle.std.proofs.lemmas.Str.{is_utf8-from_IsUtf8}
 use Rattle.serde_json.specs.Data.{Data, depth}
 use Rattle.serde_json.specs.Read.{read, max_depth}
 use Rattle.plan_reader.specs.declared.plan.Steps.TheVariants.{Seed}
-use Rattle.plan_reader.specs.declared.sizes.Sizes.{Sizes}
+use Rattle.plan_reader.specs.declared.settings.sizes.Sizes.{Sizes}
 use Rattle.plan_reader.specs.Causes.{in_range}
 use Rattle.plan_reader.specs.PlanTexts.{receive_of, tables_of, sends_of, settings_in, named, plan_of}
 use Rattle.plan_reader.specs.Readings.{queue_of, tx_of, seed_of, steps_of}

@@ -1,5 +1,5 @@
 -- The entries of a table that is told of each choice and each put.
-use Rattle.std.proofs.Common.{ℕ, zero, suc, ◌≡◌, ◌<◌, Bool, true, false, cond, List, [], ◌∷◌, ◌++◌, Option, Some, None, map, length, refl, sym, ap, ◌∙◌, subst, inl, inr, get_or, set, replicate, append_assoc}
+use Rattle.std.proofs.Common.{ℕ, zero, suc, ◌≡◌, ◌<◌, Bool, true, false, cond, List, [], ◌∷◌, ◌++◌, Option, Some, None, map, length, refl, sym, ap, ◌∙◌, inl, inr, get_or, set, replicate, append_assoc}
 use Rattle.std.specs.Prelude.{◌==◌, if◌then◌else◌}
 use Rattle.std.specs.List.{All, fold}
 use Rattle.std.proofs.Math.ListN.{length-replicate, length-set}
@@ -16,7 +16,7 @@ use Rattle.steer_base.specs.declared.put.Put.{Put}
 use Rattle.steer_base.specs.declared.put.Put.TheVariants.{At, Dropped}
 use Rattle.steer_base.proofs.EntriesLemmas.{current_lane-push, of_class-no, of_class-yes, recorded_count-accept, recorded_count-push}
 use Rattle.dev_flow_table.specs.Folds.{Agrees, IsPutAt, TableIsEntries, Turn, after_turn, told, told_of}
-use Rattle.dev_flow_table.specs.Tables.{Table, cleared, entries, entry_after, recorded, unset, weighed}
+use Rattle.dev_flow_table.specs.Tables.{Table, cleared, entries, entry_after, unset, weighed}
 
 -- ---- one entry
 
@@ -38,7 +38,7 @@ module _ (start : ℕ) (accepted : ℕ → List ℕ) where
   not_put cs c none =
       rw (current_lane-push cs c) (rw (recorded_count-push accepted cs c none)
       (elim (has_moved c.choice.why) as (λ b. entry_of (Some c.choice.lane) (if b then number start 0 else number start (recorded_count accepted cs))
-          ≡ entry_of (Some c.choice.lane) (number start (cond b 0 (recorded_count accepted cs)))) [ true ↦ refl | false ↦ refl ]))
+      ≡ entry_of (Some c.choice.lane) (number start (cond b 0 (recorded_count accepted cs)))) [ true ↦ refl | false ↦ refl ]))
 
   one : (cs : List Chosen) (c : Chosen) (put : Option Put) → IsPutAt start (position accepted c) put
       → put_in put (entry_after start (left_by cs) c.choice) ≡ left_by (cs ++ c ∷ [])

@@ -1,2 +1,3 @@
 pub mod FoldsLemmas
+pub mod WalkExample
 pub mod WalksLemmas

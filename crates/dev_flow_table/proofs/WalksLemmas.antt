@@ -12,7 +12,7 @@ use Rattle.steer_base.specs.declared.choice.Chosen.{Chosen}
 use Rattle.steer_base.proofs.CountersLemmas.{has_reached-counts}
 use Rattle.steer_base.proofs.EntriesLemmas.{current_lane-push, of_class-no, of_class-yes, recorded_count-accept, recorded_count-le, recorded_count-push}
 use Rattle.steer_base.proofs.RuleLemmas.{by_entry-ways}
-use Rattle.dev_flow_table.specs.Walks.{IsRuled, IsWalk, SinceIsLastChange, WalkKeepsOrder, since_of}
+use Rattle.dev_flow_table.specs.Walks.{IsWalk, SinceIsLastChange, WalkKeepsOrder, since_of}
 
 -- ---- one choice
 
@@ -98,8 +98,8 @@ module _ (start : ℕ) (accepted : ℕ → List ℕ) (retired : ℕ → ℕ → 
             elim (one_choice start h.start_small accepted h.few k c.choice.want b.desired b.head b.online home n (retired (suc j) home) (of_k (suc j)) c
             b.rule (b.seen home stays.0) (h.few_retired (suc j) home)
             (λ off. (
-                let gone = b.drained i n d (omega arith) (rw old off) (rw old at) in
-                rw old at gone))
+            let gone = b.drained i n d (omega arith) (rw old off) (rw old at) in
+            rw old at gone))
             (λ same m at'. let lt = h.in_order i (suc j) n m d (omega arith) in' (sym same) at at' in omega arith)
             stays) [
               | inl gone ↦ inl gone

@@ -13,7 +13,8 @@ pub record Turn : Type 0 where
   pub chosen : Chosen
   pub put : Option Put
 
--- the table after the put of a packet of a class: an accepted one leaves its position as the recorded tail
+-- the table after the put of a packet of a class: an accepted one leaves its position as the
+-- recorded tail
 abbrev pub told : Table → ℕ → Option Put → Table
 told table class None = table
 told table class (Some (At position)) = recorded table class position
@@ -26,9 +27,11 @@ told_of table (Some class) put = told table class put
 
 -- the table after a turn: the choice is recorded, and then the put
 abbrev pub after_turn : Table → Turn → Table
-after_turn table t = told_of (weighed table t.chosen.choice.class t.chosen.choice) t.chosen.choice.class t.put
+after_turn table t =
+    told_of (weighed table t.chosen.choice.class t.chosen.choice) t.chosen.choice.class t.put
 
--- A put is as the accepted lists have it: at the number of the packet's place there, or in none of them.
+-- A put is as the accepted lists have it: at the number of the packet's place there, or in none of
+-- them.
 abbrev pub IsPutAt : ℕ → Option ℕ → Option Put → Type 0
 IsPutAt start place None = place ≡ None
 IsPutAt start place (Some (At shown)) = (n : ℕ) × (place ≡ Some n) × (number start n ≡ shown)
@@ -37,9 +40,11 @@ IsPutAt start place (Some (Dropped number accepted pulled cause)) = place ≡ No
 abbrev pub Agrees : ℕ → (ℕ → List ℕ) → Turn → Type 0
 Agrees start accepted t = IsPutAt start (position accepted t.chosen) t.put
 
--- A table that begins without entries and is told of each choice and each put has the entries of the lists.
+-- A table that begins without entries and is told of each choice and each put has the entries of
+-- the lists.
 abbrev pub TableIsEntries : Type 0
 TableIsEntries =
     (start count : ℕ) (exact : Bool) (accepted : ℕ → List ℕ) (turns : List Turn) (class : ℕ)
     → All (Agrees start accepted) turns → class < count
-    → entries (fold after_turn (cleared count start exact) turns) class ≡ entry start accepted (map (λ t. t.chosen) turns) class
+    → entries (fold after_turn (cleared count start exact) turns) class
+    ≡ entry start accepted (map (λ t. t.chosen) turns) class

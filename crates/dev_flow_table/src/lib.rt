@@ -1,5 +1,5 @@
-//! The flow table of a receive queue, or of an application: what is recorded of each class of packets, and the rule by
-//! which a class moves to another lane.
+//! The flow table of a receive queue, or of an application: what is recorded of each class of
+//! packets, and the rule by which a class moves to another lane.
 #![tactic(auto)]
 
 mod laws;

@@ -1,80 +1,89 @@
 //! The table of a queue's classes.
-ghost use Rattle.std.specs.Prelude.{ℕ, ◌≡◌, ◌<◌, ◌≤◌, false, true, length, IfOk, IsSome, replicate, slice_index_or, unwrap_or, vec_capacity};
+ghost use Rattle.std.specs.Prelude.{ℕ, ◌≡◌, ◌<◌, ◌≤◌, false, true, length, IfOk, IsSome, replicate};
+ghost use Rattle.std.specs.Prelude.{slice_index_or, take, unwrap_or, vec_capacity, vec_len};
 ghost use Rattle.std.specs.Option.{is_some};
-ghost use Rattle.steer_base.specs.Choices.{class_of, looks_at_head, migrate};
+ghost use Rattle.steer_base.specs.Choices.{looks_at_head, migrate};
 ghost use Rattle.steer_base.specs.Counters.{rounded_up};
+ghost use Rattle.steer_base.specs.HashTables.{place_in_rows};
 ghost use Rattle.steer_base.specs.Sets.{has};
 ghost use Rattle.steer_base.specs.declared.choice.Entry.{Entry as AnEntry};
-ghost use Rattle.dev_flow_table.specs.Tables.{IsClassOf, cleared, entries, recorded, unset, weighed};
+ghost use Rattle.dev_flow_table.specs.Tables.{IsClassOf, cleared, entries, recorded, unset};
+ghost use Rattle.dev_flow_table.specs.Tables.{weighed};
 
 use crate::rule::{self, Wish};
-use std::alloc::Global;
+use std::alloc::{AllocError, Global};
 use std::marker::Model;
-use steer_base::{Choice, CpuMask, Entry, OutOfMemory, Why, round_up};
+use steer_base::{Choice, CpuMask, Entry, OutOfMemory, Why, place_of_hash, round_up};
 
 /// The most classes of a table whose count is rounded up.
-const ROUNDED_ROOM: usize = 32768;
+const LARGEST: u32 = 32768;
 
-/// The entries of a queue's classes, each its current lane and its recorded tail, after the device flow tables of the
-/// kernel's scaling chapter. Recorded tails are 32-bit counter numbers that wrap.
+/// The entries of a queue's classes, each its current lane and its recorded tail, after the device
+/// flow tables of the kernel's scaling chapter. Recorded tails are 32-bit counter numbers that
+/// wrap.
 #[derive(Drop)]
 pub struct DevTable {
+    // As many as the table ever has, with no room for more. The first `size` are its entries.
     rows: Vec<Entry>,
+    size: u32,
     start: u32,
     exact: bool,
 }
 
 impl Model for DevTable {
-    ghost use Rattle.std.specs.Prelude.{◌≡◌, ◌≤◌, false, length, vec_capacity};
+    ghost use Rattle.std.specs.Prelude.{◌≡◌, ◌≤◌, true, false, take, vec_len, vec_capacity};
     ghost use Rattle.dev_flow_table.specs.Tables.{Table};
 
     ghost Value = { Table };
 
-    ghost view = { λ t. record { rows = t.rows.items; start = t.start; exact = t.exact } };
+    ghost view = { λ t. record {
+      rows = take t.size t.rows.items;
+      start = t.start;
+      exact = t.exact;
+    } };
 
-    ghost invariant = { λ t. (length t.rows.items ≤ 262144) × (t.exact ≡ false → 32768 ≤ vec_capacity t.rows) };
+    ghost invariant = { λ t. (vec_capacity t.rows ≡ vec_len t.rows)
+        × (t.size ≤ vec_len t.rows)
+        × (vec_len t.rows ≤ 262144)
+        × (t.exact ≡ false → vec_len t.rows ≡ 32768)
+        × (t.exact ≡ true → vec_len t.rows ≡ t.size) };
 }
 
 impl DevTable {
-    /// A table of unset entries, `count` of them rounded up to a power of two, that may be resized. The counters of
-    /// the lanes show `start` at 0 packets.
+    /// A table of unset entries, `count` of them rounded up to a power of two, that may be resized.
+    /// The counters of the lanes show `start` at 0 packets. It has the memory of the largest such
+    /// table, and takes no more later.
     pub fn make(alloc: Global, count: u32, start: u32) -> Result<DevTable, OutOfMemory>
         requires { count ≤ 32768 }
         ensures { IfOk result (λ table. table ≡ cleared (rounded_up count) start false) }
     {
-        let mut rows = Vec::with_capacity(alloc, ROUNDED_ROOM)?;
-        clear(&mut rows, round_up(count), start);
         Ok(DevTable {
-            rows,
+            rows: unset_rows(alloc, LARGEST, start)?,
+            size: round_up(count),
             start,
             exact: false,
         })
     }
 
-    /// A table of just `count` unset entries, which keeps its size.
+    /// A table of just `count` unset entries, which keeps its size and takes no more memory later.
     pub fn make_exact(alloc: Global, count: u32, start: u32) -> Result<DevTable, OutOfMemory>
         requires { count ≤ 262144 }
         ensures { IfOk result (λ table. table ≡ cleared count start true) }
     {
-        let mut rows = Vec::with_capacity(alloc, count as usize)?;
-        clear(&mut rows, count, start);
         Ok(DevTable {
-            rows,
+            rows: unset_rows(alloc, count, start)?,
+            size: count,
             start,
             exact: true,
         })
     }
 
-    /// The class of a hash: the hash modulo the number of entries. There is none without a hash, and none in a table
-    /// without entries.
+    /// The class of a hash: the hash modulo the number of entries. There is none without a hash,
+    /// and none in a table without entries.
     pub fn class(&self, hash: Option<u32>) -> Option<u32>
-        ensures { result ≡ class_of (length self.now.rows) hash }
+        ensures { result ≡ place_in_rows self.now.rows hash }
     {
-        let count = self.rows.len() as u32;
-        match hash {
-            Some(hash) if count > 0 => Some(hash % count),
-            _ => None,
-        }
+        place_of_hash(hash, self.size)
     }
 
     /// The current lane of a class, if it has one.
@@ -93,8 +102,8 @@ impl DevTable {
         self.rows[class as usize].tail
     }
 
-    /// Chooses the lane of a packet by the entry of its class, and records the choice there. `head` is that of the
-    /// class's current lane, given exactly where the rule looks at it.
+    /// Chooses the lane of a packet by the entry of its class, and records the choice there. `head`
+    /// is that of the class's current lane, given exactly where the rule looks at it.
     pub fn weigh(
         &mut self,
         class: Option<u32>,
@@ -105,7 +114,8 @@ impl DevTable {
     ) -> Choice
         requires class { IsClassOf self.old class }
         requires head { is_some head ≡ looks_at_head class (entries self.old) desired (has online) }
-        ensures choice { result ≡ migrate class want desired (entries self.old) (λ _. unwrap_or head 0) (has online) }
+        ensures choice { result ≡ migrate class want desired (entries self.old)
+            (λ _. unwrap_or head 0) (has online) }
         ensures table { self.new ≡ weighed self.old class result }
     {
         let Some(class) = class else {
@@ -144,20 +154,33 @@ impl DevTable {
         requires rounded { self.old.exact ≡ false }
         ensures { self.new ≡ cleared (rounded_up count) self.old.start false }
     {
-        clear(&mut self.rows, round_up(count), self.start);
+        self.size = round_up(count);
+        clear(&mut self.rows, self.size, self.start);
     }
 }
 
-// Leaves just `count` unset entries. The room for them is there.
-fn clear(rows: &mut Vec<Entry>, count: u32, start: u32)
-    requires { count ≤ vec_capacity rows.old }
-    ensures rows { rows.new.items ≡ replicate count (unset start) }
-    ensures capacity { vec_capacity rows.old ≤ vec_capacity rows.new }
+// So many unset entries, with no room for more.
+fn unset_rows(alloc: Global, count: u32, start: u32) -> Result<Vec<Entry>, AllocError>
+    ensures rows { IfOk result (λ rows. rows.items ≡ replicate count (unset start)) }
+    ensures len { IfOk result (λ rows. vec_len rows ≡ count) }
+    ensures full { IfOk result (λ rows. vec_capacity rows ≡ count) }
 {
-    rows.clear();
-    let entry = unset(start);
+    let mut rows = Vec::with_capacity(alloc, count as usize)?;
     for _ in 0..count {
-        rows.push(entry).unwrap();
+        rows.push_reserved(unset(start));
+    }
+    Ok(rows)
+}
+
+// Makes the first `count` entries unset.
+fn clear(rows: &mut Vec<Entry>, count: u32, start: u32)
+    requires { count ≤ vec_len rows.old }
+    ensures rows { take count rows.new.items ≡ replicate count (unset start) }
+    ensures len { vec_len rows.new ≡ vec_len rows.old }
+    ensures capacity { vec_capacity rows.new ≡ vec_capacity rows.old }
+{
+    for class in 0..count {
+        rows[class as usize] = unset(start);
     }
 }
 

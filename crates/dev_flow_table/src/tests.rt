@@ -7,7 +7,8 @@ use std::process::Abort;
 use std::test::Fail;
 use steer_base::{Choice, CpuMask, Why};
 
-// The hashes of the flow 66.9.149.187:2794 to 161.142.100.80:1766 and of its neighbour in Microsoft's vectors, both TCP.
+// The hashes of the flow 66.9.149.187:2794 to 161.142.100.80:1766 and of its neighbour in
+// Microsoft's vectors, both TCP.
 const FIRST: u32 = 0x51cc_c178;
 
 const SECOND: u32 = 0xc626_b0ea;
@@ -31,7 +32,8 @@ struct Turn {
     position: u32,
 }
 
-// What a caller does: it looks at the head of the current lane where that lane is online and not the desired one.
+// What a caller does: it looks at the head of the current lane where that lane is online and not
+// the desired one.
 fn weigh(table: &mut DevTable, class: u32, turn: Turn) -> Choice
     requires { IsClassOf table.old (Some class) }
     ensures { table.new.exact ≡ table.old.exact }

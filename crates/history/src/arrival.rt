@@ -4,7 +4,9 @@ use steer_base::{PacketId, RxQueue};
 /// A packet that arrived, its receive queue, and the value that led to this queue.
 #[derive(Clone, Copy, Debug, PartialEq, Eq)]
 pub struct Arrival {
+    /// The packet.
     pub id: PacketId,
+    /// The queue that it arrived at.
     pub queue: RxQueue,
     /// The queue that a hardware filter named, where one was seen.
     pub filter: Option<RxQueue>,

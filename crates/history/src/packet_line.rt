@@ -17,8 +17,11 @@ pub enum Via {
 /// it is.
 #[derive(Clone, Copy, Debug, PartialEq, Eq)]
 pub struct PacketLine {
+    /// The packet.
     pub id: PacketId,
+    /// The receive queue that it arrived at.
     pub queue: RxQueue,
+    /// What led to that queue.
     pub via: Via,
     /// The choice of a processor, once it was weighed.
     pub choice: Option<Choice>,
@@ -28,6 +31,8 @@ pub struct PacketLine {
     pub app: AppId,
     /// Its place in the inbox of that application, from 1.
     pub inbox: Option<u32>,
+    /// Where it is.
     pub place: Place,
+    /// The place of its flow among the distinct flows of the capture, from 0.
     pub flow_number: u32,
 }

@@ -7,6 +7,7 @@ use steer_base::{AppId, Choice, Cpu, PacketId, RxQueue};
 pub struct ReplyLine {
     /// The packet that is replied to.
     pub id: PacketId,
+    /// The application that replies.
     pub app: AppId,
     /// The receive queue of that packet.
     pub rxq: RxQueue,
@@ -18,5 +19,6 @@ pub struct ReplyLine {
     pub put: Option<u32>,
     /// Its place on the port, from 1.
     pub port: Option<u32>,
+    /// The place of its flow among the distinct flows of the capture, from 0.
     pub flow_number: u32,
 }

@@ -6,5 +6,6 @@ use steer_base::Cpu;
 pub struct SockWrite {
     /// The entry of the table.
     pub entry: u32,
+    /// The processor.
     pub cpu: Cpu,
 }

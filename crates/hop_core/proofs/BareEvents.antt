@@ -1,5 +1,5 @@
 -- Each event is one of the bare part, which does to each lane what the lane's own calls do.
-use Rattle.std.proofs.Common.{ℕ, ◌+◌, ◌<◌, ◌≡◌, ◌≢◌, ◌⊎◌, Bool, true, false, cond, List, [], Option, Some, None, length, refl, ap, ◌∙◌, sym, subst, arith, inl, inr}
+use Rattle.std.proofs.Common.{ℕ, ◌+◌, ◌<◌, ◌≡◌, ◌≢◌, ◌⊎◌, Bool, true, false, cond, [], Option, Some, None, length, refl, ap, ◌∙◌, sym, subst, arith, inl, inr}
 use Rattle.std.specs.Prelude.{◌==◌, nat_lt}
 use Rattle.std.proofs.Math.ListN.{length-set}
 use Rattle.std.proofs.lemmas.Bool.{cases_eq, eq-eqb, lt-ltb, ne_eqb}
@@ -18,7 +18,6 @@ use Rattle.hop_core.specs.Events.{MayAsk, happens}
 use Rattle.hop_core.specs.Hop.{Bare, Fixed, HopState, accepted_at, drops_at, lane_of, landed, offers_at, placed_of, pull_at, pulled_at, put_at}
 use Rattle.hop_core.specs.Shape.{fresh_hop}
 use Rattle.hop_core.specs.Sound.{Sound}
-use Rattle.hop_core.proofs.Asked.{asked_deliver}
 use Rattle.hop_core.proofs.Cases.{Enabled, by_cases}
 use Rattle.hop_core.proofs.Drops.{lane-landed, lane-other}
 use Rattle.hop_core.proofs.GateSteps.{count_some}
@@ -39,7 +38,7 @@ bare-enabled s (event.Leave a) m h = λ inside done. inl (rw h.gate.inside (coun
 bare-enabled s (event.Weigh p class want desired online) m h = λ _ _. inl (tt, refl)
 bare-enabled s (event.Put p hash) m h = λ inside more. inl (h.lanes p (placed_of s p) more, refl)
 bare-enabled s (event.Pull c) m h = λ free more. inl ((m, free, more), refl)
-bare-enabled s (event.Deliver c o) m h = λ more. (let a = asked_deliver s c o m in inl ((a.0, a.1, more), refl))
+bare-enabled s (event.Deliver c o) m h = λ more. inl ((m.lane, m.out, more), refl)
 bare-enabled s (event.Retire c) m h = λ more. inl ((m, more), refl)
 bare-enabled s (event.Resize p count) m h = inl (tt, refl)
 bare-enabled s event.Close m h = λ none. inl (none, refl)
@@ -71,7 +70,7 @@ each_lane_is_its_own f b (bare.offers c id hash) w m d =
     let cause : Option DropCause = lane_drop_cause (lane_of f b c) hash in
     pick d c (lane_of f (put_at f b c id hash) d) (after_put (lane_of f b d) id hash) (lane_of f b d)
     (λ e. subst (λ k. lane_of f (put_at f b c id hash) k ≡ after_put (lane_of f b k) id hash) (sym e)
-      (lane-landed f b cause c id (bucket_of hash) m w.offers_long w.drops_long))
+    (lane-landed f b cause c id (bucket_of hash) m w.offers_long w.drops_long))
     (λ ne. lane-other f b cause c id (bucket_of hash) m w.offers_long w.drops_long d ne)
 each_lane_is_its_own f b (bare.pulls c) w m d =
     let in' : c < length b.pulled = (let i = m.0 in let l = w.pulled_long in omega arith) in

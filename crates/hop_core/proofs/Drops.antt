@@ -1,5 +1,5 @@
 -- Each drop has its cause, and ample lanes drop nothing.
-use Rattle.std.proofs.Common.{ℕ, ◌+◌, ◌-◌, ◌≤◌, ◌<◌, ◌≡◌, ◌≢◌, Bool, false, List, [], ◌∷◌, ◌++◌, Option, Some, None, length, refl, ◌∙◌, sym, subst, arith, inl, inr, get_or, map}
+use Rattle.std.proofs.Common.{ℕ, ◌+◌, ◌-◌, ◌<◌, ◌≡◌, ◌≢◌, Bool, false, List, [], ◌∷◌, ◌++◌, Option, Some, None, length, refl, ◌∙◌, sym, subst, arith, inl, inr, get_or, map}
 use Rattle.std.specs.Option.{option_map}
 use Rattle.std.specs.Prelude.{slice_index}
 use Rattle.std.proofs.lemmas.Bool.{cases_eq, ne_eqb}
@@ -15,7 +15,7 @@ use Rattle.backlog.proofs.ExplainedLemmas.{AreOffers-put, AllExplained-put}
 use Rattle.hop_core.specs.declared.event.HopEvent.{HopEvent}
 use Rattle.hop_core.specs.declared.event.HopEvent.TheVariants as event
 use Rattle.hop_core.specs.Hop.{Fixed, Bare, HopState, accepted_at, offers_at, drops_at, fell_at, pulled_at, arrivals_of, choices_of, placed_of, in_hand, lane_of, landed}
-use Rattle.hop_core.specs.Events.{happens, MayAsk, AllMayAsk, run}
+use Rattle.hop_core.specs.Events.{happens, AllMayAsk, run}
 use Rattle.hop_core.specs.Shape.{classes_for, fixed_of, fresh_hop, new_hop}
 use Rattle.hop_core.specs.Sound.{Puts, Sound}
 use Rattle.hop_core.specs.Laws.{IsHashed, AllHashed, DropsExplained, ExplainsDrops, EachExplainsDrops, NeverDrops, Ample, EachKeepsAmple, FreshIsAmple, FreshIsExplained}

@@ -1,7 +1,7 @@
 -- The head that a choice keeps is the only one that decides it.
 use Rattle.std.proofs.Common.{ℕ, ◌≡◌, Bool, true, false, not, cond, Option, Some, None, refl, ap, ◌∙◌, sym}
 use Rattle.std.specs.Prelude.{◌==◌, unwrap_or}
-use Rattle.steer_base.specs.Choices.{by_entry, migrate}
+use Rattle.steer_base.specs.Choices.{by_entry}
 use Rattle.steer_base.specs.Counters.{has_reached}
 use Rattle.steer_base.specs.declared.choice.Choice.{Choice}
 use Rattle.steer_base.specs.declared.choice.Why.TheVariants.{Kept, Offline, Passed, Same}

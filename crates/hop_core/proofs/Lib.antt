@@ -1,7 +1,6 @@
 pub mod AllSteps
 pub mod Alone
 pub mod Apart
-pub mod Asked
 pub mod BareEvents
 pub mod Cases
 pub mod Choices
@@ -21,6 +20,7 @@ pub mod Lists
 pub mod New
 pub mod NothingLost
 pub mod Order
+pub mod Others
 pub mod Pairs
 pub mod ProducerSteps
 pub mod PutSteps

@@ -1,5 +1,5 @@
 -- A hop in which nothing has happened.
-use Rattle.std.proofs.Common.{ℕ, ◌+◌, ◌<◌, ◌≡◌, Bool, false, cond, List, [], length, refl, arith, suc, zero, get_or, map, replicate}
+use Rattle.std.proofs.Common.{ℕ, ◌+◌, ◌<◌, ◌≡◌, false, cond, List, [], length, refl, arith, suc, zero, get_or, map, replicate}
 use Rattle.std.specs.Prelude.{count_by}
 use Rattle.std.proofs.Math.ListN.{length-replicate}
 use Rattle.std.proofs.lemmas.List.Sums.{sum_by-cons}

@@ -13,11 +13,10 @@ use Rattle.hop_core.specs.declared.event.HopEvent.{HopEvent}
 use Rattle.hop_core.specs.declared.event.HopEvent.TheVariants as event
 use Rattle.hop_core.specs.Events.{AllMayAsk, MayAsk, happens, run}
 use Rattle.hop_core.specs.Hop.{HopState, accepted_at, choices_of, chosen_at, choice_of, deliver_at, delivered_at, drops_at, fell_at, in_hand, lane_of, next_of, next_out, nobody, out_at, placed_of, pulled_at}
-use Rattle.hop_core.specs.NothingLost.{EachLosesNothing, EachPutIsOnce, IsLeftOnce, IsOnceIn, IsOut, LosesNothing, FreshLosesNothing, NothingLost, WasLeft}
+use Rattle.hop_core.specs.NothingLost.{EachLosesNothing, EachPutIsOnce, IsOnceIn, IsOut, LosesNothing, FreshLosesNothing, NothingLost, WasLeft}
 use Rattle.hop_core.specs.Shape.{classes_for, fixed_of, fresh_hop, new_hop}
 use Rattle.hop_core.specs.Sound.{Sound}
 use Rattle.hop_core.proofs.AllSteps.{Sound-happens}
-use Rattle.hop_core.proofs.Asked.{asked_deliver, asked_weigh}
 use Rattle.hop_core.proofs.Cases.{Enabled, by_cases}
 use Rattle.hop_core.proofs.Gathered.{Added}
 use Rattle.hop_core.proofs.Lists.{Changed, Changed-set, chosen-push_front}
@@ -149,7 +148,7 @@ lost-enabled s (event.Take p) m h g = λ _ _. record { put = g.put; delivered = 
 lost-enabled s (event.Enter a) m h g = λ _ _. record { put = g.put; delivered = g.delivered }
 lost-enabled s (event.Leave a) m h g = λ _ _. record { put = g.put; delivered = g.delivered }
 lost-enabled s (event.Weigh p class want desired online) m h g = λ _ _. (
-    let w = h.wide in let named = asked_weigh s p class want desired online m in
+    let w = h.wide in let named = m.producer in
     let c : Chosen = record { id = next_of s p; choice = choice_of s p class want desired online } in
     record {
       put = left-weigh (accepted_at s.bare) (fell_at s.bare) (choices_of s) (λ q. get_or (set s.choices p (choices_of s p ++ c ∷ [])) q []) (placed_of s) p c
@@ -160,13 +159,13 @@ lost-enabled s (event.Put p hash) m h g = λ _ more.
     lost-landed s p (lane_drop_cause (lane_of s.fixed s.bare (in_hand s p).choice.lane) hash) (bucket_of hash) h more g
 lost-enabled s (event.Pull c) m h g = λ _ _. record { put = g.put; delivered = g.delivered }
 lost-enabled s (event.Deliver c o) m h g = λ _. (
-    let w = h.wide in let named = asked_deliver s c o m in
+    let w = h.wide in let named = m.lane in
     let x : ℕ = next_out s.bare c in
-    let cho = Changed-set s.bare.outs o (out_at s.bare o ++ x ∷ []) [] named.1 in
+    let cho = Changed-set s.bare.outs o (out_at s.bare o ++ x ∷ []) [] m.out in
     record {
       put = g.put;
       delivered = out-deliver (accepted_at s.bare) (delivered_at s.bare) (delivered_at (deliver_at s.bare c o)) (out_at s.bare) (out_at (deliver_at s.bare c o)) c o
-          (Changed-set s.bare.delivered c (delivered_at s.bare c + 1) 0 (let n = named.0 in omega arith))
+          (Changed-set s.bare.delivered c (delivered_at s.bare c + 1) 0 (omega arith))
           (record { here = cho.here; there = cho.there }) g.delivered;
     })
 lost-enabled s (event.Retire c) m h g = λ _. record { put = g.put; delivered = g.delivered }
@@ -190,7 +189,7 @@ lost-run [] s m h g = g
 lost-run (e ∷ es) s m h g = lost-run es (happens s e).0 m.1 (Sound-happens s e m.0 h) (each_loses_nothing s e m.0 h g)
 
 pub loses_nothing : LosesNothing
-loses_nothing shape es is m = lost-run es (new_hop shape) m (Sound-new shape is) 
+loses_nothing shape es is m = lost-run es (new_hop shape) m (Sound-new shape is)
     (fresh_loses_nothing (fixed_of shape) (map (classes_for shape.exact) shape.counts.items) shape.guests shape.lanes shape.outs)
 
 -- ---- exactly one place

@@ -1,13 +1,11 @@
 -- Lists of events that are joined, and the round of a lane.
-use Rattle.std.proofs.Common.{ℕ, ◌+◌, ◌<◌, ◌≡◌, List, [], ◌∷◌, ◌++◌, length, refl, ap, ◌∙◌, sym, subst, arith}
-use Rattle.std.specs.Prelude.{◌↔◌, slice_index}
+use Rattle.std.proofs.Common.{ℕ, ◌+◌, ◌<◌, ◌≡◌, [], ◌∷◌, ◌++◌, length, refl, ap, ◌∙◌, sym, subst, arith}
+use Rattle.std.specs.Prelude.{slice_index}
 use Rattle.std.proofs.lemmas.Bool.{le-ltb, lt-ltb}
-use Rattle.hop_core.specs.declared.event.HopEvent.{HopEvent}
 use Rattle.hop_core.specs.declared.event.HopEvent.TheVariants as event
-use Rattle.hop_core.specs.Hop.{Bare, HopState, accepted_at, delivered_at, pulled_at, retired_at, out_at, next_out, pull_at, deliver_at, retire_at, with_bare}
-use Rattle.hop_core.specs.Events.{AllMayAsk, happens, run}
+use Rattle.hop_core.specs.Hop.{HopState, accepted_at, delivered_at, pulled_at, retired_at, out_at, next_out, pull_at, deliver_at, retire_at, with_bare}
+use Rattle.hop_core.specs.Events.{happens, run}
 use Rattle.hop_core.specs.Rounds.{AsksAreJoined, RoundMayBeAsked, RoundRetiresOne, RunsAreJoined, WentThrough, round_of}
-use Rattle.hop_core.specs.Sound.{Sound}
 use Rattle.hop_core.proofs.Lists.{Changed-set}
 use Rattle.hop_core.proofs.Sizes.{Sizes-happens}
 

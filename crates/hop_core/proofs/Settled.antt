@@ -1,6 +1,5 @@
 -- Every event keeps a hop settled, and in a settled hop puts are allowed for the flows that the settings treat alike.
 use Rattle.std.proofs.Common.{ℕ, ◌+◌, ◌≤◌, ◌<◌, ◌≡◌, ◌≢◌, ◌⊎◌, Bool, true, List, [], ◌∷◌, ◌++◌, Option, Some, None, length, refl, ap, ◌∙◌, sym, arith, suc, inl, inr, get_or, set}
-use Rattle.std.specs.Prelude.{slice_index}
 use Rattle.std.proofs.lemmas.Bool.{cases_lt}
 use Rattle.std.proofs.lemmas.List.{get_or-drop, get_or_past, length-drop}
 use Rattle.std.proofs.lemmas.List.Elements.{All-from_get_or}
@@ -14,7 +13,7 @@ use Rattle.steer_base.specs.declared.choice.Entry.{Entry}
 use Rattle.steer_base.specs.declared.put.DropCause.{DropCause}
 use Rattle.hop_core.specs.declared.event.HopEvent.{HopEvent}
 use Rattle.hop_core.specs.declared.event.HopEvent.TheVariants as event
-use Rattle.hop_core.specs.Events.{MayAsk, happens}
+use Rattle.hop_core.specs.Events.{MayAsk}
 use Rattle.hop_core.specs.Flows.{FlowAt}
 use Rattle.hop_core.specs.Hop.{HopState, accepted_at, arrivals_of, choice_of, choices_of, chosen_at, head_at, in_hand, lane_of, next_of, nobody, placed_of, recent, resized, retire_at, retired_at, since_of, taken_of}
 use Rattle.hop_core.specs.Order.{OneClass}
@@ -22,7 +21,6 @@ use Rattle.hop_core.specs.Settled.{AreAlike, EachKeepsSettled, IsBySettings, Fre
 use Rattle.hop_core.specs.Shape.{fresh_hop}
 use Rattle.hop_core.specs.Sound.{Sound}
 use Rattle.hop_core.proofs.Alone.{place_in-at}
-use Rattle.hop_core.proofs.Asked.{asked_resize, asked_weigh}
 use Rattle.hop_core.proofs.Cases.{Enabled, by_cases}
 use Rattle.hop_core.proofs.GateSteps.{all_placed}
 use Rattle.hop_core.proofs.LaneSteps.{retired_rises}
@@ -67,10 +65,10 @@ settled-landed class_of plain s q None bucket in' h more g =
 settled-resize : (class_of now_class_of : ℕ → ℕ → Option ℕ) (plain : ℕ → ℕ → ℕ) (s : HopState) (p count n : ℕ) → MayAsk s (event.Resize p count)
     → Sound s → ((q x : ℕ) → q ≢ p → now_class_of q x ≡ class_of q x) → SettledIn class_of plain s → SettledIn now_class_of plain (resized s p n)
 settled-resize class_of now_class_of plain s p count n m h same g =
-    let w = h.wide in let asked = asked_resize s p count m in
+    let w = h.wide in let named = m.producer in
     Settled-resize (choices_of s) (since_of s) (λ q. get_or (set s.since p (length (choices_of s p))) q 0) (placed_of s) (accepted_at s.bare) (retired_at s.bare)
-    class_of now_class_of plain p (λ q. let a = all_placed s h asked.1 q in omega arith) h.hands.put
-    (Changed-set s.since p (length (choices_of s p)) 0 (let i = asked.0 in omega arith)) same g
+    class_of now_class_of plain p (λ q. let a = all_placed s h m.closed q in omega arith) h.hands.put
+    (Changed-set s.since p (length (choices_of s p)) 0 (omega arith)) same g
 
 settled-enabled : (class_of : ℕ → ℕ → Option ℕ) (plain : ℕ → ℕ → ℕ) (s : HopState) (e : HopEvent) → MayAsk s e → Sound s
     → IsBySettings class_of plain s e → SettledIn class_of plain s → Enabled (SettledIn class_of plain) s e
@@ -79,15 +77,15 @@ settled-enabled class_of plain s (event.Take p) m h by g = λ _ _. g
 settled-enabled class_of plain s (event.Enter a) m h by g = λ _ _. g
 settled-enabled class_of plain s (event.Leave a) m h by g = λ _ _. g
 settled-enabled class_of plain s (event.Weigh p class want desired online) m h by g = λ inside more. (
-    let w = h.wide in let one = h.hands.one p in let named = asked_weigh s p class want desired online m in
+    let w = h.wide in let one = h.hands.one p in let named = m.producer in
     let c : Chosen = record { id = next_of s p; choice = choice_of s p class want desired online } in
     let es : ℕ → Entry = entry s.fixed.start (accepted_at s.bare) (recent s p) in
     let hs : ℕ → ℕ = head_at s.fixed.start s.bare in
     let same : c.choice.class ≡ class = migrate-class class want desired es hs (has online) in
     Settled-weigh (choices_of s) (λ q. get_or (set s.choices p (choices_of s p ++ c ∷ [])) q []) (since_of s) (placed_of s) (accepted_at s.bare) (retired_at s.bare)
     class_of plain p c (Changed-set s.choices p (choices_of s p ++ c ∷ []) [] (omega arith)) h.hands.put (omega arith)
-    (same ∙ by.0)
-    (λ none. migrate-plain class want desired es hs (has online) (sym same ∙ none) ∙ by.1 (sym same ∙ none)) g)
+    (same ∙ (by more).0)
+    (λ none. migrate-plain class want desired es hs (has online) (sym same ∙ none) ∙ (by more).1 (sym same ∙ none)) g)
 settled-enabled class_of plain s (event.Put p hash) m h by g = λ inside more.
     settled-landed class_of plain s p (lane_drop_cause (lane_of s.fixed s.bare (in_hand s p).choice.lane) hash) (bucket_of hash) m h more g
 settled-enabled class_of plain s (event.Pull c) m h by g = λ _ _. g

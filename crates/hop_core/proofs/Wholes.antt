@@ -14,10 +14,10 @@ use Rattle.steer_base.specs.declared.put.DropCause.{DropCause}
 use Rattle.steer_base.specs.declared.put.Put.{Put}
 use Rattle.hop_core.specs.Events.{IsClassBelow, IsEmptied, happens, put}
 use Rattle.hop_core.specs.FlowTables.{FlowTables, new_tables, noted, table_at, with_rows}
-use Rattle.hop_core.specs.Hop.{HopState, arrivals_of, choice_of, choices_of, delivered_at, in_hand, inside_of, next_of, next_out, nobody, placed_of, pulled_at, retired_at, taken_of}
+use Rattle.hop_core.specs.Hop.{HopState, arrivals_of, choice_of, choices_of, delivered_at, in_hand, inside_of, next_of, next_out, placed_of, pulled_at, retired_at, taken_of}
 use Rattle.steer_base.specs.Journals.{Journals, list_at, new_journals, pushed}
 use Rattle.hop_core.specs.LaneTable.{LaneTable, lane_at, new_lanes, with_lane}
-use Rattle.hop_core.specs.Reads.{to_put}
+use Rattle.hop_core.specs.Reads.{to_put, to_weigh}
 use Rattle.hop_core.specs.Shape.{IsShape, classes_for, new_hop}
 use Rattle.hop_core.specs.Sizes.{SameSizes}
 use Rattle.hop_core.specs.Sound.{Sound}
@@ -37,9 +37,6 @@ use Rattle.hop_core.proofs.TableSteps.{Tabled-put, Tabled-resize, Tabled-weigh}
 
 -- ---- what is read of the parts, with the default that the definitions have
 
-pub read-taken : (h : HopParts) (p x : ℕ) → IsWhole h → p < length h.arrivals.lists → x ≡ get_or h.taken p x → x ≡ taken_of (state_of h) p
-read-taken h p x w named at = let l = w.sound.wide in at ∙ get_or_default h.taken p x 0 (omega arith)
-
 pub read-placed : (h : HopParts) (p x : ℕ) → IsWhole h → p < length h.arrivals.lists → x ≡ get_or h.placed p x → x ≡ placed_of (state_of h) p
 read-placed h p x w named at = let l = w.sound.wide in at ∙ get_or_default h.placed p x 0 (omega arith)
 
@@ -52,13 +49,10 @@ read-delivered h c x w named at = let l = w.sound.wide in at ∙ get_or_default 
 pub read-retired : (h : HopParts) (c x : ℕ) → IsWhole h → c < length h.lanes.accepted → x ≡ get_or h.retired c x → x ≡ retired_at (state_of h).bare c
 read-retired h c x w named at = let l = w.sound.wide in at ∙ get_or_default h.retired c x 0 (omega arith)
 
--- the packet that is weighed next
-pub read-next : (h : HopParts) (p n x : ℕ) → IsWhole h → n ≡ length (list_at h.choices p) → length (list_at h.choices p) < taken_of (state_of h) p
-    → x ≡ slice_index_or (list_at h.arrivals p) n x → x ≡ next_of (state_of h) p
-read-next h p n x w is more at =
-    let a = w.sound.hands.arrived p in
-    let lt : n < length (list_at h.arrivals p) = omega arith in
-    at ∙ get_or_default (list_at h.arrivals p) n x 0 lt ∙ ap (slice_index (list_at h.arrivals p)) is
+-- an option that is there holds what it is made of
+found_if : {X : Type 0} (b : Bool) (x y : X) → Some x ≡ cond b (Some y) None → (b ≡ true) × (x ≡ y)
+found_if true x y e = (refl, ap (λ o. unwrap_or o x) e)
+found_if false x y e = absurd cc
 
 -- ---- an arrival
 
@@ -83,6 +77,14 @@ whole-arrive h p x named below fresh w =
     }
 
 -- ---- a weigh
+
+-- what a weigh finds: a packet that was taken up and not weighed
+pub weigh_finds : (h : HopParts) (p x : ℕ) → IsWhole h → Some x ≡ to_weigh (state_of h) p
+    → (length (choices_of (state_of h) p) < taken_of (state_of h) p) × (x ≡ next_of (state_of h) p)
+weigh_finds h p x w is =
+    let s : HopState = state_of h in
+    let found = found_if (nat_lt (length (choices_of s p)) (taken_of s p)) x (next_of s p) is in
+    (ltb-true (length (choices_of s p)) (taken_of s p) found.0, found.1)
 
 pub fits-weigh : (h : HopParts) (p : ℕ) → length (list_at h.choices p) < taken_of (state_of h) p → IsWhole h → length (list_at h.choices p) < h.choices.room
 fits-weigh h p more w = rw w.choices_room (room-weigh (state_of h) p more w.sound)
@@ -119,15 +121,11 @@ pub record Finds (h : HopParts) (p n : ℕ) (x : Chosen) : Type 0 where
   pub chosen : x ≡ in_hand (state_of h) p
   pub fits : n + 1 < 2 ^ 32
 
-to_put_cases : (b : Bool) (x y : Chosen) → Some x ≡ cond b (Some y) None → (b ≡ true) × (x ≡ y)
-to_put_cases true x y e = (refl, ap (λ o. unwrap_or o x) e)
-to_put_cases false x y e = absurd cc
-
 pub put_finds : (h : HopParts) (p n : ℕ) (x : Chosen) → IsWhole h → p < length h.arrivals.lists → n ≡ get_or h.placed p n
     → Some x ≡ to_put (state_of h) p → Finds h p n x
 put_finds h p n x w named at is =
     let s : HopState = state_of h in
-    let found = to_put_cases (nat_lt (placed_of s p) (length (choices_of s p))) x (in_hand s p) is in
+    let found = found_if (nat_lt (placed_of s p) (length (choices_of s p))) x (in_hand s p) is in
     let placed : n ≡ placed_of s p = read-placed h p n w named at in
     let more : placed_of s p < length (choices_of s p) = ltb-true (placed_of s p) (length (choices_of s p)) found.0 in
     let fits = (fits_room s w.sound).choices p in

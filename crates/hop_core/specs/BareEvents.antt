@@ -1,12 +1,16 @@
--- What the events of a hop do to its bare part, the part without producers, and to each of its lanes.
-use Rattle.std.specs.Prelude.{ℕ, ◌+◌, ◌-◌, ◌≤◌, ◌<◌, ◌≡◌, ◌⊎◌, true, false, ◌==◌, List, Option, length, if◌then◌else◌}
+-- What the events of a hop do to its bare part, the part without producers, and to each of its
+-- lanes.
+use Rattle.std.specs.Prelude.{ℕ, ◌+◌, ◌-◌, ◌≤◌, ◌<◌, ◌≡◌, ◌⊎◌, true, false, ◌==◌, List, Option}
+use Rattle.std.specs.Prelude.{length, if◌then◌else◌}
 use Rattle.steer_base.specs.Lanes.{LaneLists}
 use Rattle.backlog.specs.Puts.{after_put, after_take}
 use Rattle.backlog.specs.Rising.{AreRising}
 use Rattle.hop_core.specs.declared.event.HopEvent.{HopEvent}
 use Rattle.hop_core.specs.declared.event.HopEvent.TheVariants as event
 use Rattle.hop_core.specs.Events.{MayAsk, happens}
-use Rattle.hop_core.specs.Hop.{Bare, Fixed, HopState, accepted_at, deliver_at, delivered_at, in_hand, lane_of, pull_at, pulled_at, put_at, retire_at, retired_at, with_closed, with_inside}
+use Rattle.hop_core.specs.Hop.{Bare, Fixed, HopState, accepted_at, deliver_at, delivered_at}
+use Rattle.hop_core.specs.Hop.{in_hand, lane_of, pull_at, pulled_at, put_at, retire_at, retired_at}
+use Rattle.hop_core.specs.Hop.{with_closed, with_inside}
 use Rattle.hop_core.specs.Shape.{fresh_hop}
 use Rattle.hop_core.specs.Sound.{Sound}
 
@@ -34,8 +38,8 @@ bare_after f b (pulls c) = pull_at b c
 bare_after f b (delivers c o) = deliver_at b c o
 bare_after f b (retires c) = retire_at b c
 
--- Where it may happen: actors come in by an open gate, which closes with nobody inside; a lane with an empty hand pulls a
--- packet that waits, delivers the one in its hand, and then retires it.
+-- Where it may happen: actors come in by an open gate, which closes with nobody inside; a lane with
+-- an empty hand pulls a packet that waits, delivers the one in its hand, and then retires it.
 abbrev pub MayBe : Bare → BareEvent → Type 0
 MayBe b nothing = Unit {0}
 MayBe b enters = b.closed ≡ false
@@ -43,8 +47,11 @@ MayBe b leaves = 0 < b.inside
 MayBe b closes = b.inside ≡ 0
 MayBe b opens = b.closed ≡ true
 MayBe b (offers c id hash) = c < length b.accepted
-MayBe b (pulls c) = (c < length b.accepted) × (pulled_at b c ≤ retired_at b c) × (pulled_at b c < length (accepted_at b c))
-MayBe b (delivers c o) = (c < length b.accepted) × (o < length b.outs) × (delivered_at b c < pulled_at b c)
+MayBe b (pulls c) =
+    (c < length b.accepted) × (pulled_at b c ≤ retired_at b c)
+    × (pulled_at b c < length (accepted_at b c))
+MayBe b (delivers c o) =
+    (c < length b.accepted) × (o < length b.outs) × (delivered_at b c < pulled_at b c)
 MayBe b (retires c) = (c < length b.accepted) × (retired_at b c < delivered_at b c)
 
 -- the event of the bare part that an event of the hop is, where it is not idle
@@ -80,11 +87,13 @@ DropsRise s = (c : ℕ) → AreRising (lane_of s.fixed s.bare c)
 
 -- ---- laws
 
--- An event of the hop is this event of its bare part, where that may happen, or leaves the whole state.
+-- An event of the hop is this event of its bare part, where that may happen, or leaves the whole
+-- state.
 abbrev pub EachIsBare : Type 0
 EachIsBare =
     (s : HopState) (e : HopEvent) → MayAsk s e → Sound s
-    → (MayBe s.bare (bare_event s e) × ((happens s e).0.bare ≡ bare_after s.fixed s.bare (bare_event s e)))
+    → (MayBe s.bare (bare_event s e)
+    × ((happens s e).0.bare ≡ bare_after s.fixed s.bare (bare_event s e)))
     ⊎ ((happens s e).0 ≡ s)
 
 -- Each lane after an event of the bare part is what its own put or take makes of it, or as it was.
@@ -102,7 +111,10 @@ BareKeepsLanes = (f : Fixed) (b : Bare) (e : BareEvent) → HasLanes b → HasLa
 
 -- The counts of drops rise in a hop in which nothing has happened, and every event leaves them so.
 abbrev pub FreshDropsRise : Type 0
-FreshDropsRise = (fixed : Fixed) (counts : List ℕ) (guests lanes outs : ℕ) → DropsRise (fresh_hop fixed counts guests lanes outs)
+FreshDropsRise =
+    (fixed : Fixed) (counts : List ℕ) (guests lanes outs : ℕ)
+    → DropsRise (fresh_hop fixed counts guests lanes outs)
 
 abbrev pub EachKeepsDropsRising : Type 0
-EachKeepsDropsRising = (s : HopState) (e : HopEvent) → MayAsk s e → Sound s → DropsRise s → DropsRise (happens s e).0
+EachKeepsDropsRising =
+    (s : HopState) (e : HopEvent) → MayAsk s e → Sound s → DropsRise s → DropsRise (happens s e).0

@@ -19,9 +19,11 @@ waiting s asked = those_below (length s.bare.accepted) (is_waiting s asked)
 -- the first of these lanes is what keeps a command from being done
 abbrev pub first_busy : HopState → List ℕ → Result (Unit {0}) Busy
 first_busy s [] = Ok tt
-first_busy s (c ∷ cs) = Err (NotEmpty c (head_at s.fixed.start s.bare c) (tail_at s.fixed.start s.bare c))
+first_busy s (c ∷ cs) =
+    Err (NotEmpty c (head_at s.fixed.start s.bare c) (tail_at s.fixed.start s.bare c))
 
--- whether all lanes that pass a test are empty, else the first that is not; and the same of a set of lanes
+-- whether all lanes that pass a test are empty, else the first that is not; and the same of a set
+-- of lanes
 abbrev pub emptied_of : HopState → (ℕ → Bool) → Result (Unit {0}) Busy
 emptied_of s asked = first_busy s (waiting s asked)
 
@@ -37,10 +39,12 @@ AreEmptied s lanes = AreEmptiedOf s (has lanes)
 
 -- The answer is Ok exactly where each lane that is asked for is empty.
 abbrev pub EmptiedIsExact : Type 0
-EmptiedIsExact = (s : HopState) (asked : ℕ → Bool) → IsOk (emptied_of s asked) ↔ AreEmptiedOf s asked
+EmptiedIsExact =
+    (s : HopState) (asked : ℕ → Bool) → IsOk (emptied_of s asked) ↔ AreEmptiedOf s asked
 
 -- A set of lanes is asked for as a test is that agrees with it.
 abbrev pub SetIsAsked : Type 0
 SetIsAsked =
     (s : HopState) (lanes : CpuMask) (asked : ℕ → Bool)
-    → ((c : ℕ) → c < length s.bare.accepted → has lanes c ≡ asked c) → emptied s lanes ≡ emptied_of s asked
+    → ((c : ℕ) → c < length s.bare.accepted → has lanes c ≡ asked c)
+    → emptied s lanes ≡ emptied_of s asked

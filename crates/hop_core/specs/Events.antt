@@ -1,5 +1,7 @@
--- The events of a hop, each the step of one actor: the first reason for which it is idle, else what it does and answers.
-use Rattle.std.specs.Prelude.{ℕ, ◌+◌, ◌-◌, ◌<◌, ◌≤◌, ◌≡◌, ◌≢◌, true, false, not, ◌==◌, nat_lt, List, [], ◌∷◌, Option, Some, None, length, slice_index, if◌then◌else◌}
+-- The events of a hop, each the step of one actor: the first reason for which it is idle, else what
+-- it does and answers.
+use Rattle.std.specs.Prelude.{ℕ, ◌+◌, ◌-◌, ◌<◌, ◌≤◌, ◌≡◌, ◌≢◌, true, false, not, ◌==◌, nat_lt, List}
+use Rattle.std.specs.Prelude.{[], ◌∷◌, Option, Some, None, length, slice_index, if◌then◌else◌}
 use Rattle.steer_base.specs.Counters.{rounded_up}
 use Rattle.steer_base.specs.Sets.{has}
 use Rattle.steer_base.specs.declared.cpu_mask.CpuMask.{CpuMask}
@@ -10,7 +12,11 @@ use Rattle.hop_core.specs.declared.event.HopEvent.{HopEvent}
 use Rattle.hop_core.specs.declared.event.HopEvent.TheVariants as event
 use Rattle.hop_core.specs.declared.event.HopAnswer.{HopAnswer}
 use Rattle.hop_core.specs.declared.event.HopAnswer.TheVariants as answer
-use Rattle.hop_core.specs.Hop.{Bare, HopState, accepted_at, pulled_at, delivered_at, retired_at, out_at, arrivals_of, choices_of, taken_of, placed_of, inside_of, in_hand, lane_of, pull_at, deliver_at, retire_at, with_closed, arrived, took, choice_of, chose, put_one, with_bare, with_visit, resized}
+use Rattle.hop_core.specs.Hop.{Bare, HopState, accepted_at, pulled_at, delivered_at, retired_at}
+use Rattle.hop_core.specs.Hop.{out_at, arrivals_of, choices_of, taken_of, placed_of, inside_of}
+use Rattle.hop_core.specs.Hop.{in_hand, lane_of, pull_at, deliver_at, retire_at, with_closed}
+use Rattle.hop_core.specs.Hop.{arrived, took, choice_of, chose, put_one, with_bare, with_visit}
+use Rattle.hop_core.specs.Hop.{resized}
 
 -- the state after an event, and its answer
 abbrev pub Outcome : Type 0
@@ -23,7 +29,8 @@ idles s why = (s, answer.Idle why)
 abbrev pub take : HopState → ℕ → Outcome
 take s p =
     if nat_lt (placed_of s p) (taken_of s p) then idles s idle.HandFull else
-    if nat_lt (taken_of s p) (length (arrivals_of s p)) then (took s p, answer.Took (slice_index (arrivals_of s p) (taken_of s p))) else
+    if nat_lt (taken_of s p) (length (arrivals_of s p))
+    then (took s p, answer.Took (slice_index (arrivals_of s p) (taken_of s p))) else
     idles s idle.RingEmpty
 
 -- An actor that is outside goes through the gate where it is open.
@@ -45,7 +52,10 @@ abbrev pub weigh : HopState → ℕ → Option ℕ → Option ℕ → ℕ → Cp
 weigh s p class want desired online =
     if not (inside_of s p) then idles s idle.NotInside else
     if nat_lt (length (choices_of s p)) (taken_of s p)
-    then (chose s p (choice_of s p class want desired online), answer.Chose (choice_of s p class want desired online))
+    then (
+      chose s p (choice_of s p class want desired online),
+      answer.Chose (choice_of s p class want desired online),
+    )
     else idles s idle.WrongStage
 
 -- The packet in hand is offered to the chosen lane.
@@ -53,7 +63,10 @@ abbrev pub put : HopState → ℕ → Option ℕ → Outcome
 put s p hash =
     if not (inside_of s p) then idles s idle.NotInside else
     if nat_lt (placed_of s p) (length (choices_of s p))
-    then (put_one s p hash, answer.Went (put_answer (lane_of s.fixed s.bare (in_hand s p).choice.lane) hash))
+    then (
+      put_one s p hash,
+      answer.Went (put_answer (lane_of s.fixed s.bare (in_hand s p).choice.lane) hash),
+    )
     else idles s idle.WrongStage
 
 -- A lane with an empty hand pulls the next packet that waits.
@@ -61,7 +74,10 @@ abbrev pub pull : HopState → ℕ → Outcome
 pull s c =
     if nat_lt (retired_at s.bare c) (pulled_at s.bare c) then idles s idle.HandFull else
     if nat_lt (pulled_at s.bare c) (length (accepted_at s.bare c))
-    then (with_bare s (pull_at s.bare c), answer.Took (slice_index (accepted_at s.bare c) (pulled_at s.bare c)))
+    then (
+      with_bare s (pull_at s.bare c),
+      answer.Took (slice_index (accepted_at s.bare c) (pulled_at s.bare c)),
+    )
     else idles s idle.NothingWaiting
 
 -- The packet in a lane's hand goes to an out lane; its place there is answered.
@@ -75,13 +91,16 @@ deliver s c o =
 -- The head of a lane rises past the packet that was delivered.
 abbrev pub retire : HopState → ℕ → Outcome
 retire s c =
-    if nat_lt (retired_at s.bare c) (delivered_at s.bare c) then (with_bare s (retire_at s.bare c), answer.Done) else
+    if nat_lt (retired_at s.bare c) (delivered_at s.bare c)
+    then (with_bare s (retire_at s.bare c), answer.Done) else
     if nat_lt (delivered_at s.bare c) (pulled_at s.bare c) then idles s idle.NotDelivered else
     idles s idle.HandEmpty
 
 -- The gate closes where nobody is inside.
 abbrev pub close : HopState → Outcome
-close s = if s.bare.inside == 0 then (with_bare s (with_closed s.bare true), answer.Done) else (s, answer.Inside s.bare.inside)
+close s =
+    if s.bare.inside == 0 then (with_bare s (with_closed s.bare true), answer.Done)
+    else (s, answer.Inside s.bare.inside)
 
 abbrev pub happens : HopState → HopEvent → Outcome
 happens s (event.Arrive p id) = (arrived s p id, answer.Done)
@@ -114,8 +133,8 @@ pub record MayArrive (s : HopState) (p id : ℕ) : Type 0 where
   pub below : id < s.fixed.room
   pub fresh : (q i : ℕ) → i < length (arrivals_of s q) → slice_index (arrivals_of s q) i ≢ id
 
--- A weigh names a class of the producer and an online lane as the desired one, and no packet waits or is in hand at a
--- lane that is offline.
+-- A weigh names a class of the producer and an online lane as the desired one, and no packet waits
+-- or is in hand at a lane that is offline.
 pub record MayWeigh (s : HopState) (p : ℕ) (class : Option ℕ) (desired : ℕ) (online : CpuMask)
     : Type 0 where
   pub producer : p < length s.arrivals
@@ -136,7 +155,8 @@ pub record MayResize (s : HopState) (p count : ℕ) : Type 0 where
   pub closed : s.bare.closed ≡ true
   pub drained : (c : ℕ) → c < length s.bare.accepted → IsEmptied s.bare c
 
--- Each event names actors and lanes that there are. Only an open gate closes, only a closed one opens.
+-- Each event names actors and lanes that there are. Only an open gate closes, only a closed one
+-- opens.
 abbrev pub MayAsk : HopState → HopEvent → Type 0
 MayAsk s (event.Arrive p id) = MayArrive s p id
 MayAsk s (event.Take p) = p < length s.arrivals

@@ -1,5 +1,6 @@
 -- The flow tables of a hop's producers, by the entries of each.
-use Rattle.std.specs.Prelude.{ℕ, ◌<◌, ◌≡◌, Bool, List, [], Option, Some, None, length, map, replicate, slice_index_or, slice_set, if◌then◌else◌}
+use Rattle.std.specs.Prelude.{ℕ, ◌<◌, ◌≡◌, Bool, List, [], Option, Some, None, length, map}
+use Rattle.std.specs.Prelude.{replicate, slice_index_or, slice_set, if◌then◌else◌}
 use Rattle.std.specs.Option.{IsSome}
 use Rattle.steer_base.specs.Choices.{looks_from}
 use Rattle.steer_base.specs.declared.choice.Entry.{Entry}
@@ -25,9 +26,14 @@ with_rows t p rows = record t { rows = slice_set t.rows p rows }
 -- a table of unset entries for each of these numbers of classes
 abbrev pub new_tables : List ℕ → ℕ → Bool → FlowTables
 new_tables counts start exact =
-    record { rows = map (λ count. replicate (classes_for exact count) (unset start)) counts; start = start; exact = exact }
+    record {
+      rows = map (λ count. replicate (classes_for exact count) (unset start)) counts;
+      start = start;
+      exact = exact;
+    }
 
--- the table after a put: where the packet was accepted, its class has the position as its recorded tail
+-- the table after a put: where the packet was accepted, its class has the position as its recorded
+-- tail
 abbrev pub noted : Table → Option ℕ → Put → Table
 noted table (Some class) (At position) = recorded table class position
 noted table None (At position) = table
@@ -38,15 +44,19 @@ abbrev pub IsSet : Table → Option ℕ → Type 0
 IsSet table None = Unit {0}
 IsSet table (Some class) = IsSome (entries table class).lane
 
--- each current lane is one of so many
+-- each current lane is below this number
 abbrev pub LanesBelow : Table → ℕ → Type 0
-LanesBelow table count = (class lane : ℕ) → class < length table.rows → (entries table class).lane ≡ Some lane → lane < count
+LanesBelow table count =
+    (class lane : ℕ) → class < length table.rows → (entries table class).lane ≡ Some lane
+    → lane < count
 
 -- the head of the current lane, where the migration rule looks at it
 abbrev pub head_from : Option ℕ → ℕ → (ℕ → Bool) → (ℕ → ℕ) → Option ℕ
 head_from None desired online head = None
-head_from (Some current) desired online head = if looks_from (Some current) desired online then Some (head current) else None
+head_from (Some current) desired online head =
+    if looks_from (Some current) desired online then Some (head current) else None
 
 abbrev pub head_seen : Table → Option ℕ → ℕ → (ℕ → Bool) → (ℕ → ℕ) → Option ℕ
 head_seen table None desired online head = None
-head_seen table (Some class) desired online head = head_from (entries table class).lane desired online head
+head_seen table (Some class) desired online head =
+    head_from (entries table class).lane desired online head

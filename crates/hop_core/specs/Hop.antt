@@ -1,6 +1,8 @@
--- The state of a hop as lists: producers with a hand, middle lanes with a hand and a head each, out lanes, and a gate
--- (kernel scaling chapter, sections RPS, RFS and XPS: receive queues, backlogs and sockets, or sockets and transmit queues).
-use Rattle.std.specs.Prelude.{ℕ, ◌+◌, Bool, false, List, [], ◌∷◌, ◌++◌, Option, Some, None, length, drop, slice_index, slice_index_or, slice_set, map}
+-- The state of a hop as lists: producers with a hand, middle lanes with a hand and a head each, out
+-- lanes, and a gate (kernel scaling chapter, sections RPS, RFS and XPS: receive queues, backlogs
+-- and sockets, or sockets and transmit queues).
+use Rattle.std.specs.Prelude.{ℕ, ◌+◌, Bool, false, List, [], ◌∷◌, ◌++◌, Option, Some, None, length}
+use Rattle.std.specs.Prelude.{drop, slice_index, slice_index_or, slice_set, map}
 use Rattle.steer_base.specs.Choices.{migrate}
 use Rattle.steer_base.specs.Counters.{number}
 use Rattle.steer_base.specs.Drops.{bucket_of, lane_drop_cause}
@@ -14,8 +16,9 @@ use Rattle.steer_base.specs.declared.cpu_mask.CpuMask.{CpuMask}
 use Rattle.steer_base.specs.declared.put.DropCause.{DropCause}
 use Rattle.steer_base.specs.declared.put.LaneDrop.{LaneDrop}
 
--- What a hop keeps for good: the limit on the packets that wait in a lane, the bound of its packets, the number that its
--- counters show at 0, whether the numbers of classes are taken as given, and the lanes under the flow limit.
+-- What a hop keeps for good: the limit on the packets that wait in a lane, the bound of its
+-- packets, the number that its counters show at 0, whether the numbers of classes are taken as
+-- given, and the lanes under the flow limit.
 pub record Fixed : Type 0 where
   pub limit : ℕ
   pub room : ℕ
@@ -94,7 +97,18 @@ inside_of s a = slice_index_or s.visits a false
 
 -- stands for a choice where a list of choices has none
 abbrev pub nobody : Chosen
-nobody = record { id = 0; choice = record { class = None; want = None; head = None; tail = None; lane = 0; why = Plain } }
+nobody =
+    record {
+      id = 0;
+      choice = record {
+        class = None;
+        want = None;
+        head = None;
+        tail = None;
+        lane = 0;
+        why = Plain;
+      };
+    }
 
 -- the i-th choice of a list
 abbrev pub chosen_at : List Chosen → ℕ → Chosen
@@ -139,7 +153,13 @@ lane_of f b c =
 
 -- ---- what the events do to the bare part
 
--- A packet is put to a lane: it is dropped for a cause, or accepted where there is none. Either is an offer.
+-- a packet that a lane drops for a cause, with the counts of that moment
+abbrev pub dropped : Bare → ℕ → ℕ → DropCause → LaneDrop
+dropped b c x cause =
+    record { id = x; accepted = length (accepted_at b c); pulled = pulled_at b c; cause = cause }
+
+-- A packet is put to a lane: it is dropped for a cause, or accepted where there is none. Either is
+-- an offer.
 abbrev pub landed : Option DropCause → Bare → ℕ → ℕ → Option ℕ → Bare
 landed None b c x bucket =
     record b {
@@ -148,7 +168,7 @@ landed None b c x bucket =
     }
 landed (Some cause) b c x bucket =
     record b {
-      drops = slice_set b.drops c (drops_at b c ++ record { id = x; accepted = length (accepted_at b c); pulled = pulled_at b c; cause = cause } ∷ []);
+      drops = slice_set b.drops c (drops_at b c ++ dropped b c x cause ∷ []);
       offers = slice_set b.offers c (offers_at b c ++ bucket ∷ []);
     }
 
@@ -186,20 +206,33 @@ took s p = record s { taken = slice_set s.taken p (taken_of s p + 1) }
 -- the choice by the migration rule, over the entries of the classes and the heads of the lanes
 abbrev pub choice_of : HopState → ℕ → Option ℕ → Option ℕ → ℕ → CpuMask → Choice
 choice_of s p class want desired online =
-    migrate class want desired (entry s.fixed.start (accepted_at s.bare) (recent s p)) (head_at s.fixed.start s.bare) (has online)
+    migrate class want desired (entry s.fixed.start (accepted_at s.bare) (recent s p))
+    (head_at s.fixed.start s.bare) (has online)
 
 abbrev pub chose : HopState → ℕ → Choice → HopState
-chose s p c = record s { choices = slice_set s.choices p (choices_of s p ++ record { id = next_of s p; choice = c } ∷ []) }
+chose s p c =
+    record s {
+      choices = slice_set s.choices p
+          (choices_of s p ++ record { id = next_of s p; choice = c } ∷ []);
+    }
 
 abbrev pub put_one : HopState → ℕ → Option ℕ → HopState
 put_one s p hash =
-    record s { bare = put_at s.fixed s.bare (in_hand s p).choice.lane (in_hand s p).id hash; placed = slice_set s.placed p (placed_of s p + 1) }
+    record s {
+      bare = put_at s.fixed s.bare (in_hand s p).choice.lane (in_hand s p).id hash;
+      placed = slice_set s.placed p (placed_of s p + 1);
+    }
 
 abbrev pub with_bare : HopState → Bare → HopState
 with_bare s b = record s { bare = b }
 
 abbrev pub with_visit : HopState → ℕ → Bool → ℕ → HopState
-with_visit s a here inside = record s { bare = with_inside s.bare inside; visits = slice_set s.visits a here }
+with_visit s a here inside =
+    record s { bare = with_inside s.bare inside; visits = slice_set s.visits a here }
 
 abbrev pub resized : HopState → ℕ → ℕ → HopState
-resized s p count = record s { since = slice_set s.since p (length (choices_of s p)); counts = slice_set s.counts p count }
+resized s p count =
+    record s {
+      since = slice_set s.since p (length (choices_of s p));
+      counts = slice_set s.counts p count;
+    }

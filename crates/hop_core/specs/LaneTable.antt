@@ -1,12 +1,14 @@
 -- The lanes of a hop, by the lists of each.
-use Rattle.std.specs.Prelude.{ℕ, ◌<◌, List, [], Option, length, slice_index, slice_index_or, slice_set, replicate}
+use Rattle.std.specs.Prelude.{ℕ, ◌<◌, List, [], Option, length, slice_index, slice_index_or}
+use Rattle.std.specs.Prelude.{slice_set, replicate}
 use Rattle.steer_base.specs.Lanes.{LaneLists}
 use Rattle.steer_base.specs.Sets.{has}
 use Rattle.steer_base.specs.declared.cpu_mask.CpuMask.{CpuMask}
 use Rattle.steer_base.specs.declared.put.LaneDrop.{LaneDrop}
 use Rattle.backlog.specs.Puts.{SameShape, new_lane}
 
--- Lanes of one limit, one room and one start of their counters, with the set of those under the flow limit.
+-- Lanes of one limit, one room and one start of their counters, with the set of those under the
+-- flow limit.
 pub record LaneTable : Type 0 where
   pub accepted : List (List ℕ)
   pub offers : List (List (Option ℕ))
@@ -41,7 +43,7 @@ with_lane t c l =
       pulled = slice_set t.pulled c l.pulled;
     }
 
--- so many lanes that no packet was put to
+-- lanes that no packet was put to, `count` of them
 abbrev pub new_lanes : ℕ → ℕ → ℕ → ℕ → CpuMask → LaneTable
 new_lanes count limit room start limited =
     record {
@@ -58,4 +60,5 @@ new_lanes count limit room start limited =
 -- each lane has this limit, room and start, and is limited where the set has it
 abbrev pub AreShaped : ℕ → ℕ → ℕ → CpuMask → List LaneLists → Type 0
 AreShaped limit room start limited lanes =
-    (c : ℕ) (d : LaneLists) → c < length lanes → SameShape (new_lane limit room start (has limited c)) (slice_index_or lanes c d)
+    (c : ℕ) (d : LaneLists) → c < length lanes
+    → SameShape (new_lane limit room start (has limited c)) (slice_index_or lanes c d)

@@ -1,5 +1,6 @@
 -- The laws of a hop, over every list of events that may be asked.
-use Rattle.std.specs.Prelude.{ℕ, ◌++◌, ◌≤◌, ◌<◌, ◌≡◌, ◌≢◌, ◌^◌, Bool, true, false, List, [], ◌∷◌, Option, unwrap_or, length, map, take, drop, filter}
+use Rattle.std.specs.Prelude.{ℕ, ◌++◌, ◌≤◌, ◌<◌, ◌≡◌, ◌≢◌, ◌^◌, Bool, true, false, List, [], ◌∷◌}
+use Rattle.std.specs.Prelude.{Option, unwrap_or, length, map, take, drop, filter}
 use Rattle.steer_base.specs.Choices.{migrate}
 use Rattle.steer_base.specs.Entries.{entry}
 use Rattle.steer_base.specs.Orders.{Apart, IsPrefix}
@@ -12,7 +13,9 @@ use Rattle.hop_core.specs.declared.event.HopEvent.{HopEvent}
 use Rattle.hop_core.specs.declared.event.HopEvent.TheVariants as event
 use Rattle.hop_core.specs.declared.event.HopAnswer.TheVariants as answer
 use Rattle.hop_core.specs.declared.shape.HopShape.{HopShape}
-use Rattle.hop_core.specs.Hop.{Bare, Fixed, HopState, accepted_at, fell_at, drops_at, delivered_at, out_at, head_at, arrivals_of, choices_of, chosen_at, taken_of, placed_of, since_of, inside_of, in_hand, lane_of}
+use Rattle.hop_core.specs.Hop.{Bare, Fixed, HopState, accepted_at, fell_at, drops_at, delivered_at}
+use Rattle.hop_core.specs.Hop.{out_at, head_at, arrivals_of, choices_of, chosen_at, taken_of}
+use Rattle.hop_core.specs.Hop.{placed_of, since_of, inside_of, in_hand, lane_of}
 use Rattle.hop_core.specs.Events.{happens, MayAsk, AllMayAsk, run}
 use Rattle.hop_core.specs.Shape.{IsShape, fresh_hop, new_hop}
 use Rattle.hop_core.specs.Sound.{Sound, Places, Puts}
@@ -29,7 +32,8 @@ NewIsSound = (shape : HopShape) → IsShape shape → Sound (new_hop shape)
 -- The same of a hop that is given by plain lists.
 abbrev pub FreshIsSound : Type 0
 FreshIsSound =
-    (fixed : Fixed) (counts : List ℕ) (guests lanes outs : ℕ) → fixed.room ≤ 262144 → fixed.start < 2 ^ 32
+    (fixed : Fixed) (counts : List ℕ) (guests lanes outs : ℕ) → fixed.room ≤ 262144
+    → fixed.start < 2 ^ 32
     → Sound (fresh_hop fixed counts guests lanes outs)
 
 abbrev pub EachKeepsSound : Type 0
@@ -39,9 +43,9 @@ EachKeepsSound = (s : HopState) (e : HopEvent) → MayAsk s e → Sound s → So
 abbrev pub fallen : Bare → List (List ℕ)
 fallen b = map (λ drops. map (λ d. d.id) drops) b.drops
 
--- Each packet is at most at one place, once: in the lists of accepted and of dropped packets together, and in the out
--- lanes; in an out lane only where it was accepted and delivered; and accepted or dropped by a lane only where a choice
--- sent it there.
+-- Each packet is at most at one place, once: in the lists of accepted and of dropped packets
+-- together, and in the out lanes; in an out lane only where it was accepted and delivered; and
+-- accepted or dropped by a lane only where a choice sent it there.
 pub record HasPlaces (s : HopState) : Type 0 where
   pub lanes : Apart (s.bare.accepted ++ fallen s.bare)
   pub outs : Apart s.bare.outs
@@ -50,7 +54,9 @@ pub record HasPlaces (s : HopState) : Type 0 where
   pub dropped : Puts (fell_at s.bare) (choices_of s) (placed_of s)
 
 abbrev pub KeepsPlaces : Type 0
-KeepsPlaces = (shape : HopShape) (es : List HopEvent) → IsShape shape → AllMayAsk es (new_hop shape) → HasPlaces (run es (new_hop shape))
+KeepsPlaces =
+    (shape : HopShape) (es : List HopEvent) → IsShape shape → AllMayAsk es (new_hop shape)
+    → HasPlaces (run es (new_hop shape))
 
 -- It is so of every sound hop, however it came about.
 abbrev pub SoundHasPlaces : Type 0
@@ -58,10 +64,11 @@ SoundHasPlaces = (s : HopState) → Sound s → HasPlaces s
 
 -- While nobody is inside, each choice was put: no packet is between its choice and its put.
 abbrev pub NobodyWeighsOutside : Type 0
-NobodyWeighsOutside = (s : HopState) → Sound s → s.bare.inside ≡ 0 → (p : ℕ) → placed_of s p ≡ length (choices_of s p)
+NobodyWeighsOutside =
+    (s : HopState) → Sound s → s.bare.inside ≡ 0 → (p : ℕ) → placed_of s p ≡ length (choices_of s p)
 
--- A close is answered with the number of those inside exactly where somebody is, and an entry that the gate is closed
--- exactly where it is.
+-- A close is answered with the number of those inside exactly where somebody is, and an entry that
+-- the gate is closed exactly where it is.
 abbrev pub InsideIsExact : Type 0
 InsideIsExact =
     (s : HopState)
@@ -80,10 +87,11 @@ ClosedIsExact =
 abbrev pub KeepsOrder : Type 0
 KeepsOrder =
     (shape : HopShape) (es : List HopEvent) (set : ℕ → Bool) (p o : ℕ) → IsShape shape
-    → AllMayAsk es (new_hop shape) → AllTight set p o es (new_hop shape) → IsInOrder set p o (run es (new_hop shape))
+    → AllMayAsk es (new_hop shape) → AllTight set p o es (new_hop shape)
+    → IsInOrder set p o (run es (new_hop shape))
 
--- The same event by event: each set is ordered in a new hop, an event leaves an ordered set ordered where the set is
--- tight in it, and an ordered set is delivered in order.
+-- The same event by event: each set is ordered in a new hop, an event leaves an ordered set ordered
+-- where the set is tight in it, and an ordered set is delivered in order.
 abbrev pub NewIsOrdered : Type 0
 NewIsOrdered = (shape : HopShape) (set : ℕ → Bool) (p o : ℕ) → Ordered set p o (new_hop shape)
 
@@ -94,10 +102,12 @@ FreshIsOrdered =
 
 abbrev pub EachKeepsOrder : Type 0
 EachKeepsOrder =
-    (set : ℕ → Bool) (p o : ℕ) (s : HopState) (e : HopEvent) → MayAsk s e → Tight set p o s e → Sound s → Ordered set p o s → Ordered set p o (happens s e).0
+    (set : ℕ → Bool) (p o : ℕ) (s : HopState) (e : HopEvent) → MayAsk s e → Tight set p o s e
+    → Sound s → Ordered set p o s → Ordered set p o (happens s e).0
 
 abbrev pub OrderedIsInOrder : Type 0
-OrderedIsInOrder = (set : ℕ → Bool) (p o : ℕ) (s : HopState) → Ordered set p o s → IsInOrder set p o s
+OrderedIsInOrder =
+    (set : ℕ → Bool) (p o : ℕ) (s : HopState) → Ordered set p o s → IsInOrder set p o s
 
 -- The same of the flow of a producer, whose packets are known by a test.
 abbrev pub FreshFlowIsOrdered : Type 0
@@ -107,20 +117,25 @@ FreshFlowIsOrdered =
 
 abbrev pub EachKeepsFlows : Type 0
 EachKeepsFlows =
-    (test : ℕ → Bool) (p o : ℕ) (s : HopState) (e : HopEvent) → MayAsk s e → FlowAllowed test p o s e → Sound s → FlowOrdered test p o s
+    (test : ℕ → Bool) (p o : ℕ) (s : HopState) (e : HopEvent) → MayAsk s e
+    → FlowAllowed test p o s e → Sound s → FlowOrdered test p o s
     → FlowOrdered test p o (happens s e).0
 
 abbrev pub FlowIsInOrder : Type 0
-FlowIsInOrder = (test : ℕ → Bool) (p o : ℕ) (s : HopState) → Sound s → FlowOrdered test p o s → IsInOrder (came_by test p s) p o s
+FlowIsInOrder =
+    (test : ℕ → Bool) (p o : ℕ) (s : HopState) → Sound s → FlowOrdered test p o s
+    → IsInOrder (came_by test p s) p o s
 
--- From end to end, where a second hop gets what was sent on of an out lane of the first, and drops nothing: what left
--- the second is a prefix of what arrived at the first, without what the first dropped.
+-- From end to end, where a second hop gets what was sent on of an out lane of the first, and drops
+-- nothing: what left the second is a prefix of what arrived at the first, without what the first
+-- dropped.
 abbrev pub EndToEnd : Type 0
 EndToEnd =
     (set : ℕ → Bool) (first second : HopState) (q a port : ℕ) (sent : List ℕ)
     → IsInOrder set q a first → IsPrefix sent (out_at first.bare a) → arrivals_of second a ≡ sent
     → ((c : ℕ) → drops_at second.bare c ≡ []) → IsInOrder set a port second
-    → IsPrefix (filter set (out_at second.bare port)) (filter (is_kept set first.bare) (arrivals_of first q))
+    → IsPrefix (filter set (out_at second.bare port))
+    (filter (is_kept set first.bare) (arrivals_of first q))
 
 -- The last step of an order that is known pair by pair.
 abbrev pub PairsMakePrefix : Type 0
@@ -130,7 +145,8 @@ PairsMakePrefix = (xs ys : List ℕ) → Pairwise xs ys → IsPrefix ys xs
 
 -- Each put that is enabled carries the hash of its packet.
 abbrev pub IsHashed : (ℕ → Option ℕ) → HopState → HopEvent → Type 0
-IsHashed hash s (event.Put p h) = placed_of s p < length (choices_of s p) → h ≡ hash (in_hand s p).id
+IsHashed hash s (event.Put p h) =
+    placed_of s p < length (choices_of s p) → h ≡ hash (in_hand s p).id
 IsHashed hash s (event.Arrive p id) = Unit {0}
 IsHashed hash s (event.Take p) = Unit {0}
 IsHashed hash s (event.Enter a) = Unit {0}
@@ -147,8 +163,9 @@ abbrev pub AllHashed : (ℕ → Option ℕ) → List HopEvent → HopState → T
 AllHashed hash [] s = Unit {0}
 AllHashed hash (e ∷ es) s = IsHashed hash s e × AllHashed hash es (happens s e).0
 
--- The offers of each lane are those of its accepted and dropped packets in the order of their puts, and each drop has
--- the cause that its two counts and the offers before it give: a full backlog, or the flow limit.
+-- The offers of each lane are those of its accepted and dropped packets in the order of their puts,
+-- and each drop has the cause that its two counts and the offers before it give: a full backlog, or
+-- the flow limit.
 pub record DropsExplained (hash : ℕ → Option ℕ) (s : HopState) : Type 0 where
   pub offers : (c : ℕ) → AreOffers hash (lane_of s.fixed s.bare c)
   pub causes : (c : ℕ) → AllExplained hash (lane_of s.fixed s.bare c)
@@ -156,7 +173,8 @@ pub record DropsExplained (hash : ℕ → Option ℕ) (s : HopState) : Type 0 wh
 abbrev pub ExplainsDrops : Type 0
 ExplainsDrops =
     (hash : ℕ → Option ℕ) (shape : HopShape) (es : List HopEvent) → IsShape shape
-    → AllMayAsk es (new_hop shape) → AllHashed hash es (new_hop shape) → DropsExplained hash (run es (new_hop shape))
+    → AllMayAsk es (new_hop shape) → AllHashed hash es (new_hop shape)
+    → DropsExplained hash (run es (new_hop shape))
 
 -- The same event by event: the drops of a new hop are explained, and every event leaves them so.
 abbrev pub FreshIsExplained : Type 0
@@ -166,16 +184,19 @@ FreshIsExplained =
 
 abbrev pub EachExplainsDrops : Type 0
 EachExplainsDrops =
-    (hash : ℕ → Option ℕ) (s : HopState) (e : HopEvent) → IsHashed hash s e → Sound s → DropsExplained hash s → DropsExplained hash (happens s e).0
+    (hash : ℕ → Option ℕ) (s : HopState) (e : HopEvent) → IsHashed hash s e → Sound s
+    → DropsExplained hash s → DropsExplained hash (happens s e).0
 
--- Where as many packets may wait as there can be, and no lane is under the flow limit, nothing is dropped.
+-- Where as many packets may wait as there can be, and no lane is under the flow limit, nothing is
+-- dropped.
 abbrev pub NeverDrops : Type 0
 NeverDrops =
     (shape : HopShape) (es : List HopEvent) → IsShape shape → shape.room ≤ shape.limit
     → ((c : ℕ) → c < shape.lanes → has shape.limited c ≡ false) → AllMayAsk es (new_hop shape)
     → (c : ℕ) → drops_at (run es (new_hop shape)).bare c ≡ []
 
--- The same event by event, of a hop whose lanes have room for all and no flow limit, and dropped nothing.
+-- The same event by event, of a hop whose lanes have room for all and no flow limit, and dropped
+-- nothing.
 pub record Ample (s : HopState) : Type 0 where
   pub room : s.fixed.room ≤ s.fixed.limit
   pub unlimited : (c : ℕ) → c < length s.bare.accepted → has s.fixed.limited c ≡ false
@@ -184,7 +205,8 @@ pub record Ample (s : HopState) : Type 0 where
 abbrev pub FreshIsAmple : Type 0
 FreshIsAmple =
     (fixed : Fixed) (counts : List ℕ) (guests lanes outs : ℕ) → fixed.room ≤ fixed.limit
-    → ((c : ℕ) → c < lanes → has fixed.limited c ≡ false) → Ample (fresh_hop fixed counts guests lanes outs)
+    → ((c : ℕ) → c < lanes → has fixed.limited c ≡ false)
+    → Ample (fresh_hop fixed counts guests lanes outs)
 
 abbrev pub EachKeepsAmple : Type 0
 EachKeepsAmple = (s : HopState) (e : HopEvent) → Sound s → Ample s → Ample (happens s e).0
@@ -193,30 +215,41 @@ EachKeepsAmple = (s : HopState) (e : HopEvent) → Sound s → Ample s → Ample
 
 -- the entries that a producer's first i choices give, but for those before a resize
 abbrev pub entries_before : HopState → ℕ → ℕ → ℕ → ℕ → Entry
-entries_before s p from i = entry s.fixed.start (accepted_at s.bare) (drop from (take i (choices_of s p)))
+entries_before s p from i =
+    entry s.fixed.start (accepted_at s.bare) (drop from (take i (choices_of s p)))
 
 -- A choice by the rule over the heads of all lanes is the choice over the head that it kept, alone.
 abbrev pub KeptHeadDecides : Type 0
 KeptHeadDecides =
-    (class want : Option ℕ) (desired : ℕ) (entries : ℕ → Entry) (head : ℕ → ℕ) (online : ℕ → Bool) (c : Choice)
+    (class want : Option ℕ) (desired : ℕ) (entries : ℕ → Entry) (head : ℕ → ℕ) (online : ℕ → Bool)
+    (c : Choice)
     → c ≡ migrate class want desired entries head online
     → c ≡ migrate class want desired entries (λ lane. unwrap_or c.head 0) online
 
 -- Events leave each choice as it was made, and the entries of the choices before it too.
 abbrev pub ChoicesStay : Type 0
 ChoicesStay =
-    (s : HopState) (es : List HopEvent) → Sound s → AllMayAsk es s → (p i : ℕ) → i < length (choices_of s p)
+    (s : HopState) (es : List HopEvent) → Sound s → AllMayAsk es s → (p i : ℕ)
+    → i < length (choices_of s p)
     → (chosen_at (choices_of (run es s) p) i ≡ chosen_at (choices_of s p) i)
     × ((from k : ℕ) → entries_before (run es s) p from i k ≡ entries_before s p from i k)
 
--- The choice that a weigh makes is the migration rule over the entries of the choices before it since the last resize,
--- with the heads of that moment, and this stays true whatever events follow.
+-- the state after a weigh
+abbrev pub after_weigh : HopState → ℕ → Option ℕ → Option ℕ → ℕ → CpuMask → HopState
+after_weigh s p class want desired online = (happens s (event.Weigh p class want desired online)).0
+
+-- The choice that a weigh makes is the migration rule over the entries of the choices before it
+-- since the last resize, with the heads of that moment, and this stays true whatever events follow.
 abbrev pub ChoiceIsByTheRule : Type 0
 ChoiceIsByTheRule =
-    (s : HopState) (p : ℕ) (class want : Option ℕ) (desired : ℕ) (online : CpuMask) (es : List HopEvent) → Sound s
-    → MayAsk s (event.Weigh p class want desired online) → inside_of s p ≡ true → length (choices_of s p) < taken_of s p
-    → AllMayAsk es (happens s (event.Weigh p class want desired online)).0
-    → (chosen_at (choices_of (run es (happens s (event.Weigh p class want desired online)).0) p) (length (choices_of s p))).choice
+    (s : HopState) (p : ℕ) (class want : Option ℕ) (desired : ℕ) (online : CpuMask)
+    (es : List HopEvent) → Sound s
+    → MayAsk s (event.Weigh p class want desired online) → inside_of s p ≡ true
+    → length (choices_of s p) < taken_of s p
+    → AllMayAsk es (after_weigh s p class want desired online)
+    → (chosen_at (choices_of (run es (after_weigh s p class want desired online)) p)
+    (length (choices_of s p))).choice
     ≡ migrate class want desired
-    (entries_before (run es (happens s (event.Weigh p class want desired online)).0) p (since_of s p) (length (choices_of s p)))
+    (entries_before (run es (after_weigh s p class want desired online)) p (since_of s p)
+    (length (choices_of s p)))
     (head_at s.fixed.start s.bare) (has online)

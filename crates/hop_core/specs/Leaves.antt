@@ -70,4 +70,5 @@ Same visits s t = t.visits ≡ s.visits
 
 -- Each event leaves every field that it does not change.
 abbrev pub EachLeaves : Type 0
-EachLeaves = (s : HopState) (e : HopEvent) (f : Field) → changes e f ≡ false → Same f s (happens s e).0
+EachLeaves =
+    (s : HopState) (e : HopEvent) (f : Field) → changes e f ≡ false → Same f s (happens s e).0

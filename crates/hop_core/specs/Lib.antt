@@ -10,6 +10,7 @@ pub mod Laws
 pub mod Leaves
 pub mod NothingLost
 pub mod Order
+pub mod Others
 pub mod Pairs
 pub mod Reads
 pub mod Rounds

@@ -1,7 +1,9 @@
 -- What callers read of a hop, and how long its lists may be.
-use Rattle.std.specs.Prelude.{ℕ, ◌+◌, ◌-◌, ◌≤◌, nat_lt, Option, Some, None, length, slice_get, if◌then◌else◌}
+use Rattle.std.specs.Prelude.{ℕ, ◌+◌, ◌-◌, ◌≤◌, nat_lt, Option, Some, None, length, slice_get}
+use Rattle.std.specs.Prelude.{if◌then◌else◌}
 use Rattle.steer_base.specs.declared.choice.Chosen.{Chosen}
-use Rattle.hop_core.specs.Hop.{Bare, HopState, accepted_at, arrivals_of, choices_of, delivered_at, drops_at}
+use Rattle.hop_core.specs.Hop.{Bare, HopState, accepted_at, arrivals_of, choices_of, delivered_at}
+use Rattle.hop_core.specs.Hop.{drops_at}
 use Rattle.hop_core.specs.Hop.{in_hand, next_of, next_out, out_at, placed_of, pulled_at, taken_of}
 
 -- the packet that a producer has taken up and not weighed

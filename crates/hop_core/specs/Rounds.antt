@@ -7,8 +7,8 @@ use Rattle.hop_core.specs.Hop.{pull_at, deliver_at, retire_at, with_bare}
 use Rattle.hop_core.specs.Events.{AllMayAsk, run}
 use Rattle.hop_core.specs.Sound.{Sound}
 
--- The state after two lists of events is that of the second after the first, and both may be asked where the first may
--- be asked, and then the second.
+-- The state after two lists of events is that of the second after the first, and both may be asked
+-- where the first may be asked, and then the second.
 abbrev pub RunsAreJoined : Type 0
 RunsAreJoined = (es fs : List HopEvent) (s : HopState) → run (es ++ fs) s ≡ run fs (run es s)
 
@@ -24,15 +24,17 @@ round_of c o = event.Pull c ∷ event.Deliver c o ∷ event.Retire c ∷ []
 -- A round may be asked of each lane and out lane.
 abbrev pub RoundMayBeAsked : Type 0
 RoundMayBeAsked =
-    (s : HopState) (c o : ℕ) → c < length s.bare.accepted → o < length s.bare.outs → AllMayAsk (round_of c o) s
+    (s : HopState) (c o : ℕ) → c < length s.bare.accepted → o < length s.bare.outs
+    → AllMayAsk (round_of c o) s
 
--- One packet went through a lane: the head of this lane alone rose by one, its hand is empty, and the packet that
--- waited first is the last one of the out lane.
+-- One packet went through a lane: the head of this lane alone rose by one, its hand is empty, and
+-- the packet that waited first is the last one of the out lane.
 pub record WentThrough (s t : HopState) (c o : ℕ) : Type 0 where
   pub state : t ≡ with_bare s (retire_at (deliver_at (pull_at s.bare c) c o) c)
   pub retired : retired_at t.bare c ≡ retired_at s.bare c + 1
   pub hand : pulled_at t.bare c ≡ retired_at t.bare c
-  pub out : out_at t.bare o ≡ out_at s.bare o ++ slice_index (accepted_at s.bare c) (retired_at s.bare c) ∷ []
+  pub out : out_at t.bare o
+      ≡ out_at s.bare o ++ slice_index (accepted_at s.bare c) (retired_at s.bare c) ∷ []
   pub others : (d : ℕ) → d ≢ c → retired_at t.bare d ≡ retired_at s.bare d
 
 -- A round gets one packet through a lane with an empty hand in which a packet waits.

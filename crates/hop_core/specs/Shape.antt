@@ -10,8 +10,9 @@ use Rattle.hop_core.specs.Hop.{Fixed, HopState}
 abbrev pub most_classes : Bool → ℕ
 most_classes exact = if exact then 262144 else 32768
 
--- What a shape has to meet: at least one packet may wait in a lane, the room is for no more packets than a capture has,
--- and there are 1 to 32 producers, lanes and out lanes, at most 64 guests, and one number of classes for each producer.
+-- What a shape has to meet: at least one packet may wait in a lane, the room is for no more packets
+-- than a capture has, and there are 1 to 32 producers, lanes and out lanes, at most 64 guests, and
+-- one number of classes for each producer.
 pub record IsShape (shape : HopShape) : Type 0 where
   pub limit : 1 ≤ shape.limit
   pub room : shape.room ≤ 262144
@@ -26,7 +27,8 @@ pub record IsShape (shape : HopShape) : Type 0 where
   pub classes : All (λ count. count ≤ most_classes shape.exact) shape.counts.items
   pub start : shape.start < 2 ^ 32
 
--- the number of classes for a count: itself where the shape is exact, else rounded up to a power of two
+-- the number of classes for a count: itself where the shape is exact, else rounded up to a power of
+-- two
 abbrev pub classes_for : Bool → ℕ → ℕ
 classes_for exact count = if exact then count else rounded_up count
 
@@ -69,4 +71,5 @@ fixed_of shape =
 -- the hop that is made with this shape
 abbrev pub new_hop : HopShape → HopState
 new_hop shape =
-    fresh_hop (fixed_of shape) (map (classes_for shape.exact) shape.counts.items) shape.guests shape.lanes shape.outs
+    fresh_hop (fixed_of shape) (map (classes_for shape.exact) shape.counts.items)
+    shape.guests shape.lanes shape.outs

@@ -1,4 +1,5 @@
--- What no event changes: what a hop keeps for good, and how many actors, lanes and out lanes it has.
+-- What no event changes: what a hop keeps for good, and how many actors, lanes and out lanes it
+-- has.
 use Rattle.std.specs.Prelude.{◌≡◌, length}
 use Rattle.hop_core.specs.Hop.{HopState}
 

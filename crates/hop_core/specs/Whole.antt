@@ -8,12 +8,14 @@ use Rattle.hop_core.specs.Hop.{HopState, accepted_at, chosen_at, choices_of, rec
 use Rattle.hop_core.specs.Sound.{Sound}
 use Rattle.hop_core.specs.View.{HopParts, state_of}
 
--- The flow tables hold the entries that the lists give, and the classes since the last resize are in range.
+-- The flow tables hold the entries that the lists give, and the classes since the last resize are
+-- in range.
 pub record Tabled (s : HopState) (tables : FlowTables) : Type 0 where
   pub start : tables.start ≡ s.fixed.start
   pub many : length tables.rows ≡ length s.arrivals
   pub long : (p : ℕ) → length (table_at tables p).rows ≡ slice_index s.counts p
-  pub rows : (p k : ℕ) → k < slice_index s.counts p → entries (table_at tables p) k ≡ entry s.fixed.start (accepted_at s.bare) (recent s p) k
+  pub rows : (p k : ℕ) → k < slice_index s.counts p
+      → entries (table_at tables p) k ≡ entry s.fixed.start (accepted_at s.bare) (recent s p) k
   pub classes : (p i : ℕ) → since_of s p ≤ i → i < length (choices_of s p)
       → IsClassBelow (slice_index s.counts p) (chosen_at (choices_of s p) i).choice.class
 

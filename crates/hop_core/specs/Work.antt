@@ -1,5 +1,5 @@
--- How much was done in a hop: the packets that arrived, and how many of them were taken up, weighed, put, pulled,
--- delivered and retired.
+-- How much was done in a hop: the packets that arrived, and how many of them were taken up,
+-- weighed, put, pulled, delivered and retired.
 use Rattle.std.specs.Prelude.{ℕ, ◌+◌, ◌*◌, ◌≤◌, ◌≡◌, ◌⊎◌, Bool, true, false, List, [], ◌∷◌, length}
 use Rattle.steer_base.specs.declared.idle.Idle.{Idle}
 use Rattle.hop_core.specs.declared.event.HopEvent.{HopEvent}
@@ -42,10 +42,12 @@ is_work event.Reopen = false
 abbrev pub WasIdle : HopState → HopEvent → Type 0
 WasIdle s e = (why : Idle) × ((happens s e).1 ≡ answer.Idle why) × ((happens s e).0 ≡ s)
 
--- An event that gets a packet on adds one to the work, or is idle. No other event changes the work. There is no more
--- work than seven steps for each packet.
+-- An event that gets a packet on adds one to the work, or is idle. No other event changes the work.
+-- There is no more work than seven steps for each packet.
 abbrev pub WorkGoesOn : Type 0
-WorkGoesOn = (s : HopState) (e : HopEvent) → MayAsk s e → Sound s → is_work e ≡ true → (work (happens s e).0 ≡ work s + 1) ⊎ WasIdle s e
+WorkGoesOn =
+    (s : HopState) (e : HopEvent) → MayAsk s e → Sound s → is_work e ≡ true
+    → (work (happens s e).0 ≡ work s + 1) ⊎ WasIdle s e
 
 abbrev pub WorkStays : Type 0
 WorkStays = (s : HopState) (e : HopEvent) → is_work e ≡ false → work (happens s e).0 ≡ work s

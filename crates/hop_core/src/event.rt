@@ -1,8 +1,8 @@
 //! The events of a hop and their answers.
 use steer_base::{Choice, CpuMask, Idle, PacketId, Put};
 
-/// One step of one actor of a hop. Producers, guests, lanes and out lanes are named by number from 0; the guests are
-/// numbered after the producers.
+/// One step of one actor of a hop. Producers, guests, lanes and out lanes are named by number from
+/// 0; the guests are numbered after the producers.
 #[derive(Clone, Copy, Debug, PartialEq, Eq)]
 pub enum HopEvent {
     /// A packet arrives at a producer.
@@ -22,7 +22,8 @@ pub enum HopEvent {
     Leave {
         p: u8,
     },
-    /// A producer chooses the lane of the packet in its hand, by the migration rule of the kernel's scaling chapter.
+    /// A producer chooses the lane of the packet in its hand, by the migration rule of the kernel's
+    /// scaling chapter.
     Weigh {
         p: u8,
         /// The class of the packet, if it has one.
@@ -50,7 +51,8 @@ pub enum HopEvent {
     Retire {
         lane: u8,
     },
-    /// The entries of a producer's classes are cleared, and there are `count` of them, rounded up to a power of two.
+    /// The entries of a producer's classes are cleared, and there are `count` of them, rounded up
+    /// to a power of two.
     Resize {
         p: u8,
         count: u32,
@@ -64,6 +66,7 @@ pub enum HopEvent {
 /// The answer to an event.
 #[derive(Clone, Copy, Debug, PartialEq, Eq)]
 pub enum HopAnswer {
+    /// The event was done, with nothing more to tell.
     Done,
     /// The choice that was made.
     Chose(Choice),
@@ -75,7 +78,7 @@ pub enum HopAnswer {
     Position(u32),
     /// Nothing was done, for the first reason that holds.
     Idle(Idle),
-    /// The gate stays open, since so many actors are inside.
+    /// The gate stays open: the number of actors that are inside.
     Inside(u32),
     /// The actor stays outside, since the gate is closed.
     Closed,

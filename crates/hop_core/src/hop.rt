@@ -20,8 +20,9 @@ use std::alloc::Global;
 use std::marker::Model;
 use steer_base::{Chosen, Journals, OutOfMemory, PacketId, round_up};
 
-/// One steered hop: in the receive direction from the queues over the processors' backlogs to the applications'
-/// inboxes, in the transmit direction from the applications over the transmit queues to the port.
+/// One steered hop: in the receive direction from the queues over the processors' backlogs to the
+/// applications' inboxes, in the transmit direction from the applications over the transmit queues
+/// to the port.
 #[derive(Drop)]
 pub struct Hop {
     rings: Rings,
@@ -40,9 +41,11 @@ impl Model for Hop {
 
     ghost Value = { HopState };
 
-    ghost view = { λ h. state_of (parts_of h.rings h.counts.items h.tables h.lanes h.hands h.outs h.gate) };
+    ghost view = { λ h. state_of (parts_of h.rings h.counts.items h.tables h.lanes h.hands h.outs
+        h.gate) };
 
-    ghost invariant = { λ h. IsWhole (parts_of h.rings h.counts.items h.tables h.lanes h.hands h.outs h.gate) };
+    ghost invariant = { λ h. IsWhole (parts_of h.rings h.counts.items h.tables h.lanes h.hands
+        h.outs h.gate) };
 }
 
 impl Hop {
@@ -139,8 +142,8 @@ impl Hop {
     }
 }
 
-// What is kept of each producer: its ring and how far it is in it, its choices and how far these are put, and cleared by
-// the last resize.
+// What is kept of each producer: its ring and how far it is in it, its choices and how far these
+// are put, and cleared by the last resize.
 #[derive(Drop)]
 struct Rings {
     arrivals: Journals<PacketId>,

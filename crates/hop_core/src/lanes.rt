@@ -9,7 +9,7 @@ use std::alloc::Global;
 use std::marker::Model;
 use steer_base::{CpuMask, LaneDrop, OutOfMemory, PacketId, Put};
 
-/// So many lanes of one limit and one room.
+/// The lanes of a hop, of one limit and one room.
 #[derive(Drop)]
 pub struct Lanes {
     lanes: Vec<Lane>,
@@ -25,13 +25,24 @@ impl Model for Lanes {
 
     ghost Value = { LaneTable };
 
-    ghost view = { λ t. record { accepted = map (λ l. l.accepted) t.lanes.items; offers = map (λ l. l.offers) t.lanes.items; drops = map (λ l. l.drops) t.lanes.items; pulled = map (λ l. l.pulled) t.lanes.items; limit = t.limit; room = t.room; start = t.start; limited = t.limited } };
+    ghost view = { λ t. record {
+      accepted = map (λ l. l.accepted) t.lanes.items;
+      offers = map (λ l. l.offers) t.lanes.items;
+      drops = map (λ l. l.drops) t.lanes.items;
+      pulled = map (λ l. l.pulled) t.lanes.items;
+      limit = t.limit;
+      room = t.room;
+      start = t.start;
+      limited = t.limited;
+    } };
 
-    ghost invariant = { λ t. (t.room ≤ 262144) × (length t.lanes.items ≤ 255) × AreShaped t.limit t.room t.start t.limited t.lanes.items };
+    ghost invariant = { λ t. (t.room ≤ 262144) × (length t.lanes.items ≤ 255)
+        × AreShaped t.limit t.room t.start t.limited t.lanes.items };
 }
 
 impl Lanes {
-    /// So many empty lanes. Their counters show `start` at no packet, and `limited` has those under the flow limit.
+    /// `count` empty lanes. Their counters show `start` at no packet, and `limited` has those under
+    /// the flow limit.
     pub fn make(
         alloc: Global,
         count: u8,
@@ -62,7 +73,8 @@ impl Lanes {
     pub fn put(&mut self, lane: u8, id: PacketId, hash: Option<u32>) -> Put
         requires lane { lane < length self.old.accepted }
         requires room { put_count (lane_at self.old lane) < self.old.room }
-        ensures lists { self.new ≡ with_lane self.old lane (after_put (lane_at self.old lane) id hash) }
+        ensures lists { self.new
+            ≡ with_lane self.old lane (after_put (lane_at self.old lane) id hash) }
         ensures answer { result ≡ put_answer (lane_at self.old lane) hash }
     {
         let lane = &mut self.lanes[lane as usize];
@@ -89,7 +101,7 @@ impl Lanes {
         lane.accepted_at(n).unwrap()
     }
 
-    /// The packet that a lane accepted as number `n`, from 0, if so many were.
+    /// The packet that a lane accepted as number `n`, from 0, if it accepted more than `n`.
     pub fn get(&self, lane: u8, n: u32) -> Option<PacketId>
         requires { lane < length self.now.accepted }
         ensures { result ≡ slice_get (lane_at self.now lane).accepted n }

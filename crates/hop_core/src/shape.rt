@@ -18,7 +18,8 @@ pub struct HopShape {
     pub room: u32,
     /// The number of classes of each producer: at most 32,768, or 262,144 where the shape is exact.
     pub counts: Vec<u32>,
-    /// Whether the numbers of classes are taken as they are; else they are rounded up to powers of two.
+    /// Whether the numbers of classes are taken as they are; else they are rounded up to powers of
+    /// two.
     pub exact: bool,
     /// The number that the counters of the lanes show at no packet.
     pub start: u32,

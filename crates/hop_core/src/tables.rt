@@ -5,7 +5,8 @@ ghost use Rattle.steer_base.specs.Choices.{class_of, looks_at_head, migrate};
 ghost use Rattle.steer_base.specs.Counters.{number, rounded_up};
 ghost use Rattle.steer_base.specs.Sets.{has};
 ghost use Rattle.dev_flow_table.specs.Tables.{IsClassOf, cleared, entries, unset, weighed};
-ghost use Rattle.hop_core.specs.FlowTables.{IsSet, LanesBelow, head_seen, new_tables, noted, table_at, with_rows};
+ghost use Rattle.hop_core.specs.FlowTables.{IsSet, LanesBelow, head_seen, new_tables, noted};
+ghost use Rattle.hop_core.specs.FlowTables.{table_at, with_rows};
 ghost use Rattle.hop_core.specs.Shape.{classes_for, most_classes};
 
 use dev_flow_table::DevTable;
@@ -28,13 +29,19 @@ impl Model for Tables {
 
     ghost Value = { FlowTables };
 
-    ghost view = { λ t. record { rows = map (λ table. table.rows) t.tables.items; start = t.start; exact = t.exact } };
+    ghost view = { λ t. record {
+      rows = map (λ table. table.rows) t.tables.items;
+      start = t.start;
+      exact = t.exact;
+    } };
 
-    ghost invariant = { λ t. All (λ table. (table.start ≡ t.start) × (table.exact ≡ t.exact)) t.tables.items };
+    ghost invariant = { λ t. All (λ table. (table.start ≡ t.start) × (table.exact ≡ t.exact))
+        t.tables.items };
 }
 
 impl Tables {
-    /// A table of unset entries for each of these numbers of classes, which are rounded up but in exact tables.
+    /// A table of unset entries for each of these numbers of classes, which are rounded up but in
+    /// exact tables.
     pub fn make(
         alloc: Global,
         counts: &[u32],
@@ -72,7 +79,8 @@ impl Tables {
         table.class(hash)
     }
 
-    /// The choice for a packet of a producer, which its table records. `retired` has the count of each lane's head.
+    /// The choice for a packet of a producer, which its table records. `retired` has the count of
+    /// each lane's head.
     pub fn choose(
         &mut self,
         retired: &[u32],
@@ -85,8 +93,10 @@ impl Tables {
         requires table { p < length self.old.rows }
         requires class { IsClassOf (table_at self.old p) class }
         requires lanes { LanesBelow (table_at self.old p) (length retired.now) }
-        ensures choice { result ≡ migrate class want desired (entries (table_at self.old p)) (λ lane. number self.old.start (slice_index retired.now lane)) (has online) }
-        ensures tables { self.new ≡ with_rows self.old p (weighed (table_at self.old p) class result).rows }
+        ensures choice { result ≡ migrate class want desired (entries (table_at self.old p))
+            (λ lane. number self.old.start (slice_index retired.now lane)) (has online) }
+        ensures tables { self.new
+            ≡ with_rows self.old p (weighed (table_at self.old p) class result).rows }
     {
         let table = &mut self.tables[p as usize];
         weigh_at(table, self.start, retired, class, want, desired, online)
@@ -108,7 +118,8 @@ impl Tables {
         requires table { p < length self.old.rows }
         requires count { count ≤ 32768 }
         requires rounded { self.old.exact ≡ false }
-        ensures { self.new ≡ with_rows self.old p (replicate (rounded_up count) (unset self.old.start)) }
+        ensures { self.new
+            ≡ with_rows self.old p (replicate (rounded_up count) (unset self.old.start)) }
     {
         let table = &mut self.tables[p as usize];
         table.resize(count);
@@ -138,7 +149,8 @@ fn head_for(
 ) -> Option<u32>
     requires class { IsClassOf table.now class }
     requires lanes { LanesBelow table.now (length retired.now) }
-    ensures { result ≡ head_seen table.now class desired (has online) (λ lane. number start (slice_index retired.now lane)) }
+    ensures { result ≡ head_seen table.now class desired (has online)
+        (λ lane. number start (slice_index retired.now lane)) }
 {
     match table.current(class?) {
         Some(lane) if lane != desired && online.has(lane) => {
@@ -159,7 +171,8 @@ fn weigh_at(
 ) -> Choice
     requires class { IsClassOf table.old class }
     requires lanes { LanesBelow table.old (length retired.now) }
-    ensures choice { result ≡ migrate class want desired (entries table.old) (λ lane. number start (slice_index retired.now lane)) (has online) }
+    ensures choice { result ≡ migrate class want desired (entries table.old)
+        (λ lane. number start (slice_index retired.now lane)) (has online) }
     ensures table { table.new ≡ weighed table.old class result }
 {
     let head = head_for(table, start, retired, class, desired, online);

@@ -1,4 +1,5 @@
-//! Processors that go offline and come online: which lanes a command affects, and when it may not be given.
+//! Processors that go offline and come online: which lanes a command affects, and when it may not
+//! be given.
 #![tactic(auto)]
 
 mod lanes;

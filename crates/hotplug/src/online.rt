@@ -1,5 +1,6 @@
 //! The processors that are online.
-ghost use Rattle.std.specs.Prelude.{◌≡◌, ◌<◌, ◌≤◌, ◌==◌, None, Some, IfErr, IfSome, OnOk, length, position};
+ghost use Rattle.std.specs.Prelude.{◌≡◌, ◌<◌, ◌≤◌, ◌==◌, None, Some, IfErr, IfSome, OnOk, length};
+ghost use Rattle.std.specs.Prelude.{position};
 ghost use Rattle.steer_base.specs.Commands.{refusal, user_of};
 
 use steer_base::{AppId, Command, Cpu, CpuMask, Refused, RxQueue, User};
@@ -12,15 +13,17 @@ pub struct Online {
 }
 
 impl Online {
-    /// Whether a command may be given at all. An offline processor can neither go offline nor be stood on, an online one
-    /// cannot come online, and one cannot go offline that is home to a receive queue or stood on by an application: the
-    /// answer names the lowest such queue, else the lowest such application. `homes` has the home processor of each
-    /// receive queue, and `stands` the processor of each application.
+    /// Whether a command may be given at all. An offline processor can neither go offline nor be
+    /// stood on, an online one cannot come online, and one cannot go offline that is home to a
+    /// receive queue or stood on by an application: the answer names the lowest such queue, else
+    /// the lowest such application. `homes` has the home processor of each receive queue, and
+    /// `stands` the processor of each application.
     pub fn may(&self, command: &Command, homes: &[Cpu], stands: &[Cpu]) -> Result<(), Refused>
         requires homes { length homes.now ≤ 32 }
         requires stands { length stands.now ≤ 32 }
         ensures ok { OnOk result (refusal self.now.mask command.now homes.now stands.now ≡ None) }
-        ensures refused { IfErr result (λ why. refusal self.now.mask command.now homes.now stands.now ≡ Some why) }
+        ensures refused { IfErr result
+            (λ why. refusal self.now.mask command.now homes.now stands.now ≡ Some why) }
     {
         match command {
             Command::Offline(cpu) => self.may_go_offline(*cpu, homes, stands),
@@ -34,8 +37,10 @@ impl Online {
     fn may_go_offline(&self, cpu: Cpu, homes: &[Cpu], stands: &[Cpu]) -> Result<(), Refused>
         requires homes { length homes.now ≤ 32 }
         requires stands { length stands.now ≤ 32 }
-        ensures ok { OnOk result (refusal self.now.mask (Command.Offline cpu) homes.now stands.now ≡ None) }
-        ensures refused { IfErr result (λ why. refusal self.now.mask (Command.Offline cpu) homes.now stands.now ≡ Some why) }
+        ensures ok { OnOk result
+            (refusal self.now.mask (Command.Offline cpu) homes.now stands.now ≡ None) }
+        ensures refused { IfErr result
+            (λ why. refusal self.now.mask (Command.Offline cpu) homes.now stands.now ≡ Some why) }
     {
         if !self.mask.has(cpu.0) {
             return Err(Refused::CpuOffline);
@@ -47,7 +52,8 @@ impl Online {
     }
 }
 
-// The lowest receive queue whose home the processor is, else the lowest application that stands on it.
+// The lowest receive queue whose home the processor is, else the lowest application that stands on
+// it.
 fn who_uses(cpu: Cpu, homes: &[Cpu], stands: &[Cpu]) -> Option<User>
     requires homes { length homes.now ≤ 32 }
     requires stands { length stands.now ≤ 32 }

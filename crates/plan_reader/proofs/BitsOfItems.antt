@@ -2,7 +2,7 @@
 use Rattle.std.proofs.Common.{◌≡◌, ℕ, ◌+◌, ◌*◌, ◌%◌, ◌^◌, ◌<◌, Result, Ok, sym, ap, ◌∙◌, bit_or}
 use Rattle.std.specs.Fmt.{decimal}
 use Rattle.serde_json.specs.Data.{Data, Items, item}
-use Rattle.plan_reader.specs.declared.fault.Fault.{Fault}
+use Rattle.plan_reader.specs.declared.faults.fault.Fault.{Fault}
 use Rattle.plan_reader.specs.Causes.{◌>>=◌}
 use Rattle.plan_reader.specs.Faults.{here, under}
 use Rattle.plan_reader.specs.Readings.{number_below, set_from}

@@ -1,8 +1,6 @@
-mod Numbers
 mod Sets
-mod Faults
+mod Placed
 pub mod Loops
 mod Views
 mod BitsOfItems
-mod Evens
 mod Bytes

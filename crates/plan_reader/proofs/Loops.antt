@@ -2,9 +2,9 @@
 use Rattle.std.proofs.Common.{◌≡◌, ℕ, ◌+◌, List, [], ◌∷◌, ◌++◌, Result, Ok, Err, refl, sym, ap, ◌∙◌, append_assoc}
 use Rattle.std.specs.Fmt.{decimal}
 use Rattle.serde_json.specs.Data.{Data, Items, item}
-use Rattle.plan_reader.specs.declared.fault.Fault.{Fault}
-use Rattle.plan_reader.specs.declared.fault.Refusal.{Refusal}
-use Rattle.plan_reader.specs.declared.fault.Refusal.TheVariants as refusal
+use Rattle.plan_reader.specs.declared.faults.fault.Fault.{Fault}
+use Rattle.plan_reader.specs.declared.faults.fault.Refusal.{Refusal}
+use Rattle.plan_reader.specs.declared.faults.fault.Refusal.TheVariants as refusal
 use Rattle.plan_reader.specs.Causes.{◌>>=◌}
 use Rattle.plan_reader.specs.Faults.{under, Fails}
 use Rattle.plan_reader.specs.Readings.{each}

@@ -1,8 +1,8 @@
 -- One value after another, up to the first that is wrong.
 use Rattle.std.specs.Prelude.{ℕ, ◌&&◌, Option, Result, Ok, Err, nat_le, nat_lt, if◌then◌else◌}
 use Rattle.std.specs.Option.{ok_or}
-use Rattle.plan_reader.specs.declared.cause.Cause.{Cause}
-use Rattle.plan_reader.specs.declared.cause.Cause.TheVariants.{WrongKind, Range}
+use Rattle.plan_reader.specs.declared.faults.cause.Cause.{Cause}
+use Rattle.plan_reader.specs.declared.faults.cause.Cause.TheVariants.{WrongKind, Range}
 
 -- what follows a reading; where it is wrong nothing does
 infixl 10 ◌>>=◌

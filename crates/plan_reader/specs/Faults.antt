@@ -1,9 +1,9 @@
 -- What is wrong with a plan, and where.
 use Rattle.std.specs.Prelude.{◌≡◌, ℕ, List, [], ◌∷◌, ◌++◌, Result, Ok, Err}
-use Rattle.plan_reader.specs.declared.cause.Cause.{Cause}
-use Rattle.plan_reader.specs.declared.fault.Fault.{Fault}
-use Rattle.plan_reader.specs.declared.fault.Refusal.{Refusal}
-use Rattle.plan_reader.specs.declared.fault.Refusal.TheVariants as refusal
+use Rattle.plan_reader.specs.declared.faults.cause.Cause.{Cause}
+use Rattle.plan_reader.specs.declared.faults.fault.Fault.{Fault}
+use Rattle.plan_reader.specs.declared.faults.fault.Refusal.{Refusal}
+use Rattle.plan_reader.specs.declared.faults.fault.Refusal.TheVariants as refusal
 
 -- a value that is read where it stands
 abbrev pub here : {A : Type 0} → Result A Cause → Result A Fault
@@ -13,7 +13,8 @@ here (Err cause) = Err (record { path = []; cause = cause })
 -- a value that is read at a segment of a path; each segment stands behind a slash
 abbrev pub under : {A : Type 0} → List ℕ → Result A Fault → Result A Fault
 under segment (Ok x) = Ok x
-under segment (Err fault) = Err (record { path = 47 ∷ (segment ++ fault.path); cause = fault.cause })
+under segment (Err fault) =
+    Err (record { path = 47 ∷ (segment ++ fault.path); cause = fault.cause })
 
 -- What was answered is what the reading gives; want of memory says nothing of it.
 abbrev pub Fails : {A : Type 0} → Refusal → Result A Fault → Type 0

@@ -1,9 +1,9 @@
 -- The ranges of the parts of a plan.
 use Rattle.std.specs.Prelude.{ℕ, ◌^◌, ◌<◌, ◌≤◌, length, All}
-use Rattle.plan_reader.specs.declared.parts.Parts.{Parts}
-use Rattle.plan_reader.specs.declared.parts.Receive.{Receive}
-use Rattle.plan_reader.specs.declared.parts.Tables.{Tables}
-use Rattle.plan_reader.specs.declared.parts.Sends.{Sends}
+use Rattle.plan_reader.specs.declared.settings.parts.Parts.{Parts}
+use Rattle.plan_reader.specs.declared.settings.parts.Receive.{Receive}
+use Rattle.plan_reader.specs.declared.settings.parts.Tables.{Tables}
+use Rattle.plan_reader.specs.declared.settings.parts.Sends.{Sends}
 use Rattle.plan_reader.specs.Ranges.{StepsAreWithin, HasLength, QueueIsWithin, TxIsWithin, DetachIsWithin}
 
 pub record ReceiveIsWithin (receive : Receive) : Type 0 where
@@ -39,5 +39,10 @@ pub record PartsAreWithin (parts : Parts) : Type 0 where
   pub tables_within : TablesAreWithin parts.receive.cpus parts.tables
   pub sends_within : SendsAreWithin parts.receive.cpus (length parts.receive.queues) parts.sends
   pub steps_within : StepsAreWithin
-      (record { cpus = parts.receive.cpus; queues = length parts.receive.queues; apps = length parts.sends.apps; tx = length parts.sends.tx })
+      (record {
+        cpus = parts.receive.cpus;
+        queues = length parts.receive.queues;
+        apps = length parts.sends.apps;
+        tx = length parts.sends.tx;
+      })
       parts.steps

@@ -1,26 +1,30 @@
 -- The plan of a JSON value, and of bytes.
-use Rattle.std.specs.Prelude.{◌≡◌, ℕ, List, [], ◌∷◌, drop, length, Option, Some, None, Result, Ok, Err, if◌then◌else◌, codes}
+use Rattle.std.specs.Prelude.{◌≡◌, ℕ, List, [], ◌∷◌, drop, length, Option, Some, None, Result, Ok}
+use Rattle.std.specs.Prelude.{Err, if◌then◌else◌, codes}
 use Rattle.std.specs.Str.{is_utf8}
 use Rattle.serde_json.specs.Data.{Data}
 use Rattle.serde_json.specs.Read.{read}
-use Rattle.plan_reader.specs.declared.key.TheConstants.{VERIFICATION_KEY}
-use Rattle.plan_reader.specs.declared.cause.Cause.{Cause}
-use Rattle.plan_reader.specs.declared.cause.Cause.TheVariants as cause
-use Rattle.plan_reader.specs.declared.fault.Fault.{Fault}
-use Rattle.plan_reader.specs.declared.fault.Refusal.{Refusal}
-use Rattle.plan_reader.specs.declared.fault.Refusal.TheVariants as refusal
-use Rattle.plan_reader.specs.declared.parts.Parts.{Parts}
-use Rattle.plan_reader.specs.declared.parts.Receive.{Receive}
-use Rattle.plan_reader.specs.declared.parts.Tables.{Tables}
-use Rattle.plan_reader.specs.declared.parts.Sends.{Sends}
+use Rattle.steer_base.specs.Arrivals.{even_entries}
+use Rattle.plan_reader.specs.declared.settings.key.TheConstants.{VERIFICATION_KEY}
+use Rattle.plan_reader.specs.declared.faults.cause.Cause.{Cause}
+use Rattle.plan_reader.specs.declared.faults.cause.Cause.TheVariants as cause
+use Rattle.plan_reader.specs.declared.faults.fault.Fault.{Fault}
+use Rattle.plan_reader.specs.declared.faults.fault.Refusal.{Refusal}
+use Rattle.plan_reader.specs.declared.faults.fault.Refusal.TheVariants as refusal
+use Rattle.plan_reader.specs.declared.settings.parts.Parts.{Parts}
+use Rattle.plan_reader.specs.declared.settings.parts.Receive.{Receive}
+use Rattle.plan_reader.specs.declared.settings.parts.Tables.{Tables}
+use Rattle.plan_reader.specs.declared.settings.parts.Sends.{Sends}
 use Rattle.plan_reader.specs.declared.plan.Plan.{Plan}
 use Rattle.plan_reader.specs.declared.plan_fault.PlanFault.{PlanFault}
 use Rattle.plan_reader.specs.declared.plan_fault.PlanFault.TheVariants as fault
-use Rattle.plan_reader.specs.declared.sizes.Sizes.{Sizes}
+use Rattle.plan_reader.specs.declared.settings.sizes.Sizes.{Sizes}
 use Rattle.plan_reader.specs.Settings.{Settings}
 use Rattle.plan_reader.specs.Causes.{◌>>=◌}
 use Rattle.plan_reader.specs.Faults.{here}
-use Rattle.plan_reader.specs.Readings.{number, number_below, set, list_of, required, optional, an_object, only, queue_of, tx_of, detach_of, key_of, steps_of, even_table}
+use Rattle.plan_reader.specs.Readings.{number, number_below, set, list_of, required, optional}
+use Rattle.plan_reader.specs.Readings.{an_object, only, queue_of, tx_of, detach_of, key_of}
+use Rattle.plan_reader.specs.Readings.{steps_of}
 
 -- ---- the fields, in their order
 
@@ -30,7 +34,8 @@ receive_of d = do
   queues ← required (codes "queues") (list_of (queue_of cpus) 1 16) d
   key ← optional (codes "key") (λ v. here (key_of v)) VERIFICATION_KEY d
   kinds ← optional (codes "kinds") (λ v. here (number 0 63 v)) 63 d
-  reta ← optional (codes "reta") (list_of (λ v. here (number_below (length queues) v)) 128 128) (even_table (length queues)) d
+  reta ← optional (codes "reta") (list_of (λ v. here (number_below (length queues) v)) 128 128)
+      (even_entries (length queues)) d
   Ok (record { cpus = cpus; queues = queues; key = key; kinds = kinds; reta = reta })
 
 unfoldable pub tables_of : ℕ → Data → Result Tables Fault
@@ -40,7 +45,13 @@ tables_of cpus d = do
   backlog ← optional (codes "backlog") (λ v. here (number 1 65536 v)) 1000 d
   start ← optional (codes "start") (λ v. here (number 0 4294967295 v)) 0 d
   limited ← optional (codes "limited") (set 32 cpus) 0 d
-  Ok (record { sock = sock; filters = filters; backlog = backlog; start = start; limited = record { 0 = limited } })
+  Ok (record {
+    sock = sock;
+    filters = filters;
+    backlog = backlog;
+    start = start;
+    limited = record { 0 = limited };
+  })
 
 unfoldable pub sends_of : ℕ → ℕ → Data → Result Sends Fault
 sends_of cpus queues d = do
@@ -53,9 +64,10 @@ sends_of cpus queues d = do
 
 -- every key of a plan, in the order in which it is looked at
 abbrev pub plan_keys : List (List ℕ)
-plan_keys = codes "cpus" ∷ codes "queues" ∷ codes "key" ∷ codes "kinds" ∷ codes "reta" ∷ codes "sock" ∷ codes "filters"
-    ∷ codes "backlog" ∷ codes "start" ∷ codes "limited" ∷ codes "apps" ∷ codes "tx" ∷ codes "workers" ∷ codes "tries"
-    ∷ codes "detach" ∷ codes "steps" ∷ []
+plan_keys =
+    codes "cpus" ∷ codes "queues" ∷ codes "key" ∷ codes "kinds" ∷ codes "reta" ∷ codes "sock"
+    ∷ codes "filters" ∷ codes "backlog" ∷ codes "start" ∷ codes "limited" ∷ codes "apps"
+    ∷ codes "tx" ∷ codes "workers" ∷ codes "tries" ∷ codes "detach" ∷ codes "steps" ∷ []
 
 abbrev pub joined : Parts → Settings
 joined parts = record {
@@ -79,7 +91,13 @@ joined parts = record {
 
 -- how many of each these parts have
 abbrev pub sizes_with : Receive → Sends → Sizes
-sizes_with receive sends = record { cpus = receive.cpus; queues = length receive.queues; apps = length sends.apps; tx = length sends.tx }
+sizes_with receive sends =
+    record {
+      cpus = receive.cpus;
+      queues = length receive.queues;
+      apps = length sends.apps;
+      tx = length sends.tx;
+    }
 
 -- the plan of a value, or the first that is wrong with it
 unfoldable pub settings_in : Data → Result Settings Fault

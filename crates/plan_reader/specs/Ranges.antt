@@ -6,13 +6,13 @@ use Rattle.steer_base.specs.declared.command.Command.TheVariants.{Mask, Flows, S
 use Rattle.steer_base.specs.declared.step.Detach.{Detach}
 use Rattle.steer_base.specs.declared.step.Step.{Step}
 use Rattle.steer_base.specs.declared.step.Step.TheVariants as step
-use Rattle.plan_reader.specs.declared.sizes.Sizes.{Sizes}
+use Rattle.plan_reader.specs.declared.settings.sizes.Sizes.{Sizes}
 use Rattle.plan_reader.specs.declared.plan.QueuePlan.{QueuePlan}
 use Rattle.plan_reader.specs.declared.plan.TxPlan.{TxPlan}
 use Rattle.plan_reader.specs.declared.plan.Steps.{Steps}
 use Rattle.plan_reader.specs.declared.plan.Steps.TheVariants as steps
 
--- so many members
+-- a length from `low` to `high`
 pub record HasLength {X : Type 0} (low high : ℕ) (list : List X) : Type 0 where
   pub at_least : low ≤ length list
   pub at_most : length list ≤ high
@@ -32,7 +32,8 @@ pub record DetachIsWithin (detach : Detach) : Type 0 where
 
 -- whether a command names what the plan has
 abbrev pub command_is_within : Sizes → Command → Bool
-command_is_within sizes (Mask queue mask) = nat_lt queue sizes.queues && nat_lt mask.0 (2 ^ sizes.cpus)
+command_is_within sizes (Mask queue mask) =
+    nat_lt queue sizes.queues && nat_lt mask.0 (2 ^ sizes.cpus)
 command_is_within sizes (Flows queue count) = nat_lt queue sizes.queues && nat_lt count 32769
 command_is_within sizes (Sock size) = nat_lt size 65537
 command_is_within sizes (Offline cpu) = nat_lt cpu sizes.cpus

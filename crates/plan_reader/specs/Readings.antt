@@ -9,14 +9,14 @@ use Rattle.serde_json.specs.Events.{items_len}
 use Rattle.serde_json.specs.Find.{get, as_number, as_u64, as_str, as_array, as_object}
 use Rattle.steer_base.specs.declared.step.Detach.{Detach}
 use Rattle.steer_base.specs.declared.step.Step.{Step}
-use Rattle.plan_reader.specs.declared.cause.Cause.{Cause}
-use Rattle.plan_reader.specs.declared.cause.Cause.TheVariants.{Missing, WrongKind, UnknownKey, TooLong}
-use Rattle.plan_reader.specs.declared.fault.Fault.{Fault}
+use Rattle.plan_reader.specs.declared.faults.cause.Cause.{Cause}
+use Rattle.plan_reader.specs.declared.faults.cause.Cause.TheVariants.{Missing, WrongKind, UnknownKey, TooLong}
+use Rattle.plan_reader.specs.declared.faults.fault.Fault.{Fault}
 use Rattle.plan_reader.specs.declared.plan.QueuePlan.{QueuePlan}
 use Rattle.plan_reader.specs.declared.plan.TxPlan.{TxPlan}
 use Rattle.plan_reader.specs.declared.plan.Steps.{Steps}
 use Rattle.plan_reader.specs.declared.plan.Steps.TheVariants as steps
-use Rattle.plan_reader.specs.declared.sizes.Sizes.{Sizes}
+use Rattle.plan_reader.specs.declared.settings.sizes.Sizes.{Sizes}
 use Rattle.plan_reader.specs.Causes.{◌>>=◌, kind, in_range, below}
 use Rattle.plan_reader.specs.Faults.{here, under}
 use Rattle.plan_reader.specs.StepTexts.{step_of}
@@ -54,7 +54,7 @@ each read position (item d ds) = do
   others ← each read (position + 1) ds
   Ok (first ∷ others)
 
--- a list of so many members
+-- a list of `low` to `high` members
 abbrev pub list_of : {A : Type 0} → (Data → Result A Fault) → ℕ → ℕ → Data → Result (List A) Fault
 list_of read low high d = do
   members ← here (items low high d)
@@ -67,7 +67,7 @@ set_from limit position bits (item d ds) = do
   n ← under (decimal position) (here (number_below limit d))
   set_from limit (position + 1) (bit_or bits (2 ^ n)) ds
 
--- a list of at most so many numbers below a limit, as a set
+-- a list of at most `most` numbers below a limit, as a set
 abbrev pub set : ℕ → ℕ → Data → Result ℕ Fault
 set most limit d = do
   members ← here (items 0 most d)
@@ -106,7 +106,8 @@ unknown (Some key) = under key (here (Err UnknownKey))
 
 -- no key of an object but these
 abbrev pub only : List (List ℕ) → Data → Result ⊤ Fault
-only keys d = unknown (option_and_then (first_unknown (λ key. list_any (bytes_eq key) keys)) (as_object d))
+only keys d =
+    unknown (option_and_then (first_unknown (λ key. list_any (bytes_eq key) keys)) (as_object d))
 
 -- ---- the parts of a plan
 
@@ -173,12 +174,3 @@ listed_or_seeded sizes None d = seed_of d
 -- the steps: a list of texts, or an object with a seed and a count
 unfoldable pub steps_of : Sizes → Data → Result Steps Fault
 steps_of sizes d = listed_or_seeded sizes (as_array d) d
-
--- the queues i mod queues for so many i from this one on
-unfoldable pub evens : ℕ → ℕ → ℕ → List ℕ
-evens queues i zero = []
-evens queues i (suc n) = i % queues ∷ evens queues (i + 1) n
-
--- the default redirection table: entry i is i mod queues
-abbrev pub even_table : ℕ → List ℕ
-even_table queues = evens queues 0 128

@@ -51,5 +51,10 @@ pub record IsWithin (plan : Settings) : Type 0 where
   pub detach_length : HasLength 0 32 plan.detach
   pub detach_within : All DetachIsWithin plan.detach
   pub steps_within : StepsAreWithin
-      (record { cpus = plan.cpus; queues = length plan.queues; apps = length plan.apps; tx = length plan.tx })
+      (record {
+        cpus = plan.cpus;
+        queues = length plan.queues;
+        apps = length plan.apps;
+        tx = length plan.tx;
+      })
       plan.steps

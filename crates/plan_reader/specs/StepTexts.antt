@@ -1,16 +1,17 @@
--- The step of a text: the whole text is held against the grammar first, then its numbers against the plan from the left.
+-- The step of a text: the whole text is held against the grammar first, then its numbers against
+-- the plan from the left.
 use Rattle.std.specs.Prelude.{ℕ, Bool, ◌||◌, List, Option, Some, None, Result, Ok, Err, is_some, if◌then◌else◌, bytes_eq, codes}
 use Rattle.steer_base.specs.declared.command.Command.TheVariants.{Mask, Flows, Sock, XCpus, XQueues, Reta, Stand}
 use Rattle.steer_base.specs.declared.step.Step.{Step}
 use Rattle.steer_base.specs.declared.step.Step.TheVariants.{Record, Give}
-use Rattle.plan_reader.specs.declared.cause.Cause.{Cause}
-use Rattle.plan_reader.specs.declared.cause.Cause.TheVariants.{WrongKind}
-use Rattle.plan_reader.specs.declared.sizes.Sizes.{Sizes}
+use Rattle.plan_reader.specs.declared.faults.cause.Cause.{Cause}
+use Rattle.plan_reader.specs.declared.faults.cause.Cause.TheVariants.{WrongKind}
+use Rattle.plan_reader.specs.declared.settings.sizes.Sizes.{Sizes}
 use Rattle.plan_reader.specs.Causes.{◌>>=◌, kind, below}
 use Rattle.plan_reader.specs.Texts.{number_of, set_of, merged, before, after}
 use Rattle.plan_reader.specs.Words.{bare_step, queue_step, cpu_step, app_step, tx_step}
 
--- a step about one of so many
+-- a step about a number below a limit
 abbrev pub one_of : ℕ → ℕ → (ℕ → Option Step) → Result Step Cause
 one_of limit n step = do
   n ← below limit n
@@ -63,7 +64,8 @@ set_step sizes word first members =
 
 -- whether the second argument of the word is a set
 unfoldable pub takes_set : List ℕ → Bool
-takes_set word = bytes_eq word (codes "mask") || bytes_eq word (codes "xcpus") || bytes_eq word (codes "xqueues")
+takes_set word =
+    bytes_eq word (codes "mask") || bytes_eq word (codes "xcpus") || bytes_eq word (codes "xqueues")
 
 -- a word and two arguments
 abbrev pub two_arguments : Sizes → List ℕ → List ℕ → List ℕ → Result Step Cause

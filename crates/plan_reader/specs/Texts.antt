@@ -1,22 +1,21 @@
 -- The parts of a step text: numbers, sets, and the words between spaces.
-use Rattle.std.specs.Prelude.{ℕ, ◌+◌, ◌-◌, ◌*◌, ◌^◌, ◌&&◌, ◌==◌, List, [], ◌∷◌, length, Option, Some, None, Result, Ok, nat_le, nat_lt, if◌then◌else◌, option_map, option_and_then, bytes_eq, codes, bit_or}
+use Rattle.std.specs.Prelude.{ℕ, ◌+◌, ◌-◌, ◌*◌, ◌^◌, ◌&&◌, ◌==◌, List, [], ◌∷◌, length, Option}
+use Rattle.std.specs.Prelude.{Some, None, Result, Ok, nat_le, nat_lt, if◌then◌else◌, option_map}
+use Rattle.std.specs.Prelude.{option_and_then, bytes_eq, codes, bit_or}
 use Rattle.std.specs.List.{slice_split, position_or_len, before_first, after_first}
-use Rattle.plan_reader.specs.declared.cause.Cause.{Cause}
+use Rattle.steer_base.specs.Decimals.{decimal_number}
+use Rattle.plan_reader.specs.declared.faults.cause.Cause.{Cause}
 use Rattle.plan_reader.specs.Causes.{◌>>=◌, below}
 
--- the number that the digits go on with
-abbrev pub digits_from : ℕ → List ℕ → Option ℕ
-digits_from number [] = Some number
-digits_from number (digit ∷ digits) = if nat_le 48 digit && nat_le digit 57 then digits_from (number * 10 + (digit - 48)) digits else None
-
 -- one to ten decimal digits without a sign
-unfoldable pub number_of : List ℕ → Option ℕ
-number_of token = if nat_lt 0 (length token) && nat_le (length token) 10 then digits_from 0 token else None
+abbrev pub number_of : List ℕ → Option ℕ
+number_of token = decimal_number 10 token
 
 -- every one of these tokens as a number
 abbrev pub numbers_of : List (List ℕ) → Option (List ℕ)
 numbers_of [] = Some []
-numbers_of (token ∷ tokens) = option_and_then (λ n. option_map (λ ns. n ∷ ns) (numbers_of tokens)) (number_of token)
+numbers_of (token ∷ tokens) =
+    option_and_then (λ n. option_map (λ ns. n ∷ ns) (numbers_of tokens)) (number_of token)
 
 -- the parts between commas
 abbrev pub parts : List ℕ → List (List ℕ)
@@ -26,7 +25,8 @@ parts token = slice_split (λ byte. byte == 44) token
 unfoldable pub set_of : List ℕ → Option (List ℕ)
 set_of token = if bytes_eq token (codes "-") then Some [] else numbers_of (parts token)
 
--- The set with these numbers added: bit n is number n. The first number that is not below the limit is refused.
+-- The set with these numbers added: bit n is number n. The first number that is not below the limit
+-- is refused.
 abbrev pub merged_from : ℕ → ℕ → List ℕ → Result ℕ Cause
 merged_from limit bits [] = Ok bits
 merged_from limit bits (n ∷ ns) = do
@@ -43,4 +43,6 @@ before byte text = before_first (λ b. b == byte) text
 
 -- what follows the first such byte, where there is one
 abbrev pub after : ℕ → List ℕ → Option (List ℕ)
-after byte text = if nat_lt (position_or_len (λ b. b == byte) text) (length text) then Some (after_first (λ b. b == byte) text) else None
+after byte text =
+    if nat_lt (position_or_len (λ b. b == byte) text) (length text)
+    then Some (after_first (λ b. b == byte) text) else None

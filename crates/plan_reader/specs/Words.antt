@@ -3,8 +3,8 @@ use Rattle.std.specs.Prelude.{ℕ, List, Option, Some, None, Result, Ok, Err, if
 use Rattle.steer_base.specs.declared.command.Command.TheVariants.{Offline, Online, Expire}
 use Rattle.steer_base.specs.declared.step.Step.{Step}
 use Rattle.steer_base.specs.declared.step.Step.TheVariants.{Arrive, Take, Enter, Look, Weigh, Put, Ask, Leave, Pull, Deliver, Retire, Send, TEnter, TLeave, TWeigh, TPut, TPull, TDeliver, TRetire, Poll, Drain, Reply, Serve, Ship, Sweep, Give}
-use Rattle.plan_reader.specs.declared.cause.Cause.{Cause}
-use Rattle.plan_reader.specs.declared.cause.Cause.TheVariants.{WrongKind}
+use Rattle.plan_reader.specs.declared.faults.cause.Cause.{Cause}
+use Rattle.plan_reader.specs.declared.faults.cause.Cause.TheVariants.{WrongKind}
 
 -- words without arguments
 unfoldable pub bare_step : List ℕ → Result Step Cause

@@ -1,10 +1,10 @@
 //! Why bytes have no plan.
-use crate::list::List;
+use steer_base::List;
 
 /// Why bytes have no plan.
 ///
 /// A path has the keys and the positions down to a value, with slashes between them.
-#[derive(Drop)]
+#[derive(Debug, Drop)]
 pub enum PlanFault {
     /// The bytes have no JSON value.
     NotJson,

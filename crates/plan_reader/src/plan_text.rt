@@ -5,16 +5,16 @@ ghost use Rattle.plan_reader.specs.Faults.{GivesAs};
 ghost use Rattle.plan_reader.specs.Parts.{PartsAreWithin};
 ghost use Rattle.plan_reader.specs.PlanTexts.{IsNamed, json_of, joined, plan_of, settings_of, settings_of_bytes, value_of};
 
-use crate::cause::Cause;
-use crate::commands::commands_of;
-use crate::fault::Refusal;
-use crate::list::List;
-use crate::parts::Parts;
-use crate::placed::here;
+use crate::faults::cause::Cause;
+use crate::faults::fault::Refusal;
+use crate::faults::placed::here;
 use crate::plan::Plan;
 use crate::plan_fault::PlanFault;
+use crate::settings::parts::Parts;
+use crate::steps::commands::commands_of;
 use serde_json::Value;
 use std::alloc::{AllocError, Global};
+use steer_base::List;
 
 /// The most opening braces of a text whose JSON value is made. In memory an object takes up to
 /// 820 bytes, so that no value takes much more than 2 GB.

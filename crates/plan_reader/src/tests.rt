@@ -1,5 +1,5 @@
 use super::*;
-use crate::seeds::word_of;
+use crate::steps::seeds::word_of;
 use std::alloc::Global;
 use std::test::Fail;
 use steer_base::{AppId, Command, Cpu, CpuMask, RxQueue, Step, TxQueue};
@@ -188,7 +188,7 @@ fn faults_of_keys_and_steps(rt: HostRuntime) -> Result<(), Fail> {
     Ok(())
 }
 
-/// So many of a byte between two texts.
+/// `count` times a piece between two texts.
 fn repeated(
     alloc: Global,
     first: &str,

@@ -75,10 +75,12 @@ impl LineBuf {
         ensures value { self.new ≡ self.old ++ hex_digits digits number }
         ensures grows { length self.new ≡ length self.old + digits }
     {
-        for place in (0..digits).rev() {
-            let digit = ((number >> (4 * place)) % 16) as u32;
-            self.push(&[hex_digit(digit)]);
+        let mut text = [0; 32];
+        for place in 0..digits {
+            let digit = ((number >> (4 * (digits - 1 - place))) % 16) as u32;
+            text[place as usize] = hex_digit(digit);
         }
+        self.push(&text[..digits as usize]);
     }
 
     /// Writes the line as one piece and clears it, also where the sink fails.

@@ -1,5 +1,6 @@
 -- The redirection table of a card with receive side scaling (Intel 82599 datasheet, 128 entries).
-use Rattle.std.specs.Prelude.{◌≡◌, ℕ, ◌<◌, ◌≤◌, All, Bool, ◌&&◌, nat_lt, List, length, Option, Some, None, slice_index, slice_set}
+use Rattle.std.specs.Prelude.{◌≡◌, ℕ, ◌<◌, ◌≤◌, All, Bool, ◌&&◌, nat_lt, List, length, Option, Some}
+use Rattle.std.specs.Prelude.{None, slice_index, slice_set}
 use Rattle.steer_base.specs.Arrivals.{even_entries, table_place}
 
 -- a number of receive queues, and the queue of each entry

@@ -1,6 +1,7 @@
 //! The redirection table of 128 entries.
 ghost use Rattle.std.specs.Prelude.{◌≡◌, ◌<◌, ◌≤◌, All, is_ok, length, OnOk, OnErr};
-ghost use Rattle.rss_table.specs.Redirection.{even_table, is_in_range, with_entry, queue_of, IsRedirection};
+ghost use Rattle.rss_table.specs.Redirection.{even_table, is_in_range, with_entry, queue_of};
+ghost use Rattle.rss_table.specs.Redirection.{IsRedirection};
 
 use std::marker::Model;
 use steer_base::{RxQueue, even_entries};
@@ -11,7 +12,8 @@ const ENTRIES: usize = 128;
 #[derive(Clone, Copy, Debug, PartialEq, Eq)]
 pub struct EntryRange;
 
-/// A table of 128 entries, each one of 1 to 16 receive queues (Intel 82599 datasheet, redirection table).
+/// A table of 128 entries, each one of 1 to 16 receive queues (Intel 82599 datasheet, redirection
+/// table).
 #[derive(Drop)]
 pub struct Reta {
     queues: u8,
@@ -29,7 +31,8 @@ impl Model for Reta {
 }
 
 impl Reta {
-    /// The table by which so many queues, 1 to 16, get the entries in turn: entry i has queue `i mod queues`.
+    /// The table by which so many queues, 1 to 16, get the entries in turn: entry i has queue `i
+    /// mod queues`.
     pub fn even(queues: u8) -> Self
         requires some { 0 < queues }
         requires few { queues ≤ 16 }
@@ -57,7 +60,8 @@ impl Reta {
         }
     }
 
-    /// Gives entry `i` to a queue. Refused, with nothing changed, where there is no such entry or no such queue.
+    /// Gives entry `i` to a queue. Refused, with nothing changed, where there is no such entry or
+    /// no such queue.
     pub fn set(&mut self, i: u8, queue: RxQueue) -> Result<(), EntryRange>
         ensures answer { is_ok result ≡ is_in_range self.old i queue }
         ensures done { OnOk result (self.new ≡ with_entry self.old i queue) }

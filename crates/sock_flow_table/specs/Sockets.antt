@@ -1,6 +1,7 @@
--- The socket flow table (kernel scaling chapter, section RFS: `rps_sock_flow_table`), seen as the list of
--- its entries: each is the processor noted there last, or none since the table was cleared.
-use Rattle.std.specs.Prelude.{ℕ, ◌%◌, Bool, ◌&&◌, List, Option, Some, None, ◌==◌, nat_lt, map, filter}
+-- The socket flow table (kernel scaling chapter, section RFS: `rps_sock_flow_table`), seen as the
+-- list of its entries: each is the processor noted there last, or none since the table was cleared.
+use Rattle.std.specs.Prelude.{ℕ, ◌%◌, Bool, ◌&&◌, List, Option, Some, None, ◌==◌, nat_lt}
+use Rattle.std.specs.Prelude.{map, filter}
 use Rattle.std.specs.List.{fold}
 use Rattle.steer_base.specs.HashTables.{cleared_rows, place_in_rows, row_at, with_row}
 use Rattle.steer_base.specs.Entries.{last_or}
@@ -33,4 +34,5 @@ share_entry size a b = nat_lt 0 size && a % size == b % size
 -- the processor of the last of these notes whose hash has the same entry, if there is one
 abbrev pub last_noted : ℕ → List Note → ℕ → Option ℕ
 last_noted size notes hash =
-    last_or None (map (λ note. Some note.cpu) (filter (λ note. share_entry size note.hash hash) notes))
+    last_or None
+    (map (λ note. Some note.cpu) (filter (λ note. share_entry size note.hash hash) notes))

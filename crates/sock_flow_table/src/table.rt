@@ -33,8 +33,8 @@ impl Model for SockTable {
 }
 
 impl SockTable {
-    /// A table without a note, of at least so many entries: 65,536 at most, and none for 0. It has the memory of
-    /// the largest table, and takes no more later.
+    /// A table without a note, of at least so many entries: 65,536 at most, and none for 0. It has
+    /// the memory of the largest table, and takes no more later.
     pub fn make(alloc: Global, entries: u32) -> Result<SockTable, OutOfMemory>
         requires { entries ≤ 65536 }
         ensures { IfOk result (λ table. table ≡ unset (rounded_up entries)) }
@@ -49,8 +49,8 @@ impl SockTable {
         })
     }
 
-    /// Writes the processor at entry `hash mod size`. Answers false, with nothing written, where the table has
-    /// no entries.
+    /// Writes the processor at entry `hash mod size`. Answers false, with nothing written, where
+    /// the table has no entries.
     pub fn note(&mut self, hash: u32, cpu: Cpu) -> bool
         ensures answer { result ≡ nat_lt 0 (length self.old) }
         ensures table { self.new ≡ noted self.old hash cpu }

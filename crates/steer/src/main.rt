@@ -1,12 +1,17 @@
-//! Steers the packets of a capture after the kernel's scaling chapter, and reports what happened to each.
+//! Steers the packets of a capture after the kernel's scaling chapter, and reports what happened to
+//! each.
 #![tactic(auto)]
 
 use outside_io::{FileDesk, StdSink};
+use std::io::BufWriter;
 use std::process::ExitCode;
 use std::{env, io};
 use steer_top::steer_still;
 
 const OUT_OF_MEMORY: u8 = 7;
+
+/// How many bytes of the text are gathered before they go to standard output.
+const GATHERED: usize = 65_536;
 
 // The words after the program's name.
 fn words_of(rt: &HostRuntime) -> io::Result<Vec<String>> {
@@ -19,7 +24,10 @@ fn words_of(rt: &HostRuntime) -> io::Result<Vec<String>> {
 
 fn main(rt: HostRuntime) -> ExitCode {
     let alloc = rt.alloc();
-    let mut out = StdSink::make(rt.stdout());
+    let Ok(gathering) = BufWriter::with_capacity(alloc, GATHERED, rt.stdout()) else {
+        return ExitCode::from(OUT_OF_MEMORY);
+    };
+    let mut out = StdSink::make(gathering);
     let mut err = StdSink::make(rt.stderr());
     let words = match words_of(&rt) {
         Ok(words) => words,

@@ -1,12 +1,14 @@
--- The choice of a lane: receive packet steering, receive flow steering, and the rule by which a class moves
--- (kernel scaling chapter, sections RPS and RFS).
-use Rattle.std.specs.Prelude.{ℕ, ◌%◌, Bool, true, false, not, ◌&&◌, Option, Some, None, ◌==◌, nat_lt, if◌then◌else◌}
+-- The choice of a lane: receive packet steering, receive flow steering, and the rule by which a
+-- class moves (kernel scaling chapter, sections RPS and RFS).
+use Rattle.std.specs.Prelude.{ℕ, ◌%◌, Bool, true, false, not, ◌&&◌, Option, Some, None, ◌==◌}
+use Rattle.std.specs.Prelude.{nat_lt, if◌then◌else◌}
 use Rattle.steer_base.specs.Counters.{has_reached}
 use Rattle.steer_base.specs.Sets.{has, those_below, is_empty, at_hash}
 use Rattle.steer_base.specs.declared.choice.Choice.{Choice}
 use Rattle.steer_base.specs.declared.choice.Entry.{Entry}
 use Rattle.steer_base.specs.declared.choice.Why.{Why}
-use Rattle.steer_base.specs.declared.choice.Why.TheVariants.{Plain, Same, Unset, Offline, Passed, Kept}
+use Rattle.steer_base.specs.declared.choice.Why.TheVariants.{Plain, Same, Unset, Offline, Passed}
+use Rattle.steer_base.specs.declared.choice.Why.TheVariants.{Kept}
 use Rattle.steer_base.specs.declared.cpu_mask.CpuMask.{CpuMask}
 
 -- the cases under which a class gets a new lane
@@ -27,34 +29,68 @@ class_of count (Some hash) = if nat_lt 0 count then Some (hash % count) else Non
 abbrev pub online_or : CpuMask → ℕ → ℕ → ℕ
 online_or online cpu home = if has online cpu then cpu else home
 
--- The RPS choice: the processor at `hash mod k` among the k of the mask, ascending; the home processor without
--- a hash, for an empty mask, and where that choice is offline.
+-- The RPS choice: the processor at `hash mod k` among the k of the mask, ascending; the home
+-- processor without a hash, for an empty mask, and where that choice is offline.
 abbrev pub rps_choice_of : CpuMask → Option ℕ → CpuMask → ℕ → ℕ
 rps_choice_of mask None online home = home
 rps_choice_of mask (Some hash) online home =
     let cpus = those_below 32 (has mask) in
     if is_empty cpus then home else online_or online (at_hash cpus hash) home
 
--- The desired processor: that of the socket's entry where the packet has a class, and the entry is set and online;
--- else the RPS choice.
+-- The desired processor: that of the socket's entry where the packet has a class, and the entry is
+-- set and online; else the RPS choice.
 abbrev pub desired_cpu : Option ℕ → Option ℕ → CpuMask → ℕ → ℕ
 desired_cpu None want online rps = rps
 desired_cpu (Some class) None online rps = rps
 desired_cpu (Some class) (Some cpu) online rps = online_or online cpu rps
 
--- The migration rule for a class with this current lane and recorded tail, the first case that holds. The head of a
--- lane and the recorded tail are counter numbers.
+-- The migration rule for a class with this current lane and recorded tail, the first case that
+-- holds. The head of a lane and the recorded tail are counter numbers.
 abbrev pub by_entry : ℕ → Option ℕ → ℕ → ℕ → (ℕ → ℕ) → (ℕ → Bool) → Option ℕ → Choice
 by_entry class want desired tail head online None =
-    record { class = Some class; want = want; head = None; tail = Some tail; lane = desired; why = Unset }
+    record {
+      class = Some class;
+      want = want;
+      head = None;
+      tail = Some tail;
+      lane = desired;
+      why = Unset;
+    }
 by_entry class want desired tail head online (Some current) =
     if current == desired
-    then record { class = Some class; want = want; head = None; tail = Some tail; lane = current; why = Same } else
+    then record {
+      class = Some class;
+      want = want;
+      head = None;
+      tail = Some tail;
+      lane = current;
+      why = Same;
+    } else
     if not (online current)
-    then record { class = Some class; want = want; head = None; tail = Some tail; lane = desired; why = Offline } else
+    then record {
+      class = Some class;
+      want = want;
+      head = None;
+      tail = Some tail;
+      lane = desired;
+      why = Offline;
+    } else
     if has_reached (head current) tail 0
-    then record { class = Some class; want = want; head = Some (head current); tail = Some tail; lane = desired; why = Passed }
-    else record { class = Some class; want = want; head = Some (head current); tail = Some tail; lane = current; why = Kept }
+    then record {
+      class = Some class;
+      want = want;
+      head = Some (head current);
+      tail = Some tail;
+      lane = desired;
+      why = Passed;
+    } else record {
+      class = Some class;
+      want = want;
+      head = Some (head current);
+      tail = Some tail;
+      lane = current;
+      why = Kept;
+    }
 
 -- The choice for a packet: by the entry of its class, and plainly the desired lane without a class.
 abbrev pub migrate : Option ℕ → Option ℕ → ℕ → (ℕ → Entry) → (ℕ → ℕ) → (ℕ → Bool) → Choice

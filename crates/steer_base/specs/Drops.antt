@@ -1,6 +1,9 @@
--- When a packet that is put to a lane is dropped: by a full backlog (`netdev_max_backlog`), or by the flow limit of the
--- kernel scaling chapter (section RPS flow limit: 4,096 buckets, a window of 256 packets, from half of the backlog on).
-use Rattle.std.specs.Prelude.{ℕ, ◌+◌, ◌-◌, ◌*◌, ◌%◌, Bool, ◌&&◌, List, [], ◌∷◌, ◌++◌, Option, Some, None, ◌==◌, nat_lt, length, drop, map, filter, count_by, if◌then◌else◌}
+-- When a packet that is put to a lane is dropped: by a full backlog (`netdev_max_backlog`), or by
+-- the flow limit of the kernel scaling chapter (section RPS flow limit: 4,096 buckets, a window of
+-- 256 packets, from half of the backlog on).
+use Rattle.std.specs.Prelude.{ℕ, ◌+◌, ◌-◌, ◌*◌, ◌%◌, Bool, ◌&&◌, List, [], ◌∷◌, ◌++◌, Option, Some}
+use Rattle.std.specs.Prelude.{None, ◌==◌, nat_lt, length, drop, map, filter, count_by}
+use Rattle.std.specs.Prelude.{if◌then◌else◌}
 use Rattle.std.specs.List.{filter_map}
 use Rattle.std.specs.Option.{option_map}
 use Rattle.steer_base.specs.Lanes.{LaneLists}
@@ -24,8 +27,8 @@ window offers = last_of 256 (filter_map (λ bucket. bucket) offers)
 abbrev pub bucket_count : List (Option ℕ) → ℕ → ℕ
 bucket_count offers bucket = count_by (λ b. b == bucket) (window (offers ++ Some bucket ∷ []))
 
--- the flow limit, by how often the packet's bucket stands among the last offers: more than half of the limit waits, and
--- the bucket stands there more than 128 times
+-- the flow limit, by how often the packet's bucket stands among the last offers: more than half of
+-- the limit waits, and the bucket stands there more than 128 times
 abbrev pub flow_cause : Bool → ℕ → ℕ → Option ℕ → Option DropCause
 flow_cause limited limit waiting None = None
 flow_cause limited limit waiting (Some count) =
@@ -49,7 +52,8 @@ lane_drop_cause l hash = drop_cause l.limited l.limit (length l.accepted - l.pul
 abbrev pub dropped_after : ℕ → List LaneDrop → List ℕ
 dropped_after n drops = map (λ d. d.id) (filter (λ d. d.accepted == n) drops)
 
--- The offers of a lane in the order of their puts: each drop stands after the accepted packets that it counted.
+-- The offers of a lane in the order of their puts: each drop stands after the accepted packets that
+-- it counted.
 abbrev pub offers_from : ℕ → List ℕ → List LaneDrop → List ℕ
 offers_from n [] drops = dropped_after n drops
 offers_from n (x ∷ xs) drops = dropped_after n drops ++ x ∷ offers_from (n + 1) xs drops

@@ -1,6 +1,7 @@
--- The entry of a class, found in a list of choices and the accepted lists of the lanes (kernel scaling chapter,
--- section RFS: the current processor and the last queue tail of a flow).
-use Rattle.std.specs.Prelude.{ℕ, suc, Bool, false, List, [], ◌∷◌, Option, Some, None, ◌==◌, map, filter, if◌then◌else◌}
+-- The entry of a class, found in a list of choices and the accepted lists of the lanes (kernel
+-- scaling chapter, section RFS: the current processor and the last queue tail of a flow).
+use Rattle.std.specs.Prelude.{ℕ, suc, Bool, false, List, [], ◌∷◌, Option, Some, None, ◌==◌, map}
+use Rattle.std.specs.Prelude.{filter, if◌then◌else◌}
 use Rattle.std.specs.List.{filter_map, list_any}
 use Rattle.std.specs.Option.{option_map}
 use Rattle.steer_base.specs.Choices.{has_moved}
@@ -43,7 +44,11 @@ current_lane cs = last_or None (map (λ c. Some c.choice.lane) cs)
 abbrev pub recorded_count : (ℕ → List ℕ) → List Chosen → ℕ
 recorded_count accepted cs = last_or 0 (filter_map (position accepted) (since_move cs))
 
--- The entry of class k, by the choices of its producer since the last resize; the tail is a counter number.
+-- The entry of class k, by the choices of its producer since the last resize; the tail is a counter
+-- number.
 abbrev pub entry : ℕ → (ℕ → List ℕ) → List Chosen → ℕ → Entry
 entry start accepted cs k =
-    record { lane = current_lane (of_class k cs); tail = number start (recorded_count accepted (of_class k cs)) }
+    record {
+      lane = current_lane (of_class k cs);
+      tail = number start (recorded_count accepted (of_class k cs));
+    }

@@ -1,4 +1,5 @@
--- When a class moves (kernel scaling chapter, section RFS: the three conditions under which a flow's processor changes).
+-- When a class moves (kernel scaling chapter, section RFS: the three conditions under which a
+-- flow's processor changes).
 use Rattle.std.specs.Prelude.{ℕ, ◌≡◌, ◌≢◌, ◌⊎◌, ◌↔◌, Bool, true, false, Option, Some, None}
 use Rattle.steer_base.specs.Choices.{by_entry, has_moved}
 use Rattle.steer_base.specs.Counters.{has_reached}
@@ -9,16 +10,18 @@ use Rattle.steer_base.specs.declared.choice.Why.TheVariants.{Unset, Offline, Pas
 abbrev pub IsMove : Why → Type 0
 IsMove why = (why ≡ Unset) ⊎ ((why ≡ Offline) ⊎ (why ≡ Passed))
 
--- A class with this current lane and recorded tail may leave it for the desired one: it has none, or another one than
--- the desired that is offline or whose head has reached the tail.
+-- A class with this current lane and recorded tail may leave it for the desired one: it has none,
+-- or another one than the desired that is offline or whose head has reached the tail.
 abbrev pub MayLeave : ℕ → ℕ → (ℕ → ℕ) → (ℕ → Bool) → Option ℕ → Type 0
 MayLeave desired tail head online None = Unit {0}
 MayLeave desired tail head online (Some lane) =
     (lane ≢ desired) × ((online lane ≡ false) ⊎ (has_reached (head lane) tail 0 ≡ true))
 
--- What the rule chooses for a class: a move is one of the three cases, and is made just where the class may leave its lane.
--- A move is to the desired lane, and without one the class keeps its lane.
-pub record MovesByThree (class : ℕ) (want : Option ℕ) (desired tail : ℕ) (head : ℕ → ℕ) (online : ℕ → Bool) (current : Option ℕ) : Type 0 where
+-- What the rule chooses for a class: a move is one of the three cases, and is made just where the
+-- class may leave its lane. A move is to the desired lane, and without one the class keeps its
+-- lane.
+pub record MovesByThree (class : ℕ) (want : Option ℕ) (desired tail : ℕ) (head : ℕ → ℕ)
+    (online : ℕ → Bool) (current : Option ℕ) : Type 0 where
   pub cases : has_moved (by_entry class want desired tail head online current).why ≡ true
       → IsMove (by_entry class want desired tail head online current).why
   pub may : has_moved (by_entry class want desired tail head online current).why ≡ true

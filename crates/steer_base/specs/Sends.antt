@@ -4,10 +4,11 @@ use Rattle.steer_base.specs.Sets.{those_below, is_empty, at_hash}
 
 -- the first list with a member, else the last
 abbrev pub first_filled : List ℕ → List ℕ → List ℕ → List ℕ
-first_filled first second third = if is_empty first then (if is_empty second then third else second) else first
+first_filled first second third =
+    if is_empty first then (if is_empty second then third else second) else first
 
--- The candidates among so many transmit queues, ascending: those whose receive-queue map has the queue; with none,
--- those whose processor map has the processor; with none of these either, all.
+-- The candidates among so many transmit queues, ascending: those whose receive-queue map has the
+-- queue; with none, those whose processor map has the processor; with none of these either, all.
 abbrev pub candidates : ℕ → (ℕ → ℕ → Bool) → (ℕ → ℕ → Bool) → ℕ → ℕ → List ℕ
 candidates count by_queue by_cpu rxq cpu =
     first_filled

@@ -4,7 +4,8 @@ ghost use Rattle.steer_base.specs.Apps.{app_of as app_of_hash};
 
 use crate::ids::AppId;
 
-/// The application of a packet among `apps`: its hash modulo their number, and application 0 without a hash.
+/// The application of a packet among `apps`: its hash modulo their number, and application 0
+/// without a hash.
 pub fn app_of(hash: Option<u32>, apps: u8) -> AppId
     requires { 1 ≤ apps }
     ensures { result ≡ app_of_hash hash apps }

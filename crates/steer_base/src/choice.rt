@@ -1,4 +1,5 @@
-//! The choice of a lane for a packet, after the receive flow steering of the kernel's scaling chapter.
+//! The choice of a lane for a packet, after the receive flow steering of the kernel's scaling
+//! chapter.
 ghost use Rattle.std.specs.Prelude.{◌≡◌};
 
 use crate::ids::PacketId;
@@ -14,7 +15,8 @@ pub enum Why {
     Unset,
     /// The current lane of its class is offline.
     Offline,
-    /// The head of the current lane has reached the recorded tail, so none of its packets waits there.
+    /// The head of the current lane has reached the recorded tail, so none of its packets waits
+    /// there.
     Passed,
     /// The current lane may still hold packets of the class.
     Kept,
@@ -23,8 +25,8 @@ pub enum Why {
 impl Why {
     ghost use Rattle.steer_base.specs.Choices.{has_moved};
 
-    /// Whether the class got the desired lane as a new one: the three conditions under which the scaling chapter
-    /// lets a flow change its processor.
+    /// Whether the class got the desired lane as a new one: the three conditions under which the
+    /// scaling chapter lets a flow change its processor.
     pub fn moved(&self) -> bool
         ensures { result ≡ has_moved self.now }
     {
@@ -32,14 +34,16 @@ impl Why {
     }
 }
 
-/// The choice of a lane with all that was seen for it. In this order its fields take 28 bytes, and with a packet 32.
+/// The choice of a lane with all that was seen for it. In this order its fields take 28 bytes, and
+/// with a packet 32.
 #[derive(Clone, Copy, Debug, PartialEq, Eq)]
 pub struct Choice {
     /// The class of the packet, if it has one, from 0.
     pub class: Option<u32>,
     /// The head of the current lane, where the rule looked at it: a counter number that wraps.
     pub head: Option<u32>,
-    /// The recorded tail of the class before this choice, where there is a class: a counter number that wraps.
+    /// The recorded tail of the class before this choice, where there is a class: a counter number
+    /// that wraps.
     pub tail: Option<u32>,
     /// The lane that was wanted, as it was seen.
     pub want: Option<u8>,

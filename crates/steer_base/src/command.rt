@@ -11,7 +11,8 @@ pub enum Command {
     Mask(RxQueue, CpuMask),
     /// The flow count of a receive queue (`rps_flow_cnt`), as given and not rounded up.
     Flows(RxQueue, u32),
-    /// The number of entries of the socket flow table (`rps_sock_flow_entries`), as given and not rounded up.
+    /// The number of entries of the socket flow table (`rps_sock_flow_entries`), as given and not
+    /// rounded up.
     Sock(u32),
     /// A processor goes offline.
     Offline(Cpu),

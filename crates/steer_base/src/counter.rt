@@ -1,10 +1,12 @@
-//! Counters of 32 bits that wrap, as the kernel's queue heads and tails, and sizes that are powers of two.
+//! Counters of 32 bits that wrap, as the kernel's queue heads and tails, and sizes that are powers
+//! of two.
 ghost use Rattle.std.specs.Prelude.{ℕ, ◌≡◌, ◌<◌, ◌≤◌, ◌^◌};
 ghost use Rattle.std.specs.Int.{IsPowerOfTwo};
 ghost use Rattle.steer_base.specs.Counters.{has_reached, rounded_up};
 
-/// Whether the counter `head` stands at least `more` past `tail`, where the two are less than half of the number
-/// range apart: the comparison by signed difference that the kernel makes of its queue counters.
+/// Whether the counter `head` stands at least `more` past `tail`, where the two are less than half
+/// of the number range apart: the comparison by signed difference that the kernel makes of its
+/// queue counters.
 pub fn reached(head: u32, tail: u32, more: u32) -> bool
     requires { more ≤ 400000 }
     ensures { result ≡ has_reached head tail more }
@@ -13,8 +15,8 @@ pub fn reached(head: u32, tail: u32, more: u32) -> bool
     past < 1 << 31 && past >= more
 }
 
-/// The least power of two that is at least `n`, which is at most 65,536, and 0 for 0, as the kernel rounds the sizes of
-/// its flow tables.
+/// The least power of two that is at least `n`, which is at most 65,536, and 0 for 0, as the kernel
+/// rounds the sizes of its flow tables.
 pub fn round_up(n: u32) -> u32
     requires { n ≤ 65536 }
     ensures value { result ≡ rounded_up n }

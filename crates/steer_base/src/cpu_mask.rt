@@ -1,5 +1,6 @@
 //! A set of processors.
-ghost use Rattle.std.specs.Prelude.{ℕ, ◌≡◌, ◌<◌, ◌≤◌, ◌==◌, ◌&&◌, ◌||◌, not, nat_lt, IsTrue, length, slice_index};
+ghost use Rattle.std.specs.Prelude.{ℕ, ◌≡◌, ◌<◌, ◌≤◌, ◌==◌, ◌&&◌, ◌||◌, not, nat_lt, IsTrue};
+ghost use Rattle.std.specs.Prelude.{length, slice_index};
 ghost use Rattle.std.specs.List.{list_any};
 
 use crate::ids::Cpu;
@@ -9,7 +10,8 @@ use crate::ids::Cpu;
 pub struct CpuMask(pub u32);
 
 impl CpuMask {
-    ghost use Rattle.steer_base.specs.Sets.{first_cpus, has, is_empty, members, with_cpu, without_cpu};
+    ghost use Rattle.steer_base.specs.Sets.{first_cpus, has, is_empty, members, with_cpu};
+    ghost use Rattle.steer_base.specs.Sets.{without_cpu};
 
     /// The processors below `count`, which is at most 32.
     pub fn first_n(count: u8) -> CpuMask

@@ -2,8 +2,8 @@
 ghost use Rattle.std.specs.Prelude.{◌≡◌, ◌<◌, ◌≤◌, ◌^◌, IfSome};
 ghost use Rattle.steer_base.specs.Decimals.{decimal_number as number_of};
 
-/// The number that a text is, where it is 1 to `most` decimal digits without a sign and nothing else; leading zeros are
-/// digits as others.
+/// The number that a text is, where it is 1 to `most` decimal digits without a sign and nothing
+/// else; leading zeros are digits as others.
 #[tactic(auto, unfolding(crate::specs::Decimals::decimal_number))]
 pub fn decimal_number(text: &[u8], most: u8) -> Option<u128>
     requires { most ≤ 20 }

@@ -8,6 +8,7 @@ pub struct Filter {
     pub queue: RxQueue,
     /// The processor for whose sake the filter was written.
     pub cpu: Cpu,
-    /// The position at that processor of the packet that led to the filter, a counter number that wraps.
+    /// The position at that processor of the packet that led to the filter, a counter number that
+    /// wraps.
     pub mark: u32,
 }

@@ -1,4 +1,5 @@
-//! The numbers by which packets, processors, queues and applications are named. Contracts see each as a number.
+//! The numbers by which packets, processors, queues and applications are named. Contracts see each
+//! as a number.
 ghost use Rattle.std.specs.Prelude.{ℕ};
 
 use std::marker::Model;

@@ -3,15 +3,15 @@ ghost use Rattle.std.specs.Prelude.{ℕ, ◌≡◌, ◌≤◌, ◌<◌, ◌+◌,
 ghost use Rattle.steer_base.specs.Counters.{distance, has_reached, number};
 ghost use Rattle.steer_base.specs.Moves.{MovesByThree};
 
-/// Two numbers of one counter compare as the counts do that they were shown at, whatever number the counter started
-/// at and however often it wrapped, for counts of at most 262,144 packets.
+/// Two numbers of one counter compare as the counts do that they were shown at, whatever number the
+/// counter started at and however often it wrapped, for counts of at most 262,144 packets.
 pub fn numbers_compare_as_counts()
     ensures { (start head tail more : ℕ) → start < 2 ^ 32 → head ≤ 262144 → tail ≤ 262144
         → has_reached (number start head) (number start tail) more ≡ nat_le (tail + more) head }
 {}
 
-/// A number tells the count that it was shown at, and two numbers how far their counts are apart, for all counts below
-/// 2^32.
+/// A number tells the count that it was shown at, and two numbers how far their counts are apart,
+/// for all counts below 2^32.
 pub fn a_number_tells_its_count()
     ensures count { (start count : ℕ) → start < 2 ^ 32 → count < 2 ^ 32
         → distance (number start count) start ≡ count }
@@ -19,8 +19,9 @@ pub fn a_number_tells_its_count()
         → distance (number start head) (number start tail) ≡ head - tail }
 {}
 
-/// A class gets the desired lane as a new one where it has no lane, or one that is offline, or one whose head has
-/// reached the recorded tail, and in these cases alone (kernel scaling chapter, section RFS).
+/// A class gets the desired lane as a new one where it has no lane, or one that is offline, or one
+/// whose head has reached the recorded tail, and in these cases alone (kernel scaling chapter,
+/// section RFS).
 pub fn a_class_moves_in_three_cases_alone()
     ensures { (class : ℕ) (want : Option ℕ) (desired tail : ℕ) (head : ℕ → ℕ) (online : ℕ → Bool)
         (current : Option ℕ) → MovesByThree class want desired tail head online current }

@@ -10,6 +10,7 @@ pub struct Packet {
     pub hash: Option<u32>,
     /// The number of bytes of the frame that the capture has.
     pub len: u32,
-    /// The place of the flow among the distinct flows of the capture, in order of first appearance, from 0.
+    /// The place of the flow among the distinct flows of the capture, in order of first appearance,
+    /// from 0.
     pub flow_number: u32,
 }

@@ -1,8 +1,8 @@
 //! The steps of a plan.
 use crate::command::Command;
 
-/// One step of the machine. The number is that of the actor that makes it: a receive queue for its poller, a processor
-/// for its backlog, an application, or a transmit queue, each from 0.
+/// One step of the machine. The number is that of the actor that makes it: a receive queue for its
+/// poller, a processor for its backlog, an application, or a transmit queue, each from 0.
 #[derive(Clone, Copy, Debug, PartialEq, Eq)]
 pub enum Step {
     /// The next packet of the capture enters the ring of its receive queue.
@@ -51,9 +51,11 @@ pub enum Step {
     Drain(u8),
     /// All events of an application in order, each where it is enabled.
     Reply(u8),
-    /// The flow of the packet that an application replies to is recorded, and then all events of the application.
+    /// The flow of the packet that an application replies to is recorded, and then all events of
+    /// the application.
     Serve(u8),
-    /// All events of a transmit queue in order, again until it has nothing in hand and nothing waits.
+    /// All events of a transmit queue in order, again until it has nothing in hand and nothing
+    /// waits.
     Ship(u8),
     /// Rounds of all actors until a round in which all were idle.
     Sweep,

@@ -1,135 +1,141 @@
--- What each status says, from how the command `hash` ended.
-use Rattle.std.proofs.Common.{◌≡◌, ◌≤◌, ◌<◌, ◌⊎◌, ℕ, List, length, Option, Some, None, IfSome, inl, inr, refl, sym, ap, subst, ◌∙◌, arith}
+-- What each status says, from how the call ended.
+use Rattle.std.proofs.Common.{◌≡◌, ◌≢◌, ◌⊎◌, ℕ, List, [], ◌∷◌, Option, Some, None, inl, inr, refl, sym, ap, subst, ◌∙◌, arith}
+use Rattle.std.specs.Prelude.{⊤}
 use Rattle.std.specs.Io.KnownBytes.{Keeps, Appends}
 use Rattle.outside_io.specs.Sink.{AppendsSome}
 use Rattle.pcap_reader.specs.Captures.{HasCapture}
-use Rattle.pcap_reader.specs.declared.capture.Capture.{Capture}
-use Rattle.pcap_reader.specs.declared.fault.CaptureFault.{CaptureFault}
-use Rattle.pcap_reader.specs.declared.fault.CaptureFault.TheVariants as fault
+use Rattle.steer_top.specs.Files.{Files, IsGood, IsBad, Accepted, Refused, IsRefusedOnce, IsNotBoth}
 use Rattle.steer_top.specs.HashText.{capture_text}
-use Rattle.steer_top.specs.Words.{HashWords}
-use Rattle.steer_top.specs.Endings.{Course, DeskFailed, OutFailed, Ends, EndsHash, Gave, GaveNone, most_capture_bytes, status_of, status_of_fault}
+use Rattle.steer_top.specs.Outcomes.{AreTold, Writes, roles_of, told_of}
+use Rattle.steer_top.specs.Words.{CommandWords}
+use Rattle.steer_top.specs.Words.CommandWords.{Hash}
+use Rattle.steer_top.specs.Endings.{Course, DeskFailed, OutFailed, Gave, EndsCommand, IsRefusal}
+use Rattle.steer_top.specs.Endings.{status_of, status_of_refusal}
+use Rattle.steer_top.specs.declared.ending.Role.{Role}
+use Rattle.steer_top.specs.declared.ending.Refusal.{Refusal}
+use Rattle.steer_top.specs.declared.ending.Refusal.TheVariants as refusal
 use Rattle.steer_top.specs.declared.ending.Ending.{Ending}
 use Rattle.steer_top.specs.declared.ending.Ending.TheVariants as ending
 
--- bytes that the desk tells are those that it gave
-told_bytes : (held : Option (List ℕ)) (bytes given : List ℕ) → held ≡ Some bytes → Keeps held (Some given) → given ≡ bytes
-told_bytes None bytes given e k = absurd (cc)
-told_bytes (Some xs) bytes given e k = let same : xs ≡ bytes = cc in k ∙ same
+-- a refusal has a status of refusals, and no other number is one
+is_refusal : (reason : Refusal) → IsRefusal (status_of_refusal reason)
+is_refusal (refusal.Capture f) = inl refl
+is_refusal (refusal.TooLong r) = inr refl
 
--- a fault that is none of memory has status 4, and want of memory has 7
-no_memory : (f : CaptureFault) → f ≡ fault.OutOfMemory → status_of_fault f ≡ 4 → ⊥
-no_memory f e s = let seven : status_of_fault f ≡ 7 = ap status_of_fault e in omega (arith, s, seven)
+no_refusal : (n : ℕ) → n ≢ 4 → n ≢ 8 → IsRefusal n → ⊥
+no_refusal n four eight (inl is) = four is
+no_refusal n four eight (inr is) = eight is
 
-no_capture_told : (held : Option (List ℕ)) (given : List ℕ) (f : CaptureFault) → GaveNone held given f → status_of_fault f ≡ 4
-    → IfSome held (λ bytes. (capture : Capture) → HasCapture bytes capture → ⊥)
-no_capture_told None given f gave s = tt
-no_capture_told (Some xs) given f gave s =
-    λ capture has. no_memory f (gave.no_capture capture (subst (λ l. HasCapture l capture) (sym gave.told) has)) s
+-- a status that is none of refusals is no refusal's
+other_status : {A : Type 0} (reason : Refusal) (n : ℕ) → status_of_refusal reason ≡ n → n ≢ 4 → n ≢ 8 → A
+other_status (refusal.Capture f) n is four eight = absurd (four (sym is))
+other_status (refusal.TooLong r) n is four eight = absurd (eight (sym is))
 
-module _ (words : HashWords) (course : Course) where
-  pub no_capture_hash : (e : Ending) → EndsHash e words course → status_of e ≡ 4
-      → IfSome (course.held words.capture) (λ bytes. (capture : Capture) → HasCapture bytes capture → ⊥)
-  no_capture_hash (ending.Capture f) (given, gave, kept) s = no_capture_told (course.held words.capture) given f gave s
-  no_capture_hash e h s = absurd (omega (arith, s))
+-- bytes that are told are those that were given
+given_is : (told : Option (List ℕ)) (bytes given : List ℕ) → told ≡ Some bytes → Keeps told (Some given) → given ≡ bytes
+given_is None bytes given is kept = absurd (cc)
+given_is (Some xs) bytes given is kept = let same : xs ≡ bytes = cc in kept ∙ same
 
-  -- the capture that the text was written of is the one that the bytes have
-  same_text : (bytes given : List ℕ) (found capture : Capture) → course.held words.capture ≡ Some bytes → HasCapture bytes capture
-      → Gave (course.held words.capture) given found
-      → capture_text words.queues words.kinds given found ≡ capture_text words.queues words.kinds bytes capture
-  same_text bytes given found capture is has gave =
-      let same : given ≡ bytes = told_bytes (course.held words.capture) bytes given is gave.told in
-      let one : found ≡ capture = gave.only capture (subst (λ l. HasCapture l capture) (sym same) has) in
-      rw (same, one) refl
+abbrev Same : List Role → Files → Files → Type 0
+Same [] given told = ⊤
+Same (r ∷ roles) given told = (given r ≡ told r) × Same roles given told
 
-  pub text_hash : (e : Ending) → EndsHash e words course → status_of e ≡ 0 → (bytes : List ℕ) (capture : Capture)
-      → course.held words.capture ≡ Some bytes → HasCapture bytes capture
-      → Appends course.written_before course.written_after (capture_text words.queues words.kinds bytes capture)
-  text_hash ending.Done (given, found, gave, took) s bytes capture is has =
-      subst (Appends course.written_before course.written_after) (same_text bytes given found capture is has gave) took
-  text_hash (ending.Capture (fault.ShortHeader len)) h s bytes capture is has = absurd (omega (arith, s))
-  text_hash (ending.Capture (fault.BadMagic magic)) h s bytes capture is has = absurd (omega (arith, s))
-  text_hash (ending.Capture (fault.BadVersion major minor)) h s bytes capture is has = absurd (omega (arith, s))
-  text_hash (ending.Capture (fault.BadLink link)) h s bytes capture is has = absurd (omega (arith, s))
-  text_hash (ending.Capture (fault.RecordTooLong at len)) h s bytes capture is has = absurd (omega (arith, s))
-  text_hash (ending.Capture fault.TooManyPackets) h s bytes capture is has = absurd (omega (arith, s))
-  text_hash (ending.Capture fault.OutOfMemory) h s bytes capture is has = absurd (omega (arith, s))
-  text_hash e h s bytes capture is has = absurd (omega (arith, s))
+same_files : (tells : Role → Option (List ℕ)) (told given : Files) (roles : List Role)
+    → AreTold tells roles told → Gave tells given → Same roles given told
+same_files tells told given [] all gave = tt
+same_files tells told given (r ∷ roles) (is, all) gave =
+    (given_is (tells r) (told r) (given r) is (gave r), same_files tells told given roles all gave)
 
-  pub part_hash : (e : Ending) → EndsHash e words course → status_of e ≡ 6 → (bytes : List ℕ) (capture : Capture)
-      → course.held words.capture ≡ Some bytes → HasCapture bytes capture
-      → AppendsSome course.written_before course.written_after (capture_text words.queues words.kinds bytes capture)
-  part_hash ending.WriteFault (given, found, gave, failed, took) s bytes capture is has =
-      subst (AppendsSome course.written_before course.written_after) (same_text bytes given found capture is has gave) took
-  part_hash (ending.Capture (fault.ShortHeader len)) h s bytes capture is has = absurd (omega (arith, s))
-  part_hash (ending.Capture (fault.BadMagic magic)) h s bytes capture is has = absurd (omega (arith, s))
-  part_hash (ending.Capture (fault.BadVersion major minor)) h s bytes capture is has = absurd (omega (arith, s))
-  part_hash (ending.Capture (fault.BadLink link)) h s bytes capture is has = absurd (omega (arith, s))
-  part_hash (ending.Capture (fault.RecordTooLong at len)) h s bytes capture is has = absurd (omega (arith, s))
-  part_hash (ending.Capture fault.TooManyPackets) h s bytes capture is has = absurd (omega (arith, s))
-  part_hash (ending.Capture fault.OutOfMemory) h s bytes capture is has = absurd (omega (arith, s))
-  part_hash e h s bytes capture is has = absurd (omega (arith, s))
+same_accepted : (roles : List Role) (given told : Files) → Same roles given told → Accepted roles given → Accepted roles told
+same_accepted [] given told same all = all
+same_accepted (r ∷ roles) given told (is, same) (good, all) = (subst (IsGood r) is good, same_accepted roles given told same all)
 
-  pub complete_hash : (e : Ending) → EndsHash e words course → (bytes : List ℕ) (capture : Capture)
-      → course.held words.capture ≡ Some bytes → length bytes ≤ most_capture_bytes → HasCapture bytes capture
+same_refused : (roles : List Role) (given told : Files) (reason : Refusal) → Same roles given told
+    → Refused roles given reason → Refused roles told reason
+same_refused [] given told reason same refused = refused
+same_refused (r ∷ roles) given told reason (is, same) (inl bad) = inl (subst (λ bytes. IsBad r bytes reason) is bad)
+same_refused (r ∷ roles) given told reason (is, same) (inr (good, later)) =
+    inr (subst (IsGood r) is good, same_refused roles given told reason same later)
+
+same_writes : (command : CommandWords) (given told : Files) (text : List ℕ) → Same (roles_of command) given told
+    → Writes command given text → Writes command told text
+same_writes (Hash words) given told text (same, rest) (capture, has, is) = (
+  capture,
+  subst (λ bytes. HasCapture bytes capture) same has,
+  is ∙ ap (λ bytes. capture_text words.queues words.kinds bytes capture) same,
+)
+
+-- what is true of a command whose files are told
+module _ (once : IsRefusedOnce) (apart : IsNotBoth) (command : CommandWords) (told : Files) (course : Course)
+    (tells : AreTold (told_of course.held command) (roles_of command) told) where
+  same : (files : Files) → Gave (told_of course.held command) files → Same (roles_of command) files told
+  same files gave = same_files (told_of course.held command) told files (roles_of command) tells gave
+
+  pub refuses_of : (e : Ending) → EndsCommand e command course → IsRefusal (status_of e)
+      → (reason : Refusal) × Refused (roles_of command) told reason × (status_of e ≡ status_of_refusal reason)
+  refuses_of (ending.Refuses reason) (files, gave, (refused, kept)) s =
+      (reason, same_refused (roles_of command) files told reason (same files gave) refused, refl)
+  refuses_of ending.Done h s = absurd (no_refusal 0 (omega arith) (omega arith) s)
+  refuses_of ending.Usage h s = absurd (no_refusal 2 (omega arith) (omega arith) s)
+  refuses_of ending.ReadFault h s = absurd (no_refusal 5 (omega arith) (omega arith) s)
+  refuses_of ending.WriteFault h s = absurd (no_refusal 6 (omega arith) (omega arith) s)
+  refuses_of ending.OutOfMemory h s = absurd (no_refusal 7 (omega arith) (omega arith) s)
+
+  pub refused_of : (e : Ending) → EndsCommand e command course → (reason : Refusal) → Refused (roles_of command) told reason
+      → (DeskFailed course → ⊥) → (status_of e ≡ status_of_refusal reason) ⊎ (status_of e ≡ 7)
+  refused_of ending.Done (files, gave, (all, text, is_text, took)) reason is read =
+      absurd (apart (roles_of command) told reason (same_accepted (roles_of command) files told (same files gave) all) is)
+  refused_of ending.Usage (files, gave, by) reason is read = absurd by
+  refused_of (ending.Refuses other) (files, gave, (refused, kept)) reason is read =
+      inl (ap status_of_refusal (once (roles_of command) told other reason (same_refused (roles_of command) files told other (same files gave) refused) is))
+  refused_of ending.ReadFault (files, gave, (at, failed, kept)) reason is read = absurd (read failed)
+  refused_of ending.WriteFault (files, gave, (all, failed, text, is_text, took)) reason is read =
+      absurd (apart (roles_of command) told reason (same_accepted (roles_of command) files told (same files gave) all) is)
+  refused_of ending.OutOfMemory h reason is read = inr refl
+
+  pub complete_of : (e : Ending) → EndsCommand e command course → Accepted (roles_of command) told
       → (DeskFailed course → ⊥) → (OutFailed course → ⊥) → (status_of e ≡ 0) ⊎ (status_of e ≡ 7)
-  complete_hash ending.Done h bytes capture is few has read write = inl refl
-  complete_hash ending.Usage h bytes capture is few has read write = absurd h
-  complete_hash (ending.Capture f) (given, gave, kept) bytes capture is few has read write =
-      let same : given ≡ bytes = told_bytes (course.held words.capture) bytes given is gave.told in
-      inr (ap status_of_fault (gave.no_capture capture (subst (λ l. HasCapture l capture) (sym same) has)))
-  complete_hash ending.ReadFault h bytes capture is few has read write = absurd (read h.0)
-  complete_hash ending.WriteFault (given, found, gave, failed, took) bytes capture is few has read write = absurd (write failed)
-  complete_hash ending.OutOfMemory h bytes capture is few has read write = inr refl
-  complete_hash ending.CaptureTooLong h bytes capture is few has read write =
-      let long : most_capture_bytes < length bytes = rw is at h.0 in
-      absurd (omega (arith, long, few))
+  complete_of ending.Done h all read write = inl refl
+  complete_of ending.Usage (files, gave, by) all read write = absurd by
+  complete_of (ending.Refuses reason) (files, gave, (refused, kept)) all read write =
+      absurd (apart (roles_of command) told reason all (same_refused (roles_of command) files told reason (same files gave) refused))
+  complete_of ending.ReadFault (files, gave, (at, failed, kept)) all read write = absurd (read failed)
+  complete_of ending.WriteFault (files, gave, (good, failed, text, is_text, took)) all read write = absurd (write failed)
+  complete_of ending.OutOfMemory h all read write = inr refl
 
-  -- a fault has status 4 or 7
-  fault_status : (f : CaptureFault) → (status_of_fault f ≡ 4) ⊎ (status_of_fault f ≡ 7)
-  fault_status (fault.ShortHeader len) = inl refl
-  fault_status (fault.BadMagic magic) = inl refl
-  fault_status (fault.BadVersion major minor) = inl refl
-  fault_status (fault.BadLink link) = inl refl
-  fault_status (fault.RecordTooLong at len) = inl refl
-  fault_status fault.TooManyPackets = inl refl
-  fault_status fault.OutOfMemory = inr refl
+  pub accepted_of : (e : Ending) → EndsCommand e command course → status_of e ≡ 0 → Accepted (roles_of command) told
+  accepted_of ending.Done (files, gave, (all, text, is_text, took)) s = same_accepted (roles_of command) files told (same files gave) all
+  accepted_of (ending.Refuses reason) h s = other_status reason 0 s (omega arith) (omega arith)
+  accepted_of ending.Usage h s = absurd (omega (arith, s))
+  accepted_of ending.ReadFault h s = absurd (omega (arith, s))
+  accepted_of ending.WriteFault h s = absurd (omega (arith, s))
+  accepted_of ending.OutOfMemory h s = absurd (omega (arith, s))
 
-  pub refused_hash : (e : Ending) → EndsHash e words course → (bytes : List ℕ) → course.held words.capture ≡ Some bytes
-      → (DeskFailed course → ⊥) → length bytes ≤ most_capture_bytes → ((capture : Capture) → HasCapture bytes capture → ⊥)
-      → (status_of e ≡ 4) ⊎ (status_of e ≡ 7)
-  refused_hash ending.Done (given, found, gave, took) bytes is read few none =
-      let same : given ≡ bytes = told_bytes (course.held words.capture) bytes given is gave.told in
-      absurd (none found (subst (λ l. HasCapture l found) same gave.captured))
-  refused_hash ending.Usage h bytes is read few none = absurd h
-  refused_hash (ending.Capture f) h bytes is read few none = fault_status f
-  refused_hash ending.ReadFault h bytes is read few none = absurd (read h.0)
-  refused_hash ending.WriteFault (given, found, gave, failed, took) bytes is read few none =
-      let same : given ≡ bytes = told_bytes (course.held words.capture) bytes given is gave.told in
-      absurd (none found (subst (λ l. HasCapture l found) same gave.captured))
-  refused_hash ending.OutOfMemory h bytes is read few none = inr refl
-  refused_hash ending.CaptureTooLong h bytes is read few none =
-      let long : most_capture_bytes < length bytes = rw is at h.0 in
-      absurd (omega (arith, long, few))
+  pub text_of : (e : Ending) → EndsCommand e command course → status_of e ≡ 0
+      → (text : List ℕ) × Writes command told text × Appends course.written_before course.written_after text
+  text_of ending.Done (files, gave, (all, text, is_text, took)) s = (text, same_writes command files told text (same files gave) is_text, took)
+  text_of (ending.Refuses reason) h s = other_status reason 0 s (omega arith) (omega arith)
+  text_of ending.Usage h s = absurd (omega (arith, s))
+  text_of ending.ReadFault h s = absurd (omega (arith, s))
+  text_of ending.WriteFault h s = absurd (omega (arith, s))
+  text_of ending.OutOfMemory h s = absurd (omega (arith, s))
 
-  pub longer_hash : (e : Ending) → EndsHash e words course → (bytes : List ℕ) → course.held words.capture ≡ Some bytes
-      → (DeskFailed course → ⊥) → most_capture_bytes < length bytes → (status_of e ≡ 8) ⊎ (status_of e ≡ 7)
-  longer_hash ending.Done (given, found, gave, took) bytes is read long =
-      let same : given ≡ bytes = told_bytes (course.held words.capture) bytes given is gave.told in
-      absurd (omega (arith, long, gave.few, ap length same))
-  longer_hash ending.Usage h bytes is read long = absurd h
-  longer_hash (ending.Capture f) (given, gave, kept) bytes is read long =
-      let same : given ≡ bytes = told_bytes (course.held words.capture) bytes given is gave.told in
-      absurd (omega (arith, long, gave.few, ap length same))
-  longer_hash ending.ReadFault h bytes is read long = absurd (read h.0)
-  longer_hash ending.WriteFault (given, found, gave, failed, took) bytes is read long =
-      let same : given ≡ bytes = told_bytes (course.held words.capture) bytes given is gave.told in
-      absurd (omega (arith, long, gave.few, ap length same))
-  longer_hash ending.OutOfMemory h bytes is read long = inr refl
-  longer_hash ending.CaptureTooLong h bytes is read long = inl refl
+  pub part_of : (e : Ending) → EndsCommand e command course → status_of e ≡ 6
+      → (text : List ℕ) × Writes command told text × AppendsSome course.written_before course.written_after text
+  part_of ending.WriteFault (files, gave, (all, failed, text, is_text, took)) s = (text, same_writes command files told text (same files gave) is_text, took)
+  part_of (ending.Refuses reason) h s = other_status reason 6 s (omega arith) (omega arith)
+  part_of ending.Usage h s = absurd (omega (arith, s))
+  part_of ending.Done h s = absurd (omega (arith, s))
+  part_of ending.ReadFault h s = absurd (omega (arith, s))
+  part_of ending.OutOfMemory h s = absurd (omega (arith, s))
 
--- the same of all words
-pub no_capture_any : (e : Ending) (words : Option HashWords) (course : Course) → Ends e words course → status_of e ≡ 4
-    → IfSome words (λ hash. IfSome (course.held hash.capture) (λ bytes. (capture : Capture) → HasCapture bytes capture → ⊥))
-no_capture_any e None course h s = tt
-no_capture_any e (Some words) course h s = no_capture_hash words course e h s
+  -- an ending with a status of refusals is that of the one reason
+  pub refused_is : (e : Ending) → EndsCommand e command course → IsRefusal (status_of e) → (reason : Refusal)
+      → Refused (roles_of command) told reason → e ≡ ending.Refuses reason
+  refused_is (ending.Refuses other) (files, gave, (refused, kept)) s reason is =
+      ap ending.Refuses (once (roles_of command) told other reason (same_refused (roles_of command) files told other (same files gave) refused) is)
+  refused_is ending.Done h s reason is = absurd (no_refusal 0 (omega arith) (omega arith) s)
+  refused_is ending.Usage h s reason is = absurd (no_refusal 2 (omega arith) (omega arith) s)
+  refused_is ending.ReadFault h s reason is = absurd (no_refusal 5 (omega arith) (omega arith) s)
+  refused_is ending.WriteFault h s reason is = absurd (no_refusal 6 (omega arith) (omega arith) s)
+  refused_is ending.OutOfMemory h s reason is = absurd (no_refusal 7 (omega arith) (omega arith) s)

@@ -1,13 +1,14 @@
 -- A line that is written in pieces.
-use Rattle.std.proofs.Common.{◌≤◌, ◌⊎◌, ℕ, ◌+◌, List, ◌++◌, length, take, Option, Result, Ok, Err, inl, inr, length-append, arith, sym, subst}
+use Rattle.std.proofs.Common.{◌≡◌, ◌<◌, ℕ, ◌+◌, List, [], ◌∷◌, ◌++◌, length, take, drop, get_or, Option, Result, Ok, Err}
+use Rattle.std.proofs.Common.{length-append, append-nil, arith, sym, ap, subst, ◌∙◌}
+use Rattle.std.specs.List.{flat_map}
 use Rattle.std.specs.Prelude.{OnErr}
 use Rattle.std.specs.Io.KnownBytes.{Appends}
 use Rattle.std.proofs.KnownBytes.{Appends-trans}
-use Rattle.std.proofs.lemmas.List.{take-append-le}
+use Rattle.std.proofs.lemmas.List.{take-append-le, take_more, take-append-drop}
+use Rattle.std.proofs.lemmas.Grind.{flat_map-append}
 use Rattle.std.proofs.Math.Seq.{take-append-add}
-use Rattle.outside_io.specs.Counts.{Rose}
 use Rattle.outside_io.specs.Sink.{AppendsSome}
-use Rattle.steer_top.specs.Endings.{Told}
 
 -- a prefix of the first piece is a prefix of the line
 pub AppendsSome-first : (w w' : Option (List ℕ)) (x y : List ℕ) → AppendsSome w w' x → AppendsSome w w' (x ++ y)
@@ -22,18 +23,6 @@ AppendsSome-next w w' w'' x y first (n, within, some) = (
   subst (Appends w w'') (sym (take-append-add x y n)) (Appends-trans w w' w'' x (take n y) first some),
 )
 
--- the first piece failed
-pub Told-first : (f f' : ℕ) (w w' : Option (List ℕ)) (x y : List ℕ) → f ≤ f' → Rose f f' → AppendsSome w w' x → Told f f' w w' (x ++ y)
-Told-first f f' w w' x y later rose some = record { later = later; took = inr (rose, AppendsSome-first w w' x y some) }
-
--- the first piece went out, and what is told of the rest
-pub Told-next : (f f' f'' : ℕ) (w w' w'' : Option (List ℕ)) (x y : List ℕ) → f ≤ f' → Appends w w' x → Told f' f'' w' w'' y → Told f f'' w w'' (x ++ y)
-Told-next f f' f'' w w' w'' x y later first rest = record { later = omega (arith, rest.later); took = both rest.took }
-  where
-    both : Appends w' w'' y ⊎ (Rose f' f'' × AppendsSome w' w'' y) → Appends w w'' (x ++ y) ⊎ (Rose f f'' × AppendsSome w w'' (x ++ y))
-    both (inl whole) = inl (Appends-trans w w' w'' x y first whole)
-    both (inr (rose, some)) = inr (omega (arith, rose, later), AppendsSome-next w w' w'' x y first some)
-
 -- what holds anyhow holds at an error
 pub OnErr-of : {T E : Type 0} (r : Result T E) (P : Type 0) → P → OnErr r P
 OnErr-of (Ok x) P p = tt
@@ -42,3 +31,13 @@ OnErr-of (Err e) P p = p
 pub OnErr-map : {T E : Type 0} (r : Result T E) (P Q : Type 0) → (P → Q) → OnErr r P → OnErr r Q
 OnErr-map (Ok x) P Q f p = tt
 OnErr-map (Err e) P Q f p = f p
+
+-- the pieces so far, the next one, and those behind it
+pub flat_map_split : {X : Type 0} (f : X → List ℕ) (n : ℕ) (xs : List X) (d : X) → n < length xs
+    → (flat_map f (take n xs) ++ f (get_or xs n d)) ++ flat_map f (drop (n + 1) xs) ≡ flat_map f xs
+flat_map_split f n xs d inside =
+    let next : flat_map f (take (n + 1) xs) ≡ flat_map f (take n xs) ++ f (get_or xs n d) =
+    ap (flat_map f) (take_more xs n d inside) ∙ flat_map-append f (take n xs) (get_or xs n d ∷ [])
+    ∙ ap (λ t. flat_map f (take n xs) ++ t) (append-nil (f (get_or xs n d))) in
+    ap (λ t. t ++ flat_map f (drop (n + 1) xs)) (sym next)
+    ∙ sym (flat_map-append f (take (n + 1) xs) (drop (n + 1) xs)) ∙ ap (flat_map f) (take-append-drop (n + 1) xs)

@@ -1,76 +1,96 @@
 -- How a command ends: with which status and which line, and what is true then.
-use Rattle.std.specs.Prelude.{◌≡◌, ◌≢◌, ◌≤◌, ◌<◌, ◌⊎◌, ℕ, List, [], ◌++◌, length, codes, decimal, Option, Some, None, IfSome, ◌==◌, if◌then◌else◌}
+use Rattle.std.specs.Prelude.{◌≡◌, ◌≤◌, ◌<◌, ◌⊎◌, ℕ, List, [], ◌∷◌, ◌++◌, length, codes, decimal, ⊤}
+use Rattle.std.specs.Prelude.{Option, Some, None, IfSome, ◌==◌, if◌then◌else◌}
 use Rattle.std.specs.Io.KnownBytes.{Keeps, Appends}
 use Rattle.outside_io.specs.Counts.{Rose}
 use Rattle.outside_io.specs.Sink.{AppendsSome}
 use Rattle.report.specs.Numbers.{hex8_of}
-use Rattle.pcap_reader.specs.Captures.{HasCapture}
-use Rattle.pcap_reader.specs.Faults.{HasFault}
-use Rattle.pcap_reader.specs.declared.capture.Capture.{Capture}
 use Rattle.pcap_reader.specs.declared.fault.CaptureFault.{CaptureFault}
 use Rattle.pcap_reader.specs.declared.fault.CaptureFault.TheVariants as fault
-use Rattle.steer_top.specs.HashText.{capture_text}
-use Rattle.steer_top.specs.Words.{HashWords}
+use Rattle.steer_top.specs.Files.{Files, Accepted, Refused, limit_of}
+use Rattle.steer_top.specs.Outcomes.{Writes, roles_of, told_of}
+use Rattle.steer_top.specs.Words.{CommandWords}
+use Rattle.steer_top.specs.declared.ending.Role.{Role}
+use Rattle.steer_top.specs.declared.ending.Role.TheVariants as role
+use Rattle.steer_top.specs.declared.ending.Refusal.{Refusal}
+use Rattle.steer_top.specs.declared.ending.Refusal.TheVariants as refusal
 use Rattle.steer_top.specs.declared.ending.Ending.{Ending}
 use Rattle.steer_top.specs.declared.ending.Ending.TheVariants as ending
 
--- the most bytes that a capture may have
-abbrev pub most_capture_bytes : ℕ
-most_capture_bytes = 268435456
+-- how a command ends whose capture has this fault; want of memory is none of the bytes
+abbrev pub ending_of_fault : CaptureFault → Ending
+ending_of_fault (fault.ShortHeader len) = ending.Refuses (refusal.Capture (fault.ShortHeader len))
+ending_of_fault (fault.BadMagic magic) = ending.Refuses (refusal.Capture (fault.BadMagic magic))
+ending_of_fault (fault.BadVersion major minor) =
+    ending.Refuses (refusal.Capture (fault.BadVersion major minor))
+ending_of_fault (fault.BadLink link) = ending.Refuses (refusal.Capture (fault.BadLink link))
+ending_of_fault (fault.RecordTooLong at len) =
+    ending.Refuses (refusal.Capture (fault.RecordTooLong at len))
+ending_of_fault fault.TooManyPackets = ending.Refuses (refusal.Capture fault.TooManyPackets)
+ending_of_fault fault.OutOfMemory = ending.OutOfMemory
 
--- a fault of a capture has status 4, and want of memory has 7
-abbrev pub status_of_fault : CaptureFault → ℕ
-status_of_fault (fault.ShortHeader len) = 4
-status_of_fault (fault.BadMagic magic) = 4
-status_of_fault (fault.BadVersion major minor) = 4
-status_of_fault (fault.BadLink link) = 4
-status_of_fault (fault.RecordTooLong at len) = 4
-status_of_fault fault.TooManyPackets = 4
-status_of_fault fault.OutOfMemory = 7
+-- the status of a refusal
+abbrev pub status_of_refusal : Refusal → ℕ
+status_of_refusal (refusal.Capture f) = 4
+status_of_refusal (refusal.TooLong r) = 8
+
+-- it is a status of refusals, and of nothing else
+abbrev pub IsRefusal : ℕ → Type 0
+IsRefusal status = (status ≡ 4) ⊎ (status ≡ 8)
 
 abbrev pub status_of : Ending → ℕ
 status_of ending.Done = 0
 status_of ending.Usage = 2
-status_of (ending.Capture f) = status_of_fault f
+status_of (ending.Refuses reason) = status_of_refusal reason
 status_of ending.ReadFault = 5
 status_of ending.WriteFault = 6
 status_of ending.OutOfMemory = 7
-status_of ending.CaptureTooLong = 8
 
 abbrev pub usage_line : List ℕ
 usage_line = codes "usage: steer hash CAPTURE [QUEUES [KINDS]] | replay PLAN CAPTURE | run PLAN CAPTURE | gen SEED PACKETS FLOWS | check PLAN CAPTURE REPORT | place RULES CAPTURE\n"
 
 -- the line that names a fault of a capture
 abbrev pub line_of_fault : CaptureFault → List ℕ
-line_of_fault (fault.ShortHeader len) = codes "capture: short header " ++ (decimal len ++ codes "\n")
-line_of_fault (fault.BadMagic magic) = codes "capture: bad magic " ++ (hex8_of magic ++ codes "\n")
-line_of_fault (fault.BadVersion major minor) = codes "capture: bad version " ++ (decimal major ++ (codes " " ++ (decimal minor ++ codes "\n")))
+line_of_fault (fault.ShortHeader len) =
+    codes "capture: short header " ++ (decimal len ++ codes "\n")
+line_of_fault (fault.BadMagic magic) =
+    codes "capture: bad magic " ++ (hex8_of magic ++ codes "\n")
+line_of_fault (fault.BadVersion major minor) =
+    codes "capture: bad version " ++ (decimal major ++ (codes " " ++ (decimal minor ++ codes "\n")))
 line_of_fault (fault.BadLink link) = codes "capture: bad link " ++ (decimal link ++ codes "\n")
-line_of_fault (fault.RecordTooLong at len) = codes "capture: packet " ++ (decimal at ++ (codes " too long " ++ (decimal len ++ codes "\n")))
+line_of_fault (fault.RecordTooLong at len) =
+    codes "capture: packet " ++ (decimal at ++ (codes " too long " ++ (decimal len ++ codes "\n")))
 line_of_fault fault.TooManyPackets = codes "capture: too many packets\n"
 line_of_fault fault.OutOfMemory = codes "out of memory\n"
+
+-- what a file of a role is called
+abbrev pub name_of_role : Role → List ℕ
+name_of_role role.Capture = codes "capture"
+
+-- the line that names a refusal
+abbrev pub line_of_refusal : Refusal → List ℕ
+line_of_refusal (refusal.TooLong r) = name_of_role r ++ codes " too long\n"
+line_of_refusal (refusal.Capture f) = line_of_fault f
 
 -- the line that `err` takes at an ending: none where all is done
 abbrev pub line_of : Ending → List ℕ
 line_of ending.Done = []
 line_of ending.Usage = usage_line
-line_of (ending.Capture f) = line_of_fault f
+line_of (ending.Refuses reason) = line_of_refusal reason
 line_of ending.ReadFault = codes "read fault\n"
 line_of ending.WriteFault = codes "write fault\n"
 line_of ending.OutOfMemory = codes "out of memory\n"
-line_of ending.CaptureTooLong = codes "capture too long\n"
 
--- the line of each status but 4, whose line names the fault
+-- the line of a status that is none of refusals
 abbrev pub line_of_status : ℕ → List ℕ
 line_of_status status =
     if status == 0 then [] else
     if status == 2 then usage_line else
     if status == 5 then codes "read fault\n" else
-    if status == 6 then codes "write fault\n" else
-    if status == 7 then codes "out of memory\n" else codes "capture too long\n"
+    if status == 6 then codes "write fault\n" else codes "out of memory\n"
 
--- what a call met: the bytes that the desk held by name, the counts of faults of the desk and of the sink before and
--- after, and the bytes that the sink had taken before and after
+-- what a call met: the bytes that the desk held by name, the counts of faults of the desk and of
+-- the sink of the text before and after, and the bytes that this sink had taken before and after
 pub record Course : Type 0 where
   pub held : List ℕ → Option (List ℕ)
   pub desk_before : ℕ
@@ -90,44 +110,61 @@ OutFailed course = Rose course.out_before course.out_after
 abbrev pub NothingOut : Course → Type 0
 NothingOut course = Keeps course.written_before course.written_after
 
--- the desk gave these bytes under the name, where it tells them, and they have this capture and no other
-pub record Gave (held : Option (List ℕ)) (bytes : List ℕ) (capture : Capture) : Type 0 where
-  pub told : Keeps held (Some bytes)
-  pub few : length bytes ≤ most_capture_bytes
-  pub captured : HasCapture bytes capture
-  pub only : (other : Capture) → HasCapture bytes other → capture ≡ other
+-- what the desk gave for each file of a command is what it tells, where it tells it
+abbrev pub Gave : (Role → Option (List ℕ)) → Files → Type 0
+Gave told files = (r : Role) → Keeps (told r) (Some (files r))
 
--- the desk gave these bytes under the name, where it tells them, and they have this fault, no other, and no capture,
--- or memory ran out
-pub record GaveNone (held : Option (List ℕ)) (bytes : List ℕ) (f : CaptureFault) : Type 0 where
-  pub told : Keeps held (Some bytes)
-  pub few : length bytes ≤ most_capture_bytes
-  pub has_fault : f ≢ fault.OutOfMemory → HasFault bytes f
-  pub only : (other : CaptureFault) → HasFault bytes other → (f ≡ other) ⊎ (f ≡ fault.OutOfMemory)
-  pub no_capture : (capture : Capture) → HasCapture bytes capture → f ≡ fault.OutOfMemory
+-- a file of these roles could not be read, and those before it are accepted
+abbrev pub IsUnread : List Role → Files → Type 0
+IsUnread roles files =
+    (earlier later : List Role) × (r : Role)
+    × (roles ≡ earlier ++ r ∷ later) × Accepted earlier files
 
--- what is true where the command `hash` ended so
-abbrev pub EndsHash : Ending → HashWords → Course → Type 0
-EndsHash ending.Done words course =
-    (bytes : List ℕ) × (capture : Capture) × Gave (course.held words.capture) bytes capture
-    × Appends course.written_before course.written_after (capture_text words.queues words.kinds bytes capture)
-EndsHash ending.Usage words course = ⊥
-EndsHash (ending.Capture f) words course =
-    (bytes : List ℕ) × GaveNone (course.held words.capture) bytes f × NothingOut course
-EndsHash ending.ReadFault words course = DeskFailed course × NothingOut course
-EndsHash ending.WriteFault words course =
-    (bytes : List ℕ) × (capture : Capture) × Gave (course.held words.capture) bytes capture × OutFailed course
-    × AppendsSome course.written_before course.written_after (capture_text words.queues words.kinds bytes capture)
-EndsHash ending.OutOfMemory words course = NothingOut course
-EndsHash ending.CaptureTooLong words course =
-    IfSome (course.held words.capture) (λ bytes. most_capture_bytes < length bytes) × NothingOut course
+-- what is true at an ending, by the files and the texts that the command may write of them
+abbrev pub EndsBy : List Role → Files → (List ℕ → Type 0) → Ending → Course → Type 0
+EndsBy roles files writes ending.Done course =
+    Accepted roles files
+    × (text : List ℕ) × writes text × Appends course.written_before course.written_after text
+EndsBy roles files writes ending.Usage course = ⊥
+EndsBy roles files writes (ending.Refuses reason) course =
+    Refused roles files reason × NothingOut course
+EndsBy roles files writes ending.ReadFault course =
+    IsUnread roles files × DeskFailed course × NothingOut course
+EndsBy roles files writes ending.WriteFault course =
+    Accepted roles files × OutFailed course
+    × (text : List ℕ) × writes text × AppendsSome course.written_before course.written_after text
+EndsBy roles files writes ending.OutOfMemory course = NothingOut course
+
+-- a command ended so, with files that the desk gave
+abbrev pub EndsCommand : Ending → CommandWords → Course → Type 0
+EndsCommand e command course =
+    (files : Files) × Gave (told_of course.held command) files
+    × EndsBy (roles_of command) files (Writes command files) e course
 
 -- the same of all words: those that are no command end with the usage line
-abbrev pub Ends : Ending → Option HashWords → Course → Type 0
+abbrev pub Ends : Ending → Option CommandWords → Course → Type 0
 Ends e None course = (e ≡ ending.Usage) × NothingOut course
-Ends e (Some words) course = EndsHash e words course
+Ends e (Some command) course = EndsCommand e command course
+
+-- how a command ends that could not read a file of this role: the desk failed, or the file is too
+-- long where its bytes are told, or memory ran out
+abbrev pub EndsUnread : Ending → Role → Option (List ℕ) → ℕ → ℕ → Type 0
+EndsUnread ending.ReadFault r held before after = Rose before after
+EndsUnread (ending.Refuses (refusal.TooLong other)) r held before after =
+    (other ≡ r) × IfSome held (λ bytes. limit_of r < length bytes)
+EndsUnread ending.OutOfMemory r held before after = ⊤
+EndsUnread e r held before after = ⊥
+
+-- a command that was done is so still, or its flush failed; every other ending stays
+pub record Flushes (e e' : Ending) (faults faults' : ℕ) (written written' : Option (List ℕ))
+    : Type 0 where
+  pub ends : (e' ≡ e) ⊎ ((e ≡ ending.Done) × (e' ≡ ending.WriteFault) × Rose faults faults')
+  pub kept : Keeps written written'
+  pub later : faults ≤ faults'
 
 -- a sink took the whole line, or its count of faults rose and it took a prefix of the line
-pub record Told (faults_before faults_after : ℕ) (written_before written_after : Option (List ℕ)) (line : List ℕ) : Type 0 where
-  pub later : faults_before ≤ faults_after
-  pub took : Appends written_before written_after line ⊎ (Rose faults_before faults_after × AppendsSome written_before written_after line)
+pub record Told (faults faults' : ℕ) (written written' : Option (List ℕ)) (line : List ℕ)
+    : Type 0 where
+  pub later : faults ≤ faults'
+  pub took : Appends written written' line
+      ⊎ (Rose faults faults' × AppendsSome written written' line)

@@ -1,5 +1,6 @@
 -- The text of the command `hash`: a line for each packet, and a line that counts them.
-use Rattle.std.specs.Prelude.{ℕ, ◌+◌, List, [], ◌∷◌, ◌++◌, length, codes, decimal, Option, Some, None}
+use Rattle.std.specs.Prelude.{ℕ, ◌+◌, List, [], ◌∷◌, ◌++◌, length, codes, decimal, Option, Some}
+use Rattle.std.specs.Prelude.{None}
 use Rattle.steer_base.specs.declared.flow.Pair.{Pair}
 use Rattle.steer_base.specs.declared.flow.Pair.TheVariants.{V4, V6}
 use Rattle.steer_base.specs.declared.flow.Proto.{Proto}
@@ -35,39 +36,45 @@ unfoldable pub flow_text : Flow → List ℕ
 flow_text Bare = codes "none"
 flow_text (Two pair) = codes "two" ++ version_text pair ++ pair_text pair
 flow_text (Four pair proto sport dport) =
-    proto_text proto ++ version_text pair ++ pair_text pair ++ codes " " ++ decimal sport ++ codes " " ++ decimal dport
+    proto_text proto ++ version_text pair ++ pair_text pair
+    ++ codes " " ++ decimal sport ++ codes " " ++ decimal dport
 
 -- the hash and the entry of the redirection table that it is looked up at
 unfoldable pub hash_text : Option ℕ → List ℕ
 hash_text None = codes " hash - entry -"
-hash_text (Some hash) = codes " hash " ++ hex_digits 8 hash ++ codes " entry " ++ decimal (table_place hash)
+hash_text (Some hash) =
+    codes " hash " ++ hex_digits 8 hash ++ codes " entry " ++ decimal (table_place hash)
 
--- the line of a packet with this number, flow, hash and receive queue
-unfoldable pub packet_line : ℕ → Flow → Option ℕ → ℕ → List ℕ
-packet_line number flow hash queue =
-    codes "packet " ++ decimal number ++ codes " " ++ flow_text flow ++ hash_text hash ++ codes " queue " ++ decimal queue ++ codes "\n"
+-- a packet with this number, flow, hash and receive queue, without a line feed
+unfoldable pub packet_text : ℕ → Flow → Option ℕ → ℕ → List ℕ
+packet_text number flow hash queue =
+    codes "packet " ++ decimal number ++ codes " " ++ flow_text flow ++ hash_text hash
+    ++ codes " queue " ++ decimal queue
 
 -- the line of a frame, by the verification key and these kinds and table
 unfoldable pub frame_line : ℕ → Redirection → ℕ → List ℕ → List ℕ
 frame_line kinds table number frame =
     let hash = hash_of_flow verification_key (flow_of frame) kinds in
-    packet_line number (flow_of frame) hash (queue_of table hash)
+    packet_text number (flow_of frame) hash (queue_of table hash) ++ codes "\n"
 
 -- the lines of these records of a file's bytes, numbered from here on
 unfoldable pub packet_lines : ℕ → Redirection → List ℕ → ℕ → List PcapRecord → List ℕ
 packet_lines kinds table bytes number [] = []
 packet_lines kinds table bytes number (r ∷ rs) =
-    frame_line kinds table number (frame_of bytes r) ++ packet_lines kinds table bytes (number + 1) rs
+    frame_line kinds table number (frame_of bytes r)
+    ++ packet_lines kinds table bytes (number + 1) rs
 
 -- how many packets there are, and how many bytes of a cut one
 unfoldable pub count_line : ℕ → Option ℕ → List ℕ
 count_line packets None = codes "packets " ++ decimal packets ++ codes "\n"
-count_line packets (Some cut) = codes "packets " ++ decimal packets ++ codes " cut " ++ decimal cut ++ codes "\n"
+count_line packets (Some cut) =
+    codes "packets " ++ decimal packets ++ codes " cut " ++ decimal cut ++ codes "\n"
 
 -- the text of a capture, by these kinds and this table
 unfoldable pub hasher_text : ℕ → Redirection → List ℕ → Capture → List ℕ
 hasher_text kinds table bytes capture =
-    packet_lines kinds table bytes 0 capture.records ++ count_line (length capture.records) capture.cut
+    packet_lines kinds table bytes 0 capture.records
+    ++ count_line (length capture.records) capture.cut
 
 -- the text of a capture, with the even table over so many queues
 abbrev pub capture_text : ℕ → ℕ → List ℕ → Capture → List ℕ

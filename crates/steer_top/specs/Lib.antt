@@ -1,5 +1,7 @@
 pub mod Words
 pub mod Commands
+pub mod Files
 pub mod HashText
 pub mod Hashers
+pub mod Outcomes
 pub mod Endings

@@ -1,6 +1,9 @@
 -- The words of the command line, without the program's name.
-use Rattle.std.specs.Prelude.{ℕ, List, [], ◌∷◌, Bool, false, not, ◌&&◌, ◌==◌, nat_lt, nat_le, length, Option, Some, None, if◌then◌else◌, bytes_eq, codes, String, string_bytes, map}
+use Rattle.std.specs.Prelude.{ℕ, List, [], ◌∷◌, Bool, false, not, ◌&&◌, ◌==◌, nat_lt, nat_le}
+use Rattle.std.specs.Prelude.{length, Option, Some, None, if◌then◌else◌, bytes_eq, codes, String}
+use Rattle.std.specs.Prelude.{string_bytes, map}
 use Rattle.std.specs.declared.alloc.Global.{Global}
+use Rattle.std.specs.Option.{option_map}
 use Rattle.std.specs.Str.{all_ascii_digits}
 use Rattle.std.specs.Str.Parse.{digits_value}
 
@@ -36,20 +39,29 @@ abbrev pub hash_with : List ℕ → Option ℕ → Option ℕ → Option HashWor
 hash_with capture None kinds = None
 hash_with capture (Some queues) None = None
 hash_with capture (Some queues) (Some kinds) =
-    if is_name capture then Some (record { capture = capture; queues = queues; kinds = kinds }) else None
+    if is_name capture
+    then Some (record { capture = capture; queues = queues; kinds = kinds })
+    else None
 
--- what stands behind the word `hash`: CAPTURE [QUEUES [KINDS]], with 4 queues and all kinds where they are not given
+-- what stands behind the word `hash`: CAPTURE [QUEUES [KINDS]], with 4 queues and all kinds where
+-- they are not given
 unfoldable pub hash_arguments : List (List ℕ) → Option HashWords
 hash_arguments [] = None
 hash_arguments (capture ∷ []) = hash_with capture (Some 4) (Some 63)
 hash_arguments (capture ∷ queues ∷ []) = hash_with capture (number_within 1 16 queues) (Some 63)
-hash_arguments (capture ∷ queues ∷ kinds ∷ []) = hash_with capture (number_within 1 16 queues) (number_within 0 63 kinds)
+hash_arguments (capture ∷ queues ∷ kinds ∷ []) =
+    hash_with capture (number_within 1 16 queues) (number_within 0 63 kinds)
 hash_arguments (capture ∷ queues ∷ kinds ∷ more ∷ rest) = None
 
--- the command that the words are, if they are one
-abbrev pub command_of_words : List (List ℕ) → Option HashWords
-command_of_words [] = None
-command_of_words (word ∷ rest) = if bytes_eq word (codes "hash") then hash_arguments rest else None
+-- a command with its numbers and the names of its files
+pub data CommandWords : Type 0 where
+  Hash : HashWords → CommandWords
 
-abbrev pub command_of : List (String Global) → Option HashWords
+-- the command that the words are, if they are one
+abbrev pub command_of_words : List (List ℕ) → Option CommandWords
+command_of_words [] = None
+command_of_words (word ∷ rest) =
+    if bytes_eq word (codes "hash") then option_map Hash (hash_arguments rest) else None
+
+abbrev pub command_of : List (String Global) → Option CommandWords
 command_of words = command_of_words (map (λ word. string_bytes word) words)

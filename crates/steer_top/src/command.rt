@@ -1,6 +1,13 @@
 //! The commands of the program.
 ghost use Rattle.std.specs.Prelude.{◌≤◌};
 
+/// A command with its arguments.
+#[derive(Drop)]
+pub enum Command<'a> {
+    /// The flow, the hash and the queue of each packet of a capture.
+    Hash(HashCommand<'a>),
+}
+
 /// The command `hash` with its arguments.
 #[derive(Drop)]
 pub struct HashCommand<'a> {

@@ -1,21 +1,72 @@
 //! How a command ends.
+ghost use Rattle.std.specs.Prelude.{◌≡◌, ◌≤◌};
+ghost use Rattle.steer_top.specs.Files.{limit_of};
+ghost use Rattle.steer_top.specs.Endings.{ending_of_fault, name_of_role};
+
 use pcap_reader::CaptureFault;
 
-/// What a command came to. Each ending has one status and one line.
+/// What a file of a command is read as.
 #[derive(Clone, Copy, Debug, PartialEq, Eq)]
+pub enum Role {
+    /// A capture of packets.
+    Capture,
+}
+
+impl Role {
+    /// The most bytes that such a file may have.
+    pub fn limit(self) -> usize
+        ensures value { result ≡ limit_of self }
+        ensures few { result ≤ 268435456 }
+    {
+        match self {
+            Role::Capture => 268_435_456,
+        }
+    }
+
+    /// What such a file is called.
+    pub fn name(self) -> &'static [u8]
+        ensures { result.now ≡ name_of_role self }
+    {
+        match self {
+            Role::Capture => b"capture",
+        }
+    }
+}
+
+/// Why a file is refused.
+#[derive(Debug, Drop)]
+pub enum Refusal {
+    /// It has more bytes than a file of its role may have.
+    TooLong(Role),
+    /// It is no capture, by this fault.
+    Capture(CaptureFault),
+}
+
+/// What a command came to. Each ending has one status and one line.
+#[derive(Debug, Drop)]
 pub enum Ending {
-    /// All was done and written.
+    /// All was done, written and sent on.
     Done,
     /// The words are no command.
     Usage,
-    /// The file is no capture, or there was no memory for its records.
-    Capture(CaptureFault),
+    /// A file was refused.
+    Refuses(Refusal),
     /// The desk failed.
     ReadFault,
     /// The sink of the text failed.
     WriteFault,
     /// There was no memory.
     OutOfMemory,
-    /// The file has more bytes than a capture may have.
-    CaptureTooLong,
+}
+
+impl Ending {
+    /// How a command ends that got no capture of its bytes: refused, or for want of memory.
+    pub fn of_fault(fault: CaptureFault) -> Ending
+        ensures { result ≡ ending_of_fault fault }
+    {
+        match fault {
+            CaptureFault::OutOfMemory => Ending::OutOfMemory,
+            fault => Ending::Refuses(Refusal::Capture(fault)),
+        }
+    }
 }

@@ -2,24 +2,24 @@
 ghost use Rattle.std.specs.Prelude.{◌≡◌, ◌≤◌, [], ℕ, List, length, All, OnOk, OnErr};
 ghost use Rattle.std.specs.Io.KnownBytes.{Appends};
 ghost use Rattle.outside_io.specs.Counts.{Rose};
+ghost use Rattle.outside_io.specs.Desk.{GoesOnTelling};
 ghost use Rattle.outside_io.specs.Sink.{AppendsSome};
 ghost use Rattle.pcap_reader.specs.Captures.{IsWithin};
-ghost use Rattle.steer_top.specs.Commands.{words_of};
-ghost use Rattle.steer_top.specs.Endings.{EndsHash};
+ghost use Rattle.steer_top.specs.Commands.{hash_words_of};
+ghost use Rattle.steer_top.specs.Endings.{EndsCommand};
 ghost use Rattle.steer_top.specs.Hashers.{IsVerified};
 ghost use Rattle.steer_top.specs.HashText.{packet_lines, hasher_text};
+ghost use Rattle.steer_top.specs.Words.CommandWords.{Hash};
 
 use crate::command::HashCommand;
-use crate::ending::Ending;
+use crate::ending::{Ending, Role};
+use crate::file::read_file;
 use crate::hash_line::push_count;
 use crate::hasher::Hasher;
-use outside_io::{Desk, ReadWhole, Sink, WriteFault, read_whole};
+use outside_io::{Desk, Sink, WriteFault};
 use pcap_reader::{Capture, PcapRecord, read_capture};
 use report::LineBuf;
 use std::alloc::Global;
-
-/// The most bytes that a capture may have.
-const MAX_CAPTURE: usize = 268_435_456;
 
 /// Reads the capture, takes all memory, and writes the text.
 pub fn hash_file<D: Desk, K: Sink>(
@@ -28,7 +28,7 @@ pub fn hash_file<D: Desk, K: Sink>(
     desk: &mut D,
     out: &mut K,
 ) -> Ending
-    ensures { EndsHash result (words_of command.now) (record {
+    ensures ends { EndsCommand result (Hash (hash_words_of command.now)) (record {
       held = D.held desk.old;
       desk_before = D.faults desk.old;
       desk_after = D.faults desk.new;
@@ -37,16 +37,19 @@ pub fn hash_file<D: Desk, K: Sink>(
       written_before = K.written out.old;
       written_after = K.written out.new;
     }) }
+
+    ensures held { D.held desk.new ≡ D.held desk.old }
+    ensures told { GoesOnTelling (D.left desk.old) (D.left desk.new) }
+    ensures desk_later { D.faults desk.old ≤ D.faults desk.new }
+    ensures out_later { K.faults out.old ≤ K.faults out.new }
 {
-    let bytes = match read_whole(alloc, desk, command.capture, MAX_CAPTURE) {
+    let bytes = match read_file(alloc, Role::Capture, command.capture, desk) {
         Ok(bytes) => bytes,
-        Err(ReadWhole::Fault) => return Ending::ReadFault,
-        Err(ReadWhole::TooLong) => return Ending::CaptureTooLong,
-        Err(ReadWhole::OutOfMemory) => return Ending::OutOfMemory,
+        Err(ending) => return ending,
     };
     let capture = match read_capture(alloc, &bytes) {
         Ok(capture) => capture,
-        Err(fault) => return Ending::Capture(fault),
+        Err(fault) => return Ending::of_fault(fault),
     };
     let Ok(hasher) = Hasher::make(alloc, command.queues, command.kinds) else {
         return Ending::OutOfMemory;
@@ -77,6 +80,7 @@ fn write_text<K: Sink>(
     ensures part { OnErr result (AppendsSome (K.written out.old) (K.written out.new)
         (hasher_text hasher.now.kinds.0 hasher.now.table bytes.now capture.now)) }
     ensures fault { OnErr result (Rose (K.faults out.old) (K.faults out.new)) }
+    ensures later { K.faults out.old ≤ K.faults out.new }
 {
     write_packets(hasher, bytes, capture.records.as_slice(), line, out)?;
     push_count(line, capture.records.len() as u64, capture.cut);

@@ -1,8 +1,9 @@
 //! The lines of the command `hash`.
 ghost use Rattle.std.specs.Prelude.{◌≡◌, ◌≤◌, ◌+◌, ◌++◌, ◌^◌, ◌<◌, [], length};
-ghost use Rattle.steer_top.specs.HashText.{version_text, pair_text, proto_text, flow_text, hash_text, packet_line, count_line};
+ghost use Rattle.steer_top.specs.HashText.{version_text, pair_text, proto_text, flow_text};
+ghost use Rattle.steer_top.specs.HashText.{hash_text, packet_text, count_line};
 
-use report::LineBuf;
+use report::{LineBuf, hex8};
 use steer_base::{Flow, Pair, Proto, RxQueue};
 
 #[tactic(auto, unfolding(crate::specs::HashText::version_text))]
@@ -25,9 +26,9 @@ fn push_pair(line: &mut LineBuf, pair: Pair)
 {
     match pair {
         Pair::V4 { src, dst } => {
-            line.push_hex(u128::from(src), 8);
+            line.push(&hex8(src));
             line.push(b" ");
-            line.push_hex(u128::from(dst), 8);
+            line.push(&hex8(dst));
         }
         Pair::V6 { src, dst } => {
             line.push_hex(src, 32);
@@ -86,18 +87,19 @@ pub fn push_hash(line: &mut LineBuf, hash: Option<u32>)
         None => line.push(b" hash - entry -"),
         Some(hash) => {
             line.push(b" hash ");
-            line.push_hex(u128::from(hash), 8);
+            line.push(&hex8(hash));
             line.push(b" entry ");
             line.push_decimal(u64::from(hash % 128));
         }
     }
 }
 
-/// Puts the whole line of a packet in an empty line.
-#[tactic(auto, unfolding(crate::specs::HashText::packet_line))]
+/// Puts the text of a packet in an empty line, without a line feed.
+#[tactic(auto, unfolding(crate::specs::HashText::packet_text))]
 pub fn push_packet(line: &mut LineBuf, number: u64, flow: Flow, hash: Option<u32>, queue: RxQueue)
     requires { line.old ≡ [] }
-    ensures { line.new ≡ packet_line number flow hash queue }
+    ensures value { line.new ≡ packet_text number flow hash queue }
+    ensures grows { length line.new ≤ 300 }
 {
     line.push(b"packet ");
     line.push_decimal(number);
@@ -106,7 +108,6 @@ pub fn push_packet(line: &mut LineBuf, number: u64, flow: Flow, hash: Option<u32
     push_hash(line, hash);
     line.push(b" queue ");
     line.push_decimal(u64::from(queue.0));
-    line.push(b"\n");
 }
 
 /// Puts the line that counts the packets in an empty line.

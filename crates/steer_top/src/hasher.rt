@@ -48,5 +48,6 @@ impl Hasher {
         let flow = dissect(frame);
         let hash = self.key.hash(&flow, self.kinds);
         push_packet(line, number, flow, hash, self.table.queue(hash));
+        line.push(b"\n");
     }
 }

@@ -3,18 +3,19 @@
 
 mod command;
 mod ending;
+mod file;
 #[cfg(test)]
 mod frames;
 mod hash_command;
 mod hash_line;
 mod hasher;
+mod laws;
 #[cfg(test)]
 mod rows;
 mod status;
-mod sure;
 mod telling;
 mod top;
 mod words;
 
-pub use sure::steer_surely;
+pub use laws::a_call_is_decided;
 pub use top::steer_still;

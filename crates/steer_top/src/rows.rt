@@ -6,8 +6,10 @@ use crate::frames::{
     ARP, FRAGMENT, FRAME_A, FRAME_B, HEADER, NG_HEADER, OTHER_LINK, SYN, TAGGED_V6, VERSION_2_5,
     big_file, file, tcpdump_file,
 };
-use crate::{steer_still, steer_surely};
-use outside_io::{Begin, Desk, Got, MemoryDesk, MemorySink, Sink, SureDesk, SureSink, Took};
+use crate::steer_still;
+use outside_io::{
+    Begin, Desk, Got, MemoryDesk, MemorySink, Sink, SureDesk, SureSink, Took, WriteFault,
+};
 use std::alloc::Global;
 use std::test::Fail;
 
@@ -215,7 +217,7 @@ fn a_sure_desk_and_sure_sinks_serve(rt: HostRuntime) -> Result<(), Fail> {
     let mut err = SureSink::make();
     let words = words(alloc, &["hash", "a.pcap"])?;
     assert_eq!(rt;
-        steer_surely(alloc, &words, &mut desk, &mut out, &mut err),
+        steer_still(alloc, &words, &mut desk, &mut out, &mut err),
         0
     );
     assert_eq!(rt; out.count(), 84);
@@ -273,7 +275,8 @@ fn a_file_that_is_too_long_is_refused(rt: HostRuntime) -> Result<(), Fail> {
     Ok(())
 }
 
-// A desk that gives one byte a read, and a sink that takes one byte a write; neither tells its bytes.
+// A desk that gives one byte a read, and a sink that takes one byte a write; neither tells its
+// bytes.
 #[derive(Drop)]
 struct Slowly {
     file: Vec<u8>,
@@ -339,5 +342,57 @@ fn one_byte_at_a_time_gives_the_same_text(rt: HostRuntime) -> Result<(), Fail> {
     assert_eq!(rt; status, 0);
     assert_eq!(rt; out.inner.bytes(), LINE_A);
     assert!(rt; err.bytes().is_empty());
+    Ok(())
+}
+
+// A sink that counts its flushes, all of which fail where it is told so. It tells no bytes.
+#[derive(Drop)]
+struct Flushed {
+    inner: MemorySink,
+    flushes: u64,
+    fails: bool,
+}
+
+impl Sink for Flushed {
+    ghost written = { λ _. None };
+
+    ghost faults = { λ _. last_count };
+
+    fn write(&mut self, bytes: &[u8]) -> Took {
+        self.inner.write(bytes)
+    }
+
+    fn flush(&mut self) -> Result<(), WriteFault> {
+        self.flushes = self.flushes.saturating_add(1);
+        if self.fails { Err(WriteFault) } else { Ok(()) }
+    }
+}
+
+#[test]
+fn a_text_is_flushed_once_and_a_flush_may_fail(rt: HostRuntime) -> Result<(), Fail> {
+    let alloc = rt.alloc();
+    let bytes = file(alloc, &[&FRAME_A])?;
+    let cases: [(&[u8], bool, u8, u64); 3] = [
+        (&bytes, false, 0, 1),
+        (&bytes, true, 6, 1),
+        (&HEADER[..23], true, 4, 0),
+    ];
+    for (case, (bytes, fails, wanted, flushes)) in cases.into_iter().enumerate() {
+        let mut desk = desk_with(alloc, bytes, &[])?;
+        let mut out = Flushed {
+            inner: sink(alloc, &[])?,
+            flushes: 0,
+            fails,
+        };
+        let mut err = sink(alloc, &[])?;
+        let words = words(alloc, &["hash", "a.pcap"])?;
+        let status = steer_still(alloc, &words, &mut desk, &mut out, &mut err);
+        assert_eq!(rt; status, wanted, "case {case}");
+        assert_eq!(rt; out.flushes, flushes, "case {case}");
+        if wanted == 6 {
+            assert_eq!(rt; out.inner.bytes(), LINE_A);
+            assert_eq!(rt; err.bytes(), b"write fault\n".as_slice());
+        }
+    }
     Ok(())
 }

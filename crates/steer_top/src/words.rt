@@ -1,11 +1,13 @@
 //! The words of the command line.
 ghost use Rattle.std.specs.Prelude.{◌≡◌, ◌≤◌, Some, None, IfSome, map, string_bytes};
 ghost use Rattle.std.specs.Option.{option_map};
-ghost use Rattle.steer_top.specs.Commands.{words_of};
+ghost use Rattle.steer_top.specs.Commands.{hash_words_of, words_of};
 ghost use Rattle.std.specs.Str.{all_ascii_digits};
-ghost use Rattle.steer_top.specs.Words.{command_of, hash_with as hash_words, hash_arguments as the_arguments, is_name as names_a_file, number_of, number_within as the_number_within};
+ghost use Rattle.steer_top.specs.Words.{command_of, hash_with as hash_words};
+ghost use Rattle.steer_top.specs.Words.{hash_arguments as the_arguments, is_name as names_a_file};
+ghost use Rattle.steer_top.specs.Words.{number_of, number_within as the_number_within};
 
-use crate::command::HashCommand;
+use crate::command::{Command, HashCommand};
 
 /// The most digits that a number may have.
 const MAX_DIGITS: usize = 20;
@@ -60,7 +62,7 @@ fn hash_with<'a>(
 ) -> Option<HashCommand<'a>>
     requires queues { IfSome queues (λ n. (1 ≤ n) × (n ≤ 16)) }
     requires kinds { IfSome kinds (λ n. n ≤ 63) }
-    ensures { option_map words_of result ≡ hash_words capture.now queues kinds }
+    ensures { option_map hash_words_of result ≡ hash_words capture.now queues kinds }
 {
     let queues = queues? as u8;
     let kinds = kinds? as u8;
@@ -78,7 +80,8 @@ fn hash_with<'a>(
 // What stands behind the word `hash`.
 #[tactic(auto, unfolding(crate::specs::Words::hash_arguments))]
 fn hash_arguments(words: &[String]) -> Option<HashCommand<'_>>
-    ensures { option_map words_of result ≡ the_arguments (map (λ word. string_bytes word) words.now) }
+    ensures { option_map hash_words_of result ≡
+        the_arguments (map (λ word. string_bytes word) words.now) }
 {
     match words {
         [capture] => hash_with(capture.as_str(), Some(4), Some(63)),
@@ -97,11 +100,11 @@ fn hash_arguments(words: &[String]) -> Option<HashCommand<'_>>
 }
 
 /// The command that the words are, without the program's name, if they are one.
-pub fn command_of_words(words: &[String]) -> Option<HashCommand<'_>>
+pub fn command_of_words(words: &[String]) -> Option<Command<'_>>
     ensures { option_map words_of result ≡ command_of words.now }
 {
     match words {
-        [word, rest @ ..] if word.as_str() == "hash" => hash_arguments(rest),
+        [word, rest @ ..] if word.as_str() == "hash" => Some(Command::Hash(hash_arguments(rest)?)),
         _ => None,
     }
 }

@@ -1,4 +1,5 @@
--- The maps of transmit packet steering (kernel scaling chapter, section XPS: `xps_cpus` and `xps_rxqs`).
+-- The maps of transmit packet steering (kernel scaling chapter, section XPS: `xps_cpus` and
+-- `xps_rxqs`).
 use Rattle.std.specs.Prelude.{ℕ, Bool, List, Option, slice_index, slice_index_or, replicate}
 use Rattle.steer_base.specs.Sends.{pick_of}
 use Rattle.steer_base.specs.Sets.{has, has_queue}
@@ -15,7 +16,8 @@ no_cpus = record { 0 = 0 }
 
 -- so many transmit queues whose maps are empty
 abbrev pub empty_maps : ℕ → Maps
-empty_maps count = record { count = count; cpus = replicate count no_cpus; queues = replicate count 0 }
+empty_maps count =
+    record { count = count; cpus = replicate count no_cpus; queues = replicate count 0 }
 
 -- whether the receive-queue map of a transmit queue has a receive queue
 abbrev pub serves_queue : Maps → ℕ → ℕ → Bool

@@ -9,8 +9,8 @@ use steer_base::{Cpu, CpuMask, RxQueue, TxQueue};
 
 const MOST: usize = 32;
 
-/// For each of 1 to 32 transmit queues the processors and the receive queues that are mapped to it (kernel scaling
-/// chapter, section XPS: `xps_cpus` and `xps_rxqs`).
+/// For each of 1 to 32 transmit queues the processors and the receive queues that are mapped to it
+/// (kernel scaling chapter, section XPS: `xps_cpus` and `xps_rxqs`).
 #[derive(Drop)]
 pub struct XpsMaps {
     count: u8,
@@ -24,7 +24,11 @@ impl Model for XpsMaps {
 
     ghost Value = { Maps };
 
-    ghost view = { λ m. record { count = m.count; cpus = take m.count m.cpus; queues = take m.count m.queues } };
+    ghost view = { λ m. record {
+      count = m.count;
+      cpus = take m.count m.cpus;
+      queues = take m.count m.queues;
+    } };
 
     ghost invariant = { λ m. (0 < m.count) × (m.count ≤ 32) };
 }
@@ -79,9 +83,10 @@ impl XpsMaps {
         self.queues[usize::from(tx.0)] = mask;
     }
 
-    /// The transmit queue of a packet that came by `rxq` and is sent from `cpu`. The candidates, ascending, are the
-    /// transmit queues whose receive-queue map has `rxq`; with none, those whose processor map has `cpu`; with none of
-    /// these either, all. Of `k` candidates it is the one at index `hash mod k`, and the first without a hash.
+    /// The transmit queue of a packet that came by `rxq` and is sent from `cpu`. The candidates,
+    /// ascending, are the transmit queues whose receive-queue map has `rxq`; with none, those whose
+    /// processor map has `cpu`; with none of these either, all. Of `k` candidates it is the one at
+    /// index `hash mod k`, and the first without a hash.
     pub fn pick(&self, rxq: RxQueue, cpu: Cpu, hash: Option<u32>) -> TxQueue
         ensures value { result ≡ picked self.now rxq cpu hash }
         ensures within { result < self.now.count }

@@ -2,7 +2,8 @@
 ghost use Rattle.std.specs.Prelude.{◌≡◌, ◌<◌, false, length};
 ghost use Rattle.steer_base.specs.Counters.{rounded_up};
 ghost use Rattle.hop_core.specs.Events.{MayArrive, MayDeliver, MayResize, MayWeigh};
-ghost use Rattle.hop_core.specs.Events.{close, deliver, enter, leave, pull, put, retire, take, weigh};
+ghost use Rattle.hop_core.specs.Events.{close, deliver, enter, leave, pull, put, retire, take};
+ghost use Rattle.hop_core.specs.Events.{weigh};
 ghost use Rattle.hop_core.specs.Hop.{arrived, resized, with_bare, with_closed};
 ghost use Rattle.hop_core.specs.declared.event.HopAnswer.TheVariants as answer;
 
@@ -86,11 +87,9 @@ impl Hop {
         if !self.gate.visits[p as usize] {
             return HopAnswer::Idle(Idle::NotInside);
         }
-        let count = self.rings.choices.len_of(p);
-        if count >= self.rings.taken[p as usize] {
+        let Some(id) = self.to_weigh(p) else {
             return HopAnswer::Idle(Idle::WrongStage);
-        }
-        let id = self.rings.arrivals.get(p, count);
+        };
         let choice = self
             .tables
             .choose(&self.hands.retired, p, class, want, desired, online);

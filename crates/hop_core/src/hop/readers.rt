@@ -2,7 +2,8 @@
 ghost use Rattle.std.specs.Prelude.{◌≡◌, ◌↔◌, ℕ, ◌-◌, ◌<◌, IsOk, length, slice_get, slice_index};
 ghost use Rattle.steer_base.specs.Choices.{class_of};
 ghost use Rattle.hop_core.specs.Emptied.{AreEmptied, emptied};
-ghost use Rattle.hop_core.specs.Hop.{accepted_at, choices_of, delivered_at, drops_at, head_at, inside_of};
+ghost use Rattle.hop_core.specs.Hop.{accepted_at, choices_of, delivered_at, drops_at, head_at};
+ghost use Rattle.hop_core.specs.Hop.{inside_of};
 ghost use Rattle.hop_core.specs.Hop.{out_at, placed_of, pulled_at, retired_at, tail_at, taken_of};
 ghost use Rattle.hop_core.specs.Reads.{last_choice, to_deliver, to_put, to_weigh};
 
@@ -10,7 +11,8 @@ use crate::hop::Hop;
 use steer_base::{Busy, Chosen, CpuMask, LaneDrop, PacketId};
 
 impl Hop {
-    /// Whether each of these lanes is empty; else the first one that is not, with the numbers of its head and tail.
+    /// Whether each of these lanes is empty; else the first one that is not, with the numbers of
+    /// its head and tail.
     pub fn emptied(&self, lanes: CpuMask) -> Result<(), Busy>
         ensures answer { result ≡ emptied self.now lanes }
         ensures ok { IsOk result ↔ AreEmptied self.now lanes }
@@ -103,7 +105,8 @@ impl Hop {
         self.lanes.get(lane, n)
     }
 
-    /// The packets that a lane dropped, oldest first, each with the counts and the cause of its drop.
+    /// The packets that a lane dropped, oldest first, each with the counts and the cause of its
+    /// drop.
     pub fn drops(&self, lane: u8) -> &[LaneDrop]
         requires { lane < length self.now.bare.accepted }
         ensures { result.now ≡ drops_at self.now.bare lane }

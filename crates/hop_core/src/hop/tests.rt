@@ -1,4 +1,5 @@
-//! Hops that are played by worked traces, with the choices, positions and answers that they must give.
+//! Hops that are played by worked traces, with the choices, positions and answers that they must
+//! give.
 ghost use Rattle.std.specs.Prelude.{◌≡◌, ℕ, ◌<◌, ◌≤◌, ◌≢◌, false, IsTrue, length, slice_index};
 ghost use Rattle.steer_base.specs.Sets.{has};
 ghost use Rattle.hop_core.specs.Events.{IsClassBelow, IsEmptied, MayAsk};
@@ -11,7 +12,8 @@ use std::process::Abort;
 use std::test::Fail;
 use steer_base::{Busy, Choice, Chosen, CpuMask, DropCause, Idle, OutOfMemory, PacketId, Put, Why};
 
-// The hashes of the flow 66.9.149.187:2794 to 161.142.100.80:1766 and of its neighbour in Microsoft's vectors, both TCP.
+// The hashes of the flow 66.9.149.187:2794 to 161.142.100.80:1766 and of its neighbour in
+// Microsoft's vectors, both TCP.
 const FIRST: u32 = 0x51cc_c178;
 
 const SECOND: u32 = 0xc626_b0ea;
@@ -20,7 +22,8 @@ const ALL: CpuMask = CpuMask(0b1111);
 
 // Whether the packet is new to the hop.
 fn is_new(hop: &Hop, id: PacketId) -> bool
-    ensures { IsTrue result → (q i : ℕ) → i < length (arrivals_of hop.now q) → slice_index (arrivals_of hop.now q) i ≢ id }
+    ensures { IsTrue result → (q i : ℕ) → i < length (arrivals_of hop.now q)
+        → slice_index (arrivals_of hop.now q) i ≢ id }
 {
     for p in 0..hop.rings.taken.len() {
         for n in 0..hop.rings.arrivals.len_of(p as u8) {
@@ -34,7 +37,8 @@ fn is_new(hop: &Hop, id: PacketId) -> bool
 
 // Whether each lane that is offline is empty.
 fn is_empty_but(hop: &Hop, online: CpuMask) -> bool
-    ensures { IsTrue result → (c : ℕ) → c < length hop.now.bare.accepted → has online c ≡ false → IsEmptied hop.now.bare c }
+    ensures { IsTrue result → (c : ℕ) → c < length hop.now.bare.accepted → has online c ≡ false
+        → IsEmptied hop.now.bare c }
 {
     for lane in 0..hop.lanes.count() {
         let (head, tail) = (hop.head(lane), hop.tail(lane));
@@ -47,7 +51,8 @@ fn is_empty_but(hop: &Hop, online: CpuMask) -> bool
 
 // Whether each lane is empty.
 fn is_empty(hop: &Hop) -> bool
-    ensures { IsTrue result → (c : ℕ) → c < length hop.now.bare.accepted → IsEmptied hop.now.bare c }
+    ensures { IsTrue result → (c : ℕ) → c < length hop.now.bare.accepted
+        → IsEmptied hop.now.bare c }
 {
     for lane in 0..hop.lanes.count() {
         let (head, tail) = (hop.head(lane), hop.tail(lane));
@@ -174,7 +179,7 @@ fn drain(rt: &impl Abort, hop: &mut Hop, lane: u8, id: u32, place: u32) {
     play(rt, hop, &turns);
 }
 
-// A receive queue with so many classes, four processors and one application.
+// A receive queue with `classes` classes, four processors and one application.
 fn receive_hop(
     alloc: Global,
     classes: u32,
@@ -460,9 +465,10 @@ fn a_lane_is_empty_where_its_head_is_its_tail(rt: HostRuntime) -> Result<(), Fai
     Ok(())
 }
 
-// Where a put of 200 packets of one flow, and of one of another behind them, leaves the packet of this number, where none
-// is pulled. The first 151 are accepted. From then on more than half of the limit of 300 waits, and the flow has more
-// than 128 of the last offers: so the others of it are dropped where the lane is limited.
+// Where a put of 200 packets of one flow, and of one of another behind them, leaves the packet of
+// this number, where none is pulled. The first 151 are accepted. From then on more than half of the
+// limit of 300 waits, and the flow has more than 128 of the last offers: so the others of it are
+// dropped where the lane is limited.
 fn put_of(id: u32, limited: bool) -> Put {
     let position = id.saturating_add(1);
     match id {
@@ -543,7 +549,8 @@ fn the_largest_hop_is_made(rt: HostRuntime) -> Result<(), Fail> {
     Ok(())
 }
 
-// What is read of a hop in which one packet is in the hand of lane 1 and the next one in that of the producer.
+// What is read of a hop in which one packet is in the hand of lane 1 and the next one in that of
+// the producer.
 fn shows_its_hands(rt: &impl Abort, hop: &Hop, choice: Choice)
     requires producer { 0 < length hop.now.arrivals }
     requires actor { 0 < length hop.now.visits }
@@ -552,8 +559,10 @@ fn shows_its_hands(rt: &impl Abort, hop: &Hop, choice: Choice)
 {
     let (first, second) = (PacketId(0), PacketId(1));
     let id = first;
-    assert!(rt; hop.is_inside(0) && !hop.is_closed());
-    assert_eq!(rt; hop.taken(0), 2);
+    assert!(rt; hop.is_inside(0) && hop.inside() == 1 && !hop.is_closed());
+    assert_eq!(rt; (hop.taken(0), hop.placed(0)), (2, 1));
+    assert_eq!(rt; hop.to_put(0), None);
+    assert_eq!(rt; hop.choices(0).len(), 1);
     assert_eq!(rt; hop.to_weigh(0), Some(second));
     assert_eq!(rt; hop.last_choice(0), Some(Chosen { id, choice }));
     assert_eq!(rt; hop.class(0, Some(FIRST)), Some(0));
@@ -562,7 +571,9 @@ fn shows_its_hands(rt: &impl Abort, hop: &Hop, choice: Choice)
         (hop.pulled(1), hop.delivered(1), hop.retired(1)),
         (1, 0, 0)
     );
-    assert_eq!(rt; hop.unretired(1), 1);
+    assert_eq!(rt; (hop.unretired(1), hop.accepted_len(1)), (1, 1));
+    assert_eq!(rt; hop.accepted_at(1, 0), Some(first));
+    assert!(rt; hop.drops(1).is_empty());
     assert_eq!(rt; hop.to_deliver(1), Some(first));
     assert!(rt; hop.out(0).is_empty());
     hop.sound();

@@ -2,7 +2,7 @@ use Rattle.std.proofs.Common.{◌≡◌, true, false, ap}
 use Rattle.serde_json.specs.View.{view}
 use Rattle.plan_reader.specs.PlanTexts.{json_of}
 use Rattle.plan_reader.proofs.Bytes.{value_found, value_none}
-use Rattle.plan_reader.proofs.Faults.{gives_none}
+use Rattle.plan_reader.proofs.Placed.{gives_none}
 use Rattle.plan_reader.proofs.plan_text.value_of.Goals as goal
 
 pub returns-in-Ok : goal.returns-in-Ok

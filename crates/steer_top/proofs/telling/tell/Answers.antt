@@ -11,6 +11,3 @@ returns-in-WriteFault g c = rw c.in-WriteFault.is c.say-in-WriteFault.ensures
 
 pub returns-in-OutOfMemory : goal.returns-in-OutOfMemory
 returns-in-OutOfMemory g c = rw c.in-OutOfMemory.is c.say-in-OutOfMemory.ensures
-
-pub returns-in-CaptureTooLong : goal.returns-in-CaptureTooLong
-returns-in-CaptureTooLong g c = rw c.in-CaptureTooLong.is c.say-in-CaptureTooLong.ensures

@@ -1,6 +1,6 @@
 use Rattle.std.proofs.Common.{arith, sym, ◌∙◌}
 use Rattle.std.proofs.lemmas.Option.{slice_get_past}
-use Rattle.backlog.specs.Journals.{joined}
+use Rattle.backlog.specs.Paged.{joined}
 use Rattle.backlog.proofs.PagesLemmas.{item_of_page, length-joined}
 use Rattle.backlog.proofs.pages.Pages.get.Goals as goal
 

@@ -1,5 +1,5 @@
 use Rattle.std.proofs.Common.{arith, ap}
-use Rattle.backlog.specs.Journals.{journal}
+use Rattle.steer_base.specs.Journals.{journal}
 use Rattle.backlog.proofs.PagesLemmas.{IsPaged-empty, joined-empty}
 use Rattle.backlog.proofs.pages.Pages.make.Goals as goal
 

@@ -1,5 +1,6 @@
 use Rattle.std.proofs.Common.{◌<◌, arith, length, ap}
-use Rattle.backlog.specs.Journals.{journal, joined}
+use Rattle.steer_base.specs.Journals.{journal}
+use Rattle.backlog.specs.Paged.{joined}
 use Rattle.backlog.proofs.PagesLemmas.{IsPaged-more, joined-grown, last_has_room, length-joined, page_within}
 use Rattle.backlog.proofs.pages.Pages.push_reserved.Goals as goal
 

@@ -1,4 +1,3 @@
-use Rattle.std.proofs.Common.{◌≡◌, ◌∙◌}
 use Rattle.hop_core.proofs.Empties.{accepted_count}
 use Rattle.hop_core.proofs.hop.Hop.accepted_len.Goals as goal
 

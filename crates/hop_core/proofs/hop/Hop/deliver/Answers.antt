@@ -1,4 +1,3 @@
-use Rattle.std.proofs.Common.{◌≡◌}
 use Rattle.hop_core.proofs.Wholes.{fits-deliver, read-delivered, whole-deliver}
 use Rattle.hop_core.proofs.hop.Hop.deliver.Goals as goal
 

@@ -1,4 +1,4 @@
-use Rattle.std.proofs.Common.{◌≡◌, arith}
+use Rattle.std.proofs.Common.{arith}
 use Rattle.hop_core.specs.View.{HopParts, parts_of}
 use Rattle.hop_core.proofs.TableSteps.{IsClassOf-in_hand, IsSet-in_hand}
 use Rattle.hop_core.proofs.Wholes.{fits-put, put_finds, put_leaves}

@@ -1,4 +1,3 @@
-use Rattle.std.proofs.Common.{◌≡◌, arith}
 use Rattle.hop_core.proofs.Wholes.{read-delivered, read-retired, whole-retire}
 use Rattle.hop_core.proofs.hop.Hop.retire.Goals as goal
 

@@ -1,4 +1,3 @@
-use Rattle.std.proofs.Common.{◌≡◌, ◌∙◌}
 use Rattle.hop_core.proofs.Empties.{unretired}
 use Rattle.hop_core.proofs.Wholes.{read-retired}
 use Rattle.hop_core.proofs.hop.Hop.unretired.Goals as goal

@@ -1,14 +1,33 @@
-use Rattle.std.proofs.Common.{◌∷◌, [], ◌∙◌, arith, length, length-append, ap, refl, sym}
+use Rattle.std.proofs.Common.{◌≡◌, ◌-◌, ◌+◌, ◌*◌, ◌/◌, ◌%◌, ◌^◌, ◌∷◌, [], ◌++◌, ◌∙◌, ap, arith, refl, sym, take}
+use Rattle.std.proofs.lemmas.List.{length-set, take_more_set}
+use Rattle.report.specs.Numbers.{hex_digit, hex_digits}
 use Rattle.report.proofs.NumbersLemmas.{hex_digits-moved, hex_digits-none}
 use Rattle.report.proofs.line.LineBuf.push_hex.Goals as goal
 
+pub loop-place-init : goal.loop-place-init
+loop-place-init c =
+    let all : c.args.digits - 0 ≡ c.args.digits = omega arith in
+    record { text = ap (λ k. hex_digits k c.args.number) all; size = refl }
+
 pub loop-place-preserved : goal.loop-place-preserved
 loop-place-preserved c =
-    let moved = hex_digits-moved c.loop-place.self c.push.new.self c.loop-place.place c.args.number c.loop-place-test.true (c.push.ensures ∙ rw c.hex_digit.ensures refl) in
+    let digits = c.args.digits in
+    let place = c.loop-place.place in
+    let text = c.loop-place.text in
+    let digit = c.hex_digit.result in
+    let left : digits - (place + 1) ≡ digits - place - 1 = omega arith in
+    let shift : 4 * (digits - place - 1) ≡ 4 * (digits - 1 - place) = omega arith in
+    let is : digit ≡ hex_digit (c.args.number / 2 ^ (4 * (digits - place - 1)) % 16) = rw shift c.hex_digit.ensures in
+    let more = take_more_set text place digit (omega (arith, c.loop-place.invariant.size, c.requires.few, c.loop-place-test.true)) in
     record {
-      text = moved ∙ c.loop-place.invariant.text;
-      size = omega (arith, c.loop-place.invariant.size, c.loop-place-test.true, ap length c.push.ensures, length-append c.loop-place.self (c.hex_digit.result ∷ []));
+      text = rw left (hex_digits-moved (take place text) _ (digits - place) c.args.number (omega (arith, c.loop-place-test.true))
+          (more ∙ ap (λ d. take place text ++ d ∷ []) is)) ∙ c.loop-place.invariant.text;
+      size = length-set text place digit ∙ c.loop-place.invariant.size;
     }
 
 pub returns-clause-value : goal.returns-clause-value
-returns-clause-value c = sym (hex_digits-none c.loop-place.self c.loop-place.place c.args.number (omega (arith, c.loop-place-test.false))) ∙ c.loop-place.invariant.text
+returns-clause-value c =
+    let end : c.loop-place.place ≡ c.args.digits = omega arith in
+    let none = hex_digits-none (take c.loop-place.place c.loop-place.text) (c.args.digits - c.loop-place.place) c.args.number (omega (arith, end)) in
+    let old = c.args.self.now in
+    c.push.ensures ∙ ap (λ k. old ++ take k c.loop-place.text) (sym end) ∙ ap (λ t. old ++ t) (sym none ∙ c.loop-place.invariant.text)

@@ -1,4 +1,4 @@
-use Rattle.std.proofs.Common.{◌≤◌, ℕ, None, arith, ap, ◌∙◌, take}
+use Rattle.std.proofs.Common.{ℕ, None, arith, ap, ◌∙◌, take}
 use Rattle.std.proofs.lemmas.List.{take-replicate}
 use Rattle.sock_flow_table.specs.Sockets.{unset}
 use Rattle.sock_flow_table.proofs.table.SockTable.make.Goals as goal

@@ -1,0 +1,225 @@
+//! The fields of a plan, in the order in which they are read.
+use crate::faults::fault::Refusal;
+use crate::plan::{QueuePlan, Steps, TxPlan};
+use crate::settings::key::key_or_default;
+use crate::settings::reta::reta_or_even;
+use crate::settings::sizes::Sizes;
+use crate::steps::reading::required_steps;
+use crate::values::fields::{list_or, number_or, required_list, required_number, set_or_empty};
+use crate::values::object::{an_object, only};
+use serde_json::Value;
+use std::alloc::Global;
+use steer_base::{Cpu, CpuMask, Detach, List, RxQueue};
+
+/// The processors, the receive queues, and how packets come to them.
+#[derive(Drop)]
+pub struct Receive {
+    pub cpus: u8,
+    pub queues: List<QueuePlan>,
+    pub key: [u8; 40],
+    pub kinds: u8,
+    pub reta: List<RxQueue>,
+}
+
+/// The sizes of tables and the limits of backlogs.
+#[derive(Clone, Copy)]
+pub struct Tables {
+    pub sock: u32,
+    pub filters: u32,
+    pub backlog: u32,
+    pub start: u32,
+    pub limited: CpuMask,
+}
+
+/// The applications, the transmit queues, and what a run is given.
+#[derive(Drop)]
+pub struct Sends {
+    pub apps: List<Cpu>,
+    pub tx: List<TxPlan>,
+    pub workers: u32,
+    pub tries: u32,
+    pub detach: List<Detach>,
+}
+
+/// All fields of a plan.
+#[derive(Drop)]
+pub struct Parts {
+    pub receive: Receive,
+    pub tables: Tables,
+    pub sends: Sends,
+    pub steps: Steps,
+}
+
+impl Receive {
+    ghost use Rattle.std.specs.Prelude.{◌≡◌, IfOk};
+    ghost use Rattle.serde_json.specs.View.{view};
+    ghost use Rattle.plan_reader.specs.Faults.{Gives};
+    ghost use Rattle.plan_reader.specs.PlanTexts.{receive_of};
+    ghost use Rattle.plan_reader.specs.Parts.{ReceiveIsWithin};
+
+    /// Reads these fields.
+    #[tactic(auto, unfolding(crate::specs::PlanTexts::receive_of))]
+    pub fn read(alloc: Global, value: &Value) -> Result<Receive, Refusal>
+        ensures gives { Gives result (receive_of (view value.now)) }
+        ensures within { IfOk result ReceiveIsWithin }
+    {
+        let cpus = required_number(alloc, value, "cpus", 1, 32)? as u8;
+        let sizes = Sizes {
+            cpus,
+            queues: 0,
+            apps: 0,
+            tx: 0,
+        };
+        let queues = required_list(alloc, sizes, value, "queues", 1, 16)?;
+        let key = key_or_default(alloc, value)?;
+        let kinds = number_or(alloc, value, "kinds", 0, 63, 63)? as u8;
+        let reta = reta_or_even(alloc, &queues, value)?;
+        Ok(Receive {
+            cpus,
+            queues,
+            key,
+            kinds,
+            reta,
+        })
+    }
+}
+
+impl Tables {
+    ghost use Rattle.std.specs.Prelude.{◌≡◌, ◌≤◌, IfOk};
+    ghost use Rattle.serde_json.specs.View.{view};
+    ghost use Rattle.plan_reader.specs.Faults.{Gives};
+    ghost use Rattle.plan_reader.specs.PlanTexts.{tables_of};
+    ghost use Rattle.plan_reader.specs.Parts.{TablesAreWithin};
+
+    /// Reads these fields.
+    #[tactic(auto, unfolding(crate::specs::PlanTexts::tables_of))]
+    pub fn read(alloc: Global, cpus: u8, value: &Value) -> Result<Tables, Refusal>
+        requires { cpus ≤ 32 }
+        ensures gives { Gives result (tables_of cpus (view value.now)) }
+        ensures within { IfOk result (TablesAreWithin cpus) }
+    {
+        let sock = required_number(alloc, value, "sock", 0, 65_536)?;
+        let filters = number_or(alloc, value, "filters", 0, 4_096, 0)?;
+        let backlog = number_or(alloc, value, "backlog", 1, 65_536, 1_000)?;
+        let start = number_or(alloc, value, "start", 0, 4_294_967_295, 0)?;
+        let limited = set_or_empty(alloc, value, "limited", 32, cpus)?;
+        Ok(Tables {
+            sock: sock as u32,
+            filters: filters as u32,
+            backlog: backlog as u32,
+            start: start as u32,
+            limited: CpuMask(limited),
+        })
+    }
+}
+
+impl Sends {
+    ghost use Rattle.std.specs.Prelude.{◌≡◌, ◌≤◌, IfOk, length};
+    ghost use Rattle.serde_json.specs.View.{view};
+    ghost use Rattle.plan_reader.specs.Faults.{Gives};
+    ghost use Rattle.plan_reader.specs.PlanTexts.{sends_of};
+    ghost use Rattle.plan_reader.specs.Parts.{ReceiveIsWithin, SendsAreWithin};
+
+    /// Reads these fields.
+    #[tactic(auto, unfolding(crate::specs::PlanTexts::sends_of))]
+    fn read_with(alloc: Global, sizes: Sizes, value: &Value) -> Result<Sends, Refusal>
+        requires cpus { sizes.cpus ≤ 32 }
+        requires queues { sizes.queues ≤ 16 }
+        ensures gives { Gives result (sends_of sizes.cpus sizes.queues (view value.now)) }
+        ensures within { IfOk result (SendsAreWithin sizes.cpus sizes.queues) }
+    {
+        let apps = required_list(alloc, sizes, value, "apps", 1, 32)?;
+        let tx = required_list(alloc, sizes, value, "tx", 1, 32)?;
+        let workers = number_or(alloc, value, "workers", 1, 32, 1)?;
+        let tries = number_or(alloc, value, "tries", 1, 64, 1)?;
+        let nothing = List::from_vec(Vec::new(alloc));
+        let detach = list_or(alloc, sizes, value, "detach", 0, 32, nothing)?;
+        Ok(Sends {
+            apps,
+            tx,
+            workers: workers as u32,
+            tries: tries as u32,
+            detach,
+        })
+    }
+
+    /// Reads these fields of a plan with these queues.
+    pub fn read(alloc: Global, receive: &Receive, value: &Value) -> Result<Sends, Refusal>
+        requires { ReceiveIsWithin receive.now }
+        ensures gives { Gives result
+            (sends_of receive.now.cpus (length receive.now.queues) (view value.now)) }
+        ensures within { IfOk result
+            (SendsAreWithin receive.now.cpus (length receive.now.queues)) }
+    {
+        let sizes = Sizes {
+            cpus: receive.cpus,
+            queues: receive.queues.len() as u8,
+            apps: 0,
+            tx: 0,
+        };
+        Sends::read_with(alloc, sizes, value)
+    }
+}
+
+impl Parts {
+    ghost use Rattle.std.specs.Prelude.{◌≡◌, IfOk, codes, length};
+    ghost use Rattle.serde_json.specs.View.{view};
+    ghost use Rattle.plan_reader.specs.Faults.{Gives, GivesAs};
+    ghost use Rattle.plan_reader.specs.Parts.{ReceiveIsWithin, SendsAreWithin, PartsAreWithin};
+    ghost use Rattle.plan_reader.specs.PlanTexts.{joined, plan_keys, settings_in, sizes_with};
+    ghost use Rattle.plan_reader.specs.Ranges.{StepsAreWithin};
+    ghost use Rattle.plan_reader.specs.Readings.{only, required, steps_of};
+
+    /// The steps of a plan with these queues and applications.
+    fn steps(
+        alloc: Global,
+        receive: &Receive,
+        sends: &Sends,
+        value: &Value,
+    ) -> Result<Steps, Refusal>
+        requires receive { ReceiveIsWithin receive.now }
+        requires sends { SendsAreWithin receive.now.cpus (length receive.now.queues) sends.now }
+        ensures gives { Gives result (required (codes "steps")
+            (steps_of (sizes_with receive.now sends.now)) (view value.now)) }
+        ensures within { IfOk result (StepsAreWithin (sizes_with receive.now sends.now)) }
+    {
+        let sizes = Sizes {
+            cpus: receive.cpus,
+            queues: receive.queues.len() as u8,
+            apps: sends.apps.len() as u8,
+            tx: sends.tx.len() as u8,
+        };
+        required_steps(alloc, sizes, value)
+    }
+
+    /// Refuses an object that has another key than a plan.
+    fn only_known(alloc: Global, value: &Value) -> Result<(), Refusal>
+        ensures { Gives result (only plan_keys (view value.now)) }
+    {
+        let keys = [
+            "cpus", "queues", "key", "kinds", "reta", "sock", "filters", "backlog", "start",
+            "limited", "apps", "tx", "workers", "tries", "detach", "steps",
+        ];
+        only(alloc, value, &keys)
+    }
+
+    /// Reads all fields.
+    #[tactic(auto, unfolding(crate::specs::PlanTexts::settings_in))]
+    pub fn read(alloc: Global, value: &Value) -> Result<Parts, Refusal>
+        ensures gives { GivesAs joined result (settings_in (view value.now)) }
+        ensures within { IfOk result PartsAreWithin }
+    {
+        an_object(alloc, value)?;
+        let receive = Receive::read(alloc, value)?;
+        let tables = Tables::read(alloc, receive.cpus, value)?;
+        let sends = Sends::read(alloc, &receive, value)?;
+        let steps = Parts::steps(alloc, &receive, &sends, value)?;
+        Parts::only_known(alloc, value)?;
+        Ok(Parts {
+            receive,
+            tables,
+            sends,
+            steps,
+        })
+    }
+}

@@ -1,0 +1,63 @@
+//! The steps of a seed.
+ghost use Rattle.std.specs.Prelude.{◌≡◌, ◌≤◌, ◌%◌, true};
+ghost use Rattle.plan_reader.specs.Ranges.{step_is_within};
+ghost use Rattle.plan_reader.specs.Seeds.{event_of, seeded_step, word_of};
+
+use crate::settings::sizes::Sizes;
+use rand_core::utils::NextWord;
+use rand_pcg::Lcg64Xsh32;
+use steer_base::Step;
+
+/// Word `i` of a seed, from 0, in a logarithmic number of steps.
+#[tactic(auto, unfolding(crate::specs::Seeds::word_of, crate::specs::Seeds::generator))]
+pub fn word_of(seed: u64, i: u32) -> u32
+    ensures { result ≡ word_of seed i }
+{
+    let mut generator = Lcg64Xsh32::new(seed, 54);
+    generator.advance(u64::from(i));
+    generator.next_word()
+}
+
+/// A number modulo a size.
+fn wrapped(number: u32, size: u8) -> u8
+    requires { 1 ≤ size }
+    ensures { result ≡ number % size }
+{
+    (number % u32::from(size)) as u8
+}
+
+/// A single event.
+fn event_of(sizes: Sizes, which: u32, number: u32) -> Step
+    requires some_cpu { 1 ≤ sizes.cpus }
+    requires some_queue { 1 ≤ sizes.queues }
+    ensures event { result ≡ event_of sizes which number }
+    ensures within { step_is_within sizes result ≡ true }
+{
+    match which {
+        0 => Step::Take(wrapped(number, sizes.queues)),
+        1 => Step::Enter(wrapped(number, sizes.queues)),
+        2 => Step::Look(wrapped(number, sizes.queues)),
+        _ => Step::Pull(wrapped(number, sizes.cpus)),
+    }
+}
+
+/// The step of a word.
+#[tactic(auto, unfolding(crate::specs::Seeds::seeded_step))]
+pub fn seeded_step(sizes: Sizes, word: u32) -> Step
+    requires some_cpu { 1 ≤ sizes.cpus }
+    requires some_queue { 1 ≤ sizes.queues }
+    requires some_app { 1 ≤ sizes.apps }
+    requires some_tx { 1 ≤ sizes.tx }
+    ensures step { result ≡ seeded_step sizes word }
+    ensures within { step_is_within sizes result ≡ true }
+{
+    let number = word / 16;
+    match word % 16 {
+        0..=4 => Step::Arrive,
+        5..=8 => Step::Poll(wrapped(number, sizes.queues)),
+        9..=11 => Step::Drain(wrapped(number, sizes.cpus)),
+        12..=13 => Step::Serve(wrapped(number, sizes.apps)),
+        14 => Step::Ship(wrapped(number, sizes.tx)),
+        _ => event_of(sizes, number % 4, number / 4),
+    }
+}

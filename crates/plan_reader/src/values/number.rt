@@ -1,0 +1,76 @@
+//! Numbers of a plan and of a step text, and their ranges.
+ghost use Rattle.std.specs.Prelude.{◌≡◌, ◌<◌, ◌≤◌, IfOk};
+ghost use Rattle.serde_json.specs.View.{view};
+ghost use Rattle.plan_reader.specs.Causes.{below, in_range};
+ghost use Rattle.plan_reader.specs.Readings.{whole, number, number_below};
+ghost use Rattle.plan_reader.specs.Texts.{number_of};
+
+use crate::faults::cause::Cause;
+use serde_json::Value;
+use steer_base::decimal_number;
+
+/// One to ten decimal digits without a sign.
+pub fn number_of(token: &[u8]) -> Option<u64>
+    ensures { result ≡ number_of token.now }
+{
+    Some(decimal_number(token, 10)? as u64)
+}
+
+/// A number from `low` to `high`.
+pub fn in_range(low: u64, high: u64, number: u64) -> Result<u64, Cause>
+    ensures gives { result ≡ in_range low high number }
+    ensures within { IfOk result (λ n. (low ≤ n) × (n ≤ high)) }
+{
+    if low <= number && number <= high {
+        Ok(number)
+    } else {
+        Err(Cause::Range(number))
+    }
+}
+
+/// A number below a size.
+pub fn index_below(size: u8, number: u64) -> Result<u8, Cause>
+    ensures gives { result ≡ below size number }
+    ensures within { IfOk result (λ n. n < size) }
+{
+    if number < u64::from(size) {
+        Ok(number as u8)
+    } else {
+        Err(Cause::Range(number))
+    }
+}
+
+/// A number below a limit.
+pub fn count_below(limit: u32, number: u64) -> Result<u32, Cause>
+    ensures gives { result ≡ below limit number }
+    ensures within { IfOk result (λ n. n < limit) }
+{
+    if number < u64::from(limit) {
+        Ok(number as u32)
+    } else {
+        Err(Cause::Range(number))
+    }
+}
+
+/// A whole number from 0 to 2^64 - 1.
+pub fn whole(value: &Value) -> Result<u64, Cause>
+    ensures { result ≡ whole (view value.now) }
+{
+    value.as_u64().ok_or(Cause::WrongKind)
+}
+
+/// A whole number from `low` to `high`.
+pub fn number(value: &Value, low: u64, high: u64) -> Result<u64, Cause>
+    ensures gives { result ≡ number low high (view value.now) }
+    ensures within { IfOk result (λ n. (low ≤ n) × (n ≤ high)) }
+{
+    in_range(low, high, whole(value)?)
+}
+
+/// A whole number below a size.
+pub fn number_below(value: &Value, size: u8) -> Result<u8, Cause>
+    ensures gives { result ≡ number_below size (view value.now) }
+    ensures within { IfOk result (λ n. n < size) }
+{
+    index_below(size, whole(value)?)
+}

@@ -1,0 +1,57 @@
+-- The files of a call are accepted, or refused for one reason.
+use Rattle.std.proofs.Common.{◌≡◌, ◌⊎◌, ℕ, List, [], ◌∷◌, length, inl, inr, refl, sym, ap, ◌∙◌, arith}
+use Rattle.std.proofs.lemmas.Bool.{cases_lt}
+use Rattle.pcap_reader.specs.Laws.{HasOneFault, HasNotBoth, HasOneOfBoth}
+use Rattle.steer_top.specs.Files.{limit_of, IsRead, IsNot, IsGood, IsBad, IsDecided, IsRefusedOnce, IsNotBoth}
+use Rattle.steer_top.specs.declared.ending.Role.{Role}
+use Rattle.steer_top.specs.declared.ending.Role.TheVariants as role
+use Rattle.steer_top.specs.declared.ending.Refusal.{Refusal}
+use Rattle.steer_top.specs.declared.ending.Refusal.TheVariants as refusal
+
+module _ (one : HasOneFault) (apart : HasNotBoth) (either : HasOneOfBoth) where
+  is_either : (r : Role) (bytes : List ℕ) → IsRead r bytes ⊎ ((reason : Refusal) × IsNot r bytes reason)
+  is_either role.Capture bytes = elim (either bytes) [ inl has ↦ inl has | inr (fault, is) ↦ inr (refusal.Capture fault, is) ]
+
+  not_both : (r : Role) (bytes : List ℕ) (reason : Refusal) → IsRead r bytes → IsNot r bytes reason → ⊥
+  not_both role.Capture bytes (refusal.Capture fault) (capture, has) is = apart bytes capture fault has is
+  not_both role.Capture bytes (refusal.TooLong other) good is = is
+
+  is_one : (r : Role) (bytes : List ℕ) (a b : Refusal) → IsNot r bytes a → IsNot r bytes b → a ≡ b
+  is_one role.Capture bytes (refusal.Capture f) (refusal.Capture g) is was = ap refusal.Capture (one bytes f g is was)
+  is_one role.Capture bytes (refusal.TooLong other) b is was = absurd is
+  is_one role.Capture bytes (refusal.Capture f) (refusal.TooLong other) is was = absurd was
+
+  good_or_bad : (r : Role) (bytes : List ℕ) → IsGood r bytes ⊎ ((reason : Refusal) × IsBad r bytes reason)
+  good_or_bad r bytes = elim (cases_lt (limit_of r) (length bytes)) [
+    | inl long ↦ inr (refusal.TooLong r, inl (long, refl))
+    | inr short ↦ elim (is_either r bytes) [ inl good ↦ inl (short, good) | inr (reason, is) ↦ inr (reason, inr (short, is)) ]
+  ]
+
+  good_not_bad : (r : Role) (bytes : List ℕ) (reason : Refusal) → IsGood r bytes → IsBad r bytes reason → ⊥
+  good_not_bad r bytes reason (short, good) (inl (long, is)) = omega (arith, short, long)
+  good_not_bad r bytes reason (short, good) (inr (few, is)) = not_both r bytes reason good is
+
+  bad_once : (r : Role) (bytes : List ℕ) (a b : Refusal) → IsBad r bytes a → IsBad r bytes b → a ≡ b
+  bad_once r bytes a b (inl (long, is)) (inl (more, was)) = is ∙ sym was
+  bad_once r bytes a b (inl (long, is)) (inr (few, was)) = absurd (omega (arith, long, few))
+  bad_once r bytes a b (inr (few, is)) (inl (long, was)) = absurd (omega (arith, long, few))
+  bad_once r bytes a b (inr (few, is)) (inr (less, was)) = is_one r bytes a b is was
+
+  pub is_decided : IsDecided
+  is_decided [] files = inl tt
+  is_decided (r ∷ roles) files = elim (good_or_bad r (files r)) [
+    | inl good ↦ elim (is_decided roles files) [ inl all ↦ inl (good, all) | inr (reason, later) ↦ inr (reason, inr (good, later)) ]
+    | inr (reason, bad) ↦ inr (reason, inl bad)
+  ]
+
+  pub is_refused_once : IsRefusedOnce
+  is_refused_once [] files a b is was = absurd is
+  is_refused_once (r ∷ roles) files a b (inl bad) (inl worse) = bad_once r (files r) a b bad worse
+  is_refused_once (r ∷ roles) files a b (inl bad) (inr (good, later)) = absurd (good_not_bad r (files r) a good bad)
+  is_refused_once (r ∷ roles) files a b (inr (good, later)) (inl bad) = absurd (good_not_bad r (files r) b good bad)
+  is_refused_once (r ∷ roles) files a b (inr (good, later)) (inr (fine, last)) = is_refused_once roles files a b later last
+
+  pub is_not_both : IsNotBoth
+  is_not_both [] files reason all is = is
+  is_not_both (r ∷ roles) files reason (good, all) (inl bad) = good_not_bad r (files r) reason good bad
+  is_not_both (r ∷ roles) files reason (good, all) (inr (fine, later)) = is_not_both roles files reason all later
