@@ -12,6 +12,8 @@ use Rattle.accel_filter.specs.Table as filters
 use Rattle.history.specs.declared.history.History.{History}
 use Rattle.plan_reader.specs.Plans.{nth_step, step_count}
 use Rattle.plan_reader.specs.declared.plan.Plan.{Plan}
+use Rattle.plan_reader.specs.declared.plan.TxPlan.{TxPlan}
+use Rattle.xps_map.specs.Maps.{Maps}
 use Rattle.steer_parts.specs.Machine.{Machine, history_of}
 use Rattle.steer_parts.specs.Settings.{Settings}
 use Rattle.steer_parts.specs.Setup.{Setup}
@@ -29,6 +31,15 @@ setup_of plan packets cut =
       cut = cut;
     }
 
+-- the maps of a plan's transmit queues
+abbrev pub maps_of : List TxPlan → Maps
+maps_of tx =
+    record {
+      count = length tx;
+      cpus = map (λ queue. queue.cpus) tx;
+      queues = map (λ queue. queue.queues) tx;
+    }
+
 -- the plan's settings, with all its processors online
 abbrev pub settings_of : Plan → Settings
 settings_of plan =
@@ -37,11 +48,7 @@ settings_of plan =
       counts = map (λ queue. rounded_up queue.flows) plan.queues;
       sock = rounded_up plan.sock;
       online = first_cpus plan.cpus;
-      maps = record {
-        count = length plan.tx;
-        cpus = map (λ tx. tx.cpus) plan.tx;
-        queues = map (λ tx. tx.queues) plan.tx;
-      };
+      maps = maps_of plan.tx;
       reta = record { queues = length plan.queues; entries = plan.reta };
       stands = plan.apps;
     }

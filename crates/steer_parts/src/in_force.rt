@@ -1,17 +1,20 @@
 //! The settings in force.
-ghost use Rattle.std.specs.Prelude.{◌≡◌, ◌<◌, ◌≤◌, IfOk, length, slice_index, slice_set, true};
-ghost use Rattle.plan_reader.specs.declared.plan.Plan.{Plan as PlanValue};
+ghost use Rattle.std.specs.Prelude.{◌≡◌, ◌<◌, ◌≤◌, IfOk, length, map, slice_index, slice_set, true};
+ghost use Rattle.std.specs.List.{All};
 ghost use Rattle.rss_table.specs.Redirection.{is_in_range, queue_of, with_entry};
 ghost use Rattle.steer_base.specs.Counters.{rounded_up};
 ghost use Rattle.steer_base.specs.Sets.{with_cpu, without_cpu};
 ghost use Rattle.steer_parts.specs.Settings.{changed, class_at, MayChange, plain_lane as plain_cpu};
+ghost use Rattle.steer_parts.specs.Start.{maps_of as maps_of_plan, settings_of};
 ghost use Rattle.xps_map.specs.Maps.{picked};
 
 use crate::given::Given;
+use plan_reader::{Plan, QueuePlan, TxPlan};
 use rps_map::rps_choice;
 use rss_table::Reta;
+use std::alloc::Global;
 use std::marker::Model;
-use steer_base::{Command, Cpu, CpuMask, PacketId, RxQueue, TxQueue, round_up};
+use steer_base::{Command, Cpu, CpuMask, OutOfMemory, PacketId, RxQueue, TxQueue, round_up};
 use xps_map::XpsMaps;
 
 /// What commands change (kernel scaling chapter, sections RSS, RPS, RFS and XPS).
@@ -43,6 +46,22 @@ impl Model for InForce {
 }
 
 impl InForce {
+    /// The settings that a plan begins with, with all its processors online.
+    pub fn of_plan(alloc: Global, plan: &Plan) -> Result<InForce, OutOfMemory>
+        ensures { IfOk result (λ settings. settings ≡ settings_of plan.now) }
+    {
+        let queues = plan.queues.as_slice();
+        Ok(InForce {
+            masks: queues.iter().map(|queue| queue.mask).collect(alloc)?,
+            counts: counts_of(alloc, queues)?,
+            sock: round_up(plan.sock),
+            online: CpuMask::first_n(plan.cpus),
+            maps: maps_of(alloc, plan.tx.as_slice())?,
+            reta: Reta::from_entries(queues.len() as u8, plan.reta.as_slice()),
+            stands: plan.apps.as_slice().iter().copied().collect(alloc)?,
+        })
+    }
+
     /// Changes what a command changes that is done; `expire` changes no setting.
     pub fn change(&mut self, command: &Command)
         requires { MayChange self.old command.now }
@@ -197,4 +216,27 @@ impl InForce {
     {
         &self.stands
     }
+}
+
+// The maps of a plan's transmit queues.
+fn maps_of(alloc: Global, tx: &[TxPlan]) -> Result<XpsMaps, OutOfMemory>
+    requires some { 1 ≤ length tx.now }
+    requires few { length tx.now ≤ 32 }
+    ensures { IfOk result (λ maps. maps ≡ maps_of_plan tx.now) }
+{
+    let cpus: Vec<CpuMask> = tx.iter().map(|queue| queue.cpus).collect(alloc)?;
+    let queues: Vec<u16> = tx.iter().map(|queue| queue.queues).collect(alloc)?;
+    Ok(XpsMaps::from_lists(&cpus, &queues))
+}
+
+// The flow count of each receive queue, rounded up to a power of two.
+fn counts_of(alloc: Global, queues: &[QueuePlan]) -> Result<Vec<u32>, OutOfMemory>
+    requires { All (λ queue. queue.flows ≤ 32768) queues.now }
+    ensures { IfOk result (λ counts. counts.items ≡ map (λ queue. rounded_up queue.flows) queues.now) }
+{
+    let mut counts = Vec::with_capacity(alloc, queues.len())?;
+    for queue in queues {
+        counts.push(round_up(queue.flows))?;
+    }
+    Ok(counts)
 }
