@@ -1,5 +1,5 @@
 -- The packets of a capture: of each frame its flow, the hash and the number of the flow, and its length.
-use Rattle.std.specs.Prelude.{ℕ, ◌+◌, ◌<◌, ◌≤◌, ◌≡◌, List, Some, length, slice_get, slice_range}
+use Rattle.std.specs.Prelude.{ℕ, ◌+◌, ◌<◌, ◌≡◌, List, Some, length, slice_get, slice_range}
 use Rattle.flow_dissector.specs.Frame.{flow_of}
 use Rattle.history.specs.Lists.{packet_at}
 use Rattle.pcap_reader.specs.declared.record.PcapRecord.{PcapRecord}
@@ -9,9 +9,6 @@ use Rattle.toeplitz.specs.Flows.{hash_of_flow}
 -- the frame of a record, in the bytes of its file
 abbrev pub frame_of : List ℕ → PcapRecord → List ℕ
 frame_of bytes record_at = slice_range bytes record_at.start (record_at.start + record_at.len)
-
-abbrev pub FrameIsWithin : List ℕ → PcapRecord → Type 0
-FrameIsWithin bytes record_at = record_at.start + record_at.len ≤ length bytes
 
 -- A packet has the flow of its frame, the hash of the flow by the key and its kinds, and the length.
 pub record IsOfRecord (key kinds : ℕ) (bytes : List ℕ) (from : PcapRecord) (packet : Packet) : Type 0 where

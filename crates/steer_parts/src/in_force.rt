@@ -224,9 +224,23 @@ fn maps_of(alloc: Global, tx: &[TxPlan]) -> Result<XpsMaps, OutOfMemory>
     requires few { length tx.now ≤ 32 }
     ensures { IfOk result (λ maps. maps ≡ maps_of_plan tx.now) }
 {
-    let cpus: Vec<CpuMask> = tx.iter().map(|queue| queue.cpus).collect(alloc)?;
-    let queues: Vec<u16> = tx.iter().map(|queue| queue.queues).collect(alloc)?;
+    let cpus = tx_cpus_of(alloc, tx)?;
+    let queues = tx_queues_of(alloc, tx)?;
     Ok(XpsMaps::from_lists(&cpus, &queues))
+}
+
+// The processors of each transmit queue.
+fn tx_cpus_of(alloc: Global, tx: &[TxPlan]) -> Result<Vec<CpuMask>, OutOfMemory>
+    ensures { IfOk result (λ cpus. cpus.items ≡ map (λ queue. queue.cpus) tx.now) }
+{
+    Ok(tx.iter().map(|queue| queue.cpus).collect(alloc)?)
+}
+
+// The receive queues of each transmit queue.
+fn tx_queues_of(alloc: Global, tx: &[TxPlan]) -> Result<Vec<u16>, OutOfMemory>
+    ensures { IfOk result (λ queues. queues.items ≡ map (λ queue. queue.queues) tx.now) }
+{
+    Ok(tx.iter().map(|queue| queue.queues).collect(alloc)?)
 }
 
 // The flow count of each receive queue, rounded up to a power of two.
@@ -239,4 +253,51 @@ fn counts_of(alloc: Global, queues: &[QueuePlan]) -> Result<Vec<u32>, OutOfMemor
         counts.push(round_up(queue.flows))?;
     }
     Ok(counts)
+}
+
+#[cfg(test)]
+mod tests {
+    use super::*;
+    use std::test::Fail;
+    use steer_base::AppId;
+
+    // The hash of a published frame: 0 modulo 2, and at entry 120.
+    const HASH: u32 = 0x51cc_c178;
+
+    #[test]
+    fn each_command_changes_its_own_setting(rt: HostRuntime) -> Result<(), Fail> {
+        let alloc = rt.alloc();
+        let mut settings = InForce {
+            masks: [CpuMask(0b1), CpuMask(0b1)].to_vec(alloc)?,
+            counts: [1u32, 1].to_vec(alloc)?,
+            sock: 4,
+            online: CpuMask(0b111),
+            maps: XpsMaps::make(2),
+            reta: Reta::even(2),
+            stands: [Cpu(0), Cpu(1)].to_vec(alloc)?,
+        };
+        settings.change(&Command::Mask(RxQueue(1), CpuMask(0b10)));
+        settings.change(&Command::Flows(RxQueue(0), 5));
+        settings.change(&Command::Sock(9));
+        settings.change(&Command::Offline(Cpu(1)));
+        settings.change(&Command::Online(Cpu(3)));
+        settings.change(&Command::XCpus(TxQueue(1), CpuMask(0b10)));
+        settings.change(&Command::XQueues(TxQueue(0), 0b10));
+        settings.change(&Command::Reta(120, RxQueue(1)));
+        settings.change(&Command::Stand(AppId(1), Cpu(3)));
+        settings.change(&Command::Expire);
+        assert_eq!(rt;
+            settings.masks.as_slice(),
+            [CpuMask(0b1), CpuMask(0b10)].as_slice()
+        );
+        assert_eq!(rt; settings.counts.as_slice(), [8u32, 1].as_slice());
+        assert_eq!(rt; settings.sock(), 16);
+        assert_eq!(rt; settings.online(), CpuMask(0b1101));
+        assert_eq!(rt; settings.queue(Some(HASH)), RxQueue(1));
+        assert_eq!(rt; settings.stands(), [Cpu(0), Cpu(3)].as_slice());
+        // Transmit queue 0 has receive queue 1, and transmit queue 1 has processor 1.
+        assert_eq!(rt; settings.pick(RxQueue(1), Cpu(1), Some(HASH)), 0);
+        assert_eq!(rt; settings.pick(RxQueue(0), Cpu(1), Some(HASH)), 1);
+        Ok(())
+    }
 }

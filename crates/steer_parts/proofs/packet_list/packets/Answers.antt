@@ -1,5 +1,6 @@
 use Rattle.std.proofs.Common.{◌≡◌, ◌∙◌, ap, arith, length, refl, subst}
 use Rattle.steer_parts.specs.Packets.{ArePackets}
+use Rattle.steer_parts.proofs.PacketLemmas.{packets_are_of_flows}
 use Rattle.steer_parts.proofs.ReadLemmas.{AreRead, read-all, read-more}
 use Rattle.steer_parts.proofs.packet_list.packets.Goals as goal
 use Rattle.toeplitz.specs.Flows.{hash_of_flow}
@@ -18,8 +19,10 @@ loop-from-preserved c =
 pub returns : goal.returns
 returns c =
     let all : c.loop-from.from-index ≡ length c.as_slice-records.result.now = omega arith in
+    let list =
     subst (λ rs. ArePackets c.args.key.now c.args.kinds.0 c.args.bytes.now rs c.loop-from.packets.items)
     c.as_slice-records.ensures
     (read-all _ _ _ _ _ _
     (subst (λ n. AreRead c.args.key.now c.args.kinds.0 c.args.bytes.now c.as_slice-records.result.now n
-    c.loop-from.packets.items c.loop-from.numbers) all c.loop-from.invariant))
+    c.loop-from.packets.items c.loop-from.numbers) all c.loop-from.invariant)) in
+    record { list = list; flows = packets_are_of_flows _ _ _ _ _ list }
