@@ -22,7 +22,7 @@ use Rattle.steer_parts.specs.Applications.{visited, wrote}
 use Rattle.steer_parts.specs.Machine.{Machine, last_of, note_of}
 use Rattle.steer_parts.specs.Notes.{is_asking, is_nothing}
 use Rattle.steer_parts.specs.Outcomes.{Outcome, told}
-use Rattle.steer_parts.specs.Pollers.{ask_by, look_by, position_of, put_by, putting, weigh_by, weighing}
+use Rattle.steer_parts.specs.Pollers.{ask_by, look_by, position_of, put_by, putting, weigh_by}
 use Rattle.steer_parts.specs.Settings.{class_at, plain_lane}
 use Rattle.steer_parts.specs.Setup.{app_for, flow_hash, hash_of}
 use Rattle.steer_parts.specs.Steps.{is_command, simple}

@@ -1,6 +1,6 @@
 -- Values in force are those of the last done commands for them.
 use Rattle.std.proofs.Common.{ℕ, ◌<◌, ◌≡◌, Bool, true, false, List, [], ◌∷◌, Option, Some, None, length}
-use Rattle.std.proofs.Common.{refl, ap, ◌∙◌, sym, subst, arith, get_or, inl, inr, unwrap_or, suc, zero}
+use Rattle.std.proofs.Common.{refl, ap, ◌∙◌, sym, subst, arith, inl, inr, unwrap_or, suc}
 use Rattle.std.specs.Prelude.{◌==◌, ◌&&◌, ◌||◌, not, nat_lt, if◌then◌else◌, slice_index, slice_index_or, slice_set}
 use Rattle.std.specs.List.{All, cons_option, filter_map}
 use Rattle.std.proofs.lemmas.Bool.{cases_eq, eq-eqb, lt-ltb, ne_eqb}
@@ -11,7 +11,6 @@ use Rattle.steer_base.specs.Entries.{last_or}
 use Rattle.steer_base.specs.Sets.{has}
 use Rattle.steer_base.specs.declared.command.Command.{Command}
 use Rattle.steer_base.specs.declared.command.Command.TheVariants as give
-use Rattle.steer_base.specs.declared.cpu_mask.CpuMask.{CpuMask}
 use Rattle.history.specs.declared.commanded.Commanded.{Commanded}
 use Rattle.xps_map.specs.Maps.{no_cpus}
 use Rattle.steer_parts.specs.Commands.{is_done}

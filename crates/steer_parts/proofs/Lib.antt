@@ -6,5 +6,6 @@ pub mod Lift
 pub mod NoCommand
 pub mod NumberingLemmas
 pub mod PacketLemmas
+pub mod PlanLemmas
 pub mod ReadLemmas
 pub mod SettingLemmas

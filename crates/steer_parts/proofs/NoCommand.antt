@@ -1,5 +1,5 @@
 -- Where no command was given, every prefix is empty, and each clause stands by itself.
-use Rattle.std.proofs.Common.{ℕ, ◌+◌, ◌≤◌, ◌<◌, ◌≡◌, List, [], ◌∷◌, Some, length, refl, ap, ◌∙◌, sym}
+use Rattle.std.proofs.Common.{ℕ, ◌≡◌, [], Some, refl, ap, ◌∙◌, sym}
 use Rattle.std.proofs.Common.{subst, arith, suc, zero, take, drop}
 use Rattle.history.specs.Lists.{list_at}
 use Rattle.history.specs.declared.commanded.Commanded.{Commanded}
@@ -10,7 +10,6 @@ use Rattle.steer_parts.specs.Good.{Good, Clause, never}
 use Rattle.steer_parts.specs.GoodChoices.{ChoicesAreByRule, IsByRule, WantsAreWritten}
 use Rattle.steer_parts.specs.GoodReplies.{IsReplyByRule, RepliesAreByRule}
 use Rattle.steer_parts.specs.Inputs.{Input, Prefixes, settings_after, settings_at, setup_in, since_at}
-use Rattle.steer_parts.specs.Settings.{Settings}
 use Rattle.steer_parts.specs.Setup.{hash_of}
 use Rattle.steer_parts.specs.Start.{settings_of}
 

@@ -1,6 +1,6 @@
 -- The map from flows to their numbers, and the packets that were numbered by it.
-use Rattle.std.proofs.Common.{ℕ, ◌+◌, ◌<◌, ◌≤◌, ◌≡◌, Bool, true, false, cond, List, [], ◌∷◌, ◌++◌, Some, None}
-use Rattle.std.proofs.Common.{◌⊎◌, length, refl, ap, ◌∙◌, sym, subst, arith, inl, inr, get_or, length-append}
+use Rattle.std.proofs.Common.{ℕ, ◌+◌, ◌<◌, ◌≤◌, ◌≡◌, true, cond, List, [], ◌∷◌, ◌++◌, Some, None}
+use Rattle.std.proofs.Common.{◌⊎◌, length, ap, ◌∙◌, sym, subst, arith, inl, inr, length-append}
 use Rattle.std.specs.BTreeMap.{BTreeMap, btree_map_len, get, is_at}
 use Rattle.std.specs.Map.{lookup}
 use Rattle.std.specs.Ordering.{is_eq}
@@ -11,7 +11,7 @@ use Rattle.std.proofs.lemmas.List.{get_or_append_left, get_or-append-add}
 use Rattle.history.specs.Lists.{no_packet, packet_at}
 use Rattle.steer_base.specs.declared.flow.Flow.{Flow}
 use Rattle.steer_base.specs.declared.packet.Packet.{Packet}
-use Rattle.steer_parts.specs.Numbering.{IsFresh, IsKnown, IsNumberOf}
+use Rattle.steer_parts.specs.Numbering.{IsFresh, IsNumberOf}
 use Rattle.steer_parts.specs.Packets.{AreNumbered}
 
 -- The map has the number of each packet's flow, and every number below its length is one of these.

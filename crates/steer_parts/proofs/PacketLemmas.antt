@@ -1,6 +1,6 @@
 -- The packets of a capture are determined, and each has a number below their number.
-use Rattle.std.proofs.Common.{ℕ, ◌+◌, ◌-◌, ◌<◌, ◌≤◌, ◌≡◌, List, Option, Some, length, refl, ap, ◌∙◌, sym, arith}
-use Rattle.std.proofs.Common.{[], ◌∷◌, suc, zero, inl, inr, slice_get, subst, get_or}
+use Rattle.std.proofs.Common.{ℕ, ◌-◌, ◌<◌, ◌≤◌, ◌≡◌, List, Option, Some, length, refl, ap, ◌∙◌, sym, arith}
+use Rattle.std.proofs.Common.{[], ◌∷◌, suc, zero, inl, inr, slice_get}
 use Rattle.std.proofs.lemmas.Bool.{cases_lt}
 use Rattle.std.proofs.lemmas.List.{get_or_default, same_lists}
 use Rattle.history.specs.Lists.{no_packet, packet_at}

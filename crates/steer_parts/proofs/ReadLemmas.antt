@@ -1,10 +1,10 @@
 -- The packets of the first records of a capture, one by one.
-use Rattle.std.proofs.Common.{ℕ, ◌+◌, ◌<◌, ◌≡◌, List, [], ◌∷◌, ◌++◌, Some, length, refl, ap, ◌∙◌, sym}
+use Rattle.std.proofs.Common.{ℕ, ◌+◌, ◌<◌, ◌≡◌, List, [], ◌∷◌, ◌++◌, Some, length, ap, ◌∙◌, sym}
 use Rattle.std.proofs.Common.{subst, arith, get_or, inl, inr, slice_get, length-append}
 use Rattle.std.specs.BTreeMap.{BTreeMap}
 use Rattle.std.proofs.lemmas.Bool.{cases_lt}
 use Rattle.std.proofs.lemmas.Option.{same_Some, slice_get-get_or, slice_get_within}
-use Rattle.history.specs.Lists.{no_packet, packet_at}
+use Rattle.history.specs.Lists.{packet_at}
 use Rattle.pcap_reader.specs.declared.record.PcapRecord.{PcapRecord}
 use Rattle.steer_base.specs.declared.flow.Flow.{Flow}
 use Rattle.steer_base.specs.declared.packet.Packet.{Packet}

@@ -12,12 +12,12 @@ use Rattle.hop_core.specs.declared.event.HopAnswer.{HopAnswer}
 use Rattle.hop_core.specs.Hop.{inside_of, placed_of, taken_of}
 use Rattle.hop_core.specs.Reads.{to_weigh}
 use Rattle.steer_parts.specs.Applications.{next_in, record_by, send_by, visited, wrote}
-use Rattle.steer_parts.specs.Commands.{answer_to, given, is_done, listed, set_by}
+use Rattle.steer_parts.specs.Commands.{answer_to, given, is_done, set_by}
 use Rattle.steer_parts.specs.Inputs.{settings_after}
 use Rattle.steer_parts.specs.Machine.{Machine, note_of}
 use Rattle.steer_parts.specs.Notes.{is_asking, is_nothing}
 use Rattle.steer_parts.specs.Outcomes.{Outcome, by_rx}
-use Rattle.steer_parts.specs.Pollers.{ask_by, look_by, position_of, put_by, putting, weigh_by}
+use Rattle.steer_parts.specs.Pollers.{ask_by, look_by, put_by, putting, weigh_by}
 use Rattle.steer_parts.specs.Settings.{Settings, changed}
 use Rattle.steer_parts.specs.Setup.{flow_hash}
 use Rattle.steer_parts.specs.Steps.{simple}

@@ -1,5 +1,5 @@
 -- Commands: when one is refused, what answers it, and what it changes.
-use Rattle.std.specs.Prelude.{ℕ, Bool, true, false, ◌==◌, List, [], ◌∷◌, ◌++◌, Option, Some, None}
+use Rattle.std.specs.Prelude.{ℕ, Bool, true, false, ◌==◌, [], ◌∷◌, ◌++◌, Option, Some, None}
 use Rattle.std.specs.Prelude.{Result, Ok, Err, length, map, filter, slice_index, if◌then◌else◌}
 use Rattle.steer_base.specs.Commands.{is_affected, refusal}
 use Rattle.steer_base.specs.Counters.{rounded_up}

@@ -1,6 +1,6 @@
 -- What a run is given, and what the commands of its history have set before each of its choices.
 use Rattle.std.specs.Prelude.{ℕ, ◌+◌, ◌≤◌, ◌<◌, ◌≡◌, Bool, false, ◌&&◌, ◌==◌, List, [], ◌∷◌, Option, Some}
-use Rattle.std.specs.Prelude.{length, take, drop, slice_get, if◌then◌else◌, suc, zero}
+use Rattle.std.specs.Prelude.{take, drop, slice_get, if◌then◌else◌, suc, zero}
 use Rattle.std.specs.List.{list_any}
 use Rattle.steer_base.specs.declared.command.Answer.TheVariants as says
 use Rattle.steer_base.specs.declared.command.Command.{Command}

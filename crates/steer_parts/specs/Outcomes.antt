@@ -1,5 +1,4 @@
 -- What a step makes of a machine, and what it answers.
-use Rattle.std.specs.Prelude.{ℕ}
 use Rattle.steer_base.specs.declared.command.Answer.{Answer}
 use Rattle.steer_base.specs.declared.command.Answer.TheVariants as says
 use Rattle.steer_base.specs.declared.idle.Idle.{Idle}

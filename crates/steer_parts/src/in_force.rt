@@ -52,13 +52,13 @@ impl InForce {
     {
         let queues = plan.queues.as_slice();
         Ok(InForce {
-            masks: queues.iter().map(|queue| queue.mask).collect(alloc)?,
+            masks: masks_of(alloc, queues)?,
             counts: counts_of(alloc, queues)?,
             sock: round_up(plan.sock),
             online: CpuMask::first_n(plan.cpus),
             maps: maps_of(alloc, plan.tx.as_slice())?,
             reta: Reta::from_entries(queues.len() as u8, plan.reta.as_slice()),
-            stands: plan.apps.as_slice().iter().copied().collect(alloc)?,
+            stands: stands_of(alloc, plan.apps.as_slice())?,
         })
     }
 
@@ -216,6 +216,20 @@ impl InForce {
     {
         &self.stands
     }
+}
+
+// The processors of each receive queue.
+fn masks_of(alloc: Global, queues: &[QueuePlan]) -> Result<Vec<CpuMask>, OutOfMemory>
+    ensures { IfOk result (λ masks. masks.items ≡ map (λ queue. queue.mask) queues.now) }
+{
+    Ok(queues.iter().map(|queue| queue.mask).collect(alloc)?)
+}
+
+// The processors on which the applications stand.
+fn stands_of(alloc: Global, apps: &[Cpu]) -> Result<Vec<Cpu>, OutOfMemory>
+    ensures { IfOk result (λ stands. stands.items ≡ apps.now) }
+{
+    Ok(apps.iter().copied().collect(alloc)?)
 }
 
 // The maps of a plan's transmit queues.

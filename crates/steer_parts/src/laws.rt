@@ -1,9 +1,15 @@
 //! Laws of the machine and of its histories, each the contract of a function that does nothing.
+ghost use Rattle.plan_reader.specs.Plans.{sizes_of};
+ghost use Rattle.plan_reader.specs.Ranges.{step_is_within};
+ghost use Rattle.std.specs.List.{AllPass};
 ghost use Rattle.steer_parts.specs.GoodLaws.{GoodByClauses};
 ghost use Rattle.steer_parts.specs.LastWrites.{ValuesAreLastWrites};
 ghost use Rattle.steer_parts.specs.PacketLaws.{PacketsAreOfFlows, PacketsAreOne};
 ghost use Rattle.steer_parts.specs.SettingLaws.{SettingsFollow};
+ghost use Rattle.steer_parts.specs.Start.{steps_of};
 ghost use Rattle.steer_parts.specs.StepLaws.{IdleLeavesAll, RefusedLeavesAll};
+
+use plan_reader::Plan;
 
 /// Where no command was given, a history is good exactly where each clause holds by itself.
 pub fn a_history_is_good_by_its_clauses()
@@ -39,3 +45,10 @@ pub fn a_value_in_force_is_the_last_write()
 pub fn settings_follow_the_commands()
     ensures { SettingsFollow }
 {}
+
+/// Each step of a plan, of its list or of its seed, names what the plan has.
+pub fn steps_of_a_plan_are_within(plan: &Plan)
+    ensures { AllPass (step_is_within (sizes_of plan.now)) (steps_of plan.now) }
+{
+    let _ = &plan.cpus;
+}
