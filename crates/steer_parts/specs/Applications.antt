@@ -1,7 +1,8 @@
 -- The steps of a processor, of a socket and of an application (kernel scaling chapter, sections
 -- RFS and XPS): what each does where it is enabled, and else the first reason for which it is idle.
 use Rattle.std.specs.Prelude.{ℕ, ◌+◌, ◌%◌, nat_lt, List, [], ◌∷◌, ◌++◌, Option, Some, None, length}
-use Rattle.std.specs.Prelude.{slice_get, slice_index, slice_index_or, slice_set, unwrap_or, if◌then◌else◌}
+use Rattle.std.specs.Prelude.{slice_get, slice_index, slice_index_or, slice_set, unwrap_or}
+use Rattle.std.specs.Prelude.{if◌then◌else◌}
 use Rattle.steer_base.specs.declared.command.Answer.TheVariants as says
 use Rattle.steer_base.specs.declared.cpu_mask.CpuMask.{CpuMask}
 use Rattle.steer_base.specs.declared.idle.Idle.TheVariants as idle
@@ -14,6 +15,7 @@ use Rattle.sock_flow_table.specs.Sockets.{noted as with_note}
 use Rattle.xps_map.specs.Maps.{picked}
 use Rattle.history.specs.Lists.{arrival_of, list_at}
 use Rattle.history.specs.declared.sent.Sent.{Sent}
+use Rattle.history.specs.declared.sock_write.SockWrite.{SockWrite}
 use Rattle.steer_parts.specs.Machine.{Machine, last_of}
 use Rattle.steer_parts.specs.Outcomes.{Outcome, by_rx, by_tx, idles}
 use Rattle.steer_parts.specs.Setup.{app_for, flow_hash, flow_of, hash_of}
@@ -40,13 +42,16 @@ visited m a =
 abbrev pub stand_of : Machine → ℕ → ℕ
 stand_of m a = slice_index m.settings.stands a
 
+-- the write of an application for a hash
+abbrev pub write_of : Machine → ℕ → ℕ → SockWrite
+write_of m a hash = record { entry = hash % length m.socket; cpu = stand_of m a }
+
 -- an application writes its processor to the entry of a hash
 abbrev pub wrote : Machine → ℕ → ℕ → Machine
 wrote m a hash =
     record m {
       socket = with_note m.socket hash (stand_of m a);
-      writes = slice_set m.writes a
-          (list_at m.writes a ++ record { entry = hash % length m.socket; cpu = stand_of m a } ∷ []);
+      writes = slice_set m.writes a (list_at m.writes a ++ write_of m a hash ∷ []);
     }
 
 abbrev pub record_hash : Machine → ℕ → Outcome

@@ -30,7 +30,8 @@ pub record IsGiven (p : Setup) : Type 0 where
 
 -- a table has the hash of each flow of these packets, and nothing for other numbers
 abbrev pub AreFlowHashes : List Packet → List (Option (Option ℕ)) → Type 0
-AreFlowHashes packets hashes = (flow : ℕ) → slice_index_or hashes flow None ≡ hash_of_flow packets flow
+AreFlowHashes packets hashes =
+    (flow : ℕ) → slice_index_or hashes flow None ≡ hash_of_flow packets flow
 
 -- a hash, unless there is one already
 abbrev pub hash_or : Option (Option ℕ) → Option ℕ → Option (Option ℕ)

@@ -1,6 +1,7 @@
 -- A good history's arrivals: the sizes of its lists, and what each arrival saw (kernel scaling
 -- chapter, sections RSS and accelerated RFS).
-use Rattle.std.specs.Prelude.{ℕ, ◌≡◌, ◌⊎◌, true, Option, Some, None, length, map, slice_get, slice_index}
+use Rattle.std.specs.Prelude.{ℕ, ◌≡◌, ◌⊎◌, true, Option, Some, None, length, map, slice_get}
+use Rattle.std.specs.Prelude.{slice_index}
 use Rattle.std.specs.List.{All, range_with_len}
 use Rattle.steer_base.specs.Arrivals.{filter_place, route, table_place}
 use Rattle.steer_base.specs.Choices.{has_moved}
@@ -18,7 +19,8 @@ use Rattle.steer_parts.specs.Setup.{hash_of}
 -- ---- clause 1
 
 -- All packets of the capture arrived, in their order. The history has the capture's number of
--- packets and its cut, the plan's start, and lists for the plan's queues, processors and transmit queues.
+-- packets and its cut, the plan's start, and lists for the plan's queues, processors and transmit
+-- queues.
 pub record HasArrived (i : Input) (h : History) : Type 0 where
   pub all : map (λ a. a.id) h.arrivals ≡ range_with_len 0 (length i.packets)
   pub total : h.total ≡ length i.packets

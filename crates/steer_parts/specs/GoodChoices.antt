@@ -34,7 +34,8 @@ IsByRule i h q k s since =
     (entry h.start (accepted_in h.lanes) (drop since (take k (list_at h.choices q))))
     (λ lane. unwrap_or c.choice.head 0) (has s.online)
 
--- Each choice is by the rule with the settings after its commands. This holds in every state of a run.
+-- Each choice is by the rule with the settings after its commands. This holds in every state of a
+-- run.
 pub record AreByRule (i : Input) (h : History) (at : ℕ → ℕ → ℕ) : Type 0 where
   pub prefixes : (q : ℕ) → Prefixes (length (list_at h.choices q)) (length h.commands) (at q)
   pub each : (q k : ℕ) → k < length (list_at h.choices q)
@@ -43,7 +44,8 @@ pub record AreByRule (i : Input) (h : History) (at : ℕ → ℕ → ℕ) : Type
 -- There is one choice for each packet that was taken, in the order of the arrivals, by the rule.
 pub record ChoicesAreByRule (i : Input) (h : History) (at : ℕ → ℕ → ℕ) : Type 0 where
   pub all : (q : ℕ)
-      → map (λ c. c.id) (list_at h.choices q) ≡ take (slice_index h.taken q) (arrivals_at h.arrivals q)
+      → map (λ c. c.id) (list_at h.choices q)
+      ≡ take (slice_index h.taken q) (arrivals_at h.arrivals q)
   pub by_rule : AreByRule i h at
 
 -- ---- clause 4

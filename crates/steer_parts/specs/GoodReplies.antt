@@ -1,5 +1,6 @@
 -- A good history's replies (kernel scaling chapter, section XPS).
-use Rattle.std.specs.Prelude.{ℕ, ◌<◌, ◌≡◌, Bool, true, ◌&&◌, ◌==◌, List, [], Some, length, take, map}
+use Rattle.std.specs.Prelude.{ℕ, ◌<◌, ◌≡◌, Bool, true, ◌&&◌, ◌==◌, List, [], Some, length, take}
+use Rattle.std.specs.Prelude.{map}
 use Rattle.std.specs.Prelude.{slice_get, unwrap_or}
 use Rattle.std.specs.List.{All}
 use Rattle.steer_base.specs.Choices.{migrate}
@@ -9,7 +10,7 @@ use Rattle.steer_base.specs.Sets.{has}
 use Rattle.steer_base.specs.declared.choice.Chosen.{Chosen}
 use Rattle.hop_core.specs.Hop.{chosen_at}
 use Rattle.xps_map.specs.Maps.{picked}
-use Rattle.history.specs.Finding.{is_in, Once}
+use Rattle.history.specs.Finding.{is_among, is_in, Once}
 use Rattle.history.specs.Lists.{accepted_lists, arrival_of, arrivals_at, lane_at, list_at}
 use Rattle.history.specs.declared.history.History.{History}
 use Rattle.history.specs.declared.sent.Sent.{Sent}
@@ -55,7 +56,8 @@ pub record AreInOneTxPlace (h : History) : Type 0 where
   pub lanes : Apart (accepted_lists h.tx_lanes)
   pub once : Once h.port
   pub delivered : (x : ℕ) → is_in x h.port ≡ true
-      → (t : ℕ) × (is_in x (take (lane_at h.tx_lanes t).delivered (lane_at h.tx_lanes t).accepted) ≡ true)
+      → (t : ℕ)
+      × (is_among (lane_at h.tx_lanes t).delivered x (lane_at h.tx_lanes t).accepted ≡ true)
   pub no_drops : (t : ℕ) → (lane_at h.tx_lanes t).drops ≡ []
 
 -- The replies of each application to each flow leave in the order in which they were sent; and
@@ -64,7 +66,8 @@ pub record LeaveInOrder (i : Input) (h : History) : Type 0 where
   pub order : (a x : ℕ) → x < length i.packets
       → InOrder (of_reply i h a x) (replies_of h a) (map (λ lane. lane.drops) h.tx_lanes) h.port
   pub end_to_end : (q x : ℕ) → x < length i.packets
-      → InOrder (of_flow i h q x) (arrivals_at h.arrivals q) (map (λ lane. lane.drops) h.lanes) h.port
+      → InOrder (of_flow i h q x) (arrivals_at h.arrivals q) (map (λ lane. lane.drops) h.lanes)
+      h.port
 
 pub record RepliesAreByRule (i : Input) (h : History) (at : ℕ → ℕ → ℕ) : Type 0 where
   pub sent : (a : ℕ) → AreSent i h a

@@ -1,5 +1,6 @@
 -- What a run is given, and what the commands of its history have set before each of its choices.
-use Rattle.std.specs.Prelude.{ℕ, ◌+◌, ◌≤◌, ◌<◌, ◌≡◌, Bool, false, ◌&&◌, ◌==◌, List, [], ◌∷◌, Option, Some}
+use Rattle.std.specs.Prelude.{ℕ, ◌+◌, ◌≤◌, ◌<◌, ◌≡◌, Bool, false, ◌&&◌, ◌==◌, List, [], ◌∷◌}
+use Rattle.std.specs.Prelude.{Option, Some}
 use Rattle.std.specs.Prelude.{take, drop, slice_get, if◌then◌else◌, suc, zero}
 use Rattle.std.specs.List.{list_any}
 use Rattle.steer_base.specs.declared.command.Answer.TheVariants as says
@@ -53,7 +54,8 @@ is_resize q c = is_flows q c.command && is_done c.answer
 abbrev pub since_at : List Commanded → ℕ → (ℕ → ℕ) → ℕ → ℕ
 since_at cs q at zero = 0
 since_at cs q at (suc k) =
-    if list_any (is_resize q) (drop (at k) (take (at (suc k)) cs)) then suc k else since_at cs q at k
+    if list_any (is_resize q) (drop (at k) (take (at (suc k)) cs)) then suc k
+    else since_at cs q at k
 
 -- a command was given and done
 abbrev pub WasDone : History → Command → Type 0

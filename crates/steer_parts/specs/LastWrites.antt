@@ -1,5 +1,6 @@
 -- A value in force is that of the last done command for it, else the one before all commands.
-use Rattle.std.specs.Prelude.{ℕ, ◌<◌, ◌≡◌, Bool, true, false, ◌==◌, List, Option, Some, None, length}
+use Rattle.std.specs.Prelude.{ℕ, ◌<◌, ◌≡◌, Bool, true, false, ◌==◌, List, Option, Some, None}
+use Rattle.std.specs.Prelude.{length}
 use Rattle.std.specs.Prelude.{slice_index, slice_index_or, if◌then◌else◌}
 use Rattle.std.specs.List.{All, filter_map}
 use Rattle.steer_base.specs.Counters.{rounded_up}
@@ -69,7 +70,8 @@ pub record AreLastWrites (s : Settings) (cs : List Commanded) : Type 0 where
   pub masks : (q : ℕ) → q < length s.masks
       → mask_of (settings_after s cs) q ≡ last_write (mask_for q) (mask_of s q) cs
   pub counts : (q : ℕ) → q < length s.counts
-      → slice_index (settings_after s cs).counts q ≡ last_write (count_for q) (slice_index s.counts q) cs
+      → slice_index (settings_after s cs).counts q
+      ≡ last_write (count_for q) (slice_index s.counts q) cs
   pub sock : (settings_after s cs).sock ≡ last_write sock_for s.sock cs
   pub online : (cpu : ℕ) → cpu < 32
       → has (settings_after s cs).online cpu ≡ last_write (online_for cpu) (has s.online cpu) cs

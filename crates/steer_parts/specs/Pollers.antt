@@ -1,6 +1,8 @@
 -- The steps of the wire and of the pollers (kernel scaling chapter, sections RSS, RPS, RFS and
--- accelerated RFS): what each does where it is enabled, and else the first reason for which it is idle.
-use Rattle.std.specs.Prelude.{ℕ, not, nat_lt, List, [], ◌∷◌, ◌++◌, Option, Some, None, length, slice_set}
+-- accelerated RFS): what each does where it is enabled, and else the first reason for which it is
+-- idle.
+use Rattle.std.specs.Prelude.{ℕ, not, nat_lt, List, [], ◌∷◌, ◌++◌, Option, Some, None, length}
+use Rattle.std.specs.Prelude.{slice_set}
 use Rattle.std.specs.Prelude.{if◌then◌else◌}
 use Rattle.std.specs.Option.{option_map}
 use Rattle.steer_base.specs.Arrivals.{Route, route}

@@ -6,7 +6,8 @@ use Rattle.steer_parts.specs.Machine.{Machine}
 use Rattle.steer_parts.specs.Settings.{Settings}
 use Rattle.steer_parts.specs.Whole.{after}
 
--- After any steps the settings are those that the done ones of all commands leave of the first ones.
+-- After any steps the settings are those that the done ones of all commands leave of the first
+-- ones.
 abbrev pub SettingsFollow : Type 0
 SettingsFollow =
     (s : Settings) (m : Machine) (ss : List Step) → m.settings ≡ settings_after s m.commands

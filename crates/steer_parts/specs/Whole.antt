@@ -1,6 +1,8 @@
 -- Steps of many events: which events they try, in which order, and how often.
-use Rattle.std.specs.Prelude.{ℕ, ◌+◌, ◌-◌, ◌*◌, Bool, true, false, not, ◌&&◌, ◌||◌, nat_lt, List, []}
-use Rattle.std.specs.Prelude.{◌∷◌, Option, Some, None, length, slice_index_or, if◌then◌else◌, suc, zero}
+use Rattle.std.specs.Prelude.{ℕ, ◌+◌, ◌-◌, ◌*◌, Bool, true, false, not, ◌&&◌, ◌||◌, nat_lt, List}
+use Rattle.std.specs.Prelude.{[]}
+use Rattle.std.specs.Prelude.{◌∷◌, Option, Some, None, length, slice_index_or, if◌then◌else◌, suc}
+use Rattle.std.specs.Prelude.{zero}
 use Rattle.steer_base.specs.declared.command.Answer.TheVariants as says
 use Rattle.steer_base.specs.declared.idle.Idle.TheVariants as idle
 use Rattle.steer_base.specs.declared.step.Step.{Step}

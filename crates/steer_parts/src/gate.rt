@@ -1,13 +1,14 @@
 //! How commands are answered.
 ghost use Rattle.std.specs.Prelude.{◌≡◌};
 ghost use Rattle.hop_core.specs.Emptied.{emptied};
-ghost use Rattle.steer_parts.specs.Commands.{gate_answer as answer_at, is_done as was_done, refused_answer as refused_with};
+ghost use Rattle.steer_parts.specs.Commands.{gate_answer as answer_at, is_done as was_done};
+ghost use Rattle.steer_parts.specs.Commands.{refused_answer as refused_with};
 
 use hop_core::Hop;
 use steer_base::{Answer, Busy, CpuMask, Idle, Refused};
 
-/// The answer of a hop's gate to a command for which these lanes have to be empty: busy where somebody is inside, then
-/// where one of the lanes is not empty, else done.
+/// The answer of a hop's gate to a command for which these lanes have to be empty: busy where
+/// somebody is inside, then where one of the lanes is not empty, else done.
 pub fn gate_answer(hop: &Hop, lanes: CpuMask) -> Answer
     ensures { result ≡ answer_at hop.now (emptied hop.now lanes) }
 {

@@ -10,8 +10,8 @@ use std::alloc::Global;
 use std::marker::Model;
 use steer_base::{AppId, Cpu, OutOfMemory, Packet, PacketId, app_of};
 
-/// What never changes in a run: the plan's homes and sizes, the packets of the capture, and the length of its cut
-/// record. The hash of each flow lies beside them.
+/// What never changes in a run: the plan's homes and sizes, the packets of the capture, and the
+/// length of its cut record. The hash of each flow lies beside them.
 #[derive(Drop)]
 pub struct Given {
     homes: Vec<Cpu>,
@@ -49,8 +49,8 @@ impl Model for Given {
 }
 
 impl Given {
-    /// What a plan and the packets of a capture fix. There are at most 262,144 packets, each flow has a number below
-    /// the number of packets, and all packets of a flow have one hash.
+    /// What a plan and the packets of a capture fix. There are at most 262,144 packets, each flow
+    /// has a number below the number of packets, and all packets of a flow have one hash.
     pub fn of_plan(
         alloc: Global,
         plan: &Plan,

@@ -7,7 +7,8 @@ ghost use Rattle.steer_parts.specs.Pollers.{position_of as position_in};
 use hop_core::{Hop, HopAnswer};
 use steer_base::{Answer, Choice, Chosen, PacketId, Put, Why};
 
-/// The answer of a hop as the machine gives it: the reason for which an event was idle, else that it was done.
+/// The answer of a hop as the machine gives it: the reason for which an event was idle, else that
+/// it was done.
 pub fn told(answer: HopAnswer) -> Answer
     ensures { result ≡ told_by answer }
 {

@@ -93,7 +93,8 @@ impl InForce {
     fn set_flows(&mut self, q: RxQueue, count: u32)
         requires queue { q < length self.old.counts }
         requires within { count ≤ 32768 }
-        ensures { self.new ≡ record self.old { counts = slice_set self.old.counts q (rounded_up count) } }
+        ensures { self.new
+            ≡ record self.old { counts = slice_set self.old.counts q (rounded_up count) } }
     {
         self.counts[q.0 as usize] = round_up(count);
     }
@@ -125,7 +126,9 @@ impl InForce {
     // Gives a transmit queue other processors.
     fn set_tx_cpus(&mut self, tx: TxQueue, mask: CpuMask)
         requires { tx < self.old.maps.count }
-        ensures { self.new ≡ record self.old { maps = record self.old.maps { cpus = slice_set self.old.maps.cpus tx mask } } }
+        ensures { self.new ≡ record self.old {
+          maps = record self.old.maps { cpus = slice_set self.old.maps.cpus tx mask };
+        } }
     {
         self.maps.set_cpus(tx, mask);
     }
@@ -133,7 +136,9 @@ impl InForce {
     // Gives a transmit queue other receive queues.
     fn set_tx_queues(&mut self, tx: TxQueue, queues: u16)
         requires { tx < self.old.maps.count }
-        ensures { self.new ≡ record self.old { maps = record self.old.maps { queues = slice_set self.old.maps.queues tx queues } } }
+        ensures { self.new ≡ record self.old {
+          maps = record self.old.maps { queues = slice_set self.old.maps.queues tx queues };
+        } }
     {
         self.maps.set_queues(tx, queues);
     }
@@ -194,7 +199,8 @@ impl InForce {
         rps_choice(mask, given.hash_of(id), self.online, given.home(q))
     }
 
-    /// The transmit queue that the maps pick for a packet of a receive queue, sent from a processor.
+    /// The transmit queue that the maps pick for a packet of a receive queue, sent from a
+    /// processor.
     pub fn pick(&self, rxq: RxQueue, cpu: Cpu, hash: Option<u32>) -> u8
         ensures value { result ≡ picked self.now.maps rxq cpu hash }
         ensures within { result < self.now.maps.count }
@@ -260,7 +266,8 @@ fn tx_queues_of(alloc: Global, tx: &[TxPlan]) -> Result<Vec<u16>, OutOfMemory>
 // The flow count of each receive queue, rounded up to a power of two.
 fn counts_of(alloc: Global, queues: &[QueuePlan]) -> Result<Vec<u32>, OutOfMemory>
     requires { All (λ queue. queue.flows ≤ 32768) queues.now }
-    ensures { IfOk result (λ counts. counts.items ≡ map (λ queue. rounded_up queue.flows) queues.now) }
+    ensures { IfOk result (λ counts.
+        counts.items ≡ map (λ queue. rounded_up queue.flows) queues.now) }
 {
     let mut counts = Vec::with_capacity(alloc, queues.len())?;
     for queue in queues {

@@ -31,7 +31,8 @@ pub fn a_capture_has_one_list_of_packets()
     ensures { PacketsAreOne }
 {}
 
-/// The flow number of each packet of a capture is below the number of packets, and all packets of a flow have one hash.
+/// The flow number of each packet of a capture is below the number of packets, and all packets of a
+/// flow have one hash.
 pub fn packets_are_of_flows()
     ensures { PacketsAreOfFlows }
 {}
@@ -41,7 +42,8 @@ pub fn a_value_in_force_is_the_last_write()
     ensures { ValuesAreLastWrites }
 {}
 
-/// After any steps the settings are those that the done ones of all commands leave of the first ones.
+/// After any steps the settings are those that the done ones of all commands leave of the first
+/// ones.
 pub fn settings_follow_the_commands()
     ensures { SettingsFollow }
 {}

@@ -1,4 +1,4 @@
-//! The machine of two steered hops in words: its steps, the good history of a run, and the parts that it stands on.
+//! The machine of two steered hops in words: its steps, the good history of a run, and its parts.
 #![tactic(auto)]
 
 mod flow_hashes;

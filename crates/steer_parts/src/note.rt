@@ -11,7 +11,8 @@ pub enum Note {
     Nothing,
     /// It looked at the socket flow table, and saw this processor there, if there was one.
     Looked(Option<u8>),
-    /// Its packet was accepted at a processor to which its class moved, and it asks for this filter next.
+    /// Its packet was accepted at a processor to which its class moved, and it asks for this
+    /// filter next.
     Asking(Filter),
 }
 

@@ -14,9 +14,10 @@ use std::collections::BTreeMap;
 use steer_base::{Flow, OutOfMemory, Packet};
 use toeplitz::{Key, Kinds, TabledKey};
 
-/// The packet of each record of a capture, in order: the flow of its frame, the flow's hash by the key and the kinds,
-/// its length, and the number of the flow among the distinct flows in order of first appearance. There are at most
-/// 262,144 records, and the frame of each lies within the bytes.
+/// The packet of each record of a capture, in order: the flow of its frame, the flow's hash by the
+/// key and the kinds, its length, and the number of the flow among the distinct flows in order of
+/// first appearance. There are at most 262,144 records, and the frame of each lies within the
+/// bytes.
 pub fn packets(
     alloc: Global,
     capture: &Capture,
@@ -73,7 +74,8 @@ mod tests {
     use steer_base::{AppId, Cpu, PacketId};
     use toeplitz::verification_key;
 
-    // A TCP frame of a published verification flow: 66.9.149.187 port 2794 to 161.142.100.80 port 1766.
+    // A TCP frame of a published verification flow: 66.9.149.187 port 2794 to 161.142.100.80 port
+    // 1766.
     const PLAIN: [u8; 38] = [
         0, 0, 0, 0, 0, 0, 0, 0, 0, 0, 0, 0, 0x08, 0x00, 0x45, 0, 0, 24, 0, 0, 0, 0, 64, 6, 0, 0,
         66, 9, 149, 187, 161, 142, 100, 80, 0x0a, 0xea, 0x06, 0xe6,
@@ -94,8 +96,8 @@ mod tests {
     // No packet of the internet protocol.
     const OTHER: [u8; 14] = [0, 0, 0, 0, 0, 0, 0, 0, 0, 0, 0, 0, 0x08, 0x06];
 
-    const PLAN: &[u8] =
-        b"{\"cpus\":4,\"queues\":[{\"home\":3,\"mask\":[],\"flows\":0}],\"sock\":0,\"apps\":[0,1],\"tx\":[{\"cpus\":[],\"queues\":[]}],\"steps\":[]}";
+    const PLAN: &[u8] = br#"{"cpus":4,"queues":[{"home":3,"mask":[],"flows":0}],"sock":0,
+"apps":[0,1],"tx":[{"cpus":[],"queues":[]}],"steps":[]}"#;
 
     fn captured(rt: &HostRuntime) -> Result<Vec<u8>, OutOfMemory> {
         let mut bytes = Vec::new(rt.alloc());
