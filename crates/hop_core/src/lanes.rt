@@ -1,5 +1,5 @@
 //! The lanes of a hop.
-ghost use Rattle.std.specs.Prelude.{◌≡◌, ℕ, ◌^◌, ◌<◌, ◌≤◌, length, slice_get, slice_index, IfOk};
+ghost use Rattle.std.specs.Prelude.{◌≡◌, ℕ, ◌<◌, ◌≤◌, length, slice_get, slice_index, IfOk};
 ghost use Rattle.steer_base.specs.Counters.{number};
 ghost use Rattle.backlog.specs.Puts.{after_put, after_take, next_waiting, put_answer, put_count};
 ghost use Rattle.hop_core.specs.LaneTable.{lane_at, new_lanes, with_lane};
@@ -53,8 +53,7 @@ impl Lanes {
     ) -> Result<Lanes, OutOfMemory>
         requires limit { 1 ≤ limit }
         requires room { room ≤ 262144 }
-        ensures lanes { IfOk result (λ lanes. lanes ≡ new_lanes count limit room start limited) }
-        ensures wide { start < 2 ^ 32 }
+        ensures { IfOk result (λ lanes. lanes ≡ new_lanes count limit room start limited) }
     {
         let mut lanes = Vec::with_capacity(alloc, count as usize)?;
         for lane in 0..count {

@@ -1,5 +1,5 @@
 -- The plan of a JSON value: a value after another in their order, up to the first that is wrong.
-use Rattle.std.specs.Prelude.{ℕ, zero, suc, ◌+◌, ◌%◌, ◌^◌, List, [], ◌∷◌, Bool, Option, Some, None, Result, Ok, Err, nat_le, if◌then◌else◌, is_some, option_and_then, bytes_eq, codes, bit_or, ⊤}
+use Rattle.std.specs.Prelude.{ℕ, ◌+◌, ◌^◌, List, [], ◌∷◌, Bool, Option, Some, None, Result, Ok, Err, nat_le, if◌then◌else◌, is_some, option_and_then, bytes_eq, codes, bit_or, ⊤}
 use Rattle.std.specs.Fmt.{decimal}
 use Rattle.std.specs.List.{list_any}
 use Rattle.std.specs.Result.{result_ok}

@@ -1,6 +1,6 @@
 -- The parts of a step text: numbers, sets, and the words between spaces.
-use Rattle.std.specs.Prelude.{ℕ, ◌+◌, ◌-◌, ◌*◌, ◌^◌, ◌&&◌, ◌==◌, List, [], ◌∷◌, length, Option}
-use Rattle.std.specs.Prelude.{Some, None, Result, Ok, nat_le, nat_lt, if◌then◌else◌, option_map}
+use Rattle.std.specs.Prelude.{ℕ, ◌^◌, ◌==◌, List, [], ◌∷◌, length, Option}
+use Rattle.std.specs.Prelude.{Some, None, Result, Ok, nat_lt, if◌then◌else◌, option_map}
 use Rattle.std.specs.Prelude.{option_and_then, bytes_eq, codes, bit_or}
 use Rattle.std.specs.List.{slice_split, position_or_len, before_first, after_first}
 use Rattle.steer_base.specs.Decimals.{decimal_number}

@@ -1,4 +1,5 @@
 use super::*;
+use crate::settings::key::VERIFICATION_KEY;
 use crate::steps::seeds::word_of;
 use std::alloc::Global;
 use std::test::Fail;
@@ -251,7 +252,7 @@ fn fields_and_defaults(rt: HostRuntime) -> Result<(), Fail> {
         }]
         .as_slice()
     );
-    assert_eq!(rt; plan.key.as_slice(), key::VERIFICATION_KEY.as_slice());
+    assert_eq!(rt; plan.key.as_slice(), VERIFICATION_KEY.as_slice());
     assert_eq!(rt; plan.kinds, 63);
     assert_eq!(rt; plan.reta.len(), 128);
     assert_eq!(rt;

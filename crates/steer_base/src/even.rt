@@ -25,8 +25,13 @@ mod tests {
     #[test]
     fn queues_get_entries_in_turn(rt: HostRuntime) {
         let entries = even_entries(3);
-        assert_eq!(rt; entries[0], RxQueue(0));
-        assert_eq!(rt; entries[5], RxQueue(2));
-        assert_eq!(rt; entries[127], RxQueue(1));
+        let cases = [(0usize, 0u8), (5, 2), (127, 1)];
+        for (place, queue) in cases {
+            assert_eq!(rt;
+                entries.as_slice().get(place),
+                Some(&RxQueue(queue)),
+                "{place}"
+            );
+        }
     }
 }

@@ -1,24 +1,19 @@
 -- The words of the command line, without the program's name.
-use Rattle.std.specs.Prelude.{ℕ, List, [], ◌∷◌, Bool, false, not, ◌&&◌, ◌==◌, nat_lt, nat_le}
-use Rattle.std.specs.Prelude.{length, Option, Some, None, if◌then◌else◌, bytes_eq, codes, String}
+use Rattle.std.specs.Prelude.{ℕ, List, [], ◌∷◌, Bool, false, not, ◌&&◌, ◌==◌, nat_le}
+use Rattle.std.specs.Prelude.{Option, Some, None, if◌then◌else◌, bytes_eq, codes, String}
 use Rattle.std.specs.Prelude.{string_bytes, map}
 use Rattle.std.specs.declared.alloc.Global.{Global}
 use Rattle.std.specs.Option.{option_map}
-use Rattle.std.specs.Str.{all_ascii_digits}
-use Rattle.std.specs.Str.Parse.{digits_value}
+use Rattle.steer_base.specs.Decimals.{decimal_number}
 
 -- a word that names a file: it is neither empty nor begins with a dash
 abbrev pub is_name : List ℕ → Bool
 is_name [] = false
 is_name (first ∷ rest) = not (first == 45)
 
--- one to twenty decimal digits
-abbrev pub is_number : List ℕ → Bool
-is_number word = nat_lt 0 (length word) && nat_le (length word) 20 && all_ascii_digits word
-
--- the number that a word is, where it is one
-unfoldable pub number_of : List ℕ → Option ℕ
-number_of word = if is_number word then Some (digits_value 10 word) else None
+-- the number of one to twenty decimal digits
+abbrev pub number_of : List ℕ → Option ℕ
+number_of word = decimal_number 20 word
 
 -- the number, where there is one from `low` to `high`
 abbrev pub if_within : ℕ → ℕ → Option ℕ → Option ℕ

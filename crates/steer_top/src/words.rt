@@ -2,15 +2,15 @@
 ghost use Rattle.std.specs.Prelude.{◌≡◌, ◌≤◌, Some, None, IfSome, map, string_bytes};
 ghost use Rattle.std.specs.Option.{option_map};
 ghost use Rattle.steer_top.specs.Commands.{hash_words_of, words_of};
-ghost use Rattle.std.specs.Str.{all_ascii_digits};
 ghost use Rattle.steer_top.specs.Words.{command_of, hash_with as hash_words};
 ghost use Rattle.steer_top.specs.Words.{hash_arguments as the_arguments, is_name as names_a_file};
 ghost use Rattle.steer_top.specs.Words.{number_of, number_within as the_number_within};
 
 use crate::command::{Command, HashCommand};
+use steer_base::decimal_number;
 
 /// The most digits that a number may have.
-const MAX_DIGITS: usize = 20;
+const MAX_DIGITS: u8 = 20;
 
 // Whether the word is neither empty nor an option.
 fn is_name(word: &str) -> bool
@@ -22,25 +22,11 @@ fn is_name(word: &str) -> bool
     }
 }
 
-// Whether all bytes are decimal digits.
-fn is_all_digits(word: &[u8]) -> bool
-    ensures { result ≡ all_ascii_digits word.now }
-{
-    match word {
-        [] => true,
-        [first, rest @ ..] => first.is_ascii_digit() && is_all_digits(rest),
-    }
-}
-
 // The number that the word is, where it has one to twenty digits and nothing else.
-#[tactic(auto, unfolding(crate::specs::Words::number_of))]
 fn number(word: &str) -> Option<u128>
     ensures { result ≡ number_of word.now }
 {
-    if word.is_empty() || word.len() > MAX_DIGITS || !is_all_digits(word.as_bytes()) {
-        return None;
-    }
-    word.parse().ok()
+    decimal_number(word.as_bytes(), MAX_DIGITS)
 }
 
 // The number that the word is, where it stands within the two bounds.

@@ -1,4 +1,4 @@
-use Rattle.std.proofs.Common.{map, ap, ◌∙◌}
+use Rattle.std.proofs.Common.{map, ap, arith, ◌∙◌}
 use Rattle.hop_core.specs.FlowTables.{new_tables}
 use Rattle.hop_core.specs.Shape.{IsShape, classes_for}
 use Rattle.hop_core.proofs.Wholes.{are_new, whole-made}
@@ -19,7 +19,7 @@ invariant_of-result c =
       few_outs = asked.few_outs;
       counts = asked.counts;
       classes = asked.classes;
-      start = c.in_ok-lanes.ensures.wide;
+      start = let e = ap (λ t. t.start) (c.lanes.view_is ∙ c.in_ok-lanes.ensures) in let r = c.lanes.ranges in omega (arith, e, r);
     } in
     (whole-made c.args.shape is _
     (are_new c.args.shape _ _ _ _ _ _ _ _ _ _ _ _ _ _
@@ -31,7 +31,7 @@ invariant_of-result c =
     c.in_ok-gate.ensures.visits
     (c.in_ok-counts.ensures ∙ ap (map (classes_for c.args.shape.exact)) c.deref-2.ensures.value)
     (c.in_ok-tables.ensures ∙ ap (λ counts. new_tables counts c.args.shape.start c.args.shape.exact) c.deref.ensures.value)
-    c.in_ok-lanes.ensures.lanes
+    c.in_ok-lanes.ensures
     c.in_ok-hands.ensures.delivered
     c.in_ok-hands.ensures.retired
     c.in_ok-outs.ensures
@@ -53,7 +53,7 @@ returns c =
       few_outs = asked.few_outs;
       counts = asked.counts;
       classes = asked.classes;
-      start = c.in_ok-lanes.ensures.wide;
+      start = let e = ap (λ t. t.start) (c.lanes.view_is ∙ c.in_ok-lanes.ensures) in let r = c.lanes.ranges in omega (arith, e, r);
     } in
     (whole-made c.args.shape is _
     (are_new c.args.shape _ _ _ _ _ _ _ _ _ _ _ _ _ _
@@ -65,7 +65,7 @@ returns c =
     c.in_ok-gate.ensures.visits
     (c.in_ok-counts.ensures ∙ ap (map (classes_for c.args.shape.exact)) c.deref-2.ensures.value)
     (c.in_ok-tables.ensures ∙ ap (λ counts. new_tables counts c.args.shape.start c.args.shape.exact) c.deref.ensures.value)
-    c.in_ok-lanes.ensures.lanes
+    c.in_ok-lanes.ensures
     c.in_ok-hands.ensures.delivered
     c.in_ok-hands.ensures.retired
     c.in_ok-outs.ensures

@@ -1,0 +1,52 @@
+-- The block at the front of what is left of a pcapng file: whole, cut, or at fault.
+use Rattle.std.specs.Prelude.{ℕ, ◌-◌, Bool, true, false, not, ◌==◌, nat_lt, if◌then◌else◌, List, length, Option, Some, None, Result, Ok, Err}
+use Rattle.pcapng_reader.specs.declared.section.Section.{Section}
+use Rattle.pcapng_reader.specs.declared.place.Place.{Place}
+use Rattle.pcapng_reader.specs.declared.block.Block.{Block}
+use Rattle.pcapng_reader.specs.declared.fault.NgFault.{NgFault}
+use Rattle.pcapng_reader.specs.declared.fault.NgFault.TheVariants as fault
+use Rattle.pcapng_reader.specs.Numbers.{u32_at}
+use Rattle.pcapng_reader.specs.Contents.{is_len, and_then, content_at}
+
+-- the type of a block. That of a section header is the same number in both byte orders
+abbrev pub kind_of : Section → List ℕ → ℕ
+kind_of section block = u32_at section.big 0 block
+
+-- the byte order of a block: a section header tells its own, every other block has its section's
+unfoldable pub order_of : Section → List ℕ → Option Bool
+order_of section block =
+    if not (kind_of section block == 0x0a0d0d0a) then Some section.big
+    else if u32_at false 8 block == 0x1a2b3c4d then Some false
+    else if u32_at true 8 block == 0x1a2b3c4d then Some true
+    else None
+
+-- the first total length of a block in its byte order, and the second, at the end of as many bytes
+abbrev pub total_len : Bool → List ℕ → ℕ
+total_len big block = u32_at big 4 block
+
+abbrev pub tail_len : Bool → List ℕ → ℕ
+tail_len big block = u32_at big (total_len big block - 4) block
+
+-- a block of this byte order: its length fits its type, it is whole, it ends with its length, and
+-- it tells what its type says
+unfoldable pub block_in : Section → Place → Bool → List ℕ → Result (Option Block) NgFault
+block_in section place big rest =
+    let len : ℕ = total_len big rest in
+    let kind : ℕ = kind_of section rest in
+    if not (is_len kind len) then Err (fault.BadBlock place.block len)
+    else if nat_lt (length rest) len then Ok None
+    else if not (tail_len big rest == len) then Err (fault.BadTail place.block (tail_len big rest))
+    else
+    and_then (λ content. Ok (Some (record { len = len; content = content })))
+    (content_at section place kind big len rest)
+
+abbrev pub ordered : Section → Place → List ℕ → Option Bool → Result (Option Block) NgFault
+ordered section place rest None = Err (fault.BadOrder (u32_at false 8 rest))
+ordered section place rest (Some big) = block_in section place big rest
+
+-- what stands at the front: the first that holds of a cut block, the faults in their order, and a
+-- whole block. Twelve bytes tell a type, a length, and the magic number of a section header
+unfoldable pub block_at : Section → Place → List ℕ → Result (Option Block) NgFault
+block_at section place rest =
+    if nat_lt (length rest) 12 then Ok None
+    else ordered section place rest (order_of section rest)

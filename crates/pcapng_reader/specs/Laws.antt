@@ -1,0 +1,83 @@
+-- What holds of captures and faults, whatever reads or writes them.
+use Rattle.std.specs.Prelude.{◌≡◌, ◌≤◌, ◌⊎◌, ℕ, ◌+◌, ◌%◌, Bool, Some, Ok, List, [], ◌∷◌, ◌++◌, length, map, All}
+use Rattle.pcap_reader.specs.declared.capture.Capture.{Capture}
+use Rattle.pcap_reader.specs.Captures.{frame_of}
+use Rattle.pcap_reader.specs.Numbers.{number_of}
+use Rattle.pcapng_reader.specs.declared.section.Section.{Section}
+use Rattle.pcapng_reader.specs.declared.place.Place.{Place}
+use Rattle.pcapng_reader.specs.declared.block.Block.{Block}
+use Rattle.pcapng_reader.specs.Blocks.{order_of, block_at}
+use Rattle.pcapng_reader.specs.declared.fault.NgFault.{NgFault}
+use Rattle.pcapng_reader.specs.declared.fault.NgFault.TheVariants as fault
+use Rattle.pcapng_reader.specs.Captures.{BeginsNg, HasNgCapture, HasNgFault}
+use Rattle.pcapng_reader.specs.Writing.{section_bytes, enhanced_bytes, ng_bytes, ng_capture}
+
+-- bytes have one capture at most
+abbrev pub HasOneCapture : Type 0
+HasOneCapture =
+    (bytes : List ℕ) (a b : Capture) → HasNgCapture bytes a → HasNgCapture bytes b → a ≡ b
+
+-- bytes have one fault at most
+abbrev pub HasOneFault : Type 0
+HasOneFault = (bytes : List ℕ) (a b : NgFault) → HasNgFault bytes a → HasNgFault bytes b → a ≡ b
+
+-- bytes with a capture have no fault
+abbrev pub HasNotBoth : Type 0
+HasNotBoth =
+    (bytes : List ℕ) (capture : Capture) (e : NgFault)
+    → HasNgCapture bytes capture → HasNgFault bytes e → ⊥
+
+-- all bytes that begin as a pcapng file does have a capture or a fault
+abbrev pub HasOneOfBoth : Type 0
+HasOneOfBoth =
+    (bytes : List ℕ) → BeginsNg bytes
+    → ((capture : Capture) × HasNgCapture bytes capture) ⊎ ((e : NgFault) × HasNgFault bytes e)
+
+-- bytes begin with a type, a length, a body and the length again, in this byte order
+pub record IsFramed (big : Bool) (len : ℕ) (bytes : List ℕ) : Type 0 where
+  pub kind : List ℕ
+  pub first : List ℕ
+  pub body : List ℕ
+  pub last : List ℕ
+  pub more : List ℕ
+  pub joined : bytes ≡ kind ++ (first ++ (body ++ (last ++ more)))
+  pub kind_size : length kind ≡ 4
+  pub first_size : length first ≡ 4
+  pub body_size : length body + 12 ≡ len
+  pub last_size : length last ≡ 4
+  pub first_told : number_of big 4 first ≡ len
+  pub last_told : number_of big 4 last ≡ len
+
+-- a whole block is these pieces in its byte order, and its length is a multiple of 4
+abbrev pub HasFourPieces : Type 0
+HasFourPieces =
+    (section : Section) (place : Place) (bytes : List ℕ) (b : Block)
+    → block_at section place bytes ≡ Ok (Some b)
+    → (big : Bool) × (order_of section bytes ≡ Some big) × (b.len % 4 ≡ 0)
+    × IsFramed big b.len bytes
+
+-- a section alone is the capture of no frames
+abbrev pub BeginsWithSection : Type 0
+BeginsWithSection = ng_bytes [] ≡ section_bytes
+
+-- a frame that is written behind a capture is its last
+abbrev pub GrowsByFrame : Type 0
+GrowsByFrame =
+    (frames : List (List ℕ)) (f : List ℕ)
+    → ng_bytes (frames ++ f ∷ []) ≡ ng_bytes frames ++ enhanced_bytes f
+
+-- at most 262144 frames that were written have this capture, with no cut
+abbrev pub ReadsBack : Type 0
+ReadsBack =
+    (frames : List (List ℕ)) → All (λ f. length f ≤ 262144) frames → length frames ≤ 262144
+    → HasNgCapture (ng_bytes frames) (ng_capture frames)
+
+-- the records of that capture have just the frames that were written
+abbrev pub KeepsFrames : Type 0
+KeepsFrames =
+    (frames : List (List ℕ))
+    → map (frame_of (ng_bytes frames)) (ng_capture frames).records ≡ frames
+
+-- want of memory is no fault of bytes
+abbrev pub IsNoWant : Type 0
+IsNoWant = (bytes : List ℕ) → HasNgFault bytes fault.OutOfMemory → ⊥

@@ -1,0 +1,20 @@
+//! The pcapng file format, version 1: captures of Ethernet frames are read and written.
+#![tactic(auto)]
+
+mod block;
+mod content;
+mod fault;
+mod laws;
+mod numbers;
+mod place;
+mod read;
+mod reader;
+mod section;
+#[cfg(test)]
+mod tests;
+mod write;
+
+pub use fault::NgFault;
+pub use laws::{a_block_is_four_pieces, frames_are_read_back, one_capture_or_fault};
+pub use read::{is_pcapng, read_ng};
+pub use write::{put_enhanced, put_section};

@@ -1,0 +1,64 @@
+//! Reading a capture: one walk over the blocks of its file.
+ghost use Rattle.std.specs.Prelude.{◌≡◌, ◌≢◌, ◌≤◌, ◌⊎◌, ◌↔◌, length, All, IsTrue, IfOk, IfErr, IsErrAnd, MatchResult};
+ghost use Rattle.pcap_reader.specs.declared.capture.Capture.{Capture as ACapture};
+ghost use Rattle.pcap_reader.specs.Captures.{IsWithin};
+ghost use Rattle.pcapng_reader.specs.declared.fault.NgFault.{NgFault as AFault};
+ghost use Rattle.pcapng_reader.specs.declared.fault.NgFault.TheVariants.{OutOfMemory as NoMemory};
+ghost use Rattle.pcapng_reader.specs.Captures.{BeginsNg, HasNgCapture, HasNgFault};
+
+use crate::block::block_at;
+use crate::fault::NgFault;
+use crate::reader::Reader;
+use pcap_reader::Capture;
+use std::alloc::Global;
+
+/// Whether bytes begin as a pcapng file does, with the type of a section header.
+pub fn is_pcapng(bytes: &[u8]) -> bool
+    ensures { IsTrue result ↔ BeginsNg bytes.now }
+{
+    matches!(bytes, [0x0a, 0x0d, 0x0d, 0x0a, ..])
+}
+
+/// Reads the bytes of a pcapng file of Ethernet frames, which begin with the type of a section
+/// header, `0a 0d 0d 0a`: several sections, of either byte order, with their interfaces, enhanced
+/// and simple packets; all other blocks are passed over. The fault is the first in the order of the
+/// file. The two words of a packet's time are its `sec` and `frac`, whatever the interface's unit
+/// is. Takes memory for the records and for the interfaces of a section.
+pub fn read_ng(alloc: Global, bytes: &[u8]) -> Result<Capture, NgFault>
+    requires { BeginsNg bytes.now }
+
+    // Ok exactly where the bytes have a capture, and memory is left.
+    ensures found { IfOk result (λ capture. HasNgCapture bytes.now capture) }
+    ensures complete { (capture : ACapture) → HasNgCapture bytes.now capture
+        → MatchResult result (λ c. c ≡ capture) (λ e. e ≡ NoMemory) }
+
+    // Each fault exactly where the bytes have it, and memory is left.
+    ensures fault { IfErr result (λ e. e ≢ NoMemory → HasNgFault bytes.now e) }
+    ensures exact { (fault : AFault) → HasNgFault bytes.now fault
+        → IsErrAnd result (λ e. (e ≡ fault) ⊎ (e ≡ NoMemory)) }
+
+    ensures few { IfOk result (λ capture. length capture.records ≤ 262144) }
+    ensures within { IfOk result (λ capture. All (IsWithin bytes.now) capture.records) }
+{
+    read_file(alloc, bytes)
+}
+
+/// Reads the file. That no other answer is right follows from what captures and faults are.
+fn read_file(alloc: Global, bytes: &[u8]) -> Result<Capture, NgFault>
+    requires { BeginsNg bytes.now }
+    ensures found { IfOk result (λ capture. HasNgCapture bytes.now capture) }
+    ensures fault { IfErr result (λ e. e ≢ NoMemory → HasNgFault bytes.now e) }
+    ensures few { IfOk result (λ capture. length capture.records ≤ 262144) }
+    ensures within { IfOk result (λ capture. All (IsWithin bytes.now) capture.records) }
+{
+    let mut reader = Reader::new(alloc);
+    let mut rest = bytes;
+    while !rest.is_empty() {
+        let Some(block) = block_at(&reader.section, reader.place, rest)? else {
+            return Ok(reader.ends(Some(rest.len() as u32)));
+        };
+        reader.take_in(block)?;
+        rest = rest.split_at(block.len as usize).1;
+    }
+    Ok(reader.ends(None))
+}

@@ -1,0 +1,53 @@
+//! Entering the levels of a frame.
+ghost use Rattle.std.specs.Prelude.{◌≡◌, ◌≤◌, length, IsTrue};
+ghost use Rattle.flow_dissector.specs.Ethernet.{is_ip};
+ghost use Rattle.tunnel_dissector.specs.Inner.{deepest, inner_of};
+
+use crate::inner::Inner;
+use crate::level::entered;
+use flow_dissector::{dissect_ip, ip_of};
+use steer_base::Flow;
+
+/// How many levels are entered.
+const MAX_LEVELS: u8 = 4;
+
+/// The flow of the innermost packet of an Ethernet frame, through IPv4 and IPv6 in IP (RFC 2003,
+/// RFC 2473), GRE (RFC 2784, RFC 2890) and VXLAN (RFC 7348), over at most four levels. A level that
+/// shows no whole IP header is not entered.
+#[tactic(auto, unfolding(crate::specs::Inner::inner_of))]
+pub fn dissect_inner(frame: &[u8]) -> Inner
+    ensures { result ≡ inner_of frame.now }
+{
+    match ip_of(frame) {
+        None => Inner {
+            flow: Flow::Bare,
+            depth: 0,
+        },
+        Some(at) => deepest(&frame[at.start..], at.kind),
+    }
+}
+
+/// The flow of the innermost packet of an IP packet.
+fn deepest(packet: &[u8], kind: u16) -> Inner
+    requires { IsTrue (is_ip kind) }
+    ensures { result ≡ deepest 4 kind packet.now }
+{
+    let mut kind = kind;
+    let mut packet = packet;
+    let mut depth = 0;
+    while depth < MAX_LEVELS {
+        let Some(at) = entered(packet, kind) else {
+            return Inner {
+                flow: dissect_ip(packet, kind),
+                depth,
+            };
+        };
+        packet = packet.split_at(at.start).1;
+        kind = at.kind;
+        depth += 1;
+    }
+    Inner {
+        flow: dissect_ip(packet, kind),
+        depth,
+    }
+}
