@@ -1,0 +1,11 @@
+pub mod FlowOrder
+pub mod HashLemmas
+pub mod IdleLemmas
+pub mod LastWriteLemmas
+pub mod Lift
+pub mod NoCommand
+pub mod NumberingLemmas
+pub mod PacketLemmas
+pub mod PlanLemmas
+pub mod ReadLemmas
+pub mod SettingLemmas

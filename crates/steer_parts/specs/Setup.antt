@@ -1,0 +1,34 @@
+-- What the plan and the capture fix for a whole run.
+use Rattle.std.specs.Prelude.{ℕ, List, Option}
+use Rattle.std.specs.Option.{option_map}
+use Rattle.steer_base.specs.declared.packet.Packet.{Packet}
+use Rattle.history.specs.Finding.{found}
+use Rattle.history.specs.Lists.{packet_at, app_at}
+
+-- The home processor of each receive queue, the numbers of processors, transmit queues and
+-- applications, the packets of the capture, and the length of its cut record.
+pub record Setup : Type 0 where
+  pub homes : List ℕ
+  pub cpus : ℕ
+  pub txs : ℕ
+  pub apps : ℕ
+  pub packets : List Packet
+  pub cut : Option ℕ
+
+-- of a packet its hash, the number of its flow, and its application
+abbrev pub hash_of : Setup → ℕ → Option ℕ
+hash_of p x = (packet_at p.packets x).hash
+
+abbrev pub flow_of : Setup → ℕ → ℕ
+flow_of p x = (packet_at p.packets x).flow_number
+
+abbrev pub app_for : Setup → ℕ → ℕ
+app_for p x = app_at p.packets p.apps x
+
+-- the hash of a flow, which is that of its first packet; none where there is no such flow
+abbrev pub hash_of_flow : List Packet → ℕ → Option (Option ℕ)
+hash_of_flow packets flow =
+    option_map (λ packet. packet.hash) (found (λ packet. packet.flow_number) flow packets)
+
+abbrev pub flow_hash : Setup → ℕ → Option (Option ℕ)
+flow_hash p flow = hash_of_flow p.packets flow

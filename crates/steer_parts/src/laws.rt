@@ -1,0 +1,56 @@
+//! Laws of the machine and of its histories, each the contract of a function that does nothing.
+ghost use Rattle.plan_reader.specs.Plans.{sizes_of};
+ghost use Rattle.plan_reader.specs.Ranges.{step_is_within};
+ghost use Rattle.std.specs.List.{AllPass};
+ghost use Rattle.steer_parts.specs.GoodLaws.{GoodByClauses};
+ghost use Rattle.steer_parts.specs.LastWrites.{ValuesAreLastWrites};
+ghost use Rattle.steer_parts.specs.PacketLaws.{PacketsAreOfFlows, PacketsAreOne};
+ghost use Rattle.steer_parts.specs.SettingLaws.{SettingsFollow};
+ghost use Rattle.steer_parts.specs.Start.{steps_of};
+ghost use Rattle.steer_parts.specs.StepLaws.{IdleLeavesAll, RefusedLeavesAll};
+
+use plan_reader::Plan;
+
+/// Where no command was given, a history is good exactly where each clause holds by itself.
+pub fn a_history_is_good_by_its_clauses()
+    ensures { GoodByClauses }
+{}
+
+/// A step of one event that is idle leaves the machine as it was.
+pub fn an_idle_step_leaves_all()
+    ensures { IdleLeavesAll }
+{}
+
+/// A command that is not done changes nothing but the list of commands.
+pub fn a_refused_command_leaves_all()
+    ensures { RefusedLeavesAll }
+{}
+
+/// A capture has one list of packets by a key and its kinds.
+pub fn a_capture_has_one_list_of_packets()
+    ensures { PacketsAreOne }
+{}
+
+/// The flow number of each packet of a capture is below the number of packets, and all packets of a
+/// flow have one hash.
+pub fn packets_are_of_flows()
+    ensures { PacketsAreOfFlows }
+{}
+
+/// Each setting in force is that of the last done command for it, else the one before all commands.
+pub fn a_value_in_force_is_the_last_write()
+    ensures { ValuesAreLastWrites }
+{}
+
+/// After any steps the settings are those that the done ones of all commands leave of the first
+/// ones.
+pub fn settings_follow_the_commands()
+    ensures { SettingsFollow }
+{}
+
+/// Each step of a plan, of its list or of its seed, names what the plan has.
+pub fn steps_of_a_plan_are_within(plan: &Plan)
+    ensures { AllPass (step_is_within (sizes_of plan.now)) (steps_of plan.now) }
+{
+    let _ = &plan.cpus;
+}

@@ -1,0 +1,27 @@
+//! The machine of two steered hops in words: its steps, the good history of a run, and its parts.
+#![tactic(auto)]
+
+mod flow_hashes;
+mod gate;
+mod given;
+mod hop_reads;
+mod in_force;
+mod laws;
+mod note;
+mod packet_list;
+mod turns;
+mod wish;
+
+pub use gate::{gate_answer, is_done, refused_answer};
+pub use given::Given;
+pub use hop_reads::{last_of, position_of, told};
+pub use in_force::InForce;
+pub use laws::{
+    a_capture_has_one_list_of_packets, a_history_is_good_by_its_clauses,
+    a_refused_command_leaves_all, a_value_in_force_is_the_last_write, an_idle_step_leaves_all,
+    packets_are_of_flows, settings_follow_the_commands, steps_of_a_plan_are_within,
+};
+pub use note::Note;
+pub use packet_list::packets;
+pub use turns::{is_idle, is_work};
+pub use wish::{desired_cpu, filter_for, socket_seen};
