@@ -9,3 +9,4 @@ pub mod PacketLemmas
 pub mod PlanLemmas
 pub mod ReadLemmas
 pub mod SettingLemmas
+pub mod TableWriteLemmas

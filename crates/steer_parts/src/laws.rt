@@ -8,6 +8,8 @@ ghost use Rattle.steer_parts.specs.PacketLaws.{PacketsAreOfFlows, PacketsAreOne}
 ghost use Rattle.steer_parts.specs.SettingLaws.{SettingsFollow};
 ghost use Rattle.steer_parts.specs.Start.{steps_of};
 ghost use Rattle.steer_parts.specs.StepLaws.{IdleLeavesAll, RefusedLeavesAll};
+ghost use Rattle.steer_parts.specs.TableWrites.{EntriesAreLastWrites, FiltersAreLastWrites};
+ghost use Rattle.steer_parts.specs.TableWrites.{StepsAreEvents};
 
 use plan_reader::Plan;
 
@@ -46,6 +48,14 @@ pub fn a_value_in_force_is_the_last_write()
 /// ones.
 pub fn settings_follow_the_commands()
     ensures { SettingsFollow }
+{}
+
+/// An entry of the socket flow table and a filter in force are what was written there last, else
+/// what they were at first: after any events one by one, and any steps are some of these.
+pub fn a_table_in_force_is_the_last_writes()
+    ensures steps { StepsAreEvents }
+    ensures entries { EntriesAreLastWrites }
+    ensures filters { FiltersAreLastWrites }
 {}
 
 /// Each step of a plan, of its list or of its seed, names what the plan has.
