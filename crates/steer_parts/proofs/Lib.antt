@@ -8,4 +8,5 @@ pub mod NumberingLemmas
 pub mod PacketLemmas
 pub mod PlanLemmas
 pub mod ReadLemmas
+pub mod ReasonLemmas
 pub mod SettingLemmas

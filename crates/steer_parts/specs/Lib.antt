@@ -26,3 +26,4 @@ pub mod Packets
 pub mod PacketLaws
 pub mod SettingLaws
 pub mod StepLaws
+pub mod Reasons
