@@ -138,7 +138,7 @@ leaves-inside m true why y p = p refl
 leaves-inside m false why y p = leaves-idle m why
 
 -- a weighing inside the gate with a packet to weigh is done
-weighs : (s : HopState) (p : ℕ) (class want : Option ℕ) (desired : ℕ) (online : CpuMask)
+pub weighs : (s : HopState) (p : ℕ) (class want : Option ℕ) (desired : ℕ) (online : CpuMask)
     → inside_of s p ≡ true → nat_lt (length (choices_of s p)) (taken_of s p) ≡ true
     → told (happens s (event.Weigh p class want desired online)).1 ≡ says.Done
 weighs s p class want desired online inside taken = rw (inside, taken) refl

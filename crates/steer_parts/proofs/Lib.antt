@@ -8,5 +8,6 @@ pub mod NumberingLemmas
 pub mod PacketLemmas
 pub mod PlanLemmas
 pub mod ReadLemmas
+pub mod ReasonLemmas
 pub mod SettingLemmas
 pub mod TableWriteLemmas

@@ -27,3 +27,4 @@ pub mod PacketLaws
 pub mod SettingLaws
 pub mod StepLaws
 pub mod TableWrites
+pub mod Reasons

@@ -5,6 +5,7 @@ ghost use Rattle.std.specs.List.{AllPass};
 ghost use Rattle.steer_parts.specs.GoodLaws.{GoodByClauses};
 ghost use Rattle.steer_parts.specs.LastWrites.{ValuesAreLastWrites};
 ghost use Rattle.steer_parts.specs.PacketLaws.{PacketsAreOfFlows, PacketsAreOne};
+ghost use Rattle.steer_parts.specs.Reasons.{IdleForFirstReason};
 ghost use Rattle.steer_parts.specs.SettingLaws.{SettingsFollow};
 ghost use Rattle.steer_parts.specs.Start.{steps_of};
 ghost use Rattle.steer_parts.specs.StepLaws.{IdleLeavesAll, RefusedLeavesAll};
@@ -21,6 +22,12 @@ pub fn a_history_is_good_by_its_clauses()
 /// A step of one event that is idle leaves the machine as it was.
 pub fn an_idle_step_leaves_all()
     ensures { IdleLeavesAll }
+{}
+
+/// A step of one event is done where all holds that it needs, and else idle for the first of its
+/// reasons, where every hand has at most one packet.
+pub fn a_step_is_idle_for_its_first_reason()
+    ensures { IdleForFirstReason }
 {}
 
 /// A command that is not done changes nothing but the list of commands.
