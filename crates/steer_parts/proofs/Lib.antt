@@ -9,4 +9,5 @@ pub mod PacketLemmas
 pub mod PlanLemmas
 pub mod ReadLemmas
 pub mod SettingLemmas
+pub mod TableOriginLemmas
 pub mod TableWriteLemmas

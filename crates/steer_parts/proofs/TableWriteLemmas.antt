@@ -37,7 +37,7 @@ use Rattle.steer_parts.proofs.Lift.{after-keeps}
 
 -- ---- tables
 
-set-at : {A : Type 0} (xs : List (Option A)) (at i : ℕ) (v : A) → at < length xs
+pub set-at : {A : Type 0} (xs : List (Option A)) (at i : ℕ) (v : A) → at < length xs
     → slice_index_or (slice_set xs at (Some v)) i None
     ≡ unwrap_or (if i == at then Some (Some v) else None) (slice_index_or xs i None)
 set-at xs at i v lt =
@@ -57,7 +57,7 @@ row-written rows (Some hash) v place =
       | inr none ↦ rw none refl
     ]
 
-no-rows : (n place : ℕ) → slice_index_or (unset n) place None ≡ None
+pub no-rows : (n place : ℕ) → slice_index_or (unset n) place None ≡ None
 no-rows zero place = refl
 no-rows (suc n) zero = refl
 no-rows (suc n) (suc place) = no-rows n place

@@ -26,4 +26,5 @@ pub mod Packets
 pub mod PacketLaws
 pub mod SettingLaws
 pub mod StepLaws
+pub mod TableOrigins
 pub mod TableWrites

@@ -8,6 +8,7 @@ ghost use Rattle.steer_parts.specs.PacketLaws.{PacketsAreOfFlows, PacketsAreOne}
 ghost use Rattle.steer_parts.specs.SettingLaws.{SettingsFollow};
 ghost use Rattle.steer_parts.specs.Start.{steps_of};
 ghost use Rattle.steer_parts.specs.StepLaws.{IdleLeavesAll, RefusedLeavesAll};
+ghost use Rattle.steer_parts.specs.TableOrigins.{EntriesAreWritten};
 ghost use Rattle.steer_parts.specs.TableWrites.{EntriesAreLastWrites, FiltersAreLastWrites};
 ghost use Rattle.steer_parts.specs.TableWrites.{StepsAreEvents};
 
@@ -56,6 +57,7 @@ pub fn a_table_in_force_is_the_last_writes()
     ensures steps { StepsAreEvents }
     ensures entries { EntriesAreLastWrites }
     ensures filters { FiltersAreLastWrites }
+    ensures written { EntriesAreWritten }
 {}
 
 /// Each step of a plan, of its list or of its seed, names what the plan has.
