@@ -9,5 +9,6 @@ pub mod PacketLemmas
 pub mod PlanLemmas
 pub mod ReadLemmas
 pub mod SettingLemmas
+pub mod FilterOriginLemmas
 pub mod TableOriginLemmas
 pub mod TableWriteLemmas

@@ -67,7 +67,7 @@ get-last : {A : Type 0} (xs : List A) (x : A) → slice_get (xs ++ x ∷ []) (le
 get-last [] x = refl
 get-last (y ∷ ys) x = get-last ys x
 
-get-more : {A : Type 0} (xs : List A) (x y : A) (i : ℕ) → slice_get xs i ≡ Some y
+pub get-more : {A : Type 0} (xs : List A) (x y : A) (i : ℕ) → slice_get xs i ≡ Some y
     → slice_get (xs ++ x ∷ []) i ≡ Some y
 get-more [] x y i is = cc
 get-more (z ∷ zs) x y zero is = is
