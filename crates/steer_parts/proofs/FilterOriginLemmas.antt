@@ -1,16 +1,14 @@
 -- Each filter that is set is that of a choice.
-use Rattle.std.proofs.Common.{ℕ, ◌<◌, ◌≤◌, ◌≡◌, ◌⊎◌, ◌∙◌, sym, ap, refl, Bool, true, false, List, [], ◌∷◌, ◌++◌}
-use Rattle.std.proofs.Common.{Option, Some, None, length, subst, arith, inl, inr, unwrap_or, slice_get}
-use Rattle.std.specs.Prelude.{if◌then◌else◌, nat_lt, not, ◌==◌, slice_index_or, slice_set, suc, zero}
+use Rattle.std.proofs.Common.{ℕ, ◌≤◌, ◌≡◌, ◌⊎◌, ◌∙◌, sym, ap, refl, Bool, true, false, List, [], ◌∷◌, ◌++◌}
+use Rattle.std.proofs.Common.{Option, Some, None, length, subst, inl, inr, unwrap_or, slice_get}
+use Rattle.std.specs.Prelude.{if◌then◌else◌, nat_lt, not, slice_index_or, slice_set, suc, zero}
 use Rattle.std.specs.Prelude.{◌-◌, ◌+◌, ◌%◌, ◌≢◌, replicate}
 use Rattle.std.proofs.lemmas.Bool.{cases_Bool, cases_eq, cases_lt, eqb-true}
 use Rattle.std.proofs.lemmas.List.{get_or-set_same, get_or-set_other, get_or_past, length-map, length-set}
-use Rattle.std.proofs.lemmas.Option.{same_Some}
 use Rattle.steer_base.specs.Choices.{class_of}
 use Rattle.steer_base.specs.Entries.{is_class}
 use Rattle.steer_base.specs.Filters.{filter_written}
 use Rattle.steer_base.specs.HashTables.{place_in_rows}
-use Rattle.steer_base.specs.declared.choice.Choice.{Choice}
 use Rattle.steer_base.specs.declared.choice.Chosen.{Chosen}
 use Rattle.steer_base.specs.declared.cpu_mask.CpuMask.{CpuMask}
 use Rattle.steer_base.specs.declared.command.Answer.TheVariants as says
@@ -25,20 +23,20 @@ use Rattle.hop_core.proofs.Leaves.{each_leaves}
 use Rattle.hop_core.specs.declared.event.HopAnswer.{HopAnswer}
 use Rattle.hop_core.specs.declared.event.HopEvent.{HopEvent}
 use Rattle.hop_core.specs.declared.event.HopEvent.TheVariants as event
-use Rattle.hop_core.specs.Events.{Outcome as HopOutcome, happens, run}
+use Rattle.hop_core.specs.Events.{Outcome as HopOutcome, happens}
 use Rattle.hop_core.specs.Hop.{HopState, choice_of, choices_of, chose, inside_of, nobody, placed_of, taken_of}
 use Rattle.hop_core.specs.Leaves.{Field, changes}
 use Rattle.hop_core.specs.Reads.{last_choice, to_weigh}
 use Rattle.history.specs.declared.arrival.Arrival.{Arrival}
 use Rattle.plan_reader.specs.declared.plan.Plan.{Plan}
 use Rattle.steer_parts.specs.Applications.{in_lane, next_in, record_by, send_by, visited, wrote}
-use Rattle.steer_parts.specs.Commands.{answer_to, given, is_done, kept_filter, may_go, set_by}
+use Rattle.steer_parts.specs.Commands.{answer_to, is_done, kept_filter, may_go, set_by}
 use Rattle.steer_parts.specs.FilterOrigins.{FilterIsFrom, FiltersAreFrom, FiltersAreFromChoices}
 use Rattle.steer_parts.specs.Machine.{Machine, last_of, note_of}
 use Rattle.steer_parts.specs.Notes.{asking, is_asking, is_nothing}
 use Rattle.steer_parts.specs.Outcomes.{Outcome, by_rx}
 use Rattle.steer_parts.specs.Pollers.{arrival_by, arrives, route_by}
-use Rattle.steer_parts.specs.Pollers.{ask_by, filter_for, look_by, put_by, putting, weigh_by, weighing, with_filter}
+use Rattle.steer_parts.specs.Pollers.{ask_by, filter_for, look_by, put_by, putting, weigh_by, with_filter}
 use Rattle.steer_parts.specs.Setup.{Setup, app_for, flow_hash, hash_of}
 use Rattle.steer_parts.specs.Start.{new_machine}
 use Rattle.steer_parts.specs.Steps.{simple}

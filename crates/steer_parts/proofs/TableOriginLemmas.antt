@@ -1,8 +1,8 @@
 -- Each entry of the socket flow table that is set is a write of the history.
 use Rattle.std.proofs.Common.{ℕ, ◌%◌, ◌<◌, ◌≡◌, ◌∙◌, sym, ap, refl, Bool, true, false, List, [], ◌∷◌, ◌++◌}
-use Rattle.std.proofs.Common.{Option, Some, None, length, subst, arith, inl, inr, unwrap_or, slice_get}
+use Rattle.std.proofs.Common.{Option, Some, None, length, subst, inl, inr, unwrap_or, slice_get}
 use Rattle.std.specs.Prelude.{if◌then◌else◌, nat_lt, not, ◌==◌, slice_index_or, slice_set, suc, zero}
-use Rattle.std.proofs.lemmas.Bool.{cases_Bool, cases_eq, eq-eqb, ltb-true, ne_eqb}
+use Rattle.std.proofs.lemmas.Bool.{cases_eq, eq-eqb, ltb-true, ne_eqb}
 use Rattle.std.proofs.lemmas.List.{get_or-set_same, get_or-set_other, length-replicate, length-set}
 use Rattle.std.proofs.lemmas.Option.{same_Some}
 use Rattle.std.proofs.Math.Nat.{mod-lt}
@@ -22,7 +22,7 @@ use Rattle.hop_core.specs.Reads.{to_weigh}
 use Rattle.plan_reader.specs.declared.plan.Plan.{Plan}
 use Rattle.sock_flow_table.specs.Sockets.{unset}
 use Rattle.steer_parts.specs.Applications.{next_in, record_by, send_by, stand_of, visited, wrote}
-use Rattle.steer_parts.specs.Commands.{answer_to, given, is_done, set_by}
+use Rattle.steer_parts.specs.Commands.{answer_to, is_done, set_by}
 use Rattle.steer_parts.specs.GoodChoices.{WasWritten}
 use Rattle.steer_parts.specs.Machine.{Machine, history_of, note_of}
 use Rattle.steer_parts.specs.Notes.{is_asking, is_nothing}

@@ -1,6 +1,6 @@
 -- What each event writes to the socket flow table and to the filters, and that the last write stands.
-use Rattle.std.proofs.Common.{ℕ, ◌%◌, ◌<◌, ◌≤◌, ◌≡◌, ◌∙◌, sym, ap, refl, Bool, true, false, List, [], ◌∷◌, ◌++◌}
-use Rattle.std.proofs.Common.{Option, Some, None, length, subst, arith, inl, inr, unwrap_or, suc, zero}
+use Rattle.std.proofs.Common.{ℕ, ◌%◌, ◌<◌, ◌≡◌, ◌∙◌, sym, ap, refl, Bool, true, false, List, [], ◌∷◌, ◌++◌}
+use Rattle.std.proofs.Common.{Option, Some, None, length, inl, inr, unwrap_or, suc, zero}
 use Rattle.std.specs.Prelude.{if◌then◌else◌, nat_lt, not, ◌==◌, map, slice_index_or, slice_set}
 use Rattle.std.specs.List.{cons_option}
 use Rattle.std.proofs.lemmas.Bool.{cases_Bool, cases_eq, eq-eqb, ltb-true, ne_eqb}
@@ -22,7 +22,7 @@ use Rattle.hop_core.specs.Reads.{to_weigh}
 use Rattle.accel_filter.specs.Table.{unset as no_filter}
 use Rattle.sock_flow_table.specs.Sockets.{unset}
 use Rattle.steer_parts.specs.Applications.{next_in, record_by, send_by, stand_of}
-use Rattle.steer_parts.specs.Commands.{answer_to, given, is_done, kept_filter, may_go, set_by}
+use Rattle.steer_parts.specs.Commands.{answer_to, is_done, kept_filter, may_go, set_by}
 use Rattle.steer_parts.specs.Machine.{Machine, last_of, note_of}
 use Rattle.steer_parts.specs.Notes.{is_asking, is_nothing}
 use Rattle.steer_parts.specs.Outcomes.{Outcome, by_rx}
