@@ -10,4 +10,6 @@ pub mod PlanLemmas
 pub mod ReadLemmas
 pub mod ReasonLemmas
 pub mod SettingLemmas
+pub mod FilterOriginLemmas
+pub mod TableOriginLemmas
 pub mod TableWriteLemmas

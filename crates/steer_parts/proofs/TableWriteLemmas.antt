@@ -19,6 +19,7 @@ use Rattle.steer_base.specs.declared.step.Step.TheVariants as act
 use Rattle.hop_core.specs.declared.event.HopAnswer.{HopAnswer}
 use Rattle.hop_core.specs.Hop.{inside_of, placed_of, taken_of}
 use Rattle.hop_core.specs.Reads.{to_weigh}
+use Rattle.accel_filter.specs.Table.{unset as no_filter}
 use Rattle.sock_flow_table.specs.Sockets.{unset}
 use Rattle.steer_parts.specs.Applications.{next_in, record_by, send_by, stand_of}
 use Rattle.steer_parts.specs.Commands.{answer_to, is_done, kept_filter, may_go, set_by}
@@ -37,7 +38,7 @@ use Rattle.steer_parts.proofs.Lift.{after-keeps}
 
 -- ---- tables
 
-set-at : {A : Type 0} (xs : List (Option A)) (at i : ℕ) (v : A) → at < length xs
+pub set-at : {A : Type 0} (xs : List (Option A)) (at i : ℕ) (v : A) → at < length xs
     → slice_index_or (slice_set xs at (Some v)) i None
     ≡ unwrap_or (if i == at then Some (Some v) else None) (slice_index_or xs i None)
 set-at xs at i v lt =
@@ -47,7 +48,7 @@ set-at xs at i v lt =
       | inr ne ↦ rw (ne_eqb i at ne) (get_or-set_other xs at i (Some v) None ne)
     ]
 
-row-written : {A : Type 0} (rows : List (Option A)) (hash : Option ℕ) (v : A) (place : ℕ)
+pub row-written : {A : Type 0} (rows : List (Option A)) (hash : Option ℕ) (v : A) (place : ℕ)
     → slice_index_or (with_row rows (place_in_rows rows hash) (Some v)) place None
     ≡ unwrap_or (if_at place rows hash (Some v)) (slice_index_or rows place None)
 row-written rows None v place = refl
@@ -57,12 +58,17 @@ row-written rows (Some hash) v place =
       | inr none ↦ rw none refl
     ]
 
-no-rows : (n place : ℕ) → slice_index_or (unset n) place None ≡ None
+pub no-rows : (n place : ℕ) → slice_index_or (unset n) place None ≡ None
 no-rows zero place = refl
 no-rows (suc n) zero = refl
 no-rows (suc n) (suc place) = no-rows n place
 
-map-at : {A : Type 0} (f : Option A → Option A) → f None ≡ None → (xs : List (Option A)) (place : ℕ)
+pub no-filters : (n place : ℕ) → slice_index_or (no_filter n) place None ≡ None
+no-filters zero place = refl
+no-filters (suc n) zero = refl
+no-filters (suc n) (suc place) = no-filters n place
+
+pub map-at : {A : Type 0} (f : Option A → Option A) → f None ≡ None → (xs : List (Option A)) (place : ℕ)
     → slice_index_or (map f xs) place None ≡ f (slice_index_or xs place None)
 map-at f none [] place = sym none
 map-at f none (x ∷ xs) zero = refl

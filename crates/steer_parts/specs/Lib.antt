@@ -26,5 +26,7 @@ pub mod Packets
 pub mod PacketLaws
 pub mod SettingLaws
 pub mod StepLaws
+pub mod FilterOrigins
+pub mod TableOrigins
 pub mod TableWrites
 pub mod Reasons

@@ -2,6 +2,7 @@
 ghost use Rattle.plan_reader.specs.Plans.{sizes_of};
 ghost use Rattle.plan_reader.specs.Ranges.{step_is_within};
 ghost use Rattle.std.specs.List.{AllPass};
+ghost use Rattle.steer_parts.specs.FilterOrigins.{FiltersAreFromChoices};
 ghost use Rattle.steer_parts.specs.GoodLaws.{GoodByClauses};
 ghost use Rattle.steer_parts.specs.LastWrites.{ValuesAreLastWrites};
 ghost use Rattle.steer_parts.specs.PacketLaws.{PacketsAreOfFlows, PacketsAreOne};
@@ -9,6 +10,7 @@ ghost use Rattle.steer_parts.specs.Reasons.{IdleForFirstReason};
 ghost use Rattle.steer_parts.specs.SettingLaws.{SettingsFollow};
 ghost use Rattle.steer_parts.specs.Start.{steps_of};
 ghost use Rattle.steer_parts.specs.StepLaws.{IdleLeavesAll, RefusedLeavesAll};
+ghost use Rattle.steer_parts.specs.TableOrigins.{EntriesAreWritten};
 ghost use Rattle.steer_parts.specs.TableWrites.{EntriesAreLastWrites, FiltersAreLastWrites};
 ghost use Rattle.steer_parts.specs.TableWrites.{StepsAreEvents};
 
@@ -63,6 +65,8 @@ pub fn a_table_in_force_is_the_last_writes()
     ensures steps { StepsAreEvents }
     ensures entries { EntriesAreLastWrites }
     ensures filters { FiltersAreLastWrites }
+    ensures written { EntriesAreWritten }
+    ensures chosen { FiltersAreFromChoices }
 {}
 
 /// Each step of a plan, of its list or of its seed, names what the plan has.
