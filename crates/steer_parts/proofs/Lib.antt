@@ -10,3 +10,4 @@ pub mod PlanLemmas
 pub mod ReadLemmas
 pub mod ReasonLemmas
 pub mod SettingLemmas
+pub mod StageLemmas

@@ -1,5 +1,5 @@
 -- A step of one event is done where all holds that it needs, and else idle for the first reason.
-use Rattle.std.proofs.Common.{ℕ, ◌+◌, ◌%◌, ◌<◌, ◌≤◌, ◌≡◌, Bool, true, false, [], ◌∷◌, Option, Some, None}
+use Rattle.std.proofs.Common.{ℕ, ◌+◌, ◌%◌, ◌≤◌, ◌≡◌, Bool, true, false, [], ◌∷◌, Option, Some, None}
 use Rattle.std.proofs.Common.{length, refl, ap, ◌∙◌, sym, arith, inl, inr}
 use Rattle.std.specs.Prelude.{if◌then◌else◌, ◌&&◌, ◌||◌, is_some, nat_lt, not, unwrap_or}
 use Rattle.std.proofs.lemmas.Bool.{cases_lt, false≢true, le-ltb, lt-ltb}
@@ -9,16 +9,14 @@ use Rattle.steer_base.specs.declared.command.Answer.TheVariants as says
 use Rattle.steer_base.specs.declared.filter.Filter.{Filter}
 use Rattle.steer_base.specs.declared.idle.Idle.{Idle}
 use Rattle.steer_base.specs.declared.idle.Idle.TheVariants as idle
-use Rattle.steer_base.specs.declared.put.Put.TheVariants as went
 use Rattle.steer_base.specs.declared.step.Step.{Step}
 use Rattle.steer_base.specs.declared.step.Step.TheVariants as act
 use Rattle.hop_core.specs.declared.event.HopAnswer.{HopAnswer}
-use Rattle.hop_core.specs.declared.event.HopAnswer.TheVariants as answer
 use Rattle.hop_core.specs.declared.event.HopEvent.TheVariants as event
 use Rattle.hop_core.specs.Events.{Outcome as HopOutcome, happens}
 use Rattle.hop_core.specs.Hop.{HopState, accepted_at, arrivals_of, choices_of, delivered_at}
 use Rattle.hop_core.specs.Hop.{inside_of, next_of, placed_of, pulled_at, retired_at, taken_of}
-use Rattle.steer_parts.specs.Applications.{in_lane, in_reply, next_in, record_by, send_by, sending}
+use Rattle.steer_parts.specs.Applications.{in_lane, next_in, record_by, send_by}
 use Rattle.steer_parts.specs.Applications.{visited, wrote}
 use Rattle.steer_parts.specs.Machine.{Machine, last_of, note_of}
 use Rattle.steer_parts.specs.Notes.{is_asking, is_nothing}
@@ -170,7 +168,7 @@ abbrev may_leave : Bool → Stage → Stage → Answer
 may_leave i hand other =
     answer_by
     ((i, idle.NotInside)
-    ∷ ((if is_at hand stage.Empty then true else is_at hand other), idle.MidPacket) ∷ [])
+    ∷ (is_at hand stage.Empty || is_at hand other, idle.MidPacket) ∷ [])
 
 take-row : (n : Note) (t w c : Bool) → ((want : Option ℕ) → n ≡ note.Looked want → t ≡ true)
     → either (is_asking n) (says.Idle idle.HandFull)
