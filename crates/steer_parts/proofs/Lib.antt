@@ -13,3 +13,4 @@ pub mod SettingLemmas
 pub mod FilterOriginLemmas
 pub mod TableOriginLemmas
 pub mod TableWriteLemmas
+pub mod StageLemmas

@@ -168,7 +168,7 @@ abbrev may_leave : Bool → Stage → Stage → Answer
 may_leave i hand other =
     answer_by
     ((i, idle.NotInside)
-    ∷ ((if is_at hand stage.Empty then true else is_at hand other), idle.MidPacket) ∷ [])
+    ∷ (is_at hand stage.Empty || is_at hand other, idle.MidPacket) ∷ [])
 
 take-row : (n : Note) (t w c : Bool) → ((want : Option ℕ) → n ≡ note.Looked want → t ≡ true)
     → either (is_asking n) (says.Idle idle.HandFull)

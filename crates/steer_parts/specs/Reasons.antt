@@ -1,20 +1,24 @@
 -- Where a step of one event is enabled, and the reason for which it is idle elsewhere: by the stage
 -- of its actor's hand, and by whether the actor is inside its gate.
-use Rattle.std.specs.Prelude.{ℕ, ◌+◌, ◌<◌, ◌≤◌, ◌≡◌, Bool, true, false, not, nat_lt, List, [], ◌∷◌}
-use Rattle.std.specs.Prelude.{Option, None, is_some, length, unwrap_or, if◌then◌else◌}
+use Rattle.std.specs.Prelude.{ℕ, ◌+◌, ◌<◌, ◌≤◌, ◌≡◌, Bool, true, false, not, ◌||◌, nat_lt, List}
+use Rattle.std.specs.Prelude.{[], ◌∷◌, Option, None, is_some, length, unwrap_or, if◌then◌else◌}
 use Rattle.steer_base.specs.declared.command.Answer.{Answer}
 use Rattle.steer_base.specs.declared.command.Answer.TheVariants as says
 use Rattle.steer_base.specs.declared.filter.Filter.{Filter}
 use Rattle.steer_base.specs.declared.idle.Idle.{Idle}
 use Rattle.steer_base.specs.declared.idle.Idle.TheVariants as idle
+use Rattle.steer_base.specs.declared.packet.Packet.{Packet}
 use Rattle.steer_base.specs.declared.step.Step.{Step}
 use Rattle.steer_base.specs.declared.step.Step.TheVariants as act
 use Rattle.hop_core.specs.Hop.{Bare, HopState, accepted_at, arrivals_of, choices_of, delivered_at}
 use Rattle.hop_core.specs.Hop.{inside_of, placed_of, pulled_at, retired_at, taken_of}
+use Rattle.plan_reader.specs.declared.plan.Plan.{Plan}
 use Rattle.steer_parts.specs.Applications.{next_in}
 use Rattle.steer_parts.specs.Machine.{Machine, note_of}
 use Rattle.steer_parts.specs.Setup.{flow_hash}
+use Rattle.steer_parts.specs.Start.{new_machine}
 use Rattle.steer_parts.specs.Steps.{is_command, simple}
+use Rattle.steer_parts.specs.Whole.{after}
 use Rattle.steer_parts.specs.declared.note.Note.{Note}
 use Rattle.steer_parts.specs.declared.note.Note.TheVariants as note
 
@@ -51,7 +55,7 @@ weighs_next s p = nat_lt (length (choices_of s p)) (taken_of s p)
 abbrev pub puts_next : HopState → ℕ → Bool
 puts_next s p = nat_lt (placed_of s p) (length (choices_of s p))
 
--- by its note, and by whether it has a packet to weigh and one to put
+-- of a poller, by its note, and by whether it has a packet to weigh and one to put
 abbrev pub poller_stage : Note → Bool → Bool → Stage
 poller_stage (note.Looked want) weighs puts = Looked
 poller_stage (note.Asking filter) weighs puts = Asking
@@ -62,6 +66,7 @@ poller_stage note.Nothing false false = Empty
 abbrev pub poller_hand : Machine → ℕ → Stage
 poller_hand m q = poller_stage (note_of m q) (weighs_next m.rx q) (puts_next m.rx q)
 
+-- of an application, by the same two
 abbrev pub sender_stage : Bool → Bool → Stage
 sender_stage weighs true = Weighed
 sender_stage true false = Sent
@@ -70,7 +75,7 @@ sender_stage false false = Empty
 abbrev pub sender_hand : Machine → ℕ → Stage
 sender_hand m a = sender_stage (weighs_next m.tx a) (puts_next m.tx a)
 
--- by whether it has a packet to deliver, and one to retire
+-- of a lane, by whether it has a packet to deliver, and one to retire
 abbrev pub lane_stage : Bool → Bool → Stage
 lane_stage true retires = Full
 lane_stage false true = Delivered
@@ -107,15 +112,16 @@ retire_needs b c =
     (not (is_at (lane_hand b c) Empty), idle.HandEmpty)
     ∷ (is_at (lane_hand b c) Delivered, idle.NotDelivered) ∷ []
 
--- inside the gate with the hand at one stage, and at one of two
+-- inside the gate with the hand at this stage
 abbrev pub stage_needs : HopState → ℕ → Stage → Stage → List Need
 stage_needs s a hand stage =
     (inside_of s a, idle.NotInside) ∷ (is_at hand stage, idle.WrongStage) ∷ []
 
+-- inside the gate with the hand empty or at this stage
 abbrev pub leave_needs : HopState → ℕ → Stage → Stage → List Need
 leave_needs s a hand stage =
     (inside_of s a, idle.NotInside)
-    ∷ ((if is_at hand Empty then true else is_at hand stage), idle.MidPacket) ∷ []
+    ∷ (is_at hand Empty || is_at hand stage, idle.MidPacket) ∷ []
 
 -- What a step of one event needs, in the order of the reasons. One of many events is none of these.
 abbrev pub needs : Machine → Step → List Need
@@ -149,9 +155,9 @@ needs m (act.TDeliver t) = deliver_needs m.tx.bare t
 needs m (act.TRetire t) = retire_needs m.tx.bare t
 needs m _ = (false, idle.Nothing) ∷ []
 
--- ---- the law
+-- ---- the laws
 
--- A producer and a lane have at most one packet in hand.
+-- A producer and a lane have at most one packet in hand. Each producer has a count of its puts.
 pub record IsStaged (s : HopState) : Type 0 where
   pub weighed : (p : ℕ) → placed_of s p ≤ length (choices_of s p)
   pub taken : (p : ℕ) → length (choices_of s p) ≤ taken_of s p
@@ -159,8 +165,10 @@ pub record IsStaged (s : HopState) : Type 0 where
   pub delivered : (c : ℕ) → delivered_at s.bare c ≤ pulled_at s.bare c
   pub retired : (c : ℕ) → retired_at s.bare c ≤ delivered_at s.bare c
   pub one_pulled : (c : ℕ) → pulled_at s.bare c ≤ retired_at s.bare c + 1
+  pub counted : length s.placed ≡ length s.choices
 
--- A poller that looked has a packet to weigh, and one that asks has put what it took.
+-- So it is in both hops. A poller that looked has a packet to weigh, and one that asks for a filter
+-- has put what it took.
 pub record AreStaged (m : Machine) : Type 0 where
   pub rx : IsStaged m.rx
   pub tx : IsStaged m.tx
@@ -168,6 +176,15 @@ pub record AreStaged (m : Machine) : Type 0 where
       → length (choices_of m.rx q) < taken_of m.rx q
   pub asking : (q : ℕ) (filter : Filter) → note_of m q ≡ note.Asking filter
       → taken_of m.rx q ≤ placed_of m.rx q
+
+-- So it is in a new machine, and all steps keep it so.
+abbrev pub NewIsStaged : Type 0
+NewIsStaged =
+    (plan : Plan) (packets : List Packet) (cut : Option ℕ)
+    → AreStaged (new_machine plan packets cut)
+
+abbrev pub StepsKeepStaged : Type 0
+StepsKeepStaged = (ss : List Step) (m : Machine) → AreStaged m → AreStaged (after ss m)
 
 -- A step of one event is done where all holds that it needs, and else idle for the first that does
 -- not hold.

@@ -6,7 +6,7 @@ ghost use Rattle.steer_parts.specs.FilterOrigins.{FiltersAreFromChoices};
 ghost use Rattle.steer_parts.specs.GoodLaws.{GoodByClauses};
 ghost use Rattle.steer_parts.specs.LastWrites.{ValuesAreLastWrites};
 ghost use Rattle.steer_parts.specs.PacketLaws.{PacketsAreOfFlows, PacketsAreOne};
-ghost use Rattle.steer_parts.specs.Reasons.{IdleForFirstReason};
+ghost use Rattle.steer_parts.specs.Reasons.{IdleForFirstReason, NewIsStaged, StepsKeepStaged};
 ghost use Rattle.steer_parts.specs.SettingLaws.{SettingsFollow};
 ghost use Rattle.steer_parts.specs.Start.{steps_of};
 ghost use Rattle.steer_parts.specs.StepLaws.{IdleLeavesAll, RefusedLeavesAll};
@@ -30,6 +30,13 @@ pub fn an_idle_step_leaves_all()
 /// reasons, where every hand has at most one packet.
 pub fn a_step_is_idle_for_its_first_reason()
     ensures { IdleForFirstReason }
+{}
+
+/// A hand of a new machine has at most one packet, a poller that looked has one to weigh, and one
+/// that asks for a filter has put it; and all steps keep that so.
+pub fn a_hand_has_one_packet()
+    ensures new { NewIsStaged }
+    ensures steps { StepsKeepStaged }
 {}
 
 /// A command that is not done changes nothing but the list of commands.

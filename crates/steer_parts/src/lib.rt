@@ -17,7 +17,7 @@ pub use given::Given;
 pub use hop_reads::{last_of, position_of, told};
 pub use in_force::InForce;
 pub use laws::{
-    a_capture_has_one_list_of_packets, a_history_is_good_by_its_clauses,
+    a_capture_has_one_list_of_packets, a_hand_has_one_packet, a_history_is_good_by_its_clauses,
     a_refused_command_leaves_all, a_step_is_idle_for_its_first_reason,
     a_table_in_force_is_the_last_writes, a_value_in_force_is_the_last_write,
     an_idle_step_leaves_all, packets_are_of_flows, settings_follow_the_commands,
