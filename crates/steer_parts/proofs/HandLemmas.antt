@@ -1,6 +1,6 @@
 -- No event of a hop takes up a second packet before the first was put, and none loses an accepted packet.
 use Rattle.std.proofs.Common.{ℕ, ◌<◌, ◌≤◌, ◌≡◌, ◌⊎◌, ◌∙◌, sym, ap, refl, Bool, true, false, List, [], ◌∷◌, ◌++◌}
-use Rattle.std.proofs.Common.{Option, Some, None, length, subst, arith, inl, inr, unwrap_or, slice_get}
+use Rattle.std.proofs.Common.{Option, Some, None, length, subst, arith, inl, inr}
 use Rattle.std.specs.Prelude.{◌-◌, ◌+◌, ◌==◌, if◌then◌else◌, is_some, nat_lt, not, slice_index_or, slice_set}
 use Rattle.std.specs.Prelude.{suc, zero}
 use Rattle.std.specs.Option.{option_map}
@@ -10,7 +10,6 @@ use Rattle.std.proofs.lemmas.Option.{unwrap_or-slice_get}
 use Rattle.steer_base.specs.Drops.{bucket_of, lane_drop_cause}
 use Rattle.steer_base.specs.Entries.{place_in}
 use Rattle.steer_base.specs.declared.choice.Chosen.{Chosen}
-use Rattle.steer_base.specs.declared.cpu_mask.CpuMask.{CpuMask}
 use Rattle.steer_base.specs.declared.put.DropCause.{DropCause}
 use Rattle.backlog.specs.Puts.{answer_by}
 use Rattle.history.specs.Finding.{is_in}
@@ -18,7 +17,7 @@ use Rattle.hop_core.proofs.Leaves.{each_leaves}
 use Rattle.hop_core.specs.declared.event.HopAnswer.TheVariants as answer
 use Rattle.hop_core.specs.declared.event.HopEvent.{HopEvent}
 use Rattle.hop_core.specs.declared.event.HopEvent.TheVariants as event
-use Rattle.hop_core.specs.Events.{Outcome, happens, idles}
+use Rattle.hop_core.specs.Events.{Outcome, happens}
 use Rattle.hop_core.specs.Hop.{Bare, HopState, accepted_at, arrivals_of, choice_of, choices_of, chose, in_hand}
 use Rattle.hop_core.specs.Hop.{inside_of, landed, lane_of, next_of, nobody, placed_of, put_one, taken_of, took}
 use Rattle.hop_core.specs.Leaves.{Field, changes}
