@@ -1,6 +1,6 @@
 -- Each filter that is set is that of a choice.
 use Rattle.std.proofs.Common.{ℕ, ◌≤◌, ◌≡◌, ◌⊎◌, ◌∙◌, sym, ap, refl, Bool, true, false, List, [], ◌∷◌, ◌++◌}
-use Rattle.std.proofs.Common.{Option, Some, None, length, subst, inl, inr, unwrap_or, slice_get}
+use Rattle.std.proofs.Common.{Option, Some, None, arith, length, subst, inl, inr, unwrap_or, slice_get}
 use Rattle.std.specs.Prelude.{if◌then◌else◌, nat_lt, not, slice_index_or, slice_set, suc, zero}
 use Rattle.std.specs.Prelude.{◌-◌, ◌+◌, ◌%◌, ◌≢◌, replicate}
 use Rattle.std.proofs.lemmas.Bool.{cases_Bool, cases_eq, cases_lt, eqb-true}
@@ -31,18 +31,20 @@ use Rattle.history.specs.declared.arrival.Arrival.{Arrival}
 use Rattle.plan_reader.specs.declared.plan.Plan.{Plan}
 use Rattle.steer_parts.specs.Applications.{in_lane, next_in, record_by, send_by, visited, wrote}
 use Rattle.steer_parts.specs.Commands.{answer_to, is_done, kept_filter, may_go, set_by}
-use Rattle.steer_parts.specs.FilterOrigins.{FilterIsFrom, FiltersAreFrom, FiltersAreFromChoices}
+use Rattle.steer_parts.specs.FilterOrigins.{FilterIsFrom, FiltersAreFrom, FiltersAreFromChoices, WasAccepted}
 use Rattle.steer_parts.specs.Machine.{Machine, last_of, note_of}
 use Rattle.steer_parts.specs.Notes.{asking, is_asking, is_nothing}
 use Rattle.steer_parts.specs.Outcomes.{Outcome, by_rx}
 use Rattle.steer_parts.specs.Pollers.{arrival_by, arrives, route_by}
-use Rattle.steer_parts.specs.Pollers.{ask_by, filter_for, look_by, put_by, putting, weigh_by, with_filter}
+use Rattle.steer_parts.specs.Pollers.{ask_by, filter_for, look_by, put_by, putting, weigh_by}
+use Rattle.steer_parts.specs.Pollers.{weighing, with_filter}
 use Rattle.steer_parts.specs.Setup.{Setup, app_for, flow_hash, hash_of}
-use Rattle.steer_parts.specs.Start.{new_machine}
+use Rattle.steer_parts.specs.Start.{new_machine, settings_of}
 use Rattle.steer_parts.specs.Steps.{simple}
 use Rattle.steer_parts.specs.TableWrites.{filter_at, if_at}
 use Rattle.steer_parts.specs.declared.note.Note.{Note}
 use Rattle.steer_parts.specs.declared.note.Note.TheVariants as note
+use Rattle.steer_parts.proofs.HandLemmas.{HopGrows, hop-grows, more-growth, no-growth, put-accepts}
 use Rattle.steer_parts.proofs.Lift.{after-keeps}
 use Rattle.steer_parts.proofs.TableOriginLemmas.{get-more}
 use Rattle.steer_parts.proofs.TableWriteLemmas.{map-at, no-filters, row-written}
@@ -92,6 +94,7 @@ record Grows (m n : Machine) : Type 0 where
   rows : length n.filters ≡ length m.filters
   choices : (q k : ℕ) (c : Chosen) → slice_get (choices_of m.rx q) k ≡ Some c
       → slice_get (choices_of n.rx q) k ≡ Some c
+  accepted : (c : Chosen) → WasAccepted m.rx c → WasAccepted n.rx c
 
 grown : (m n : Machine) (place : ℕ) (f : Filter) → Grows m n → FilterIsFrom m place f → FilterIsFrom n place f
 grown m n place f g from =
@@ -100,6 +103,7 @@ grown m n place f g from =
       choice = from.choice;
       position = from.position;
       chosen = (from.chosen.0, g.choices from.queue from.chosen.0 from.choice from.chosen.1);
+      accepted = g.accepted from.choice from.accepted;
       written =
           ap (λ (p : Setup). filter_written p.homes from.choice.choice.why from.choice.choice.lane from.position) g.setup
           ∙ from.written;
@@ -112,6 +116,7 @@ record Same (m n : Machine) : Type 0 where
   setup : n.setup ≡ m.setup
   filters : n.filters ≡ m.filters
   choices : n.rx.choices ≡ m.rx.choices
+  hop : HopGrows m.rx n.rx
 
 same-grows : (m n : Machine) → Same m n → Grows m n
 same-grows m n same =
@@ -119,24 +124,27 @@ same-grows m n same =
       setup = same.setup;
       rows = ap (λ fs. length fs) same.filters;
       choices = λ q k c is. ap (λ cs. slice_get (slice_index_or cs q []) k) same.choices ∙ is;
+      accepted = same.hop.accepted;
     }
 
 abbrev Asked : Machine → ℕ → Filter → Type 0
 Asked m q f =
     (position : ℕ)
     × (filter_for m.setup.homes (length m.filters) (last_of m.rx q).choice position ≡ Some f)
+    × WasAccepted m.rx (last_of m.rx q)
 
 -- the last choice of a list
 abbrev last_in : List Chosen → Chosen
 last_in cs = unwrap_or (slice_get cs (length cs - 1)) nobody
 
 asked-same : (m n : Machine) (q : ℕ) (f : Filter) → n.setup ≡ m.setup → length n.filters ≡ length m.filters
-    → choices_of n.rx q ≡ choices_of m.rx q → Asked m q f → Asked n q f
-asked-same m n q f setup rows choices asked = (
+    → choices_of n.rx q ≡ choices_of m.rx q → HopGrows m.rx n.rx → Asked m q f → Asked n q f
+asked-same m n q f setup rows choices hop asked = (
   asked.0,
   ap (λ (p : Setup). filter_for p.homes (length n.filters) (last_of n.rx q).choice asked.0) setup
       ∙ ap (λ k. filter_for m.setup.homes k (last_of n.rx q).choice asked.0) rows
       ∙ ap (λ cs. filter_for m.setup.homes (length m.filters) (last_in cs).choice asked.0) choices ∙ asked.1,
+  subst (λ cs. WasAccepted n.rx (last_in cs)) (sym choices) (hop.accepted (last_of m.rx q) asked.2),
 )
 
 -- where each note that asks did so before
@@ -148,7 +156,8 @@ from-same m n same notes w =
       filters = λ place f is. grown m n place f (same-grows m n same)
           (w.filters place f (ap (λ fs. slice_index_or fs place None) (sym same.filters) ∙ is));
       asking = λ q f is. asked-same m n q f same.setup (ap (λ fs. length fs) same.filters)
-          (ap (λ cs. slice_index_or cs q []) same.choices) (w.asking q f (notes q f is));
+          (ap (λ cs. slice_index_or cs q []) same.choices) same.hop (w.asking q f (notes q f is));
+      hands = same.hop.hands w.hands;
     }
 
 quiet : (m n : Machine) → Same m n → n.notes ≡ m.notes → FiltersAreFrom m → FiltersAreFrom n
@@ -177,7 +186,7 @@ by-event : (m : Machine) (e : HopEvent) → changes e Field.choices ≡ false �
     → FiltersAreFrom (by_rx m e).0
 by-event m e keeps =
     quiet m (by_rx m e).0
-    (record { setup = refl; filters = refl; choices = choices-kept m.rx e keeps }) refl
+    (record { setup = refl; filters = refl; choices = choices-kept m.rx e keeps; hop = hop-grows m.rx e }) refl
 
 record Weighed (q : ℕ) (s t : HopState) : Type 0 where
   others : (p : ℕ) → p ≢ q → choices_of t p ≡ choices_of s p
@@ -213,21 +222,25 @@ from-if false x y p q = q
 from-arrive : (m : Machine) (a : Arrival) → FiltersAreFrom m → FiltersAreFrom (arrives m a)
 from-arrive m a =
     quiet m (arrives m a)
-    (record { setup = refl; filters = refl; choices = choices-kept m.rx (event.Arrive a.queue a.id) refl }) refl
+    (record { setup = refl; filters = refl; choices = choices-kept m.rx (event.Arrive a.queue a.id) refl; hop = hop-grows m.rx (event.Arrive a.queue a.id) }) refl
 
 from-look : (m : Machine) (q : ℕ) (x : Option ℕ) → FiltersAreFrom m → FiltersAreFrom (look_by m q x).0
 from-look m q (Some x) =
-    silent m (look_by m q (Some x)).0 q _ (record { setup = refl; filters = refl; choices = refl }) refl refl
+    silent m (look_by m q (Some x)).0 q _ (record { setup = refl; filters = refl; choices = refl; hop = no-growth _ }) refl refl
 from-look m q None = λ w. w
 
 from-weigh : (m : Machine) (q : ℕ) (n : Note) (x : Option ℕ) → FiltersAreFrom m → FiltersAreFrom (weigh_by m q n x).0
 from-weigh m q (note.Looked want) (Some x) w =
     record {
       filters = λ place f is. grown m (weigh_by m q (note.Looked want) (Some x)).0 place f
-          (record { setup = refl; rows = refl; choices = change.more }) (w.filters place f is);
+          (record { setup = refl; rows = refl; choices = change.more; accepted = growth.accepted }) (w.filters place f is);
       asking = asking-still;
+      hands = growth.hands w.hands;
     }
   where
+    growth : HopGrows m.rx (weigh_by m q (note.Looked want) (Some x)).0.rx
+    growth = hop-grows m.rx (weighing m q x want)
+
     change : Weighed q m.rx (weigh_by m q (note.Looked want) (Some x)).0.rx
     change = weighed m.rx q _ want _ m.settings.online
 
@@ -237,7 +250,7 @@ from-weigh m q (note.Looked want) (Some x) w =
         elim (note-in m.notes q note.Nothing p f is) [
           | inl new ↦ absurd (no-asking f note.Nothing refl new.1)
           | inr old ↦
-              asked-same m (weigh_by m q (note.Looked want) (Some x)).0 p f refl refl (change.others p old.0)
+              asked-same m (weigh_by m q (note.Looked want) (Some x)).0 p f refl refl (change.others p old.0) growth
               (w.asking p f old.1)
         ]
 from-weigh m q (note.Looked want) None w = w
@@ -248,13 +261,16 @@ is-asked : (o : Option Filter) (f : Filter) → asking o ≡ note.Asking f → o
 is-asked (Some g) f is = cc
 is-asked None f is = cc
 
-from-put : (m : Machine) (q : ℕ) (x : Option ℕ) (a : HopAnswer) → FiltersAreFrom m → FiltersAreFrom (put_by m q x a).0
-from-put m q None a w = w
-from-put m q (Some position) a w =
+from-put : (m : Machine) (q : ℕ) (x : Option ℕ) (a : HopAnswer)
+    → ((position : ℕ) → x ≡ Some position → WasAccepted m.rx (last_of m.rx q)) → FiltersAreFrom m
+    → FiltersAreFrom (put_by m q x a).0
+from-put m q None a was w = w
+from-put m q (Some position) a was w =
     record {
       filters = λ place f is. grown m (put_by m q (Some position) a).0 place f
-          (record { setup = refl; rows = refl; choices = λ p k c is. is }) (w.filters place f is);
+          (record { setup = refl; rows = refl; choices = λ p k c is. is; accepted = λ c is. is }) (w.filters place f is);
       asking = asking-now;
+      hands = w.hands;
     }
   where
     asking-now : (p : ℕ) (f : Filter) → note_of (put_by m q (Some position) a).0 p ≡ note.Asking f
@@ -266,6 +282,7 @@ from-put m q (Some position) a w =
             position,
             ap (λ k. filter_for m.setup.homes (length m.filters) (last_of m.rx k).choice position) new.0
                 ∙ is-asked _ f new.1,
+            subst (λ k. WasAccepted m.rx (last_of m.rx k)) (sym new.0) (was position refl),
           )
           | inr old ↦ w.asking p f old.1
         ]
@@ -310,7 +327,7 @@ from-ask : (m : Machine) (q : ℕ) (n : Note) → note_of m q ≡ n → FiltersA
 from-ask m q note.Nothing here w = w
 from-ask m q (note.Looked want) here w = w
 from-ask m q (note.Asking filter) here w =
-    record { filters = filters-now; asking = asking-still }
+    record { filters = filters-now; asking = asking-still; hands = w.hands }
   where
     hash : Option ℕ
     hash = hash_of m.setup (last_of m.rx q).id
@@ -319,7 +336,7 @@ from-ask m q (note.Asking filter) here w =
     rows = length-with m.filters hash filter
 
     grows : Grows m (ask_by m q (note.Asking filter)).0
-    grows = record { setup = refl; rows = rows; choices = λ p k c is. is }
+    grows = record { setup = refl; rows = rows; choices = λ p k c is. is; accepted = λ c is. is }
 
     asked : Asked m q filter
     asked = w.asking q filter here
@@ -334,6 +351,7 @@ from-ask m q (note.Asking filter) here w =
           choice = last_of m.rx q;
           position = asked.0;
           chosen = (length (choices_of m.rx q) - 1, last.0);
+          accepted = asked.2;
           written = last.1 ∙ is;
           there = is-there place (place_in_rows m.filters hash) there;
         }
@@ -351,7 +369,7 @@ from-ask m q (note.Asking filter) here w =
         elim (note-in m.notes q note.Nothing p f is) [
           | inl new ↦ absurd (no-asking f note.Nothing refl new.1)
           | inr old ↦
-              asked-same m (ask_by m q (note.Asking filter)).0 p f refl rows refl (w.asking p f old.1)
+              asked-same m (ask_by m q (note.Asking filter)).0 p f refl rows refl (no-growth m.rx) (w.asking p f old.1)
         ]
 
 from-record : (m : Machine) (hash : Option (Option ℕ)) → FiltersAreFrom m → FiltersAreFrom (record_by m hash).0
@@ -359,13 +377,19 @@ from-record m None w = w
 from-record m (Some None) w = w
 from-record m (Some (Some hash)) w =
     from-if (nat_lt 0 (length m.socket)) (wrote (visited m app) app hash, says.Done) (m, says.Idle idle.NoTable)
-    (quiet m (wrote (visited m app) app hash) (record { setup = refl; filters = refl; choices = kept }) refl w) w
+    (quiet m (wrote (visited m app) app hash)
+    (record { setup = refl; filters = refl; choices = kept; hop = growth }) refl w) w
   where
     app : ℕ
     app = hash % m.setup.apps
 
     guest : ℕ
     guest = length m.setup.homes + app
+
+    growth : HopGrows m.rx (visited m app).rx
+    growth =
+        more-growth m.rx (happens m.rx (event.Enter guest)).0 (visited m app).rx
+        (hop-grows m.rx (event.Enter guest)) (hop-grows (happens m.rx (event.Enter guest)).0 (event.Leave guest))
 
     kept : (visited m app).rx.choices ≡ m.rx.choices
     kept =
@@ -374,15 +398,23 @@ from-record m (Some (Some hash)) w =
 
 from-send : (m : Machine) (a : ℕ) (x : Option ℕ) → FiltersAreFrom m → FiltersAreFrom (send_by m a x).0
 from-send m a (Some x) =
-    quiet m (send_by m a (Some x)).0 (record { setup = refl; filters = refl; choices = refl }) refl
+    quiet m (send_by m a (Some x)).0 (record { setup = refl; filters = refl; choices = refl; hop = no-growth _ }) refl
 from-send m a None = λ w. w
 
 from-set : (m : Machine) (c : Command) → FiltersAreFrom m → FiltersAreFrom (set_by m c)
 from-set m (give.Flows q count) w =
-    quiet m (set_by m (give.Flows q count)) (record { setup = refl; filters = refl; choices = kept }) refl w
+    quiet m (set_by m (give.Flows q count)) (record { setup = refl; filters = refl; choices = kept; hop = growth }) refl w
   where
     closed : HopState
     closed = (happens m.rx event.Close).0
+
+    resized : HopState
+    resized = (happens closed (event.Resize q count)).0
+
+    growth : HopGrows m.rx (set_by m (give.Flows q count)).rx
+    growth =
+        more-growth m.rx closed _ (hop-grows m.rx event.Close)
+        (more-growth closed resized _ (hop-grows closed (event.Resize q count)) (hop-grows resized event.Reopen))
 
     kept : (set_by m (give.Flows q count)).rx.choices ≡ m.rx.choices
     kept =
@@ -391,10 +423,11 @@ from-set m (give.Flows q count) w =
 from-set m give.Expire w =
     record {
       filters = λ place f is. grown m (set_by m give.Expire) place f
-          (record { setup = refl; rows = length-map m.filters (kept_filter m); choices = λ p k c is. is })
+          (record { setup = refl; rows = length-map m.filters (kept_filter m); choices = λ p k c is. is; accepted = λ c is. is })
           (w.filters place f (kept (filter_at place m) f (sym (map-at (kept_filter m) refl m.filters place) ∙ is)));
       asking = λ q f is. asked-same m (set_by m give.Expire) q f refl
-          (length-map m.filters (kept_filter m)) refl (w.asking q f is);
+          (length-map m.filters (kept_filter m)) refl (no-growth m.rx) (w.asking q f is);
+      hands = w.hands;
     }
   where
     kept : (x : Option Filter) (f : Filter) → kept_filter m x ≡ Some f → x ≡ Some f
@@ -404,21 +437,21 @@ from-set m give.Expire w =
         by_test true is = cc
         by_test false is = is
 from-set m (give.Mask q mask) w =
-    quiet m (set_by m (give.Mask q mask)) (record { setup = refl; filters = refl; choices = refl }) refl w
+    quiet m (set_by m (give.Mask q mask)) (record { setup = refl; filters = refl; choices = refl; hop = no-growth _ }) refl w
 from-set m (give.Sock size) w =
-    quiet m (set_by m (give.Sock size)) (record { setup = refl; filters = refl; choices = refl }) refl w
+    quiet m (set_by m (give.Sock size)) (record { setup = refl; filters = refl; choices = refl; hop = no-growth _ }) refl w
 from-set m (give.Offline cpu) w =
-    quiet m (set_by m (give.Offline cpu)) (record { setup = refl; filters = refl; choices = refl }) refl w
+    quiet m (set_by m (give.Offline cpu)) (record { setup = refl; filters = refl; choices = refl; hop = no-growth _ }) refl w
 from-set m (give.Online cpu) w =
-    quiet m (set_by m (give.Online cpu)) (record { setup = refl; filters = refl; choices = refl }) refl w
+    quiet m (set_by m (give.Online cpu)) (record { setup = refl; filters = refl; choices = refl; hop = no-growth _ }) refl w
 from-set m (give.XCpus tx mask) w =
-    quiet m (set_by m (give.XCpus tx mask)) (record { setup = refl; filters = refl; choices = refl }) refl w
+    quiet m (set_by m (give.XCpus tx mask)) (record { setup = refl; filters = refl; choices = refl; hop = no-growth _ }) refl w
 from-set m (give.XQueues tx queues) w =
-    quiet m (set_by m (give.XQueues tx queues)) (record { setup = refl; filters = refl; choices = refl }) refl w
+    quiet m (set_by m (give.XQueues tx queues)) (record { setup = refl; filters = refl; choices = refl; hop = no-growth _ }) refl w
 from-set m (give.Reta at q) w =
-    quiet m (set_by m (give.Reta at q)) (record { setup = refl; filters = refl; choices = refl }) refl w
+    quiet m (set_by m (give.Reta at q)) (record { setup = refl; filters = refl; choices = refl; hop = no-growth _ }) refl w
 from-set m (give.Stand app cpu) w =
-    quiet m (set_by m (give.Stand app cpu)) (record { setup = refl; filters = refl; choices = refl }) refl w
+    quiet m (set_by m (give.Stand app cpu)) (record { setup = refl; filters = refl; choices = refl; hop = no-growth _ }) refl w
 
 from-given : (m : Machine) (c : Command) (b : Bool) → FiltersAreFrom m → FiltersAreFrom (if b then set_by m c else m)
 from-given m c true w = from-set m c w
@@ -437,7 +470,8 @@ from-simple m (act.Look q) w =
 from-simple m (act.Weigh q) w =
     from-if (not (inside_of m.rx q)) _ _ w (from-weigh m q (note_of m q) (to_weigh m.rx q) w)
 from-simple m (act.Put q) w =
-    from-put (by_rx m (putting m q)).0 q _ _ (by-event m (putting m q) refl w)
+    from-put (by_rx m (putting m q)).0 q _ _
+    (put-accepts m.rx q (hash_of m.setup (last_of m.rx q).id) w.hands) (by-event m (putting m q) refl w)
 from-simple m (act.Ask q) w =
     from-if (not (inside_of m.rx q)) _ _ w (from-ask m q (note_of m q) refl w)
 from-simple m (act.Leave q) w =
@@ -452,14 +486,14 @@ from-simple m (act.Send a) w =
     from-if (nat_lt (placed_of m.tx a) (taken_of m.tx a)) _ _ w (from-send m a (next_in m a) w)
 from-simple m (act.Give c) w =
     let done : Bool = is_done (answer_to m c) in
-    quiet (if done then set_by m c else m) _ (record { setup = refl; filters = refl; choices = refl }) refl (from-given m c done w)
-from-simple m (act.TEnter a) w = quiet m _ (record { setup = refl; filters = refl; choices = refl }) refl w
-from-simple m (act.TLeave a) w = quiet m _ (record { setup = refl; filters = refl; choices = refl }) refl w
-from-simple m (act.TWeigh a) w = quiet m _ (record { setup = refl; filters = refl; choices = refl }) refl w
-from-simple m (act.TPut a) w = quiet m _ (record { setup = refl; filters = refl; choices = refl }) refl w
-from-simple m (act.TPull t) w = quiet m _ (record { setup = refl; filters = refl; choices = refl }) refl w
-from-simple m (act.TDeliver t) w = quiet m _ (record { setup = refl; filters = refl; choices = refl }) refl w
-from-simple m (act.TRetire t) w = quiet m _ (record { setup = refl; filters = refl; choices = refl }) refl w
+    quiet (if done then set_by m c else m) _ (record { setup = refl; filters = refl; choices = refl; hop = no-growth _ }) refl (from-given m c done w)
+from-simple m (act.TEnter a) w = quiet m _ (record { setup = refl; filters = refl; choices = refl; hop = no-growth _ }) refl w
+from-simple m (act.TLeave a) w = quiet m _ (record { setup = refl; filters = refl; choices = refl; hop = no-growth _ }) refl w
+from-simple m (act.TWeigh a) w = quiet m _ (record { setup = refl; filters = refl; choices = refl; hop = no-growth _ }) refl w
+from-simple m (act.TPut a) w = quiet m _ (record { setup = refl; filters = refl; choices = refl; hop = no-growth _ }) refl w
+from-simple m (act.TPull t) w = quiet m _ (record { setup = refl; filters = refl; choices = refl; hop = no-growth _ }) refl w
+from-simple m (act.TDeliver t) w = quiet m _ (record { setup = refl; filters = refl; choices = refl; hop = no-growth _ }) refl w
+from-simple m (act.TRetire t) w = quiet m _ (record { setup = refl; filters = refl; choices = refl; hop = no-growth _ }) refl w
 from-simple m (act.Poll q) w = w
 from-simple m (act.Drain c) w = w
 from-simple m (act.Reply a) w = w
@@ -474,8 +508,20 @@ from-new plan packets cut =
     record {
       filters = λ place f is. absurd (is-none f (sym (no-filters plan.filters place) ∙ is));
       asking = λ q f is. absurd (no-asking f note.Nothing refl (sym (no-notes (length plan.queues) q) ∙ is));
+      hands = λ q. (omega (arith, ap (λ (l : List Chosen). length l) (no-choices many q)), omega arith);
     }
   where
+    many : ℕ
+    many = length (settings_of plan).counts
+
+    none : List Chosen
+    none = []
+
+    no-choices : (n q : ℕ) → slice_index_or (replicate n none) q none ≡ none
+    no-choices zero q = refl
+    no-choices (suc n) zero = refl
+    no-choices (suc n) (suc q) = no-choices n q
+
     is-none : (f : Filter) → None ≡ Some f → ⊥
     is-none f e = cc
 

@@ -1,4 +1,5 @@
 pub mod FlowOrder
+pub mod HandLemmas
 pub mod HashLemmas
 pub mod IdleLemmas
 pub mod LastWriteLemmas
