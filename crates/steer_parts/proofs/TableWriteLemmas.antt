@@ -29,6 +29,7 @@ use Rattle.steer_parts.specs.Outcomes.{Outcome, by_rx}
 use Rattle.steer_parts.specs.Pollers.{ask_by, look_by, put_by, putting, weigh_by, with_filter}
 use Rattle.steer_parts.specs.Setup.{flow_hash, hash_of}
 use Rattle.steer_parts.specs.Steps.{simple}
+use Rattle.steer_parts.specs.TableWrites.{TablesStartUnset}
 use Rattle.steer_parts.specs.TableWrites.{after_events, asked_at, cleared_by, expired_at, filter_at, filter_write}
 use Rattle.steer_parts.specs.TableWrites.{if_at, recorded_at, socket_at, socket_write, writes_of}
 use Rattle.steer_parts.specs.Whole.{after}
@@ -255,3 +256,9 @@ one-more m n e r = (r.0 ++ e ∷ [], ap (λ k. (simple k e).0) r.1 ∙ sym (even
 
 pub steps_are_events : (ss : List Step) (m : Machine) → (es : List Step) × (after ss m ≡ after_events es m)
 steps_are_events ss m = after-keeps (IsReached m) (one-more m) ss m ([], refl)
+
+-- ---- the start
+
+pub tables_start_unset : TablesStartUnset
+tables_start_unset plan packets cut place =
+    (no-rows (rounded_up plan.sock) place, no-filters plan.filters place)

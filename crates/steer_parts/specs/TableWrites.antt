@@ -8,13 +8,16 @@ use Rattle.steer_base.specs.HashTables.{place_in_rows}
 use Rattle.steer_base.specs.declared.command.Command.{Command}
 use Rattle.steer_base.specs.declared.command.Command.TheVariants as give
 use Rattle.steer_base.specs.declared.filter.Filter.{Filter}
+use Rattle.steer_base.specs.declared.packet.Packet.{Packet}
 use Rattle.steer_base.specs.declared.step.Step.{Step}
 use Rattle.steer_base.specs.declared.step.Step.TheVariants as act
 use Rattle.hop_core.specs.Hop.{inside_of}
+use Rattle.plan_reader.specs.declared.plan.Plan.{Plan}
 use Rattle.steer_parts.specs.Applications.{stand_of}
 use Rattle.steer_parts.specs.Commands.{answer_to, is_done, may_go}
 use Rattle.steer_parts.specs.Machine.{Machine, last_of, note_of}
 use Rattle.steer_parts.specs.Setup.{flow_hash, hash_of}
+use Rattle.steer_parts.specs.Start.{new_machine}
 use Rattle.steer_parts.specs.Steps.{simple}
 use Rattle.steer_parts.specs.Whole.{after}
 use Rattle.steer_parts.specs.declared.note.Note.{Note}
@@ -84,6 +87,13 @@ filter_write place m _ = None
 abbrev pub writes_of : {X : Type 0} → (Machine → Step → Option X) → List Step → Machine → List X
 writes_of write [] m = []
 writes_of write (e ∷ es) m = cons_option (write m e) (writes_of write es (simple m e).0)
+
+-- The machine that a plan starts has no entry and no filter set.
+abbrev pub TablesStartUnset : Type 0
+TablesStartUnset =
+    (plan : Plan) (packets : List Packet) (cut : Option ℕ) (place : ℕ)
+    → (socket_at place (new_machine plan packets cut) ≡ None)
+    × (filter_at place (new_machine plan packets cut) ≡ None)
 
 -- Any steps are some events and commands, one by one.
 abbrev pub StepsAreEvents : Type 0

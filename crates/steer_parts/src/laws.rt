@@ -12,7 +12,7 @@ ghost use Rattle.steer_parts.specs.Start.{steps_of};
 ghost use Rattle.steer_parts.specs.StepLaws.{IdleLeavesAll, RefusedLeavesAll};
 ghost use Rattle.steer_parts.specs.TableOrigins.{EntriesAreWritten};
 ghost use Rattle.steer_parts.specs.TableWrites.{EntriesAreLastWrites, FiltersAreLastWrites};
-ghost use Rattle.steer_parts.specs.TableWrites.{StepsAreEvents};
+ghost use Rattle.steer_parts.specs.TableWrites.{StepsAreEvents, TablesStartUnset};
 
 use plan_reader::Plan;
 
@@ -67,8 +67,11 @@ pub fn settings_follow_the_commands()
 {}
 
 /// An entry of the socket flow table and a filter in force are what was written there last, else
-/// what they were at first: after any events one by one, and any steps are some of these.
+/// what they were at first: after any events one by one, and any steps are some of these. A plan
+/// starts with none of them set; from there on each entry that is set is a write of the history,
+/// and each filter that of a choice which moved and whose packet was accepted.
 pub fn a_table_in_force_is_the_last_writes()
+    ensures start { TablesStartUnset }
     ensures steps { StepsAreEvents }
     ensures entries { EntriesAreLastWrites }
     ensures filters { FiltersAreLastWrites }

@@ -1,11 +1,13 @@
 use Rattle.steer_parts.proofs.FilterOriginLemmas.{filters_are_from_choices}
 use Rattle.steer_parts.proofs.TableOriginLemmas.{entries_are_written}
 use Rattle.steer_parts.proofs.TableWriteLemmas.{entries_are_last_writes, filters_are_last_writes, steps_are_events}
+use Rattle.steer_parts.proofs.TableWriteLemmas.{tables_start_unset}
 use Rattle.steer_parts.proofs.laws.a_table_in_force_is_the_last_writes.Goals as goal
 
 pub returns : goal.returns
 returns c =
     record {
+      start = tables_start_unset;
       steps = steps_are_events;
       entries = entries_are_last_writes;
       filters = filters_are_last_writes;
