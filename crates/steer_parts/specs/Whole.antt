@@ -96,7 +96,7 @@ rounds (suc n) t =
     then rounds n ((one_round (t.0, false)).0, true)
     else ((one_round (t.0, false)).0, t.1)
 
--- more rounds than there is work: a packet is worked on at most sixteen times
+-- the most rounds, meant to be more than there is work: a packet is worked on a few times only
 abbrev pub most_rounds : ℕ → ℕ
 most_rounds packets = 16 * packets + 32
 
