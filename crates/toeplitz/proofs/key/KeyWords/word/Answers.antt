@@ -2,8 +2,8 @@ use Rattle.std.proofs.Common.{◌≡◌, ◌<◌, ◌*◌, ◌/◌, ◌%◌, ◌
 use Rattle.toeplitz.specs.Toeplitz.{window}
 use Rattle.toeplitz.specs.Tables.{xor_of_byte}
 use Rattle.toeplitz.proofs.Windows.{window_is, word_of_one, word_of_other}
-use Rattle.toeplitz.proofs.key.Key.word.Goals as goal
-use Rattle.toeplitz.proofs.key.Key.word.Goals.{then-byte-bit-eq1, else-byte-bit-eq1}
+use Rattle.toeplitz.proofs.key.KeyWords.word.Goals as goal
+use Rattle.toeplitz.proofs.key.KeyWords.word.Goals.{then-byte-bit-eq1, else-byte-bit-eq1}
 
 pub loop-bit-init : goal.loop-bit-init
 unfolding xor_of_byte
