@@ -1,0 +1,4 @@
+pub mod KeptHops
+pub mod KeptLists
+pub mod Kept
+pub mod KeptLaws
