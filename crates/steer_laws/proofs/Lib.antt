@@ -16,3 +16,15 @@ pub mod KeptHotplug
 pub mod KeptSimple
 pub mod NamedLift
 pub mod KeptLemmas
+pub mod Listed
+pub mod Lanes
+pub mod Regular
+pub mod RecordedRows
+pub mod RecordedArrives
+pub mod RecordedGives
+pub mod RecordedSteps
+pub mod HeldHistory
+pub mod HeldNew
+pub mod HeldRows
+pub mod HeldCommands
+pub mod HeldSteps
