@@ -14,5 +14,6 @@ pub mod KeptGives
 pub mod KeptFlows
 pub mod KeptHotplug
 pub mod KeptSimple
+pub mod TurnLift
 pub mod NamedLift
 pub mod KeptLemmas
