@@ -14,6 +14,7 @@ pub mod KeptGives
 pub mod KeptFlows
 pub mod KeptHotplug
 pub mod KeptSimple
+pub mod TurnLift
 pub mod NamedLift
 pub mod KeptLemmas
 pub mod Listed
