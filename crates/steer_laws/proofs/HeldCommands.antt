@@ -72,8 +72,10 @@ held_flows m q count now t u v named done is closed changed' opened h =
     opened ∙ ap (λ (s : HopState). (happens s event.Reopen).0) changed'
     ∙ ap (λ (s : HopState). (happens (happens s (event.Resize q count)).0 event.Reopen).0) closed in
     subst (λ (s : Settings). Held (record m { settings = s; rx = v })) (sym is)
-    (subst (λ (s : HopState). Held (record m { settings = changed m.settings (give.Flows q count);
-        rx = s })) (sym then') (held_set m (give.Flows q count) named done h))
+    (subst (λ (s : HopState). Held (record m {
+      settings = changed m.settings (give.Flows q count);
+      rx = s;
+    })) (sym then') (held_set m (give.Flows q count) named done h))
 
 pub held_sock : (m : Machine) (size : ℕ) (now : Settings) (socket : List (Option ℕ))
     → IsCommandNamed m.setup (give.Sock size) → is_done (answer_to m (give.Sock size)) ≡ true
@@ -81,8 +83,11 @@ pub held_sock : (m : Machine) (size : ℕ) (now : Settings) (socket : List (Opti
     → Held m → Held (record m { settings = now; socket = socket })
 held_sock m size now socket named done is cleared h =
     subst (λ (s : Settings). Held (record m { settings = s; socket = socket })) (sym is)
-    (subst (λ (s : List (Option ℕ)). Held (record m { settings = changed m.settings
-        (give.Sock size); socket = s })) (sym cleared) (held_set m (give.Sock size) named done h))
+    (subst (λ (s : List (Option ℕ)). Held (record m {
+      settings = changed m.settings
+          (give.Sock size);
+      socket = s;
+    })) (sym cleared) (held_set m (give.Sock size) named done h))
 
 pub held_expire : (m : Machine) (filters : List (Option Filter))
     → is_done (answer_to m give.Expire) ≡ true → filters ≡ map (kept_filter m) m.filters

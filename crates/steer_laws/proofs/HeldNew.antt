@@ -1,6 +1,6 @@
 -- The machine that a plan starts is held.
 use Rattle.std.proofs.Common.{ℕ, max, ◌+◌, ◌<◌, ◌≡◌, Bool, true, false, List, [], Option, Some}
-use Rattle.std.proofs.Common.{None, length, refl, ap, ◌∙◌, sym, subst, arith, map, replicate}
+use Rattle.std.proofs.Common.{None, IsSome, length, refl, ap, ◌∙◌, sym, subst, arith, map, replicate}
 use Rattle.std.specs.Prelude.{◌&&◌, nat_lt, slice_index, slice_index_or}
 use Rattle.std.specs.List.{All}
 use Rattle.std.proofs.Math.ListN.{length-map, length-replicate}
@@ -21,7 +21,7 @@ use Rattle.hop_core.proofs.NothingLost.{fresh_loses_nothing}
 use Rattle.hop_core.proofs.Settled.{fresh_is_settled}
 use Rattle.accel_filter.specs.Table as filters
 use Rattle.sock_flow_table.specs.Sockets as sockets
-use Rattle.history.specs.Lists.{list_at}
+use Rattle.history.specs.Lists.{app_at, arrival_of, list_at, packet_at}
 use Rattle.history.specs.declared.sent.Sent.{Sent}
 use Rattle.plan_reader.specs.declared.plan.Plan.{Plan}
 use Rattle.steer_parts.specs.Given.{IsGiven}
@@ -247,17 +247,24 @@ module _ (plan : Plan) (packets : List Packet) (cut : Option ℕ) (may : MayStar
   all-none : {A : Type 0} (P : A → Type 0) (xs : List A) → xs ≡ [] → All P xs
   all-none P xs e = subst (All P) (sym e) (All-nil P)
 
+  no-tx_choices : (a : ℕ) → choices_of tx a ≡ []
+  no-tx_choices a = at_new {X = List Chosen} (length classes) a []
+
   recorded-new : IsRecorded (new_machine plan packets cut)
   recorded-new =
       record {
-        routed = All-nil _;
-        own = λ a. all-none _ (out_at rx.bare a) (at_new {X = List ℕ} (length plan.apps) a []);
-        queues = λ a. all-none _ (list_at none-sent a) (no-sent a);
+        routed = λ i d lt. absurd (omega (arith, lt));
+        own = λ a. all-none (λ x. app_at packets (length plan.apps) x ≡ a) (out_at rx.bare a)
+            (at_new {X = List ℕ} (length plan.apps) a []);
+        queues = λ a. all-none (λ s. s.rxq ≡ (arrival_of [] s.id).queue) (list_at none-sent a)
+            (no-sent a);
         weighed = record {
-          class = λ a. all-none _ (choices_of tx a) (at_new {X = List Chosen} (length classes) a []);
-          want = λ a. all-none _ (choices_of tx a) (at_new {X = List Chosen} (length classes) a []);
+          class = λ a. all-none
+              (λ c. c.choice.class ≡ Some (packet_at packets c.id).flow_number) (choices_of tx a)
+              (no-tx_choices a);
+          want = λ a. all-none (λ c. IsSome c.choice.want) (choices_of tx a) (no-tx_choices a);
         };
-        told = All-nil _;
+        told = λ i d lt. absurd (omega (arith, lt));
       }
 
   pub held-new : Held (new_machine plan packets cut)

@@ -170,9 +170,11 @@ module _ (s : HopState) (h : Sound s) where
       let at = place-index x (out_at s.bare o) is in
       let w = h.places.from o at.0 at.1 in
       let a = h.counts.delivered_first w.0 in let b = h.counts.pulled_first w.0 in
-      let same = ap (λ y. is_in y (accepted_at s.bare w.0)) (sym (w.3 ∙ at.2)) in
-      (w.0, ap (is_in x) (accepted-is w.0) ∙ same
-      ∙ in-index (accepted_at s.bare w.0) w.1 (omega (arith, w.2, a, b)))
+      let same = ap (λ y. is_in y (accepted_at s.bare w.0)) (sym (w.3 ∙ at.2)) in (
+        w.0,
+        ap (is_in x) (accepted-is w.0) ∙ same
+            ∙ in-index (accepted_at s.bare w.0) w.1 (omega (arith, w.2, a, b)),
+      )
 
   -- of a packet in an out lane, the lane that accepted it is the one that delivered it
   pub delivered-at : (o c x : ℕ) → is_in x (out_at s.bare o) ≡ true
