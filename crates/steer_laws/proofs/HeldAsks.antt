@@ -1,7 +1,6 @@
 -- A machine that is held may ask its hops for the events of its steps.
-use Rattle.std.proofs.Common.{ℕ, ◌+◌, ◌<◌, ◌≡◌, length, arith}
+use Rattle.std.proofs.Common.{ℕ, ◌+◌, length, arith}
 use Rattle.hop_core.specs.declared.event.HopEvent.TheVariants as event
-use Rattle.hop_core.specs.Events.{happens}
 use Rattle.hop_core.proofs.Sizes.{Sizes-happens}
 use Rattle.steer_parts.specs.Machine.{Machine}
 use Rattle.steer_laws.specs.Asks.{AsksRx, AsksTx}

@@ -1,11 +1,10 @@
 -- What each command that is done keeps, by the values that the code has: the settings after it, and
 -- each other part that it changes.
-use Rattle.std.proofs.Common.{ℕ, ◌≡◌, true, false, List, Option, refl, ap, ◌∙◌, sym, subst, map}
+use Rattle.std.proofs.Common.{ℕ, ◌≡◌, true, List, Option, refl, ap, ◌∙◌, sym, subst, map}
 use Rattle.steer_base.specs.Counters.{rounded_up}
 use Rattle.steer_base.specs.declared.command.Command.{Command}
 use Rattle.steer_base.specs.declared.command.Command.TheVariants as give
 use Rattle.steer_base.specs.declared.filter.Filter.{Filter}
-use Rattle.hop_core.specs.declared.event.HopEvent.{HopEvent}
 use Rattle.hop_core.specs.declared.event.HopEvent.TheVariants as event
 use Rattle.hop_core.specs.Events.{happens}
 use Rattle.hop_core.specs.Hop.{HopState}

@@ -277,13 +277,13 @@ module _ (plan : Plan) (packets : List Packet) (cut : Option ℕ) (may : MayStar
 
   -- the same of parts that are those of the plan's machine
   pub held_made : (given : Setup) (settings : Settings) (socket : List (Option ℕ))
-      (filters : List (Option Filter)) (notes : List Note) (rx tx : HopState)
+      (filters : List (Option Filter)) (notes : List Note) (s t : HopState)
       (arrivals : List Arrival) (sent : List (List Sent)) (writes : List (List SockWrite))
       (commands : List Commanded)
       → given ≡ setup_of plan packets cut → settings ≡ settings_of plan
       → socket ≡ sockets.unset (settings_of plan).sock → filters ≡ table.unset plan.filters
-      → notes ≡ replicate (length plan.queues) note.Nothing → rx ≡ fresh_rx plan packets
-      → tx ≡ fresh_tx plan packets → arrivals ≡ [] → sent ≡ replicate (length plan.apps) []
+      → notes ≡ replicate (length plan.queues) note.Nothing → s ≡ fresh_rx plan packets
+      → t ≡ fresh_tx plan packets → arrivals ≡ [] → sent ≡ replicate (length plan.apps) []
       → writes ≡ replicate (length plan.apps) [] → commands ≡ []
       → Held
       (record {
@@ -292,14 +292,14 @@ module _ (plan : Plan) (packets : List Packet) (cut : Option ℕ) (may : MayStar
         socket = socket;
         filters = filters;
         notes = notes;
-        rx = rx;
-        tx = tx;
+        rx = s;
+        tx = t;
         arrivals = arrivals;
         sent = sent;
         writes = writes;
         commands = commands;
       })
-  held_made given settings socket filters notes rx tx arrivals sent writes commands
+  held_made given settings socket filters notes s t arrivals sent writes commands
       a b c d e f g h i j k =
       subst Held
       (λ x. record {

@@ -12,7 +12,7 @@ use Rattle.steer_base.specs.declared.packet.Packet.{Packet}
 use Rattle.hop_core.specs.Hop.{out_at}
 use Rattle.rss_table.specs.Redirection.{queue_of}
 use Rattle.history.specs.Finding.{is_in}
-use Rattle.history.specs.Lists.{arrival_of, list_at, packet_at}
+use Rattle.history.specs.Lists.{list_at, packet_at}
 use Rattle.history.specs.Regular.{route_of}
 use Rattle.history.specs.declared.arrival.Arrival.{Arrival}
 use Rattle.history.specs.declared.sent.Sent.{Sent}

@@ -1,6 +1,6 @@
 -- Every step of one event and every command keeps what the machine's lists say of each other, and a
 -- new machine has no such lists.
-use Rattle.std.proofs.Common.{◌≡◌, refl}
+use Rattle.std.proofs.Common.{refl}
 use Rattle.steer_base.specs.declared.step.Step.{Step}
 use Rattle.steer_base.specs.declared.step.Step.TheVariants as act
 use Rattle.hop_core.specs.declared.event.HopEvent.TheVariants as event
