@@ -3,6 +3,7 @@ pub mod KeptLists
 pub mod Kept
 pub mod KeptLaws
 pub mod Recorded
+pub mod Ranged
 pub mod Held
 pub mod Asks
 pub mod HeldLaws
