@@ -17,3 +17,7 @@ pub mod KeptSimple
 pub mod TurnLift
 pub mod NamedLift
 pub mod KeptLemmas
+pub mod IdleTurns
+pub mod RestLemmas
+pub mod IdleRounds
+pub mod RestRounds

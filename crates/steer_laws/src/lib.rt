@@ -3,4 +3,4 @@
 
 mod laws;
 
-pub use laws::{gates_are_open_between_steps, steps_keep_the_invariant};
+pub use laws::{a_sweep_ends_at_rest, gates_are_open_between_steps, steps_keep_the_invariant};
