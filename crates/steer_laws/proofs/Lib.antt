@@ -21,3 +21,16 @@ pub mod IdleTurns
 pub mod RestLemmas
 pub mod IdleRounds
 pub mod RestRounds
+pub mod Listed
+pub mod Lanes
+pub mod Regular
+pub mod RecordedRows
+pub mod RecordedArrives
+pub mod RecordedGives
+pub mod RecordedSteps
+pub mod HeldHistory
+pub mod HeldAsks
+pub mod HeldNew
+pub mod HeldRows
+pub mod HeldCommands
+pub mod HeldSteps

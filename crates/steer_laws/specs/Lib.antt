@@ -4,3 +4,7 @@ pub mod Kept
 pub mod KeptLaws
 pub mod Rest
 pub mod SweepLaws
+pub mod Recorded
+pub mod Held
+pub mod Asks
+pub mod HeldLaws
