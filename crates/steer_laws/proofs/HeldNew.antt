@@ -232,6 +232,9 @@ module _ (plan : Plan) (packets : List Packet) (cut : Option ℕ) (may : MayStar
         given = given-new;
         rx = rx-new;
         tx = tx-new;
+        taken = λ a.
+            at_new {X = ℕ} (length classes) a 0
+            ∙ sym (ap length (at_new {X = List ℕ} (length classes) a []));
         by = by-new;
         noted = λ q. subst (IsNoted rx q) (sym (no-notes q)) tt;
         lists = lists-new;

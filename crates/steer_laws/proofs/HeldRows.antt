@@ -1,6 +1,6 @@
 -- What each step of one event keeps, by the values that code has: the hop after its event, and each
 -- other part that it changes.
-use Rattle.std.proofs.Common.{ℕ, ◌+◌, ◌<◌, ◌≡◌, true, false, List, [], ◌∷◌, ◌++◌, Option, Some}
+use Rattle.std.proofs.Common.{ℕ, ◌+◌, ◌≤◌, ◌<◌, ◌≡◌, true, false, List, [], ◌∷◌, ◌++◌, Option, Some}
 use Rattle.std.proofs.Common.{length, refl, ap, ◌∙◌, sym, subst}
 use Rattle.std.specs.Prelude.{slice_set}
 use Rattle.steer_base.specs.declared.choice.Choice.{Choice}
@@ -10,7 +10,7 @@ use Rattle.steer_base.specs.declared.filter.Filter.{Filter}
 use Rattle.hop_core.specs.declared.event.HopEvent.{HopEvent}
 use Rattle.hop_core.specs.declared.event.HopEvent.TheVariants as event
 use Rattle.hop_core.specs.Events.{happens}
-use Rattle.hop_core.specs.Hop.{HopState, next_of}
+use Rattle.hop_core.specs.Hop.{HopState, next_of, placed_of, taken_of}
 use Rattle.hop_core.specs.Leaves.{Field, changes}
 use Rattle.hop_core.specs.Reads.{to_weigh}
 use Rattle.hop_core.proofs.Leaves.{each_leaves}
@@ -231,17 +231,19 @@ held_wrote m socket a writes same h =
 -- ---- an application
 
 pub held_send : (m : Machine) (a x : ℕ) (r : Sent) (t u : HopState) → a < m.setup.apps
-    → next_in m a ≡ Some x → r ≡ reply_to m a x → t ≡ (happens m.tx (event.Arrive a x)).0
+    → taken_of m.tx a ≤ placed_of m.tx a → next_in m a ≡ Some x → r ≡ reply_to m a x
+    → t ≡ (happens m.tx (event.Arrive a x)).0
     → u ≡ (happens t (event.Take a)).0 → Held m
     → Held (record m { tx = u; sent = slice_set m.sent a (sent_of m a ++ r ∷ []) })
-held_send m a x r t u named next which is then' h =
+held_send m a x r t u named free next which is then' h =
     let same : u.choices ≡ m.tx.choices =
     ap (λ (s : HopState). s.choices) then' ∙ each_leaves t (event.Take a) Field.choices refl
     ∙ ap (λ (s : HopState). s.choices) is in
     let sends : Sent → Machine =
     λ s. record m { tx = u; sent = slice_set m.sent a (sent_of m a ++ s ∷ []) } in
     record {
-      kept = kept_send m a x r t u named next (ap (λ (s : Sent). s.id) which) is then' h.kept;
+      kept = kept_send m a x r t u named free next (ap (λ (s : Sent). s.id) which) is then'
+          h.kept;
       ranged = h.ranged;
       recorded = subst (λ (s : Sent). IsRecorded (sends s)) (sym which)
           (recorded-sends m a x u same h.recorded);

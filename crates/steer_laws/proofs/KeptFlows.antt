@@ -160,6 +160,7 @@ kept-flows m q count named within done k =
       given = k.given;
       rx = record { sound = c.sound; lossless = c.lossless; opened = refl; sizes = c.sizes };
       tx = k.tx;
+      taken = k.taken;
       by = record {
         counts = ap (λ (l : List ℕ). slice_set l q (rounded_up count))
             (k.by.counts ∙ sym (each_leaves m.rx event.Close Field.counts refl));

@@ -158,6 +158,7 @@ kept-changed m online cpu same manned alone dry k =
       given = k.given;
       rx = k.rx;
       tx = k.tx;
+      taken = k.taken;
       by = record {
         counts = k.by.counts;
         settled =

@@ -46,6 +46,7 @@ kept_wrote m socket a writes same k =
       given = k.given;
       rx = k.rx;
       tx = k.tx;
+      taken = k.taken;
       by = k.by;
       noted = k.noted;
       lists = record {

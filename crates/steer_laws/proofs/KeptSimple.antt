@@ -2,7 +2,7 @@
 use Rattle.std.proofs.Common.{ℕ, ◌+◌, ◌≤◌, ◌<◌, ◌≡◌, Bool, true, false, not, cond, List, [], ◌∷◌, ◌++◌, Option, Some, None, length}
 use Rattle.std.proofs.Common.{refl, ap, ◌∙◌, sym, subst, arith, inl, inr}
 use Rattle.std.specs.Prelude.{◌%◌, nat_lt}
-use Rattle.std.proofs.lemmas.Bool.{cases_Bool, ltb-true}
+use Rattle.std.proofs.lemmas.Bool.{cases_Bool, ltb-false, ltb-true}
 use Rattle.std.proofs.lemmas.Nat.{mod_below}
 use Rattle.steer_base.specs.declared.command.Answer.TheVariants as says
 use Rattle.steer_base.specs.declared.command.Command.{Command}
@@ -149,13 +149,14 @@ module _ (m : Machine) (k : Kept m) where
       })
       (λ empty. stays (idles m idle.NoTable) refl)
 
-  goes-send : (a : ℕ) (x : Option ℕ) → next_in m a ≡ x → a < m.setup.apps → Goes m (send_by m a x)
-  goes-send a None is named = stays (send_by m a None) refl
-  goes-send a (Some x) is named =
+  goes-send : (a : ℕ) (x : Option ℕ) → next_in m a ≡ x → a < m.setup.apps → taken_of m.tx a ≤ placed_of m.tx a
+      → Goes m (send_by m a x)
+  goes-send a None is named free = stays (send_by m a None) refl
+  goes-send a (Some x) is named free =
       let t : HopState = (happens m.tx (event.Arrive a x)).0 in
       record {
         setup = refl;
-        kept = kept_send m a x (reply_to m a x) t (happens t (event.Take a)).0 named is refl refl refl k;
+        kept = kept_send m a x (reply_to m a x) t (happens t (event.Take a)).0 named free is refl refl refl k;
       }
 
   -- ---- commands
@@ -229,7 +230,7 @@ module _ (m : Machine) (k : Kept m) where
   goes-simple (act.Record flow) named = goes-record (flow_hash m.setup flow)
   goes-simple (act.Send a) named =
       either (Goes m) (nat_lt (placed_of m.tx a) (taken_of m.tx a)) (idles m idle.HandFull) (send_by m a (next_in m a))
-      (λ full. stays (idles m idle.HandFull) refl) (λ free. goes-send a (next_in m a) refl (ltb-true _ _ named))
+      (λ full. stays (idles m idle.HandFull) refl) (λ free. goes-send a (next_in m a) refl (ltb-true _ _ named) (ltb-false _ _ free))
   goes-simple (act.TEnter a) named =
       record { setup = refl; kept = kept_tenter m a (happens m.tx (event.Enter a)).0 (ltb-true _ _ named) refl k }
   goes-simple (act.TLeave a) named =

@@ -17,6 +17,10 @@ pub mod KeptSimple
 pub mod TurnLift
 pub mod NamedLift
 pub mod KeptLemmas
+pub mod IdleTurns
+pub mod RestLemmas
+pub mod IdleRounds
+pub mod RestRounds
 pub mod Listed
 pub mod Lanes
 pub mod Regular

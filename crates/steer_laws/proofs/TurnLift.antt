@@ -21,7 +21,7 @@ AreTried p [] = Unit {0}
 AreTried p (s ∷ ss) = IsTried p s × AreTried p ss
 
 module _ (p : Setup) where
-  is_tried : (s : Step) → is_command s ≡ false → IsNamed p s → IsTried p s
+  pub is_tried : (s : Step) → is_command s ≡ false → IsNamed p s → IsTried p s
   is_tried s e n = record { event = e; named = n }
 
   pub poll-tried : (q : ℕ) → q < length p.homes

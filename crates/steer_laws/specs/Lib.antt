@@ -2,6 +2,8 @@ pub mod KeptHops
 pub mod KeptLists
 pub mod Kept
 pub mod KeptLaws
+pub mod Rest
+pub mod SweepLaws
 pub mod Recorded
 pub mod Ranged
 pub mod Held

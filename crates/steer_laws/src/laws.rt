@@ -1,6 +1,7 @@
 //! Laws of the machine's invariant, each the contract of a function that does nothing.
 ghost use Rattle.steer_laws.specs.KeptLaws.{EventsKeepKept, KeptIsOpen, StepKeepsKept};
 ghost use Rattle.steer_laws.specs.KeptLaws.{StepsKeepKept, StepsKeepSetup};
+ghost use Rattle.steer_laws.specs.SweepLaws.{IdleRoundRests};
 
 /// Every step that names what the machine has keeps its invariant: a step of one event or a
 /// command, a step of many events, and any steps in a row. They also keep what the plan and the
@@ -15,4 +16,9 @@ pub fn steps_keep_the_invariant()
 /// So between steps both gates are open, and no reply was dropped.
 pub fn gates_are_open_between_steps()
     ensures { KeptIsOpen }
+{}
+
+/// A sweep ends since there is nothing left to do, and then the machine is at rest.
+pub fn a_sweep_ends_at_rest()
+    ensures { IdleRoundRests }
 {}
