@@ -76,7 +76,7 @@ module _ (m : Machine) (h : Held m) where
 -- ---- a plan
 
 -- the machine of a plan has what the plan has
-sizes-same : (plan : Plan) (packets : List Packet) (cut : Option ℕ)
+pub sizes-same : (plan : Plan) (packets : List Packet) (cut : Option ℕ)
     → sizes_in (setup_of plan packets cut) ≡ sizes_of plan
 sizes-same plan packets cut =
     ap (λ n. record { cpus = plan.cpus; queues = n; apps = length plan.apps; tx = length plan.tx })
@@ -88,15 +88,19 @@ runs_are_reportable plan packets cut ss may named =
     reportable-after m (held-new plan packets cut may) ss
     (subst (λ (z : Sizes). AllPass (step_is_within z) ss) (sym (sizes-same plan packets cut)) named)
 
-pub replays_are_reportable : ReplaysAreReportable
-replays_are_reportable plan packets cut may =
+-- its steps name what it has
+pub steps-within : (plan : Plan) → AllPass (step_is_within (sizes_of plan)) (steps_of plan)
+steps-within plan =
     let w = plan.within in
-    runs_are_reportable plan packets cut (steps_of plan) may
-    (plan_steps_are_within plan
+    plan_steps_are_within plan
     (record {
       queues = omega (arith, w.queues_length.at_least);
       cpus = omega (arith, w.some_cpu);
       apps = omega (arith, w.apps_length.at_least);
       tx = omega (arith, w.tx_length.at_least);
       steps = w.steps_within;
-    }))
+    })
+
+pub replays_are_reportable : ReplaysAreReportable
+replays_are_reportable plan packets cut may =
+    runs_are_reportable plan packets cut (steps_of plan) may (steps-within plan)

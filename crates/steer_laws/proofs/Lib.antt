@@ -36,3 +36,7 @@ pub mod HeldNew
 pub mod HeldRows
 pub mod HeldCommands
 pub mod HeldSteps
+pub mod DeliversEvents
+pub mod DeliversSteps
+pub mod DeliversHistory
+pub mod DeliverySteps
