@@ -144,10 +144,10 @@ read_at (y ∷ ys) zero x h = (omega arith, cc)
 read_at (y ∷ ys) (suc n) x h = let i = read_at ys n x h in let lt = i.0 in (omega (arith, lt), i.1)
 
 -- each application's replies are the first packets of its inbox
-sent-long : (m : Machine) (a : ℕ) → Kept m → length (arrivals_of m.tx a) ≡ length (sent_of m a)
+pub sent-long : (m : Machine) (a : ℕ) → Kept m → length (arrivals_of m.tx a) ≡ length (sent_of m a)
 sent-long m a k = ap length (k.replied.came a) ∙ length-map (sent_of m a) (λ s. s.id)
 
-begun-at : (m : Machine) (a i : ℕ) → Kept m → i < length (arrivals_of m.tx a)
+pub begun-at : (m : Machine) (a i : ℕ) → Kept m → i < length (arrivals_of m.tx a)
     → (i < length (out_at m.rx.bare a)) × (slice_index (out_at m.rx.bare a) i ≡ slice_index (arrivals_of m.tx a) i)
 begun-at m a i k lt =
     let ids : List ℕ = map (λ s. s.id) (sent_of m a) in

@@ -43,6 +43,17 @@ use Rattle.steer_laws.proofs.KeptRecords.{kept_visited, kept_wrote, noted-long}
 use Rattle.steer_laws.proofs.KeptSends.{kept_send, kept_tdeliver, kept_tenter, kept_tleave, kept_tpull, kept_tput, kept_tretire, kept_tweigh}
 use Rattle.steer_laws.proofs.KeptWeighs.{kept_weigh}
 
+-- the packet that was found to be weighed next
+pub weighs-is : (m : Machine) (q x : ℕ) → to_weigh m.rx q ≡ Some x → x ≡ next_of m.rx q
+weighs-is m q x =
+    either (λ o. o ≡ Some x → x ≡ next_of m.rx q) (nat_lt (length (choices_of m.rx q)) (taken_of m.rx q))
+    (Some (next_of m.rx q)) None
+    (λ more e. ap (λ (o : Option ℕ). some_or o x) (sym e)) (λ none e. absurd (cc))
+  where
+    some_or : Option ℕ → ℕ → ℕ
+    some_or None d = d
+    some_or (Some y) d = y
+
 -- the machine after a step has the same setup, and the invariant
 pub record Goes (m : Machine) (o : Outcome) : Type 0 where
   pub setup : o.0.setup ≡ m.setup
@@ -76,16 +87,6 @@ module _ (m : Machine) (k : Kept m) where
   goes-look q None is named = stays (look_by m q None) refl
   goes-look q (Some x) is named = record { setup = refl; kept = kept_look m q x (seen_by m q x) named is k }
 
-  weighs-is : (q x : ℕ) → to_weigh m.rx q ≡ Some x → x ≡ next_of m.rx q
-  weighs-is q x =
-      either (λ o. o ≡ Some x → x ≡ next_of m.rx q) (nat_lt (length (choices_of m.rx q)) (taken_of m.rx q))
-      (Some (next_of m.rx q)) None
-      (λ more e. ap (λ (o : Option ℕ). some_or o x) (sym e)) (λ none e. absurd (cc))
-    where
-      some_or : Option ℕ → ℕ → ℕ
-      some_or None d = d
-      some_or (Some y) d = y
-
   goes-weigh : (q : ℕ) (n : Note) (x : Option ℕ) → to_weigh m.rx q ≡ x → q < length m.setup.homes
       → Goes m (weigh_by m q n x)
   goes-weigh q note.Nothing x is named = stays (weigh_by m q note.Nothing x) refl
@@ -95,7 +96,7 @@ module _ (m : Machine) (k : Kept m) where
       record {
         setup = refl;
         kept = kept_weigh m q want (happens m.rx (weighing m q x want)).0 named
-            (ap (λ y. (happens m.rx (weighing m q y want)).0) (weighs-is q x is)) k;
+            (ap (λ y. (happens m.rx (weighing m q y want)).0) (weighs-is m q x is)) k;
       }
 
   goes-put : (q : ℕ) (position : Option ℕ) → position_of (happens m.rx (putting m q)).1 ≡ position

@@ -34,3 +34,6 @@ pub mod HeldNew
 pub mod HeldRows
 pub mod HeldCommands
 pub mod HeldSteps
+pub mod Weights
+pub mod Sweeps
+pub mod ThroughLemmas

@@ -1,7 +1,8 @@
 //! Laws of the machine's invariant, each the contract of a function that does nothing.
 ghost use Rattle.steer_laws.specs.KeptLaws.{EventsKeepKept, KeptIsOpen, StepKeepsKept};
 ghost use Rattle.steer_laws.specs.KeptLaws.{StepsKeepKept, StepsKeepSetup};
-ghost use Rattle.steer_laws.specs.SweepLaws.{IdleRoundRests};
+ghost use Rattle.steer_laws.specs.SweepLaws.{IdleRoundRests, RestIsThrough, SweepEndsAtRest};
+ghost use Rattle.steer_laws.specs.SweepLaws.{SweepEndsIdle, SweptIsThrough};
 
 /// Every step that names what the machine has keeps its invariant: a step of one event or a
 /// command, a step of many events, and any steps in a row. They also keep what the plan and the
@@ -20,5 +21,14 @@ pub fn gates_are_open_between_steps()
 
 /// A sweep ends since there is nothing left to do, and then the machine is at rest.
 pub fn a_sweep_ends_at_rest()
-    ensures { IdleRoundRests }
+    ensures idle { SweepEndsIdle }
+    ensures round { IdleRoundRests }
+    ensures rest { SweepEndsAtRest }
+{}
+
+/// In a machine at rest, and so after a sweep, each packet of the capture was dropped by a
+/// processor, or it is in an inbox and its reply is at the port.
+pub fn packets_go_all_their_way_at_rest()
+    ensures rest { RestIsThrough }
+    ensures swept { SweptIsThrough }
 {}
