@@ -23,12 +23,14 @@ use Rattle.steer_laws.proofs.HeldNew.{held-new}
 use Rattle.steer_laws.proofs.KeptLemmas.{flow_small}
 use Rattle.steer_laws.proofs.KeptSimple.{goes-simple}
 use Rattle.steer_laws.proofs.NamedLift.{after-keeps, step-keeps}
+use Rattle.steer_laws.proofs.RangedSteps.{ranged-simple}
 use Rattle.steer_laws.proofs.RecordedSteps.{recorded-simple}
 
 pub held-simple : (m : Machine) (s : Step) → IsNamed m.setup s → Held m → Held (simple m s).0
 held-simple m s named h =
     record {
       kept = (goes-simple m h.kept s named).kept;
+      ranged = ranged-simple m h.ranged s named h.kept;
       recorded = recorded-simple m s h.kept h.recorded;
     }
 

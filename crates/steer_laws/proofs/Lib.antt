@@ -28,6 +28,8 @@ pub mod RecordedRows
 pub mod RecordedArrives
 pub mod RecordedGives
 pub mod RecordedSteps
+pub mod RangedLemmas
+pub mod RangedSteps
 pub mod HeldHistory
 pub mod HeldAsks
 pub mod HeldNew

@@ -5,6 +5,7 @@ pub mod KeptLaws
 pub mod Rest
 pub mod SweepLaws
 pub mod Recorded
+pub mod Ranged
 pub mod Held
 pub mod Asks
 pub mod HeldLaws

@@ -1,8 +1,8 @@
 //! Laws of the machine and of the histories that it makes, each the contract of a function that
 //! does nothing.
 ghost use Rattle.steer_laws.specs.HeldLaws.{CommandsKeepHeld, HeldAsksRx, HeldAsksTx};
-ghost use Rattle.steer_laws.specs.HeldLaws.{HeldIsReportable, ListingKeepsHeld, NewIsHeld};
-ghost use Rattle.steer_laws.specs.HeldLaws.{ReplaysAreReportable};
+ghost use Rattle.steer_laws.specs.HeldLaws.{HeldIsReportable, HeldIsSeated, ListingKeepsHeld};
+ghost use Rattle.steer_laws.specs.HeldLaws.{NewIsHeld, ReplaysAreReportable};
 ghost use Rattle.steer_laws.specs.HeldLaws.{RunsAreReportable, RunsKeepHeld, StepsKeepHeld};
 
 /// In every state of the machine its history is regular, each arrival is at the queue that its kept
@@ -13,10 +13,11 @@ pub fn a_machine_has_a_history_to_report()
 {}
 
 /// In every state of the machine each event of a step that names only what it has may be asked of
-/// its hop.
+/// its hop, and what an expiry reads of each filter is there.
 pub fn a_machine_may_ask_its_hops()
     ensures rx { HeldAsksRx }
     ensures tx { HeldAsksTx }
+    ensures filters { HeldIsSeated }
 {}
 
 /// What holds of a machine holds of the one that a plan starts, and every step and every list of
