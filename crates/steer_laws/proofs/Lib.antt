@@ -39,3 +39,4 @@ pub mod HeldSteps
 pub mod Weights
 pub mod Sweeps
 pub mod ThroughLemmas
+pub mod SweptHistories

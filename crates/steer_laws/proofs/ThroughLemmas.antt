@@ -30,7 +30,7 @@ use Rattle.steer_laws.proofs.Sweeps.{sweep_ends_at_rest}
 -- ---- lists
 
 -- a list of many that has a member is one of them
-full-below : {X : Type 0} (ls : List (List X)) (p i : ℕ) → i < length (slice_index_or ls p []) → p < length ls
+pub full-below : {X : Type 0} (ls : List (List X)) (p i : ℕ) → i < length (slice_index_or ls p []) → p < length ls
 full-below ls p i lt =
     elim (cases_lt p (length ls)) [
       | inl below ↦ below
@@ -39,7 +39,7 @@ full-below ls p i lt =
     ]
 
 -- a member with its place by default 0
-place-of : (xs : List ℕ) (x : ℕ) → Contains xs x → (i : ℕ) × (i < length xs) × (slice_index xs i ≡ x)
+pub place-of : (xs : List ℕ) (x : ℕ) → Contains xs x → (i : ℕ) × (i < length xs) × (slice_index xs i ≡ x)
 place-of xs x c = (c.0, c.1, get_or_default xs c.0 0 x c.1 ∙ c.2)
 
 -- an arrival stands in the list of its queue
@@ -98,7 +98,7 @@ came-in m x k lt =
     (q, w.0, omega (arith, below, n), ap (λ l. slice_index l w.0) own ∙ w.2 ∙ id)
 
 -- a reply to what is in an inbox is at the port
-ported : (m : Machine) (o i x : ℕ) → Kept m → AtRest m → i < length (out_at m.rx.bare o)
+pub ported : (m : Machine) (o i x : ℕ) → Kept m → AtRest m → i < length (out_at m.rx.bare o)
     → slice_index (out_at m.rx.bare o) i ≡ x → Contains (out_at m.tx.bare 0) x
 ported m o i x k r lt at =
     let z = k.rx.sizes in let y = k.tx.sizes in

@@ -10,5 +10,5 @@ pub use held_laws::{
 };
 pub use laws::{
     a_sweep_ends_at_rest, gates_are_open_between_steps, packets_go_all_their_way_at_rest,
-    steps_keep_the_invariant,
+    steps_keep_the_invariant, swept_machines_have_swept_histories,
 };
