@@ -1,6 +1,6 @@
 -- What an arrival keeps.
-use Rattle.std.proofs.Common.{ℕ, ◌+◌, ◌<◌, ◌≡◌, ◌≢◌, true, List, [], ◌∷◌, ◌++◌, Option, map, length, refl, ap, ◌∙◌}
-use Rattle.std.proofs.Common.{sym, subst, arith, inl, inr, append-nil, suc, zero}
+use Rattle.std.proofs.Common.{ℕ, ◌+◌, ◌<◌, ◌≡◌, ◌≢◌, true, List, [], ◌∷◌, ◌++◌, map, length, refl, ap, ◌∙◌}
+use Rattle.std.proofs.Common.{sym, subst, arith, inl, inr, append-nil}
 use Rattle.std.specs.Prelude.{◌==◌, slice_index}
 use Rattle.std.specs.List.{filter, range_with_len}
 use Rattle.std.proofs.lemmas.Bool.{cases_eq, eq-eqb, ne_eqb}
@@ -11,7 +11,7 @@ use Rattle.steer_base.specs.declared.packet.Packet.{Packet}
 use Rattle.hop_core.specs.declared.event.HopEvent.{HopEvent}
 use Rattle.hop_core.specs.declared.event.HopEvent.TheVariants as event
 use Rattle.hop_core.specs.Events.{MayAsk, happens}
-use Rattle.hop_core.specs.Hop.{HopState, arrivals_of, out_at}
+use Rattle.hop_core.specs.Hop.{HopState, arrivals_of}
 use Rattle.hop_core.proofs.Lists.{Changed, Changed-set}
 use Rattle.history.specs.Finding.{is_in}
 use Rattle.history.specs.Lists.{arrival_of, arrivals_at, list_at, no_arrival}
@@ -20,7 +20,7 @@ use Rattle.history.proofs.BoundLemmas.{in-index}
 use Rattle.history.proofs.FindingLemmas.{map-same}
 use Rattle.history.proofs.RegularLemmas.{AreNumbered, arrival-at, queue-of}
 use Rattle.steer_parts.specs.Machine.{Machine}
-use Rattle.steer_parts.specs.Pollers.{arrival_by, arrives, route_by}
+use Rattle.steer_parts.specs.Pollers.{arrival_by, route_by}
 use Rattle.steer_parts.specs.Setup.{hash_of}
 use Rattle.steer_laws.specs.Kept.{Kept}
 use Rattle.steer_laws.specs.KeptLists.{Came}

@@ -1,5 +1,5 @@
 -- What the machine's invariant says in other words, and that all steps keep it.
-use Rattle.std.proofs.Common.{ℕ, ◌≤◌, ◌<◌, ◌≡◌, max, List, length, refl, ◌∙◌, arith}
+use Rattle.std.proofs.Common.{ℕ, ◌<◌, ◌≡◌, List, refl, ◌∙◌, arith}
 use Rattle.steer_base.specs.declared.step.Step.{Step}
 use Rattle.steer_parts.specs.Given.{IsGiven}
 use Rattle.steer_parts.specs.Machine.{Machine}

@@ -1,8 +1,8 @@
 -- Each step of one event, and each command, keeps the machine's invariant and what never changes.
-use Rattle.std.proofs.Common.{ℕ, ◌+◌, ◌≤◌, ◌<◌, ◌≡◌, Bool, true, false, not, cond, List, [], ◌∷◌, ◌++◌, Option, Some, None, length}
-use Rattle.std.proofs.Common.{refl, ap, ◌∙◌, sym, subst, arith, inl, inr}
+use Rattle.std.proofs.Common.{ℕ, ◌+◌, ◌≤◌, ◌<◌, ◌≡◌, true, not, cond, [], ◌∷◌, ◌++◌, Option, Some, None, length}
+use Rattle.std.proofs.Common.{refl, ap, sym, subst, arith}
 use Rattle.std.specs.Prelude.{◌%◌, nat_lt}
-use Rattle.std.proofs.lemmas.Bool.{cases_Bool, ltb-false, ltb-true}
+use Rattle.std.proofs.lemmas.Bool.{ltb-false, ltb-true}
 use Rattle.std.proofs.lemmas.Nat.{mod_below}
 use Rattle.steer_base.specs.declared.command.Answer.TheVariants as says
 use Rattle.steer_base.specs.declared.command.Command.{Command}
@@ -10,7 +10,6 @@ use Rattle.steer_base.specs.declared.command.Command.TheVariants as give
 use Rattle.steer_base.specs.declared.idle.Idle.TheVariants as idle
 use Rattle.steer_base.specs.declared.step.Step.{Step}
 use Rattle.steer_base.specs.declared.step.Step.TheVariants as act
-use Rattle.hop_core.specs.declared.event.HopAnswer.{HopAnswer}
 use Rattle.hop_core.specs.declared.event.HopEvent.{HopEvent}
 use Rattle.hop_core.specs.declared.event.HopEvent.TheVariants as event
 use Rattle.hop_core.specs.Events.{happens}
@@ -20,18 +19,18 @@ use Rattle.history.specs.Lists.{list_at}
 use Rattle.history.specs.declared.arrival.Arrival.{Arrival}
 use Rattle.steer_parts.specs.Applications.{in_lane, in_reply, next_in, record_by, reply_to, send_by, sending, stand_of}
 use Rattle.steer_parts.specs.Applications.{visited, write_of, wrote}
-use Rattle.steer_parts.specs.Commands.{answer_to, given, is_done, listed, set_by}
+use Rattle.steer_parts.specs.Commands.{answer_to, given, is_done, set_by}
 use Rattle.steer_parts.specs.Machine.{Machine, last_of, note_of}
 use Rattle.steer_parts.specs.Notes.{is_asking, is_nothing}
 use Rattle.steer_parts.specs.Outcomes.{Outcome, by_rx, idles}
-use Rattle.steer_parts.specs.Pollers.{arrives, ask_by, filter_for, look_by, position_of, put_by, putting, seen_by, weigh_by}
+use Rattle.steer_parts.specs.Pollers.{arrives, ask_by, look_by, position_of, put_by, putting, seen_by, weigh_by}
 use Rattle.steer_parts.specs.Pollers.{weighing, with_filter}
 use Rattle.steer_parts.specs.Setup.{app_for, flow_hash, hash_of}
 use Rattle.steer_parts.specs.Steps.{simple}
 use Rattle.steer_parts.specs.declared.note.Note.{Note}
 use Rattle.steer_parts.specs.declared.note.Note.TheVariants as note
 use Rattle.steer_laws.specs.Kept.{IsCommandNamed, IsNamed, Kept}
-use Rattle.steer_laws.proofs.BelowLemmas.{both-below, first-below}
+use Rattle.steer_laws.proofs.BelowLemmas.{both-below}
 use Rattle.steer_laws.proofs.EitherLemmas.{either}
 use Rattle.steer_laws.proofs.KeptArrives.{kept_arrive, next_arrival}
 use Rattle.steer_laws.proofs.KeptFlows.{kept_flows}

@@ -1,26 +1,25 @@
 -- A sweep ends with an idle round: there is less work than its rounds.
 use Rattle.std.proofs.Common.{ℕ, ◌+◌, ◌*◌, ◌≤◌, ◌<◌, ◌≡◌, Bool, true, false, not, cond, List, [], ◌∷◌, length, refl, ap, ◌∙◌, sym}
 use Rattle.std.proofs.Common.{subst, arith, inl, inr, suc, zero, get_or}
-use Rattle.std.specs.Prelude.{◌&&◌, ◌||◌, slice_index_or}
+use Rattle.std.specs.Prelude.{◌&&◌, ◌||◌}
 use Rattle.std.specs.List.{sum_by}
 use Rattle.std.proofs.lemmas.Bool.{cases_Bool}
 use Rattle.std.proofs.lemmas.List.Sums.{sum_by-cons}
 use Rattle.steer_base.specs.declared.choice.Chosen.{Chosen}
 use Rattle.steer_base.specs.declared.step.Step.{Step}
-use Rattle.steer_base.specs.declared.step.Step.TheVariants as act
 use Rattle.hop_core.specs.Hop.{HopState, choices_of, taken_of}
 use Rattle.hop_core.specs.Work.{sum_of, total, work}
 use Rattle.hop_core.proofs.Work.{room-lists, work_is_bounded}
 use Rattle.steer_parts.specs.Machine.{Machine, note_of}
-use Rattle.steer_parts.specs.Setup.{Setup, flow_of}
+use Rattle.steer_parts.specs.Setup.{Setup}
 use Rattle.steer_parts.specs.Steps.{is_idle, is_work, simple}
-use Rattle.steer_parts.specs.Whole.{Turn, most_rounds, one_round, rounds, step, tried}
+use Rattle.steer_parts.specs.Whole.{Turn, most_rounds, one_round, rounds, tried}
 use Rattle.steer_parts.specs.declared.note.Note.{Note}
 use Rattle.steer_parts.specs.declared.note.Note.TheVariants as note
 use Rattle.steer_laws.specs.Kept.{IsNamed, Kept}
 use Rattle.steer_laws.specs.KeptHops.{IsNoted}
 use Rattle.steer_laws.specs.Rest.{AtRest}
-use Rattle.steer_laws.specs.SweepLaws.{EndsIdle, IsIdleRound, SweepEndsAtRest, SweepEndsIdle}
+use Rattle.steer_laws.specs.SweepLaws.{IsIdleRound, SweepEndsAtRest, SweepEndsIdle}
 use Rattle.steer_laws.proofs.IdleTurns.{idle-leaves}
 use Rattle.steer_laws.proofs.KeptLemmas.{flow_small}
 use Rattle.steer_laws.proofs.KeptSimple.{goes-simple}

@@ -1,23 +1,19 @@
 -- The history of a machine at rest is swept, and so is that of each plan after a sweep.
-use Rattle.std.proofs.Common.{ℕ, ◌+◌, ◌≤◌, ◌<◌, ◌≡◌, ◌⊎◌, Bool, true, false, List, [], ◌∷◌, ◌++◌, Option, Some}
+use Rattle.std.proofs.Common.{ℕ, ◌+◌, ◌<◌, ◌≡◌, ◌⊎◌, Bool, true, List, [], ◌∷◌, ◌++◌, Option, Some}
 use Rattle.std.proofs.Common.{length, map, refl, ap, ◌∙◌, sym, subst, arith, inl, inr, get_or}
-use Rattle.std.specs.Prelude.{◌==◌, cond, nat_lt, slice_index}
 use Rattle.std.specs.List.{All, AllPass, Contains, cons_option, filter_map, range_with_len}
 use Rattle.std.proofs.Math.ListN.{length-map}
-use Rattle.std.proofs.lemmas.Bool.{cases_lt, eq-eqb, le-ltb}
+use Rattle.std.proofs.lemmas.Bool.{eq-eqb, le-ltb}
 use Rattle.std.proofs.lemmas.List.{get_or-map, get_or_append_left, get_or_default, length-append}
 use Rattle.std.proofs.lemmas.List.Elements.{filter_map-append}
-use Rattle.steer_base.specs.Orders.{IsPrefix}
 use Rattle.steer_base.specs.declared.packet.Packet.{Packet}
 use Rattle.steer_base.specs.declared.step.Step.{Step}
 use Rattle.steer_base.specs.declared.step.Step.TheVariants as act
 use Rattle.hop_core.specs.Events.{IsEmptied}
-use Rattle.hop_core.specs.Hop.{HopState, accepted_at, arrivals_of, delivered_at, fell_at, out_at}
-use Rattle.hop_core.specs.Hop.{pulled_at, retired_at}
+use Rattle.hop_core.specs.Hop.{HopState, fell_at, out_at}
 use Rattle.hop_core.specs.Sound.{Sound}
 use Rattle.history.specs.Finding.{is_in}
 use Rattle.history.specs.Lists.{no_arrival, no_lane}
-use Rattle.history.specs.declared.lane_list.LaneList.{LaneList}
 use Rattle.history.proofs.Arrivals.{arrival-id}
 use Rattle.history.proofs.BoundLemmas.{in-index}
 use Rattle.history.proofs.SamePlaces.{place-index}

@@ -1,30 +1,28 @@
 -- In a machine at rest each packet of the capture went all its way.
-use Rattle.std.proofs.Common.{ℕ, ◌+◌, ◌≤◌, ◌<◌, ◌≡◌, ◌⊎◌, Bool, true, false, List, [], ◌∷◌, length, refl, ap, ◌∙◌, sym, subst, arith}
+use Rattle.std.proofs.Common.{ℕ, ◌<◌, ◌≡◌, ◌⊎◌, List, [], ◌∷◌, length, refl, ap, ◌∙◌, sym, subst, arith}
 use Rattle.std.proofs.Common.{inl, inr, suc, zero, get_or, map}
 use Rattle.std.specs.Prelude.{◌==◌, slice_index, slice_index_or}
 use Rattle.std.specs.List.{Contains}
-use Rattle.std.proofs.Math.ListN.{get_or-eq_default, length-map}
-use Rattle.std.proofs.lemmas.Bool.{cases_Bool, cases_lt, eq-eqb, eqb-true}
+use Rattle.std.proofs.Math.ListN.{get_or-eq_default}
+use Rattle.std.proofs.lemmas.Bool.{cases_Bool, cases_lt, eq-eqb}
 use Rattle.std.proofs.lemmas.List.{get_or_default}
 use Rattle.hop_core.specs.Events.{IsEmptied}
-use Rattle.hop_core.specs.Hop.{HopState, accepted_at, arrivals_of, choices_of, chosen_at, delivered_at, fell_at, out_at}
-use Rattle.hop_core.specs.Hop.{placed_of, retired_at}
+use Rattle.hop_core.specs.Hop.{HopState, accepted_at, arrivals_of, choices_of, chosen_at, fell_at, out_at}
+use Rattle.hop_core.specs.Hop.{placed_of}
 use Rattle.hop_core.specs.NothingLost.{IsOut, NothingLost}
 use Rattle.hop_core.specs.Sound.{Sound}
 use Rattle.history.specs.Lists.{arrivals_at, no_arrival}
 use Rattle.history.specs.declared.arrival.Arrival.{Arrival}
 use Rattle.history.proofs.Arrivals.{arrival-id}
-use Rattle.steer_parts.specs.Applications.{sent_of}
 use Rattle.steer_parts.specs.Machine.{Machine}
 use Rattle.steer_parts.specs.Setup.{Setup}
 use Rattle.steer_base.specs.declared.step.Step.TheVariants as act
 use Rattle.steer_parts.specs.Whole.{step}
 use Rattle.steer_laws.specs.Kept.{Kept}
-use Rattle.steer_laws.specs.Rest.{AtRest, IsThrough}
+use Rattle.steer_laws.specs.Rest.{AtRest}
 use Rattle.steer_laws.specs.SweepLaws.{RestIsThrough, SweptIsThrough}
 use Rattle.steer_laws.proofs.KeptLemmas.{step_keeps_kept, step_keeps_setup}
 use Rattle.steer_laws.proofs.KeptSends.{begun-at, sent-long}
-use Rattle.steer_laws.proofs.PrefixLemmas.{prefix-at}
 use Rattle.steer_laws.proofs.Sweeps.{sweep_ends_at_rest}
 
 -- ---- lists

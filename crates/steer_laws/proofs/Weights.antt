@@ -1,15 +1,13 @@
 -- How far the work of a machine has come: each work that a step does adds to it, and nothing takes from it.
-use Rattle.std.proofs.Common.{ℕ, ◌+◌, ◌≤◌, ◌<◌, ◌≡◌, ◌⊎◌, Bool, true, false, not, cond, List, [], ◌∷◌, Option, Some, None, length}
+use Rattle.std.proofs.Common.{ℕ, ◌+◌, ◌≤◌, ◌<◌, ◌≡◌, true, false, not, cond, List, Option, Some, None, length}
 use Rattle.std.proofs.Common.{refl, ap, ◌∙◌, sym, subst, arith, inl, inr}
-use Rattle.std.specs.Prelude.{◌%◌, nat_lt, slice_index_or, slice_set}
+use Rattle.std.specs.Prelude.{◌%◌, nat_lt, slice_set}
 use Rattle.std.specs.List.{sum_by}
 use Rattle.std.proofs.lemmas.Bool.{ltb-true}
 use Rattle.std.proofs.lemmas.List.Sums.{sum_by-set}
 use Rattle.steer_base.specs.declared.choice.Chosen.{Chosen}
-use Rattle.steer_base.specs.declared.command.Answer.{Answer}
 use Rattle.steer_base.specs.declared.command.Answer.TheVariants as says
 use Rattle.steer_base.specs.declared.cpu_mask.CpuMask.{CpuMask}
-use Rattle.steer_base.specs.declared.idle.Idle.{Idle}
 use Rattle.steer_base.specs.declared.idle.Idle.TheVariants as idle
 use Rattle.steer_base.specs.declared.step.Step.{Step}
 use Rattle.steer_base.specs.declared.step.Step.TheVariants as act
@@ -31,7 +29,7 @@ use Rattle.steer_parts.specs.Applications.{in_lane, in_reply, next_in, record_by
 use Rattle.steer_parts.specs.Machine.{Machine, last_of, note_of}
 use Rattle.steer_parts.specs.Notes.{asking, is_asking, is_nothing}
 use Rattle.steer_parts.specs.Outcomes.{Outcome, by_rx, by_tx, idles, told}
-use Rattle.steer_parts.specs.Pollers.{arrives, ask_by, filter_for, look_by, noted, position_of, put_by, putting, seen_by}
+use Rattle.steer_parts.specs.Pollers.{arrives, ask_by, filter_for, look_by, position_of, put_by, putting, seen_by}
 use Rattle.steer_parts.specs.Pollers.{weigh_by, weighing}
 use Rattle.steer_parts.specs.Setup.{app_for, flow_hash, hash_of}
 use Rattle.steer_parts.specs.Steps.{is_command, is_idle, is_work, simple}
