@@ -1,16 +1,15 @@
 -- After a round in which no work was done, the machine is at rest.
-use Rattle.std.proofs.Common.{ℕ, ◌+◌, ◌-◌, ◌≤◌, ◌<◌, ◌≡◌, Bool, true, false, List, [], ◌∷◌, Option, Some, None, length, refl, ap}
-use Rattle.std.proofs.Common.{◌∙◌, cond, sym, subst, arith, inl, inr, suc, zero}
-use Rattle.std.specs.Prelude.{◌%◌, nat_lt, not, slice_index_or}
-use Rattle.std.proofs.lemmas.Bool.{cases_Bool, cases_eq}
-use Rattle.std.proofs.lemmas.List.{get_or-set_same}
+use Rattle.std.proofs.Common.{ℕ, ◌+◌, ◌≡◌, false, Option, Some, None, length, refl}
+use Rattle.std.proofs.Common.{◌∙◌, cond, sym, subst, inl, inr}
+use Rattle.std.specs.Prelude.{◌%◌, nat_lt, not}
+use Rattle.std.proofs.lemmas.Bool.{cases_Bool}
 use Rattle.steer_base.specs.declared.command.Answer.TheVariants as says
 use Rattle.steer_base.specs.declared.idle.Idle.TheVariants as idle
 use Rattle.steer_base.specs.declared.step.Step.{Step}
 use Rattle.steer_base.specs.declared.step.Step.TheVariants as act
 use Rattle.hop_core.specs.declared.event.HopEvent.{HopEvent}
 use Rattle.hop_core.specs.declared.event.HopEvent.TheVariants as event
-use Rattle.hop_core.specs.Events.{IsEmptied, happens, run}
+use Rattle.hop_core.specs.Events.{happens}
 use Rattle.hop_core.specs.Hop.{HopState, inside_of}
 use Rattle.hop_core.specs.Leaves.{Field, changes}
 use Rattle.hop_core.proofs.Leaves.{each_leaves}
@@ -18,16 +17,14 @@ use Rattle.steer_parts.specs.Applications.{record_by, visited, wrote}
 use Rattle.steer_parts.specs.Machine.{Machine, note_of}
 use Rattle.steer_parts.specs.Notes.{is_nothing}
 use Rattle.steer_parts.specs.Outcomes.{Outcome, by_rx, idles}
-use Rattle.steer_parts.specs.Setup.{Setup, flow_hash, flow_of}
-use Rattle.steer_parts.specs.Steps.{is_command, is_idle, is_work, simple}
-use Rattle.steer_parts.specs.Whole.{Turn, again, drain, drain_one, for_each, one_round, poll, recorded, reply, replying}
-use Rattle.steer_parts.specs.Whole.{serve, ship, ship_one, tried, tries, unretired}
+use Rattle.steer_parts.specs.Setup.{Setup, flow_hash}
+use Rattle.steer_parts.specs.Steps.{is_work, simple}
+use Rattle.steer_parts.specs.Whole.{Turn}
+use Rattle.steer_parts.specs.Whole.{tried}
 use Rattle.steer_laws.specs.Kept.{IsNamed, Kept}
-use Rattle.steer_laws.specs.Rest.{AtRest, PollerRests, SenderRests}
 use Rattle.steer_laws.proofs.EitherLemmas.{either}
-use Rattle.steer_laws.proofs.IdleTurns.{AreIdle, AreWork, WereIdle, idle-leaves, idle-tries, or-first, tried-before, tried-idle}
+use Rattle.steer_laws.proofs.IdleTurns.{idle-leaves, tried-before, tried-idle}
 use Rattle.steer_laws.proofs.KeptSimple.{goes-simple}
-use Rattle.steer_laws.proofs.RestLemmas.{lane-rests, poller-rests, sender-rests, tx-rests}
 use Rattle.steer_laws.proofs.TurnLift.{IsTried}
 
 -- ---- what entering, leaving and recording leave
@@ -163,11 +160,11 @@ quiet-tried p t u s is q =
           let before = q.still (tried-before u s none) in (
             before.0,
             elim (cases_Bool (is_work s)) [
-                  | inl work ↦
-                      still-then t.0 u.0 (tried u s).0 before.1
-                      (still-same u.0 (tried u s).0 (idle-leaves u.0 s is.event (tried-idle u s work none)))
-                  | inr rest ↦ still-then t.0 u.0 (tried u s).0 before.1 (still-event u.0 s rest)
-                ],
+              | inl work ↦
+                  still-then t.0 u.0 (tried u s).0 before.1
+                  (still-same u.0 (tried u s).0 (idle-leaves u.0 s is.event (tried-idle u s work none)))
+              | inr rest ↦ still-then t.0 u.0 (tried u s).0 before.1 (still-event u.0 s rest)
+            ],
           ));
     }
 

@@ -1,5 +1,5 @@
 -- What an event of a hop keeps of the machine's invariant, part by part.
-use Rattle.std.proofs.Common.{ℕ, ◌<◌, ◌≡◌, false, List, [], Option, length, refl, ap, ◌∙◌, sym, subst}
+use Rattle.std.proofs.Common.{ℕ, ◌≡◌, false, List, [], length, ap, ◌∙◌, sym, subst}
 use Rattle.std.specs.Prelude.{slice_index, slice_index_or}
 use Rattle.steer_base.specs.declared.packet.Packet.{Packet}
 use Rattle.hop_core.specs.declared.event.HopEvent.{HopEvent}

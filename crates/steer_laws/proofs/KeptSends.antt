@@ -1,7 +1,7 @@
 -- What the steps of applications and of transmit queues keep.
-use Rattle.std.proofs.Common.{ℕ, ◌+◌, ◌≤◌, ◌<◌, ◌≡◌, ◌≢◌, max, true, false, List, [], ◌∷◌, ◌++◌, Option, Some, None}
-use Rattle.std.proofs.Common.{map, length, refl, ap, ◌∙◌, sym, subst, arith, suc, zero, inl, inr, get_or}
-use Rattle.std.specs.Prelude.{nat_lt, slice_get, slice_index, slice_set}
+use Rattle.std.proofs.Common.{ℕ, ◌+◌, ◌≤◌, ◌<◌, ◌≡◌, max, true, false, List, [], ◌∷◌, ◌++◌, Option, Some}
+use Rattle.std.proofs.Common.{map, length, refl, ap, ◌∙◌, sym, subst, arith, suc, zero, inl, inr}
+use Rattle.std.specs.Prelude.{slice_get, slice_index, slice_set}
 use Rattle.std.proofs.Math.ListN.{get_or-eq_default, get_or-replicate, length-map, length-set}
 use Rattle.std.proofs.lemmas.Bool.{cases_eq, cases_lt, le-ltb, lt-ltb}
 use Rattle.std.proofs.lemmas.List.{map_push}
@@ -21,7 +21,7 @@ use Rattle.history.specs.Lists.{list_at, no_packet}
 use Rattle.history.specs.declared.sent.Sent.{Sent}
 use Rattle.xps_map.specs.Maps.{serves_cpu, serves_queue}
 use Rattle.xps_map.proofs.CandidatesLemmas.{within}
-use Rattle.steer_parts.specs.Applications.{everyone, in_reply, next_in, pick_for, reply_to, sending, sent_of}
+use Rattle.steer_parts.specs.Applications.{everyone, next_in, pick_for, sending, sent_of}
 use Rattle.steer_parts.specs.Given.{IsGiven}
 use Rattle.steer_parts.specs.Machine.{Machine}
 use Rattle.steer_parts.specs.Setup.{Setup, flow_of, hash_of}
@@ -144,10 +144,10 @@ read_at (y ∷ ys) zero x h = (omega arith, cc)
 read_at (y ∷ ys) (suc n) x h = let i = read_at ys n x h in let lt = i.0 in (omega (arith, lt), i.1)
 
 -- each application's replies are the first packets of its inbox
-sent-long : (m : Machine) (a : ℕ) → Kept m → length (arrivals_of m.tx a) ≡ length (sent_of m a)
+pub sent-long : (m : Machine) (a : ℕ) → Kept m → length (arrivals_of m.tx a) ≡ length (sent_of m a)
 sent-long m a k = ap length (k.replied.came a) ∙ length-map (sent_of m a) (λ s. s.id)
 
-begun-at : (m : Machine) (a i : ℕ) → Kept m → i < length (arrivals_of m.tx a)
+pub begun-at : (m : Machine) (a i : ℕ) → Kept m → i < length (arrivals_of m.tx a)
     → (i < length (out_at m.rx.bare a)) × (slice_index (out_at m.rx.bare a) i ≡ slice_index (arrivals_of m.tx a) i)
 begun-at m a i k lt =
     let ids : List ℕ = map (λ s. s.id) (sent_of m a) in

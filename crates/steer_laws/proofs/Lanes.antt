@@ -57,7 +57,7 @@ module _ (s : HopState) (h : Sound s) where
   accepted-is : (c : ℕ) → (lane_at (lane_lists s.bare) c).accepted ≡ accepted_at s.bare c
   accepted-is c = ap (λ lane. lane.accepted) (lane-is c)
 
-  fallen-is : (c : ℕ) → drop_ids (lane_at (lane_lists s.bare) c) ≡ fell_at s.bare c
+  pub fallen-is : (c : ℕ) → drop_ids (lane_at (lane_lists s.bare) c) ≡ fell_at s.bare c
   fallen-is c = ap drop_ids (lane-is c)
 
   all-accepted : accepted_lists (lane_lists s.bare) ≡ s.bare.accepted

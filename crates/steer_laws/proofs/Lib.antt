@@ -36,6 +36,10 @@ pub mod HeldNew
 pub mod HeldRows
 pub mod HeldCommands
 pub mod HeldSteps
+pub mod Weights
+pub mod Sweeps
+pub mod ThroughLemmas
+pub mod SweptHistories
 pub mod DeliversEvents
 pub mod DeliversSteps
 pub mod DeliversHistory

@@ -1,13 +1,13 @@
 -- Every step keeps the processors of filters and the flow counts in their ranges.
-use Rattle.std.proofs.Common.{ℕ, zero, suc, ◌+◌, ◌-◌, ◌^◌, ◌≤◌, ◌<◌, ◌≡◌, ◌⊎◌, Bool, true, false, not}
+use Rattle.std.proofs.Common.{ℕ, zero, suc, ◌+◌, ◌-◌, ◌^◌, ◌≤◌, ◌<◌, ◌≡◌, ◌⊎◌, Bool, true, false}
 use Rattle.std.proofs.Common.{cond, List, [], ◌∷◌, Option, Some, None, map, length, refl, ap, ◌∙◌, sym}
 use Rattle.std.proofs.Common.{subst, arith, inl, inr, get_or, set as set_list, nat_le, lit<}
 use Rattle.std.specs.Prelude.{◌==◌, find, nat_lt, slice_get, unwrap_or}
-use Rattle.std.specs.List.{All, range_with_len}
+use Rattle.std.specs.List.{range_with_len}
 use Rattle.std.specs.Option.{option_map}
 use Rattle.std.proofs.Math.ListN.{get_or-eq_default, length-map}
 use Rattle.std.proofs.Math.Nat.{pow-le-pow_right}
-use Rattle.std.proofs.lemmas.Bool.{cases_Bool, cases_eq, cases_lt, leb-true, leb-false}
+use Rattle.std.proofs.lemmas.Bool.{cases_Bool, cases_eq, cases_lt, leb-false}
 use Rattle.std.proofs.lemmas.List.{get_or-map}
 use Rattle.std.proofs.lemmas.List.Elements.{All-set}
 use Rattle.steer_base.specs.Choices.{has_moved}
@@ -19,9 +19,9 @@ use Rattle.steer_base.specs.declared.choice.Chosen.{Chosen}
 use Rattle.steer_base.specs.declared.command.Command.{Command}
 use Rattle.steer_base.specs.declared.command.Command.TheVariants as give
 use Rattle.steer_base.specs.declared.filter.Filter.{Filter}
-use Rattle.hop_core.specs.Hop.{HopState, choices_of, chosen_at, nobody}
+use Rattle.hop_core.specs.Hop.{choices_of, chosen_at, nobody}
 use Rattle.history.proofs.SamePlaces.{map_some}
-use Rattle.steer_parts.specs.Commands.{answer_to, is_done, kept_filter, may_go, set_by}
+use Rattle.steer_parts.specs.Commands.{kept_filter, may_go, set_by}
 use Rattle.steer_parts.specs.Machine.{Machine, last_of, note_of}
 use Rattle.steer_parts.specs.Notes.{asking}
 use Rattle.steer_parts.specs.Pollers.{filter_for, noted, with_filter}

@@ -1,21 +1,18 @@
 -- Every step of one event and every command keeps the ranges of what filters and flow counts name.
-use Rattle.std.proofs.Common.{ℕ, ◌<◌, ◌≡◌, true, not, cond, Option, Some, None, length, refl}
-use Rattle.std.specs.Prelude.{◌%◌, nat_lt}
+use Rattle.std.proofs.Common.{ℕ, ◌<◌, ◌≡◌, not, Option, Some, None, length, refl}
+use Rattle.std.specs.Prelude.{nat_lt}
 use Rattle.std.proofs.lemmas.Bool.{ltb-true}
-use Rattle.steer_base.specs.declared.command.Answer.TheVariants as says
-use Rattle.steer_base.specs.declared.idle.Idle.TheVariants as idle
 use Rattle.steer_base.specs.declared.step.Step.{Step}
 use Rattle.steer_base.specs.declared.step.Step.TheVariants as act
-use Rattle.hop_core.specs.declared.event.HopEvent.TheVariants as event
 use Rattle.hop_core.specs.Events.{happens}
-use Rattle.hop_core.specs.Hop.{HopState, inside_of, placed_of, taken_of}
+use Rattle.hop_core.specs.Hop.{inside_of, placed_of, taken_of}
 use Rattle.hop_core.specs.Reads.{to_weigh}
 use Rattle.steer_parts.specs.Applications.{next_in, record_by, send_by}
 use Rattle.steer_parts.specs.Commands.{answer_to, is_done, set_by}
 use Rattle.steer_parts.specs.Machine.{Machine, last_of, note_of}
 use Rattle.steer_parts.specs.Notes.{is_asking, is_nothing}
 use Rattle.steer_parts.specs.Outcomes.{Outcome, by_rx}
-use Rattle.steer_parts.specs.Pollers.{ask_by, look_by, position_of, put_by, putting, weigh_by}
+use Rattle.steer_parts.specs.Pollers.{ask_by, look_by, put_by, putting, weigh_by}
 use Rattle.steer_parts.specs.Setup.{flow_hash, hash_of}
 use Rattle.steer_parts.specs.Steps.{simple}
 use Rattle.steer_parts.specs.declared.note.Note.{Note}

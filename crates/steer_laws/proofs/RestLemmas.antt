@@ -1,17 +1,13 @@
 -- Where all work of an actor is idle, the actor rests.
-use Rattle.std.proofs.Common.{ℕ, ◌+◌, ◌≤◌, ◌<◌, ◌≡◌, Bool, true, false, not, List, [], ◌∷◌, Option, Some, None, length}
+use Rattle.std.proofs.Common.{ℕ, ◌≤◌, ◌≡◌, Bool, true, false, not, List, [], ◌∷◌, length}
 use Rattle.std.proofs.Common.{refl, ap, ◌∙◌, map, sym, subst, arith, inl, inr, suc, zero}
 use Rattle.std.specs.Prelude.{is_some, nat_lt, slice_get}
-use Rattle.std.proofs.lemmas.Bool.{cases_Bool, cases_lt, ltb-false}
+use Rattle.std.proofs.lemmas.Bool.{cases_Bool, ltb-false}
 use Rattle.std.proofs.Math.ListN.{length-map}
-use Rattle.std.proofs.lemmas.List.{get_or-set_same}
-use Rattle.steer_base.specs.declared.command.Answer.TheVariants as says
-use Rattle.steer_base.specs.declared.idle.Idle.{Idle}
 use Rattle.steer_base.specs.declared.step.Step.{Step}
 use Rattle.steer_base.specs.declared.step.Step.TheVariants as act
-use Rattle.hop_core.specs.declared.event.HopEvent.TheVariants as event
-use Rattle.hop_core.specs.Events.{IsEmptied, happens}
-use Rattle.hop_core.specs.Hop.{Bare, HopState, accepted_at, arrivals_of, choices_of, delivered_at, inside_of, out_at}
+use Rattle.hop_core.specs.Events.{IsEmptied}
+use Rattle.hop_core.specs.Hop.{HopState, accepted_at, arrivals_of, choices_of, delivered_at, inside_of, out_at}
 use Rattle.hop_core.specs.Hop.{placed_of, pulled_at, retired_at, taken_of}
 use Rattle.hop_core.specs.Sound.{Sound}
 use Rattle.steer_parts.specs.Applications.{next_in, sent_of}

@@ -1,5 +1,5 @@
 -- After a round in which no work was done, the machine is at rest.
-use Rattle.std.proofs.Common.{ℕ, ◌+◌, ◌-◌, ◌≤◌, ◌<◌, ◌≡◌, true, false, List, [], ◌∷◌, Option, length, refl, ap, ◌∙◌, sym, subst, arith}
+use Rattle.std.proofs.Common.{ℕ, ◌≤◌, ◌<◌, ◌≡◌, true, false, List, [], ◌∷◌, length, refl, ap, sym, subst, arith}
 use Rattle.std.proofs.Common.{inl, inr, suc, zero}
 use Rattle.std.proofs.lemmas.Bool.{cases_Bool, cases_eq, lt-ltb}
 use Rattle.std.proofs.lemmas.List.{get_or-set_same}
@@ -7,20 +7,19 @@ use Rattle.steer_base.specs.declared.step.Step.{Step}
 use Rattle.steer_base.specs.declared.step.Step.TheVariants as act
 use Rattle.hop_core.specs.declared.event.HopEvent.TheVariants as event
 use Rattle.hop_core.specs.Events.{IsEmptied, happens}
-use Rattle.hop_core.specs.Hop.{HopState, accepted_at, inside_of, retired_at}
-use Rattle.hop_core.specs.Sound.{Sound}
+use Rattle.hop_core.specs.Hop.{HopState, inside_of}
 use Rattle.steer_parts.specs.Machine.{Machine}
 use Rattle.steer_parts.specs.Setup.{Setup, flow_of}
-use Rattle.steer_parts.specs.Whole.{Turn, again, drain, drain_one, for_each, one_round, poll, recorded, replying}
+use Rattle.steer_parts.specs.Whole.{Turn, again, drain, drain_one, for_each, poll, recorded, replying}
 use Rattle.steer_parts.specs.Whole.{serve, ship, ship_one, tried, tries, unretired}
 use Rattle.steer_laws.specs.Kept.{IsNamed, Kept}
-use Rattle.steer_laws.specs.Rest.{AtRest, PollerRests, SenderRests}
+use Rattle.steer_laws.specs.Rest.{PollerRests, SenderRests}
 use Rattle.steer_laws.specs.SweepLaws.{IdleRoundRests}
 use Rattle.steer_laws.proofs.IdleRounds.{Quiet, Still, leave-stays, quiet-start, quiet-then, quiet-tried, still-event, still-same, still-then}
-use Rattle.steer_laws.proofs.IdleTurns.{AreWork, idle-tries, tried-before, tried-idle}
+use Rattle.steer_laws.proofs.IdleTurns.{idle-tries, tried-before, tried-idle}
 use Rattle.steer_laws.proofs.KeptLemmas.{flow_small}
 use Rattle.steer_laws.proofs.RestLemmas.{lane-rests, poller-rests, sender-rests, tx-rests, wire-rests}
-use Rattle.steer_laws.proofs.TurnLift.{IsTried, arrive-keeps, drain-keeps, is_tried, poll-keeps, recorded-keeps, serve-keeps, ship-keeps}
+use Rattle.steer_laws.proofs.TurnLift.{drain-keeps, is_tried, poll-keeps, recorded-keeps, serve-keeps, ship-keeps}
 
 -- ---- an actor that rests goes on resting while all stands still
 

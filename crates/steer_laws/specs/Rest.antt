@@ -2,7 +2,7 @@
 use Rattle.std.specs.Prelude.{ℕ, ◌<◌, ◌≡◌, ◌⊎◌, length}
 use Rattle.std.specs.List.{Contains}
 use Rattle.hop_core.specs.Events.{IsEmptied}
-use Rattle.hop_core.specs.Hop.{Bare, arrivals_of, fell_at, out_at, placed_of}
+use Rattle.hop_core.specs.Hop.{arrivals_of, fell_at, out_at, placed_of}
 use Rattle.hop_core.specs.NothingLost.{IsOut}
 use Rattle.steer_parts.specs.Applications.{sent_of}
 use Rattle.steer_parts.specs.Machine.{Machine, note_of}
