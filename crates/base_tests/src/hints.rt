@@ -1,8 +1,8 @@
-// Seats that take turns, seats of two threads, and hints without words.
+//! Seats that take turns, seats of two threads, and hints without words.
 ghost use Rattle.std.specs.Prelude.{◌≡◌, ◌<◌, ◌≤◌};
 ghost use Rattle.std.specs.Vec.{vec_len, vec_capacity};
 
-use crate::{HintSeat, Hints};
+use hint_words::{HintSeat, Hints};
 use std::thread::join;
 
 #[test]
