@@ -2,7 +2,7 @@
 ghost use Rattle.std.specs.Prelude.{◌≡◌, ◌+◌, ◌≤◌, length};
 ghost use Rattle.backlog.specs.Puts.{SameShape, put_count};
 
-use crate::Lane;
+use backlog::Lane;
 use std::process::Abort;
 use std::test::Fail;
 use steer_base::{DropCause, LaneDrop, PacketId, Put};

@@ -1,12 +1,8 @@
 //! Hops that are played by worked traces, with the choices, positions and answers that they must
 //! give.
-ghost use Rattle.std.specs.Prelude.{◌≡◌, ℕ, ◌<◌, ◌≤◌, ◌≢◌, false, IsTrue, length, slice_index};
-ghost use Rattle.steer_base.specs.Sets.{has};
-ghost use Rattle.hop_core.specs.Events.{IsClassBelow, IsEmptied, MayAsk};
-ghost use Rattle.hop_core.specs.Hop.{arrivals_of};
+ghost use Rattle.std.specs.Prelude.{◌<◌, ◌≤◌, length};
 
-use crate::hop::Hop;
-use crate::{HopAnswer, HopEvent, HopShape};
+use hop_core::{Hop, HopAnswer, HopEvent, HopShape};
 use std::alloc::Global;
 use std::process::Abort;
 use std::test::Fail;
@@ -20,105 +16,9 @@ const SECOND: u32 = 0xc626_b0ea;
 
 const ALL: CpuMask = CpuMask(0b1111);
 
-// Whether the packet is new to the hop.
-fn is_new(hop: &Hop, id: PacketId) -> bool
-    ensures { IsTrue result → (q i : ℕ) → i < length (arrivals_of hop.now q)
-        → slice_index (arrivals_of hop.now q) i ≢ id }
-{
-    for p in 0..hop.rings.taken.len() {
-        for n in 0..hop.rings.arrivals.len_of(p as u8) {
-            if hop.rings.arrivals.get(p as u8, n) == id {
-                return false;
-            }
-        }
-    }
-    true
-}
-
-// Whether each lane that is offline is empty.
-fn is_empty_but(hop: &Hop, online: CpuMask) -> bool
-    ensures { IsTrue result → (c : ℕ) → c < length hop.now.bare.accepted → has online c ≡ false
-        → IsEmptied hop.now.bare c }
-{
-    for lane in 0..hop.lanes.count() {
-        let (head, tail) = (hop.head(lane), hop.tail(lane));
-        if !online.has(lane) && head != tail {
-            return false;
-        }
-    }
-    true
-}
-
-// Whether each lane is empty.
-fn is_empty(hop: &Hop) -> bool
-    ensures { IsTrue result → (c : ℕ) → c < length hop.now.bare.accepted
-        → IsEmptied hop.now.bare c }
-{
-    for lane in 0..hop.lanes.count() {
-        let (head, tail) = (hop.head(lane), hop.tail(lane));
-        if head != tail {
-            return false;
-        }
-    }
-    true
-}
-
-// Whether the class, where there is one, is one of the producer's.
-fn has_class(hop: &Hop, p: u8, class: Option<u32>) -> bool
-    requires { p < length hop.now.arrivals }
-    ensures { IsTrue result → IsClassBelow (slice_index hop.now.counts p) class }
-{
-    match class {
-        Some(class) => class < hop.counts[p as usize],
-        None => true,
-    }
-}
-
-// Whether the event may be asked.
-fn may_ask(hop: &Hop, e: HopEvent) -> bool
-    ensures { IsTrue result → MayAsk hop.now e }
-{
-    let producers = hop.rings.taken.len();
-    let actors = hop.gate.visits.len();
-    let lanes = hop.lanes.count();
-    match e {
-        HopEvent::Arrive { p, id } => {
-            (p as usize) < producers && id.0 < hop.rings.arrivals.room() && is_new(hop, id)
-        }
-        HopEvent::Take { p } => (p as usize) < producers,
-        HopEvent::Enter { p } => (p as usize) < actors,
-        HopEvent::Leave { p } => (p as usize) < actors,
-        HopEvent::Weigh {
-            p,
-            class,
-            desired,
-            online,
-            ..
-        } => {
-            (p as usize) < producers
-                && desired < lanes
-                && has_class(hop, p, class)
-                && online.has(desired)
-                && is_empty_but(hop, online)
-        }
-        HopEvent::Put { p, .. } => (p as usize) < producers,
-        HopEvent::Pull { lane } => lane < lanes,
-        HopEvent::Deliver { lane, to } => lane < lanes && (to as usize) < hop.outs.count(),
-        HopEvent::Retire { lane } => lane < lanes,
-        HopEvent::Resize { p, count } => {
-            (p as usize) < producers
-                && count <= 32768
-                && !hop.tables.is_exact()
-                && hop.gate.closed
-                && is_empty(hop)
-        }
-        HopEvent::Close => !hop.gate.closed,
-        HopEvent::Reopen => hop.gate.closed,
-    }
-}
 // Plays an event that may be asked.
 fn ask(rt: &impl Abort, hop: &mut Hop, e: HopEvent) -> HopAnswer {
-    assert!(rt; may_ask(hop, e), "{e:?} may be asked");
+    assert!(rt; hop.may_ask(e), "{e:?} may be asked");
     hop.step(e)
 }
 
@@ -371,7 +271,7 @@ fn a_resize_unsets_the_classes(rt: HostRuntime) -> Result<(), Fail> {
     play(&rt, &mut hop, &[arrive(0), arrive(1)]);
     poll(&rt, &mut hop, first);
     play(&rt, &mut hop, &[(HopEvent::Close, HopAnswer::Done)]);
-    assert!(&rt; !may_ask(&hop, RESIZE));
+    assert!(&rt; !hop.may_ask(RESIZE));
     drain(&rt, &mut hop, 1, 0, 1);
     play(
         &rt,
@@ -599,8 +499,8 @@ fn a_hop_shows_its_hands(rt: HostRuntime) -> Result<(), Fail> {
         (HopEvent::Take { p: 0 }, HopAnswer::Took(PacketId(1))),
     ];
     play(&rt, &mut hop, &turns);
-    assert!(rt; hop.lanes.count() == 4 && hop.outs.count() == 1);
-    assert!(rt; hop.rings.taken.len() == 1 && hop.gate.visits.len() == 3);
+    assert!(rt; hop.may_ask(HopEvent::Take { p: 0 }) && hop.may_ask(HopEvent::Enter { p: 0 }));
+    assert!(rt; hop.may_ask(HopEvent::Deliver { lane: 1, to: 0 }));
     shows_its_hands(&rt, &hop, choice);
     Ok(())
 }

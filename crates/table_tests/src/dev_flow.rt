@@ -2,7 +2,7 @@
 ghost use Rattle.std.specs.Prelude.{◌≡◌};
 ghost use Rattle.dev_flow_table.specs.Tables.{IsClassOf};
 
-use crate::DevTable;
+use dev_flow_table::DevTable;
 use std::process::Abort;
 use std::test::Fail;
 use steer_base::{Choice, CpuMask, Why};
