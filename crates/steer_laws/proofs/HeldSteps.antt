@@ -77,7 +77,7 @@ module _ (m : Machine) (h : Held m) where
 -- ---- a plan
 
 -- the machine of a plan has what the plan has
-sizes-same : (plan : Plan) (packets : List Packet) (cut : Option ℕ)
+pub sizes-same : (plan : Plan) (packets : List Packet) (cut : Option ℕ)
     → sizes_in (setup_of plan packets cut) ≡ sizes_of plan
 sizes-same plan packets cut =
     ap (λ n. record { cpus = plan.cpus; queues = n; apps = length plan.apps; tx = length plan.tx })
@@ -101,9 +101,9 @@ runs_are_reportable plan packets cut ss may named =
     reportable-after (new_machine plan packets cut) (held-new plan packets cut may) ss
     (named-in plan packets cut ss named)
 
--- each step of a plan names what the plan has
-pub plan_steps_within : (plan : Plan) → AllPass (step_is_within (sizes_of plan)) (steps_of plan)
-plan_steps_within plan =
+-- its steps name what it has
+pub steps-within : (plan : Plan) → AllPass (step_is_within (sizes_of plan)) (steps_of plan)
+steps-within plan =
     let w = plan.within in
     plan_steps_are_within plan
     (record {
@@ -116,4 +116,4 @@ plan_steps_within plan =
 
 pub replays_are_reportable : ReplaysAreReportable
 replays_are_reportable plan packets cut may =
-    runs_are_reportable plan packets cut (steps_of plan) may (plan_steps_within plan)
+    runs_are_reportable plan packets cut (steps_of plan) may (steps-within plan)

@@ -40,3 +40,7 @@ pub mod Weights
 pub mod Sweeps
 pub mod ThroughLemmas
 pub mod SweptHistories
+pub mod DeliversEvents
+pub mod DeliversSteps
+pub mod DeliversHistory
+pub mod DeliverySteps

@@ -9,3 +9,5 @@ pub mod Ranged
 pub mod Held
 pub mod Asks
 pub mod HeldLaws
+pub mod Delivers
+pub mod DeliveryLaws

@@ -1,5 +1,6 @@
 //! Laws of the machine and of the histories that it makes, each the contract of a function that
 //! does nothing.
+ghost use Rattle.steer_laws.specs.DeliveryLaws.{ReplaysDeliverInOrder, RunsDeliverInOrder};
 ghost use Rattle.steer_laws.specs.HeldLaws.{CommandsKeepHeld, HeldAsksRx, HeldAsksTx};
 ghost use Rattle.steer_laws.specs.HeldLaws.{HeldIsReportable, HeldIsSeated, ListingKeepsHeld};
 ghost use Rattle.steer_laws.specs.HeldLaws.{NewIsHeld, ReplaysAreReportable};
@@ -40,4 +41,13 @@ pub fn every_command_keeps_the_machine()
 pub fn every_replay_can_be_reported()
     ensures runs { RunsAreReportable }
     ensures replays { ReplaysAreReportable }
+{}
+
+/// After any steps that name only what the plan has, and after all steps of the plan, each flow of
+/// each queue is delivered in order to the inbox of its application, each flow of each application
+/// to the port, and from end to end; each packet and each reply is in one place, and each drop has
+/// the cause that its counts and the offers before it give.
+pub fn every_replay_delivers_in_order()
+    ensures runs { RunsDeliverInOrder }
+    ensures replays { ReplaysDeliverInOrder }
 {}
