@@ -198,7 +198,8 @@ module _ (m : Machine) (k : Kept m) where
       → placed_of m.rx q < length (choices_of m.rx q)
   put-enabled q hash =
       by_outcomes
-      (λ (o : HopOutcome). is_idle (told o.1) ≡ false → placed_of m.rx q < length (choices_of m.rx q))
+      (λ (o : HopOutcome).
+      is_idle (told o.1) ≡ false → placed_of m.rx q < length (choices_of m.rx q))
       m.rx (event.Put q hash) (λ why busy. absurd (cc)) (λ inside more busy. more)
 
   put-further : (q : ℕ) (position : Option ℕ) → q < length m.setup.homes
