@@ -1,14 +1,11 @@
 -- Every history of a plan delivers its flows in order and explains its drops.
 use Rattle.std.proofs.Common.{ℕ, ◌≡◌, refl, ◌∙◌, sym, subst}
-use Rattle.std.specs.List.{AllPass}
 use Rattle.steer_base.specs.declared.step.Step.{Step}
 use Rattle.backlog.specs.Offers.{AllExplained}
 use Rattle.hop_core.specs.Hop.{Fixed}
 use Rattle.history.specs.Lists.{lane_at}
 use Rattle.history.specs.Regular.{Regular}
 use Rattle.history.specs.declared.history.History.{History}
-use Rattle.plan_reader.specs.Ranges.{step_is_within}
-use Rattle.plan_reader.specs.declared.settings.sizes.Sizes.{Sizes}
 use Rattle.steer_parts.specs.Inputs.{Input, setup_in}
 use Rattle.steer_parts.specs.Machine.{Machine, history_of, lane_lists}
 use Rattle.steer_parts.specs.Setup.{Setup, hash_of}
@@ -24,7 +21,7 @@ use Rattle.steer_laws.proofs.DeliversHistory.{Orders, drop-causes, drop-counts, 
 use Rattle.steer_laws.proofs.DeliversHistory.{tx-places}
 use Rattle.steer_laws.proofs.DeliversSteps.{delivers-new, delivers-simple}
 use Rattle.steer_laws.proofs.HeldNew.{held-new}
-use Rattle.steer_laws.proofs.HeldSteps.{held-simple, sizes-same, steps-within}
+use Rattle.steer_laws.proofs.HeldSteps.{held-simple, named-in, plan_steps_within}
 use Rattle.steer_laws.proofs.KeptLemmas.{flow_small}
 use Rattle.steer_laws.proofs.KeptSimple.{goes-simple}
 use Rattle.steer_laws.proofs.NamedLift.{after-keeps}
@@ -95,10 +92,8 @@ runs_deliver i ss may named =
     history-is i (after ss m)
     (after-keeps p (Delivering p f) (λ n w. w.setup) (λ x. flow_small p x k.given)
     (delivering-simple p f) ss m
-    (subst (λ (z : Sizes). AllPass (step_is_within z) ss)
-    (sym (sizes-same i.plan i.packets i.cut)) named)
-    d)
+    (named-in i.plan i.packets i.cut ss named) d)
 
 pub replays_deliver : ReplaysDeliverInOrder
 replays_deliver i may =
-    runs_deliver i (steps_of i.plan) may (steps-within i.plan)
+    runs_deliver i (steps_of i.plan) may (plan_steps_within i.plan)

@@ -77,14 +77,14 @@ module _ (m : Machine) (h : Held m) where
 -- ---- a plan
 
 -- the machine of a plan has what the plan has
-pub sizes-same : (plan : Plan) (packets : List Packet) (cut : Option ℕ)
+sizes-same : (plan : Plan) (packets : List Packet) (cut : Option ℕ)
     → sizes_in (setup_of plan packets cut) ≡ sizes_of plan
 sizes-same plan packets cut =
     ap (λ n. record { cpus = plan.cpus; queues = n; apps = length plan.apps; tx = length plan.tx })
     (length-map plan.queues (λ queue. queue.home))
 
 -- steps that name what a plan has name what its machine has
-named-in : (plan : Plan) (packets : List Packet) (cut : Option ℕ) (ss : List Step)
+pub named-in : (plan : Plan) (packets : List Packet) (cut : Option ℕ) (ss : List Step)
     → AllPass (step_is_within (sizes_of plan)) ss → AreNamed (setup_of plan packets cut) ss
 named-in plan packets cut ss named =
     subst (λ (z : Sizes). AllPass (step_is_within z) ss) (sym (sizes-same plan packets cut)) named
@@ -101,9 +101,9 @@ runs_are_reportable plan packets cut ss may named =
     reportable-after (new_machine plan packets cut) (held-new plan packets cut may) ss
     (named-in plan packets cut ss named)
 
--- its steps name what it has
-pub steps-within : (plan : Plan) → AllPass (step_is_within (sizes_of plan)) (steps_of plan)
-steps-within plan =
+-- each step of a plan names what the plan has
+pub plan_steps_within : (plan : Plan) → AllPass (step_is_within (sizes_of plan)) (steps_of plan)
+plan_steps_within plan =
     let w = plan.within in
     plan_steps_are_within plan
     (record {
@@ -116,4 +116,4 @@ steps-within plan =
 
 pub replays_are_reportable : ReplaysAreReportable
 replays_are_reportable plan packets cut may =
-    runs_are_reportable plan packets cut (steps_of plan) may (steps-within plan)
+    runs_are_reportable plan packets cut (steps_of plan) may (plan_steps_within plan)

@@ -33,7 +33,7 @@ use Rattle.steer_laws.specs.Kept.{Kept}
 use Rattle.steer_laws.specs.Rest.{AtRest}
 use Rattle.steer_laws.specs.SweepLaws.{RestIsSwept, SeededReplaysAreSwept, SweepSweeps}
 use Rattle.steer_laws.specs.SweepLaws.{SweptRunsAreSwept}
-use Rattle.steer_laws.proofs.HeldSteps.{steps-within, runs_are_held}
+use Rattle.steer_laws.proofs.HeldSteps.{plan_steps_within, runs_are_held}
 use Rattle.steer_laws.proofs.KeptArrives.{range-more}
 use Rattle.steer_laws.proofs.KeptLemmas.{step_keeps_kept}
 use Rattle.steer_laws.proofs.Lanes.{fallen-is, lane-is, lists-long}
@@ -182,4 +182,4 @@ seeded_replays_are_swept plan packets cut seed count may is =
     let front : List Step =
     filter_map (nth_of z (steps.Seed seed count)) (range_with_len 0 count) in
     let all : steps_of plan ≡ front ++ act.Sweep ∷ [] = ap list is ∙ seeded-steps z seed count in
-    swept-by plan packets cut (steps_of plan) front may all (steps-within plan)
+    swept-by plan packets cut (steps_of plan) front may all (plan_steps_within plan)
