@@ -1,6 +1,9 @@
 -- How a classifier finds the first match: rules of one kind and with the same masks are a group, in
 -- which the bits that count are looked up at once.
-use Rattle.std.specs.Prelude.{◌≡◌, ℕ, List, [], ◌∷◌, Bool, true, false, ◌==◌, ◌&&◌, Option, Some, None, bit_and, min, if◌then◌else◌, option_and_then}
+use Rattle.std.specs.Prelude.{◌≡◌, ℕ, List, [], ◌∷◌, ◌++◌, length, Bool, true, false, ◌==◌, ◌&&◌}
+use Rattle.std.specs.Prelude.{Option, Some, None, option_and_then, bit_and, min, if◌then◌else◌}
+use Rattle.std.specs.List.{slice_get}
+use Rattle.std.specs.Option.{option_or}
 use Rattle.indexmap.specs.IndexMap.{get}
 use Rattle.steer_base.specs.declared.flow.Pair.{Pair}
 use Rattle.steer_base.specs.declared.flow.Pair.TheVariants.{V4, V6}
@@ -65,7 +68,8 @@ key_of rule =
 
 -- the same fields
 abbrev pub same_fields : Fields → Fields → Bool
-same_fields a b = a.src == b.src && a.dst == b.dst && a.sport == b.sport && a.dport == b.dport
+same_fields a b =
+    a.src == b.src && (a.dst == b.dst && (a.sport == b.sport && a.dport == b.dport))
 
 -- the least number of a rule of a group that matches a flow
 abbrev pub found_in : Group → Flow → Option ℕ
@@ -87,3 +91,30 @@ found_among (group ∷ groups) flow = lesser (found_in group flow) (found_among 
 -- the groups find for every flow the first match of the rules
 abbrev pub Finds : List Group → List Rule → Type 0
 Finds groups rules = (flow : Flow) → found_among groups flow ≡ first_match rules flow
+
+-- these groups find for every flow what those did
+abbrev pub FindsAsBefore : List Group → List Group → Type 0
+FindsAsBefore old new = (flow : Flow) → found_among new flow ≡ found_among old flow
+
+-- the group at a place has this shape
+pub record IsAt (groups : List Group) (place : ℕ) (shape : Shape) : Type 0 where
+  pub group : Group
+  pub stands : slice_get groups place ≡ Some group
+  pub shaped : group.shape ≡ shape
+
+-- a group of this shape that finds nothing
+pub record IsNew (group : Group) (shape : Shape) : Type 0 where
+  pub shaped : group.shape ≡ shape
+  pub empty : (key : Fields) → get same_fields group.numbers key ≡ None
+
+-- a group that has the number at a key which had none, and all else as before
+pub record Adds (old new : Group) (key : Fields) (number : ℕ) : Type 0 where
+  pub shaped : new.shape ≡ old.shape
+  pub numbers : (other : Fields) → get same_fields new.numbers other
+      ≡ option_or (get same_fields old.numbers other)
+      (if same_fields key other then Some number else None)
+
+-- groups that found the first match of some rules find it with one rule more behind them
+abbrev pub AddsAt : List Group → List Group → ℕ → Rule → Type 0
+AddsAt old new number rule =
+    (rules : List Rule) → Finds old rules → number ≡ length rules → Finds new (rules ++ rule ∷ [])

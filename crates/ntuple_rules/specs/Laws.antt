@@ -1,5 +1,6 @@
 -- What holds of rules and folds, whatever finds or makes them.
-use Rattle.std.specs.Prelude.{◌≡◌, ◌<◌, ℕ, List, Bool, true, false, Option, Some, None, slice_get, length}
+use Rattle.std.specs.Prelude.{◌≡◌, ◌<◌, ℕ, List, Bool, true, false, Option, Some, None, slice_get}
+use Rattle.std.specs.Prelude.{length}
 use Rattle.std.specs.Prelude.{All}
 use Rattle.steer_base.specs.declared.flow.Flow.{Flow}
 use Rattle.ntuple_rules.specs.declared.rule.Rule.{Rule}

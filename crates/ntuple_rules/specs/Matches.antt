@@ -32,8 +32,10 @@ fits_proto kind pair proto = false
 
 -- both addresses agree under the rule's masks
 abbrev pub addresses_agree : Rule → Pair → Bool
-addresses_agree rule (V4 src dst) = agree rule.srcmask rule.src src && agree rule.dstmask rule.dst dst
-addresses_agree rule (V6 src dst) = agree rule.srcmask rule.src src && agree rule.dstmask rule.dst dst
+addresses_agree rule (V4 src dst) =
+    agree rule.srcmask rule.src src && agree rule.dstmask rule.dst dst
+addresses_agree rule (V6 src dst) =
+    agree rule.srcmask rule.src src && agree rule.dstmask rule.dst dst
 
 -- both ports agree under the rule's masks
 abbrev pub ports_agree : Rule → ℕ → ℕ → Bool
@@ -46,7 +48,8 @@ abbrev pub matches : Rule → Flow → Bool
 matches rule Bare = false
 matches rule (Two pair) = fits_version rule.kind pair && addresses_agree rule pair
 matches rule (Four pair proto sport dport) =
-    (fits_version rule.kind pair || (fits_proto rule.kind pair proto && ports_agree rule sport dport))
+    (fits_version rule.kind pair
+    || (fits_proto rule.kind pair proto && ports_agree rule sport dport))
     && addresses_agree rule pair
 
 -- the least number of a rule that matches the flow, if one does

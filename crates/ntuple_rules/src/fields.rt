@@ -104,8 +104,8 @@ pub fn looked_at(kind: RuleKind, flow: Flow) -> Option<Fields>
 }
 
 /// The kind and the masks of a rule.
-pub fn shape_of(rule: Rule) -> Shape
-    ensures { result ≡ shape_of rule }
+pub fn shape_of(rule: &Rule) -> Shape
+    ensures { result ≡ shape_of rule.now }
 {
     let has_ports = !matches!(rule.kind, RuleKind::Ip4 | RuleKind::Ip6);
     Shape {
@@ -120,8 +120,8 @@ pub fn shape_of(rule: Rule) -> Shape
 }
 
 /// The bits of a rule's fields that count.
-pub fn key_of(rule: Rule) -> Fields
-    ensures { result ≡ key_of rule }
+pub fn key_of(rule: &Rule) -> Fields
+    ensures { result ≡ key_of rule.now }
 {
     let fields = Fields {
         src: rule.src,

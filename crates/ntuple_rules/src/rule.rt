@@ -18,8 +18,8 @@ pub enum RuleKind {
     Ip6,
 }
 
-/// The packets of a kind whose fields agree with these under their masks, and their receive queue. A
-/// bit of a field counts where the bit of its mask is 1.
+/// The packets of a kind whose fields agree with these under their masks, and their receive queue.
+/// A bit of a field counts where the bit of its mask is 1.
 #[derive(Clone, Copy, Debug, PartialEq, Eq)]
 pub struct Rule {
     /// The kind.
