@@ -3,7 +3,7 @@ use Rattle.serde_json.specs.View.{view}
 use Rattle.plan_reader.specs.PlanTexts.{json_of}
 use Rattle.plan_reader.proofs.Bytes.{value_found, value_none}
 use Rattle.plan_reader.proofs.Placed.{gives_none}
-use Rattle.plan_reader.proofs.plan_text.value_of.Goals as goal
+use Rattle.plan_reader.proofs.json_text.value_of.Goals as goal
 
 pub returns-in-Ok : goal.returns-in-Ok
 returns-in-Ok c = ap json_of (value_found c.args.bytes.now _ _ c.in-Ok.ensures.ok.0 c.in-Ok.ensures.ok.1)

@@ -1,8 +1,7 @@
 //! The vectors of Microsoft's verification suite for the RSS hash.
-use crate::kinds::Kinds;
-use crate::{TabledKey, verification_key};
 use std::test::Fail;
 use steer_base::{Flow, Pair, Proto};
+use toeplitz::{Kinds, TabledKey, verification_key};
 
 const ALL: Kinds = Kinds(0b11_1111);
 

@@ -1,6 +1,6 @@
--- After a round in which no work was done, the machine is at rest.
-use Rattle.std.proofs.Common.{ℕ, ◌+◌, ◌≡◌, false, Option, Some, None, length, refl}
-use Rattle.std.proofs.Common.{◌∙◌, cond, sym, subst, inl, inr}
+-- What stands still in a turn in which no work was done.
+use Rattle.std.proofs.Common.{ℕ, ◌+◌, ◌≡◌, false, Option, Some, None, length, refl, ◌∙◌, cond, sym}
+use Rattle.std.proofs.Common.{subst, inl, inr}
 use Rattle.std.specs.Prelude.{◌%◌, nat_lt, not}
 use Rattle.std.proofs.lemmas.Bool.{cases_Bool}
 use Rattle.steer_base.specs.declared.command.Answer.TheVariants as says
@@ -19,8 +19,7 @@ use Rattle.steer_parts.specs.Notes.{is_nothing}
 use Rattle.steer_parts.specs.Outcomes.{Outcome, by_rx, idles}
 use Rattle.steer_parts.specs.Setup.{Setup, flow_hash}
 use Rattle.steer_parts.specs.Steps.{is_work, simple}
-use Rattle.steer_parts.specs.Whole.{Turn}
-use Rattle.steer_parts.specs.Whole.{tried}
+use Rattle.steer_parts.specs.Whole.{Turn, tried}
 use Rattle.steer_laws.specs.Kept.{IsNamed, Kept}
 use Rattle.steer_laws.proofs.EitherLemmas.{either}
 use Rattle.steer_laws.proofs.IdleTurns.{idle-leaves, tried-before, tried-idle}
@@ -46,7 +45,8 @@ pub record Still (m n : Machine) : Type 0 where
   pub tx : StillHop m.tx n.tx
 
 still-hop : (s : HopState) → StillHop s s
-still-hop s = record { arrivals = refl; placed = refl; accepted = refl; retired = refl; outs = refl }
+still-hop s =
+    record { arrivals = refl; placed = refl; accepted = refl; retired = refl; outs = refl }
 
 hop-then : (s t u : HopState) → StillHop s t → StillHop t u → StillHop s u
 hop-then s t u a b =
@@ -60,7 +60,15 @@ hop-then s t u a b =
 
 pub still : (m : Machine) → Still m m
 still m =
-    record { setup = refl; arrivals = refl; notes = refl; sent = refl; rx = still-hop m.rx; tx = still-hop m.tx }
+    record {
+      setup = refl;
+      arrivals = refl;
+      notes = refl;
+      sent = refl;
+      rx = still-hop m.rx;
+      tx =
+          still-hop m.tx;
+    }
 
 pub still-then : (m n o : Machine) → Still m n → Still n o → Still m o
 still-then m n o a b =
@@ -76,9 +84,9 @@ still-then m n o a b =
 pub still-same : (m n : Machine) → n ≡ m → Still m n
 still-same m n e = subst (λ (x : Machine). Still m x) (sym e) (still m)
 
-hop-leaves : (s : HopState) (e : HopEvent) → changes e Field.arrivals ≡ false → changes e Field.placed ≡ false
-    → changes e Field.accepted ≡ false → changes e Field.retired ≡ false → changes e Field.outs ≡ false
-    → StillHop s (happens s e).0
+hop-leaves : (s : HopState) (e : HopEvent) → changes e Field.arrivals ≡ false
+    → changes e Field.placed ≡ false → changes e Field.accepted ≡ false
+    → changes e Field.retired ≡ false → changes e Field.outs ≡ false → StillHop s (happens s e).0
 hop-leaves s e a p c r o =
     record {
       arrivals = each_leaves s e Field.arrivals a;
@@ -95,10 +103,12 @@ hop-left : (s : HopState) (a : ℕ) → StillHop s (happens s (event.Leave a)).0
 hop-left s a = hop-leaves s (event.Leave a) refl refl refl refl refl
 
 still-rx : (m : Machine) (t : HopState) → StillHop m.rx t → Still m (record m { rx = t })
-still-rx m t h = record { setup = refl; arrivals = refl; notes = refl; sent = refl; rx = h; tx = still-hop m.tx }
+still-rx m t h =
+    record { setup = refl; arrivals = refl; notes = refl; sent = refl; rx = h; tx = still-hop m.tx }
 
 still-tx : (m : Machine) (t : HopState) → StillHop m.tx t → Still m (record m { tx = t })
-still-tx m t h = record { setup = refl; arrivals = refl; notes = refl; sent = refl; rx = still-hop m.rx; tx = h }
+still-tx m t h =
+    record { setup = refl; arrivals = refl; notes = refl; sent = refl; rx = still-hop m.rx; tx = h }
 
 -- ---- an event that is no work
 
@@ -111,7 +121,8 @@ record-stays m (Some (Some hash)) =
     let t : HopState = (happens m.rx (event.Enter g)).0 in
     let u : HopState = (happens t (event.Leave g)).0 in
     let n : Machine = visited m a in
-    either (λ (o : Outcome). Still m o.0) (nat_lt 0 (length m.socket)) (wrote n a hash, says.Done) (idles m idle.NoTable)
+    either (λ (o : Outcome). Still m o.0) (nat_lt 0 (length m.socket)) (wrote n a hash, says.Done)
+    (idles m idle.NoTable)
     (λ full. record {
       setup = refl;
       arrivals = refl;
@@ -126,8 +137,10 @@ pub leave-stays : (m : Machine) (q : ℕ) → Still m (simple m (act.Leave q)).0
 leave-stays m q =
     let out' : Outcome = by_rx m (event.Leave q) in
     let rest : Outcome = cond (is_nothing (note_of m q)) out' (idles m idle.MidPacket) in
-    either (λ (o : Outcome). Still m o.0) (not (inside_of m.rx q)) (idles m idle.NotInside) rest (λ e. still m)
-    (λ e. either (λ (o : Outcome). Still m o.0) (is_nothing (note_of m q)) out' (idles m idle.MidPacket)
+    either (λ (o : Outcome). Still m o.0) (not (inside_of m.rx q)) (idles m idle.NotInside) rest
+    (λ e. still m)
+    (λ e. either (λ (o : Outcome). Still m o.0) (is_nothing (note_of m q)) out'
+    (idles m idle.MidPacket)
     (λ f. still-rx m (happens m.rx (event.Leave q)).0 (hop-left m.rx q)) (λ f. still m))
 
 -- what is no work and no command leaves all but who is inside, and the socket flow table
@@ -150,7 +163,8 @@ pub record Quiet (p : Setup) (t u : Turn) : Type 0 where
 pub quiet-start : (p : Setup) (t : Turn) → t.0.setup ≡ p → Kept t.0 → Quiet p t t
 quiet-start p t is k = record { setup = is; kept = k; still = λ none. (none, still t.0) }
 
-pub quiet-tried : (p : Setup) (t u : Turn) (s : Step) → IsTried p s → Quiet p t u → Quiet p t (tried u s)
+pub quiet-tried : (p : Setup) (t u : Turn) (s : Step) → IsTried p s → Quiet p t u
+    → Quiet p t (tried u s)
 quiet-tried p t u s is q =
     let g = goes-simple u.0 q.kept s (subst (λ (r : Setup). IsNamed r s) (sym q.setup) is.named) in
     record {
@@ -162,7 +176,8 @@ quiet-tried p t u s is q =
             elim (cases_Bool (is_work s)) [
               | inl work ↦
                   still-then t.0 u.0 (tried u s).0 before.1
-                  (still-same u.0 (tried u s).0 (idle-leaves u.0 s is.event (tried-idle u s work none)))
+                  (still-same u.0 (tried u s).0
+                  (idle-leaves u.0 s is.event (tried-idle u s work none)))
               | inr rest ↦ still-then t.0 u.0 (tried u s).0 before.1 (still-event u.0 s rest)
             ],
           ));
@@ -174,5 +189,6 @@ quiet-then p t u v a b =
       setup = b.setup;
       kept = b.kept;
       still = λ none. (
-          let last = b.still none in let first = a.still last.0 in (first.0, still-then t.0 u.0 v.0 first.1 last.1));
+          let last = b.still none in let first = a.still last.0 in
+          (first.0, still-then t.0 u.0 v.0 first.1 last.1));
     }

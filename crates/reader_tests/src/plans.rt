@@ -1,20 +1,21 @@
-use super::*;
-use crate::settings::key::VERIFICATION_KEY;
-use crate::steps::seeds::word_of;
-use std::alloc::Global;
+//! Plans by their texts, and the faults of texts that are no plan.
+use crate::pieces::joined;
+use plan_reader::{Plan, PlanFault, QueuePlan, Steps, TxPlan, read_plan};
+use std::alloc::{AllocError, Global};
 use std::test::Fail;
 use steer_base::{AppId, Command, Cpu, CpuMask, RxQueue, Step, TxQueue};
+use toeplitz::VERIFICATION_KEY_BYTES;
 
-/// A plan of four processors and one of all else, with further keys and these steps.
-fn text_with(alloc: Global, more: &str, steps: &str) -> Result<Vec<u8>, Fail> {
-    let mut text = Vec::new(alloc);
-    text.extend_from_slice(b"{\"cpus\":4,\"queues\":[{\"home\":0,\"mask\":[1],\"flows\":1}],")?;
-    text.extend_from_slice(b"\"sock\":4,\"apps\":[2],\"tx\":[{\"cpus\":[],\"queues\":[]}]")?;
-    text.extend_from_slice(more.as_bytes())?;
-    text.extend_from_slice(b",\"steps\":")?;
-    text.extend_from_slice(steps.as_bytes())?;
-    text.push(b'}')?;
-    Ok(text)
+/// A plan of four processors and one of all else, but for its further keys and its steps.
+const SETTINGS: &str = "{\"cpus\":4,\"queues\":[{\"home\":0,\"mask\":[1],\"flows\":1}],\
+\"sock\":4,\"apps\":[2],\"tx\":[{\"cpus\":[],\"queues\":[]}]";
+
+/// That plan with further keys and these steps.
+fn text_with(alloc: Global, more: &[u8], steps: &[u8]) -> Result<Vec<u8>, AllocError> {
+    joined(
+        alloc,
+        &[SETTINGS.as_bytes(), more, b",\"steps\":", steps, b"}"],
+    )
 }
 
 /// The words, the path and the number of a line that names a fault.
@@ -183,7 +184,7 @@ fn faults_of_keys_and_steps(rt: HostRuntime) -> Result<(), Fail> {
         ("", "[\"mask 0 0,9,8\"]", "range", "steps/0", 9),
     ];
     for (i, &(more, steps, kind, path, value)) in cases.iter().enumerate() {
-        let text = text_with(rt.alloc(), more, steps)?;
+        let text = text_with(rt.alloc(), more.as_bytes(), steps.as_bytes())?;
         assert!(rt; has_fault(rt.alloc(), &text, kind, path, value), "case {i}");
     }
     Ok(())
@@ -192,86 +193,88 @@ fn faults_of_keys_and_steps(rt: HostRuntime) -> Result<(), Fail> {
 /// `count` times a piece between two texts.
 fn repeated(
     alloc: Global,
-    first: &str,
-    piece: &str,
+    first: &[u8],
+    piece: &[u8],
     count: usize,
-    last: &str,
-) -> Result<Vec<u8>, Fail> {
-    let mut text = Vec::new(alloc);
-    text.extend_from_slice(first.as_bytes())?;
+    last: &[u8],
+) -> Result<Vec<u8>, AllocError> {
+    let mut text = Vec::from_slice(alloc, first)?;
     for _ in 0..count {
-        text.extend_from_slice(piece.as_bytes())?;
+        text.extend_from_slice(piece)?;
     }
-    text.extend_from_slice(last.as_bytes())?;
+    text.extend_from_slice(last)?;
     Ok(text)
 }
 
 #[test]
 fn long_and_deep_texts(rt: HostRuntime) -> Result<(), Fail> {
     let alloc = rt.alloc();
-    let many = repeated(alloc, "[0", ",0", 999_999, "]")?;
-    let steps = String::from_utf8(many)?;
-    let text = text_with(alloc, "", steps.as_str())?;
-    assert!(rt; has_fault(alloc, &text, "wrong kind", "steps/0", 0));
-    let more = repeated(alloc, "[0", ",0", 1_000_000, "]")?;
-    let steps = String::from_utf8(more)?;
-    let text = text_with(alloc, "", steps.as_str())?;
-    assert!(rt; has_fault(alloc, &text, "too long", "", 1_000_001));
-    for (depth, kind) in [(127, "wrong kind"), (128, "not json"), (200, "not json")] {
-        let open = repeated(alloc, "", "[", depth, "")?;
-        let text = String::from_utf8(open)?;
-        let text = repeated(alloc, text.as_str(), "]", depth, "")?;
+    for (more, kind, path, value) in [
+        (999_999usize, "wrong kind", "steps/0", 0u64),
+        (1_000_000, "too long", "", 1_000_001),
+    ] {
+        let steps = repeated(alloc, b"[0", b",0", more, b"]")?;
+        let text = text_with(alloc, b"", &steps)?;
+        assert!(rt;
+            has_fault(alloc, &text, kind, path, value),
+            "{more} more steps"
+        );
+    }
+    for (depth, kind) in [
+        (127usize, "wrong kind"),
+        (128, "not json"),
+        (200, "not json"),
+    ] {
+        let open = repeated(alloc, b"", b"[", depth, b"")?;
+        let text = repeated(alloc, &open, b"]", depth, b"")?;
         assert!(rt; has_fault(alloc, &text, kind, "", 0), "depth {depth}");
     }
     Ok(())
 }
 
 /// The plan of a text.
-fn plan_from(alloc: Global, more: &str, steps: &str) -> Result<Plan, Fail> {
+fn plan_from(alloc: Global, more: &[u8], steps: &[u8]) -> Result<Plan, Fail> {
     let text = text_with(alloc, more, steps)?;
-    match read_plan(alloc, &text) {
-        Ok(plan) => Ok(plan),
-        Err(_) => Err("a fault")?,
-    }
+    read_plan(alloc, &text).map_err(|_| Fail::new("a fault"))
 }
 
 #[test]
-fn fields_and_defaults(rt: HostRuntime) -> Result<(), Fail> {
+fn fields_are_read(rt: HostRuntime) -> Result<(), Fail> {
     let plan = plan_from(
         rt.alloc(),
-        ",\"limited\":[3,0,3],\"tries\":64",
-        "[\"sweep\"]",
+        b",\"limited\":[3,0,3],\"tries\":64",
+        b"[\"sweep\"]",
     )?;
-    assert_eq!(rt; plan.cpus, 4);
-    assert_eq!(rt;
-        plan.queues.as_slice(),
-        [QueuePlan {
-            home: Cpu(0),
-            mask: CpuMask(2),
-            flows: 1
-        }]
-        .as_slice()
-    );
-    assert_eq!(rt; plan.key.as_slice(), VERIFICATION_KEY.as_slice());
-    assert_eq!(rt; plan.kinds, 63);
-    assert_eq!(rt; plan.reta.len(), 128);
-    assert_eq!(rt;
-        (plan.sock, plan.filters, plan.backlog, plan.start),
-        (4, 0, 1000, 0)
-    );
-    assert_eq!(rt; plan.limited, CpuMask(9));
+    let queue = QueuePlan {
+        home: Cpu(0),
+        mask: CpuMask(2),
+        flows: 1,
+    };
+    let tx = TxPlan {
+        cpus: CpuMask(0),
+        queues: 0,
+    };
+    assert_eq!(rt; plan.queues.as_slice(), [queue].as_slice());
+    assert_eq!(rt; plan.tx.as_slice(), [tx].as_slice());
     assert_eq!(rt; plan.apps.as_slice(), [Cpu(2)].as_slice());
+    assert_eq!(rt; (plan.cpus, plan.sock, plan.tries), (4, 4, 64));
+    assert_eq!(rt; plan.limited, CpuMask(9));
+    Ok(())
+}
+
+#[test]
+fn keys_that_are_not_given_have_defaults(rt: HostRuntime) -> Result<(), Fail> {
+    let plan = plan_from(rt.alloc(), b"", b"[]")?;
+    assert_eq!(rt; plan.key, VERIFICATION_KEY_BYTES);
     assert_eq!(rt;
-        plan.tx.as_slice(),
-        [TxPlan {
-            cpus: CpuMask(0),
-            queues: 0
-        }]
-        .as_slice()
+        (plan.kinds, plan.filters, plan.backlog, plan.start),
+        (63, 0, 1000, 0)
     );
-    assert_eq!(rt; (plan.workers, plan.tries), (1, 64));
-    assert_eq!(rt; plan.detach.len(), 0);
-    assert_eq!(rt; plan.commands().len(), 0);
+    assert_eq!(rt; (plan.limited, plan.workers), (CpuMask(0), 1));
+    assert_eq!(rt;
+        (plan.reta.len(), plan.detach.len(), plan.commands().len()),
+        (128, 0, 0)
+    );
     Ok(())
 }
 
@@ -310,7 +313,7 @@ fn texts_of_steps(rt: HostRuntime) -> Result<(), Fail> {
         ),
     ];
     for (i, &(text, step)) in cases.iter().enumerate() {
-        let plan = plan_from(rt.alloc(), "", text)?;
+        let plan = plan_from(rt.alloc(), b"", text.as_bytes())?;
         let Steps::List(list) = &plan.steps else {
             return Err("a seed")?;
         };
@@ -323,33 +326,37 @@ fn texts_of_steps(rt: HostRuntime) -> Result<(), Fail> {
 fn commands_of_a_list(rt: HostRuntime) -> Result<(), Fail> {
     let plan = plan_from(
         rt.alloc(),
-        "",
-        "[\"arrive\",\"sock 0\",\"sweep\",\"online 1\"]",
+        b"",
+        b"[\"arrive\",\"sock 0\",\"sweep\",\"online 1\"]",
     )?;
     let wanted = [Command::Sock(0), Command::Online(Cpu(1))];
     assert_eq!(rt; plan.commands(), wanted.as_slice());
     Ok(())
 }
 
+// The first words of the seed 42 that the generator's author prints are a15c02b7, 7b47f409,
+// ba1d3330, 83d2f293, bfa4784b and cbed606e: the last digit is the event, and the others are its
+// number, modulo 13 queues, 31 processors, and one of all else.
 #[test]
-fn words_and_steps_of_a_seed(rt: HostRuntime) -> Result<(), Fail> {
-    let words = [0xa15c02b7, 0x7b47f409, 0xba1d3330];
-    for (i, &word) in words.iter().enumerate() {
-        assert_eq!(rt; word_of(42, i as u32), word);
-    }
-    let four = "{\"home\":0,\"mask\":[],\"flows\":0}";
-    let mut more = Vec::new(rt.alloc());
-    more.extend_from_slice(b",\"queues\":[")?;
-    for _ in 0..3 {
-        more.extend_from_slice(four.as_bytes())?;
-        more.push(b',')?;
-    }
-    more.extend_from_slice(four.as_bytes())?;
-    more.push(b']')?;
-    let more = String::from_utf8(more)?;
-    let plan = plan_from(rt.alloc(), more.as_str(), "{\"seed\":42,\"count\":3}")?;
-    let wanted = [Step::Poll(3), Step::Drain(0), Step::Arrive, Step::Sweep];
-    assert_eq!(rt; plan.step_count(), 4);
+fn steps_of_a_seed(rt: HostRuntime) -> Result<(), Fail> {
+    let more = repeated(
+        rt.alloc(),
+        b",\"cpus\":31,\"queues\":[",
+        b"{\"home\":0,\"mask\":[],\"flows\":0},",
+        12,
+        b"{\"home\":0,\"mask\":[],\"flows\":0}]",
+    )?;
+    let plan = plan_from(rt.alloc(), &more, b"{\"seed\":42,\"count\":6}")?;
+    let wanted = [
+        Step::Poll(11),
+        Step::Drain(2),
+        Step::Arrive,
+        Step::Arrive,
+        Step::Drain(12),
+        Step::Ship(0),
+        Step::Sweep,
+    ];
+    assert_eq!(rt; plan.step_count(), 7);
     for (i, &step) in wanted.iter().enumerate() {
         assert_eq!(rt; plan.step_at(i as u32), step, "step {i}");
     }

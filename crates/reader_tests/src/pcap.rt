@@ -1,32 +1,19 @@
 //! Files byte by byte, and what they are read as.
 ghost use Rattle.std.specs.Prelude.{◌≤◌, ◌+◌, length};
 
-use crate::{
+use crate::pieces::{HEADER, SEGMENT, joined};
+use pcap_reader::{
     CaptureFault, PcapRecord, captures_read_back, one_capture_or_fault, put_header, put_packet,
     read_capture,
 };
 use std::test::Fail;
-
-/// A little-endian header with microseconds.
-const HEADER: [u8; 24] = [
-    0xd4, 0xc3, 0xb2, 0xa1, 0x02, 0x00, 0x04, 0x00, 0x00, 0x00, 0x00, 0x00, 0x00, 0x00, 0x00, 0x00,
-    0xff, 0xff, 0x00, 0x00, 0x01, 0x00, 0x00, 0x00,
-];
 
 /// The header of a record of 54 bytes.
 const RECORD: [u8; 16] = [
     0x00, 0x00, 0x00, 0x00, 0x00, 0x00, 0x00, 0x00, 0x36, 0x00, 0x00, 0x00, 0x36, 0x00, 0x00, 0x00,
 ];
 
-/// A TCP packet over IPv4, from 66.9.149.187 to 161.142.100.80.
-const FIRST: [u8; 54] = [
-    0x02, 0x00, 0x00, 0x00, 0x00, 0x02, 0x02, 0x00, 0x00, 0x00, 0x00, 0x01, 0x08, 0x00, 0x45, 0x00,
-    0x00, 0x28, 0x00, 0x00, 0x00, 0x00, 0x40, 0x06, 0x00, 0x00, 0x42, 0x09, 0x95, 0xbb, 0xa1, 0x8e,
-    0x64, 0x50, 0x0a, 0xea, 0x06, 0xe6, 0x00, 0x00, 0x00, 0x00, 0x00, 0x00, 0x00, 0x00, 0x50, 0x00,
-    0x00, 0x00, 0x00, 0x00, 0x00, 0x00,
-];
-
-/// The same from 199.92.111.2 to 65.69.140.83.
+/// The segment from 199.92.111.2 to 65.69.140.83.
 const SECOND: [u8; 54] = [
     0x02, 0x00, 0x00, 0x00, 0x00, 0x02, 0x02, 0x00, 0x00, 0x00, 0x00, 0x01, 0x08, 0x00, 0x45, 0x00,
     0x00, 0x28, 0x00, 0x00, 0x00, 0x00, 0x40, 0x06, 0x00, 0x00, 0xc7, 0x5c, 0x6f, 0x02, 0x41, 0x45,
@@ -36,11 +23,7 @@ const SECOND: [u8; 54] = [
 
 /// The file with both packets, 164 bytes.
 fn both(rt: &HostRuntime) -> Result<Vec<u8>, Fail> {
-    let mut file = Vec::new(rt.alloc());
-    for piece in [&HEADER[..], &RECORD, &FIRST, &RECORD, &SECOND] {
-        file.extend_from_slice(piece)?;
-    }
-    Ok(file)
+    Ok(joined(rt.alloc(), &[&HEADER, &RECORD, &SEGMENT, &RECORD, &SECOND])?)
 }
 
 /// How many records a file has, and how many bytes of a last one that is cut.
@@ -95,7 +78,7 @@ fn records_tell_times_places_and_lengths(rt: HostRuntime) -> Result<(), Fail> {
 fn writes_the_file_that_is_read(rt: HostRuntime) -> Result<(), Fail> {
     let mut file = Vec::new(rt.alloc());
     put_header(&mut file)?;
-    put_packet(&mut file, 0, 0, &FIRST)?;
+    put_packet(&mut file, 0, 0, &SEGMENT)?;
     put_packet(&mut file, 0, 0, &SECOND)?;
     assert_eq!(rt; file.as_slice(), both(&rt)?.as_slice());
 
@@ -109,7 +92,8 @@ fn writes_the_file_that_is_read(rt: HostRuntime) -> Result<(), Fail> {
 #[test]
 fn reads_the_highest_byte_first(rt: HostRuntime) -> Result<(), Fail> {
     let file = [
-        0xa1, 0xb2, 0x3c, 0x4d, 0, 2, 0, 4, 0, 0, 0, 0, 0, 0, 0, 0, 0, 0, 0xff, 0xff, 0, 0, 0, 1, // header
+        0xa1, 0xb2, 0x3c, 0x4d, 0, 2, 0, 4, 0, 0, 0, 0, 0, 0, 0, 0, // header
+        0, 0, 0xff, 0xff, 0, 0, 0, 1, // its second part
         0x65, 0x43, 0x21, 0, 0x3b, 0x9a, 0xc9, 0xff, 0, 0, 0, 2, 0, 0, 5, 0xdc, b'a', b'b',
     ];
     let capture = read_capture(rt.alloc(), &file).ok().ok_or("no capture")?;
@@ -199,10 +183,7 @@ fn names_a_record_that_is_too_long(rt: HostRuntime) -> Result<(), Fail> {
         (&[1, 0, 0, 0, 0, 0, 0, 0, 9], Ok((2, None))),
     ];
     for (i, (end, want)) in cases.iter().enumerate() {
-        let mut file = Vec::new(rt.alloc());
-        for piece in [&HEADER[..], &RECORD, &FIRST, &[0; 8], end] {
-            file.extend_from_slice(piece)?;
-        }
+        let file = joined(rt.alloc(), &[&HEADER, &RECORD, &SEGMENT, &[0; 8], end])?;
         let got = counts(&rt, file.as_slice());
         assert_eq!(rt; got, *want, "case {i}");
     }
@@ -211,9 +192,8 @@ fn names_a_record_that_is_too_long(rt: HostRuntime) -> Result<(), Fail> {
 
 #[test]
 fn asks_for_a_length_once_its_header_is_whole(rt: HostRuntime) -> Result<(), Fail> {
-    let mut file = Vec::new(rt.alloc());
-    file.extend_from_slice(&HEADER)?;
-    file.extend_from_slice(&[0, 0, 0, 0, 0, 0, 0, 0, 0xff, 0xff, 0xff, 0xff, 0, 0, 0])?;
+    let cut = [0, 0, 0, 0, 0, 0, 0, 0, 0xff, 0xff, 0xff, 0xff, 0, 0, 0];
+    let mut file = joined(rt.alloc(), &[&HEADER, &cut])?;
     assert_eq!(rt; counts(&rt, file.as_slice()), Ok((0, Some(15))));
     file.push(0)?;
     let too_long = CaptureFault::RecordTooLong {

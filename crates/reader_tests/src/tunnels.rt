@@ -1,7 +1,8 @@
 //! Frames in tunnels byte by byte, and the flows that are found in them.
-use crate::{Inner, a_tunnel_is_one_level_more, dissect_inner, put_vxlan};
+use crate::pieces::joined;
 use std::test::Fail;
 use steer_base::{Flow, Pair, Proto};
+use tunnel_dissector::{Inner, a_tunnel_is_one_level_more, dissect_inner, put_vxlan};
 
 /// The beginning of an Ethernet frame that carries IPv4.
 const ETHERNET: [u8; 14] = [2, 0, 0, 0, 0, 2, 2, 0, 0, 0, 0, 1, 8, 0];
@@ -51,10 +52,7 @@ fn outer() -> Flow {
 
 /// What is found in the pieces one after another.
 fn inner_of(rt: &HostRuntime, pieces: &[&[u8]]) -> Result<(Flow, u8), Fail> {
-    let mut frame = Vec::new(rt.alloc());
-    for piece in pieces {
-        frame.extend_from_slice(piece)?;
-    }
+    let frame = joined(rt.alloc(), pieces)?;
     let Inner { flow, depth } = dissect_inner(frame.as_slice());
     Ok((flow, depth))
 }
@@ -165,9 +163,8 @@ fn enters_at_most_four_levels(rt: HostRuntime) -> Result<(), Fail> {
 
 #[test]
 fn puts_a_frame_into_a_vxlan(rt: HostRuntime) -> Result<(), Fail> {
-    let mut frame = Vec::new(rt.alloc());
-    frame.extend_from_slice(&ETHERNET)?;
-    frame.extend_from_slice(&TCP)?;
+    let frame = joined(rt.alloc(), &[&ETHERNET, &TCP])?;
+    assert!(rt; frame.len() == 38);
     let mut tunnel = Vec::new(rt.alloc());
     put_vxlan(&mut tunnel, 0x0a00_0001, 0x0a00_0002, 5, frame.as_slice())?;
     assert_eq!(rt; tunnel.len(), 88);

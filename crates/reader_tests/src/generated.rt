@@ -1,12 +1,7 @@
 //! Captures and plans worked out by hand.
-use crate::{Generated, a_frame_is_of_its_flow, generate};
+use crate::pieces::HEADER;
+use cap_gen::{Generated, a_frame_is_of_its_flow, generate};
 use std::test::Fail;
-
-/// The header of a little-endian capture with microseconds.
-const HEADER: [u8; 24] = [
-    0xd4, 0xc3, 0xb2, 0xa1, 0x02, 0x00, 0x04, 0x00, 0x00, 0x00, 0x00, 0x00, 0x00, 0x00, 0x00, 0x00,
-    0xff, 0xff, 0x00, 0x00, 0x01, 0x00, 0x00, 0x00,
-];
 
 /// The record of second 0 with the frame of flow 0.
 const FIRST_RECORD: [u8; 70] = [

@@ -1,23 +1,19 @@
 //! Frames with their flows, worked out by hand from the layouts of the headers.
-use crate::ethernet::IpAt;
-use crate::{ETHERTYPE_IPV4, ETHERTYPE_IPV6, Payload, dissect, dissect_ip, ip_of, payload_of};
+use crate::pieces::SEGMENT;
+use flow_dissector::{
+    ETHERTYPE_IPV4, ETHERTYPE_IPV6, IpAt, Payload, dissect, dissect_ip, ip_of, payload_of,
+};
 use steer_base::{Flow, Pair, Proto};
 
-// The first IPv4 vector of the Toeplitz hash as TCP: 66.9.149.187:2794 to 161.142.100.80:1766.
-const TCP4: [u8; 54] = [
-    0x02, 0, 0, 0, 0, 0x02, 0x02, 0, 0, 0, 0, 0x01, 0x08, 0x00, // two addresses, IPv4
-    0x45, 0, 0, 0x28, 0, 0, 0, 0, 0x40, 6, 0, 0, // 20 bytes of header, TCP
-    0x42, 0x09, 0x95, 0xbb, 0xa1, 0x8e, 0x64, 0x50, // source, destination
-    0x0a, 0xea, 0x06, 0xe6, 0, 0, 0, 0, 0, 0, 0, 0, 0x50, 0, 0, 0, 0, 0, 0, 0, // ports
-];
-
-const TCP4_PAIR: Pair = Pair::V4 {
+// The ends of the segment.
+const SEGMENT_PAIR: Pair = Pair::V4 {
     src: 0x420995bb,
     dst: 0xa18e6450,
 };
 
 // A SYN between the same ends, as an operating system writes it: with an identification, "do not
-// fragment", checksums, and 20 bytes of options (segment size, selective acknowledgement, timestamps, scale).
+// fragment", checksums, and 20 bytes of options (segment size, selective acknowledgement,
+// timestamps, scale).
 const SYN: [u8; 74] = [
     0x02, 0, 0, 0, 0, 0x02, 0x02, 0, 0, 0, 0, 0x01, 0x08, 0x00, //
     0x45, 0, 0, 0x3c, 0x1c, 0x46, 0x40, 0, 0x40, 6, 0x40, 0xd3, //
@@ -28,7 +24,8 @@ const SYN: [u8; 74] = [
     0x03, 0x07,
 ];
 
-// The second IPv6 vector as TCP behind two tags: 3ffe:501:8::260:97ff:fe40:efab port 14230 to ff02::1 port 4739.
+// The second IPv6 vector as TCP behind two tags: 3ffe:501:8::260:97ff:fe40:efab port 14230 to
+// ff02::1 port 4739.
 const TCP6: [u8; 82] = [
     0x02, 0, 0, 0, 0, 0x02, 0x02, 0, 0, 0, 0, 0x01, //
     0x88, 0xa8, 0x00, 0x01, 0x81, 0x00, 0x00, 0x02, 0x86, 0xdd, // a service tag, a VLAN tag, IPv6
@@ -43,8 +40,8 @@ const TCP6_PAIR: Pair = Pair::V6 {
     dst: 0xff020000000000000000_000000000001,
 };
 
-// 10.0.0.1:5 to 10.0.0.2:6 over TCP, behind one tag and with four bytes of IP options: the tag ends at 18,
-// the IP header at 42 and the ports at 46.
+// 10.0.0.1:5 to 10.0.0.2:6 over TCP, behind one tag and with four bytes of IP options: the tag
+// ends at 18, the IP header at 42 and the ports at 46.
 const TAGGED: [u8; 50] = [
     0x02, 0, 0, 0, 0, 0x02, 0x02, 0, 0, 0, 0, 0x01, 0x81, 0x00, 0x00, 0x07, 0x08, 0x00, //
     0x46, 0, 0, 0x20, 0, 0, 0, 0, 0x40, 6, 0, 0, //
@@ -52,8 +49,9 @@ const TAGGED: [u8; 50] = [
     0, 5, 0, 6, 0, 0, 0, 0,
 ];
 
-// fe80::1 port 53 to fe80::2 port 54 over UDP, behind hop-by-hop options of 8 bytes and a routing header of
-// 16: the IPv6 header ends at 54, the extensions at 62 and at 78, and the ports at 82.
+// fe80::1 port 53 to fe80::2 port 54 over UDP, behind hop-by-hop options of 8 bytes and a
+// routing header of 16: the IPv6 header ends at 54, the extensions at 62 and at 78, and the ports
+// at 82.
 const EXTENDED: [u8; 86] = [
     0x02, 0, 0, 0, 0, 0x02, 0x02, 0, 0, 0, 0, 0x01, 0x86, 0xdd, //
     0x60, 0, 0, 0, 0, 0x20, 0, 0x40, //
@@ -71,7 +69,7 @@ const ARP: [u8; 60] = [
     0, 0, 0, 0, 0, 0, 0, 0, 0, 0, 0, 0, 0, 0, 0, 0, 0, 0, 0, 0,
 ];
 
-// The packet of `TCP4` behind three tags.
+// The packet of `SEGMENT` behind three tags.
 const THREE_TAGS: [u8; 66] = [
     0x02, 0, 0, 0, 0, 0x02, 0x02, 0, 0, 0, 0, 0x01, //
     0x88, 0xa8, 0, 1, 0x81, 0x00, 0, 2, 0x81, 0x00, 0, 3, 0x08, 0x00, //
@@ -83,8 +81,8 @@ const THREE_TAGS: [u8; 66] = [
 #[test]
 fn whole_frames(rt: HostRuntime) {
     let cases: [(&[u8], Flow); 7] = [
-        (&TCP4, Flow::Four(TCP4_PAIR, Proto::Tcp, 2794, 1766)),
-        (&SYN, Flow::Four(TCP4_PAIR, Proto::Tcp, 2794, 1766)),
+        (&SEGMENT, Flow::Four(SEGMENT_PAIR, Proto::Tcp, 2794, 1766)),
+        (&SYN, Flow::Four(SEGMENT_PAIR, Proto::Tcp, 2794, 1766)),
         (&TCP6, Flow::Four(TCP6_PAIR, Proto::Tcp, 14230, 4739)),
         (&ARP, Flow::Bare),
         (&THREE_TAGS, Flow::Bare),
@@ -96,9 +94,9 @@ fn whole_frames(rt: HostRuntime) {
     }
 }
 
-// `TCP4` with one byte changed.
+// `SEGMENT` with one byte changed.
 fn changed(at: usize, byte: u8) -> [u8; 54] {
-    let mut frame = TCP4;
+    let mut frame = SEGMENT;
     if at < frame.len() {
         frame[at] = byte;
     }
@@ -107,12 +105,12 @@ fn changed(at: usize, byte: u8) -> [u8; 54] {
 
 #[test]
 fn one_byte_of_the_ipv4_header(rt: HostRuntime) {
-    let two = Flow::Two(TCP4_PAIR);
-    let tcp = Flow::Four(TCP4_PAIR, Proto::Tcp, 2794, 1766);
+    let two = Flow::Two(SEGMENT_PAIR);
+    let tcp = Flow::Four(SEGMENT_PAIR, Proto::Tcp, 2794, 1766);
     let cases = [
         (12, 0x86, Flow::Bare),
         (14, 0x44, Flow::Bare), // four words of header
-        (14, 0x46, Flow::Four(TCP4_PAIR, Proto::Tcp, 0, 0)), // six words, so the ports come later
+        (14, 0x46, Flow::Four(SEGMENT_PAIR, Proto::Tcp, 0, 0)), // six words: ports come later
         (14, 0x4f, Flow::Bare), // fifteen words, of which ten are there
         (14, 0x55, Flow::Bare),
         (14, 0x65, Flow::Bare),
@@ -123,7 +121,7 @@ fn one_byte_of_the_ipv4_header(rt: HostRuntime) {
         (20, 0x40, tcp), // do not fragment
         (20, 0x80, tcp), // the bit that is reserved
         (23, 1, two),
-        (23, 17, Flow::Four(TCP4_PAIR, Proto::Udp, 2794, 1766)),
+        (23, 17, Flow::Four(SEGMENT_PAIR, Proto::Udp, 2794, 1766)),
         (23, 47, two),
     ];
     for (i, (at, byte, flow)) in cases.into_iter().enumerate() {
@@ -131,9 +129,9 @@ fn one_byte_of_the_ipv4_header(rt: HostRuntime) {
     }
 }
 
-// `TCP4` with other addresses and ports.
+// `SEGMENT` with other addresses and ports.
 fn between(ends: [u8; 12]) -> [u8; 54] {
-    let mut frame = TCP4;
+    let mut frame = SEGMENT;
     frame[26..38].copy_from_slice(&ends);
     frame
 }
@@ -278,8 +276,8 @@ fn every_length_of_a_packet(rt: HostRuntime) {
     }
 }
 
-// An IPv6 packet with zero addresses: at most nine empty hop-by-hop options, of which the last names what
-// follows it, and then ports.
+// An IPv6 packet with zero addresses: at most nine empty hop-by-hop options, of which the last
+// names what follows it, and then ports.
 fn with_extensions(count: usize, follows: u8) -> [u8; 116] {
     let mut packet = [0; 116];
     let start = 40 + 8 * count.min(9);
@@ -344,7 +342,7 @@ fn extensions(rt: HostRuntime) {
 
 #[test]
 fn payloads(rt: HostRuntime) {
-    let (_, whole) = TCP4.split_at(14);
+    let (_, whole) = SEGMENT.split_at(14);
     let changed = changed(21, 0xb9);
     let (_, fragment) = changed.split_at(14);
     let cases = [
@@ -363,5 +361,8 @@ fn payloads(rt: HostRuntime) {
     for (packet, kind, payload) in cases {
         assert_eq!(rt; payload_of(packet, kind), payload, "kind {kind}");
     }
-    assert_eq!(rt; dissect_ip(fragment, ETHERTYPE_IPV4), Flow::Two(TCP4_PAIR));
+    assert_eq!(rt;
+        dissect_ip(fragment, ETHERTYPE_IPV4),
+        Flow::Two(SEGMENT_PAIR)
+    );
 }

@@ -1,9 +1,10 @@
 //! Files byte by byte, and what they are read as.
-use crate::{
+use crate::pieces::{SEGMENT, joined};
+use pcap_reader::{Capture, PcapRecord};
+use pcapng_reader::{
     NgFault, a_block_is_four_pieces, frames_are_read_back, is_pcapng, one_capture_or_fault,
     put_enhanced, put_section, read_ng,
 };
-use pcap_reader::{Capture, PcapRecord};
 use std::test::Fail;
 
 /// A little-endian section header.
@@ -25,14 +26,6 @@ const BEFORE: [u8; 28] = [
 /// What stands behind it.
 const BEHIND: [u8; 6] = [0, 0, 0x58, 0, 0, 0];
 
-/// A TCP packet over IPv4, from 66.9.149.187 to 161.142.100.80.
-const FRAME: [u8; 54] = [
-    0x02, 0x00, 0x00, 0x00, 0x00, 0x02, 0x02, 0x00, 0x00, 0x00, 0x00, 0x01, 0x08, 0x00, 0x45, 0x00,
-    0x00, 0x28, 0x00, 0x00, 0x00, 0x00, 0x40, 0x06, 0x00, 0x00, 0x42, 0x09, 0x95, 0xbb, 0xa1, 0x8e,
-    0x64, 0x50, 0x0a, 0xea, 0x06, 0xe6, 0x00, 0x00, 0x00, 0x00, 0x00, 0x00, 0x00, 0x00, 0x50, 0x00,
-    0x00, 0x00, 0x00, 0x00, 0x00, 0x00,
-];
-
 /// A big-endian section header of version 1.9.
 const BIG_SECTION: [u8; 28] = [
     0x0a, 0x0d, 0x0d, 0x0a, 0, 0, 0, 0x1c, 0x1a, 0x2b, 0x3c, 0x4d, 0, 1, 0, 9, 0xff, 0xff, 0xff,
@@ -45,15 +38,6 @@ const BIG_INTERFACE: [u8; 20] = [
 ];
 
 type Counts = Result<(usize, Option<u32>), NgFault>;
-
-/// The pieces one after another.
-fn file_of(rt: &HostRuntime, pieces: &[&[u8]]) -> Result<Vec<u8>, Fail> {
-    let mut file = Vec::new(rt.alloc());
-    for piece in pieces {
-        file.extend_from_slice(piece)?;
-    }
-    Ok(file)
-}
 
 fn capture_of(rt: &HostRuntime, file: &[u8]) -> Result<Result<Capture, NgFault>, Fail> {
     if !is_pcapng(file) {
@@ -72,7 +56,10 @@ fn counts(rt: &HostRuntime, file: &[u8]) -> Result<Counts, Fail> {
 
 #[test]
 fn each_prefix_is_read(rt: HostRuntime) -> Result<(), Fail> {
-    let file = file_of(&rt, &[&SECTION, &INTERFACE, &BEFORE, &FRAME, &BEHIND])?;
+    let file = joined(
+        rt.alloc(),
+        &[&SECTION, &INTERFACE, &BEFORE, &SEGMENT, &BEHIND],
+    )?;
     assert_eq!(rt; file.len(), 136);
     for end in 4..137usize {
         assert!(rt; end <= file.len());
@@ -93,8 +80,11 @@ fn each_prefix_is_read(rt: HostRuntime) -> Result<(), Fail> {
 fn writes_the_file_that_is_read(rt: HostRuntime) -> Result<(), Fail> {
     let mut file = Vec::new(rt.alloc());
     put_section(&mut file)?;
-    put_enhanced(&mut file, &FRAME)?;
-    let want = file_of(&rt, &[&SECTION, &INTERFACE, &BEFORE, &FRAME, &BEHIND])?;
+    put_enhanced(&mut file, &SEGMENT)?;
+    let want = joined(
+        rt.alloc(),
+        &[&SECTION, &INTERFACE, &BEFORE, &SEGMENT, &BEHIND],
+    )?;
     assert_eq!(rt; file.as_slice(), want.as_slice());
 
     let capture = capture_of(&rt, file.as_slice())?.ok().ok_or("no capture")?;
@@ -114,8 +104,8 @@ fn writes_the_file_that_is_read(rt: HostRuntime) -> Result<(), Fail> {
 fn reads_sections_of_both_orders(rt: HostRuntime) -> Result<(), Fail> {
     // A section with an option, two interfaces, a name resolution block, a packet of the second,
     // and statistics; a big-endian section with two simple packets; one that keeps whole frames.
-    let file = file_of(
-        &rt,
+    let file = joined(
+        rt.alloc(),
         &[
             &[0x0a, 0x0d, 0x0d, 0x0a, 32, 0, 0, 0, 0x4d, 0x3c, 0x2b, 0x1a],
             &[1, 0, 0, 0, 0, 0, 0, 0, 0, 0, 0, 0, 0, 0, 0, 0, 32, 0, 0, 0],
@@ -168,7 +158,7 @@ fn reads_sections_of_both_orders(rt: HostRuntime) -> Result<(), Fail> {
     assert_eq!(rt; capture.cut, None);
     assert!(rt; !capture.big && !capture.nano);
 
-    let big = file_of(&rt, &[&BIG_SECTION, &SECTION])?;
+    let big = joined(rt.alloc(), &[&BIG_SECTION, &SECTION])?;
     let capture = capture_of(&rt, big.as_slice())?.ok().ok_or("no capture")?;
     assert!(rt; capture.big && capture.records.is_empty());
     Ok(())
@@ -280,7 +270,7 @@ fn names_the_first_fault_of_a_block(rt: HostRuntime) -> Result<(), Fail> {
         (&[9, 0, 0, 0, 12, 0, 0, 0, 12, 0, 0, 0, 1], Ok((0, Some(1)))),
     ];
     for (i, (end, want)) in cases.iter().enumerate() {
-        let file = file_of(&rt, &[&SECTION, &INTERFACE, end])?;
+        let file = joined(rt.alloc(), &[&SECTION, &INTERFACE, end])?;
         let got = counts(&rt, file.as_slice())?;
         assert_eq!(rt; got, *want, "case {i}");
     }
