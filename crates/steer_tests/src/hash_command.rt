@@ -2,16 +2,16 @@
 ghost use Rattle.std.specs.Prelude.{◌≡◌, Option, None};
 ghost use Rattle.outside_io.specs.Counts.{last_count};
 
-use crate::frames::{
+use crate::files::{
     ARP, FRAGMENT, FRAME_A, FRAME_B, HEADER, NG_HEADER, OTHER_LINK, SYN, TAGGED_V6, VERSION_2_5,
     big_file, file, tcpdump_file,
 };
-use crate::steer_still;
 use outside_io::{
     Begin, Desk, Got, MemoryDesk, MemorySink, Sink, SureDesk, SureSink, Took, WriteFault,
 };
 use std::alloc::Global;
 use std::test::Fail;
+use steer_top::steer_still;
 
 const LINE_A: &[u8] =
     b"packet 0 tcp4 420995bb a18e6450 2794 1766 hash 51ccc178 entry 120 queue 0\npackets 1\n";
