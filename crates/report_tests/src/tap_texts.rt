@@ -1,43 +1,15 @@
 //! Texts of the three kinds, and taps of the tests that count their drops.
-ghost use Rattle.std.specs.Prelude.{◌≡◌, length, IfOk};
+ghost use Rattle.std.specs.Prelude.{◌≡◌, length};
 
-use crate::depth::Depth;
-use crate::feeding::feed;
-use crate::per_cpu::PerCpu;
-use crate::per_flow::PerFlow;
-use crate::tap::{Tap, TapText};
-use history::{Arrival, History, Lines, PacketLine, Place, Via};
+use crate::histories::{PLAIN, SEGMENT, lines_of, none, received};
+use history::{Lines, PacketLine, Place, Via};
 use std::alloc::Global;
 use std::cell::Cell;
+use std::process::Abort;
 use std::rc::Rc;
 use std::test::Fail;
-use steer_base::{
-    AppId, Choice, Cpu, Detach, DropCause, Flow, List, OutOfMemory, Packet, PacketId, Put, RxQueue,
-    Why,
-};
-
-// The line of a packet that was put to a lane.
-fn line(flow_number: u32, lane: u8, put: Put) -> PacketLine {
-    let choice = Choice {
-        class: None,
-        want: None,
-        head: None,
-        tail: None,
-        lane,
-        why: Why::Plain,
-    };
-    PacketLine {
-        id: PacketId(0),
-        queue: RxQueue(0),
-        via: Via::Reta,
-        choice: Some(choice),
-        put: Some(put),
-        app: AppId(0),
-        inbox: None,
-        place: Place::Backlog(Cpu(lane)),
-        flow_number,
-    }
-}
+use steer_base::{AppId, Choice, Cpu, Detach, DropCause, OutOfMemory, PacketId, Put, RxQueue};
+use taps::{Depth, PerCpu, PerFlow, Tap, TapText, feed};
 
 // The line of a packet that waits in its ring.
 fn in_ring(flow_number: u32) -> PacketLine {
@@ -51,6 +23,16 @@ fn in_ring(flow_number: u32) -> PacketLine {
         inbox: None,
         place: Place::Ring,
         flow_number,
+    }
+}
+
+// The line of a packet that was put to a lane.
+fn line(flow_number: u32, lane: u8, put: Put) -> PacketLine {
+    PacketLine {
+        choice: Some(Choice { lane, ..PLAIN }),
+        put: Some(put),
+        place: Place::Backlog(Cpu(lane)),
+        ..in_ring(flow_number)
     }
 }
 
@@ -158,73 +140,20 @@ impl Tap for Counting {
     }
 }
 
-fn none<T>(alloc: Global) -> List<T> {
-    List::from_vec(Vec::new(alloc))
-}
-
-// One list without items.
-fn one_empty<T: Drop>(alloc: Global) -> Result<List<List<T>>, OutOfMemory> {
-    let mut lists = Vec::new(alloc);
-    lists.push(none(alloc))?;
-    Ok(List::from_vec(lists))
-}
-
-fn arrival(id: u32) -> Arrival {
-    Arrival {
-        id: PacketId(id),
-        queue: RxQueue(0),
-        filter: None,
-        entry: None,
-    }
-}
-
-// Three packets that wait in the ring of their queue.
-fn three_waiting(alloc: Global) -> Result<History, OutOfMemory> {
-    let arrivals = Vec::from_slice(alloc, &[arrival(0), arrival(1), arrival(2)])?;
-    Ok(History {
-        total: 3,
-        cut: None,
-        arrivals: List::from_vec(arrivals),
-        taken: none(alloc),
-        choices: none(alloc),
-        lanes: none(alloc),
-        inboxes: one_empty(alloc)?,
-        sent: one_empty(alloc)?,
-        tx_choices: one_empty(alloc)?,
-        tx_lanes: none(alloc),
-        port: none(alloc),
-        writes: one_empty(alloc)?,
-        commands: none(alloc),
-        start: 0,
-    })
-}
-
-// Their lines.
-fn three_lines(alloc: Global) -> Result<Lines, Fail>
-    ensures { IfOk result (λ lines. length lines.packets ≡ 3) }
+// The lines of three packets that wait in the ring of their queue.
+fn three_lines(rt: &impl Abort, alloc: Global) -> Lines
+    ensures { length result.packets ≡ 3 }
 {
-    let packets = [Packet {
-        flow: Flow::Bare,
-        hash: None,
-        len: 60,
-        flow_number: 0,
-    }; 3];
-    let history = three_waiting(alloc)?;
-    if !history.is_regular(alloc, &packets, 1)? {
-        return Err(Fail::new("the history is not regular"));
-    }
-    let lines = Lines::make(alloc, &history, &packets, 1)?;
-    if lines.len() == 3 {
-        Ok(lines)
-    } else {
-        Err(Fail::new("three packets arrived"))
-    }
+    let h = received(rt, alloc, &[0; 3], &[], none(alloc), &[]);
+    let lines = lines_of(rt, alloc, &h, &[SEGMENT; 3], 1);
+    assert_eq!(rt; lines.len(), 3);
+    lines
 }
 
 #[test]
 fn every_tap_is_dropped_once(rt: HostRuntime) -> Result<(), Fail> {
     let alloc = rt.alloc();
-    let lines = three_lines(alloc)?;
+    let lines = three_lines(&rt, alloc);
     let detach = [
         Detach { tap: 0, after: 2 },
         Detach { tap: 0, after: 1 },

@@ -1,11 +1,10 @@
 //! The report of as many packets as a capture may have.
-use crate::histories::{PLAIN, SEGMENT, lines_of, none, one};
-use crate::line::LineBuf;
-use crate::whole::render;
+use crate::histories::{PLAIN, SEGMENT, lines_of, none};
 use history::{Arrival, History, LaneList, Sent};
 use outside_io::MemorySink;
+use report::{LineBuf, render};
 use std::alloc::{AllocError, Global};
-use std::test::Fail;
+use std::process::Abort;
 use steer_base::{Choice, Chosen, Cpu, List, OutOfMemory, Packet, PacketId, RxQueue, Why};
 
 // The packets that a capture has at most. Those of each way are every fourth one.
@@ -117,23 +116,24 @@ fn tx_chosen(alloc: Global, way: u8) -> Result<List<Chosen>, OutOfMemory> {
 
 // Each packet went its way, by the queue, the processor, the application and the transmit queue of
 // one number.
-fn history(alloc: Global) -> Result<History, OutOfMemory> {
-    Ok(History {
+fn history(rt: &impl Abort, alloc: Global) -> History {
+    let inboxes = four(alloc, |way| every_fourth(alloc, way, |id| PacketId(id)));
+    History {
         total: PACKETS,
         cut: None,
-        arrivals: arrivals(alloc)?,
-        taken: four(alloc, |_| Ok(EACH_WAY))?,
-        choices: four(alloc, |way| chosen(alloc, way))?,
-        lanes: four(alloc, |way| lane(alloc, way))?,
-        inboxes: four(alloc, |way| every_fourth(alloc, way, |id| PacketId(id)))?,
-        sent: four(alloc, |way| sent(alloc, way))?,
-        tx_choices: four(alloc, |way| tx_chosen(alloc, way))?,
-        tx_lanes: four(alloc, |way| lane(alloc, way))?,
-        port: port(alloc)?,
-        writes: four(alloc, |_| Ok(none(alloc)))?,
+        arrivals: arrivals(alloc).expect(rt, "memory"),
+        taken: four(alloc, |_| Ok(EACH_WAY)).expect(rt, "memory"),
+        choices: four(alloc, |way| chosen(alloc, way)).expect(rt, "memory"),
+        lanes: four(alloc, |way| lane(alloc, way)).expect(rt, "memory"),
+        inboxes: inboxes.expect(rt, "memory"),
+        sent: four(alloc, |way| sent(alloc, way)).expect(rt, "memory"),
+        tx_choices: four(alloc, |way| tx_chosen(alloc, way)).expect(rt, "memory"),
+        tx_lanes: four(alloc, |way| lane(alloc, way)).expect(rt, "memory"),
+        port: port(alloc).expect(rt, "memory"),
+        writes: four(alloc, |_| Ok(none(alloc))).expect(rt, "memory"),
         commands: none(alloc),
         start: 0,
-    })
+    }
 }
 
 // The packets, in 512 flows.
@@ -189,18 +189,16 @@ fn text(alloc: Global) -> Result<String, AllocError> {
 }
 
 #[test]
-fn the_most_packets_are_reported(rt: HostRuntime) -> Result<(), Fail> {
+fn the_most_packets_are_reported(rt: HostRuntime) {
     let alloc = rt.alloc();
-    let h = history(alloc)?;
-    let packets = packets(alloc)?;
-    if packets.len() > 262_144 {
-        return Err(Fail::new("too many packets"));
-    }
-    let lines = lines_of(alloc, &h, &packets, 4)?;
-    let mut out = MemorySink::make(alloc, 67_108_864, Vec::new(alloc))?;
-    let mut buf = LineBuf::make(alloc)?;
+    let h = history(&rt, alloc);
+    let packets = packets(alloc).expect(&rt, "memory");
+    assert!(&rt; packets.len() <= 262_144);
+    let lines = lines_of(&rt, alloc, &h, &packets, 4);
+    let mut out = MemorySink::make(alloc, 67_108_864, Vec::new(alloc)).expect(&rt, "memory");
+    let mut buf = LineBuf::make(alloc).expect(&rt, "memory");
     let answer = render(&h, &lines, &[], &mut buf, &mut out);
     assert!(&rt; answer.is_ok());
-    assert!(&rt; out.bytes() == text(alloc)?.as_bytes());
-    Ok(())
+    let wanted = text(alloc).expect(&rt, "memory");
+    assert!(&rt; out.bytes() == wanted.as_bytes());
 }
