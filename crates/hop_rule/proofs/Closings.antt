@@ -1,0 +1,75 @@
+-- What the seats' own lists tell of the lanes at the closing, and the closer's of the settings.
+use Rattle.std.proofs.Common.{◌≡◌, ◌≢◌, ℕ, zero, suc, ◌+◌, ◌<◌, ◌==◌, List, [], ◌∷◌, Option, Some, None, if◌then◌else◌, sym, refl, ap, ◌∙◌, subst, arith}
+use mathlib.Core.Logic.{dite}
+use native.Mathlib.Decide.{ℕ_discrete}
+use Rattle.steer_base.specs.Lanes.{LaneLists}
+use Rattle.seat_order.specs.Orders.{StepBy, step_by, steps_of}
+use Rattle.seat_order.proofs.Views.{steps_of_own, steps_of_other}
+use Rattle.seat_order.proofs.Lists.{if_same, if_other}
+use Rattle.hop_rule.specs.declared.sizes.BoardSizes.{BoardSizes}
+use Rattle.hop_rule.specs.declared.step.BoardStep.{BoardStep}
+use Rattle.hop_rule.specs.declared.step.LaneStep.{LaneStep}
+use Rattle.hop_rule.specs.declared.step.LaneStep.TheVariants.{Held, Missed, Freed, OutHeld, OutMissed, OutFreed, Given, Retired}
+use Rattle.hop_rule.specs.declared.step.GateStep.{GateStep}
+use Rattle.hop_rule.specs.declared.step.GateStep.TheVariants.{Entered, Turned, Left, Shut, NotShut, Opened, Set, Read}
+use Rattle.hop_rule.specs.Gates as gates
+use Rattle.hop_rule.specs.Lanes.{changed, holder, holding, holding_after, lane, MayCome, AreLawful}
+use Rattle.hop_rule.specs.Boards.{lanes_of, IsLawful, slot_state, full}
+use Rattle.hop_rule.proofs.Boards.{parts}
+use Rattle.hop_rule.proofs.Lanes.{pick, none-some}
+use Rattle.hop_rule.proofs.Slots.{agrees}
+
+module _ (about : BoardSizes) where
+  abbrev HeldIs : List (StepBy LaneStep) → Type 0
+  HeldIs es = (l p : ℕ) → holder l es ≡ suc p → holding l (steps_of p es) ≡ Some (lane about l es)
+
+  passes : (q : ℕ) (d : LaneStep) (es : List (StepBy LaneStep)) (l p : ℕ) → holding_after l d (holding l (steps_of p es)) ≡ holding l (steps_of p es) → holding l (steps_of p (step_by q d ∷ es)) ≡ holding l (steps_of p es)
+  passes q d es l p same = dite (ℕ_discrete q p) (λ e. ap (holding l) (steps_of_own p q d es e) ∙ same) (λ ne. ap (holding l) (steps_of_other p q d es ne))
+
+  held_step : (q : ℕ) (d : LaneStep) (es : List (StepBy LaneStep)) → MayCome about q es d → HeldIs es → HeldIs (step_by q d ∷ es)
+  held_step q (Held i w x) es may before l p h = dite (ℕ_discrete i l)
+      (λ e. let same : suc q ≡ suc p = sym (if_same i l (suc q) (holder l es) e) ∙ h in let by : q ≡ p = omega arith in
+      ap (holding l) (steps_of_own p q (Held i w x) es by) ∙ (if_same i l (Some x) (holding l (steps_of p es)) e ∙ ap Some (may.3 ∙ ap (λ (z : ℕ). lane about z es) e)))
+      (λ ne. passes q (Held i w x) es l p (if_other i l (Some x) (holding l (steps_of p es)) ne) ∙ before l p (sym (if_other i l (suc q) (holder l es) ne) ∙ h))
+  held_step q (Freed i c) es may before l p h = dite (ℕ_discrete i l)
+      (λ e. let z : 0 ≡ suc p = sym (if_same i l 0 (holder l es) e) ∙ h in absurd (omega arith))
+      (λ ne. passes q (Freed i c) es l p (if_other i l None (holding l (steps_of p es)) ne) ∙ (before l p (sym (if_other i l 0 (holder l es) ne) ∙ h) ∙ ap Some (sym (if_other i l (changed c (lane about l es)) (lane about l es) ne))))
+  held_step q (Missed i w) es may before l p h = passes q (Missed i w) es l p refl ∙ before l p h
+  held_step q (OutHeld i w x) es may before l p h = passes q (OutHeld i w x) es l p refl ∙ before l p h
+  held_step q (OutMissed i w) es may before l p h = passes q (OutMissed i w) es l p refl ∙ before l p h
+  held_step q (OutFreed i) es may before l p h = passes q (OutFreed i) es l p refl ∙ before l p h
+  held_step q (Given i from id place) es may before l p h = passes q (Given i from id place) es l p refl ∙ before l p h
+  held_step q (Retired i w) es may before l p h = passes q (Retired i w) es l p refl ∙ before l p h
+
+  -- the holder of a lane holds it by its own steps, as it is
+  pub held_is : (es : List (StepBy LaneStep)) → AreLawful about es → HeldIs es
+  held_is [] lawful l p h = absurd (omega arith)
+  held_is (e ∷ es) lawful l p h = held_step e.by e.step es lawful.0 (held_is es lawful.1) l p h
+
+  -- where no seat holds a lane, the lane is in its slot
+  pub all_home : (es : List (StepBy BoardStep)) → IsLawful about es → (l : ℕ) → l < about.lanes → ((p : ℕ) → holding l (steps_of p (lanes_of es)) ≡ None) → slot_state about l es ≡ full
+  all_home es lawful l inside rest = (agrees about l inside es lawful).home (by_holder (holder l (lanes_of es)) refl)
+    where
+      by_holder : (n : ℕ) → holder l (lanes_of es) ≡ n → holder l (lanes_of es) ≡ 0
+      by_holder zero e = e
+      by_holder (suc p) e = none-some (lane about l (lanes_of es)) (sym (rest p) ∙ held_is (lanes_of es) (parts about es lawful).0 l p e)
+
+  -- ---- settings
+
+  -- the settings are the closer's own
+  pub settings_own : (es : List (StepBy GateStep)) → gates.AreLawful about es → gates.settings about es ≡ gates.own_settings about (steps_of (gates.closer about) es)
+  settings_own [] lawful = refl
+  settings_own (e ∷ es) lawful = by_step e.by e.step lawful.1 (settings_own es lawful.2)
+    where
+      quiet_ : (p : ℕ) (d : GateStep) → ((s : ℕ → ℕ) → gates.settings_after d s ≡ s) → gates.own_settings about (steps_of (gates.closer about) (step_by p d ∷ es)) ≡ gates.own_settings about (steps_of (gates.closer about) es)
+      quiet_ p d same = pick p (gates.closer about) (d ∷ steps_of (gates.closer about) es) (steps_of (gates.closer about) es) (λ l. gates.own_settings about l ≡ gates.own_settings about (steps_of (gates.closer about) es)) (λ _. same (gates.own_settings about (steps_of (gates.closer about) es))) (λ _. refl)
+
+      by_step : (p : ℕ) (d : GateStep) → gates.MayCome about p es d → gates.settings about es ≡ gates.own_settings about (steps_of (gates.closer about) es) → gates.settings_after d (gates.settings about es) ≡ gates.own_settings about (steps_of (gates.closer about) (step_by p d ∷ es))
+      by_step p (Set i v) may is = ap (gates.settings_after (Set i v)) is ∙ sym (ap (gates.own_settings about) (steps_of_own (gates.closer about) p (Set i v) es may.0))
+      by_step p (Entered w) may is = is ∙ sym (quiet_ p (Entered w) (λ s. refl))
+      by_step p (Turned w) may is = is ∙ sym (quiet_ p (Turned w) (λ s. refl))
+      by_step p Left may is = is ∙ sym (quiet_ p Left (λ s. refl))
+      by_step p (Shut w) may is = is ∙ sym (quiet_ p (Shut w) (λ s. refl))
+      by_step p (NotShut w) may is = is ∙ sym (quiet_ p (NotShut w) (λ s. refl))
+      by_step p Opened may is = is ∙ sym (quiet_ p Opened (λ s. refl))
+      by_step p (Read i v) may is = is ∙ sym (quiet_ p (Read i v) (λ s. refl))

@@ -1,0 +1,12 @@
+pub mod Boards
+pub mod Closings
+pub mod Deliveries
+pub mod Gates
+pub mod Lanes
+pub mod Members
+pub mod Moments
+pub mod Numbers
+pub mod Owns
+pub mod Parts
+pub mod Slots
+pub mod Visits

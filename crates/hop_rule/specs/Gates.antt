@@ -1,0 +1,102 @@
+-- Steps at the gate's word and at setting words.
+use Rattle.std.specs.Prelude.{◌≡◌, ◌≢◌, ◌⊎◌, ℕ, ◌+◌, ◌-◌, ◌*◌, ◌<◌, ◌==◌, List, [], ◌∷◌, if◌then◌else◌, slice_index, length}
+use Rattle.seat_order.specs.Orders.{StepBy, steps_of}
+use Rattle.hop_rule.specs.declared.sizes.BoardSizes.{BoardSizes}
+use Rattle.hop_rule.specs.declared.step.GateStep.{GateStep}
+use Rattle.hop_rule.specs.declared.step.GateStep.TheVariants.{Entered, Turned, Left, Shut, NotShut, Opened, Set, Read}
+
+-- where a seat stands: outside, inside, or on its step back from a closed gate
+pub data Visit : Type 0 where
+  outside : Visit
+  inside : Visit
+  backing : Visit
+
+abbrev pub visit_after : GateStep → Visit → Visit
+visit_after (Entered w) v = inside
+visit_after (Turned w) v = backing
+visit_after Left v = outside
+visit_after _ v = v
+
+abbrev pub visit : List GateStep → Visit
+visit [] = outside
+visit (d ∷ ds) = visit_after d (visit ds)
+
+abbrev pub is_open : Visit → ℕ
+is_open outside = 0
+is_open inside = 1
+is_open backing = 1
+
+-- 1 between a close and the next opening
+abbrev pub closed_after : GateStep → ℕ → ℕ
+closed_after (Shut w) c = 1
+closed_after Opened c = 0
+closed_after _ c = c
+
+abbrev pub openings_after : GateStep → ℕ → ℕ
+openings_after Opened n = n + 1
+openings_after _ n = n
+
+abbrev pub closed : List GateStep → ℕ
+closed [] = 0
+closed (d ∷ ds) = closed_after d (closed ds)
+
+abbrev pub openings : List GateStep → ℕ
+openings [] = 0
+openings (d ∷ ds) = openings_after d (openings ds)
+
+abbrev pub all_closed : List (StepBy GateStep) → ℕ
+all_closed [] = 0
+all_closed (e ∷ es) = closed_after e.step (all_closed es)
+
+abbrev pub all_openings : List (StepBy GateStep) → ℕ
+all_openings [] = 0
+all_openings (e ∷ es) = openings_after e.step (all_openings es)
+
+abbrev pub visits_after : GateStep → ℕ → ℕ
+visits_after (Entered w) n = n + 1
+visits_after (Turned w) n = n + 1
+visits_after Left n = n - 1
+visits_after _ n = n
+
+abbrev pub visits : List (StepBy GateStep) → ℕ
+visits [] = 0
+visits (e ∷ es) = visits_after e.step (visits es)
+
+abbrev pub gate_word : List (StepBy GateStep) → ℕ
+gate_word es = visits es + 2147483648 * all_closed es + 4294967296 * all_openings es
+
+-- settings with one of them changed
+abbrev pub with_setting : (ℕ → ℕ) → ℕ → ℕ → ℕ → ℕ
+with_setting s word value i = if word == i then value else s i
+
+abbrev pub settings_after : GateStep → (ℕ → ℕ) → ℕ → ℕ
+settings_after (Set j v) s = with_setting s j v
+settings_after _ s = s
+
+module _ (about : BoardSizes) where
+  abbrev pub settings : List (StepBy GateStep) → ℕ → ℕ
+  settings [] = λ i. slice_index about.settings.items i
+  settings (e ∷ es) = settings_after e.step (settings es)
+
+  -- the settings by the closer's own steps
+  abbrev pub own_settings : List GateStep → ℕ → ℕ
+  own_settings [] = λ i. slice_index about.settings.items i
+  own_settings (d ∷ ds) = settings_after d (own_settings ds)
+
+  abbrev pub closer : ℕ
+  closer = about.seats - 1
+
+  abbrev pub MayCome : ℕ → List (StepBy GateStep) → GateStep → Type 0
+  MayCome p es (Entered w) = (w ≡ gate_word es) × (all_closed es ≡ 0) × (visit (steps_of p es) ≡ outside) × (closed (steps_of p es) ≡ 0)
+  MayCome p es (Turned w) = (w ≡ gate_word es) × (all_closed es ≡ 1) × (visit (steps_of p es) ≡ outside) × (closed (steps_of p es) ≡ 0)
+  MayCome p es Left = visit (steps_of p es) ≢ outside
+  MayCome p es (Shut w) = (p ≡ closer) × (w ≡ gate_word es) × (visits es ≡ 0) × (closed (steps_of p es) ≡ 0) × (openings (steps_of p es) < 1000000000)
+  MayCome p es (NotShut w) = (p ≡ closer) × (w ≡ gate_word es) × (0 < visits es) × (closed (steps_of p es) ≡ 0)
+  MayCome p es Opened = (p ≡ closer) × (closed (steps_of p es) ≡ 1)
+  MayCome p es (Set i v) = (p ≡ closer) × (i < length about.settings.items) × (closed (steps_of p es) ≡ 1)
+  MayCome p es (Read i v) = (v ≡ settings es i) × ((visit (steps_of p es) ≡ inside) ⊎ (closed (steps_of p es) ≡ 1))
+
+  -- each step is by one of the seats
+  abbrev pub AreLawful : List (StepBy GateStep) → Type 0
+  AreLawful [] = Unit {0}
+  AreLawful (e ∷ es) = (e.by < about.seats) × MayCome e.by es e.step × AreLawful es

@@ -1,0 +1,9 @@
+pub mod Emptying
+pub mod Examples
+pub mod Filters
+pub mod Law
+pub mod Pairing
+pub mod Premises
+pub mod Receives
+pub mod Walk
+pub mod Pairs
