@@ -1,0 +1,30 @@
+-- How a board closes.
+use Rattle.std.specs.Prelude.{◌≡◌, ℕ, ◌<◌, List, None, map}
+use Rattle.seat_order.specs.Orders.{StepBy}
+use Rattle.seat_order.specs.Seats.{ArePartsOf}
+use Rattle.hop_rule.specs.Boards.{IsLawful, lane_steps, gate_steps}
+use Rattle.hop_rule.specs.Lanes.{holding, out_holding, phase, idle}
+use Rattle.hop_rule.specs.Sizes.{FitSizes}
+use Rattle.hop_rule.specs.declared.sizes.BoardSizes.{BoardSizes}
+use Rattle.hop_rule.specs.declared.step.BoardStep.{BoardStep}
+use Rattle.hop_seam.specs.Finals.{final_of, lists_of}
+use Rattle.hop_seam.specs.Rights.{IsOutside}
+use Rattle.hop_seam.specs.Seats.{BoardSeatView, ordered_seat}
+use Rattle.hop_seam.specs.declared.lists.BoardLists.{BoardLists}
+
+-- by its own list the seat is outside, holds no lane and has no packet in hand
+pub record IsAtRest (about : BoardSizes) (steps : List BoardStep) : Type 0 where
+  pub visit : IsOutside steps
+  pub lanes : (l : ℕ) → l < about.lanes → holding l (lane_steps steps) ≡ None
+  pub hands : (l : ℕ) → l < about.lanes → phase l (lane_steps steps) ≡ idle
+  pub outs : (o : ℕ) → o < about.outs → out_holding o (lane_steps steps) ≡ None
+
+-- Some lawful order of steps has the seats' own lists as its parts and no others, and these lists
+-- are what it leaves. All that a closing tells is a law of such orders.
+pub record HasEnded (about : BoardSizes) (seats : List BoardSeatView) (lists : BoardLists)
+    : Type 0 where
+  pub order : List (StepBy BoardStep)
+  pub sizes : FitSizes about
+  pub lawful : IsLawful about order
+  pub parts : ArePartsOf order (map ordered_seat seats)
+  pub leaves : lists ≡ lists_of about (final_of about order)
