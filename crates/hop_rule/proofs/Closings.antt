@@ -12,6 +12,7 @@ use Rattle.hop_rule.specs.declared.step.LaneStep.{LaneStep}
 use Rattle.hop_rule.specs.declared.step.LaneStep.TheVariants.{Held, Missed, Freed, OutHeld, OutMissed, OutFreed, Given, Retired}
 use Rattle.hop_rule.specs.declared.step.GateStep.{GateStep}
 use Rattle.hop_rule.specs.declared.step.GateStep.TheVariants.{Entered, Turned, Left, Shut, NotShut, Opened, Set, Read}
+use Rattle.hop_rule.specs.Sizes.{closer}
 use Rattle.hop_rule.specs.Gates as gates
 use Rattle.hop_rule.specs.Lanes.{changed, holder, holding, holding_after, lane, MayCome, AreLawful}
 use Rattle.hop_rule.specs.Boards.{lanes_of, IsLawful, slot_state, full}
@@ -57,15 +58,15 @@ module _ (about : BoardSizes) where
   -- ---- settings
 
   -- the settings are the closer's own
-  pub settings_own : (es : List (StepBy GateStep)) → gates.AreLawful about es → gates.settings about es ≡ gates.own_settings about (steps_of (gates.closer about) es)
+  pub settings_own : (es : List (StepBy GateStep)) → gates.AreLawful about es → gates.settings about es ≡ gates.own_settings about (steps_of (closer about) es)
   settings_own [] lawful = refl
   settings_own (e ∷ es) lawful = by_step e.by e.step lawful.1 (settings_own es lawful.2)
     where
-      quiet_ : (p : ℕ) (d : GateStep) → ((s : ℕ → ℕ) → gates.settings_after d s ≡ s) → gates.own_settings about (steps_of (gates.closer about) (step_by p d ∷ es)) ≡ gates.own_settings about (steps_of (gates.closer about) es)
-      quiet_ p d same = pick p (gates.closer about) (d ∷ steps_of (gates.closer about) es) (steps_of (gates.closer about) es) (λ l. gates.own_settings about l ≡ gates.own_settings about (steps_of (gates.closer about) es)) (λ _. same (gates.own_settings about (steps_of (gates.closer about) es))) (λ _. refl)
+      quiet_ : (p : ℕ) (d : GateStep) → ((s : ℕ → ℕ) → gates.settings_after d s ≡ s) → gates.own_settings about (steps_of (closer about) (step_by p d ∷ es)) ≡ gates.own_settings about (steps_of (closer about) es)
+      quiet_ p d same = pick p (closer about) (d ∷ steps_of (closer about) es) (steps_of (closer about) es) (λ l. gates.own_settings about l ≡ gates.own_settings about (steps_of (closer about) es)) (λ _. same (gates.own_settings about (steps_of (closer about) es))) (λ _. refl)
 
-      by_step : (p : ℕ) (d : GateStep) → gates.MayCome about p es d → gates.settings about es ≡ gates.own_settings about (steps_of (gates.closer about) es) → gates.settings_after d (gates.settings about es) ≡ gates.own_settings about (steps_of (gates.closer about) (step_by p d ∷ es))
-      by_step p (Set i v) may is = ap (gates.settings_after (Set i v)) is ∙ sym (ap (gates.own_settings about) (steps_of_own (gates.closer about) p (Set i v) es may.0))
+      by_step : (p : ℕ) (d : GateStep) → gates.MayCome about p es d → gates.settings about es ≡ gates.own_settings about (steps_of (closer about) es) → gates.settings_after d (gates.settings about es) ≡ gates.own_settings about (steps_of (closer about) (step_by p d ∷ es))
+      by_step p (Set i v) may is = ap (gates.settings_after (Set i v)) is ∙ sym (ap (gates.own_settings about) (steps_of_own (closer about) p (Set i v) es may.0))
       by_step p (Entered w) may is = is ∙ sym (quiet_ p (Entered w) (λ s. refl))
       by_step p (Turned w) may is = is ∙ sym (quiet_ p (Turned w) (λ s. refl))
       by_step p Left may is = is ∙ sym (quiet_ p Left (λ s. refl))

@@ -16,8 +16,10 @@ use Rattle.hop_rule.specs.declared.step.Change.{Change}
 use Rattle.hop_rule.specs.declared.step.Change.TheVariants.{Nothing, Offered, Pulled}
 use Rattle.hop_rule.specs.declared.step.LaneStep.{LaneStep}
 use Rattle.hop_rule.specs.declared.step.LaneStep.TheVariants.{Held, Missed, Freed, OutHeld, OutMissed, OutFreed, Given, Retired}
-use Rattle.hop_rule.specs.Lanes.{changed, lane_after, out_after, retired, retired_after, out, Phase, idle, has_pulled, gave, phase_after, phase, lane, puller, MayCome, AreLawful}
-use Rattle.hop_rule.specs.Deliveries.{Delivery, delivery, given_after, given, nth}
+use Rattle.hop_rule.specs.Sizes.{puller}
+use Rattle.hop_rule.specs.Lanes.{changed, lane_after, out_after, retired, retired_after, out, Phase, idle, has_pulled, gave, phase_after, phase, lane, MayCome, AreLawful}
+use Rattle.hop_rule.specs.Deliveries.{Delivery, delivery, given_after, given}
+use Rattle.hop_rule.specs.Moments.{nth_step}
 use Rattle.hop_rule.proofs.Lanes.{pick, some-is, none-some, get-inside, holds, out_holds, phase_same, counted, count}
 
 get-more : (xs ys : List ℕ) (i x : ℕ) → slice_get xs i ≡ Some x → slice_get (xs ++ ys) i ≡ Some x
@@ -260,57 +262,59 @@ module _ (about : BoardSizes) where
           (g ∷ t.0, if_same from l (g ∷ given l (es ++ old)) (given l (es ++ old)) same ∙ ap (λ gs. g ∷ gs) t.1, (omega arith, t.2)))
           (λ other. (t.0, if_other from l (delivery o id place ∷ given l (es ++ old)) (given l (es ++ old)) other ∙ t.1, t.2))
 
-pub nth-inside : (gs : List Delivery) (k : ℕ) (g : Delivery) → nth gs k ≡ Some g → k < length gs
+pub nth-inside : (gs : List Delivery) (k : ℕ) (g : Delivery) → nth_step gs k ≡ Some g → k < length gs
 nth-inside [] k g at = none-some g at
-nth-inside (x ∷ xs) k g at = dite (ℕ_discrete (length xs) k) (λ e. omega arith) (λ ne. let r = nth-inside xs k g (sym (if_other (length xs) k (Some x) (nth xs k) ne) ∙ at) in omega arith)
+nth-inside (x ∷ xs) k g at = dite (ℕ_discrete (length xs) k) (λ e. omega arith) (λ ne. let r = nth-inside xs k g (sym (if_other (length xs) k (Some x) (nth_step xs k) ne) ∙ at) in omega arith)
 
-pub nth-old : (more gs : List Delivery) (k : ℕ) → k < length gs → nth (more ++ gs) k ≡ nth gs k
+pub nth-old : (more gs : List Delivery) (k : ℕ) → k < length gs → nth_step (more ++ gs) k ≡ nth_step gs k
 nth-old [] gs k l = refl
-nth-old (x ∷ xs) gs k l = if_other (length (xs ++ gs)) k (Some x) (nth (xs ++ gs) k) (λ e. let n = length-append xs gs in absurd (omega arith)) ∙ nth-old xs gs k l
+nth-old (x ∷ xs) gs k l = if_other (length (xs ++ gs)) k (Some x) (nth_step (xs ++ gs) k) (λ e. let n = length-append xs gs in absurd (omega arith)) ∙ nth-old xs gs k l
 
 -- there is a delivery of each number below their count
-pub nth-some : (gs : List Delivery) (k : ℕ) → k < length gs → (g : Delivery) × (nth gs k ≡ Some g)
+pub nth-some : (gs : List Delivery) (k : ℕ) → k < length gs → (g : Delivery) × (nth_step gs k ≡ Some g)
 nth-some [] k l = absurd (omega arith)
-nth-some (x ∷ xs) k l = dite (ℕ_discrete (length xs) k) (λ e. (x, if_same (length xs) k (Some x) (nth xs k) e))
-    (λ ne. let t = nth-some xs k (omega arith) in (t.0, if_other (length xs) k (Some x) (nth xs k) ne ∙ t.1))
+nth-some (x ∷ xs) k l = dite (ℕ_discrete (length xs) k) (λ e. (x, if_same (length xs) k (Some x) (nth_step xs k) e))
+    (λ ne. let t = nth-some xs k (omega arith) in (t.0, if_other (length xs) k (Some x) (nth_step xs k) ne ∙ t.1))
 
 module _ (about : BoardSizes) (P : Delivery → Type 0) where
-  pub nth-each : (gs : List Delivery) → Each about P gs → (k : ℕ) (g : Delivery) → nth gs k ≡ Some g → P g
+  pub nth-each : (gs : List Delivery) → Each about P gs → (k : ℕ) (g : Delivery) → nth_step gs k ≡ Some g → P g
   nth-each [] all k g at = none-some g at
-  nth-each (x ∷ xs) all k g at = dite (ℕ_discrete (length xs) k) (λ e. subst P (some-is x g (sym (if_same (length xs) k (Some x) (nth xs k) e) ∙ at)) all.0)
-      (λ ne. nth-each xs all.1 k g (sym (if_other (length xs) k (Some x) (nth xs k) ne) ∙ at))
+  nth-each (x ∷ xs) all k g at = dite (ℕ_discrete (length xs) k) (λ e. subst P (some-is x g (sym (if_same (length xs) k (Some x) (nth_step xs k) e) ∙ at)) all.0)
+      (λ ne. nth-each xs all.1 k g (sym (if_other (length xs) k (Some x) (nth_step xs k) ne) ∙ at))
 
-  nth-new : (more gs : List Delivery) → Each about P more → (k : ℕ) (g : Delivery) → nth (more ++ gs) k ≡ Some g → length gs ≤ k → P g
+  nth-new : (more gs : List Delivery) → Each about P more → (k : ℕ) (g : Delivery) → nth_step (more ++ gs) k ≡ Some g → length gs ≤ k → P g
   nth-new [] gs all k g at l = let r = nth-inside gs k g at in absurd (omega arith)
-  nth-new (x ∷ xs) gs all k g at l = dite (ℕ_discrete (length (xs ++ gs)) k) (λ e. subst P (some-is x g (sym (if_same (length (xs ++ gs)) k (Some x) (nth (xs ++ gs) k) e) ∙ at)) all.0)
-      (λ ne. nth-new xs gs all.1 k g (sym (if_other (length (xs ++ gs)) k (Some x) (nth (xs ++ gs) k) ne) ∙ at) l)
+  nth-new (x ∷ xs) gs all k g at l = dite (ℕ_discrete (length (xs ++ gs)) k) (λ e. subst P (some-is x g (sym (if_same (length (xs ++ gs)) k (Some x) (nth_step (xs ++ gs) k) e) ∙ at)) all.0)
+      (λ ne. nth-new xs gs all.1 k g (sym (if_other (length (xs ++ gs)) k (Some x) (nth_step (xs ++ gs) k) ne) ∙ at) l)
 
 module _ (about : BoardSizes) where
   -- the packet of the delivery k of a lane is its accepted packet k
-  pub ids_at : (gs : List Delivery) (acc : List ℕ) → IdsAre about gs acc → (k : ℕ) (g : Delivery) → nth gs k ≡ Some g → slice_get acc k ≡ Some g.id
+  pub ids_at : (gs : List Delivery) (acc : List ℕ) → IdsAre about gs acc → (k : ℕ) (g : Delivery) → nth_step gs k ≡ Some g → slice_get acc k ≡ Some g.id
   ids_at [] acc t k g at = none-some g at
-  ids_at (x ∷ xs) acc t k g at = dite (ℕ_discrete (length xs) k) (λ e. ap (slice_get acc) (sym e) ∙ (t.0 ∙ ap (λ (d : Delivery). Some d.id) (some-is x g (sym (if_same (length xs) k (Some x) (nth xs k) e) ∙ at))))
-      (λ ne. ids_at xs acc t.1 k g (sym (if_other (length xs) k (Some x) (nth xs k) ne) ∙ at))
+  ids_at (x ∷ xs) acc t k g at = dite (ℕ_discrete (length xs) k) (λ e. ap (slice_get acc) (sym e) ∙ (t.0 ∙ ap (λ (d : Delivery). Some d.id) (some-is x g (sym (if_same (length xs) k (Some x) (nth_step xs k) e) ∙ at))))
+      (λ ne. ids_at xs acc t.1 k g (sym (if_other (length xs) k (Some x) (nth_step xs k) ne) ∙ at))
 
   -- The head of the lane a showed over j retires after the steps `old`. A packet at the place k of a lane b that was not
   -- there then has in its out lane a higher place than the packet j of a, which was delivered.
   pub passing : (new old : List (StepBy LaneStep)) → AreLawful about (new ++ old) → (a b k j : ℕ) (g : Delivery)
-      → count about b old ≤ k → nth (given b (new ++ old)) k ≡ Some g → j < retired a old
-      → (g' : Delivery) × (nth (given a (new ++ old)) j ≡ Some g') × (g'.to ≡ g.to → g'.place < g.place)
+      → count about b old ≤ k → nth_step (given b (new ++ old)) k ≡ Some g → j < retired a old
+      → (g' : Delivery) × (nth_step (given a (new ++ old)) j ≡ Some g') × (g'.to ≡ g.to → g'.place < g.place)
   passing new old lawful a b k j g since at gone_j =
       let before = lawful_before about new old lawful in
       let more_a = later about new old lawful a in let more_b = later about new old lawful b in
       let fb = facts about old before b in let fa = facts about old before a in let cb = counted about old before b in
       let pulled_b = fb.0 in let within_b = cb.1 in let old_b : length (given b old) ≤ k = omega arith in
-      let high = nth-new about (λ (d : Delivery). length (out d.to old) < d.place) more_b.0 (given b old) more_b.2 k g (ap (λ l. nth l k) (sym more_b.1) ∙ at) old_b in
+      let high = nth-new about (λ (d : Delivery). length (out d.to old) < d.place) more_b.0 (given b old) more_b.2 k g (ap (λ l. nth_step l k) (sym more_b.1) ∙ at) old_b in
       let gone_a = fa.1 in let old_a : j < length (given a old) = omega arith in
       let one = nth-some (given a old) j old_a in
       let g' : Delivery = one.0 in
       let stood = nth-each about (λ (d : Delivery). (0 < d.place) × (slice_get (out d.to old) (d.place - 1) ≡ Some d.id)) (given a old) (stands about old before a) j g' one.1 in
       let low = (get-inside (out g'.to old) (g'.place - 1) g'.id stood.1).0 in
-      let pos = stood.0 in
-      (g', ap (λ l. nth l j) more_a.1 ∙ (nth-old more_a.0 (given a old) j old_a ∙ one.1),
-      λ same. let high' : length (out g'.to old) < g.place = subst (λ (o : ℕ). length (out o old) < g.place) (sym same) high in omega arith)
+      let pos = stood.0 in (
+        g',
+        ap (λ l. nth_step l j) more_a.1 ∙ (nth-old more_a.0 (given a old) j old_a ∙ one.1),
+        λ same. let high' : length (out g'.to old) < g.place = subst (λ (o : ℕ). length (out o old) < g.place) (sym same) high in omega arith,
+      )
 
   -- along the deliveries of one lane the places in one out lane rise
   abbrev Below : Delivery → Delivery → Type 0
@@ -335,19 +339,22 @@ module _ (about : BoardSizes) where
       by_step p (Given o from id place) may t = let g : Delivery = delivery o id place in
           let at = given_place about p o from id place es lawful.1 may in
           pick from l (g ∷ given l es) (given l es) Rises
-          (λ _. (each-weaker about (λ (d : Delivery). (0 < d.place) × (slice_get (out d.to es) (d.place - 1) ≡ Some d.id)) (Below g)
-          (λ d stood same. let low = (get-inside (out d.to es) (d.place - 1) d.id stood.1).0 in let pos = stood.0 in let low' : d.place - 1 < length (out o es) = subst (λ (z : ℕ). d.place - 1 < length (out z es)) same low in omega arith)
-          (given l es) (stands about es lawful.1 l), t))
+          (λ _. (
+            each-weaker about (λ (d : Delivery). (0 < d.place) × (slice_get (out d.to es) (d.place - 1) ≡ Some d.id)) (Below g)
+                (λ d stood same. let low = (get-inside (out d.to es) (d.place - 1) d.id stood.1).0 in let pos = stood.0 in let low' : d.place - 1 < length (out o es) = subst (λ (z : ℕ). d.place - 1 < length (out z es)) same low in omega arith)
+                (given l es) (stands about es lawful.1 l),
+            t,
+          ))
           (λ _. t)
 
   -- of two packets of one lane the earlier was delivered too, with the lower place in one out lane
-  pub same_lane : (gs : List Delivery) → Rises gs → (j k : ℕ) (g : Delivery) → j < k → nth gs k ≡ Some g → (g' : Delivery) × (nth gs j ≡ Some g') × (g'.to ≡ g.to → g'.place < g.place)
+  pub same_lane : (gs : List Delivery) → Rises gs → (j k : ℕ) (g : Delivery) → j < k → nth_step gs k ≡ Some g → (g' : Delivery) × (nth_step gs j ≡ Some g') × (g'.to ≡ g.to → g'.place < g.place)
   same_lane [] r j k g l at = none-some g at
   same_lane (x ∷ xs) r j k g l at = dite (ℕ_discrete (length xs) k)
-      (λ e. let is : x ≡ g = some-is x g (sym (if_same (length xs) k (Some x) (nth xs k) e) ∙ at) in
+      (λ e. let is : x ≡ g = some-is x g (sym (if_same (length xs) k (Some x) (nth_step xs k) e) ∙ at) in
       let one = nth-some xs j (omega arith) in
       let low = nth-each about (Below x) xs r.0 j one.0 one.1 in
-      (one.0, if_other (length xs) j (Some x) (nth xs j) (λ h. absurd (omega arith)) ∙ one.1, λ same. subst (λ (z : Delivery). one.0.place < z.place) is (low (same ∙ ap (λ (z : Delivery). z.to) (sym is)))))
-      (λ ne. let at' = sym (if_other (length xs) k (Some x) (nth xs k) ne) ∙ at in let inside = nth-inside xs k g at' in
+      (one.0, if_other (length xs) j (Some x) (nth_step xs j) (λ h. absurd (omega arith)) ∙ one.1, λ same. subst (λ (z : Delivery). one.0.place < z.place) is (low (same ∙ ap (λ (z : Delivery). z.to) (sym is)))))
+      (λ ne. let at' = sym (if_other (length xs) k (Some x) (nth_step xs k) ne) ∙ at in let inside = nth-inside xs k g at' in
       let t = same_lane xs r.1 j k g l at' in
-      (t.0, if_other (length xs) j (Some x) (nth xs j) (λ h. absurd (omega arith)) ∙ t.1, t.2))
+      (t.0, if_other (length xs) j (Some x) (nth_step xs j) (λ h. absurd (omega arith)) ∙ t.1, t.2))

@@ -7,7 +7,8 @@ use Rattle.seat_order.proofs.Views.{steps_of_own, steps_of_other}
 use Rattle.hop_rule.specs.declared.sizes.BoardSizes.{BoardSizes}
 use Rattle.hop_rule.specs.declared.step.GateStep.{GateStep}
 use Rattle.hop_rule.specs.declared.step.GateStep.TheVariants.{Entered, Turned, Left, Shut, NotShut, Opened, Set, Read}
-use Rattle.hop_rule.specs.Gates.{Visit, outside, inside, backing, visit_after, visit, is_open, closed_after, openings_after, closed, openings, all_closed, all_openings, visits_after, visits, gate_word, settings_after, settings, closer, MayCome, AreLawful}
+use Rattle.hop_rule.specs.Sizes.{closer}
+use Rattle.hop_rule.specs.Gates.{Visit, outside, inside, backing, visit_after, visit, is_open, closed_after, openings_after, closed, openings, all_closed, all_openings, visits_after, visits, gate_word, settings_after, settings, MayCome, AreLawful}
 
 -- the sum of f over the numbers below n
 abbrev pub total : (ℕ → ℕ) → ℕ → ℕ

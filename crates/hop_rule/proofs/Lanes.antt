@@ -16,7 +16,8 @@ use Rattle.hop_rule.specs.declared.sizes.BoardSizes.{BoardSizes}
 use Rattle.hop_rule.specs.declared.step.Change.TheVariants.{Nothing, Offered, Pulled}
 use Rattle.hop_rule.specs.declared.step.LaneStep.{LaneStep}
 use Rattle.hop_rule.specs.declared.step.LaneStep.TheVariants.{Held, Missed, Freed, OutHeld, OutMissed, OutFreed, Given, Retired}
-use Rattle.hop_rule.specs.Lanes.{changed, lane_after, out_after, holder_after, out_holder_after, holder, out_holder, retired, out, holding_after, holding, out_holding_after, out_holding, Phase, idle, has_pulled, gave, phase_after, phase, lane, out_content, puller, FitsChange, MayCome, AreLawful}
+use Rattle.hop_rule.specs.Sizes.{puller}
+use Rattle.hop_rule.specs.Lanes.{changed, lane_after, out_after, holder_after, out_holder_after, holder, out_holder, retired, out, holding_after, holding, out_holding_after, out_holding, Phase, idle, has_pulled, gave, phase_after, phase, lane, out_content, FitsChange, MayCome, AreLawful}
 
 -- a choice by two numbers, each way
 pub pick : {A : Type 0} (p q : ℕ) (a b : A) (F : A → Type 0) → (p ≡ q → F a) → (p ≢ q → F b) → F (if p == q then a else b)

@@ -10,8 +10,10 @@ use Rattle.hop_rule.specs.declared.step.LaneStep.{LaneStep}
 use Rattle.hop_rule.specs.declared.step.LaneStep.TheVariants.{Held, Missed, Freed, OutHeld, OutMissed, OutFreed, Given, Retired}
 use Rattle.hop_rule.specs.Lanes as lanes
 use Rattle.hop_rule.specs.OutLanes.{OutList}
-use Rattle.hop_rule.specs.Boards.{lane_part, lanes_of}
-use Rattle.hop_rule.specs.Deliveries.{Delivery, delivery, given_after, given, nth}
+use Rattle.hop_rule.proofs.Boards.{lane_part}
+use Rattle.hop_rule.specs.Boards.{lanes_of}
+use Rattle.hop_rule.specs.Deliveries.{Delivery, delivery, given_after, given}
+use Rattle.hop_rule.specs.Moments.{nth_step}
 use Rattle.hop_rule.specs.Moments.{IsStep}
 use Rattle.hop_rule.proofs.Lanes.{pick, some-is, none-some, out_holds}
 use Rattle.hop_rule.proofs.Deliveries.{Each, nth-inside, nth-old}
@@ -47,10 +49,10 @@ module _ (about : BoardSizes) (o k x : ℕ) where
     pub lane : ℕ
     pub index : ℕ
     pub inside : lane < about.lanes
-    pub at : nth (given lane es) index ≡ Some (delivery o x (suc k))
+    pub at : nth_step (given lane es) index ≡ Some (delivery o x (suc k))
 
-  nth-more : (l : ℕ) (d : LaneStep) (gs : List Delivery) (j : ℕ) (g : Delivery) → nth gs j ≡ Some g → nth (given_after l d gs) j ≡ Some g
-  nth-more l (Given i from id place) gs j g at = pick from l (delivery i id place ∷ gs) gs (λ z. nth z j ≡ Some g) (λ _. nth-old (delivery i id place ∷ []) gs j (nth-inside gs j g at) ∙ at) (λ _. at)
+  nth-more : (l : ℕ) (d : LaneStep) (gs : List Delivery) (j : ℕ) (g : Delivery) → nth_step gs j ≡ Some g → nth_step (given_after l d gs) j ≡ Some g
+  nth-more l (Given i from id place) gs j g at = pick from l (delivery i id place ∷ gs) gs (λ z. nth_step z j ≡ Some g) (λ _. nth-old (delivery i id place ∷ []) gs j (nth-inside gs j g at) ∙ at) (λ _. at)
   nth-more l (Held i w y) gs j g at = at
   nth-more l (Missed i w) gs j g at = at
   nth-more l (Freed i c) gs j g at = at
@@ -92,7 +94,7 @@ module _ (about : BoardSizes) (o k x : ℕ) where
                   lane = from;
                   index = length gs;
                   inside = may.1;
-                  at = ap (λ z. nth z (length gs)) (if_same from from (g ∷ gs) gs refl) ∙ (if_same (length gs) (length gs) (Some g) (nth gs (length gs)) refl ∙ (λ j. Some (delivery (same j) (new.1 j) (place_is j))));
+                  at = ap (λ z. nth_step z (length gs)) (if_same from from (g ∷ gs) gs refl) ∙ (if_same (length gs) (length gs) (Some g) (nth_step gs (length gs)) refl ∙ (λ j. Some (delivery (same j) (new.1 j) (place_is j))));
                 })
           ])
           (λ _ a. given-more p (Given i from id place) es (t a)) at

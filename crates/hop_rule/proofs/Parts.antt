@@ -61,18 +61,23 @@ module _ {D : Type 0} where
     from_moment [] n d is = let l = step-inside [] n p d is in absurd (omega arith)
     from_moment (e ∷ es) n d is = dite (ℕ_discrete n (length es))
         (λ last. let same = one-step (e ∷ es) n p e.by d e.step is (subst (λ (z : ℕ). IsStep (e ∷ es) z e.by e.step) (sym last) (step-last e.by e.step es)) in
-        let mine : e.by ≡ p = sym same.0 in
-        (length (steps_of p es),
-        ap (λ l. nth_step l (length (steps_of p es))) (steps_of_own p e.by e.step es mine) ∙ (if_same (length (steps_of p es)) (length (steps_of p es)) (Some e.step) (nth_step (steps_of p es) (length (steps_of p es))) refl ∙ ap Some (sym same.1)),
-        if_same e.by p (if length (steps_of p es) == length (steps_of p es) then length es else moment_of p es (length (steps_of p es))) (moment_of p es (length (steps_of p es))) mine
-        ∙ (if_same (length (steps_of p es)) (length (steps_of p es)) (length es) (moment_of p es (length (steps_of p es))) refl ∙ sym last)))
+        let mine : e.by ≡ p = sym same.0 in (
+          length (steps_of p es),
+          ap (λ l. nth_step l (length (steps_of p es))) (steps_of_own p e.by e.step es mine) ∙ (if_same (length (steps_of p es)) (length (steps_of p es)) (Some e.step) (nth_step (steps_of p es) (length (steps_of p es))) refl ∙ ap Some (sym same.1)),
+          if_same e.by p (if length (steps_of p es) == length (steps_of p es) then length es else moment_of p es (length (steps_of p es))) (moment_of p es (length (steps_of p es))) mine
+              ∙ (if_same (length (steps_of p es)) (length (steps_of p es)) (length es) (moment_of p es (length (steps_of p es))) refl ∙ sym last),
+        ))
         (λ ne. let l = step-inside (e ∷ es) n p d is in
         let t = from_moment es n d (step-less e es n p d (omega arith) is) in
         let k : ℕ = t.0 in let inside = nth-inside (steps_of p es) k d t.1 in
         dite (ℕ_discrete e.by p)
-        (λ mine. (k,
-        ap (λ l. nth_step l k) (steps_of_own p e.by e.step es mine) ∙ (if_other (length (steps_of p es)) k (Some e.step) (nth_step (steps_of p es) k) (λ h. absurd (omega arith)) ∙ t.1),
-        if_same e.by p (if length (steps_of p es) == k then length es else moment_of p es k) (moment_of p es k) mine ∙ (if_other (length (steps_of p es)) k (length es) (moment_of p es k) (λ h. absurd (omega arith)) ∙ t.2)))
-        (λ other. (k,
-        ap (λ l. nth_step l k) (steps_of_other p e.by e.step es other) ∙ t.1,
-        if_other e.by p (if length (steps_of p es) == k then length es else moment_of p es k) (moment_of p es k) other ∙ t.2)))
+        (λ mine. (
+          k,
+          ap (λ l. nth_step l k) (steps_of_own p e.by e.step es mine) ∙ (if_other (length (steps_of p es)) k (Some e.step) (nth_step (steps_of p es) k) (λ h. absurd (omega arith)) ∙ t.1),
+          if_same e.by p (if length (steps_of p es) == k then length es else moment_of p es k) (moment_of p es k) mine ∙ (if_other (length (steps_of p es)) k (length es) (moment_of p es k) (λ h. absurd (omega arith)) ∙ t.2),
+        ))
+        (λ other. (
+          k,
+          ap (λ l. nth_step l k) (steps_of_other p e.by e.step es other) ∙ t.1,
+          if_other e.by p (if length (steps_of p es) == k then length es else moment_of p es k) (moment_of p es k) other ∙ t.2,
+        )))

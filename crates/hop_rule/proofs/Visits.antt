@@ -11,12 +11,13 @@ use Rattle.hop_rule.specs.declared.step.BoardStep.{BoardStep}
 use Rattle.hop_rule.specs.declared.step.BoardStep.TheVariants.{Lane, Gate, Weighed, Counted, LaneOut, LaneIn}
 use Rattle.hop_rule.specs.declared.step.GateStep.{GateStep}
 use Rattle.hop_rule.specs.declared.step.GateStep.TheVariants.{Entered, Turned, Left, Shut, NotShut, Opened, Set, Read}
-use Rattle.hop_rule.specs.Gates.{Visit, outside, inside, backing, visit, with_setting, closed, all_closed, closer}
-use Rattle.hop_rule.specs.Boards.{gate_part, gates_of, MayCome, IsLawful, settings, visit_of}
+use Rattle.hop_rule.specs.Sizes.{closer}
+use Rattle.hop_rule.specs.Gates.{Visit, outside, inside, backing, visit, with_setting, closed, all_closed}
+use Rattle.hop_rule.specs.Boards.{gates_of, MayCome, IsLawful, settings, visit_of}
 use Rattle.hop_rule.specs.Moments.{past, IsStep}
 use Rattle.hop_rule.proofs.Gates.{closes, unshut}
 use Rattle.hop_rule.proofs.Moments.{past-all, past-step, along}
-use Rattle.hop_rule.proofs.Boards.{parts, lawful_past, step_lawful}
+use Rattle.hop_rule.proofs.Boards.{parts, lawful_past, step_lawful, gate_part}
 
 module _ (about : BoardSizes) (order : List (StepBy BoardStep)) (lawful : IsLawful about order) where
   -- ---- settings

@@ -5,8 +5,8 @@ use Rattle.hop_rule.specs.declared.sizes.BoardSizes.{BoardSizes}
 use Rattle.hop_rule.specs.declared.step.BoardStep.{BoardStep}
 use Rattle.hop_rule.specs.declared.step.BoardStep.TheVariants.{Gate, Weighed, Counted}
 use Rattle.hop_rule.specs.declared.step.GateStep.TheVariants.{Shut, Opened}
-use Rattle.hop_rule.specs.Gates.{closer}
-use Rattle.hop_rule.specs.Moments.{IsStep, nth_step}
+use Rattle.hop_rule.specs.Sizes.{closer}
+use Rattle.hop_rule.specs.Moments.{IsStep, Did}
 
 module _ (about : BoardSizes) (order : List (StepBy BoardStep)) where
   -- Before the moment n the closer found the lane empty, after it had closed the gate for this time.
@@ -35,10 +35,6 @@ module _ (about : BoardSizes) (order : List (StepBy BoardStep)) where
     pub weighs : IsStep order moment q (Weighed l word)
     pub shows : word % 2 ^ 32 ≡ number
 
-  -- the seat's own step k
-  abbrev pub Did : ℕ → ℕ → BoardStep → Type 0
-  Did q k d = nth_step (steps_of q order) k ≡ Some d
-
   -- the same by the closer's own steps
   pub record FoundEmpty (n l : ℕ) : Type 0 where
     pub shut : ℕ
@@ -50,8 +46,8 @@ module _ (about : BoardSizes) (order : List (StepBy BoardStep)) where
     pub after_shut : shut < weighed
     pub after_weighed : weighed < counted
     pub before : counted < n
-    pub shuts : Did (closer about) shut (Gate (Shut word))
-    pub weighs : Did (closer about) weighed (Weighed l head)
-    pub counts : Did (closer about) counted (Counted l tail)
+    pub shuts : Did order (closer about) shut (Gate (Shut word))
+    pub weighs : Did order (closer about) weighed (Weighed l head)
+    pub counts : Did order (closer about) counted (Counted l tail)
     pub equal : head % 2 ^ 32 ≡ (tail / 2) % 2 ^ 32
-    pub stays : (k : ℕ) → shut < k → k < n → Did (closer about) k (Gate Opened) → ⊥
+    pub stays : (k : ℕ) → shut < k → k < n → Did order (closer about) k (Gate Opened) → ⊥

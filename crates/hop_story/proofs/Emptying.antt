@@ -20,18 +20,18 @@ use Rattle.hop_rule.specs.declared.step.LaneStep.TheVariants.{Freed}
 use Rattle.hop_rule.specs.declared.step.GateStep.{GateStep}
 use Rattle.hop_rule.specs.declared.step.GateStep.TheVariants.{Entered, Turned, Left, Shut, NotShut, Opened, Set, Read}
 use Rattle.hop_rule.specs.Lanes as lanes
-use Rattle.hop_rule.specs.Gates.{Visit, outside, inside, backing, visit, with_setting, all_closed, closer}
-use Rattle.hop_rule.specs.Boards.{gate_part, gates_of, lanes_of, MayCome, IsLawful, accepted, retired, settings, visit_of}
+use Rattle.hop_rule.specs.Gates.{Visit, outside, inside, backing, visit, with_setting, all_closed}
+use Rattle.hop_rule.specs.Boards.{gates_of, lanes_of, MayCome, IsLawful, accepted, retired, settings, visit_of, lane_at}
 use Rattle.hop_rule.specs.Moments.{past, IsStep}
 use Rattle.hop_story.specs.Stories.{Story, Steering, IsSteering, MeetsPremises, chosen}
 use Rattle.hop_rule.specs.Emptied.{WasEmptied}
-use Rattle.hop_rule.specs.Sizes.{FitSizes}
+use Rattle.hop_rule.specs.Sizes.{FitSizes, closer}
 use Rattle.steer_base.proofs.EntriesLemmas.{place_in-le}
 use Rattle.hop_rule.proofs.Gates.{unshut}
 use Rattle.hop_rule.proofs.Visits.{set_between, inside_at, closed_at}
 use Rattle.hop_rule.proofs.Lanes.{some-is, none-some, get-inside}
 use Rattle.hop_rule.proofs.Moments.{past-all, past-step, step-inside, one-step, along}
-use Rattle.hop_rule.proofs.Boards.{parts, lawful_past, step_lawful, lane_at, accepted_from, put_stands, retired_later, few}
+use Rattle.hop_rule.proofs.Boards.{parts, lawful_past, step_lawful, accepted_from, put_stands, retired_later, few, gate_part}
 use Rattle.hop_story.proofs.Pairing.{At, Empties, Ordered}
 
 -- where a packet stands in a list

@@ -12,7 +12,8 @@ use Rattle.hop_rule.specs.declared.step.LaneStep.TheVariants.{Held, Freed, OutHe
 use Rattle.hop_rule.specs.declared.step.GateStep.{GateStep}
 use Rattle.hop_rule.specs.declared.step.GateStep.TheVariants.{Entered, Left, Set}
 use Rattle.hop_rule.specs.Lanes as lanes
-use Rattle.hop_rule.specs.Gates.{Visit, outside, inside, backing, closer}
+use Rattle.hop_rule.specs.Sizes.{closer}
+use Rattle.hop_rule.specs.Gates.{Visit, outside, inside, backing}
 use Rattle.hop_rule.specs.Boards.{lanes_of, IsLawful}
 use Rattle.hop_rule.specs.Moments.{IsStep}
 use Rattle.hop_story.specs.Stories.{IsSteering, MeetsPremises, HasVisit, IsByRule, chosen, since_of}
@@ -56,7 +57,7 @@ kind (LaneIn l) = 0
 
 module _ (b : BoardSizes) where
   lawful : IsLawful (small b) (o13 b)
-  lawful = (omega arith, ((omega arith, (lanes.lane (small b) 1 (lanes_of (o11 b)), refl, (omega arith, omega arith, refl))), refl), (omega arith, ((omega arith, refl, refl, refl), tt), (omega arith, (omega arith, refl), (omega arith, (refl, refl, refl, refl), (omega arith, ((omega arith, refl, refl, refl), tt), (omega arith, ((omega arith, omega arith, (lanes.out_content (small b) 0 (lanes_of (o6 b)), refl, omega arith, refl, refl, refl)), tt), (omega arith, ((omega arith, refl, refl, refl), tt), (omega arith, ((omega arith, (lanes.lane (small b) 0 (lanes_of (o4 b)), refl, (refl, refl, refl))), tt), (omega arith, ((omega arith, refl, refl, refl), tt), (omega arith, not_outside, (omega arith, ((omega arith, (lanes.lane (small b) 0 (lanes_of (o1 b)), refl, (omega arith, omega arith, refl))), refl), (omega arith, ((omega arith, refl, refl, refl), tt), (omega arith, (refl, refl, refl, refl), tt)))))))))))))
+  lawful = (omega arith, ((omega arith, (lanes.lane (small b) 1 (lanes_of (o11 b)), refl, (omega arith, omega arith, refl))), refl, refl), (omega arith, ((omega arith, refl, refl, refl), tt, tt), (omega arith, (omega arith, refl), (omega arith, (refl, refl, refl, refl), (omega arith, ((omega arith, refl, refl, refl), tt, tt), (omega arith, ((omega arith, omega arith, (lanes.out_content (small b) 0 (lanes_of (o6 b)), refl, omega arith, refl, refl, refl)), tt, refl), (omega arith, ((omega arith, refl, refl, refl), tt, tt), (omega arith, ((omega arith, (lanes.lane (small b) 0 (lanes_of (o4 b)), refl, (refl, refl, refl))), tt, refl), (omega arith, ((omega arith, refl, refl, refl), tt, tt), (omega arith, not_outside, (omega arith, ((omega arith, (lanes.lane (small b) 0 (lanes_of (o1 b)), refl, (omega arith, omega arith, refl))), refl, refl), (omega arith, ((omega arith, refl, refl, refl), tt, tt), (omega arith, (refl, refl, refl, refl), tt)))))))))))))
 
   -- the kind of each step
   abbrev kinds : ℕ → ℕ

@@ -94,43 +94,43 @@ module _ (f g : ℕ → Bool) (all given : List ℕ)
     (once_there : (i j x : ℕ) → f x ≡ true → slice_get given i ≡ Some x → slice_get given j ≡ Some x → i ≡ j)
     (from : (k x : ℕ) → slice_get given k ≡ Some x → f x ≡ true → (i : ℕ) × (slice_get all i ≡ Some x) × (g x ≡ true))
     (earlier : (i j k x y : ℕ) → i < j → slice_get all i ≡ Some x → g x ≡ true → slice_get all j ≡ Some y → g y ≡ true → slice_get given k ≡ Some y → (l : ℕ) × (l < k) × (slice_get given l ≡ Some x) × (f x ≡ true))
-    where
-  abbrev xs : List ℕ
-  xs = filter g all
+  where
+    abbrev xs : List ℕ
+    xs = filter g all
 
-  abbrev ys : List ℕ
-  ys = filter f given
+    abbrev ys : List ℕ
+    ys = filter f given
 
-  index-of : (zs : List ℕ) (i x : ℕ) → slice_get zs i ≡ Some x → (i < length zs) × (slice_index zs i ≡ x)
-  index-of zs i x at = get-inside zs i x at
+    index-of : (zs : List ℕ) (i x : ℕ) → slice_get zs i ≡ Some x → (i < length zs) × (slice_index zs i ≡ x)
+    index-of zs i x at = get-inside zs i x at
 
-  pairwise : Pairwise xs ys
-  pairwise = record {
-    once = λ i j il jl e. (
-        let a = filter-from g all i (slice_index xs i) (get-of xs i il) in
-        let b = filter-from g all j (slice_index xs i) (get-of xs j jl ∙ ap Some (sym e)) in
-        let k = once a.0 b.0 (slice_index xs i) a.1 b.1 in
-        sym a.3 ∙ (ap (rank g all) k ∙ b.3));
-    once_there = λ i j il jl e. (
-        let a = filter-from f given i (slice_index ys i) (get-of ys i il) in
-        let b = filter-from f given j (slice_index ys i) (get-of ys j jl ∙ ap Some (sym e)) in
-        let k = once_there a.0 b.0 (slice_index ys i) a.2 a.1 b.1 in
-        sym a.3 ∙ (ap (rank f given) k ∙ b.3));
-    from = λ j jl. (
-        let b = filter-from f given j (slice_index ys j) (get-of ys j jl) in
-        let a = from b.0 (slice_index ys j) b.1 b.2 in
-        let h = index-of xs (rank g all a.0) (slice_index ys j) (filter-at g all a.0 (slice_index ys j) a.1 a.2) in
-        (rank g all a.0, h.0, h.1));
-    earlier = λ i k j ik kl jl e. (
-        let a = filter-from g all i (slice_index xs i) (get-of xs i (omega arith)) in
-        let c = filter-from g all k (slice_index xs k) (get-of xs k kl) in
-        let b = filter-from f given j (slice_index ys j) (get-of ys j jl) in
-        let ac : a.0 < c.0 = rank-back g all a.0 c.0 (let u = a.3 in let v = c.3 in omega arith) in
-        let t = earlier a.0 c.0 b.0 (slice_index xs i) (slice_index xs k) ac a.1 a.2 c.1 c.2 (b.1 ∙ ap Some (sym e)) in
-        let h = index-of ys (rank f given t.0) (slice_index xs i) (filter-at f given t.0 (slice_index xs i) t.2 t.3) in
-        let lt = rank-lt f given t.0 b.0 (slice_index xs i) t.1 t.2 t.3 in
-        (rank f given t.0, (let v = b.3 in omega arith), h.1));
-  }
+    pairwise : Pairwise xs ys
+    pairwise = record {
+      once = λ i j il jl e. (
+          let a = filter-from g all i (slice_index xs i) (get-of xs i il) in
+          let b = filter-from g all j (slice_index xs i) (get-of xs j jl ∙ ap Some (sym e)) in
+          let k = once a.0 b.0 (slice_index xs i) a.1 b.1 in
+          sym a.3 ∙ (ap (rank g all) k ∙ b.3));
+      once_there = λ i j il jl e. (
+          let a = filter-from f given i (slice_index ys i) (get-of ys i il) in
+          let b = filter-from f given j (slice_index ys i) (get-of ys j jl ∙ ap Some (sym e)) in
+          let k = once_there a.0 b.0 (slice_index ys i) a.2 a.1 b.1 in
+          sym a.3 ∙ (ap (rank f given) k ∙ b.3));
+      from = λ j jl. (
+          let b = filter-from f given j (slice_index ys j) (get-of ys j jl) in
+          let a = from b.0 (slice_index ys j) b.1 b.2 in
+          let h = index-of xs (rank g all a.0) (slice_index ys j) (filter-at g all a.0 (slice_index ys j) a.1 a.2) in
+          (rank g all a.0, h.0, h.1));
+      earlier = λ i k j ik kl jl e. (
+          let a = filter-from g all i (slice_index xs i) (get-of xs i (omega arith)) in
+          let c = filter-from g all k (slice_index xs k) (get-of xs k kl) in
+          let b = filter-from f given j (slice_index ys j) (get-of ys j jl) in
+          let ac : a.0 < c.0 = rank-back g all a.0 c.0 (let u = a.3 in let v = c.3 in omega arith) in
+          let t = earlier a.0 c.0 b.0 (slice_index xs i) (slice_index xs k) ac a.1 a.2 c.1 c.2 (b.1 ∙ ap Some (sym e)) in
+          let h = index-of ys (rank f given t.0) (slice_index xs i) (filter-at f given t.0 (slice_index xs i) t.2 t.3) in
+          let lt = rank-lt f given t.0 b.0 (slice_index xs i) t.1 t.2 t.3 in
+          (rank f given t.0, (let v = b.3 in omega arith), h.1));
+    }
 
-  pub prefix_of_parts : IsPrefix ys xs
-  prefix_of_parts = prefix_from_pairs xs ys pairwise
+    pub prefix_of_parts : IsPrefix ys xs
+    prefix_of_parts = prefix_from_pairs xs ys pairwise

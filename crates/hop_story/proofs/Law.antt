@@ -19,8 +19,9 @@ use Rattle.hop_rule.specs.declared.step.Change.TheVariants.{Offered}
 use Rattle.hop_rule.specs.declared.step.LaneStep.{LaneStep}
 use Rattle.hop_rule.specs.declared.step.LaneStep.TheVariants.{Held, Missed, Freed, OutHeld, OutMissed, OutFreed, Given, Retired}
 use Rattle.hop_rule.specs.Lanes as lanes
-use Rattle.hop_rule.specs.Boards.{lane_part, lanes_of, IsLawful, accepted, drops, drops_at, out}
-use Rattle.hop_rule.specs.Deliveries.{Delivery, delivery, given_after, given, nth}
+use Rattle.hop_rule.specs.Boards.{lanes_of, IsLawful, accepted, drops, drops_at, out, lane_at}
+use Rattle.hop_rule.specs.Deliveries.{Delivery, delivery, given_after, given}
+use Rattle.hop_rule.specs.Moments.{nth_step}
 use Rattle.hop_rule.specs.Moments.{past, IsStep}
 use Rattle.hop_story.specs.Stories.{Story, Steering, IsSteering, MeetsPremises, chosen}
 use Rattle.hop_rule.specs.Sizes.{FitSizes}
@@ -28,7 +29,7 @@ use Rattle.hop_story.specs.Laws.{came_by, DeliversInOrder}
 use Rattle.hop_rule.proofs.Lanes.{pick, some-is, none-some, get-inside}
 use Rattle.hop_rule.proofs.Deliveries.{Each, nth-inside, nth-old, nth-each, ids_at, facts, stands, passing, rises, same_lane}
 use Rattle.hop_rule.proofs.Moments.{past-all, step-inside, step-more, step-last, one-step}
-use Rattle.hop_rule.proofs.Boards.{parts, lane_at, lanes_more, accepted_from, dropped_from, put_fell}
+use Rattle.hop_rule.proofs.Boards.{parts, lanes_more, accepted_from, dropped_from, put_fell, lane_part}
 use Rattle.hop_story.proofs.Pairing.{At, passed}
 use Rattle.hop_story.proofs.Emptying.{place-get, put_is, once, at_put, put_at, own_put, found_at, ordered}
 use Rattle.hop_rule.proofs.Members.{each_given, out_given}
@@ -76,7 +77,7 @@ module _ (about : BoardSizes) (order : List (StepBy BoardStep)) (t : Story) (r :
     same : (chosen about order t r q index).id ≡ x
     count : ℕ
     at : At about order t r fit steers good q index (suc count)
-    nth_is : nth (given (chosen about order t r q index).choice.lane ls) count ≡ Some (delivery (r.to f) x (suc k))
+    nth_is : nth_step (given (chosen about order t r q index).choice.lane ls) count ≡ Some (delivery (r.to f) x (suc k))
 
   of_producer : (q i j x : ℕ) → j < t.placed q → slice_get arrived i ≡ Some x → (chosen about order t r q j).id ≡ x → (p ≡ q) × (i ≡ j)
   of_producer q i j x jq at same =
@@ -105,7 +106,7 @@ module _ (about : BoardSizes) (order : List (StepBy BoardStep)) (t : Story) (r :
         same = u.same_id;
         count = g.index;
         at = subst (λ (z : ℕ). At about order t r fit steers good u.producer u.index (suc z)) found there;
-        nth_is = ap (λ z. nth (given z ls) g.index) u.same_lane ∙ g.at;
+        nth_is = ap (λ z. nth_step (given z ls) g.index) u.same_lane ∙ g.at;
       } in
       subst (λ (q : ℕ). Delivered q k x) (sym mine.0) whole
 
@@ -163,7 +164,7 @@ module _ (about : BoardSizes) (order : List (StepBy BoardStep)) (t : Story) (r :
 
   -- an earlier packet of the flow that was accepted stands in the out lane before a later one
   pair : (i j n m k : ℕ) → i < j → j < t.placed p → IsAt i (suc n) → IsAt j (suc m) → r.flow (c i).id ≡ f → r.flow (c j).id ≡ f
-      → nth (given (c j).choice.lane ls) m ≡ Some (delivery (r.to f) (c j).id (suc k))
+      → nth_step (given (c j).choice.lane ls) m ≡ Some (delivery (r.to f) (c j).id (suc k))
       → (l : ℕ) × (l < k) × (slice_get (out about order (r.to f)) l ≡ Some (c i).id)
   pair i j n m k less jp at at' flow flow' there =
       let a : ℕ = (c i).choice.lane in let b : ℕ = (c j).choice.lane in
@@ -175,15 +176,15 @@ module _ (about : BoardSizes) (order : List (StepBy BoardStep)) (t : Story) (r :
             let whole : ls ≡ t'.0 ++ lanes_of (past (t.put p j) order) = ap lanes_of (sym (past-all order (length order) (omega arith))) ∙ t'.1 in
             let x = at_put about order lawful t r fit steers good p j (suc m) jp at' in
             let found = x.found in
-            let s = passing about t'.0 (lanes_of (past (t.put p j) order)) (subst (lanes.AreLawful about) whole lawful_lanes) a b m n g (omega arith) (ap (λ z. nth (given b z) m) (sym whole) ∙ there) (omega arith) in
-            (s.0, ap (λ z. nth (given a z) n) whole ∙ s.1, s.2))
+            let s = passing about t'.0 (lanes_of (past (t.put p j) order)) (subst (lanes.AreLawful about) whole lawful_lanes) a b m n g (omega arith) (ap (λ z. nth_step (given b z) m) (sym whole) ∙ there) (omega arith) in
+            (s.0, ap (λ z. nth_step (given a z) n) whole ∙ s.1, s.2))
         | inr same ↦ (
             let lt = o.rises p i j (suc n) (suc m) less jp same at at' in
             let s = same_lane about (given b ls) (rises about ls lawful_lanes b) n m g (omega arith) there in
-            (s.0, ap (λ z. nth (given z ls) n) same ∙ s.1, s.2))
+            (s.0, ap (λ z. nth_step (given z ls) n) same ∙ s.1, s.2))
       ])
     where
-      ends : ((g' : Delivery) × (nth (given (c i).choice.lane ls) n ≡ Some g') × (g'.to ≡ r.to f → g'.place < suc k)) → (l : ℕ) × (l < k) × (slice_get (out about order (r.to f)) l ≡ Some (c i).id)
+      ends : ((g' : Delivery) × (nth_step (given (c i).choice.lane ls) n ≡ Some g') × (g'.to ≡ r.to f → g'.place < suc k)) → (l : ℕ) × (l < k) × (slice_get (out about order (r.to f)) l ≡ Some (c i).id)
       ends (g', at_n, low) =
           let a : ℕ = (c i).choice.lane in
           let fa = facts about ls lawful_lanes a in
@@ -222,7 +223,7 @@ module _ (about : BoardSizes) (order : List (StepBy BoardStep)) (t : Story) (r :
       let same = (once about order lawful t r fit steers good p p a.index b.index a.placed b.placed (a.same ∙ sym b.same)).1 in
       let counts : suc a.count ≡ suc b.count = some-is (suc a.count) (suc b.count) (sym a.at ∙ (ap (λ z. Rattle.steer_base.specs.Entries.position (accepted about order) (c z)) same ∙ b.at)) in
       let n : a.count ≡ b.count = omega arith in
-      let d : delivery (r.to f) x (suc k) ≡ delivery (r.to f) x (suc l) = some-is _ _ (sym a.nth_is ∙ ((λ j. nth (given (c (same j)).choice.lane ls) (n j)) ∙ b.nth_is)) in
+      let d : delivery (r.to f) x (suc k) ≡ delivery (r.to f) x (suc l) = some-is _ _ (sym a.nth_is ∙ ((λ j. nth_step (given (c (same j)).choice.lane ls) (n j)) ∙ b.nth_is)) in
       let pl : suc k ≡ suc l = ap (λ (g : Delivery). g.place) d in omega arith)
       (λ k x at came_.
       let d = delivered k x at came_ in

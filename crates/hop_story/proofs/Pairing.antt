@@ -191,13 +191,13 @@ module _ (about : BoardSizes) (order : List (StepBy BoardStep)) (t : Story) (r :
         elim (cases_eq a (c j).choice.lane) [
           | inl e ↦ inr e
           | inr ne ↦ inl (o.empties p i i j n (λ s. r.plain s p f == a) (omega arith) lt l
-            (eq-eqb (r.plain (settings_at about order t r p i) p f) a (sym mine))
-            (ne_eqb (r.plain (settings_at about order t r p j) p f) a (λ e. ne (sym e ∙ (ap (r.plain (settings_at about order t r p j) p) flow ∙ sym theirs))))
-            (λ s w v yes_ no_.
-            let is_a : r.plain s p f ≡ a = eqb-true (r.plain s p f) a yes_ in
-            subst (λ (z : ℕ). r.affects s w v z ≡ true) is_a
-            (steers.moves s w v p f (λ e. true≢false (sym (eq-eqb (r.plain (with_setting s w v) p f) a (sym e ∙ is_a)) ∙ no_))))
-            at)
+              (eq-eqb (r.plain (settings_at about order t r p i) p f) a (sym mine))
+              (ne_eqb (r.plain (settings_at about order t r p j) p f) a (λ e. ne (sym e ∙ (ap (r.plain (settings_at about order t r p j) p) flow ∙ sym theirs))))
+              (λ s w v yes_ no_.
+              let is_a : r.plain s p f ≡ a = eqb-true (r.plain s p f) a yes_ in
+              subst (λ (z : ℕ). r.affects s w v z ≡ true) is_a
+              (steers.moves s w v p f (λ e. true≢false (sym (eq-eqb (r.plain (with_setting s w v) p f) a (sym e ∙ is_a)) ∙ no_))))
+              at)
         ]
 
     pub passed : (i j n : ℕ) → i < j → j < t.placed p → At p i n → flow_at about order t r p i ≡ flow_at about order t r p j → Passed i j n

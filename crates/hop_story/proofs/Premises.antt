@@ -8,11 +8,11 @@ use Rattle.hop_rule.specs.declared.step.BoardStep.TheVariants.{Lane, Gate, Weigh
 use Rattle.hop_rule.specs.declared.step.LaneStep.TheVariants.{Freed, Given}
 use Rattle.hop_rule.specs.declared.step.GateStep.TheVariants.{Entered, Left, Shut, Opened, Set}
 use Rattle.hop_rule.specs.declared.step.Change.TheVariants.{Offered}
-use Rattle.hop_rule.specs.Gates.{closer}
+use Rattle.hop_rule.specs.Sizes.{closer}
 use Rattle.hop_rule.specs.Boards.{settings}
-use Rattle.hop_rule.specs.Moments.{past, IsStep, nth_step, moment_of}
+use Rattle.hop_rule.specs.Moments.{past, IsStep, nth_step, moment_of, Did}
 use Rattle.hop_story.specs.Stories.{chosen_at, Story, Steering, MeetsPremises, HasVisit}
-use Rattle.hop_rule.specs.Emptied.{Did, FoundEmpty, WasEmptied}
+use Rattle.hop_rule.specs.Emptied.{FoundEmpty, WasEmptied}
 use Rattle.hop_story.specs.Owns.{in_moments, OwnVisit, MeetsOwn}
 use Rattle.hop_story.specs.Interfaces.{OwnListsDeliverInOrder}
 use Rattle.hop_story.proofs.Law.{delivers_in_order}
@@ -32,7 +32,7 @@ module _ (about : BoardSizes) (order : List (StepBy BoardStep)) where
       stays = λ m from to is. none_between about order q (t.entered p i) (t.put p i) m (Gate (Entered v.word)) (Lane (Freed (chosen_at (t.choices p) i).choice.lane (Offered (chosen_at (t.choices p) i).id v.hash v.answer))) (Gate Left) v.enters v.puts v.stays from to is;
     }
 
-    empty_at : (k l : ℕ) (d : BoardStep) → Did about order (closer about) k d → FoundEmpty about order k l → WasEmptied about order (moment_of (closer about) order k) l
+    empty_at : (k l : ℕ) (d : BoardStep) → Did order (closer about) k d → FoundEmpty about order k l → WasEmptied about order (moment_of (closer about) order k) l
     empty_at k l d did f = let q : ℕ = closer about in record {
       shut = moment_of q order f.shut;
       weighed = moment_of q order f.weighed;

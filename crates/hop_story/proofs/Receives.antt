@@ -90,7 +90,7 @@ module _ (q : Queues) where
   by_mask s v p l m None few ne is = absurd (ne refl)
   by_mask s v p l m (Some h) few ne is = elim (cases_Bool (is_empty (those_below 32 (has m)))) [
     | inl e ↦ absurd (ne (ap (λ b. if b then slice_index q.homes p else online_or (online q s) (at_hash (those_below 32 (has m)) h) (slice_index q.homes p)) e
-      ∙ sym (ap (λ b. if b then slice_index q.homes p else online_or (mask v) (at_hash (those_below 32 (has m)) h) (slice_index q.homes p)) e)))
+        ∙ sym (ap (λ b. if b then slice_index q.homes p else online_or (mask v) (at_hash (those_below 32 (has m)) h) (slice_index q.homes p)) e)))
     | inr e ↦ (
         let cpu : ℕ = at_hash (those_below 32 (has m)) h in
         let home : ℕ = slice_index q.homes p in
@@ -115,7 +115,7 @@ module _ (q : Queues) where
     | inr other ↦ ap (λ b. if b then (has (online q s) (rps q s p f) && not (has (mask v) (rps q s p f))) || (list_any (λ home. home == rps q s p f) q.homes && came_on q (online q s) (mask v)) else true) (ne_eqb w W other)
     | inl e ↦ elim (cases_Bool (nat_lt p Q)) [
       | inr out ↦ absurd (ne (ap (λ b. if b then rps_choice_of (mask (s p)) (q.hash f) (online q s) (slice_index q.homes p) else 0) out
-        ∙ sym (ap (λ b. if b then rps_choice_of (mask (with_setting s w v p)) (q.hash f) (online q (with_setting s w v)) (slice_index q.homes p) else 0) out)))
+          ∙ sym (ap (λ b. if b then rps_choice_of (mask (with_setting s w v p)) (q.hash f) (online q (with_setting s w v)) (slice_index q.homes p) else 0) out)))
       | inl in_ ↦ (
           let few : p < Q = ltb-true p Q in_ in
           let l : ℕ = rps q s p f in

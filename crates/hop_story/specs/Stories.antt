@@ -12,7 +12,8 @@ use Rattle.hop_rule.specs.declared.step.BoardStep.TheVariants.{Lane, Gate, Weigh
 use Rattle.hop_rule.specs.declared.step.LaneStep.TheVariants.{Freed, Given}
 use Rattle.hop_rule.specs.declared.step.GateStep.TheVariants.{Entered, Left, Shut, Opened, Set}
 use Rattle.hop_rule.specs.declared.step.Change.TheVariants.{Offered}
-use Rattle.hop_rule.specs.Gates.{with_setting, closer}
+use Rattle.hop_rule.specs.Sizes.{closer}
+use Rattle.hop_rule.specs.Gates.{with_setting}
 use Rattle.hop_rule.specs.Boards.{accepted, settings}
 use Rattle.hop_rule.specs.Emptied.{WasEmptied, WasLoaded}
 use Rattle.hop_rule.specs.Moments.{past, IsStep}
