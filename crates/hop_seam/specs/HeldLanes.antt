@@ -1,8 +1,8 @@
 -- Lanes that a seat holds, by its own list. A seat may hold several.
-use Rattle.std.specs.Prelude.{◌≡◌, ℕ, ◌+◌, ◌-◌, ◌<◌, List, Some, length}
+use Rattle.std.specs.Prelude.{◌≡◌, ℕ, ◌-◌, ◌<◌, List, Some, length}
 use Rattle.steer_base.specs.Lanes.{LaneLists}
 use Rattle.backlog.specs.Puts.{put_count}
-use Rattle.hop_rule.specs.Boards.{lane_steps, own_state, empty}
+use Rattle.hop_rule.specs.Boards.{lane_steps, own_state, out_slot, empty}
 use Rattle.hop_rule.specs.Lanes.{holding, out_holding, phase, idle}
 use Rattle.hop_rule.specs.OutLanes.{OutList}
 use Rattle.hop_rule.specs.declared.sizes.BoardSizes.{BoardSizes}
@@ -36,7 +36,7 @@ pub record IsOut (about : BoardSizes) (steps : List BoardStep) (o : ℕ) (conten
     : Type 0 where
   pub within : o < about.outs
   pub holds : out_holding o (lane_steps steps) ≡ Some content
-  pub slot : own_state about (about.lanes + o) steps ≡ empty
+  pub slot : own_state about (out_slot about o) steps ≡ empty
 
 -- what is handed in is a middle lane that the seat holds
 abbrev pub HoldsMiddle : BoardSizes → List BoardStep → HeldLane → Type 0

@@ -1,6 +1,11 @@
 pub mod Closings
 pub mod Finals
+pub mod HeadLaws
 pub mod HeldLanes
+pub mod LaneLaws
+pub mod Lists
+pub mod OwnSteps
+pub mod PutLaws
 pub mod Rights
 pub mod Seats
 pub mod StepWords

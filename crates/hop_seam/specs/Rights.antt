@@ -1,8 +1,9 @@
 -- Which calls a seat may make, by its number and its own list.
 use Rattle.std.specs.Prelude.{◌≡◌, ◌⊎◌, ℕ, List}
 use Rattle.hop_rule.specs.Boards.{lane_steps, gate_steps}
-use Rattle.hop_rule.specs.Gates.{visit, outside, inside, closed, closer}
-use Rattle.hop_rule.specs.Lanes.{phase, has_pulled, gave, puller}
+use Rattle.hop_rule.specs.Gates.{visit, outside, inside, closed}
+use Rattle.hop_rule.specs.Lanes.{phase, has_pulled, gave}
+use Rattle.hop_rule.specs.Sizes.{closer, puller}
 use Rattle.hop_rule.specs.declared.sizes.BoardSizes.{BoardSizes}
 use Rattle.hop_rule.specs.declared.step.BoardStep.{BoardStep}
 

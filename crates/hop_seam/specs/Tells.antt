@@ -7,7 +7,7 @@ use Rattle.steer_base.specs.Sets.{has, those_below}
 use Rattle.steer_base.specs.declared.cpu_mask.CpuMask.{CpuMask}
 use Rattle.steer_base.specs.declared.put.Put.{Put}
 use Rattle.backlog.specs.Puts.{put_answer, next_waiting}
-use Rattle.hop_rule.specs.Boards.{lane_steps, gate_steps}
+use Rattle.hop_rule.specs.Boards.{lane_steps, gate_steps, out_slot}
 use Rattle.hop_rule.specs.Gates.{openings}
 use Rattle.hop_rule.specs.Lanes.{phase, has_pulled}
 use Rattle.hop_rule.specs.OutLanes.{OutList}
@@ -67,7 +67,7 @@ pub record TookOut (about : BoardSizes) (o : ℕ) (content : OutList) (old new :
     : Type 0 where
   pub word : ℕ
   pub free : is_odd word ≡ false
-  pub step : Adds (LaneOut (about.lanes + o) ∷ Lane (OutHeld o word content) ∷ []) old new
+  pub step : Adds (LaneOut (out_slot about o) ∷ Lane (OutHeld o word content) ∷ []) old new
 
 -- it is the lane that was asked for
 abbrev pub Took : BoardSizes → LaneId → Seat → Seat → HeldLane → Type 0
@@ -98,7 +98,7 @@ released l change = Lane (Freed l change) ∷ LaneIn l ∷ []
 abbrev pub BackTells : BoardSizes → HeldLane → Seat → Seat → Type 0
 BackTells about (held.Middle l content) old new = Adds (released l Nothing) old new
 BackTells about (held.Out o content) old new =
-    Adds (Lane (OutFreed o) ∷ LaneIn (about.lanes + o) ∷ []) old new
+    Adds (Lane (OutFreed o) ∷ LaneIn (out_slot about o) ∷ []) old new
 
 -- the packet was offered to the lane, as it was found
 abbrev pub PutTells : HeldLane → ℕ → Option ℕ → Seat → Seat → Put → Type 0
@@ -121,7 +121,7 @@ DeliverTells about (held.Middle l content) from old new place = Unit {0}
 DeliverTells about (held.Out o content) from old new place =
     (packet : ℕ) × (phase from (lane_steps old.steps) ≡ has_pulled packet)
     × (place ≡ length content.items + 1)
-    × Adds (Lane (Given o from packet place) ∷ LaneIn (about.lanes + o) ∷ []) old new
+    × Adds (Lane (Given o from packet place) ∷ LaneIn (out_slot about o) ∷ []) old new
 
 -- the packet at a place of the out lane, as it was found, if there is one
 abbrev pub ReadTells : BoardSizes → HeldLane → ℕ → Option ℕ → Type 0
