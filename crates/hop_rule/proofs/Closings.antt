@@ -17,7 +17,8 @@ use Rattle.hop_rule.specs.Gates as gates
 use Rattle.hop_rule.specs.Lanes.{changed, holder, holding, holding_after, lane, MayCome, AreLawful}
 use Rattle.hop_rule.specs.Boards.{lanes_of, IsLawful, slot_state, full}
 use Rattle.hop_rule.proofs.Boards.{parts}
-use Rattle.hop_rule.proofs.Lanes.{pick, none-some}
+use Rattle.hop_rule.proofs.Cases.{pick}
+use Rattle.hop_rule.proofs.Lists.{none-some}
 use Rattle.hop_rule.proofs.Slots.{agrees}
 
 module _ (about : BoardSizes) where

@@ -20,7 +20,10 @@ use Rattle.hop_rule.specs.Sizes.{puller}
 use Rattle.hop_rule.specs.Lanes.{changed, lane_after, out_after, retired, retired_after, out, Phase, idle, has_pulled, gave, phase_after, phase, lane, MayCome, AreLawful}
 use Rattle.hop_rule.specs.Deliveries.{Delivery, delivery, given_after, given}
 use Rattle.hop_rule.specs.Moments.{nth_step}
-use Rattle.hop_rule.proofs.Lanes.{pick, some-is, none-some, get-inside, holds, out_holds, phase_same, counted, count}
+use Rattle.hop_rule.proofs.Moments.{nth-inside, nth-old, nth-some}
+use Rattle.hop_rule.proofs.Cases.{pick}
+use Rattle.hop_rule.proofs.Lists.{some-is, none-some, get-inside}
+use Rattle.hop_rule.proofs.Lanes.{holds, out_holds, phase_same, counted, count}
 
 get-more : (xs ys : List ℕ) (i x : ℕ) → slice_get xs i ≡ Some x → slice_get (xs ++ ys) i ≡ Some x
 get-more [] ys i x e = none-some x e
@@ -261,20 +264,6 @@ module _ (about : BoardSizes) where
           let at = given_place p o from id place (es ++ old) lawful.1 may in let more = (outs_grow es old o).0 in
           (g ∷ t.0, if_same from l (g ∷ given l (es ++ old)) (given l (es ++ old)) same ∙ ap (λ gs. g ∷ gs) t.1, (omega arith, t.2)))
           (λ other. (t.0, if_other from l (delivery o id place ∷ given l (es ++ old)) (given l (es ++ old)) other ∙ t.1, t.2))
-
-pub nth-inside : (gs : List Delivery) (k : ℕ) (g : Delivery) → nth_step gs k ≡ Some g → k < length gs
-nth-inside [] k g at = none-some g at
-nth-inside (x ∷ xs) k g at = dite (ℕ_discrete (length xs) k) (λ e. omega arith) (λ ne. let r = nth-inside xs k g (sym (if_other (length xs) k (Some x) (nth_step xs k) ne) ∙ at) in omega arith)
-
-pub nth-old : (more gs : List Delivery) (k : ℕ) → k < length gs → nth_step (more ++ gs) k ≡ nth_step gs k
-nth-old [] gs k l = refl
-nth-old (x ∷ xs) gs k l = if_other (length (xs ++ gs)) k (Some x) (nth_step (xs ++ gs) k) (λ e. let n = length-append xs gs in absurd (omega arith)) ∙ nth-old xs gs k l
-
--- there is a delivery of each number below their count
-pub nth-some : (gs : List Delivery) (k : ℕ) → k < length gs → (g : Delivery) × (nth_step gs k ≡ Some g)
-nth-some [] k l = absurd (omega arith)
-nth-some (x ∷ xs) k l = dite (ℕ_discrete (length xs) k) (λ e. (x, if_same (length xs) k (Some x) (nth_step xs k) e))
-    (λ ne. let t = nth-some xs k (omega arith) in (t.0, if_other (length xs) k (Some x) (nth_step xs k) ne ∙ t.1))
 
 module _ (about : BoardSizes) (P : Delivery → Type 0) where
   pub nth-each : (gs : List Delivery) → Each about P gs → (k : ℕ) (g : Delivery) → nth_step gs k ≡ Some g → P g

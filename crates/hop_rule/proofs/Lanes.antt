@@ -11,6 +11,8 @@ use Rattle.backlog.specs.Puts.{put_by, after_put, put_count}
 use Rattle.seat_order.specs.Orders.{StepBy, step_by, steps_of}
 use Rattle.seat_order.proofs.Views.{steps_of_own, steps_of_other}
 use Rattle.seat_order.proofs.Lists.{if_same, if_other}
+use Rattle.hop_rule.proofs.Cases.{pick}
+use Rattle.hop_rule.proofs.Lists.{some-is, none-some, get-inside}
 use Rattle.hop_rule.specs.OutLanes.{OutList, out_list}
 use Rattle.hop_rule.specs.declared.sizes.BoardSizes.{BoardSizes}
 use Rattle.hop_rule.specs.declared.step.Change.TheVariants.{Nothing, Offered, Pulled}
@@ -18,21 +20,6 @@ use Rattle.hop_rule.specs.declared.step.LaneStep.{LaneStep}
 use Rattle.hop_rule.specs.declared.step.LaneStep.TheVariants.{Held, Missed, Freed, OutHeld, OutMissed, OutFreed, Given, Retired}
 use Rattle.hop_rule.specs.Sizes.{puller}
 use Rattle.hop_rule.specs.Lanes.{changed, lane_after, out_after, holder_after, out_holder_after, holder, out_holder, retired, out, holding_after, holding, out_holding_after, out_holding, Phase, idle, has_pulled, gave, phase_after, phase, lane, out_content, FitsChange, MayCome, AreLawful}
-
--- a choice by two numbers, each way
-pub pick : {A : Type 0} (p q : ℕ) (a b : A) (F : A → Type 0) → (p ≡ q → F a) → (p ≢ q → F b) → F (if p == q then a else b)
-pick p q a b F same other = dite (ℕ_discrete p q) (λ e. subst F (sym (if_same p q a b e)) (same e)) (λ ne. subst F (sym (if_other p q a b ne)) (other ne))
-
-pub some-is : {A : Type 0} (x y : A) → Some x ≡ Some y → x ≡ y
-some-is x y e = ap (λ o. unwrap_or o x) e
-
-pub none-some : {A B : Type 0} (x : A) → None ≡ Some x → B
-none-some x e = cc
-
-pub get-inside : (xs : List ℕ) (i x : ℕ) → slice_get xs i ≡ Some x → (i < length xs) × (get_or xs i 0 ≡ x)
-get-inside [] i x e = none-some x e
-get-inside (y ∷ ys) zero x e = (omega arith, some-is y x e)
-get-inside (y ∷ ys) (suc i) x e = let t = get-inside ys i x e in let l = t.0 in (omega arith, t.1)
 
 module _ (about : BoardSizes) where
   abbrev Order : Type 0

@@ -1,12 +1,16 @@
 pub mod Boards
+pub mod Cases
 pub mod Closings
 pub mod Deliveries
+pub mod Fronts
 pub mod Gates
 pub mod Lanes
+pub mod Lists
 pub mod Members
 pub mod Moments
 pub mod Numbers
 pub mod Owns
 pub mod Parts
+pub mod Puts
 pub mod Slots
 pub mod Visits

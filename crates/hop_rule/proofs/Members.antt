@@ -10,14 +10,15 @@ use Rattle.hop_rule.specs.declared.step.LaneStep.{LaneStep}
 use Rattle.hop_rule.specs.declared.step.LaneStep.TheVariants.{Held, Missed, Freed, OutHeld, OutMissed, OutFreed, Given, Retired}
 use Rattle.hop_rule.specs.Lanes as lanes
 use Rattle.hop_rule.specs.OutLanes.{OutList}
-use Rattle.hop_rule.proofs.Boards.{lane_part}
 use Rattle.hop_rule.specs.Boards.{lanes_of}
 use Rattle.hop_rule.specs.Deliveries.{Delivery, delivery, given_after, given}
 use Rattle.hop_rule.specs.Moments.{nth_step}
 use Rattle.hop_rule.specs.Moments.{IsStep}
-use Rattle.hop_rule.proofs.Lanes.{pick, some-is, none-some, out_holds}
-use Rattle.hop_rule.proofs.Deliveries.{Each, nth-inside, nth-old}
-use Rattle.hop_rule.proofs.Moments.{step-more, step-last}
+use Rattle.hop_rule.proofs.Cases.{pick, lane_part}
+use Rattle.hop_rule.proofs.Lists.{some-is, none-some}
+use Rattle.hop_rule.proofs.Lanes.{out_holds}
+use Rattle.hop_rule.proofs.Deliveries.{Each}
+use Rattle.hop_rule.proofs.Moments.{step-more, step-last, nth-inside, nth-old}
 
 -- what holds of each delivery step of a lane holds of its deliveries
 pub each_given : (about : BoardSizes) (l : ℕ) (P : Delivery → Type 0) (es : List (StepBy BoardStep)) → ((n q o id place : ℕ) → IsStep es n q (Lane (Given o l id place)) → P (delivery o id place)) → Each about P (given l (lanes_of es))

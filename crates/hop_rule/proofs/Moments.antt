@@ -1,16 +1,49 @@
 -- Moments of an order.
-use Rattle.std.proofs.Common.{◌≡◌, inl, inr, ℕ, zero, suc, ◌-◌, ◌<◌, ◌≤◌, List, [], ◌∷◌, length, drop, sym, ap, ◌∙◌, subst, arith}
+use Rattle.std.proofs.Common.{◌≡◌, inl, inr, ℕ, zero, suc, ◌+◌, ◌-◌, ◌<◌, ◌≤◌, List, [], ◌∷◌, ◌++◌, Option, Some, None, length, drop, refl, sym, ap, ◌∙◌, subst, arith, length-append}
 use Rattle.std.proofs.lemmas.Bool.{cases_eq, cases_lt}
+use mathlib.Core.Logic.{dite}
+use native.Mathlib.Decide.{ℕ_discrete}
 use Rattle.seat_order.specs.Orders.{StepBy, step_by}
-use Rattle.hop_rule.specs.Moments.{past, IsStep}
+use Rattle.seat_order.proofs.Lists.{if_same, if_other}
+use Rattle.hop_rule.proofs.Lists.{none-some}
+use Rattle.hop_rule.specs.Moments.{past, nth_step, IsStep}
+
+drop-all : {A : Type 0} (xs : List A) → drop (length xs) xs ≡ []
+drop-all [] = refl
+drop-all (x ∷ xs) = drop-all xs
+
+pub past-none : {A : Type 0} (xs : List A) → past 0 xs ≡ []
+past-none xs = let n : length xs - 0 ≡ length xs = omega arith in ap (λ m. drop m xs) n ∙ drop-all xs
+
+pub past-all : {A : Type 0} (es : List A) (n : ℕ) → length es ≤ n → past n es ≡ es
+past-all es n le = let k : length es - n ≡ 0 = omega arith in ap (λ m. drop m es) k
+
+pub past-old : {A : Type 0} (e : A) (es : List A) (n : ℕ) → n ≤ length es → past n (e ∷ es) ≡ past n es
+past-old e es n le = let k : length (e ∷ es) - n ≡ suc (length es - n) = omega arith in ap (λ m. drop m (e ∷ es)) k
+
+-- ---- the step of a list that has so many before it
+
+module _ {A : Type 0} where
+  pub nth-inside : (xs : List A) (k : ℕ) (x : A) → nth_step xs k ≡ Some x → k < length xs
+  nth-inside [] k x at = none-some x at
+  nth-inside (y ∷ ys) k x at = dite (ℕ_discrete (length ys) k) (λ e. omega arith) (λ ne. let r = nth-inside ys k x (sym (if_other (length ys) k (Some y) (nth_step ys k) ne) ∙ at) in omega arith)
+
+  pub nth-last : (y : A) (ys : List A) → nth_step (y ∷ ys) (length ys) ≡ Some y
+  nth-last y ys = if_same (length ys) (length ys) (Some y) (nth_step ys (length ys)) refl
+
+  pub nth-old : (more xs : List A) (k : ℕ) → k < length xs → nth_step (more ++ xs) k ≡ nth_step xs k
+  nth-old [] xs k l = refl
+  nth-old (y ∷ ys) xs k l = if_other (length (ys ++ xs)) k (Some y) (nth_step (ys ++ xs) k) (λ e. let n = length-append ys xs in absurd (omega arith)) ∙ nth-old ys xs k l
+
+  -- there is one of each number below the length
+  pub nth-some : (xs : List A) (k : ℕ) → k < length xs → (x : A) × (nth_step xs k ≡ Some x)
+  nth-some [] k l = absurd (omega arith)
+  nth-some (y ∷ ys) k l = dite (ℕ_discrete (length ys) k) (λ e. (y, if_same (length ys) k (Some y) (nth_step ys k) e))
+      (λ ne. let t = nth-some ys k (omega arith) in (t.0, if_other (length ys) k (Some y) (nth_step ys k) ne ∙ t.1))
+
+-- ---- orders
 
 module _ {D : Type 0} where
-  pub past-all : (es : List (StepBy D)) (n : ℕ) → length es ≤ n → past n es ≡ es
-  past-all es n le = let k : length es - n ≡ 0 = omega arith in ap (λ m. drop m es) k
-
-  pub past-old : (e : StepBy D) (es : List (StepBy D)) (n : ℕ) → n ≤ length es → past n (e ∷ es) ≡ past n es
-  past-old e es n le = let k : length (e ∷ es) - n ≡ suc (length es - n) = omega arith in ap (λ m. drop m (e ∷ es)) k
-
   -- after the first n steps comes some step
   pub past-step : (es : List (StepBy D)) (n : ℕ) → n < length es → (e : StepBy D) × (past (suc n) es ≡ e ∷ past n es)
   past-step [] n l = absurd (omega arith)

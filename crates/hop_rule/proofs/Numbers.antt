@@ -5,7 +5,8 @@ use Rattle.seat_order.specs.Orders.{StepBy, steps_of}
 use Rattle.hop_rule.specs.declared.sizes.BoardSizes.{BoardSizes}
 use Rattle.hop_rule.specs.declared.step.BoardStep.{BoardStep}
 use Rattle.hop_rule.specs.Moments.{IsStep, moment_of, Did}
-use Rattle.hop_rule.proofs.Parts.{nth-inside, moments_rise, from_moment}
+use Rattle.hop_rule.proofs.Moments.{nth-inside}
+use Rattle.hop_rule.proofs.Parts.{moments_rise, from_moment}
 
 module _ (about : BoardSizes) (order : List (StepBy BoardStep)) where
   when : ℕ → ℕ → ℕ

@@ -16,9 +16,8 @@ use Rattle.hop_rule.specs.declared.step.Change.TheVariants.{Nothing, Offered, Pu
 use Rattle.hop_rule.specs.declared.step.LaneStep.{LaneStep}
 use Rattle.hop_rule.specs.declared.step.LaneStep.TheVariants.{Held, Missed, Freed, OutHeld, OutMissed, OutFreed, Given, Retired}
 use Rattle.hop_rule.specs.Lanes.{changed, lane_after, lane}
-use Rattle.hop_rule.proofs.Boards.{lane_part, gate_part}
 use Rattle.hop_rule.specs.Boards.{lanes_of, gates_of, lane_steps, gate_steps}
-use Rattle.hop_rule.proofs.Lanes.{pick}
+use Rattle.hop_rule.proofs.Cases.{pick, lane_part, gate_part}
 
 module _ (p : ℕ) where
   pub lanes_own : (es : List (StepBy BoardStep)) → steps_of p (lanes_of es) ≡ lane_steps (steps_of p es)

@@ -6,14 +6,10 @@ use Rattle.seat_order.specs.Orders.{StepBy, step_by, steps_of}
 use Rattle.seat_order.proofs.Views.{steps_of_own, steps_of_other}
 use Rattle.seat_order.proofs.Lists.{if_same, if_other}
 use Rattle.hop_rule.specs.Moments.{IsStep, nth_step, moment_of}
-use Rattle.hop_rule.proofs.Lanes.{some-is, none-some}
-use Rattle.hop_rule.proofs.Moments.{past-old, step-inside, step-more, step-last, one-step}
+use Rattle.hop_rule.proofs.Lists.{some-is, none-some}
+use Rattle.hop_rule.proofs.Moments.{nth-inside, past-old, step-inside, step-more, step-last, one-step}
 
 module _ {D : Type 0} where
-  pub nth-inside : (ds : List D) (k : ℕ) (d : D) → nth_step ds k ≡ Some d → k < length ds
-  nth-inside [] k d at = none-some d at
-  nth-inside (x ∷ ds) k d at = dite (ℕ_discrete (length ds) k) (λ e. omega arith) (λ ne. let r = nth-inside ds k d (sym (if_other (length ds) k (Some x) (nth_step ds k) ne) ∙ at) in omega arith)
-
   step-less : (e : StepBy D) (es : List (StepBy D)) (n p : ℕ) (d : D) → n < length es → IsStep (e ∷ es) n p d → IsStep es n p d
   step-less e es n p d l is = sym (past-old e es (suc n) (omega arith)) ∙ (is ∙ ap (λ x. step_by p d ∷ x) (past-old e es n (omega arith)))
 

@@ -13,7 +13,8 @@ use Rattle.hop_rule.specs.declared.step.LaneStep.TheVariants.{Held, Missed, Free
 use Rattle.hop_rule.specs.Lanes as lanes
 use Rattle.hop_rule.specs.Boards.{lanes_of, MayCome, IsLawful, out_slot, SlotState, full, taken, empty, state_after, slot_state, own_state}
 use Rattle.hop_rule.proofs.Lanes.{holds, out_holds}
-use Rattle.hop_rule.proofs.Boards.{parts, lane_part}
+use Rattle.hop_rule.proofs.Cases.{lane_part}
+use Rattle.hop_rule.proofs.Boards.{parts}
 
 abbrev pub is_out : SlotState → ℕ
 is_out full = 0

@@ -17,7 +17,8 @@ use Rattle.hop_rule.specs.Boards.{gates_of, MayCome, IsLawful, settings, visit_o
 use Rattle.hop_rule.specs.Moments.{past, IsStep}
 use Rattle.hop_rule.proofs.Gates.{closes, unshut}
 use Rattle.hop_rule.proofs.Moments.{past-all, past-step, along}
-use Rattle.hop_rule.proofs.Boards.{parts, lawful_past, step_lawful, gate_part}
+use Rattle.hop_rule.proofs.Cases.{gate_part}
+use Rattle.hop_rule.proofs.Boards.{parts, lawful_past, step_lawful}
 
 module _ (about : BoardSizes) (order : List (StepBy BoardStep)) (lawful : IsLawful about order) where
   -- ---- settings

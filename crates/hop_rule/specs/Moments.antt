@@ -1,6 +1,6 @@
 -- Moments of an order: the moment of a step is how many steps came before it.
-use Rattle.std.specs.Prelude.{◌≡◌, ℕ, suc, ◌-◌, ◌==◌, List, [], ◌∷◌, Option, Some, None, length}
-use Rattle.std.specs.Prelude.{drop, if◌then◌else◌}
+use Rattle.std.specs.Prelude.{◌≡◌, ℕ, suc, ◌-◌, ◌==◌, List, [], ◌∷◌, Option, Some, None}
+use Rattle.std.specs.Prelude.{length, drop, if◌then◌else◌}
 use Rattle.seat_order.specs.Orders.{StepBy, step_by, steps_of}
 
 -- the first n steps of an order, or of a seat's own list
