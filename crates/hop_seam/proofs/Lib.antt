@@ -1,0 +1,5 @@
+pub mod Endings
+pub mod Left
+pub mod Owners
+pub mod Sums
+pub mod Totals
