@@ -1,5 +1,5 @@
--- What the seats' own lists tell of the lanes at the closing, and the closer's of the settings.
-use Rattle.std.proofs.Common.{◌≡◌, ◌≢◌, ℕ, zero, suc, ◌+◌, ◌<◌, ◌==◌, List, [], ◌∷◌, Option, Some, None, if◌then◌else◌, sym, refl, ap, ◌∙◌, subst, arith}
+-- The holder of a lane holds it by its own steps; the settings are those of the closer's own steps.
+use Rattle.std.proofs.Common.{◌≡◌, ◌≢◌, ℕ, zero, suc, ◌+◌, ◌<◌, ◌==◌, List, [], ◌∷◌, ◌++◌, Option, Some, None, if◌then◌else◌, sym, refl, ap, ◌∙◌, subst, arith}
 use mathlib.Core.Logic.{dite}
 use native.Mathlib.Decide.{ℕ_discrete}
 use Rattle.steer_base.specs.Lanes.{LaneLists}
@@ -14,12 +14,9 @@ use Rattle.hop_rule.specs.declared.step.GateStep.{GateStep}
 use Rattle.hop_rule.specs.declared.step.GateStep.TheVariants.{Entered, Turned, Left, Shut, NotShut, Opened, Set, Read}
 use Rattle.hop_rule.specs.Sizes.{closer}
 use Rattle.hop_rule.specs.Gates as gates
-use Rattle.hop_rule.specs.Lanes.{changed, holder, holding, holding_after, lane, MayCome, AreLawful}
-use Rattle.hop_rule.specs.Boards.{lanes_of, IsLawful, slot_state, full}
-use Rattle.hop_rule.proofs.Boards.{parts}
+use Rattle.hop_rule.specs.OutLanes.{OutList, out_list}
+use Rattle.hop_rule.specs.Lanes.{changed, holder, holding, holding_after, lane, out, out_after, out_content, out_holder, out_holder_after, out_holding, out_holding_after, MayCome, AreLawful}
 use Rattle.hop_rule.proofs.Cases.{pick}
-use Rattle.hop_rule.proofs.Lists.{none-some}
-use Rattle.hop_rule.proofs.Slots.{agrees}
 
 module _ (about : BoardSizes) where
   abbrev HeldIs : List (StepBy LaneStep) → Type 0
@@ -48,13 +45,38 @@ module _ (about : BoardSizes) where
   held_is [] lawful l p h = absurd (omega arith)
   held_is (e ∷ es) lawful l p h = held_step e.by e.step es lawful.0 (held_is es lawful.1) l p h
 
-  -- where no seat holds a lane, the lane is in its slot
-  pub all_home : (es : List (StepBy BoardStep)) → IsLawful about es → (l : ℕ) → l < about.lanes → ((p : ℕ) → holding l (steps_of p (lanes_of es)) ≡ None) → slot_state about l es ≡ full
-  all_home es lawful l inside rest = (agrees about l inside es lawful).home (by_holder (holder l (lanes_of es)) refl)
-    where
-      by_holder : (n : ℕ) → holder l (lanes_of es) ≡ n → holder l (lanes_of es) ≡ 0
-      by_holder zero e = e
-      by_holder (suc p) e = none-some (lane about l (lanes_of es)) (sym (rest p) ∙ held_is (lanes_of es) (parts about es lawful).0 l p e)
+  -- ---- the same of out lanes
+
+  abbrev OutHeldIs : List (StepBy LaneStep) → Type 0
+  OutHeldIs es = (o p : ℕ) → out_holder o es ≡ suc p → out_holding o (steps_of p es) ≡ Some (out_content about o es)
+
+  out_passes : (q : ℕ) (d : LaneStep) (es : List (StepBy LaneStep)) (o p : ℕ) → out_holding_after o d (out_holding o (steps_of p es)) ≡ out_holding o (steps_of p es) → out_holding o (steps_of p (step_by q d ∷ es)) ≡ out_holding o (steps_of p es)
+  out_passes q d es o p same = dite (ℕ_discrete q p) (λ e. ap (out_holding o) (steps_of_own p q d es e) ∙ same) (λ ne. ap (out_holding o) (steps_of_other p q d es ne))
+
+  -- a step that gives the out lane i back
+  out_freed : (q i : ℕ) (d : LaneStep) (es : List (StepBy LaneStep)) (o p : ℕ) → ((x : Option OutList) → out_holding_after o d x ≡ (if i == o then None else x)) → out_holder_after o q d (out_holder o es) ≡ (if i == o then 0 else out_holder o es)
+      → (i ≢ o → out_after o d (out o es) ≡ out o es) → OutHeldIs es → out_holder o (step_by q d ∷ es) ≡ suc p → out_holding o (steps_of p (step_by q d ∷ es)) ≡ Some (out_content about o (step_by q d ∷ es))
+  out_freed q i d es o p a b same before h = dite (ℕ_discrete i o)
+      (λ e. let z : 0 ≡ suc p = sym (b ∙ if_same i o 0 (out_holder o es) e) ∙ h in absurd (omega arith))
+      (λ ne. out_passes q d es o p (a (out_holding o (steps_of p es)) ∙ if_other i o None (out_holding o (steps_of p es)) ne)
+      ∙ (before o p (sym (b ∙ if_other i o 0 (out_holder o es) ne) ∙ h) ∙ ap (λ xs. Some (out_list xs about.room)) (sym (same ne))))
+
+  out_held_step : (q : ℕ) (d : LaneStep) (es : List (StepBy LaneStep)) → MayCome about q es d → OutHeldIs es → OutHeldIs (step_by q d ∷ es)
+  out_held_step q (OutHeld i w x) es may before o p h = dite (ℕ_discrete i o)
+      (λ e. let same : suc q ≡ suc p = sym (if_same i o (suc q) (out_holder o es) e) ∙ h in let by : q ≡ p = omega arith in
+      ap (out_holding o) (steps_of_own p q (OutHeld i w x) es by) ∙ (if_same i o (Some x) (out_holding o (steps_of p es)) e ∙ ap Some (may.3 ∙ ap (λ (z : ℕ). out_content about z es) e)))
+      (λ ne. out_passes q (OutHeld i w x) es o p (if_other i o (Some x) (out_holding o (steps_of p es)) ne) ∙ before o p (sym (if_other i o (suc q) (out_holder o es) ne) ∙ h))
+  out_held_step q (OutFreed i) es may before o p h = out_freed q i (OutFreed i) es o p (λ _. refl) refl (λ _. refl) before h
+  out_held_step q (Given i from id place) es may before o p h = out_freed q i (Given i from id place) es o p (λ _. refl) refl (λ ne. if_other i o (out o es ++ id ∷ []) (out o es) ne) before h
+  out_held_step q (Held i w x) es may before o p h = out_passes q (Held i w x) es o p refl ∙ before o p h
+  out_held_step q (Missed i w) es may before o p h = out_passes q (Missed i w) es o p refl ∙ before o p h
+  out_held_step q (Freed i c) es may before o p h = out_passes q (Freed i c) es o p refl ∙ before o p h
+  out_held_step q (OutMissed i w) es may before o p h = out_passes q (OutMissed i w) es o p refl ∙ before o p h
+  out_held_step q (Retired i w) es may before o p h = out_passes q (Retired i w) es o p refl ∙ before o p h
+
+  pub out_held_is : (es : List (StepBy LaneStep)) → AreLawful about es → OutHeldIs es
+  out_held_is [] lawful o p h = absurd (omega arith)
+  out_held_is (e ∷ es) lawful o p h = out_held_step e.by e.step es lawful.0 (out_held_is es lawful.1) o p h
 
   -- ---- settings
 

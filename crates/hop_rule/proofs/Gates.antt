@@ -1,5 +1,5 @@
 -- Laws of the gate.
-use Rattle.std.proofs.Common.{◌≡◌, ◌≢◌, ℕ, zero, suc, ◌+◌, ◌*◌, ◌%◌, ◌/◌, ◌<◌, ◌≤◌, List, [], ◌∷◌, ◌++◌, sym, refl, ap, ◌∙◌, subst, arith}
+use Rattle.std.proofs.Common.{◌≡◌, ◌≢◌, ◌⊎◌, inl, inr, ℕ, zero, suc, ◌+◌, ◌*◌, ◌%◌, ◌/◌, ◌<◌, ◌≤◌, List, [], ◌∷◌, ◌++◌, sym, refl, ap, ◌∙◌, subst, arith}
 use mathlib.Core.Logic.{dite}
 use native.Mathlib.Decide.{ℕ_discrete}
 use Rattle.seat_order.specs.Orders.{StepBy, step_by, steps_of}
@@ -7,13 +7,9 @@ use Rattle.seat_order.proofs.Views.{steps_of_own, steps_of_other}
 use Rattle.hop_rule.specs.declared.sizes.BoardSizes.{BoardSizes}
 use Rattle.hop_rule.specs.declared.step.GateStep.{GateStep}
 use Rattle.hop_rule.specs.declared.step.GateStep.TheVariants.{Entered, Turned, Left, Shut, NotShut, Opened, Set, Read}
+use Rattle.hop_rule.specs.Events.{sum_below}
 use Rattle.hop_rule.specs.Sizes.{closer}
-use Rattle.hop_rule.specs.Gates.{Visit, outside, inside, backing, visit_after, visit, is_open, closed_after, openings_after, closed, openings, all_closed, all_openings, visits_after, visits, gate_word, settings_after, settings, MayCome, AreLawful}
-
--- the sum of f over the numbers below n
-abbrev pub total : (ℕ → ℕ) → ℕ → ℕ
-total f zero = 0
-total f (suc n) = total f n + f n
+use Rattle.hop_rule.specs.Gates.{Visit, outside, inside, backing, visit_after, visit, is_open, closed_after, openings_after, closed, openings, found_after, found, all_closed, all_openings, visits_after, visits, gate_word, settings_after, settings, MayCome, AreLawful}
 
 own_step : (p : ℕ) (e : StepBy GateStep) (es : List (StepBy GateStep)) → e.by ≡ p → steps_of p (e ∷ es) ≡ e.step ∷ steps_of p es
 own_step p e es is = steps_of_own p e.by e.step es is
@@ -23,35 +19,35 @@ other_step p e es ne = steps_of_other p e.by e.step es ne
 
 -- ---- sums
 
-total_same : (f g : ℕ → ℕ) (n : ℕ) → ((p : ℕ) → p < n → f p ≡ g p) → total f n ≡ total g n
-total_same f g zero same = refl
-total_same f g (suc n) same = let a = total_same f g n (λ p l. same p (omega arith)) in let b = same n (omega arith) in omega arith
+pub sum_same : (f g : ℕ → ℕ) (n : ℕ) → ((p : ℕ) → p < n → f p ≡ g p) → sum_below f n ≡ sum_below g n
+sum_same f g zero same = refl
+sum_same f g (suc n) same = let a = sum_same f g n (λ p l. same p (omega arith)) in let b = same n (omega arith) in omega arith
 
-total_one : (f g : ℕ → ℕ) (n q : ℕ) → q < n → ((p : ℕ) → p < n → p ≢ q → f p ≡ g p) → total f n + g q ≡ total g n + f q
-total_one f g zero q l same = absurd (omega arith)
-total_one f g (suc n) q l same = dite (ℕ_discrete q n)
-    (λ e. let a = total_same f g n (λ p l'. same p (omega arith) (λ h. absurd (omega arith))) in let b : g q ≡ g n = ap g e in let c : f q ≡ f n = ap f e in omega arith)
-    (λ ne. let a = total_one f g n q (omega arith) (λ p l'. same p (omega arith)) in let b = same n (omega arith) (λ h. ne (sym h)) in omega arith)
+pub sum_one : (f g : ℕ → ℕ) (n q : ℕ) → q < n → ((p : ℕ) → p < n → p ≢ q → f p ≡ g p) → sum_below f n + g q ≡ sum_below g n + f q
+sum_one f g zero q l same = absurd (omega arith)
+sum_one f g (suc n) q l same = dite (ℕ_discrete q n)
+    (λ e. let a = sum_same f g n (λ p l'. same p (omega arith) (λ h. absurd (omega arith))) in let b : g q ≡ g n = ap g e in let c : f q ≡ f n = ap f e in omega arith)
+    (λ ne. let a = sum_one f g n q (omega arith) (λ p l'. same p (omega arith)) in let b = same n (omega arith) (λ h. ne (sym h)) in omega arith)
 
-total_has : (f : ℕ → ℕ) (n q : ℕ) → q < n → f q ≤ total f n
-total_has f zero q l = absurd (omega arith)
-total_has f (suc n) q l = dite (ℕ_discrete q n) (λ e. let b : f q ≡ f n = ap f e in omega arith) (λ ne. let a = total_has f n q (omega arith) in omega arith)
+pub sum_has : (f : ℕ → ℕ) (n q : ℕ) → q < n → f q ≤ sum_below f n
+sum_has f zero q l = absurd (omega arith)
+sum_has f (suc n) q l = dite (ℕ_discrete q n) (λ e. let b : f q ≡ f n = ap f e in omega arith) (λ ne. let a = sum_has f n q (omega arith) in omega arith)
 
-total_most : (f : ℕ → ℕ) (n : ℕ) → ((p : ℕ) → f p ≤ 1) → total f n ≤ n
-total_most f zero small = omega arith
-total_most f (suc n) small = let a = total_most f n small in let b = small n in omega arith
+pub sum_most : (f : ℕ → ℕ) (n : ℕ) → ((p : ℕ) → f p ≤ 1) → sum_below f n ≤ n
+sum_most f zero small = omega arith
+sum_most f (suc n) small = let a = sum_most f n small in let b = small n in omega arith
 
-total_few : (f : ℕ → ℕ) (n q : ℕ) → ((p : ℕ) → f p ≤ 1) → q < n → f q ≡ 0 → total f n + 1 ≤ n
-total_few f zero q small l z = absurd (omega arith)
-total_few f (suc n) q small l z = dite (ℕ_discrete q n)
-    (λ e. let a = total_most f n small in let b : f n ≡ 0 = ap f (sym e) ∙ z in omega arith)
-    (λ ne. let a = total_few f n q small (omega arith) z in let b = small n in omega arith)
+sum_few : (f : ℕ → ℕ) (n q : ℕ) → ((p : ℕ) → f p ≤ 1) → q < n → f q ≡ 0 → sum_below f n + 1 ≤ n
+sum_few f zero q small l z = absurd (omega arith)
+sum_few f (suc n) q small l z = dite (ℕ_discrete q n)
+    (λ e. let a = sum_most f n small in let b : f n ≡ 0 = ap f (sym e) ∙ z in omega arith)
+    (λ ne. let a = sum_few f n q small (omega arith) z in let b = small n in omega arith)
 
-total_zero : (n : ℕ) → total (λ p. 0) n ≡ 0
-total_zero zero = refl
-total_zero (suc n) = let a = total_zero n in omega arith
+sum_zero : (n : ℕ) → sum_below (λ p. 0) n ≡ 0
+sum_zero zero = refl
+sum_zero (suc n) = let a = sum_zero n in omega arith
 
-open_small : (v : Visit) → is_open v ≤ 1
+pub open_small : (v : Visit) → is_open v ≤ 1
 open_small outside = omega arith
 open_small inside = omega arith
 open_small backing = omega arith
@@ -102,7 +98,7 @@ module _ (about : BoardSizes) where
   opens_of es p = is_open (visit (steps_of p es))
 
   abbrev Sums : List (StepBy GateStep) → Type 0
-  Sums es = visits es ≡ total (opens_of es) seats
+  Sums es = visits es ≡ sum_below (opens_of es) seats
 
   -- a step of the seat q changes no other seat's visit
   others : (e : StepBy GateStep) (es : List (StepBy GateStep)) (p : ℕ) → p ≢ e.by → opens_of (e ∷ es) p ≡ opens_of es p
@@ -112,13 +108,13 @@ module _ (about : BoardSizes) where
   own e es = ap (λ l. is_open (visit l)) (own_step e.by e es refl)
 
   sums_step : (e : StepBy GateStep) (es : List (StepBy GateStep)) → e.by < seats → visits_after e.step (visits es) + opens_of es e.by ≡ visits es + opens_of (e ∷ es) e.by → Sums es → Sums (e ∷ es)
-  sums_step e es inside' moves t = let s = total_one (opens_of (e ∷ es)) (opens_of es) seats e.by inside' (λ p _ ne. others e es p ne) in omega arith
+  sums_step e es inside' moves t = let s = sum_one (opens_of (e ∷ es)) (opens_of es) seats e.by inside' (λ p _ ne. others e es p ne) in omega arith
 
   sums_by : (p : ℕ) (d : GateStep) (es : List (StepBy GateStep)) → p < seats → MayCome about p es d → Sums es → Sums (step_by p (d) ∷ es)
   sums_by p (Entered w) es l right t = let e : StepBy GateStep = step_by p (Entered w) in let was : opens_of es p ≡ 0 = ap is_open right.2 in let now = own e es in sums_step e es l (omega arith) t
   sums_by p (Turned w) es l right t = let e : StepBy GateStep = step_by p (Turned w) in let was : opens_of es p ≡ 0 = ap is_open right.2 in let now = own e es in sums_step e es l (omega arith) t
   sums_by p Left es l right t = let e : StepBy GateStep = step_by p (Left) in let was : opens_of es p ≡ 1 = open_some (visit (steps_of p es)) right in let now = own e es in
-      let some_open = total_has (opens_of es) seats p l in sums_step e es l (omega arith) t
+      let some_open = sum_has (opens_of es) seats p l in sums_step e es l (omega arith) t
   sums_by p (Shut w) es l right t = let e : StepBy GateStep = step_by p (Shut w) in let now = own e es in sums_step e es l (omega arith) t
   sums_by p (NotShut w) es l right t = let e : StepBy GateStep = step_by p (NotShut w) in let now = own e es in sums_step e es l (omega arith) t
   sums_by p Opened es l right t = let e : StepBy GateStep = step_by p (Opened) in let now = own e es in sums_step e es l (omega arith) t
@@ -126,7 +122,7 @@ module _ (about : BoardSizes) where
   sums_by p (Read i v) es l right t = let e : StepBy GateStep = step_by p (Read i v) in let now = own e es in sums_step e es l (omega arith) t
 
   pub sums : (es : List (StepBy GateStep)) → AreLawful about es → Sums es
-  sums [] legal = sym (total_zero seats)
+  sums [] legal = sym (sum_zero seats)
   sums (e ∷ es) legal = sums_by e.by e.step es legal.0 legal.1 (sums es legal.2)
 
   -- ---- while a seat is inside the gate is not closed
@@ -159,7 +155,7 @@ module _ (about : BoardSizes) where
       (λ e. let k : 0 ≡ 1 = ap kind (sym (ap visit (own_step p (step_by q (Left)) es e)) ∙ is) in absurd (omega arith))
       (λ ne. before p l (sym (ap visit (other_step p (step_by q (Left)) es ne)) ∙ is))
   unshut_step q (Shut w) es right sum before p l is = let was = was_inside q (Shut w) es p (λ _. refl) is in let o : opens_of es p ≡ 1 = ap is_open was in
-      let h = total_has (opens_of es) seats p l in let none_in = right.2 in absurd (omega arith)
+      let h = sum_has (opens_of es) seats p l in let none_in = right.2 in absurd (omega arith)
   unshut_step q (NotShut w) es right sum before p l is = before p l (was_inside q (NotShut w) es p (λ _. refl) is)
   unshut_step q Opened es right sum before p l is = refl
   unshut_step q (Set i v) es right sum before p l is = before p l (was_inside q (Set i v) es p (λ _. refl) is)
@@ -206,7 +202,7 @@ module _ (about : BoardSizes) where
   stays (e ∷ es) old p i l legal is stay = let t = stays es old p i l legal.2 is stay.1 in
       (still_inside e.by e.step (es ++ old) p legal.1 stay.0 t.0, setting_same e.by e.step (es ++ old) p i (settings about (es ++ old)) legal.1 legal.2 l t.0 ∙ t.1)
 
-  pub word : (es : List (StepBy GateStep)) → AreLawful about es → gate_word es ≡ total (λ p. is_open (visit (steps_of p es))) seats + 2147483648 * closed (steps_of C es) + 4294967296 * openings (steps_of C es)
+  pub word : (es : List (StepBy GateStep)) → AreLawful about es → gate_word es ≡ sum_below (λ p. is_open (visit (steps_of p es))) seats + 2147483648 * closed (steps_of C es) + 4294967296 * openings (steps_of C es)
   word es legal = let a = sums es legal in let b = closes es legal in let b0 = b.0 in let b1 = b.1 in omega arith
 
   -- ---- the numbers stay small
@@ -239,23 +235,103 @@ module _ (about : BoardSizes) where
   -- ---- the arithmetic of the steps
 
   pub enter_word : (es : List (StepBy GateStep)) (p : ℕ) (w : ℕ) → AreLawful about es → seats ≤ 64 → p < seats → visit (steps_of p es) ≡ outside → (gate_word es + 1) % 18446744073709551616 ≡ gate_word (step_by p (Entered w) ∷ es)
-  enter_word es p w legal few l is = let a = sums es legal in let b = closes es legal in let b0 = b.0 in let b1 = b.1 in let s = small es legal in let s0 = s.0 in let s1 = s.1 in let m = total_most (opens_of es) seats (λ p. open_small (visit (steps_of p es))) in omega arith
+  enter_word es p w legal few l is = let a = sums es legal in let b = closes es legal in let b0 = b.0 in let b1 = b.1 in let s = small es legal in let s0 = s.0 in let s1 = s.1 in let m = sum_most (opens_of es) seats (λ p. open_small (visit (steps_of p es))) in omega arith
 
   -- the openings that an enter finds
   pub entered_word : (es : List (StepBy GateStep)) → AreLawful about es → seats ≤ 64 → all_closed es ≡ 0 → gate_word es / 4294967296 ≡ all_openings es
-  entered_word es legal few open_ = let a = sums es legal in let m = total_most (opens_of es) seats (λ p. open_small (visit (steps_of p es))) in omega arith
+  entered_word es legal few open_ = let a = sums es legal in let m = sum_most (opens_of es) seats (λ p. open_small (visit (steps_of p es))) in omega arith
 
   -- what an enter finds: the closed mark is bit 31
   pub enter_finds : (es : List (StepBy GateStep)) → AreLawful about es → seats ≤ 64 → (gate_word es % 4294967296 < 2147483648 → all_closed es ≡ 0) × (2147483648 ≤ gate_word es % 4294967296 → all_closed es ≡ 1)
-  enter_finds es legal few = let a = sums es legal in let b = closes es legal in let b0 = b.0 in let s = small es legal in let s0 = s.0 in let m = total_most (opens_of es) seats (λ p. open_small (visit (steps_of p es))) in ((λ h. omega arith), λ h. omega arith)
+  enter_finds es legal few = let a = sums es legal in let b = closes es legal in let b0 = b.0 in let s = small es legal in let s0 = s.0 in let m = sum_most (opens_of es) seats (λ p. open_small (visit (steps_of p es))) in ((λ h. omega arith), λ h. omega arith)
 
   -- a close finds k openings, no visit and no mark, or some visits: at most the seats less one
   pub close_finds : (es : List (StepBy GateStep)) (k : ℕ) → AreLawful about es → seats ≤ 64 → 0 < seats → openings (steps_of C es) ≡ k → closed (steps_of C es) ≡ 0 → visit (steps_of C es) ≡ outside
       → (gate_word es ≡ k * 4294967296 → visits es ≡ 0) × (gate_word es ≢ k * 4294967296 → (0 < visits es) × (gate_word es % 4294967296 ≡ visits es) × (visits es + 1 ≤ seats))
   close_finds es k legal few some_seat is shut_is out_is = let a = sums es legal in let b = closes es legal in let b0 = b.0 in let b1 = b.1 in
-      let m = total_few (opens_of es) seats C (λ p. open_small (visit (steps_of p es))) (omega arith) (ap is_open out_is) in ((λ h. omega arith), λ h. (omega arith, omega arith, omega arith))
+      let m = sum_few (opens_of es) seats C (λ p. open_small (visit (steps_of p es))) (omega arith) (ap is_open out_is) in ((λ h. omega arith), λ h. (omega arith, omega arith, omega arith))
 
   -- a leave, or a step back
   pub leave_word : (es : List (StepBy GateStep)) (p : ℕ) → AreLawful about es → seats ≤ 64 → p < seats → visit (steps_of p es) ≢ outside → (gate_word es + 18446744073709551615) % 18446744073709551616 ≡ gate_word (step_by p (Left) ∷ es)
   leave_word es p legal few l ne = let a = sums es legal in let b = closes es legal in let b0 = b.0 in let b1 = b.1 in let s = small es legal in let s0 = s.0 in let s1 = s.1 in
-      let m = total_most (opens_of es) seats (λ p. open_small (visit (steps_of p es))) in let o : opens_of es p ≡ 1 = open_some (visit (steps_of p es)) ne in let h = total_has (opens_of es) seats p l in omega arith
+      let m = sum_most (opens_of es) seats (λ p. open_small (visit (steps_of p es))) in let o : opens_of es p ≡ 1 = open_some (visit (steps_of p es)) ne in let h = sum_has (opens_of es) seats p l in omega arith
+
+  -- ---- while the closer has closed the gate it is outside
+
+  open_none : (v : Visit) → is_open v ≡ 0 → v ≡ outside
+  open_none outside z = refl
+  open_none inside z = absurd (omega arith)
+  open_none backing z = absurd (omega arith)
+
+  abbrev ShutOut : List GateStep → Type 0
+  ShutOut ds = closed ds ≡ 1 → visit ds ≡ outside
+
+  shut_out_step : (d : GateStep) (es : List (StepBy GateStep)) → MayCome about C es d → C < seats → Sums es → ShutOut (steps_of C es) → ShutOut (d ∷ steps_of C es)
+  shut_out_step (Entered w) es may l sum before is = let z = may.3 in absurd (omega arith)
+  shut_out_step (Turned w) es may l sum before is = let z = may.3 in absurd (omega arith)
+  shut_out_step Left es may l sum before is = refl
+  shut_out_step (Shut w) es may l sum before is = let z = may.2 in let h = sum_has (opens_of es) seats C l in open_none (visit (steps_of C es)) (omega arith)
+  shut_out_step (NotShut w) es may l sum before is = let z = may.3 in absurd (omega arith)
+  shut_out_step Opened es may l sum before is = absurd (omega arith)
+  shut_out_step (Set i v) es may l sum before is = before is
+  shut_out_step (Read i v) es may l sum before is = before is
+
+  pub shut_out : (es : List (StepBy GateStep)) → AreLawful about es → ShutOut (steps_of C es)
+  shut_out [] legal = λ is. refl
+  shut_out (e ∷ es) legal = dite (ℕ_discrete e.by C)
+      (λ is. subst ShutOut (sym (own_step C e es is)) (shut_out_step e.step es (subst (λ (z : ℕ). MayCome about z es e.step) is legal.1) (subst (λ (z : ℕ). z < seats) is legal.0) (sums es legal.2) (shut_out es legal.2)))
+      (λ ne. subst ShutOut (sym (other_step C e es ne)) (shut_out es legal.2))
+
+  -- ---- the number of a visit is that of the openings
+
+  abbrev Numbered : List (StepBy GateStep) → Type 0
+  Numbered es = (p : ℕ) → p < seats → visit (steps_of p es) ≡ inside → found (steps_of p es) / 4294967296 ≡ all_openings es
+
+  -- a step that leaves the visits, what was found, and the openings
+  numbered_quiet : (q : ℕ) (d : GateStep) (es : List (StepBy GateStep)) → ((v : Visit) → visit_after d v ≡ v) → ((n : ℕ) → found_after d n ≡ n) → ((n : ℕ) → openings_after d n ≡ n) → Numbered es → Numbered (step_by q d ∷ es)
+  numbered_quiet q d es a b c before p l is = dite (ℕ_discrete q p)
+      (λ e. let list = own_step p (step_by q d) es e in
+      ap (λ ds. found ds / 4294967296) list ∙ (ap (λ n. n / 4294967296) (b (found (steps_of p es))) ∙ (before p l (sym (a (visit (steps_of p es))) ∙ (sym (ap visit list) ∙ is)) ∙ sym (c (all_openings es)))))
+      (λ ne. let list = other_step p (step_by q d) es ne in ap (λ ds. found ds / 4294967296) list ∙ (before p l (sym (ap visit list) ∙ is) ∙ sym (c (all_openings es))))
+
+  -- a step after which its seat is not inside
+  numbered_out : (q : ℕ) (d : GateStep) (es : List (StepBy GateStep)) → ((v : Visit) → visit_after d v ≢ inside) → all_openings (step_by q d ∷ es) ≡ all_openings es → Numbered es → Numbered (step_by q d ∷ es)
+  numbered_out q d es a c before p l is = dite (ℕ_discrete q p)
+      (λ e. absurd (a (visit (steps_of p es)) (sym (ap visit (own_step p (step_by q d) es e)) ∙ is)))
+      (λ ne. let list = other_step p (step_by q d) es ne in ap (λ ds. found ds / 4294967296) list ∙ (before p l (sym (ap visit list) ∙ is) ∙ sym c))
+
+  numbered_step : (q : ℕ) (d : GateStep) (es : List (StepBy GateStep)) → seats ≤ 64 → MayCome about q es d → AreLawful about es → Numbered es → Numbered (step_by q d ∷ es)
+  numbered_step q (Entered w) es few may legal before p l is = dite (ℕ_discrete q p)
+      (λ e. ap (λ ds. found ds / 4294967296) (own_step p (step_by q (Entered w)) es e) ∙ (ap (λ n. n / 4294967296) may.0 ∙ entered_word es legal few may.1))
+      (λ ne. let list = other_step p (step_by q (Entered w)) es ne in ap (λ ds. found ds / 4294967296) list ∙ before p l (sym (ap visit list) ∙ is))
+  numbered_step q (Turned w) es few may legal before p l is = numbered_out q (Turned w) es (λ v e. let k : 2 ≡ 1 = ap kind e in absurd (omega arith)) refl before p l is
+  numbered_step q Left es few may legal before p l is = numbered_out q Left es (λ v e. let k : 0 ≡ 1 = ap kind e in absurd (omega arith)) refl before p l is
+  numbered_step q (Shut w) es few may legal before p l is = numbered_quiet q (Shut w) es (λ _. refl) (λ _. refl) (λ _. refl) before p l is
+  numbered_step q (NotShut w) es few may legal before p l is = numbered_quiet q (NotShut w) es (λ _. refl) (λ _. refl) (λ _. refl) before p l is
+  numbered_step q Opened es few may legal before p l is =
+      let was = was_inside q Opened es p (λ _. refl) is in
+      let open_ = unshut es legal p l was in let shut_ = (closes es legal).0 in
+      let c : closed (steps_of C es) ≡ 1 = ap (λ (z : ℕ). closed (steps_of z es)) (sym may.0) ∙ may.1 in absurd (omega arith)
+  numbered_step q (Set i v) es few may legal before p l is = numbered_quiet q (Set i v) es (λ _. refl) (λ _. refl) (λ _. refl) before p l is
+  numbered_step q (Read i v) es few may legal before p l is = numbered_quiet q (Read i v) es (λ _. refl) (λ _. refl) (λ _. refl) before p l is
+
+  pub numbered : (es : List (StepBy GateStep)) → seats ≤ 64 → AreLawful about es → Numbered es
+  numbered [] few legal p l is = let k : kind outside ≡ kind inside = ap kind is in absurd (omega arith)
+  numbered (e ∷ es) few legal p l is = numbered_step e.by e.step es few legal.1 legal.2 (numbered es few legal.2) p l is
+
+  -- a gate that was closed is closed still, or was opened since
+  pub closed_or_opened : (n : ℕ) (e : StepBy GateStep) (es : List (StepBy GateStep)) → ((all_closed es ≡ 1) × (n ≤ all_openings es)) ⊎ (n < all_openings es)
+      → ((all_closed (e ∷ es) ≡ 1) × (n ≤ all_openings (e ∷ es))) ⊎ (n < all_openings (e ∷ es))
+  closed_or_opened n e es t = by_step e.step t
+    where
+      by_step : (d : GateStep) → ((all_closed es ≡ 1) × (n ≤ all_openings es)) ⊎ (n < all_openings es) → ((closed_after d (all_closed es) ≡ 1) × (n ≤ openings_after d (all_openings es))) ⊎ (n < openings_after d (all_openings es))
+      by_step (Entered w) t = t
+      by_step (Turned w) t = t
+      by_step Left t = t
+      by_step (Shut w) (inl a) = inl (refl, a.1)
+      by_step (Shut w) (inr b) = inr b
+      by_step (NotShut w) t = t
+      by_step Opened (inl a) = let l = a.1 in inr (omega arith)
+      by_step Opened (inr b) = inr (omega arith)
+      by_step (Set i v) t = t
+      by_step (Read i v) t = t

@@ -118,7 +118,7 @@ pub record EarlyStandsFirst (about : BoardSizes) (order : List (StepBy BoardStep
 abbrev pub EmptiedLanesStandFirst : Type 0
 EmptiedLanesStandFirst =
     (about : BoardSizes) (order : List (StepBy BoardStep)) → FitSizes about
-    → IsLawful about order → (n l : ℕ) (e : WasEmptied about order n l) → n ≤ length order
+    → IsLawful about order → (n l : ℕ) (e : WasEmptied about order n l)
     → EarlyStandsFirst about order l (e.word / 2 ^ 32)
     (length (lane_then about order e.counted l).accepted)
 
