@@ -10,10 +10,8 @@ use Rattle.hop_rule.specs.Boards.{IsLawful, lane_at, lanes_of, out, retired}
 use Rattle.hop_rule.specs.Deliveries.{Delivery, given}
 use Rattle.hop_rule.specs.Fronts.{Front}
 use Rattle.hop_rule.specs.Lanes as lanes
-use Rattle.hop_rule.specs.Moments.{IsStep, moment_of, nth_step, past}
+use Rattle.hop_rule.specs.Moments.{nth_step, past}
 use Rattle.hop_rule.specs.OutLanes.{OutList, out_list}
-use Rattle.hop_rule.specs.OwnLaws.{HasMoments}
-use Rattle.hop_rule.specs.Owns.{own_of}
 use Rattle.hop_rule.specs.Sizes.{puller}
 use Rattle.hop_rule.specs.declared.sizes.BoardSizes.{BoardSizes}
 use Rattle.hop_rule.specs.declared.step.BoardStep.{BoardStep}
@@ -22,8 +20,6 @@ use Rattle.hop_rule.specs.declared.step.LaneStep.TheVariants.{Held, OutHeld, Giv
 use Rattle.hop_rule.proofs.Boards.{step_lawful}
 use Rattle.hop_rule.proofs.Fronts.{lane_later, out_later}
 use Rattle.hop_rule.proofs.Heads.{delivered_as_accepted, delivered_in_order, in_turn}
-use Rattle.hop_rule.proofs.Moments.{one-step, step-inside}
-use Rattle.hop_rule.proofs.OwnMoments.{own_steps_have_moments}
 use Rattle.hop_rule.proofs.Puts.{each_delivery_is_right, each_member_was_given, places_rise, top}
 use Rattle.hop_seam.specs.Finals.{lane_list, lists_of}
 use Rattle.hop_seam.specs.LaneLaws.{DeliveriesHavePlaces, GivesPlace, HoldFinds, HoldsFindFronts}
@@ -36,36 +32,22 @@ use Rattle.hop_seam.proofs.Left.{lane_is, lane_past, member_left, out_is}
 use Rattle.hop_seam.proofs.Owners.{all_of, first-nth, from-nth, given_own, pulled_own, pulls}
 use Rattle.hop_seam.proofs.Owners.{retired_own, retires}
 use Rattle.hop_seam.proofs.OwnPuts.{front_of, lane_of}
+use Rattle.hop_seam.proofs.OwnTimes.{in_time, moments, own, same_step, step_is, when}
 
 module _ (about : BoardSizes) (order : List (StepBy BoardStep)) (lawful : IsLawful about order) where
-  abbrev own : ℕ → List BoardStep
-  own = own_of order
-
   abbrev lists : BoardLists
   lists = lists_of about order
 
-  abbrev when : ℕ → ℕ → ℕ
-  when q k = moment_of q order k
-
-  moments : (q : ℕ) → HasMoments order q
-  moments q = own_steps_have_moments order q
-
-  step_is : (q k : ℕ) (d : BoardStep) → Has (own q) k d → IsStep order (when q k) q d
-  step_is q k d does = (moments q).moment k d does
-
-  less : (q k : ℕ) (d : BoardStep) → Has (own q) k d → when q k < length order
-  less q k d does = step-inside order (when q k) q d (step_is q k d does)
-
   -- ---- holds
 
-  hold_finds : (q k l word : ℕ) (found : LaneLists) → Has (own q) k (Lane (Held l word found))
-      → HoldFinds about own lists l word found
+  hold_finds : (q k l word : ℕ) (found : LaneLists) → Has (own order q) k (Lane (Held l word found))
+      → HoldFinds about (own order) lists l word found
   hold_finds q k l word found does =
       let d : BoardStep = Lane (Held l word found) in
-      let m : ℕ = when q k in
-      let may = (step_lawful about order m q d lawful (step_is q k d does)).1.0 in
+      let m : ℕ = when order q k in
+      let may = (step_lawful about order m q d lawful (step_is order q k d does)).1.0 in
       let here : lane_at about (past m order) l ≡ found = sym may.3 in
-      let in_time = less q k d does in
+      let before_end = in_time order q k d does in
       let tail : word ≡ 2 * (about.start + length (lane_at about (past m order) l).accepted) + 0 =
         may.1
         ∙ ap (λ h. 2 * (about.start + length (lane_at about (past m order) l).accepted)
@@ -87,13 +69,13 @@ module _ (about : BoardSizes) (order : List (StepBy BoardStep)) (lawful : IsLawf
       }
 
   out_hold_finds : (q k o word : ℕ) (found : OutList)
-      → Has (own q) k (Lane (OutHeld o word found)) → OutHoldFinds about own lists o word found
+      → Has (own order q) k (Lane (OutHeld o word found)) → OutHoldFinds about (own order) lists o word found
   out_hold_finds q k o word found does =
       let d : BoardStep = Lane (OutHeld o word found) in
-      let m : ℕ = when q k in
-      let may = (step_lawful about order m q d lawful (step_is q k d does)).1.0 in
+      let m : ℕ = when order q k in
+      let may = (step_lawful about order m q d lawful (step_is order q k d does)).1.0 in
       let here : out_list (out about (past m order) o) about.room ≡ found = sym may.3 in
-      let in_time = less q k d does in
+      let before_end = in_time order q k d does in
       let tail : word ≡ 2 * (about.start + length (out about (past m order) o)) + 0 =
         may.1
         ∙ ap (λ h. 2 * (about.start + length (out about (past m order) o)) + lanes.bit h) may.2 in
@@ -110,14 +92,14 @@ module _ (about : BoardSizes) (order : List (StepBy BoardStep)) (lawful : IsLawf
         tail = omega arith;
       }
 
-  pub holds_find_fronts : HoldsFindFronts about own lists
+  pub holds_find_fronts : HoldsFindFronts about (own order) lists
   holds_find_fronts = record { middle = hold_finds; out = out_hold_finds }
 
   -- ---- the server of a lane
 
   module _ (l : ℕ) (within : l < about.lanes) where
     abbrev mine : List BoardStep
-    mine = own (puller about l)
+    mine = own order (puller about l)
 
     gifts : given l (lanes_of order) ≡ delivered_by l mine
     gifts = given_own about l order lawful
@@ -128,7 +110,7 @@ module _ (about : BoardSizes) (order : List (StepBy BoardStep)) (lawful : IsLawf
     heads : all_of (retired_in l) order ≡ retired_by l mine
     heads = retired_own about l order lawful
 
-    served : IsServedByOne about own lists l
+    served : IsServedByOne about (own order) lists l
     served =
         let is = lane_is about order l within in
         let p = pulls about l order lawful in
@@ -153,15 +135,15 @@ module _ (about : BoardSizes) (order : List (StepBy BoardStep)) (lawful : IsLawf
               (ap (λ xs. nth_step xs n) heads ∙ at));
         }
 
-  pub lanes_are_served_by_one : LanesAreServedByOne about own lists
+  pub lanes_are_served_by_one : LanesAreServedByOne about (own order) lists
   lanes_are_served_by_one l within = served l within
 
-  pub lanes_are_in_turn : LanesAreInTurn about own lists
+  pub lanes_are_in_turn : LanesAreInTurn about (own order) lists
   lanes_are_in_turn l =
       elim (cases_lt l about.lanes) [
         | inl within ↦
           (let t = in_turn about order lawful l in
-          subst (IsInTurn about own lists) (sym (lane_is about order l within))
+          subst (IsInTurn about (own order) lists) (sym (lane_is about order l within))
           (record {
             retired = t.of_delivered;
             delivered = t.of_pulled;
@@ -169,7 +151,7 @@ module _ (about : BoardSizes) (order : List (StepBy BoardStep)) (lawful : IsLawf
             room = t.fits;
           }))
         | inr over ↦
-          subst (IsInTurn about own lists) (sym (lane_past about order l over))
+          subst (IsInTurn about (own order) lists) (sym (lane_past about order l over))
           (record {
             retired = omega arith;
             delivered = omega arith;
@@ -180,13 +162,13 @@ module _ (about : BoardSizes) (order : List (StepBy BoardStep)) (lawful : IsLawf
 
   -- ---- deliveries and places
 
-  gives_place : (q k o from id place : ℕ) → Has (own q) k (Lane (Given o from id place))
-      → GivesPlace about own lists q o from id place
+  gives_place : (q k o from id place : ℕ) → Has (own order q) k (Lane (Given o from id place))
+      → GivesPlace about (own order) lists q o from id place
   gives_place q k o from id place does =
       let d : BoardStep = Lane (Given o from id place) in
-      let is = step_is q k d does in
-      let may = (step_lawful about order (when q k) q d lawful is).1.0 in
-      let t = each_delivery_is_right about order lawful (when q k) q o from id place is in
+      let is = step_is order q k d does in
+      let may = (step_lawful about order (when order q k) q d lawful is).1.0 in
+      let t = each_delivery_is_right about order lawful (when order q k) q o from id place is in
       record {
         by_puller = sym t.by_puller;
         from_one = t.place_from_one;
@@ -194,57 +176,35 @@ module _ (about : BoardSizes) (order : List (StepBy BoardStep)) (lawful : IsLawf
       }
 
   was_given : (o j id : ℕ) → slice_get (list_at lists.outs o) j ≡ Some id
-      → WasGiven about own lists o j id
+      → WasGiven about (own order) lists o j id
   was_given o j id at =
       let t = each_member_was_given about order lawful o j id (member_left about order o j id at) in
-      let f = (moments t.seat).own t.moment (Lane (Given o t.from id (suc j))) t.is in
+      let f = (moments order t.seat).own t.moment (Lane (Given o t.from id (suc j))) t.is in
       record { seat = t.seat; step = f.0; from = t.from; does = f.1 }
 
   places_apart : (p q j k o from to x y place : ℕ)
-      → Has (own p) j (Lane (Given o from x place)) → Has (own q) k (Lane (Given o to y place))
+      → Has (own order p) j (Lane (Given o from x place)) → Has (own order q) k (Lane (Given o to y place))
       → (p ≡ q) × (j ≡ k)
   places_apart p q j k o from to x y place does did =
-      let a = step_is p j (Lane (Given o from x place)) does in
-      let b = step_is q k (Lane (Given o to y place)) did in
-      elim (cases_lt (when p j) (when q k)) [
+      let a = step_is order p j (Lane (Given o from x place)) does in
+      let b = step_is order q k (Lane (Given o to y place)) did in
+      elim (cases_lt (when order p j) (when order q k)) [
         | inl before ↦
-          (let up = places_rise about order lawful (when p j) (when q k) p q o from to x y place
+          (let up = places_rise about order lawful (when order p j) (when order q k) p q o from to x y place
             place before a b in
           absurd (omega arith))
         | inr le ↦
-          elim (cases_eq (when p j) (when q k)) [
+          elim (cases_eq (when order p j) (when order q k)) [
             | inr ne ↦
-              (let up = places_rise about order lawful (when q k) (when p j) q p o to from y x place
+              (let up = places_rise about order lawful (when order q k) (when order p j) q p o to from y x place
                 place (omega arith) b a in
               absurd (omega arith))
-            | inl e ↦ same_step e a b
+            | inl e ↦
+              same_step order p q j k (Lane (Given o from x place)) (Lane (Given o to y place)) does
+              did e
           ]
       ]
-    where
-      same_step : when p j ≡ when q k → IsStep order (when p j) p (Lane (Given o from x place))
-          → IsStep order (when q k) q (Lane (Given o to y place)) → (p ≡ q) × (j ≡ k)
-      same_step e a b =
-          let seat : p ≡ q =
-            (one-step order (when q k) p q (Lane (Given o from x place))
-              (Lane (Given o to y place))
-              (subst (λ (n : ℕ). IsStep order n p (Lane (Given o from x place))) e a) b).0 in
-          (seat, own_once p j k (Lane (Given o from x place)) (Lane (Given o to y place)) does
-            (subst (λ (z : ℕ). Has (own z) k (Lane (Given o to y place))) (sym seat) did)
-            (e ∙ ap (λ z. when z k) (sym seat)))
 
-      own_once : (p j k : ℕ) (d c : BoardStep) → Has (own p) j d → Has (own p) k c
-          → when p j ≡ when p k → j ≡ k
-      own_once p j k d c at_j at_k e =
-          elim (cases_eq j k) [
-            | inl is ↦ is
-            | inr isnt ↦ elim (cases_lt j k) [
-              | inl before ↦
-                (let up = (moments p).rise j k c before at_k in absurd (omega arith))
-              | inr after ↦
-                (let up = (moments p).rise k j d (omega arith) at_j in absurd (omega arith))
-            ]
-          ]
-
-  pub deliveries_have_places : DeliveriesHavePlaces about own lists
+  pub deliveries_have_places : DeliveriesHavePlaces about (own order) lists
   deliveries_have_places =
       record { stand = gives_place; given = was_given; apart = places_apart }

@@ -15,9 +15,7 @@ use Rattle.history.specs.declared.lane_list.LaneList.{LaneList}
 use Rattle.hop_rule.specs.Boards.{IsLawful, lane_at, lanes_of, lane_steps}
 use Rattle.hop_rule.specs.Fronts.{IsEarlier}
 use Rattle.hop_rule.specs.Lanes as lanes
-use Rattle.hop_rule.specs.Moments.{IsStep, moment_of, past}
-use Rattle.hop_rule.specs.OwnLaws.{HasMoments}
-use Rattle.hop_rule.specs.Owns.{own_of}
+use Rattle.hop_rule.specs.Moments.{past}
 use Rattle.hop_rule.specs.PutLaws as put
 use Rattle.hop_rule.specs.declared.sizes.BoardSizes.{BoardSizes}
 use Rattle.hop_rule.specs.declared.step.BoardStep.{BoardStep}
@@ -28,8 +26,6 @@ use Rattle.hop_rule.proofs.Boards.{put_now, step_lawful}
 use Rattle.hop_rule.proofs.Cases.{lane_case}
 use Rattle.hop_rule.proofs.Fronts.{lane_later}
 use Rattle.hop_rule.proofs.Lists.{some-is}
-use Rattle.hop_rule.proofs.Moments.{one-step}
-use Rattle.hop_rule.proofs.OwnMoments.{own_steps_have_moments}
 use Rattle.hop_rule.proofs.Puts.{each_put_is_right, each_accepted_was_put, each_drop_was_put}
 use Rattle.hop_seam.specs.Finals.{lane_list, lists_of}
 use Rattle.hop_seam.specs.Lists.{IsFrontOf, IsLaneOf}
@@ -38,6 +34,7 @@ use Rattle.hop_seam.specs.PutLaws.{AcceptedWerePut, DropsWerePut, PutStands, Put
 use Rattle.hop_seam.specs.PutLaws.{PutsStand, PutsTakeTurns, WasDropped, WasPut}
 use Rattle.hop_seam.specs.declared.lists.BoardLists.{BoardLists}
 use Rattle.hop_seam.proofs.Left.{accepted_left, drop_left, lane_is}
+use Rattle.hop_seam.proofs.OwnTimes.{moments, own, same_step, when}
 
 -- ---- lanes keep their limits
 
@@ -93,45 +90,36 @@ front_of about order l x within t =
 -- ---- own puts
 
 module _ (about : BoardSizes) (order : List (StepBy BoardStep)) (lawful : IsLawful about order) where
-  abbrev own : ℕ → List BoardStep
-  own = own_of order
-
   abbrev lists : BoardLists
   lists = lists_of about order
 
-  abbrev when : ℕ → ℕ → ℕ
-  when q k = moment_of q order k
-
-  moments : (q : ℕ) → HasMoments order q
-  moments q = own_steps_have_moments order q
-
   module _ (q k l id : ℕ) (hash : Option ℕ) (answer : Put)
-      (does : Has (own q) k (put_step l id hash answer)) where
+      (does : Has (own order q) k (put_step l id hash answer)) where
     abbrev then_ : LaneLists
-    then_ = put.lane_then about order (when q k) l
+    then_ = put.lane_then about order (when order q k) l
 
-    is_put : put.IsPut about order (when q k) q l id hash answer
-    is_put = (moments q).moment k (put_step l id hash answer) does
+    is_put : put.IsPut about order (when order q k) q l id hash answer
+    is_put = (moments order q).moment k (put_step l id hash answer) does
 
-    right : put.PutsRight about order (when q k) q l id hash answer
-    right = each_put_is_right about order lawful (when q k) q l id hash answer is_put
+    right : put.PutsRight about order (when order q k) q l id hash answer
+    right = each_put_is_right about order lawful (when order q k) q l id hash answer is_put
 
     within : l < about.lanes
     within =
-        (step_lawful about order (when q k) q (put_step l id hash answer) lawful is_put).1.0.0
+        (step_lawful about order (when order q k) q (put_step l id hash answer) lawful is_put).1.0.0
 
-    finds_then : held_before (own q) k l ≡ Some then_
+    finds_then : held_before (own order q) k l ≡ Some then_
     finds_then =
         ap (λ ds. lanes.holding l (lane_steps ds))
-        ((moments q).before k (put_step l id hash answer) does)
+        ((moments order q).before k (put_step l id hash answer) does)
         ∙ right.holds
 
-    pub put_stands : PutStands about own lists q k l id hash answer
+    pub put_stands : PutStands about (own order) lists q k l id hash answer
     put_stands =
         record {
           found = then_;
           finds = finds_then;
-          lane = lane_of about (past (when q k) order) l within;
+          lane = lane_of about (past (when order q k) order) l within;
           small = right.id_fits;
           room = right.room;
           answers = right.answers;
@@ -139,106 +127,86 @@ module _ (about : BoardSizes) (order : List (StepBy BoardStep)) (lawful : IsLawf
         }
 
     -- what the seat found is what its hold found
-    found_is : (a : LaneLists) → held_before (own q) k l ≡ Some a → then_ ≡ a
+    found_is : (a : LaneLists) → held_before (own order q) k l ≡ Some a → then_ ≡ a
     found_is a finds = some-is then_ a (sym finds_then ∙ finds)
 
     -- what is found later is later
-    later : (n : ℕ) → when q k < n
+    later : (n : ℕ) → when order q k < n
         → IsEarlier (after_put then_ id hash) (put.lane_then about order n l)
     later n less =
         subst (λ (z : LaneLists). IsEarlier z (put.lane_then about order n l))
-        (put_now about order (when q k) q l id hash answer is_put)
-        (lane_later about order (suc (when q k)) n l (omega arith))
+        (put_now about order (when order q k) q l id hash answer is_put)
+        (lane_later about order (suc (when order q k)) n l (omega arith))
 
   module _ (p q j k l x y : ℕ) (hash other : Option ℕ) (answer reply : Put)
-      (does : Has (own p) j (put_step l x hash answer))
-      (did : Has (own q) k (put_step l y other reply)) (a b : LaneLists)
-      (finds : held_before (own p) j l ≡ Some a) (found : held_before (own q) k l ≡ Some b) where
-    pub in_turn : when p j < when q k → IsEarlier (after_put a x hash) b
+      (does : Has (own order p) j (put_step l x hash answer))
+      (did : Has (own order q) k (put_step l y other reply)) (a b : LaneLists)
+      (finds : held_before (own order p) j l ≡ Some a) (found : held_before (own order q) k l ≡ Some b) where
+    pub in_turn : when order p j < when order q k → IsEarlier (after_put a x hash) b
     in_turn less =
         subst (λ (z : LaneLists × LaneLists). IsEarlier (after_put z.0 x hash) z.1)
         (λ i. (found_is p j l x hash answer does a finds i,
           found_is q k l y other reply did b found i))
-        (later p j l x hash answer does (when q k) less)
+        (later p j l x hash answer does (when order q k) less)
 
-  pub puts_stand : PutsStand about own lists
+  pub puts_stand : PutsStand about (own order) lists
   puts_stand q k l id hash answer does = put_stands q k l id hash answer does
 
-  pub puts_keep_order : PutsKeepOrder about own lists
+  pub puts_keep_order : PutsKeepOrder about (own order) lists
   puts_keep_order q j k l x y hash other answer reply less does did a b finds found =
       in_turn q q j k l x y hash other answer reply does did a b finds found
-      ((moments q).rise j k (put_step l y other reply) less did)
+      ((moments order q).rise j k (put_step l y other reply) less did)
 
-  pub puts_take_turns : PutsTakeTurns about own lists
+  pub puts_take_turns : PutsTakeTurns about (own order) lists
   puts_take_turns p q j k l x y hash other answer reply does did a b finds found =
-      elim (cases_lt (when p j) (when q k)) [
+      elim (cases_lt (when order p j) (when order q k)) [
         | inl less ↦
           inr (inl (in_turn p q j k l x y hash other answer reply does did a b finds found less))
         | inr le ↦
-          elim (cases_eq (when p j) (when q k)) [
+          elim (cases_eq (when order p j) (when order q k)) [
             | inr ne ↦
               inr (inr (in_turn q p k j l y x other hash reply answer did does b a found finds
                 (omega arith)))
-            | inl e ↦ inl (same_step e)
+            | inl e ↦
+              inl (same_step order p q j k (put_step l x hash answer) (put_step l y other reply) does
+                did e)
           ]
       ]
-    where
-      same_step : when p j ≡ when q k → (p ≡ q) × (j ≡ k)
-      same_step e =
-          let a = is_put p j l x hash answer does in
-          let b = is_put q k l y other reply did in
-          let seat : p ≡ q =
-            (one-step order (when q k) p q (put_step l x hash answer) (put_step l y other reply)
-              (subst (λ (n : ℕ). IsStep order n p (put_step l x hash answer)) e a) b).0 in
-          let here : when p k ≡ when q k = ap (λ z. when z k) seat in
-          let mine : Has (own p) k (put_step l y other reply) =
-            subst (λ (z : ℕ). Has (own z) k (put_step l y other reply)) (sym seat) did in
-          (seat, elim (cases_eq j k) [
-            | inl is ↦ is
-            | inr isnt ↦ elim (cases_lt j k) [
-              | inl less ↦
-                (let up = (moments p).rise j k (put_step l y other reply) less mine in
-                absurd (omega arith))
-              | inr more ↦
-                (let up = (moments p).rise k j (put_step l x hash answer) (omega arith) does in
-                absurd (omega arith))
-            ]
-          ])
 
   -- ---- positions and drops
 
-  pub accepted_were_put : AcceptedWerePut about own lists
+  pub accepted_were_put : AcceptedWerePut about (own order) lists
   accepted_were_put l j id at =
       let t = each_accepted_was_put about order lawful l j id (accepted_left about order l j id at) in
-      let f = (moments t.seat).own t.moment (put_step l id t.hash t.answer) t.is in
+      let f = (moments order t.seat).own t.moment (put_step l id t.hash t.answer) t.is in
       let k : ℕ = f.0 in
-      let here : put.lane_then about order t.moment l ≡ put.lane_then about order (when t.seat k) l =
+      let here : put.lane_then about order t.moment l ≡ put.lane_then about order (when order t.seat k) l =
         ap (λ n. put.lane_then about order n l) (sym f.2) in
       record {
         seat = t.seat;
         step = k;
         hash = t.hash;
         answer = t.answer;
-        found = put.lane_then about order (when t.seat k) l;
+        found = put.lane_then about order (when order t.seat k) l;
         does = f.1;
         finds = finds_then t.seat k l id t.hash t.answer f.1;
         count = ap (λ (y : LaneLists). length y.accepted) (sym here) ∙ t.found;
         accepts = ap (λ (y : LaneLists). lane_drop_cause y t.hash) (sym here) ∙ t.cause;
       }
 
-  pub drops_were_put : DropsWerePut about own lists
+  pub drops_were_put : DropsWerePut about (own order) lists
   drops_were_put l j d at =
       let t = each_drop_was_put about order lawful l j d (drop_left about order l j d at) in
-      let f = (moments t.seat).own t.moment (put_step l d.id t.hash t.answer) t.is in
+      let f = (moments order t.seat).own t.moment (put_step l d.id t.hash t.answer) t.is in
       let k : ℕ = f.0 in
-      let here : put.lane_then about order t.moment l ≡ put.lane_then about order (when t.seat k) l =
+      let here : put.lane_then about order t.moment l ≡ put.lane_then about order (when order t.seat k) l =
         ap (λ n. put.lane_then about order n l) (sym f.2) in
       record {
         seat = t.seat;
         step = k;
         hash = t.hash;
         answer = t.answer;
-        found = put.lane_then about order (when t.seat k) l;
+        found = put.lane_then about order (when order t.seat k) l;
         does = f.1;
         finds = finds_then t.seat k l d.id t.hash t.answer f.1;
         count = ap (λ (y : LaneLists). length y.drops) (sym here) ∙ t.found;
