@@ -49,13 +49,13 @@ own_is order q [] parts none = sym (none (λ h. let l = h.1 in absurd (omega ari
 own_is order q (s ∷ seats) parts none =
     dite (ℕ_discrete s.number q)
     (λ e.
-      if_same s.number q s.steps (own_in seats q) e
-      ∙ (All-head (HasPart order) (ordered_seat s) (Views seats) parts
-      ∙ ap (λ n. steps_of n order) e))
+    if_same s.number q s.steps (own_in seats q) e
+    ∙ (All-head (HasPart order) (ordered_seat s) (Views seats) parts
+    ∙ ap (λ n. steps_of n order) e))
     (λ ne.
-      if_other s.number q s.steps (own_in seats q) ne
-      ∙ own_is order q seats (All-tail (HasPart order) (ordered_seat s) (Views seats) parts)
-      (λ apart. none (elsewhere s.number q (numbers_of (Views seats)) ne apart)))
+    if_other s.number q s.steps (own_in seats q) ne
+    ∙ own_is order q seats (All-tail (HasPart order) (ordered_seat s) (Views seats) parts)
+    (λ apart. none (elsewhere s.number q (numbers_of (Views seats)) ne apart)))
 
 -- It holds of the parts of each lawful order and of what the order leaves.
 abbrev pub AtEachOrder : (BoardSizes → (ℕ → List BoardStep) → BoardLists → Type 0) → Type 0
@@ -67,9 +67,9 @@ pub at_closings : (Holds : BoardSizes → (ℕ → List BoardStep) → BoardList
     → AtEachOrder Holds → AtEachClosing Holds
 at_closings Holds law about seats lists e =
     let same : (q : ℕ) → own_of e.order q ≡ own_in seats q =
-      λ q. sym (own_is e.order q seats e.parts.each
-        (none_of (Views seats) q e.order e.parts.whole)) in
+    λ q. sym (own_is e.order q seats e.parts.each
+    (none_of (Views seats) q e.order e.parts.whole)) in
     let both : (own_of e.order, lists_of about e.order) ≡ (own_in seats, lists) =
-      λ i. ((λ q. same q i), sym e.leaves i) in
+    λ i. ((λ q. same q i), sym e.leaves i) in
     subst (λ (z : (ℕ → List BoardStep) × BoardLists). Holds about z.0 z.1) both
     (law about e.order e.sizes e.lawful)

@@ -1,8 +1,12 @@
 pub mod Endings
+pub mod Entries
 pub mod Left
+pub mod OwnDrops
+pub mod OwnHeads
 pub mod OwnLanes
 pub mod OwnPuts
 pub mod OwnTimes
+pub mod OwnVisits
 pub mod Owners
 pub mod Sums
 pub mod Totals

@@ -49,9 +49,9 @@ module _ (about : BoardSizes) (order : List (StepBy BoardStep)) (lawful : IsLawf
       let here : lane_at about (past m order) l ≡ found = sym may.3 in
       let before_end = in_time order q k d does in
       let tail : word ≡ 2 * (about.start + length (lane_at about (past m order) l).accepted) + 0 =
-        may.1
-        ∙ ap (λ h. 2 * (about.start + length (lane_at about (past m order) l).accepted)
-          + lanes.bit h) may.2 in
+      may.1
+      ∙ ap (λ h. 2 * (about.start + length (lane_at about (past m order) l).accepted)
+      + lanes.bit h) may.2 in
       let same = ap (λ (y : LaneLists). length y.accepted) here in
       record {
         lane =
@@ -61,10 +61,10 @@ module _ (about : BoardSizes) (order : List (StepBy BoardStep)) (lawful : IsLawf
             (subst (λ (z : LaneLists). Rattle.hop_rule.specs.Fronts.IsEarlier z (lane_at about order l))
             here
             (subst (λ (z : List (StepBy BoardStep)).
-                Rattle.hop_rule.specs.Fronts.IsEarlier (lane_at about (past m order) l)
-                (lane_at about z l))
-              (top about order lawful)
-              (lane_later about order m (length order) l (omega arith))));
+            Rattle.hop_rule.specs.Fronts.IsEarlier (lane_at about (past m order) l)
+            (lane_at about z l))
+            (top about order lawful)
+            (lane_later about order m (length order) l (omega arith))));
         tail = omega arith;
       }
 
@@ -77,12 +77,12 @@ module _ (about : BoardSizes) (order : List (StepBy BoardStep)) (lawful : IsLawf
       let here : out_list (out about (past m order) o) about.room ≡ found = sym may.3 in
       let before_end = in_time order q k d does in
       let tail : word ≡ 2 * (about.start + length (out about (past m order) o)) + 0 =
-        may.1
-        ∙ ap (λ h. 2 * (about.start + length (out about (past m order) o)) + lanes.bit h) may.2 in
+      may.1
+      ∙ ap (λ h. 2 * (about.start + length (out about (past m order) o)) + lanes.bit h) may.2 in
       let same = ap (λ (y : OutList). length y.items) here in
       let later : Front (out about (past m order) o) (out about order o) =
-        subst (λ (z : List (StepBy BoardStep)). Front (out about (past m order) o) (out about z o))
-        (top about order lawful) (out_later about order m (length order) o (omega arith)) in
+      subst (λ (z : List (StepBy BoardStep)). Front (out about (past m order) o) (out about z o))
+      (top about order lawful) (out_later about order m (length order) o (omega arith)) in
       record {
         within = may.0;
         room = ap (λ (y : OutList). y.room) (sym here);
@@ -142,22 +142,22 @@ module _ (about : BoardSizes) (order : List (StepBy BoardStep)) (lawful : IsLawf
   lanes_are_in_turn l =
       elim (cases_lt l about.lanes) [
         | inl within ↦
-          (let t = in_turn about order lawful l in
-          subst (IsInTurn about (own order) lists) (sym (lane_is about order l within))
-          (record {
-            retired = t.of_delivered;
-            delivered = t.of_pulled;
-            pulled = t.of_accepted;
-            room = t.fits;
-          }))
+            (let t = in_turn about order lawful l in
+            subst (IsInTurn about (own order) lists) (sym (lane_is about order l within))
+            (record {
+              retired = t.of_delivered;
+              delivered = t.of_pulled;
+              pulled = t.of_accepted;
+              room = t.fits;
+            }))
         | inr over ↦
-          subst (IsInTurn about (own order) lists) (sym (lane_past about order l over))
-          (record {
-            retired = omega arith;
-            delivered = omega arith;
-            pulled = omega arith;
-            room = omega arith;
-          })
+            subst (IsInTurn about (own order) lists) (sym (lane_past about order l over))
+            (record {
+              retired = omega arith;
+              delivered = omega arith;
+              pulled = omega arith;
+              room = omega arith;
+            })
       ]
 
   -- ---- deliveries and places
@@ -190,19 +190,19 @@ module _ (about : BoardSizes) (order : List (StepBy BoardStep)) (lawful : IsLawf
       let b = step_is order q k (Lane (Given o to y place)) did in
       elim (cases_lt (when order p j) (when order q k)) [
         | inl before ↦
-          (let up = places_rise about order lawful (when order p j) (when order q k) p q o from to x y place
+            (let up = places_rise about order lawful (when order p j) (when order q k) p q o from to x y place
             place before a b in
-          absurd (omega arith))
+            absurd (omega arith))
         | inr le ↦
-          elim (cases_eq (when order p j) (when order q k)) [
-            | inr ne ↦
-              (let up = places_rise about order lawful (when order q k) (when order p j) q p o to from y x place
-                place (omega arith) b a in
-              absurd (omega arith))
-            | inl e ↦
-              same_step order p q j k (Lane (Given o from x place)) (Lane (Given o to y place)) does
-              did e
-          ]
+            elim (cases_eq (when order p j) (when order q k)) [
+              | inr ne ↦
+                  (let up = places_rise about order lawful (when order q k) (when order p j) q p o to from y x place
+                  place (omega arith) b a in
+                  absurd (omega arith))
+              | inl e ↦
+                  same_step order p q j k (Lane (Given o from x place)) (Lane (Given o to y place)) does
+                  did e
+            ]
       ]
 
   pub deliveries_have_places : DeliveriesHavePlaces about (own order) lists

@@ -98,7 +98,7 @@ module _ (about : BoardSizes) (order : List (StepBy BoardStep)) (lawful : IsLawf
     abbrev then_ : LaneLists
     then_ = put.lane_then about order (when order q k) l
 
-    is_put : put.IsPut about order (when order q k) q l id hash answer
+    pub is_put : put.IsPut about order (when order q k) q l id hash answer
     is_put = (moments order q).moment k (put_step l id hash answer) does
 
     right : put.PutsRight about order (when order q k) q l id hash answer
@@ -127,7 +127,7 @@ module _ (about : BoardSizes) (order : List (StepBy BoardStep)) (lawful : IsLawf
         }
 
     -- what the seat found is what its hold found
-    found_is : (a : LaneLists) → held_before (own order q) k l ≡ Some a → then_ ≡ a
+    pub found_is : (a : LaneLists) → held_before (own order q) k l ≡ Some a → then_ ≡ a
     found_is a finds = some-is then_ a (sym finds_then ∙ finds)
 
     -- what is found later is later
@@ -145,8 +145,10 @@ module _ (about : BoardSizes) (order : List (StepBy BoardStep)) (lawful : IsLawf
     pub in_turn : when order p j < when order q k → IsEarlier (after_put a x hash) b
     in_turn less =
         subst (λ (z : LaneLists × LaneLists). IsEarlier (after_put z.0 x hash) z.1)
-        (λ i. (found_is p j l x hash answer does a finds i,
-          found_is q k l y other reply did b found i))
+        (λ i. (
+          found_is p j l x hash answer does a finds i,
+          found_is q k l y other reply did b found i,
+        ))
         (later p j l x hash answer does (when order q k) less)
 
   pub puts_stand : PutsStand about (own order) lists
@@ -161,16 +163,16 @@ module _ (about : BoardSizes) (order : List (StepBy BoardStep)) (lawful : IsLawf
   puts_take_turns p q j k l x y hash other answer reply does did a b finds found =
       elim (cases_lt (when order p j) (when order q k)) [
         | inl less ↦
-          inr (inl (in_turn p q j k l x y hash other answer reply does did a b finds found less))
+            inr (inl (in_turn p q j k l x y hash other answer reply does did a b finds found less))
         | inr le ↦
-          elim (cases_eq (when order p j) (when order q k)) [
-            | inr ne ↦
-              inr (inr (in_turn q p k j l y x other hash reply answer did does b a found finds
-                (omega arith)))
-            | inl e ↦
-              inl (same_step order p q j k (put_step l x hash answer) (put_step l y other reply) does
-                did e)
-          ]
+            elim (cases_eq (when order p j) (when order q k)) [
+              | inr ne ↦
+                  inr (inr (in_turn q p k j l y x other hash reply answer did does b a found finds
+                  (omega arith)))
+              | inl e ↦
+                  inl (same_step order p q j k (put_step l x hash answer) (put_step l y other reply) does
+                  did e)
+            ]
       ]
 
   -- ---- positions and drops
@@ -181,7 +183,7 @@ module _ (about : BoardSizes) (order : List (StepBy BoardStep)) (lawful : IsLawf
       let f = (moments order t.seat).own t.moment (put_step l id t.hash t.answer) t.is in
       let k : ℕ = f.0 in
       let here : put.lane_then about order t.moment l ≡ put.lane_then about order (when order t.seat k) l =
-        ap (λ n. put.lane_then about order n l) (sym f.2) in
+      ap (λ n. put.lane_then about order n l) (sym f.2) in
       record {
         seat = t.seat;
         step = k;
@@ -194,13 +196,29 @@ module _ (about : BoardSizes) (order : List (StepBy BoardStep)) (lawful : IsLawf
         accepts = ap (λ (y : LaneLists). lane_drop_cause y t.hash) (sym here) ∙ t.cause;
       }
 
+  -- the same put by its moment
+  abbrev pub order_put : (l j id : ℕ) (u : WasPut about (own order) lists l j id)
+      → put.WasPut about order l j id
+  order_put l j id u =
+      let here : put.lane_then about order (when order u.seat u.step) l ≡ u.found =
+      found_is u.seat u.step l id u.hash u.answer u.does u.found u.finds in
+      record {
+        moment = when order u.seat u.step;
+        seat = u.seat;
+        hash = u.hash;
+        answer = u.answer;
+        is = is_put u.seat u.step l id u.hash u.answer u.does;
+        found = ap (λ (y : LaneLists). length y.accepted) here ∙ u.count;
+        cause = ap (λ (y : LaneLists). lane_drop_cause y u.hash) here ∙ u.accepts;
+      }
+
   pub drops_were_put : DropsWerePut about (own order) lists
   drops_were_put l j d at =
       let t = each_drop_was_put about order lawful l j d (drop_left about order l j d at) in
       let f = (moments order t.seat).own t.moment (put_step l d.id t.hash t.answer) t.is in
       let k : ℕ = f.0 in
       let here : put.lane_then about order t.moment l ≡ put.lane_then about order (when order t.seat k) l =
-        ap (λ n. put.lane_then about order n l) (sym f.2) in
+      ap (λ n. put.lane_then about order n l) (sym f.2) in
       record {
         seat = t.seat;
         step = k;

@@ -46,8 +46,10 @@ module _ (order : List (StepBy BoardStep)) where
       → when p j ≡ when q k → (p ≡ q) × (j ≡ k)
   same_step p q j k d c at_j at_k e =
       let here : IsStep order (when q k) p d =
-        subst (λ (n : ℕ). IsStep order n p d) e (step_is p j d at_j) in
-      let seat : p ≡ q = (one-step order (when q k) p q d c here (step_is q k c at_k)).0 in
-      (seat, once p j k d c at_j
-        (subst (λ (z : ℕ). Has (own z) k c) (sym seat) at_k)
-        (e ∙ ap (λ z. when z k) (sym seat)))
+      subst (λ (n : ℕ). IsStep order n p d) e (step_is p j d at_j) in
+      let seat : p ≡ q = (one-step order (when q k) p q d c here (step_is q k c at_k)).0 in (
+        seat,
+        once p j k d c at_j
+            (subst (λ (z : ℕ). Has (own z) k c) (sym seat) at_k)
+            (e ∙ ap (λ z. when z k) (sym seat)),
+      )

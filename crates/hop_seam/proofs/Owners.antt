@@ -39,18 +39,18 @@ module _ (about : BoardSizes) (l : ℕ) where
   -- what only the puller adds to a list stands in its own list
   module _ {X : Type 0} (kind : BoardStep → Option X) (all : Order → List X) (none : all [] ≡ [])
       (adds : (q : ℕ) (d : BoardStep) (es : Order) → MayCome about q es d
-        → all (step_by q d ∷ es) ≡ cons_option (kind d) (all es))
+      → all (step_by q d ∷ es) ≡ cons_option (kind d) (all es))
       (alone : (q : ℕ) (d : BoardStep) (es : Order) → MayCome about q es d → q ≢ P → kind d ≡ None)
-      where
-    pub is_own : (es : Order) → IsLawful about es → all es ≡ filter_map kind (own_of es P)
-    is_own [] lawful = none
-    is_own (e ∷ es) lawful =
-        let before = is_own es lawful.2 in
-        adds e.by e.step es lawful.1 ∙ dite (ℕ_discrete e.by P)
-        (λ mine.
+    where
+      pub is_own : (es : Order) → IsLawful about es → all es ≡ filter_map kind (own_of es P)
+      is_own [] lawful = none
+      is_own (e ∷ es) lawful =
+          let before = is_own es lawful.2 in
+          adds e.by e.step es lawful.1 ∙ dite (ℕ_discrete e.by P)
+          (λ mine.
           ap (cons_option (kind e.step)) before
           ∙ sym (ap (filter_map kind) (steps_of_own P e.by e.step es mine)))
-        (λ other.
+          (λ other.
           ap (λ o. cons_option o (all es)) (alone e.by e.step es lawful.1 other)
           ∙ (before ∙ sym (ap (filter_map kind) (steps_of_other P e.by e.step es other))))
 
@@ -63,11 +63,11 @@ module _ (about : BoardSizes) (l : ℕ) where
       pick from l (delivery o id place ∷ given l (lanes_of es)) (given l (lanes_of es))
       (λ gs. gs ≡ cons_option (delivered_in l (Lane (Given o from id place))) (given l (lanes_of es)))
       (λ e. pick from l (Some (delivery o id place)) None
-        (λ z. delivery o id place ∷ given l (lanes_of es) ≡ cons_option z (given l (lanes_of es)))
-        (λ _. refl) (λ ne. absurd (ne e)))
+      (λ z. delivery o id place ∷ given l (lanes_of es) ≡ cons_option z (given l (lanes_of es)))
+      (λ _. refl) (λ ne. absurd (ne e)))
       (λ ne. pick from l (Some (delivery o id place)) None
-        (λ z. given l (lanes_of es) ≡ cons_option z (given l (lanes_of es)))
-        (λ e. absurd (ne e)) (λ _. refl))
+      (λ z. given l (lanes_of es) ≡ cons_option z (given l (lanes_of es)))
+      (λ e. absurd (ne e)) (λ _. refl))
   given_adds q d es may = refl
 
   given_alone : (q : ℕ) (d : BoardStep) (es : Order) → MayCome about q es d → q ≢ P
@@ -103,8 +103,8 @@ first-nth [] ys n x t at = none-some x at
 first-nth (z ∷ xs) ys n x t at =
     dite (ℕ_discrete (length xs) n)
     (λ e.
-      ap (slice_get ys) (sym e)
-      ∙ (t.0 ∙ (sym (if_same (length xs) n (Some z) (nth_step xs n) e) ∙ at)))
+    ap (slice_get ys) (sym e)
+    ∙ (t.0 ∙ (sym (if_same (length xs) n (Some z) (nth_step xs n) e) ∙ at)))
     (λ ne. first-nth xs ys n x t.1 (sym (if_other (length xs) n (Some z) (nth_step xs n) ne) ∙ at))
 
 -- each of a list that has the newest first is a number from s on
@@ -118,8 +118,8 @@ from-nth s [] n x t at = none-some x at
 from-nth s (z ∷ xs) n x t at =
     dite (ℕ_discrete (length xs) n)
     (λ e.
-      sym (some-is z x (sym (if_same (length xs) n (Some z) (nth_step xs n) e) ∙ at))
-      ∙ (t.0 ∙ ap (λ k. s + k) e))
+    sym (some-is z x (sym (if_same (length xs) n (Some z) (nth_step xs n) e) ∙ at))
+    ∙ (t.0 ∙ ap (λ k. s + k) e))
     (λ ne. from-nth s xs n x t.1 (sym (if_other (length xs) n (Some z) (nth_step xs n) ne) ∙ at))
 
 module _ (about : BoardSizes) (l : ℕ) where
@@ -155,11 +155,12 @@ module _ (about : BoardSizes) (l : ℕ) where
       let d : BoardStep = Lane (Freed i (Offered id hash answer)) in
       let keeps = lanes_grow about (step_by q (Freed i (Offered id hash answer)) ∷ []) (lanes_of es) l in
       let same =
-        pick i l (after_put x id hash) x (λ (y : LaneLists). y.pulled ≡ x.pulled)
-        (λ _. put_pulled x id hash) (λ _. refl) in
-      (same ∙ t.0,
-      first-more (all_of (pulled_in l) es) x.accepted (lane_at about (step_by q d ∷ es) l).accepted
-      keeps.1 t.1)
+      pick i l (after_put x id hash) x (λ (y : LaneLists). y.pulled ≡ x.pulled)
+      (λ _. put_pulled x id hash) (λ _. refl) in (
+        same ∙ t.0,
+        first-more (all_of (pulled_in l) es) x.accepted (lane_at about (step_by q d ∷ es) l).accepted
+            keeps.1 t.1,
+      )
   pulls_step q (Lane (Freed i Nothing)) es lawful may t =
       let x : LaneLists = lane_at about es l in
       pick i l x x (Pulls (all_of (pulled_in l) es)) (λ _. t) (λ _. t)
@@ -168,20 +169,24 @@ module _ (about : BoardSizes) (l : ℕ) where
       let ids : List ℕ = all_of (pulled_in l) es in
       dite (ℕ_discrete i l)
       (λ e.
-        let same : lane_at about es i ≡ may.0.1.0 =
-          (holds about (lanes_of es) (parts about es lawful).0 i q may.0.1.0 may.0.1.1).1 in
-        let found : may.0.1.0 ≡ x = sym same ∙ ap (lane_at about es) e in
-        let next : slice_get x.accepted x.pulled ≡ Some id =
-          subst (λ (y : LaneLists). slice_get y.accepted y.pulled ≡ Some id) found may.0.1.2.1 in
-        let count = t.0 in
-        subst (λ (z : List ℕ × LaneLists). Pulls z.0 z.1)
-        (λ k. (cons_option (sym (if_same i l (Some id) None e) k) ids,
-          sym (if_same i l (changed (Pulled id) x) x e) k))
-        (omega arith, (ap (slice_get x.accepted) (sym t.0) ∙ next, t.1)))
+      let same : lane_at about es i ≡ may.0.1.0 =
+      (holds about (lanes_of es) (parts about es lawful).0 i q may.0.1.0 may.0.1.1).1 in
+      let found : may.0.1.0 ≡ x = sym same ∙ ap (lane_at about es) e in
+      let next : slice_get x.accepted x.pulled ≡ Some id =
+      subst (λ (y : LaneLists). slice_get y.accepted y.pulled ≡ Some id) found may.0.1.2.1 in
+      let count = t.0 in
+      subst (λ (z : List ℕ × LaneLists). Pulls z.0 z.1)
+      (λ k. (
+        cons_option (sym (if_same i l (Some id) None e) k) ids,
+        sym (if_same i l (changed (Pulled id) x) x e) k,
+      ))
+      (omega arith, (ap (slice_get x.accepted) (sym t.0) ∙ next, t.1)))
       (λ ne.
-        subst (λ (z : List ℕ × LaneLists). Pulls z.0 z.1)
-        (λ k. (cons_option (sym (if_other i l (Some id) None ne) k) ids,
-          sym (if_other i l (changed (Pulled id) x) x ne) k)) t)
+      subst (λ (z : List ℕ × LaneLists). Pulls z.0 z.1)
+      (λ k. (
+        cons_option (sym (if_other i l (Some id) None ne) k) ids,
+        sym (if_other i l (changed (Pulled id) x) x ne) k,
+      )) t)
   pulls_step q d es lawful may t = t
 
   pub pulls : (es : Order) → IsLawful about es
@@ -215,17 +220,21 @@ module _ (about : BoardSizes) (l : ℕ) where
       let n : ℕ = retired about es l in
       dite (ℕ_discrete i l)
       (λ e.
-        let count = t.0 in
-        let word : w ≡ about.start + n =
-          may.0.1 ∙ ap (λ z. about.start + retired about es z) e in
-        subst (λ (z : List ℕ × ℕ). Retires z.0 z.1)
-        (λ k. (cons_option (sym (if_same i l (Some w) None e) k) words,
-          sym (if_same i l (n + 1) n e) k))
-        (omega arith, (omega arith, t.1)))
+      let count = t.0 in
+      let word : w ≡ about.start + n =
+      may.0.1 ∙ ap (λ z. about.start + retired about es z) e in
+      subst (λ (z : List ℕ × ℕ). Retires z.0 z.1)
+      (λ k. (
+        cons_option (sym (if_same i l (Some w) None e) k) words,
+        sym (if_same i l (n + 1) n e) k,
+      ))
+      (omega arith, (omega arith, t.1)))
       (λ ne.
-        subst (λ (z : List ℕ × ℕ). Retires z.0 z.1)
-        (λ k. (cons_option (sym (if_other i l (Some w) None ne) k) words,
-          sym (if_other i l (n + 1) n ne) k)) t)
+      subst (λ (z : List ℕ × ℕ). Retires z.0 z.1)
+      (λ k. (
+        cons_option (sym (if_other i l (Some w) None ne) k) words,
+        sym (if_other i l (n + 1) n ne) k,
+      )) t)
   retires_step q d es may t = t
 
   pub retires : (es : Order) → IsLawful about es

@@ -106,11 +106,11 @@ module _ (about : BoardSizes) (l : ℕ) where
         let x : LaneLists = lane_at about es l in
         pick i l (after_put x id hash) x (λ (y : LaneLists). read y ≡ gained (kind (Lane (Freed i (Offered id hash answer)))) + read x)
         (λ e.
-          let same : lane_at about es i ≡ may.0.1.0 = (holds about (lanes_of es) (parts about es lawful).0 i q may.0.1.0 may.0.1.1).1 in
-          let found : may.0.1.0 ≡ x = sym same ∙ ap (lane_at about es) e in
-          let said : put_answer x hash ≡ answer = sym (may.0.1.2.2 ∙ ap (λ (y : LaneLists). put_answer y hash) found) in
-          subst (λ (a : Put). read (after_put x id hash) ≡ gained (kind (Lane (Freed i (Offered id hash a)))) + read x) said
-          (here i id hash x (lane_drop_cause x hash) e))
+        let same : lane_at about es i ≡ may.0.1.0 = (holds about (lanes_of es) (parts about es lawful).0 i q may.0.1.0 may.0.1.1).1 in
+        let found : may.0.1.0 ≡ x = sym same ∙ ap (lane_at about es) e in
+        let said : put_answer x hash ≡ answer = sym (may.0.1.2.2 ∙ ap (λ (y : LaneLists). put_answer y hash) found) in
+        subst (λ (a : Put). read (after_put x id hash) ≡ gained (kind (Lane (Freed i (Offered id hash a)))) + read x) said
+        (here i id hash x (lane_drop_cause x hash) e))
         (λ ne. let none = other i id hash answer ne in omega arith)
     reads q (Lane (Freed i Nothing)) es lawful may =
         let x : LaneLists = lane_at about es l in

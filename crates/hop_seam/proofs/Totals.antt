@@ -34,12 +34,12 @@ total-one f g zero q l same = absurd (omega arith)
 total-one f g (suc n) q l same =
     dite (ℕ_discrete q n)
     (λ e.
-      let rest = total-same f g n (λ p below. same p (omega arith) (λ h. absurd (omega arith))) in
-      let a : g q ≡ g n = ap g e in
-      let b : f q ≡ f n = ap f e in omega arith)
+    let rest = total-same f g n (λ p below. same p (omega arith) (λ h. absurd (omega arith))) in
+    let a : g q ≡ g n = ap g e in
+    let b : f q ≡ f n = ap f e in omega arith)
     (λ ne.
-      let rest = total-one f g n q (omega arith) (λ p below. same p (omega arith)) in
-      let last = same n (omega arith) (λ h. ne (sym h)) in omega arith)
+    let rest = total-one f g n q (omega arith) (λ p below. same p (omega arith)) in
+    let last = same n (omega arith) (λ h. ne (sym h)) in omega arith)
 
 pub total-none : (n : ℕ) → total (λ q. 0) n ≡ 0
 total-none zero = refl

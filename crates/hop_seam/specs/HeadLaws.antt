@@ -67,7 +67,7 @@ module _ (about : BoardSizes) (own : ℕ → List BoardStep) (lists : BoardLists
   VisitsReadSettings =
       (q k i v : ℕ) → Has (own q) k (Gate (Read i v)) → visit (gate_steps (past k (own q))) ≡ inside
       → v ≡ own_settings about
-        (opened (visit_before (own q) k) (gate_steps (own (closer about)))) i
+      (opened (visit_before (own q) k) (gate_steps (own (closer about)))) i
 
   -- ---- lanes that were found empty
 

@@ -105,9 +105,9 @@ module _ (about : BoardSizes) (own : ℕ → List BoardStep) (lists : BoardLists
   DropsHaveCauses =
       (hash_of : ℕ → Option ℕ)
       → ((q k l id : ℕ) (hash : Option ℕ) (answer : Put)
-        → Has (own q) k (put_step l id hash answer) → hash ≡ hash_of id)
+      → Has (own q) k (put_step l id hash answer) → hash ≡ hash_of id)
       → (l : ℕ) → AllExplained hash_of (as_lane about lists l)
 
   -- Along the drops of a lane neither of their counts falls, and none is over that of the lane.
   abbrev pub DropsRise : Type 0
-  DropsRise = (l : ℕ) → AreRising (as_lane about lists l)
+  DropsRise = (l : ℕ) → l < about.lanes → AreRising (as_lane about lists l)
