@@ -9,4 +9,3 @@ pub mod OwnTimes
 pub mod OwnVisits
 pub mod Owners
 pub mod Sums
-pub mod Totals

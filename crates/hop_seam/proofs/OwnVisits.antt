@@ -9,14 +9,15 @@ use Rattle.hop_rule.specs.declared.sizes.BoardSizes.{BoardSizes}
 use Rattle.hop_rule.specs.declared.step.BoardStep.{BoardStep}
 use Rattle.hop_rule.specs.declared.step.BoardStep.TheVariants.{Gate}
 use Rattle.hop_rule.specs.declared.step.GateStep.TheVariants.{Entered, Left, Read}
+use Rattle.hop_rule.proofs.Boards.{lawful_past, step_lawful}
 use Rattle.hop_rule.proofs.Moments.{nth-inside}
 use Rattle.hop_rule.proofs.Numbers.{none_between}
-use Rattle.hop_rule.proofs.Openings.{visits_are_numbered, visits_read_settings}
+use Rattle.hop_rule.proofs.Openings.{settings_are_the_closers, visits_are_numbered, visits_read_settings}
 use Rattle.hop_seam.specs.Finals.{lists_of}
-use Rattle.hop_seam.specs.HeadLaws.{VisitNumbersRise, VisitsReadSettings}
-use Rattle.hop_seam.specs.OwnSteps.{Has}
+use Rattle.hop_seam.specs.HeadLaws.{ReadsAreSettings, VisitNumbersRise}
+use Rattle.hop_seam.specs.OwnSteps.{Has, visit_before}
 use Rattle.hop_seam.proofs.Entries.{entry_of, length-past, nth-past}
-use Rattle.hop_seam.proofs.OwnTimes.{own, rise, step_is, when}
+use Rattle.hop_seam.proofs.OwnTimes.{moments, own, rise, step_is, when}
 
 module _ (about : BoardSizes) (order : List (StepBy BoardStep)) (fit : FitSizes about)
     (lawful : IsLawful about order) where
@@ -33,8 +34,11 @@ module _ (about : BoardSizes) (order : List (StepBy BoardStep)) (fit : FitSizes 
             (step_is order q k (Gate (Entered word)) enters)).1;
       }
 
-  pub visits_read_own_settings : VisitsReadSettings about (own order) (lists_of about order)
-  visits_read_own_settings q k i v reads is =
+  visit_reads : (q k i v : ℕ) → Has (own order q) k (Gate (Read i v))
+      → visit (gate_steps (past k (own order q))) ≡ inside
+      → v ≡ own_settings about
+      (opened (visit_before (own order q) k) (gate_steps (own order (closer about)))) i
+  visit_reads q k i v reads is =
       let ds : List BoardStep = own order q in
       let t = entry_of (past k ds) is in
       let last = nth-inside ds k (Gate (Read i v)) reads in
@@ -56,3 +60,19 @@ module _ (about : BoardSizes) (order : List (StepBy BoardStep)) (fit : FitSizes 
       read
       ∙ ap (λ n. own_settings about (opened n (gate_steps (own order (closer about)))) i)
       (sym t.number)
+
+  closer_reads : (k i v : ℕ) → Has (own order (closer about)) k (Gate (Read i v))
+      → v ≡ own_settings about (gate_steps (past k (own order (closer about)))) i
+  closer_reads k i v reads =
+      let c : ℕ = closer about in
+      let n : ℕ = when order c k in
+      let may = (step_lawful about order n c (Gate (Read i v)) lawful
+          (step_is order c k (Gate (Read i v)) reads)).1 in
+      may.0
+      ∙ (ap (λ s. s i)
+        (settings_are_the_closers about (past n order) (lawful_past about order n lawful))
+      ∙ ap (λ ds. own_settings about (gate_steps ds) i)
+        (sym ((moments order c).before k (Gate (Read i v)) reads)))
+
+  pub reads_are_settings : ReadsAreSettings about (own order) (lists_of about order)
+  reads_are_settings = record { visit = visit_reads; closer = closer_reads }

@@ -10,6 +10,7 @@ use Rattle.backlog.specs.Puts.{after_put, answer_by, put_answer, put_by}
 use Rattle.seat_order.specs.Orders.{StepBy, step_by, steps_of}
 use Rattle.seat_order.proofs.Views.{steps_of_own, steps_of_other}
 use Rattle.hop_rule.specs.Boards.{IsLawful, MayCome, lane_at, lanes_of}
+use Rattle.hop_rule.specs.Events.{sum_below}
 use Rattle.hop_rule.specs.Lanes as lanes
 use Rattle.hop_rule.specs.Owns.{own_of}
 use Rattle.hop_rule.specs.declared.sizes.BoardSizes.{BoardSizes}
@@ -21,9 +22,9 @@ use Rattle.hop_rule.specs.declared.step.LaneStep.{LaneStep}
 use Rattle.hop_rule.specs.declared.step.LaneStep.TheVariants.{Held, Missed, Freed, OutHeld, OutMissed, OutFreed, Given, Retired}
 use Rattle.hop_rule.proofs.Boards.{parts}
 use Rattle.hop_rule.proofs.Cases.{pick}
+use Rattle.hop_rule.proofs.Gates.{sum_one}
 use Rattle.hop_rule.proofs.Lanes.{holds}
 use Rattle.hop_seam.specs.OwnSteps.{accepted_by, accepted_in, dropped_by, dropped_in}
-use Rattle.hop_seam.proofs.Totals.{total, total_is, total-none, total-one}
 
 abbrev Order : Type 0
 Order = List (StepBy BoardStep)
@@ -32,6 +33,10 @@ Order = List (StepBy BoardStep)
 abbrev gained : Option ℕ → ℕ
 gained None = 0
 gained (Some x) = 1
+
+sum_none : (n : ℕ) → sum_below (λ q. 0) n ≡ 0
+sum_none zero = refl
+sum_none (suc n) = let rest = sum_none n in omega arith
 
 length-cons : (o : Option ℕ) (xs : List ℕ) → length (cons_option o xs) ≡ gained o + length xs
 length-cons None xs = omega arith
@@ -43,20 +48,18 @@ module _ (about : BoardSizes) (kind : BoardStep → Option ℕ) (count : Order �
   by es q = length (filter_map kind (own_of es q))
 
   sum_adds : (q : ℕ) (d : BoardStep) (es : Order) → q < about.seats
-      → total (by (step_by q d ∷ es)) about.seats ≡ gained (kind d) + total (by es) about.seats
+      → sum_below (by (step_by q d ∷ es)) about.seats ≡ gained (kind d) + sum_below (by es) about.seats
   sum_adds q d es seat =
       let own = ap (λ ds. length (filter_map kind ds)) (steps_of_own q q d es refl) ∙ length-cons (kind d) (filter_map kind (own_of es q)) in
-      let one = total-one (by (step_by q d ∷ es)) (by es) about.seats q seat
+      let one = sum_one (by (step_by q d ∷ es)) (by es) about.seats q seat
       (λ p _ ne. ap (λ ds. length (filter_map kind ds)) (steps_of_other p q d es (λ h. ne (sym h)))) in omega arith
 
-  pub is_total : (es : Order) → IsLawful about es → count es ≡ total (by es) about.seats
-  is_total [] lawful = none ∙ sym (total-none about.seats)
-  is_total (e ∷ es) lawful =
+  pub is_sum : (es : Order) → IsLawful about es → count es ≡ sum_below (by es) about.seats
+  is_sum [] lawful = none ∙ sym (sum_none about.seats)
+  is_sum (e ∷ es) lawful =
       adds e.by e.step es lawful.2 lawful.1
-      ∙ (ap (λ n. gained (kind e.step) + n) (is_total es lawful.2) ∙ sym (sum_adds e.by e.step es lawful.0))
-
-  pub is_sum : (es : Order) → IsLawful about es → count es ≡ sum_by (by es) (range_with_len 0 about.seats)
-  is_sum es lawful = is_total es lawful ∙ total_is (by es) about.seats
+      ∙ (ap (λ n. gained (kind e.step) + n) (is_sum es lawful.2)
+      ∙ sym (sum_adds e.by e.step es lawful.0))
 
 -- ---- accepted and dropped packets of one lane
 
@@ -124,11 +127,11 @@ module _ (about : BoardSizes) (l : ℕ) where
     reads q d es lawful may = let none = calm d refl in omega arith
 
   pub accepted_sum : (es : Order) → IsLawful about es
-      → length (lane_at about es l).accepted ≡ sum_by (λ q. length (accepted_by l (own_of es q))) (range_with_len 0 about.seats)
+      → length (lane_at about es l).accepted ≡ sum_below (λ q. length (accepted_by l (own_of es q))) about.seats
   accepted_sum = is_sum about (accepted_in l) (λ es. length (lane_at about es l).accepted) refl
       (reads (λ x. length x.accepted) (accepted_in l) accepted_put other_accepted (λ x id. refl) calm_accepted)
 
   pub dropped_sum : (es : Order) → IsLawful about es
-      → length (lane_at about es l).drops ≡ sum_by (λ q. length (dropped_by l (own_of es q))) (range_with_len 0 about.seats)
+      → length (lane_at about es l).drops ≡ sum_below (λ q. length (dropped_by l (own_of es q))) about.seats
   dropped_sum = is_sum about (dropped_in l) (λ es. length (lane_at about es l).drops) refl
       (reads (λ x. length x.drops) (dropped_in l) dropped_put other_dropped (λ x id. refl) calm_dropped)

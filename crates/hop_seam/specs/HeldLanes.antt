@@ -53,6 +53,11 @@ abbrev pub Holds : BoardSizes → List BoardStep → HeldLane → Type 0
 Holds about steps (Middle l content) = IsMiddle about steps l content
 Holds about steps (Out o content) = IsOut about steps o content
 
+-- what the seat holds is a lane of the kind that was asked for
+abbrev pub HoldsKind : BoardSizes → List BoardStep → LaneId → HeldLane → Type 0
+HoldsKind about steps (id.Middle l) held = HoldsMiddle about steps held
+HoldsKind about steps (id.Out o) held = HoldsOut about steps held
+
 -- the seat is the one that pulls from the lane
 abbrev pub PullsFrom : BoardSizes → ℕ → HeldLane → Type 0
 PullsFrom about number (Middle l content) = Pulls about number l

@@ -1,6 +1,5 @@
 -- What the seats' own puts and the lists at the closing tell of each other.
 use Rattle.std.specs.Prelude.{◌≡◌, ◌⊎◌, ℕ, ◌<◌, List, Option, Some, None, length, slice_get}
-use Rattle.std.specs.List.{range_with_len, sum_by}
 use Rattle.steer_base.specs.Drops.{lane_drop_cause}
 use Rattle.steer_base.specs.Lanes.{LaneLists}
 use Rattle.steer_base.specs.declared.put.LaneDrop.{LaneDrop}
@@ -9,6 +8,7 @@ use Rattle.backlog.specs.Offers.{AllExplained}
 use Rattle.backlog.specs.Puts.{after_put, put_answer, put_count}
 use Rattle.backlog.specs.Rising.{AreRising}
 use Rattle.history.specs.Lists.{lane_at}
+use Rattle.hop_rule.specs.Events.{sum_below}
 use Rattle.hop_rule.specs.Fronts.{IsEarlier}
 use Rattle.hop_rule.specs.declared.sizes.BoardSizes.{BoardSizes}
 use Rattle.hop_rule.specs.declared.step.BoardStep.{BoardStep}
@@ -92,9 +92,9 @@ module _ (about : BoardSizes) (own : ℕ → List BoardStep) (lists : BoardLists
   -- A lane accepted, and dropped, as many packets as all seats' puts to it that were answered so.
   pub record AreSums (l : ℕ) : Type 0 where
     pub accepted : length (lane_at lists.lanes l).accepted
-        ≡ sum_by (λ q. length (accepted_by l (own q))) (range_with_len 0 about.seats)
+        ≡ sum_below (λ q. length (accepted_by l (own q))) about.seats
     pub dropped : length (lane_at lists.lanes l).drops
-        ≡ sum_by (λ q. length (dropped_by l (own q))) (range_with_len 0 about.seats)
+        ≡ sum_below (λ q. length (dropped_by l (own q))) about.seats
 
   abbrev pub CountsAreSums : Type 0
   CountsAreSums = (l : ℕ) → l < about.lanes → AreSums l

@@ -21,6 +21,7 @@ use Rattle.hop_rule.specs.declared.step.GateStep.TheVariants.{Entered, Turned, L
 use Rattle.hop_rule.specs.declared.step.GateStep.TheVariants.{NotShut, Opened}
 use Rattle.hop_rule.specs.declared.step.LaneStep.TheVariants.{Held, Missed, Freed, OutHeld}
 use Rattle.hop_rule.specs.declared.step.LaneStep.TheVariants.{OutMissed, OutFreed, Given, Retired}
+use Rattle.hop_seam.specs.HeldLanes.{HoldsKind}
 use Rattle.hop_seam.specs.Seats.{BoardSeatView, Adds}
 use Rattle.hop_seam.specs.StepWords.{low_half, tail_in, is_odd, is_marked}
 use Rattle.hop_seam.specs.declared.answers.CloseAnswer.{CloseAnswer}
@@ -82,9 +83,10 @@ abbrev pub MissedAt : LaneId → ℕ → BoardStep
 MissedAt (id.Middle l) word = Lane (Missed l word)
 MissedAt (id.Out o) word = Lane (OutMissed o word)
 
--- The lane was taken; or its word was odd, since a seat holds it.
+-- The lane was taken, and the seat holds it now; or its word was odd, since a seat holds it.
 abbrev pub HoldTells : BoardSizes → LaneId → Seat → Seat → Hold → Type 0
-HoldTells about lane old new (hold.Ok h) = Took about lane old new h
+HoldTells about lane old new (hold.Ok h) =
+    Took about lane old new h × HoldsKind about new.steps lane h
 HoldTells about lane old new (hold.Held word) =
     (is_odd word ≡ true) × Adds (MissedAt lane word ∷ []) old new
 

@@ -2,8 +2,8 @@
 //! of a function that does nothing.
 ghost use Rattle.hop_seam.specs.Closings.{AtEachClosing};
 ghost use Rattle.hop_seam.specs.HeadLaws.{EmptiedLanesStandFirst, HeadsAreBelowTails};
-ghost use Rattle.hop_seam.specs.HeadLaws.{HeadsArePassed, HeadsRise, VisitNumbersRise};
-ghost use Rattle.hop_seam.specs.HeadLaws.{VisitsReadSettings};
+ghost use Rattle.hop_seam.specs.HeadLaws.{HeadsArePassed, HeadsRise, ReadsAreSettings};
+ghost use Rattle.hop_seam.specs.HeadLaws.{VisitNumbersRise};
 ghost use Rattle.hop_seam.specs.LaneLaws.{DeliveriesHavePlaces, HoldsFindFronts, LanesAreInTurn};
 ghost use Rattle.hop_seam.specs.LaneLaws.{LanesAreServedByOne};
 ghost use Rattle.hop_seam.specs.PutLaws.{AcceptedWerePut, CountsAreSums, DropsHaveCauses};
@@ -61,10 +61,10 @@ pub fn loaded_heads_are_passed()
 {}
 
 /// The numbers of a seat's visits never fall. What a visit reads are the settings after the closer's
-/// own sets before the last opening that its number counts.
+/// own sets before the last opening that its number counts, and the closer reads what its sets left.
 pub fn visits_read_the_closers_settings()
     ensures numbers { AtEachClosing VisitNumbersRise }
-    ensures settings { AtEachClosing VisitsReadSettings }
+    ensures settings { AtEachClosing ReadsAreSettings }
 {}
 
 /// What lay in a lane that the closer found empty was put in visits with a number up to that of the
