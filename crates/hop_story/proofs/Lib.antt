@@ -1,9 +1,4 @@
-pub mod Emptying
-pub mod Examples
+pub mod Accounts
 pub mod Filters
-pub mod Law
-pub mod Pairing
-pub mod Premises
 pub mod Receives
-pub mod Walk
-pub mod Pairs
+pub mod Turns

@@ -1,7 +1,5 @@
-pub mod Examples
-pub mod Interfaces
 pub mod Laws
-pub mod Owns
+pub mod Premises
 pub mod Receives
 pub mod Stories
-pub mod Pairs
+pub mod Turns

@@ -2,8 +2,3 @@
 #![tactic(auto)]
 
 mod laws;
-
-pub use laws::{
-    flows_are_delivered_in_order, flows_of_own_lists_are_delivered_in_order,
-    receive_settings_steer, the_premises_can_be_met,
-};
