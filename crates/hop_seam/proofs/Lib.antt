@@ -1,3 +1,4 @@
+pub mod AddedSteps
 pub mod Endings
 pub mod Entries
 pub mod Left

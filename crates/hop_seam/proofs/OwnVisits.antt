@@ -75,4 +75,4 @@ module _ (about : BoardSizes) (order : List (StepBy BoardStep)) (fit : FitSizes 
         (sym ((moments order c).before k (Gate (Read i v)) reads)))
 
   pub reads_are_settings : ReadsAreSettings about (own order) (lists_of about order)
-  reads_are_settings = record { visit = visit_reads; closer = closer_reads }
+  reads_are_settings = record { in_visit = visit_reads; by_closer = closer_reads }

@@ -65,11 +65,11 @@ module _ (about : BoardSizes) (own : ℕ → List BoardStep) (lists : BoardLists
   -- opening that its number counts; with no opening, what they were at the start. The closer reads
   -- what its own sets have left.
   pub record ReadsAreSettings : Type 0 where
-    pub visit : (q k i v : ℕ) → Has (own q) k (Gate (Read i v))
+    pub in_visit : (q k i v : ℕ) → Has (own q) k (Gate (Read i v))
         → visit (gate_steps (past k (own q))) ≡ inside
         → v ≡ own_settings about
         (opened (visit_before (own q) k) (gate_steps (own (closer about)))) i
-    pub closer : (k i v : ℕ) → Has (own (closer about)) k (Gate (Read i v))
+    pub by_closer : (k i v : ℕ) → Has (own (closer about)) k (Gate (Read i v))
         → v ≡ own_settings about (gate_steps (past k (own (closer about)))) i
 
   -- ---- lanes that were found empty

@@ -4,6 +4,7 @@ pub mod HeadLaws
 pub mod HeldLanes
 pub mod LaneLaws
 pub mod Lists
+pub mod OwnLaws
 pub mod OwnSteps
 pub mod PutLaws
 pub mod Rights

@@ -9,6 +9,7 @@ mod forward;
 mod held_lane;
 mod laws;
 mod lists;
+mod own_laws;
 mod words;
 
 pub use answers::{CloseAnswer, Emptied, EnterAnswer, Hold, Pull};
@@ -23,4 +24,5 @@ pub use laws::{
     visits_read_the_closers_settings,
 };
 pub use lists::BoardLists;
+pub use own_laws::{a_taken_lane_is_held, quiet_steps_stay};
 pub use words::{GateWord, HeadWord, LaneWord};
