@@ -109,12 +109,12 @@ settings_after _ s = s
 module _ (about : BoardSizes) where
   -- each setting word, and 0 beyond the last
   abbrev pub settings : List (StepBy GateStep) → ℕ → ℕ
-  settings [] = λ i. slice_index about.settings.items i
+  settings [] = λ i. slice_index about.settings i
   settings (e ∷ es) = settings_after e.step (settings es)
 
   -- the settings by the closer's own steps
   abbrev pub own_settings : List GateStep → ℕ → ℕ
-  own_settings [] = λ i. slice_index about.settings.items i
+  own_settings [] = λ i. slice_index about.settings i
   own_settings (d ∷ ds) = settings_after d (own_settings ds)
 
   -- ---- the lawful orders
@@ -138,7 +138,7 @@ module _ (about : BoardSizes) where
       (p ≡ closer about) × (w ≡ gate_word es) × (0 < visits es) × (closed (steps_of p es) ≡ 0)
   MayCome p es Opened = (p ≡ closer about) × (closed (steps_of p es) ≡ 1)
   MayCome p es (Set i v) =
-      (p ≡ closer about) × (i < length about.settings.items) × (closed (steps_of p es) ≡ 1)
+      (p ≡ closer about) × (i < length about.settings) × (closed (steps_of p es) ≡ 1)
   MayCome p es (Read i v) =
       (v ≡ settings es i) × ((visit (steps_of p es) ≡ inside) ⊎ (closed (steps_of p es) ≡ 1))
 

@@ -33,8 +33,8 @@ pub record Account : Type 0 where
 abbrev pub chosen : Account → ℕ → ℕ → Chosen
 chosen a p i = chosen_at (a.choices p) i
 
-abbrev pub lane_at : Account → ℕ → ℕ → ℕ
-lane_at a p i = (chosen a p i).choice.lane
+abbrev pub lane_chosen : Account → ℕ → ℕ → ℕ
+lane_chosen a p i = (chosen a p i).choice.lane
 
 module _ (about : BoardSizes) (order : List (StepBy BoardStep)) (a : Account) (r : Steering) where
   abbrev pub settings_at : ℕ → ℕ → ℕ → ℕ
@@ -69,7 +69,7 @@ module _ (about : BoardSizes) (order : List (StepBy BoardStep)) (a : Account) (r
     pub enters : IsStep order (a.entered p i) (a.seat p) (Gate (Entered word))
     pub hash : Option ℕ
     pub answer : Put
-    pub puts : IsPut about order (a.put p i) (a.seat p) (lane_at a p i) (chosen a p i).id hash answer
+    pub puts : IsPut about order (a.put p i) (a.seat p) (lane_chosen a p i) (chosen a p i).id hash answer
     pub after : a.entered p i < a.put p i
     pub stays : (m : ℕ) → a.entered p i < m → m < a.put p i → IsStep order m (a.seat p) (Gate Left) → ⊥
 

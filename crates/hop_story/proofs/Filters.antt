@@ -21,6 +21,14 @@ any-of test (x ∷ xs) e = elim (cases_Bool (test x)) [
   | inr n ↦ (let t = any-of test xs (rw n at e) in (suc t.0, t.1, t.2, t.3))
 ]
 
+-- the same of any list
+pub any-at : {A : Type 0} (test : A → Bool) (xs : List A) → list_any test xs ≡ true → (i : ℕ) × (x : A) × (slice_get xs i ≡ Some x) × (test x ≡ true)
+any-at test [] e = absurd (true≢false (sym e))
+any-at test (x ∷ xs) e = elim (cases_Bool (test x)) [
+  | inl y ↦ (0, x, refl, y)
+  | inr n ↦ (let t = any-at test xs (rw n at e) in (suc t.0, t.1, t.2, t.3))
+]
+
 pub any-range : {X : Type 0} (test : X → Bool) (g : ℕ → X) (a n : ℕ) → list_any test (map g (range_with_len a n)) ≡ true → (l : ℕ) × (a ≤ l) × (l < a + n) × (test (g l) ≡ true)
 any-range test g a zero e = absurd (true≢false (sym e))
 any-range test g a (suc n) e = elim (cases_Bool (test (g a))) [
