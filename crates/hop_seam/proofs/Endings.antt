@@ -3,11 +3,13 @@
 use Rattle.std.proofs.Common.{◌≡◌, ◌≢◌, ℕ, zero, suc, ◌+◌, ◌<◌, ◌≤◌, ◌==◌, List, [], ◌∷◌, map, length, All, Option, Some, None, if◌then◌else◌, sym, refl, ap, ◌∙◌, subst, arith}
 use Rattle.std.specs.List.{Contains, range_with_len}
 use Rattle.std.specs.Prelude.{slice_get, slice_index_or}
-use Rattle.std.proofs.lemmas.List.Elements.{All-head, All-tail}
+use Rattle.std.proofs.lemmas.List.Elements.{All-cons, All-head, All-nil, All-tail}
+use Rattle.std.proofs.lemmas.List.FromFn.{get_or-range_with_len, length-range_with_len}
 use mathlib.Core.Logic.{dite}
 use native.Mathlib.Decide.{ℕ_discrete}
+use Rattle.atomic_table.specs.Seated.{TableId}
 use Rattle.seat_order.specs.Orders.{StepBy, steps_of}
-use Rattle.seat_order.specs.Seats.{SeatView, HasPart, IsByOne, numbers_of}
+use Rattle.seat_order.specs.Seats.{SeatView, ArePartsOf, HasPart, IsByOne, numbers_of}
 use Rattle.seat_order.proofs.Lists.{if_same, if_other}
 use Rattle.seat_order.proofs.Views.{steps_of_other}
 use Rattle.history.specs.Lists.{lane_at, list_at, no_lane}
@@ -17,7 +19,7 @@ use Rattle.hop_rule.specs.Owns.{own_of}
 use Rattle.hop_rule.specs.Sizes.{FitSizes}
 use Rattle.hop_rule.specs.declared.sizes.BoardSizes.{BoardSizes}
 use Rattle.hop_rule.specs.declared.step.BoardStep.{BoardStep}
-use Rattle.hop_seam.specs.Closings.{AtEachClosing, HasEnded, own_in}
+use Rattle.hop_seam.specs.Closings.{AtEachClosing, EachOrderCloses, HasEnded, own_in, seat_in, seats_in}
 use Rattle.hop_seam.specs.Finals.{lists_of}
 use Rattle.hop_seam.specs.Seats.{BoardSeatView, ordered_seat}
 use Rattle.hop_seam.specs.declared.lists.BoardLists.{BoardLists}
@@ -57,6 +59,12 @@ own_is order q (s ∷ seats) parts none =
     ∙ own_is order q seats (All-tail (HasPart order) (ordered_seat s) (Views seats) parts)
     (λ apart. none (elsewhere s.number q (numbers_of (Views seats)) ne apart)))
 
+-- the own lists of a closing are the parts of its order
+own_parts : (order : Order) (seats : List BoardSeatView) → ArePartsOf order (Views seats)
+    → own_in seats ≡ own_of order
+own_parts order seats parts =
+    λ i q. own_is order q seats parts.each (none_of (Views seats) q order parts.whole) i
+
 -- It holds of the parts of each lawful order and of what the order leaves.
 abbrev pub AtEachOrder : (BoardSizes → (ℕ → List BoardStep) → BoardLists → Type 0) → Type 0
 AtEachOrder Holds =
@@ -66,10 +74,48 @@ AtEachOrder Holds =
 pub at_closings : (Holds : BoardSizes → (ℕ → List BoardStep) → BoardLists → Type 0)
     → AtEachOrder Holds → AtEachClosing Holds
 at_closings Holds law about seats lists e =
-    let same : (q : ℕ) → own_of e.order q ≡ own_in seats q =
-    λ q. sym (own_is e.order q seats e.parts.each
-    (none_of (Views seats) q e.order e.parts.whole)) in
     let both : (own_of e.order, lists_of about e.order) ≡ (own_in seats, lists) =
-    λ i. ((λ q. same q i), sym e.leaves i) in
+    λ i. (sym (own_parts e.order seats e.parts) i, sym e.leaves i) in
     subst (λ (z : (ℕ → List BoardStep) × BoardLists). Holds about z.0 z.1) both
     (law about e.order e.sizes e.lawful)
+
+-- ---- each lawful order may be that of a closing
+
+numbers-in : (table : TableId) (order : Order) (a n : ℕ)
+    → numbers_of (Views (map (seat_in table order) (range_with_len a n))) ≡ range_with_len a n
+numbers-in table order a zero = refl
+numbers-in table order a (suc n) = ap (λ xs. a ∷ xs) (numbers-in table order (a + 1) n)
+
+parts-in : (table : TableId) (order : Order) (a n : ℕ)
+    → All (HasPart order) (Views (map (seat_in table order) (range_with_len a n)))
+parts-in table order a zero = All-nil (HasPart order)
+parts-in table order a (suc n) =
+    All-cons (HasPart order) (ordered_seat (seat_in table order a))
+    (Views (map (seat_in table order) (range_with_len (a + 1) n))) refl
+    (parts-in table order (a + 1) n)
+
+module _ (table : TableId) (about : BoardSizes) (order : Order) where
+  abbrev seats : List BoardSeatView
+  seats = seats_in table about order
+
+  has_number : (q : ℕ) → q < about.seats → Contains (numbers_of (Views seats)) q
+  has_number q less =
+      subst (λ xs. Contains xs q) (sym (numbers-in table order 0 about.seats))
+      (let n = length-range_with_len 0 about.seats in
+      (q, omega arith, get_or-range_with_len 0 about.seats q q less ∙ omega arith))
+
+  by_ones : (es : Order) → IsLawful about es → All (IsByOne (Views seats)) es
+  by_ones [] lawful = All-nil (IsByOne (Views seats))
+  by_ones (e ∷ es) lawful =
+      All-cons (IsByOne (Views seats)) e es (has_number e.by lawful.0) (by_ones es lawful.2)
+
+pub each_order_closes : EachOrderCloses
+each_order_closes table about order fit lawful =
+    let parts : ArePartsOf order (Views (seats_in table about order)) =
+    record {
+      each = parts-in table order 0 about.seats;
+      whole = by_ones table about order order lawful;
+    } in (
+      record { order = order; sizes = fit; lawful = lawful; parts = parts; leaves = refl },
+      own_parts order (seats_in table about order) parts,
+    )

@@ -67,12 +67,12 @@ module _ (about : BoardSizes) (order : List (StepBy BoardStep)) (fit : FitSizes 
       let c : ℕ = closer about in
       let n : ℕ = when order c k in
       let may = (step_lawful about order n c (Gate (Read i v)) lawful
-          (step_is order c k (Gate (Read i v)) reads)).1 in
+      (step_is order c k (Gate (Read i v)) reads)).1 in
       may.0
       ∙ (ap (λ s. s i)
-        (settings_are_the_closers about (past n order) (lawful_past about order n lawful))
+      (settings_are_the_closers about (past n order) (lawful_past about order n lawful))
       ∙ ap (λ ds. own_settings about (gate_steps ds) i)
-        (sym ((moments order c).before k (Gate (Read i v)) reads)))
+      (sym ((moments order c).before k (Gate (Read i v)) reads)))
 
   pub reads_are_settings : ReadsAreSettings about (own order) (lists_of about order)
   reads_are_settings = record { in_visit = visit_reads; by_closer = closer_reads }

@@ -1,9 +1,12 @@
 -- How a board closes, and what a law of its closing speaks of.
-use Rattle.std.specs.Prelude.{◌≡◌, ℕ, ◌<◌, ◌==◌, List, [], ◌∷◌, None, map, if◌then◌else◌}
+use Rattle.std.specs.Prelude.{◌≡◌, ℕ, ◌<◌, ◌==◌, false, List, [], ◌∷◌, None, map, if◌then◌else◌}
+use Rattle.std.specs.List.{range_with_len}
+use Rattle.atomic_table.specs.Seated.{TableId}
 use Rattle.seat_order.specs.Orders.{StepBy}
 use Rattle.seat_order.specs.Seats.{ArePartsOf}
 use Rattle.hop_rule.specs.Boards.{IsLawful, lane_steps, gate_steps}
 use Rattle.hop_rule.specs.Lanes.{holding, out_holding, phase, idle}
+use Rattle.hop_rule.specs.Owns.{own_of}
 use Rattle.hop_rule.specs.Sizes.{FitSizes}
 use Rattle.hop_rule.specs.declared.sizes.BoardSizes.{BoardSizes}
 use Rattle.hop_rule.specs.declared.step.BoardStep.{BoardStep}
@@ -42,3 +45,28 @@ abbrev pub AtEachClosing : (BoardSizes → (ℕ → List BoardStep) → BoardLis
 AtEachClosing Holds =
     (about : BoardSizes) (seats : List BoardSeatView) (lists : BoardLists)
     → HasEnded about seats lists → Holds about (own_in seats) lists
+
+-- ---- each lawful order may be that of a closing
+
+-- the seat with this number after all steps of the order
+abbrev pub seat_in : TableId → List (StepBy BoardStep) → ℕ → BoardSeatView
+seat_in table order number =
+    record {
+      table = table;
+      number = number;
+      steps = own_of order number;
+      has_emptied = false;
+    }
+
+-- all seats of a board, by number
+abbrev pub seats_in : TableId → BoardSizes → List (StepBy BoardStep) → List BoardSeatView
+seats_in table about order = map (seat_in table order) (range_with_len 0 about.seats)
+
+-- A closing with the parts of a lawful order and with its lists is one, and the own lists that it
+-- speaks of are those parts.
+abbrev pub EachOrderCloses : Type 0
+EachOrderCloses =
+    (table : TableId) (about : BoardSizes) (order : List (StepBy BoardStep)) → FitSizes about
+    → IsLawful about order
+    → HasEnded about (seats_in table about order) (lists_of about order)
+    × (own_in (seats_in table about order) ≡ own_of order)

@@ -46,7 +46,7 @@ pub trait Board {
     fn setting(&self, seat: &mut BoardSeat, i: u32) -> u64
         requires table { seat.old.table ≡ (view self.now).table }
         requires inside { MayRead seat.old.steps }
-        requires within { i < length (view self.now).sizes.settings.items }
+        requires within { i < length (view self.now).sizes.settings }
         ensures { Adds (BoardStep.Gate (GateStep.Read i result) ∷ []) seat.old seat.new };
 
     /// Reads the head of a middle lane, a counter number that wraps.
@@ -137,7 +137,7 @@ pub trait Board {
         requires closer { IsCloser (view self.now).sizes seat.old.number }
         requires closed { HasClosed seat.old.steps }
         requires emptied { seat.old.has_emptied ≡ true }
-        requires within { i < length (view self.now).sizes.settings.items }
+        requires within { i < length (view self.now).sizes.settings }
         ensures { Adds (BoardStep.Gate (GateStep.Set i v) ∷ []) seat.old seat.new };
 
     /// Opens the gate.

@@ -1,6 +1,6 @@
 //! What the seats' own lists and the lists that a board leaves tell of each other, each the contract
 //! of a function that does nothing.
-ghost use Rattle.hop_seam.specs.Closings.{AtEachClosing};
+ghost use Rattle.hop_seam.specs.Closings.{AtEachClosing, EachOrderCloses};
 ghost use Rattle.hop_seam.specs.HeadLaws.{EmptiedLanesStandFirst, HeadsAreBelowTails};
 ghost use Rattle.hop_seam.specs.HeadLaws.{HeadsArePassed, HeadsRise, ReadsAreSettings};
 ghost use Rattle.hop_seam.specs.HeadLaws.{VisitNumbersRise};
@@ -71,4 +71,9 @@ pub fn visits_read_the_closers_settings()
 /// close, was delivered, and stands below what is put in visits with a higher number.
 pub fn emptied_lanes_stand_first()
     ensures { AtEachClosing EmptiedLanesStandFirst }
+{}
+
+/// Each lawful order may be that of a closing: the laws of closings speak of all of them.
+pub fn each_lawful_order_may_close()
+    ensures { EachOrderCloses }
 {}
