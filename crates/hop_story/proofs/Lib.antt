@@ -1,0 +1,9 @@
+pub mod Accounts
+pub mod Filters
+pub mod Receives
+pub mod Turns
+pub mod Accounted
+pub mod Placing
+pub mod Emptying
+pub mod Walks
+pub mod Law

@@ -1,0 +1,5 @@
+pub mod Laws
+pub mod Premises
+pub mod Receives
+pub mod Stories
+pub mod Turns

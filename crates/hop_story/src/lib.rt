@@ -1,0 +1,4 @@
+//! What producers did on a board, and the law that their packets are delivered in order.
+#![tactic(auto)]
+
+mod laws;
