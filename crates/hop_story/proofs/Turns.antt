@@ -1,5 +1,5 @@
 -- The turns that explain a list have places in it.
-use Rattle.std.proofs.Common.{◌≡◌, ◌⊎◌, inl, inr, ℕ, zero, suc, ◌+◌, ◌==◌, ◌<◌, ◌≤◌, List, [], ◌∷◌, ◌++◌, length, length-append, Option, Some, None, if◌then◌else◌, sym, refl, ap, ◌∙◌, subst, arith}
+use Rattle.std.proofs.Common.{◌≡◌, ◌⊎◌, inl, inr, ℕ, zero, suc, ◌+◌, ◌==◌, ◌<◌, ◌≤◌, List, [], ◌∷◌, ◌++◌, length, length-append, append_assoc, Option, Some, None, if◌then◌else◌, sym, refl, ap, ◌∙◌, subst, arith}
 use Rattle.std.specs.List.{filter_map, cons_option}
 use Rattle.std.proofs.lemmas.List.Elements.{filter_map-append}
 use mathlib.Core.Logic.{dite}
@@ -203,3 +203,23 @@ turns_have_places ds [] e = record {
 }
 turns_have_places ds (t ∷ ts) (newer, late, older, is, no_puts, q_late, q_early, rest) =
     subst (λ (z : List BoardStep). Places z (t ∷ ts)) (sym is) (places t ts newer late older no_puts q_late q_early (turns_have_places older ts rest))
+
+-- ---- how an explained list grows
+
+-- steps without a put
+pub explained_more : (more ds : List BoardStep) (ts : List (StepBy Turn)) → puts_of more ≡ [] → Explained ds ts → Explained (more ++ ds) ts
+explained_more more ds [] none e = filter_map-append put_in more ds ∙ (ap (λ xs. xs ++ puts_of ds) none ∙ e)
+explained_more more ds (t ∷ ts) none (newer, late, older, is, no_puts, q_late, q_early, rest) = (
+  more ++ newer,
+  late,
+  older,
+  ap (λ xs. more ++ xs) is ∙ sym (append_assoc more newer (visit_with t.step late older)),
+  filter_map-append put_in more newer ∙ (ap (λ xs. xs ++ puts_of newer) none ∙ no_puts),
+  q_late,
+  q_early,
+  rest,
+)
+
+-- a visit with its put
+pub explained_turn : (t : StepBy Turn) (late ds : List BoardStep) (ts : List (StepBy Turn)) → AreQuiet late → AreQuiet t.step.early → Explained ds ts → Explained (visit_with t.step late ds) (t ∷ ts)
+explained_turn t late ds ts q_late q_early e = ([], late, ds, refl, refl, q_late, q_early, e)
