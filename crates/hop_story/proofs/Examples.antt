@@ -1,5 +1,6 @@
 -- What the two examples share.
-use Rattle.std.proofs.Common.{◌≡◌, ◌≢◌, ℕ, zero, suc, ◌+◌, ◌-◌, ◌<◌, ◌≤◌, List, [], ◌∷◌, length, Option, Some, None, refl, sym, ap, ◌∙◌, subst, arith, inl, inr}
+use Rattle.std.proofs.Common.{◌≡◌, ◌≢◌, ℕ, zero, suc, ◌+◌, ◌-◌, ◌<◌, ◌≤◌, List, [], ◌∷◌, length}
+use Rattle.std.proofs.Common.{Option, Some, None, refl, sym, ap, ◌∙◌, subst, arith, inl, inr}
 use Rattle.std.specs.Prelude.{All, slice_index}
 use Rattle.std.specs.List.{range_with_len}
 use Rattle.std.proofs.lemmas.List.Elements.{All-nil, All-cons}
@@ -15,9 +16,11 @@ use Rattle.hop_story.specs.Turns.{Turn}
 use Rattle.hop_story.proofs.Turns.{nth-first}
 
 -- a number of no seat has the empty list
-pub own_empty : (about : BoardSizes) (order : List (StepBy BoardStep)) → IsLawful about order → (q : ℕ) → about.seats ≤ q → own_of order q ≡ []
+pub own_empty : (about : BoardSizes) (order : List (StepBy BoardStep)) → IsLawful about order
+    → (q : ℕ) → about.seats ≤ q → own_of order q ≡ []
 own_empty about [] lawful q le = refl
-own_empty about (e ∷ es) lawful q le = steps_of_other q e.by e.step es (λ is. let l = lawful.0 in absurd (omega arith)) ∙ own_empty about es lawful.2 q le
+own_empty about (e ∷ es) lawful q le = steps_of_other q e.by e.step es
+    (λ is. let l = lawful.0 in absurd (omega arith)) ∙ own_empty about es lawful.2 q le
 
 pub all_true : {A : Type 0} (P : A → Type 0) (xs : List A) → ((x : A) → P x) → All P xs
 all_true P [] f = All-nil P
@@ -52,6 +55,8 @@ range_index a (suc n) zero l = omega arith
 range_index a (suc n) (suc i) l = let t = range_index (a + 1) n i (omega arith) in omega arith
 
 -- no turn is of another producer than the first
-pub none_of : {D : Type 0} (es : List (StepBy D)) (p : ℕ) → Each (λ (e : StepBy D). e.by ≡ 0) es → steps_of (suc p) es ≡ []
+pub none_of : {D : Type 0} (es : List (StepBy D)) (p : ℕ) → Each (λ (e : StepBy D). e.by ≡ 0) es
+    → steps_of (suc p) es ≡ []
 none_of [] p each = refl
-none_of (e ∷ es) p each = steps_of_other (suc p) e.by e.step es (λ is. let z = each.0 in absurd (omega arith)) ∙ none_of es p each.1
+none_of (e ∷ es) p each = steps_of_other (suc p) e.by e.step es
+    (λ is. let z = each.0 in absurd (omega arith)) ∙ none_of es p each.1

@@ -1,7 +1,8 @@
 -- A receive board and a transmit board with stories that meet the premises: on the first two flows,
 -- a packet that is dropped, a flow that moves to another processor, and a flow table that is
 -- resized; on the second a flow that moves to another transmit queue.
-use Rattle.std.specs.Prelude.{◌≡◌, ◌≢◌, ℕ, zero, suc, ◌+◌, ◌-◌, ◌^◌, ◌==◌, List, [], ◌∷◌, Option, Some}
+use Rattle.std.specs.Prelude.{◌≡◌, ◌≢◌, ℕ, zero, suc, ◌+◌, ◌-◌, ◌^◌, ◌==◌, List, [], ◌∷◌}
+use Rattle.std.specs.Prelude.{Option, Some}
 use Rattle.std.specs.Prelude.{None, take, if◌then◌else◌}
 use Rattle.steer_base.specs.declared.choice.Chosen.{Chosen}
 use Rattle.steer_base.specs.declared.choice.Why.{Why}
@@ -19,7 +20,7 @@ use Rattle.hop_rule.specs.Sizes.{FitSizes}
 use Rattle.hop_rule.specs.declared.sizes.BoardSizes.{BoardSizes}
 use Rattle.hop_rule.specs.declared.step.BoardStep.{BoardStep}
 use Rattle.hop_story.specs.Plays as play
-use Rattle.hop_story.specs.Plays.{Move, plays}
+use Rattle.hop_story.specs.Plays.{Move, plays_rows}
 use Rattle.hop_story.specs.Premises.{MeetsPremises}
 use Rattle.hop_story.specs.Receives.{Queues, receive_steering}
 use Rattle.hop_story.specs.Stories.{IsSteering, Steering, Story, shape_at}
@@ -72,7 +73,8 @@ receive_board =
       seats = 2;
     }
 
--- Packet 3 is of flow 1, all others are of flow 0. A flow's hash and its application have the flow's
+-- Packet 3 is of flow 1, all others are of flow 0. A flow's hash and its application have the
+-- flow's
 -- number.
 abbrev pub one_queue : Queues
 one_queue =
@@ -92,44 +94,47 @@ four_entries = 4 + 2 ^ 32
 
 module _ (b : BoardSizes) where
   -- a packet is pulled, delivered and retired by the worker
-  abbrev pub drains : ℕ → ℕ → ℕ → List Move → List Move
-  drains l o id rest =
+  abbrev pub drains : ℕ → ℕ → ℕ → List Move
+  drains l o id =
       play.holds b 0 l ∷ play.pulls b 0 l id ∷ play.out_holds b 0 o ∷ play.gives b 0 o l id
-      ∷ play.retires b 0 l ∷ rest
+      ∷ play.retires b 0 l ∷ []
 
   -- a visit of the worker with a put, without and with a look at a head
-  abbrev pub visits : ℕ → ℕ → Option ℕ → List Move → List Move
-  visits l id hash rest =
-      play.enters b 0 ∷ play.holds b 0 l ∷ play.puts b 0 l id hash ∷ play.leaves b 0 ∷ rest
+  abbrev pub visits : ℕ → ℕ → Option ℕ → List Move
+  visits l id hash =
+      play.enters b 0 ∷ play.holds b 0 l ∷ play.puts b 0 l id hash ∷ play.leaves b 0 ∷ []
 
-  abbrev pub weighed_visits : ℕ → ℕ → ℕ → Option ℕ → List Move → List Move
-  weighed_visits seen l id hash rest =
+  abbrev pub weighed_visits : ℕ → ℕ → ℕ → Option ℕ → List Move
+  weighed_visits seen l id hash =
       play.enters b 0 ∷ play.weighs b 0 seen ∷ play.holds b 0 l ∷ play.puts b 0 l id hash
-      ∷ play.leaves b 0 ∷ rest
+      ∷ play.leaves b 0 ∷ []
+
+  -- a close, a look at both lanes, one setting, and an opening
+  abbrev pub resizes : ℕ → ℕ → List Move
+  resizes word value =
+      play.shuts b the_closer ∷ play.weighs b the_closer 0 ∷ play.counts b the_closer 0
+      ∷ play.weighs b the_closer 1 ∷ play.counts b the_closer 1
+      ∷ play.sets b the_closer word value ∷ play.opens b the_closer ∷ []
 
 -- Packet 0 goes to processor 0. The socket of its flow wants processor 1 from then on: packet 1
 -- stays behind packet 0 and finds the backlog full, and packet 2 moves once packet 0 is retired.
 -- Packet 3, of the other flow, goes to processor 1. Then the closer resizes the flow table, and
 -- packet 4 is as the first of its class.
-abbrev pub receive_moves : List Move
-receive_moves =
+abbrev pub receive_rows : List (List Move)
+receive_rows =
     visits receive_board 0 0 (Some 0)
-    (weighed_visits receive_board 0 0 1 (Some 0)
-    (drains receive_board 0 0 0
-    (weighed_visits receive_board 0 1 2 (Some 0)
-    (drains receive_board 1 0 2
-    (visits receive_board 1 3 (Some 1)
-    (drains receive_board 1 1 3
-    (play.shuts receive_board the_closer
-    ∷ play.weighs receive_board the_closer 0 ∷ play.counts receive_board the_closer 0
-    ∷ play.weighs receive_board the_closer 1 ∷ play.counts receive_board the_closer 1
-    ∷ play.sets receive_board the_closer 1 four_entries
-    ∷ play.opens receive_board the_closer
+    ∷ weighed_visits receive_board 0 0 1 (Some 0)
+    ∷ drains receive_board 0 0 0
+    ∷ weighed_visits receive_board 0 1 2 (Some 0)
+    ∷ drains receive_board 1 0 2
+    ∷ visits receive_board 1 3 (Some 1)
+    ∷ drains receive_board 1 1 3
+    ∷ resizes receive_board 1 four_entries
     ∷ visits receive_board 0 4 (Some 0)
-    (drains receive_board 0 0 4 []))))))))
+    ∷ drains receive_board 0 0 4 ∷ []
 
 abbrev pub receive_order : List (StepBy BoardStep)
-receive_order = plays receive_moves []
+receive_order = plays_rows receive_rows []
 
 abbrev pub first_chosen : Chosen
 first_chosen = chose 0 0 None None 4294967294 0 Unset
@@ -198,7 +203,8 @@ pub record ReceiveExample : Type 0 where
 
 -- ---- the transmit board
 
--- Two transmit queues and the port; a worker has seat 0, and the closer, which does nothing, seat 1.
+-- Two transmit queues and the port; a worker has seat 0, and the closer, which does nothing,
+-- seat 1.
 abbrev pub transmit_board : BoardSizes
 transmit_board =
     record {
@@ -214,17 +220,17 @@ transmit_board =
 
 -- The first reply of a flow goes to queue 0. Queue 1 is picked from then on: the second reply stays
 -- behind the first, and the third moves once both were completed.
-abbrev pub transmit_moves : List Move
-transmit_moves =
+abbrev pub transmit_rows : List (List Move)
+transmit_rows =
     visits transmit_board 0 0 None
-    (weighed_visits transmit_board 0 0 1 None
-    (drains transmit_board 0 0 0
-    (drains transmit_board 0 0 1
-    (weighed_visits transmit_board 0 1 2 None
-    (drains transmit_board 1 0 2 [])))))
+    ∷ weighed_visits transmit_board 0 0 1 None
+    ∷ drains transmit_board 0 0 0
+    ∷ drains transmit_board 0 0 1
+    ∷ weighed_visits transmit_board 0 1 2 None
+    ∷ drains transmit_board 1 0 2 ∷ []
 
 abbrev pub transmit_order : List (StepBy BoardStep)
-transmit_order = plays transmit_moves []
+transmit_order = plays_rows transmit_rows []
 
 abbrev pub first_reply : Chosen
 first_reply = chose 0 0 (Some 0) None 0 0 Unset

@@ -24,6 +24,11 @@ abbrev pub plays : List Move → List (StepBy BoardStep) → List (StepBy BoardS
 plays [] es = es
 plays (m ∷ ms) es = plays ms (m es ∷ es)
 
+-- the order after these rows of moves
+abbrev pub plays_rows : List (List Move) → List (StepBy BoardStep) → List (StepBy BoardStep)
+plays_rows [] es = es
+plays_rows (ms ∷ rows) es = plays_rows rows (plays ms es)
+
 module _ (about : BoardSizes) where
   -- ---- of the seat p: at the gate
 
@@ -77,7 +82,8 @@ module _ (about : BoardSizes) where
 
   abbrev pub out_holds : ℕ → ℕ → Move
   out_holds p o es =
-      step_by p (Lane (OutHeld o (out_word about o (lanes_of es)) (out_content about o (lanes_of es))))
+      step_by p (Lane (OutHeld o (out_word about o (lanes_of es))
+      (out_content about o (lanes_of es))))
 
   -- the packet that was pulled from the lane l is delivered
   abbrev pub gives : ℕ → ℕ → ℕ → ℕ → Move
