@@ -4,7 +4,8 @@ use Rattle.seat_order.specs.Orders.{StepBy}
 use Rattle.hop_rule.specs.Boards.{IsLawful}
 use Rattle.hop_rule.specs.Gates.{Visit, outside, inside, backing}
 use Rattle.hop_rule.specs.declared.step.BoardStep.{BoardStep}
-use Rattle.hop_story.specs.Examples.{drains, four_entries, receive_board, receive_order, receive_rows, resizes, visits, weighed_visits}
+use Rattle.hop_story.specs.Examples.{drains, four_entries, receive_board, receive_order}
+use Rattle.hop_story.specs.Examples.{receive_rows, resizes, visits, weighed_visits}
 use Rattle.hop_story.specs.Plays.{plays_rows}
 use Rattle.hop_story.proofs.Plays.{MayPlay, rows_lawfully}
 
@@ -63,7 +64,14 @@ row_2 = (
     (
       (omega arith, ((omega arith, refl, refl, refl), tt, tt)),
       (
-        (omega arith, ((omega arith, omega arith, (_, refl, omega arith, refl, refl, refl)), tt, refl)),
+        (
+          omega arith,
+          (
+            (omega arith, omega arith, (_, refl, omega arith, refl, refl, refl)),
+            tt,
+            refl,
+          ),
+        ),
         (
           (omega arith, ((omega arith, refl, refl, refl), tt, tt)),
           tt,
@@ -99,7 +107,14 @@ row_4 = (
     (
       (omega arith, ((omega arith, refl, refl, refl), tt, tt)),
       (
-        (omega arith, ((omega arith, omega arith, (_, refl, omega arith, refl, refl, refl)), tt, refl)),
+        (
+          omega arith,
+          (
+            (omega arith, omega arith, (_, refl, omega arith, refl, refl, refl)),
+            tt,
+            refl,
+          ),
+        ),
         (
           (omega arith, ((omega arith, refl, refl, refl), tt, tt)),
           tt,
@@ -132,7 +147,14 @@ row_6 = (
     (
       (omega arith, ((omega arith, refl, refl, refl), tt, tt)),
       (
-        (omega arith, ((omega arith, omega arith, (_, refl, omega arith, refl, refl, refl)), tt, refl)),
+        (
+          omega arith,
+          (
+            (omega arith, omega arith, (_, refl, omega arith, refl, refl, refl)),
+            tt,
+            refl,
+          ),
+        ),
         (
           (omega arith, ((omega arith, refl, refl, refl), tt, tt)),
           tt,
@@ -189,7 +211,14 @@ row_9 = (
     (
       (omega arith, ((omega arith, refl, refl, refl), tt, tt)),
       (
-        (omega arith, ((omega arith, omega arith, (_, refl, omega arith, refl, refl, refl)), tt, refl)),
+        (
+          omega arith,
+          (
+            (omega arith, omega arith, (_, refl, omega arith, refl, refl, refl)),
+            tt,
+            refl,
+          ),
+        ),
         (
           (omega arith, ((omega arith, refl, refl, refl), tt, tt)),
           tt,
@@ -201,4 +230,13 @@ row_9 = (
 
 pub receive_lawful : IsLawful receive_board receive_order
 receive_lawful =
-    rows_lawfully receive_board receive_rows [] (row_0, (row_1, (row_2, (row_3, (row_4, (row_5, (row_6, (row_7, (row_8, (row_9, tt)))))))))) tt
+    rows_lawfully receive_board receive_rows [] (
+      row_0,
+      (
+        row_1,
+        (
+          row_2,
+          (row_3, (row_4, (row_5, (row_6, (row_7, (row_8, (row_9, tt))))))),
+        ),
+      ),
+    ) tt

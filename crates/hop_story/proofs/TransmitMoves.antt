@@ -4,7 +4,8 @@ use Rattle.seat_order.specs.Orders.{StepBy}
 use Rattle.hop_rule.specs.Boards.{IsLawful}
 use Rattle.hop_rule.specs.Gates.{Visit, outside, inside, backing}
 use Rattle.hop_rule.specs.declared.step.BoardStep.{BoardStep}
-use Rattle.hop_story.specs.Examples.{drains, transmit_board, transmit_order, transmit_rows, visits, weighed_visits}
+use Rattle.hop_story.specs.Examples.{drains, transmit_board, transmit_order, transmit_rows}
+use Rattle.hop_story.specs.Examples.{visits, weighed_visits}
 use Rattle.hop_story.specs.Plays.{plays_rows}
 use Rattle.hop_story.proofs.Plays.{MayPlay, rows_lawfully}
 
@@ -63,7 +64,14 @@ row_2 = (
     (
       (omega arith, ((omega arith, refl, refl, refl), tt, tt)),
       (
-        (omega arith, ((omega arith, omega arith, (_, refl, omega arith, refl, refl, refl)), tt, refl)),
+        (
+          omega arith,
+          (
+            (omega arith, omega arith, (_, refl, omega arith, refl, refl, refl)),
+            tt,
+            refl,
+          ),
+        ),
         (
           (omega arith, ((omega arith, refl, refl, refl), tt, tt)),
           tt,
@@ -81,7 +89,14 @@ row_3 = (
     (
       (omega arith, ((omega arith, refl, refl, refl), tt, tt)),
       (
-        (omega arith, ((omega arith, omega arith, (_, refl, omega arith, refl, refl, refl)), tt, refl)),
+        (
+          omega arith,
+          (
+            (omega arith, omega arith, (_, refl, omega arith, refl, refl, refl)),
+            tt,
+            refl,
+          ),
+        ),
         (
           (omega arith, ((omega arith, refl, refl, refl), tt, tt)),
           tt,
@@ -117,7 +132,14 @@ row_5 = (
     (
       (omega arith, ((omega arith, refl, refl, refl), tt, tt)),
       (
-        (omega arith, ((omega arith, omega arith, (_, refl, omega arith, refl, refl, refl)), tt, refl)),
+        (
+          omega arith,
+          (
+            (omega arith, omega arith, (_, refl, omega arith, refl, refl, refl)),
+            tt,
+            refl,
+          ),
+        ),
         (
           (omega arith, ((omega arith, refl, refl, refl), tt, tt)),
           tt,
@@ -129,4 +151,5 @@ row_5 = (
 
 pub transmit_lawful : IsLawful transmit_board transmit_order
 transmit_lawful =
-    rows_lawfully transmit_board transmit_rows [] (row_0, (row_1, (row_2, (row_3, (row_4, (row_5, tt)))))) tt
+    rows_lawfully transmit_board transmit_rows []
+    (row_0, (row_1, (row_2, (row_3, (row_4, (row_5, tt)))))) tt
