@@ -1,7 +1,6 @@
 -- One order of lanes and gate: its two parts, and what it was at a moment.
-use Rattle.std.proofs.Common.{◌≡◌, ℕ, zero, suc, ◌+◌, ◌-◌, ◌<◌, ◌≤◌, List, [], ◌∷◌, ◌++◌, Option}
+use Rattle.std.proofs.Common.{◌≡◌, ℕ, zero, suc, ◌-◌, ◌<◌, ◌≤◌, List, [], ◌∷◌, ◌++◌, Option}
 use Rattle.std.proofs.Common.{length, drop, sym, refl, ap, ◌∙◌, subst, arith, append_assoc}
-use Rattle.steer_base.specs.Lanes.{LaneLists}
 use Rattle.steer_base.specs.declared.put.Put.{Put}
 use Rattle.backlog.specs.Puts.{after_put}
 use Rattle.seat_order.specs.Orders.{StepBy, step_by}

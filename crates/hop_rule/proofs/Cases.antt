@@ -1,7 +1,7 @@
 -- What a step does to one lane, one out lane, one head, or one part of an order: something, or
 -- nothing.
-use Rattle.std.proofs.Common.{◌≡◌, ◌≢◌, ℕ, ◌+◌, ◌==◌, List, [], ◌∷◌, ◌++◌, if◌then◌else◌, Option}
-use Rattle.std.proofs.Common.{Some, None, sym, refl, ap, subst}
+use Rattle.std.proofs.Common.{◌≡◌, ◌≢◌, ℕ, ◌+◌, ◌==◌, List, [], ◌∷◌, ◌++◌, if◌then◌else◌}
+use Rattle.std.proofs.Common.{sym, refl, ap, subst}
 use Rattle.std.specs.List.{cons_option}
 use Rattle.std.specs.Option.{option_map}
 use mathlib.Core.Logic.{dite}

@@ -1,7 +1,7 @@
 -- The drops of a lane: their counts rise, and the offers explain them.
-use Rattle.std.proofs.Common.{◌≡◌, ℕ, suc, ◌+◌, ◌<◌, ◌≤◌, Bool, true, false, List, length, Option}
-use Rattle.std.proofs.Common.{Some, None, sym, refl, ap, ◌∙◌, subst, arith, get_or}
-use Rattle.std.specs.Prelude.{nat_lt, if◌then◌else◌, slice_get}
+use Rattle.std.proofs.Common.{◌≡◌, ℕ, ◌+◌, ◌≤◌, Bool, true, false, List, length, Option}
+use Rattle.std.proofs.Common.{Some, sym, refl, ap, ◌∙◌, subst}
+use Rattle.std.specs.Prelude.{nat_lt, if◌then◌else◌}
 use Rattle.std.proofs.lemmas.Bool.{lt-ltb}
 use Rattle.steer_base.specs.Drops.{lane_drop_cause}
 use Rattle.steer_base.specs.Lanes.{LaneLists}

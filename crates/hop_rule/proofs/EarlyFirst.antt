@@ -1,16 +1,14 @@
 -- What lay in a lane that was found empty stands below what is put after the next opening.
-use Rattle.std.proofs.Common.{◌≡◌, ◌⊎◌, inl, inr, ℕ, zero, suc, ◌+◌, ◌*◌, ◌/◌, ◌%◌, ◌^◌, ◌<◌, ◌≤◌}
-use Rattle.std.proofs.Common.{List, ◌∷◌, length, Some, sym, ap, ◌∙◌, refl, subst, arith}
+use Rattle.std.proofs.Common.{◌≡◌, ◌⊎◌, inl, inr, ℕ, zero, suc, ◌+◌, ◌/◌, ◌%◌, ◌^◌, ◌<◌, ◌≤◌}
+use Rattle.std.proofs.Common.{List, ◌∷◌, length, sym, ap, ◌∙◌, refl, subst, arith}
 use Rattle.std.proofs.lemmas.Bool.{cases_lt}
-use Rattle.steer_base.specs.Lanes.{LaneLists}
-use Rattle.steer_base.specs.declared.put.Put.{Put}
-use Rattle.seat_order.specs.Orders.{StepBy, step_by, steps_of}
+use Rattle.seat_order.specs.Orders.{StepBy, step_by}
 use Rattle.hop_rule.specs.Boards.{gates_of, lanes_of, lane_at, IsLawful, retired}
-use Rattle.hop_rule.specs.Deliveries.{Delivery, given}
+use Rattle.hop_rule.specs.Deliveries.{Delivery}
 use Rattle.hop_rule.specs.Emptied.{WasEmptied}
 use Rattle.hop_rule.specs.Gates as gates
 use Rattle.hop_rule.specs.Lanes as lanes
-use Rattle.hop_rule.specs.Moments.{past, IsStep, nth_step}
+use Rattle.hop_rule.specs.Moments.{past, IsStep}
 use Rattle.hop_rule.specs.PutLaws.{WasPut, lane_then}
 use Rattle.hop_rule.specs.SettingLaws.{EarlyStandsFirst, EmptiedLanesStandFirst, HeadsAreBelowTails}
 use Rattle.hop_rule.specs.SettingLaws.{put_visit}

@@ -1,11 +1,9 @@
 -- Each step of a lawful order is one event of the bare hop, or leaves it.
-use Rattle.std.proofs.Common.{◌≡◌, ◌≢◌, ℕ, zero, suc, ◌+◌, ◌-◌, ◌<◌, ◌≤◌, Bool, true, false, List}
+use Rattle.std.proofs.Common.{◌≡◌, ◌≢◌, ℕ, zero, suc, ◌+◌, ◌-◌, ◌<◌, ◌≤◌, false, List}
 use Rattle.std.proofs.Common.{[], ◌∷◌, ◌++◌, Option, Some, None, length, map, get_or, set, sym}
 use Rattle.std.proofs.Common.{refl, ap, ◌∙◌, subst, arith}
-use Rattle.std.specs.Prelude.{◌==◌, nat_lt, if◌then◌else◌, slice_get, slice_index, replicate}
+use Rattle.std.specs.Prelude.{nat_lt, slice_get, slice_index, replicate}
 use Rattle.std.specs.List.{range_with_len}
-use Rattle.std.proofs.lemmas.Bool.{cases_eq}
-use Rattle.std.specs.Option.{unwrap_or}
 use mathlib.Core.Logic.{dite}
 use native.Mathlib.Decide.{ℕ_discrete}
 use Rattle.steer_base.specs.Lanes.{LaneLists}
@@ -13,7 +11,7 @@ use Rattle.steer_base.specs.Drops.{bucket_of, lane_drop_cause}
 use Rattle.steer_base.specs.Sets.{has}
 use Rattle.steer_base.specs.declared.put.DropCause.{DropCause}
 use Rattle.steer_base.specs.declared.put.LaneDrop.{LaneDrop}
-use Rattle.backlog.specs.Puts.{put_by, after_put, new_lane, next_waiting}
+use Rattle.backlog.specs.Puts.{put_by, after_put, new_lane}
 use Rattle.seat_order.specs.Orders.{StepBy, step_by, steps_of}
 use Rattle.seat_order.proofs.Views.{steps_of_own, steps_of_other}
 use Rattle.seat_order.proofs.Lists.{if_same, if_other}
@@ -29,10 +27,9 @@ use Rattle.hop_rule.specs.declared.step.LaneStep.TheVariants.{OutMissed, OutFree
 use Rattle.hop_rule.specs.declared.step.GateStep.{GateStep}
 use Rattle.hop_rule.specs.declared.step.GateStep.TheVariants.{Entered, Turned, Left, Shut, NotShut}
 use Rattle.hop_rule.specs.declared.step.GateStep.TheVariants.{Opened, Set, Read}
-use Rattle.hop_core.specs.Hop.{Fixed, Bare, accepted_at, offers_at, drops_at, pulled_at}
-use Rattle.hop_core.specs.Hop.{delivered_at, retired_at, out_at, next_out, lane_of, landed, put_at}
+use Rattle.hop_core.specs.Hop.{Bare, accepted_at, pulled_at}
+use Rattle.hop_core.specs.Hop.{delivered_at, retired_at, next_out, lane_of, landed}
 use Rattle.hop_core.specs.BareEvents.{MayBe, bare_after}
-use Rattle.hop_core.specs.Shape.{fresh_hop}
 use Rattle.hop_rule.specs.Deliveries.{Delivery, delivery, given}
 use Rattle.hop_rule.specs.Sizes.{puller}
 use Rattle.hop_rule.specs.Lanes as lanes
@@ -46,8 +43,8 @@ use Rattle.hop_rule.proofs.Lanes.{holds, counted, out_of_hand}
 use Rattle.hop_rule.proofs.Deliveries.{facts, gone, waiting, Waits}
 use Rattle.hop_rule.proofs.Boards.{parts}
 use Rattle.hop_rule.proofs.Cases.{pick, lane_case}
-use Rattle.hop_rule.proofs.Gates.{closes, sums, sum_same, sum_one, sum_has}
-use Rattle.hop_rule.proofs.Lists.{get-inside, none-some}
+use Rattle.hop_rule.proofs.Gates.{closes, sums, sum_one, sum_has}
+use Rattle.hop_rule.proofs.Lists.{get-inside}
 
 -- ---- lists of the values of a function
 

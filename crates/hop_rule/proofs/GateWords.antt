@@ -1,13 +1,11 @@
 -- The gate's word by the seats' own lists.
-use Rattle.std.proofs.Common.{◌≡◌, ◌≢◌, ℕ, ◌+◌, ◌<◌, ◌≤◌, List, sym, ap, ◌∙◌, arith}
+use Rattle.std.proofs.Common.{◌≡◌, List, sym, ap, ◌∙◌, arith}
 use Rattle.seat_order.specs.Orders.{StepBy, steps_of}
-use Rattle.hop_rule.specs.Boards.{gates_of, IsLawful}
+use Rattle.hop_rule.specs.Boards.{gates_of}
 use Rattle.hop_rule.specs.Events.{sum_below}
 use Rattle.hop_rule.specs.Gates as gates
-use Rattle.hop_rule.specs.SettingLaws.{IsGateWord, GateWordCountsVisits, open_visits, closers}
-use Rattle.hop_rule.specs.Sizes.{FitSizes, closer}
-use Rattle.hop_rule.specs.declared.sizes.BoardSizes.{BoardSizes}
-use Rattle.hop_rule.specs.declared.step.BoardStep.{BoardStep}
+use Rattle.hop_rule.specs.SettingLaws.{GateWordCountsVisits, open_visits, closers}
+use Rattle.hop_rule.specs.Sizes.{closer}
 use Rattle.hop_rule.specs.declared.step.GateStep.{GateStep}
 use Rattle.hop_rule.proofs.Boards.{parts}
 use Rattle.hop_rule.proofs.Gates.{closes, open_small, shut_out, small, sum_most, unshut, word}

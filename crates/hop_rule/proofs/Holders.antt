@@ -1,10 +1,10 @@
 -- Who holds a lane, by the seats' own lists, by the lane's word and by its slot.
 use Rattle.std.proofs.Common.{◌≡◌, ◌≢◌, ℕ, zero, suc, ◌+◌, ◌*◌, ◌%◌, ◌<◌, List, [], ◌∷◌, length}
-use Rattle.std.proofs.Common.{Option, Some, None, sym, refl, ap, ◌∙◌, subst, arith}
+use Rattle.std.proofs.Common.{Some, None, sym, refl, ap, ◌∙◌, arith}
 use mathlib.Core.Logic.{dite}
 use native.Mathlib.Decide.{ℕ_discrete}
 use Rattle.steer_base.specs.Lanes.{LaneLists}
-use Rattle.seat_order.specs.Orders.{StepBy, steps_of}
+use Rattle.seat_order.specs.Orders.{StepBy}
 use Rattle.seat_order.proofs.Lists.{if_same, if_other}
 use Rattle.hop_rule.specs.Boards.{MayCome, IsLawful, full, taken, empty, SlotState, lane_at}
 use Rattle.hop_rule.specs.Boards.{lane_steps, lanes_of, out, out_slot, own_state, slot_state}

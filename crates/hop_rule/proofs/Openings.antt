@@ -1,25 +1,24 @@
 -- The closer's openings, and the settings at an entry.
-use Rattle.std.proofs.Common.{◌≡◌, ◌≢◌, ℕ, zero, suc, ◌+◌, ◌/◌, ◌==◌, ◌<◌, ◌≤◌, List, [], ◌∷◌}
-use Rattle.std.proofs.Common.{length, if◌then◌else◌, sym, refl, ap, ◌∙◌, subst, arith}
+use Rattle.std.proofs.Common.{◌≡◌, ℕ, ◌+◌, ◌/◌, ◌<◌, ◌≤◌, List, [], ◌∷◌}
+use Rattle.std.proofs.Common.{length, sym, refl, ap, ◌∙◌, subst, arith}
 use mathlib.Core.Logic.{dite}
 use native.Mathlib.Decide.{ℕ_discrete}
 use Rattle.seat_order.specs.Orders.{StepBy, step_by, steps_of}
 use Rattle.seat_order.proofs.Lists.{if_same, if_other}
 use Rattle.seat_order.proofs.Views.{steps_of_own, steps_of_other}
-use Rattle.hop_rule.specs.Boards.{gates_of, gate_steps, IsLawful, settings}
+use Rattle.hop_rule.specs.Boards.{gates_of, IsLawful, settings}
 use Rattle.hop_rule.specs.Gates as gates
 use Rattle.hop_rule.specs.Moments.{past, IsStep}
-use Rattle.hop_rule.specs.SettingLaws.{closers, own_gate, SettingsAreTheClosers, NoSetWhileInside}
+use Rattle.hop_rule.specs.SettingLaws.{closers, SettingsAreTheClosers, NoSetWhileInside}
 use Rattle.hop_rule.specs.SettingLaws.{VisitsAreNumbered, VisitsShowSettings, VisitsReadSettings}
 use Rattle.hop_rule.specs.Sizes.{FitSizes, closer}
 use Rattle.hop_rule.specs.declared.sizes.BoardSizes.{BoardSizes}
 use Rattle.hop_rule.specs.declared.step.BoardStep.{BoardStep}
-use Rattle.hop_rule.specs.declared.step.BoardStep.TheVariants.{Lane, Gate, Weighed, Counted}
-use Rattle.hop_rule.specs.declared.step.BoardStep.TheVariants.{LaneOut, LaneIn}
+use Rattle.hop_rule.specs.declared.step.BoardStep.TheVariants.{Gate}
 use Rattle.hop_rule.specs.declared.step.GateStep.{GateStep}
 use Rattle.hop_rule.specs.declared.step.GateStep.TheVariants.{Entered, Turned, Left, Shut, NotShut}
 use Rattle.hop_rule.specs.declared.step.GateStep.TheVariants.{Opened, Set, Read}
-use Rattle.hop_rule.proofs.Boards.{parts, gates_past, lawful_past, step_lawful}
+use Rattle.hop_rule.proofs.Boards.{parts, gates_past, step_lawful}
 use Rattle.hop_rule.proofs.Cases.{gate_part_case, pick}
 use Rattle.hop_rule.proofs.Closings.{settings_own}
 use Rattle.hop_rule.proofs.Gates.{closes, entered_word, unshut}

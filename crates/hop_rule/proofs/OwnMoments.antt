@@ -1,5 +1,5 @@
 -- A seat's own steps have moments in the order.
-use Rattle.std.proofs.Common.{◌≡◌, ℕ, suc, ◌+◌, ◌-◌, ◌<◌, ◌≤◌, ◌==◌, List, [], ◌∷◌, if◌then◌else◌}
+use Rattle.std.proofs.Common.{◌≡◌, ℕ, ◌==◌, List, [], ◌∷◌, if◌then◌else◌}
 use Rattle.std.proofs.Common.{length, Some, sym, ap, ◌∙◌, arith}
 use mathlib.Core.Logic.{dite}
 use native.Mathlib.Decide.{ℕ_discrete}
@@ -7,7 +7,7 @@ use Rattle.seat_order.specs.Orders.{StepBy, steps_of}
 use Rattle.seat_order.proofs.Lists.{if_same, if_other}
 use Rattle.seat_order.proofs.Views.{steps_of_own, steps_of_other}
 use Rattle.hop_rule.specs.Moments.{Did, past, nth_step, moment_of}
-use Rattle.hop_rule.specs.OwnLaws.{HasMoments, OwnStepsHaveMoments}
+use Rattle.hop_rule.specs.OwnLaws.{OwnStepsHaveMoments}
 use Rattle.hop_rule.proofs.Lists.{none-some}
 use Rattle.hop_rule.proofs.Moments.{nth-inside, past-all, past-old, step-inside}
 use Rattle.hop_rule.proofs.Parts.{at_moment, moments_rise, from_moment}

@@ -11,7 +11,7 @@ use Rattle.steer_base.specs.declared.put.Put.{Put}
 use Rattle.backlog.specs.Puts.{after_put, put_by}
 use Rattle.seat_order.specs.Orders.{StepBy, step_by, steps_of}
 use Rattle.seat_order.proofs.Lists.{if_same}
-use Rattle.hop_rule.specs.Boards.{lane_at, lanes_of, lane_steps, IsLawful, out}
+use Rattle.hop_rule.specs.Boards.{lane_at, lanes_of, IsLawful, out}
 use Rattle.hop_rule.specs.Deliveries.{given}
 use Rattle.hop_rule.specs.Fronts.{Front}
 use Rattle.hop_rule.specs.Lanes as lanes
@@ -29,9 +29,9 @@ use Rattle.hop_rule.specs.declared.step.Change.TheVariants.{Nothing, Offered, Pu
 use Rattle.hop_rule.specs.declared.step.LaneStep.{LaneStep}
 use Rattle.hop_rule.specs.declared.step.LaneStep.TheVariants.{Freed, Given}
 use Rattle.hop_rule.proofs.Boards.{lanes_past, step_lawful, put_now}
-use Rattle.hop_rule.proofs.Cases.{lane_part, lane_case, out_case, lane_part_case}
+use Rattle.hop_rule.proofs.Cases.{lane_case, out_case, lane_part_case}
 use Rattle.hop_rule.proofs.Deliveries.{facts, Waits}
-use Rattle.hop_rule.proofs.Fronts.{front-get, front-length, get-pushed, lane_later, out_later}
+use Rattle.hop_rule.proofs.Fronts.{front-get, get-pushed, lane_later, out_later}
 use Rattle.hop_rule.proofs.Fronts.{count_later, accepted_later}
 use Rattle.hop_rule.proofs.Lists.{none-some, some-is}
 use Rattle.hop_rule.proofs.Lanes.{holds, out_holds}

@@ -1,19 +1,15 @@
 -- Wrong orders are not lawful.
-use Rattle.std.proofs.Common.{◌≡◌, ◌≢◌, ℕ, ◌+◌, ◌<◌, List, ◌∷◌, length, Option, Some, None, sym, ap}
+use Rattle.std.proofs.Common.{◌≡◌, ◌+◌, List, length, sym, ap}
 use Rattle.std.proofs.Common.{◌∙◌, arith}
-use Rattle.steer_base.specs.Lanes.{LaneLists}
 use Rattle.backlog.specs.Puts.{next_waiting}
 use Rattle.seat_order.specs.Orders.{StepBy, steps_of}
 use Rattle.hop_rule.specs.Boards.{gates_of, lanes_of, retired}
 use Rattle.hop_rule.specs.Deliveries.{given}
 use Rattle.hop_rule.specs.Gates as gates
 use Rattle.hop_rule.specs.Lanes as lanes
-use Rattle.hop_rule.specs.Owns.{own_of}
 use Rattle.hop_rule.specs.Sizes.{closer, puller}
 use Rattle.hop_rule.specs.Unlawful.{PutsElsewhere, PullsTheNewest, RetiresBeforeDelivery}
 use Rattle.hop_rule.specs.Unlawful.{SetsInAnOpenGate, ReadsTwoValues}
-use Rattle.hop_rule.specs.declared.step.BoardStep.{BoardStep}
-use Rattle.hop_rule.specs.declared.step.BoardStep.TheVariants.{Lane}
 use Rattle.hop_rule.specs.declared.step.LaneStep.{LaneStep}
 use Rattle.hop_rule.proofs.Boards.{parts}
 use Rattle.hop_rule.proofs.Deliveries.{facts, gone}

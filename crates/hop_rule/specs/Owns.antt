@@ -8,7 +8,7 @@ use Rattle.hop_rule.specs.declared.step.BoardStep.TheVariants.{Lane, Gate}
 use Rattle.hop_rule.specs.declared.step.LaneStep.TheVariants.{Freed}
 use Rattle.hop_rule.specs.declared.step.GateStep.{GateStep}
 use Rattle.hop_rule.specs.declared.step.GateStep.TheVariants.{Entered, Turned, Left, Shut, NotShut}
-use Rattle.hop_rule.specs.declared.step.GateStep.TheVariants.{Opened, Set, Read}
+use Rattle.hop_rule.specs.declared.step.GateStep.TheVariants.{Opened, Set}
 use Rattle.hop_rule.specs.declared.step.Change.TheVariants.{Offered}
 
 -- of each seat its own list, by one order of all steps

@@ -4,7 +4,6 @@ use Rattle.std.specs.Prelude.{◌≡◌, ℕ, suc, ◌+◌, ◌-◌, ◌<◌, �
 use Rattle.std.specs.Prelude.{Some, None, length, slice_get}
 use Rattle.steer_base.specs.Drops.{bucket_of, lane_drop_cause}
 use Rattle.steer_base.specs.Lanes.{LaneLists}
-use Rattle.steer_base.specs.declared.put.DropCause.{DropCause}
 use Rattle.steer_base.specs.declared.put.LaneDrop.{LaneDrop}
 use Rattle.steer_base.specs.declared.put.Put.{Put}
 use Rattle.backlog.specs.Offers.{AllExplained, AreOffers}
@@ -17,7 +16,6 @@ use Rattle.hop_rule.specs.Fronts.{IsEarlier}
 use Rattle.hop_rule.specs.Gates.{inside}
 use Rattle.hop_rule.specs.LaneLaws.{Holds}
 use Rattle.hop_rule.specs.Moments.{IsStep, nth_step, past}
-use Rattle.hop_rule.specs.Owns.{own_of}
 use Rattle.hop_rule.specs.Sizes.{puller}
 use Rattle.hop_rule.specs.declared.sizes.BoardSizes.{BoardSizes}
 use Rattle.hop_rule.specs.declared.step.BoardStep.{BoardStep}

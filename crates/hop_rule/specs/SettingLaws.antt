@@ -1,8 +1,7 @@
 -- What a lawful order of steps shows of its gate and its settings.
 use Rattle.std.specs.Prelude.{◌≡◌, ◌≢◌, ◌↔◌, ℕ, ◌+◌, ◌*◌, ◌/◌, ◌^◌, ◌<◌, ◌≤◌, List, Some, length}
-use Rattle.steer_base.specs.declared.put.Put.{Put}
 use Rattle.seat_order.specs.Orders.{StepBy}
-use Rattle.hop_rule.specs.Boards.{IsLawful, gate_steps, gates_of, lane_at, lanes_of, retired}
+use Rattle.hop_rule.specs.Boards.{IsLawful, gate_steps, gates_of, lane_at, lanes_of}
 use Rattle.hop_rule.specs.Boards.{settings}
 use Rattle.hop_rule.specs.Deliveries.{Delivery, given}
 use Rattle.hop_rule.specs.Emptied.{WasEmptied}

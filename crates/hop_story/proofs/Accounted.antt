@@ -1,11 +1,10 @@
 -- A story that meets the premises gives an account in the moments of the order.
-use Rattle.std.proofs.Common.{◌≡◌, ℕ, zero, suc, ◌+◌, ◌-◌, ◌/◌, ◌%◌, ◌^◌, ◌<◌, ◌≤◌, ◌==◌, true}
-use Rattle.std.proofs.Common.{List, [], ◌∷◌, ◌++◌, Option, Some, None, length, length-append, take}
+use Rattle.std.proofs.Common.{◌≡◌, ℕ, zero, suc, ◌+◌, ◌-◌, ◌%◌, ◌^◌, ◌<◌, ◌≤◌, ◌==◌, true}
+use Rattle.std.proofs.Common.{List, [], ◌∷◌, ◌++◌, Option, Some, length, length-append, take}
 use Rattle.std.proofs.Common.{drop, if◌then◌else◌, sym, refl, ap, ◌∙◌, subst, arith, inl, inr}
 use Rattle.std.proofs.Common.{get_or}
 use Rattle.std.specs.Prelude.{slice_get, slice_index, All}
 use Rattle.std.specs.List.{Contains}
-use Rattle.std.proofs.lemmas.Bool.{cases_lt, cases_eq}
 use Rattle.std.proofs.lemmas.List.{take-append-drop, length-drop}
 use Rattle.std.proofs.lemmas.List.Elements.{All-head, All-tail}
 use Rattle.std.proofs.lemmas.Option.{get_or_from_slice_get, slice_get_within}
@@ -14,16 +13,15 @@ use Rattle.steer_base.specs.Entries.{entry, of_class, current_lane}
 use Rattle.steer_base.specs.declared.choice.Chosen.{Chosen}
 use Rattle.steer_base.specs.declared.put.Put.{Put}
 use Rattle.dev_flow_table.specs.Walks.{since_of}
-use Rattle.hop_core.specs.Hop.{chosen_at, nobody}
+use Rattle.hop_core.specs.Hop.{nobody}
 use Rattle.seat_order.specs.Orders.{StepBy, step_by, steps_of}
 use Rattle.seat_order.proofs.Lists.{if_same, if_other}
-use Rattle.hop_rule.specs.Boards.{IsLawful, accepted, gate_in, gate_steps, gates_of, settings}
+use Rattle.hop_rule.specs.Boards.{IsLawful, accepted, gate_steps, settings}
 use Rattle.hop_rule.specs.Emptied.{WasEmptied}
 use Rattle.hop_rule.specs.Gates as gates
 use Rattle.hop_rule.specs.Moments.{Did, IsStep, past, nth_step, moment_of}
 use Rattle.hop_rule.specs.Owns.{own_of}
-use Rattle.hop_rule.specs.PutLaws.{IsPut, IsDelivery}
-use Rattle.hop_rule.specs.SettingLaws.{closers}
+use Rattle.hop_rule.specs.PutLaws.{IsPut}
 use Rattle.hop_rule.specs.Sizes.{FitSizes, closer}
 use Rattle.hop_rule.specs.declared.sizes.BoardSizes.{BoardSizes}
 use Rattle.hop_rule.specs.declared.step.BoardStep.{BoardStep}
@@ -34,7 +32,7 @@ use Rattle.hop_rule.specs.declared.step.GateStep.{GateStep}
 use Rattle.hop_rule.specs.declared.step.GateStep.TheVariants.{Entered, Turned, Left, Shut, NotShut}
 use Rattle.hop_rule.specs.declared.step.GateStep.TheVariants.{Opened, Set, Read}
 use Rattle.hop_rule.specs.declared.step.LaneStep.TheVariants.{Freed, Given}
-use Rattle.hop_rule.proofs.Lists.{get-inside, none-some, some-is}
+use Rattle.hop_rule.proofs.Lists.{get-inside, none-some}
 use Rattle.hop_rule.proofs.Moments.{nth-inside, nth-last, nth-old, nth-some, past-all, past-old}
 use Rattle.hop_rule.proofs.Moments.{step-inside}
 use Rattle.hop_rule.proofs.Numbers.{rise, none_between}
@@ -46,7 +44,7 @@ use Rattle.hop_story.specs.Premises.{MeetsPremises, WasFoundEmpty, FindsEmpty, A
 use Rattle.hop_story.specs.Premises.{GoesRight}
 use Rattle.hop_story.specs.Stories as stories
 use Rattle.hop_story.specs.Stories.{Story, Steering, turns_of, word_of}
-use Rattle.hop_story.specs.Turns.{Turn, put_step, Explained}
+use Rattle.hop_story.specs.Turns.{Turn, put_step}
 use Rattle.hop_story.proofs.Accounts.{Account, IsAccount, IsRuled, HasVisit, WasLoaded, chosen}
 use Rattle.hop_story.proofs.Turns.{Places, VisitAt, turns_have_places, nth-split, nth-first}
 

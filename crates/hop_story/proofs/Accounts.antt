@@ -1,6 +1,6 @@
 -- What producers did, by the moments of an order: the form of the premises from which the law is
 -- proved.
-use Rattle.std.proofs.Common.{◌≡◌, ℕ, suc, ◌%◌, ◌^◌, ◌<◌, ◌≤◌, true, List, Option, Some, None}
+use Rattle.std.proofs.Common.{◌≡◌, ℕ, suc, ◌%◌, ◌^◌, ◌<◌, ◌≤◌, true, List, Option, Some}
 use Rattle.std.proofs.Common.{length, take, drop}
 use Rattle.std.specs.Prelude.{slice_get}
 use Rattle.steer_base.specs.Choices.{migrate}

@@ -1,6 +1,6 @@
 -- The lanes that have to be empty for the settings of a command are among those that it affects.
 use Rattle.std.proofs.Common.{◌≡◌, ◌⊎◌, inl, inr, ℕ, zero, suc, ◌+◌, ◌<◌, Bool, true, false, not}
-use Rattle.std.proofs.Common.{List, [], ◌∷◌, refl, sym, ap, ◌∙◌, arith}
+use Rattle.std.proofs.Common.{List, [], ◌∷◌, refl, sym, ap, ◌∙◌}
 use Rattle.std.specs.Prelude.{◌==◌, ◌&&◌, ◌||◌, nat_lt, if◌then◌else◌}
 use Rattle.std.specs.List.{list_any, range_with_len}
 use Rattle.std.proofs.lemmas.Bool.{cases_Bool, true≢false, eq-eqb, lt-ltb}
@@ -17,7 +17,6 @@ use Rattle.hop_story.specs.Commands.{Made, made, received_sets, sent_sets, Names
 use Rattle.hop_story.specs.Commands.{ReceivedCommandsEmpty, SentCommandsEmpty}
 use Rattle.hop_story.specs.Receives.{Queues, came_on, empty_for_mask, must_be_empty, online}
 use Rattle.hop_story.specs.Receives.{online_word, receive_steering}
-use Rattle.hop_story.specs.Stories.{Steering}
 use Rattle.hop_story.specs.Transmits.{transmit_steering}
 
 -- of one setting

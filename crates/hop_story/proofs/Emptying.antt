@@ -1,10 +1,9 @@
 -- A setting that ends what a test says finds empty the lanes that it affects: what was put there by
 -- an earlier visit was
 -- retired before a later visit's put.
-use Rattle.std.proofs.Common.{◌≡◌, ◌≢◌, inl, inr, ℕ, suc, ◌+◌, ◌<◌, ◌≤◌, Bool, true, false, List}
-use Rattle.std.proofs.Common.{length, sym, ap, ◌∙◌, subst, arith, Option}
+use Rattle.std.proofs.Common.{◌≡◌, ◌≢◌, inl, inr, ℕ, ◌<◌, ◌≤◌, Bool, true, false, List}
+use Rattle.std.proofs.Common.{sym, ap, subst, arith}
 use Rattle.std.proofs.lemmas.Bool.{cases_eq, cases_lt}
-use Rattle.steer_base.specs.declared.put.Put.{Put}
 use Rattle.seat_order.specs.Orders.{StepBy}
 use Rattle.hop_rule.specs.Boards.{gates_of, IsLawful, settings}
 use Rattle.hop_rule.specs.Gates.{with_setting}

@@ -1,5 +1,5 @@
 -- Delivery in order, from the premises.
-use Rattle.std.proofs.Common.{◌≡◌, ◌⊎◌, inl, inr, ℕ, zero, suc, ◌+◌, ◌-◌, ◌<◌, ◌≤◌, ◌==◌, ◌||◌}
+use Rattle.std.proofs.Common.{◌≡◌, inl, inr, ℕ, zero, suc, ◌-◌, ◌<◌, ◌==◌, ◌||◌}
 use Rattle.std.proofs.Common.{◌&&◌, Bool, true, false, not, List, [], ◌∷◌, ◌++◌, length, sym, refl}
 use Rattle.std.proofs.Common.{ap, ◌∙◌, subst, arith, Option, Some, None}
 use Rattle.std.specs.Prelude.{slice_get}
@@ -16,9 +16,8 @@ use Rattle.backlog.specs.Puts.{after_put, put_by}
 use Rattle.seat_order.specs.Orders.{StepBy}
 use Rattle.hop_rule.specs.Boards.{IsLawful, accepted, drops, drops_at, lanes_of, out}
 use Rattle.hop_rule.specs.Deliveries.{Delivery, delivery, given}
-use Rattle.hop_rule.specs.Fronts.{Front}
 use Rattle.hop_rule.specs.Lanes as lanes
-use Rattle.hop_rule.specs.Moments.{past, nth_step}
+use Rattle.hop_rule.specs.Moments.{nth_step}
 use Rattle.hop_rule.specs.PutLaws.{IsPut, lane_then}
 use Rattle.hop_rule.specs.Sizes.{FitSizes}
 use Rattle.hop_rule.specs.declared.sizes.BoardSizes.{BoardSizes}
@@ -28,7 +27,7 @@ use Rattle.hop_rule.proofs.Boards.{parts}
 use Rattle.hop_rule.proofs.Deliveries.{Each, nth-each, ids_at, facts, stands, rises, same_lane}
 use Rattle.hop_rule.proofs.Fronts.{front-get, get-pushed}
 use Rattle.hop_rule.proofs.Heads.{passed_since}
-use Rattle.hop_rule.proofs.Lists.{some-is, none-some, get-inside}
+use Rattle.hop_rule.proofs.Lists.{some-is, none-some}
 use Rattle.hop_rule.proofs.Members.{each_given, out_given}
 use Rattle.hop_rule.proofs.Moments.{step-inside}
 use Rattle.hop_rule.proofs.Puts.{puts_right, was_put, was_dropped as drop_was_put}

@@ -1,5 +1,5 @@
 -- The puts of an account, and where its packets stand.
-use Rattle.std.proofs.Common.{◌≡◌, ◌≢◌, inl, inr, ℕ, zero, suc, ◌+◌, ◌-◌, ◌<◌, ◌≤◌, List, [], ◌∷◌}
+use Rattle.std.proofs.Common.{◌≡◌, ◌≢◌, inl, inr, ℕ, zero, suc, ◌-◌, ◌<◌, ◌≤◌, List, [], ◌∷◌}
 use Rattle.std.proofs.Common.{length, sym, refl, ap, ◌∙◌, subst, arith, Option, Some, None}
 use Rattle.std.specs.Prelude.{slice_get}
 use Rattle.std.specs.Option.{option_map}
@@ -15,7 +15,7 @@ use Rattle.seat_order.specs.Orders.{StepBy}
 use Rattle.seat_order.proofs.Lists.{if_same, if_other}
 use Rattle.hop_rule.specs.Boards.{IsLawful, accepted}
 use Rattle.hop_rule.specs.Boards as boards
-use Rattle.hop_rule.specs.Moments.{past, IsStep}
+use Rattle.hop_rule.specs.Moments.{past}
 use Rattle.hop_rule.specs.PutLaws.{IsPut, lane_then}
 use Rattle.hop_rule.specs.declared.sizes.BoardSizes.{BoardSizes}
 use Rattle.hop_rule.specs.declared.step.BoardStep.{BoardStep}
@@ -25,7 +25,7 @@ use Rattle.hop_rule.specs.declared.step.Change.TheVariants.{Offered}
 use Rattle.hop_rule.specs.declared.step.LaneStep.{LaneStep}
 use Rattle.hop_rule.specs.declared.step.LaneStep.TheVariants.{Freed}
 use Rattle.hop_rule.proofs.Boards.{step_lawful}
-use Rattle.hop_rule.proofs.Lists.{some-is, none-some, get-inside}
+use Rattle.hop_rule.proofs.Lists.{some-is, none-some}
 use Rattle.hop_rule.proofs.Moments.{past-all, step-inside, one-step}
 use Rattle.hop_rule.proofs.Puts.{was_put, put_stands, put_counts}
 use Rattle.hop_story.specs.Stories.{Steering}

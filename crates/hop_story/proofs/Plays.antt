@@ -1,5 +1,5 @@
 -- Moves that may come one after the other leave a lawful order.
-use Rattle.std.proofs.Common.{ℕ, ◌<◌, List, [], ◌∷◌}
+use Rattle.std.proofs.Common.{◌<◌, List, [], ◌∷◌}
 use Rattle.seat_order.specs.Orders.{StepBy}
 use Rattle.hop_rule.specs.Boards.{IsLawful, MayCome}
 use Rattle.hop_rule.specs.declared.sizes.BoardSizes.{BoardSizes}

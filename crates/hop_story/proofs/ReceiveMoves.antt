@@ -1,5 +1,5 @@
 -- The moves of the receive board are lawful.
-use Rattle.std.proofs.Common.{◌≡◌, ◌≢◌, ℕ, ◌<◌, List, [], ◌∷◌, Some, None, take, refl, ap, arith}
+use Rattle.std.proofs.Common.{◌≡◌, ◌≢◌, ℕ, List, [], Some, take, refl, ap, arith}
 use Rattle.seat_order.specs.Orders.{StepBy}
 use Rattle.hop_rule.specs.Boards.{IsLawful}
 use Rattle.hop_rule.specs.Gates.{Visit, outside, inside, backing}

@@ -1,6 +1,6 @@
 -- The story of the transmit board meets all premises.
-use Rattle.std.proofs.Common.{◌≡◌, ◌≢◌, ℕ, zero, suc, ◌+◌, ◌-◌, ◌%◌, ◌^◌, ◌<◌, ◌≤◌, true, List, []}
-use Rattle.std.proofs.Common.{◌∷◌, ◌++◌, length, drop, take, Option, Some, None, refl, sym, ap, ◌∙◌}
+use Rattle.std.proofs.Common.{◌≡◌, ℕ, zero, suc, ◌%◌, ◌^◌, ◌<◌, List, []}
+use Rattle.std.proofs.Common.{length, take, Some, None, refl, sym, ap, ◌∙◌}
 use Rattle.std.proofs.Common.{subst, arith}
 use Rattle.std.specs.Prelude.{All, slice_index}
 use Rattle.std.specs.List.{Contains, range_with_len}
@@ -8,19 +8,17 @@ use Rattle.std.proofs.lemmas.List.Elements.{All-nil}
 use Rattle.steer_base.specs.Entries.{current_lane, of_class}
 use Rattle.steer_base.specs.Sets.{those_below}
 use Rattle.dev_flow_table.specs.Walks.{since_of}
-use Rattle.seat_order.specs.Orders.{StepBy, steps_of}
-use Rattle.hop_rule.specs.Boards.{accepted, gate_steps}
+use Rattle.seat_order.specs.Orders.{StepBy}
+use Rattle.hop_rule.specs.Boards.{accepted}
 use Rattle.hop_rule.specs.Moments.{nth_step, past}
 use Rattle.hop_rule.specs.Owns.{own_of, puts_of}
 use Rattle.hop_rule.specs.declared.step.BoardStep.{BoardStep}
-use Rattle.hop_rule.specs.declared.step.BoardStep.TheVariants.{Gate, Weighed, Counted}
-use Rattle.hop_rule.specs.declared.step.GateStep.TheVariants.{Opened, Set, Shut}
+use Rattle.hop_rule.specs.declared.step.BoardStep.TheVariants.{Weighed}
 use Rattle.hop_rule.proofs.Lists.{none-some, some-is}
-use Rattle.hop_story.specs.Premises.{MeetsPremises, AllFindEmpty, FindsEmpty, GoesRight}
-use Rattle.hop_story.specs.Premises.{WasFoundEmpty}
-use Rattle.hop_story.specs.Stories.{Steering, IsByRule, before, class_at, turns_of}
-use Rattle.hop_story.specs.Turns.{Turn, AreQuiet, Explained}
-use Rattle.hop_story.proofs.Examples.{own_empty, all_true, AllNth, nth_of_all, Each, all_of_each}
+use Rattle.hop_story.specs.Premises.{MeetsPremises, AllFindEmpty, GoesRight}
+use Rattle.hop_story.specs.Stories.{Steering, IsByRule, before, turns_of}
+use Rattle.hop_story.specs.Turns.{Turn, Explained}
+use Rattle.hop_story.proofs.Examples.{own_empty, all_true, nth_of_all, Each, all_of_each}
 use Rattle.hop_story.proofs.Examples.{none_of, range_index}
 use Rattle.std.specs.Prelude.{slice_get}
 use Rattle.steer_base.specs.declared.put.Put.TheVariants.{At}

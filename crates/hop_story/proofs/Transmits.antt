@@ -1,5 +1,5 @@
 -- Transmit boards steer as the law of delivery in order asks.
-use Rattle.std.proofs.Common.{◌≡◌, true, false, ℕ, sym, refl}
+use Rattle.std.proofs.Common.{ℕ, refl}
 use Rattle.std.proofs.lemmas.Bool.{true≢false}
 use Rattle.hop_story.specs.Stories.{IsSteering}
 use Rattle.hop_story.specs.Transmits.{transmit_steering}

@@ -2,15 +2,14 @@
 -- retired before the
 -- later one was put.
 use Rattle.std.proofs.Common.{ℕ, zero, suc, ◌+◌, ◌-◌, ◌^◌, ◌%◌, ◌≤◌, ◌<◌, ◌≡◌, ◌⊎◌, inl, inr, Bool}
-use Rattle.std.proofs.Common.{true, false, List, [], ◌∷◌, ◌++◌, Option, Some, None, length, refl}
+use Rattle.std.proofs.Common.{true, false, List, [], ◌∷◌, Option, Some, None, length, refl}
 use Rattle.std.proofs.Common.{ap, ◌∙◌, sym, arith, take, drop, subst, get_or}
 use Rattle.std.specs.Prelude.{◌==◌, slice_index_or}
 use Rattle.std.proofs.lemmas.Bool.{cases_Bool, cases_eq, cases_lt, eq-eqb, ne_eqb, eqb-true}
 use Rattle.std.proofs.lemmas.Bool.{true≢false}
 use Rattle.std.proofs.lemmas.List.{get_or-drop, get_or-take, length-drop, length-take-le, drop-take}
-use Rattle.steer_base.specs.Choices.{by_entry, migrate}
-use Rattle.steer_base.specs.Counters.{number}
-use Rattle.steer_base.specs.Entries.{entry, of_class, position, current_lane, recorded_count}
+use Rattle.steer_base.specs.Choices.{migrate}
+use Rattle.steer_base.specs.Entries.{entry, position}
 use Rattle.steer_base.specs.declared.choice.Choice.{Choice}
 use Rattle.steer_base.specs.declared.choice.Chosen.{Chosen}
 use Rattle.steer_base.specs.declared.choice.Entry.{Entry}
@@ -21,7 +20,7 @@ use Rattle.hop_core.specs.Hop.{nobody}
 use Rattle.seat_order.specs.Orders.{StepBy}
 use Rattle.hop_rule.specs.Boards.{IsLawful, accepted, retired}
 use Rattle.hop_rule.specs.Gates.{with_setting}
-use Rattle.hop_rule.specs.Moments.{past, IsStep}
+use Rattle.hop_rule.specs.Moments.{past}
 use Rattle.hop_rule.specs.Sizes.{FitSizes}
 use Rattle.hop_rule.specs.declared.sizes.BoardSizes.{BoardSizes}
 use Rattle.hop_rule.specs.declared.step.BoardStep.{BoardStep}
@@ -29,7 +28,7 @@ use Rattle.hop_rule.specs.declared.step.BoardStep.TheVariants.{Weighed}
 use Rattle.hop_rule.proofs.Boards.{few, lawful_past, retired_later, step_lawful}
 use Rattle.hop_story.specs.Stories.{IsSteering, Steering, goal_of}
 use Rattle.hop_story.proofs.Accounts.{Account, IsAccount, IsRuled, At, before, chosen, class_at}
-use Rattle.hop_story.proofs.Accounts.{flow_at, goal_at, lane_chosen, retired_at, settings_at}
+use Rattle.hop_story.proofs.Accounts.{flow_at, lane_chosen, retired_at, settings_at}
 use Rattle.hop_story.proofs.Accounts.{shape_at}
 use Rattle.hop_story.proofs.Emptying.{empties}
 use Rattle.hop_story.proofs.Placing.{in_range, puts_rise, rises}

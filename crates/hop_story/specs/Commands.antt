@@ -7,7 +7,7 @@ use Rattle.steer_base.specs.declared.command.Command.{Command}
 use Rattle.steer_base.specs.declared.command.Command.TheVariants.{Mask, Flows, Sock, Offline}
 use Rattle.steer_base.specs.declared.command.Command.TheVariants.{Online, XCpus, XQueues, Reta}
 use Rattle.steer_base.specs.declared.command.Command.TheVariants.{Stand, Expire}
-use Rattle.hop_story.specs.Receives.{Queues, flows_word, mask_word, must_be_empty, online}
+use Rattle.hop_story.specs.Receives.{Queues, flows_word, mask_word, online}
 use Rattle.hop_story.specs.Receives.{online_word, receive_steering, socket_word}
 use Rattle.hop_story.specs.Stories.{Steering}
 use Rattle.hop_story.specs.Transmits.{transmit_steering}

@@ -1,7 +1,7 @@
 -- How a transmit board steers: each reply is to go to the queue that was picked for it (kernel
 -- scaling chapter, section XPS). The producers are the applications, the lanes are the transmit
 -- queues, and the one out lane is the port. A flow is a class of its own, and nothing goes offline.
-use Rattle.std.specs.Prelude.{ℕ, ◌+◌, Bool, true, false, Option, Some}
+use Rattle.std.specs.Prelude.{ℕ, ◌+◌, true, false, Option, Some}
 use Rattle.std.specs.Option.{unwrap_or}
 use Rattle.steer_base.specs.Sends.{pick_of}
 use Rattle.steer_base.specs.Sets.{has, has_queue}
