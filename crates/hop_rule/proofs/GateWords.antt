@@ -18,12 +18,14 @@ gate_word_counts_visits about order fit lawful =
     let gs : List (StepBy GateStep) = gates_of order in
     let legal = (parts about order lawful).1 in
     let c : steps_of (closer about) gs ≡ closers about order = gates_own (closer about) order in
-    let sums : sum_below (λ q. gates.is_open (gates.visit (steps_of q gs))) about.seats ≡ open_visits about order
+    let sums : sum_below (λ q. gates.is_open (gates.visit (steps_of q gs))) about.seats ≡
+    open_visits about order
     = λ i. sum_below (λ q. gates.is_open (gates.visit (gates_own q order i))) about.seats in
     let shut_ = ap gates.closed c in let opened_ = ap gates.openings c in
     let w = word about gs legal in
     let s = small about gs legal in let s0 = s.0 in let s1 = s.1 in
-    let most = sum_most (λ q. gates.is_open (gates.visit (steps_of q gs))) about.seats (λ q. open_small (gates.visit (steps_of q gs))) in
+    let most = sum_most (λ q. gates.is_open (gates.visit (steps_of q gs))) about.seats
+    (λ q. open_small (gates.visit (steps_of q gs))) in
     record {
       word = omega arith;
       few = omega arith;

@@ -1,5 +1,6 @@
 -- A seat's own steps have moments in the order.
-use Rattle.std.proofs.Common.{◌≡◌, ℕ, suc, ◌+◌, ◌-◌, ◌<◌, ◌≤◌, ◌==◌, List, [], ◌∷◌, if◌then◌else◌, length, Some, sym, ap, ◌∙◌, arith}
+use Rattle.std.proofs.Common.{◌≡◌, ℕ, suc, ◌+◌, ◌-◌, ◌<◌, ◌≤◌, ◌==◌, List, [], ◌∷◌, if◌then◌else◌}
+use Rattle.std.proofs.Common.{length, Some, sym, ap, ◌∙◌, arith}
 use mathlib.Core.Logic.{dite}
 use native.Mathlib.Decide.{ℕ_discrete}
 use Rattle.seat_order.specs.Orders.{StepBy, steps_of}
@@ -16,28 +17,41 @@ module _ {D : Type 0} (p : ℕ) where
   when es k = moment_of p es k
 
   -- what a seat had done before a step is its part of the order up to that moment
-  pub past_own : (es : List (StepBy D)) (k : ℕ) (d : D) → Did es p k d → past k (steps_of p es) ≡ steps_of p (past (when es k) es)
+  pub past_own : (es : List (StepBy D)) (k : ℕ) (d : D) → Did es p k d
+      → past k (steps_of p es) ≡ steps_of p (past (when es k) es)
   past_own [] k d at = none-some d at
   past_own (e ∷ es) k d at = dite (ℕ_discrete e.by p)
       (λ mine. let list = steps_of_own p e.by e.step es mine in
-      let own : nth_step (e.step ∷ steps_of p es) k ≡ Some d = sym (ap (λ l. nth_step l k) list) ∙ at in
-      let first : when (e ∷ es) k ≡ (if length (steps_of p es) == k then length es else when es k) = if_same e.by p (if length (steps_of p es) == k then length es else when es k) (when es k) mine in
+      let own : nth_step (e.step ∷ steps_of p es) k ≡ Some d = sym (ap (λ l. nth_step l k) list)
+      ∙ at in
+      let first : when (e ∷ es) k ≡ (if length (steps_of p es) == k then length es else when es k) =
+      if_same e.by p (if length (steps_of p es) == k then length es else when es k)
+      (when es k) mine in
       dite (ℕ_discrete (length (steps_of p es)) k)
-      (λ is. let at_end : when (e ∷ es) k ≡ length es = first ∙ if_same (length (steps_of p es)) k (length es) (when es k) is in
-      ap (past k) list ∙ (past-old e.step (steps_of p es) k (omega arith) ∙ (past-all (steps_of p es) k (omega arith)
-      ∙ sym (ap (λ m. steps_of p (past m (e ∷ es))) at_end ∙ ap (steps_of p) (past-old e es (length es) (omega arith) ∙ past-all es (length es) (omega arith))))))
-      (λ isnt. let before : when (e ∷ es) k ≡ when es k = first ∙ if_other (length (steps_of p es)) k (length es) (when es k) isnt in
-      let at' : Did es p k d = sym (if_other (length (steps_of p es)) k (Some e.step) (nth_step (steps_of p es) k) isnt) ∙ own in
+      (λ is. let at_end : when (e ∷ es) k ≡ length es = first ∙ if_same (length (steps_of p es)) k
+      (length es) (when es k) is in
+      ap (past k) list ∙ (past-old e.step (steps_of p es) k (omega arith)
+      ∙ (past-all (steps_of p es) k (omega arith)
+      ∙ sym (ap (λ m. steps_of p (past m (e ∷ es))) at_end ∙ ap (steps_of p)
+      (past-old e es (length es) (omega arith) ∙ past-all es (length es) (omega arith))))))
+      (λ isnt. let before : when (e ∷ es) k ≡ when es k = first ∙ if_other (length (steps_of p es))
+      k (length es) (when es k) isnt in
+      let at' : Did es p k d =
+      sym (if_other (length (steps_of p es)) k (Some e.step) (nth_step (steps_of p es) k) isnt)
+      ∙ own in
       let inside = nth-inside (steps_of p es) k d at' in
       let less = step-inside es (when es k) p d (at_moment p es k d at') in
       ap (past k) list ∙ (past-old e.step (steps_of p es) k (omega arith) ∙ (past_own es k d at'
-      ∙ sym (ap (λ m. steps_of p (past m (e ∷ es))) before ∙ ap (steps_of p) (past-old e es (when es k) (omega arith)))))))
+      ∙ sym (ap (λ m. steps_of p (past m (e ∷ es))) before ∙ ap (steps_of p)
+      (past-old e es (when es k) (omega arith)))))))
       (λ other. let list = steps_of_other p e.by e.step es other in
-      let before : when (e ∷ es) k ≡ when es k = if_other e.by p (if length (steps_of p es) == k then length es else when es k) (when es k) other in
+      let before : when (e ∷ es) k ≡ when es k = if_other e.by p
+      (if length (steps_of p es) == k then length es else when es k) (when es k) other in
       let at' : Did es p k d = sym (ap (λ l. nth_step l k) list) ∙ at in
       let less = step-inside es (when es k) p d (at_moment p es k d at') in
       ap (past k) list ∙ (past_own es k d at'
-      ∙ sym (ap (λ m. steps_of p (past m (e ∷ es))) before ∙ ap (steps_of p) (past-old e es (when es k) (omega arith)))))
+      ∙ sym (ap (λ m. steps_of p (past m (e ∷ es))) before ∙ ap (steps_of p)
+      (past-old e es (when es k) (omega arith)))))
 
 pub own_steps_have_moments : OwnStepsHaveMoments
 own_steps_have_moments order p = record {

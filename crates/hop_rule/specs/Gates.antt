@@ -1,4 +1,5 @@
--- Steps at the gate's word and at setting words: what one order of them leaves, what each seat's own
+-- Steps at the gate's word and at setting words: what one order of them leaves, what each
+-- seat's own
 -- steps show, and when a step may come. Orders and lists of steps have the newest first.
 use Rattle.std.specs.Prelude.{◌≡◌, ◌≢◌, ◌⊎◌, ℕ, ◌+◌, ◌-◌, ◌*◌, ◌/◌, ◌^◌, ◌<◌, ◌==◌, List, [], ◌∷◌}
 use Rattle.std.specs.Prelude.{slice_index, length, if◌then◌else◌}

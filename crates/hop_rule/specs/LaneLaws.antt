@@ -92,7 +92,8 @@ HeadsFollowDeliveries =
     (about : BoardSizes) (order : List (StepBy BoardStep)) → IsLawful about order
     → (l : ℕ) → AreInTurn about order l
 
--- A step that raises the head of a lane is by the seat that pulls there, found the head's word as it
+-- A step that raises the head of a lane is by the seat that pulls there, found the head's word
+-- as it
 -- stood, and came when one more packet had been delivered than retired.
 pub record RetiresOne (about : BoardSizes) (order : List (StepBy BoardStep)) (n q l w : ℕ)
     : Type 0 where

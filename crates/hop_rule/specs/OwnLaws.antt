@@ -4,7 +4,8 @@ use Rattle.seat_order.specs.Orders.{StepBy, steps_of}
 use Rattle.hop_rule.specs.Moments.{Did, IsStep, moment_of, past}
 use Rattle.hop_rule.specs.declared.step.BoardStep.{BoardStep}
 
--- Each of a seat's own steps is a step of the order at its moment, the moments rise along the seat's
+-- Each of a seat's own steps is a step of the order at its moment, the moments rise along the
+-- seat's
 -- list, each of its steps in the order is one of the list, and what the seat had done before a step
 -- is its part of the order up to that moment.
 pub record HasMoments {D : Type 0} (order : List (StepBy D)) (p : ℕ) : Type 0 where

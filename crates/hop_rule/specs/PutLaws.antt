@@ -168,7 +168,8 @@ DropsAreExplained =
 
 -- ---- the order of deliveries
 
--- The n-th delivery of a lane is of its n-th accepted packet. Of two deliveries of a lane to one out
+-- The n-th delivery of a lane is of its n-th accepted packet. Of two deliveries of a lane to
+-- one out
 -- lane the later one has the higher place.
 abbrev pub DeliveredAsAccepted : Type 0
 DeliveredAsAccepted =
@@ -193,7 +194,8 @@ LoadedHeadsAreRetires =
     → (w ≡ about.start + retired about (past n order) l)
     × (retired about (past n order) l ≤ retired about order l)
 
--- Each of the packets that a loaded head counts was delivered, and stands in its out lane below each
+-- Each of the packets that a loaded head counts was delivered, and stands in its out lane
+-- below each
 -- that was put to whatever lane after the load and went to the same out lane.
 abbrev pub LoadedHeadsArePassed : Type 0
 LoadedHeadsArePassed =

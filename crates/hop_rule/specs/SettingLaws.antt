@@ -33,7 +33,8 @@ abbrev pub open_visits : BoardSizes → List (StepBy BoardStep) → ℕ
 open_visits about order = sum_below (λ q. is_open (visit (own_gate order q))) about.seats
 
 -- The gate's word is the sum of the open visits of all seats, 2^31 where the closer has closed the
--- gate and not opened it since, and 2^32 for each of its openings. The first stays below 2^31. While
+-- gate and not opened it since, and 2^32 for each of its openings. The first stays below 2^31.
+-- While
 -- the gate is closed no seat is inside, and the closer is outside.
 pub record IsGateWord (about : BoardSizes) (order : List (StepBy BoardStep)) : Type 0 where
   pub word : gate_word (gates_of order)
@@ -66,7 +67,8 @@ NoSetWhileInside =
     → (n p q i v : ℕ) → IsStep order n p (Gate (Set i v)) → q < about.seats
     → visit (own_gate (past n order) q) ≢ inside
 
--- The number of a visit is how many openings the closer had made at its entry. It is at most that of
+-- The number of a visit is how many openings the closer had made at its entry. It is at most
+-- that of
 -- all openings, and does not fall from one entry to a later one.
 abbrev pub VisitsAreNumbered : Type 0
 VisitsAreNumbered =
@@ -100,8 +102,10 @@ VisitsReadSettings =
 abbrev pub put_visit : BoardSizes → List (StepBy BoardStep) → ℕ → ℕ → ℕ
 put_visit about order n q = visit_number (own_gate (past n order) q)
 
--- The closer closed the gate after k openings and then found the lane empty with h packets accepted.
--- These are the packets put there in visits with a number of at most k. All were delivered, and each
+-- The closer closed the gate after k openings and then found the lane empty with h packets
+-- accepted.
+-- These are the packets put there in visits with a number of at most k. All were delivered,
+-- and each
 -- stands in its out lane below each packet that was put to whatever lane in a visit with a higher
 -- number and went to the same out lane.
 pub record EarlyStandsFirst (about : BoardSizes) (order : List (StepBy BoardStep)) (l k h : ℕ)

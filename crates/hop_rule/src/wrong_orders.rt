@@ -1,5 +1,5 @@
-//! Orders that a wrong board would leave, and that are not lawful: each is the contract of a function
-//! that does nothing.
+//! Orders that a wrong board would leave, and that are not lawful: each is the contract of a
+//! function that does nothing.
 ghost use Rattle.hop_rule.specs.Unlawful.{PullsTheNewest, PutsElsewhere, ReadsTwoValues};
 ghost use Rattle.hop_rule.specs.Unlawful.{RetiresBeforeDelivery, SetsInAnOpenGate};
 

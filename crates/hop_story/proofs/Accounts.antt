@@ -1,5 +1,7 @@
--- What producers did, by the moments of an order: the form of the premises from which the law is proved.
-use Rattle.std.proofs.Common.{◌≡◌, ℕ, suc, ◌%◌, ◌^◌, ◌<◌, ◌≤◌, true, List, Option, Some, None, length, take, drop}
+-- What producers did, by the moments of an order: the form of the premises from which the law is
+-- proved.
+use Rattle.std.proofs.Common.{◌≡◌, ℕ, suc, ◌%◌, ◌^◌, ◌<◌, ◌≤◌, true, List, Option, Some, None}
+use Rattle.std.proofs.Common.{length, take, drop}
 use Rattle.std.specs.Prelude.{slice_get}
 use Rattle.steer_base.specs.Choices.{migrate}
 use Rattle.steer_base.specs.Entries.{entry, of_class, current_lane, position}
@@ -50,7 +52,8 @@ module _ (about : BoardSizes) (order : List (StepBy BoardStep)) (a : Account) (r
   class_at p i = r.class (shape_at p i) (flow_at p i)
 
   abbrev pub goal_at : ℕ → ℕ → ℕ
-  goal_at p i = goal_of r (settings_at p i) p (flow_at p i) (class_at p i) (chosen a p i).choice.want
+  goal_at p i = goal_of r (settings_at p i) p (flow_at p i) (class_at p i)
+      (chosen a p i).choice.want
 
   abbrev pub before : ℕ → ℕ → List Chosen
   before p i = drop (since_of (shape_at p) i) (take i (a.choices p))
@@ -69,9 +72,11 @@ module _ (about : BoardSizes) (order : List (StepBy BoardStep)) (a : Account) (r
     pub enters : IsStep order (a.entered p i) (a.seat p) (Gate (Entered word))
     pub hash : Option ℕ
     pub answer : Put
-    pub puts : IsPut about order (a.put p i) (a.seat p) (lane_chosen a p i) (chosen a p i).id hash answer
+    pub puts : IsPut about order (a.put p i) (a.seat p) (lane_chosen a p i) (chosen a p i).id hash
+        answer
     pub after : a.entered p i < a.put p i
-    pub stays : (m : ℕ) → a.entered p i < m → m < a.put p i → IsStep order m (a.seat p) (Gate Left) → ⊥
+    pub stays : (m : ℕ) → a.entered p i < m → m < a.put p i → IsStep order m (a.seat p) (Gate Left)
+        → ⊥
 
   -- the seat loaded the head of the lane l in the visit of a choice, and it showed this number
   pub record WasLoaded (p i l number : ℕ) : Type 0 where
@@ -85,18 +90,25 @@ module _ (about : BoardSizes) (order : List (StepBy BoardStep)) (a : Account) (r
   pub record IsRuled (p i : ℕ) : Type 0 where
     pub head : ℕ
     pub rule : (chosen a p i).choice
-        ≡ migrate (class_at p i) (chosen a p i).choice.want (goal_at p i) (entry about.start (accepted about order) (before p i)) (λ _. head) (r.online (settings_at p i))
-    pub loaded : (k l : ℕ) → class_at p i ≡ Some k → current_lane (of_class k (before p i)) ≡ Some l → (chosen a p i).choice.head ≡ Some head → WasLoaded p i l head
+        ≡ migrate (class_at p i) (chosen a p i).choice.want (goal_at p i)
+        (entry about.start (accepted about order) (before p i)) (λ _. head)
+        (r.online (settings_at p i))
+    pub loaded : (k l : ℕ) → class_at p i ≡ Some k → current_lane (of_class k (before p i)) ≡ Some l
+        → (chosen a p i).choice.head ≡ Some head → WasLoaded p i l head
     pub goal_online : r.online (settings_at p i) (goal_at p i) ≡ true
 
   -- the premises
   pub record IsAccount : Type 0 where
-    pub once : (p q i j x : ℕ) → slice_get (a.arrivals p) i ≡ Some x → slice_get (a.arrivals q) j ≡ Some x → (p ≡ q) × (i ≡ j)
+    pub once : (p q i j x : ℕ) → slice_get (a.arrivals p) i ≡ Some x
+        → slice_get (a.arrivals q) j ≡ Some x → (p ≡ q) × (i ≡ j)
     pub arrived : (p i : ℕ) → i < a.placed p → slice_get (a.arrivals p) i ≡ Some (chosen a p i).id
     pub few : (p : ℕ) → a.placed p ≤ length (a.choices p)
     pub visits : (p i : ℕ) → i < a.placed p → HasVisit p i
     pub in_order : (p i : ℕ) → suc i < a.placed p → a.put p i < a.entered p (suc i)
-    pub all_puts : (n q l id : ℕ) (hash : Option ℕ) (answer : Put) → IsPut about order n q l id hash answer → (p : ℕ) × (i : ℕ) × (i < a.placed p) × (a.put p i ≡ n)
-    pub given : (n q o from id place : ℕ) → IsDelivery about order n q o from id place → o ≡ r.to (r.flow id)
+    pub all_puts : (n q l id : ℕ) (hash : Option ℕ) (answer : Put) → IsPut about order n q l id hash
+        answer → (p : ℕ) × (i : ℕ) × (i < a.placed p) × (a.put p i ≡ n)
+    pub given : (n q o from id place : ℕ) → IsDelivery about order n q o from id place
+        → o ≡ r.to (r.flow id)
     pub by_rule : (p i : ℕ) → i < a.placed p → IsRuled p i
-    pub emptied : (n w v l : ℕ) → IsStep order n (closer about) (Gate (Set w v)) → l < about.lanes → r.affects (settings about (past n order)) w v l ≡ true → WasEmptied about order n l
+    pub emptied : (n w v l : ℕ) → IsStep order n (closer about) (Gate (Set w v)) → l < about.lanes
+        → r.affects (settings about (past n order)) w v l ≡ true → WasEmptied about order n l

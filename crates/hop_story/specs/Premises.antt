@@ -54,7 +54,8 @@ pub record MeetsPremises (about : BoardSizes) (own : ℕ → List BoardStep) (ac
   -- 1: no packet arrives twice
   pub once : (p q i j : ℕ) → i < length (t.arrivals p) → j < length (t.arrivals q)
       → slice_index (t.arrivals p) i ≡ slice_index (t.arrivals q) j → (p ≡ q) × (i ≡ j)
-  -- 2: a seat's puts are those of its turns, each in a visit of its own; and the turns of a producer
+  -- 2: a seat's puts are those of its turns, each in a visit of its own; and the turns of a
+  -- producer
   -- are by its seat, and are for its first arrivals with its first choices, in order
   pub explained : (q : ℕ) → Explained (own q) (t.turns q)
   pub by_seat : (q : ℕ) → All (λ (e : StepBy Turn). t.seat e.by ≡ q) (t.turns q)

@@ -1,6 +1,7 @@
 -- What producers did on a board, and how settings steer their packets (kernel scaling chapter,
 -- sections RPS, RFS and XPS).
-use Rattle.std.specs.Prelude.{◌≡◌, ◌≢◌, ℕ, ◌<◌, ◌/◌, ◌%◌, ◌^◌, Bool, true, false, List, Option, Some}
+use Rattle.std.specs.Prelude.{◌≡◌, ◌≢◌, ℕ, ◌<◌, ◌/◌, ◌%◌, ◌^◌, Bool, true, false, List, Option}
+use Rattle.std.specs.Prelude.{Some}
 use Rattle.std.specs.Prelude.{None, take, drop}
 use Rattle.std.specs.List.{Contains}
 use Rattle.steer_base.specs.Choices.{migrate}
@@ -38,7 +39,8 @@ pub record Steering : Type 0 where
   pub plain : (ℕ → ℕ) → ℕ → ℕ → ℕ  -- of settings, a producer and a flow: the lane without a class
   pub desired : (ℕ → ℕ) → ℕ → ℕ → Option ℕ → ℕ  -- and of what was wanted: the lane with a class
   pub online : (ℕ → ℕ) → ℕ → Bool  -- of settings: whether a lane is online
-  pub affects : (ℕ → ℕ) → ℕ → ℕ → ℕ → Bool  -- of settings, a word and its new value: whether a lane has to be empty
+  -- of settings, a word and its new value: whether a lane has to be empty
+  pub affects : (ℕ → ℕ) → ℕ → ℕ → ℕ → Bool
 
 -- A change of one setting finds each lane empty that it turns off, each that what has no class goes
 -- to before the change and not after it, and all lanes where it resizes.

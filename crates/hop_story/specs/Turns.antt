@@ -11,7 +11,8 @@ use Rattle.hop_rule.specs.declared.step.GateStep.TheVariants.{Entered, Left}
 use Rattle.hop_rule.specs.declared.step.Change.TheVariants.{Offered}
 use Rattle.hop_rule.specs.Owns.{puts_of, visits_of}
 
--- One packet that was chosen for and put: the packet with its choice, the word that the entry of its
+-- One packet that was chosen for and put: the packet with its choice, the word that the entry
+-- of its
 -- visit found, what the seat did between that entry and the put, the packet's hash, and the answer
 -- of the put.
 pub record Turn : Type 0 where
@@ -32,7 +33,8 @@ pub record AreQuiet (ds : List BoardStep) : Type 0 where
 
 -- A visit with its put: the entry, what the turn did early, the put, what came late, and the leave.
 abbrev pub visit_with : Turn → List BoardStep → List BoardStep → List BoardStep
-visit_with t late older = Gate Left ∷ (late ++ (put_step t ∷ (t.early ++ (Gate (Entered t.word) ∷ older))))
+visit_with t late older = Gate Left ∷
+    (late ++ (put_step t ∷ (t.early ++ (Gate (Entered t.word) ∷ older))))
 
 -- A seat's own list has the turns' visits in their order, and no put besides. Each turn is with the
 -- number of its producer. (That a visit has one entry, one leave and one put would not say that the

@@ -1,4 +1,6 @@
-use Rattle.hop_rule.proofs.Openings.{no_set_while_inside, settings_are_the_closers, visits_are_numbered, visits_read_settings, visits_show_settings}
+use Rattle.hop_rule.proofs.Openings.{no_set_while_inside, settings_are_the_closers}
+use Rattle.hop_rule.proofs.Openings.{visits_are_numbered, visits_read_settings}
+use Rattle.hop_rule.proofs.Openings.{visits_show_settings}
 use Rattle.hop_rule.proofs.laws.a_visit_sees_one_list_of_settings.Goals as goal
 
 pub returns-clause-closers : goal.returns-clause-closers

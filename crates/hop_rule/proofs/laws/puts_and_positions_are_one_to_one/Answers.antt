@@ -1,4 +1,5 @@
-use Rattle.hop_rule.proofs.Puts.{each_accepted_was_put, each_drop_was_put, each_put_is_right, positions_rise}
+use Rattle.hop_rule.proofs.Puts.{each_accepted_was_put, each_drop_was_put, each_put_is_right}
+use Rattle.hop_rule.proofs.Puts.{positions_rise}
 use Rattle.hop_rule.proofs.laws.puts_and_positions_are_one_to_one.Goals as goal
 
 pub returns-clause-put : goal.returns-clause-put
