@@ -1,11 +1,11 @@
 -- What is read of a seat's own list after new steps.
-use Rattle.std.proofs.Common.{◌≡◌, ℕ, List, [], ◌∷◌, ◌++◌, Some, sym, refl, ap, ◌∙◌, subst}
+use Rattle.std.proofs.Common.{◌≡◌, ℕ, ◌/◌, ◌^◌, List, [], ◌∷◌, ◌++◌, Some, sym, refl, ap, ◌∙◌, subst}
 use Rattle.std.specs.List.{cons_option}
 use Rattle.std.proofs.lemmas.List.Elements.{filter_map-append}
 use Rattle.steer_base.specs.Lanes.{LaneLists}
 use Rattle.seat_order.proofs.Lists.{if_same}
 use Rattle.hop_rule.specs.Boards.{empty, gate_steps, lane_steps, out_slot, own_state}
-use Rattle.hop_rule.specs.Gates.{closed, closed_after, visit, visit_after}
+use Rattle.hop_rule.specs.Gates.{closed, closed_after, found, found_after, visit, visit_after}
 use Rattle.hop_rule.specs.Lanes.{holding, out_holding}
 use Rattle.hop_rule.specs.OutLanes.{OutList}
 use Rattle.hop_rule.specs.Owns.{visit_in, visits_of}
@@ -78,10 +78,19 @@ closed-of (Gate (Read i v) ∷ ds) = closed-of ds
 closed-of (Gate g ∷ ds) = ap (closed_after g) (closed-of ds)
 closed-of (d ∷ ds) = closed-of ds
 
+found-of : (ds : List BoardStep) → found (visits_of ds) ≡ found (gate_steps ds)
+found-of [] = refl
+found-of (Gate (Read i v) ∷ ds) = found-of ds
+found-of (Gate g ∷ ds) = ap (found_after g) (found-of ds)
+found-of (d ∷ ds) = found-of ds
+
 pub quiet_steps_stay : QuietStepsStay
 quiet_steps_stay added own none =
     let same : visits_of (added ++ own) ≡ visits_of own =
-    filter_map-append visit_in added own ∙ ap (λ gs. gs ++ visits_of own) none in (
-      sym (visit-of (added ++ own)) ∙ (ap visit same ∙ visit-of own),
-      sym (closed-of (added ++ own)) ∙ (ap closed same ∙ closed-of own),
-    )
+      filter_map-append visit_in added own ∙ ap (λ gs. gs ++ visits_of own) none in
+    record {
+      place = sym (visit-of (added ++ own)) ∙ (ap visit same ∙ visit-of own);
+      gate = sym (closed-of (added ++ own)) ∙ (ap closed same ∙ closed-of own);
+      number = ap (λ w. w / 2 ^ 32)
+          (sym (found-of (added ++ own)) ∙ (ap found same ∙ found-of own));
+    }
