@@ -87,7 +87,7 @@ found-of (d ∷ ds) = found-of ds
 pub quiet_steps_stay : QuietStepsStay
 quiet_steps_stay added own none =
     let same : visits_of (added ++ own) ≡ visits_of own =
-      filter_map-append visit_in added own ∙ ap (λ gs. gs ++ visits_of own) none in
+    filter_map-append visit_in added own ∙ ap (λ gs. gs ++ visits_of own) none in
     record {
       place = sym (visit-of (added ++ own)) ∙ (ap visit same ∙ visit-of own);
       gate = sym (closed-of (added ++ own)) ∙ (ap closed same ∙ closed-of own);
