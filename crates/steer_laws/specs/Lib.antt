@@ -2,3 +2,4 @@ pub mod KeptHops
 pub mod KeptLists
 pub mod Kept
 pub mod KeptLaws
+pub mod Held
