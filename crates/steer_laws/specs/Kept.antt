@@ -1,5 +1,6 @@
 -- What holds of the machine after any steps, as far as a step can be asked by it.
-use Rattle.std.specs.Prelude.{◌≡◌, Bool, true, length}
+use Rattle.std.specs.Prelude.{◌≡◌, true, List, length}
+use Rattle.std.specs.List.{AllPass}
 use Rattle.steer_base.specs.declared.command.Command.{Command}
 use Rattle.steer_base.specs.declared.step.Step.{Step}
 use Rattle.hop_core.specs.Hop.{arrivals_of, out_at}
@@ -28,9 +29,12 @@ pub record Kept (m : Machine) : Type 0 where
 abbrev pub sizes_in : Setup → Sizes
 sizes_in p = record { cpus = p.cpus; queues = length p.homes; apps = p.apps; tx = p.txs }
 
--- A step, and a command, name what the machine has.
+-- A step, all of some steps, and a command name what the machine has.
 abbrev pub IsNamed : Setup → Step → Type 0
 IsNamed p s = step_is_within (sizes_in p) s ≡ true
+
+abbrev pub AreNamed : Setup → List Step → Type 0
+AreNamed p ss = AllPass (step_is_within (sizes_in p)) ss
 
 abbrev pub IsCommandNamed : Setup → Command → Type 0
 IsCommandNamed p c = command_is_within (sizes_in p) c ≡ true

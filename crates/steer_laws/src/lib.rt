@@ -3,4 +3,4 @@
 
 mod laws;
 
-pub use laws::the_invariant_gives_its_parts;
+pub use laws::{gates_are_open_between_steps, steps_keep_the_invariant};
