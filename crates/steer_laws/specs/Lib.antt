@@ -2,4 +2,6 @@ pub mod KeptHops
 pub mod KeptLists
 pub mod Kept
 pub mod KeptLaws
+pub mod Recorded
 pub mod Held
+pub mod HeldLaws
