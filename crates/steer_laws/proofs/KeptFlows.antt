@@ -153,8 +153,8 @@ kept-flows m q count named within done k =
     let now : Settings = changed m.settings (give.Flows q count) in
     let s : HopState = (happens m.rx event.Close).0 in
     let t : HopState = (happens s (event.Resize q count)).0 in
-    let c = calm-reopen m now t may.2.0
-    (calm-resize m s q count may.1 (calm-close m m.settings m.rx may.0 (calm-kept m k))) in
+    let c = calm-reopen m now t may.1.1.0
+    (calm-resize m s q count may.1.0 (calm-close m m.settings m.rx may.0 (calm-kept m k))) in
     let y = k.sizes in let w = c.manned in
     record {
       given = k.given;

@@ -118,9 +118,11 @@ offline-fits online cpu homes stands e =
     let used : Option Refused = option_map (λ u. refused.CpuInUse u) (user_of homes stands cpu) in
     elim (cases_Bool (has online cpu)) [
       | inl on ↦ (
-          let f : used ≡ None = sym (ap (λ b. cond b used (Some refused.CpuOffline)) on) ∙ e in
-          (on, no_home homes cpu (no_user (position (λ home. home == cpu) homes) (position (λ stand. stand == cpu) stands)
-          (none_mapped (user_of homes stands cpu) f))))
+          let f : used ≡ None = sym (ap (λ b. cond b used (Some refused.CpuOffline)) on) ∙ e in (
+            on,
+            no_home homes cpu (no_user (position (λ home. home == cpu) homes) (position (λ stand. stand == cpu) stands)
+                (none_mapped (user_of homes stands cpu) f)),
+          ))
       | inr off ↦ absurd (
           let f : Some refused.CpuOffline ≡ None = sym (ap (λ b. cond b used (Some refused.CpuOffline)) off) ∙ e in cc)
     ]

@@ -62,11 +62,11 @@ Kept-rx m e arrivals may still counts allowed manned noted came replied k =
     }
 
 -- an event by which nothing arrives and nothing leaves
-record IsInner (e : HopEvent) : Type 0 where
-  closed : changes e Field.closed ≡ false
-  counts : changes e Field.counts ≡ false
-  arrivals : changes e Field.arrivals ≡ false
-  outs : changes e Field.outs ≡ false
+pub record IsInner (e : HopEvent) : Type 0 where
+  pub closed : changes e Field.closed ≡ false
+  pub counts : changes e Field.counts ≡ false
+  pub arrivals : changes e Field.arrivals ≡ false
+  pub outs : changes e Field.outs ≡ false
 
 pub Kept-inner : (m : Machine) (e : HopEvent) (t : HopState) → IsInner e → MayAsk m.rx e
     → IsBySettings (class_at m.setup m.settings) (plain_lane m.setup m.settings) m.rx e

@@ -102,7 +102,7 @@ asking-below homes filters c position f e =
 
 -- ---- filters that are written, and filters that go
 
-queue_or : Option Filter → ℕ → ℕ
+abbrev queue_or : Option Filter → ℕ → ℕ
 queue_or None d = d
 queue_or (Some f) d = f.queue
 

@@ -105,7 +105,7 @@ everyone-has : (c : ℕ) → c < 32 → has everyone c ≡ true
 everyone-has c lt = let bit = bit_at_ones 32 c lt in rw (lt-ltb c 32 lt, bit) refl
 
 -- the flow of every packet has a class, also of one that the capture has not
-flow_below : (p : Setup) (x : ℕ) → IsGiven p → flow_of p x < max 1 (length p.packets)
+pub flow_below : (p : Setup) (x : ℕ) → IsGiven p → flow_of p x < max 1 (length p.packets)
 flow_below p x g =
     elim (cases_lt x (length p.packets)) [
       | inl lt ↦ (let f = g.flows.below x lt in omega (arith, f))

@@ -160,7 +160,7 @@ module _ (m : Machine) (k : Kept m) where
 
   -- ---- commands
 
-  kept-done : (c : Command) → IsCommandNamed m.setup c → is_done (answer_to m c) ≡ true → Kept (set_by m c)
+  pub kept-done : (c : Command) → IsCommandNamed m.setup c → is_done (answer_to m c) ≡ true → Kept (set_by m c)
   kept-done (give.Flows q count) named done =
       let w = both-below q (length m.setup.homes) count 32769 named in
       let lt = w.1 in

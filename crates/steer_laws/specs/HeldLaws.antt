@@ -1,6 +1,7 @@
 -- Laws of the machine and of the histories that it makes.
-use Rattle.std.specs.Prelude.{ℕ, ◌^◌, ◌<◌, ◌≤◌, ◌≡◌, List, Option, length}
+use Rattle.std.specs.Prelude.{ℕ, ◌^◌, ◌<◌, ◌≤◌, ◌≡◌, true, List, Option, length}
 use Rattle.std.specs.List.{AllPass}
+use Rattle.steer_base.specs.declared.command.Command.{Command}
 use Rattle.steer_base.specs.declared.packet.Packet.{Packet}
 use Rattle.steer_base.specs.declared.step.Step.{Step}
 use Rattle.history.specs.Places.{AreInOnePlace, InboxesAreDelivered, IsInReach}
@@ -9,12 +10,13 @@ use Rattle.history.specs.declared.history.History.{History}
 use Rattle.plan_reader.specs.Plans.{sizes_of}
 use Rattle.plan_reader.specs.Ranges.{step_is_within}
 use Rattle.plan_reader.specs.declared.plan.Plan.{Plan}
+use Rattle.steer_parts.specs.Commands.{answer_to, is_done, listed, set_by}
 use Rattle.steer_parts.specs.Given.{AreOfFlows}
 use Rattle.steer_parts.specs.Machine.{Machine, history_of}
 use Rattle.steer_parts.specs.Start.{new_machine, replayed}
 use Rattle.steer_parts.specs.Whole.{after, step}
 use Rattle.steer_laws.specs.Held.{Held}
-use Rattle.steer_laws.specs.Kept.{IsNamed, sizes_in}
+use Rattle.steer_laws.specs.Kept.{AreNamed, IsCommandNamed, IsNamed}
 
 -- A history of which lines and a report can be made, with no test in the way: it is regular for
 -- these packets and applications, its arrivals are at the queues that their kept values lead to,
@@ -57,12 +59,17 @@ StepsKeepHeld = (m : Machine) (s : Step) → IsNamed m.setup s → Held m → He
 
 abbrev pub RunsKeepHeld : Type 0
 RunsKeepHeld =
-    (m : Machine) (ss : List Step) → AllPass (step_is_within (sizes_in m.setup)) ss → Held m
-    → Held (after ss m)
+    (m : Machine) (ss : List Step) → AreNamed m.setup ss → Held m → Held (after ss m)
 
--- No step changes what the plan and the capture fix.
-abbrev pub SetupStays : Type 0
-SetupStays = (m : Machine) (ss : List Step) → (after ss m).setup ≡ m.setup
+-- A command that is done keeps the machine held before it is listed, and so does its listing with
+-- its answer.
+abbrev pub CommandsKeepHeld : Type 0
+CommandsKeepHeld =
+    (m : Machine) (c : Command) → IsCommandNamed m.setup c → is_done (answer_to m c) ≡ true
+    → Held m → Held (set_by m c)
+
+abbrev pub ListingKeepsHeld : Type 0
+ListingKeepsHeld = (m n : Machine) (c : Command) → Held n → Held (listed n c (answer_to m c))
 
 -- ---- every history
 
