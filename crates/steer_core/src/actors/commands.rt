@@ -1,5 +1,6 @@
 //! Commands: how each is answered, and that it is listed.
-ghost use Rattle.std.specs.Prelude.{◌≡◌, ◌<◌, length};
+ghost use Rattle.std.specs.Prelude.{◌≡◌, ◌<◌, length, true};
+ghost use Rattle.history.specs.Regular.{has_text};
 ghost use Rattle.steer_base.specs.Commands.{refusal};
 ghost use Rattle.steer_laws.specs.Kept.{IsCommandNamed};
 ghost use Rattle.steer_parts.specs.Commands.{affects, answer_to, by_gate, gated, given, listed};
@@ -30,7 +31,8 @@ impl Actors {
 
     // Lists a command with its answer.
     fn list(&mut self, command: Command, answer: Answer)
-        requires { length self.old.machine.commands < self.old.rooms.commands }
+        requires text { has_text answer ≡ true }
+        requires room { length self.old.machine.commands < self.old.rooms.commands }
         ensures state { self.new.machine ≡ listed self.old.machine command answer }
         ensures rooms { self.new.rooms ≡ self.old.rooms }
     {
