@@ -1,11 +1,10 @@
 -- What each command that is done keeps, by the values that the code has: the settings after it, and
 -- each other part that it changes.
-use Rattle.std.proofs.Common.{ℕ, ◌≡◌, true, false, List, Option, refl, ap, ◌∙◌, sym, subst, map}
+use Rattle.std.proofs.Common.{ℕ, ◌≡◌, true, List, Option, refl, ap, ◌∙◌, sym, subst, map}
 use Rattle.steer_base.specs.Counters.{rounded_up}
 use Rattle.steer_base.specs.declared.command.Command.{Command}
 use Rattle.steer_base.specs.declared.command.Command.TheVariants as give
 use Rattle.steer_base.specs.declared.filter.Filter.{Filter}
-use Rattle.hop_core.specs.declared.event.HopEvent.{HopEvent}
 use Rattle.hop_core.specs.declared.event.HopEvent.TheVariants as event
 use Rattle.hop_core.specs.Events.{happens}
 use Rattle.hop_core.specs.Hop.{HopState}
@@ -72,8 +71,10 @@ held_flows m q count now t u v named done is closed changed' opened h =
     opened ∙ ap (λ (s : HopState). (happens s event.Reopen).0) changed'
     ∙ ap (λ (s : HopState). (happens (happens s (event.Resize q count)).0 event.Reopen).0) closed in
     subst (λ (s : Settings). Held (record m { settings = s; rx = v })) (sym is)
-    (subst (λ (s : HopState). Held (record m { settings = changed m.settings (give.Flows q count);
-        rx = s })) (sym then') (held_set m (give.Flows q count) named done h))
+    (subst (λ (s : HopState). Held (record m {
+      settings = changed m.settings (give.Flows q count);
+      rx = s;
+    })) (sym then') (held_set m (give.Flows q count) named done h))
 
 pub held_sock : (m : Machine) (size : ℕ) (now : Settings) (socket : List (Option ℕ))
     → IsCommandNamed m.setup (give.Sock size) → is_done (answer_to m (give.Sock size)) ≡ true
@@ -81,8 +82,11 @@ pub held_sock : (m : Machine) (size : ℕ) (now : Settings) (socket : List (Opti
     → Held m → Held (record m { settings = now; socket = socket })
 held_sock m size now socket named done is cleared h =
     subst (λ (s : Settings). Held (record m { settings = s; socket = socket })) (sym is)
-    (subst (λ (s : List (Option ℕ)). Held (record m { settings = changed m.settings
-        (give.Sock size); socket = s })) (sym cleared) (held_set m (give.Sock size) named done h))
+    (subst (λ (s : List (Option ℕ)). Held (record m {
+      settings = changed m.settings
+          (give.Sock size);
+      socket = s;
+    })) (sym cleared) (held_set m (give.Sock size) named done h))
 
 pub held_expire : (m : Machine) (filters : List (Option Filter))
     → is_done (answer_to m give.Expire) ≡ true → filters ≡ map (kept_filter m) m.filters

@@ -1,6 +1,7 @@
 -- The machine that a plan starts is held.
 use Rattle.std.proofs.Common.{ℕ, max, ◌+◌, ◌<◌, ◌≡◌, Bool, true, false, List, [], Option, Some}
-use Rattle.std.proofs.Common.{None, length, refl, ap, ◌∙◌, sym, subst, arith, map, replicate}
+use Rattle.std.proofs.Common.{None, IsSome, length, refl, ap, ◌∙◌, sym, subst, arith, map}
+use Rattle.std.proofs.Common.{replicate}
 use Rattle.std.specs.Prelude.{◌&&◌, nat_lt, slice_index, slice_index_or}
 use Rattle.std.specs.List.{All}
 use Rattle.std.proofs.Math.ListN.{length-map, length-replicate}
@@ -19,10 +20,13 @@ use Rattle.hop_core.proofs.Drops.{fresh_is_ample}
 use Rattle.hop_core.proofs.New.{Sound-fresh, at_new}
 use Rattle.hop_core.proofs.NothingLost.{fresh_loses_nothing}
 use Rattle.hop_core.proofs.Settled.{fresh_is_settled}
-use Rattle.accel_filter.specs.Table as filters
+use Rattle.accel_filter.specs.Table as table
 use Rattle.sock_flow_table.specs.Sockets as sockets
-use Rattle.history.specs.Lists.{list_at}
+use Rattle.history.specs.Lists.{app_at, arrival_of, list_at, packet_at}
+use Rattle.history.specs.declared.arrival.Arrival.{Arrival}
+use Rattle.history.specs.declared.commanded.Commanded.{Commanded}
 use Rattle.history.specs.declared.sent.Sent.{Sent}
+use Rattle.history.specs.declared.sock_write.SockWrite.{SockWrite}
 use Rattle.plan_reader.specs.declared.plan.Plan.{Plan}
 use Rattle.steer_parts.specs.Given.{IsGiven}
 use Rattle.steer_parts.specs.Settings.{Settings, class_at, plain_lane}
@@ -47,7 +51,8 @@ nobody-in : (cpu : ℕ) → has (record { 0 = 0 }) cpu ≡ false
 nobody-in cpu = let e = bit_at-zero cpu in rw e (both-false (nat_lt cpu 32))
 
 none-chosen : {P : Type 0} (i : ℕ) (cs : List Chosen) → cs ≡ [] → i < length cs → P
-none-chosen i cs e lt = absurd (let z = ap (λ (l : List Chosen). length l) e in omega (arith, lt, z))
+none-chosen i cs e lt =
+    absurd (let z = ap (λ (l : List Chosen). length l) e in omega (arith, lt, z))
 
 module _ (plan : Plan) (packets : List Packet) (cut : Option ℕ) (may : MayStart plan packets) where
   abbrev setup : Setup
@@ -203,7 +208,7 @@ module _ (plan : Plan) (packets : List Packet) (cut : Option ℕ) (may : MayStar
       → slice_index_or (replicate (length plan.queues) note.Nothing) q note.Nothing ≡ note.Nothing
   no-notes q = at_new {X = Note} (length plan.queues) q note.Nothing
 
-  routes-new : Routes setup.homes now.reta (filters.unset plan.filters)
+  routes-new : Routes setup.homes now.reta (table.unset plan.filters)
       (replicate (length plan.queues) note.Nothing)
   routes-new =
       let w = plan.within in
@@ -247,18 +252,66 @@ module _ (plan : Plan) (packets : List Packet) (cut : Option ℕ) (may : MayStar
   all-none : {A : Type 0} (P : A → Type 0) (xs : List A) → xs ≡ [] → All P xs
   all-none P xs e = subst (All P) (sym e) (All-nil P)
 
+  no-tx_choices : (a : ℕ) → choices_of tx a ≡ []
+  no-tx_choices a = at_new {X = List Chosen} (length classes) a []
+
   recorded-new : IsRecorded (new_machine plan packets cut)
   recorded-new =
       record {
-        routed = All-nil _;
-        own = λ a. all-none _ (out_at rx.bare a) (at_new {X = List ℕ} (length plan.apps) a []);
-        queues = λ a. all-none _ (list_at none-sent a) (no-sent a);
+        routed = λ i d lt. absurd (omega (arith, lt));
+        own = λ a. all-none (λ x. app_at packets (length plan.apps) x ≡ a) (out_at rx.bare a)
+            (at_new {X = List ℕ} (length plan.apps) a []);
+        queues = λ a. all-none (λ s. s.rxq ≡ (arrival_of [] s.id).queue) (list_at none-sent a)
+            (no-sent a);
         weighed = record {
-          class = λ a. all-none _ (choices_of tx a) (at_new {X = List Chosen} (length classes) a []);
-          want = λ a. all-none _ (choices_of tx a) (at_new {X = List Chosen} (length classes) a []);
+          class = λ a. all-none
+              (λ c. c.choice.class ≡ Some (packet_at packets c.id).flow_number) (choices_of tx a)
+              (no-tx_choices a);
+          want = λ a. all-none (λ c. IsSome c.choice.want) (choices_of tx a) (no-tx_choices a);
         };
-        told = All-nil _;
+        told = λ i d lt. absurd (omega (arith, lt));
       }
 
   pub held-new : Held (new_machine plan packets cut)
   held-new = record { kept = kept-new; recorded = recorded-new }
+
+  -- the same of parts that are those of the plan's machine
+  pub held_made : (given : Setup) (settings : Settings) (socket : List (Option ℕ))
+      (filters : List (Option Filter)) (notes : List Note) (s t : HopState)
+      (arrivals : List Arrival) (sent : List (List Sent)) (writes : List (List SockWrite))
+      (commands : List Commanded)
+      → given ≡ setup_of plan packets cut → settings ≡ settings_of plan
+      → socket ≡ sockets.unset (settings_of plan).sock → filters ≡ table.unset plan.filters
+      → notes ≡ replicate (length plan.queues) note.Nothing → s ≡ fresh_rx plan packets
+      → t ≡ fresh_tx plan packets → arrivals ≡ [] → sent ≡ replicate (length plan.apps) []
+      → writes ≡ replicate (length plan.apps) [] → commands ≡ []
+      → Held
+      (record {
+        setup = given;
+        settings = settings;
+        socket = socket;
+        filters = filters;
+        notes = notes;
+        rx = s;
+        tx = t;
+        arrivals = arrivals;
+        sent = sent;
+        writes = writes;
+        commands = commands;
+      })
+  held_made given settings socket filters notes s t arrivals sent writes commands
+      a b c d e f g h i j k =
+      subst Held
+      (λ x. record {
+        setup = sym a x;
+        settings = sym b x;
+        socket = sym c x;
+        filters = sym d x;
+        notes = sym e x;
+        rx = sym f x;
+        tx = sym g x;
+        arrivals = sym h x;
+        sent = sym i x;
+        writes = sym j x;
+        commands = sym k x;
+      }) held-new

@@ -1,6 +1,6 @@
--- What each step of one event and each command keeps, by the values that the code has: the hop after
--- its event, and each other part that it changes.
-use Rattle.std.proofs.Common.{ℕ, ◌+◌, ◌<◌, ◌≡◌, true, false, List, [], ◌∷◌, ◌++◌, Option, Some, None}
+-- What each step of one event keeps, by the values that code has: the hop after its event, and each
+-- other part that it changes.
+use Rattle.std.proofs.Common.{ℕ, ◌+◌, ◌<◌, ◌≡◌, true, false, List, [], ◌∷◌, ◌++◌, Option, Some}
 use Rattle.std.proofs.Common.{length, refl, ap, ◌∙◌, sym, subst}
 use Rattle.std.specs.Prelude.{slice_set}
 use Rattle.steer_base.specs.declared.choice.Choice.{Choice}
@@ -29,19 +29,20 @@ use Rattle.steer_laws.specs.Held.{Held}
 use Rattle.steer_laws.specs.Recorded.{IsRecorded}
 use Rattle.steer_laws.proofs.KeptArrives.{kept_arrive, next_arrival}
 use Rattle.steer_laws.proofs.KeptGives.{Kept-listed}
-use Rattle.steer_laws.proofs.KeptPollers.{kept_deliver, kept_enter, kept_leave, kept_look, kept_pull}
-use Rattle.steer_laws.proofs.KeptPollers.{kept_retire, kept_take}
+use Rattle.steer_laws.proofs.KeptPollers.{kept_deliver, kept_enter, kept_leave, kept_look}
+use Rattle.steer_laws.proofs.KeptPollers.{kept_pull, kept_retire, kept_take}
 use Rattle.steer_laws.proofs.KeptPuts.{kept_ask, kept_asking, kept_put}
 use Rattle.steer_laws.proofs.KeptRecords.{kept_visited, kept_wrote}
-use Rattle.steer_laws.proofs.KeptSends.{kept_send, kept_tdeliver, kept_tenter, kept_tleave, kept_tpull}
-use Rattle.steer_laws.proofs.KeptSends.{kept_tput, kept_tretire, kept_tweigh}
+use Rattle.steer_laws.proofs.KeptSends.{kept_send, kept_tdeliver, kept_tenter, kept_tleave}
+use Rattle.steer_laws.proofs.KeptSends.{kept_tpull, kept_tput, kept_tretire, kept_tweigh}
 use Rattle.steer_laws.proofs.KeptWeighs.{kept_weigh}
 use Rattle.steer_laws.proofs.RecordedArrives.{recorded-arrives}
 use Rattle.steer_laws.proofs.RecordedGives.{recorded-listed, text-answer}
 use Rattle.steer_laws.proofs.RecordedRows.{recorded-choices, recorded-deliver, recorded-outs}
 use Rattle.steer_laws.proofs.RecordedRows.{recorded-sends, recorded-tweigh}
 
--- an event of the receive hop that delivers nothing, and one of the transmit hop that weighs nothing
+-- an event of the receive hop that delivers nothing, and one of the transmit hop that weighs
+-- nothing
 rx-recorded : (m : Machine) (e : HopEvent) (t : HopState) → changes e Field.outs ≡ false
     → t ≡ (happens m.rx e).0 → IsRecorded m → IsRecorded (record m { rx = t })
 rx-recorded m e t quiet is r =
@@ -63,13 +64,13 @@ held_arrive m a t which few is h =
     let n : Arrival = next_arrival m in
     let then' : t ≡ (happens m.rx (event.Arrive n.queue n.id)).0 =
     is ∙ ap (λ (b : Arrival). (happens m.rx (event.Arrive b.queue b.id)).0) which in
+    let after : HopState → Arrival → Machine =
+    λ s b. record m { rx = s; arrivals = m.arrivals ++ b ∷ [] } in
     let r = recorded-arrives m h.kept h.recorded in
     record {
       kept = kept_arrive m a t which few is h.kept;
-      recorded = subst (λ (b : Arrival). IsRecorded (record m { rx = t; arrivals = m.arrivals ++ b ∷ [] }))
-          (sym which)
-          (subst (λ (s : HopState). IsRecorded (record m { rx = s; arrivals = m.arrivals ++ n ∷ [] }))
-          (sym then') r);
+      recorded = subst (λ (b : Arrival). IsRecorded (after t b)) (sym which)
+          (subst (λ (s : HopState). IsRecorded (after s n)) (sym then') r);
     }
 
 -- ---- a poller

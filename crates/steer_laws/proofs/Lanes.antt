@@ -8,8 +8,8 @@ use Rattle.std.proofs.lemmas.List.{get_or-map}
 use Rattle.std.proofs.lemmas.List.FromFn.{get_or-map-range_with_len, length-map-range_with_len}
 use Rattle.steer_base.specs.Orders.{Apart, IsPrefix}
 use Rattle.hop_core.specs.Hop.{HopState, accepted_at, arrivals_of, choices_of, chosen_at}
-use Rattle.hop_core.specs.Hop.{delivered_at, drops_at, fell_at, nobody, out_at, placed_of, pulled_at}
-use Rattle.hop_core.specs.Hop.{retired_at}
+use Rattle.hop_core.specs.Hop.{delivered_at, drops_at, fell_at, nobody, out_at, placed_of}
+use Rattle.hop_core.specs.Hop.{pulled_at, retired_at}
 use Rattle.hop_core.specs.Laws.{fallen}
 use Rattle.hop_core.specs.Sound.{Puts, Sound}
 use Rattle.hop_core.proofs.Apart.{HasPlaces-from}
@@ -170,9 +170,11 @@ module _ (s : HopState) (h : Sound s) where
       let at = place-index x (out_at s.bare o) is in
       let w = h.places.from o at.0 at.1 in
       let a = h.counts.delivered_first w.0 in let b = h.counts.pulled_first w.0 in
-      let same = ap (λ y. is_in y (accepted_at s.bare w.0)) (sym (w.3 ∙ at.2)) in
-      (w.0, ap (is_in x) (accepted-is w.0) ∙ same
-      ∙ in-index (accepted_at s.bare w.0) w.1 (omega (arith, w.2, a, b)))
+      let same = ap (λ y. is_in y (accepted_at s.bare w.0)) (sym (w.3 ∙ at.2)) in (
+        w.0,
+        ap (is_in x) (accepted-is w.0) ∙ same
+            ∙ in-index (accepted_at s.bare w.0) w.1 (omega (arith, w.2, a, b)),
+      )
 
   -- of a packet in an out lane, the lane that accepted it is the one that delivered it
   pub delivered-at : (o c x : ℕ) → is_in x (out_at s.bare o) ≡ true

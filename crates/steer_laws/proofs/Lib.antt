@@ -25,6 +25,7 @@ pub mod RecordedArrives
 pub mod RecordedGives
 pub mod RecordedSteps
 pub mod HeldHistory
+pub mod HeldAsks
 pub mod HeldNew
 pub mod HeldRows
 pub mod HeldCommands

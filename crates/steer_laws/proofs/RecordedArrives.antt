@@ -12,7 +12,7 @@ use Rattle.steer_base.specs.declared.packet.Packet.{Packet}
 use Rattle.hop_core.specs.Hop.{out_at}
 use Rattle.rss_table.specs.Redirection.{queue_of}
 use Rattle.history.specs.Finding.{is_in}
-use Rattle.history.specs.Lists.{arrival_of, list_at, packet_at}
+use Rattle.history.specs.Lists.{list_at, packet_at}
 use Rattle.history.specs.Regular.{route_of}
 use Rattle.history.specs.declared.arrival.Arrival.{Arrival}
 use Rattle.history.specs.declared.sent.Sent.{Sent}
@@ -48,13 +48,15 @@ queues-stay m a is k r b j d lt =
     ∙ ap (λ c. c.queue)
     (sym (arrival-stays m.arrivals a x is k.came.numbered (sent-arrived m b j d k r lt)))
 
-pub recorded-arrives : (m : Machine) → Kept m → IsRecorded m → IsRecorded (arrives m (next_arrival m))
+pub recorded-arrives : (m : Machine) → Kept m → IsRecorded m
+    → IsRecorded (arrives m (next_arrival m))
 recorded-arrives m k r =
     let hash : Option ℕ = hash_of m.setup (length m.arrivals) in
     let packets : List Packet = m.setup.packets in
+    let entry : ℕ = queue_of m.settings.reta hash in
     record {
       routed = All-push (λ b. IsRoute (packet_at packets b.id).hash (route_of b)) m.arrivals
-          (next_arrival m) r.routed (filter_seen m.filters hash, queue_of m.settings.reta hash, refl);
+          (next_arrival m) r.routed (filter_seen m.filters hash, entry, refl);
       own = r.own;
       queues = queues-stay m (next_arrival m) refl k r;
       weighed = r.weighed;

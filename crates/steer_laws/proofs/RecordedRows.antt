@@ -20,17 +20,18 @@ use Rattle.hop_core.specs.declared.event.HopEvent.{HopEvent}
 use Rattle.hop_core.specs.declared.event.HopEvent.TheVariants as event
 use Rattle.hop_core.specs.Events.{happens, run}
 use Rattle.hop_core.specs.Hop.{HopState, choice_of, choices_of, chose, deliver_at, delivered_at}
-use Rattle.hop_core.specs.Hop.{inside_of, next_of, next_out, out_at, placed_of, pulled_at, taken_of}
+use Rattle.hop_core.specs.Hop.{inside_of, next_of, next_out, placed_of, pulled_at, taken_of}
 use Rattle.hop_core.specs.Hop.{arrivals_of, with_bare}
 use Rattle.hop_core.specs.Leaves.{Field, Same, changes}
 use Rattle.hop_core.specs.Leaves as field
 use Rattle.hop_core.specs.Reads.{to_weigh}
 use Rattle.hop_core.proofs.Cases.{by_cases}
 use Rattle.hop_core.proofs.Leaves.{each_leaves}
-use Rattle.history.specs.Lists.{app_at, arrival_of, list_at, packet_at}
+use Rattle.history.specs.Lists.{app_at, arrival_of, packet_at}
 use Rattle.history.specs.declared.sent.Sent.{Sent}
-use Rattle.steer_parts.specs.Applications.{deliver, everyone, in_lane, in_reply, next_in, nothing_sent}
-use Rattle.steer_parts.specs.Applications.{pick_for, record_by, record_flow, reply_to, send, send_by}
+use Rattle.steer_parts.specs.Applications.{deliver, everyone, in_lane, in_reply, next_in}
+use Rattle.steer_parts.specs.Applications.{nothing_sent, pick_for, record_by, record_flow}
+use Rattle.steer_parts.specs.Applications.{reply_to, send, send_by}
 use Rattle.steer_parts.specs.Applications.{sending, sends, sent_of, tput, tweigh, visited, wrote}
 use Rattle.steer_parts.specs.Machine.{Machine, last_of, note_of}
 use Rattle.steer_parts.specs.Notes.{is_asking, is_nothing}

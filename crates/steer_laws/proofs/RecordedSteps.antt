@@ -1,6 +1,6 @@
 -- Every step of one event and every command keeps what the machine's lists say of each other, and a
 -- new machine has no such lists.
-use Rattle.std.proofs.Common.{◌≡◌, refl}
+use Rattle.std.proofs.Common.{refl}
 use Rattle.steer_base.specs.declared.step.Step.{Step}
 use Rattle.steer_base.specs.declared.step.Step.TheVariants as act
 use Rattle.hop_core.specs.declared.event.HopEvent.TheVariants as event
@@ -11,9 +11,10 @@ use Rattle.steer_laws.specs.Recorded.{IsRecorded}
 use Rattle.steer_laws.proofs.RecordedArrives.{recorded-arrive}
 use Rattle.steer_laws.proofs.RecordedGives.{recorded-give}
 use Rattle.steer_laws.proofs.RecordedRows.{recorded-ask, recorded-deliver, recorded-leave}
-use Rattle.steer_laws.proofs.RecordedRows.{recorded-look, recorded-put, recorded-record, recorded-rx}
-use Rattle.steer_laws.proofs.RecordedRows.{recorded-send, recorded-take, recorded-tput, recorded-tweigh}
-use Rattle.steer_laws.proofs.RecordedRows.{recorded-tx, recorded-weigh}
+use Rattle.steer_laws.proofs.RecordedRows.{recorded-look, recorded-put, recorded-record}
+use Rattle.steer_laws.proofs.RecordedRows.{recorded-rx, recorded-send, recorded-take}
+use Rattle.steer_laws.proofs.RecordedRows.{recorded-tput, recorded-tweigh, recorded-tx}
+use Rattle.steer_laws.proofs.RecordedRows.{recorded-weigh}
 
 pub recorded-simple : (m : Machine) (s : Step) → Kept m → IsRecorded m → IsRecorded (simple m s).0
 recorded-simple m act.Arrive k r = recorded-arrive m k r

@@ -15,6 +15,7 @@ use Rattle.steer_parts.specs.Given.{AreOfFlows}
 use Rattle.steer_parts.specs.Machine.{Machine, history_of}
 use Rattle.steer_parts.specs.Start.{new_machine, replayed}
 use Rattle.steer_parts.specs.Whole.{after, step}
+use Rattle.steer_laws.specs.Asks.{AsksRx, AsksTx}
 use Rattle.steer_laws.specs.Held.{Held}
 use Rattle.steer_laws.specs.Kept.{AreNamed, IsCommandNamed, IsNamed}
 
@@ -36,6 +37,13 @@ pub record IsReportable (packets : List Packet) (apps : ℕ) (h : History) : Typ
 abbrev pub HeldIsReportable : Type 0
 HeldIsReportable =
     (m : Machine) → Held m → IsReportable m.setup.packets m.setup.apps (history_of m)
+
+-- It may ask its hops for the events of its steps.
+abbrev pub HeldAsksRx : Type 0
+HeldAsksRx = (m : Machine) → Held m → AsksRx m
+
+abbrev pub HeldAsksTx : Type 0
+HeldAsksTx = (m : Machine) → Held m → AsksTx m
 
 -- ---- every state
 

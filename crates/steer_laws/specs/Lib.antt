@@ -4,4 +4,5 @@ pub mod Kept
 pub mod KeptLaws
 pub mod Recorded
 pub mod Held
+pub mod Asks
 pub mod HeldLaws

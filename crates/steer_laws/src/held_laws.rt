@@ -1,7 +1,8 @@
 //! Laws of the machine and of the histories that it makes, each the contract of a function that
 //! does nothing.
-ghost use Rattle.steer_laws.specs.HeldLaws.{CommandsKeepHeld, HeldIsReportable, ListingKeepsHeld};
-ghost use Rattle.steer_laws.specs.HeldLaws.{NewIsHeld, ReplaysAreReportable};
+ghost use Rattle.steer_laws.specs.HeldLaws.{CommandsKeepHeld, HeldAsksRx, HeldAsksTx};
+ghost use Rattle.steer_laws.specs.HeldLaws.{HeldIsReportable, ListingKeepsHeld, NewIsHeld};
+ghost use Rattle.steer_laws.specs.HeldLaws.{ReplaysAreReportable};
 ghost use Rattle.steer_laws.specs.HeldLaws.{RunsAreReportable, RunsKeepHeld, StepsKeepHeld};
 
 /// In every state of the machine its history is regular, each arrival is at the queue that its kept
@@ -9,6 +10,13 @@ ghost use Rattle.steer_laws.specs.HeldLaws.{RunsAreReportable, RunsKeepHeld, Ste
 /// applications are such that its lines and its report can be made.
 pub fn a_machine_has_a_history_to_report()
     ensures { HeldIsReportable }
+{}
+
+/// In every state of the machine each event of a step that names only what it has may be asked of
+/// its hop.
+pub fn a_machine_may_ask_its_hops()
+    ensures rx { HeldAsksRx }
+    ensures tx { HeldAsksTx }
 {}
 
 /// What holds of a machine holds of the one that a plan starts, and every step and every list of
@@ -19,14 +27,15 @@ pub fn every_step_keeps_the_machine()
     ensures steps { RunsKeepHeld }
 {}
 
-/// So does a command that is done before it is listed, and the listing of a command with its answer.
+/// So does a command that is done before it is listed, and the listing of a command with its
+/// answer.
 pub fn every_command_keeps_the_machine()
     ensures done { CommandsKeepHeld }
     ensures listed { ListingKeepsHeld }
 {}
 
-/// After any steps that name only what the plan has, and after all steps of the plan, the history is
-/// one that can be reported.
+/// After any steps that name only what the plan has, and after all steps of the plan, the history
+/// is one that can be reported.
 pub fn every_replay_can_be_reported()
     ensures runs { RunsAreReportable }
     ensures replays { ReplaysAreReportable }
