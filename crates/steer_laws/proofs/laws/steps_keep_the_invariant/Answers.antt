@@ -1,0 +1,14 @@
+use Rattle.steer_laws.proofs.KeptLemmas.{events_keep_kept, step_keeps_kept, steps_keep_kept, steps_keep_setup}
+use Rattle.steer_laws.proofs.laws.steps_keep_the_invariant.Goals as goal
+
+pub returns-clause-events : goal.returns-clause-events
+returns-clause-events c = events_keep_kept
+
+pub returns-clause-step : goal.returns-clause-step
+returns-clause-step c = step_keeps_kept
+
+pub returns-clause-steps : goal.returns-clause-steps
+returns-clause-steps c = steps_keep_kept
+
+pub returns-clause-setup : goal.returns-clause-setup
+returns-clause-setup c = steps_keep_setup

@@ -1,0 +1,11 @@
+//! What every step of the machine keeps, over its definitions alone.
+#![tactic(auto)]
+
+mod held_laws;
+mod laws;
+
+pub use held_laws::{
+    a_machine_has_a_history_to_report, a_machine_may_ask_its_hops, every_command_keeps_the_machine,
+    every_replay_can_be_reported, every_step_keeps_the_machine,
+};
+pub use laws::{gates_are_open_between_steps, steps_keep_the_invariant};
