@@ -1,5 +1,5 @@
 -- A regular history is found again in its lines, sums, writes and commands.
-mod Arrivals
+pub mod Arrivals
 pub mod Histories
 mod Looks
 mod SameArrivals

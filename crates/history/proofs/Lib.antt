@@ -2,7 +2,7 @@ pub mod BoundLemmas
 mod CountLemmas
 pub mod ExampleLemmas
 pub mod FindingLemmas
-mod FoundAgain
+pub mod FoundAgain
 mod IndexLemmas
 mod LinesFit
 pub mod OwnLemmas

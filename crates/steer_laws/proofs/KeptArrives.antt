@@ -1,6 +1,6 @@
 -- What an arrival keeps.
-use Rattle.std.proofs.Common.{ℕ, ◌+◌, ◌<◌, ◌≡◌, ◌≢◌, true, List, [], ◌∷◌, ◌++◌, Option, map, length, refl, ap, ◌∙◌}
-use Rattle.std.proofs.Common.{sym, subst, arith, inl, inr, append-nil, suc, zero}
+use Rattle.std.proofs.Common.{ℕ, ◌+◌, ◌<◌, ◌≡◌, ◌≢◌, true, List, [], ◌∷◌, ◌++◌, map, length, refl, ap, ◌∙◌}
+use Rattle.std.proofs.Common.{sym, subst, arith, inl, inr, append-nil}
 use Rattle.std.specs.Prelude.{◌==◌, slice_index}
 use Rattle.std.specs.List.{filter, range_with_len}
 use Rattle.std.proofs.lemmas.Bool.{cases_eq, eq-eqb, ne_eqb}
@@ -11,15 +11,16 @@ use Rattle.steer_base.specs.declared.packet.Packet.{Packet}
 use Rattle.hop_core.specs.declared.event.HopEvent.{HopEvent}
 use Rattle.hop_core.specs.declared.event.HopEvent.TheVariants as event
 use Rattle.hop_core.specs.Events.{MayAsk, happens}
-use Rattle.hop_core.specs.Hop.{HopState, arrivals_of, out_at}
+use Rattle.hop_core.specs.Hop.{HopState, arrivals_of}
 use Rattle.hop_core.proofs.Lists.{Changed, Changed-set}
 use Rattle.history.specs.Finding.{is_in}
 use Rattle.history.specs.Lists.{arrival_of, arrivals_at, list_at, no_arrival}
 use Rattle.history.specs.declared.arrival.Arrival.{Arrival}
-use Rattle.history.proofs.FindingLemmas.{is_in-here, is_in-past, map-same}
+use Rattle.history.proofs.BoundLemmas.{in-index}
+use Rattle.history.proofs.FindingLemmas.{map-same}
 use Rattle.history.proofs.RegularLemmas.{AreNumbered, arrival-at, queue-of}
 use Rattle.steer_parts.specs.Machine.{Machine}
-use Rattle.steer_parts.specs.Pollers.{arrival_by, arrives, route_by}
+use Rattle.steer_parts.specs.Pollers.{arrival_by, route_by}
 use Rattle.steer_parts.specs.Setup.{hash_of}
 use Rattle.steer_laws.specs.Kept.{Kept}
 use Rattle.steer_laws.specs.KeptLists.{Came}
@@ -27,16 +28,7 @@ use Rattle.steer_laws.proofs.KeptFrames.{manned-leaves, noted-leaves, replied-in
 use Rattle.steer_laws.proofs.KeptPollers.{Kept-rx}
 use Rattle.steer_laws.proofs.KeptRoutes.{route-below}
 
-pub is_in-at : (xs : List ℕ) (i : ℕ) → i < length xs → is_in (slice_index xs i) xs ≡ true
-is_in-at [] i lt = absurd (omega (arith, lt))
-is_in-at (x ∷ xs) zero lt = is_in-here x x xs refl
-is_in-at (x ∷ xs) (suc i) lt =
-    elim (cases_eq (slice_index xs i) x) [
-      | inl e ↦ is_in-here (slice_index xs i) x xs e
-      | inr ne ↦ is_in-past (slice_index xs i) x xs ne ∙ is_in-at xs i (omega (arith, lt))
-    ]
-
-range-more : (a n j : ℕ) → a + n ≡ j → range_with_len a (n + 1) ≡ range_with_len a n ++ j ∷ []
+pub range-more : (a n j : ℕ) → a + n ≡ j → range_with_len a (n + 1) ≡ range_with_len a n ++ j ∷ []
 range-more a n j e =
     sym (map-same (range_with_len a (n + 1))) ∙ map-range_with_len_more (λ x. x) a n j e
     ∙ ap (λ l. l ++ j ∷ []) (map-same (range_with_len a n))
@@ -90,7 +82,7 @@ pub arrived-below : (m : Machine) (q i : ℕ) → Kept m → i < length (arrival
 arrived-below m q i k lt =
     let x : ℕ = slice_index (arrivals_of m.rx q) i in
     let here : is_in x (arrivals_at m.arrivals q) ≡ true =
-    subst (λ xs. is_in x xs ≡ true) (k.came.own q) (is_in-at (arrivals_of m.rx q) i lt) in
+    subst (λ xs. is_in x xs ≡ true) (k.came.own q) (in-index (arrivals_of m.rx q) i lt) in
     (queue-of q x m.arrivals k.came.numbered here).0
 
 -- the next packet may arrive at any queue

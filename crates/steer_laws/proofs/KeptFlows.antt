@@ -1,6 +1,6 @@
 -- What another flow count keeps: the gate closes, the queue's entries are cleared, the gate opens.
-use Rattle.std.proofs.Common.{ℕ, ◌≤◌, ◌<◌, ◌≡◌, ◌≢◌, true, false, List, [], ◌∷◌, Option, length, refl, ap, ◌∙◌, sym, subst, arith}
-use Rattle.std.specs.Prelude.{slice_index, slice_set}
+use Rattle.std.proofs.Common.{ℕ, ◌≤◌, ◌<◌, ◌≡◌, ◌≢◌, true, List, [], ◌∷◌, length, refl, ap, ◌∙◌, sym, subst, arith}
+use Rattle.std.specs.Prelude.{slice_set}
 use Rattle.std.proofs.lemmas.Bool.{lt-ltb}
 use Rattle.std.proofs.lemmas.List.{get_or-set_other}
 use Rattle.steer_base.specs.Choices.{class_of}
@@ -20,12 +20,12 @@ use Rattle.hop_core.proofs.NothingLost.{each_loses_nothing}
 use Rattle.hop_core.proofs.Settled.{each_keeps_settled, resize_settles}
 use Rattle.hop_core.proofs.Sizes.{Sizes-happens}
 use Rattle.history.specs.Lists.{list_at}
-use Rattle.steer_parts.specs.Commands.{affects, answer_to, gated, is_done, set_by}
+use Rattle.steer_parts.specs.Commands.{affects, answer_to, is_done, set_by}
 use Rattle.steer_parts.specs.Machine.{Machine}
 use Rattle.steer_parts.specs.Settings.{Settings, changed, class_at, plain_lane}
 use Rattle.steer_parts.specs.Setup.{Setup, hash_of}
 use Rattle.steer_laws.specs.Kept.{Kept}
-use Rattle.steer_laws.specs.KeptHops.{AreNoted, KeptRx, Manned, RxSizes}
+use Rattle.steer_laws.specs.KeptHops.{AreNoted, Manned, RxSizes}
 use Rattle.steer_laws.specs.KeptLists.{Came, Replied}
 use Rattle.steer_laws.proofs.KeptFrames.{came-leaves, manned-leaves, noted-leaves, replied-inbox, rx-sizes}
 use Rattle.steer_laws.proofs.KeptGates.{Passed, gate_passed}
@@ -160,6 +160,7 @@ kept-flows m q count named within done k =
       given = k.given;
       rx = record { sound = c.sound; lossless = c.lossless; opened = refl; sizes = c.sizes };
       tx = k.tx;
+      taken = k.taken;
       by = record {
         counts = ap (λ (l : List ℕ). slice_set l q (rounded_up count))
             (k.by.counts ∙ sym (each_leaves m.rx event.Close Field.counts refl));

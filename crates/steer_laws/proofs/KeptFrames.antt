@@ -1,6 +1,6 @@
 -- What an event of a hop keeps of the machine's invariant, part by part.
-use Rattle.std.proofs.Common.{ℕ, ◌<◌, ◌≡◌, false, List, [], Option, length, refl, ap, ◌∙◌, sym, subst}
-use Rattle.std.specs.Prelude.{slice_index_or}
+use Rattle.std.proofs.Common.{ℕ, ◌≡◌, false, List, [], length, ap, ◌∙◌, sym, subst}
+use Rattle.std.specs.Prelude.{slice_index, slice_index_or}
 use Rattle.steer_base.specs.declared.packet.Packet.{Packet}
 use Rattle.hop_core.specs.declared.event.HopEvent.{HopEvent}
 use Rattle.hop_core.specs.Events.{MayAsk, happens}
@@ -20,7 +20,7 @@ use Rattle.steer_parts.specs.Settings.{Settings, class_at, plain_lane}
 use Rattle.steer_parts.specs.Setup.{Setup}
 use Rattle.steer_parts.specs.declared.note.Note.{Note}
 use Rattle.steer_parts.specs.declared.note.Note.TheVariants as note
-use Rattle.steer_laws.specs.KeptHops.{AreNoted, BySettings, IsNoted, KeptRx, KeptTx, Manned, RxSizes, TxSizes}
+use Rattle.steer_laws.specs.KeptHops.{AllTaken, AreNoted, BySettings, IsNoted, KeptRx, KeptTx, Manned, RxSizes, TxSizes}
 use Rattle.steer_laws.specs.KeptLists.{Came, Replied}
 
 -- ---- the hops by themselves
@@ -145,3 +145,11 @@ pub replied-begun : (sent : ℕ → List Sent) (inbox : ℕ → List ℕ) (s : H
 replied-begun sent inbox s e quiet k =
     let lists : List (List ℕ) → Type 0 = λ l. Replied sent inbox (λ a. slice_index_or l a []) in
     subst lists (sym (each_leaves s e Field.arrivals quiet)) k
+
+-- ---- what was taken up
+
+pub taken-leaves : (s : HopState) (e : HopEvent) → changes e Field.arrivals ≡ false → changes e Field.taken ≡ false
+    → AllTaken s → AllTaken (happens s e).0
+taken-leaves s e a t k p =
+    ap (λ (l : List ℕ). slice_index l p) (each_leaves s e Field.taken t) ∙ k p
+    ∙ ap (λ (l : List (List ℕ)). length (slice_index_or l p [])) (sym (each_leaves s e Field.arrivals a))

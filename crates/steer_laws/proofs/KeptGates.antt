@@ -1,5 +1,5 @@
 -- A gated command that is done found nobody inside, and its lanes empty.
-use Rattle.std.proofs.Common.{ℕ, ◌≤◌, ◌<◌, ◌≡◌, Bool, true, false, [], Option, None, Some, length, refl, ap, ◌∙◌, sym}
+use Rattle.std.proofs.Common.{ℕ, ◌≤◌, ◌<◌, ◌≡◌, Bool, true, [], Option, None, Some, length, refl, ap}
 use Rattle.std.proofs.Common.{arith, inl, inr}
 use Rattle.std.specs.Prelude.{◌==◌, Result, Ok, Err, IsOk}
 use Rattle.std.proofs.Math.ListN.{get_or-eq_default}

@@ -1,6 +1,6 @@
 -- What the commands keep that are done, but for those of a processor going offline or online.
-use Rattle.std.proofs.Common.{ℕ, ◌+◌, ◌≤◌, ◌<◌, ◌≡◌, ◌≢◌, Bool, true, false, List, [], ◌∷◌, ◌++◌, Option, None, length, refl}
-use Rattle.std.proofs.Common.{ap, ◌∙◌, sym, subst, arith, map, inl, inr}
+use Rattle.std.proofs.Common.{ℕ, ◌<◌, ◌≡◌, Bool, true, List, None, length, refl}
+use Rattle.std.proofs.Common.{ap, ◌∙◌, sym, arith, inr}
 use Rattle.std.specs.Prelude.{slice_index, slice_set}
 use Rattle.std.proofs.Math.ListN.{length-replicate, length-set}
 use Rattle.std.proofs.lemmas.Bool.{lt-ltb}
@@ -16,7 +16,7 @@ use Rattle.hop_core.specs.Settled.{SettledIn}
 use Rattle.hop_core.specs.Sound.{Sound}
 use Rattle.hop_core.proofs.Settled.{reset_settles}
 use Rattle.xps_map.specs.Maps.{Maps}
-use Rattle.steer_parts.specs.Commands.{affects, answer_to, by_gate, is_done, kept_filter, listed, set_by, with_settings}
+use Rattle.steer_parts.specs.Commands.{affects, answer_to, is_done, listed, set_by}
 use Rattle.steer_parts.specs.Machine.{Machine}
 use Rattle.steer_parts.specs.Settings.{Settings, changed, class_at, plain_lane}
 use Rattle.steer_parts.specs.Setup.{Setup, hash_of}
@@ -39,6 +39,7 @@ Kept-listed m c a k =
       given = k.given;
       rx = k.rx;
       tx = k.tx;
+      taken = k.taken;
       by = k.by;
       noted = k.noted;
       lists = k.lists;
@@ -73,6 +74,7 @@ kept-mask m q mask passed k =
       given = k.given;
       rx = k.rx;
       tx = k.tx;
+      taken = k.taken;
       by = record {
         counts = b.counts;
         settled = settled-anywhere m.rx m.setup m.settings (changed m.settings (give.Mask q mask))
@@ -99,6 +101,7 @@ kept-maps m maps stands count long k =
       given = k.given;
       rx = k.rx;
       tx = k.tx;
+      taken = k.taken;
       by = record {
         counts = b.counts;
         settled = b.settled;
@@ -119,6 +122,7 @@ kept-reta m place q named k =
       given = k.given;
       rx = k.rx;
       tx = k.tx;
+      taken = k.taken;
       by = record {
         counts = b.counts;
         settled = b.settled;
@@ -150,6 +154,7 @@ kept-sock m size k =
       given = k.given;
       rx = k.rx;
       tx = k.tx;
+      taken = k.taken;
       by = record {
         counts = b.counts;
         settled = b.settled;
@@ -175,6 +180,7 @@ kept-expire m k =
       given = k.given;
       rx = k.rx;
       tx = k.tx;
+      taken = k.taken;
       by = k.by;
       noted = k.noted;
       lists = k.lists;

@@ -1,5 +1,5 @@
 -- What a processor that goes offline or comes online keeps.
-use Rattle.std.proofs.Common.{ℕ, ◌+◌, ◌≤◌, ◌<◌, ◌≡◌, ◌≢◌, ◌⊎◌, Bool, true, false, cond, List, [], Option, Some, None, length, refl}
+use Rattle.std.proofs.Common.{ℕ, ◌≤◌, ◌<◌, ◌≡◌, ◌≢◌, ◌⊎◌, Bool, true, false, cond, List, Option, Some, None, length, refl}
 use Rattle.std.proofs.Common.{ap, ◌∙◌, sym, subst, arith, inl, inr}
 use Rattle.std.specs.Prelude.{◌==◌, ◌&&◌, ◌||◌, nat_lt, not, slice_index}
 use Rattle.std.specs.List.{list_any, position, position_or_len}
@@ -18,7 +18,7 @@ use Rattle.steer_base.specs.declared.command.User.{User}
 use Rattle.steer_base.specs.declared.command.User.TheVariants as user
 use Rattle.steer_base.specs.declared.cpu_mask.CpuMask.{CpuMask}
 use Rattle.steer_base.proofs.MasksLemmas.{has-with_cpu, has-without_cpu}
-use Rattle.hop_core.specs.Hop.{accepted_at, choices_of, chosen_at, placed_of, retired_at, since_of}
+use Rattle.hop_core.specs.Hop.{accepted_at, retired_at}
 use Rattle.hop_core.proofs.Settled.{reset_settles}
 use Rattle.steer_parts.specs.Commands.{affects, answer_to, by_gate, is_done, set_by}
 use Rattle.steer_parts.specs.Machine.{Machine}
@@ -158,6 +158,7 @@ kept-changed m online cpu same manned alone dry k =
       given = k.given;
       rx = k.rx;
       tx = k.tx;
+      taken = k.taken;
       by = record {
         counts = k.by.counts;
         settled =

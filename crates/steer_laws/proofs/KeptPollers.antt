@@ -1,9 +1,9 @@
 -- What the steps of the pollers and of the processors keep, but for weighing and putting.
-use Rattle.std.proofs.Common.{ℕ, ◌+◌, ◌≤◌, ◌<◌, ◌≡◌, ◌≢◌, true, false, List, [], ◌∷◌, ◌++◌, Option, Some, None}
+use Rattle.std.proofs.Common.{ℕ, ◌+◌, ◌<◌, ◌≡◌, true, false, List, [], ◌∷◌, ◌++◌, Option, Some, None}
 use Rattle.std.proofs.Common.{length, refl, ap, ◌∙◌, sym, subst, arith, inl, inr, get_or, map}
-use Rattle.std.specs.Prelude.{nat_lt, slice_index, slice_index_or, slice_set}
+use Rattle.std.specs.Prelude.{nat_lt}
 use Rattle.std.proofs.Math.ListN.{length-set}
-use Rattle.std.proofs.lemmas.Bool.{cases_Bool, cases_eq, lt-ltb, ltb-true}
+use Rattle.std.proofs.lemmas.Bool.{cases_Bool, cases_eq, ltb-true}
 use Rattle.std.proofs.lemmas.List.{get_or_default}
 use Rattle.std.proofs.lemmas.Nat.{mod_below}
 use Rattle.steer_base.specs.Apps.{app_of}
@@ -11,9 +11,9 @@ use Rattle.steer_base.specs.Orders.{IsPrefix}
 use Rattle.steer_base.specs.declared.filter.Filter.{Filter}
 use Rattle.hop_core.specs.declared.event.HopEvent.{HopEvent}
 use Rattle.hop_core.specs.declared.event.HopEvent.TheVariants as event
-use Rattle.hop_core.specs.Events.{IsEmptied, MayAsk, happens}
+use Rattle.hop_core.specs.Events.{MayAsk, happens}
 use Rattle.hop_core.specs.Hop.{HopState, accepted_at, arrivals_of, choices_of, deliver_at, delivered_at, next_out}
-use Rattle.hop_core.specs.Hop.{out_at, placed_of, pulled_at, retire_at, retired_at, taken_of, took, with_bare}
+use Rattle.hop_core.specs.Hop.{out_at, retire_at, retired_at, taken_of, took, with_bare}
 use Rattle.hop_core.specs.Leaves.{Field, changes}
 use Rattle.hop_core.specs.Reads.{to_weigh}
 use Rattle.hop_core.specs.Settled.{IsBySettings}
@@ -25,7 +25,6 @@ use Rattle.history.specs.declared.arrival.Arrival.{Arrival}
 use Rattle.history.specs.declared.sent.Sent.{Sent}
 use Rattle.steer_parts.specs.Machine.{Machine, note_of}
 use Rattle.steer_parts.specs.Notes.{is_asking}
-use Rattle.steer_parts.specs.Outcomes.{by_rx}
 use Rattle.steer_parts.specs.Pollers.{noted}
 use Rattle.steer_parts.specs.Settings.{Settings, class_at, plain_lane}
 use Rattle.steer_parts.specs.Setup.{Setup, app_for, hash_of}
@@ -52,6 +51,7 @@ Kept-rx m e arrivals may still counts allowed manned noted came replied k =
       given = k.given;
       rx = rx-happens m.setup m.rx e may still k.rx;
       tx = k.tx;
+      taken = k.taken;
       by = by-happens m.setup m.settings m.rx e may counts k.rx allowed manned k.by;
       noted = noted;
       lists = k.lists;
@@ -241,6 +241,7 @@ Kept-noted m q n named here below k =
       given = k.given;
       rx = k.rx;
       tx = k.tx;
+      taken = k.taken;
       by = k.by;
       noted = λ r. elim (cases_eq r q) [
         | inl e ↦ (let f : note_of (noted m q n) r ≡ n = rw e ch.here in rw (f, e) here)

@@ -159,6 +159,7 @@ kept_ask m q filter hash filters named asked is k =
       given = n.given;
       rx = n.rx;
       tx = n.tx;
+      taken = n.taken;
       by = n.by;
       noted = n.noted;
       lists = n.lists;

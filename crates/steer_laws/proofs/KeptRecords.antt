@@ -7,9 +7,7 @@ use Rattle.hop_core.specs.declared.event.HopEvent.TheVariants as event
 use Rattle.hop_core.specs.Events.{happens}
 use Rattle.hop_core.specs.Hop.{HopState}
 use Rattle.history.specs.declared.sock_write.SockWrite.{SockWrite}
-use Rattle.steer_parts.specs.Applications.{visited}
 use Rattle.steer_parts.specs.Machine.{Machine}
-use Rattle.steer_parts.specs.Outcomes.{by_rx}
 use Rattle.steer_laws.specs.Kept.{Kept}
 use Rattle.steer_laws.proofs.KeptPollers.{kept_visit-in, kept_visit-out}
 
@@ -46,6 +44,7 @@ kept_wrote m socket a writes same k =
       given = k.given;
       rx = k.rx;
       tx = k.tx;
+      taken = k.taken;
       by = k.by;
       noted = k.noted;
       lists = record {

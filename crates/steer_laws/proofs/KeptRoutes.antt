@@ -1,5 +1,5 @@
 -- Every queue that an arrival may go to is one of the machine's.
-use Rattle.std.proofs.Common.{ℕ, ◌<◌, ◌≡◌, Bool, true, false, cond, List, [], ◌∷◌, Option, Some, None, map, length}
+use Rattle.std.proofs.Common.{ℕ, ◌<◌, ◌≡◌, Bool, true, false, cond, List, Option, Some, None, map, length}
 use Rattle.std.proofs.Common.{refl, ap, ◌∙◌, sym, subst, arith, inl, inr, get_or}
 use Rattle.std.specs.Prelude.{◌%◌, ◌==◌, nat_lt, slice_index_or, slice_set}
 use Rattle.std.specs.Option.{option_map}
@@ -15,7 +15,7 @@ use Rattle.steer_base.specs.Filters.{filter_written, home_queue}
 use Rattle.steer_base.specs.HashTables.{place_in_rows, row_at, with_row}
 use Rattle.steer_base.specs.declared.choice.Choice.{Choice}
 use Rattle.steer_base.specs.declared.filter.Filter.{Filter}
-use Rattle.accel_filter.specs.Table.{filter_of, steered}
+use Rattle.accel_filter.specs.Table.{filter_of}
 use Rattle.rss_table.specs.Redirection.{IsRedirection, Redirection, queue_of}
 use Rattle.history.proofs.SamePlaces.{map_some}
 use Rattle.steer_parts.specs.Commands.{kept_filter, may_go}

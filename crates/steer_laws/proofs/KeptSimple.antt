@@ -1,8 +1,8 @@
 -- Each step of one event, and each command, keeps the machine's invariant and what never changes.
-use Rattle.std.proofs.Common.{ℕ, ◌+◌, ◌≤◌, ◌<◌, ◌≡◌, Bool, true, false, not, cond, List, [], ◌∷◌, ◌++◌, Option, Some, None, length}
-use Rattle.std.proofs.Common.{refl, ap, ◌∙◌, sym, subst, arith, inl, inr}
+use Rattle.std.proofs.Common.{ℕ, ◌+◌, ◌≤◌, ◌<◌, ◌≡◌, true, not, cond, [], ◌∷◌, ◌++◌, Option, Some, None, length}
+use Rattle.std.proofs.Common.{refl, ap, sym, subst, arith}
 use Rattle.std.specs.Prelude.{◌%◌, nat_lt}
-use Rattle.std.proofs.lemmas.Bool.{cases_Bool, ltb-true}
+use Rattle.std.proofs.lemmas.Bool.{ltb-false, ltb-true}
 use Rattle.std.proofs.lemmas.Nat.{mod_below}
 use Rattle.steer_base.specs.declared.command.Answer.TheVariants as says
 use Rattle.steer_base.specs.declared.command.Command.{Command}
@@ -10,7 +10,6 @@ use Rattle.steer_base.specs.declared.command.Command.TheVariants as give
 use Rattle.steer_base.specs.declared.idle.Idle.TheVariants as idle
 use Rattle.steer_base.specs.declared.step.Step.{Step}
 use Rattle.steer_base.specs.declared.step.Step.TheVariants as act
-use Rattle.hop_core.specs.declared.event.HopAnswer.{HopAnswer}
 use Rattle.hop_core.specs.declared.event.HopEvent.{HopEvent}
 use Rattle.hop_core.specs.declared.event.HopEvent.TheVariants as event
 use Rattle.hop_core.specs.Events.{happens}
@@ -20,18 +19,18 @@ use Rattle.history.specs.Lists.{list_at}
 use Rattle.history.specs.declared.arrival.Arrival.{Arrival}
 use Rattle.steer_parts.specs.Applications.{in_lane, in_reply, next_in, record_by, reply_to, send_by, sending, stand_of}
 use Rattle.steer_parts.specs.Applications.{visited, write_of, wrote}
-use Rattle.steer_parts.specs.Commands.{answer_to, given, is_done, listed, set_by}
+use Rattle.steer_parts.specs.Commands.{answer_to, given, is_done, set_by}
 use Rattle.steer_parts.specs.Machine.{Machine, last_of, note_of}
 use Rattle.steer_parts.specs.Notes.{is_asking, is_nothing}
 use Rattle.steer_parts.specs.Outcomes.{Outcome, by_rx, idles}
-use Rattle.steer_parts.specs.Pollers.{arrives, ask_by, filter_for, look_by, position_of, put_by, putting, seen_by, weigh_by}
+use Rattle.steer_parts.specs.Pollers.{arrives, ask_by, look_by, position_of, put_by, putting, seen_by, weigh_by}
 use Rattle.steer_parts.specs.Pollers.{weighing, with_filter}
 use Rattle.steer_parts.specs.Setup.{app_for, flow_hash, hash_of}
 use Rattle.steer_parts.specs.Steps.{simple}
 use Rattle.steer_parts.specs.declared.note.Note.{Note}
 use Rattle.steer_parts.specs.declared.note.Note.TheVariants as note
 use Rattle.steer_laws.specs.Kept.{IsCommandNamed, IsNamed, Kept}
-use Rattle.steer_laws.proofs.BelowLemmas.{both-below, first-below}
+use Rattle.steer_laws.proofs.BelowLemmas.{both-below}
 use Rattle.steer_laws.proofs.EitherLemmas.{either}
 use Rattle.steer_laws.proofs.KeptArrives.{kept_arrive, next_arrival}
 use Rattle.steer_laws.proofs.KeptFlows.{kept_flows}
@@ -42,6 +41,17 @@ use Rattle.steer_laws.proofs.KeptPuts.{kept_ask, kept_asking, kept_put}
 use Rattle.steer_laws.proofs.KeptRecords.{kept_visited, kept_wrote, noted-long}
 use Rattle.steer_laws.proofs.KeptSends.{kept_send, kept_tdeliver, kept_tenter, kept_tleave, kept_tpull, kept_tput, kept_tretire, kept_tweigh}
 use Rattle.steer_laws.proofs.KeptWeighs.{kept_weigh}
+
+-- the packet that was found to be weighed next
+pub weighs-is : (m : Machine) (q x : ℕ) → to_weigh m.rx q ≡ Some x → x ≡ next_of m.rx q
+weighs-is m q x =
+    either (λ o. o ≡ Some x → x ≡ next_of m.rx q) (nat_lt (length (choices_of m.rx q)) (taken_of m.rx q))
+    (Some (next_of m.rx q)) None
+    (λ more e. ap (λ (o : Option ℕ). some_or o x) (sym e)) (λ none e. absurd (cc))
+  where
+    some_or : Option ℕ → ℕ → ℕ
+    some_or None d = d
+    some_or (Some y) d = y
 
 -- the machine after a step has the same setup, and the invariant
 pub record Goes (m : Machine) (o : Outcome) : Type 0 where
@@ -76,16 +86,6 @@ module _ (m : Machine) (k : Kept m) where
   goes-look q None is named = stays (look_by m q None) refl
   goes-look q (Some x) is named = record { setup = refl; kept = kept_look m q x (seen_by m q x) named is k }
 
-  weighs-is : (q x : ℕ) → to_weigh m.rx q ≡ Some x → x ≡ next_of m.rx q
-  weighs-is q x =
-      either (λ o. o ≡ Some x → x ≡ next_of m.rx q) (nat_lt (length (choices_of m.rx q)) (taken_of m.rx q))
-      (Some (next_of m.rx q)) None
-      (λ more e. ap (λ (o : Option ℕ). some_or o x) (sym e)) (λ none e. absurd (cc))
-    where
-      some_or : Option ℕ → ℕ → ℕ
-      some_or None d = d
-      some_or (Some y) d = y
-
   goes-weigh : (q : ℕ) (n : Note) (x : Option ℕ) → to_weigh m.rx q ≡ x → q < length m.setup.homes
       → Goes m (weigh_by m q n x)
   goes-weigh q note.Nothing x is named = stays (weigh_by m q note.Nothing x) refl
@@ -95,7 +95,7 @@ module _ (m : Machine) (k : Kept m) where
       record {
         setup = refl;
         kept = kept_weigh m q want (happens m.rx (weighing m q x want)).0 named
-            (ap (λ y. (happens m.rx (weighing m q y want)).0) (weighs-is q x is)) k;
+            (ap (λ y. (happens m.rx (weighing m q y want)).0) (weighs-is m q x is)) k;
       }
 
   goes-put : (q : ℕ) (position : Option ℕ) → position_of (happens m.rx (putting m q)).1 ≡ position
@@ -149,13 +149,14 @@ module _ (m : Machine) (k : Kept m) where
       })
       (λ empty. stays (idles m idle.NoTable) refl)
 
-  goes-send : (a : ℕ) (x : Option ℕ) → next_in m a ≡ x → a < m.setup.apps → Goes m (send_by m a x)
-  goes-send a None is named = stays (send_by m a None) refl
-  goes-send a (Some x) is named =
+  goes-send : (a : ℕ) (x : Option ℕ) → next_in m a ≡ x → a < m.setup.apps → taken_of m.tx a ≤ placed_of m.tx a
+      → Goes m (send_by m a x)
+  goes-send a None is named free = stays (send_by m a None) refl
+  goes-send a (Some x) is named free =
       let t : HopState = (happens m.tx (event.Arrive a x)).0 in
       record {
         setup = refl;
-        kept = kept_send m a x (reply_to m a x) t (happens t (event.Take a)).0 named is refl refl refl k;
+        kept = kept_send m a x (reply_to m a x) t (happens t (event.Take a)).0 named free is refl refl refl k;
       }
 
   -- ---- commands
@@ -229,7 +230,7 @@ module _ (m : Machine) (k : Kept m) where
   goes-simple (act.Record flow) named = goes-record (flow_hash m.setup flow)
   goes-simple (act.Send a) named =
       either (Goes m) (nat_lt (placed_of m.tx a) (taken_of m.tx a)) (idles m idle.HandFull) (send_by m a (next_in m a))
-      (λ full. stays (idles m idle.HandFull) refl) (λ free. goes-send a (next_in m a) refl (ltb-true _ _ named))
+      (λ full. stays (idles m idle.HandFull) refl) (λ free. goes-send a (next_in m a) refl (ltb-true _ _ named) (ltb-false _ _ free))
   goes-simple (act.TEnter a) named =
       record { setup = refl; kept = kept_tenter m a (happens m.tx (event.Enter a)).0 (ltb-true _ _ named) refl k }
   goes-simple (act.TLeave a) named =

@@ -38,3 +38,12 @@ prefix-at [] ys i p lt = absurd (omega (arith, lt))
 prefix-at (x ∷ xs) [] i p lt = absurd (let f : x ∷ (xs ++ p.0) ≡ [] = p.1 in cc)
 prefix-at (x ∷ xs) (y ∷ ys) zero p lt = ap (λ l. get_or l 0 0) (sym p.1)
 prefix-at (x ∷ xs) (y ∷ ys) (suc i) p lt = prefix-at xs ys i (p.0, ap (λ l. tail_of l) p.1) (omega (arith, lt))
+
+-- a prefix that is as long is the list
+pub prefix-all : (xs ys : List ℕ) → IsPrefix xs ys → length xs ≡ length ys → xs ≡ ys
+prefix-all [] [] p e = refl
+prefix-all [] (y ∷ ys) p e = absurd (omega (arith, e))
+prefix-all (x ∷ xs) [] p e = absurd (omega (arith, e))
+prefix-all (x ∷ xs) (y ∷ ys) p e =
+    let first : x ≡ y = ap (λ l. get_or l 0 0) p.1 in
+    let rest = prefix-all xs ys (p.0, ap (λ l. tail_of l) p.1) (omega (arith, e)) in λ i. first i ∷ rest i

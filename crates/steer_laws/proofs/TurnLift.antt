@@ -1,7 +1,6 @@
 -- What every try of an event keeps that names what there is, each turn of the machine keeps.
-use Rattle.std.proofs.Common.{ℕ, ◌+◌, ◌<◌, ◌≡◌, false, List, [], ◌∷◌, Option, Some, None, length, refl, subst, arith}
+use Rattle.std.proofs.Common.{ℕ, ◌<◌, ◌≡◌, false, List, [], ◌∷◌, Option, Some, None, length, refl, subst, arith}
 use Rattle.std.proofs.Common.{ap, suc, zero, sym}
-use Rattle.std.specs.Prelude.{nat_lt}
 use Rattle.std.proofs.lemmas.Bool.{lt-ltb}
 use Rattle.steer_base.specs.declared.step.Step.{Step}
 use Rattle.steer_base.specs.declared.step.Step.TheVariants as act
@@ -21,7 +20,7 @@ AreTried p [] = Unit {0}
 AreTried p (s ∷ ss) = IsTried p s × AreTried p ss
 
 module _ (p : Setup) where
-  is_tried : (s : Step) → is_command s ≡ false → IsNamed p s → IsTried p s
+  pub is_tried : (s : Step) → is_command s ≡ false → IsNamed p s → IsTried p s
   is_tried s e n = record { event = e; named = n }
 
   pub poll-tried : (q : ℕ) → q < length p.homes
