@@ -62,6 +62,7 @@ pub fn read_whole<D: Desk>(
     ensures reads { D.reads desk.new ≤ D.reads desk.old + (limit + 2) }
     ensures held { D.held desk.new ≡ D.held desk.old }
     ensures told { GoesOnTelling (D.left desk.old) (D.left desk.new) }
+    ensures asked { IfSome (D.asked desk.new) (λ asked. asked ≡ name.now) }
 {
     if desk.begin(name) == Begin::Failed {
         return Err(ReadWhole::Fault);

@@ -1,7 +1,7 @@
 -- The machine that a plan starts is held.
-use Rattle.std.proofs.Common.{ℕ, max, ◌+◌, ◌≤◌, ◌<◌, ◌≡◌, get_or, Bool, true, false, List, [], Option, Some}
-use Rattle.std.proofs.Common.{None, IsSome, length, refl, ap, ◌∙◌, sym, subst, arith, map}
-use Rattle.std.proofs.Common.{replicate}
+use Rattle.std.proofs.Common.{ℕ, max, ◌+◌, ◌≤◌, ◌<◌, ◌≡◌, get_or, Bool, true, false, List, []}
+use Rattle.std.proofs.Common.{Option, Some, None, IsSome, length, refl, ap, ◌∙◌, sym, subst, arith}
+use Rattle.std.proofs.Common.{map, replicate}
 use Rattle.std.specs.Prelude.{◌&&◌, nat_lt, slice_index, slice_index_or}
 use Rattle.std.specs.List.{All}
 use Rattle.std.proofs.Math.ListN.{length-map, length-replicate}

@@ -16,7 +16,8 @@ use Rattle.steer_parts.specs.Steps.{simple}
 use Rattle.steer_parts.specs.Whole.{after, step}
 use Rattle.steer_parts.proofs.PlanLemmas.{plan_steps_are_within}
 use Rattle.steer_laws.specs.Held.{Held}
-use Rattle.steer_laws.specs.HeldLaws.{IsReportable, MayStart, ReplaysAreReportable, RunsAreReportable}
+use Rattle.steer_laws.specs.HeldLaws.{IsReportable, MayStart, ReplaysAreReportable}
+use Rattle.steer_laws.specs.HeldLaws.{RunsAreReportable}
 use Rattle.steer_laws.specs.Kept.{AreNamed, IsNamed, sizes_in}
 use Rattle.steer_laws.proofs.HeldHistory.{held_is_reportable}
 use Rattle.steer_laws.proofs.HeldNew.{held-new}

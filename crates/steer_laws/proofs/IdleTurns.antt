@@ -1,4 +1,5 @@
--- A turn in which no work was done: each work that it tried was idle, and left the machine as it was.
+-- A turn in which no work was done: each work that it tried was idle, and left the machine as it
+-- was.
 use Rattle.std.proofs.Common.{◌≡◌, Bool, true, false, List, [], ◌∷◌, refl, ◌∙◌, subst}
 use Rattle.std.specs.Prelude.{◌&&◌, ◌||◌, not}
 use Rattle.steer_base.specs.declared.command.Answer.{Answer}
@@ -34,8 +35,10 @@ idle-why says.CpuOffline e = absurd (cc)
 idle-why (says.Expired n) e = absurd (cc)
 
 -- an event that is idle leaves the machine
-pub idle-leaves : (m : Machine) (s : Step) → is_command s ≡ false → is_idle (simple m s).1 ≡ true → (simple m s).0 ≡ m
-idle-leaves m s event idle = let w = idle-why (simple m s).1 idle in idle_leaves_all m s w.0 event w.1
+pub idle-leaves : (m : Machine) (s : Step) → is_command s ≡ false → is_idle (simple m s).1 ≡ true
+    → (simple m s).0 ≡ m
+idle-leaves m s event idle =
+    let w = idle-why (simple m s).1 idle in idle_leaves_all m s w.0 event w.1
 
 -- ---- events that are tried one after the other
 
@@ -58,11 +61,14 @@ pub record WereIdle (t u : Turn) (ss : List Step) : Type 0 where
 pub tried-before : (t : Turn) (s : Step) → (tried t s).1 ≡ false → t.1 ≡ false
 tried-before t s none = or-first t.1 (is_work s && not (is_idle (simple t.0 s).1)) none
 
-pub tried-idle : (t : Turn) (s : Step) → is_work s ≡ true → (tried t s).1 ≡ false → is_idle (simple t.0 s).1 ≡ true
+pub tried-idle : (t : Turn) (s : Step) → is_work s ≡ true → (tried t s).1 ≡ false
+    → is_idle (simple t.0 s).1 ≡ true
 tried-idle t s work none =
-    idle-by (is_work s) (is_idle (simple t.0 s).1) (or-second t.1 (is_work s && not (is_idle (simple t.0 s).1)) none) work
+    idle-by (is_work s) (is_idle (simple t.0 s).1)
+    (or-second t.1 (is_work s && not (is_idle (simple t.0 s).1)) none) work
 
-pub idle-tries : (ss : List Step) (t : Turn) → AreWork ss → (tries t ss).1 ≡ false → WereIdle t (tries t ss) ss
+pub idle-tries : (ss : List Step) (t : Turn) → AreWork ss → (tries t ss).1 ≡ false
+    → WereIdle t (tries t ss) ss
 idle-tries [] t work none = record { before = none; same = refl; idle = tt }
 idle-tries (s ∷ ss) t work none =
     let rest = idle-tries ss (tried t s) work.2 none in

@@ -1,6 +1,6 @@
 -- What an arrival keeps.
-use Rattle.std.proofs.Common.{ℕ, ◌+◌, ◌<◌, ◌≡◌, ◌≢◌, true, List, [], ◌∷◌, ◌++◌, map, length, refl, ap, ◌∙◌}
-use Rattle.std.proofs.Common.{sym, subst, arith, inl, inr, append-nil}
+use Rattle.std.proofs.Common.{ℕ, ◌+◌, ◌<◌, ◌≡◌, ◌≢◌, true, List, [], ◌∷◌, ◌++◌, map, length, refl}
+use Rattle.std.proofs.Common.{ap, ◌∙◌, sym, subst, arith, inl, inr, append-nil}
 use Rattle.std.specs.Prelude.{◌==◌, slice_index}
 use Rattle.std.specs.List.{filter, range_with_len}
 use Rattle.std.proofs.lemmas.Bool.{cases_eq, eq-eqb, ne_eqb}
@@ -36,28 +36,34 @@ range-more a n j e =
 -- ---- one arrival more
 
 module _ (arrivals : List Arrival) (a : Arrival) where
-  numbered-pushed : a.id ≡ length arrivals → AreNumbered 0 arrivals → AreNumbered 0 (arrivals ++ a ∷ [])
+  numbered-pushed : a.id ≡ length arrivals → AreNumbered 0 arrivals
+      → AreNumbered 0 (arrivals ++ a ∷ [])
   numbered-pushed is k =
       map_push (λ a. a.id) arrivals a ∙ (λ i. k i ++ is i ∷ [])
-      ∙ sym (ap (range_with_len 0) (length_push arrivals a) ∙ range-more 0 (length arrivals) (length arrivals) (omega arith))
+      ∙ sym (ap (range_with_len 0) (length_push arrivals a)
+      ∙ range-more 0 (length arrivals) (length arrivals) (omega arith))
 
-  queue-here : (q : ℕ) → a.queue ≡ q → arrivals_at (arrivals ++ a ∷ []) q ≡ arrivals_at arrivals q ++ a.id ∷ []
+  queue-here : (q : ℕ) → a.queue ≡ q
+      → arrivals_at (arrivals ++ a ∷ []) q ≡ arrivals_at arrivals q ++ a.id ∷ []
   queue-here q e =
       let one : filter (λ b. b.queue == q) (a ∷ []) ≡ a ∷ [] = rw (eq-eqb a.queue q e) refl in
-      ap (map (λ b. b.id)) (filter-append (λ b. b.queue == q) arrivals (a ∷ []) ∙ ap (λ l. filter (λ b. b.queue == q) arrivals ++ l) one)
+      ap (map (λ b. b.id)) (filter-append (λ b. b.queue == q) arrivals (a ∷ [])
+      ∙ ap (λ l. filter (λ b. b.queue == q) arrivals ++ l) one)
       ∙ map_push (λ b. b.id) (filter (λ b. b.queue == q) arrivals) a
 
   queue-there : (q : ℕ) → a.queue ≢ q → arrivals_at (arrivals ++ a ∷ []) q ≡ arrivals_at arrivals q
   queue-there q ne =
       let none : filter (λ b. b.queue == q) (a ∷ []) ≡ [] = rw (ne_eqb a.queue q ne) refl in
-      ap (map (λ b. b.id)) (filter-append (λ b. b.queue == q) arrivals (a ∷ []) ∙ ap (λ l. filter (λ b. b.queue == q) arrivals ++ l) none
+      ap (map (λ b. b.id)) (filter-append (λ b. b.queue == q) arrivals (a ∷ [])
+      ∙ ap (λ l. filter (λ b. b.queue == q) arrivals ++ l) none
       ∙ append-nil (filter (λ b. b.queue == q) arrivals))
 
   -- an arrival stays what it is
-  pub arrival-stays : (x : ℕ) → a.id ≡ length arrivals → AreNumbered 0 arrivals → x < length arrivals
-      → arrival_of (arrivals ++ a ∷ []) x ≡ arrival_of arrivals x
+  pub arrival-stays : (x : ℕ) → a.id ≡ length arrivals → AreNumbered 0 arrivals
+      → x < length arrivals → arrival_of (arrivals ++ a ∷ []) x ≡ arrival_of arrivals x
   arrival-stays x is k lt =
-      arrival-at x (arrivals ++ a ∷ []) (numbered-pushed is k) (let l = length_push arrivals a in omega (arith, lt, l))
+      arrival-at x (arrivals ++ a ∷ []) (numbered-pushed is k) (let l = length_push arrivals a in
+      omega (arith, lt, l))
       ∙ get_or_append_left arrivals (a ∷ []) no_arrival x lt ∙ sym (arrival-at x arrivals k lt)
 
   came-pushed : (packets : List Packet) (old new : ℕ → List ℕ) → a.id ≡ length arrivals
@@ -86,8 +92,9 @@ arrived-below m q i k lt =
     (queue-of q x m.arrivals k.came.numbered here).0
 
 -- the next packet may arrive at any queue
-pub may_arrive : (m : Machine) (q : ℕ) → q < length m.setup.homes → length m.arrivals < length m.setup.packets
-    → Kept m → MayAsk m.rx (event.Arrive q (length m.arrivals))
+pub may_arrive : (m : Machine) (q : ℕ) → q < length m.setup.homes
+    → length m.arrivals < length m.setup.packets → Kept m
+    → MayAsk m.rx (event.Arrive q (length m.arrivals))
 may_arrive m q named few k =
     let z = k.rx.sizes in
     record {
@@ -103,14 +110,22 @@ next_arrival m = arrival_by (length m.arrivals) (route_by m (hash_of m.setup (le
 pub next_queue : (m : Machine) → Kept m → (next_arrival m).queue < length m.setup.homes
 next_queue m k = route-below m (hash_of m.setup (length m.arrivals)) k.routes
 
-kept-arrived : (m : Machine) (a : Arrival) → a.id ≡ length m.arrivals → a.queue < length m.setup.homes
-    → length m.arrivals < length m.setup.packets → Kept m
-    → Kept (record m { rx = (happens m.rx (event.Arrive a.queue a.id)).0; arrivals = m.arrivals ++ a ∷ [] })
+kept-arrived : (m : Machine) (a : Arrival) → a.id ≡ length m.arrivals
+    → a.queue < length m.setup.homes → length m.arrivals < length m.setup.packets → Kept m
+    → Kept
+    (record m {
+      rx =
+          (happens m.rx (event.Arrive a.queue a.id)).0;
+      arrivals = m.arrivals ++ a ∷ [];
+    })
 kept-arrived m a is named few k =
     let e : HopEvent = event.Arrive a.queue a.id in
     let z = k.rx.sizes in
-    let may : MayAsk m.rx e = subst (λ x. MayAsk m.rx (event.Arrive a.queue x)) (sym is) (may_arrive m a.queue named few k) in
-    let ch = Changed-set m.rx.arrivals a.queue (arrivals_of m.rx a.queue ++ a.id ∷ []) [] (omega (arith, named, z.queues)) in
+    let may : MayAsk m.rx e =
+    subst (λ x. MayAsk m.rx (event.Arrive a.queue x)) (sym is) (may_arrive m a.queue named few k) in
+    let ch =
+    Changed-set m.rx.arrivals a.queue (arrivals_of m.rx a.queue ++ a.id ∷ []) []
+    (omega (arith, named, z.queues)) in
     Kept-rx m e (m.arrivals ++ a ∷ []) may refl refl tt
     (manned-leaves m.setup m.settings m.rx e refl refl refl refl k.by.manned)
     (noted-leaves m.notes m.rx e refl refl refl k.noted)
@@ -119,8 +134,8 @@ kept-arrived m a is named few k =
 
 -- the code knows the arrival by its value, and the hop by its step
 pub kept_arrive : (m : Machine) (a : Arrival) (t : HopState) → a ≡ next_arrival m
-    → length m.arrivals < length m.setup.packets → t ≡ (happens m.rx (event.Arrive a.queue a.id)).0 → Kept m
-    → Kept (record m { rx = t; arrivals = m.arrivals ++ a ∷ [] })
+    → length m.arrivals < length m.setup.packets → t ≡ (happens m.rx (event.Arrive a.queue a.id)).0
+    → Kept m → Kept (record m { rx = t; arrivals = m.arrivals ++ a ∷ [] })
 kept_arrive m a t which few is k =
     let id : a.id ≡ length m.arrivals = ap (λ (b : Arrival). b.id) which in
     let below : a.queue < length m.setup.homes =

@@ -19,7 +19,7 @@ pub mod NamedLift
 pub mod KeptLemmas
 pub mod IdleTurns
 pub mod RestLemmas
-pub mod IdleRounds
+pub mod StillTurns
 pub mod RestRounds
 pub mod Listed
 pub mod Lanes

@@ -1,7 +1,7 @@
 -- Every step keeps the processors of filters and the flow counts in their ranges.
 use Rattle.std.proofs.Common.{ℕ, zero, suc, ◌+◌, ◌-◌, ◌^◌, ◌≤◌, ◌<◌, ◌≡◌, ◌⊎◌, Bool, true, false}
-use Rattle.std.proofs.Common.{cond, List, [], ◌∷◌, Option, Some, None, map, length, refl, ap, ◌∙◌, sym}
-use Rattle.std.proofs.Common.{subst, arith, inl, inr, get_or, set as set_list, nat_le, lit<}
+use Rattle.std.proofs.Common.{cond, List, [], ◌∷◌, Option, Some, None, map, length, refl, ap, ◌∙◌}
+use Rattle.std.proofs.Common.{sym, subst, arith, inl, inr, get_or, set as set_list, nat_le, lit<}
 use Rattle.std.specs.Prelude.{◌==◌, find, nat_lt, slice_get, unwrap_or}
 use Rattle.std.specs.List.{range_with_len}
 use Rattle.std.specs.Option.{option_map}

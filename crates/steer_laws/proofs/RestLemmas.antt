@@ -1,19 +1,20 @@
 -- Where all work of an actor is idle, the actor rests.
-use Rattle.std.proofs.Common.{ℕ, ◌≤◌, ◌≡◌, Bool, true, false, not, List, [], ◌∷◌, length}
-use Rattle.std.proofs.Common.{refl, ap, ◌∙◌, map, sym, subst, arith, inl, inr, suc, zero}
+use Rattle.std.proofs.Common.{ℕ, ◌≤◌, ◌≡◌, Bool, true, false, not, List, [], ◌∷◌, length, refl, ap}
+use Rattle.std.proofs.Common.{◌∙◌, map, sym, subst, arith, inl, inr, suc, zero}
 use Rattle.std.specs.Prelude.{is_some, nat_lt, slice_get}
 use Rattle.std.proofs.lemmas.Bool.{cases_Bool, ltb-false}
 use Rattle.std.proofs.Math.ListN.{length-map}
 use Rattle.steer_base.specs.declared.step.Step.{Step}
 use Rattle.steer_base.specs.declared.step.Step.TheVariants as act
 use Rattle.hop_core.specs.Events.{IsEmptied}
-use Rattle.hop_core.specs.Hop.{HopState, accepted_at, arrivals_of, choices_of, delivered_at, inside_of, out_at}
-use Rattle.hop_core.specs.Hop.{placed_of, pulled_at, retired_at, taken_of}
+use Rattle.hop_core.specs.Hop.{HopState, accepted_at, arrivals_of, choices_of, delivered_at}
+use Rattle.hop_core.specs.Hop.{inside_of, out_at, placed_of, pulled_at, retired_at, taken_of}
 use Rattle.hop_core.specs.Sound.{Sound}
 use Rattle.steer_parts.specs.Applications.{next_in, sent_of}
 use Rattle.steer_parts.specs.Machine.{Machine, note_of}
-use Rattle.steer_parts.specs.Reasons.{AreStaged, IsStaged, Need, Stage, answer_by, is_at, lane_hand, lane_stage, needs}
-use Rattle.steer_parts.specs.Reasons.{poller_hand, poller_stage, puts_next, sender_hand, sender_stage, weighs_next}
+use Rattle.steer_parts.specs.Reasons.{AreStaged, IsStaged, Need, Stage, answer_by, is_at, lane_hand}
+use Rattle.steer_parts.specs.Reasons.{lane_stage, needs, poller_hand, poller_stage, puts_next}
+use Rattle.steer_parts.specs.Reasons.{sender_hand, sender_stage, weighs_next}
 use Rattle.steer_parts.specs.Reasons as stage
 use Rattle.steer_parts.specs.Steps.{is_command, is_idle, simple}
 use Rattle.steer_parts.specs.Whole.{drain_one, ship_one}
@@ -55,28 +56,34 @@ staged m k =
 one-lacks : (need : Need) → is_idle (answer_by (need ∷ [])) ≡ true → need.0 ≡ false
 one-lacks need idle =
     elim (cases_Bool need.0) [
-      | inl e ↦ absurd (let f : is_idle (answer_by (need ∷ [])) ≡ false = rw e refl in let g : true ≡ false = sym idle ∙ f in cc)
+      | inl e ↦ absurd (let f : is_idle (answer_by (need ∷ [])) ≡ false = rw e refl in
+          let g : true ≡ false = sym idle ∙ f in cc)
       | inr e ↦ e
     ]
 
-second-lacks : (need next : Need) → is_idle (answer_by (need ∷ next ∷ [])) ≡ true → need.0 ≡ true → next.0 ≡ false
+second-lacks : (need next : Need) → is_idle (answer_by (need ∷ next ∷ [])) ≡ true → need.0 ≡ true
+    → next.0 ≡ false
 second-lacks need next idle e =
     one-lacks next
-    (let f : is_idle (answer_by (need ∷ next ∷ [])) ≡ is_idle (answer_by (next ∷ [])) = rw e refl in sym f ∙ idle)
+    (let f : is_idle (answer_by (need ∷ next ∷ [])) ≡ is_idle (answer_by (next ∷ [])) = rw e refl in
+    sym f ∙ idle)
 
 -- the answer by the reasons
-by-reasons : (m : Machine) (s : Step) → Kept m → is_command s ≡ false → is_idle (simple m s).1 ≡ true
-    → is_idle (answer_by (needs m s)) ≡ true
+by-reasons : (m : Machine) (s : Step) → Kept m → is_command s ≡ false
+    → is_idle (simple m s).1 ≡ true → is_idle (answer_by (needs m s)) ≡ true
 by-reasons m s k event idle =
     ap is_idle (sym (idle_for_first_reason m s (staged m k) event)) ∙ idle
 
 -- ---- a poller
 
 -- a hand that is at none of the other stages is empty
-poller-empty : (n : Note) (weighs puts : Bool) → is_at (poller_stage n weighs puts) stage.Taken ≡ false
-    → is_at (poller_stage n weighs puts) stage.Looked ≡ false → is_at (poller_stage n weighs puts) stage.Weighed ≡ false
+poller-empty : (n : Note) (weighs puts : Bool)
+    → is_at (poller_stage n weighs puts) stage.Taken ≡ false
+    → is_at (poller_stage n weighs puts) stage.Looked ≡ false
+    → is_at (poller_stage n weighs puts) stage.Weighed ≡ false
     → is_at (poller_stage n weighs puts) stage.Asking ≡ false
-    → (n ≡ note.Nothing) × (weighs ≡ false) × (puts ≡ false) × (is_at (poller_stage n weighs puts) stage.Empty ≡ true)
+    → (n ≡ note.Nothing) × (weighs ≡ false) × (puts ≡ false) × (is_at
+    (poller_stage n weighs puts) stage.Empty ≡ true)
 poller-empty (note.Looked want) weighs puts a b c d = absurd (cc)
 poller-empty (note.Asking filter) weighs puts a b c d = absurd (cc)
 poller-empty note.Nothing weighs true a b c d = absurd (cc)
@@ -84,7 +91,8 @@ poller-empty note.Nothing true false a b c d = absurd (cc)
 poller-empty note.Nothing false false a b c d = (refl, refl, refl, refl)
 
 pub poller-rests : (m : Machine) (q : ℕ) → Kept m → inside_of m.rx q ≡ true
-    → AreIdle m (act.Take q ∷ act.Look q ∷ act.Weigh q ∷ act.Put q ∷ act.Ask q ∷ []) → PollerRests q m
+    → AreIdle m (act.Take q ∷ act.Look q ∷ act.Weigh q ∷ act.Put q ∷ act.Ask q ∷ [])
+    → PollerRests q m
 poller-rests m q k inside idle =
     let h = k.rx.sound.hands in
     let take = by-reasons m (act.Take q) k refl idle.0 in
@@ -123,29 +131,40 @@ sender-rests m a k inside idle =
     let put = second-lacks _ _ (by-reasons m (act.TPut a) k refl idle.1.1.0) inside in
     let e = sender-empty (weighs_next m.tx a) (puts_next m.tx a) weigh put in
     let none : is_some (next_in m a) ≡ false = second-lacks _ _ send e.2 in
-    let all : length (out_at m.rx.bare a) ≤ length (sent_of m a) = past-end (out_at m.rx.bare a) (length (sent_of m a)) none in
+    let all : length (out_at m.rx.bare a) ≤ length (sent_of m a) =
+    past-end (out_at m.rx.bare a) (length (sent_of m a)) none in
     let weighed : taken_of m.tx a ≤ length (choices_of m.tx a) = ltb-false _ _ e.0 in
     let landed : length (choices_of m.tx a) ≤ placed_of m.tx a = ltb-false _ _ e.1 in
     let b = h.put a in let c = h.chosen a in let d = h.arrived a in
-    let upto = prefix-length (map (λ s. s.id) (sent_of m a)) (out_at m.rx.bare a) (k.replied.first a) in
+    let upto =
+    prefix-length (map (λ s. s.id) (sent_of m a)) (out_at m.rx.bare a) (k.replied.first a) in
     let long = length-map (sent_of m a) (λ s. s.id) in
     let taken = k.taken a in
-    record { begun = omega (arith, all, upto, long); put = omega (arith, weighed, landed, b, c, d, taken) }
+    record {
+      begun = omega (arith, all, upto, long);
+      put =
+          omega (arith, weighed, landed, b, c, d, taken);
+    }
 
 -- ---- a lane
 
 lane-empty : (delivers retires : Bool)
-    → (not (is_at (lane_stage delivers retires) stage.Empty) ≡ true → is_at (lane_stage delivers retires) stage.Full ≡ false)
-    → (not (is_at (lane_stage delivers retires) stage.Empty) ≡ true → is_at (lane_stage delivers retires) stage.Delivered ≡ false)
-    → (delivers ≡ false) × (retires ≡ false) × (is_at (lane_stage delivers retires) stage.Empty ≡ true)
+    → (not (is_at (lane_stage delivers retires) stage.Empty) ≡ true
+    → is_at (lane_stage delivers retires) stage.Full ≡ false)
+    → (not (is_at (lane_stage delivers retires) stage.Empty) ≡ true
+    → is_at (lane_stage delivers retires) stage.Delivered ≡ false)
+    → (delivers ≡ false) × (retires ≡ false) × (is_at
+    (lane_stage delivers retires) stage.Empty ≡ true)
 lane-empty true retires a b = absurd (let f : true ≡ false = a refl in cc)
 lane-empty false true a b = absurd (let f : true ≡ false = b refl in cc)
 lane-empty false false a b = (refl, refl, refl)
 
 retired-all : (s : HopState) (c : ℕ) → Sound s → length (accepted_at s.bare c) ≤ pulled_at s.bare c
-    → pulled_at s.bare c ≤ delivered_at s.bare c → delivered_at s.bare c ≤ retired_at s.bare c → IsEmptied s.bare c
+    → pulled_at s.bare c ≤ delivered_at s.bare c → delivered_at s.bare c ≤ retired_at s.bare c
+    → IsEmptied s.bare c
 retired-all s c h all pulled delivered =
-    let a = h.counts.retired_first c in let b = h.counts.delivered_first c in let d = h.counts.pulled_first c in
+    let a = h.counts.retired_first c in let b = h.counts.delivered_first c in
+    let d = h.counts.pulled_first c in
     omega (arith, all, pulled, delivered, a, b, d)
 
 pub lane-rests : (m : Machine) (c : ℕ) → Kept m → AreIdle m (drain_one c) → IsEmptied m.rx.bare c

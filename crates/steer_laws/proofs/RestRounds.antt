@@ -1,6 +1,6 @@
 -- After a round in which no work was done, the machine is at rest.
-use Rattle.std.proofs.Common.{ℕ, ◌≤◌, ◌<◌, ◌≡◌, true, false, List, [], ◌∷◌, length, refl, ap, sym, subst, arith}
-use Rattle.std.proofs.Common.{inl, inr, suc, zero}
+use Rattle.std.proofs.Common.{ℕ, ◌≤◌, ◌<◌, ◌≡◌, true, false, List, [], ◌∷◌, length, refl, ap, sym}
+use Rattle.std.proofs.Common.{subst, arith, inl, inr, suc, zero}
 use Rattle.std.proofs.lemmas.Bool.{cases_Bool, cases_eq, lt-ltb}
 use Rattle.std.proofs.lemmas.List.{get_or-set_same}
 use Rattle.steer_base.specs.declared.step.Step.{Step}
@@ -10,16 +10,19 @@ use Rattle.hop_core.specs.Events.{IsEmptied, happens}
 use Rattle.hop_core.specs.Hop.{HopState, inside_of}
 use Rattle.steer_parts.specs.Machine.{Machine}
 use Rattle.steer_parts.specs.Setup.{Setup, flow_of}
-use Rattle.steer_parts.specs.Whole.{Turn, again, drain, drain_one, for_each, poll, recorded, replying}
-use Rattle.steer_parts.specs.Whole.{serve, ship, ship_one, tried, tries, unretired}
+use Rattle.steer_parts.specs.Whole.{Turn, again, drain, drain_one, for_each, poll, recorded}
+use Rattle.steer_parts.specs.Whole.{replying, serve, ship, ship_one, tried, tries, unretired}
 use Rattle.steer_laws.specs.Kept.{IsNamed, Kept}
 use Rattle.steer_laws.specs.Rest.{PollerRests, SenderRests}
 use Rattle.steer_laws.specs.SweepLaws.{IdleRoundRests}
-use Rattle.steer_laws.proofs.IdleRounds.{Quiet, Still, leave-stays, quiet-start, quiet-then, quiet-tried, still-event, still-same, still-then}
+use Rattle.steer_laws.proofs.StillTurns.{Quiet, Still, leave-stays, quiet-start, quiet-then}
+use Rattle.steer_laws.proofs.StillTurns.{quiet-tried, still-event, still-same, still-then}
 use Rattle.steer_laws.proofs.IdleTurns.{idle-tries, tried-before, tried-idle}
 use Rattle.steer_laws.proofs.KeptLemmas.{flow_small}
-use Rattle.steer_laws.proofs.RestLemmas.{lane-rests, poller-rests, sender-rests, tx-rests, wire-rests}
-use Rattle.steer_laws.proofs.TurnLift.{drain-keeps, is_tried, poll-keeps, recorded-keeps, serve-keeps, ship-keeps}
+use Rattle.steer_laws.proofs.RestLemmas.{lane-rests, poller-rests, sender-rests, tx-rests}
+use Rattle.steer_laws.proofs.RestLemmas.{wire-rests}
+use Rattle.steer_laws.proofs.TurnLift.{drain-keeps, is_tried, poll-keeps, recorded-keeps}
+use Rattle.steer_laws.proofs.TurnLift.{serve-keeps, ship-keeps}
 
 -- ---- an actor that rests goes on resting while all stands still
 
@@ -77,56 +80,70 @@ module _ (p : Setup) (flows : (x : ℕ) → flow_of p x < 262144) where
       let below : q < length t.0.rx.visits =
       (let homes = ap (λ (r : Setup). length r.homes) is in omega (arith, lt, z.visits, homes)) in
       record {
-        quiet = poll-keeps p (Quiet p t) (λ u h. h.setup) flows (λ u s tried h. quiet-tried p t u s tried h) q t lt start;
+        quiet = poll-keeps p (Quiet p t) (λ u h. h.setup) flows
+            (λ u s tried h. quiet-tried p t u s tried h) q t lt start;
         rests = λ none. (
-            let idle = idle-tries five in' (refl, refl, (refl, refl, (refl, refl, (refl, refl, (refl, refl, tt)))))
+            let idle =
+            idle-tries five in'
+            (refl, refl, (refl, refl, (refl, refl, (refl, refl, (refl, refl, tt)))))
             (tried-before done (act.Leave q) none) in
             poller-stays q in'.0 (poll q t).0
-            (still-then in'.0 done.0 (poll q t).0 (still-same in'.0 done.0 idle.same) (leave-stays done.0 q))
+            (still-then in'.0 done.0 (poll q t).0 (still-same in'.0 done.0 idle.same)
+            (leave-stays done.0 q))
             (poller-rests in'.0 q first.kept (entered t.0.rx q k.rx.opened below) idle.idle));
       }
 
   -- with nothing to retire the lane is empty, and else the first time around was idle
-  drained : (n c : ℕ) (t : Turn) → unretired t.0.rx.bare c ≡ n → Kept t.0 → (again n (drain_one c) t).1 ≡ false
-      → IsEmptied t.0.rx.bare c
+  drained : (n c : ℕ) (t : Turn) → unretired t.0.rx.bare c ≡ n → Kept t.0
+      → (again n (drain_one c) t).1 ≡ false → IsEmptied t.0.rx.bare c
   unfolding again
   drained zero c t is k none =
       let h = k.rx.sound.counts in
-      let a = h.retired_first c in let b = h.delivered_first c in let d = h.pulled_first c in omega (arith, is, a, b, d)
+      let a = h.retired_first c in let b = h.delivered_first c in let d = h.pulled_first c in
+      omega (arith, is, a, b, d)
   drained (suc n) c t is k none =
       let once = again-before n (drain_one c) (tries t (drain_one c)) none in
-      lane-rests t.0 c k (idle-tries (drain_one c) t (refl, refl, (refl, refl, (refl, refl, tt))) once).idle
+      lane-rests t.0 c k
+      (idle-tries (drain_one c) t (refl, refl, (refl, refl, (refl, refl, tt))) once).idle
 
   turned-drain : (c : ℕ) (t : Turn) → c < p.cpus → t.0.setup ≡ p → Kept t.0
       → Turned p (λ m. IsEmptied m.rx.bare c) t (drain c t)
   turned-drain c t lt is k =
-      let quiet = drain-keeps p (Quiet p t) (λ u h. h.setup) flows (λ u s tried h. quiet-tried p t u s tried h) c t lt
+      let quiet =
+      drain-keeps p (Quiet p t) (λ u h. h.setup) flows
+      (λ u s tried h. quiet-tried p t u s tried h) c t lt
       (quiet-start p t is k) in
       record {
         quiet = quiet;
         rests = λ none.
-            cpu-stays c t.0 (drain c t).0 (quiet.still none).1 (drained (unretired t.0.rx.bare c) c t refl k none);
+            cpu-stays c t.0 (drain c t).0 (quiet.still none).1
+            (drained (unretired t.0.rx.bare c) c t refl k none);
       }
 
-  shipped : (n x : ℕ) (t : Turn) → unretired t.0.tx.bare x ≡ n → Kept t.0 → (again n (ship_one x) t).1 ≡ false
-      → IsEmptied t.0.tx.bare x
+  shipped : (n x : ℕ) (t : Turn) → unretired t.0.tx.bare x ≡ n → Kept t.0
+      → (again n (ship_one x) t).1 ≡ false → IsEmptied t.0.tx.bare x
   unfolding again
   shipped zero x t is k none =
       let h = k.tx.sound.counts in
-      let a = h.retired_first x in let b = h.delivered_first x in let d = h.pulled_first x in omega (arith, is, a, b, d)
+      let a = h.retired_first x in let b = h.delivered_first x in let d = h.pulled_first x in
+      omega (arith, is, a, b, d)
   shipped (suc n) x t is k none =
       let once = again-before n (ship_one x) (tries t (ship_one x)) none in
-      tx-rests t.0 x k (idle-tries (ship_one x) t (refl, refl, (refl, refl, (refl, refl, tt))) once).idle
+      tx-rests t.0 x k
+      (idle-tries (ship_one x) t (refl, refl, (refl, refl, (refl, refl, tt))) once).idle
 
   turned-ship : (x : ℕ) (t : Turn) → x < p.txs → t.0.setup ≡ p → Kept t.0
       → Turned p (λ m. IsEmptied m.tx.bare x) t (ship x t)
   turned-ship x t lt is k =
-      let quiet = ship-keeps p (Quiet p t) (λ u h. h.setup) flows (λ u s tried h. quiet-tried p t u s tried h) x t lt
+      let quiet =
+      ship-keeps p (Quiet p t) (λ u h. h.setup) flows
+      (λ u s tried h. quiet-tried p t u s tried h) x t lt
       (quiet-start p t is k) in
       record {
         quiet = quiet;
         rests = λ none.
-            tx-stays x t.0 (ship x t).0 (quiet.still none).1 (shipped (unretired t.0.tx.bare x) x t refl k none);
+            tx-stays x t.0 (ship x t).0 (quiet.still none).1
+            (shipped (unretired t.0.tx.bare x) x t refl k none);
       }
 
   turned-serve : (a : ℕ) (t : Turn) → a < p.apps → t.0.setup ≡ p → Kept t.0
@@ -134,7 +151,9 @@ module _ (p : Setup) (flows : (x : ℕ) → flow_of p x < 262144) where
   turned-serve a t lt is k =
       let start = quiet-start p t is k in
       let w : Turn = recorded (replying t.0 a) t in
-      let noted = recorded-keeps p (Quiet p t) (λ u h. h.setup) flows (λ u s tried h. quiet-tried p t u s tried h)
+      let noted =
+      recorded-keeps p (Quiet p t) (λ u h. h.setup) flows
+      (λ u s tried h. quiet-tried p t u s tried h)
       (replying t.0 a) t start in
       let named : IsNamed p (act.TEnter a) = lt-ltb a p.apps lt in
       let in' : Turn = tried w (act.TEnter a) in
@@ -145,14 +164,16 @@ module _ (p : Setup) (flows : (x : ℕ) → flow_of p x < 262144) where
       let below : a < length w.0.tx.visits =
       (let apps = ap (λ (r : Setup). r.apps) noted.setup in omega (arith, lt, z.visits, apps)) in
       record {
-        quiet = serve-keeps p (Quiet p t) (λ u h. h.setup) flows (λ u s tried h. quiet-tried p t u s tried h) a t lt start;
+        quiet = serve-keeps p (Quiet p t) (λ u h. h.setup) flows
+            (λ u s tried h. quiet-tried p t u s tried h) a t lt start;
         rests = λ none. (
             let idle = idle-tries three in' (refl, refl, (refl, refl, (refl, refl, tt)))
             (tried-before done (act.TLeave a) none) in
             sender-stays a in'.0 (serve a t).0
             (still-then in'.0 done.0 (serve a t).0 (still-same in'.0 done.0 idle.same)
             (still-event done.0 (act.TLeave a) refl))
-            (sender-rests in'.0 a first.kept (entered w.0.tx a noted.kept.tx.opened below) idle.idle));
+            (sender-rests in'.0 a first.kept
+            (entered w.0.tx a noted.kept.tx.opened below) idle.idle));
       }
 
   -- ---- the turns of all actors of a kind
@@ -194,17 +215,23 @@ idle_round_rests m k none =
     let c : Turn = for_each p.cpus drain b in
     let d : Turn = for_each p.apps serve c in
     let e : Turn = for_each p.txs ship d in
-    let came = quiet-tried p t t act.Arrive (is_tried p act.Arrive refl refl) (quiet-start p t refl k) in
+    let came =
+    quiet-tried p t t act.Arrive (is_tried p act.Arrive refl refl) (quiet-start p t refl k) in
     let polled = each-rests p flows (length p.homes) (length p.homes) poll PollerRests (omega arith)
-    (λ i m n s r. poller-stays i m n s r) (λ i u lt is kept. turned-poll p flows i u lt is kept) a came.setup came.kept in
-    let drained = each-rests p flows p.cpus p.cpus drain (λ i m. IsEmptied m.rx.bare i) (omega arith)
-    (λ i m n s r. cpu-stays i m n s r) (λ i u lt is kept. turned-drain p flows i u lt is kept) b polled.quiet.setup
+    (λ i m n s r. poller-stays i m n s r)
+    (λ i u lt is kept. turned-poll p flows i u lt is kept) a came.setup came.kept in
+    let drained =
+    each-rests p flows p.cpus p.cpus drain (λ i m. IsEmptied m.rx.bare i) (omega arith)
+    (λ i m n s r. cpu-stays i m n s r)
+    (λ i u lt is kept. turned-drain p flows i u lt is kept) b polled.quiet.setup
     polled.quiet.kept in
     let served = each-rests p flows p.apps p.apps serve SenderRests (omega arith)
-    (λ i m n s r. sender-stays i m n s r) (λ i u lt is kept. turned-serve p flows i u lt is kept) c drained.quiet.setup
+    (λ i m n s r. sender-stays i m n s r)
+    (λ i u lt is kept. turned-serve p flows i u lt is kept) c drained.quiet.setup
     drained.quiet.kept in
     let shipped = each-rests p flows p.txs p.txs ship (λ i m. IsEmptied m.tx.bare i) (omega arith)
-    (λ i m n s r. tx-stays i m n s r) (λ i u lt is kept. turned-ship p flows i u lt is kept) d served.quiet.setup
+    (λ i m n s r. tx-stays i m n s r)
+    (λ i u lt is kept. turned-ship p flows i u lt is kept) d served.quiet.setup
     served.quiet.kept in
     let last = shipped.quiet.still none in
     let third = served.quiet.still last.0 in
@@ -220,10 +247,13 @@ idle_round_rests m k none =
     record {
       arrived = rw (all.arrivals, setup) wire;
       pollers = λ q lt.
-          poller-stays q b.0 e.0 from-b (polled.rests second.0 q (subst (λ (r : Setup). q < length r.homes) setup lt));
+          poller-stays q b.0 e.0 from-b
+          (polled.rests second.0 q (subst (λ (r : Setup). q < length r.homes) setup lt));
       cpus = λ x lt.
-          cpu-stays x c.0 e.0 from-c (drained.rests third.0 x (subst (λ (r : Setup). x < r.cpus) setup lt));
+          cpu-stays x c.0 e.0 from-c
+          (drained.rests third.0 x (subst (λ (r : Setup). x < r.cpus) setup lt));
       senders = λ x lt.
-          sender-stays x d.0 e.0 last.1 (served.rests last.0 x (subst (λ (r : Setup). x < r.apps) setup lt));
+          sender-stays x d.0 e.0 last.1
+          (served.rests last.0 x (subst (λ (r : Setup). x < r.apps) setup lt));
       txs = λ x lt. shipped.rests none x (subst (λ (r : Setup). x < r.txs) setup lt);
     }

@@ -1,6 +1,7 @@
 -- A sweep ends with an idle round: there is less work than its rounds.
-use Rattle.std.proofs.Common.{ℕ, ◌+◌, ◌*◌, ◌≤◌, ◌<◌, ◌≡◌, Bool, true, false, not, cond, List, [], ◌∷◌, length, refl, ap, ◌∙◌, sym}
-use Rattle.std.proofs.Common.{subst, arith, inl, inr, suc, zero, get_or}
+use Rattle.std.proofs.Common.{ℕ, ◌+◌, ◌*◌, ◌≤◌, ◌<◌, ◌≡◌, Bool, true, false, not, cond, List, []}
+use Rattle.std.proofs.Common.{◌∷◌, length, refl, ap, ◌∙◌, sym, subst, arith, inl, inr, suc, zero}
+use Rattle.std.proofs.Common.{get_or}
 use Rattle.std.specs.Prelude.{◌&&◌, ◌||◌}
 use Rattle.std.specs.List.{sum_by}
 use Rattle.std.proofs.lemmas.Bool.{cases_Bool}
@@ -33,8 +34,9 @@ use Rattle.steer_laws.proofs.Weights.{note_weight, rests-there, weight, works-fu
 abbrev height : Turn → ℕ
 height t = weight t.0 + cond t.1 0 1
 
-rises-by : (done work idle : Bool) (w v : ℕ) → (work ≡ true → idle ≡ false → w + 1 ≤ v) → (idle ≡ true → v ≡ w)
-    → (work ≡ false → v ≡ w) → w + cond done 0 1 ≤ v + cond (done || (work && not idle)) 0 1
+rises-by : (done work idle : Bool) (w v : ℕ) → (work ≡ true → idle ≡ false → w + 1 ≤ v)
+    → (idle ≡ true → v ≡ w) → (work ≡ false → v ≡ w)
+    → w + cond done 0 1 ≤ v + cond (done || (work && not idle)) 0 1
 rises-by true true true w v on same off = let e = same refl in omega (arith, e)
 rises-by true true false w v on same off = let e = on refl refl in omega (arith, e)
 rises-by true false idle w v on same off = let e = off refl in omega (arith, e)
@@ -47,19 +49,23 @@ record Rising (p : Setup) (from : ℕ) (t : Turn) : Type 0 where
   kept : Kept t.0
   high : from ≤ height t
 
-rising-tried : (p : Setup) (from : ℕ) (t : Turn) (s : Step) → IsTried p s → Rising p from t → Rising p from (tried t s)
+rising-tried : (p : Setup) (from : ℕ) (t : Turn) (s : Step) → IsTried p s → Rising p from t
+    → Rising p from (tried t s)
 rising-tried p from t s is r =
     let named : IsNamed t.0.setup s = subst (λ (q : Setup). IsNamed q s) (sym r.setup) is.named in
     let g = goes-simple t.0 r.kept s named in
-    let rise = rises-by t.1 (is_work s) (is_idle (simple t.0 s).1) (weight t.0) (weight (simple t.0 s).0)
+    let rise =
+    rises-by t.1 (is_work s) (is_idle (simple t.0 s).1) (weight t.0) (weight (simple t.0 s).0)
     (λ on busy. works-further t.0 r.kept s named on is.event busy)
-    (λ idle. ap (λ (m : Machine). weight m) (idle-leaves t.0 s is.event idle)) (λ off. rests-there t.0 s off) in
+    (λ idle. ap (λ (m : Machine). weight m) (idle-leaves t.0 s is.event idle))
+    (λ off. rests-there t.0 s off) in
     let high = r.high in
     record { setup = g.setup ∙ r.setup; kept = g.kept; high = omega (arith, high, rise) }
 
 rising-round : (m : Machine) → Kept m → Rising m.setup (weight m + 1) (one_round (m, false))
 rising-round m k =
-    round-keeps m.setup (Rising m.setup (weight m + 1)) (λ t r. r.setup) (λ x. flow_small m.setup x k.given)
+    round-keeps m.setup (Rising m.setup (weight m + 1)) (λ t r. r.setup)
+    (λ x. flow_small m.setup x k.given)
     (λ t s is r. rising-tried m.setup (weight m + 1) t s is r) (m, false)
     (record { setup = refl; kept = k; high = omega arith })
 
@@ -74,8 +80,10 @@ sum-le (n ∷ ns) (l ∷ ls) e h =
     let a = h 0 in let b = sum-le ns ls (omega (arith, e)) (λ i. h (suc i)) in omega (arith, a, b)
 
 -- choices and notes are no more than what was taken up and one for each poller
-notes-le : (cs : List (List Chosen)) (ts : List ℕ) (ns : List Note) → length ts ≡ length cs → length ns ≡ length cs
-    → ((i : ℕ) → length (get_or cs i []) + note_weight (get_or ns i note.Nothing) ≤ get_or ts i 0 + 1)
+notes-le : (cs : List (List Chosen)) (ts : List ℕ) (ns : List Note) → length ts ≡ length cs
+    → length ns ≡ length cs
+    → ((i : ℕ)
+    → length (get_or cs i []) + note_weight (get_or ns i note.Nothing) ≤ get_or ts i 0 + 1)
     → total cs + sum_by note_weight ns ≤ sum_of ts + length ns
 unfolding total sum_of
 notes-le [] [] [] e f h = omega arith
@@ -99,11 +107,14 @@ bounded m k =
     let h = k.rx.sound in let w = h.wide in let z = k.rx.sizes in let l = k.lists in
     let rx = work_is_bounded m.rx h in let tx = work_is_bounded m.tx k.tx.sound in
     let room = z.room in let tx_room = k.tx.sizes.room in
-    let arrivals : total m.rx.arrivals ≤ m.rx.fixed.room = room-lists m.rx.fixed.room m.rx.arrivals h.small.below h.once in
-    let taken : sum_of m.rx.taken ≤ total m.rx.arrivals = sum-le m.rx.taken m.rx.arrivals w.taken h.hands.arrived in
+    let arrivals : total m.rx.arrivals ≤ m.rx.fixed.room =
+    room-lists m.rx.fixed.room m.rx.arrivals h.small.below h.once in
+    let taken : sum_of m.rx.taken ≤ total m.rx.arrivals =
+    sum-le m.rx.taken m.rx.arrivals w.taken h.hands.arrived in
     let placed : sum_of m.rx.placed ≤ total m.rx.arrivals =
     sum-le m.rx.placed m.rx.arrivals w.placed
-    (λ q. let a = h.hands.put q in let b = h.hands.chosen q in let c = h.hands.arrived q in omega (arith, a, b, c)) in
+    (λ q. let a = h.hands.put q in let b = h.hands.chosen q in let c = h.hands.arrived q in
+    omega (arith, a, b, c)) in
     let looked = notes-le m.rx.choices m.rx.taken m.notes (w.taken ∙ sym w.choices)
     (l.notes_long ∙ sym z.queues ∙ sym w.choices)
     (λ q. note-le m.rx q (note_of m q) (h.hands.chosen q) (k.noted q)) in
@@ -118,8 +129,8 @@ record Ended (p : Setup) (t u : Turn) : Type 0 where
   idle : IsIdleRound last
   ends : u.0 ≡ (one_round (last, false)).0
 
-ends-idle : (p : Setup) (n : ℕ) (t : Turn) → t.0.setup ≡ p → Kept t.0 → 16 * length p.packets + 16 < weight t.0 + n
-    → Ended p t (rounds n t)
+ends-idle : (p : Setup) (n : ℕ) (t : Turn) → t.0.setup ≡ p → Kept t.0
+    → 16 * length p.packets + 16 < weight t.0 + n → Ended p t (rounds n t)
 unfolding rounds
 ends-idle p zero t is k more =
     absurd (
@@ -132,7 +143,8 @@ ends-idle p (suc n) t is k more =
       | inl work ↦ (
           let high = r.high in
           let none : ◌≡◌ {A = ℕ} (cond next.1 0 1) 0 = ap (λ b. cond b 0 1) work in
-          let rest = ends-idle p n (next.0, true) (r.setup ∙ is) r.kept (omega (arith, high, none, more)) in
+          let rest =
+          ends-idle p n (next.0, true) (r.setup ∙ is) r.kept (omega (arith, high, none, more)) in
           record {
             last = rest.last;
             kept = rest.kept;

@@ -1,14 +1,14 @@
 -- In a machine at rest each packet of the capture went all its way.
-use Rattle.std.proofs.Common.{ℕ, ◌<◌, ◌≡◌, ◌⊎◌, List, [], ◌∷◌, length, refl, ap, ◌∙◌, sym, subst, arith}
-use Rattle.std.proofs.Common.{inl, inr, suc, zero, get_or, map}
+use Rattle.std.proofs.Common.{ℕ, ◌<◌, ◌≡◌, ◌⊎◌, List, [], ◌∷◌, length, refl, ap, ◌∙◌, sym, subst}
+use Rattle.std.proofs.Common.{arith, inl, inr, suc, zero, get_or, map}
 use Rattle.std.specs.Prelude.{◌==◌, slice_index, slice_index_or}
 use Rattle.std.specs.List.{Contains}
 use Rattle.std.proofs.Math.ListN.{get_or-eq_default}
 use Rattle.std.proofs.lemmas.Bool.{cases_Bool, cases_lt, eq-eqb}
 use Rattle.std.proofs.lemmas.List.{get_or_default}
 use Rattle.hop_core.specs.Events.{IsEmptied}
-use Rattle.hop_core.specs.Hop.{HopState, accepted_at, arrivals_of, choices_of, chosen_at, fell_at, out_at}
-use Rattle.hop_core.specs.Hop.{placed_of}
+use Rattle.hop_core.specs.Hop.{HopState, accepted_at, arrivals_of, choices_of, chosen_at, fell_at}
+use Rattle.hop_core.specs.Hop.{out_at, placed_of}
 use Rattle.hop_core.specs.NothingLost.{IsOut, NothingLost}
 use Rattle.hop_core.specs.Sound.{Sound}
 use Rattle.history.specs.Lists.{arrivals_at, no_arrival}
@@ -28,7 +28,8 @@ use Rattle.steer_laws.proofs.Sweeps.{sweep_ends_at_rest}
 -- ---- lists
 
 -- a list of many that has a member is one of them
-pub full-below : {X : Type 0} (ls : List (List X)) (p i : ℕ) → i < length (slice_index_or ls p []) → p < length ls
+pub full-below : {X : Type 0} (ls : List (List X)) (p i : ℕ) → i < length (slice_index_or ls p [])
+    → p < length ls
 full-below ls p i lt =
     elim (cases_lt p (length ls)) [
       | inl below ↦ below
@@ -37,13 +38,15 @@ full-below ls p i lt =
     ]
 
 -- a member with its place by default 0
-pub place-of : (xs : List ℕ) (x : ℕ) → Contains xs x → (i : ℕ) × (i < length xs) × (slice_index xs i ≡ x)
+pub place-of : (xs : List ℕ) (x : ℕ) → Contains xs x
+    → (i : ℕ) × (i < length xs) × (slice_index xs i ≡ x)
 place-of xs x c = (c.0, c.1, get_or_default xs c.0 0 x c.1 ∙ c.2)
 
 -- an arrival stands in the list of its queue
-in-queue : (arrivals : List Arrival) (j q : ℕ) → j < length arrivals → (get_or arrivals j no_arrival).queue ≡ q
-    → (i : ℕ) × (i < length (arrivals_at arrivals q))
-    × (slice_index (arrivals_at arrivals q) i ≡ (get_or arrivals j no_arrival).id)
+in-queue : (arrivals : List Arrival) (j q : ℕ) → j < length arrivals
+    → (get_or arrivals j no_arrival).queue ≡ q
+    → (i : ℕ) × (i < length (arrivals_at arrivals q)) × (slice_index
+    (arrivals_at arrivals q) i ≡ (get_or arrivals j no_arrival).id)
 in-queue [] j q lt is = absurd (omega (arith, lt))
 in-queue (a ∷ rest) zero q lt is =
     let f : arrivals_at (a ∷ rest) q ≡ a.id ∷ arrivals_at rest q = rw (eq-eqb a.queue q is) refl in
@@ -53,22 +56,32 @@ in-queue (a ∷ rest) (suc j) q lt is =
     let below = w.1 in
     elim (cases_Bool (a.queue == q)) [
       | inl t ↦
-          let f : arrivals_at (a ∷ rest) q ≡ a.id ∷ arrivals_at rest q = rw t refl in
-          (suc w.0, (let n = ap length f in omega (arith, n, below)), ap (λ l. slice_index l (suc w.0)) f ∙ w.2)
+          let f : arrivals_at (a ∷ rest) q ≡ a.id ∷ arrivals_at rest q = rw t refl in (
+            suc w.0,
+            (let n = ap length f in
+                omega (arith, n, below)),
+            ap (λ l. slice_index l (suc w.0)) f ∙ w.2,
+          )
       | inr t ↦
-          let f : arrivals_at (a ∷ rest) q ≡ arrivals_at rest q = rw t refl in
-          (w.0, (let n = ap length f in omega (arith, n, below)), ap (λ l. slice_index l w.0) f ∙ w.2)
+          let f : arrivals_at (a ∷ rest) q ≡ arrivals_at rest q = rw t refl in (
+            w.0,
+            (let n = ap length f in
+                omega (arith, n, below)),
+            ap (λ l. slice_index l w.0) f ∙ w.2,
+          )
     ]
 
 -- ---- a hop in which all is put and retired
 
-through : (s : HopState) (p i x : ℕ) → Sound s → NothingLost s → placed_of s p ≡ length (arrivals_of s p)
+through : (s : HopState) (p i x : ℕ) → Sound s → NothingLost s
+    → placed_of s p ≡ length (arrivals_of s p)
     → ((c : ℕ) → c < length s.bare.accepted → IsEmptied s.bare c) → i < length (arrivals_of s p)
     → slice_index (arrivals_of s p) i ≡ x
     → ((c : ℕ) × Contains (fell_at s.bare c) x) ⊎ IsOut (out_at s.bare) x
 through s p i x h n put empty lt at =
     let le = h.hands.put p in
-    let id : (chosen_at (choices_of s p) i).id ≡ x = h.hands.of_arrivals p i (omega (arith, lt, put, le)) ∙ at in
+    let id : (chosen_at (choices_of s p) i).id ≡ x =
+    h.hands.of_arrivals p i (omega (arith, lt, put, le)) ∙ at in
     let lane : ℕ = (chosen_at (choices_of s p) i).choice.lane in
     elim (n.put p i (omega (arith, lt, put))) [
       | inl accepted ↦ (
@@ -76,7 +89,8 @@ through s p i x h n put empty lt at =
           let below = w.1 in
           let dry = empty lane (full-below s.bare.accepted lane w.0 below) in
           let first = h.counts.retired_first lane in
-          inr (subst (IsOut (out_at s.bare)) (w.2 ∙ id) (n.delivered lane w.0 (omega (arith, below, dry, first)))))
+          inr (subst (IsOut (out_at s.bare)) (w.2
+          ∙ id) (n.delivered lane w.0 (omega (arith, below, dry, first)))))
       | inr fell ↦ inl (lane, subst (Contains (fell_at s.bare lane)) id fell)
     ]
 
@@ -84,7 +98,8 @@ through s p i x h n put empty lt at =
 
 -- what arrived is in the ring of its queue
 came-in : (m : Machine) (x : ℕ) → Kept m → x < length m.arrivals
-    → (q : ℕ) × (i : ℕ) × (i < length (arrivals_of m.rx q)) × (slice_index (arrivals_of m.rx q) i ≡ x)
+    → (q : ℕ) × (i : ℕ) × (i < length (arrivals_of m.rx q)) × (slice_index
+    (arrivals_of m.rx q) i ≡ x)
 came-in m x k lt =
     let q : ℕ = (get_or m.arrivals x no_arrival).queue in
     let w = in-queue m.arrivals x q lt refl in
@@ -108,7 +123,8 @@ ported m o i x k r lt at =
     elim (through m.tx o i x k.tx.sound k.tx.lossless a.put
     (λ t below. r.txs t (omega (arith, below, y.txs))) there (sym same ∙ at)) [
       | inl fell ↦ absurd (
-          let none : fell_at m.tx.bare fell.0 ≡ [] = ap (map (λ d. d.id)) (k.tx.ample.none fell.0) in
+          let none : fell_at m.tx.bare fell.0 ≡ [] =
+          ap (map (λ d. d.id)) (k.tx.ample.none fell.0) in
           let w = fell.1.1 in let n = ap length none in omega (arith, w, n))
       | inr out' ↦ (
           let w = out'.1 in
@@ -124,7 +140,8 @@ rest_is_through m k r x lt =
     let c = came-in m x k (omega (arith, lt, all)) in
     let ring = full-below m.rx.arrivals c.0 c.1 c.2 in
     let q = r.pollers c.0 (omega (arith, ring, z.queues)) in
-    elim (through m.rx c.0 c.1 x k.rx.sound k.rx.lossless q.put (λ d below. r.cpus d (omega (arith, below, z.cpus))) c.2 c.3) [
+    elim (through m.rx c.0 c.1 x k.rx.sound k.rx.lossless q.put
+    (λ d below. r.cpus d (omega (arith, below, z.cpus))) c.2 c.3) [
       | inl fell ↦ inl fell
       | inr out' ↦ (
           let w = place-of (out_at m.rx.bare out'.0) x out'.1 in

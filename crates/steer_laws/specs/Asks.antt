@@ -49,8 +49,8 @@ pub record AsksTx (m : Machine) : Type 0 where
   pub deliver : (t : ℕ) → t < m.setup.txs → MayAsk m.tx (event.Deliver t 0)
   pub retire : (t : ℕ) → t < m.setup.txs → MayAsk m.tx (event.Retire t)
 
--- Of each filter that is set, as an expiry asks: the head of a processor that there is, and the flow
--- count of a queue that there is, which is at most 32,768.
+-- Of each filter that is set, as an expiry asks: the head of a processor that there is, and the
+-- flow count of a queue that there is, which is at most 32,768.
 pub record IsSeated (m : Machine) (filter : Filter) : Type 0 where
   pub processor : filter.cpu < length m.rx.bare.accepted
   pub queue : filter.queue < length m.settings.counts

@@ -1,6 +1,7 @@
 //! The top call of the replayer: words in, one text and one status out.
 #![tactic(auto)]
 
+mod capture;
 mod command;
 mod ending;
 mod file;

@@ -6,8 +6,6 @@ mod kinds;
 mod laws;
 mod part;
 mod tabled_key;
-#[cfg(test)]
-mod vectors;
 mod words;
 
 pub use key::{Key, VERIFICATION_KEY_BYTES, verification_key};

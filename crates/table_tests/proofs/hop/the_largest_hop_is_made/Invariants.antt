@@ -1,6 +1,6 @@
 use Rattle.std.proofs.Common.{◌≡◌, ◌≤◌, length}
 use Rattle.std.specs.List.{All}
-use Rattle.hop_core.proofs.hop.tests.the_largest_hop_is_made.Given as goal
+use Rattle.table_tests.proofs.hop.the_largest_hop_is_made.Given as goal
 
 abbrev pub invariant-loop : goal.invariant-loop
 invariant-loop g l = record {

@@ -1,6 +1,6 @@
 use Rattle.std.proofs.Common.{◌≤◌, ◌+◌}
 use Rattle.backlog.specs.Puts.{SameShape, put_count}
-use Rattle.backlog.proofs.tests.play.Given as goal
+use Rattle.table_tests.proofs.lanes.play.Given as goal
 
 abbrev pub invariant-loop-at : goal.invariant-loop-at
 invariant-loop-at g l = record {
