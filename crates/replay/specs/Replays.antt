@@ -15,19 +15,19 @@ pub record ReplayLists : Type 0 where
   pub lines : LineLists
   pub texts : List (List ℕ)
 
+abbrev pub replay_with : History → LineLists → List (List ℕ) → ReplayLists
+replay_with h lines texts = record { history = h; lines = lines; texts = texts }
+
 -- a history with its lines, and the texts of these taps over the lines of the arrived packets
 abbrev pub shown_with : Plan → List Packet → List Meaning → History → ReplayLists
 shown_with plan packets taps h =
-    record {
-      history = h;
-      lines = lines_of packets (length plan.apps) h;
-      texts = texts_of taps plan.detach (lines_of packets (length plan.apps) h).packets;
-    }
+    let lines = lines_of packets (length plan.apps) h in
+    replay_with h lines (texts_of taps plan.detach lines.packets)
 
 -- the replay of all steps of a plan
-abbrev pub replay_of : Plan → List Packet → Option ℕ → List Meaning → ReplayLists
+unfoldable pub replay_of : Plan → List Packet → Option ℕ → List Meaning → ReplayLists
 replay_of plan packets cut taps = shown_with plan packets taps (replayed plan packets cut)
 
 -- the report of its history
-abbrev pub replay_text : ReplayLists → List ℕ
+unfoldable pub replay_text : ReplayLists → List ℕ
 replay_text r = text_of (rows_of r.lines r.history r.texts)

@@ -63,5 +63,8 @@ fn moved_in(queues: &[List<Chosen>]) -> u64
 fn moves(choices: &[Chosen]) -> u64
     ensures { result ≡ count_by (λ c. has_moved c.choice.why) choices.now }
 {
-    choices.iter().filter(|chosen| chosen.choice.why.moved()).count() as u64
+    choices
+        .iter()
+        .filter(|chosen| chosen.choice.why.moved())
+        .count() as u64
 }

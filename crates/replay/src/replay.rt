@@ -74,6 +74,7 @@ impl Replay {
 
     /// Writes the report: each line, and each text of a tap, is one piece for the sink. It takes no
     /// memory.
+    #[tactic(auto, unfolding(crate::specs::Replays::replay_text))]
     pub fn write<K: Sink>(&self, line: &mut LineBuf, out: &mut K) -> Result<(), WriteFault>
         ensures whole { OnOk result
             (Appends (K.written out.old) (K.written out.new) (replay_text self.now)) }

@@ -34,14 +34,9 @@ pub struct Summary {
 impl Summary {
     ghost use Rattle.replay.specs.Summaries.{IsSummaryOf, summary_text};
 
-    /// Generates a plan and a capture of `packets` packets over at most `flows` flows, and makes all
-    /// steps of the plan over them.
-    pub fn make(
-        alloc: Global,
-        seed: u64,
-        packets: u32,
-        flows: u32,
-    ) -> Result<Summary, OutOfMemory>
+    /// Generates a plan and a capture of `packets` packets over at most `flows` flows, and makes
+    /// all steps of the plan over them.
+    pub fn make(alloc: Global, seed: u64, packets: u32, flows: u32) -> Result<Summary, OutOfMemory>
         requires few_packets { packets ≤ 262144 }
         requires some_flow { 1 ≤ flows }
         requires few_flows { flows ≤ 65536 }
