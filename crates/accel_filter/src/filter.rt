@@ -6,8 +6,8 @@ use steer_base::{Cpu, Filter, RxQueue, Why, reached};
 
 /// The filter that a packet writes which was accepted at the processor `cpu`, in the position
 /// `accepted`, a counter number that wraps. There is one where the choice `why` moved the packet's
-/// class and `cpu` is home to a receive queue: it names the lowest such queue (kernel scaling
-/// chapter, section accelerated RFS). `homes` are the homes of the receive queues, in their order.
+/// class and `cpu` is home to a receive queue (kernel scaling chapter, section accelerated RFS): it
+/// names the lowest such queue. `homes` are the homes of the receive queues, in their order.
 pub fn filter_written(homes: &[Cpu], why: Why, cpu: Cpu, accepted: u32) -> Option<Filter>
     requires { length homes.now ≤ 32 }
     ensures { result ≡ filter_written homes.now why cpu accepted }

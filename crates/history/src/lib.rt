@@ -14,8 +14,6 @@ mod place;
 mod reply_line;
 mod sent;
 mod sock_write;
-#[cfg(test)]
-mod tests;
 
 pub use arrival::Arrival;
 pub use commanded::Commanded;

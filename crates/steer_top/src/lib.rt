@@ -5,14 +5,10 @@ mod capture;
 mod command;
 mod ending;
 mod file;
-#[cfg(test)]
-mod frames;
 mod hash_command;
 mod hash_line;
 mod hasher;
 mod laws;
-#[cfg(test)]
-mod rows;
 mod status;
 mod telling;
 mod top;
