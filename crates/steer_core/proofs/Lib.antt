@@ -1,2 +1,10 @@
+pub mod ArriveLemmas
+pub mod ChangeLemmas
+pub mod FilterLemmas
 pub mod ListLemmas
+pub mod QuietLemmas
+pub mod QuietTurns
+pub mod ReplyHops
+pub mod ReplyLemmas
+pub mod RoomLemmas
 pub mod TurnLemmas

@@ -8,9 +8,9 @@ invariant_of-self c =
     let named = rw (← c.self.view_is) at c.requires in
     let went = ap position_of (sym c.step-answer.ensures.answer) ∙ sym c.position_of.ensures ∙ c.in-Some.is in
     (
-      rw c.asking.ensures
+      rw (c.asking.ensures, c.filter_for-filter.ensures, c.homes.ensures.homes)
           (held_asking _ c.args.q c.hash_of-hash.result c.step-answer.new.self c.in-Some.position
-          c.filter_for-filter.result named c.step-answer.ensures.state went c.self.invariant.0),
+          c.count.result c.last_of.result.choice named c.step-answer.ensures.state went c.self.invariant.0),
       c.self.invariant.1,
     )
 
