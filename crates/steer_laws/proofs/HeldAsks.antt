@@ -1,10 +1,11 @@
--- A machine that is held may ask its hops for the events of its steps.
-use Rattle.std.proofs.Common.{ℕ, ◌+◌, length, arith}
+-- A machine that is held may ask its hops for the events of its steps, and what an expiry reads is
+-- there.
+use Rattle.std.proofs.Common.{ℕ, ◌+◌, ◌<◌, ◌≡◌, List, length, ap, ◌∙◌, arith}
 use Rattle.hop_core.specs.declared.event.HopEvent.TheVariants as event
 use Rattle.hop_core.proofs.Sizes.{Sizes-happens}
 use Rattle.steer_parts.specs.Machine.{Machine}
 use Rattle.steer_laws.specs.Asks.{AsksRx, AsksTx}
-use Rattle.steer_laws.specs.HeldLaws.{HeldAsksRx, HeldAsksTx}
+use Rattle.steer_laws.specs.HeldLaws.{HeldAsksRx, HeldAsksTx, HeldIsSeated}
 use Rattle.steer_laws.specs.Kept.{Kept}
 use Rattle.steer_laws.proofs.KeptArrives.{may_arrive, next_queue}
 use Rattle.steer_laws.proofs.KeptFlows.{may_flows}
@@ -55,3 +56,17 @@ held_asks_rx m h = asks_rx m h.kept
 
 pub held_asks_tx : HeldAsksTx
 held_asks_tx m h = asks_tx m h.kept
+
+pub held_is_seated : HeldIsSeated
+held_is_seated m h i filter is =
+    let k = h.kept in let z = k.rx.sizes in let w = k.rx.sound.wide in
+    let cpu = h.ranged.set i filter is in
+    let queue = k.routes.set i filter is in
+    let many : length m.settings.counts ≡ length m.setup.homes =
+    ap (λ (l : List ℕ). length l) k.by.counts ∙ w.counts ∙ z.queues in
+    let there : filter.queue < length m.settings.counts = omega (arith, queue, many) in
+    record {
+      processor = omega (arith, cpu, z.cpus);
+      queue = there;
+      flows = h.ranged.flows filter.queue 0 there;
+    }

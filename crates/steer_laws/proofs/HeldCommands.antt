@@ -15,13 +15,18 @@ use Rattle.steer_parts.specs.Settings.{Settings, changed}
 use Rattle.steer_laws.specs.Held.{Held}
 use Rattle.steer_laws.specs.Kept.{IsCommandNamed}
 use Rattle.steer_laws.proofs.KeptSimple.{kept-done}
+use Rattle.steer_laws.proofs.RangedLemmas.{ranged-set}
 use Rattle.steer_laws.proofs.RecordedGives.{recorded-set}
 
 -- any command that is done
 pub held_set : (m : Machine) (c : Command) → IsCommandNamed m.setup c
     → is_done (answer_to m c) ≡ true → Held m → Held (set_by m c)
 held_set m c named done h =
-    record { kept = kept-done m h.kept c named done; recorded = recorded-set m c h.recorded }
+    record {
+      kept = kept-done m h.kept c named done;
+      ranged = ranged-set m c named h.ranged;
+      recorded = recorded-set m c h.recorded;
+    }
 
 -- ---- commands that change a setting alone
 

@@ -1,7 +1,7 @@
 -- The machine that a plan starts is held.
-use Rattle.std.proofs.Common.{ℕ, max, ◌+◌, ◌<◌, ◌≡◌, Bool, true, false, List, [], Option, Some}
-use Rattle.std.proofs.Common.{None, IsSome, length, refl, ap, ◌∙◌, sym, subst, arith, map}
-use Rattle.std.proofs.Common.{replicate}
+use Rattle.std.proofs.Common.{ℕ, max, ◌+◌, ◌≤◌, ◌<◌, ◌≡◌, get_or, Bool, true, false, List, []}
+use Rattle.std.proofs.Common.{Option, Some, None, IsSome, length, refl, ap, ◌∙◌, sym, subst, arith}
+use Rattle.std.proofs.Common.{map, replicate}
 use Rattle.std.specs.Prelude.{◌&&◌, nat_lt, slice_index, slice_index_or}
 use Rattle.std.specs.List.{All}
 use Rattle.std.proofs.Math.ListN.{length-map, length-replicate}
@@ -40,7 +40,9 @@ use Rattle.steer_laws.specs.HeldLaws.{MayStart}
 use Rattle.steer_laws.specs.Kept.{Kept}
 use Rattle.steer_laws.specs.KeptHops.{BySettings, IsNoted, KeptRx, KeptTx, Manned}
 use Rattle.steer_laws.specs.KeptLists.{ListSizes, Routes, SettingSizes}
+use Rattle.steer_laws.specs.Ranged.{IsRanged}
 use Rattle.steer_laws.specs.Recorded.{IsRecorded}
+use Rattle.steer_laws.proofs.RangedLemmas.{rounded-within}
 
 both-false : (b : Bool) → (b && false) ≡ false
 both-false true = refl
@@ -230,6 +232,9 @@ module _ (plan : Plan) (packets : List Packet) (cut : Option ℕ) (may : MayStar
         given = given-new;
         rx = rx-new;
         tx = tx-new;
+        taken = λ a.
+            at_new {X = ℕ} (length classes) a 0
+            ∙ sym (ap length (at_new {X = List ℕ} (length classes) a []));
         by = by-new;
         noted = λ q. subst (IsNoted rx q) (sym (no-notes q)) tt;
         lists = lists-new;
@@ -272,8 +277,20 @@ module _ (plan : Plan) (packets : List Packet) (cut : Option ℕ) (may : MayStar
         told = λ i d lt. absurd (omega (arith, lt));
       }
 
+  ranged-new : IsRanged (new_machine plan packets cut)
+  ranged-new =
+      let w = plan.within in
+      record {
+        flows = All-map (λ count. count ≤ 32768) (λ queue. rounded_up queue.flows) plan.queues
+            (λ k d lt. (
+            let flows = (w.queues_within k d lt).flows in
+            rounded-within (get_or plan.queues k d).flows flows));
+        set = λ i f e. absurd (not-set f (sym (no-filters plan.filters i) ∙ e));
+        asked = λ q f e. absurd (not-asked f (sym (no-notes q) ∙ e));
+      }
+
   pub held-new : Held (new_machine plan packets cut)
-  held-new = record { kept = kept-new; recorded = recorded-new }
+  held-new = record { kept = kept-new; ranged = ranged-new; recorded = recorded-new }
 
   -- the same of parts that are those of the plan's machine
   pub held_made : (given : Setup) (settings : Settings) (socket : List (Option ℕ))

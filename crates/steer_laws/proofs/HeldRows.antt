@@ -1,6 +1,6 @@
 -- What each step of one event keeps, by the values that code has: the hop after its event, and each
 -- other part that it changes.
-use Rattle.std.proofs.Common.{ℕ, ◌+◌, ◌<◌, ◌≡◌, true, false, List, [], ◌∷◌, ◌++◌, Option, Some}
+use Rattle.std.proofs.Common.{ℕ, ◌+◌, ◌≤◌, ◌<◌, ◌≡◌, true, false, List, [], ◌∷◌, ◌++◌, Option, Some}
 use Rattle.std.proofs.Common.{length, refl, ap, ◌∙◌, sym, subst}
 use Rattle.std.specs.Prelude.{slice_set}
 use Rattle.steer_base.specs.declared.choice.Choice.{Choice}
@@ -10,7 +10,7 @@ use Rattle.steer_base.specs.declared.filter.Filter.{Filter}
 use Rattle.hop_core.specs.declared.event.HopEvent.{HopEvent}
 use Rattle.hop_core.specs.declared.event.HopEvent.TheVariants as event
 use Rattle.hop_core.specs.Events.{happens}
-use Rattle.hop_core.specs.Hop.{HopState, next_of}
+use Rattle.hop_core.specs.Hop.{HopState, next_of, placed_of, taken_of}
 use Rattle.hop_core.specs.Leaves.{Field, changes}
 use Rattle.hop_core.specs.Reads.{to_weigh}
 use Rattle.hop_core.proofs.Leaves.{each_leaves}
@@ -20,12 +20,13 @@ use Rattle.history.specs.declared.sent.Sent.{Sent}
 use Rattle.history.specs.declared.sock_write.SockWrite.{SockWrite}
 use Rattle.steer_parts.specs.Applications.{in_lane, in_reply, next_in, reply_to, sending, sent_of}
 use Rattle.steer_parts.specs.Commands.{answer_to, listed}
-use Rattle.steer_parts.specs.Machine.{Machine, note_of}
+use Rattle.steer_parts.specs.Machine.{Machine, last_of, note_of}
 use Rattle.steer_parts.specs.Notes.{asking, is_asking}
 use Rattle.steer_parts.specs.Pollers.{filter_for, noted, position_of, weighing, with_filter}
 use Rattle.steer_parts.specs.Setup.{app_for}
 use Rattle.steer_parts.specs.declared.note.Note.TheVariants as note
 use Rattle.steer_laws.specs.Held.{Held}
+use Rattle.steer_laws.specs.Ranged.{IsRanged}
 use Rattle.steer_laws.specs.Recorded.{IsRecorded}
 use Rattle.steer_laws.proofs.KeptArrives.{kept_arrive, next_arrival}
 use Rattle.steer_laws.proofs.KeptGives.{Kept-listed}
@@ -36,6 +37,7 @@ use Rattle.steer_laws.proofs.KeptRecords.{kept_visited, kept_wrote}
 use Rattle.steer_laws.proofs.KeptSends.{kept_send, kept_tdeliver, kept_tenter, kept_tleave}
 use Rattle.steer_laws.proofs.KeptSends.{kept_tpull, kept_tput, kept_tretire, kept_tweigh}
 use Rattle.steer_laws.proofs.KeptWeighs.{kept_weigh}
+use Rattle.steer_laws.proofs.RangedLemmas.{last_below, ranged-ask, ranged-asking, ranged-noted}
 use Rattle.steer_laws.proofs.RecordedArrives.{recorded-arrives}
 use Rattle.steer_laws.proofs.RecordedGives.{recorded-listed, text-answer}
 use Rattle.steer_laws.proofs.RecordedRows.{recorded-choices, recorded-deliver, recorded-outs}
@@ -69,6 +71,7 @@ held_arrive m a t which few is h =
     let r = recorded-arrives m h.kept h.recorded in
     record {
       kept = kept_arrive m a t which few is h.kept;
+      ranged = h.ranged;
       recorded = subst (λ (b : Arrival). IsRecorded (after t b)) (sym which)
           (subst (λ (s : HopState). IsRecorded (after s n)) (sym then') r);
     }
@@ -81,6 +84,7 @@ pub held_take : (m : Machine) (q : ℕ) (t : HopState) → q < length m.setup.ho
 held_take m q t named quiet is h =
     record {
       kept = kept_take m q t named quiet is h.kept;
+      ranged = h.ranged;
       recorded = rx-recorded m (event.Take q) t refl is h.recorded;
     }
 
@@ -89,13 +93,18 @@ pub held_enter : (m : Machine) (q : ℕ) (t : HopState) → q < length m.setup.h
 held_enter m q t named is h =
     record {
       kept = kept_enter m q t named is h.kept;
+      ranged = h.ranged;
       recorded = rx-recorded m (event.Enter q) t refl is h.recorded;
     }
 
 pub held_look : (m : Machine) (q x : ℕ) (want : Option ℕ) → q < length m.setup.homes
     → to_weigh m.rx q ≡ Some x → Held m → Held (noted m q (note.Looked want))
 held_look m q x want named some h =
-    record { kept = kept_look m q x want named some h.kept; recorded = h.recorded }
+    record {
+      kept = kept_look m q x want named some h.kept;
+      ranged = ranged-noted m q (note.Looked want) (λ f e. absurd (cc)) h.ranged;
+      recorded = h.recorded;
+    }
 
 -- the code knows the event by its value
 pub held_weigh : (m : Machine) (q : ℕ) (want : Option ℕ) (e : HopEvent) (t : HopState)
@@ -106,6 +115,7 @@ held_weigh m q want e t named which is h =
     let then' : t ≡ (happens m.rx w).0 = is ∙ ap (λ (f : HopEvent). (happens m.rx f).0) which in
     record {
       kept = kept_weigh m q want t named then' h.kept;
+      ranged = ranged-noted m q note.Nothing (λ f e. absurd (cc)) h.ranged;
       recorded = rx-recorded m w t refl then' h.recorded;
     }
 
@@ -114,18 +124,25 @@ pub held_put : (m : Machine) (q : ℕ) (hash : Option ℕ) (t : HopState) → q 
 held_put m q hash t named is h =
     record {
       kept = kept_put m q hash t named is h.kept;
+      ranged = h.ranged;
       recorded = rx-recorded m (event.Put q hash) t refl is h.recorded;
     }
 
 -- a put that was accepted, and the filter that is asked for by the choice
 pub held_asking : (m : Machine) (q : ℕ) (hash : Option ℕ) (t : HopState) (position filters : ℕ)
     (c : Choice) → q < length m.setup.homes → t ≡ (happens m.rx (event.Put q hash)).0
-    → position_of (happens m.rx (event.Put q hash)).1 ≡ Some position → Held m
+    → position_of (happens m.rx (event.Put q hash)).1 ≡ Some position
+    → c ≡ (last_of t q).choice → Held m
     → Held
     (noted (record m { rx = t }) q (asking (filter_for m.setup.homes filters c position)))
-held_asking m q hash t position filters c named is went h =
+held_asking m q hash t position filters c named is went last h =
+    let n : Machine = record m { rx = t } in
+    let below : c.lane < m.setup.cpus =
+    subst (λ (d : Choice). d.lane < m.setup.cpus) (sym last)
+    (last_below n q (kept_put m q hash t named is h.kept)) in
     record {
       kept = kept_asking m q hash t position filters c named is went h.kept;
+      ranged = ranged-asking n q filters position c below h.ranged;
       recorded = rx-recorded m (event.Put q hash) t refl is h.recorded;
     }
 
@@ -136,6 +153,10 @@ pub held_ask : (m : Machine) (q : ℕ) (filter : Filter) (hash : Option ℕ)
 held_ask m q filter hash filters named asked is h =
     record {
       kept = kept_ask m q filter hash filters named asked is h.kept;
+      ranged = subst
+          (λ (fs : List (Option Filter)).
+          IsRanged (record (noted m q note.Nothing) { filters = fs }))
+          (sym is) (ranged-ask m q filter hash asked h.ranged);
       recorded = h.recorded;
     }
 
@@ -144,6 +165,7 @@ pub held_leave : (m : Machine) (q : ℕ) (t : HopState) → q < length m.setup.h
 held_leave m q t named is h =
     record {
       kept = kept_leave m q t named is h.kept;
+      ranged = h.ranged;
       recorded = rx-recorded m (event.Leave q) t refl is h.recorded;
     }
 
@@ -154,6 +176,7 @@ pub held_pull : (m : Machine) (c : ℕ) (t : HopState) → c < m.setup.cpus
 held_pull m c t named is h =
     record {
       kept = kept_pull m c t named is h.kept;
+      ranged = h.ranged;
       recorded = rx-recorded m (event.Pull c) t refl is h.recorded;
     }
 
@@ -164,6 +187,7 @@ held_deliver m c e t named which is h =
     let then' = is ∙ ap (λ (f : HopEvent). (happens m.rx f).0) which in
     record {
       kept = kept_deliver m c (in_lane m.rx c) e t named which is h.kept;
+      ranged = h.ranged;
       recorded = subst (λ (s : HopState). IsRecorded (record m { rx = s })) (sym then')
           (recorded-deliver m c h.recorded);
     }
@@ -173,6 +197,7 @@ pub held_retire : (m : Machine) (c : ℕ) (t : HopState) → c < m.setup.cpus
 held_retire m c t named is h =
     record {
       kept = kept_retire m c t named is h.kept;
+      ranged = h.ranged;
       recorded = rx-recorded m (event.Retire c) t refl is h.recorded;
     }
 
@@ -187,6 +212,7 @@ held_visited m a t u named is then' h =
     let g : ℕ = length m.setup.homes + a in
     record {
       kept = kept_visited m a t u named is then' h.kept;
+      ranged = h.ranged;
       recorded = rx-recorded (record m { rx = t }) (event.Leave g) u refl then'
           (rx-recorded m (event.Enter g) t refl is h.recorded);
     }
@@ -196,22 +222,29 @@ pub held_wrote : (m : Machine) (socket : List (Option ℕ)) (a : ℕ) (writes : 
     → length socket ≡ length m.socket → Held m
     → Held (record m { socket = socket; writes = slice_set m.writes a writes })
 held_wrote m socket a writes same h =
-    record { kept = kept_wrote m socket a writes same h.kept; recorded = h.recorded }
+    record {
+      kept = kept_wrote m socket a writes same h.kept;
+      ranged = h.ranged;
+      recorded = h.recorded;
+    }
 
 -- ---- an application
 
 pub held_send : (m : Machine) (a x : ℕ) (r : Sent) (t u : HopState) → a < m.setup.apps
-    → next_in m a ≡ Some x → r ≡ reply_to m a x → t ≡ (happens m.tx (event.Arrive a x)).0
+    → taken_of m.tx a ≤ placed_of m.tx a → next_in m a ≡ Some x → r ≡ reply_to m a x
+    → t ≡ (happens m.tx (event.Arrive a x)).0
     → u ≡ (happens t (event.Take a)).0 → Held m
     → Held (record m { tx = u; sent = slice_set m.sent a (sent_of m a ++ r ∷ []) })
-held_send m a x r t u named next which is then' h =
+held_send m a x r t u named free next which is then' h =
     let same : u.choices ≡ m.tx.choices =
     ap (λ (s : HopState). s.choices) then' ∙ each_leaves t (event.Take a) Field.choices refl
     ∙ ap (λ (s : HopState). s.choices) is in
     let sends : Sent → Machine =
     λ s. record m { tx = u; sent = slice_set m.sent a (sent_of m a ++ s ∷ []) } in
     record {
-      kept = kept_send m a x r t u named next (ap (λ (s : Sent). s.id) which) is then' h.kept;
+      kept = kept_send m a x r t u named free next (ap (λ (s : Sent). s.id) which) is then'
+          h.kept;
+      ranged = h.ranged;
       recorded = subst (λ (s : Sent). IsRecorded (sends s)) (sym which)
           (recorded-sends m a x u same h.recorded);
     }
@@ -221,6 +254,7 @@ pub held_tenter : (m : Machine) (a : ℕ) (t : HopState) → a < m.setup.apps
 held_tenter m a t named is h =
     record {
       kept = kept_tenter m a t named is h.kept;
+      ranged = h.ranged;
       recorded = tx-recorded m (event.Enter a) t refl is h.recorded;
     }
 
@@ -229,6 +263,7 @@ pub held_tleave : (m : Machine) (a : ℕ) (t : HopState) → a < m.setup.apps
 held_tleave m a t named is h =
     record {
       kept = kept_tleave m a t named is h.kept;
+      ranged = h.ranged;
       recorded = tx-recorded m (event.Leave a) t refl is h.recorded;
     }
 
@@ -239,6 +274,7 @@ held_tweigh m a e t named which is h =
     let then' = is ∙ ap (λ (f : HopEvent). (happens m.tx f).0) which in
     record {
       kept = kept_tweigh m a (in_reply m a) e t named which is h.kept;
+      ranged = h.ranged;
       recorded = subst (λ (s : HopState). IsRecorded (record m { tx = s })) (sym then')
           (recorded-tweigh m a h.kept h.recorded);
     }
@@ -248,6 +284,7 @@ pub held_tput : (m : Machine) (a : ℕ) (hash : Option ℕ) (t : HopState) → a
 held_tput m a hash t named is h =
     record {
       kept = kept_tput m a hash t named is h.kept;
+      ranged = h.ranged;
       recorded = tx-recorded m (event.Put a hash) t refl is h.recorded;
     }
 
@@ -258,6 +295,7 @@ pub held_tpull : (m : Machine) (x : ℕ) (t : HopState) → x < m.setup.txs
 held_tpull m x t named is h =
     record {
       kept = kept_tpull m x t named is h.kept;
+      ranged = h.ranged;
       recorded = tx-recorded m (event.Pull x) t refl is h.recorded;
     }
 
@@ -266,6 +304,7 @@ pub held_tdeliver : (m : Machine) (x : ℕ) (t : HopState) → x < m.setup.txs
 held_tdeliver m x t named is h =
     record {
       kept = kept_tdeliver m x t named is h.kept;
+      ranged = h.ranged;
       recorded = tx-recorded m (event.Deliver x 0) t refl is h.recorded;
     }
 
@@ -274,6 +313,7 @@ pub held_tretire : (m : Machine) (x : ℕ) (t : HopState) → x < m.setup.txs
 held_tretire m x t named is h =
     record {
       kept = kept_tretire m x t named is h.kept;
+      ranged = h.ranged;
       recorded = tx-recorded m (event.Retire x) t refl is h.recorded;
     }
 
@@ -285,6 +325,7 @@ pub held_listed : (m : Machine) (c : Command) (a : Answer) → has_text a ≡ tr
 held_listed m c a text h =
     record {
       kept = Kept-listed m c a h.kept;
+      ranged = h.ranged;
       recorded = recorded-listed m c a text h.recorded;
     }
 

@@ -16,19 +16,22 @@ use Rattle.steer_parts.specs.Steps.{simple}
 use Rattle.steer_parts.specs.Whole.{after, step}
 use Rattle.steer_parts.proofs.PlanLemmas.{plan_steps_are_within}
 use Rattle.steer_laws.specs.Held.{Held}
-use Rattle.steer_laws.specs.HeldLaws.{IsReportable, ReplaysAreReportable, RunsAreReportable}
+use Rattle.steer_laws.specs.HeldLaws.{IsReportable, MayStart, ReplaysAreReportable}
+use Rattle.steer_laws.specs.HeldLaws.{RunsAreReportable}
 use Rattle.steer_laws.specs.Kept.{AreNamed, IsNamed, sizes_in}
 use Rattle.steer_laws.proofs.HeldHistory.{held_is_reportable}
 use Rattle.steer_laws.proofs.HeldNew.{held-new}
 use Rattle.steer_laws.proofs.KeptLemmas.{flow_small}
 use Rattle.steer_laws.proofs.KeptSimple.{goes-simple}
 use Rattle.steer_laws.proofs.NamedLift.{after-keeps, step-keeps}
+use Rattle.steer_laws.proofs.RangedSteps.{ranged-simple}
 use Rattle.steer_laws.proofs.RecordedSteps.{recorded-simple}
 
 pub held-simple : (m : Machine) (s : Step) → IsNamed m.setup s → Held m → Held (simple m s).0
 held-simple m s named h =
     record {
       kept = (goes-simple m h.kept s named).kept;
+      ranged = ranged-simple m h.ranged s named h.kept;
       recorded = recorded-simple m s h.kept h.recorded;
     }
 
@@ -80,21 +83,37 @@ sizes-same plan packets cut =
     ap (λ n. record { cpus = plan.cpus; queues = n; apps = length plan.apps; tx = length plan.tx })
     (length-map plan.queues (λ queue. queue.home))
 
+-- steps that name what a plan has name what its machine has
+pub named-in : (plan : Plan) (packets : List Packet) (cut : Option ℕ) (ss : List Step)
+    → AllPass (step_is_within (sizes_of plan)) ss → AreNamed (setup_of plan packets cut) ss
+named-in plan packets cut ss named =
+    subst (λ (z : Sizes). AllPass (step_is_within z) ss) (sym (sizes-same plan packets cut)) named
+
+pub runs_are_held : (plan : Plan) (packets : List Packet) (cut : Option ℕ) (ss : List Step)
+    → MayStart plan packets → AllPass (step_is_within (sizes_of plan)) ss
+    → Held (after ss (new_machine plan packets cut))
+runs_are_held plan packets cut ss may named =
+    held-after (new_machine plan packets cut) (held-new plan packets cut may) ss
+    (named-in plan packets cut ss named)
+
 pub runs_are_reportable : RunsAreReportable
 runs_are_reportable plan packets cut ss may named =
-    let m : Machine = new_machine plan packets cut in
-    reportable-after m (held-new plan packets cut may) ss
-    (subst (λ (z : Sizes). AllPass (step_is_within z) ss) (sym (sizes-same plan packets cut)) named)
+    reportable-after (new_machine plan packets cut) (held-new plan packets cut may) ss
+    (named-in plan packets cut ss named)
 
-pub replays_are_reportable : ReplaysAreReportable
-replays_are_reportable plan packets cut may =
+-- each step of a plan names what the plan has
+pub plan_steps_within : (plan : Plan) → AllPass (step_is_within (sizes_of plan)) (steps_of plan)
+plan_steps_within plan =
     let w = plan.within in
-    runs_are_reportable plan packets cut (steps_of plan) may
-    (plan_steps_are_within plan
+    plan_steps_are_within plan
     (record {
       queues = omega (arith, w.queues_length.at_least);
       cpus = omega (arith, w.some_cpu);
       apps = omega (arith, w.apps_length.at_least);
       tx = omega (arith, w.tx_length.at_least);
       steps = w.steps_within;
-    }))
+    })
+
+pub replays_are_reportable : ReplaysAreReportable
+replays_are_reportable plan packets cut may =
+    runs_are_reportable plan packets cut (steps_of plan) may (plan_steps_within plan)

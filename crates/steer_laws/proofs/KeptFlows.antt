@@ -1,6 +1,7 @@
 -- What another flow count keeps: the gate closes, the queue's entries are cleared, the gate opens.
-use Rattle.std.proofs.Common.{ℕ, ◌≤◌, ◌<◌, ◌≡◌, ◌≢◌, true, false, List, [], ◌∷◌, Option, length, refl, ap, ◌∙◌, sym, subst, arith}
-use Rattle.std.specs.Prelude.{slice_index, slice_set}
+use Rattle.std.proofs.Common.{ℕ, ◌≤◌, ◌<◌, ◌≡◌, ◌≢◌, true, List, [], ◌∷◌, length, refl, ap, ◌∙◌}
+use Rattle.std.proofs.Common.{sym, subst, arith}
+use Rattle.std.specs.Prelude.{slice_set}
 use Rattle.std.proofs.lemmas.Bool.{lt-ltb}
 use Rattle.std.proofs.lemmas.List.{get_or-set_other}
 use Rattle.steer_base.specs.Choices.{class_of}
@@ -20,14 +21,15 @@ use Rattle.hop_core.proofs.NothingLost.{each_loses_nothing}
 use Rattle.hop_core.proofs.Settled.{each_keeps_settled, resize_settles}
 use Rattle.hop_core.proofs.Sizes.{Sizes-happens}
 use Rattle.history.specs.Lists.{list_at}
-use Rattle.steer_parts.specs.Commands.{affects, answer_to, gated, is_done, set_by}
+use Rattle.steer_parts.specs.Commands.{affects, answer_to, is_done, set_by}
 use Rattle.steer_parts.specs.Machine.{Machine}
 use Rattle.steer_parts.specs.Settings.{Settings, changed, class_at, plain_lane}
 use Rattle.steer_parts.specs.Setup.{Setup, hash_of}
 use Rattle.steer_laws.specs.Kept.{Kept}
-use Rattle.steer_laws.specs.KeptHops.{AreNoted, KeptRx, Manned, RxSizes}
+use Rattle.steer_laws.specs.KeptHops.{AreNoted, Manned, RxSizes}
 use Rattle.steer_laws.specs.KeptLists.{Came, Replied}
-use Rattle.steer_laws.proofs.KeptFrames.{came-leaves, manned-leaves, noted-leaves, replied-inbox, rx-sizes}
+use Rattle.steer_laws.proofs.KeptFrames.{came-leaves, manned-leaves, noted-leaves, replied-inbox}
+use Rattle.steer_laws.proofs.KeptFrames.{rx-sizes}
 use Rattle.steer_laws.proofs.KeptGates.{Passed, gate_passed}
 
 -- ---- the receive hop while its gate may be closed
@@ -62,7 +64,8 @@ calm-close m now s may c =
       sound = Sound-happens s event.Close may c.sound;
       lossless = each_loses_nothing s event.Close may c.sound c.lossless;
       sizes = rx-sizes m.setup s (happens s event.Close).0 (Sizes-happens s event.Close) c.sizes;
-      settled = each_keeps_settled (class_at m.setup now) (plain_lane m.setup now) s event.Close may c.sound tt c.settled;
+      settled = each_keeps_settled (class_at m.setup now)
+          (plain_lane m.setup now) s event.Close may c.sound tt c.settled;
       manned = manned-leaves m.setup m.settings s event.Close refl refl refl refl c.manned;
       noted = noted-leaves m.notes s event.Close refl refl refl c.noted;
       came = came-leaves m.setup.packets m.arrivals s event.Close refl c.came;
@@ -76,7 +79,8 @@ calm-reopen m now s may c =
       sound = Sound-happens s event.Reopen may c.sound;
       lossless = each_loses_nothing s event.Reopen may c.sound c.lossless;
       sizes = rx-sizes m.setup s (happens s event.Reopen).0 (Sizes-happens s event.Reopen) c.sizes;
-      settled = each_keeps_settled (class_at m.setup now) (plain_lane m.setup now) s event.Reopen may c.sound tt c.settled;
+      settled = each_keeps_settled (class_at m.setup now)
+          (plain_lane m.setup now) s event.Reopen may c.sound tt c.settled;
       manned = manned-leaves m.setup m.settings s event.Reopen refl refl refl refl c.manned;
       noted = noted-leaves m.notes s event.Reopen refl refl refl c.noted;
       came = came-leaves m.setup.packets m.arrivals s event.Reopen refl c.came;
@@ -89,7 +93,8 @@ other-class : (p : Setup) (now : Settings) (q count r x : ℕ) → r ≢ q
 other-class p now q count r x ne =
     ap (λ n. class_of n (hash_of p x)) (get_or-set_other now.counts q r (rounded_up count) 0 ne)
 
-calm-resize : (m : Machine) (s : HopState) (q count : ℕ) → MayAsk s (event.Resize q count) → Calm m m.settings s
+calm-resize : (m : Machine) (s : HopState) (q count : ℕ) → MayAsk s (event.Resize q count)
+    → Calm m m.settings s
     → Calm m (changed m.settings (give.Flows q count)) (happens s (event.Resize q count)).0
 calm-resize m s q count may c =
     let e : HopEvent = event.Resize q count in
@@ -98,7 +103,8 @@ calm-resize m s q count may c =
       sound = Sound-happens s e may c.sound;
       lossless = each_loses_nothing s e may c.sound c.lossless;
       sizes = rx-sizes m.setup s (happens s e).0 (Sizes-happens s e) c.sizes;
-      settled = resize_settles (class_at m.setup m.settings) (class_at m.setup now) (plain_lane m.setup m.settings)
+      settled = resize_settles (class_at m.setup m.settings) (class_at m.setup now)
+          (plain_lane m.setup m.settings)
           s q count may c.sound (λ r x ne. other-class m.setup m.settings q count r x ne) c.settled;
       manned = manned-leaves m.setup m.settings s e refl refl refl refl c.manned;
       noted = noted-leaves m.notes s e refl refl refl c.noted;
@@ -111,8 +117,8 @@ calm-resize m s q count may c =
 closes : (s : HopState) → s.bare.inside ≡ 0 → (happens s event.Close).0.bare.closed ≡ true
 closes s alone = rw alone refl
 
-emptied-same : (s t : HopState) (c : ℕ) → t.bare.accepted ≡ s.bare.accepted → t.bare.retired ≡ s.bare.retired
-    → IsEmptied s.bare c → IsEmptied t.bare c
+emptied-same : (s t : HopState) (c : ℕ) → t.bare.accepted ≡ s.bare.accepted
+    → t.bare.retired ≡ s.bare.retired → IsEmptied s.bare c → IsEmptied t.bare c
 emptied-same s t c a r e = rw (a, r) e
 
 may_resize : (m : Machine) (q count : ℕ) → q < length m.setup.homes → count ≤ 32768
@@ -147,7 +153,8 @@ may_flows m q count named within done k =
 -- ---- what it keeps
 
 kept-flows : (m : Machine) (q count : ℕ) → q < length m.setup.homes → count ≤ 32768
-    → is_done (answer_to m (give.Flows q count)) ≡ true → Kept m → Kept (set_by m (give.Flows q count))
+    → is_done (answer_to m (give.Flows q count)) ≡ true → Kept m
+    → Kept (set_by m (give.Flows q count))
 kept-flows m q count named within done k =
     let may = may_flows m q count named within done k in
     let now : Settings = changed m.settings (give.Flows q count) in
@@ -160,6 +167,7 @@ kept-flows m q count named within done k =
       given = k.given;
       rx = record { sound = c.sound; lossless = c.lossless; opened = refl; sizes = c.sizes };
       tx = k.tx;
+      taken = k.taken;
       by = record {
         counts = ap (λ (l : List ℕ). slice_set l q (rounded_up count))
             (k.by.counts ∙ sym (each_leaves m.rx event.Close Field.counts refl));
@@ -175,14 +183,16 @@ kept-flows m q count named within done k =
     }
 
 -- the code knows the hop by its three steps
-pub kept_flows : (m : Machine) (q count : ℕ) (t u v : HopState) → q < length m.setup.homes → count ≤ 32768
-    → is_done (answer_to m (give.Flows q count)) ≡ true → t ≡ (happens m.rx event.Close).0
-    → u ≡ (happens t (event.Resize q count)).0 → v ≡ (happens u event.Reopen).0 → Kept m
+pub kept_flows : (m : Machine) (q count : ℕ) (t u v : HopState) → q < length m.setup.homes
+    → count ≤ 32768 → is_done (answer_to m (give.Flows q count)) ≡ true
+    → t ≡ (happens m.rx event.Close).0 → u ≡ (happens t (event.Resize q count)).0
+    → v ≡ (happens u event.Reopen).0 → Kept m
     → Kept (record m { settings = changed m.settings (give.Flows q count); rx = v })
 kept_flows m q count t u v named within done first second third k =
     let one : u ≡ (happens (happens m.rx event.Close).0 (event.Resize q count)).0 =
     second ∙ ap (λ (s : HopState). (happens s (event.Resize q count)).0) first in
     let is : v ≡ run (event.Close ∷ event.Resize q count ∷ event.Reopen ∷ []) m.rx =
     third ∙ ap (λ (s : HopState). (happens s event.Reopen).0) one in
-    subst (λ (s : HopState). Kept (record m { settings = changed m.settings (give.Flows q count); rx = s })) (sym is)
+    subst (λ (s : HopState). Kept
+    (record m { settings = changed m.settings (give.Flows q count); rx = s })) (sym is)
     (kept-flows m q count named within done k)

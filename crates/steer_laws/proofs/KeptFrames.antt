@@ -1,6 +1,6 @@
 -- What an event of a hop keeps of the machine's invariant, part by part.
-use Rattle.std.proofs.Common.{ℕ, ◌<◌, ◌≡◌, false, List, [], Option, length, refl, ap, ◌∙◌, sym, subst}
-use Rattle.std.specs.Prelude.{slice_index_or}
+use Rattle.std.proofs.Common.{ℕ, ◌≡◌, false, List, [], length, ap, ◌∙◌, sym, subst}
+use Rattle.std.specs.Prelude.{slice_index, slice_index_or}
 use Rattle.steer_base.specs.declared.packet.Packet.{Packet}
 use Rattle.hop_core.specs.declared.event.HopEvent.{HopEvent}
 use Rattle.hop_core.specs.Events.{MayAsk, happens}
@@ -20,7 +20,8 @@ use Rattle.steer_parts.specs.Settings.{Settings, class_at, plain_lane}
 use Rattle.steer_parts.specs.Setup.{Setup}
 use Rattle.steer_parts.specs.declared.note.Note.{Note}
 use Rattle.steer_parts.specs.declared.note.Note.TheVariants as note
-use Rattle.steer_laws.specs.KeptHops.{AreNoted, BySettings, IsNoted, KeptRx, KeptTx, Manned, RxSizes, TxSizes}
+use Rattle.steer_laws.specs.KeptHops.{AllTaken, AreNoted, BySettings, IsNoted, KeptRx, KeptTx}
+use Rattle.steer_laws.specs.KeptHops.{Manned, RxSizes, TxSizes}
 use Rattle.steer_laws.specs.KeptLists.{Came, Replied}
 
 -- ---- the hops by themselves
@@ -36,8 +37,8 @@ rx-sizes p s t same z =
       rounded = ap (λ (f : Fixed). f.exact) same.fixed ∙ z.rounded;
     }
 
-pub rx-happens : (p : Setup) (s : HopState) (e : HopEvent) → MayAsk s e → changes e Field.closed ≡ false
-    → KeptRx p s → KeptRx p (happens s e).0
+pub rx-happens : (p : Setup) (s : HopState) (e : HopEvent) → MayAsk s e
+    → changes e Field.closed ≡ false → KeptRx p s → KeptRx p (happens s e).0
 rx-happens p s e may still k =
     record {
       sound = Sound-happens s e may k.sound;
@@ -46,7 +47,8 @@ rx-happens p s e may still k =
       sizes = rx-sizes p s (happens s e).0 (Sizes-happens s e) k.sizes;
     }
 
-tx-sizes : (p : Setup) (s t : HopState) → SameSizes s t → t.counts ≡ s.counts → TxSizes p s → TxSizes p t
+tx-sizes : (p : Setup) (s t : HopState) → SameSizes s t → t.counts ≡ s.counts → TxSizes p s
+    → TxSizes p t
 tx-sizes p s t same counts z =
     record {
       apps = same.producers ∙ z.apps;
@@ -57,26 +59,30 @@ tx-sizes p s t same counts z =
       classes = counts ∙ z.classes;
     }
 
-pub tx-happens : (p : Setup) (s : HopState) (e : HopEvent) → MayAsk s e → changes e Field.closed ≡ false
-    → changes e Field.counts ≡ false → KeptTx p s → KeptTx p (happens s e).0
+pub tx-happens : (p : Setup) (s : HopState) (e : HopEvent) → MayAsk s e
+    → changes e Field.closed ≡ false → changes e Field.counts ≡ false → KeptTx p s
+    → KeptTx p (happens s e).0
 tx-happens p s e may still counts k =
     record {
       sound = Sound-happens s e may k.sound;
       lossless = each_loses_nothing s e may k.sound k.lossless;
       ample = each_keeps_ample s e k.sound k.ample;
       opened = each_leaves s e Field.closed still ∙ k.opened;
-      sizes = tx-sizes p s (happens s e).0 (Sizes-happens s e) (each_leaves s e Field.counts counts) k.sizes;
+      sizes = tx-sizes p s (happens s e).0 (Sizes-happens s e)
+          (each_leaves s e Field.counts counts) k.sizes;
     }
 
 -- ---- the settings in force
 
 pub by-happens : (p : Setup) (now : Settings) (s : HopState) (e : HopEvent) → MayAsk s e
-    → changes e Field.counts ≡ false → KeptRx p s → IsBySettings (class_at p now) (plain_lane p now) s e
-    → Manned p now (happens s e).0 → BySettings p now s → BySettings p now (happens s e).0
+    → changes e Field.counts ≡ false → KeptRx p s
+    → IsBySettings (class_at p now) (plain_lane p now) s e → Manned p now (happens s e).0
+    → BySettings p now s → BySettings p now (happens s e).0
 by-happens p now s e may counts k allowed manned by =
     record {
       counts = by.counts ∙ sym (each_leaves s e Field.counts counts);
-      settled = each_keeps_settled (class_at p now) (plain_lane p now) s e may k.sound allowed by.settled;
+      settled = each_keeps_settled (class_at p now)
+          (plain_lane p now) s e may k.sound allowed by.settled;
       manned = manned;
     }
 
@@ -87,19 +93,22 @@ record SameHands (s t : HopState) : Type 0 where
   choices : t.choices ≡ s.choices
   placed : t.placed ≡ s.placed
 
-manned-same : (p : Setup) (now : Settings) (s t : HopState) → SameHands s t → Manned p now s → Manned p now t
+manned-same : (p : Setup) (now : Settings) (s t : HopState) → SameHands s t → Manned p now s
+    → Manned p now t
 manned-same p now s t same k =
     record {
       homes = k.homes;
       within = k.within;
       empty = λ c lt off. rw (same.accepted, same.retired) (k.empty c (rw same.accepted at lt) off);
-      hand = λ q lt. rw (same.choices, same.placed) (k.hand q (rw (same.choices, same.placed) at lt));
+      hand = λ q lt. rw (same.choices, same.placed)
+          (k.hand q (rw (same.choices, same.placed) at lt));
     }
 
 -- an event that leaves these lists
-pub manned-leaves : (p : Setup) (now : Settings) (s : HopState) (e : HopEvent) → changes e Field.accepted ≡ false
-    → changes e Field.retired ≡ false → changes e Field.choices ≡ false → changes e Field.placed ≡ false
-    → Manned p now s → Manned p now (happens s e).0
+pub manned-leaves : (p : Setup) (now : Settings) (s : HopState) (e : HopEvent)
+    → changes e Field.accepted ≡ false → changes e Field.retired ≡ false
+    → changes e Field.choices ≡ false → changes e Field.placed ≡ false → Manned p now s
+    → Manned p now (happens s e).0
 manned-leaves p now s e a r c d k =
     manned-same p now s (happens s e).0
     (record {
@@ -111,16 +120,18 @@ manned-leaves p now s e a r c d k =
 
 -- ---- notes
 
-note-same : (s t : HopState) (q : ℕ) (n : Note) → t.choices ≡ s.choices → t.taken ≡ s.taken → t.placed ≡ s.placed
-    → IsNoted s q n → IsNoted t q n
+note-same : (s t : HopState) (q : ℕ) (n : Note) → t.choices ≡ s.choices → t.taken ≡ s.taken
+    → t.placed ≡ s.placed → IsNoted s q n → IsNoted t q n
 note-same s t q note.Nothing a b c h = tt
 note-same s t q (note.Looked want) a b c h = rw (a, b) h
 note-same s t q (note.Asking filter) a b c h = rw (b, c) h
 
-pub noted-leaves : (notes : List Note) (s : HopState) (e : HopEvent) → changes e Field.choices ≡ false
-    → changes e Field.taken ≡ false → changes e Field.placed ≡ false → AreNoted notes s → AreNoted notes (happens s e).0
+pub noted-leaves : (notes : List Note) (s : HopState) (e : HopEvent)
+    → changes e Field.choices ≡ false → changes e Field.taken ≡ false
+    → changes e Field.placed ≡ false → AreNoted notes s → AreNoted notes (happens s e).0
 noted-leaves notes s e c t d h q =
-    note-same s (happens s e).0 q (slice_index_or notes q note.Nothing) (each_leaves s e Field.choices c)
+    note-same s (happens s e).0 q (slice_index_or notes q note.Nothing)
+    (each_leaves s e Field.choices c)
     (each_leaves s e Field.taken t) (each_leaves s e Field.placed d) (h q)
 
 -- ---- what came and what left
@@ -145,3 +156,12 @@ pub replied-begun : (sent : ℕ → List Sent) (inbox : ℕ → List ℕ) (s : H
 replied-begun sent inbox s e quiet k =
     let lists : List (List ℕ) → Type 0 = λ l. Replied sent inbox (λ a. slice_index_or l a []) in
     subst lists (sym (each_leaves s e Field.arrivals quiet)) k
+
+-- ---- what was taken up
+
+pub taken-leaves : (s : HopState) (e : HopEvent) → changes e Field.arrivals ≡ false
+    → changes e Field.taken ≡ false → AllTaken s → AllTaken (happens s e).0
+taken-leaves s e a t k p =
+    ap (λ (l : List ℕ). slice_index l p) (each_leaves s e Field.taken t) ∙ k p
+    ∙ ap (λ (l : List (List ℕ)). length (slice_index_or l p []))
+    (sym (each_leaves s e Field.arrivals a))

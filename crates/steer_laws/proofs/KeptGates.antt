@@ -1,6 +1,6 @@
 -- A gated command that is done found nobody inside, and its lanes empty.
-use Rattle.std.proofs.Common.{ℕ, ◌≤◌, ◌<◌, ◌≡◌, Bool, true, false, [], Option, None, Some, length, refl, ap, ◌∙◌, sym}
-use Rattle.std.proofs.Common.{arith, inl, inr}
+use Rattle.std.proofs.Common.{ℕ, ◌≤◌, ◌<◌, ◌≡◌, Bool, true, [], Option, None, Some, length, refl}
+use Rattle.std.proofs.Common.{ap, arith, inl, inr}
 use Rattle.std.specs.Prelude.{◌==◌, Result, Ok, Err, IsOk}
 use Rattle.std.proofs.Math.ListN.{get_or-eq_default}
 use Rattle.std.proofs.lemmas.Bool.{cases_lt, eqb-true}
@@ -29,16 +29,19 @@ record IsThrough (s : HopState) (empty : Result (Unit {0}) Busy) : Type 0 where
   alone : s.bare.inside ≡ 0
   ok : IsOk empty
 
-through : (s : HopState) (empty : Result (Unit {0}) Busy) → is_done (gate_answer s empty) ≡ true → IsThrough s empty
+through : (s : HopState) (empty : Result (Unit {0}) Busy) → is_done (gate_answer s empty) ≡ true
+    → IsThrough s empty
 through s (Ok nothing) =
     either (λ a. is_done a ≡ true → IsThrough s (Ok nothing)) (s.bare.inside == 0) says.Done
     (says.Busy (busy.Inside s.bare.inside))
-    (λ alone done. record { alone = eqb-true s.bare.inside 0 alone; ok = refl }) (λ some done. absurd (cc))
+    (λ alone done. record { alone = eqb-true s.bare.inside 0 alone; ok = refl })
+    (λ some done. absurd (cc))
 through s (Err why) =
     either (λ a. is_done a ≡ true → IsThrough s (Err why)) (s.bare.inside == 0) (says.Busy why)
     (says.Busy (busy.Inside s.bare.inside)) (λ alone done. absurd (cc)) (λ some done. absurd (cc))
 
-pub gate_passed : (s : HopState) (asked : ℕ → Bool) → is_done (gated s asked) ≡ true → Passed s asked
+pub gate_passed : (s : HopState) (asked : ℕ → Bool) → is_done (gated s asked) ≡ true
+    → Passed s asked
 gate_passed s asked done =
     let t = through s (emptied_of s asked) done in
     record { alone = t.alone; empty = λ c lt named. (emptied_is_exact s asked).0 t.ok c lt named }
@@ -52,7 +55,8 @@ not-refused (Some refused.CpuOffline) a e = absurd (cc)
 not-refused (Some refused.AlreadyOnline) a e = absurd (cc)
 
 -- with nobody inside no packet is between its choice and its put
-pub no_hands : (s : HopState) → Sound s → s.bare.inside ≡ 0 → (p : ℕ) → length (choices_of s p) ≤ placed_of s p
+pub no_hands : (s : HopState) → Sound s → s.bare.inside ≡ 0 → (p : ℕ)
+    → length (choices_of s p) ≤ placed_of s p
 no_hands s h alone p = let e = nobody_weighs s h alone p in omega (arith, e)
 
 -- a lane that is empty where there is one: beyond the lanes nothing was accepted

@@ -1,6 +1,6 @@
 -- What the commands keep that are done, but for those of a processor going offline or online.
-use Rattle.std.proofs.Common.{ℕ, ◌+◌, ◌≤◌, ◌<◌, ◌≡◌, ◌≢◌, Bool, true, false, List, [], ◌∷◌, ◌++◌, Option, None, length, refl}
-use Rattle.std.proofs.Common.{ap, ◌∙◌, sym, subst, arith, map, inl, inr}
+use Rattle.std.proofs.Common.{ℕ, ◌<◌, ◌≡◌, Bool, true, List, None, length, refl, ap, ◌∙◌, sym}
+use Rattle.std.proofs.Common.{arith, inr}
 use Rattle.std.specs.Prelude.{slice_index, slice_set}
 use Rattle.std.proofs.Math.ListN.{length-replicate, length-set}
 use Rattle.std.proofs.lemmas.Bool.{lt-ltb}
@@ -16,7 +16,7 @@ use Rattle.hop_core.specs.Settled.{SettledIn}
 use Rattle.hop_core.specs.Sound.{Sound}
 use Rattle.hop_core.proofs.Settled.{reset_settles}
 use Rattle.xps_map.specs.Maps.{Maps}
-use Rattle.steer_parts.specs.Commands.{affects, answer_to, by_gate, is_done, kept_filter, listed, set_by, with_settings}
+use Rattle.steer_parts.specs.Commands.{affects, answer_to, is_done, listed, set_by}
 use Rattle.steer_parts.specs.Machine.{Machine}
 use Rattle.steer_parts.specs.Settings.{Settings, changed, class_at, plain_lane}
 use Rattle.steer_parts.specs.Setup.{Setup, hash_of}
@@ -39,6 +39,7 @@ Kept-listed m c a k =
       given = k.given;
       rx = k.rx;
       tx = k.tx;
+      taken = k.taken;
       by = k.by;
       noted = k.noted;
       lists = k.lists;
@@ -51,28 +52,31 @@ Kept-listed m c a k =
 -- ---- masks
 
 -- packets without a class may be sent anywhere where all lanes are empty and no hand was weighed
-settled-anywhere : (s : HopState) (p : Setup) (old now : Settings) (asked : ℕ → Bool) → Sound s → Passed s asked
-    → ((c : ℕ) → c < length s.bare.accepted → asked c ≡ true) → now.counts ≡ old.counts
-    → SettledIn (class_at p old) (plain_lane p old) s → SettledIn (class_at p now) (plain_lane p now) s
+settled-anywhere : (s : HopState) (p : Setup) (old now : Settings) (asked : ℕ → Bool) → Sound s
+    → Passed s asked → ((c : ℕ) → c < length s.bare.accepted → asked c ≡ true)
+    → now.counts ≡ old.counts → SettledIn (class_at p old) (plain_lane p old) s
+    → SettledIn (class_at p now) (plain_lane p now) s
 settled-anywhere s p old now asked h passed all same g =
     reset_settles (class_at p old) (class_at p now) (plain_lane p old) (plain_lane p now) s h
     (record {
       hands = λ q lt. no_hands s h passed.alone q;
       classes = λ q i lt a b.
-          ap (λ (counts : List ℕ). class_of (slice_index counts q) (hash_of p (chosen_at (choices_of s q) i).id)) same;
+          ap (λ (counts : List ℕ). class_of (slice_index counts q)
+          (hash_of p (chosen_at (choices_of s q) i).id)) same;
       lanes = λ q x lt.
           inr (emptied_by s (plain_lane p old q x)
           (λ there. passed.empty (plain_lane p old q x) there (all (plain_lane p old q x) there)));
     }) g
 
-kept-mask : (m : Machine) (q : ℕ) (mask : CpuMask) → Passed m.rx (affects m.setup (give.Mask q mask)) → Kept m
-    → Kept (set_by m (give.Mask q mask))
+kept-mask : (m : Machine) (q : ℕ) (mask : CpuMask)
+    → Passed m.rx (affects m.setup (give.Mask q mask)) → Kept m → Kept (set_by m (give.Mask q mask))
 kept-mask m q mask passed k =
     let z = k.rx.sizes in let y = k.sizes in let b = k.by in let w = b.manned in
     record {
       given = k.given;
       rx = k.rx;
       tx = k.tx;
+      taken = k.taken;
       by = record {
         counts = b.counts;
         settled = settled-anywhere m.rx m.setup m.settings (changed m.settings (give.Mask q mask))
@@ -82,7 +86,13 @@ kept-mask m q mask passed k =
       };
       noted = k.noted;
       lists = k.lists;
-      sizes = record { masks = length-set m.settings.masks q mask ∙ y.masks; stands = y.stands; maps = y.maps; sock = y.sock };
+      sizes = record {
+        masks = length-set m.settings.masks q mask
+            ∙ y.masks;
+        stands = y.stands;
+        maps = y.maps;
+        sock = y.sock;
+      };
       routes = k.routes;
       came = k.came;
       replied = k.replied;
@@ -99,6 +109,7 @@ kept-maps m maps stands count long k =
       given = k.given;
       rx = k.rx;
       tx = k.tx;
+      taken = k.taken;
       by = record {
         counts = b.counts;
         settled = b.settled;
@@ -106,19 +117,27 @@ kept-maps m maps stands count long k =
       };
       noted = k.noted;
       lists = k.lists;
-      sizes = record { masks = y.masks; stands = long ∙ y.stands; maps = count ∙ y.maps; sock = y.sock };
+      sizes = record {
+        masks = y.masks;
+        stands = long ∙ y.stands;
+        maps = count
+            ∙ y.maps;
+        sock = y.sock;
+      };
       routes = k.routes;
       came = k.came;
       replied = k.replied;
     }
 
-kept-reta : (m : Machine) (place q : ℕ) → q < length m.setup.homes → Kept m → Kept (set_by m (give.Reta place q))
+kept-reta : (m : Machine) (place q : ℕ) → q < length m.setup.homes → Kept m
+    → Kept (set_by m (give.Reta place q))
 kept-reta m place q named k =
     let y = k.sizes in let b = k.by in let w = b.manned in let r = k.routes in let t = r.table in
     record {
       given = k.given;
       rx = k.rx;
       tx = k.tx;
+      taken = k.taken;
       by = record {
         counts = b.counts;
         settled = b.settled;
@@ -150,6 +169,7 @@ kept-sock m size k =
       given = k.given;
       rx = k.rx;
       tx = k.tx;
+      taken = k.taken;
       by = record {
         counts = b.counts;
         settled = b.settled;
@@ -175,6 +195,7 @@ kept-expire m k =
       given = k.given;
       rx = k.rx;
       tx = k.tx;
+      taken = k.taken;
       by = k.by;
       noted = k.noted;
       lists = k.lists;
@@ -191,20 +212,25 @@ kept-expire m k =
 
 -- ---- all but three
 
-pub kept_set : (m : Machine) (c : Command) → IsPlain c → IsCommandNamed m.setup c → is_done (answer_to m c) ≡ true
-    → Kept m → Kept (set_by m c)
+pub kept_set : (m : Machine) (c : Command) → IsPlain c → IsCommandNamed m.setup c
+    → is_done (answer_to m c) ≡ true → Kept m → Kept (set_by m c)
 kept_set m (give.Mask q mask) plain named done k =
     kept-mask m q mask (gate_passed m.rx (affects m.setup (give.Mask q mask)) done) k
 kept_set m (give.Sock size) plain named done k = kept-sock m size k
 kept_set m (give.XCpus tx mask) plain named done k =
-    kept-maps m (record m.settings.maps { cpus = slice_set m.settings.maps.cpus tx mask }) m.settings.stands refl refl k
+    kept-maps m
+    (record m.settings.maps { cpus = slice_set m.settings.maps.cpus tx mask }) m.settings.stands
+    refl refl k
 kept_set m (give.XQueues tx queues) plain named done k =
-    kept-maps m (record m.settings.maps { queues = slice_set m.settings.maps.queues tx queues }) m.settings.stands
+    kept-maps m
+    (record m.settings.maps { queues = slice_set m.settings.maps.queues tx queues })
+    m.settings.stands
     refl refl k
 kept_set m (give.Reta place q) plain named done k =
     kept-reta m place q (both-below place 128 q (length m.setup.homes) named).1 k
 kept_set m (give.Stand app cpu) plain named done k =
-    kept-maps m m.settings.maps (slice_set m.settings.stands app cpu) refl (length-set m.settings.stands app cpu) k
+    kept-maps m m.settings.maps (slice_set m.settings.stands app cpu) refl
+    (length-set m.settings.stands app cpu) k
 kept_set m give.Expire plain named done k = kept-expire m k
 kept_set m (give.Flows q count) plain named done k = absurd plain
 kept_set m (give.Offline cpu) plain named done k = absurd plain

@@ -1,6 +1,6 @@
 -- What a processor that goes offline or comes online keeps.
-use Rattle.std.proofs.Common.{ℕ, ◌+◌, ◌≤◌, ◌<◌, ◌≡◌, ◌≢◌, ◌⊎◌, Bool, true, false, cond, List, [], Option, Some, None, length, refl}
-use Rattle.std.proofs.Common.{ap, ◌∙◌, sym, subst, arith, inl, inr}
+use Rattle.std.proofs.Common.{ℕ, ◌≤◌, ◌<◌, ◌≡◌, ◌≢◌, ◌⊎◌, Bool, true, false, cond, List, Option}
+use Rattle.std.proofs.Common.{Some, None, length, refl, ap, ◌∙◌, sym, subst, arith, inl, inr}
 use Rattle.std.specs.Prelude.{◌==◌, ◌&&◌, ◌||◌, nat_lt, not, slice_index}
 use Rattle.std.specs.List.{list_any, position, position_or_len}
 use Rattle.std.proofs.lemmas.List.Folds.{list_any_at}
@@ -18,7 +18,7 @@ use Rattle.steer_base.specs.declared.command.User.{User}
 use Rattle.steer_base.specs.declared.command.User.TheVariants as user
 use Rattle.steer_base.specs.declared.cpu_mask.CpuMask.{CpuMask}
 use Rattle.steer_base.proofs.MasksLemmas.{has-with_cpu, has-without_cpu}
-use Rattle.hop_core.specs.Hop.{accepted_at, choices_of, chosen_at, placed_of, retired_at, since_of}
+use Rattle.hop_core.specs.Hop.{accepted_at, retired_at}
 use Rattle.hop_core.proofs.Settled.{reset_settles}
 use Rattle.steer_parts.specs.Commands.{affects, answer_to, by_gate, is_done, set_by}
 use Rattle.steer_parts.specs.Machine.{Machine}
@@ -32,43 +32,53 @@ use Rattle.steer_laws.proofs.KeptGates.{emptied_by, gate_passed, no_hands, not-r
 
 with-same : (mask : CpuMask) (cpu : ℕ) → cpu < 32 → has (with_cpu mask cpu) cpu ≡ true
 with-same mask cpu small =
-    let or-true : (b : Bool) → (b || true) ≡ true = λ b. elim (cases_Bool b) [ inl e ↦ rw e refl | inr e ↦ rw e refl ] in
+    let or-true : (b : Bool) → (b || true) ≡ true =
+    λ b. elim (cases_Bool b) [ inl e ↦ rw e refl | inr e ↦ rw e refl ] in
     has-with_cpu mask cpu cpu small
     ∙ ap (λ b. has mask cpu || (b && cpu == cpu)) (lt-ltb cpu 32 small)
     ∙ ap (λ b. has mask cpu || b) (eq-eqb cpu cpu refl) ∙ or-true (has mask cpu)
 
-with-other : (mask : CpuMask) (cpu c : ℕ) → cpu < 32 → c ≢ cpu → has (with_cpu mask cpu) c ≡ has mask c
+with-other : (mask : CpuMask) (cpu c : ℕ) → cpu < 32 → c ≢ cpu
+    → has (with_cpu mask cpu) c ≡ has mask c
 with-other mask cpu c small ne =
-    let and-false : (b : Bool) → (b && false) ≡ false = λ b. elim (cases_Bool b) [ inl e ↦ rw e refl | inr e ↦ rw e refl ] in
-    let or-false : (b : Bool) → (b || false) ≡ b = λ b. elim (cases_Bool b) [ inl e ↦ rw e refl | inr e ↦ rw e refl ] in
+    let and-false : (b : Bool) → (b && false) ≡ false =
+    λ b. elim (cases_Bool b) [ inl e ↦ rw e refl | inr e ↦ rw e refl ] in
+    let or-false : (b : Bool) → (b || false) ≡ b =
+    λ b. elim (cases_Bool b) [ inl e ↦ rw e refl | inr e ↦ rw e refl ] in
     has-with_cpu mask cpu c small
     ∙ ap (λ b. has mask c || (nat_lt c 32 && b)) (ne_eqb cpu c (λ e. ne (sym e)))
     ∙ ap (λ b. has mask c || b) (and-false (nat_lt c 32)) ∙ or-false (has mask c)
 
 without-same : (mask : CpuMask) (cpu : ℕ) → cpu < 32 → has (without_cpu mask cpu) cpu ≡ false
 without-same mask cpu small =
-    let and-false : (b : Bool) → (b && false) ≡ false = λ b. elim (cases_Bool b) [ inl e ↦ rw e refl | inr e ↦ rw e refl ] in
+    let and-false : (b : Bool) → (b && false) ≡ false =
+    λ b. elim (cases_Bool b) [ inl e ↦ rw e refl | inr e ↦ rw e refl ] in
     has-without_cpu mask cpu cpu small
     ∙ ap (λ b. has mask cpu && not b) (eq-eqb cpu cpu refl) ∙ and-false (has mask cpu)
 
-without-other : (mask : CpuMask) (cpu c : ℕ) → cpu < 32 → c ≢ cpu → has (without_cpu mask cpu) c ≡ has mask c
+without-other : (mask : CpuMask) (cpu c : ℕ) → cpu < 32 → c ≢ cpu
+    → has (without_cpu mask cpu) c ≡ has mask c
 without-other mask cpu c small ne =
-    let and-true : (b : Bool) → (b && true) ≡ b = λ b. elim (cases_Bool b) [ inl e ↦ rw e refl | inr e ↦ rw e refl ] in
+    let and-true : (b : Bool) → (b && true) ≡ b =
+    λ b. elim (cases_Bool b) [ inl e ↦ rw e refl | inr e ↦ rw e refl ] in
     has-without_cpu mask cpu c small
     ∙ ap (λ b. has mask c && not b) (ne_eqb cpu c (λ e. ne (sym e))) ∙ and-true (has mask c)
 
 -- ---- where packets without a class go
 
 -- the processor that a hash chooses is used as before, or it is the one that changed
-chosen-cases : (old new : CpuMask) (home cpu chosen : ℕ) → ((c : ℕ) → c ≢ cpu → has new c ≡ has old c)
-    → (online_or new chosen home ≡ online_or old chosen home) ⊎ (online_or old chosen home ≡ online_or old cpu home)
+chosen-cases : (old new : CpuMask) (home cpu chosen : ℕ)
+    → ((c : ℕ) → c ≢ cpu → has new c ≡ has old c)
+    → (online_or new chosen home ≡ online_or old chosen home)
+    ⊎ (online_or old chosen home ≡ online_or old cpu home)
 chosen-cases old new home cpu chosen same =
     elim (cases_eq chosen cpu) [
       | inl e ↦ inr (ap (λ c. online_or old c home) e)
       | inr ne ↦ inl (ap (λ b. cond b chosen home) (same chosen ne))
     ]
 
-filled-cases : (empty : Bool) (old new : CpuMask) (home cpu chosen : ℕ) → ((c : ℕ) → c ≢ cpu → has new c ≡ has old c)
+filled-cases : (empty : Bool) (old new : CpuMask) (home cpu chosen : ℕ)
+    → ((c : ℕ) → c ≢ cpu → has new c ≡ has old c)
     → (cond empty home (online_or new chosen home) ≡ cond empty home (online_or old chosen home))
     ⊎ (cond empty home (online_or old chosen home) ≡ online_or old cpu home)
 filled-cases true old new home cpu chosen same = inl refl
@@ -81,19 +91,22 @@ plain-cases : (mask : CpuMask) (hash : Option ℕ) (old new : CpuMask) (home cpu
     ⊎ (rps_choice_of mask hash old home ≡ online_or old cpu home)
 plain-cases mask None old new home cpu same = inl refl
 plain-cases mask (Some hash) old new home cpu same =
-    filled-cases (is_empty (those_below 32 (has mask))) old new home cpu (at_hash (those_below 32 (has mask)) hash) same
+    filled-cases (is_empty (those_below 32 (has mask))) old new home cpu
+    (at_hash (those_below 32 (has mask)) hash) same
 
 -- ---- what a refusal would have said
 
 no_user : (queue app : Option ℕ) → queue_or_app queue app ≡ None → queue ≡ None
 no_user None app e = refl
-no_user (Some q) app e = absurd (let f : queue_or_app (Some q) app ≡ Some (user.Queue q) = refl in cc)
+no_user (Some q) app e =
+    absurd (let f : queue_or_app (Some q) app ≡ Some (user.Queue q) = refl in cc)
 
 none_mapped : (who : Option User) → option_map (λ u. refused.CpuInUse u) who ≡ None → who ≡ None
 none_mapped None e = refl
 none_mapped (Some u) e = absurd (cc)
 
-position_found : (homes : List ℕ) (cpu q : ℕ) → q < length homes → (slice_index homes q == cpu) ≡ true
+position_found : (homes : List ℕ) (cpu q : ℕ) → q < length homes
+    → (slice_index homes q == cpu) ≡ true
     → (i : ℕ) × (position (λ home. home == cpu) homes ≡ Some i)
 position_found homes cpu q lt e =
     let n : ℕ = position_or_len (λ home. home == cpu) homes in
@@ -120,11 +133,14 @@ offline-fits online cpu homes stands e =
       | inl on ↦ (
           let f : used ≡ None = sym (ap (λ b. cond b used (Some refused.CpuOffline)) on) ∙ e in (
             on,
-            no_home homes cpu (no_user (position (λ home. home == cpu) homes) (position (λ stand. stand == cpu) stands)
+            no_home homes cpu
+                (no_user (position (λ home. home == cpu) homes)
+                (position (λ stand. stand == cpu) stands)
                 (none_mapped (user_of homes stands cpu) f)),
           ))
       | inr off ↦ absurd (
-          let f : Some refused.CpuOffline ≡ None = sym (ap (λ b. cond b used (Some refused.CpuOffline)) off) ∙ e in cc)
+          let f : Some refused.CpuOffline ≡ None =
+          sym (ap (λ b. cond b used (Some refused.CpuOffline)) off) ∙ e in cc)
     ]
 
 -- one that comes online was offline
@@ -133,23 +149,29 @@ online-fits : (online : CpuMask) (cpu : ℕ) (homes stands : List ℕ)
 online-fits online cpu homes stands e =
     elim (cases_Bool (has online cpu)) [
       | inl on ↦ absurd (
-          let f : Some refused.AlreadyOnline ≡ None = sym (ap (λ b. cond b (Some refused.AlreadyOnline) None) on) ∙ e in cc)
+          let f : Some refused.AlreadyOnline ≡ None =
+          sym (ap (λ b. cond b (Some refused.AlreadyOnline) None) on) ∙ e in cc)
       | inr off ↦ off
     ]
 
 -- the home of a queue is one of the homes
-home-named : (homes : List ℕ) (q : ℕ) → q < length homes → list_any (λ home. home == slice_index homes q) homes ≡ true
+home-named : (homes : List ℕ) (q : ℕ) → q < length homes
+    → list_any (λ home. home == slice_index homes q) homes ≡ true
 home-named homes q lt =
-    list_any_at (λ home. home == slice_index homes q) homes q 0 lt (eq-eqb (slice_index homes q) (slice_index homes q) refl)
+    list_any_at (λ home. home == slice_index homes q) homes q 0 lt
+    (eq-eqb (slice_index homes q) (slice_index homes q) refl)
 
 -- ---- both commands
 
 -- one processor changes: the lane where packets went that would move is empty
-kept-changed : (m : Machine) (online : CpuMask) (cpu : ℕ) → ((c : ℕ) → c ≢ cpu → has online c ≡ has m.settings.online c)
+kept-changed : (m : Machine) (online : CpuMask) (cpu : ℕ)
+    → ((c : ℕ) → c ≢ cpu → has online c ≡ has m.settings.online c)
     → Manned m.setup (record m.settings { online = online }) m.rx → m.rx.bare.inside ≡ 0
     → ((q : ℕ) → q < length m.setup.homes
-    → length (accepted_at m.rx.bare (online_or m.settings.online cpu (slice_index m.setup.homes q)))
-    ≤ retired_at m.rx.bare (online_or m.settings.online cpu (slice_index m.setup.homes q)))
+    → length
+    (accepted_at m.rx.bare
+    (online_or m.settings.online cpu (slice_index m.setup.homes q))) ≤ retired_at m.rx.bare
+    (online_or m.settings.online cpu (slice_index m.setup.homes q)))
     → Kept m → Kept (record m { settings = record m.settings { online = online } })
 kept-changed m online cpu same manned alone dry k =
     let z = k.rx.sizes in let y = k.sizes in let h = k.rx.sound in
@@ -158,20 +180,24 @@ kept-changed m online cpu same manned alone dry k =
       given = k.given;
       rx = k.rx;
       tx = k.tx;
+      taken = k.taken;
       by = record {
         counts = k.by.counts;
         settled =
-            reset_settles (class_at m.setup m.settings) (class_at m.setup now) (plain_lane m.setup m.settings)
+            reset_settles (class_at m.setup m.settings) (class_at m.setup now)
+            (plain_lane m.setup m.settings)
             (plain_lane m.setup now) m.rx h
             (record {
               hands = λ q lt. no_hands m.rx h alone q;
               classes = λ q i lt a b. refl;
               lanes = λ q x lt.
-                  elim (plain-cases (mask_of m.settings q) (hash_of m.setup x) m.settings.online online
+                  elim (plain-cases (mask_of m.settings q)
+                  (hash_of m.setup x) m.settings.online online
                   (slice_index m.setup.homes q) cpu same) [
                     | inl e ↦ inl e
                     | inr e ↦
-                        inr (subst (λ lane. length (accepted_at m.rx.bare lane) ≤ retired_at m.rx.bare lane) (sym e)
+                        inr (subst (λ lane. length
+                        (accepted_at m.rx.bare lane) ≤ retired_at m.rx.bare lane) (sym e)
                         (dry q (omega (arith, lt, z.queues))))
                   ];
             }) k.by.settled;
@@ -185,13 +211,14 @@ kept-changed m online cpu same manned alone dry k =
       replied = k.replied;
     }
 
-pub kept_offline : (m : Machine) (cpu : ℕ) → cpu < m.setup.cpus → is_done (answer_to m (give.Offline cpu)) ≡ true
-    → Kept m → Kept (set_by m (give.Offline cpu))
+pub kept_offline : (m : Machine) (cpu : ℕ) → cpu < m.setup.cpus
+    → is_done (answer_to m (give.Offline cpu)) ≡ true → Kept m → Kept (set_by m (give.Offline cpu))
 kept_offline m cpu named done k =
     let few = k.given.few_cpus in let w = k.by.manned in
     let c : Command = give.Offline cpu in
     let small : cpu < 32 = omega (arith, named, few) in
-    let free = not-refused (refusal m.settings.online c m.setup.homes m.settings.stands) (by_gate m c) done in
+    let free =
+    not-refused (refusal m.settings.online c m.setup.homes m.settings.stands) (by_gate m c) done in
     let fits = offline-fits m.settings.online cpu m.setup.homes m.settings.stands free.0 in
     let passed = gate_passed m.rx (affects m.setup c) free.1 in
     let online : CpuMask = without_cpu m.settings.online cpu in
@@ -204,27 +231,31 @@ kept_offline m cpu named done k =
     (record {
       homes = λ q lt. other (slice_index m.setup.homes q) (fits.1 q lt) ∙ w.homes q lt;
       within = λ d on. elim (cases_eq d cpu) [
-        | inl e ↦ absurd (let f : has online cpu ≡ true = ap (has online) (sym e) ∙ on in let g : true ≡ false = sym f ∙ gone in cc)
+        | inl e ↦ absurd (let f : has online cpu ≡ true = ap (has online) (sym e) ∙ on in
+            let g : true ≡ false = sym f ∙ gone in cc)
         | inr ne ↦ w.within d (sym (other d ne) ∙ on)
       ];
       empty = λ d lt off. elim (cases_eq d cpu) [
         | inl e ↦ passed.empty d lt (eq-eqb d cpu e)
         | inr ne ↦ w.empty d lt (sym (other d ne) ∙ off)
       ];
-      hand = λ q lt. absurd (let o = no_hands m.rx k.rx.sound passed.alone q in omega (arith, lt, o));
+      hand = λ q lt. absurd (let o = no_hands m.rx k.rx.sound passed.alone q in
+          omega (arith, lt, o));
     }) passed.alone
     (λ q lt.
     subst (λ lane. length (accepted_at m.rx.bare lane) ≤ retired_at m.rx.bare lane)
     (sym (ap (λ b. cond b cpu (slice_index m.setup.homes q)) fits.0)) here) k
 
-pub kept_online : (m : Machine) (cpu : ℕ) → cpu < m.setup.cpus → is_done (answer_to m (give.Online cpu)) ≡ true
-    → Kept m → Kept (set_by m (give.Online cpu))
+pub kept_online : (m : Machine) (cpu : ℕ) → cpu < m.setup.cpus
+    → is_done (answer_to m (give.Online cpu)) ≡ true → Kept m → Kept (set_by m (give.Online cpu))
 kept_online m cpu named done k =
     let few = k.given.few_cpus in let w = k.by.manned in
     let c : Command = give.Online cpu in
     let small : cpu < 32 = omega (arith, named, few) in
-    let free = not-refused (refusal m.settings.online c m.setup.homes m.settings.stands) (by_gate m c) done in
-    let off : has m.settings.online cpu ≡ false = online-fits m.settings.online cpu m.setup.homes m.settings.stands free.0 in
+    let free =
+    not-refused (refusal m.settings.online c m.setup.homes m.settings.stands) (by_gate m c) done in
+    let off : has m.settings.online cpu ≡ false =
+    online-fits m.settings.online cpu m.setup.homes m.settings.stands free.0 in
     let passed = gate_passed m.rx (affects m.setup c) free.1 in
     let online : CpuMask = with_cpu m.settings.online cpu in
     let there : has online cpu ≡ true = with-same m.settings.online cpu small in
@@ -241,10 +272,12 @@ kept_online m cpu named done k =
         | inr ne ↦ w.within d (sym (other d ne) ∙ on)
       ];
       empty = λ d lt gone. elim (cases_eq d cpu) [
-        | inl e ↦ absurd (let f : has online cpu ≡ false = ap (has online) (sym e) ∙ gone in let g : true ≡ false = sym there ∙ f in cc)
+        | inl e ↦ absurd (let f : has online cpu ≡ false = ap (has online) (sym e) ∙ gone in
+            let g : true ≡ false = sym there ∙ f in cc)
         | inr ne ↦ w.empty d lt (sym (other d ne) ∙ gone)
       ];
-      hand = λ q lt. absurd (let o = no_hands m.rx k.rx.sound passed.alone q in omega (arith, lt, o));
+      hand = λ q lt. absurd (let o = no_hands m.rx k.rx.sound passed.alone q in
+          omega (arith, lt, o));
     }) passed.alone
     (λ q lt.
     subst (λ lane. length (accepted_at m.rx.bare lane) ≤ retired_at m.rx.bare lane)

@@ -1,9 +1,9 @@
 -- What the steps of the pollers and of the processors keep, but for weighing and putting.
-use Rattle.std.proofs.Common.{ℕ, ◌+◌, ◌≤◌, ◌<◌, ◌≡◌, ◌≢◌, true, false, List, [], ◌∷◌, ◌++◌, Option, Some, None}
-use Rattle.std.proofs.Common.{length, refl, ap, ◌∙◌, sym, subst, arith, inl, inr, get_or, map}
-use Rattle.std.specs.Prelude.{nat_lt, slice_index, slice_index_or, slice_set}
+use Rattle.std.proofs.Common.{ℕ, ◌+◌, ◌<◌, ◌≡◌, true, false, List, [], ◌∷◌, ◌++◌, Option, Some}
+use Rattle.std.proofs.Common.{None, length, refl, ap, ◌∙◌, sym, subst, arith, inl, inr, get_or, map}
+use Rattle.std.specs.Prelude.{nat_lt}
 use Rattle.std.proofs.Math.ListN.{length-set}
-use Rattle.std.proofs.lemmas.Bool.{cases_Bool, cases_eq, lt-ltb, ltb-true}
+use Rattle.std.proofs.lemmas.Bool.{cases_Bool, cases_eq, ltb-true}
 use Rattle.std.proofs.lemmas.List.{get_or_default}
 use Rattle.std.proofs.lemmas.Nat.{mod_below}
 use Rattle.steer_base.specs.Apps.{app_of}
@@ -11,9 +11,10 @@ use Rattle.steer_base.specs.Orders.{IsPrefix}
 use Rattle.steer_base.specs.declared.filter.Filter.{Filter}
 use Rattle.hop_core.specs.declared.event.HopEvent.{HopEvent}
 use Rattle.hop_core.specs.declared.event.HopEvent.TheVariants as event
-use Rattle.hop_core.specs.Events.{IsEmptied, MayAsk, happens}
-use Rattle.hop_core.specs.Hop.{HopState, accepted_at, arrivals_of, choices_of, deliver_at, delivered_at, next_out}
-use Rattle.hop_core.specs.Hop.{out_at, placed_of, pulled_at, retire_at, retired_at, taken_of, took, with_bare}
+use Rattle.hop_core.specs.Events.{MayAsk, happens}
+use Rattle.hop_core.specs.Hop.{HopState, accepted_at, arrivals_of, choices_of, deliver_at}
+use Rattle.hop_core.specs.Hop.{delivered_at, next_out, out_at, retire_at, retired_at, taken_of}
+use Rattle.hop_core.specs.Hop.{took, with_bare}
 use Rattle.hop_core.specs.Leaves.{Field, changes}
 use Rattle.hop_core.specs.Reads.{to_weigh}
 use Rattle.hop_core.specs.Settled.{IsBySettings}
@@ -25,7 +26,6 @@ use Rattle.history.specs.declared.arrival.Arrival.{Arrival}
 use Rattle.history.specs.declared.sent.Sent.{Sent}
 use Rattle.steer_parts.specs.Machine.{Machine, note_of}
 use Rattle.steer_parts.specs.Notes.{is_asking}
-use Rattle.steer_parts.specs.Outcomes.{by_rx}
 use Rattle.steer_parts.specs.Pollers.{noted}
 use Rattle.steer_parts.specs.Settings.{Settings, class_at, plain_lane}
 use Rattle.steer_parts.specs.Setup.{Setup, app_for, hash_of}
@@ -34,7 +34,8 @@ use Rattle.steer_parts.specs.declared.note.Note.TheVariants as note
 use Rattle.steer_laws.specs.Kept.{Kept}
 use Rattle.steer_laws.specs.KeptHops.{AreNoted, IsNoted, Manned}
 use Rattle.steer_laws.specs.KeptLists.{Came, Replied}
-use Rattle.steer_laws.proofs.KeptFrames.{by-happens, came-leaves, manned-leaves, noted-leaves, replied-inbox, rx-happens}
+use Rattle.steer_laws.proofs.KeptFrames.{by-happens, came-leaves, manned-leaves, noted-leaves}
+use Rattle.steer_laws.proofs.KeptFrames.{replied-inbox, rx-happens}
 use Rattle.steer_laws.proofs.PrefixLemmas.{prefix-more}
 
 -- ---- an event of the receive hop
@@ -52,6 +53,7 @@ Kept-rx m e arrivals may still counts allowed manned noted came replied k =
       given = k.given;
       rx = rx-happens m.setup m.rx e may still k.rx;
       tx = k.tx;
+      taken = k.taken;
       by = by-happens m.setup m.settings m.rx e may counts k.rx allowed manned k.by;
       noted = noted;
       lists = k.lists;
@@ -80,42 +82,49 @@ Kept-inner m e t inner may allowed manned noted is k =
 
 -- ---- take, enter, leave, pull
 
-note-took : (s : HopState) (q r : ℕ) (n : Note) → q < length s.taken → (r ≡ q → is_asking n ≡ false) → IsNoted s r n
-    → IsNoted (took s q) r n
+note-took : (s : HopState) (q r : ℕ) (n : Note) → q < length s.taken → (r ≡ q → is_asking n ≡ false)
+    → IsNoted s r n → IsNoted (took s q) r n
 note-took s q r note.Nothing in' other h = tt
 note-took s q r (note.Looked want) in' other h =
     let ch = Changed-set s.taken q (taken_of s q + 1) 0 in' in
     elim (cases_eq r q) [
       | inl e ↦ (
           let old : taken_of s r ≡ taken_of s q = ap (taken_of s) e in
-          let f : taken_of (took s q) r ≡ taken_of s q + 1 = rw e ch.here in omega (arith, h, f, old))
-      | inr ne ↦ (let f : taken_of (took s q) r ≡ taken_of s r = ch.there r ne in omega (arith, h, f))
+          let f : taken_of (took s q) r ≡ taken_of s q + 1 = rw e ch.here in
+          omega (arith, h, f, old))
+      | inr ne ↦ (let f : taken_of (took s q) r ≡ taken_of s r = ch.there r ne in
+          omega (arith, h, f))
     ]
 note-took s q r (note.Asking filter) in' other h =
     let ch = Changed-set s.taken q (taken_of s q + 1) 0 in' in
     elim (cases_eq r q) [
       | inl e ↦ absurd (let f : true ≡ false = other e in cc)
-      | inr ne ↦ (let f : taken_of (took s q) r ≡ taken_of s r = ch.there r ne in omega (arith, h, f))
+      | inr ne ↦ (let f : taken_of (took s q) r ≡ taken_of s r = ch.there r ne in
+          omega (arith, h, f))
     ]
 
-pub kept_take : (m : Machine) (q : ℕ) (t : HopState) → q < length m.setup.homes → is_asking (note_of m q) ≡ false
-    → t ≡ (happens m.rx (event.Take q)).0 → Kept m → Kept (record m { rx = t })
+pub kept_take : (m : Machine) (q : ℕ) (t : HopState) → q < length m.setup.homes
+    → is_asking (note_of m q) ≡ false → t ≡ (happens m.rx (event.Take q)).0 → Kept m
+    → Kept (record m { rx = t })
 kept_take m q t named quiet is k =
     let z = k.rx.sizes in let w = k.rx.sound.wide in
     let long : q < length m.rx.taken = omega (arith, named, z.queues, w.taken) in
-    Kept-inner m (event.Take q) t (record { closed = refl; counts = refl; arrivals = refl; outs = refl })
+    Kept-inner m (event.Take q) t
+    (record { closed = refl; counts = refl; arrivals = refl; outs = refl })
     (omega (arith, named, z.queues)) tt
     (manned-leaves m.setup m.settings m.rx (event.Take q) refl refl refl refl k.by.manned)
     (by_cases (AreNoted m.notes) m.rx (event.Take q) k.noted
-    (λ free more r. note-took m.rx q r (note_of m r) long (λ e. ap (λ i. is_asking (note_of m i)) e ∙ quiet) (k.noted r)))
+    (λ free more r.
+    note-took m.rx q r (note_of m r) long (λ e. ap (λ i. is_asking (note_of m i)) e ∙ quiet)
+    (k.noted r)))
     is k
 
 -- an event that touches neither hands nor lanes
 kept-beside : (m : Machine) (e : HopEvent) (t : HopState) → IsInner e → MayAsk m.rx e
     → IsBySettings (class_at m.setup m.settings) (plain_lane m.setup m.settings) m.rx e
-    → changes e Field.accepted ≡ false → changes e Field.retired ≡ false → changes e Field.choices ≡ false
-    → changes e Field.placed ≡ false → changes e Field.taken ≡ false
-    → t ≡ (happens m.rx e).0 → Kept m → Kept (record m { rx = t })
+    → changes e Field.accepted ≡ false → changes e Field.retired ≡ false
+    → changes e Field.choices ≡ false → changes e Field.placed ≡ false
+    → changes e Field.taken ≡ false → t ≡ (happens m.rx e).0 → Kept m → Kept (record m { rx = t })
 kept-beside m e t inner may allowed a r c d u is k =
     Kept-inner m e t inner may allowed (manned-leaves m.setup m.settings m.rx e a r c d k.by.manned)
     (noted-leaves m.notes m.rx e c u d k.noted) is k
@@ -124,55 +133,65 @@ kept-beside m e t inner may allowed a r c d u is k =
 pub kept_visit-in : (m : Machine) (a : ℕ) (t : HopState) → a < length m.rx.visits
     → t ≡ (happens m.rx (event.Enter a)).0 → Kept m → Kept (record m { rx = t })
 kept_visit-in m a t named is k =
-    kept-beside m (event.Enter a) t (record { closed = refl; counts = refl; arrivals = refl; outs = refl })
+    kept-beside m (event.Enter a) t
+    (record { closed = refl; counts = refl; arrivals = refl; outs = refl })
     named tt refl refl refl refl refl is k
 
 pub kept_visit-out : (m : Machine) (a : ℕ) (t : HopState) → a < length m.rx.visits
     → t ≡ (happens m.rx (event.Leave a)).0 → Kept m → Kept (record m { rx = t })
 kept_visit-out m a t named is k =
-    kept-beside m (event.Leave a) t (record { closed = refl; counts = refl; arrivals = refl; outs = refl })
+    kept-beside m (event.Leave a) t
+    (record { closed = refl; counts = refl; arrivals = refl; outs = refl })
     named tt refl refl refl refl refl is k
 
 pub kept_enter : (m : Machine) (q : ℕ) (t : HopState) → q < length m.setup.homes
     → t ≡ (happens m.rx (event.Enter q)).0 → Kept m → Kept (record m { rx = t })
-kept_enter m q t named is k = let z = k.rx.sizes in kept_visit-in m q t (omega (arith, named, z.visits)) is k
+kept_enter m q t named is k =
+    let z = k.rx.sizes in kept_visit-in m q t (omega (arith, named, z.visits)) is k
 
 pub kept_leave : (m : Machine) (q : ℕ) (t : HopState) → q < length m.setup.homes
     → t ≡ (happens m.rx (event.Leave q)).0 → Kept m → Kept (record m { rx = t })
-kept_leave m q t named is k = let z = k.rx.sizes in kept_visit-out m q t (omega (arith, named, z.visits)) is k
+kept_leave m q t named is k =
+    let z = k.rx.sizes in kept_visit-out m q t (omega (arith, named, z.visits)) is k
 
-pub kept_pull : (m : Machine) (c : ℕ) (t : HopState) → c < m.setup.cpus → t ≡ (happens m.rx (event.Pull c)).0
-    → Kept m → Kept (record m { rx = t })
+pub kept_pull : (m : Machine) (c : ℕ) (t : HopState) → c < m.setup.cpus
+    → t ≡ (happens m.rx (event.Pull c)).0 → Kept m → Kept (record m { rx = t })
 kept_pull m c t named is k =
     let z = k.rx.sizes in
-    kept-beside m (event.Pull c) t (record { closed = refl; counts = refl; arrivals = refl; outs = refl })
+    kept-beside m (event.Pull c) t
+    (record { closed = refl; counts = refl; arrivals = refl; outs = refl })
     (omega (arith, named, z.cpus)) tt refl refl refl refl refl is k
 
 -- ---- retire
 
-manned-retired : (p : Setup) (now : Settings) (s : HopState) (c : ℕ) → c < length s.bare.accepted → Sound s
-    → retired_at s.bare c < delivered_at s.bare c → Manned p now s → Manned p now (with_bare s (retire_at s.bare c))
+manned-retired : (p : Setup) (now : Settings) (s : HopState) (c : ℕ) → c < length s.bare.accepted
+    → Sound s → retired_at s.bare c < delivered_at s.bare c → Manned p now s
+    → Manned p now (with_bare s (retire_at s.bare c))
 manned-retired p now s c in' h more k =
     let w = h.wide in
-    let ch = Changed-set s.bare.retired c (retired_at s.bare c + 1) 0 (omega (arith, in', w.retired)) in
+    let ch =
+    Changed-set s.bare.retired c (retired_at s.bare c + 1) 0 (omega (arith, in', w.retired)) in
     record {
       homes = k.homes;
       within = k.within;
       empty = λ d lt off. elim (cases_eq d c) [
         | inl e ↦ absurd (
-            let f : retired_at s.bare c ≡ length (accepted_at s.bare c) = rw e at (k.empty d lt off) in
-            let a = h.counts.delivered_first c in let b = h.counts.pulled_first c in omega (arith, f, a, b, more))
+            let f : retired_at s.bare c ≡ length (accepted_at s.bare c) =
+            rw e at (k.empty d lt off) in
+            let a = h.counts.delivered_first c in let b = h.counts.pulled_first c in
+            omega (arith, f, a, b, more))
         | inr ne ↦ rw (ch.there d ne) (k.empty d lt off)
       ];
       hand = k.hand;
     }
 
-pub kept_retire : (m : Machine) (c : ℕ) (t : HopState) → c < m.setup.cpus → t ≡ (happens m.rx (event.Retire c)).0
-    → Kept m → Kept (record m { rx = t })
+pub kept_retire : (m : Machine) (c : ℕ) (t : HopState) → c < m.setup.cpus
+    → t ≡ (happens m.rx (event.Retire c)).0 → Kept m → Kept (record m { rx = t })
 kept_retire m c t named is k =
     let z = k.rx.sizes in
     let in' : c < length m.rx.bare.accepted = omega (arith, named, z.cpus) in
-    Kept-inner m (event.Retire c) t (record { closed = refl; counts = refl; arrivals = refl; outs = refl }) in' tt
+    Kept-inner m (event.Retire c) t
+    (record { closed = refl; counts = refl; arrivals = refl; outs = refl }) in' tt
     (by_cases (Manned m.setup m.settings) m.rx (event.Retire c) k.by.manned
     (λ more. manned-retired m.setup m.settings m.rx c in' k.rx.sound more k.by.manned))
     (noted-leaves m.notes m.rx (event.Retire c) refl refl refl k.noted) is k
@@ -190,13 +209,14 @@ may_deliver m c x named k =
     let below = app_below (hash_of m.setup x) m.setup.apps some in
     record { lane = omega (arith, named, z.cpus); out = omega (arith, below, z.apps) }
 
-replied-pushed : (sent : ℕ → List Sent) (old new begun : ℕ → List ℕ) (o x : ℕ) → Changed old new o (old o ++ x ∷ [])
-    → Replied sent old begun → Replied sent new begun
+replied-pushed : (sent : ℕ → List Sent) (old new begun : ℕ → List ℕ) (o x : ℕ)
+    → Changed old new o (old o ++ x ∷ []) → Replied sent old begun → Replied sent new begun
 replied-pushed sent old new begun o x ch k =
     record {
       first = λ a. elim (cases_eq a o) [
         | inl e ↦ (
-            let here : new a ≡ old a ++ x ∷ [] = ap new e ∙ ch.here ∙ ap (λ b. old b ++ x ∷ []) (sym e) in
+            let here : new a ≡ old a ++ x ∷ [] =
+            ap new e ∙ ch.here ∙ ap (λ b. old b ++ x ∷ []) (sym e) in
             subst (IsPrefix (map (λ s. s.id) (sent a))) (sym here)
             (prefix-more (map (λ s. s.id) (sent a)) (old a) (x ∷ []) (k.first a)))
         | inr ne ↦ subst (IsPrefix (map (λ s. s.id) (sent a))) (sym (ch.there a ne)) (k.first a)
@@ -204,8 +224,9 @@ replied-pushed sent old new begun o x ch k =
       came = k.came;
     }
 
-replied-delivered : (sent : ℕ → List Sent) (begun : ℕ → List ℕ) (s : HopState) (c o : ℕ) → o < length s.bare.outs
-    → Replied sent (out_at s.bare) begun → Replied sent (out_at (with_bare s (deliver_at s.bare c o)).bare) begun
+replied-delivered : (sent : ℕ → List Sent) (begun : ℕ → List ℕ) (s : HopState) (c o : ℕ)
+    → o < length s.bare.outs → Replied sent (out_at s.bare) begun
+    → Replied sent (out_at (with_bare s (deliver_at s.bare c o)).bare) begun
 replied-delivered sent begun s c o in' k =
     let ch = Changed-set s.bare.outs o (out_at s.bare o ++ next_out s.bare c ∷ []) [] in' in
     replied-pushed sent (out_at s.bare) _ begun o (next_out s.bare c) ch k
@@ -220,10 +241,12 @@ kept-delivered m c x named k =
     (noted-leaves m.notes m.rx e refl refl refl k.noted)
     (came-leaves m.setup.packets m.arrivals m.rx e refl k.came)
     (by_cases (λ s. Replied (list_at m.sent) (out_at s.bare) (arrivals_of m.tx)) m.rx e k.replied
-    (λ more. replied-delivered (list_at m.sent) (arrivals_of m.tx) m.rx c (app_for m.setup x) may.out k.replied)) k
+    (λ more. replied-delivered (list_at m.sent) (arrivals_of m.tx) m.rx c
+    (app_for m.setup x) may.out k.replied)) k
 
 pub kept_deliver : (m : Machine) (c x : ℕ) (e : HopEvent) (t : HopState) → c < m.setup.cpus
-    → e ≡ event.Deliver c (app_for m.setup x) → t ≡ (happens m.rx e).0 → Kept m → Kept (record m { rx = t })
+    → e ≡ event.Deliver c (app_for m.setup x) → t ≡ (happens m.rx e).0 → Kept m
+    → Kept (record m { rx = t })
 kept_deliver m c x e t named which is k =
     let then' : t ≡ (happens m.rx (event.Deliver c (app_for m.setup x))).0 =
     is ∙ ap (λ (e : HopEvent). (happens m.rx e).0) which in
@@ -233,7 +256,8 @@ kept_deliver m c x e t named which is k =
 
 -- another note of a poller, where a filter that it asks for names a queue that there is
 pub Kept-noted : (m : Machine) (q : ℕ) (n : Note) → q < length m.setup.homes → IsNoted m.rx q n
-    → ((filter : Filter) → n ≡ note.Asking filter → filter.queue < length m.setup.homes) → Kept m → Kept (noted m q n)
+    → ((filter : Filter) → n ≡ note.Asking filter → filter.queue < length m.setup.homes) → Kept m
+    → Kept (noted m q n)
 Kept-noted m q n named here below k =
     let l = k.lists in
     let ch = Changed-set m.notes q n note.Nothing (omega (arith, named, l.notes_long)) in
@@ -241,10 +265,12 @@ Kept-noted m q n named here below k =
       given = k.given;
       rx = k.rx;
       tx = k.tx;
+      taken = k.taken;
       by = k.by;
       noted = λ r. elim (cases_eq r q) [
         | inl e ↦ (let f : note_of (noted m q n) r ≡ n = rw e ch.here in rw (f, e) here)
-        | inr ne ↦ (let f : note_of (noted m q n) r ≡ note_of m r = ch.there r ne in rw f (k.noted r))
+        | inr ne ↦ (let f : note_of (noted m q n) r ≡ note_of m r = ch.there r ne in
+            rw f (k.noted r))
       ];
       lists = record {
         notes_long = length-set m.notes q n ∙ l.notes_long;
@@ -257,8 +283,10 @@ Kept-noted m q n named here below k =
         queues = k.routes.queues;
         set = k.routes.set;
         asked = λ r filter is. elim (cases_eq r q) [
-          | inl e ↦ (let f : note_of (noted m q n) r ≡ n = rw e ch.here in below filter (sym f ∙ is))
-          | inr ne ↦ (let f : note_of (noted m q n) r ≡ note_of m r = ch.there r ne in k.routes.asked r filter (sym f ∙ is))
+          | inl e ↦ (let f : note_of (noted m q n) r ≡ n = rw e ch.here in
+              below filter (sym f ∙ is))
+          | inr ne ↦ (let f : note_of (noted m q n) r ≡ note_of m r = ch.there r ne in
+              k.routes.asked r filter (sym f ∙ is))
         ];
       };
       came = k.came;
@@ -266,19 +294,22 @@ Kept-noted m q n named here below k =
     }
 
 -- a note that was read is that of its poller
-pub read-note : (m : Machine) (q : ℕ) (n : Note) → q < length m.setup.homes → Kept m → n ≡ get_or m.notes q n
-    → n ≡ note_of m q
+pub read-note : (m : Machine) (q : ℕ) (n : Note) → q < length m.setup.homes → Kept m
+    → n ≡ get_or m.notes q n → n ≡ note_of m q
 read-note m q n named k is =
-    is ∙ get_or_default m.notes q n note.Nothing (let l = k.lists in omega (arith, named, l.notes_long))
+    let l = k.lists in
+    is ∙ get_or_default m.notes q n note.Nothing (omega (arith, named, l.notes_long))
 
-pub weighs_next : (s : HopState) (q x : ℕ) → to_weigh s q ≡ Some x → length (choices_of s q) < taken_of s q
+pub weighs_next : (s : HopState) (q x : ℕ) → to_weigh s q ≡ Some x
+    → length (choices_of s q) < taken_of s q
 weighs_next s q x some =
     elim (cases_Bool (nat_lt (length (choices_of s q)) (taken_of s q))) [
       | inl e ↦ ltb-true _ _ e
-      | inr e ↦ absurd (let f : to_weigh s q ≡ None = rw e refl in let g : None ≡ Some x = sym f ∙ some in cc)
+      | inr e ↦ absurd (let f : to_weigh s q ≡ None = rw e refl in
+          let g : None ≡ Some x = sym f ∙ some in cc)
     ]
 
-pub kept_look : (m : Machine) (q x : ℕ) (want : Option ℕ) → q < length m.setup.homes → to_weigh m.rx q ≡ Some x
-    → Kept m → Kept (noted m q (note.Looked want))
+pub kept_look : (m : Machine) (q x : ℕ) (want : Option ℕ) → q < length m.setup.homes
+    → to_weigh m.rx q ≡ Some x → Kept m → Kept (noted m q (note.Looked want))
 kept_look m q x want named some k =
     Kept-noted m q (note.Looked want) named (weighs_next m.rx q x some) (λ filter e. absurd (cc)) k

@@ -1,5 +1,6 @@
 -- What a write of an application to the socket flow table keeps.
-use Rattle.std.proofs.Common.{ℕ, ◌+◌, ◌<◌, ◌≡◌, List, Option, Some, None, length, refl, ◌∙◌, sym, arith}
+use Rattle.std.proofs.Common.{ℕ, ◌+◌, ◌<◌, ◌≡◌, List, Option, Some, None, length, refl, ◌∙◌, sym}
+use Rattle.std.proofs.Common.{arith}
 use Rattle.std.specs.Prelude.{slice_set}
 use Rattle.std.proofs.Math.ListN.{length-set}
 use Rattle.steer_base.specs.HashTables.{place_in_rows, with_row}
@@ -7,24 +8,25 @@ use Rattle.hop_core.specs.declared.event.HopEvent.TheVariants as event
 use Rattle.hop_core.specs.Events.{happens}
 use Rattle.hop_core.specs.Hop.{HopState}
 use Rattle.history.specs.declared.sock_write.SockWrite.{SockWrite}
-use Rattle.steer_parts.specs.Applications.{visited}
 use Rattle.steer_parts.specs.Machine.{Machine}
-use Rattle.steer_parts.specs.Outcomes.{by_rx}
 use Rattle.steer_laws.specs.Kept.{Kept}
 use Rattle.steer_laws.proofs.KeptPollers.{kept_visit-in, kept_visit-out}
 
 -- an application is an actor of the receive gate
-pub guest_below : (m : Machine) (a : ℕ) → a < m.setup.apps → Kept m → length m.setup.homes + a < length m.rx.visits
+pub guest_below : (m : Machine) (a : ℕ) → a < m.setup.apps → Kept m
+    → length m.setup.homes + a < length m.rx.visits
 guest_below m a named k = let z = k.rx.sizes in omega (arith, named, z.visits)
 
 -- it goes in and out
 pub kept_visited : (m : Machine) (a : ℕ) (t u : HopState) → a < m.setup.apps
     → t ≡ (happens m.rx (event.Enter (length m.setup.homes + a))).0
-    → u ≡ (happens t (event.Leave (length m.setup.homes + a))).0 → Kept m → Kept (record m { rx = u })
+    → u ≡ (happens t (event.Leave (length m.setup.homes + a))).0 → Kept m
+    → Kept (record m { rx = u })
 kept_visited m a t u named is then' k =
     let g : ℕ = length m.setup.homes + a in
     let first : Kept (record m { rx = t }) = kept_visit-in m g t (guest_below m a named k) is k in
-    kept_visit-out (record m { rx = t }) g u (guest_below (record m { rx = t }) a named first) then' first
+    kept_visit-out (record m { rx = t }) g u
+    (guest_below (record m { rx = t }) a named first) then' first
 
 row-long : (entries : List (Option ℕ)) (place : Option ℕ) (cpu : ℕ)
     → length (with_row entries place (Some cpu)) ≡ length entries
@@ -46,6 +48,7 @@ kept_wrote m socket a writes same k =
       given = k.given;
       rx = k.rx;
       tx = k.tx;
+      taken = k.taken;
       by = k.by;
       noted = k.noted;
       lists = record {
@@ -53,7 +56,13 @@ kept_wrote m socket a writes same k =
         sent_long = l.sent_long;
         writes_long = length-set m.writes a writes ∙ l.writes_long;
       };
-      sizes = record { masks = z.masks; stands = z.stands; maps = z.maps; sock = z.sock ∙ sym same };
+      sizes = record {
+        masks = z.masks;
+        stands = z.stands;
+        maps = z.maps;
+        sock = z.sock
+            ∙ sym same;
+      };
       routes = k.routes;
       came = k.came;
       replied = k.replied;

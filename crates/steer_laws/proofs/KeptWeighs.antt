@@ -1,6 +1,6 @@
 -- What a poller may weigh its packet with, and what its choice keeps.
-use Rattle.std.proofs.Common.{ℕ, ◌<◌, ◌≡◌, Bool, true, List, [], ◌∷◌, ◌++◌, Option, Some, None, length, refl, ap, subst}
-use Rattle.std.proofs.Common.{◌∙◌, sym, arith, inl, inr}
+use Rattle.std.proofs.Common.{ℕ, ◌<◌, ◌≡◌, Bool, true, List, [], ◌∷◌, ◌++◌, Option, Some, None}
+use Rattle.std.proofs.Common.{length, refl, ap, subst, ◌∙◌, arith, inl, inr}
 use Rattle.std.specs.Prelude.{nat_lt, slice_index}
 use Rattle.std.proofs.lemmas.Bool.{cases_Bool, cases_eq, ltb-true}
 use Rattle.std.proofs.lemmas.Nat.{mod_below}
@@ -13,8 +13,8 @@ use Rattle.steer_base.specs.declared.choice.Entry.{Entry}
 use Rattle.steer_base.specs.declared.cpu_mask.CpuMask.{CpuMask}
 use Rattle.steer_base.proofs.RuleLemmas.{by_entry-online}
 use Rattle.hop_core.specs.declared.event.HopEvent.{HopEvent}
-use Rattle.hop_core.specs.Hop.{HopState, accepted_at, choice_of, choices_of, chose, head_at, in_hand, next_of, nobody}
-use Rattle.hop_core.specs.Hop.{placed_of, recent, taken_of}
+use Rattle.hop_core.specs.Hop.{HopState, accepted_at, choice_of, choices_of, chose, head_at}
+use Rattle.hop_core.specs.Hop.{in_hand, next_of, nobody, placed_of, recent, taken_of}
 use Rattle.hop_core.specs.Events.{IsClassBelow, MayAsk, happens}
 use Rattle.hop_core.specs.Sound.{Sound}
 use Rattle.hop_core.proofs.Cases.{by_cases}
@@ -31,7 +31,8 @@ use Rattle.steer_laws.proofs.KeptPollers.{Kept-inner, Kept-noted}
 
 -- ---- a choice for an online lane is of an online lane
 
-migrate-online : (class want : Option ℕ) (desired : ℕ) (entries : ℕ → Entry) (head : ℕ → ℕ) (online : ℕ → Bool)
+migrate-online : (class want : Option ℕ) (desired : ℕ) (entries : ℕ → Entry) (head : ℕ
+    → ℕ) (online : ℕ → Bool)
     → online desired ≡ true → online (migrate class want desired entries head online).lane ≡ true
 migrate-online None want desired entries head online d = d
 migrate-online (Some k) want desired entries head online d =
@@ -49,10 +50,11 @@ class_below count (Some hash) =
 
 online_or-online : (online : CpuMask) (cpu home : ℕ) → has online home ≡ true
     → has online (online_or online cpu home) ≡ true
-online_or-online online cpu home h = elim (cases_Bool (has online cpu)) [ inl e ↦ rw e e | inr e ↦ rw e h ]
+online_or-online online cpu home h =
+    elim (cases_Bool (has online cpu)) [ inl e ↦ rw e e | inr e ↦ rw e h ]
 
-rps-online : (mask : CpuMask) (hash : Option ℕ) (online : CpuMask) (home : ℕ) → has online home ≡ true
-    → has online (rps_choice_of mask hash online home) ≡ true
+rps-online : (mask : CpuMask) (hash : Option ℕ) (online : CpuMask) (home : ℕ)
+    → has online home ≡ true → has online (rps_choice_of mask hash online home) ≡ true
 rps-online mask None online home h = h
 rps-online mask (Some hash) online home h =
     let cpus : List ℕ = those_below 32 (has mask) in
@@ -79,7 +81,8 @@ may_weigh m q want named k =
     let z = k.rx.sizes in let manned = k.by.manned in
     let class : Option ℕ = class_at m.setup m.settings q x in
     let plain : has m.settings.online (plain_lane m.setup m.settings q x) ≡ true =
-    rps-online (mask_of m.settings q) (hash_of m.setup x) m.settings.online (slice_index m.setup.homes q)
+    rps-online (mask_of m.settings q) (hash_of m.setup x) m.settings.online
+    (slice_index m.setup.homes q)
     (manned.homes q named) in
     let lane : ℕ = desired_cpu class want m.settings.online (plain_lane m.setup m.settings q x) in
     let desired : has m.settings.online lane ≡ true =
@@ -90,19 +93,22 @@ may_weigh m q want named k =
     record {
       producer = omega (arith, named, z.queues);
       lane = omega (arith, below, z.cpus);
-      in_range = subst (λ n. IsClassBelow n class) e (class_below (slice_index m.settings.counts q) (hash_of m.setup x));
+      in_range = subst (λ n. IsClassBelow n class) e
+          (class_below (slice_index m.settings.counts q) (hash_of m.setup x));
       is_online = desired;
       drained = manned.empty;
     }
 
 -- ---- what it keeps
 
-manned-chose : (p : Setup) (now : Settings) (s : HopState) (q : ℕ) (c : Choice) → q < length s.arrivals → Sound s
-    → length (choices_of s q) < taken_of s q → has now.online c.lane ≡ true → Manned p now s → Manned p now (chose s q c)
+manned-chose : (p : Setup) (now : Settings) (s : HopState) (q : ℕ) (c : Choice)
+    → q < length s.arrivals → Sound s → length (choices_of s q) < taken_of s q
+    → has now.online c.lane ≡ true → Manned p now s → Manned p now (chose s q c)
 manned-chose p now s q c in' h more online k =
     let w = h.wide in
     let new : Chosen = record { id = next_of s q; choice = c } in
-    let ch = Changed-set s.choices q (choices_of s q ++ new ∷ []) [] (omega (arith, in', w.choices)) in
+    let ch =
+    Changed-set s.choices q (choices_of s q ++ new ∷ []) [] (omega (arith, in', w.choices)) in
     record {
       homes = k.homes;
       within = k.within;
@@ -112,8 +118,10 @@ manned-chose p now s q c in' h more online k =
             let a = h.hands.one q in let b = h.hands.put q in
             let here : choices_of (chose s q c) r ≡ choices_of s q ++ new ∷ [] = rw e ch.here in
             let at : placed_of s r ≡ length (choices_of s q) =
-            (let f : placed_of s r ≡ placed_of s q = ap (placed_of s) e in omega (arith, f, a, b, more)) in
-            let last : in_hand (chose s q c) r ≡ new = rw (here, at) (chosen-push_last (choices_of s q) new nobody) in
+            (let f : placed_of s r ≡ placed_of s q = ap (placed_of s) e in
+            omega (arith, f, a, b, more)) in
+            let last : in_hand (chose s q c) r ≡ new =
+            rw (here, at) (chosen-push_last (choices_of s q) new nobody) in
             rw last online)
         | inr ne ↦ (
             let same : choices_of (chose s q c) r ≡ choices_of s r = ch.there r ne in
@@ -121,8 +129,8 @@ manned-chose p now s q c in' h more online k =
       ];
     }
 
-note-chose : (s : HopState) (q r : ℕ) (n : Note) (c : Choice) → q < length s.choices → (r ≡ q → n ≡ note.Nothing)
-    → IsNoted s r n → IsNoted (chose s q c) r n
+note-chose : (s : HopState) (q r : ℕ) (n : Note) (c : Choice) → q < length s.choices
+    → (r ≡ q → n ≡ note.Nothing) → IsNoted s r n → IsNoted (chose s q c) r n
 note-chose s q r note.Nothing c in' other h = tt
 note-chose s q r (note.Looked want) c in' other h =
     let new : Chosen = record { id = next_of s q; choice = c } in
@@ -134,8 +142,8 @@ note-chose s q r (note.Looked want) c in' other h =
 note-chose s q r (note.Asking filter) c in' other h = h
 
 kept-weighed : (m : Machine) (q : ℕ) (want : Option ℕ) (t : HopState) → q < length m.setup.homes
-    → note_of m q ≡ note.Nothing → t ≡ (happens m.rx (weighing m q (next_of m.rx q) want)).0 → Kept m
-    → Kept (record m { rx = t })
+    → note_of m q ≡ note.Nothing → t ≡ (happens m.rx (weighing m q (next_of m.rx q) want)).0
+    → Kept m → Kept (record m { rx = t })
 kept-weighed m q want t named quiet is k =
     let z = k.rx.sizes in let w = k.rx.sound.wide in
     let in' : q < length m.rx.arrivals = omega (arith, named, z.queues) in
@@ -147,13 +155,18 @@ kept-weighed m q want t named quiet is k =
     let c : Choice = choice_of m.rx q class want lane m.settings.online in
     let may = may_weigh m q want named k in
     Kept-inner m e t (record { closed = refl; counts = refl; arrivals = refl; outs = refl }) may
-    (λ more. (refl, λ none. desired-none class want m.settings.online (plain_lane m.setup m.settings q x) none))
+    (λ more. (
+      refl,
+      λ none. desired-none class want m.settings.online
+          (plain_lane m.setup m.settings q x) none,
+    ))
     (by_cases (Manned m.setup m.settings) m.rx e k.by.manned
     (λ inside more. manned-chose m.setup m.settings m.rx q c in' k.rx.sound more
     (migrate-online class want lane (entry m.rx.fixed.start (accepted_at m.rx.bare) (recent m.rx q))
     (head_at m.rx.fixed.start m.rx.bare) (has m.settings.online) may.is_online) k.by.manned))
     (by_cases (AreNoted m.notes) m.rx e k.noted
-    (λ inside more r. note-chose m.rx q r (note_of m r) c there (λ same. ap (note_of m) same ∙ quiet) (k.noted r)))
+    (λ inside more r. note-chose m.rx q r (note_of m r) c there (λ same. ap (note_of m) same
+    ∙ quiet) (k.noted r)))
     is k
 
 -- a poller forgets what it saw, and its packet is weighed

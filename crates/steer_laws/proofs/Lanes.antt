@@ -40,7 +40,7 @@ module _ (s : HopState) (h : Sound s) where
       get_or-eq_default s.bare.retired 0 (omega (arith, l, w.retired)) in
       rw (a, d, p, e, r) refl
 
-  lists-long : length (lane_lists s.bare) ≡ length s.bare.accepted
+  pub lists-long : length (lane_lists s.bare) ≡ length s.bare.accepted
   lists-long = length-map-range_with_len (lane_list s.bare) 0 (length s.bare.accepted)
 
   pub lane-is : (c : ℕ) → lane_at (lane_lists s.bare) c ≡ lane_list s.bare c
@@ -57,7 +57,7 @@ module _ (s : HopState) (h : Sound s) where
   accepted-is : (c : ℕ) → (lane_at (lane_lists s.bare) c).accepted ≡ accepted_at s.bare c
   accepted-is c = ap (λ lane. lane.accepted) (lane-is c)
 
-  fallen-is : (c : ℕ) → drop_ids (lane_at (lane_lists s.bare) c) ≡ fell_at s.bare c
+  pub fallen-is : (c : ℕ) → drop_ids (lane_at (lane_lists s.bare) c) ≡ fell_at s.bare c
   fallen-is c = ap drop_ids (lane-is c)
 
   all-accepted : accepted_lists (lane_lists s.bare) ≡ s.bare.accepted

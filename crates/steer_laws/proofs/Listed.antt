@@ -1,6 +1,6 @@
 -- Lists by their items: prefixes, what is among the first, and the first with a key.
-use Rattle.std.proofs.Common.{ℕ, zero, suc, ◌≤◌, ◌<◌, ◌≡◌, ◌≢◌, true, List, [], ◌∷◌, Some}
-use Rattle.std.proofs.Common.{length, take, refl, ◌∙◌, sym, arith, get_or, inl, inr}
+use Rattle.std.proofs.Common.{ℕ, zero, suc, ◌≤◌, ◌<◌, ◌≡◌, ◌≢◌, true, List, [], ◌∷◌, Some, length}
+use Rattle.std.proofs.Common.{take, refl, ◌∙◌, sym, arith, get_or, inl, inr}
 use Rattle.std.proofs.lemmas.Bool.{cases_eq}
 use Rattle.steer_base.specs.Orders.{IsPrefix}
 use Rattle.history.specs.Finding.{found, is_among}

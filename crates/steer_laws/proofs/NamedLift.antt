@@ -1,5 +1,5 @@
 -- What every step of one event and every command keeps that names what there is, all steps keep.
-use Rattle.std.proofs.Common.{ℕ, ◌+◌, ◌<◌, ◌≡◌, Bool, true, false, List, [], ◌∷◌, arith, suc, zero}
+use Rattle.std.proofs.Common.{ℕ, ◌<◌, ◌≡◌, Bool, true, false, List, [], ◌∷◌, arith, suc, zero}
 use Rattle.std.specs.Prelude.{if◌then◌else◌}
 use Rattle.std.proofs.lemmas.Bool.{ltb-true}
 use Rattle.steer_base.specs.declared.step.Step.{Step}
@@ -9,7 +9,8 @@ use Rattle.steer_parts.specs.Setup.{Setup, flow_of}
 use Rattle.steer_parts.specs.Steps.{simple}
 use Rattle.steer_parts.specs.Whole.{Turn, after, one_round, rounds, step}
 use Rattle.steer_laws.specs.Kept.{AreNamed, IsNamed}
-use Rattle.steer_laws.proofs.TurnLift.{drain-keeps, poll-keeps, reply-keeps, round-keeps, serve-keeps, ship-keeps}
+use Rattle.steer_laws.proofs.TurnLift.{drain-keeps, poll-keeps, reply-keeps, round-keeps}
+use Rattle.steer_laws.proofs.TurnLift.{serve-keeps, ship-keeps}
 
 module _ (p : Setup) (P : Machine → Type 0) (same : (m : Machine) → P m → m.setup ≡ p)
     (flows : (x : ℕ) → flow_of p x < 262144)
@@ -25,7 +26,9 @@ module _ (p : Setup) (P : Machine → Type 0) (same : (m : Machine) → P m → 
   unfolding rounds
   rounds-keep zero t h = h
   rounds-keep (suc n) t h =
-      let next = round-keeps p At (λ t h. same t.0 h) flows (λ t s is h. keeps t.0 s is.named h) (t.0, false) h in
+      let next =
+      round-keeps p At (λ t h. same t.0 h) flows (λ t s is h. keeps t.0 s is.named h)
+      (t.0, false) h in
       turn-if (one_round (t.0, false)).1 (rounds n ((one_round (t.0, false)).0, true))
       ((one_round (t.0, false)).0, t.1) (rounds-keep n ((one_round (t.0, false)).0, true) next) next
 

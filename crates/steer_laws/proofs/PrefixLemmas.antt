@@ -1,5 +1,6 @@
 -- Prefixes of growing lists.
-use Rattle.std.proofs.Common.{ℕ, ◌≤◌, ◌<◌, ◌≡◌, List, [], ◌∷◌, ◌++◌, length, refl, ap, sym, arith, get_or, suc, zero}
+use Rattle.std.proofs.Common.{ℕ, ◌≤◌, ◌<◌, ◌≡◌, List, [], ◌∷◌, ◌++◌, length, refl, ap, sym, arith}
+use Rattle.std.proofs.Common.{get_or, suc, zero}
 use Rattle.steer_base.specs.Orders.{IsPrefix}
 
 abbrev tail_of : List ℕ → List ℕ
@@ -33,8 +34,20 @@ prefix-next (x ∷ xs) (y ∷ ys) p lt =
     (rest.0, λ i. e i ∷ rest.1 i)
 
 -- a prefix has the same members at its places
-pub prefix-at : (xs ys : List ℕ) (i : ℕ) → IsPrefix xs ys → i < length xs → get_or ys i 0 ≡ get_or xs i 0
+pub prefix-at : (xs ys : List ℕ) (i : ℕ) → IsPrefix xs ys → i < length xs
+    → get_or ys i 0 ≡ get_or xs i 0
 prefix-at [] ys i p lt = absurd (omega (arith, lt))
 prefix-at (x ∷ xs) [] i p lt = absurd (let f : x ∷ (xs ++ p.0) ≡ [] = p.1 in cc)
 prefix-at (x ∷ xs) (y ∷ ys) zero p lt = ap (λ l. get_or l 0 0) (sym p.1)
-prefix-at (x ∷ xs) (y ∷ ys) (suc i) p lt = prefix-at xs ys i (p.0, ap (λ l. tail_of l) p.1) (omega (arith, lt))
+prefix-at (x ∷ xs) (y ∷ ys) (suc i) p lt =
+    prefix-at xs ys i (p.0, ap (λ l. tail_of l) p.1) (omega (arith, lt))
+
+-- a prefix that is as long is the list
+pub prefix-all : (xs ys : List ℕ) → IsPrefix xs ys → length xs ≡ length ys → xs ≡ ys
+prefix-all [] [] p e = refl
+prefix-all [] (y ∷ ys) p e = absurd (omega (arith, e))
+prefix-all (x ∷ xs) [] p e = absurd (omega (arith, e))
+prefix-all (x ∷ xs) (y ∷ ys) p e =
+    let first : x ≡ y = ap (λ l. get_or l 0 0) p.1 in
+    let rest = prefix-all xs ys (p.0, ap (λ l. tail_of l) p.1) (omega (arith, e)) in
+    λ i. first i ∷ rest i

@@ -30,9 +30,9 @@ use Rattle.hop_core.proofs.Leaves.{each_leaves}
 use Rattle.history.specs.Lists.{app_at, arrival_of, packet_at}
 use Rattle.history.specs.declared.sent.Sent.{Sent}
 use Rattle.steer_parts.specs.Applications.{deliver, everyone, in_lane, in_reply, next_in}
-use Rattle.steer_parts.specs.Applications.{nothing_sent, pick_for, record_by, record_flow}
-use Rattle.steer_parts.specs.Applications.{reply_to, send, send_by}
-use Rattle.steer_parts.specs.Applications.{sending, sends, sent_of, tput, tweigh, visited, wrote}
+use Rattle.steer_parts.specs.Applications.{nothing_sent, pick_for, record_by, record_flow, reply_to}
+use Rattle.steer_parts.specs.Applications.{send, send_by, sending, sends, sent_of, tput, tweigh}
+use Rattle.steer_parts.specs.Applications.{visited, wrote}
 use Rattle.steer_parts.specs.Machine.{Machine, last_of, note_of}
 use Rattle.steer_parts.specs.Notes.{is_asking, is_nothing}
 use Rattle.steer_parts.specs.Outcomes.{Outcome, by_rx, by_tx, idles}

@@ -12,9 +12,8 @@ use Rattle.steer_laws.proofs.RecordedArrives.{recorded-arrive}
 use Rattle.steer_laws.proofs.RecordedGives.{recorded-give}
 use Rattle.steer_laws.proofs.RecordedRows.{recorded-ask, recorded-deliver, recorded-leave}
 use Rattle.steer_laws.proofs.RecordedRows.{recorded-look, recorded-put, recorded-record}
-use Rattle.steer_laws.proofs.RecordedRows.{recorded-rx, recorded-send, recorded-take}
-use Rattle.steer_laws.proofs.RecordedRows.{recorded-tput, recorded-tweigh, recorded-tx}
-use Rattle.steer_laws.proofs.RecordedRows.{recorded-weigh}
+use Rattle.steer_laws.proofs.RecordedRows.{recorded-rx, recorded-send, recorded-take, recorded-tput}
+use Rattle.steer_laws.proofs.RecordedRows.{recorded-tweigh, recorded-tx, recorded-weigh}
 
 pub recorded-simple : (m : Machine) (s : Step) → Kept m → IsRecorded m → IsRecorded (simple m s).0
 recorded-simple m act.Arrive k r = recorded-arrive m k r

@@ -1,7 +1,9 @@
 -- What the machine may ask of its hops, in every state: each event of each step that names what
 -- there is.
-use Rattle.std.specs.Prelude.{ℕ, ◌+◌, ◌<◌, ◌≤◌, ◌≡◌, true, [], ◌∷◌, Option, Some, length}
+use Rattle.std.specs.Prelude.{ℕ, ◌+◌, ◌<◌, ◌≤◌, ◌≡◌, true, [], ◌∷◌, Option, None, Some, length}
+use Rattle.std.specs.Prelude.{slice_index, slice_index_or}
 use Rattle.steer_base.specs.declared.command.Command.TheVariants as give
+use Rattle.steer_base.specs.declared.filter.Filter.{Filter}
 use Rattle.hop_core.specs.declared.event.HopEvent.TheVariants as event
 use Rattle.hop_core.specs.Events.{AllMayAsk, MayAsk}
 use Rattle.hop_core.specs.Hop.{next_of}
@@ -46,3 +48,14 @@ pub record AsksTx (m : Machine) : Type 0 where
   pub pull : (t : ℕ) → t < m.setup.txs → MayAsk m.tx (event.Pull t)
   pub deliver : (t : ℕ) → t < m.setup.txs → MayAsk m.tx (event.Deliver t 0)
   pub retire : (t : ℕ) → t < m.setup.txs → MayAsk m.tx (event.Retire t)
+
+-- Of each filter that is set, as an expiry asks: the head of a processor that there is, and the
+-- flow count of a queue that there is, which is at most 32,768.
+pub record IsSeated (m : Machine) (filter : Filter) : Type 0 where
+  pub processor : filter.cpu < length m.rx.bare.accepted
+  pub queue : filter.queue < length m.settings.counts
+  pub flows : slice_index m.settings.counts filter.queue ≤ 32768
+
+abbrev pub AreSeated : Machine → Type 0
+AreSeated m =
+    (i : ℕ) (filter : Filter) → slice_index_or m.filters i None ≡ Some filter → IsSeated m filter

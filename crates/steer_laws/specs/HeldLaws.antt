@@ -15,7 +15,7 @@ use Rattle.steer_parts.specs.Given.{AreOfFlows}
 use Rattle.steer_parts.specs.Machine.{Machine, history_of}
 use Rattle.steer_parts.specs.Start.{new_machine, replayed}
 use Rattle.steer_parts.specs.Whole.{after, step}
-use Rattle.steer_laws.specs.Asks.{AsksRx, AsksTx}
+use Rattle.steer_laws.specs.Asks.{AreSeated, AsksRx, AsksTx}
 use Rattle.steer_laws.specs.Held.{Held}
 use Rattle.steer_laws.specs.Kept.{AreNamed, IsCommandNamed, IsNamed}
 
@@ -44,6 +44,10 @@ HeldAsksRx = (m : Machine) → Held m → AsksRx m
 
 abbrev pub HeldAsksTx : Type 0
 HeldAsksTx = (m : Machine) → Held m → AsksTx m
+
+-- What an expiry reads of its filters is there.
+abbrev pub HeldIsSeated : Type 0
+HeldIsSeated = (m : Machine) → Held m → AreSeated m
 
 -- ---- every state
 

@@ -10,13 +10,14 @@ use Rattle.plan_reader.specs.declared.settings.sizes.Sizes.{Sizes}
 use Rattle.steer_parts.specs.Given.{IsGiven}
 use Rattle.steer_parts.specs.Machine.{Machine}
 use Rattle.steer_parts.specs.Setup.{Setup}
-use Rattle.steer_laws.specs.KeptHops.{AreNoted, BySettings, KeptRx, KeptTx}
+use Rattle.steer_laws.specs.KeptHops.{AllTaken, AreNoted, BySettings, KeptRx, KeptTx}
 use Rattle.steer_laws.specs.KeptLists.{Came, ListSizes, Replied, Routes, SettingSizes}
 
 pub record Kept (m : Machine) : Type 0 where
   pub given : IsGiven m.setup
   pub rx : KeptRx m.setup m.rx
   pub tx : KeptTx m.setup m.tx
+  pub taken : AllTaken m.tx
   pub by : BySettings m.setup m.settings m.rx
   pub noted : AreNoted m.notes m.rx
   pub lists : ListSizes m.setup m.notes m.sent m.writes

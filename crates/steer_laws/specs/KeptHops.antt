@@ -3,7 +3,7 @@ use Rattle.std.specs.Prelude.{ℕ, ◌+◌, ◌<◌, ◌≤◌, ◌≡◌, true,
 use Rattle.std.specs.Prelude.{slice_index, slice_index_or}
 use Rattle.steer_base.specs.Sets.{has}
 use Rattle.hop_core.specs.Events.{IsEmptied}
-use Rattle.hop_core.specs.Hop.{HopState, choices_of, in_hand, placed_of, taken_of}
+use Rattle.hop_core.specs.Hop.{HopState, arrivals_of, choices_of, in_hand, placed_of, taken_of}
 use Rattle.hop_core.specs.Laws.{Ample}
 use Rattle.hop_core.specs.NothingLost.{NothingLost}
 use Rattle.hop_core.specs.Settled.{SettledIn}
@@ -69,6 +69,10 @@ pub record TxSizes (p : Setup) (s : HopState) : Type 0 where
   pub port : length s.bare.outs ≡ 1
   pub room : s.fixed.room ≡ length p.packets
   pub classes : s.counts ≡ replicate p.apps (max 1 (length p.packets))
+
+-- Each application took up all its replies that came.
+abbrev pub AllTaken : HopState → Type 0
+AllTaken s = (a : ℕ) → taken_of s a ≡ length (arrivals_of s a)
 
 -- Between steps it is sound, loses nothing, has room for all and dropped nothing, and its gate is
 -- open.

@@ -2,7 +2,12 @@ pub mod KeptHops
 pub mod KeptLists
 pub mod Kept
 pub mod KeptLaws
+pub mod Rest
+pub mod SweepLaws
 pub mod Recorded
+pub mod Ranged
 pub mod Held
 pub mod Asks
 pub mod HeldLaws
+pub mod Delivers
+pub mod DeliveryLaws

@@ -1,8 +1,9 @@
 //! Laws of the machine and of the histories that it makes, each the contract of a function that
 //! does nothing.
+ghost use Rattle.steer_laws.specs.DeliveryLaws.{ReplaysDeliverInOrder, RunsDeliverInOrder};
 ghost use Rattle.steer_laws.specs.HeldLaws.{CommandsKeepHeld, HeldAsksRx, HeldAsksTx};
-ghost use Rattle.steer_laws.specs.HeldLaws.{HeldIsReportable, ListingKeepsHeld, NewIsHeld};
-ghost use Rattle.steer_laws.specs.HeldLaws.{ReplaysAreReportable};
+ghost use Rattle.steer_laws.specs.HeldLaws.{HeldIsReportable, HeldIsSeated, ListingKeepsHeld};
+ghost use Rattle.steer_laws.specs.HeldLaws.{NewIsHeld, ReplaysAreReportable};
 ghost use Rattle.steer_laws.specs.HeldLaws.{RunsAreReportable, RunsKeepHeld, StepsKeepHeld};
 
 /// In every state of the machine its history is regular, each arrival is at the queue that its kept
@@ -13,10 +14,11 @@ pub fn a_machine_has_a_history_to_report()
 {}
 
 /// In every state of the machine each event of a step that names only what it has may be asked of
-/// its hop.
+/// its hop, and what an expiry reads of each filter is there.
 pub fn a_machine_may_ask_its_hops()
     ensures rx { HeldAsksRx }
     ensures tx { HeldAsksTx }
+    ensures filters { HeldIsSeated }
 {}
 
 /// What holds of a machine holds of the one that a plan starts, and every step and every list of
@@ -39,4 +41,13 @@ pub fn every_command_keeps_the_machine()
 pub fn every_replay_can_be_reported()
     ensures runs { RunsAreReportable }
     ensures replays { ReplaysAreReportable }
+{}
+
+/// After any steps that name only what the plan has, and after all steps of the plan, each flow of
+/// each queue is delivered in order to the inbox of its application, each flow of each application
+/// to the port, and from end to end; each packet and each reply is in one place, and each drop has
+/// the cause that its counts and the offers before it give.
+pub fn every_replay_delivers_in_order()
+    ensures runs { RunsDeliverInOrder }
+    ensures replays { ReplaysDeliverInOrder }
 {}

@@ -1,4 +1,5 @@
-use Rattle.steer_laws.proofs.KeptLemmas.{events_keep_kept, step_keeps_kept, steps_keep_kept, steps_keep_setup}
+use Rattle.steer_laws.proofs.KeptLemmas.{events_keep_kept, step_keeps_kept, steps_keep_kept}
+use Rattle.steer_laws.proofs.KeptLemmas.{steps_keep_setup}
 use Rattle.steer_laws.proofs.laws.steps_keep_the_invariant.Goals as goal
 
 pub returns-clause-events : goal.returns-clause-events
