@@ -2,9 +2,11 @@ pub mod ArriveLemmas
 pub mod ChangeLemmas
 pub mod FilterLemmas
 pub mod ListLemmas
+pub mod MakeLemmas
 pub mod QuietLemmas
 pub mod QuietTurns
 pub mod ReplyHops
 pub mod ReplyLemmas
 pub mod RoomLemmas
+pub mod SeatedLemmas
 pub mod TurnLemmas

@@ -1,4 +1,5 @@
 use Rattle.std.proofs.Common.{◌∙◌, ap, sym}
+use Rattle.steer_base.specs.declared.choice.Chosen.{Chosen}
 use Rattle.steer_parts.specs.Pollers.{position_of}
 use Rattle.steer_laws.proofs.HeldRows.{held_asking, held_put}
 use Rattle.steer_core.proofs.actors.Actors.put.Goals as goal
@@ -10,7 +11,7 @@ invariant_of-self c =
     (
       rw (c.asking.ensures, c.filter_for-filter.ensures, c.homes.ensures.homes)
           (held_asking _ c.args.q c.hash_of-hash.result c.step-answer.new.self c.in-Some.position
-          c.count.result c.last_of.result.choice named c.step-answer.ensures.state went c.self.invariant.0),
+          c.count.result c.last_of.result.choice named c.step-answer.ensures.state went (ap (λ (x : Chosen). x.choice) c.last_of.ensures) c.self.invariant.0),
       c.self.invariant.1,
     )
 
