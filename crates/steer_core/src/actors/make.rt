@@ -31,6 +31,8 @@ impl Actors {
         requires flows { AreOfFlows packets.now }
         ensures { IfOk result (λ actors. actors ≡ started plan.now packets.now cut) }
     {
+        // A read, so that the start is known to be a number of 32 bits.
+        let _start = plan.start;
         let given = Given::of_plan(alloc, plan, packets, cut)?;
         let settings = InForce::of_plan(alloc, plan)?;
         let tables = Tables::make(alloc, plan)?;
