@@ -14,12 +14,12 @@ use Rattle.hop_core.specs.declared.event.HopEvent.{HopEvent}
 use Rattle.hop_core.specs.declared.event.HopEvent.TheVariants as event
 use Rattle.hop_core.specs.Events.{happens}
 use Rattle.hop_core.specs.Hop.{HopState, inside_of, placed_of, taken_of}
-use Rattle.hop_core.specs.Leaves.{Field}
+use Rattle.hop_core.specs.Leaves.{Field, changes}
 use Rattle.hop_core.specs.Reads.{to_weigh}
 use Rattle.hop_core.proofs.Cases.{by_cases}
 use Rattle.hop_core.proofs.Leaves.{each_leaves}
-use Rattle.steer_parts.specs.Applications.{next_in, send_by, sends}
-use Rattle.steer_parts.specs.Machine.{Machine, note_of}
+use Rattle.steer_parts.specs.Applications.{in_reply, next_in, send_by, sending}
+use Rattle.steer_parts.specs.Machine.{Machine, last_of, note_of}
 use Rattle.steer_parts.specs.Notes.{is_asking, is_nothing}
 use Rattle.steer_parts.specs.Outcomes.{Outcome, by_rx, idles}
 use Rattle.steer_parts.specs.Pollers.{arrival_by, arrives, ask_by, look_by, position_of, put_by, putting}
@@ -49,23 +49,27 @@ set-grows xs p a =
 placed-same : (s t : HopState) (a : ℕ) → t.placed ≡ s.placed → placed_of s a ≤ placed_of t a
 placed-same s t a same = let e : placed_of t a ≡ placed_of s a = ap (λ (l : List ℕ). get_or l a 0) same in omega (arith, e)
 
+same-event : (s : HopState) (e : HopEvent) (a : ℕ) → changes e Field.placed ≡ false
+    → placed_of s a ≤ placed_of (happens s e).0 a
+same-event s e a quiet = placed-same s (happens s e).0 a (each_leaves s e Field.placed quiet)
+
 -- no event undoes a put
 pub placed-grows : (s : HopState) (e : HopEvent) (a : ℕ) → placed_of s a ≤ placed_of (happens s e).0 a
 placed-grows s (event.Put p hash) a =
     by_cases (λ t. placed_of s a ≤ placed_of t a) s (event.Put p hash) (omega arith)
     (λ inside more. set-grows s.placed p a)
-placed-grows s (event.Arrive p id) a = placed-same s _ a (each_leaves s (event.Arrive p id) Field.placed refl)
-placed-grows s (event.Take p) a = placed-same s _ a (each_leaves s (event.Take p) Field.placed refl)
-placed-grows s (event.Enter p) a = placed-same s _ a (each_leaves s (event.Enter p) Field.placed refl)
-placed-grows s (event.Leave p) a = placed-same s _ a (each_leaves s (event.Leave p) Field.placed refl)
+placed-grows s (event.Arrive p id) a = same-event s (event.Arrive p id) a refl
+placed-grows s (event.Take p) a = same-event s (event.Take p) a refl
+placed-grows s (event.Enter p) a = same-event s (event.Enter p) a refl
+placed-grows s (event.Leave p) a = same-event s (event.Leave p) a refl
 placed-grows s (event.Weigh p class want desired online) a =
-    placed-same s _ a (each_leaves s (event.Weigh p class want desired online) Field.placed refl)
-placed-grows s (event.Pull c) a = placed-same s _ a (each_leaves s (event.Pull c) Field.placed refl)
-placed-grows s (event.Deliver c o) a = placed-same s _ a (each_leaves s (event.Deliver c o) Field.placed refl)
-placed-grows s (event.Retire c) a = placed-same s _ a (each_leaves s (event.Retire c) Field.placed refl)
-placed-grows s (event.Resize p count) a = placed-same s _ a (each_leaves s (event.Resize p count) Field.placed refl)
-placed-grows s event.Close a = placed-same s _ a (each_leaves s event.Close Field.placed refl)
-placed-grows s event.Reopen a = placed-same s _ a (each_leaves s event.Reopen Field.placed refl)
+    same-event s (event.Weigh p class want desired online) a refl
+placed-grows s (event.Pull c) a = same-event s (event.Pull c) a refl
+placed-grows s (event.Deliver c o) a = same-event s (event.Deliver c o) a refl
+placed-grows s (event.Retire c) a = same-event s (event.Retire c) a refl
+placed-grows s (event.Resize p count) a = same-event s (event.Resize p count) a refl
+placed-grows s event.Close a = same-event s event.Close a refl
+placed-grows s event.Reopen a = same-event s event.Reopen a refl
 
 -- ---- quiet steps
 
@@ -183,13 +187,13 @@ quiet-simple m (act.Record flow) is = absurd (cc)
 quiet-simple m (act.Send a) is =
     either (Stays m) (nat_lt (placed_of m.tx a) (taken_of m.tx a)) (idles m idle.HandFull) (send_by m a (next_in m a))
     (λ full. quiet-refl m) (λ free. quiet-send m a (next_in m a))
-quiet-simple m (act.TEnter a) is = by-tx m _
-quiet-simple m (act.TLeave a) is = by-tx m _
-quiet-simple m (act.TWeigh a) is = by-tx m _
-quiet-simple m (act.TPut a) is = by-tx m _
-quiet-simple m (act.TPull t) is = by-tx m _
-quiet-simple m (act.TDeliver t) is = by-tx m _
-quiet-simple m (act.TRetire t) is = by-tx m _
+quiet-simple m (act.TEnter a) is = by-tx m (event.Enter a)
+quiet-simple m (act.TLeave a) is = by-tx m (event.Leave a)
+quiet-simple m (act.TWeigh a) is = by-tx m (sending m a (in_reply m a))
+quiet-simple m (act.TPut a) is = by-tx m (event.Put a (hash_of m.setup (last_of m.tx a).id))
+quiet-simple m (act.TPull t) is = by-tx m (event.Pull t)
+quiet-simple m (act.TDeliver t) is = by-tx m (event.Deliver t 0)
+quiet-simple m (act.TRetire t) is = by-tx m (event.Retire t)
 quiet-simple m (act.Give c) is = absurd (cc)
 quiet-simple m (act.Poll q) is = quiet-refl m
 quiet-simple m (act.Drain c) is = quiet-refl m

@@ -70,6 +70,7 @@ impl Steering {
         ensures answer { result ≡ (step_of self.old.machine step.now).1 }
         ensures setup { self.new.machine.setup ≡ self.old.machine.setup }
     {
+        self.actors.sound();
         let answer = self.actors.step(*step);
         self.made += 1;
         answer
