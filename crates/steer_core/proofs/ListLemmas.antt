@@ -1,6 +1,8 @@
--- Arrivals in the order of their numbers, found by their places.
-use Rattle.std.proofs.Common.{ℕ, ◌+◌, ◌<◌, ◌≡◌, ◌≢◌, List, [], ◌∷◌, length, refl, ap, ◌∙◌, arith, zero, suc}
+-- Arrivals in the order of their numbers, found by their places; and lists that are copied one by one.
+use Rattle.std.proofs.Common.{ℕ, ◌+◌, ◌<◌, ◌≡◌, ◌≢◌, List, [], ◌∷◌, ◌++◌, Some, length, refl, ap, ◌∙◌, sym, arith, take, zero, suc}
 use Rattle.std.specs.Prelude.{slice_get}
+use Rattle.std.proofs.lemmas.List.{take_more}
+use Rattle.steer_laws.proofs.KeptSends.{read_at}
 use Rattle.history.proofs.FindingLemmas.{found-here, found-past}
 use Rattle.history.proofs.RegularLemmas.{AreNumbered, numbered-head, numbered-tail}
 use Rattle.history.specs.Finding.{found}
@@ -23,3 +25,9 @@ pub found_numbered : (xs : List Arrival) (x : ℕ) → AreNumbered 0 xs → foun
 found_numbered xs x e =
     let z : x ≡ 0 + x = omega arith in
     ap (λ n. found (λ (a : Arrival). a.id) n xs) z ∙ found_from 0 x xs e
+
+-- the front of a list with its next item
+pub take-next : (xs : List ℕ) (n x : ℕ) → slice_get xs n ≡ Some x → take n xs ++ x ∷ [] ≡ take (n + 1) xs
+take-next xs n x got =
+    let at = read_at xs n x got in
+    ap (λ y. take n xs ++ y ∷ []) (sym at.1) ∙ sym (take_more xs n 0 at.0)

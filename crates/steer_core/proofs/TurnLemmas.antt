@@ -1,7 +1,8 @@
--- Steps that are tried again in a row, and those of each actor, from the last one back.
-use Rattle.std.proofs.Common.{ℕ, ◌+◌, ◌≡◌, zero, suc, List, refl, ap, ◌∙◌, sym, add-one}
+-- Steps that are tried again in a row and those of each actor, from the last one back; and rounds.
+use Rattle.std.proofs.Common.{ℕ, ◌+◌, ◌-◌, ◌<◌, ◌≤◌, ◌≡◌, zero, suc, Bool, true, false, cond, List, refl, ap, ◌∙◌, sym, add-one, arith}
 use Rattle.steer_base.specs.declared.step.Step.{Step}
-use Rattle.steer_parts.specs.Whole.{Turn, again, for_each, tries}
+use Rattle.steer_parts.specs.Machine.{Machine}
+use Rattle.steer_parts.specs.Whole.{Turn, again, for_each, one_round, rounds, tries}
 
 again-none : (ss : List Step) (t : Turn) → again 0 ss t ≡ t
 unfolding again
@@ -35,3 +36,48 @@ pub each-then : (n : ℕ) (f : ℕ → Turn → Turn) (t u v : Turn) → u ≡ f
     → v ≡ for_each (n + 1) f t
 each-then n f t u v before step =
     step ∙ ap (f n) before ∙ sym (ap (λ k. for_each k f t) (add-one n) ∙ each-more n f t)
+
+-- ---- rounds
+
+rounds-done : (t : Turn) → rounds 0 t ≡ t
+unfolding rounds
+rounds-done t = refl
+
+by-round : (k : ℕ) (m n : Machine) (w b : Bool) → ◌≡◌ {A = Turn} (n, b) (one_round (m, false))
+    → rounds (suc k) (m, w) ≡ cond b (rounds k (n, true)) (n, w)
+unfolding rounds
+by-round k m n w b is =
+    sym (ap (λ (t : Turn). cond t.1 (rounds k (t.0, true)) (t.0, w)) is)
+
+left-suc : (most i : ℕ) → i < most → most - i ≡ suc (most - (i + 1))
+left-suc most i lt = omega (arith, lt)
+
+-- a loop of rounds starts
+pub rounds-start : (most : ℕ) (t : Turn) → rounds (most - 0) t ≡ rounds most t
+rounds-start most t = ap (λ k. rounds k t) (omega arith)
+
+-- a round with work is one round less to go
+pub rounds-on : (most i : ℕ) (m n : Machine) (w b : Bool) (goal : Turn) → i < most
+    → ◌≡◌ {A = Turn} (n, b) (one_round (m, false)) → b ≡ true → rounds (most - i) (m, w) ≡ goal
+    → rounds (most - (i + 1)) (n, true) ≡ goal
+rounds-on most i m n w b goal lt is more before =
+    let k : ℕ = most - (i + 1) in
+    sym (ap (λ c. cond c (rounds k (n, true)) (n, w)) more) ∙ sym (by-round k m n w b is)
+    ∙ sym (ap (λ j. rounds j (m, w)) (left-suc most i lt)) ∙ before
+
+-- one without is the last
+pub rounds-off : (most i : ℕ) (m n : Machine) (w b : Bool) (goal : Turn) → i < most
+    → ◌≡◌ {A = Turn} (n, b) (one_round (m, false)) → b ≡ false → rounds (most - i) (m, w) ≡ goal
+    → ◌≡◌ {A = Turn} (n, w) goal
+rounds-off most i m n w b goal lt is none before =
+    let k : ℕ = most - (i + 1) in
+    sym (ap (λ c. cond c (rounds k (n, true)) (n, w)) none) ∙ sym (by-round k m n w b is)
+    ∙ sym (ap (λ j. rounds j (m, w)) (left-suc most i lt)) ∙ before
+
+-- and there are no more
+pub rounds-end : (most i : ℕ) (t goal : Turn) → most ≤ i → rounds (most - i) t ≡ goal → t ≡ goal
+rounds-end most i t goal past before =
+    sym (rounds-done t) ∙ sym (ap (λ k. rounds k t) (none-left most i past)) ∙ before
+  where
+    none-left : (most i : ℕ) → most ≤ i → most - i ≡ 0
+    none-left most i past = omega (arith, past)

@@ -6,7 +6,7 @@ ghost use Rattle.steer_laws.specs.Held.{Held};
 ghost use Rattle.steer_laws.specs.Kept.{sizes_in};
 ghost use Rattle.plan_reader.specs.Ranges.{step_is_within};
 ghost use Rattle.steer_core.specs.Rooms.{HasRoomFor};
-ghost use Rattle.steer_parts.specs.Whole.{step};
+ghost use Rattle.steer_parts.specs.Whole.{step as step_of};
 
 mod applications;
 mod changes;
@@ -65,8 +65,8 @@ impl Actors {
     pub fn step(&mut self, step: Step) -> Answer
         requires within { step_is_within (sizes_in self.old.machine.setup) step ≡ true }
         requires room { HasRoomFor self.old.rooms self.old.machine step }
-        ensures state { self.new.machine ≡ (step self.old.machine step).0 }
-        ensures answer { result ≡ (step self.old.machine step).1 }
+        ensures state { self.new.machine ≡ (step_of self.old.machine step).0 }
+        ensures answer { result ≡ (step_of self.old.machine step).1 }
         ensures rooms { self.new.rooms ≡ self.old.rooms }
     {
         match step {

@@ -6,7 +6,7 @@ ghost use Rattle.steer_laws.specs.Held.{Held};
 ghost use Rattle.steer_laws.specs.Kept.{sizes_in};
 ghost use Rattle.steer_parts.specs.Given.{AreOfFlows};
 ghost use Rattle.steer_parts.specs.Machine.{history_of};
-ghost use Rattle.steer_parts.specs.Whole.{step};
+ghost use Rattle.steer_parts.specs.Whole.{step as step_of};
 
 use crate::actors::Actors;
 use history::History;
@@ -67,9 +67,10 @@ impl Steering {
         requires within { step_is_within (sizes_in self.old.machine.setup) step.now ≡ true }
         requires left { self.old.made < self.old.steps }
         ensures state { self.new ≡ stepped self.old step.now }
-        ensures answer { result ≡ (step self.old.machine step.now).1 }
+        ensures answer { result ≡ (step_of self.old.machine step.now).1 }
         ensures setup { self.new.machine.setup ≡ self.old.machine.setup }
     {
+        self.actors.sound();
         let answer = self.actors.step(*step);
         self.made += 1;
         answer

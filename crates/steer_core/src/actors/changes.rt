@@ -18,7 +18,7 @@ impl Actors {
         ensures rooms { self.new.rooms ≡ self.old.rooms }
     {
         match command {
-            Command::Flows(q, count) => self.set_flows(*q, *count),
+            Command::Flows(q, count) => self.set_flows(q.0, *count),
             Command::Sock(size) => self.set_sock(*size),
             Command::Expire => self.expire(),
             Command::Mask(..)
@@ -43,15 +43,15 @@ impl Actors {
     }
 
     // Gives a receive queue another flow count, which clears its entries in a closed gate.
-    fn set_flows(&mut self, q: RxQueue, count: u32)
+    fn set_flows(&mut self, q: u8, count: u32)
         requires named { IsCommandNamed self.old.machine.setup (Command.Flows q count) }
         requires done { is_done (answer_to self.old.machine (Command.Flows q count)) ≡ true }
         ensures state { self.new.machine ≡ set_by self.old.machine (Command.Flows q count) }
         ensures rooms { self.new.rooms ≡ self.old.rooms }
     {
-        self.settings.change(&Command::Flows(q, count));
+        self.settings.change(&Command::Flows(RxQueue(q), count));
         self.rx.step(HopEvent::Close);
-        self.rx.step(HopEvent::Resize { p: q.0, count });
+        self.rx.step(HopEvent::Resize { p: q, count });
         self.rx.step(HopEvent::Reopen);
     }
 

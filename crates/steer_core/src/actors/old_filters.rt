@@ -15,7 +15,7 @@ pub fn count_old(filters: &FilterTable, rx: &Hop, settings: &InForce) -> u32
 {
     let mut count = 0;
     for i in 0..filters.count() {
-        if is_old(filters.look(i), rx, settings) {
+        if is_old(filter_at(filters, i), rx, settings) {
             count += 1;
         }
     }
@@ -39,7 +39,7 @@ fn clear_if_old(filters: &mut FilterTable, i: u32, rx: &Hop, settings: &InForce)
     ensures { filters.new ≡ slice_set filters.old i
         (kept_of rx.now settings.now (slice_index_or filters.old i None)) }
 {
-    if let Some(filter) = filters.look(i) {
+    if let Some(filter) = filter_at(filters, i) {
         let head = rx.head(filter.cpu.0);
         filters.expire(i, head, settings.flow_count(filter.queue.0));
     }
@@ -58,4 +58,12 @@ fn is_old(filter: Option<Filter>, rx: &Hop, settings: &InForce) -> bool
         ),
         None => false,
     }
+}
+
+// The filter of a number.
+fn filter_at(filters: &FilterTable, i: u32) -> Option<Filter>
+    requires { i < length filters.now }
+    ensures { result ≡ slice_index_or filters.now i None }
+{
+    filters.look(i)
 }

@@ -75,6 +75,7 @@ impl Actors {
             ≡ for_each self.old.machine.setup.apps serve (self.old.machine, worked) }
         ensures setup { self.new.machine.setup ≡ self.old.machine.setup }
         ensures rooms { self.new.rooms ≡ self.old.rooms }
+        ensures spare { HasSpare self.new.rooms self.new.machine }
     {
         let mut done = worked;
         for a in 0..self.given.apps() {

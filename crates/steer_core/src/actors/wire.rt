@@ -19,11 +19,10 @@ impl Actors {
         if next >= self.given.packet_count() {
             return Answer::Idle(Idle::NothingLeft);
         }
-        let arrival = self.arriving(PacketId(next));
-        self.rx.step(HopEvent::Arrive {
-            p: arrival.queue.0,
-            id: arrival.id,
-        });
+        let id = PacketId(next);
+        let arrival = self.arriving(id);
+        let queue = arrival.queue.0;
+        self.rx.step(HopEvent::Arrive { p: queue, id });
         self.arrivals.push(arrival);
         Answer::Done
     }

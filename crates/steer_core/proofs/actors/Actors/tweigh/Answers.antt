@@ -1,6 +1,7 @@
 use Rattle.std.proofs.Common.{subst, sym}
 use Rattle.hop_core.specs.Events.{MayAsk}
 use Rattle.hop_core.specs.declared.event.HopEvent.{HopEvent}
+use Rattle.steer_core.proofs.ChangeLemmas.{by_tx-is}
 use Rattle.steer_laws.proofs.HeldRows.{held_tweigh}
 use Rattle.steer_laws.proofs.KeptSends.{may_tweigh}
 use Rattle.steer_core.proofs.actors.Actors.tweigh.Goals as goal
@@ -19,3 +20,8 @@ invariant_of-self c =
           c.step.ensures.state c.self.invariant.0,
       c.self.invariant.1,
     )
+
+pub returns-clause-state : goal.returns-clause-state
+returns-clause-state c =
+    let e = rw (← c.self.view_is) at c.next_sending-event.ensures in
+    rw (← c.self.view_is) (by_tx-is _ c.next_sending-event.result _ c.step.new.self e c.step.ensures.state)
