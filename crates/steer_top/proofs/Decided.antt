@@ -1,5 +1,5 @@
 -- The files of a call are accepted, or refused for one reason.
-use Rattle.std.proofs.Common.{◌≡◌, ◌⊎◌, ℕ, Bool, true, false, List, [], ◌∷◌, length, take, inl, inr, refl, sym, ap, ◌∙◌, arith}
+use Rattle.std.proofs.Common.{◌≡◌, ◌⊎◌, ℕ, Bool, true, false, List, [], ◌∷◌, length, take, Result, Ok, Err, inl, inr, refl, sym, ap, ◌∙◌, arith}
 use Rattle.std.specs.Prelude.{bytes_eq}
 use Rattle.std.specs.Bool.{Decides}
 use Rattle.std.proofs.lemmas.Bool.{cases_lt, false≢true}
@@ -7,6 +7,9 @@ use Rattle.std.proofs.lemmas.Slice.Eq.{bytes_eq-Decides}
 use Rattle.pcap_reader.specs.Laws as pcap
 use Rattle.pcapng_reader.specs.Laws as pcapng
 use Rattle.pcapng_reader.specs.Captures.{BeginsNg}
+use Rattle.plan_reader.specs.declared.plan_fault.PlanFault.{PlanFault}
+use Rattle.ntuple_rules.specs.Readings.{rules_of}
+use Rattle.ntuple_rules.specs.declared.rules.Rules.{Rules}
 use Rattle.steer_top.specs.Files.{limit_of, IsRead, IsNot, IsGood, IsBad, IsDecided, IsRefusedOnce, IsNotBoth}
 use Rattle.steer_top.specs.declared.ending.Role.{Role}
 use Rattle.steer_top.specs.declared.ending.Role.TheVariants as role
@@ -32,6 +35,11 @@ pub record OneCapture : Type 0 where
 
 module _ (law : OneCapture) where
   is_either : (r : Role) (bytes : List ℕ) → IsRead r bytes ⊎ ((reason : Refusal) × IsNot r bytes reason)
+  is_either role.Rules bytes = by (rules_of bytes) refl
+    where
+      by : (read : Result Rules PlanFault) → rules_of bytes ≡ read → IsRead role.Rules bytes ⊎ ((reason : Refusal) × IsNot role.Rules bytes reason)
+      by (Ok rules) is = inl (rules, is)
+      by (Err fault) is = inr (refusal.Rules fault, is)
   is_either role.Capture bytes = elim (begins bytes) [
     | inl ng ↦ elim (law.ng_either bytes ng) [ inl (capture, has) ↦ inl (capture, inl has) | inr (fault, is) ↦ inr (refusal.Pcapng fault, is) ]
     | inr other ↦ elim (law.either bytes) [ inl (capture, has) ↦ inl (capture, inr (other, has)) | inr (fault, is) ↦ inr (refusal.Capture fault, (other, is)) ]
@@ -43,12 +51,28 @@ module _ (law : OneCapture) where
   not_both role.Capture bytes (refusal.Pcapng fault) (capture, inl has) is = law.ng_apart bytes capture fault has is
   not_both role.Capture bytes (refusal.Pcapng fault) (capture, inr (other, has)) is = other is.begins
   not_both role.Capture bytes (refusal.TooLong other) good is = is
+  not_both role.Capture bytes (refusal.Rules fault) good is = is
+  not_both role.Rules bytes (refusal.Rules fault) (rules, has) is = let both : Ok rules ≡ Err fault = sym has ∙ is in cc
+  not_both role.Rules bytes (refusal.TooLong other) good is = is
+  not_both role.Rules bytes (refusal.Capture fault) good is = is
+  not_both role.Rules bytes (refusal.Pcapng fault) good is = is
 
   is_one : (r : Role) (bytes : List ℕ) (a b : Refusal) → IsNot r bytes a → IsNot r bytes b → a ≡ b
   is_one role.Capture bytes (refusal.Capture f) (refusal.Capture g) is was = ap refusal.Capture (law.one bytes f g is.1 was.1)
   is_one role.Capture bytes (refusal.Pcapng f) (refusal.Pcapng g) is was = ap refusal.Pcapng (law.ng_one bytes f g is was)
   is_one role.Capture bytes (refusal.Capture f) (refusal.Pcapng g) is was = absurd (is.0 was.begins)
   is_one role.Capture bytes (refusal.Pcapng f) (refusal.Capture g) is was = absurd (was.0 is.begins)
+  is_one role.Rules bytes (refusal.Rules f) (refusal.Rules g) is was =
+      let both : Err f ≡ Err g = sym is ∙ was in let same : f ≡ g = cc in ap refusal.Rules same
+  is_one role.Rules bytes (refusal.Rules f) (refusal.TooLong other) is was = absurd was
+  is_one role.Rules bytes (refusal.Rules f) (refusal.Capture g) is was = absurd was
+  is_one role.Rules bytes (refusal.Rules f) (refusal.Pcapng g) is was = absurd was
+  is_one role.Rules bytes (refusal.TooLong other) b is was = absurd is
+  is_one role.Rules bytes (refusal.Capture f) b is was = absurd is
+  is_one role.Rules bytes (refusal.Pcapng f) b is was = absurd is
+  is_one role.Capture bytes (refusal.Rules f) b is was = absurd is
+  is_one role.Capture bytes (refusal.Capture f) (refusal.Rules g) is was = absurd was
+  is_one role.Capture bytes (refusal.Pcapng f) (refusal.Rules g) is was = absurd was
   is_one role.Capture bytes (refusal.TooLong other) b is was = absurd is
   is_one role.Capture bytes (refusal.Capture f) (refusal.TooLong other) is was = absurd was
   is_one role.Capture bytes (refusal.Pcapng f) (refusal.TooLong other) is was = absurd was

@@ -1,7 +1,7 @@
 use Rattle.std.proofs.Common.{◌≡◌, ◌∙◌, sym, subst}
 use Rattle.steer_top.specs.Endings.{IsRefusal}
 use Rattle.steer_top.specs.declared.ending.Ending.TheVariants as ending
-use Rattle.steer_top.proofs.Statuses.{refuses_of, refused_of, complete_of, accepted_of, text_of, part_of, refused_is}
+use Rattle.steer_top.proofs.Statuses.{refuses_of, refused_of, complete_of, accepted_of, text_of, part_of, refused_is, unread_of}
 use Rattle.steer_top.proofs.top.steer_still.Goals as goal
 
 pub returns-clause-refuses : goal.returns-clause-refuses
@@ -44,3 +44,8 @@ returns-clause-refusal_line g c = λ status command files reason asks refused.
     refused_is law.once law.apart command files _ asks.told c.run-ending.result (rw asks.is at c.run-ending.ensures.ends)
     (subst IsRefusal c.status.ensures status) reason refused in
     rw is at c.tell.ensures
+
+pub returns-clause-unread : goal.returns-clause-unread
+returns-clause-unread g c = λ status command files asks.
+    let law = c.a_call_is_decided.ensures in
+    unread_of law.once law.apart command files _ asks.told c.run-ending.result (rw asks.is at c.run-ending.ensures.ends) (sym c.status.ensures ∙ status)
