@@ -1,5 +1,6 @@
 -- How a command ends: with which status and which line, and what is true then.
-use Rattle.std.specs.Prelude.{◌≡◌, ◌≢◌, ◌≤◌, ◌<◌, ◌⊎◌, ℕ, List, [], ◌∷◌, ◌++◌, length, codes, decimal, ⊤}
+use Rattle.std.specs.Prelude.{◌≡◌, ◌≢◌, ◌≤◌, ◌<◌, ◌⊎◌, ℕ, List, [], ◌∷◌, ◌++◌, length, codes}
+use Rattle.std.specs.Prelude.{decimal, ⊤}
 use Rattle.std.specs.Prelude.{Option, Some, None, IfSome, ◌==◌, if◌then◌else◌}
 use Rattle.std.specs.Io.KnownBytes.{Keeps, Appends}
 use Rattle.outside_io.specs.Counts.{Rose}
@@ -21,8 +22,8 @@ use Rattle.steer_top.specs.declared.ending.Refusal.TheVariants as refusal
 use Rattle.steer_top.specs.declared.ending.Ending.{Ending}
 use Rattle.steer_top.specs.declared.ending.Ending.TheVariants as ending
 
--- how a command ends whose file has this fault: refused for this reason, or, where the fault is want of
--- memory, which is none of the bytes, for that
+-- how a command ends whose file has this fault: refused for this reason, or, where the fault is
+-- want of memory, which is none of the bytes, for that
 abbrev pub EndsAs : {F : Type 0} → F → F → Refusal → Ending → Type 0
 EndsAs fault memory reason e =
     ((fault ≡ memory) × (e ≡ ending.OutOfMemory))
@@ -126,8 +127,8 @@ line_of_status status =
     if status == 6 then codes "write fault\n" else codes "out of memory\n"
 
 -- what a call met: the bytes that the desk held by name, the name that it was asked for last, where
--- it tells it, the counts of faults of the desk and of the sink of the text before and after, and the
--- bytes that this sink had taken before and after
+-- it tells it, the counts of faults of the desk and of the sink of the text before and after, and
+-- the bytes that this sink had taken before and after
 pub record Course : Type 0 where
   pub held : List ℕ → Option (List ℕ)
   pub asked : Option (List ℕ)
@@ -154,7 +155,8 @@ Gave told files = (r : Role) → Keeps (told r) (Some (files r))
 
 -- a file of the command could not be read: the one that the desk was asked for last, where it tells
 -- that, and those before it are accepted
-pub record IsUnread (command : CommandWords) (files : Files) (asked : Option (List ℕ)) : Type 0 where
+pub record IsUnread (command : CommandWords) (files : Files) (asked : Option (List ℕ))
+    : Type 0 where
   pub earlier : List Role
   pub r : Role
   pub later : List Role
@@ -189,8 +191,8 @@ abbrev pub Ends : Ending → Option CommandWords → Course → Type 0
 Ends e None course = (e ≡ ending.Usage) × NothingOut course
 Ends e (Some command) course = EndsCommand e command course
 
--- how a command ends that could not read a file of this role and name: the desk failed, and was asked
--- for no other file, or the file is too long where its bytes are told, or memory ran out
+-- how a command ends that could not read a file of this role and name: the desk failed, and was
+-- asked for no other file, or the file is too long where its bytes are told, or memory ran out
 abbrev pub EndsUnread
     : Ending → Role → List ℕ → Option (List ℕ) → ℕ → ℕ → Option (List ℕ) → Type 0
 EndsUnread ending.ReadFault r name held before after asked =
@@ -200,8 +202,8 @@ EndsUnread (ending.Refuses (refusal.TooLong other)) r name held before after ask
 EndsUnread ending.OutOfMemory r name held before after asked = ⊤
 EndsUnread e r name held before after asked = ⊥
 
--- how a command ends whose file of this role was read, and is not what it is read as: refused for that
--- reason, or memory ran out
+-- how a command ends whose file of this role was read, and is not what it is read as: refused for
+-- that reason, or memory ran out
 abbrev pub EndsUnfit : Ending → Role → List ℕ → Type 0
 EndsUnfit (ending.Refuses reason) r bytes = IsNot r bytes reason
 EndsUnfit ending.OutOfMemory r bytes = ⊤
@@ -221,8 +223,8 @@ pub record EndsAt (e : Ending) (r : Role) (name : List ℕ) (held : Option (List
   pub gave : Keeps held (Some bytes)
   pub stops : StopsAt e r name bytes before after asked
 
--- how a command ends that writes this text: done, or the sink failed and took a prefix, or memory ran
--- out and nothing went out
+-- how a command ends that writes this text: done, or the sink failed and took a prefix, or memory
+-- ran out and nothing went out
 abbrev pub EndsWriting
     : Ending → List ℕ → ℕ → ℕ → Option (List ℕ) → Option (List ℕ) → Type 0
 EndsWriting ending.Done text faults faults' written written' = Appends written written' text

@@ -29,8 +29,8 @@ fn read_file<D: Desk>(
 ) -> Result<Vec<u8>, Ending>
     ensures whole { IfOk result (λ bytes. Keeps (D.held desk.old name.now) (Some bytes.items)) }
     ensures few { IfOk result (λ bytes. length bytes.items ≤ limit_of role) }
-    ensures unread { IfErr result (λ ending. EndsUnread ending role name.now (D.held desk.old name.now)
-        (D.faults desk.old) (D.faults desk.new) (D.asked desk.new)) }
+    ensures unread { IfErr result (λ ending. EndsUnread ending role name.now
+        (D.held desk.old name.now) (D.faults desk.old) (D.faults desk.new) (D.asked desk.new)) }
 
     ensures held { D.held desk.new ≡ D.held desk.old }
     ensures told { GoesOnTelling (D.left desk.old) (D.left desk.new) }

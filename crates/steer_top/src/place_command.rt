@@ -1,4 +1,5 @@
-//! The command `place`: the rules are read, then the capture, and then a line goes out for each packet.
+//! The command `place`: the rules are read, then the capture, and then a line goes out for each
+//! packet.
 ghost use Rattle.std.specs.Prelude.{◌≡◌, ◌≤◌, ℕ, List};
 ghost use Rattle.outside_io.specs.Desk.{GoesOnTelling};
 ghost use Rattle.steer_top.specs.Commands.{place_words_of};
@@ -8,8 +9,8 @@ ghost use Rattle.steer_top.specs.Words.CommandWords.{Place};
 use crate::command::PlaceCommand;
 use crate::ending::Ending;
 use crate::file::{take_capture, take_rules};
-use crate::writing::write_lines;
 use crate::placer::Placer;
+use crate::writing::write_lines;
 use outside_io::{Desk, Sink};
 use std::alloc::Global;
 use steer_base::OutOfMemory;

@@ -27,8 +27,8 @@ use std::alloc::Global;
 
 /// Does the command that the words are, without the program's name, and answers its status: 0 where
 /// all was done, written and sent on, 2 for words that are no command, 3 for a file that has no
-/// rules, 4 for one that is no capture, 5 and 6 where the desk or the sink of the text failed, 7 for want of memory, and 8 for
-/// a file that is too long. It always returns.
+/// rules, 4 for one that is no capture, 5 and 6 where the desk or the sink of the text failed, 7
+/// for want of memory, and 8 for a file that is too long. It always returns.
 ///
 /// All memory is taken before the first byte goes to `out`, which is flushed once, behind the whole
 /// text. `err` takes one line for every status but 0.

@@ -14,7 +14,8 @@ one_hash alike rules flow symmetric =
 
 one_queue : FoldsAlike → HasOneQueue
 one_queue alike rules flow symmetric none =
-    let same : hash_for rules (swapped flow) ≡ hash_for rules flow = one_hash alike rules flow symmetric in
+    let same : hash_for rules (swapped flow) ≡ hash_for rules flow =
+    one_hash alike rules flow symmetric in
     rw none (ap (queue_of (even_table rules.queues)) same)
 
 pub returns-clause-hash : goal.returns-clause-hash

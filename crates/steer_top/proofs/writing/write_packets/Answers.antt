@@ -24,14 +24,20 @@ returns-in_err-write-clause-part g c =
     let n = c.loop-number.number in
     let zero : PcapRecord = record { sec = 0; frac = 0; start = 0; len = 0; orig = 0 } in
     let next = packet_lines-next text bytes n records zero c.loop-number-test.true in
-    let line = line-slice text bytes n (get_or records n zero) c.push_frame.new.line c.push_frame.ensures in
+    let line = line-slice text bytes n
+    (get_or records n zero) c.push_frame.new.line c.push_frame.ensures in
     let before = g.K.Sink.written c.args.out.now in
     let after = g.K.Sink.written c.write.new.out in
     let so_far = packet_lines text bytes 0 (take n records) in
-    let some = AppendsSome-next before (g.K.Sink.written c.loop-number.out) after so_far c.push_frame.new.line c.loop-number.invariant.written c.in_err-write.ensures.part in
+    let some = AppendsSome-next before
+    (g.K.Sink.written c.loop-number.out) after so_far c.push_frame.new.line
+    c.loop-number.invariant.written c.in_err-write.ensures.part in
     let rest = packet_lines text bytes (0 + length (take (n + 1) records)) (drop (n + 1) records) in
-    let all = ap (λ t. (so_far ++ t) ++ rest) line ∙ ap (λ t. t ++ rest) (sym next) ∙ sym (packet_lines-front text bytes (n + 1) records) in
-    OnErr-of c.from_residual.result _ (subst (AppendsSome before after) all (AppendsSome-first before after (so_far ++ c.push_frame.new.line) rest some))
+    let all = ap (λ t. (so_far ++ t) ++ rest) line ∙ ap (λ t. t ++ rest) (sym next)
+    ∙ sym (packet_lines-front text bytes (n + 1) records) in
+    OnErr-of c.from_residual.result _
+    (subst (AppendsSome before after) all
+    (AppendsSome-first before after (so_far ++ c.push_frame.new.line) rest some))
 
 pub loop-number-preserved : goal.loop-number-preserved
 loop-number-preserved g c =
@@ -41,13 +47,16 @@ loop-number-preserved g c =
     let n = c.loop-number.number in
     let zero : PcapRecord = record { sec = 0; frac = 0; start = 0; len = 0; orig = 0 } in
     let next = packet_lines-next text bytes n records zero c.loop-number-test.true in
-    let line = line-slice text bytes n (get_or records n zero) c.push_frame.new.line c.push_frame.ensures in
+    let line = line-slice text bytes n
+    (get_or records n zero) c.push_frame.new.line c.push_frame.ensures in
     let before = g.K.Sink.written c.args.out.now in
     let after = g.K.Sink.written c.write.new.out in
     let so_far = packet_lines text bytes 0 (take n records) in
     record {
       empty = c.in_ok-write.ensures.cleared;
       written = subst (Appends before after) (ap (λ t. so_far ++ t) line ∙ sym next)
-          (Appends-trans before (g.K.Sink.written c.loop-number.out) after so_far c.push_frame.new.line c.loop-number.invariant.written c.in_ok-write.ensures.whole);
+          (Appends-trans before
+          (g.K.Sink.written c.loop-number.out) after so_far c.push_frame.new.line
+          c.loop-number.invariant.written c.in_ok-write.ensures.whole);
       later = omega (arith, c.loop-number.invariant.later, c.in_ok-write.ensures.later);
     }
