@@ -40,38 +40,3 @@ pub fn may_expire(filter: Filter, head: u32, entries: u32) -> bool
 {
     reached(head, filter.mark, 10 * (entries.max(1) - 1))
 }
-
-#[cfg(test)]
-mod tests {
-    use super::*;
-
-    #[test]
-    fn a_move_to_a_home_writes_a_filter(rt: HostRuntime) {
-        let homes = [Cpu(2), Cpu(1), Cpu(1)];
-        let filter = |queue, cpu| {
-            Some(Filter {
-                queue: RxQueue(queue),
-                cpu: Cpu(cpu),
-                mark: 9,
-            })
-        };
-        let cases = [
-            (Why::Unset, 1u8, filter(1, 1)),
-            (Why::Offline, 2, filter(0, 2)),
-            (Why::Passed, 1, filter(1, 1)),
-            // No queue has its home here.
-            (Why::Passed, 3, None),
-            // The class did not move.
-            (Why::Same, 1, None),
-            (Why::Kept, 1, None),
-            (Why::Plain, 1, None),
-        ];
-        for (why, cpu, wanted) in cases {
-            assert_eq!(rt;
-                filter_written(&homes, why, Cpu(cpu), 9),
-                wanted,
-                "{why:?} {cpu}"
-            );
-        }
-    }
-}

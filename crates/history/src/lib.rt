@@ -25,8 +25,6 @@ mod sent;
 mod shape;
 mod slots;
 mod sock_write;
-#[cfg(test)]
-mod tests;
 
 pub use arrival::Arrival;
 pub use commanded::Commanded;

@@ -9,8 +9,6 @@ mod plan_fault;
 mod plan_text;
 mod settings;
 mod steps;
-#[cfg(test)]
-mod tests;
 pub mod values;
 
 pub use plan::{Plan, QueuePlan, Steps, TxPlan};

@@ -13,22 +13,3 @@ pub fn place_of_hash(hash: Option<u32>, size: u32) -> Option<u32>
         _ => None,
     }
 }
-
-#[cfg(test)]
-mod tests {
-    use super::*;
-
-    #[test]
-    fn a_hash_has_a_place(rt: HostRuntime) {
-        let cases = [
-            (Some(0x51cc_c178u32), 128u32, Some(120u32)),
-            (Some(4294967295), 4096, Some(4095)),
-            (Some(7), 1, Some(0)),
-            (Some(7), 0, None),
-            (None, 8, None),
-        ];
-        for (hash, size, place) in cases {
-            assert_eq!(rt; place_of_hash(hash, size), place, "{hash:?} {size}");
-        }
-    }
-}

@@ -5,16 +5,12 @@ mod capture;
 mod command;
 mod ending;
 mod file;
-#[cfg(test)]
-mod frames;
 mod hash_command;
 mod hash_line;
 mod hasher;
 mod laws;
 mod place_command;
 mod placer;
-#[cfg(test)]
-mod rows;
 mod status;
 mod telling;
 mod top;

@@ -6,8 +6,6 @@ mod key;
 mod kinds;
 mod laws;
 mod tabled_key;
-#[cfg(test)]
-mod vectors;
 
 pub use key::{Key, VERIFICATION_KEY_BYTES, verification_key};
 pub use kinds::Kinds;
