@@ -16,4 +16,6 @@ mod pieces;
 #[cfg(test)]
 mod plans;
 #[cfg(test)]
+mod rules;
+#[cfg(test)]
 mod tunnels;

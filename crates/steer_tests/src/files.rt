@@ -12,11 +12,8 @@ pub const BIG_HEADER: [u8; 24] = [
     0xa1, 0xb2, 0x3c, 0x4d, 0, 2, 0, 4, 0, 0, 0, 0, 0, 0, 0, 0, 0, 0, 0xff, 0xff, 0, 0, 0, 1,
 ];
 
-/// The first bytes of a pcapng file.
-pub const NG_HEADER: [u8; 24] = [
-    0x0a, 0x0d, 0x0d, 0x0a, 0x1c, 0, 0, 0, 0x4d, 0x3c, 0x2b, 0x1a, 1, 0, 0, 0, 0xff, 0xff, 0xff,
-    0xff, 0xff, 0xff, 0xff, 0xff,
-];
+/// A header of zeros.
+pub const ZEROS: [u8; 24] = [0; 24];
 
 /// A header of version 2.5.
 pub const VERSION_2_5: [u8; 24] = [

@@ -2,8 +2,9 @@
 ghost use Rattle.std.specs.Prelude.{◌≡◌, Option, None};
 ghost use Rattle.outside_io.specs.Counts.{last_count};
 
+use crate::calls::{desk_of, outcome, sink, words};
 use crate::files::{
-    ARP, FRAGMENT, FRAME_A, FRAME_B, HEADER, NG_HEADER, OTHER_LINK, SYN, TAGGED_V6, VERSION_2_5,
+    ARP, FRAGMENT, FRAME_A, FRAME_B, HEADER, ZEROS, OTHER_LINK, SYN, TAGGED_V6, VERSION_2_5,
     big_file, file, tcpdump_file,
 };
 use outside_io::{
@@ -19,36 +20,9 @@ const LINE_A: &[u8] =
 const USAGE: &[u8] =
     b"usage: steer hash CAPTURE [QUEUES [KINDS]] | replay PLAN CAPTURE | run PLAN CAPTURE | gen SEED PACKETS FLOWS | check PLAN CAPTURE REPORT | place RULES CAPTURE\n";
 
-fn words(alloc: Global, texts: &[&str]) -> Result<Vec<String>, Fail> {
-    let mut words = Vec::new(alloc);
-    for text in texts {
-        words.push(String::from_str(alloc, *text)?)?;
-    }
-    Ok(words)
-}
-
 // A desk that holds this file as a.pcap, and whose calls with these numbers fail.
 fn desk_with(alloc: Global, bytes: &[u8], failing: &[u64]) -> Result<MemoryDesk, Fail> {
-    let mut files = Vec::new(alloc);
-    files.push((String::from_str(alloc, "a.pcap")?, bytes.to_vec(alloc)?))?;
-    Ok(MemoryDesk::make(files, failing.to_vec(alloc)?))
-}
-
-fn sink(alloc: Global, failing: &[u64]) -> Result<MemorySink, Fail> {
-    Ok(MemorySink::make(alloc, 4096, failing.to_vec(alloc)?)?)
-}
-
-// The status, and what went to the two sinks, where nothing fails.
-fn outcome(alloc: Global, texts: &[&str], bytes: &[u8]) -> Result<(u8, Vec<u8>, Vec<u8>), Fail> {
-    let mut desk = desk_with(alloc, bytes, &[])?;
-    let mut out = sink(alloc, &[])?;
-    let mut err = sink(alloc, &[])?;
-    let status = steer_still(alloc, &words(alloc, texts)?, &mut desk, &mut out, &mut err);
-    Ok((
-        status,
-        out.bytes().to_vec(alloc)?,
-        err.bytes().to_vec(alloc)?,
-    ))
+    desk_of(alloc, &[("a.pcap", bytes)], failing)
 }
 
 #[test]
@@ -112,10 +86,10 @@ fn captures_are_hashed(rt: HostRuntime) -> Result<(), Fail> {
         (&["hash", "a.pcap"], &long, b"packets 0 cut 15\n"),
     ];
     for (case, (texts, bytes, wanted)) in cases.into_iter().enumerate() {
-        let (status, out, err) = outcome(alloc, texts, bytes)?;
-        assert_eq!(rt; status, 0, "case {case}");
-        assert_eq!(rt; out.as_slice(), wanted, "case {case}");
-        assert!(rt; err.is_empty(), "case {case}");
+        let got = outcome(alloc, texts, desk_with(alloc, bytes, &[])?)?;
+        assert_eq!(rt; got.status, 0, "case {case}");
+        assert_eq!(rt; got.out.as_slice(), wanted, "case {case}");
+        assert!(rt; got.err.is_empty(), "case {case}");
     }
     Ok(())
 }
@@ -129,17 +103,17 @@ fn what_is_no_capture_is_named(rt: HostRuntime) -> Result<(), Fail> {
     many.extend_from_slice(&vec![in alloc; 0; 16 * 262_144 + 1]?)?;
     let cases: [(&[u8], &[u8]); 6] = [
         (&HEADER[..23], b"capture: short header 23\n"),
-        (&NG_HEADER, b"capture: bad magic 0a0d0d0a\n"),
+        (&ZEROS, b"capture: bad magic 00000000\n"),
         (&VERSION_2_5, b"capture: bad version 2 5\n"),
         (&OTHER_LINK, b"capture: bad link 65637\n"),
         (&long, b"capture: packet 0 too long 4294967295\n"),
         (&many, b"capture: too many packets\n"),
     ];
     for (case, (bytes, wanted)) in cases.into_iter().enumerate() {
-        let (status, out, err) = outcome(alloc, &["hash", "a.pcap"], bytes)?;
-        assert_eq!(rt; status, 4, "case {case}");
-        assert!(rt; out.is_empty(), "case {case}");
-        assert_eq!(rt; err.as_slice(), wanted, "case {case}");
+        let got = outcome(alloc, &["hash", "a.pcap"], desk_with(alloc, bytes, &[])?)?;
+        assert_eq!(rt; got.status, 4, "case {case}");
+        assert!(rt; got.out.is_empty(), "case {case}");
+        assert_eq!(rt; got.err.as_slice(), wanted, "case {case}");
     }
     Ok(())
 }
@@ -165,10 +139,10 @@ fn words_that_are_no_command_get_the_usage(rt: HostRuntime) -> Result<(), Fail> 
         &["hash", "a.pcap", "4", "63", "1"],
     ];
     for (case, texts) in cases.into_iter().enumerate() {
-        let (status, out, err) = outcome(alloc, texts, &bytes)?;
-        assert_eq!(rt; status, 2, "case {case}");
-        assert!(rt; out.is_empty(), "case {case}");
-        assert_eq!(rt; err.as_slice(), USAGE, "case {case}");
+        let got = outcome(alloc, texts, desk_with(alloc, &bytes, &[])?)?;
+        assert_eq!(rt; got.status, 2, "case {case}");
+        assert!(rt; got.out.is_empty(), "case {case}");
+        assert_eq!(rt; got.err.as_slice(), USAGE, "case {case}");
     }
     Ok(())
 }

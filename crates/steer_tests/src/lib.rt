@@ -2,6 +2,12 @@
 #![tactic(auto)]
 
 #[cfg(test)]
+mod calls;
+#[cfg(test)]
 mod files;
 #[cfg(test)]
 mod hash_command;
+#[cfg(test)]
+mod pcapng;
+#[cfg(test)]
+mod place_command;

@@ -1,5 +1,6 @@
 -- A line that is written in pieces.
-use Rattle.std.proofs.Common.{◌≡◌, ◌<◌, ℕ, ◌+◌, List, [], ◌∷◌, ◌++◌, length, take, drop, get_or, Option, Result, Ok, Err}
+use Rattle.std.proofs.Common.{◌≡◌, ◌<◌, ℕ, ◌+◌, List, [], ◌∷◌, ◌++◌, length, take, drop, get_or}
+use Rattle.std.proofs.Common.{Option, Result, Ok, Err}
 use Rattle.std.proofs.Common.{length-append, append-nil, arith, sym, ap, subst, ◌∙◌}
 use Rattle.std.specs.List.{flat_map}
 use Rattle.std.specs.Prelude.{OnErr}
@@ -11,16 +12,23 @@ use Rattle.std.proofs.Math.Seq.{take-append-add}
 use Rattle.outside_io.specs.Sink.{AppendsSome}
 
 -- a prefix of the first piece is a prefix of the line
-pub AppendsSome-first : (w w' : Option (List ℕ)) (x y : List ℕ) → AppendsSome w w' x → AppendsSome w w' (x ++ y)
-AppendsSome-first w w' x y (n, within, some) =
-    (n, omega (arith, length-append x y), subst (Appends w w') (sym (take-append-le n x y within)) some)
+pub AppendsSome-first : (w w' : Option (List ℕ)) (x y : List ℕ) → AppendsSome w w' x
+    → AppendsSome w w' (x ++ y)
+AppendsSome-first w w' x y (n, within, some) = (
+  n,
+  omega (arith, length-append x y),
+  subst (Appends w w')
+      (sym (take-append-le n x y within)) some,
+)
 
 -- the first piece and then a prefix of the rest are a prefix of the line
-pub AppendsSome-next : (w w' w'' : Option (List ℕ)) (x y : List ℕ) → Appends w w' x → AppendsSome w' w'' y → AppendsSome w w'' (x ++ y)
+pub AppendsSome-next : (w w' w'' : Option (List ℕ)) (x y : List ℕ) → Appends w w' x
+    → AppendsSome w' w'' y → AppendsSome w w'' (x ++ y)
 AppendsSome-next w w' w'' x y first (n, within, some) = (
   length x + n,
   omega (arith, length-append x y),
-  subst (Appends w w'') (sym (take-append-add x y n)) (Appends-trans w w' w'' x (take n y) first some),
+  subst (Appends w w'') (sym (take-append-add x y n))
+      (Appends-trans w w' w'' x (take n y) first some),
 )
 
 -- what holds anyhow holds at an error
@@ -40,4 +48,5 @@ flat_map_split f n xs d inside =
     ap (flat_map f) (take_more xs n d inside) ∙ flat_map-append f (take n xs) (get_or xs n d ∷ [])
     ∙ ap (λ t. flat_map f (take n xs) ++ t) (append-nil (f (get_or xs n d))) in
     ap (λ t. t ++ flat_map f (drop (n + 1) xs)) (sym next)
-    ∙ sym (flat_map-append f (take (n + 1) xs) (drop (n + 1) xs)) ∙ ap (flat_map f) (take-append-drop (n + 1) xs)
+    ∙ sym (flat_map-append f (take (n + 1) xs) (drop (n + 1) xs))
+    ∙ ap (flat_map f) (take-append-drop (n + 1) xs)

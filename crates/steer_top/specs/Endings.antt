@@ -1,5 +1,6 @@
 -- How a command ends: with which status and which line, and what is true then.
-use Rattle.std.specs.Prelude.{◌≡◌, ◌≢◌, ◌≤◌, ◌<◌, ◌⊎◌, ℕ, List, [], ◌∷◌, ◌++◌, length, codes, decimal, ⊤}
+use Rattle.std.specs.Prelude.{◌≡◌, ◌≢◌, ◌≤◌, ◌<◌, ◌⊎◌, ℕ, List, [], ◌∷◌, ◌++◌, length, codes}
+use Rattle.std.specs.Prelude.{decimal, ⊤}
 use Rattle.std.specs.Prelude.{Option, Some, None, IfSome, ◌==◌, if◌then◌else◌}
 use Rattle.std.specs.Io.KnownBytes.{Keeps, Appends}
 use Rattle.outside_io.specs.Counts.{Rose}
@@ -9,8 +10,10 @@ use Rattle.pcap_reader.specs.declared.fault.CaptureFault.{CaptureFault}
 use Rattle.pcap_reader.specs.declared.fault.CaptureFault.TheVariants as fault
 use Rattle.pcapng_reader.specs.declared.fault.NgFault.{NgFault}
 use Rattle.pcapng_reader.specs.declared.fault.NgFault.TheVariants as ng
-use Rattle.steer_top.specs.Files.{Files, Accepted, IsNot, Refused, limit_of}
-use Rattle.steer_top.specs.Outcomes.{Writes, roles_of, told_of}
+use Rattle.plan_reader.specs.declared.plan_fault.PlanFault.{PlanFault}
+use Rattle.plan_reader.specs.declared.plan_fault.PlanFault.TheVariants as plan
+use Rattle.steer_top.specs.Files.{Files, Accepted, IsBad, IsNot, Refused, limit_of}
+use Rattle.steer_top.specs.Outcomes.{Writes, name_of, roles_of, told_of}
 use Rattle.steer_top.specs.Words.{CommandWords}
 use Rattle.steer_top.specs.declared.ending.Role.{Role}
 use Rattle.steer_top.specs.declared.ending.Role.TheVariants as role
@@ -19,8 +22,8 @@ use Rattle.steer_top.specs.declared.ending.Refusal.TheVariants as refusal
 use Rattle.steer_top.specs.declared.ending.Ending.{Ending}
 use Rattle.steer_top.specs.declared.ending.Ending.TheVariants as ending
 
--- how a command ends whose file has this fault: refused for this reason, or, where the fault is want of
--- memory, which is none of the bytes, for that
+-- how a command ends whose file has this fault: refused for this reason, or, where the fault is
+-- want of memory, which is none of the bytes, for that
 abbrev pub EndsAs : {F : Type 0} → F → F → Refusal → Ending → Type 0
 EndsAs fault memory reason e =
     ((fault ≡ memory) × (e ≡ ending.OutOfMemory))
@@ -28,13 +31,14 @@ EndsAs fault memory reason e =
 
 -- the status of a refusal
 abbrev pub status_of_refusal : Refusal → ℕ
+status_of_refusal (refusal.Rules f) = 3
 status_of_refusal (refusal.Capture f) = 4
 status_of_refusal (refusal.Pcapng f) = 4
 status_of_refusal (refusal.TooLong r) = 8
 
 -- it is a status of refusals, and of nothing else
 abbrev pub IsRefusal : ℕ → Type 0
-IsRefusal status = (status ≡ 4) ⊎ (status ≡ 8)
+IsRefusal status = (status ≡ 3) ⊎ ((status ≡ 4) ⊎ (status ≡ 8))
 
 abbrev pub status_of : Ending → ℕ
 status_of ending.Done = 0
@@ -46,6 +50,20 @@ status_of ending.OutOfMemory = 7
 
 abbrev pub usage_line : List ℕ
 usage_line = codes "usage: steer hash CAPTURE [QUEUES [KINDS]] | replay PLAN CAPTURE | run PLAN CAPTURE | gen SEED PACKETS FLOWS | check PLAN CAPTURE REPORT | place RULES CAPTURE\n"
+
+-- the line that names a fault of a text in JSON, which begins with what the text is called
+abbrev pub line_of_plan_fault : List ℕ → PlanFault → List ℕ
+line_of_plan_fault word plan.NotJson = word ++ codes ": not json\n"
+line_of_plan_fault word (plan.Missing path) = word ++ (codes ": missing " ++ (path ++ codes "\n"))
+line_of_plan_fault word (plan.WrongKind path) =
+    word ++ (codes ": wrong kind " ++ (path ++ codes "\n"))
+line_of_plan_fault word (plan.Range path value) =
+    word ++ (codes ": range " ++ (path ++ (codes " " ++ (decimal value ++ codes "\n"))))
+line_of_plan_fault word (plan.UnknownKey path) =
+    word ++ (codes ": unknown key " ++ (path ++ codes "\n"))
+line_of_plan_fault word (plan.TooLong steps) =
+    word ++ (codes ": too long " ++ (decimal steps ++ codes "\n"))
+line_of_plan_fault word plan.OutOfMemory = codes "out of memory\n"
 
 -- the line that names a fault of a capture
 abbrev pub line_of_fault : CaptureFault → List ℕ
@@ -81,11 +99,13 @@ line_of_ng_fault ng.OutOfMemory = codes "out of memory\n"
 
 -- what a file of a role is called
 abbrev pub name_of_role : Role → List ℕ
+name_of_role role.Rules = codes "rules"
 name_of_role role.Capture = codes "capture"
 
 -- the line that names a refusal
 abbrev pub line_of_refusal : Refusal → List ℕ
 line_of_refusal (refusal.TooLong r) = name_of_role r ++ codes " too long\n"
+line_of_refusal (refusal.Rules f) = line_of_plan_fault (codes "rules") f
 line_of_refusal (refusal.Capture f) = line_of_fault f
 line_of_refusal (refusal.Pcapng f) = line_of_ng_fault f
 
@@ -106,10 +126,12 @@ line_of_status status =
     if status == 5 then codes "read fault\n" else
     if status == 6 then codes "write fault\n" else codes "out of memory\n"
 
--- what a call met: the bytes that the desk held by name, the counts of faults of the desk and of
--- the sink of the text before and after, and the bytes that this sink had taken before and after
+-- what a call met: the bytes that the desk held by name, the name that it was asked for last, where
+-- it tells it, the counts of faults of the desk and of the sink of the text before and after, and
+-- the bytes that this sink had taken before and after
 pub record Course : Type 0 where
   pub held : List ℕ → Option (List ℕ)
+  pub asked : Option (List ℕ)
   pub desk_before : ℕ
   pub desk_after : ℕ
   pub out_before : ℕ
@@ -131,53 +153,86 @@ NothingOut course = Keeps course.written_before course.written_after
 abbrev pub Gave : (Role → Option (List ℕ)) → Files → Type 0
 Gave told files = (r : Role) → Keeps (told r) (Some (files r))
 
--- a file of these roles could not be read, and those before it are accepted
-abbrev pub IsUnread : List Role → Files → Type 0
-IsUnread roles files =
-    (earlier later : List Role) × (r : Role)
-    × (roles ≡ earlier ++ r ∷ later) × Accepted earlier files
+-- a file of the command could not be read: the one that the desk was asked for last, where it tells
+-- that, and those before it are accepted
+pub record IsUnread (command : CommandWords) (files : Files) (asked : Option (List ℕ))
+    : Type 0 where
+  pub earlier : List Role
+  pub r : Role
+  pub later : List Role
+  pub roles : roles_of command ≡ earlier ++ r ∷ later
+  pub accepted : Accepted earlier files
+  pub last : IfSome asked (λ name. name_of command r ≡ Some name)
 
--- what is true at an ending, by the files and the texts that the command may write of them
-abbrev pub EndsBy : List Role → Files → (List ℕ → Type 0) → Ending → Course → Type 0
-EndsBy roles files writes ending.Done course =
-    Accepted roles files
-    × (text : List ℕ) × writes text × Appends course.written_before course.written_after text
-EndsBy roles files writes ending.Usage course = ⊥
-EndsBy roles files writes (ending.Refuses reason) course =
-    Refused roles files reason × NothingOut course
-EndsBy roles files writes ending.ReadFault course =
-    IsUnread roles files × DeskFailed course × NothingOut course
-EndsBy roles files writes ending.WriteFault course =
-    Accepted roles files × OutFailed course
-    × (text : List ℕ) × writes text × AppendsSome course.written_before course.written_after text
-EndsBy roles files writes ending.OutOfMemory course = NothingOut course
+-- what is true at an ending, by the files
+abbrev pub EndsBy : CommandWords → Files → Ending → Course → Type 0
+EndsBy command files ending.Done course =
+    Accepted (roles_of command) files
+    × (text : List ℕ) × Writes command files text
+    × Appends course.written_before course.written_after text
+EndsBy command files ending.Usage course = ⊥
+EndsBy command files (ending.Refuses reason) course =
+    Refused (roles_of command) files reason × NothingOut course
+EndsBy command files ending.ReadFault course =
+    IsUnread command files course.asked × DeskFailed course × NothingOut course
+EndsBy command files ending.WriteFault course =
+    Accepted (roles_of command) files × OutFailed course
+    × (text : List ℕ) × Writes command files text
+    × AppendsSome course.written_before course.written_after text
+EndsBy command files ending.OutOfMemory course = NothingOut course
 
 -- a command ended so, with files that the desk gave
 abbrev pub EndsCommand : Ending → CommandWords → Course → Type 0
 EndsCommand e command course =
-    (files : Files) × Gave (told_of course.held command) files
-    × EndsBy (roles_of command) files (Writes command files) e course
+    (files : Files) × Gave (told_of course.held command) files × EndsBy command files e course
 
 -- the same of all words: those that are no command end with the usage line
 abbrev pub Ends : Ending → Option CommandWords → Course → Type 0
 Ends e None course = (e ≡ ending.Usage) × NothingOut course
 Ends e (Some command) course = EndsCommand e command course
 
--- how a command ends that could not read a file of this role: the desk failed, or the file is too
--- long where its bytes are told, or memory ran out
-abbrev pub EndsUnread : Ending → Role → Option (List ℕ) → ℕ → ℕ → Type 0
-EndsUnread ending.ReadFault r held before after = Rose before after
-EndsUnread (ending.Refuses (refusal.TooLong other)) r held before after =
+-- how a command ends that could not read a file of this role and name: the desk failed, and was
+-- asked for no other file, or the file is too long where its bytes are told, or memory ran out
+abbrev pub EndsUnread
+    : Ending → Role → List ℕ → Option (List ℕ) → ℕ → ℕ → Option (List ℕ) → Type 0
+EndsUnread ending.ReadFault r name held before after asked =
+    Rose before after × IfSome asked (λ last. last ≡ name)
+EndsUnread (ending.Refuses (refusal.TooLong other)) r name held before after asked =
     (other ≡ r) × IfSome held (λ bytes. limit_of r < length bytes)
-EndsUnread ending.OutOfMemory r held before after = ⊤
-EndsUnread e r held before after = ⊥
+EndsUnread ending.OutOfMemory r name held before after asked = ⊤
+EndsUnread e r name held before after asked = ⊥
 
--- how a command ends whose file of this role was read, and is not what it is read as: refused for that
--- reason, or memory ran out
+-- how a command ends whose file of this role was read, and is not what it is read as: refused for
+-- that reason, or memory ran out
 abbrev pub EndsUnfit : Ending → Role → List ℕ → Type 0
 EndsUnfit (ending.Refuses reason) r bytes = IsNot r bytes reason
 EndsUnfit ending.OutOfMemory r bytes = ⊤
 EndsUnfit e r bytes = ⊥
+
+-- how a command ends at a file of this role and name, by bytes that the file may have
+abbrev pub StopsAt : Ending → Role → List ℕ → List ℕ → ℕ → ℕ → Option (List ℕ) → Type 0
+StopsAt ending.ReadFault r name bytes before after asked =
+    Rose before after × IfSome asked (λ last. last ≡ name)
+StopsAt (ending.Refuses reason) r name bytes before after asked = IsBad r bytes reason
+StopsAt ending.OutOfMemory r name bytes before after asked = ⊤
+StopsAt e r name bytes before after asked = ⊥
+
+pub record EndsAt (e : Ending) (r : Role) (name : List ℕ) (held : Option (List ℕ))
+    (before after : ℕ) (asked : Option (List ℕ)) : Type 0 where
+  pub bytes : List ℕ
+  pub gave : Keeps held (Some bytes)
+  pub stops : StopsAt e r name bytes before after asked
+
+-- how a command ends that writes this text: done, or the sink failed and took a prefix, or memory
+-- ran out and nothing went out
+abbrev pub EndsWriting
+    : Ending → List ℕ → ℕ → ℕ → Option (List ℕ) → Option (List ℕ) → Type 0
+EndsWriting ending.Done text faults faults' written written' = Appends written written' text
+EndsWriting ending.WriteFault text faults faults' written written' =
+    Rose faults faults' × AppendsSome written written' text
+EndsWriting ending.OutOfMemory text faults faults' written written' =
+    Keeps written written'
+EndsWriting e text faults faults' written written' = ⊥
 
 -- a command that was done is so still, or its flush failed; every other ending stays
 pub record Flushes (e e' : Ending) (faults faults' : ℕ) (written written' : Option (List ℕ))

@@ -57,12 +57,11 @@ frame_line kinds table number frame =
     let hash = hash_of_flow verification_key (flow_of frame) kinds in
     packet_text number (flow_of frame) hash (queue_of table hash) ++ codes "\n"
 
--- the lines of these records of a file's bytes, numbered from here on
-unfoldable pub packet_lines : ℕ → Redirection → List ℕ → ℕ → List PcapRecord → List ℕ
-packet_lines kinds table bytes number [] = []
-packet_lines kinds table bytes number (r ∷ rs) =
-    frame_line kinds table number (frame_of bytes r)
-    ++ packet_lines kinds table bytes (number + 1) rs
+-- the lines of these records of a file's bytes, numbered from here on, by the line of a frame
+unfoldable pub packet_lines : (ℕ → List ℕ → List ℕ) → List ℕ → ℕ → List PcapRecord → List ℕ
+packet_lines line bytes number [] = []
+packet_lines line bytes number (r ∷ rs) =
+    line number (frame_of bytes r) ++ packet_lines line bytes (number + 1) rs
 
 -- how many packets there are, and how many bytes of a cut one
 unfoldable pub count_line : ℕ → Option ℕ → List ℕ
@@ -70,12 +69,12 @@ count_line packets None = codes "packets " ++ decimal packets ++ codes "\n"
 count_line packets (Some cut) =
     codes "packets " ++ decimal packets ++ codes " cut " ++ decimal cut ++ codes "\n"
 
--- the text of a capture, by these kinds and this table
-unfoldable pub hasher_text : ℕ → Redirection → List ℕ → Capture → List ℕ
-hasher_text kinds table bytes capture =
-    packet_lines kinds table bytes 0 capture.records
-    ++ count_line (length capture.records) capture.cut
+-- the lines of a capture's packets, and the line that counts them
+unfoldable pub all_lines : (ℕ → List ℕ → List ℕ) → List ℕ → Capture → List ℕ
+all_lines line bytes capture =
+    packet_lines line bytes 0 capture.records ++ count_line (length capture.records) capture.cut
 
--- the text of a capture, with the even table over so many queues
+-- the text of a capture, by these kinds and the even table over so many queues
 abbrev pub capture_text : ℕ → ℕ → List ℕ → Capture → List ℕ
-capture_text queues kinds bytes capture = hasher_text kinds (even_table queues) bytes capture
+capture_text queues kinds bytes capture =
+    all_lines (frame_line kinds (even_table queues)) bytes capture

@@ -3,6 +3,8 @@ pub mod Commands
 pub mod Captures
 pub mod Files
 pub mod HashText
-pub mod Hashers
+pub mod PlaceText
+pub mod Taken
 pub mod Outcomes
 pub mod Endings
+pub mod Laws

@@ -1,28 +1,40 @@
 -- What each command reads and writes: an equation of each definition for a command.
-use Rattle.std.specs.Prelude.{◌≡◌, ℕ, List, [], ◌∷◌, ⊤, Option, Some, String, option_and_then}
+use Rattle.std.specs.Prelude.{◌≡◌, ℕ, List, [], ◌∷◌, ⊤, Ok, Option, Some, None, String}
+use Rattle.std.specs.Prelude.{option_and_then}
 use Rattle.std.specs.declared.alloc.Global.{Global}
+use Rattle.ntuple_rules.specs.Readings.{rules_of}
+use Rattle.ntuple_rules.specs.declared.rules.Rules.{Rules}
 use Rattle.pcap_reader.specs.declared.capture.Capture.{Capture}
 use Rattle.steer_top.specs.Captures.{HasAnyCapture}
 use Rattle.steer_top.specs.Files.{Files}
 use Rattle.steer_top.specs.HashText.{capture_text}
+use Rattle.steer_top.specs.PlaceText.{place_text}
 use Rattle.steer_top.specs.Words.{CommandWords, command_of}
-use Rattle.steer_top.specs.Words.CommandWords.{Hash}
+use Rattle.steer_top.specs.Words.CommandWords.{Hash, Place}
 use Rattle.steer_top.specs.declared.ending.Role.{Role}
 use Rattle.steer_top.specs.declared.ending.Role.TheVariants as role
 
 -- the roles of the files that a command reads, in this order
 abbrev pub roles_of : CommandWords → List Role
 roles_of (Hash words) = role.Capture ∷ []
+roles_of (Place words) = role.Rules ∷ role.Capture ∷ []
 
 -- the name of a command's file of a role, where it reads one
 abbrev pub name_of : CommandWords → Role → Option (List ℕ)
+name_of (Hash words) role.Rules = None
 name_of (Hash words) role.Capture = Some words.capture
+name_of (Place words) role.Rules = Some words.rules
+name_of (Place words) role.Capture = Some words.capture
 
 -- a text that a command may write of its files
 abbrev pub Writes : CommandWords → Files → List ℕ → Type 0
 Writes (Hash words) files text =
     (capture : Capture) × HasAnyCapture (files role.Capture) capture
     × (text ≡ capture_text words.queues words.kinds (files role.Capture) capture)
+Writes (Place words) files text =
+    (rules : Rules) × (capture : Capture) × (rules_of (files role.Rules) ≡ Ok rules)
+    × HasAnyCapture (files role.Capture) capture
+    × (text ≡ place_text rules (files role.Capture) capture)
 
 -- the bytes of a command's file of a role, where the names' bytes are told
 abbrev pub told_of : (List ℕ → Option (List ℕ)) → CommandWords → Role → Option (List ℕ)

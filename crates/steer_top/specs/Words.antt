@@ -48,15 +48,36 @@ hash_arguments (capture ∷ queues ∷ kinds ∷ []) =
     hash_with capture (number_within 1 16 queues) (number_within 0 63 kinds)
 hash_arguments (capture ∷ queues ∷ kinds ∷ more ∷ rest) = None
 
+-- the command `place`: the names of the rules and of a capture
+pub record PlaceWords : Type 0 where
+  pub rules : List ℕ
+  pub capture : List ℕ
+
+-- what stands behind the word `place`: RULES CAPTURE
+unfoldable pub place_arguments : List (List ℕ) → Option PlaceWords
+place_arguments [] = None
+place_arguments (rules ∷ []) = None
+place_arguments (rules ∷ capture ∷ []) =
+    if is_name rules && is_name capture
+    then Some (record { rules = rules; capture = capture })
+    else None
+place_arguments (rules ∷ capture ∷ more ∷ rest) = None
+
 -- a command with its numbers and the names of its files
 pub data CommandWords : Type 0 where
   Hash : HashWords → CommandWords
+  Place : PlaceWords → CommandWords
+
+-- the command of this name with these arguments, if there is one
+abbrev pub command_named : List ℕ → List (List ℕ) → Option CommandWords
+command_named name arguments =
+    if bytes_eq name (codes "hash") then option_map Hash (hash_arguments arguments) else
+    if bytes_eq name (codes "place") then option_map Place (place_arguments arguments) else None
 
 -- the command that the words are, if they are one
 abbrev pub command_of_words : List (List ℕ) → Option CommandWords
 command_of_words [] = None
-command_of_words (word ∷ rest) =
-    if bytes_eq word (codes "hash") then option_map Hash (hash_arguments rest) else None
+command_of_words (word ∷ rest) = command_named word rest
 
 abbrev pub command_of : List (String Global) → Option CommandWords
 command_of words = command_of_words (map (λ word. string_bytes word) words)

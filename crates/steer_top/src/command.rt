@@ -6,6 +6,8 @@ ghost use Rattle.std.specs.Prelude.{◌≤◌};
 pub enum Command<'a> {
     /// The flow, the hash and the queue of each packet of a capture.
     Hash(HashCommand<'a>),
+    /// The same by rules, with the rule that matched and the depth of its tunnel.
+    Place(PlaceCommand<'a>),
 }
 
 /// The command `hash` with its arguments.
@@ -19,4 +21,13 @@ pub struct HashCommand<'a> {
     pub kinds: u8,
     ghost some_queue: { 1 ≤ queues },
     ghost few_queues: { queues ≤ 16 },
+}
+
+/// The command `place` with its arguments.
+#[derive(Drop)]
+pub struct PlaceCommand<'a> {
+    /// The name of the rules.
+    pub rules: &'a str,
+    /// The name of the capture.
+    pub capture: &'a str,
 }

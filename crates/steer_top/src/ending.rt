@@ -5,10 +5,13 @@ ghost use Rattle.steer_top.specs.Endings.{EndsAs, name_of_role};
 
 use pcap_reader::CaptureFault;
 use pcapng_reader::NgFault;
+use plan_reader::PlanFault;
 
 /// What a file of a command is read as.
 #[derive(Clone, Copy, Debug, PartialEq, Eq)]
 pub enum Role {
+    /// Rules by which packets are placed.
+    Rules,
     /// A capture of packets.
     Capture,
 }
@@ -20,6 +23,7 @@ impl Role {
         ensures few { result ≤ 268435456 }
     {
         match self {
+            Role::Rules => 16_777_216,
             Role::Capture => 268_435_456,
         }
     }
@@ -29,6 +33,7 @@ impl Role {
         ensures { result.now ≡ name_of_role self }
     {
         match self {
+            Role::Rules => b"rules",
             Role::Capture => b"capture",
         }
     }
@@ -39,6 +44,8 @@ impl Role {
 pub enum Refusal {
     /// It has more bytes than a file of its role may have.
     TooLong(Role),
+    /// It has no rules, by this fault.
+    Rules(PlanFault),
     /// It is no classic capture, by this fault, and does not begin as a pcapng file.
     Capture(CaptureFault),
     /// It begins as a pcapng file, and is no capture, by this fault.
@@ -70,6 +77,16 @@ impl Ending {
         match fault {
             CaptureFault::OutOfMemory => Ending::OutOfMemory,
             fault => Ending::Refuses(Refusal::Capture(fault)),
+        }
+    }
+
+    /// The same of the bytes of rules.
+    pub fn of_rules_fault(fault: PlanFault) -> Ending
+        ensures { EndsAs fault PlanFault.OutOfMemory (Refusal.Rules fault) result }
+    {
+        match fault {
+            PlanFault::OutOfMemory => Ending::OutOfMemory,
+            fault => Ending::Refuses(Refusal::Rules(fault)),
         }
     }
 

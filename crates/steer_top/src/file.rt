@@ -1,16 +1,27 @@
-//! A file of a command, read whole.
+//! A file of a command, read whole and taken for what it is read as.
 ghost use Rattle.std.specs.Prelude.{◌≡◌, ◌≤◌, Some, IfOk, IfErr, length};
 ghost use Rattle.std.specs.Io.KnownBytes.{Keeps};
 ghost use Rattle.outside_io.specs.Desk.{GoesOnTelling};
 ghost use Rattle.steer_top.specs.Files.{limit_of};
-ghost use Rattle.steer_top.specs.Endings.{EndsUnread};
+ghost use Rattle.steer_top.specs.Endings.{EndsAt, EndsUnread};
+ghost use Rattle.steer_top.specs.Taken.{IsCaptureOf, IsRulesOf};
 
+use crate::capture::read_any;
 use crate::ending::{Ending, Refusal, Role};
+use ntuple_rules::{Rules, read_rules};
 use outside_io::{Desk, ReadWhole, read_whole};
+use pcap_reader::Capture;
 use std::alloc::Global;
 
+/// The bytes of a file, and the capture that they are.
+#[derive(Drop)]
+pub struct CaptureFile {
+    pub bytes: Vec<u8>,
+    pub capture: Capture,
+}
+
 /// All bytes of a file within the limit of its role, or how the command ends without them.
-pub fn read_file<D: Desk>(
+fn read_file<D: Desk>(
     alloc: Global,
     role: Role,
     name: &str,
@@ -18,8 +29,8 @@ pub fn read_file<D: Desk>(
 ) -> Result<Vec<u8>, Ending>
     ensures whole { IfOk result (λ bytes. Keeps (D.held desk.old name.now) (Some bytes.items)) }
     ensures few { IfOk result (λ bytes. length bytes.items ≤ limit_of role) }
-    ensures unread { IfErr result (λ ending. EndsUnread ending role (D.held desk.old name.now)
-        (D.faults desk.old) (D.faults desk.new)) }
+    ensures unread { IfErr result (λ ending. EndsUnread ending role name.now
+        (D.held desk.old name.now) (D.faults desk.old) (D.faults desk.new) (D.asked desk.new)) }
 
     ensures held { D.held desk.new ≡ D.held desk.old }
     ensures told { GoesOnTelling (D.left desk.old) (D.left desk.new) }
@@ -30,5 +41,45 @@ pub fn read_file<D: Desk>(
         Err(ReadWhole::Fault) => Err(Ending::ReadFault),
         Err(ReadWhole::TooLong) => Err(Ending::Refuses(Refusal::TooLong(role))),
         Err(ReadWhole::OutOfMemory) => Err(Ending::OutOfMemory),
+    }
+}
+
+/// The capture of a file with its bytes, or how the command ends without it.
+pub fn take_capture<D: Desk>(alloc: Global, name: &str, desk: &mut D) -> Result<CaptureFile, Ending>
+    ensures taken { IfOk result (IsCaptureOf (D.held desk.old name.now)) }
+    ensures ends { IfErr result (λ ending. EndsAt ending Role.Capture name.now
+        (D.held desk.old name.now) (D.faults desk.old) (D.faults desk.new) (D.asked desk.new)) }
+
+    ensures held { D.held desk.new ≡ D.held desk.old }
+    ensures told { GoesOnTelling (D.left desk.old) (D.left desk.new) }
+    ensures later { D.faults desk.old ≤ D.faults desk.new }
+{
+    let bytes = match read_file(alloc, Role::Capture, name, desk) {
+        Ok(bytes) => bytes,
+        Err(ending) => return Err(ending),
+    };
+    match read_any(alloc, &bytes) {
+        Ok(capture) => Ok(CaptureFile { bytes, capture }),
+        Err(ending) => Err(ending),
+    }
+}
+
+/// The rules of a file, or how the command ends without them. Its bytes are given up.
+pub fn take_rules<D: Desk>(alloc: Global, name: &str, desk: &mut D) -> Result<Rules, Ending>
+    ensures taken { IfOk result (IsRulesOf (D.held desk.old name.now)) }
+    ensures ends { IfErr result (λ ending. EndsAt ending Role.Rules name.now
+        (D.held desk.old name.now) (D.faults desk.old) (D.faults desk.new) (D.asked desk.new)) }
+
+    ensures held { D.held desk.new ≡ D.held desk.old }
+    ensures told { GoesOnTelling (D.left desk.old) (D.left desk.new) }
+    ensures later { D.faults desk.old ≤ D.faults desk.new }
+{
+    let bytes = match read_file(alloc, Role::Rules, name, desk) {
+        Ok(bytes) => bytes,
+        Err(ending) => return Err(ending),
+    };
+    match read_rules(alloc, &bytes) {
+        Ok(rules) => Ok(rules),
+        Err(fault) => Err(Ending::of_rules_fault(fault)),
     }
 }

@@ -9,10 +9,13 @@ mod hash_command;
 mod hash_line;
 mod hasher;
 mod laws;
+mod place_command;
+mod placer;
 mod status;
 mod telling;
 mod top;
 mod words;
+mod writing;
 
-pub use laws::a_call_is_decided;
+pub use laws::{a_call_is_decided, both_directions_have_one_queue};
 pub use top::steer_still;

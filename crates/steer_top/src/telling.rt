@@ -2,13 +2,14 @@
 ghost use Rattle.std.specs.Prelude.{◌++◌, codes, decimal};
 ghost use Rattle.std.specs.List.{flat_map};
 ghost use Rattle.steer_top.specs.Endings.{Told, line_of, line_of_fault, line_of_ng_fault};
-ghost use Rattle.steer_top.specs.Endings.{line_of_refusal};
+ghost use Rattle.steer_top.specs.Endings.{line_of_plan_fault, line_of_refusal};
 
 use crate::ending::{Ending, Refusal};
 use itoa::Buffer;
 use outside_io::{Sink, WriteFault, write_whole};
 use pcap_reader::CaptureFault;
 use pcapng_reader::NgFault;
+use plan_reader::PlanFault;
 use report::hex8;
 
 const USAGE: &[u8] =
@@ -35,8 +36,38 @@ fn tell_refusal<E: Sink>(err: &mut E, refusal: &Refusal)
 {
     match refusal {
         Refusal::TooLong(role) => say(err, &[role.name(), b" too long\n"]),
+        Refusal::Rules(fault) => tell_plan_fault(err, b"rules", fault),
         Refusal::Capture(fault) => tell_fault(err, *fault),
         Refusal::Pcapng(fault) => tell_ng_fault(err, *fault),
+    }
+}
+
+fn tell_plan_fault<E: Sink>(err: &mut E, word: &[u8], fault: &PlanFault)
+    ensures { Told (E.faults err.old) (E.faults err.new) (E.written err.old) (E.written err.new)
+        (line_of_plan_fault word.now fault.now) }
+{
+    let mut buffer = Buffer::new();
+    match fault {
+        PlanFault::NotJson => say(err, &[word, b": not json\n"]),
+        PlanFault::Missing { path } => say(err, &[word, b": missing ", path.as_slice(), b"\n"]),
+        PlanFault::WrongKind { path } => {
+            say(err, &[word, b": wrong kind ", path.as_slice(), b"\n"]);
+        }
+        PlanFault::Range { path, value } => {
+            let digits = buffer.format(*value).as_bytes();
+            say(
+                err,
+                &[word, b": range ", path.as_slice(), b" ", digits, b"\n"],
+            );
+        }
+        PlanFault::UnknownKey { path } => {
+            say(err, &[word, b": unknown key ", path.as_slice(), b"\n"]);
+        }
+        PlanFault::TooLong { steps } => {
+            let digits = buffer.format(*steps).as_bytes();
+            say(err, &[word, b": too long ", digits, b"\n"]);
+        }
+        PlanFault::OutOfMemory => say(err, &[b"out of memory\n"]),
     }
 }
 

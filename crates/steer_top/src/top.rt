@@ -8,7 +8,7 @@ ghost use Rattle.steer_top.specs.Commands.{words_of};
 ghost use Rattle.steer_top.specs.Files.{Accepted, Files, Refused};
 ghost use Rattle.steer_top.specs.Outcomes.{Asks, Writes, roles_of};
 ghost use Rattle.steer_top.specs.Words.{CommandWords, command_of};
-ghost use Rattle.steer_top.specs.Endings.{Ends, EndsCommand, Flushes, IsRefusal, Told};
+ghost use Rattle.steer_top.specs.Endings.{Ends, EndsCommand, Flushes, IsRefusal, IsUnread, Told};
 ghost use Rattle.steer_top.specs.Endings.{line_of, line_of_refusal, line_of_status};
 ghost use Rattle.steer_top.specs.Endings.{status_of, status_of_refusal};
 ghost use Rattle.steer_top.specs.declared.ending.Ending.{Ending as AnEnding};
@@ -18,6 +18,7 @@ use crate::command::Command;
 use crate::ending::Ending;
 use crate::hash_command::hash_file;
 use crate::laws::a_call_is_decided;
+use crate::place_command::place_file;
 use crate::status::status;
 use crate::telling::tell;
 use crate::words::command_of_words;
@@ -25,9 +26,9 @@ use outside_io::{Desk, Sink, WriteFault};
 use std::alloc::Global;
 
 /// Does the command that the words are, without the program's name, and answers its status: 0 where
-/// all was done, written and sent on, 2 for words that are no command, 4 for a file that is no
-/// capture, 5 and 6 where the desk or the sink of the text failed, 7 for want of memory, and 8 for
-/// a file that is too long. It always returns.
+/// all was done, written and sent on, 2 for words that are no command, 3 for a file that has no
+/// rules, 4 for one that is no capture, 5 and 6 where the desk or the sink of the text failed, 7
+/// for want of memory, and 8 for a file that is too long. It always returns.
 ///
 /// All memory is taken before the first byte goes to `out`, which is flushed once, behind the whole
 /// text. `err` takes one line for every status but 0.
@@ -55,6 +56,9 @@ pub fn steer_still<D: Desk, K: Sink, E: Sink>(
 
     // Status 5 and 6 only where the desk or the sink failed in this call.
     ensures read_fault { result ≡ 5 → Rose (D.faults desk.old) (D.faults desk.new) }
+    ensures unread { result ≡ 5 → (command : CommandWords) (files : Files)
+        → Asks (D.held desk.old) words.now command files
+        → IsUnread command files (D.asked desk.new) }
     ensures write_fault { result ≡ 6 → Rose (K.faults out.old) (K.faults out.new) }
 
     // Where the files are accepted and nothing fails, all is done, unless memory runs out.
@@ -99,6 +103,7 @@ pub fn steer_still<D: Desk, K: Sink, E: Sink>(
     ensures ends { (ending : AnEnding) × (result ≡ status_of ending)
         × Ends ending (command_of words.now) (record {
           held = D.held desk.old;
+          asked = D.asked desk.new;
           desk_before = D.faults desk.old;
           desk_after = D.faults desk.new;
           out_before = K.faults out.old;
@@ -120,6 +125,7 @@ pub fn steer_still<D: Desk, K: Sink, E: Sink>(
 fn run<D: Desk, K: Sink>(alloc: Global, words: &[String], desk: &mut D, out: &mut K) -> Ending
     ensures ends { Ends result (command_of words.now) (record {
       held = D.held desk.old;
+      asked = D.asked desk.new;
       desk_before = D.faults desk.old;
       desk_after = D.faults desk.new;
       out_before = K.faults out.old;
@@ -146,6 +152,7 @@ fn run<D: Desk, K: Sink>(alloc: Global, words: &[String], desk: &mut D, out: &mu
 fn perform<D: Desk, K: Sink>(alloc: Global, command: &Command, desk: &mut D, out: &mut K) -> Ending
     ensures ends { EndsCommand result (words_of command.now) (record {
       held = D.held desk.old;
+      asked = D.asked desk.new;
       desk_before = D.faults desk.old;
       desk_after = D.faults desk.new;
       out_before = K.faults out.old;
@@ -161,6 +168,7 @@ fn perform<D: Desk, K: Sink>(alloc: Global, command: &Command, desk: &mut D, out
 {
     match command {
         Command::Hash(hash) => hash_file(alloc, hash, desk, out),
+        Command::Place(place) => place_file(alloc, place, desk, out),
     }
 }
 

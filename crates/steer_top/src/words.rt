@@ -1,12 +1,15 @@
 //! The words of the command line.
 ghost use Rattle.std.specs.Prelude.{◌≡◌, ◌≤◌, Some, None, IfSome, map, string_bytes};
 ghost use Rattle.std.specs.Option.{option_map};
-ghost use Rattle.steer_top.specs.Commands.{hash_words_of, words_of};
+ghost use Rattle.steer_top.specs.Commands.{hash_words_of, place_words_of, words_of};
 ghost use Rattle.steer_top.specs.Words.{command_of, hash_with as hash_words};
-ghost use Rattle.steer_top.specs.Words.{hash_arguments as the_arguments, is_name as names_a_file};
+ghost use Rattle.steer_top.specs.Words.{command_named as the_command_named};
+ghost use Rattle.steer_top.specs.Words.{hash_arguments as the_hash_arguments};
+ghost use Rattle.steer_top.specs.Words.{place_arguments as the_place_arguments};
+ghost use Rattle.steer_top.specs.Words.{is_name as names_a_file};
 ghost use Rattle.steer_top.specs.Words.{number_of, number_within as the_number_within};
 
-use crate::command::{Command, HashCommand};
+use crate::command::{Command, HashCommand, PlaceCommand};
 use steer_base::decimal_number;
 
 /// The most digits that a number may have.
@@ -67,7 +70,7 @@ fn hash_with<'a>(
 #[tactic(auto, unfolding(crate::specs::Words::hash_arguments))]
 fn hash_arguments(words: &[String]) -> Option<HashCommand<'_>>
     ensures { option_map hash_words_of result ≡
-        the_arguments (map (λ word. string_bytes word) words.now) }
+        the_hash_arguments (map (λ word. string_bytes word) words.now) }
 {
     match words {
         [capture] => hash_with(capture.as_str(), Some(4), Some(63)),
@@ -85,12 +88,43 @@ fn hash_arguments(words: &[String]) -> Option<HashCommand<'_>>
     }
 }
 
+// What stands behind the word `place`.
+#[tactic(auto, unfolding(crate::specs::Words::place_arguments))]
+fn place_arguments(words: &[String]) -> Option<PlaceCommand<'_>>
+    ensures { option_map place_words_of result ≡
+        the_place_arguments (map (λ word. string_bytes word) words.now) }
+{
+    match words {
+        [rules, capture] if is_name(rules.as_str()) && is_name(capture.as_str()) => {
+            Some(PlaceCommand {
+                rules: rules.as_str(),
+                capture: capture.as_str(),
+            })
+        }
+        _ => None,
+    }
+}
+
 /// The command that the words are, without the program's name, if they are one.
 pub fn command_of_words(words: &[String]) -> Option<Command<'_>>
     ensures { option_map words_of result ≡ command_of words.now }
 {
     match words {
-        [word, rest @ ..] if word.as_str() == "hash" => Some(Command::Hash(hash_arguments(rest)?)),
+        [word, rest @ ..] => command_named(word.as_str(), rest),
         _ => None,
     }
+}
+
+// The command of this name with these arguments.
+fn command_named<'a>(name: &str, arguments: &'a [String]) -> Option<Command<'a>>
+    ensures { option_map words_of result ≡
+        the_command_named name.now (map (λ word. string_bytes word) arguments.now) }
+{
+    if name == "hash" {
+        return Some(Command::Hash(hash_arguments(arguments)?));
+    }
+    if name == "place" {
+        return Some(Command::Place(place_arguments(arguments)?));
+    }
+    None
 }

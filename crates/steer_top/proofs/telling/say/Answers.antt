@@ -15,9 +15,16 @@ returns-in-Err g c =
     let so_far = flat_map text (take n pieces) in
     let piece = text (get_or pieces n none) in
     let rest = flat_map text (drop (n + 1) pieces) in
-    let some = AppendsSome-next before (g.E.Sink.written c.loop-piece.err) after so_far piece c.loop-piece.invariant.written c.in-Err.ensures.part in
+    let some = AppendsSome-next before
+    (g.E.Sink.written c.loop-piece.err) after so_far piece c.loop-piece.invariant.written
+    c.in-Err.ensures.part in
     let all = flat_map_split text n pieces none c.loop-piece-test.true in
     record {
       later = omega (arith, c.loop-piece.invariant.later, c.write_whole.ensures.later);
-      took = inr (omega (arith, c.loop-piece.invariant.later, c.in-Err.ensures.fault), subst (AppendsSome before after) all (AppendsSome-first before after (so_far ++ piece) rest some));
+      took = inr (
+        omega (arith, c.loop-piece.invariant.later, c.in-Err.ensures.fault),
+        subst
+            (AppendsSome before after) all
+            (AppendsSome-first before after (so_far ++ piece) rest some),
+      );
     }

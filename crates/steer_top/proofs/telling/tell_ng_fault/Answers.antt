@@ -22,7 +22,9 @@ pub returns-in-BadNgLink : goal.returns-in-BadNgLink
 returns-in-BadNgLink g c = rw c.in-BadNgLink.is c.say_two-in-BadNgLink.ensures
 
 pub returns-in-RecordTooLong : goal.returns-in-RecordTooLong
-returns-in-RecordTooLong g c = rw c.in-RecordTooLong.is (rw c.from-in-RecordTooLong.ensures at c.say_two-in-RecordTooLong.ensures)
+returns-in-RecordTooLong g c =
+    rw c.in-RecordTooLong.is
+    (rw c.from-in-RecordTooLong.ensures at c.say_two-in-RecordTooLong.ensures)
 
 pub returns-in-OutOfMemory : goal.returns-in-OutOfMemory
 returns-in-OutOfMemory g c = rw c.in-OutOfMemory.is c.say-in-OutOfMemory.ensures

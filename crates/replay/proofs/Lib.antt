@@ -1,0 +1,6 @@
+mod StepsLemmas
+mod CountsLemmas
+mod FlowsLemmas
+mod TextsLemmas
+mod WrittenLemmas
+mod SummariesLemmas

@@ -1,0 +1,31 @@
+-- The steps of a plan, made one by one.
+use Rattle.std.proofs.Common.{ℕ, ◌+◌, ◌≡◌, List, [], ◌∷◌, ◌++◌, Some, refl, ap, ◌∙◌, arith}
+use Rattle.std.specs.List.{cons_option, filter_map, range_with_len}
+use Rattle.std.proofs.lemmas.List.Elements.{filter_map-append}
+use Rattle.plan_reader.specs.Plans.{nth_step}
+use Rattle.plan_reader.specs.declared.plan.Plan.{Plan}
+use Rattle.steer_base.specs.declared.step.Step.{Step}
+use Rattle.steer_parts.specs.Machine.{Machine}
+use Rattle.steer_parts.specs.Whole.{after, step}
+use Rattle.steer_laws.proofs.KeptArrives.{range-more}
+
+-- the first n steps of a plan
+abbrev pub first_steps : Plan → ℕ → List Step
+first_steps plan n = filter_map (nth_step plan) (range_with_len 0 n)
+
+after-append : (xs ys : List Step) (m : Machine) → after (xs ++ ys) m ≡ after ys (after xs m)
+after-append [] ys m = refl
+after-append (s ∷ xs) ys m = after-append xs ys (step m s).0
+
+-- the next step after those before it
+pub next_step : (plan : Plan) (i : ℕ) (s : Step) (m : Machine) → nth_step plan i ≡ Some s
+    → after (first_steps plan (i + 1)) m ≡ (step (after (first_steps plan i) m) s).0
+next_step plan i s m is =
+    let some : List ℕ → List Step = filter_map (nth_step plan) in
+    let more : first_steps plan (i + 1) ≡ some (range_with_len 0 i ++ i ∷ []) =
+    ap some (range-more 0 i i (omega arith)) in
+    let one : filter_map (nth_step plan) (i ∷ []) ≡ s ∷ [] = ap (λ o. cons_option o []) is in
+    let all : first_steps plan (i + 1) ≡ first_steps plan i ++ s ∷ [] =
+    more ∙ filter_map-append (nth_step plan) (range_with_len 0 i) (i ∷ [])
+    ∙ ap (λ t. first_steps plan i ++ t) one in
+    ap (λ ss. after ss m) all ∙ after-append (first_steps plan i) (s ∷ []) m

@@ -1,0 +1,12 @@
+use Rattle.replay.specs.Replays.{replay_of}
+use Rattle.replay.proofs.TextsLemmas.{shown_is}
+use Rattle.replay.proofs.replay.Replay.make.Goals as goal
+
+pub returns : goal.returns
+unfolding replay_of
+returns g c =
+    let plan = c.args.plan.now in
+    let packets = c.args.packets.now in
+    let told = rw c.as_slice.ensures at c.in_ok-texts.ensures in
+    let made = rw c.len.ensures at c.in_ok-lines.ensures.lines in
+    shown_is plan packets _ c.args.taps.items _ _ _ _ c.in_ok-history.ensures made told

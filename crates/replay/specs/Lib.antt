@@ -1,0 +1,6 @@
+pub mod Meanings
+pub mod Replays
+pub mod Reports
+pub mod Counts
+pub mod FlowCounts
+pub mod Summaries

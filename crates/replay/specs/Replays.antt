@@ -1,0 +1,33 @@
+-- The replay of a plan over the packets of a capture, and its report.
+use Rattle.std.specs.Prelude.{ℕ, List, Option, length}
+use Rattle.steer_base.specs.declared.packet.Packet.{Packet}
+use Rattle.history.specs.Lines.{LineLists, lines_of}
+use Rattle.history.specs.declared.history.History.{History}
+use Rattle.plan_reader.specs.declared.plan.Plan.{Plan}
+use Rattle.report.specs.Report.{rows_of}
+use Rattle.report.specs.Texts.{text_of}
+use Rattle.steer_parts.specs.Start.{replayed}
+use Rattle.replay.specs.Meanings.{Meaning, texts_of}
+
+-- a history, the lines of its packets, and the texts of the taps
+pub record ReplayLists : Type 0 where
+  pub history : History
+  pub lines : LineLists
+  pub texts : List (List ℕ)
+
+abbrev pub replay_with : History → LineLists → List (List ℕ) → ReplayLists
+replay_with h lines texts = record { history = h; lines = lines; texts = texts }
+
+-- a history with its lines, and the texts of these taps over the lines of the arrived packets
+abbrev pub shown_with : Plan → List Packet → List Meaning → History → ReplayLists
+shown_with plan packets taps h =
+    let lines = lines_of packets (length plan.apps) h in
+    replay_with h lines (texts_of taps plan.detach lines.packets)
+
+-- the replay of all steps of a plan
+unfoldable pub replay_of : Plan → List Packet → Option ℕ → List Meaning → ReplayLists
+replay_of plan packets cut taps = shown_with plan packets taps (replayed plan packets cut)
+
+-- the report of its history
+unfoldable pub replay_text : ReplayLists → List ℕ
+replay_text r = text_of (rows_of r.lines r.history r.texts)

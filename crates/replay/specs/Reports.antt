@@ -1,0 +1,30 @@
+-- The report of the bytes of a plan and of a capture.
+use Rattle.std.specs.Prelude.{◌≡◌, ℕ, List, Ok}
+use Rattle.steer_base.specs.declared.packet.Packet.{Packet}
+use Rattle.pcap_reader.specs.declared.capture.Capture.{Capture}
+use Rattle.plan_reader.specs.PlanTexts.{plan_of, settings_of}
+use Rattle.plan_reader.specs.declared.plan.Plan.{Plan}
+use Rattle.toeplitz.specs.Toeplitz.{number_of}
+use Rattle.steer_parts.specs.Packets.{ArePackets}
+use Rattle.replay.specs.Meanings.{Meaning}
+use Rattle.replay.specs.Replays.{replay_of, replay_text}
+
+-- these bytes are the text of this plan
+abbrev pub HasPlan : List ℕ → Plan → Type 0
+HasPlan bytes plan = plan_of bytes ≡ Ok (settings_of plan)
+
+-- these are the packets of a capture by a plan: those of its records, each with the flow of its
+-- frame, and the hash of the flow by the plan's key and kinds
+abbrev pub ArePacketsBy : Plan → List ℕ → Capture → List Packet → Type 0
+ArePacketsBy plan bytes capture packets =
+    ArePackets (number_of plan.key) plan.kinds bytes capture.records packets
+
+-- A text is the report of the history that the steps of the plan give on the packets of the
+-- capture, with the texts of the taps.
+pub record IsReportOf (plan_bytes capture_bytes : List ℕ) (capture : Capture) (taps : List Meaning)
+    (text : List ℕ) : Type 0 where
+  pub plan : Plan
+  pub has_plan : HasPlan plan_bytes plan
+  pub packets : List Packet
+  pub are_packets : ArePacketsBy plan capture_bytes capture packets
+  pub is : text ≡ replay_text (replay_of plan packets capture.cut taps)

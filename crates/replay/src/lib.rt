@@ -1,0 +1,16 @@
+//! The replay of a plan over the packets of a capture, from the plan and the packets to the written
+//! report; and the replay of generated input, of which two lines are written.
+#![tactic(auto)]
+
+mod counts;
+mod flows;
+mod laws;
+mod play;
+mod replay;
+mod summary;
+
+pub use counts::Counts;
+pub use flows::flow_count;
+pub use laws::flows_are_counted;
+pub use replay::Replay;
+pub use summary::Summary;

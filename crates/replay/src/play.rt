@@ -1,0 +1,53 @@
+//! The steps of a plan, made one by one.
+ghost use Rattle.std.specs.Prelude.{◌≡◌, ◌≤◌, IfOk, length};
+ghost use Rattle.steer_laws.specs.HeldLaws.{MayStart};
+ghost use Rattle.steer_parts.specs.Given.{AreOfFlows};
+ghost use Rattle.steer_parts.specs.Start.{replayed};
+ghost use Rattle.replay.specs.Counts.{IsCountable};
+
+use history::History;
+use plan_reader::Plan;
+use std::alloc::Global;
+use steer_base::{OutOfMemory, Packet};
+use steer_core::Steering;
+use steer_laws::{a_machine_has_a_history_to_report, every_step_keeps_the_machine};
+use steer_parts::steps_of_a_plan_are_within;
+
+/// The history of all steps of a plan over these packets.
+pub fn play(
+    alloc: Global,
+    plan: &Plan,
+    packets: &[Packet],
+    cut: Option<u32>,
+) -> Result<History, OutOfMemory>
+    requires few { length packets.now ≤ 262144 }
+    requires flows { AreOfFlows packets.now }
+    ensures { IfOk result (λ history. history ≡ replayed plan.now packets.now cut) }
+{
+    let mut steering = Steering::make(alloc, plan, packets, cut)?;
+    for i in 0..plan.step_count() {
+        let _answer = steering.step(&plan.step_at(i));
+    }
+    steering.history(alloc)
+}
+
+/// Tells that a machine may start of this plan and these packets. It does nothing.
+pub fn tell_start(plan: &Plan, packets: &[Packet])
+    requires few { length packets.now ≤ 262144 }
+    requires flows { AreOfFlows packets.now }
+    ensures { MayStart plan.now packets.now }
+{
+    let _start = plan.start;
+}
+
+/// Tells that what the history of a plan is counted in is below 2^64. It does nothing.
+pub fn tell_countable(plan: &Plan, packets: &[Packet], cut: Option<u32>)
+    requires few { length packets.now ≤ 262144 }
+    requires flows { AreOfFlows packets.now }
+    ensures { IsCountable (replayed plan.now packets.now cut) }
+{
+    tell_start(plan, packets);
+    steps_of_a_plan_are_within(plan);
+    every_step_keeps_the_machine();
+    a_machine_has_a_history_to_report();
+}

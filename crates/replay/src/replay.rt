@@ -1,0 +1,88 @@
+//! The replay of a plan.
+ghost use Rattle.std.specs.Prelude.{◌≡◌, ◌≤◌, IfOk, OnErr, OnOk, length, map};
+ghost use Rattle.std.specs.Io.KnownBytes.{Appends};
+ghost use Rattle.outside_io.specs.Counts.{Rose};
+ghost use Rattle.outside_io.specs.Sink.{AppendsSome};
+ghost use Rattle.steer_parts.specs.Given.{AreOfFlows};
+ghost use Rattle.replay.specs.Replays.{replay_of, replay_text};
+
+use crate::play::{play, tell_start};
+use history::{History, Lines};
+use outside_io::{Sink, WriteFault};
+use plan_reader::Plan;
+use report::{LineBuf, render};
+use std::alloc::Global;
+use std::marker::Model;
+use steer_base::{OutOfMemory, Packet};
+use steer_laws::every_replay_can_be_reported;
+use taps::{Tap, TapText, feed};
+
+/// What a plan made of the packets of a capture: the history of its steps, the lines of its
+/// packets, and the texts of the taps that were shown them.
+#[derive(Drop)]
+pub struct Replay {
+    history: History,
+    lines: Lines,
+    texts: Vec<TapText>,
+}
+
+impl Model for Replay {
+    ghost use Rattle.report.specs.Made.{AreLinesOf};
+    ghost use Rattle.replay.specs.Replays.{ReplayLists};
+
+    ghost Value = { ReplayLists };
+
+    ghost view = { λ r. record {
+      history = r.history;
+      lines = r.lines;
+      texts = r.texts.items;
+    } };
+
+    ghost invariant = { λ r. AreLinesOf r.lines r.history };
+}
+
+impl Replay {
+    /// Makes all steps of a plan over these packets, and shows the taps the lines of the packets
+    /// that arrived, each up to its detaching by the plan. There are at most 262,144 packets, each
+    /// flow has a number below the number of packets, and all packets of a flow have one hash.
+    /// `cut` is the length of a cut record at the end of the capture. After want of memory all taps
+    /// are dropped.
+    pub fn make(
+        alloc: Global,
+        plan: &Plan,
+        packets: &[Packet],
+        cut: Option<u32>,
+        taps: Vec<Box<dyn Tap>>,
+    ) -> Result<Replay, OutOfMemory>
+        requires few { length packets.now ≤ 262144 }
+        requires flows { AreOfFlows packets.now }
+        ensures { IfOk result (λ replay. replay
+            ≡ replay_of plan.now packets.now cut (map (λ tap lines. text tap lines) taps.items)) }
+    {
+        let history = play(alloc, plan, packets, cut)?;
+        tell_start(plan, packets);
+        every_replay_can_be_reported();
+        let lines = Lines::make(alloc, &history, packets, plan.apps.len() as u8)?;
+        let arrived = lines.len() as u32;
+        let texts = feed(alloc, taps, &lines, arrived, plan.detach.as_slice())?;
+        Ok(Replay {
+            history,
+            lines,
+            texts,
+        })
+    }
+
+    /// Writes the report: each line, and each text of a tap, is one piece for the sink. It takes no
+    /// memory.
+    #[tactic(auto, unfolding(crate::specs::Replays::replay_text))]
+    pub fn write<K: Sink>(&self, line: &mut LineBuf, out: &mut K) -> Result<(), WriteFault>
+        ensures whole { OnOk result
+            (Appends (K.written out.old) (K.written out.new) (replay_text self.now)) }
+        ensures part { OnErr result
+            (AppendsSome (K.written out.old) (K.written out.new) (replay_text self.now)) }
+        ensures fault { OnErr result (Rose (K.faults out.old) (K.faults out.new)) }
+        ensures later { K.faults out.old ≤ K.faults out.new }
+    {
+        render(&self.history, &self.lines, &self.texts, line, out)
+    }
+}

@@ -1,0 +1,34 @@
+use Rattle.std.proofs.Common.{◌<◌, ap, arith, length, sym}
+use Rattle.history.specs.declared.arrival.Arrival.{Arrival}
+use Rattle.steer_core.proofs.ArriveLemmas.{held_come, may_come}
+use Rattle.steer_core.proofs.actors.Actors.arrive.Goals as goal
+
+pub step-requires : goal.step-requires
+step-requires c =
+    let next = c.len-next.ensures.len in
+    let many = c.packet_count.ensures.value in
+    let more = c.if-next-packet_count.false in
+    let few : length c.self.inside.arrivals.items < length c.self.inside.given.packets = omega arith in
+    may_come _ c.arriving-arrival.result _ _ (rw (← c.self.view_is, next) at c.arriving-arrival.ensures)
+    (ap (λ (a : Arrival). a.queue) c.arrival.view_is) next few c.self.invariant.0
+
+pub push-requires : goal.push-requires
+push-requires c =
+    let room = c.self.invariant.1.arrivals_room in
+    let next = c.len-next.ensures.len in
+    let many = c.packet_count.ensures.value in
+    let more = c.if-next-packet_count.false in
+    omega arith
+
+pub invariant_of-self : goal.invariant_of-self
+invariant_of-self c =
+    let next = c.len-next.ensures.len in
+    let many = c.packet_count.ensures.value in
+    let more = c.if-next-packet_count.false in
+    let few : length c.self.inside.arrivals.items < length c.self.inside.given.packets = omega arith in
+    rw c.push.ensures (
+      held_come _ c.arriving-arrival.result _ _ (rw (← c.self.view_is, next) at c.arriving-arrival.ensures)
+          (ap (λ (a : Arrival). a.queue) c.arrival.view_is) next few c.self.invariant.0 c.step.new.self
+          c.step.ensures.state,
+      c.self.invariant.1,
+    )

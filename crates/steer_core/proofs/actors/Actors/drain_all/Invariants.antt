@@ -1,0 +1,8 @@
+use Rattle.std.proofs.Common.{◌≡◌}
+use Rattle.steer_parts.specs.Whole.{Turn, for_each, drain}
+use Rattle.steer_core.proofs.actors.Actors.drain_all.Given as goal
+
+abbrev pub invariant-loop-c : goal.invariant-loop-c
+invariant-loop-c l =
+    (◌≡◌ {A = Turn} (l.self.machine, l.done) (for_each l.c drain (l.fn.self.machine, l.fn.worked)))
+    × (l.self.machine.setup ≡ l.fn.self.machine.setup) × (l.self.rooms ≡ l.fn.self.rooms)

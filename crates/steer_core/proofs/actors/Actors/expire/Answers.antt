@@ -1,0 +1,14 @@
+use Rattle.std.proofs.Common.{refl}
+use Rattle.steer_laws.proofs.HeldCommands.{held_expire}
+use Rattle.steer_core.proofs.SeatedLemmas.{seated}
+use Rattle.steer_core.proofs.actors.Actors.expire.Goals as goal
+
+pub clear_old-requires : goal.clear_old-requires
+clear_old-requires c = seated _ c.self.invariant.0
+
+pub invariant_of-self : goal.invariant_of-self
+invariant_of-self c = (
+  held_expire _ c.clear_old.new.filters refl c.clear_old.ensures
+      c.self.invariant.0,
+  c.self.invariant.1,
+)

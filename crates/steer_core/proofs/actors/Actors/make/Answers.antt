@@ -1,0 +1,41 @@
+use Rattle.std.proofs.Common.{◌<◌, ◌^◌, arith}
+use Rattle.std.specs.Prelude.{Option}
+use Rattle.steer_laws.specs.HeldLaws.{MayStart}
+use Rattle.steer_core.proofs.MakeLemmas.{are_new, is_made}
+use Rattle.steer_core.proofs.actors.Actors.make.Goals as goal
+
+pub invariant_of-result : goal.invariant_of-result
+invariant_of-result c =
+    let may : MayStart c.args.plan.now c.args.packets.now =
+    record { start = omega arith; few = c.requires.few; flows = c.requires.flows } in
+    (is_made c.args.plan.now c.args.packets.now c.args.cut _ may
+    (are_new c.args.plan.now c.args.packets.now c.args.cut _ _ _ _ _ _ _ _ _ _ _
+    c.in_ok-given.ensures
+    c.in_ok-settings.ensures
+    c.in_ok-tables.ensures.socket
+    c.in_ok-tables.ensures.filters
+    c.in_ok-tables.ensures.notes
+    c.in_ok-hops.ensures.rx
+    c.in_ok-hops.ensures.tx
+    c.in_ok-lists.ensures.arrivals
+    c.in_ok-lists.ensures.sent
+    c.in_ok-lists.ensures.writes
+    c.in_ok-lists.ensures.commands)).0
+
+pub returns : goal.returns
+returns c =
+    let may : MayStart c.args.plan.now c.args.packets.now =
+    record { start = omega arith; few = c.requires.few; flows = c.requires.flows } in
+    (is_made c.args.plan.now c.args.packets.now c.args.cut _ may
+    (are_new c.args.plan.now c.args.packets.now c.args.cut _ _ _ _ _ _ _ _ _ _ _
+    c.in_ok-given.ensures
+    c.in_ok-settings.ensures
+    c.in_ok-tables.ensures.socket
+    c.in_ok-tables.ensures.filters
+    c.in_ok-tables.ensures.notes
+    c.in_ok-hops.ensures.rx
+    c.in_ok-hops.ensures.tx
+    c.in_ok-lists.ensures.arrivals
+    c.in_ok-lists.ensures.sent
+    c.in_ok-lists.ensures.writes
+    c.in_ok-lists.ensures.commands)).1

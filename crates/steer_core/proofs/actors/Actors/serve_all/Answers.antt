@@ -1,0 +1,48 @@
+use Rattle.std.proofs.Common.{refl, ◌∙◌}
+use Rattle.steer_parts.specs.Whole.{serve}
+use Rattle.steer_core.proofs.TurnLemmas.{each-start, each-then}
+use Rattle.std.proofs.Common.{◌≡◌, ◌≤◌, ap, arith, subst, sym}
+use Rattle.steer_laws.specs.Held.{Held}
+use Rattle.steer_parts.specs.Machine.{Machine}
+use Rattle.steer_parts.specs.Whole.{Turn, for_each}
+use Rattle.steer_core.specs.Running.{Running}
+use Rattle.steer_core.proofs.Paced.{spare_at}
+use Rattle.steer_core.proofs.PacedSteps.{serves-paced}
+use Rattle.steer_core.proofs.actors.Actors.serve_all.Goals as goal
+
+pub loop-a-init : goal.loop-a-init
+loop-a-init c = (each-start serve (c.args.self.now.machine, c.args.worked), refl, refl)
+
+pub serve-done-requires-clause-room : goal.serve-done-requires-clause-room
+serve-done-requires-clause-room c =
+    let m : Machine = c.args.self.now.machine in
+    let held : Held m = subst (λ (r : Running). Held r.machine) c.self.view_is c.self.invariant.0 in
+    let apps = c.apps-a-end.ensures.value in
+    let below : c.loop-a.a ≤ m.setup.apps =
+    (let lt = c.loop-a-test.true in let is = ap (λ (r : Running). r.machine.setup.apps) c.self.view_is in omega arith) in
+    let before = c.loop-a.invariant in
+    spare_at _ _ m c.loop-a.self.machine (for_each c.loop-a.a serve (m, c.args.worked)).0
+    (ap (λ (t : Turn). t.0) before.0) before.2 (serves-paced m held c.loop-a.a c.args.worked below) c.requires
+
+pub loop-a-preserved : goal.loop-a-preserved
+loop-a-preserved c =
+    let done = c.serve-done.ensures in
+    let before = c.loop-a.invariant in
+    (
+      each-then c.loop-a.a serve (c.args.self.now.machine, c.args.worked)
+          (c.loop-a.self.machine, c.loop-a.done) (c.serve-done.new.self.machine, c.serve-done.result)
+          before.0 done.turn,
+      done.setup ∙ before.1,
+      done.rooms ∙ before.2,
+    )
+
+pub returns-clause-spare : goal.returns-clause-spare
+returns-clause-spare c =
+    let m : Machine = c.args.self.now.machine in
+    let held : Held m = subst (λ (r : Running). Held r.machine) c.self.view_is c.self.invariant.0 in
+    let apps = c.apps-a-end.ensures.value in
+    let below : c.loop-a.a ≤ m.setup.apps =
+    (let upto = c.loop-a.auto.a-end in let is = ap (λ (r : Running). r.machine.setup.apps) c.self.view_is in omega arith) in
+    let before = c.loop-a.invariant in
+    spare_at _ _ m c.loop-a.self.machine (for_each c.loop-a.a serve (m, c.args.worked)).0
+    (ap (λ (t : Turn). t.0) before.0) before.2 (serves-paced m held c.loop-a.a c.args.worked below) c.requires

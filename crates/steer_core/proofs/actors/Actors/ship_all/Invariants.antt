@@ -1,0 +1,8 @@
+use Rattle.std.proofs.Common.{◌≡◌}
+use Rattle.steer_parts.specs.Whole.{Turn, for_each, ship}
+use Rattle.steer_core.proofs.actors.Actors.ship_all.Given as goal
+
+abbrev pub invariant-loop-t : goal.invariant-loop-t
+invariant-loop-t l =
+    (◌≡◌ {A = Turn} (l.self.machine, l.done) (for_each l.t ship (l.fn.self.machine, l.fn.worked)))
+    × (l.self.machine.setup ≡ l.fn.self.machine.setup) × (l.self.rooms ≡ l.fn.self.rooms)

@@ -1,0 +1,25 @@
+-- The filters that may go, over what decides it.
+use Rattle.std.specs.Prelude.{ℕ, ◌<◌, ◌≤◌, Bool, false, List, Option, Some, None, length}
+use Rattle.std.specs.Prelude.{slice_index, if◌then◌else◌}
+use Rattle.steer_base.specs.Filters.{may_expire}
+use Rattle.steer_base.specs.declared.filter.Filter.{Filter}
+use Rattle.hop_core.specs.Hop.{HopState, head_at}
+use Rattle.steer_parts.specs.Settings.{Settings}
+
+-- whether a filter is set and may go, by the head of its processor at the receive hop and the flow
+-- count of its queue
+abbrev pub is_old : HopState → Settings → Option Filter → Bool
+is_old rx now None = false
+is_old rx now (Some filter) =
+    may_expire filter (head_at rx.fixed.start rx.bare filter.cpu)
+    (slice_index now.counts filter.queue)
+
+abbrev pub kept_of : HopState → Settings → Option Filter → Option Filter
+kept_of rx now filter = if is_old rx now filter then None else filter
+
+-- a filter names a processor and a queue that there are, with a flow count in its range
+abbrev pub IsSeated : HopState → Settings → Option Filter → Type 0
+IsSeated rx now None = Unit {0}
+IsSeated rx now (Some filter) =
+    (filter.cpu < length rx.bare.accepted) × (filter.queue < length now.counts)
+    × (slice_index now.counts filter.queue ≤ 32768)

@@ -1,0 +1,88 @@
+-- The machine in memory: its parts, and the room that was reserved for its lists.
+use Rattle.std.specs.Prelude.{ℕ, ◌≡◌, List, Option, length}
+use Rattle.steer_base.specs.Journals.{Journal, Journals}
+use Rattle.steer_base.specs.declared.filter.Filter.{Filter}
+use Rattle.hop_core.specs.Hop.{HopState}
+use Rattle.history.specs.declared.arrival.Arrival.{Arrival}
+use Rattle.history.specs.declared.commanded.Commanded.{Commanded}
+use Rattle.history.specs.declared.sent.Sent.{Sent}
+use Rattle.history.specs.declared.sock_write.SockWrite.{SockWrite}
+use Rattle.steer_parts.specs.Machine.{Machine}
+use Rattle.steer_parts.specs.Settings.{Settings}
+use Rattle.steer_parts.specs.Setup.{Setup}
+use Rattle.steer_parts.specs.declared.note.Note.{Note}
+use Rattle.steer_laws.specs.Held.{Held}
+
+-- how many writes of each application, and how many commands there is memory for
+pub record Rooms : Type 0 where
+  pub writes : ℕ
+  pub commands : ℕ
+
+pub record Running : Type 0 where
+  pub machine : Machine
+  pub rooms : Rooms
+
+-- the values of the parts that a machine is made of in memory
+pub record Parts : Type 0 where
+  pub given : Setup
+  pub settings : Settings
+  pub socket : List (Option ℕ)
+  pub filters : List (Option Filter)
+  pub notes : List Note
+  pub rx : HopState
+  pub tx : HopState
+  pub arrivals : Journal Arrival
+  pub sent : Journals Sent
+  pub writes : Journals SockWrite
+  pub commands : Journal Commanded
+
+abbrev pub parts_of : Setup → Settings → List (Option ℕ) → List (Option Filter) → List Note
+    → HopState → HopState → Journal Arrival → Journals Sent → Journals SockWrite
+    → Journal Commanded → Parts
+parts_of given settings socket filters notes rx tx arrivals sent writes commands =
+    record {
+      given = given;
+      settings = settings;
+      socket = socket;
+      filters = filters;
+      notes = notes;
+      rx = rx;
+      tx = tx;
+      arrivals = arrivals;
+      sent = sent;
+      writes = writes;
+      commands = commands;
+    }
+
+abbrev pub machine_of : Parts → Machine
+machine_of p =
+    record {
+      setup = p.given;
+      settings = p.settings;
+      socket = p.socket;
+      filters = p.filters;
+      notes = p.notes;
+      rx = p.rx;
+      tx = p.tx;
+      arrivals = p.arrivals.items;
+      sent = p.sent.lists;
+      writes = p.writes.lists;
+      commands = p.commands.items;
+    }
+
+abbrev pub running : Parts → Running
+running p =
+    record {
+      machine = machine_of p;
+      rooms = record { writes = p.writes.room; commands = p.commands.room };
+    }
+
+-- The lists of arrivals and of replies have room for each packet.
+pub record HasRoom (packets arrivals sent : ℕ) : Type 0 where
+  pub arrivals_room : arrivals ≡ packets
+  pub sent_room : sent ≡ packets
+
+-- What holds of the parts between steps.
+abbrev pub IsRunning : Parts → Type 0
+IsRunning p =
+    Held (machine_of p) × HasRoom (length p.given.packets) p.arrivals.room p.sent.room

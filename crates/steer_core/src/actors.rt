@@ -1,0 +1,101 @@
+//! The actors of the machine, with all that they share.
+ghost use Rattle.std.specs.Prelude.{◌≡◌, true, if◌then◌else◌};
+ghost use Rattle.steer_base.specs.declared.command.Answer.TheVariants as says;
+ghost use Rattle.steer_base.specs.declared.idle.Idle.TheVariants as idle;
+ghost use Rattle.steer_laws.specs.Held.{Held};
+ghost use Rattle.steer_laws.specs.Kept.{sizes_in};
+ghost use Rattle.plan_reader.specs.Ranges.{step_is_within};
+ghost use Rattle.steer_core.specs.Rooms.{HasRoomFor};
+ghost use Rattle.steer_parts.specs.Whole.{step as step_of};
+
+mod applications;
+mod changes;
+mod commands;
+mod copies;
+mod make;
+mod old_filters;
+mod pollers;
+mod processors;
+mod sockets;
+mod sweeps;
+mod transmit;
+mod turns;
+mod wire;
+
+use accel_filter::FilterTable;
+use history::{Arrival, Commanded, Sent, SockWrite};
+use hop_core::Hop;
+use sock_flow_table::SockTable;
+use std::marker::Model;
+use steer_base::{Answer, Idle, Journal, Journals, Step};
+use steer_parts::{Given, InForce, Note};
+
+/// The wire, the pollers, the processors, the applications, the transmit queues and the controller:
+/// what is fixed and what is set, the tables and the notes that they read and write, the hop of
+/// each direction, and what else the history keeps.
+#[derive(Drop)]
+pub struct Actors {
+    given: Given,
+    settings: InForce,
+    socket: SockTable,
+    filters: FilterTable,
+    notes: Vec<Note>,
+    rx: Hop,
+    tx: Hop,
+    arrivals: Journal<Arrival>,
+    sent: Journals<Sent>,
+    writes: Journals<SockWrite>,
+    commands: Journal<Commanded>,
+}
+
+impl Model for Actors {
+    ghost use Rattle.steer_core.specs.Running.{IsRunning, Running, parts_of, running};
+
+    ghost Value = { Running };
+
+    ghost view = { λ m. running (parts_of m.given m.settings m.socket m.filters m.notes.items m.rx
+        m.tx m.arrivals m.sent m.writes m.commands) };
+
+    ghost invariant = { λ m. IsRunning (parts_of m.given m.settings m.socket m.filters
+        m.notes.items m.rx m.tx m.arrivals m.sent m.writes m.commands) };
+}
+
+impl Actors {
+    /// A step of many events, else one of one event or a command.
+    pub fn step(&mut self, step: Step) -> Answer
+        requires within { step_is_within (sizes_in self.old.machine.setup) step ≡ true }
+        requires room { HasRoomFor self.old.rooms self.old.machine step }
+        ensures state { self.new.machine ≡ (step_of self.old.machine step).0 }
+        ensures answer { result ≡ (step_of self.old.machine step).1 }
+        ensures rooms { self.new.rooms ≡ self.old.rooms }
+    {
+        match step {
+            Step::Poll(q) => ended(self.poll(false, q)),
+            Step::Drain(c) => ended(self.drain(false, c)),
+            Step::Reply(a) => ended(self.reply(false, a)),
+            Step::Serve(a) => ended(self.serve(false, a)),
+            Step::Ship(t) => ended(self.ship(false, t)),
+            Step::Sweep => ended(self.sweep()),
+            _ => self.simple(step),
+        }
+    }
+
+    /// Says what holds of the machine between steps.
+    pub fn sound(&self)
+        ensures { Held self.now.machine }
+    {
+        // A read of the machine, so that what holds of it is known here.
+        let _ = &self.given;
+    }
+}
+
+// A step of many events is done where work was done.
+fn ended(worked: bool) -> Answer
+    ensures { result ≡ (if worked then says.Done else says.Idle idle.Nothing) }
+{
+    if worked {
+        Answer::Done
+    } else {
+        Answer::Idle(Idle::Nothing)
+    }
+}

@@ -1,0 +1,224 @@
+//! The machine of a plan, with all the memory that its steps take.
+ghost use Rattle.std.specs.Prelude.{◌≡◌, ◌+◌, ◌≤◌, [], IfOk, length, map, replicate};
+ghost use Rattle.accel_filter.specs.Table as table;
+ghost use Rattle.plan_reader.specs.Plans.{step_count};
+ghost use Rattle.sock_flow_table.specs.Sockets as sockets;
+ghost use Rattle.steer_base.specs.Journals.{journal, new_journals};
+ghost use Rattle.steer_core.specs.Starting.{started};
+ghost use Rattle.steer_parts.specs.Given.{AreOfFlows};
+ghost use Rattle.steer_parts.specs.Start.{fresh_rx, fresh_tx, settings_of};
+
+use crate::actors::Actors;
+use accel_filter::FilterTable;
+use history::{Arrival, Commanded, Sent, SockWrite};
+use hop_core::{Hop, HopShape};
+use plan_reader::{Plan, QueuePlan};
+use sock_flow_table::SockTable;
+use std::alloc::Global;
+use steer_base::{CpuMask, Journal, Journals, OutOfMemory, Packet};
+use steer_parts::{Given, InForce, Note};
+
+impl Actors {
+    /// The machine of a plan before its first step: open gates, empty lists, and room for all that
+    /// the plan's steps append.
+    pub fn make(
+        alloc: Global,
+        plan: &Plan,
+        packets: &[Packet],
+        cut: Option<u32>,
+    ) -> Result<Actors, OutOfMemory>
+        requires few { length packets.now ≤ 262144 }
+        requires flows { AreOfFlows packets.now }
+        ensures { IfOk result (λ actors. actors ≡ started plan.now packets.now cut) }
+    {
+        // A read, so that the start is known to be a number of 32 bits.
+        let _start = plan.start;
+        let given = Given::of_plan(alloc, plan, packets, cut)?;
+        let settings = InForce::of_plan(alloc, plan)?;
+        let tables = Tables::make(alloc, plan)?;
+        let hops = Hops::make(alloc, plan, packets)?;
+        let lists = Lists::make(alloc, plan, packets)?;
+        let Tables {
+            socket,
+            filters,
+            notes,
+        } = tables;
+        let Hops { rx, tx } = hops;
+        let Lists {
+            arrivals,
+            sent,
+            writes,
+            commands,
+        } = lists;
+        Ok(Actors {
+            given,
+            settings,
+            socket,
+            filters,
+            notes,
+            rx,
+            tx,
+            arrivals,
+            sent,
+            writes,
+            commands,
+        })
+    }
+}
+
+// The socket flow table, the filters and the notes of the pollers.
+#[derive(Drop)]
+struct Tables {
+    socket: SockTable,
+    filters: FilterTable,
+    notes: Vec<Note>,
+}
+
+impl Tables {
+    // All of them unset.
+    fn make(alloc: Global, plan: &Plan) -> Result<Tables, OutOfMemory>
+        ensures socket { IfOk result (λ tables. tables.socket
+            ≡ sockets.unset (settings_of plan.now).sock) }
+        ensures filters { IfOk result (λ tables. tables.filters ≡ table.unset plan.now.filters) }
+        ensures notes { IfOk result (λ tables. tables.notes.items
+            ≡ replicate (length plan.now.queues) Note.Nothing) }
+    {
+        let socket = SockTable::make(alloc, plan.sock)?;
+        let filters = FilterTable::make(alloc, plan.filters)?;
+        let notes = no_notes(alloc, plan.queues.len() as u8)?;
+        Ok(Tables {
+            socket,
+            filters,
+            notes,
+        })
+    }
+}
+
+// The receive hop and the transmit hop.
+#[derive(Drop)]
+struct Hops {
+    rx: Hop,
+    tx: Hop,
+}
+
+impl Hops {
+    // Both of them empty.
+    fn make(alloc: Global, plan: &Plan, packets: &[Packet]) -> Result<Hops, OutOfMemory>
+        requires { length packets.now ≤ 262144 }
+        ensures rx { IfOk result (λ hops. hops.rx ≡ fresh_rx plan.now packets.now) }
+        ensures tx { IfOk result (λ hops. hops.tx ≡ fresh_tx plan.now packets.now) }
+    {
+        let rx = receive_hop(alloc, plan, packets)?;
+        let tx = transmit_hop(alloc, plan, packets)?;
+        Ok(Hops { rx, tx })
+    }
+}
+
+// What the history keeps beside the hops.
+#[derive(Drop)]
+struct Lists {
+    arrivals: Journal<Arrival>,
+    sent: Journals<Sent>,
+    writes: Journals<SockWrite>,
+    commands: Journal<Commanded>,
+}
+
+impl Lists {
+    // Empty lists, with room for all that the plan's steps append.
+    fn make(alloc: Global, plan: &Plan, packets: &[Packet]) -> Result<Lists, OutOfMemory>
+        requires { length packets.now ≤ 262144 }
+        ensures arrivals { IfOk result (λ lists. lists.arrivals ≡ journal [] (length packets.now)) }
+        ensures sent { IfOk result (λ lists. lists.sent
+            ≡ new_journals (length plan.now.apps) (length packets.now)) }
+        ensures writes { IfOk result (λ lists. lists.writes
+            ≡ new_journals (length plan.now.apps) (step_count plan.now + length packets.now)) }
+        ensures commands { IfOk result (λ lists. lists.commands
+            ≡ journal [] (step_count plan.now)) }
+    {
+        let room = packets.len() as u32;
+        let steps = plan.step_count();
+        let apps = plan.apps.len() as u8;
+        let arrivals = Journal::make(alloc, room)?;
+        let sent = Journals::make(alloc, apps, room)?;
+        let writes = Journals::make(alloc, apps, steps + room)?;
+        let commands = Journal::make(alloc, steps)?;
+        Ok(Lists {
+            arrivals,
+            sent,
+            writes,
+            commands,
+        })
+    }
+}
+
+// The receive hop: from the receive queues over the processors to the inboxes, with the
+// applications and a controller as guests.
+fn receive_hop(alloc: Global, plan: &Plan, packets: &[Packet]) -> Result<Hop, OutOfMemory>
+    requires { length packets.now ≤ 262144 }
+    ensures { IfOk result (λ hop. hop ≡ fresh_rx plan.now packets.now) }
+{
+    let counts = flow_counts(alloc, plan.queues.as_slice())?;
+    let apps = plan.apps.len() as u8;
+    Hop::make(
+        alloc,
+        HopShape {
+            producers: plan.queues.len() as u8,
+            guests: apps + 1,
+            lanes: plan.cpus,
+            outs: apps,
+            limit: plan.backlog,
+            room: packets.len() as u32,
+            counts,
+            exact: false,
+            start: plan.start,
+            limited: plan.limited,
+        },
+    )
+}
+
+// The transmit hop: from the applications over the transmit queues to the port, with a class for
+// each flow number and one at least, and lanes that are never full.
+fn transmit_hop(alloc: Global, plan: &Plan, packets: &[Packet]) -> Result<Hop, OutOfMemory>
+    requires { length packets.now ≤ 262144 }
+    ensures { IfOk result (λ hop. hop ≡ fresh_tx plan.now packets.now) }
+{
+    let room = packets.len() as u32;
+    let apps = plan.apps.len() as u8;
+    let counts = for_each_app(alloc, apps, room.max(1))?;
+    Hop::make(
+        alloc,
+        HopShape {
+            producers: apps,
+            guests: 0,
+            lanes: plan.tx.len() as u8,
+            outs: 1,
+            limit: 262_144,
+            room,
+            counts,
+            exact: true,
+            start: plan.start,
+            limited: CpuMask(0),
+        },
+    )
+}
+
+// The flow count of each receive queue, as given.
+fn flow_counts(alloc: Global, queues: &[QueuePlan]) -> Result<Vec<u32>, OutOfMemory>
+    ensures { IfOk result (λ counts. counts.items ≡ map (λ queue. queue.flows) queues.now) }
+{
+    Ok(queues.iter().map(|queue| queue.flows).collect(alloc)?)
+}
+
+// A number for each application.
+fn for_each_app(alloc: Global, apps: u8, number: u32) -> Result<Vec<u32>, OutOfMemory>
+    ensures { IfOk result (λ numbers. numbers.items ≡ replicate apps number) }
+{
+    Ok(Vec::from_elem(alloc, number, apps as usize)?)
+}
+
+// Nothing as the note of each poller.
+fn no_notes(alloc: Global, queues: u8) -> Result<Vec<Note>, OutOfMemory>
+    ensures { IfOk result (λ notes. notes.items ≡ replicate queues Note.Nothing) }
+{
+    Ok(Vec::from_elem(alloc, Note::Nothing, queues as usize)?)
+}

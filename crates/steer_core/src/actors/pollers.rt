@@ -1,0 +1,174 @@
+//! The steps of a poller, from the ring of its queue to the backlog of a processor.
+ghost use Rattle.std.specs.Prelude.{◌≡◌, ◌<◌, length};
+ghost use Rattle.hop_core.specs.declared.event.HopEvent.TheVariants as event;
+ghost use Rattle.hop_core.specs.Hop.{next_of};
+ghost use Rattle.steer_parts.specs.Machine.{note_of};
+ghost use Rattle.steer_parts.specs.Outcomes.{by_rx};
+ghost use Rattle.steer_parts.specs.Pollers.{ask, leave, look, put, seen_by, take, weigh, weighing};
+ghost use Rattle.steer_parts.specs.Pollers.{with_filter};
+
+use crate::actors::Actors;
+use accel_filter::FilterTable;
+use hop_core::HopEvent;
+use steer_base::{Answer, Filter, Idle, PacketId};
+use steer_parts::{Note, desired_cpu, filter_for, last_of, position_of, socket_seen, told};
+
+impl Actors {
+    /// The first packet of the ring is in hand. The hand of a poller that asks for a filter is
+    /// full.
+    pub(super) fn take(&mut self, q: u8) -> Answer
+        requires { q < length self.old.machine.setup.homes }
+        ensures state { self.new.machine ≡ (take self.old.machine q).0 }
+        ensures answer { result ≡ (take self.old.machine q).1 }
+        ensures rooms { self.new.rooms ≡ self.old.rooms }
+    {
+        if self.notes[q as usize].is_asking() {
+            return Answer::Idle(Idle::HandFull);
+        }
+        told(self.rx.step(HopEvent::Take { p: q }))
+    }
+
+    /// The poller goes inside the receive gate.
+    pub(super) fn enter(&mut self, q: u8) -> Answer
+        requires { q < length self.old.machine.setup.homes }
+        ensures state { self.new.machine ≡ (by_rx self.old.machine (event.Enter q)).0 }
+        ensures answer { result ≡ (by_rx self.old.machine (event.Enter q)).1 }
+        ensures rooms { self.new.rooms ≡ self.old.rooms }
+    {
+        told(self.rx.step(HopEvent::Enter { p: q }))
+    }
+
+    /// The poller keeps what it sees in the socket flow table for the packet in hand.
+    pub(super) fn look(&mut self, q: u8) -> Answer
+        requires { q < length self.old.machine.setup.homes }
+        ensures state { self.new.machine ≡ (look self.old.machine q).0 }
+        ensures answer { result ≡ (look self.old.machine q).1 }
+        ensures rooms { self.new.rooms ≡ self.old.rooms }
+    {
+        if !self.rx.is_inside(q) {
+            return Answer::Idle(Idle::NotInside);
+        }
+        if !self.notes[q as usize].is_nothing() {
+            return Answer::Idle(Idle::WrongStage);
+        }
+        let Some(id) = self.rx.to_weigh(q) else {
+            return Answer::Idle(Idle::WrongStage);
+        };
+        let want = self.seen_by(q, id);
+        self.notes[q as usize] = Note::Looked(want);
+        Answer::Done
+    }
+
+    // The processor that a packet finds in the socket flow table.
+    fn seen_by(&self, q: u8, id: PacketId) -> Option<u8>
+        requires { q < length self.now.machine.setup.homes }
+        ensures { result ≡ seen_by self.now.machine q id }
+    {
+        let hash = self.given.hash_of(id);
+        let class = self.rx.class(q, hash);
+        socket_seen(&self.socket, class, hash)
+    }
+
+    /// The packet in hand gets a processor by the migration rule, with what was seen.
+    pub(super) fn weigh(&mut self, q: u8) -> Answer
+        requires { q < length self.old.machine.setup.homes }
+        ensures state { self.new.machine ≡ (weigh self.old.machine q).0 }
+        ensures answer { result ≡ (weigh self.old.machine q).1 }
+        ensures rooms { self.new.rooms ≡ self.old.rooms }
+    {
+        if !self.rx.is_inside(q) {
+            return Answer::Idle(Idle::NotInside);
+        }
+        let Note::Looked(want) = self.notes[q as usize] else {
+            return Answer::Idle(Idle::WrongStage);
+        };
+        let event = self.weighing(q, want);
+        self.notes[q as usize] = Note::Nothing;
+        told(self.rx.step(event))
+    }
+
+    // What the packet in hand is weighed with, where this was seen in the socket flow table.
+    fn weighing(&self, q: u8, want: Option<u8>) -> HopEvent
+        requires queue { q < length self.now.machine.setup.homes }
+        requires looked { note_of self.now.machine q ≡ Note.Looked want }
+        ensures { result ≡ weighing self.now.machine q (next_of self.now.machine.rx q) want }
+    {
+        let next = self.rx.to_weigh(q);
+        let id = next.unwrap();
+        let hash = self.given.hash_of(id);
+        let class = self.rx.class(q, hash);
+        let online = self.settings.online();
+        let plain = self.settings.plain_lane(&self.given, q, id).0;
+        let desired = desired_cpu(class, want, online, plain);
+        HopEvent::Weigh {
+            p: q,
+            class,
+            want,
+            desired,
+            online,
+        }
+    }
+
+    /// The packet in hand is put to its processor, and a filter is asked for where one is due.
+    pub(super) fn put(&mut self, q: u8) -> Answer
+        requires { q < length self.old.machine.setup.homes }
+        ensures state { self.new.machine ≡ (put self.old.machine q).0 }
+        ensures answer { result ≡ (put self.old.machine q).1 }
+        ensures rooms { self.new.rooms ≡ self.old.rooms }
+    {
+        let id = last_of(&self.rx, q).id;
+        let hash = self.given.hash_of(id);
+        let answer = self.rx.step(HopEvent::Put { p: q, hash });
+        if let Some(position) = position_of(&answer) {
+            let choice = last_of(&self.rx, q).choice;
+            let filter = filter_for(self.given.homes(), self.filters.count(), choice, position);
+            self.notes[q as usize] = Note::asking(filter);
+        }
+        told(answer)
+    }
+
+    /// The filter that is asked for is written.
+    pub(super) fn ask(&mut self, q: u8) -> Answer
+        requires { q < length self.old.machine.setup.homes }
+        ensures state { self.new.machine ≡ (ask self.old.machine q).0 }
+        ensures answer { result ≡ (ask self.old.machine q).1 }
+        ensures rooms { self.new.rooms ≡ self.old.rooms }
+    {
+        if !self.rx.is_inside(q) {
+            return Answer::Idle(Idle::NotInside);
+        }
+        let Note::Asking(filter) = self.notes[q as usize] else {
+            return Answer::Idle(Idle::WrongStage);
+        };
+        let id = last_of(&self.rx, q).id;
+        let hash = self.given.hash_of(id);
+        write_filter(&mut self.filters, hash, filter);
+        self.notes[q as usize] = Note::Nothing;
+        Answer::Done
+    }
+
+    /// The poller goes outside, but not between its look and the end of its put or its filter.
+    pub(super) fn leave(&mut self, q: u8) -> Answer
+        requires { q < length self.old.machine.setup.homes }
+        ensures state { self.new.machine ≡ (leave self.old.machine q).0 }
+        ensures answer { result ≡ (leave self.old.machine q).1 }
+        ensures rooms { self.new.rooms ≡ self.old.rooms }
+    {
+        if !self.rx.is_inside(q) {
+            return Answer::Idle(Idle::NotInside);
+        }
+        if !self.notes[q as usize].is_nothing() {
+            return Answer::Idle(Idle::MidPacket);
+        }
+        told(self.rx.step(HopEvent::Leave { p: q }))
+    }
+}
+
+// Writes a filter for a hash, and none without one.
+fn write_filter(filters: &mut FilterTable, hash: Option<u32>, filter: Filter)
+    ensures { filters.new ≡ with_filter filters.old hash filter }
+{
+    if let Some(hash) = hash {
+        filters.steer(hash, filter);
+    }
+}

@@ -1,0 +1,60 @@
+//! The steps of a processor, from its backlog to the inboxes.
+ghost use Rattle.std.specs.Prelude.{◌≡◌, ◌<◌};
+ghost use Rattle.hop_core.specs.declared.event.HopEvent.TheVariants as event;
+ghost use Rattle.steer_parts.specs.Applications.{deliver, in_lane};
+ghost use Rattle.steer_parts.specs.Outcomes.{by_rx};
+ghost use Rattle.steer_parts.specs.Setup.{app_for};
+
+use crate::actors::Actors;
+use hop_core::HopEvent;
+use steer_base::{Answer, PacketId};
+use steer_parts::told;
+
+impl Actors {
+    /// The first packet that waits is in hand.
+    pub(super) fn pull(&mut self, c: u8) -> Answer
+        requires { c < self.old.machine.setup.cpus }
+        ensures state { self.new.machine ≡ (by_rx self.old.machine (event.Pull c)).0 }
+        ensures answer { result ≡ (by_rx self.old.machine (event.Pull c)).1 }
+        ensures rooms { self.new.rooms ≡ self.old.rooms }
+    {
+        told(self.rx.step(HopEvent::Pull { lane: c }))
+    }
+
+    /// The packet in hand goes to the inbox of its application.
+    pub(super) fn deliver(&mut self, c: u8) -> Answer
+        requires { c < self.old.machine.setup.cpus }
+        ensures state { self.new.machine ≡ (deliver self.old.machine c).0 }
+        ensures answer { result ≡ (deliver self.old.machine c).1 }
+        ensures rooms { self.new.rooms ≡ self.old.rooms }
+    {
+        let event = self.delivering(c);
+        told(self.rx.step(event))
+    }
+
+    // Where the packet in hand is delivered.
+    fn delivering(&self, c: u8) -> HopEvent
+        requires { c < self.now.machine.setup.cpus }
+        ensures { result ≡ event.Deliver c
+            (app_for self.now.machine.setup (in_lane self.now.machine.rx c)) }
+    {
+        let id = match self.rx.to_deliver(c) {
+            Some(id) => id,
+            None => PacketId(0),
+        };
+        HopEvent::Deliver {
+            lane: c,
+            to: self.given.app_of(id).0,
+        }
+    }
+
+    /// The head of the processor rises past the packet that it delivered.
+    pub(super) fn retire(&mut self, c: u8) -> Answer
+        requires { c < self.old.machine.setup.cpus }
+        ensures state { self.new.machine ≡ (by_rx self.old.machine (event.Retire c)).0 }
+        ensures answer { result ≡ (by_rx self.old.machine (event.Retire c)).1 }
+        ensures rooms { self.new.rooms ≡ self.old.rooms }
+    {
+        told(self.rx.step(HopEvent::Retire { lane: c }))
+    }
+}

@@ -1,0 +1,68 @@
+//! The step of a socket: an application records its processor for a flow.
+ghost use Rattle.std.specs.Prelude.{◌≡◌, ◌<◌, length};
+ghost use Rattle.steer_core.specs.Rooms.{HasSpare};
+ghost use Rattle.steer_parts.specs.Applications.{record_flow, record_hash, visited, wrote};
+
+use crate::actors::Actors;
+use history::SockWrite;
+use hop_core::HopEvent;
+use steer_base::{Answer, Idle, app_of};
+
+impl Actors {
+    /// The socket of a flow records the processor of its application.
+    pub(super) fn record(&mut self, flow: u32) -> Answer
+        requires { HasSpare self.old.rooms self.old.machine }
+        ensures state { self.new.machine ≡ (record_flow self.old.machine flow).0 }
+        ensures answer { result ≡ (record_flow self.old.machine flow).1 }
+        ensures rooms { self.new.rooms ≡ self.old.rooms }
+    {
+        let Some(hash) = self.given.flow_hash(flow) else {
+            return Answer::Idle(Idle::NoFlow);
+        };
+        let Some(hash) = hash else {
+            return Answer::Idle(Idle::NoHash);
+        };
+        self.record_hash(hash)
+    }
+
+    // The application of a hash goes through the receive gate and records its processor.
+    fn record_hash(&mut self, hash: u32) -> Answer
+        requires { HasSpare self.old.rooms self.old.machine }
+        ensures state { self.new.machine ≡ (record_hash self.old.machine hash).0 }
+        ensures answer { result ≡ (record_hash self.old.machine hash).1 }
+        ensures rooms { self.new.rooms ≡ self.old.rooms }
+    {
+        if self.settings.sock() == 0 {
+            return Answer::Idle(Idle::NoTable);
+        }
+        let a = app_of(Some(hash), self.given.apps()).0;
+        self.visit(a);
+        self.write(a, hash);
+        Answer::Done
+    }
+
+    // An application goes through the receive gate and out again.
+    fn visit(&mut self, a: u8)
+        requires { a < self.old.machine.setup.apps }
+        ensures state { self.new.machine ≡ visited self.old.machine a }
+        ensures rooms { self.new.rooms ≡ self.old.rooms }
+    {
+        let guest = self.given.queues() + a;
+        self.rx.step(HopEvent::Enter { p: guest });
+        self.rx.step(HopEvent::Leave { p: guest });
+    }
+
+    // An application writes its processor to the entry of a hash.
+    fn write(&mut self, a: u8, hash: u32)
+        requires app { a < self.old.machine.setup.apps }
+        requires some { 0 < length self.old.machine.socket }
+        requires room { HasSpare self.old.rooms self.old.machine }
+        ensures state { self.new.machine ≡ wrote self.old.machine a hash }
+        ensures rooms { self.new.rooms ≡ self.old.rooms }
+    {
+        let cpu = self.settings.stand(a);
+        let entry = hash % self.settings.sock();
+        self.socket.note(hash, cpu);
+        self.writes.push(a, SockWrite { entry, cpu });
+    }
+}

@@ -1,0 +1,41 @@
+//! The steps of a transmit queue, from its replies to the port.
+ghost use Rattle.std.specs.Prelude.{◌≡◌, ◌<◌};
+ghost use Rattle.hop_core.specs.declared.event.HopEvent.TheVariants as event;
+ghost use Rattle.steer_parts.specs.Outcomes.{by_tx};
+
+use crate::actors::Actors;
+use hop_core::HopEvent;
+use steer_base::Answer;
+use steer_parts::told;
+
+impl Actors {
+    /// The first reply that waits is in hand.
+    pub(super) fn tpull(&mut self, t: u8) -> Answer
+        requires { t < self.old.machine.setup.txs }
+        ensures state { self.new.machine ≡ (by_tx self.old.machine (event.Pull t)).0 }
+        ensures answer { result ≡ (by_tx self.old.machine (event.Pull t)).1 }
+        ensures rooms { self.new.rooms ≡ self.old.rooms }
+    {
+        told(self.tx.step(HopEvent::Pull { lane: t }))
+    }
+
+    /// The reply in hand leaves by the port.
+    pub(super) fn tdeliver(&mut self, t: u8) -> Answer
+        requires { t < self.old.machine.setup.txs }
+        ensures state { self.new.machine ≡ (by_tx self.old.machine (event.Deliver t 0)).0 }
+        ensures answer { result ≡ (by_tx self.old.machine (event.Deliver t 0)).1 }
+        ensures rooms { self.new.rooms ≡ self.old.rooms }
+    {
+        told(self.tx.step(HopEvent::Deliver { lane: t, to: 0 }))
+    }
+
+    /// The head of the transmit queue rises past the reply that it delivered.
+    pub(super) fn tretire(&mut self, t: u8) -> Answer
+        requires { t < self.old.machine.setup.txs }
+        ensures state { self.new.machine ≡ (by_tx self.old.machine (event.Retire t)).0 }
+        ensures answer { result ≡ (by_tx self.old.machine (event.Retire t)).1 }
+        ensures rooms { self.new.rooms ≡ self.old.rooms }
+    {
+        told(self.tx.step(HopEvent::Retire { lane: t }))
+    }
+}

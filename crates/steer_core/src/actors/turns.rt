@@ -1,0 +1,179 @@
+//! Steps of one event, and those of many events in a row.
+ghost use Rattle.std.specs.Prelude.{◌≡◌, ◌<◌, length, true};
+ghost use Rattle.plan_reader.specs.Ranges.{step_is_within};
+ghost use Rattle.steer_core.specs.Rooms.{HasRoomFor, HasSpare};
+ghost use Rattle.steer_laws.specs.Kept.{sizes_in};
+ghost use Rattle.steer_parts.specs.Steps.{simple};
+ghost use Rattle.steer_parts.specs.Whole.{drain, drain_one, poll, recorded, reply, replying, serve};
+ghost use Rattle.steer_parts.specs.Whole.{ship, ship_one, tried, tries};
+
+use crate::actors::Actors;
+use steer_base::{Answer, Idle, Step};
+use steer_parts::{is_idle, is_work};
+
+impl Actors {
+    /// A step of one event, or a command. A step of many events does nothing here.
+    pub(super) fn simple(&mut self, step: Step) -> Answer
+        requires within { step_is_within (sizes_in self.old.machine.setup) step ≡ true }
+        requires room { HasRoomFor self.old.rooms self.old.machine step }
+        ensures state { self.new.machine ≡ (simple self.old.machine step).0 }
+        ensures answer { result ≡ (simple self.old.machine step).1 }
+        ensures setup { self.new.machine.setup ≡ self.old.machine.setup }
+        ensures rooms { self.new.rooms ≡ self.old.rooms }
+    {
+        match step {
+            Step::Arrive => self.arrive(),
+            Step::Take(q) => self.take(q),
+            Step::Enter(q) => self.enter(q),
+            Step::Look(q) => self.look(q),
+            Step::Weigh(q) => self.weigh(q),
+            Step::Put(q) => self.put(q),
+            Step::Ask(q) => self.ask(q),
+            Step::Leave(q) => self.leave(q),
+            Step::Pull(c) => self.pull(c),
+            Step::Deliver(c) => self.deliver(c),
+            Step::Retire(c) => self.retire(c),
+            Step::Record(flow) => self.record(flow),
+            Step::Send(a) => self.send(a),
+            Step::TEnter(a) => self.tenter(a),
+            Step::TLeave(a) => self.tleave(a),
+            Step::TWeigh(a) => self.tweigh(a),
+            Step::TPut(a) => self.tput(a),
+            Step::TPull(t) => self.tpull(t),
+            Step::TDeliver(t) => self.tdeliver(t),
+            Step::TRetire(t) => self.tretire(t),
+            Step::Give(command) => self.give(command),
+            Step::Poll(_)
+            | Step::Drain(_)
+            | Step::Reply(_)
+            | Step::Serve(_)
+            | Step::Ship(_)
+            | Step::Sweep => Answer::Idle(Idle::Nothing),
+        }
+    }
+
+    /// A step of one event is tried. `worked` says whether work was done up to it, and the result
+    /// whether work was done up to its end.
+    pub(super) fn attempt(&mut self, worked: bool, step: Step) -> bool
+        requires within { step_is_within (sizes_in self.old.machine.setup) step ≡ true }
+        requires room { HasRoomFor self.old.rooms self.old.machine step }
+        ensures turn { (self.new.machine, result) ≡ tried (self.old.machine, worked) step }
+        ensures setup { self.new.machine.setup ≡ self.old.machine.setup }
+        ensures rooms { self.new.rooms ≡ self.old.rooms }
+    {
+        let answer = self.simple(step);
+        worked || (is_work(&step) && !is_idle(&answer))
+    }
+
+    /// All events of a poller in order.
+    pub(super) fn poll(&mut self, worked: bool, q: u8) -> bool
+        requires { q < length self.old.machine.setup.homes }
+        ensures turn { (self.new.machine, result) ≡ poll q (self.old.machine, worked) }
+        ensures setup { self.new.machine.setup ≡ self.old.machine.setup }
+        ensures rooms { self.new.rooms ≡ self.old.rooms }
+    {
+        let worked = self.attempt(worked, Step::Enter(q));
+        let worked = self.attempt(worked, Step::Take(q));
+        let worked = self.attempt(worked, Step::Look(q));
+        let worked = self.attempt(worked, Step::Weigh(q));
+        let worked = self.attempt(worked, Step::Put(q));
+        let worked = self.attempt(worked, Step::Ask(q));
+        self.attempt(worked, Step::Leave(q))
+    }
+
+    /// The events of a processor until its hand is empty and nothing waits.
+    pub(super) fn drain(&mut self, worked: bool, c: u8) -> bool
+        requires { c < self.old.machine.setup.cpus }
+        ensures turn { (self.new.machine, result) ≡ drain c (self.old.machine, worked) }
+        ensures setup { self.new.machine.setup ≡ self.old.machine.setup }
+        ensures rooms { self.new.rooms ≡ self.old.rooms }
+    {
+        let mut done = worked;
+        for _ in 0..self.rx.unretired(c) {
+            done = self.drain_one(done, c);
+        }
+        done
+    }
+
+    // One packet gets through a processor.
+    fn drain_one(&mut self, worked: bool, c: u8) -> bool
+        requires { c < self.old.machine.setup.cpus }
+        ensures turn { (self.new.machine, result) ≡ tries (self.old.machine, worked) (drain_one c) }
+        ensures setup { self.new.machine.setup ≡ self.old.machine.setup }
+        ensures rooms { self.new.rooms ≡ self.old.rooms }
+    {
+        let worked = self.attempt(worked, Step::Pull(c));
+        let worked = self.attempt(worked, Step::Deliver(c));
+        self.attempt(worked, Step::Retire(c))
+    }
+
+    /// All events of an application in order.
+    pub(super) fn reply(&mut self, worked: bool, a: u8) -> bool
+        requires { a < self.old.machine.setup.apps }
+        ensures turn { (self.new.machine, result) ≡ reply a (self.old.machine, worked) }
+        ensures setup { self.new.machine.setup ≡ self.old.machine.setup }
+        ensures rooms { self.new.rooms ≡ self.old.rooms }
+    {
+        let worked = self.attempt(worked, Step::TEnter(a));
+        let worked = self.attempt(worked, Step::Send(a));
+        let worked = self.attempt(worked, Step::TWeigh(a));
+        let worked = self.attempt(worked, Step::TPut(a));
+        self.attempt(worked, Step::TLeave(a))
+    }
+
+    /// The flow of the packet that an application replies to is recorded, and then all its events.
+    pub(super) fn serve(&mut self, worked: bool, a: u8) -> bool
+        requires app { a < self.old.machine.setup.apps }
+        requires room { HasSpare self.old.rooms self.old.machine }
+        ensures turn { (self.new.machine, result) ≡ serve a (self.old.machine, worked) }
+        ensures setup { self.new.machine.setup ≡ self.old.machine.setup }
+        ensures rooms { self.new.rooms ≡ self.old.rooms }
+    {
+        let worked = self.recorded(worked, a);
+        self.reply(worked, a)
+    }
+
+    // The flow of the packet that an application replies to is recorded, if there is one.
+    fn recorded(&mut self, worked: bool, a: u8) -> bool
+        requires app { a < self.old.machine.setup.apps }
+        requires room { HasSpare self.old.rooms self.old.machine }
+        ensures turn { (self.new.machine, result)
+            ≡ recorded (replying self.old.machine a) (self.old.machine, worked) }
+        ensures setup { self.new.machine.setup ≡ self.old.machine.setup }
+        ensures rooms { self.new.rooms ≡ self.old.rooms }
+    {
+        match self.replying(a) {
+            Some(id) => {
+                let flow = self.given.flow_of(id);
+                self.attempt(worked, Step::Record(flow))
+            }
+            None => worked,
+        }
+    }
+
+    /// The events of a transmit queue until its hand is empty and nothing waits.
+    pub(super) fn ship(&mut self, worked: bool, t: u8) -> bool
+        requires { t < self.old.machine.setup.txs }
+        ensures turn { (self.new.machine, result) ≡ ship t (self.old.machine, worked) }
+        ensures setup { self.new.machine.setup ≡ self.old.machine.setup }
+        ensures rooms { self.new.rooms ≡ self.old.rooms }
+    {
+        let mut done = worked;
+        for _ in 0..self.tx.unretired(t) {
+            done = self.ship_one(done, t);
+        }
+        done
+    }
+
+    // One reply gets through a transmit queue.
+    fn ship_one(&mut self, worked: bool, t: u8) -> bool
+        requires { t < self.old.machine.setup.txs }
+        ensures turn { (self.new.machine, result) ≡ tries (self.old.machine, worked) (ship_one t) }
+        ensures setup { self.new.machine.setup ≡ self.old.machine.setup }
+        ensures rooms { self.new.rooms ≡ self.old.rooms }
+    {
+        let worked = self.attempt(worked, Step::TPull(t));
+        let worked = self.attempt(worked, Step::TDeliver(t));
+        self.attempt(worked, Step::TRetire(t))
+    }
+}

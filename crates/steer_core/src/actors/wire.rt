@@ -1,0 +1,61 @@
+//! The step of the wire: a packet of the capture arrives.
+ghost use Rattle.std.specs.Prelude.{◌≡◌, ◌<◌, length};
+ghost use Rattle.steer_parts.specs.Pollers.{arrival_by, arrive, route_by};
+ghost use Rattle.steer_parts.specs.Setup.{hash_of};
+
+use crate::actors::Actors;
+use history::Arrival;
+use hop_core::HopEvent;
+use steer_base::{Answer, Idle, PacketId, RxQueue};
+
+impl Actors {
+    /// The next packet of the capture enters the ring of its queue.
+    pub(super) fn arrive(&mut self) -> Answer
+        ensures state { self.new.machine ≡ (arrive self.old.machine).0 }
+        ensures answer { result ≡ (arrive self.old.machine).1 }
+        ensures rooms { self.new.rooms ≡ self.old.rooms }
+    {
+        let next = self.arrivals.len();
+        if next >= self.given.packet_count() {
+            return Answer::Idle(Idle::NothingLeft);
+        }
+        let id = PacketId(next);
+        let arrival = self.arriving(id);
+        let queue = arrival.queue.0;
+        self.rx.step(HopEvent::Arrive { p: queue, id });
+        self.arrivals.push(arrival);
+        Answer::Done
+    }
+
+    // The queue that a packet goes to now, and the value that leads there.
+    fn arriving(&self, id: PacketId) -> Arrival
+        ensures { result
+            ≡ arrival_by id (route_by self.now.machine (hash_of self.now.machine.setup id)) }
+    {
+        let Some(hash) = self.given.hash_of(id) else {
+            return Arrival {
+                id,
+                queue: RxQueue(0),
+                filter: None,
+                entry: None,
+            };
+        };
+        match self.filters.look(hash) {
+            Some(filter) => Arrival {
+                id,
+                queue: filter.queue,
+                filter: Some(filter.queue),
+                entry: None,
+            },
+            None => {
+                let queue = self.settings.queue(Some(hash));
+                Arrival {
+                    id,
+                    queue,
+                    filter: None,
+                    entry: Some(queue),
+                }
+            }
+        }
+    }
+}

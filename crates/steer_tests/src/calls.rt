@@ -1,0 +1,55 @@
+//! Calls of the program over files in memory.
+use outside_io::{MemoryDesk, MemorySink};
+use std::alloc::Global;
+use std::test::Fail;
+use steer_top::steer_still;
+
+/// The words of a call.
+pub fn words(alloc: Global, texts: &[&str]) -> Result<Vec<String>, Fail> {
+    let mut words = Vec::new(alloc);
+    for text in texts {
+        words.push(String::from_str(alloc, *text)?)?;
+    }
+    Ok(words)
+}
+
+/// A desk with these files, whose calls with these numbers fail.
+pub fn desk_of(
+    alloc: Global,
+    files: &[(&str, &[u8])],
+    failing: &[u64],
+) -> Result<MemoryDesk, Fail> {
+    let mut held = Vec::new(alloc);
+    for (name, bytes) in files {
+        held.push((String::from_str(alloc, *name)?, bytes.to_vec(alloc)?))?;
+    }
+    Ok(MemoryDesk::make(held, failing.to_vec(alloc)?))
+}
+
+/// A sink whose writes with these numbers fail.
+pub fn sink(alloc: Global, failing: &[u64]) -> Result<MemorySink, Fail> {
+    Ok(MemorySink::make(alloc, 4096, failing.to_vec(alloc)?)?)
+}
+
+/// What a call came to.
+#[derive(Drop)]
+pub struct Outcome {
+    /// Its status.
+    pub status: u8,
+    /// What went to standard output.
+    pub out: Vec<u8>,
+    /// What went to standard error.
+    pub err: Vec<u8>,
+}
+
+/// What a call over this desk comes to.
+pub fn outcome(alloc: Global, texts: &[&str], mut desk: MemoryDesk) -> Result<Outcome, Fail> {
+    let mut out = sink(alloc, &[])?;
+    let mut err = sink(alloc, &[])?;
+    let status = steer_still(alloc, &words(alloc, texts)?, &mut desk, &mut out, &mut err);
+    Ok(Outcome {
+        status,
+        out: out.bytes().to_vec(alloc)?,
+        err: err.bytes().to_vec(alloc)?,
+    })
+}

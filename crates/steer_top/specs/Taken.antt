@@ -1,0 +1,26 @@
+-- What was taken of a file, by the bytes that the desk tells of its name.
+use Rattle.std.specs.Prelude.{◌≡◌, ◌≤◌, ℕ, List, All, length, Option, Some, Ok}
+use Rattle.std.specs.Io.KnownBytes.{Keeps}
+use Rattle.ntuple_rules.specs.Ranges.{IsWithin as AreWithin}
+use Rattle.ntuple_rules.specs.Readings.{rules_of}
+use Rattle.ntuple_rules.specs.declared.rules.Rules.{Rules}
+use Rattle.pcap_reader.specs.Captures.{IsWithin}
+use Rattle.steer_top.specs.Captures.{HasAnyCapture}
+use Rattle.steer_top.specs.Files.{limit_of}
+use Rattle.steer_top.specs.declared.ending.Role.TheVariants as role
+use Rattle.steer_top.specs.declared.file.CaptureFile.{CaptureFile}
+
+-- the bytes are those of the file, within the limit, and the capture is theirs
+pub record IsCaptureOf (held : Option (List ℕ)) (file : CaptureFile) : Type 0 where
+  pub whole : Keeps held (Some file.bytes.items)
+  pub few : length file.bytes.items ≤ limit_of role.Capture
+  pub has : HasAnyCapture file.bytes.items file.capture
+  pub within : All (IsWithin file.bytes.items) file.capture.records
+
+-- the rules are those of some bytes that the file may have, within the limit
+pub record IsRulesOf (held : Option (List ℕ)) (rules : Rules) : Type 0 where
+  pub bytes : List ℕ
+  pub whole : Keeps held (Some bytes)
+  pub few : length bytes ≤ limit_of role.Rules
+  pub has : rules_of bytes ≡ Ok rules
+  pub ranges : AreWithin rules

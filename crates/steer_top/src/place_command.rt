@@ -1,0 +1,53 @@
+//! The command `place`: the rules are read, then the capture, and then a line goes out for each
+//! packet.
+ghost use Rattle.std.specs.Prelude.{◌≡◌, ◌≤◌, ℕ, List};
+ghost use Rattle.outside_io.specs.Desk.{GoesOnTelling};
+ghost use Rattle.steer_top.specs.Commands.{place_words_of};
+ghost use Rattle.steer_top.specs.Endings.{EndsCommand};
+ghost use Rattle.steer_top.specs.Words.CommandWords.{Place};
+
+use crate::command::PlaceCommand;
+use crate::ending::Ending;
+use crate::file::{take_capture, take_rules};
+use crate::placer::Placer;
+use crate::writing::write_lines;
+use outside_io::{Desk, Sink};
+use std::alloc::Global;
+use steer_base::OutOfMemory;
+
+/// Reads the rules and the capture, takes all memory, and writes the text.
+pub fn place_file<D: Desk, K: Sink>(
+    alloc: Global,
+    command: &PlaceCommand,
+    desk: &mut D,
+    out: &mut K,
+) -> Ending
+    ensures ends { EndsCommand result (Place (place_words_of command.now)) (record {
+      held = D.held desk.old;
+      asked = D.asked desk.new;
+      desk_before = D.faults desk.old;
+      desk_after = D.faults desk.new;
+      out_before = K.faults out.old;
+      out_after = K.faults out.new;
+      written_before = K.written out.old;
+      written_after = K.written out.new;
+    }) }
+
+    ensures held { D.held desk.new ≡ D.held desk.old }
+    ensures told { GoesOnTelling (D.left desk.old) (D.left desk.new) }
+    ensures desk_later { D.faults desk.old ≤ D.faults desk.new }
+    ensures out_later { K.faults out.old ≤ K.faults out.new }
+{
+    let rules = match take_rules(alloc, command.rules, desk) {
+        Ok(rules) => rules,
+        Err(ending) => return ending,
+    };
+    let file = match take_capture(alloc, command.capture, desk) {
+        Ok(file) => file,
+        Err(ending) => return ending,
+    };
+    match Placer::make(alloc, rules) {
+        Ok(placer) => write_lines(alloc, &placer, &file, out),
+        Err(OutOfMemory) => Ending::OutOfMemory,
+    }
+}
