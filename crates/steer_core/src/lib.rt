@@ -3,7 +3,9 @@
 #![tactic(auto)]
 
 mod actors;
+mod replaying;
 mod steering;
 
+pub use replaying::replay;
 pub use steer_parts::packets;
 pub use steering::Steering;
