@@ -9,7 +9,6 @@ pub mod PacedSteps
 pub mod QuietLemmas
 pub mod QuietTurns
 pub mod RecordLemmas
-pub mod ReplayLemmas
 pub mod ReplyHops
 pub mod ReplyLemmas
 pub mod RoomLemmas

@@ -3,9 +3,7 @@
 #![tactic(auto)]
 
 mod actors;
-mod replaying;
 mod steering;
 
-pub use replaying::replay;
 pub use steer_parts::packets;
 pub use steering::Steering;
