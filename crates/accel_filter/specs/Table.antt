@@ -1,5 +1,6 @@
 -- The filters of a card with accelerated receive flow steering (kernel scaling chapter, section
--- accelerated RFS), seen as a list: each is set, or there is none.
+-- accelerated RFS), seen as a list: each is set, or there is none. Their expiry is this project's
+-- own.
 use Rattle.std.specs.Prelude.{ℕ, Bool, false, List, Option, Some, None}
 use Rattle.steer_base.specs.Filters.{may_expire}
 use Rattle.steer_base.specs.HashTables.{cleared_rows, place_in_rows, row_at, with_row}

@@ -6,8 +6,8 @@ use steer_base::{Cpu, Filter, RxQueue, Why, reached};
 
 /// The filter that a packet writes which was accepted at the processor `cpu`, in the position
 /// `accepted`, a counter number that wraps. There is one where the choice `why` moved the packet's
-/// class and `cpu` is home to a receive queue: it names the lowest such queue (kernel scaling
-/// chapter, section accelerated RFS). `homes` are the homes of the receive queues, in their order.
+/// class and `cpu` is home to a receive queue (kernel scaling chapter, section accelerated RFS): it
+/// names the lowest such queue. `homes` are the homes of the receive queues, in their order.
 pub fn filter_written(homes: &[Cpu], why: Why, cpu: Cpu, accepted: u32) -> Option<Filter>
     requires { length homes.now ≤ 32 }
     ensures { result ≡ filter_written homes.now why cpu accepted }
@@ -39,39 +39,4 @@ pub fn may_expire(filter: Filter, head: u32, entries: u32) -> bool
     ensures { result ≡ may_expire filter head entries }
 {
     reached(head, filter.mark, 10 * (entries.max(1) - 1))
-}
-
-#[cfg(test)]
-mod tests {
-    use super::*;
-
-    #[test]
-    fn a_move_to_a_home_writes_a_filter(rt: HostRuntime) {
-        let homes = [Cpu(2), Cpu(1), Cpu(1)];
-        let filter = |queue, cpu| {
-            Some(Filter {
-                queue: RxQueue(queue),
-                cpu: Cpu(cpu),
-                mark: 9,
-            })
-        };
-        let cases = [
-            (Why::Unset, 1u8, filter(1, 1)),
-            (Why::Offline, 2, filter(0, 2)),
-            (Why::Passed, 1, filter(1, 1)),
-            // No queue has its home here.
-            (Why::Passed, 3, None),
-            // The class did not move.
-            (Why::Same, 1, None),
-            (Why::Kept, 1, None),
-            (Why::Plain, 1, None),
-        ];
-        for (why, cpu, wanted) in cases {
-            assert_eq!(rt;
-                filter_written(&homes, why, Cpu(cpu), 9),
-                wanted,
-                "{why:?} {cpu}"
-            );
-        }
-    }
 }

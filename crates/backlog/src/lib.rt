@@ -7,8 +7,6 @@ mod laws;
 mod offers;
 mod pages;
 mod queue;
-#[cfg(test)]
-mod tests;
 mod window;
 
 pub use lane::Lane;

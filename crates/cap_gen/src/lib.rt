@@ -6,8 +6,6 @@ mod frame;
 mod input;
 mod laws;
 mod plan_text;
-#[cfg(test)]
-mod tests;
 
 pub use input::{Generated, generate};
 pub use laws::a_frame_is_of_its_flow;

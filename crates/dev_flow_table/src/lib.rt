@@ -6,8 +6,6 @@ mod laws;
 mod list_laws;
 mod rule;
 mod table;
-#[cfg(test)]
-mod tests;
 
 pub use laws::{
     a_choice_leaves_other_classes, a_class_moves_by_three_conditions,

@@ -56,6 +56,3 @@ pub fn payload_of(packet: &[u8], kind: u16) -> Option<Payload>
         None
     }
 }
-
-#[cfg(test)]
-mod tests;

@@ -12,6 +12,3 @@ mod step;
 pub use hints::{HintSeat, Hints};
 pub use laws::last_write;
 pub use step::HintStep;
-
-#[cfg(test)]
-mod tests;

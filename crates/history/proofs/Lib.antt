@@ -1,26 +1,13 @@
-pub mod Arrivals
-pub mod BeginsLemmas
 pub mod BoundLemmas
-pub mod CountLemmas
+mod CountLemmas
 pub mod ExampleLemmas
 pub mod FindingLemmas
 pub mod FoundAgain
-pub mod FromShape
-pub mod FromTests
-pub mod IndexLemmas
-pub mod LinesFit
-pub mod Looks
+mod IndexLemmas
+mod LinesFit
 pub mod OwnLemmas
-pub mod PassingLanes
-pub mod PassingLemmas
-pub mod PassingLists
 pub mod PlaceLemmas
-pub mod PositionLemmas
+mod PositionLemmas
 pub mod RegularLemmas
-pub mod ReplyLemmas
-pub mod SameArrivals
+mod ReplyLemmas
 pub mod SamePlaces
-pub mod SamePuts
-pub mod TestLemmas
-pub mod ToTests
-pub mod Traces

@@ -4,7 +4,7 @@ use Rattle.std.specs.List.{range_with_len}
 use Rattle.history.specs.Lists.{arrivals_at}
 use Rattle.history.specs.Places.{was_taken}
 use Rattle.history.specs.declared.arrival.Arrival.{Arrival}
-use Rattle.history.specs.declared.counted.Counted.{Counted}
+use Rattle.history.specs.declared.known.counted.Counted.{Counted}
 use Rattle.history.specs.declared.history.History.{History}
 
 -- how many packets arrived at each of the queues below a number

@@ -9,4 +9,3 @@ pub mod Places
 pub mod Ranges
 pub mod Regular
 pub mod Shown
-pub mod Tests

@@ -5,13 +5,16 @@ ghost use Rattle.history.specs.Finding.{is_among, is_in};
 ghost use Rattle.history.specs.Lists.{arrival_of, arrivals_at, drop_ids};
 ghost use Rattle.history.specs.Places.{IsInReach, has_arrived, place_of, was_taken};
 
+pub mod finding;
+pub mod fits;
+
 use crate::arrival::Arrival;
 use crate::commanded::Commanded;
-use crate::finding::has_packet;
 use crate::lane_list::LaneList;
 use crate::place::Place;
 use crate::sent::Sent;
 use crate::sock_write::SockWrite;
+use finding::has_packet;
 use steer_base::{AppId, Chosen, Cpu, List, PacketId, RxQueue};
 
 /// All that happened in a run, as lists in the order in which it happened.

@@ -3,7 +3,7 @@ ghost use Rattle.std.specs.Prelude.{◌≡◌};
 ghost use Rattle.history.specs.Finding.{is_among, is_in};
 ghost use Rattle.history.specs.Lists.{drop_ids};
 
-use crate::finding::{has_packet, has_packet_among};
+use crate::history::finding::{has_packet, has_packet_among};
 use steer_base::{LaneDrop, List, PacketId};
 
 /// The backlog of a processor, or a transmit queue: its packets in the order of their puts, and how

@@ -4,36 +4,27 @@
 
 mod arrival;
 mod commanded;
-mod counted;
-mod finding;
-mod fits;
-mod found_again;
 mod history;
-mod index;
-mod item_test;
 mod known;
 mod lane_list;
 mod laws;
 mod lines;
 mod packet_line;
 mod place;
-mod polling;
-mod regularity;
 mod reply_line;
-mod replying;
 mod sent;
-mod shape;
-mod slots;
 mod sock_write;
-#[cfg(test)]
-mod tests;
 
 pub use arrival::Arrival;
 pub use commanded::Commanded;
-pub use found_again::{histories_are_found_again, lines_fit};
 pub use history::History;
+pub use known::Known;
+pub use known::counted::Counted;
+pub use known::index::Index;
 pub use lane_list::LaneList;
-pub use laws::{a_packet_has_one_place, few_lanes_are_in_reach};
+pub use laws::{
+    a_packet_has_one_place, few_lanes_are_in_reach, histories_are_found_again, lines_fit,
+};
 pub use lines::Lines;
 pub use packet_line::{PacketLine, Via};
 pub use place::Place;

@@ -5,11 +5,14 @@ ghost use Rattle.history.specs.Lists.{arrivals_at};
 ghost use Rattle.history.specs.declared.packet_line.PacketLine.{PacketLine};
 ghost use Rattle.history.specs.Regular.{Regular};
 
-use crate::counted::Counted;
+pub mod making;
+
 use crate::history::History;
-use crate::known::{Known, packet_lines, reply_lines};
+use crate::known::Known;
+use crate::known::counted::Counted;
 use crate::packet_line::PacketLine;
 use crate::reply_line::ReplyLine;
+use making::{packet_lines, reply_lines};
 use std::alloc::Global;
 use std::marker::Model;
 use steer_base::{OutOfMemory, Packet, PacketId};

@@ -8,10 +8,9 @@ ghost use Rattle.hop_core.specs.Shape.{classes_for, most_classes, new_hop};
 ghost use Rattle.hop_core.specs.Sizes.{SameSizes};
 ghost use Rattle.hop_core.specs.Sound.{Sound};
 
+mod asking;
 mod events;
 mod readers;
-#[cfg(test)]
-mod tests;
 
 use crate::lanes::Lanes;
 use crate::tables::Tables;

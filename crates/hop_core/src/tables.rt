@@ -63,7 +63,6 @@ impl Tables {
     }
 
     // Whether numbers of classes are exact.
-    #[cfg(test)]
     pub(crate) fn is_exact(&self) -> bool
         ensures { result ≡ self.now.exact }
     {

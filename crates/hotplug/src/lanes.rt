@@ -25,37 +25,3 @@ pub fn affected(command: &Command, homes: &[Cpu], cpus: u8, txs: u8) -> CpuMask
         Command::Reta(..) | Command::Stand(..) | Command::Expire => CpuMask(0),
     }
 }
-
-#[cfg(test)]
-mod tests {
-    use super::*;
-    use steer_base::{AppId, RxQueue, TxQueue};
-
-    #[test]
-    fn commands_affect_lanes(rt: HostRuntime) {
-        let homes = [Cpu(3), Cpu(0), Cpu(3)];
-        let cases = [
-            (Command::Mask(RxQueue(1), CpuMask(1)), 0b1111u32),
-            (Command::Flows(RxQueue(1), 2), 0b1111),
-            (Command::Sock(2), 0b1111),
-            (Command::Offline(Cpu(2)), 0b100),
-            (Command::Online(Cpu(2)), 0b1001),
-            (Command::XCpus(TxQueue(1), CpuMask(1)), 0b11),
-            (Command::XQueues(TxQueue(1), 1), 0b11),
-            (Command::Reta(5, RxQueue(1)), 0),
-            (Command::Stand(AppId(0), Cpu(1)), 0),
-            (Command::Expire, 0),
-        ];
-        for (command, wanted) in cases {
-            assert_eq!(rt;
-                affected(&command, &homes, 4, 2),
-                CpuMask(wanted),
-                "{command:?}"
-            );
-        }
-        assert_eq!(rt;
-            affected(&Command::Sock(1), &homes, 32, 1),
-            CpuMask(0xffff_ffff)
-        );
-    }
-}

@@ -28,3 +28,11 @@ held_in folder = bytes_of folder.files.items
 -- the bytes left of the file that was begun, and none where nothing is begun
 abbrev pub left_in : Folder → List ℕ
 left_in folder = bytes_from folder.files.items folder.begun folder.at
+
+-- the name of the file at a place
+abbrev pub name_at : List (String Global × Vec ℕ Global) → ℕ → Option (List ℕ)
+name_at files place = option_map (λ f. string_bytes f.0) (slice_get files place)
+
+-- the name of the file that was begun, and none where nothing is begun
+abbrev pub asked_in : Folder → Option (List ℕ)
+asked_in folder = option_and_then (name_at folder.files.items) folder.begun

@@ -1,7 +1,7 @@
 -- What a desk in memory holds, and which of its calls fail.
 use Rattle.std.specs.Prelude.{List, ℕ, Bool, ◌||◌, Option, is_none}
 use Rattle.outside_io.specs.Failures.{next_fails}
-use Rattle.outside_io.specs.Folder.{held_in, left_in}
+use Rattle.outside_io.specs.Folder.{asked_in, held_in, left_in}
 use Rattle.outside_io.specs.declared.failures.Failures.{Failures}
 use Rattle.outside_io.specs.declared.memory_desk.MemoryDesk.{MemoryDesk}
 
@@ -12,6 +12,10 @@ held_by desk = held_in desk.folder
 -- the bytes left of the file that was begun, and none where nothing is begun
 abbrev pub left_on : MemoryDesk → List ℕ
 left_on desk = left_in desk.folder
+
+-- the name of the file that was begun, and none where nothing is begun
+abbrev pub asked_on : MemoryDesk → Option (List ℕ)
+asked_on desk = asked_in desk.folder
 
 -- its calls, and those that are to fail
 abbrev pub failures_of : MemoryDesk → Failures

@@ -1,5 +1,5 @@
 //! A desk: files by name, of which one at a time is read from its front.
-ghost use Rattle.std.specs.Prelude.{◌≡◌, ◌<◌, ◌≤◌, List, ℕ, Option, length};
+ghost use Rattle.std.specs.Prelude.{◌≡◌, ◌<◌, ◌≤◌, List, ℕ, Option, IfSome, None, length};
 ghost use Rattle.outside_io.specs.Counts.{Rose, raised};
 ghost use Rattle.outside_io.specs.Desk.{Begins, GoesOnTelling, Reads, count_of};
 
@@ -32,6 +32,9 @@ pub trait Desk {
     /// The bytes left of the file that was begun, where the desk tells them.
     ghost left: { Self → Option (List ℕ) };
 
+    /// The name of the file that was begun last, where the desk tells it.
+    ghost asked: { Self → Option (List ℕ) } = { λ _. None };
+
     /// How many bytes were read.
     ghost taken: { Self → ℕ };
 
@@ -46,6 +49,7 @@ pub trait Desk {
         ensures held { held self.new ≡ held self.old }
         ensures left { Begins result (held self.old name.now) (left self.new) }
         ensures told { GoesOnTelling (left self.old) (left self.new) }
+        ensures asked { IfSome (asked self.new) (λ asked. asked ≡ name.now) }
 
         ensures taken { taken self.new ≡ taken self.old }
         ensures reads { reads self.new ≡ reads self.old }
@@ -58,6 +62,7 @@ pub trait Desk {
         requires { 0 < length buf.old }
         ensures held { held self.new ≡ held self.old }
         ensures left { Reads result buf.new (left self.old) (left self.new) }
+        ensures asked { asked self.new ≡ asked self.old }
 
         ensures taken { taken self.new ≡ raised (count_of result) (taken self.old) }
         ensures reads { reads self.new ≡ raised 1 (reads self.old) }

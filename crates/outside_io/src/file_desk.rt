@@ -93,35 +93,3 @@ impl<R: Files + Drop> Desk for FileDesk<R> {
         }
     }
 }
-
-#[cfg(test)]
-mod tests {
-    use super::*;
-    use crate::{ReadWhole, read_whole};
-    use std::test::Fail;
-
-    #[test]
-    fn files_are_read_and_folders_and_missing_names_fail(rt: HostRuntime) -> Result<(), Fail> {
-        let alloc = rt.alloc();
-        let long = vec![in alloc; b'x'; 10_000]?;
-        fs::write(&rt, "long", long.as_slice())?;
-        fs::write(&rt, "short", b"abc")?;
-        let mut desk = FileDesk::make(rt.clone()?);
-        let bytes = read_whole(alloc, &mut desk, "long", 10_000)?;
-        assert_eq!(rt; bytes.as_slice(), long.as_slice());
-        for (name, limit, want) in [
-            ("short", 3, Ok(3)),
-            ("short", 2, Err(ReadWhole::TooLong)),
-            (".", 3, Err(ReadWhole::Fault)),
-            ("missing", 3, Err(ReadWhole::Fault)),
-        ] {
-            let got = read_whole(alloc, &mut desk, name, limit).map(|bytes| bytes.len());
-            assert_eq!(rt; got, want, "{name} with limit {limit}");
-        }
-        assert_eq!(rt; desk.begin("missing"), Begin::Failed);
-        assert_eq!(rt; desk.read(&mut [0]), Got::End);
-        fs::remove_file(&rt, "long")?;
-        fs::remove_file(&rt, "short")?;
-        Ok(())
-    }
-}

@@ -1,6 +1,6 @@
 //! Files in memory, of which one at a time is read from its front.
 ghost use Rattle.std.specs.Prelude.{◌≡◌, ◌<◌, ◌+◌, ◌^◌, ◌++◌, ℕ, List, Option, [], min, take};
-ghost use Rattle.std.specs.Prelude.{length, is_some, unwrap_or};
+ghost use Rattle.std.specs.Prelude.{length, is_some, unwrap_or, IfSome, None};
 ghost use Rattle.outside_io.specs.Folder.{bytes_from, bytes_of, place_of};
 
 /// Names with their bytes. The first of a name counts.
@@ -12,7 +12,7 @@ pub struct Folder {
 }
 
 impl Folder {
-    ghost use Rattle.outside_io.specs.Folder.{held_in, left_in};
+    ghost use Rattle.outside_io.specs.Folder.{asked_in, held_in, left_in};
 
     /// Nothing is begun.
     pub fn make(files: Vec<(String, Vec<u8>)>) -> Self
@@ -32,6 +32,7 @@ impl Folder {
         ensures held { held_in self.new ≡ held_in self.old }
         ensures found { result ≡ is_some (held_in self.old name.now) }
         ensures left { left_in self.new ≡ unwrap_or (held_in self.old name.now) [] }
+        ensures asked { IfSome (asked_in self.new) (λ asked. asked ≡ name.now) }
     {
         self.begun = find_name(&self.files, name);
         self.at = 0;
@@ -42,6 +43,7 @@ impl Folder {
     pub fn stop(&mut self)
         ensures held { held_in self.new ≡ held_in self.old }
         ensures left { left_in self.new ≡ [] }
+        ensures asked { asked_in self.new ≡ None }
     {
         self.begun = None;
     }
@@ -51,6 +53,7 @@ impl Folder {
         ensures held { held_in self.new ≡ held_in self.old }
         ensures count { result ≡ min (length buf.old) (length (left_in self.old)) }
         ensures left { left_in self.old ≡ take result buf.new ++ left_in self.new }
+        ensures asked { asked_in self.new ≡ asked_in self.old }
     {
         let count = copy_rest(&self.files, self.begun, self.at, buf);
         self.at += count;

@@ -1,5 +1,6 @@
 //! A desk in memory, which fails at the calls that are listed.
 ghost use Rattle.std.specs.Prelude.{if◌then◌else◌, ◌≡◌, ◌<◌, ◌≤◌, ℕ, [], Some, List, length};
+ghost use Rattle.std.specs.Prelude.{IfSome};
 ghost use Rattle.outside_io.specs.Counts.{Rose, raised};
 ghost use Rattle.outside_io.specs.Desk.{Begins, GoesOnTelling, Reads, count_of, is_failed};
 ghost use Rattle.outside_io.specs.Failures.{Counts, IsFresh};
@@ -57,12 +58,14 @@ impl MemoryDesk {
 
 impl Desk for MemoryDesk {
     ghost use Rattle.outside_io.specs.MemoryDesk.{begin_fails, read_fails};
-    ghost use Rattle.outside_io.specs.MemoryDesk.{failures_of, faults_of, held_by, left_on};
+    ghost use Rattle.outside_io.specs.MemoryDesk.{asked_on, failures_of, faults_of, held_by, left_on};
     ghost use Rattle.outside_io.specs.MemoryDesk.{reads_of, taken_of};
 
     ghost held = { held_by };
 
     ghost left = { λ desk. Some (left_on desk) };
+
+    ghost asked = { λ desk. asked_on desk };
 
     ghost taken = { λ desk. taken_of desk };
 
@@ -74,6 +77,7 @@ impl Desk for MemoryDesk {
         ensures held { held_by self.new ≡ held_by self.old }
         ensures left { Begins result (held_by self.old name.now) (Some (left_on self.new)) }
         ensures told { GoesOnTelling (Some (left_on self.old)) (Some (left_on self.new)) }
+        ensures asked { IfSome (asked_on self.new) (λ asked. asked ≡ name.now) }
         ensures taken { taken_of self.new ≡ taken_of self.old }
         ensures reads { reads_of self.new ≡ reads_of self.old }
         ensures later { faults_of self.old ≤ faults_of self.new }
@@ -97,6 +101,7 @@ impl Desk for MemoryDesk {
         requires { 0 < length buf.old }
         ensures held { held_by self.new ≡ held_by self.old }
         ensures left { Reads result buf.new (Some (left_on self.old)) (Some (left_on self.new)) }
+        ensures asked { asked_on self.new ≡ asked_on self.old }
         ensures taken { taken_of self.new ≡ raised (count_of result) (taken_of self.old) }
         ensures reads { reads_of self.new ≡ raised 1 (reads_of self.old) }
         ensures later { faults_of self.old ≤ faults_of self.new }

@@ -62,6 +62,7 @@ pub fn read_whole<D: Desk>(
     ensures reads { D.reads desk.new ≤ D.reads desk.old + (limit + 2) }
     ensures held { D.held desk.new ≡ D.held desk.old }
     ensures told { GoesOnTelling (D.left desk.old) (D.left desk.new) }
+    ensures asked { IfSome (D.asked desk.new) (λ asked. asked ≡ name.now) }
 {
     if desk.begin(name) == Begin::Failed {
         return Err(ReadWhole::Fault);
@@ -77,96 +78,4 @@ pub fn read_whole<D: Desk>(
         }
     }
     Err(ReadWhole::TooLong)
-}
-
-#[cfg(test)]
-mod tests {
-    use super::*;
-    use crate::MemoryDesk;
-    use std::test::Fail;
-
-    // A desk with a file of three bytes, an empty one, and one longer than a piece.
-    fn desk(alloc: Global, failing: Vec<u64>) -> Result<MemoryDesk, AllocError> {
-        let mut files = Vec::new(alloc);
-        files.push((String::from_str(alloc, "three")?, vec![in alloc; 7, 8, 9]?))?;
-        files.push((String::from_str(alloc, "empty")?, Vec::new(alloc)))?;
-        files.push((String::from_str(alloc, "long")?, vec![in alloc; 5; 10_000]?))?;
-        files.push((String::from_str(alloc, "three")?, vec![in alloc; 1]?))?;
-        Ok(MemoryDesk::make(files, failing))
-    }
-
-    #[test]
-    fn a_file_is_read_whole_up_to_its_limit(rt: HostRuntime) -> Result<(), Fail> {
-        let alloc = rt.alloc();
-        let mut desk = desk(alloc, Vec::new(alloc))?;
-        for (name, limit, want) in [
-            ("three", 4, Ok(3)),
-            ("three", 3, Ok(3)),
-            ("three", 2, Err(ReadWhole::TooLong)),
-            ("three", 0, Err(ReadWhole::TooLong)),
-            ("empty", 0, Ok(0)),
-            ("long", 10_000, Ok(10_000)),
-            ("long", 9_999, Err(ReadWhole::TooLong)),
-            ("none", 9, Err(ReadWhole::Fault)),
-        ] {
-            let got = read_whole(alloc, &mut desk, name, limit).map(|bytes| bytes.len());
-            assert_eq!(rt; got, want, "{name} with limit {limit}");
-        }
-        let bytes = read_whole(alloc, &mut desk, "three", 3)?;
-        assert_eq!(rt; bytes.as_slice(), [7, 8, 9].as_slice());
-        Ok(())
-    }
-
-    // A file within the limit takes a read of its end besides, and of a longer one a byte more than
-    // the limit is read.
-    #[test]
-    fn reads_and_their_bytes_are_counted(rt: HostRuntime) -> Result<(), Fail> {
-        let alloc = rt.alloc();
-        for (name, limit, reads, taken) in [
-            ("three", 3, 2, 3),
-            ("three", 1, 1, 2),
-            ("empty", 0, 1, 0),
-            ("long", 10_000, 2, 10_000),
-            ("long", 9_000, 1, 9_001),
-            ("none", 9, 0, 0),
-        ] {
-            let mut desk = desk(alloc, Vec::new(alloc))?;
-            let _ = read_whole(alloc, &mut desk, name, limit);
-            assert_eq!(rt; desk.reads(), reads, "{name} with limit {limit}");
-            assert_eq!(rt; desk.taken(), taken, "{name} with limit {limit}");
-        }
-        Ok(())
-    }
-
-    // A file of three bytes takes a `begin`, a read of its bytes and a read of its end.
-    #[test]
-    fn a_call_that_is_listed_fails(rt: HostRuntime) -> Result<(), Fail> {
-        let alloc = rt.alloc();
-        for (call, want) in [
-            (1, Err(ReadWhole::Fault)),
-            (2, Err(ReadWhole::Fault)),
-            (3, Err(ReadWhole::Fault)),
-            (4, Ok(3)),
-        ] {
-            let mut desk = desk(alloc, vec![in alloc; call]?)?;
-            let got = read_whole(alloc, &mut desk, "three", 3).map(|bytes| bytes.len());
-            assert_eq!(rt; got, want, "where call {call} fails");
-        }
-        Ok(())
-    }
-
-    #[test]
-    fn nothing_is_begun_at_first_and_after_a_failed_begin(rt: HostRuntime) -> Result<(), Fail> {
-        let alloc = rt.alloc();
-        let mut desk = desk(alloc, vec![in alloc; 3]?)?;
-        let mut buffer = [0; 2];
-        assert_eq!(rt; desk.read(&mut buffer), Got::End);
-        assert_eq!(rt; desk.begin("three"), Begin::Ok);
-        assert_eq!(rt; desk.begin("three"), Begin::Failed);
-        assert_eq!(rt; desk.read(&mut buffer), Got::End);
-        assert_eq!(rt; desk.begin("three"), Begin::Ok);
-        assert_eq!(rt; desk.read(&mut buffer), Got::Bytes(2));
-        assert_eq!(rt; buffer.as_slice(), [7, 8].as_slice());
-        Ok(())
-    }
 }

@@ -52,23 +52,3 @@ impl Desk for SureDesk {
         }
     }
 }
-
-#[cfg(test)]
-mod tests {
-    use super::*;
-    use crate::read_whole;
-    use std::test::Fail;
-
-    #[test]
-    fn a_name_that_is_not_held_is_an_empty_file(rt: HostRuntime) -> Result<(), Fail> {
-        let alloc = rt.alloc();
-        let mut files = Vec::new(alloc);
-        files.push((String::from_str(alloc, "a")?, vec![in alloc; 1, 2]?))?;
-        let mut desk = SureDesk::make(files);
-        let held = read_whole(alloc, &mut desk, "a", 2)?;
-        assert_eq!(rt; held.as_slice(), [1, 2].as_slice());
-        let unknown = read_whole(alloc, &mut desk, "b", 2)?;
-        assert!(rt; unknown.is_empty());
-        Ok(())
-    }
-}

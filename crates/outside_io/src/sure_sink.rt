@@ -49,17 +49,3 @@ impl Sink for SureSink {
         Took::Bytes(bytes.len())
     }
 }
-
-#[cfg(test)]
-mod tests {
-    use super::*;
-    use crate::write_whole;
-
-    #[test]
-    fn bytes_are_counted(rt: HostRuntime) {
-        let mut out = SureSink::make();
-        assert_eq!(rt; write_whole(&mut out, b"steer"), Ok(()));
-        assert_eq!(rt; write_whole(&mut out, b" 1\n"), Ok(()));
-        assert_eq!(rt; out.count(), 8);
-    }
-}

@@ -26,39 +26,3 @@ pub fn write_whole<K: Sink>(out: &mut K, bytes: &[u8]) -> Result<(), WriteFault>
     }
     Ok(())
 }
-
-#[cfg(test)]
-mod tests {
-    use super::*;
-    use crate::MemorySink;
-    use std::test::Fail;
-
-    #[test]
-    fn the_third_write_fails(rt: HostRuntime) -> Result<(), Fail> {
-        let alloc = rt.alloc();
-        let mut out = MemorySink::make(alloc, 64, vec![in alloc; 3]?)?;
-        let pieces: [(&[u8], Result<(), WriteFault>); 5] = [
-            (b"steer 1\n", Ok(())),
-            (b"", Ok(())),
-            (b"p 0\n", Ok(())),
-            (b"p 1\n", Err(WriteFault)),
-            (b"end\n", Ok(())),
-        ];
-        for (piece, want) in pieces {
-            assert_eq!(rt; write_whole(&mut out, piece), want);
-        }
-        assert_eq!(rt; out.bytes(), b"steer 1\np 0\nend\n".as_slice());
-        Ok(())
-    }
-
-    #[test]
-    fn a_piece_beyond_the_room_fails_whole(rt: HostRuntime) -> Result<(), Fail> {
-        let alloc = rt.alloc();
-        let mut out = MemorySink::make(alloc, 4, Vec::new(alloc))?;
-        assert_eq!(rt; write_whole(&mut out, b"ab"), Ok(()));
-        assert_eq!(rt; write_whole(&mut out, b"cde"), Err(WriteFault));
-        assert_eq!(rt; write_whole(&mut out, b"cd"), Ok(()));
-        assert_eq!(rt; out.bytes(), b"abcd".as_slice());
-        Ok(())
-    }
-}

@@ -8,8 +8,6 @@ mod laws;
 mod read;
 mod record;
 mod records;
-#[cfg(test)]
-mod tests;
 mod write;
 
 pub use capture::Capture;

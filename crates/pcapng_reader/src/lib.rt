@@ -10,8 +10,6 @@ mod place;
 mod read;
 mod reader;
 mod section;
-#[cfg(test)]
-mod tests;
 mod write;
 
 pub use fault::NgFault;

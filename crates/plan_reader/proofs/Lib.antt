@@ -1,5 +1,5 @@
 mod Sets
-mod Placed
+pub mod Placed
 pub mod Loops
 mod Views
 mod BitsOfItems

@@ -135,8 +135,9 @@ named_as (cause.Range n) path = fault.Range path n
 named_as cause.UnknownKey path = fault.UnknownKey path
 named_as (cause.TooLong n) path = fault.TooLong n
 
-abbrev pub named : Result Settings Fault → Result Settings PlanFault
-named (Ok settings) = Ok settings
+-- a reading, with its fault by that name
+abbrev pub named : {A : Type 0} → Result A Fault → Result A PlanFault
+named (Ok read) = Ok read
 named (Err found) = Err (named_as found.cause (drop 1 found.path))
 
 -- the plan of bytes, or their fault

@@ -1,57 +1,16 @@
 //! The plan of bytes.
-ghost use Rattle.std.specs.Prelude.{◌≡◌, ◌≢◌, ◌==◌, count_by, drop, nat_lt, IfOk, IfErr, Ok, Err};
-ghost use Rattle.serde_json.specs.View.{view};
+ghost use Rattle.std.specs.Prelude.{◌≡◌, ◌≢◌, IfOk, IfErr, Ok, Err};
 ghost use Rattle.plan_reader.specs.Faults.{GivesAs};
 ghost use Rattle.plan_reader.specs.Parts.{PartsAreWithin};
-ghost use Rattle.plan_reader.specs.PlanTexts.{IsNamed, json_of, joined, plan_of, settings_of, settings_of_bytes, value_of};
+ghost use Rattle.plan_reader.specs.PlanTexts.{joined, plan_of, settings_of, settings_of_bytes};
 
-use crate::faults::cause::Cause;
 use crate::faults::fault::Refusal;
-use crate::faults::placed::here;
+use crate::json_text::{bounded_value, named};
 use crate::plan::Plan;
 use crate::plan_fault::PlanFault;
 use crate::settings::parts::Parts;
 use crate::steps::commands::commands_of;
-use serde_json::Value;
 use std::alloc::{AllocError, Global};
-use steer_base::List;
-
-/// The most opening braces of a text whose JSON value is made. In memory an object takes up to
-/// 820 bytes, so that no value takes much more than 2 GB.
-const MOST_BRACES: usize = 2_500_000;
-
-/// Whether a text may have so many objects that its JSON value isn't made. No text of a plan has:
-/// there are at most 82 objects in one.
-fn has_too_many_objects(bytes: &[u8]) -> bool
-    ensures { result ≡ nat_lt 2500000 (count_by (λ byte. byte == 123) bytes.now) }
-{
-    bytes.iter().filter(|byte| **byte == b'{').count() > MOST_BRACES
-}
-
-/// The JSON value of bytes.
-fn value_of(alloc: Global, bytes: &[u8]) -> Result<Value, Refusal>
-    ensures { GivesAs view result (json_of (value_of bytes.now)) }
-{
-    match Value::from_slice(alloc, bytes) {
-        Ok(value) => Ok(value),
-        Err(error) => {
-            if error.is_memory() {
-                return Err(Refusal::Memory);
-            }
-            here(alloc, Err(Cause::NotJson))
-        }
-    }
-}
-
-/// The JSON value of bytes, but for want of memory where the text may have too many objects.
-fn bounded_value(alloc: Global, bytes: &[u8]) -> Result<Value, Refusal>
-    ensures { GivesAs view result (json_of (value_of bytes.now)) }
-{
-    if has_too_many_objects(bytes) {
-        return Err(Refusal::Memory);
-    }
-    value_of(alloc, bytes)
-}
 
 /// The fields of the plan of bytes. Their JSON value is given up at the end.
 fn parts_of(alloc: Global, bytes: &[u8]) -> Result<Parts, Refusal>
@@ -60,36 +19,6 @@ fn parts_of(alloc: Global, bytes: &[u8]) -> Result<Parts, Refusal>
 {
     let value = bounded_value(alloc, bytes)?;
     Parts::read(alloc, &value)
-}
-
-/// The path without its first slash.
-fn without_slash(path: List<u8>) -> List<u8>
-    ensures { result ≡ drop 1 path }
-{
-    let mut bytes = path.into_vec();
-    if !bytes.is_empty() {
-        let _slash = bytes.remove(0);
-    }
-    List::from_vec(bytes)
-}
-
-/// A refusal by its name.
-fn named(refusal: Refusal) -> PlanFault
-    ensures { IsNamed refusal result }
-{
-    let fault = match refusal {
-        Refusal::Memory => return PlanFault::OutOfMemory,
-        Refusal::Fault(fault) => fault,
-    };
-    let path = without_slash(fault.path);
-    match fault.cause {
-        Cause::NotJson => PlanFault::NotJson,
-        Cause::Missing => PlanFault::Missing { path },
-        Cause::WrongKind => PlanFault::WrongKind { path },
-        Cause::Range(value) => PlanFault::Range { path, value },
-        Cause::UnknownKey => PlanFault::UnknownKey { path },
-        Cause::TooLong(steps) => PlanFault::TooLong { steps },
-    }
 }
 
 /// The plan of these fields.

@@ -8,6 +8,7 @@ pub mod OneHistory
 pub mod OneReply
 pub mod PiecesLemmas
 pub mod ReportRows
+pub mod RoomLemmas
 pub mod RowsLemmas
 pub mod SameSections
 pub mod SetsLemmas

@@ -5,20 +5,12 @@
 mod commands;
 mod fields;
 mod fits;
-#[cfg(test)]
-mod histories;
-#[cfg(test)]
-mod large;
 mod laws;
 mod line;
 mod numbers;
 mod packets;
-#[cfg(test)]
-mod reports;
 mod sections;
 mod sums;
-#[cfg(test)]
-mod tests;
 mod whole;
 
 pub use fits::texts_fit;

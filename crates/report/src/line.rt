@@ -15,37 +15,41 @@ use steer_base::OutOfMemory;
 /// The most bytes that a line may have.
 const ROOM: usize = 512;
 
-/// The bytes of a line so far, at most 512 of them, all reserved when it is made. No call but
-/// `make` takes memory.
+/// The bytes of a line so far, at most 512 of them. The room for them all is taken when it is made,
+/// and stays as it is: no other call takes memory.
 #[derive(Drop)]
 pub struct LineBuf {
-    bytes: Vec<u8>,
+    // The line and, behind it, bytes without a meaning.
+    room: Vec<u8>,
+    // How many bytes the line has.
+    length: usize,
 }
 
 impl Model for LineBuf {
-    ghost use Rattle.std.specs.Prelude.{ℕ, ◌≤◌, List, vec_len, vec_capacity};
+    ghost use Rattle.std.specs.Prelude.{ℕ, ◌≡◌, ◌≤◌, List, take, vec_len};
 
     ghost Value = { List ℕ };
 
-    ghost view = { λ line. line.bytes.items };
+    ghost view = { λ line. take line.length line.room.items };
 
-    ghost invariant = { λ line. (vec_len line.bytes ≤ 512) × (512 ≤ vec_capacity line.bytes) };
+    ghost invariant = { λ line. (vec_len line.room ≡ 512) × (line.length ≤ 512) };
 }
 
 impl LineBuf {
-    /// An empty line with its room reserved.
+    /// An empty line with its room.
     pub fn make(alloc: Global) -> Result<LineBuf, OutOfMemory>
         ensures { IfOk result (λ line. line ≡ []) }
     {
-        let bytes = Vec::with_capacity(alloc, ROOM)?;
-        Ok(LineBuf { bytes })
+        let mut room = Vec::new(alloc);
+        room.resize(ROOM, 0)?;
+        Ok(LineBuf { room, length: 0 })
     }
 
     /// Empties the line.
     pub(crate) fn clear(&mut self)
         ensures { self.new ≡ [] }
     {
-        self.bytes.clear();
+        self.length = 0;
     }
 
     /// Puts a text behind the line.
@@ -53,7 +57,9 @@ impl LineBuf {
         requires { length self.old + length text.now ≤ 512 }
         ensures { self.new ≡ self.old ++ text.now }
     {
-        self.bytes.extend_from_slice(text).unwrap();
+        let end = self.length + text.len();
+        self.room[self.length..end].copy_from_slice(text);
+        self.length = end;
     }
 
     /// Puts the decimal digits of a number behind the line, at most 20 of them.
@@ -91,38 +97,8 @@ impl LineBuf {
         ensures fault { OnErr result (Rose (K.faults out.old) (K.faults out.new)) }
         ensures later { K.faults out.old ≤ K.faults out.new }
     {
-        let done = write_whole(out, &self.bytes);
+        let done = write_whole(out, &self.room[..self.length]);
         self.clear();
         done
-    }
-}
-
-#[cfg(test)]
-mod tests {
-    use super::*;
-    use outside_io::MemorySink;
-    use std::test::Fail;
-
-    #[test]
-    fn a_line_goes_out_as_one_piece(rt: HostRuntime) -> Result<(), Fail> {
-        let alloc = rt.alloc();
-        // The second write fails, so a line in two pieces would not go out.
-        let mut out = MemorySink::make(alloc, 64, vec![in alloc; 2]?)?;
-        let mut line = LineBuf::make(alloc)?;
-        line.push(b"hash ");
-        line.push_hex(0x51cc_c178, 8);
-        line.push(b" of ");
-        line.push_hex(0xfe40_efab, 12);
-        line.push(b" entry ");
-        line.push_decimal(120);
-        assert_eq!(rt; line.write(&mut out), Ok(()));
-        assert_eq!(rt;
-            out.bytes(),
-            b"hash 51ccc178 of 0000fe40efab entry 120".as_slice()
-        );
-        line.push(b"more");
-        assert_eq!(rt; line.write(&mut out), Err(WriteFault));
-        assert_eq!(rt; out.bytes().len(), 39);
-        Ok(())
     }
 }

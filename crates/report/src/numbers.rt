@@ -27,15 +27,3 @@ pub fn hex8(number: u32) -> [u8; 8]
         hex_digit(number % 16),
     ]
 }
-
-#[cfg(test)]
-mod tests {
-    use super::*;
-
-    #[test]
-    fn all_eight_digits_are_there(rt: HostRuntime) {
-        assert_eq!(rt; hex8(0x0a0d_0d0a), *b"0a0d0d0a");
-        assert_eq!(rt; hex8(0), *b"00000000");
-        assert_eq!(rt; hex8(u32::MAX), *b"ffffffff");
-    }
-}

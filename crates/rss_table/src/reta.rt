@@ -93,39 +93,3 @@ impl Reta {
         }
     }
 }
-
-#[cfg(test)]
-mod tests {
-    use super::*;
-
-    #[test]
-    fn spreads_hashes_over_the_queues(rt: HostRuntime) {
-        for (queues, hash, queue) in [
-            (4, Some(0x51ccc178), 0),
-            (4, Some(0x323e8fc2), 2),
-            (16, Some(0xc626b0ea), 10),
-            (16, None, 0),
-            (1, Some(0xffff_ffff), 0),
-        ] {
-            let table = Reta::even(queues);
-            assert_eq!(rt;
-                table.queue(hash),
-                RxQueue(queue),
-                "{hash:?} over {queues} queues"
-            );
-        }
-    }
-
-    #[test]
-    fn moves_one_entry(rt: HostRuntime) {
-        let mut table = Reta::even(4);
-        assert_eq!(rt; table.set(120, RxQueue(3)), Ok(()));
-        assert_eq!(rt; table.set(128, RxQueue(0)), Err(EntryRange));
-        assert_eq!(rt; table.set(66, RxQueue(4)), Err(EntryRange));
-        assert_eq!(rt; table.queue(Some(0x51ccc178)), RxQueue(3));
-        assert_eq!(rt; table.queue(Some(0x323e8fc2)), RxQueue(2));
-        assert_eq!(rt; table.queue(None), RxQueue(0));
-        let other = Reta::from_entries(3, &[RxQueue(2); 128]);
-        assert_eq!(rt; other.queue(Some(5)), RxQueue(2));
-    }
-}

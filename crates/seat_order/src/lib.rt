@@ -21,6 +21,3 @@ pub use moving::{Moves, Moving};
 pub use passing::{Deals, Gathers, Sits};
 pub use rule::{OneOrder, StepRule};
 pub use seat::OrderedSeat;
-
-#[cfg(test)]
-mod tests;

@@ -1,5 +1,6 @@
 -- The choice of a lane: receive packet steering, receive flow steering, and the rule by which a
--- class moves (kernel scaling chapter, sections RPS and RFS).
+-- class moves (kernel scaling chapter, sections RPS and RFS). That the rule is asked also where the
+-- socket flow table names no online processor, with the RPS choice, is this project's own.
 use Rattle.std.specs.Prelude.{ℕ, ◌%◌, Bool, true, false, not, ◌&&◌, Option, Some, None, ◌==◌}
 use Rattle.std.specs.Prelude.{nat_lt, if◌then◌else◌}
 use Rattle.steer_base.specs.Counters.{has_reached}

@@ -1,6 +1,7 @@
 -- When a packet that is put to a lane is dropped: by a full backlog (`netdev_max_backlog`), or by
--- the flow limit of the kernel scaling chapter (section RPS flow limit: 4,096 buckets, a window of
--- 256 packets, from half of the backlog on).
+-- the flow limit, with the numbers of the kernel scaling chapter (section RPS flow limit: 4,096
+-- buckets, a window of 256 packets, over half of the backlog). That the window holds all offers of
+-- the lane with a hash is this project's own.
 use Rattle.std.specs.Prelude.{ℕ, ◌+◌, ◌-◌, ◌*◌, ◌%◌, Bool, ◌&&◌, List, [], ◌∷◌, ◌++◌, Option, Some}
 use Rattle.std.specs.Prelude.{None, ◌==◌, nat_lt, length, drop, map, filter, count_by}
 use Rattle.std.specs.Prelude.{if◌then◌else◌}

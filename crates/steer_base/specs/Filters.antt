@@ -1,5 +1,6 @@
--- When a hardware filter is written and when it may go (kernel scaling chapter, section accelerated
--- RFS; the expiry is after the drivers' use of `rps_may_expire_flow`).
+-- When a hardware filter is written (kernel scaling chapter, section accelerated RFS) and when it
+-- may go. The manual has no expiry: the rule is this project's own, with the factor of ten and the
+-- table's size of the kernel's `rps_may_expire_flow`.
 use Rattle.std.specs.Prelude.{ℕ, ◌-◌, ◌*◌, max, Bool, List, Option, None, ◌==◌, position}
 use Rattle.std.specs.Prelude.{if◌then◌else◌}
 use Rattle.std.specs.Option.{option_map}

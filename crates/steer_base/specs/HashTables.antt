@@ -1,5 +1,6 @@
--- Tables whose row for a hash is at `hash mod size`, as the kernel's flow tables and the filters of a card are. What
--- stands in a row that was not written since the table was cleared is its unset row.
+-- Tables whose row for a hash is at `hash mod size`: the flow tables of the kernel's scaling chapter,
+-- and this project's filters of a card. What stands in a row that was not written since the table
+-- was cleared is its unset row.
 use Rattle.std.specs.Prelude.{ℕ, List, Option, Some, None, length, replicate, slice_index_or, slice_set}
 use Rattle.steer_base.specs.Choices.{class_of}
 

@@ -1,4 +1,6 @@
--- The transmit queue that a reply is sent on (kernel scaling chapter, section XPS).
+-- The transmit queue that a reply is sent on: the map of receive queues is asked before that of
+-- processors (kernel scaling chapter, section XPS). The index by the hash and the last list, of all
+-- queues, are this project's own.
 use Rattle.std.specs.Prelude.{ℕ, Bool, true, List, Option, unwrap_or, if◌then◌else◌}
 use Rattle.steer_base.specs.Sets.{those_below, is_empty, at_hash}
 

@@ -15,15 +15,3 @@ pub fn app_of(hash: Option<u32>, apps: u8) -> AppId
         None => AppId(0),
     }
 }
-
-#[cfg(test)]
-mod tests {
-    use super::*;
-
-    #[test]
-    fn a_hash_names_an_application(rt: HostRuntime) {
-        assert_eq!(rt; app_of(Some(0x51cc_c178), 32), AppId(24));
-        assert_eq!(rt; app_of(Some(7), 1), AppId(0));
-        assert_eq!(rt; app_of(None, 5), AppId(0));
-    }
-}

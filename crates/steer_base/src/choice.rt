@@ -70,20 +70,3 @@ pub struct Chosen {
     /// What was chosen for it.
     pub choice: Choice,
 }
-
-#[cfg(test)]
-mod tests {
-    use super::*;
-
-    #[test]
-    fn a_class_moves_by_three_cases(rt: HostRuntime) {
-        let moving = [Why::Unset, Why::Offline, Why::Passed];
-        let staying = [Why::Plain, Why::Same, Why::Kept];
-        for why in moving {
-            assert!(rt; why.moved());
-        }
-        for why in staying {
-            assert!(rt; !why.moved());
-        }
-    }
-}

@@ -100,29 +100,3 @@ impl CpuMask {
         }
     }
 }
-
-#[cfg(test)]
-mod tests {
-    use super::*;
-
-    #[test]
-    fn bit_c_is_processor_c(rt: HostRuntime) {
-        let mask = CpuMask(0x8000_0002);
-        assert!(rt; mask.has(1) && mask.has(31));
-        assert!(rt; !mask.has(0) && !mask.has(30) && !mask.has(32) && !mask.has(255));
-        assert_eq!(rt; mask.len(), 2);
-        assert!(rt; !mask.is_empty() && CpuMask(0).is_empty());
-    }
-
-    #[test]
-    fn sets_are_made(rt: HostRuntime) {
-        assert_eq!(rt; CpuMask::first_n(0), CpuMask(0));
-        assert_eq!(rt; CpuMask::first_n(3), CpuMask(0b111));
-        assert_eq!(rt; CpuMask::first_n(32), CpuMask(0xffff_ffff));
-        let some = CpuMask::from_cpus(&[Cpu(3), Cpu(31), Cpu(0), Cpu(3), Cpu(32)]);
-        assert_eq!(rt; some, CpuMask(0x8000_0009));
-        assert_eq!(rt; some.with(Cpu(1)), CpuMask(0x8000_000b));
-        assert_eq!(rt; some.without(Cpu(31)), CpuMask(0b1001));
-        assert_eq!(rt; some.without(Cpu(1)), some);
-    }
-}

@@ -22,29 +22,3 @@ pub fn decimal_number(text: &[u8], most: u8) -> Option<u128>
     }
     Some(number)
 }
-
-#[cfg(test)]
-mod tests {
-    use super::*;
-
-    #[test]
-    fn digits_make_a_number(rt: HostRuntime) {
-        let cases = [
-            ("0", Some(0u128)),
-            ("007", Some(7)),
-            ("1234567890", Some(1_234_567_890)),
-            ("12345678901", None),
-            ("", None),
-            ("+1", None),
-            ("1 ", None),
-            ("0x1", None),
-        ];
-        for (text, wanted) in cases {
-            assert_eq!(rt; decimal_number(text.as_bytes(), 10), wanted, "{text}");
-        }
-        assert_eq!(rt;
-            decimal_number(b"99999999999999999999", 20),
-            Some(99_999_999_999_999_999_999)
-        );
-    }
-}

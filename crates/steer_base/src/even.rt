@@ -17,21 +17,3 @@ pub fn even_entries(queues: u8) -> [RxQueue; 128]
     }
     entries
 }
-
-#[cfg(test)]
-mod tests {
-    use super::*;
-
-    #[test]
-    fn queues_get_entries_in_turn(rt: HostRuntime) {
-        let entries = even_entries(3);
-        let cases = [(0usize, 0u8), (5, 2), (127, 1)];
-        for (place, queue) in cases {
-            assert_eq!(rt;
-                entries.as_slice().get(place),
-                Some(&RxQueue(queue)),
-                "{place}"
-            );
-        }
-    }
-}

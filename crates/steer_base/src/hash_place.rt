@@ -2,8 +2,9 @@
 ghost use Rattle.std.specs.Prelude.{◌≡◌, ◌<◌, IfSome};
 ghost use Rattle.steer_base.specs.Choices.{class_of};
 
-/// The place of a hash in a table of `size` rows: `hash mod size`, from 0, as the flow tables of the kernel's scaling
-/// chapter and the filters of a card are asked. There is none without a hash, and none in a table without rows.
+/// The place of a hash in a table of `size` rows: `hash mod size`, from 0, as the flow tables of the
+/// kernel's scaling chapter and this project's filters of a card are asked. There is none without a
+/// hash, and none in a table without rows.
 pub fn place_of_hash(hash: Option<u32>, size: u32) -> Option<u32>
     ensures value { result ≡ class_of size hash }
     ensures within { IfSome result (λ place. place < size) }
@@ -11,24 +12,5 @@ pub fn place_of_hash(hash: Option<u32>, size: u32) -> Option<u32>
     match hash {
         Some(hash) if size > 0 => Some(hash % size),
         _ => None,
-    }
-}
-
-#[cfg(test)]
-mod tests {
-    use super::*;
-
-    #[test]
-    fn a_hash_has_a_place(rt: HostRuntime) {
-        let cases = [
-            (Some(0x51cc_c178u32), 128u32, Some(120u32)),
-            (Some(4294967295), 4096, Some(4095)),
-            (Some(7), 1, Some(0)),
-            (Some(7), 0, None),
-            (None, 8, None),
-        ];
-        for (hash, size, place) in cases {
-            assert_eq!(rt; place_of_hash(hash, size), place, "{hash:?} {size}");
-        }
     }
 }

@@ -82,22 +82,3 @@ impl<T> Journal<T> {
         items
     }
 }
-
-#[cfg(test)]
-mod tests {
-    use super::*;
-    use std::test::Fail;
-
-    #[test]
-    fn a_journal_grows_at_its_end(rt: HostRuntime) -> Result<(), Fail> {
-        let mut journal = Journal::make(rt.alloc(), 3)?;
-        journal.push(7u32);
-        journal.push(5);
-        assert_eq!(rt; (journal.len(), journal.room()), (2, 3));
-        assert_eq!(rt; journal.get(1), Some(5));
-        assert_eq!(rt; journal.get(2), None);
-        assert_eq!(rt; journal.as_slice(), [7, 5].as_slice());
-        assert_eq!(rt; journal.into_vec().as_slice(), [7, 5].as_slice());
-        Ok(())
-    }
-}

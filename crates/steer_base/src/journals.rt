@@ -95,22 +95,3 @@ impl<T> Journals<T> {
         &self.lists[i as usize]
     }
 }
-
-#[cfg(test)]
-mod tests {
-    use super::*;
-    use std::test::Fail;
-
-    #[test]
-    fn each_list_grows_at_its_end(rt: HostRuntime) -> Result<(), Fail> {
-        let mut lists = Journals::make(rt.alloc(), 2, 2)?;
-        lists.push(1, 7u32);
-        lists.push(1, 5);
-        lists.push(0, 9);
-        assert_eq!(rt; (lists.count(), lists.room()), (2, 2));
-        assert_eq!(rt; (lists.len_of(0), lists.len_of(1)), (1, 2));
-        assert_eq!(rt; (lists.get(1, 0), lists.get(1, 1)), (7, 5));
-        assert_eq!(rt; lists.list(0), [9].as_slice());
-        Ok(())
-    }
-}

@@ -58,19 +58,3 @@ impl<T> List<T> {
         items
     }
 }
-
-#[cfg(test)]
-mod tests {
-    use super::*;
-    use std::test::Fail;
-
-    #[test]
-    fn a_list_has_the_items_of_its_vector(rt: HostRuntime) -> Result<(), Fail> {
-        let list = List::from_vec([7u32, 5].to_vec(rt.alloc())?);
-        assert_eq!(rt; list.len(), 2);
-        assert_eq!(rt; *list.get(1), 5);
-        assert_eq!(rt; list.as_slice(), [7, 5].as_slice());
-        assert_eq!(rt; list.into_vec().as_slice(), [7, 5].as_slice());
-        Ok(())
-    }
-}

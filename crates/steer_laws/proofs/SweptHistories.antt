@@ -14,7 +14,7 @@ use Rattle.hop_core.specs.Hop.{HopState, fell_at, out_at}
 use Rattle.hop_core.specs.Sound.{Sound}
 use Rattle.history.specs.Finding.{is_in}
 use Rattle.history.specs.Lists.{no_arrival, no_lane}
-use Rattle.history.proofs.Arrivals.{arrival-id}
+use Rattle.history.proofs.FoundAgain.Arrivals.{arrival-id}
 use Rattle.history.proofs.BoundLemmas.{in-index}
 use Rattle.history.proofs.SamePlaces.{place-index}
 use Rattle.plan_reader.specs.Plans.{count_of, nth_of, sizes_of}

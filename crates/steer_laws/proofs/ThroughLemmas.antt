@@ -13,7 +13,7 @@ use Rattle.hop_core.specs.NothingLost.{IsOut, NothingLost}
 use Rattle.hop_core.specs.Sound.{Sound}
 use Rattle.history.specs.Lists.{arrivals_at, no_arrival}
 use Rattle.history.specs.declared.arrival.Arrival.{Arrival}
-use Rattle.history.proofs.Arrivals.{arrival-id}
+use Rattle.history.proofs.FoundAgain.Arrivals.{arrival-id}
 use Rattle.steer_parts.specs.Machine.{Machine}
 use Rattle.steer_parts.specs.Setup.{Setup}
 use Rattle.steer_base.specs.declared.step.Step.TheVariants as act

@@ -1,5 +1,6 @@
 -- The entries of the socket flow table and the filters in force: each is what the last event that
--- wrote it left there (kernel scaling chapter, sections RFS and accelerated RFS).
+-- wrote it left there (kernel scaling chapter, sections RFS and accelerated RFS; the expiry of
+-- filters is this project's own).
 use Rattle.std.specs.Prelude.{ℕ, ◌%◌, ◌≡◌, List, [], ◌∷◌, Option, Some, None}
 use Rattle.std.specs.Prelude.{slice_index_or, if◌then◌else◌}
 use Rattle.std.specs.List.{cons_option}

@@ -96,7 +96,7 @@ rounds (suc n) t =
     then rounds n ((one_round (t.0, false)).0, true)
     else ((one_round (t.0, false)).0, t.1)
 
--- the most rounds, meant to be more than there is work: a packet is worked on a few times only
+-- the most rounds, which are more than there is work: a packet is worked on a few times only
 abbrev pub most_rounds : ℕ → ℕ
 most_rounds packets = 16 * packets + 32
 

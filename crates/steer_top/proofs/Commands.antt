@@ -1,23 +1,18 @@
 -- What is true where the commands end.
-use Rattle.std.proofs.Common.{◌≢◌, ◌≤◌, ◌<◌, zero, suc, ℕ, List, [], ◌∷◌, length, take, Option, Some, None, unwrap_or, inl, inr, refl, sym, subst, arith}
+use Rattle.std.proofs.Common.{◌≡◌, ◌≢◌, ◌≤◌, ◌<◌, zero, suc, ℕ, List, [], ◌∷◌, ◌++◌, length, take, Option, Some, None, unwrap_or, inl, inr, refl, sym, ap, subst, arith}
 use Rattle.std.specs.Io.KnownBytes.{Keeps, Appends}
 use Rattle.std.proofs.KnownBytes.{Appends-kept, Keeps-trans}
 use Rattle.std.proofs.lemmas.List.{take_all}
 use Rattle.outside_io.specs.Counts.{Rose}
 use Rattle.outside_io.specs.Sink.{AppendsSome}
-use Rattle.pcap_reader.specs.Captures.{HasCapture}
-use Rattle.pcap_reader.specs.Faults.{HasFault}
-use Rattle.pcap_reader.specs.declared.capture.Capture.{Capture}
-use Rattle.pcap_reader.specs.declared.fault.CaptureFault.{CaptureFault}
-use Rattle.pcap_reader.specs.declared.fault.CaptureFault.TheVariants as fault
-use Rattle.steer_top.specs.Files.{Files, limit_of}
-use Rattle.steer_top.specs.HashText.{capture_text}
+use Rattle.steer_top.specs.Files.{Accepted, Files, IsBad, IsNot, Refused, limit_of}
 use Rattle.steer_top.specs.Outcomes.{Writes, roles_of, told_of}
 use Rattle.steer_top.specs.Words.{HashWords, CommandWords}
 use Rattle.steer_top.specs.Words.CommandWords.{Hash}
-use Rattle.steer_top.specs.Endings.{Course, Gave, OutFailed, NothingOut, EndsBy, EndsCommand, EndsUnread, Flushes, ending_of_fault}
+use Rattle.steer_top.specs.Endings.{Course, Gave, OutFailed, NothingOut, EndsAs, EndsBy, EndsCommand, EndsUnfit, EndsUnread, Flushes}
 use Rattle.steer_top.specs.declared.ending.Role.{Role}
 use Rattle.steer_top.specs.declared.ending.Role.TheVariants as role
+use Rattle.steer_top.specs.declared.ending.Refusal.{Refusal}
 use Rattle.steer_top.specs.declared.ending.Refusal.TheVariants as refusal
 use Rattle.steer_top.specs.declared.ending.Ending.{Ending}
 use Rattle.steer_top.specs.declared.ending.Ending.TheVariants as ending
@@ -44,59 +39,79 @@ longer_list : (n : ℕ) → (bytes : List ℕ) × (n < length bytes)
 longer_list zero = (0 ∷ [], omega arith)
 longer_list (suc n) = let (bytes, longer) = longer_list n in (0 ∷ bytes, omega (arith, longer))
 
-module _ (words : HashWords) (course : Course) where
-  gave_one : (bytes : List ℕ) → Keeps (course.held words.capture) (Some bytes) → Gave (told_of course.held (Hash words)) (λ r. bytes)
-  gave_one bytes told role.Capture = told
+-- how a command ends whose file was not read, by bytes that the file may have
+abbrev pub EndsUnreadBy : Ending → Role → List ℕ → ℕ → ℕ → Type 0
+EndsUnreadBy e r bytes before after = EndsUnread e r (Some bytes) before after
 
-  -- the capture was not read
-  unread : (told : Option (List ℕ)) (e : Ending) → EndsUnread e role.Capture told course.desk_before course.desk_after
-      → NothingOut course
-      → (bytes : List ℕ) × Keeps told (Some bytes) × EndsBy (roles_of (Hash words)) (λ r. bytes) (Writes (Hash words) (λ r. bytes)) e course
-  unread told ending.ReadFault failed kept =
-      (unwrap_or told [], keeps_told told [], (([], [], role.Capture, refl, tt), failed, kept))
-  unread None (ending.Refuses (refusal.TooLong role.Capture)) (is, long) kept =
-      let (bytes, longer) = longer_list (limit_of role.Capture) in (bytes, tt, (inl (inl (longer, refl)), kept))
-  unread (Some bytes) (ending.Refuses (refusal.TooLong role.Capture)) (is, long) kept =
-      (bytes, refl, (inl (inl (long, refl)), kept))
-  unread told ending.OutOfMemory h kept = (unwrap_or told [], keeps_told told [], kept)
-  unread told ending.Done h kept = absurd h
-  unread told ending.Usage h kept = absurd h
-  unread told ending.WriteFault h kept = absurd h
-  unread told (ending.Refuses (refusal.Capture f)) h kept = absurd h
+-- the bytes that a file may have which was not read
+pub unread_bytes : (e : Ending) (r : Role) (told : Option (List ℕ)) (before after : ℕ) → EndsUnread e r told before after
+    → (bytes : List ℕ) × Keeps told (Some bytes) × EndsUnreadBy e r bytes before after
+unread_bytes ending.ReadFault r told before after failed = (unwrap_or told [], keeps_told told [], failed)
+unread_bytes (ending.Refuses (refusal.TooLong other)) r None before after (is, long) =
+    let (bytes, longer) = longer_list (limit_of r) in (bytes, tt, (is, longer))
+unread_bytes (ending.Refuses (refusal.TooLong other)) r (Some bytes) before after (is, long) = (bytes, refl, (is, long))
+unread_bytes ending.OutOfMemory r told before after h = (unwrap_or told [], keeps_told told [], tt)
+unread_bytes ending.Done r told before after h = absurd h
+unread_bytes ending.Usage r told before after h = absurd h
+unread_bytes ending.WriteFault r told before after h = absurd h
+unread_bytes (ending.Refuses (refusal.Capture f)) r told before after h = absurd h
+unread_bytes (ending.Refuses (refusal.Pcapng f)) r told before after h = absurd h
 
-  pub ends_unread : (e : Ending) → EndsUnread e role.Capture (course.held words.capture) course.desk_before course.desk_after
-      → NothingOut course → EndsCommand e (Hash words) course
-  ends_unread e h kept =
-      let (bytes, told, by) = unread (course.held words.capture) e h kept in ((λ r. bytes), gave_one bytes told, by)
+-- a fault that is not want of memory is the reason of a refusal
+pub ends_unfit_as : {F : Type 0} (fault memory : F) (reason : Refusal) (e : Ending) (r : Role) (bytes : List ℕ)
+    → EndsAs fault memory reason e → (fault ≢ memory → IsNot r bytes reason) → EndsUnfit e r bytes
+ends_unfit_as fault memory reason e r bytes (inl (want, is)) has = subst (λ x. EndsUnfit x r bytes) (sym is) tt
+ends_unfit_as fault memory reason e r bytes (inr (other, is)) has = subst (λ x. EndsUnfit x r bytes) (sym is) (has other)
 
-  -- the bytes are no capture, or memory ran out
-  pub ends_fault : (bytes : List ℕ) (f : CaptureFault) → Keeps (course.held words.capture) (Some bytes)
-      → length bytes ≤ limit_of role.Capture → (f ≢ fault.OutOfMemory → HasFault bytes f)
-      → NothingOut course → EndsCommand (ending_of_fault f) (Hash words) course
-  ends_fault bytes (fault.ShortHeader len) told few has kept = ((λ r. bytes), gave_one bytes told, (inl (inr (few, has (λ e. cc))), kept))
-  ends_fault bytes (fault.BadMagic magic) told few has kept = ((λ r. bytes), gave_one bytes told, (inl (inr (few, has (λ e. cc))), kept))
-  ends_fault bytes (fault.BadVersion major minor) told few has kept = ((λ r. bytes), gave_one bytes told, (inl (inr (few, has (λ e. cc))), kept))
-  ends_fault bytes (fault.BadLink link) told few has kept = ((λ r. bytes), gave_one bytes told, (inl (inr (few, has (λ e. cc))), kept))
-  ends_fault bytes (fault.RecordTooLong at len) told few has kept = ((λ r. bytes), gave_one bytes told, (inl (inr (few, has (λ e. cc))), kept))
-  ends_fault bytes fault.TooManyPackets told few has kept = ((λ r. bytes), gave_one bytes told, (inl (inr (few, has (λ e. cc))), kept))
-  ends_fault bytes fault.OutOfMemory told few has kept = ((λ r. bytes), gave_one bytes told, kept)
+-- the first bad file is refused
+refused_at : (earlier later : List Role) (r : Role) (files : Files) (reason : Refusal) → Accepted earlier files → IsBad r (files r) reason
+    → Refused (earlier ++ r ∷ later) files reason
+refused_at [] later r files reason all bad = inl bad
+refused_at (first ∷ earlier) later r files reason (good, all) bad = inr (good, refused_at earlier later r files reason all bad)
 
+-- a command whose file of a role ends it, with files that the desk gave of which the earlier ones are accepted
+module _ (command : CommandWords) (course : Course) (files : Files) (gave : Gave (told_of course.held command) files)
+    (earlier later : List Role) (r : Role) (roles : roles_of command ≡ earlier ++ r ∷ later) (all : Accepted earlier files)
+    (kept : NothingOut course) where
+  refuses : (reason : Refusal) → IsBad r (files r) reason → EndsCommand (ending.Refuses reason) command course
+  refuses reason bad = (files, gave, (subst (λ rs. Refused rs files reason) (sym roles) (refused_at earlier later r files reason all bad), kept))
+
+  pub ends_unread : (e : Ending) → EndsUnreadBy e r (files r) course.desk_before course.desk_after → EndsCommand e command course
+  ends_unread ending.ReadFault failed = (files, gave, ((earlier, later, r, roles, all), failed, kept))
+  ends_unread (ending.Refuses (refusal.TooLong other)) (is, long) = refuses (refusal.TooLong other) (inl (long, ap refusal.TooLong is))
+  ends_unread ending.OutOfMemory h = (files, gave, kept)
+  ends_unread ending.Done h = absurd h
+  ends_unread ending.Usage h = absurd h
+  ends_unread ending.WriteFault h = absurd h
+  ends_unread (ending.Refuses (refusal.Capture f)) h = absurd h
+  ends_unread (ending.Refuses (refusal.Pcapng f)) h = absurd h
+
+  pub ends_unfit : length (files r) ≤ limit_of r → (e : Ending) → EndsUnfit e r (files r) → EndsCommand e command course
+  ends_unfit few (ending.Refuses reason) is = refuses reason (inr (few, is))
+  ends_unfit few ending.OutOfMemory h = (files, gave, kept)
+  ends_unfit few ending.Done h = absurd h
+  ends_unfit few ending.Usage h = absurd h
+  ends_unfit few ending.WriteFault h = absurd h
+  ends_unfit few ending.ReadFault h = absurd h
+
+-- a command whose files are accepted
+module _ (command : CommandWords) (course : Course) (files : Files) (gave : Gave (told_of course.held command) files) where
   -- memory ran out behind the reading
-  pub ends_memory : (bytes : List ℕ) → Keeps (course.held words.capture) (Some bytes) → NothingOut course
-      → EndsCommand ending.OutOfMemory (Hash words) course
-  ends_memory bytes told kept = ((λ r. bytes), gave_one bytes told, kept)
+  pub ends_memory : NothingOut course → EndsCommand ending.OutOfMemory command course
+  ends_memory kept = (files, gave, kept)
 
-  module _ (bytes : List ℕ) (capture : Capture) (told : Keeps (course.held words.capture) (Some bytes))
-      (few : length bytes ≤ limit_of role.Capture) (has : HasCapture bytes capture) where
-    pub ends_done : Appends course.written_before course.written_after (capture_text words.queues words.kinds bytes capture)
-        → EndsCommand ending.Done (Hash words) course
-    ends_done took = ((λ r. bytes), gave_one bytes told, (((few, (capture, has)), tt), capture_text words.queues words.kinds bytes capture, (capture, has, refl), took))
+  module _ (all : Accepted (roles_of command) files) (text : List ℕ) (writes : Writes command files text) where
+    pub ends_done : Appends course.written_before course.written_after text → EndsCommand ending.Done command course
+    ends_done took = (files, gave, (all, text, writes, took))
 
-    pub ends_part : OutFailed course
-        → AppendsSome course.written_before course.written_after (capture_text words.queues words.kinds bytes capture)
-        → EndsCommand ending.WriteFault (Hash words) course
-    ends_part failed took =
-        ((λ r. bytes), gave_one bytes told, (((few, (capture, has)), tt), failed, capture_text words.queues words.kinds bytes capture, (capture, has, refl), took))
+    pub ends_part : OutFailed course → AppendsSome course.written_before course.written_after text
+        → EndsCommand ending.WriteFault command course
+    ends_part failed took = (files, gave, (all, failed, text, writes, took))
+
+-- the one file of the command `hash`
+pub hash_files : (words : HashWords) (held : List ℕ → Option (List ℕ)) (bytes : List ℕ) → Keeps (held words.capture) (Some bytes)
+    → Gave (told_of held (Hash words)) (λ r. bytes)
+hash_files words held bytes told role.Capture = told
 
 -- all of a text is a prefix of it
 all_is_some : (before after : Option (List ℕ)) (text : List ℕ) → Appends before after text → AppendsSome before after text

@@ -1,25 +1,57 @@
 -- The files of a call are accepted, or refused for one reason.
-use Rattle.std.proofs.Common.{◌≡◌, ◌⊎◌, ℕ, List, [], ◌∷◌, length, inl, inr, refl, sym, ap, ◌∙◌, arith}
-use Rattle.std.proofs.lemmas.Bool.{cases_lt}
-use Rattle.pcap_reader.specs.Laws.{HasOneFault, HasNotBoth, HasOneOfBoth}
+use Rattle.std.proofs.Common.{◌≡◌, ◌⊎◌, ℕ, Bool, true, false, List, [], ◌∷◌, length, take, inl, inr, refl, sym, ap, ◌∙◌, arith}
+use Rattle.std.specs.Prelude.{bytes_eq}
+use Rattle.std.specs.Bool.{Decides}
+use Rattle.std.proofs.lemmas.Bool.{cases_lt, false≢true}
+use Rattle.std.proofs.lemmas.Slice.Eq.{bytes_eq-Decides}
+use Rattle.pcap_reader.specs.Laws as pcap
+use Rattle.pcapng_reader.specs.Laws as pcapng
+use Rattle.pcapng_reader.specs.Captures.{BeginsNg}
 use Rattle.steer_top.specs.Files.{limit_of, IsRead, IsNot, IsGood, IsBad, IsDecided, IsRefusedOnce, IsNotBoth}
 use Rattle.steer_top.specs.declared.ending.Role.{Role}
 use Rattle.steer_top.specs.declared.ending.Role.TheVariants as role
 use Rattle.steer_top.specs.declared.ending.Refusal.{Refusal}
 use Rattle.steer_top.specs.declared.ending.Refusal.TheVariants as refusal
 
-module _ (one : HasOneFault) (apart : HasNotBoth) (either : HasOneOfBoth) where
+-- bytes begin as a pcapng file does, or not
+begins : (bytes : List ℕ) → BeginsNg bytes ⊎ (BeginsNg bytes → ⊥)
+begins bytes = by (bytes_eq (take 4 bytes) (0x0a ∷ 0x0d ∷ 0x0d ∷ 0x0a ∷ [])) (bytes_eq-Decides (take 4 bytes) (0x0a ∷ 0x0d ∷ 0x0d ∷ 0x0a ∷ []))
+  where
+    by : (b : Bool) → Decides b (BeginsNg bytes) → BeginsNg bytes ⊎ (BeginsNg bytes → ⊥)
+    by true is = inl (is.0 refl)
+    by false is = inr (λ begin. absurd (false≢true (is.1 begin)))
+
+-- what the readers of captures say of all bytes
+pub record OneCapture : Type 0 where
+  pub one : pcap.HasOneFault
+  pub apart : pcap.HasNotBoth
+  pub either : pcap.HasOneOfBoth
+  pub ng_one : pcapng.HasOneFault
+  pub ng_apart : pcapng.HasNotBoth
+  pub ng_either : pcapng.HasOneOfBoth
+
+module _ (law : OneCapture) where
   is_either : (r : Role) (bytes : List ℕ) → IsRead r bytes ⊎ ((reason : Refusal) × IsNot r bytes reason)
-  is_either role.Capture bytes = elim (either bytes) [ inl has ↦ inl has | inr (fault, is) ↦ inr (refusal.Capture fault, is) ]
+  is_either role.Capture bytes = elim (begins bytes) [
+    | inl ng ↦ elim (law.ng_either bytes ng) [ inl (capture, has) ↦ inl (capture, inl has) | inr (fault, is) ↦ inr (refusal.Pcapng fault, is) ]
+    | inr other ↦ elim (law.either bytes) [ inl (capture, has) ↦ inl (capture, inr (other, has)) | inr (fault, is) ↦ inr (refusal.Capture fault, (other, is)) ]
+  ]
 
   not_both : (r : Role) (bytes : List ℕ) (reason : Refusal) → IsRead r bytes → IsNot r bytes reason → ⊥
-  not_both role.Capture bytes (refusal.Capture fault) (capture, has) is = apart bytes capture fault has is
+  not_both role.Capture bytes (refusal.Capture fault) (capture, inl has) (other, is) = other has.begins
+  not_both role.Capture bytes (refusal.Capture fault) (capture, inr (other, has)) (also, is) = law.apart bytes capture fault has is
+  not_both role.Capture bytes (refusal.Pcapng fault) (capture, inl has) is = law.ng_apart bytes capture fault has is
+  not_both role.Capture bytes (refusal.Pcapng fault) (capture, inr (other, has)) is = other is.begins
   not_both role.Capture bytes (refusal.TooLong other) good is = is
 
   is_one : (r : Role) (bytes : List ℕ) (a b : Refusal) → IsNot r bytes a → IsNot r bytes b → a ≡ b
-  is_one role.Capture bytes (refusal.Capture f) (refusal.Capture g) is was = ap refusal.Capture (one bytes f g is was)
+  is_one role.Capture bytes (refusal.Capture f) (refusal.Capture g) is was = ap refusal.Capture (law.one bytes f g is.1 was.1)
+  is_one role.Capture bytes (refusal.Pcapng f) (refusal.Pcapng g) is was = ap refusal.Pcapng (law.ng_one bytes f g is was)
+  is_one role.Capture bytes (refusal.Capture f) (refusal.Pcapng g) is was = absurd (is.0 was.begins)
+  is_one role.Capture bytes (refusal.Pcapng f) (refusal.Capture g) is was = absurd (was.0 is.begins)
   is_one role.Capture bytes (refusal.TooLong other) b is was = absurd is
   is_one role.Capture bytes (refusal.Capture f) (refusal.TooLong other) is was = absurd was
+  is_one role.Capture bytes (refusal.Pcapng f) (refusal.TooLong other) is was = absurd was
 
   good_or_bad : (r : Role) (bytes : List ℕ) → IsGood r bytes ⊎ ((reason : Refusal) × IsBad r bytes reason)
   good_or_bad r bytes = elim (cases_lt (limit_of r) (length bytes)) [

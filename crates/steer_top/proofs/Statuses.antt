@@ -3,7 +3,7 @@ use Rattle.std.proofs.Common.{◌≡◌, ◌≢◌, ◌⊎◌, ℕ, List, [], �
 use Rattle.std.specs.Prelude.{⊤}
 use Rattle.std.specs.Io.KnownBytes.{Keeps, Appends}
 use Rattle.outside_io.specs.Sink.{AppendsSome}
-use Rattle.pcap_reader.specs.Captures.{HasCapture}
+use Rattle.steer_top.specs.Captures.{HasAnyCapture}
 use Rattle.steer_top.specs.Files.{Files, IsGood, IsBad, Accepted, Refused, IsRefusedOnce, IsNotBoth}
 use Rattle.steer_top.specs.HashText.{capture_text}
 use Rattle.steer_top.specs.Outcomes.{AreTold, Writes, roles_of, told_of}
@@ -20,6 +20,7 @@ use Rattle.steer_top.specs.declared.ending.Ending.TheVariants as ending
 -- a refusal has a status of refusals, and no other number is one
 is_refusal : (reason : Refusal) → IsRefusal (status_of_refusal reason)
 is_refusal (refusal.Capture f) = inl refl
+is_refusal (refusal.Pcapng f) = inl refl
 is_refusal (refusal.TooLong r) = inr refl
 
 no_refusal : (n : ℕ) → n ≢ 4 → n ≢ 8 → IsRefusal n → ⊥
@@ -29,6 +30,7 @@ no_refusal n four eight (inr is) = eight is
 -- a status that is none of refusals is no refusal's
 other_status : {A : Type 0} (reason : Refusal) (n : ℕ) → status_of_refusal reason ≡ n → n ≢ 4 → n ≢ 8 → A
 other_status (refusal.Capture f) n is four eight = absurd (four (sym is))
+other_status (refusal.Pcapng f) n is four eight = absurd (four (sym is))
 other_status (refusal.TooLong r) n is four eight = absurd (eight (sym is))
 
 -- bytes that are told are those that were given
@@ -61,7 +63,7 @@ same_writes : (command : CommandWords) (given told : Files) (text : List ℕ) �
     → Writes command given text → Writes command told text
 same_writes (Hash words) given told text (same, rest) (capture, has, is) = (
   capture,
-  subst (λ bytes. HasCapture bytes capture) same has,
+  subst (λ bytes. HasAnyCapture bytes capture) same has,
   is ∙ ap (λ bytes. capture_text words.queues words.kinds bytes capture) same,
 )
 

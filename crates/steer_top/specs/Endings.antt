@@ -1,5 +1,5 @@
 -- How a command ends: with which status and which line, and what is true then.
-use Rattle.std.specs.Prelude.{◌≡◌, ◌≤◌, ◌<◌, ◌⊎◌, ℕ, List, [], ◌∷◌, ◌++◌, length, codes, decimal, ⊤}
+use Rattle.std.specs.Prelude.{◌≡◌, ◌≢◌, ◌≤◌, ◌<◌, ◌⊎◌, ℕ, List, [], ◌∷◌, ◌++◌, length, codes, decimal, ⊤}
 use Rattle.std.specs.Prelude.{Option, Some, None, IfSome, ◌==◌, if◌then◌else◌}
 use Rattle.std.specs.Io.KnownBytes.{Keeps, Appends}
 use Rattle.outside_io.specs.Counts.{Rose}
@@ -7,7 +7,9 @@ use Rattle.outside_io.specs.Sink.{AppendsSome}
 use Rattle.report.specs.Numbers.{hex8_of}
 use Rattle.pcap_reader.specs.declared.fault.CaptureFault.{CaptureFault}
 use Rattle.pcap_reader.specs.declared.fault.CaptureFault.TheVariants as fault
-use Rattle.steer_top.specs.Files.{Files, Accepted, Refused, limit_of}
+use Rattle.pcapng_reader.specs.declared.fault.NgFault.{NgFault}
+use Rattle.pcapng_reader.specs.declared.fault.NgFault.TheVariants as ng
+use Rattle.steer_top.specs.Files.{Files, Accepted, IsNot, Refused, limit_of}
 use Rattle.steer_top.specs.Outcomes.{Writes, roles_of, told_of}
 use Rattle.steer_top.specs.Words.{CommandWords}
 use Rattle.steer_top.specs.declared.ending.Role.{Role}
@@ -17,21 +19,17 @@ use Rattle.steer_top.specs.declared.ending.Refusal.TheVariants as refusal
 use Rattle.steer_top.specs.declared.ending.Ending.{Ending}
 use Rattle.steer_top.specs.declared.ending.Ending.TheVariants as ending
 
--- how a command ends whose capture has this fault; want of memory is none of the bytes
-abbrev pub ending_of_fault : CaptureFault → Ending
-ending_of_fault (fault.ShortHeader len) = ending.Refuses (refusal.Capture (fault.ShortHeader len))
-ending_of_fault (fault.BadMagic magic) = ending.Refuses (refusal.Capture (fault.BadMagic magic))
-ending_of_fault (fault.BadVersion major minor) =
-    ending.Refuses (refusal.Capture (fault.BadVersion major minor))
-ending_of_fault (fault.BadLink link) = ending.Refuses (refusal.Capture (fault.BadLink link))
-ending_of_fault (fault.RecordTooLong at len) =
-    ending.Refuses (refusal.Capture (fault.RecordTooLong at len))
-ending_of_fault fault.TooManyPackets = ending.Refuses (refusal.Capture fault.TooManyPackets)
-ending_of_fault fault.OutOfMemory = ending.OutOfMemory
+-- how a command ends whose file has this fault: refused for this reason, or, where the fault is want of
+-- memory, which is none of the bytes, for that
+abbrev pub EndsAs : {F : Type 0} → F → F → Refusal → Ending → Type 0
+EndsAs fault memory reason e =
+    ((fault ≡ memory) × (e ≡ ending.OutOfMemory))
+    ⊎ ((fault ≢ memory) × (e ≡ ending.Refuses reason))
 
 -- the status of a refusal
 abbrev pub status_of_refusal : Refusal → ℕ
 status_of_refusal (refusal.Capture f) = 4
+status_of_refusal (refusal.Pcapng f) = 4
 status_of_refusal (refusal.TooLong r) = 8
 
 -- it is a status of refusals, and of nothing else
@@ -63,6 +61,24 @@ line_of_fault (fault.RecordTooLong at len) =
 line_of_fault fault.TooManyPackets = codes "capture: too many packets\n"
 line_of_fault fault.OutOfMemory = codes "out of memory\n"
 
+-- the line that names a fault of a pcapng capture
+abbrev pub line_of_ng_fault : NgFault → List ℕ
+line_of_ng_fault (ng.BadOrder magic) =
+    codes "capture: bad order " ++ (hex8_of magic ++ codes "\n")
+line_of_ng_fault (ng.BadBlock block len) =
+    codes "capture: bad block " ++ (decimal block ++ (codes " " ++ (decimal len ++ codes "\n")))
+line_of_ng_fault (ng.BadTail block len) =
+    codes "capture: bad tail " ++ (decimal block ++ (codes " " ++ (decimal len ++ codes "\n")))
+line_of_ng_fault (ng.BadMajor major) = codes "capture: bad major " ++ (decimal major ++ codes "\n")
+line_of_ng_fault ng.TooManyPackets = codes "capture: too many packets\n"
+line_of_ng_fault (ng.BadInterface block id) =
+    codes "capture: bad interface " ++ (decimal block ++ (codes " " ++ (decimal id ++ codes "\n")))
+line_of_ng_fault (ng.BadNgLink block link) =
+    codes "capture: bad ng link " ++ (decimal block ++ (codes " " ++ (decimal link ++ codes "\n")))
+line_of_ng_fault (ng.RecordTooLong at len) =
+    codes "capture: packet " ++ (decimal at ++ (codes " too long " ++ (decimal len ++ codes "\n")))
+line_of_ng_fault ng.OutOfMemory = codes "out of memory\n"
+
 -- what a file of a role is called
 abbrev pub name_of_role : Role → List ℕ
 name_of_role role.Capture = codes "capture"
@@ -71,6 +87,7 @@ name_of_role role.Capture = codes "capture"
 abbrev pub line_of_refusal : Refusal → List ℕ
 line_of_refusal (refusal.TooLong r) = name_of_role r ++ codes " too long\n"
 line_of_refusal (refusal.Capture f) = line_of_fault f
+line_of_refusal (refusal.Pcapng f) = line_of_ng_fault f
 
 -- the line that `err` takes at an ending: none where all is done
 abbrev pub line_of : Ending → List ℕ
@@ -154,6 +171,13 @@ EndsUnread (ending.Refuses (refusal.TooLong other)) r held before after =
     (other ≡ r) × IfSome held (λ bytes. limit_of r < length bytes)
 EndsUnread ending.OutOfMemory r held before after = ⊤
 EndsUnread e r held before after = ⊥
+
+-- how a command ends whose file of this role was read, and is not what it is read as: refused for that
+-- reason, or memory ran out
+abbrev pub EndsUnfit : Ending → Role → List ℕ → Type 0
+EndsUnfit (ending.Refuses reason) r bytes = IsNot r bytes reason
+EndsUnfit ending.OutOfMemory r bytes = ⊤
+EndsUnfit e r bytes = ⊥
 
 -- a command that was done is so still, or its flush failed; every other ending stays
 pub record Flushes (e e' : Ending) (faults faults' : ℕ) (written written' : Option (List ℕ))

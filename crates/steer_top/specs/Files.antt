@@ -1,8 +1,9 @@
 -- The files of a call: what each is read as, and for what reason one is refused.
 use Rattle.std.specs.Prelude.{◌≡◌, ◌≤◌, ◌<◌, ◌⊎◌, ℕ, List, [], ◌∷◌, length, ⊤}
-use Rattle.pcap_reader.specs.Captures.{HasCapture}
 use Rattle.pcap_reader.specs.Faults.{HasFault}
 use Rattle.pcap_reader.specs.declared.capture.Capture.{Capture}
+use Rattle.pcapng_reader.specs.Captures.{BeginsNg, HasNgFault}
+use Rattle.steer_top.specs.Captures.{HasAnyCapture}
 use Rattle.steer_top.specs.declared.ending.Role.{Role}
 use Rattle.steer_top.specs.declared.ending.Role.TheVariants as role
 use Rattle.steer_top.specs.declared.ending.Refusal.{Refusal}
@@ -14,12 +15,13 @@ limit_of role.Capture = 268435456
 
 -- the bytes are what they are read as
 abbrev pub IsRead : Role → List ℕ → Type 0
-IsRead role.Capture bytes = (capture : Capture) × HasCapture bytes capture
+IsRead role.Capture bytes = (capture : Capture) × HasAnyCapture bytes capture
 
 -- the bytes are not what they are read as, for this reason
 abbrev pub IsNot : Role → List ℕ → Refusal → Type 0
 IsNot role.Capture bytes (refusal.TooLong other) = ⊥
-IsNot role.Capture bytes (refusal.Capture fault) = HasFault bytes fault
+IsNot role.Capture bytes (refusal.Capture fault) = (BeginsNg bytes → ⊥) × HasFault bytes fault
+IsNot role.Capture bytes (refusal.Pcapng fault) = HasNgFault bytes fault
 
 -- a file is good where it is no longer than its limit, and what it is read as
 abbrev pub IsGood : Role → List ℕ → Type 0

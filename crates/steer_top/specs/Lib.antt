@@ -1,5 +1,6 @@
 pub mod Words
 pub mod Commands
+pub mod Captures
 pub mod Files
 pub mod HashText
 pub mod Hashers

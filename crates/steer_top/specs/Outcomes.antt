@@ -1,8 +1,8 @@
 -- What each command reads and writes: an equation of each definition for a command.
 use Rattle.std.specs.Prelude.{◌≡◌, ℕ, List, [], ◌∷◌, ⊤, Option, Some, String, option_and_then}
 use Rattle.std.specs.declared.alloc.Global.{Global}
-use Rattle.pcap_reader.specs.Captures.{HasCapture}
 use Rattle.pcap_reader.specs.declared.capture.Capture.{Capture}
+use Rattle.steer_top.specs.Captures.{HasAnyCapture}
 use Rattle.steer_top.specs.Files.{Files}
 use Rattle.steer_top.specs.HashText.{capture_text}
 use Rattle.steer_top.specs.Words.{CommandWords, command_of}
@@ -21,7 +21,7 @@ name_of (Hash words) role.Capture = Some words.capture
 -- a text that a command may write of its files
 abbrev pub Writes : CommandWords → Files → List ℕ → Type 0
 Writes (Hash words) files text =
-    (capture : Capture) × HasCapture (files role.Capture) capture
+    (capture : Capture) × HasAnyCapture (files role.Capture) capture
     × (text ≡ capture_text words.queues words.kinds (files role.Capture) capture)
 
 -- the bytes of a command's file of a role, where the names' bytes are told

@@ -1,9 +1,10 @@
 //! How a command ends.
 ghost use Rattle.std.specs.Prelude.{◌≡◌, ◌≤◌};
 ghost use Rattle.steer_top.specs.Files.{limit_of};
-ghost use Rattle.steer_top.specs.Endings.{ending_of_fault, name_of_role};
+ghost use Rattle.steer_top.specs.Endings.{EndsAs, name_of_role};
 
 use pcap_reader::CaptureFault;
+use pcapng_reader::NgFault;
 
 /// What a file of a command is read as.
 #[derive(Clone, Copy, Debug, PartialEq, Eq)]
@@ -38,8 +39,10 @@ impl Role {
 pub enum Refusal {
     /// It has more bytes than a file of its role may have.
     TooLong(Role),
-    /// It is no capture, by this fault.
+    /// It is no classic capture, by this fault, and does not begin as a pcapng file.
     Capture(CaptureFault),
+    /// It begins as a pcapng file, and is no capture, by this fault.
+    Pcapng(NgFault),
 }
 
 /// What a command came to. Each ending has one status and one line.
@@ -62,11 +65,21 @@ pub enum Ending {
 impl Ending {
     /// How a command ends that got no capture of its bytes: refused, or for want of memory.
     pub fn of_fault(fault: CaptureFault) -> Ending
-        ensures { result ≡ ending_of_fault fault }
+        ensures { EndsAs fault CaptureFault.OutOfMemory (Refusal.Capture fault) result }
     {
         match fault {
             CaptureFault::OutOfMemory => Ending::OutOfMemory,
             fault => Ending::Refuses(Refusal::Capture(fault)),
+        }
+    }
+
+    /// The same of the bytes of a pcapng file.
+    pub fn of_pcapng_fault(fault: NgFault) -> Ending
+        ensures { EndsAs fault NgFault.OutOfMemory (Refusal.Pcapng fault) result }
+    {
+        match fault {
+            NgFault::OutOfMemory => Ending::OutOfMemory,
+            fault => Ending::Refuses(Refusal::Pcapng(fault)),
         }
     }
 }

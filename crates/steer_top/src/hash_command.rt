@@ -11,13 +11,14 @@ ghost use Rattle.steer_top.specs.Hashers.{IsVerified};
 ghost use Rattle.steer_top.specs.HashText.{packet_lines, hasher_text};
 ghost use Rattle.steer_top.specs.Words.CommandWords.{Hash};
 
+use crate::capture::read_any;
 use crate::command::HashCommand;
 use crate::ending::{Ending, Role};
 use crate::file::read_file;
 use crate::hash_line::push_count;
 use crate::hasher::Hasher;
 use outside_io::{Desk, Sink, WriteFault};
-use pcap_reader::{Capture, PcapRecord, read_capture};
+use pcap_reader::{Capture, PcapRecord};
 use report::LineBuf;
 use std::alloc::Global;
 
@@ -47,9 +48,9 @@ pub fn hash_file<D: Desk, K: Sink>(
         Ok(bytes) => bytes,
         Err(ending) => return ending,
     };
-    let capture = match read_capture(alloc, &bytes) {
+    let capture = match read_any(alloc, &bytes) {
         Ok(capture) => capture,
-        Err(fault) => return Ending::of_fault(fault),
+        Err(ending) => return ending,
     };
     let Ok(hasher) = Hasher::make(alloc, command.queues, command.kinds) else {
         return Ending::OutOfMemory;

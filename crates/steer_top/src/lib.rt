@@ -1,17 +1,14 @@
 //! The top call of the replayer: words in, one text and one status out.
 #![tactic(auto)]
 
+mod capture;
 mod command;
 mod ending;
 mod file;
-#[cfg(test)]
-mod frames;
 mod hash_command;
 mod hash_line;
 mod hasher;
 mod laws;
-#[cfg(test)]
-mod rows;
 mod status;
 mod telling;
 mod top;

@@ -12,6 +12,7 @@ pub fn status(ending: &Ending) -> u8
         Ending::Done => 0,
         Ending::Usage => 2,
         Ending::Refuses(Refusal::Capture(_)) => 4,
+        Ending::Refuses(Refusal::Pcapng(_)) => 4,
         Ending::ReadFault => 5,
         Ending::WriteFault => 6,
         Ending::OutOfMemory => 7,

@@ -1,12 +1,14 @@
 //! The line that says how a command ended. It is written in pieces and takes no memory.
-ghost use Rattle.std.specs.Prelude.{◌≡◌, ◌++◌, ◌≤◌};
+ghost use Rattle.std.specs.Prelude.{◌++◌, codes, decimal};
 ghost use Rattle.std.specs.List.{flat_map};
-ghost use Rattle.steer_top.specs.Endings.{Told, line_of, line_of_fault, line_of_refusal};
+ghost use Rattle.steer_top.specs.Endings.{Told, line_of, line_of_fault, line_of_ng_fault};
+ghost use Rattle.steer_top.specs.Endings.{line_of_refusal};
 
 use crate::ending::{Ending, Refusal};
 use itoa::Buffer;
 use outside_io::{Sink, WriteFault, write_whole};
 use pcap_reader::CaptureFault;
+use pcapng_reader::NgFault;
 use report::hex8;
 
 const USAGE: &[u8] =
@@ -34,6 +36,7 @@ fn tell_refusal<E: Sink>(err: &mut E, refusal: &Refusal)
     match refusal {
         Refusal::TooLong(role) => say(err, &[role.name(), b" too long\n"]),
         Refusal::Capture(fault) => tell_fault(err, *fault),
+        Refusal::Pcapng(fault) => tell_ng_fault(err, *fault),
     }
 }
 
@@ -41,33 +44,72 @@ fn tell_fault<E: Sink>(err: &mut E, fault: CaptureFault)
     ensures { Told (E.faults err.old) (E.faults err.new) (E.written err.old) (E.written err.new)
         (line_of_fault fault) }
 {
-    let mut buffer = Buffer::new();
-    let mut other = Buffer::new();
     match fault {
         CaptureFault::ShortHeader { len } => {
-            let digits = buffer.format(len).as_bytes();
-            say(err, &[b"capture: short header ", digits, b"\n"]);
+            say_one(err, b"capture: short header ", len as u64);
         }
         CaptureFault::BadMagic { magic } => {
             say(err, &[b"capture: bad magic ", &hex8(magic), b"\n"]);
         }
         CaptureFault::BadVersion { major, minor } => {
-            let major = buffer.format(major).as_bytes();
-            let minor = other.format(minor).as_bytes();
-            say(err, &[b"capture: bad version ", major, b" ", minor, b"\n"]);
+            let minor = u32::from(minor);
+            say_two(err, b"capture: bad version ", u64::from(major), b" ", minor);
         }
-        CaptureFault::BadLink { link } => {
-            let digits = buffer.format(link).as_bytes();
-            say(err, &[b"capture: bad link ", digits, b"\n"]);
-        }
+        CaptureFault::BadLink { link } => say_one(err, b"capture: bad link ", u64::from(link)),
         CaptureFault::RecordTooLong { at, len } => {
-            let at = buffer.format(at).as_bytes();
-            let len = other.format(len).as_bytes();
-            say(err, &[b"capture: packet ", at, b" too long ", len, b"\n"]);
+            say_two(err, b"capture: packet ", u64::from(at), b" too long ", len);
         }
         CaptureFault::TooManyPackets => say(err, &[b"capture: too many packets\n"]),
         CaptureFault::OutOfMemory => say(err, &[b"out of memory\n"]),
     }
+}
+
+fn tell_ng_fault<E: Sink>(err: &mut E, fault: NgFault)
+    ensures { Told (E.faults err.old) (E.faults err.new) (E.written err.old) (E.written err.new)
+        (line_of_ng_fault fault) }
+{
+    match fault {
+        NgFault::BadOrder { magic } => say(err, &[b"capture: bad order ", &hex8(magic), b"\n"]),
+        NgFault::BadBlock { block, len } => {
+            say_two(err, b"capture: bad block ", block, b" ", len);
+        }
+        NgFault::BadTail { block, len } => {
+            say_two(err, b"capture: bad tail ", block, b" ", len);
+        }
+        NgFault::BadMajor { major } => say_one(err, b"capture: bad major ", u64::from(major)),
+        NgFault::TooManyPackets => say(err, &[b"capture: too many packets\n"]),
+        NgFault::BadInterface { block, id } => {
+            say_two(err, b"capture: bad interface ", block, b" ", id);
+        }
+        NgFault::BadNgLink { block, link } => {
+            say_two(err, b"capture: bad ng link ", block, b" ", link);
+        }
+        NgFault::RecordTooLong { at, len } => {
+            say_two(err, b"capture: packet ", u64::from(at), b" too long ", len);
+        }
+        NgFault::OutOfMemory => say(err, &[b"out of memory\n"]),
+    }
+}
+
+// Writes a text, a number and a line feed.
+fn say_one<E: Sink>(err: &mut E, text: &[u8], number: u64)
+    ensures { Told (E.faults err.old) (E.faults err.new) (E.written err.old) (E.written err.new)
+        (text.now ++ (decimal number ++ codes "\n")) }
+{
+    let mut buffer = Buffer::new();
+    say(err, &[text, buffer.format(number).as_bytes(), b"\n"]);
+}
+
+// Writes a text and a number, another text and number, and a line feed.
+fn say_two<E: Sink>(err: &mut E, text: &[u8], number: u64, then: &[u8], other: u32)
+    ensures { Told (E.faults err.old) (E.faults err.new) (E.written err.old) (E.written err.new)
+        (text.now ++ (decimal number ++ (then.now ++ (decimal other ++ codes "\n")))) }
+{
+    let mut buffer = Buffer::new();
+    let mut second = Buffer::new();
+    let number = buffer.format(number).as_bytes();
+    let other = second.format(other).as_bytes();
+    say(err, &[text, number, then, other, b"\n"]);
 }
 
 // Writes a line in pieces, as far as the sink takes them.

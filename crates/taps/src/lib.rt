@@ -6,8 +6,6 @@ mod feeding;
 mod per_cpu;
 mod per_flow;
 mod tap;
-#[cfg(test)]
-mod tests;
 mod text;
 
 pub use depth::Depth;

@@ -1,3 +1,3 @@
 mod Numbers
 mod Windows
-mod Words
+mod BytesLemmas

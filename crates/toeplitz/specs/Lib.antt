@@ -1,3 +1,4 @@
 pub mod Toeplitz
 pub mod Flows
 pub mod Tables
+pub mod Parts

@@ -1,5 +1,5 @@
 -- A key as a table: a row for each place of an input byte, and in each row a word for each byte.
-use Rattle.std.specs.Prelude.{◌≡◌, ℕ, zero, suc, ◌+◌, ◌*◌, ◌-◌, ◌<◌, List, length, slice_index}
+use Rattle.std.specs.Prelude.{◌≡◌, ℕ, zero, suc, ◌+◌, ◌*◌, ◌-◌, ◌<◌, List, [], ◌∷◌, length, slice_index}
 use Rattle.std.specs.Prelude.{bit_xor, if◌then◌else◌, ◌==◌}
 use Rattle.std.specs.Int.{bit_at}
 use Rattle.toeplitz.specs.Toeplitz.{window}
@@ -14,6 +14,12 @@ xor_of_byte key place byte (suc k) =
 -- what a byte at this place of the input adds to the hash
 abbrev pub word_of : ℕ → ℕ → ℕ → ℕ
 word_of key place byte = xor_of_byte key place byte 8
+
+-- the XOR of what these bytes add to the hash, the first of them at this place of the input
+unfoldable pub xor_of_bytes : ℕ → ℕ → List ℕ → ℕ
+xor_of_bytes key place [] = 0
+xor_of_bytes key place (byte ∷ bytes) =
+    bit_xor (word_of key place byte) (xor_of_bytes key (suc place) bytes)
 
 -- 36 rows of 256 words, row after row, where row `place` has at `byte` what this byte adds to the hash at this place
 pub record IsTable (key : ℕ) (words : List ℕ) : Type 0 where

@@ -1,11 +1,12 @@
 //! The key of the hash.
 ghost use Rattle.std.specs.Prelude.{◌≡◌, ◌+◌, ◌*◌, ◌-◌, ◌/◌, ◌%◌, ◌^◌, ◌<◌, ◌≤◌, length};
-ghost use Rattle.toeplitz.specs.Toeplitz.{number_of, hash_of, verification_key as the_verification_key};
+ghost use Rattle.toeplitz.specs.Toeplitz.{number_of, verification_key as the_verification_key};
 ghost use Rattle.toeplitz.specs.Tables.{word_of};
 ghost use Rattle.toeplitz.specs.Flows.{hash_of_flow};
 
-use crate::input::Input;
 use crate::kinds::Kinds;
+use crate::part::Part;
+use crate::words::Words;
 use std::marker::Model;
 use steer_base::Flow;
 
@@ -49,25 +50,24 @@ impl Key {
     pub fn hash(&self, flow: &Flow, kinds: Kinds) -> Option<u32>
         ensures { result ≡ hash_of_flow self.now flow.now kinds.0 }
     {
-        match Input::of_flow(*flow, kinds) {
-            Some(input) => Some(self.hash_bytes(input.as_slice())),
+        match Part::of_flow(*flow, kinds) {
+            Some(part) => Some(self.hash_part(part)),
             None => None,
         }
     }
 
-    fn hash_bytes(&self, input: &[u8]) -> u32
-        requires { length input.now ≤ 36 }
-        ensures { result ≡ hash_of self.now input.now }
+    // The same key once more.
+    pub(crate) fn copied(&self) -> Self
+        ensures { result ≡ self.now }
     {
-        let mut hash = 0;
-        for place in 0..input.len() {
-            hash ^= self.word(place, input[place]);
-        }
-        hash
+        Key { bytes: self.bytes }
     }
+}
 
-    // What a byte at this place of the input adds to the hash.
-    pub(crate) fn word(&self, place: usize, byte: u8) -> u32
+impl Words for Key {
+    ghost key = { λ key. key };
+
+    fn word(&self, place: usize, byte: u8) -> u32
         requires { place < 36 }
         ensures { result ≡ word_of self.now place byte }
     {
@@ -79,13 +79,6 @@ impl Key {
             }
         }
         word
-    }
-
-    // The same key once more.
-    pub(crate) fn copied(&self) -> Self
-        ensures { result ≡ self.now }
-    {
-        Key { bytes: self.bytes }
     }
 }
 

@@ -1,13 +1,12 @@
 //! The Toeplitz hash of a flow, as network cards compute it to spread packets over their receive queues.
 #![tactic(auto)]
 
-mod input;
 mod key;
 mod kinds;
 mod laws;
+mod part;
 mod tabled_key;
-#[cfg(test)]
-mod vectors;
+mod words;
 
 pub use key::{Key, VERIFICATION_KEY_BYTES, verification_key};
 pub use kinds::Kinds;

@@ -1,12 +1,12 @@
 //! The key as a table, for many hashes.
 ghost use Rattle.std.specs.Prelude.{◌≡◌, ◌<◌, ◌≤◌, length, IfOk};
-ghost use Rattle.toeplitz.specs.Toeplitz.{hash_of};
 ghost use Rattle.toeplitz.specs.Tables.{word_of, IsTable};
 ghost use Rattle.toeplitz.specs.Flows.{hash_of_flow};
 
-use crate::input::Input;
 use crate::key::Key;
 use crate::kinds::Kinds;
+use crate::part::Part;
+use crate::words::Words;
 use std::alloc::Global;
 use std::marker::Model;
 use steer_base::{Flow, OutOfMemory};
@@ -51,24 +51,16 @@ impl TabledKey {
     pub fn hash(&self, flow: &Flow, kinds: Kinds) -> Option<u32>
         ensures { result ≡ hash_of_flow self.now flow.now kinds.0 }
     {
-        match Input::of_flow(*flow, kinds) {
-            Some(input) => Some(self.hash_bytes(input.as_slice())),
+        match Part::of_flow(*flow, kinds) {
+            Some(part) => Some(self.hash_part(part)),
             None => None,
         }
     }
+}
 
-    fn hash_bytes(&self, input: &[u8]) -> u32
-        requires { length input.now ≤ 36 }
-        ensures { result ≡ hash_of self.now input.now }
-    {
-        let mut hash = 0;
-        for place in 0..input.len() {
-            hash ^= self.word(place, input[place]);
-        }
-        hash
-    }
+impl Words for TabledKey {
+    ghost key = { λ tabled. tabled };
 
-    // What a byte at this place of the input adds to the hash.
     fn word(&self, place: usize, byte: u8) -> u32
         requires { place < 36 }
         ensures { result ≡ word_of self.now place byte }

@@ -7,8 +7,6 @@ mod inner;
 mod laws;
 mod level;
 mod place;
-#[cfg(test)]
-mod tests;
 mod vxlan;
 mod write;
 

@@ -1,5 +1,5 @@
 -- The maps of transmit packet steering (kernel scaling chapter, section XPS: `xps_cpus` and
--- `xps_rxqs`).
+-- `xps_rxqs`). The index by the hash, and all queues where no map has one, are this project's own.
 use Rattle.std.specs.Prelude.{ℕ, Bool, List, Option, slice_index, slice_index_or, replicate}
 use Rattle.steer_base.specs.Sends.{pick_of}
 use Rattle.steer_base.specs.Sets.{has, has_queue}

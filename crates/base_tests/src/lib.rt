@@ -1,0 +1,13 @@
+//! Tests of the shared names and types, of files and sinks, and of the seats and words of threads.
+#![tactic(auto)]
+
+#[cfg(test)]
+mod desks;
+#[cfg(test)]
+mod hints;
+#[cfg(test)]
+mod seats;
+#[cfg(test)]
+mod shared;
+#[cfg(test)]
+mod sinks;

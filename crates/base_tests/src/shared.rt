@@ -1,0 +1,166 @@
+//! What the shared names and types do, by values that were worked out by hand.
+use std::test::Fail;
+use steer_base::{
+    AppId, Cpu, CpuMask, Journal, Journals, List, RxQueue, Why, app_of, decimal_number,
+    even_entries, place_of_hash, reached, round_up,
+};
+
+#[test]
+fn bit_c_is_processor_c(rt: HostRuntime) {
+    let mask = CpuMask(0x8000_0002);
+    assert!(rt; mask.has(1) && mask.has(31));
+    assert!(rt; !mask.has(0) && !mask.has(30) && !mask.has(32) && !mask.has(255));
+    assert_eq!(rt; mask.len(), 2);
+    assert!(rt; !mask.is_empty() && CpuMask(0).is_empty());
+}
+
+#[test]
+fn sets_are_made(rt: HostRuntime) {
+    assert_eq!(rt; CpuMask::first_n(0), CpuMask(0));
+    assert_eq!(rt; CpuMask::first_n(3), CpuMask(0b111));
+    assert_eq!(rt; CpuMask::first_n(32), CpuMask(0xffff_ffff));
+    let some = CpuMask::from_cpus(&[Cpu(3), Cpu(31), Cpu(0), Cpu(3), Cpu(32)]);
+    assert_eq!(rt; some, CpuMask(0x8000_0009));
+    assert_eq!(rt; some.with(Cpu(1)), CpuMask(0x8000_000b));
+    assert_eq!(rt; some.without(Cpu(31)), CpuMask(0b1001));
+    assert_eq!(rt; some.without(Cpu(1)), some);
+}
+
+#[test]
+fn a_head_reaches_a_tail_across_the_wrap(rt: HostRuntime) {
+    let cases = [
+        (0u32, 0u32, 0u32, true),
+        (4294967294, 4294967295, 0, false),
+        (4294967294, 0, 0, false),
+        (1, 1, 0, true),
+        (1, 4294967294, 3, true),
+        (1, 4294967294, 4, false),
+        (0, 4294967295, 1, true),
+        (2147483647, 0, 400000, true),
+        (2147483648, 0, 0, false),
+    ];
+    for (head, tail, more, wanted) in cases {
+        assert!(rt; more <= 400000);
+        assert_eq!(rt; reached(head, tail, more), wanted, "{head} {tail} {more}");
+    }
+}
+
+#[test]
+fn sizes_are_rounded_up(rt: HostRuntime) {
+    let cases = [
+        (0u32, 0u32),
+        (1, 1),
+        (3, 4),
+        (256, 256),
+        (257, 512),
+        (32767, 32768),
+        (65536, 65536),
+    ];
+    for (given, wanted) in cases {
+        assert!(rt; given <= 65536);
+        assert_eq!(rt; round_up(given), wanted, "{given}");
+    }
+}
+
+#[test]
+fn digits_make_a_number(rt: HostRuntime) {
+    let cases = [
+        ("0", Some(0u128)),
+        ("007", Some(7)),
+        ("1234567890", Some(1_234_567_890)),
+        ("12345678901", None),
+        ("", None),
+        ("+1", None),
+        ("1 ", None),
+        ("0x1", None),
+    ];
+    for (text, wanted) in cases {
+        assert_eq!(rt; decimal_number(text.as_bytes(), 10), wanted, "{text}");
+    }
+    assert_eq!(rt;
+        decimal_number(b"99999999999999999999", 20),
+        Some(99_999_999_999_999_999_999)
+    );
+}
+
+#[test]
+fn a_hash_has_a_place(rt: HostRuntime) {
+    let cases = [
+        (Some(0x51cc_c178u32), 128u32, Some(120u32)),
+        (Some(4294967295), 4096, Some(4095)),
+        (Some(7), 1, Some(0)),
+        (Some(7), 0, None),
+        (None, 8, None),
+    ];
+    for (hash, size, place) in cases {
+        assert_eq!(rt; place_of_hash(hash, size), place, "{hash:?} {size}");
+    }
+}
+
+#[test]
+fn a_hash_names_an_application(rt: HostRuntime) {
+    assert_eq!(rt; app_of(Some(0x51cc_c178), 32), AppId(24));
+    assert_eq!(rt; app_of(Some(7), 1), AppId(0));
+    assert_eq!(rt; app_of(None, 5), AppId(0));
+}
+
+#[test]
+fn queues_get_entries_in_turn(rt: HostRuntime) {
+    let entries = even_entries(3);
+    let cases = [(0usize, 0u8), (5, 2), (127, 1)];
+    for (place, queue) in cases {
+        assert_eq!(rt;
+            entries.as_slice().get(place),
+            Some(&RxQueue(queue)),
+            "{place}"
+        );
+    }
+}
+
+#[test]
+fn a_class_moves_by_three_cases(rt: HostRuntime) {
+    let moving = [Why::Unset, Why::Offline, Why::Passed];
+    let staying = [Why::Plain, Why::Same, Why::Kept];
+    for why in moving {
+        assert!(rt; why.moved());
+    }
+    for why in staying {
+        assert!(rt; !why.moved());
+    }
+}
+
+#[test]
+fn a_journal_grows_at_its_end(rt: HostRuntime) -> Result<(), Fail> {
+    let mut journal = Journal::make(rt.alloc(), 3)?;
+    journal.push(7u32);
+    journal.push(5);
+    assert_eq!(rt; (journal.len(), journal.room()), (2, 3));
+    assert_eq!(rt; journal.get(1), Some(5));
+    assert_eq!(rt; journal.get(2), None);
+    assert_eq!(rt; journal.as_slice(), [7, 5].as_slice());
+    assert_eq!(rt; journal.into_vec().as_slice(), [7, 5].as_slice());
+    Ok(())
+}
+
+#[test]
+fn each_list_grows_at_its_end(rt: HostRuntime) -> Result<(), Fail> {
+    let mut lists = Journals::make(rt.alloc(), 2, 2)?;
+    lists.push(1, 7u32);
+    lists.push(1, 5);
+    lists.push(0, 9);
+    assert_eq!(rt; (lists.count(), lists.room()), (2, 2));
+    assert_eq!(rt; (lists.len_of(0), lists.len_of(1)), (1, 2));
+    assert_eq!(rt; (lists.get(1, 0), lists.get(1, 1)), (7, 5));
+    assert_eq!(rt; lists.list(0), [9].as_slice());
+    Ok(())
+}
+
+#[test]
+fn a_list_has_the_items_of_its_vector(rt: HostRuntime) -> Result<(), Fail> {
+    let list = List::from_vec([7u32, 5].to_vec(rt.alloc())?);
+    assert_eq!(rt; list.len(), 2);
+    assert_eq!(rt; *list.get(1), 5);
+    assert_eq!(rt; list.as_slice(), [7, 5].as_slice());
+    assert_eq!(rt; list.into_vec().as_slice(), [7, 5].as_slice());
+    Ok(())
+}

@@ -1,5 +1,0 @@
-use Rattle.history.proofs.LinesFit.{lines_fit}
-use Rattle.history.proofs.found_again.lines_fit.Goals as goal
-
-pub returns : goal.returns
-returns c = lines_fit

@@ -1,8 +1,0 @@
-use Rattle.std.proofs.Common.{take}
-use Rattle.history.specs.Finding.{first_some}
-use Rattle.history.specs.Index.{IsIndex}
-use Rattle.history.specs.Lines.{choice_in}
-use Rattle.history.proofs.index.index_choices.Given as goal
-
-abbrev pub invariant-loop-list : goal.invariant-loop-list
-invariant-loop-list l = IsIndex l.count l.index (λ x. first_some (choice_in x) (take l.list-index l.lists))

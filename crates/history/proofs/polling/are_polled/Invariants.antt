@@ -1,6 +1,0 @@
-use Rattle.std.proofs.Common.{ℕ, ◌<◌, ◌≡◌, true}
-use Rattle.history.specs.Tests.{is_polled}
-use Rattle.history.proofs.polling.are_polled.Given as goal
-
-abbrev pub invariant-loop-queue : goal.invariant-loop-queue
-invariant-loop-queue l = (q : ℕ) → q < l.queue → is_polled l.h q ≡ true

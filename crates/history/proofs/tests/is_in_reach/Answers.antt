@@ -1,5 +1,0 @@
-use Rattle.history.proofs.PlaceLemmas.{in-reach}
-use Rattle.history.proofs.tests.is_in_reach.Goals as goal
-
-pub returns : goal.returns
-returns c = in-reach c.args.h.now c.args.id c.requires.lanes c.requires.inboxes

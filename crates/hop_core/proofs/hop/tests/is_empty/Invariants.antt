@@ -1,6 +1,0 @@
-use Rattle.std.proofs.Common.{ℕ, ◌<◌}
-use Rattle.hop_core.specs.Events.{IsEmptied}
-use Rattle.hop_core.proofs.hop.tests.is_empty.Given as goal
-
-abbrev pub invariant-loop-lane : goal.invariant-loop-lane
-invariant-loop-lane l = (c : ℕ) → c < l.lane → IsEmptied l.hop.bare c

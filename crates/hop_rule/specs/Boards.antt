@@ -1,0 +1,141 @@
+-- One order of all steps on a board: those at lanes, those at the gate, loads, and moves of a lane
+-- out of its slot and into it.
+use Rattle.std.specs.Prelude.{◌≡◌, ℕ, ◌+◌, ◌<◌, List, [], ◌∷◌, ◌==◌, Option, Some, None, map}
+use Rattle.std.specs.Prelude.{if◌then◌else◌}
+use Rattle.std.specs.List.{filter_map, range_with_len}
+use Rattle.std.specs.Option.{option_map}
+use Rattle.steer_base.specs.Lanes.{LaneLists}
+use Rattle.steer_base.specs.declared.put.LaneDrop.{LaneDrop}
+use Rattle.seat_order.specs.Orders.{StepBy, step_by, steps_of}
+use Rattle.hop_rule.specs.declared.sizes.BoardSizes.{BoardSizes}
+use Rattle.hop_rule.specs.declared.step.Change.TheVariants.{Offered}
+use Rattle.hop_rule.specs.declared.step.BoardStep.{BoardStep}
+use Rattle.hop_rule.specs.declared.step.BoardStep.TheVariants.{Lane, Gate, Weighed, Counted}
+use Rattle.hop_rule.specs.declared.step.BoardStep.TheVariants.{LaneOut, LaneIn}
+use Rattle.hop_rule.specs.declared.step.LaneStep.{LaneStep}
+use Rattle.hop_rule.specs.declared.step.LaneStep.TheVariants.{Held, Freed, OutHeld, OutFreed, Given}
+use Rattle.hop_rule.specs.declared.step.GateStep.{GateStep}
+use Rattle.hop_rule.specs.Lanes as lanes
+use Rattle.hop_rule.specs.Gates as gates
+
+-- ---- the two parts of an order and of a seat's own steps
+
+-- the step at a lane that a step is, if it is one, and the step at the gate
+abbrev pub lane_in : BoardStep → Option LaneStep
+lane_in (Lane d) = Some d
+lane_in _ = None
+
+abbrev pub gate_in : BoardStep → Option GateStep
+gate_in (Gate d) = Some d
+gate_in _ = None
+
+abbrev pub lanes_of : List (StepBy BoardStep) → List (StepBy LaneStep)
+lanes_of es = filter_map (λ e. option_map (step_by e.by) (lane_in e.step)) es
+
+abbrev pub gates_of : List (StepBy BoardStep) → List (StepBy GateStep)
+gates_of es = filter_map (λ e. option_map (step_by e.by) (gate_in e.step)) es
+
+abbrev pub lane_steps : List BoardStep → List LaneStep
+lane_steps ds = filter_map lane_in ds
+
+abbrev pub gate_steps : List BoardStep → List GateStep
+gate_steps ds = filter_map gate_in ds
+
+-- ---- slots
+
+-- What is in a slot: its lane; nothing, since a seat has taken the slot itself; or nothing, and the
+-- slot is at home.
+pub data SlotState : Type 0 where
+  full : SlotState
+  taken : SlotState
+  empty : SlotState
+
+module _ (about : BoardSizes) where
+  -- the slots are those of the middle lanes and then those of the out lanes
+  abbrev pub out_slot : ℕ → ℕ
+  out_slot o = about.lanes + o
+
+  -- the slot k after a step
+  abbrev pub state_after_lane : ℕ → LaneStep → SlotState → SlotState
+  state_after_lane k (Held l w x) s = if l == k then taken else s
+  state_after_lane k (Freed l c) s = if l == k then full else s
+  state_after_lane k (OutHeld o w x) s = if out_slot o == k then taken else s
+  state_after_lane k (OutFreed o) s = if out_slot o == k then full else s
+  state_after_lane k (Given o from id place) s = if out_slot o == k then full else s
+  state_after_lane k _ s = s
+
+  abbrev pub state_after : ℕ → BoardStep → SlotState → SlotState
+  state_after k (Lane d) s = state_after_lane k d s
+  state_after k (LaneOut i) s = if i == k then empty else s
+  state_after k (LaneIn i) s = if i == k then taken else s
+  state_after k _ s = s
+
+  abbrev pub slot_state : ℕ → List (StepBy BoardStep) → SlotState
+  slot_state k [] = full
+  slot_state k (e ∷ es) = state_after k e.step (slot_state k es)
+
+  -- the same by a seat's own steps
+  abbrev pub own_state : ℕ → List BoardStep → SlotState
+  own_state k [] = full
+  own_state k (d ∷ ds) = state_after k d (own_state k ds)
+
+  -- ---- the lawful orders
+
+  -- where the seat p stands
+  abbrev pub visit_of : ℕ → List (StepBy BoardStep) → gates.Visit
+  visit_of p es = gates.visit (steps_of p (gates_of es))
+
+  -- a put is made in a visit
+  abbrev pub IsInside : gates.Visit → LaneStep → Type 0
+  IsInside v (Freed l (Offered id hash answer)) = v ≡ gates.inside
+  IsInside v _ = Unit {0}
+
+  -- who gives a lane back has taken its slot, and has its lane at hand
+  abbrev pub HasSlot : List BoardStep → LaneStep → Type 0
+  HasSlot ds (Freed l c) = own_state l ds ≡ taken
+  HasSlot ds (OutFreed o) = own_state (out_slot o) ds ≡ taken
+  HasSlot ds (Given o from id place) = own_state (out_slot o) ds ≡ taken
+  HasSlot ds _ = Unit {0}
+
+  -- The step of the seat p can come after these. A head's or a lane's word that is loaded is the
+  -- word as it stands; a lane is moved out of a slot that the seat has taken, and into one that it
+  -- has emptied.
+  abbrev pub MayCome : ℕ → List (StepBy BoardStep) → BoardStep → Type 0
+  MayCome p es (Lane d) =
+      lanes.MayCome about p (lanes_of es) d × IsInside (visit_of p es) d
+      × HasSlot (steps_of p es) d
+  MayCome p es (Gate d) = gates.MayCome about p (gates_of es) d
+  MayCome p es (Weighed l w) = (l < about.lanes) × (w ≡ lanes.head_word about l (lanes_of es))
+  MayCome p es (Counted l w) = (l < about.lanes) × (w ≡ lanes.lane_word about l (lanes_of es))
+  MayCome p es (LaneOut k) =
+      (k < about.lanes + about.outs) × (own_state k (steps_of p es) ≡ taken)
+  MayCome p es (LaneIn k) =
+      (k < about.lanes + about.outs) × (own_state k (steps_of p es) ≡ empty)
+
+  -- the order is lawful, and each of its steps is by one of the seats
+  abbrev pub IsLawful : List (StepBy BoardStep) → Type 0
+  IsLawful [] = Unit {0}
+  IsLawful (e ∷ es) = (e.by < about.seats) × MayCome e.by es e.step × IsLawful es
+
+  -- ---- what an order leaves
+
+  abbrev pub lane_at : List (StepBy BoardStep) → ℕ → LaneLists
+  lane_at es l = lanes.lane about l (lanes_of es)
+
+  abbrev pub accepted : List (StepBy BoardStep) → ℕ → List ℕ
+  accepted es l = (lane_at es l).accepted
+
+  abbrev pub drops_at : List (StepBy BoardStep) → ℕ → List LaneDrop
+  drops_at es l = (lane_at es l).drops
+
+  abbrev pub drops : List (StepBy BoardStep) → List (List LaneDrop)
+  drops es = map (λ l. drops_at es l) (range_with_len 0 about.lanes)
+
+  abbrev pub retired : List (StepBy BoardStep) → ℕ → ℕ
+  retired es l = lanes.retired l (lanes_of es)
+
+  abbrev pub out : List (StepBy BoardStep) → ℕ → List ℕ
+  out es o = lanes.out o (lanes_of es)
+
+  abbrev pub settings : List (StepBy BoardStep) → ℕ → ℕ
+  settings es = gates.settings about (gates_of es)

@@ -1,0 +1,24 @@
+-- The deliveries of a middle lane.
+use Rattle.std.specs.Prelude.{ℕ, ◌==◌, List, [], ◌∷◌, if◌then◌else◌}
+use Rattle.seat_order.specs.Orders.{StepBy}
+use Rattle.hop_rule.specs.declared.step.LaneStep.{LaneStep}
+use Rattle.hop_rule.specs.declared.step.LaneStep.TheVariants.{Given}
+
+-- one delivery: the out lane, the packet, and its place there from 1
+pub record Delivery : Type 0 where
+  pub to : ℕ
+  pub id : ℕ
+  pub place : ℕ
+
+abbrev pub delivery : ℕ → ℕ → ℕ → Delivery
+delivery o id place = record { to = o; id = id; place = place }
+
+abbrev pub given_after : ℕ → LaneStep → List Delivery → List Delivery
+given_after l (Given o from id place) gs =
+    if from == l then delivery o id place ∷ gs else gs
+given_after l _ gs = gs
+
+-- the deliveries from the lane l, the newest first
+abbrev pub given : ℕ → List (StepBy LaneStep) → List Delivery
+given l [] = []
+given l (e ∷ es) = given_after l e.step (given l es)

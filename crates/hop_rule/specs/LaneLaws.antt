@@ -1,0 +1,107 @@
+-- What a lawful order of steps shows of its lanes and their heads.
+use Rattle.std.specs.Prelude.{◌≡◌, ◌≢◌, ℕ, ◌+◌, ◌*◌, ◌%◌, ◌<◌, ◌≤◌, List, Some, None, length}
+use Rattle.steer_base.specs.Lanes.{LaneLists}
+use Rattle.seat_order.specs.Orders.{StepBy}
+use Rattle.hop_rule.specs.Boards.{IsLawful, full, lane_at, lane_steps, lanes_of, out, out_slot}
+use Rattle.hop_rule.specs.Boards.{own_state, retired, slot_state}
+use Rattle.hop_rule.specs.Deliveries.{given}
+use Rattle.hop_rule.specs.Lanes.{holding, lane_word, out_holding, out_word, head_word}
+use Rattle.hop_rule.specs.Moments.{IsStep, past}
+use Rattle.hop_rule.specs.OutLanes.{OutList}
+use Rattle.hop_rule.specs.Owns.{own_of}
+use Rattle.hop_rule.specs.Sizes.{puller}
+use Rattle.hop_rule.specs.declared.sizes.BoardSizes.{BoardSizes}
+use Rattle.hop_rule.specs.declared.step.BoardStep.{BoardStep}
+use Rattle.hop_rule.specs.declared.step.BoardStep.TheVariants.{Lane}
+use Rattle.hop_rule.specs.declared.step.LaneStep.TheVariants.{Retired}
+
+-- ---- who holds a lane
+
+-- The seat q holds a middle lane by its own steps, in which it found x there.
+abbrev pub Holds : List (StepBy BoardStep) → ℕ → ℕ → LaneLists → Type 0
+Holds order l q x = holding l (lane_steps (own_of order q)) ≡ Some x
+
+-- the same of an out lane
+abbrev pub OutHolds : List (StepBy BoardStep) → ℕ → ℕ → OutList → Type 0
+OutHolds order o q x = out_holding o (lane_steps (own_of order q)) ≡ Some x
+
+-- Of a middle lane. Two seats that hold it are one. While one holds it, the lane is as that seat
+-- found it, its word is marked, and its slot is not full but as that seat's steps say. While none
+-- does, its word is not marked and the lane is in its slot.
+pub record IsHeldByOne (about : BoardSizes) (order : List (StepBy BoardStep)) (l : ℕ)
+    : Type 0 where
+  pub one : (p q : ℕ) (x y : LaneLists) → Holds order l p x → Holds order l q y → p ≡ q
+  pub found : (q : ℕ) (x : LaneLists) → Holds order l q x → lane_at about order l ≡ x
+  pub marked : (q : ℕ) (x : LaneLists) → Holds order l q x
+      → lane_word about l (lanes_of order)
+      ≡ 2 * (about.start + length (lane_at about order l).accepted) + 1
+  pub out : (q : ℕ) (x : LaneLists) → Holds order l q x
+      → (slot_state about l order ≢ full)
+      × (slot_state about l order ≡ own_state about l (own_of order q))
+  pub unmarked : ((q : ℕ) → holding l (lane_steps (own_of order q)) ≡ None)
+      → lane_word about l (lanes_of order)
+      ≡ 2 * (about.start + length (lane_at about order l).accepted)
+  pub home : ((q : ℕ) → holding l (lane_steps (own_of order q)) ≡ None)
+      → slot_state about l order ≡ full
+  pub some_holder : lane_word about l (lanes_of order) % 2 ≡ 1
+      → (q : ℕ) × (x : LaneLists) × Holds order l q x
+
+abbrev pub MiddleLanesAreHeldByOne : Type 0
+MiddleLanesAreHeldByOne =
+    (about : BoardSizes) (order : List (StepBy BoardStep)) → IsLawful about order
+    → (l : ℕ) → l < about.lanes → IsHeldByOne about order l
+
+-- The same of an out lane.
+pub record IsOutHeldByOne (about : BoardSizes) (order : List (StepBy BoardStep)) (o : ℕ)
+    : Type 0 where
+  pub one : (p q : ℕ) (x y : OutList) → OutHolds order o p x → OutHolds order o q y → p ≡ q
+  pub found : (q : ℕ) (x : OutList) → OutHolds order o q x → out about order o ≡ x.items
+  pub marked : (q : ℕ) (x : OutList) → OutHolds order o q x
+      → out_word about o (lanes_of order) ≡ 2 * (about.start + length (out about order o)) + 1
+  pub away : (q : ℕ) (x : OutList) → OutHolds order o q x
+      → (slot_state about (out_slot about o) order ≢ full)
+      × (slot_state about (out_slot about o) order
+      ≡ own_state about (out_slot about o) (own_of order q))
+  pub unmarked : ((q : ℕ) → out_holding o (lane_steps (own_of order q)) ≡ None)
+      → out_word about o (lanes_of order) ≡ 2 * (about.start + length (out about order o))
+  pub home : ((q : ℕ) → out_holding o (lane_steps (own_of order q)) ≡ None)
+      → slot_state about (out_slot about o) order ≡ full
+  pub some_holder : out_word about o (lanes_of order) % 2 ≡ 1
+      → (q : ℕ) × (x : OutList) × OutHolds order o q x
+
+abbrev pub OutLanesAreHeldByOne : Type 0
+OutLanesAreHeldByOne =
+    (about : BoardSizes) (order : List (StepBy BoardStep)) → IsLawful about order
+    → (o : ℕ) → IsOutHeldByOne about order o
+
+-- ---- heads
+
+-- Of the accepted packets of a lane some were pulled, of these some delivered, and of these some
+-- retired; at most one is on its way from a pull to its retire. All puts fit the room.
+pub record AreInTurn (about : BoardSizes) (order : List (StepBy BoardStep)) (l : ℕ)
+    : Type 0 where
+  pub of_delivered : retired about order l ≤ length (given l (lanes_of order))
+  pub of_pulled : length (given l (lanes_of order)) ≤ (lane_at about order l).pulled
+  pub one_at_most : (lane_at about order l).pulled ≤ retired about order l + 1
+  pub of_accepted : (lane_at about order l).pulled ≤ length (lane_at about order l).accepted
+  pub fits : length (lane_at about order l).accepted + length (lane_at about order l).drops
+      ≤ about.room
+
+abbrev pub HeadsFollowDeliveries : Type 0
+HeadsFollowDeliveries =
+    (about : BoardSizes) (order : List (StepBy BoardStep)) → IsLawful about order
+    → (l : ℕ) → AreInTurn about order l
+
+-- A step that raises the head of a lane is by the seat that pulls there, found the head's word
+-- as it
+-- stood, and came when one more packet had been delivered than retired.
+pub record RetiresOne (about : BoardSizes) (order : List (StepBy BoardStep)) (n q l w : ℕ)
+    : Type 0 where
+  pub by_puller : q ≡ puller about l
+  pub word : w ≡ head_word about l (lanes_of (past n order))
+  pub delivered : retired about (past n order) l < length (given l (lanes_of (past n order)))
+
+abbrev pub EachRetireFollows : Type 0
+EachRetireFollows =
+    (about : BoardSizes) (order : List (StepBy BoardStep)) → IsLawful about order
+    → (n q l w : ℕ) → IsStep order n q (Lane (Retired l w)) → RetiresOne about order n q l w

@@ -1,0 +1,16 @@
+pub mod Boards
+pub mod Deliveries
+pub mod Emptied
+pub mod Events
+pub mod Fronts
+pub mod Gates
+pub mod LaneLaws
+pub mod Lanes
+pub mod Moments
+pub mod OutLanes
+pub mod OwnLaws
+pub mod Owns
+pub mod PutLaws
+pub mod SettingLaws
+pub mod Sizes
+pub mod Unlawful

@@ -1,0 +1,12 @@
+pub mod AddedSteps
+pub mod Endings
+pub mod Entries
+pub mod Left
+pub mod OwnDrops
+pub mod OwnHeads
+pub mod OwnLanes
+pub mod OwnPuts
+pub mod OwnTimes
+pub mod OwnVisits
+pub mod Owners
+pub mod Sums

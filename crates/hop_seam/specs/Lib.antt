@@ -1,0 +1,14 @@
+pub mod Closings
+pub mod Finals
+pub mod HeadLaws
+pub mod HeldLanes
+pub mod LaneLaws
+pub mod Lists
+pub mod OwnLaws
+pub mod OwnSteps
+pub mod PutLaws
+pub mod Rights
+pub mod Seats
+pub mod StepWords
+pub mod Tells
+pub mod Views

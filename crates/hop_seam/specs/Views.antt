@@ -1,0 +1,8 @@
+-- What contracts see of a board.
+use Rattle.atomic_table.specs.Seated.{TableId}
+use Rattle.hop_rule.specs.declared.sizes.BoardSizes.{BoardSizes}
+
+-- the table of its words, and its sizes
+pub record BoardView : Type 0 where
+  pub table : TableId
+  pub sizes : BoardSizes

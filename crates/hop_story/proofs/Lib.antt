@@ -1,0 +1,17 @@
+pub mod Accounted
+pub mod Accounts
+pub mod Commands
+pub mod Emptying
+pub mod Filters
+pub mod Law
+pub mod Placing
+pub mod Receives
+pub mod Transmits
+pub mod Turns
+pub mod Walks
+pub mod Plays
+pub mod TransmitMoves
+pub mod ReceiveMoves
+pub mod Examples
+pub mod TransmitExample
+pub mod ReceiveExample

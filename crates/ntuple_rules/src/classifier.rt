@@ -1,0 +1,68 @@
+//! The first match of a flow.
+ghost use Rattle.std.specs.Prelude.{◌≡◌, ◌≤◌, length, IfOk};
+ghost use Rattle.ntuple_rules.specs.Groups.{lesser};
+ghost use Rattle.ntuple_rules.specs.Matches.{first_match};
+
+use crate::group::{Group, add};
+use crate::rule::Rule;
+use crate::rules::Rules;
+use std::alloc::Global;
+use std::marker::Model;
+use steer_base::{Flow, OutOfMemory};
+
+/// Finds the first of some rules that matches a flow. Rules of one kind and with the same masks are
+/// a group, and a flow is looked up once in each group. Contracts see the list of the rules.
+#[derive(Drop)]
+pub struct Classifier {
+    rules: Vec<Rule>,
+    groups: Vec<Group>,
+}
+
+impl Model for Classifier {
+    ghost use Rattle.std.specs.Prelude.{List};
+    ghost use Rattle.ntuple_rules.specs.declared.rule.Rule.{Rule as ARule};
+    ghost use Rattle.ntuple_rules.specs.Groups.{Finds};
+
+    ghost Value = { List ARule };
+
+    ghost view = { λ c. c.rules.items };
+
+    ghost invariant = { λ c. Finds c.groups.items c.rules.items };
+}
+
+/// The lesser of two numbers, where there is one.
+fn lesser(first: Option<u32>, second: Option<u32>) -> Option<u32>
+    ensures { result ≡ lesser first second }
+{
+    match (first, second) {
+        (None, other) => other,
+        (Some(number), None) => Some(number),
+        (Some(number), Some(other)) => Some(number.min(other)),
+    }
+}
+
+impl Classifier {
+    /// Takes memory for the rules and their groups.
+    pub fn make(alloc: Global, rules: &Rules) -> Result<Classifier, OutOfMemory>
+        requires few { length rules.now.rules ≤ 4096 }
+        ensures { IfOk result (λ classifier. classifier ≡ rules.now.rules) }
+    {
+        let mut groups = Vec::new(alloc);
+        for (number, rule) in rules.rules.as_slice().iter().enumerate() {
+            add(alloc, &mut groups, number as u32, rule)?;
+        }
+        let rules = rules.rules.as_slice().to_vec(alloc)?;
+        Ok(Classifier { rules, groups })
+    }
+
+    /// The number of the first rule that matches the flow, from 0. It takes no memory.
+    pub fn find(&self, flow: &Flow) -> Option<u32>
+        ensures { result ≡ first_match self.now flow.now }
+    {
+        let mut found = None;
+        for group in &self.groups {
+            found = lesser(found, group.find(*flow));
+        }
+        found
+    }
+}

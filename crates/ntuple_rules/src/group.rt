@@ -1,0 +1,94 @@
+//! Rules of one kind and with the same masks.
+ghost use Rattle.std.specs.Prelude.{◌≡◌, IfOk, IfSome, OnOk};
+ghost use Rattle.ntuple_rules.specs.Groups.{AddsAt, FindsAsBefore, IsAt};
+
+use crate::fields::{Fields, Shape, key_of, looked_at, masked, shape_of};
+use crate::rule::Rule;
+use indexmap::IndexMap;
+use std::alloc::Global;
+use steer_base::{Flow, OutOfMemory};
+
+/// The rules of one shape: the least number of a rule for each key.
+#[derive(Drop)]
+pub struct Group {
+    shape: Shape,
+    numbers: IndexMap<Fields, u32>,
+}
+
+impl Group {
+    ghost use Rattle.ntuple_rules.specs.Groups.{Adds, IsNew, found_in};
+
+    /// A group without rules, which takes no memory.
+    fn new(alloc: Global, shape: Shape) -> Group
+        ensures { IsNew result shape }
+    {
+        Group {
+            shape,
+            numbers: IndexMap::new(alloc),
+        }
+    }
+
+    /// Adds a rule with a greater number than those of the group.
+    fn add(&mut self, key: Fields, number: u32) -> Result<(), OutOfMemory>
+        ensures { OnOk result (Adds self.old self.new key number) }
+    {
+        if self.numbers.get(&key).is_some() {
+            return Ok(());
+        }
+        match self.numbers.insert(key, number) {
+            Ok(_) => Ok(()),
+            Err(_) => Err(OutOfMemory),
+        }
+    }
+
+    /// The least number of a rule of the group that matches the flow.
+    pub fn find(&self, flow: Flow) -> Option<u32>
+        ensures { result ≡ found_in self.now flow }
+    {
+        let fields = looked_at(self.shape.kind, flow)?;
+        self.numbers.get(&masked(self.shape.mask, fields)).copied()
+    }
+}
+
+/// The place of the group of a shape, where there is one.
+fn find_shape(groups: &[Group], shape: Shape) -> Option<usize>
+    ensures { IfSome result (λ place. IsAt groups.now place shape) }
+{
+    for (place, group) in groups.iter().enumerate() {
+        if group.shape == shape {
+            return Some(place);
+        }
+    }
+    None
+}
+
+/// The place of the group of a shape, which is a new one where there was none.
+fn place_of(alloc: Global, groups: &mut Vec<Group>, shape: Shape) -> Result<usize, OutOfMemory>
+    ensures same { OnOk result (FindsAsBefore groups.old.items groups.new.items) }
+    ensures at { IfOk result (λ place. IsAt groups.new.items place shape) }
+{
+    match find_shape(groups, shape) {
+        Some(place) => Ok(place),
+        None => {
+            let place = groups.len();
+            let group = Group::new(alloc, shape);
+            groups.push(group)?;
+            Ok(place)
+        }
+    }
+}
+
+/// Adds a rule behind those that the groups find.
+pub fn add(
+    alloc: Global,
+    groups: &mut Vec<Group>,
+    number: u32,
+    rule: &Rule,
+) -> Result<(), OutOfMemory>
+    ensures { OnOk result (AddsAt groups.old.items groups.new.items number rule.now) }
+{
+    let shape = shape_of(rule);
+    let key = key_of(rule);
+    let place = place_of(alloc, groups, shape)?;
+    groups[place].add(key, number)
+}

@@ -1,0 +1,22 @@
+//! Rules that steer packets by their addresses and ports: read from a JSON text, and the first that
+//! matches a flow found among them.
+#![tactic(auto)]
+
+mod classifier;
+mod fields;
+mod folding;
+mod group;
+mod kind;
+mod laws;
+mod member;
+mod reading;
+mod rule;
+mod rules;
+mod rules_text;
+
+pub use classifier::Classifier;
+pub use folding::fold;
+pub use laws::{a_match_is_the_first, both_directions_fold_alike};
+pub use rule::{Rule, RuleKind};
+pub use rules::Rules;
+pub use rules_text::read_rules;

@@ -1,0 +1,74 @@
+//! The rules of bytes.
+ghost use Rattle.std.specs.Prelude.{◌≡◌, ◌≢◌, IfOk, IfErr, Ok, Err};
+ghost use Rattle.serde_json.specs.View.{view};
+ghost use Rattle.plan_reader.specs.Faults.{Gives};
+ghost use Rattle.ntuple_rules.specs.Readings.{rules_in, rules_of, rules_of_bytes};
+ghost use Rattle.ntuple_rules.specs.Ranges.{IsWithin};
+
+use crate::reading::truth_or_false;
+use crate::rules::Rules;
+use plan_reader::faults::fault::Refusal;
+use plan_reader::json_text::{bounded_value, named};
+use plan_reader::values::fields::{number_or, required_list, required_number};
+use plan_reader::values::object::{an_object, only};
+use plan_reader::{PlanFault, Sizes};
+use serde_json::Value;
+use std::alloc::Global;
+
+/// The rules of a JSON value.
+#[tactic(auto, unfolding(crate::specs::Readings::rules_in))]
+fn rules_in(alloc: Global, value: &Value) -> Result<Rules, Refusal>
+    ensures gives { Gives result (rules_in (view value.now)) }
+    ensures within { IfOk result IsWithin }
+{
+    an_object(alloc, value)?;
+    let queues = required_number(alloc, value, "queues", 1, 16)? as u8;
+    let kinds = number_or(alloc, value, "kinds", 0, 63, 63)? as u8;
+    let symmetric = truth_or_false(alloc, value, "symmetric")?;
+    let inner = truth_or_false(alloc, value, "inner")?;
+    let sizes = Sizes {
+        cpus: 0,
+        queues,
+        apps: 0,
+        tx: 0,
+    };
+    let rules = required_list(alloc, sizes, value, "rules", 0, 4096)?;
+    only(
+        alloc,
+        value,
+        &["queues", "kinds", "symmetric", "inner", "rules"],
+    )?;
+    Ok(Rules {
+        queues,
+        kinds,
+        symmetric,
+        inner,
+        rules,
+    })
+}
+
+/// The rules of bytes. Their JSON value is given up at the end.
+fn rules_of_bytes(alloc: Global, bytes: &[u8]) -> Result<Rules, Refusal>
+    ensures gives { Gives result (rules_of_bytes bytes.now) }
+    ensures within { IfOk result IsWithin }
+{
+    let value = bounded_value(alloc, bytes)?;
+    rules_in(alloc, &value)
+}
+
+/// The rules of a JSON text (RFC 8259), or the first that is wrong with it.
+///
+/// Memory may run out at any text; then the answer says nothing of the rules. The JSON value of the
+/// text is given up once the rules are read out of it.
+#[tactic(auto, unfolding(crate::specs::Readings::rules_of))]
+pub fn read_rules(alloc: Global, bytes: &[u8]) -> Result<Rules, PlanFault>
+    ensures rules { IfOk result (λ rules. rules_of bytes.now ≡ Ok rules) }
+    ensures fault { IfErr result
+        (λ fault. fault ≢ PlanFault.OutOfMemory → rules_of bytes.now ≡ Err fault) }
+    ensures within { IfOk result IsWithin }
+{
+    match rules_of_bytes(alloc, bytes) {
+        Ok(rules) => Ok(rules),
+        Err(refusal) => Err(named(refusal)),
+    }
+}

@@ -1,0 +1,80 @@
+//! The JSON value of a text, and the name of what is wrong with it.
+ghost use Rattle.std.specs.Prelude.{◌≡◌, ◌==◌, count_by, drop, nat_lt, Err};
+ghost use Rattle.serde_json.specs.View.{view};
+ghost use Rattle.plan_reader.specs.Faults.{GivesAs};
+ghost use Rattle.plan_reader.specs.PlanTexts.{IsNamed, json_of, value_of};
+
+use crate::faults::cause::Cause;
+use crate::faults::fault::Refusal;
+use crate::faults::placed::here;
+use crate::plan_fault::PlanFault;
+use serde_json::Value;
+use std::alloc::Global;
+use steer_base::List;
+
+/// The most opening braces of a text whose JSON value is made. In memory an object takes up to
+/// 820 bytes, so that no value takes much more than 2 GB.
+const MOST_BRACES: usize = 2_500_000;
+
+/// Whether a text may have so many objects that its JSON value isn't made. No text of a plan has:
+/// there are at most 82 objects in one, and no text of rules: there are at most 4,097.
+fn has_too_many_objects(bytes: &[u8]) -> bool
+    ensures { result ≡ nat_lt 2500000 (count_by (λ byte. byte == 123) bytes.now) }
+{
+    bytes.iter().filter(|byte| **byte == b'{').count() > MOST_BRACES
+}
+
+/// The JSON value of bytes.
+fn value_of(alloc: Global, bytes: &[u8]) -> Result<Value, Refusal>
+    ensures { GivesAs view result (json_of (value_of bytes.now)) }
+{
+    match Value::from_slice(alloc, bytes) {
+        Ok(value) => Ok(value),
+        Err(error) => {
+            if error.is_memory() {
+                return Err(Refusal::Memory);
+            }
+            here(alloc, Err(Cause::NotJson))
+        }
+    }
+}
+
+/// The JSON value of bytes, but for want of memory where the text may have too many objects.
+pub fn bounded_value(alloc: Global, bytes: &[u8]) -> Result<Value, Refusal>
+    ensures { GivesAs view result (json_of (value_of bytes.now)) }
+{
+    if has_too_many_objects(bytes) {
+        return Err(Refusal::Memory);
+    }
+    value_of(alloc, bytes)
+}
+
+/// The path without its first slash.
+fn without_slash(path: List<u8>) -> List<u8>
+    ensures { result ≡ drop 1 path }
+{
+    let mut bytes = path.into_vec();
+    if !bytes.is_empty() {
+        let _slash = bytes.remove(0);
+    }
+    List::from_vec(bytes)
+}
+
+/// A refusal by its name.
+pub fn named(refusal: Refusal) -> PlanFault
+    ensures { IsNamed refusal result }
+{
+    let fault = match refusal {
+        Refusal::Memory => return PlanFault::OutOfMemory,
+        Refusal::Fault(fault) => fault,
+    };
+    let path = without_slash(fault.path);
+    match fault.cause {
+        Cause::NotJson => PlanFault::NotJson,
+        Cause::Missing => PlanFault::Missing { path },
+        Cause::WrongKind => PlanFault::WrongKind { path },
+        Cause::Range(value) => PlanFault::Range { path, value },
+        Cause::UnknownKey => PlanFault::UnknownKey { path },
+        Cause::TooLong(steps) => PlanFault::TooLong { steps },
+    }
+}

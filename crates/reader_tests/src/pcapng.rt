@@ -1,0 +1,301 @@
+//! Files byte by byte, and what they are read as.
+use crate::pieces::{SEGMENT, joined};
+use pcap_reader::{Capture, PcapRecord};
+use pcapng_reader::{
+    NgFault, a_block_is_four_pieces, frames_are_read_back, is_pcapng, one_capture_or_fault,
+    put_enhanced, put_section, read_ng,
+};
+use std::test::Fail;
+
+/// A little-endian section header.
+const SECTION: [u8; 28] = [
+    0x0a, 0x0d, 0x0d, 0x0a, 0x1c, 0, 0, 0, 0x4d, 0x3c, 0x2b, 0x1a, 1, 0, 0, 0, 0xff, 0xff, 0xff,
+    0xff, 0xff, 0xff, 0xff, 0xff, 0x1c, 0, 0, 0,
+];
+
+/// An interface of Ethernet frames, of which it keeps 262,144 bytes.
+const INTERFACE: [u8; 20] = [
+    1, 0, 0, 0, 0x14, 0, 0, 0, 1, 0, 0, 0, 0, 0, 4, 0, 0x14, 0, 0, 0,
+];
+
+/// What stands before a frame of 54 bytes.
+const BEFORE: [u8; 28] = [
+    6, 0, 0, 0, 0x58, 0, 0, 0, 0, 0, 0, 0, 0, 0, 0, 0, 0, 0, 0, 0, 0x36, 0, 0, 0, 0x36, 0, 0, 0,
+];
+
+/// What stands behind it.
+const BEHIND: [u8; 6] = [0, 0, 0x58, 0, 0, 0];
+
+/// A big-endian section header of version 1.9.
+const BIG_SECTION: [u8; 28] = [
+    0x0a, 0x0d, 0x0d, 0x0a, 0, 0, 0, 0x1c, 0x1a, 0x2b, 0x3c, 0x4d, 0, 1, 0, 9, 0xff, 0xff, 0xff,
+    0xff, 0xff, 0xff, 0xff, 0xff, 0, 0, 0, 0x1c,
+];
+
+/// A big-endian interface of Ethernet frames, of which it keeps 3 bytes.
+const BIG_INTERFACE: [u8; 20] = [
+    0, 0, 0, 1, 0, 0, 0, 0x14, 0, 1, 0, 0, 0, 0, 0, 3, 0, 0, 0, 0x14,
+];
+
+type Counts = Result<(usize, Option<u32>), NgFault>;
+
+fn capture_of(rt: &HostRuntime, file: &[u8]) -> Result<Result<Capture, NgFault>, Fail> {
+    if !is_pcapng(file) {
+        return Err("not a pcapng file".into());
+    }
+    Ok(read_ng(rt.alloc(), file))
+}
+
+/// How many records a file has, and how many bytes of a last block that is cut.
+fn counts(rt: &HostRuntime, file: &[u8]) -> Result<Counts, Fail> {
+    Ok(match capture_of(rt, file)? {
+        Ok(capture) => Ok((capture.records.len(), capture.cut)),
+        Err(fault) => Err(fault),
+    })
+}
+
+#[test]
+fn each_prefix_is_read(rt: HostRuntime) -> Result<(), Fail> {
+    let file = joined(
+        rt.alloc(),
+        &[&SECTION, &INTERFACE, &BEFORE, &SEGMENT, &BEHIND],
+    )?;
+    assert_eq!(rt; file.len(), 136);
+    for end in 4..137usize {
+        assert!(rt; end <= file.len());
+        let want = match end {
+            4..=27 => Ok((0, Some(end as u32))),
+            28 | 48 => Ok((0, None)),
+            29..=47 => Ok((0, Some(end as u32 - 28))),
+            49..=135 => Ok((0, Some(end as u32 - 48))),
+            _ => Ok((1, None)),
+        };
+        let got = counts(&rt, &file[..end])?;
+        assert_eq!(rt; got, want, "at {end}");
+    }
+    Ok(())
+}
+
+#[test]
+fn writes_the_file_that_is_read(rt: HostRuntime) -> Result<(), Fail> {
+    let mut file = Vec::new(rt.alloc());
+    put_section(&mut file)?;
+    put_enhanced(&mut file, &SEGMENT)?;
+    let want = joined(
+        rt.alloc(),
+        &[&SECTION, &INTERFACE, &BEFORE, &SEGMENT, &BEHIND],
+    )?;
+    assert_eq!(rt; file.as_slice(), want.as_slice());
+
+    let capture = capture_of(&rt, file.as_slice())?.ok().ok_or("no capture")?;
+    let record = PcapRecord {
+        sec: 0,
+        frac: 0,
+        start: 76,
+        len: 54,
+        orig: 54,
+    };
+    assert_eq!(rt; capture.records.as_slice(), [record].as_slice());
+    assert!(rt; !capture.big && !capture.nano);
+    Ok(())
+}
+
+#[test]
+fn reads_sections_of_both_orders(rt: HostRuntime) -> Result<(), Fail> {
+    // A section with an option, two interfaces, a name resolution block, a packet of the second,
+    // and statistics; a big-endian section with two simple packets; one that keeps whole frames.
+    let file = joined(
+        rt.alloc(),
+        &[
+            &[0x0a, 0x0d, 0x0d, 0x0a, 32, 0, 0, 0, 0x4d, 0x3c, 0x2b, 0x1a],
+            &[1, 0, 0, 0, 0, 0, 0, 0, 0, 0, 0, 0, 0, 0, 0, 0, 32, 0, 0, 0],
+            &[
+                1, 0, 0, 0, 20, 0, 0, 0, 101, 0, 0, 0, 0, 0, 4, 0, 20, 0, 0, 0,
+            ],
+            &INTERFACE,
+            &[4, 0, 0, 0, 16, 0, 0, 0, 9, 9, 9, 9, 16, 0, 0, 0],
+            &[6, 0, 0, 0, 36, 0, 0, 0, 1, 0, 0, 0, 4, 3, 2, 1, 8, 7, 6, 5],
+            &[2, 0, 0, 0, 5, 0, 0, 0, b'a', b'b', 0, 0, 36, 0, 0, 0],
+            &[5, 0, 0, 0, 12, 0, 0, 0, 12, 0, 0, 0],
+            &BIG_SECTION,
+            &BIG_INTERFACE,
+            &[
+                0, 0, 0, 3, 0, 0, 0, 20, 0, 0, 0, 5, b'c', b'd', b'e', 0, 0, 0, 0, 20,
+            ],
+            &[
+                0, 0, 0, 3, 0, 0, 0, 20, 0, 0, 0, 2, b'f', b'g', 0, 0, 0, 0, 0, 20,
+            ],
+            &SECTION,
+            &[1, 0, 0, 0, 20, 0, 0, 0, 1, 0, 0, 0, 0, 0, 0, 0, 20, 0, 0, 0],
+            &[
+                3, 0, 0, 0, 24, 0, 0, 0, 5, 0, 0, 0, b'h', b'i', b'j', b'k', b'l', 0, 0, 0,
+            ],
+            &[24, 0, 0, 0],
+        ],
+    )?;
+    let capture = capture_of(&rt, file.as_slice())?.ok().ok_or("no capture")?;
+    let simple = |start: usize, len: u32, orig: u32| PcapRecord {
+        sec: 0,
+        frac: 0,
+        start,
+        len,
+        orig,
+    };
+    let enhanced = PcapRecord {
+        sec: 0x0102_0304,
+        frac: 0x0506_0708,
+        start: 116,
+        len: 2,
+        orig: 5,
+    };
+    let want = [
+        enhanced,
+        simple(196, 3, 5),
+        simple(216, 2, 2),
+        simple(284, 5, 5),
+    ];
+    assert_eq!(rt; capture.records.as_slice(), want.as_slice());
+    assert_eq!(rt; capture.cut, None);
+    assert!(rt; !capture.big && !capture.nano);
+
+    let big = joined(rt.alloc(), &[&BIG_SECTION, &SECTION])?;
+    let capture = capture_of(&rt, big.as_slice())?.ok().ok_or("no capture")?;
+    assert!(rt; capture.big && capture.records.is_empty());
+    Ok(())
+}
+
+#[test]
+fn names_the_first_fault_of_a_block(rt: HostRuntime) -> Result<(), Fail> {
+    let cases: [(&[u8], Counts); 20] = [
+        (
+            &[0x0a, 0x0d, 0x0d, 0x0a, 13, 0, 0, 0, 0x4e, 0x3c, 0x2b, 0x1a],
+            Err(NgFault::BadOrder { magic: 0x1a2b_3c4e }),
+        ),
+        (
+            &[0x0a, 0x0d, 0x0d, 0x0a, 13, 0, 0, 0, 0x4e, 0x3c, 0x2b],
+            Ok((0, Some(11))),
+        ),
+        (
+            &[9, 0, 0, 0, 13, 0, 0, 0, 0, 0, 0, 0],
+            Err(NgFault::BadBlock { block: 2, len: 13 }),
+        ),
+        (
+            &[9, 0, 0, 0, 8, 0, 0, 0, 8, 0, 0, 0],
+            Err(NgFault::BadBlock { block: 2, len: 8 }),
+        ),
+        (
+            &[0x0a, 0x0d, 0x0d, 0x0a, 24, 0, 0, 0, 0x4d, 0x3c, 0x2b, 0x1a],
+            Err(NgFault::BadBlock { block: 2, len: 24 }),
+        ),
+        (
+            &[1, 0, 0, 0, 16, 0, 0, 0, 0, 0, 0, 0],
+            Err(NgFault::BadBlock { block: 2, len: 16 }),
+        ),
+        (
+            &[6, 0, 0, 0, 28, 0, 0, 0, 0, 0, 0, 0],
+            Err(NgFault::BadBlock { block: 2, len: 28 }),
+        ),
+        (
+            &[3, 0, 0, 0, 12, 0, 0, 0, 12, 0, 0, 0],
+            Err(NgFault::BadBlock { block: 2, len: 12 }),
+        ),
+        (&[9, 0, 0, 0, 16, 0, 0, 0, 16, 0, 0, 0], Ok((0, Some(12)))),
+        (
+            &[9, 0, 0, 0, 12, 0, 0, 0, 16, 0, 0, 0],
+            Err(NgFault::BadTail { block: 2, len: 16 }),
+        ),
+        (
+            &[
+                0x0a, 0x0d, 0x0d, 0x0a, 28, 0, 0, 0, 0x4d, 0x3c, 0x2b, 0x1a, 2, 0, 0, 0, 0, 0, 0,
+                0, 0, 0, 0, 0, 28, 0, 0, 0,
+            ],
+            Err(NgFault::BadMajor { major: 2 }),
+        ),
+        (
+            &[
+                6, 0, 0, 0, 32, 0, 0, 0, 1, 0, 0, 0, 0, 0, 0, 0, 0, 0, 0, 0, 0, 0, 0, 0, 0, 0, 0,
+                0, 32, 0, 0, 0,
+            ],
+            Err(NgFault::BadInterface { block: 2, id: 1 }),
+        ),
+        (
+            &[
+                0x0a, 0x0d, 0x0d, 0x0a, 28, 0, 0, 0, 0x4d, 0x3c, 0x2b, 0x1a, 1, 0, 0, 0, 0, 0, 0,
+                0, 0, 0, 0, 0, 28, 0, 0, 0, 3, 0, 0, 0, 16, 0, 0, 0, 0, 0, 0, 0, 16, 0, 0, 0,
+            ],
+            Err(NgFault::BadInterface { block: 3, id: 0 }),
+        ),
+        (
+            &[
+                1, 0, 0, 0, 20, 0, 0, 0, 101, 0, 0, 0, 0, 0, 0, 0, 20, 0, 0, 0, 6, 0, 0, 0, 32, 0,
+                0, 0, 1, 0, 0, 0, 0, 0, 0, 0, 0, 0, 0, 0, 1, 0, 4, 0, 0, 0, 0, 0, 32, 0, 0, 0,
+            ],
+            Err(NgFault::BadNgLink {
+                block: 3,
+                link: 101,
+            }),
+        ),
+        (
+            &[
+                6, 0, 0, 0, 32, 0, 0, 0, 0, 0, 0, 0, 0, 0, 0, 0, 0, 0, 0, 0, 1, 0, 4, 0, 0, 0, 0,
+                0, 32, 0, 0, 0,
+            ],
+            Err(NgFault::RecordTooLong {
+                at: 0,
+                len: 262_145,
+            }),
+        ),
+        (
+            &[
+                6, 0, 0, 0, 32, 0, 0, 0, 0, 0, 0, 0, 0, 0, 0, 0, 0, 0, 0, 0, 0, 0, 4, 0, 0, 0, 0,
+                0, 32, 0, 0, 0,
+            ],
+            Err(NgFault::BadBlock { block: 2, len: 32 }),
+        ),
+        (
+            &[
+                6, 0, 0, 0, 36, 0, 0, 0, 0, 0, 0, 0, 0, 0, 0, 0, 0, 0, 0, 0, 5, 0, 0, 0, 5, 0, 0,
+                0, 1, 2, 3, 4, 36, 0, 0, 0,
+            ],
+            Err(NgFault::BadBlock { block: 2, len: 36 }),
+        ),
+        (
+            &[3, 0, 0, 0, 16, 0, 0, 0, 1, 0, 0, 0, 16, 0, 0, 0],
+            Err(NgFault::BadBlock { block: 2, len: 16 }),
+        ),
+        (
+            &[3, 0, 0, 0, 16, 0, 0, 0, 0, 0, 0, 0, 16, 0, 0, 0],
+            Ok((1, None)),
+        ),
+        (&[9, 0, 0, 0, 12, 0, 0, 0, 12, 0, 0, 0, 1], Ok((0, Some(1)))),
+    ];
+    for (i, (end, want)) in cases.iter().enumerate() {
+        let file = joined(rt.alloc(), &[&SECTION, &INTERFACE, end])?;
+        let got = counts(&rt, file.as_slice())?;
+        assert_eq!(rt; got, *want, "case {i}");
+    }
+    Ok(())
+}
+
+#[test]
+fn counts_at_most_262144_packets(rt: HostRuntime) -> Result<(), Fail> {
+    let mut file = Vec::new(rt.alloc());
+    put_section(&mut file)?;
+    for _ in 0..262_144u32 {
+        put_enhanced(&mut file, &[])?;
+    }
+    file.extend_from_slice(&SECTION)?;
+    assert_eq!(rt; counts(&rt, file.as_slice())?, Ok((262_144, None)));
+    file.extend_from_slice(&[3, 0, 0, 0, 16, 0, 0, 0, 1, 0, 0, 0, 16, 0, 0])?;
+    assert_eq!(rt; counts(&rt, file.as_slice())?, Ok((262_144, Some(15))));
+    file.push(0)?;
+    assert_eq!(rt; counts(&rt, file.as_slice())?, Err(NgFault::TooManyPackets));
+    Ok(())
+}
+
+#[test]
+fn laws_may_be_called() {
+    one_capture_or_fault();
+    a_block_is_four_pieces();
+    frames_are_read_back();
+}

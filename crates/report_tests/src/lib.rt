@@ -1,0 +1,21 @@
+//! Tests of histories and their lines, of taps, of reports, and of the parts of the machine.
+#![tactic(auto)]
+
+#[cfg(test)]
+mod histories;
+#[cfg(test)]
+mod large;
+#[cfg(test)]
+mod line_buf;
+#[cfg(test)]
+mod packet_lines;
+#[cfg(test)]
+mod parts;
+#[cfg(test)]
+mod places;
+#[cfg(test)]
+mod regular;
+#[cfg(test)]
+mod reports;
+#[cfg(test)]
+mod tap_texts;

@@ -1,0 +1,186 @@
+//! Texts of the three kinds, and taps of the tests that count their drops.
+ghost use Rattle.std.specs.Prelude.{◌≡◌, length};
+
+use crate::histories::{PLAIN, SEGMENT, lines_of, none, received};
+use history::{Lines, PacketLine, Place, Via};
+use std::alloc::Global;
+use std::cell::Cell;
+use std::process::Abort;
+use std::rc::Rc;
+use std::test::Fail;
+use steer_base::{AppId, Choice, Cpu, Detach, DropCause, OutOfMemory, PacketId, Put, RxQueue};
+use taps::{Depth, PerCpu, PerFlow, Tap, TapText, feed};
+
+// The line of a packet that waits in its ring.
+fn in_ring(flow_number: u32) -> PacketLine {
+    PacketLine {
+        id: PacketId(0),
+        queue: RxQueue(0),
+        via: Via::Reta,
+        choice: None,
+        put: None,
+        app: AppId(0),
+        inbox: None,
+        place: Place::Ring,
+        flow_number,
+    }
+}
+
+// The line of a packet that was put to a lane.
+fn line(flow_number: u32, lane: u8, put: Put) -> PacketLine {
+    PacketLine {
+        choice: Some(Choice { lane, ..PLAIN }),
+        put: Some(put),
+        place: Place::Backlog(Cpu(lane)),
+        ..in_ring(flow_number)
+    }
+}
+
+fn text_after<T: Tap>(mut tap: T, lines: &[PacketLine]) -> Result<TapText, OutOfMemory> {
+    for line in lines {
+        tap.note(line)?;
+    }
+    tap.finish()
+}
+
+#[test]
+fn each_kind_gives_its_text(rt: HostRuntime) -> Result<(), Fail> {
+    let alloc = rt.alloc();
+    let lines = [
+        line(0, 1, Put::At(1)),
+        line(0, 1, Put::At(2)),
+        line(0, 1, Put::At(3)),
+        line(0, 2, Put::At(1)),
+    ];
+    let text = text_after(PerCpu::make(alloc), &lines[..2])?;
+    assert_eq!(rt; text.bytes.as_slice(), b"cpu 1 packets 2\n".as_slice());
+    let text = text_after(PerFlow::make(alloc), &lines)?;
+    assert_eq!(rt; text.bytes.as_slice(), b"flow 0 packets 4\n".as_slice());
+    let text = text_after(Depth::make(alloc), &lines)?;
+    assert_eq!(rt;
+        text.bytes.as_slice(),
+        b"depth cpu 1 at 3\ndepth cpu 2 at 1\n".as_slice()
+    );
+    Ok(())
+}
+
+#[test]
+fn drops_waiting_packets_and_wrapped_positions(rt: HostRuntime) -> Result<(), Fail> {
+    let alloc = rt.alloc();
+    let dropped = Put::Dropped {
+        number: 1,
+        accepted: 1,
+        pulled: 0,
+        cause: DropCause::Full,
+    };
+    let lines = [
+        line(7, 1, Put::At(4294967295)),
+        line(0, 2, Put::At(4294967295)),
+        line(7, 1, Put::At(0)),
+        line(7, 0, dropped),
+        line(7, 1, Put::At(1)),
+        in_ring(3),
+    ];
+    let text = text_after(PerCpu::make(alloc), &lines)?;
+    assert_eq!(rt;
+        text.bytes.as_slice(),
+        b"cpu 0 packets 1\ncpu 1 packets 3\ncpu 2 packets 1\n".as_slice()
+    );
+    let text = text_after(PerFlow::make(alloc), &lines)?;
+    assert_eq!(rt;
+        text.bytes.as_slice(),
+        b"flow 7 packets 4\nflow 0 packets 1\nflow 3 packets 1\n".as_slice()
+    );
+    let text = text_after(Depth::make(alloc), &lines)?;
+    assert_eq!(rt;
+        text.bytes.as_slice(),
+        b"depth cpu 1 at 1\ndepth cpu 2 at 4294967295\n".as_slice()
+    );
+    Ok(())
+}
+
+// A tap that counts its lines and its drops, and finds no memory for a line of this number.
+struct Counting {
+    alloc: Global,
+    lines: Rc<Cell<u32>>,
+    drops: Rc<Cell<u32>>,
+    failing: u32,
+}
+
+impl Drop for Counting {
+    fn drop(self) {
+        let Counting {
+            alloc: _,
+            lines: _,
+            drops,
+            failing: _,
+        } = self;
+        drops.set(drops.get().wrapping_add(1));
+    }
+}
+
+impl Tap for Counting {
+    ghost use Rattle.std.specs.Prelude.{[]};
+
+    ghost text = { λ tap lines. [] };
+
+    fn note(&mut self, _: &PacketLine) -> Result<(), OutOfMemory> {
+        self.lines.set(self.lines.get().wrapping_add(1));
+        if self.lines.get() == self.failing {
+            Err(OutOfMemory)
+        } else {
+            Ok(())
+        }
+    }
+
+    fn finish(&mut self) -> Result<TapText, OutOfMemory> {
+        Ok(TapText {
+            bytes: Vec::new(self.alloc),
+        })
+    }
+}
+
+// The lines of three packets that wait in the ring of their queue.
+fn three_lines(rt: &impl Abort, alloc: Global) -> Lines
+    ensures { length result.packets ≡ 3 }
+{
+    let h = received(rt, alloc, &[0; 3], &[], none(alloc), &[]);
+    let lines = lines_of(rt, alloc, &h, &[SEGMENT; 3], 1);
+    assert_eq!(rt; lines.len(), 3);
+    lines
+}
+
+#[test]
+fn every_tap_is_dropped_once(rt: HostRuntime) -> Result<(), Fail> {
+    let alloc = rt.alloc();
+    let lines = three_lines(&rt, alloc);
+    let detach = [
+        Detach { tap: 0, after: 2 },
+        Detach { tap: 0, after: 1 },
+        Detach { tap: 9, after: 0 },
+    ];
+    // The number of the line for which the second tap finds no memory, and how many lines the two
+    // taps see.
+    for (failing, first, second) in [(9, 1, 3), (2, 1, 2)] {
+        let drops = Rc::new(alloc, Cell::new(0))?;
+        let seen = [Rc::new(alloc, Cell::new(0))?, Rc::new(alloc, Cell::new(0))?];
+        let mut taps = Vec::new(alloc);
+        for (i, lines) in seen.iter().enumerate() {
+            let tap: Box<dyn Tap> = Box::new(
+                alloc,
+                Counting {
+                    alloc,
+                    lines: lines.clone()?,
+                    drops: drops.clone()?,
+                    failing: if i == 1 { failing } else { 0 },
+                },
+            )?;
+            taps.push(tap)?;
+        }
+        let answer = feed(alloc, taps, &lines, 3, &detach);
+        assert_eq!(rt; answer.is_ok(), failing == 9);
+        assert_eq!(rt; drops.get(), 2);
+        assert_eq!(rt; (seen[0].get(), seen[1].get()), (first, second));
+    }
+    Ok(())
+}

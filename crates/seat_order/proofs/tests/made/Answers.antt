@@ -1,6 +1,0 @@
-use Rattle.std.proofs.Common.{[], refl}
-use Rattle.seat_order.proofs.Views.{views_open}
-use Rattle.seat_order.proofs.tests.made.Goals as goal
-
-pub of_words-requires : goal.of_words-requires
-of_words-requires c = record { order = []; lawfully = refl; views_are = views_open 3 }

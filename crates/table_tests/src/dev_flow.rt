@@ -1,0 +1,254 @@
+//! Tables that are asked and told as a queue does with its packets.
+ghost use Rattle.std.specs.Prelude.{◌≡◌};
+ghost use Rattle.dev_flow_table.specs.Tables.{IsClassOf};
+
+use dev_flow_table::DevTable;
+use std::process::Abort;
+use std::test::Fail;
+use steer_base::{Choice, CpuMask, Why};
+
+// The hashes of the flow 66.9.149.187:2794 to 161.142.100.80:1766 and of its neighbour in
+// Microsoft's vectors, both TCP.
+const FIRST: u32 = 0x51cc_c178;
+
+const SECOND: u32 = 0xc626_b0ea;
+
+const ALL: CpuMask = CpuMask(0b1111);
+
+const WITHOUT_1: CpuMask = CpuMask(0b1101);
+
+// A packet that comes to a queue, what is seen for it, and what has to be chosen.
+#[derive(Clone, Copy)]
+struct Turn {
+    hash: u32,
+    want: Option<u8>,
+    desired: u8,
+    heads: [u32; 4],
+    online: CpuMask,
+    head: Option<u32>,
+    tail: u32,
+    lane: u8,
+    why: Why,
+    position: u32,
+}
+
+// What a caller does: it looks at the head of the current lane where that lane is online and not
+// the desired one.
+fn weigh(table: &mut DevTable, class: u32, turn: Turn) -> Choice
+    requires { IsClassOf table.old (Some class) }
+    ensures { table.new.exact ≡ table.old.exact }
+{
+    let current = table.current(class);
+    let seen = match current {
+        Some(lane) if lane != turn.desired && turn.online.has(lane) => {
+            Some(*turn.heads.get(lane as usize).unwrap_or(&0))
+        }
+        _ => None,
+    };
+    let choice = table.weigh(Some(class), turn.want, turn.desired, seen, turn.online);
+    table.accepted(class, turn.position);
+    choice
+}
+
+fn play(rt: &impl Abort, table: &mut DevTable, turns: &[Turn]) -> Result<(), Fail>
+    ensures { table.new.exact ≡ table.old.exact }
+{
+    for (at, turn) in turns.iter().enumerate() {
+        let class = table.class(Some(turn.hash)).ok_or("a class")?;
+        let choice = weigh(table, class, *turn);
+        assert_eq!(rt; choice.class, Some(class), "turn {at}");
+        assert_eq!(rt; choice.want, turn.want, "turn {at}");
+        assert_eq!(rt; choice.head, turn.head, "turn {at}");
+        assert_eq!(rt; choice.tail, Some(turn.tail), "turn {at}");
+        assert_eq!(rt; choice.lane, turn.lane, "turn {at}");
+        assert_eq!(rt; choice.why, turn.why, "turn {at}");
+    }
+    Ok(())
+}
+
+#[test]
+fn two_flows_of_one_class_move_together(rt: HostRuntime) -> Result<(), Fail> {
+    let mut table = DevTable::make(rt.alloc(), 2, 0)?;
+    assert_eq!(rt; table.class(None), None);
+    let turn = Turn {
+        hash: FIRST,
+        want: None,
+        desired: 1,
+        heads: [0; 4],
+        online: ALL,
+        head: None,
+        tail: 0,
+        lane: 1,
+        why: Why::Unset,
+        position: 1,
+    };
+    let to_2 = Turn {
+        hash: SECOND,
+        want: Some(2),
+        desired: 2,
+        ..turn
+    };
+    let turns = [
+        turn,
+        Turn {
+            head: Some(0),
+            tail: 1,
+            why: Why::Kept,
+            position: 2,
+            ..to_2
+        },
+        Turn {
+            heads: [0, 2, 0, 0],
+            head: Some(2),
+            tail: 2,
+            lane: 2,
+            why: Why::Passed,
+            ..to_2
+        },
+        Turn {
+            heads: [0, 2, 0, 0],
+            head: Some(0),
+            tail: 1,
+            lane: 2,
+            why: Why::Kept,
+            position: 2,
+            ..turn
+        },
+    ];
+    play(&rt, &mut table, &turns)
+}
+
+#[test]
+fn a_flow_moves_across_the_wrap_of_the_counters(rt: HostRuntime) -> Result<(), Fail> {
+    let start = 4294967294;
+    let mut table = DevTable::make(rt.alloc(), 1, start)?;
+    let turn = Turn {
+        hash: FIRST,
+        want: None,
+        desired: 1,
+        heads: [start; 4],
+        online: ALL,
+        head: None,
+        tail: start,
+        lane: 1,
+        why: Why::Unset,
+        position: 4294967295,
+    };
+    let to_2 = Turn {
+        want: Some(2),
+        desired: 2,
+        head: Some(start),
+        why: Why::Kept,
+        ..turn
+    };
+    let turns = [
+        turn,
+        Turn {
+            tail: 4294967295,
+            position: 0,
+            ..to_2
+        },
+        Turn {
+            tail: 0,
+            position: 1,
+            ..to_2
+        },
+        Turn {
+            heads: [0, 1, 0, 0],
+            head: Some(1),
+            tail: 1,
+            lane: 2,
+            why: Why::Passed,
+            ..to_2
+        },
+    ];
+    play(&rt, &mut table, &turns)?;
+    table.resize(3);
+    assert_eq!(rt;
+        table.class(Some(7)),
+        Some(3),
+        "three classes are rounded up to four"
+    );
+    play(&rt, &mut table, &[Turn { hash: 7, ..turn }])
+}
+
+#[test]
+fn a_class_leaves_an_offline_lane(rt: HostRuntime) -> Result<(), Fail> {
+    let mut table = DevTable::make(rt.alloc(), 1, 0)?;
+    let turn = Turn {
+        hash: FIRST,
+        want: None,
+        desired: 1,
+        heads: [0, 1, 0, 0],
+        online: ALL,
+        head: None,
+        tail: 0,
+        lane: 1,
+        why: Why::Unset,
+        position: 1,
+    };
+    let turns = [
+        turn,
+        Turn {
+            desired: 0,
+            online: WITHOUT_1,
+            tail: 1,
+            lane: 0,
+            why: Why::Offline,
+            ..turn
+        },
+        Turn {
+            desired: 0,
+            tail: 1,
+            lane: 0,
+            why: Why::Same,
+            position: 2,
+            ..turn
+        },
+    ];
+    play(&rt, &mut table, &turns)
+}
+
+#[test]
+fn a_flow_of_replies_changes_its_queue(rt: HostRuntime) -> Result<(), Fail> {
+    let mut table = DevTable::make_exact(rt.alloc(), 3, 0)?;
+    let turn = Turn {
+        hash: 2,
+        want: Some(0),
+        desired: 0,
+        heads: [0; 4],
+        online: ALL,
+        head: None,
+        tail: 0,
+        lane: 0,
+        why: Why::Unset,
+        position: 1,
+    };
+    let to_1 = Turn {
+        want: Some(1),
+        desired: 1,
+        ..turn
+    };
+    let turns = [
+        turn,
+        Turn {
+            head: Some(0),
+            tail: 1,
+            why: Why::Kept,
+            position: 2,
+            ..to_1
+        },
+        Turn {
+            heads: [2, 0, 0, 0],
+            head: Some(2),
+            tail: 2,
+            lane: 1,
+            why: Why::Passed,
+            ..to_1
+        },
+    ];
+    play(&rt, &mut table, &turns)?;
+    assert_eq!(rt; table.class(Some(3)), Some(0), "three classes stay three");
+    assert_eq!(rt; table.weigh(None, Some(1), 2, None, ALL).why, Why::Plain);
+    Ok(())
+}

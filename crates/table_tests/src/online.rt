@@ -1,0 +1,99 @@
+//! Which commands are refused, and which lanes a command affects.
+use hotplug::{Online, affected};
+use steer_base::{AppId, Command, Cpu, CpuMask, Refused, RxQueue, TxQueue, User};
+
+#[test]
+fn commands_are_refused(rt: HostRuntime) {
+    let all = Online {
+        mask: CpuMask(0b1111),
+    };
+    let without_2 = Online {
+        mask: CpuMask(0b1011),
+    };
+    let home = [Cpu(0)];
+    let cases = [
+        // Processor 0 is home to queue 0, and application 0 stands on processor 2.
+        (
+            all,
+            Command::Offline(Cpu(0)),
+            2,
+            Err(Refused::CpuInUse(User::Queue(RxQueue(0)))),
+        ),
+        (
+            all,
+            Command::Offline(Cpu(2)),
+            2,
+            Err(Refused::CpuInUse(User::App(AppId(0)))),
+        ),
+        (all, Command::Stand(AppId(0), Cpu(3)), 2, Ok(())),
+        // It stands on processor 3 now.
+        (all, Command::Offline(Cpu(2)), 3, Ok(())),
+        // Processor 2 is offline now.
+        (
+            without_2,
+            Command::Offline(Cpu(2)),
+            3,
+            Err(Refused::CpuOffline),
+        ),
+        (
+            without_2,
+            Command::Stand(AppId(0), Cpu(2)),
+            3,
+            Err(Refused::CpuOffline),
+        ),
+        (
+            without_2,
+            Command::Online(Cpu(3)),
+            3,
+            Err(Refused::AlreadyOnline),
+        ),
+        (without_2, Command::Online(Cpu(2)), 3, Ok(())),
+        (without_2, Command::XCpus(TxQueue(0), CpuMask(0)), 3, Ok(())),
+    ];
+    for (online, command, stand, wanted) in cases {
+        assert_eq!(rt;
+            online.may(&command, &home, &[Cpu(stand)]),
+            wanted,
+            "{command:?}"
+        );
+    }
+    // The lowest queue is named before an application, and the lowest application.
+    let homes = [Cpu(0), Cpu(1), Cpu(1)];
+    let stands = [Cpu(3), Cpu(2), Cpu(1), Cpu(2)];
+    assert_eq!(rt;
+        all.may(&Command::Offline(Cpu(1)), &homes, &stands),
+        Err(Refused::CpuInUse(User::Queue(RxQueue(1))))
+    );
+    assert_eq!(rt;
+        all.may(&Command::Offline(Cpu(2)), &homes, &stands),
+        Err(Refused::CpuInUse(User::App(AppId(1))))
+    );
+}
+
+#[test]
+fn commands_affect_lanes(rt: HostRuntime) {
+    let homes = [Cpu(3), Cpu(0), Cpu(3)];
+    let cases = [
+        (Command::Mask(RxQueue(1), CpuMask(1)), 0b1111u32),
+        (Command::Flows(RxQueue(1), 2), 0b1111),
+        (Command::Sock(2), 0b1111),
+        (Command::Offline(Cpu(2)), 0b100),
+        (Command::Online(Cpu(2)), 0b1001),
+        (Command::XCpus(TxQueue(1), CpuMask(1)), 0b11),
+        (Command::XQueues(TxQueue(1), 1), 0b11),
+        (Command::Reta(5, RxQueue(1)), 0),
+        (Command::Stand(AppId(0), Cpu(1)), 0),
+        (Command::Expire, 0),
+    ];
+    for (command, wanted) in cases {
+        assert_eq!(rt;
+            affected(&command, &homes, 4, 2),
+            CpuMask(wanted),
+            "{command:?}"
+        );
+    }
+    assert_eq!(rt;
+        affected(&Command::Sock(1), &homes, 32, 1),
+        CpuMask(0xffff_ffff)
+    );
+}

@@ -1,0 +1,46 @@
+//! The choice of a processor by a mask.
+use rps_map::rps_choice;
+use steer_base::{Cpu, CpuMask};
+
+const ALL: CpuMask = CpuMask(0xffff_ffff);
+
+#[test]
+fn a_hash_chooses_among_the_members(rt: HostRuntime) {
+    // Port hashes of published verification frames; the index is the hash mod 3.
+    let cases = [
+        (0x51cc_c178u32, 2u8),
+        (0xc626_b0ea, 2),
+        (0x5c2b_394a, 3),
+        (0xafc7_327f, 3),
+        (0x10e8_28a2, 1),
+    ];
+    for (hash, wanted) in cases {
+        assert_eq!(rt;
+            rps_choice(CpuMask(0b1110), Some(hash), ALL, Cpu(0)),
+            Cpu(wanted),
+            "{hash}"
+        );
+    }
+}
+
+#[test]
+fn the_home_stays_without_a_choice(rt: HostRuntime) {
+    let cases = [
+        // An empty mask.
+        (0u32, Some(0x51cc_c178u32), 0xffff_ffffu32, 0u8, 0u8),
+        (0, Some(7), 0xffff_ffff, 5, 5),
+        // No hash.
+        (0b1110, None, 0xffff_ffff, 0, 0),
+        // The processor at the index is offline, and no other one of the mask is taken.
+        (0b1110, Some(0x51cc_c178), 0b1011, 0, 0),
+        // The highest processor.
+        (0x8000_0001, Some(1), 0xffff_ffff, 4, 31),
+    ];
+    for (mask, hash, online, home, wanted) in cases {
+        assert_eq!(rt;
+            rps_choice(CpuMask(mask), hash, CpuMask(online), Cpu(home)),
+            Cpu(wanted),
+            "{mask} {hash:?}"
+        );
+    }
+}
