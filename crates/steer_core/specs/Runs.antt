@@ -8,7 +8,7 @@ use Rattle.plan_reader.specs.Plans.{step_count}
 use Rattle.plan_reader.specs.declared.plan.Plan.{Plan}
 use Rattle.steer_parts.specs.Machine.{Machine}
 use Rattle.steer_parts.specs.Start.{new_machine}
-use Rattle.steer_parts.specs.Whole.{after, step}
+use Rattle.steer_parts.specs.Whole.{step}
 use Rattle.steer_core.specs.Running.{Running}
 
 -- a machine, how many steps it made, and the most that it may make
@@ -22,12 +22,9 @@ abbrev pub new_run : Plan → List Packet → Option ℕ → Run
 new_run plan packets cut =
     record { machine = new_machine plan packets cut; made = 0; steps = step_count plan }
 
--- the run after a step, and after steps in a row
+-- the run after a step
 abbrev pub stepped : Run → Step → Run
 stepped r s = record r { machine = (step r.machine s).0; made = r.made + 1 }
-
-abbrev pub stepped_all : List Step → Run → Run
-stepped_all ss r = record r { machine = after ss r.machine; made = r.made + length ss }
 
 -- The lists of commands and of writes are no longer than the steps that were made allow: a step
 -- gives one command at most, and each write is that of a step or goes before a reply. So what was
