@@ -1,0 +1,118 @@
+-- What holds of the machine after every step beside what it is held by: all that its history says
+-- of choices, of what they saw, of writes and of commands.
+use Rattle.std.proofs.Common.{ℕ, ◌≡◌, List, None, length, refl, ap, ◌∙◌, sym, subst}
+use Rattle.std.specs.List.{AllPass}
+use Rattle.std.proofs.lemmas.List.{length-replicate}
+use Rattle.history.specs.declared.history.History.{History}
+use Rattle.hop_core.specs.Hop.{Fixed, choices_of}
+use Rattle.plan_reader.specs.Plans.{sizes_of}
+use Rattle.plan_reader.specs.Ranges.{step_is_within}
+use Rattle.steer_base.specs.declared.step.Step.{Step}
+use Rattle.steer_parts.specs.GoodChoices.{HeadsAreRising, HeadsRise}
+use Rattle.steer_parts.specs.Inputs.{Input, setup_in}
+use Rattle.steer_parts.specs.Machine.{Machine, history_of, lane_lists}
+use Rattle.steer_parts.specs.Setup.{Setup}
+use Rattle.steer_parts.specs.Start.{fresh_rx, fresh_tx, new_machine, steps_of}
+use Rattle.steer_parts.specs.Steps.{simple}
+use Rattle.steer_parts.specs.Whole.{after}
+use Rattle.steer_laws.specs.Held.{Held}
+use Rattle.steer_laws.specs.HeldLaws.{MayStart}
+use Rattle.steer_laws.specs.Kept.{IsNamed}
+use Rattle.steer_laws.proofs.HeldNew.{held-new}
+use Rattle.steer_laws.proofs.HeldSteps.{held-simple, named-in, plan_steps_within}
+use Rattle.steer_laws.proofs.KeptLemmas.{flow_small}
+use Rattle.steer_laws.proofs.KeptSimple.{goes-simple}
+use Rattle.steer_laws.proofs.NamedLift.{after-keeps}
+use Rattle.steer_good.specs.Always.{Always}
+use Rattle.steer_good.proofs.HeadSteps.{Heads, heads-new, heads-simple}
+use Rattle.steer_good.proofs.Lasts.{Lasts}
+use Rattle.steer_good.proofs.Walks.{lasts-simple}
+
+-- ---- what the plan fixes
+
+pub record Based (i : Input) (m : Machine) : Type 0 where
+  pub setup : m.setup ≡ setup_in i
+  pub rx : m.rx.fixed ≡ (fresh_rx i.plan i.packets).fixed
+  pub tx : m.tx.fixed ≡ (fresh_tx i.plan i.packets).fixed
+  pub filters : length m.filters ≡ i.plan.filters
+
+based-lasts : (i : Input) (m n : Machine) → Lasts m n → Based i m → Based i n
+based-lasts i m n l b =
+    record {
+      setup = l.setup ∙ b.setup;
+      rx = l.rx.fixed ∙ b.rx;
+      tx = l.tx.fixed ∙ b.tx;
+      filters = l.filters ∙ b.filters;
+    }
+
+-- ---- all of it
+
+pub record Explained (i : Input) (m : Machine) : Type 0 where
+  pub held : Held m
+  pub based : Based i m
+  pub heads : Heads m
+
+explained-simple : (i : Input) (m : Machine) (s : Step) → IsNamed (setup_in i) s
+    → Explained i m → Explained i (simple m s).0
+explained-simple i m s named e =
+    let b = e.based in let h = e.held in
+    let here : IsNamed m.setup s = subst (λ (p : Setup). IsNamed p s) (sym b.setup) named in
+    let l = lasts-simple m s h here in
+    let g = held-simple m s here h in
+    record {
+      held = g;
+      based = based-lasts i m (simple m s).0 l b;
+      heads = heads-simple m s h g here e.heads;
+    }
+
+explained-new : (i : Input) → MayStart i.plan i.packets
+    → Explained i (new_machine i.plan i.packets i.cut)
+explained-new i may =
+    record {
+      held = held-new i.plan i.packets i.cut may;
+      based = record {
+        setup = refl;
+        rx = refl;
+        tx = refl;
+        filters = length-replicate i.plan.filters None;
+      };
+      heads = heads-new i;
+    }
+
+explained-after : (i : Input) (ss : List Step) → MayStart i.plan i.packets
+    → AllPass (step_is_within (sizes_of i.plan)) ss
+    → Explained i (after ss (new_machine i.plan i.packets i.cut))
+explained-after i ss may named =
+    let m : Machine = new_machine i.plan i.packets i.cut in
+    let e : Explained i m = explained-new i may in
+    let k = e.held.kept in
+    after-keeps (setup_in i) (Explained i) (λ n w. w.based.setup)
+    (λ x. flow_small (setup_in i) x k.given) (explained-simple i) ss m
+    (named-in i.plan i.packets i.cut ss named) e
+
+-- what an explained machine's history says, that of every replay says
+pub always-by : (P : Input → History → Type 0)
+    → ((i : Input) (m : Machine) → Explained i m → P i (history_of m)) → Always P
+always-by P says =
+    record {
+      runs = λ i ss may named.
+          says i (after ss (new_machine i.plan i.packets i.cut)) (explained-after i ss may named);
+      replays = λ i may.
+          says i (after (steps_of i.plan) (new_machine i.plan i.packets i.cut))
+          (explained-after i (steps_of i.plan) may (plan_steps_within i.plan));
+    }
+
+-- ---- the heads in the words of a history
+
+heads-rise : (i : Input) (m : Machine) → Explained i m → HeadsAreRising (history_of m)
+heads-rise i m e =
+    let b = e.based in let h = e.heads in
+    let start : m.tx.fixed.start ≡ m.rx.fixed.start =
+    ap (λ (f : Fixed). f.start) b.tx ∙ sym (ap (λ (f : Fixed). f.start) b.rx) in
+    record {
+      rx = h.rx;
+      tx = λ a. subst (λ n. HeadsRise n (lane_lists m.tx.bare) (choices_of m.tx a)) start (h.tx a);
+    }
+
+pub heads_always_rise : Always (λ i h. HeadsAreRising h)
+heads_always_rise = always-by (λ i h. HeadsAreRising h) heads-rise

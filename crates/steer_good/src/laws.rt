@@ -1,0 +1,9 @@
+//! Laws of the histories that replays make, each the contract of a function that does nothing.
+ghost use Rattle.steer_good.specs.Always.{Always};
+ghost use Rattle.steer_parts.specs.GoodChoices.{HeadsAreRising};
+
+/// Along the choices of a producer, a receive queue or an application, the counts of the heads that
+/// they saw at one lane never fall, and none is over the number that the lane retired.
+pub fn heads_never_fall()
+    ensures { Always (λ i h. HeadsAreRising h) }
+{}
