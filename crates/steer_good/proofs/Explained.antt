@@ -24,8 +24,11 @@ use Rattle.steer_laws.proofs.KeptLemmas.{flow_small}
 use Rattle.steer_laws.proofs.KeptSimple.{goes-simple}
 use Rattle.steer_laws.proofs.NamedLift.{after-keeps}
 use Rattle.steer_good.specs.Always.{Always}
+use Rattle.steer_good.specs.Ruled.{AreChosen}
 use Rattle.steer_good.proofs.HeadSteps.{Heads, heads-new, heads-simple}
 use Rattle.steer_good.proofs.Lasts.{Lasts}
+use Rattle.steer_good.proofs.RuleSteps.{Follows, follows-simple, rules-new, rules-simple}
+use Rattle.steer_good.proofs.Rules.{Rules}
 use Rattle.steer_good.proofs.Walks.{lasts-simple}
 
 -- ---- what the plan fixes
@@ -50,7 +53,9 @@ based-lasts i m n l b =
 pub record Explained (i : Input) (m : Machine) : Type 0 where
   pub held : Held m
   pub based : Based i m
+  pub follows : Follows i m
   pub heads : Heads m
+  pub rules : Rules i m
 
 explained-simple : (i : Input) (m : Machine) (s : Step) → IsNamed (setup_in i) s
     → Explained i m → Explained i (simple m s).0
@@ -62,7 +67,9 @@ explained-simple i m s named e =
     record {
       held = g;
       based = based-lasts i m (simple m s).0 l b;
+      follows = follows-simple i m s h here e.follows;
       heads = heads-simple m s h g here e.heads;
+      rules = rules-simple i m s b.setup e.follows h g here e.rules;
     }
 
 explained-new : (i : Input) → MayStart i.plan i.packets
@@ -76,7 +83,9 @@ explained-new i may =
         tx = refl;
         filters = length-replicate i.plan.filters None;
       };
+      follows = refl;
       heads = heads-new i;
+      rules = rules-new i;
     }
 
 explained-after : (i : Input) (ss : List Step) → MayStart i.plan i.packets
@@ -116,3 +125,17 @@ heads-rise i m e =
 
 pub heads_always_rise : Always (λ i h. HeadsAreRising h)
 heads_always_rise = always-by (λ i h. HeadsAreRising h) heads-rise
+
+-- ---- the choices of receive queues
+
+choices-ruled : (i : Input) (m : Machine) → Explained i m → AreChosen i (history_of m)
+choices-ruled i m e = (
+  λ q. (e.rules q).0,
+  record {
+    prefixes = λ q. (let r = (e.rules q).1 in r.prefixes);
+    each = λ q k lt. (let r = (e.rules q).1 in r.each k lt);
+  },
+)
+
+pub choices_always_ruled : Always AreChosen
+choices_always_ruled = always-by AreChosen choices-ruled

@@ -5,4 +5,7 @@ pub mod Gives
 pub mod Walks
 pub mod Heads
 pub mod HeadSteps
+pub mod Moments
+pub mod Rules
+pub mod RuleSteps
 pub mod Explained

@@ -1,9 +1,16 @@
 //! Laws of the histories that replays make, each the contract of a function that does nothing.
 ghost use Rattle.steer_good.specs.Always.{Always};
+ghost use Rattle.steer_good.specs.Ruled.{AreChosen};
 ghost use Rattle.steer_parts.specs.GoodChoices.{HeadsAreRising};
 
 /// Along the choices of a producer, a receive queue or an application, the counts of the heads that
 /// they saw at one lane never fall, and none is over the number that the lane retired.
 pub fn heads_never_fall()
     ensures { Always (λ i h. HeadsAreRising h) }
+{}
+
+/// Each choice of a receive queue is the migration rule over the entry of its class at its moment,
+/// with the settings after the commands that were given before it.
+pub fn every_choice_is_by_the_rule()
+    ensures { Always AreChosen }
 {}

@@ -1,0 +1,9 @@
+-- What the choices of a history are made by.
+use Rattle.std.specs.Prelude.{ℕ}
+use Rattle.history.specs.declared.history.History.{History}
+use Rattle.steer_parts.specs.GoodChoices.{AreByRule}
+use Rattle.steer_parts.specs.Inputs.{Input}
+
+-- Each choice of each receive queue is by the rule, after some number of commands.
+abbrev pub AreChosen : Input → History → Type 0
+AreChosen i h = (at : ℕ → ℕ → ℕ) × AreByRule i h at
