@@ -29,6 +29,8 @@ use Rattle.steer_good.proofs.HeadSteps.{Heads, heads-new, heads-simple}
 use Rattle.steer_good.proofs.Lasts.{Lasts}
 use Rattle.steer_good.proofs.RuleSteps.{Follows, follows-simple, rules-new, rules-simple}
 use Rattle.steer_good.proofs.Rules.{Rules}
+use Rattle.steer_good.proofs.TxRuleSteps.{tx-rules-new, tx-rules-simple}
+use Rattle.steer_good.proofs.TxRules.{SameStart, TxRules}
 use Rattle.steer_good.proofs.Walks.{lasts-simple}
 
 -- ---- what the plan fixes
@@ -56,6 +58,12 @@ pub record Explained (i : Input) (m : Machine) : Type 0 where
   pub follows : Follows i m
   pub heads : Heads m
   pub rules : Rules i m
+  pub tx_rules : TxRules i m
+
+-- both hops number from one start
+same-start : (i : Input) (m : Machine) → Based i m → SameStart m
+same-start i m b =
+    ap (λ (f : Fixed). f.start) b.tx ∙ sym (ap (λ (f : Fixed). f.start) b.rx)
 
 explained-simple : (i : Input) (m : Machine) (s : Step) → IsNamed (setup_in i) s
     → Explained i m → Explained i (simple m s).0
@@ -70,6 +78,7 @@ explained-simple i m s named e =
       follows = follows-simple i m s h here e.follows;
       heads = heads-simple m s h g here e.heads;
       rules = rules-simple i m s b.setup e.follows h g here e.rules;
+      tx_rules = tx-rules-simple i m s b.setup e.follows (same-start i m b) h g here e.tx_rules;
     }
 
 explained-new : (i : Input) → MayStart i.plan i.packets
@@ -86,6 +95,7 @@ explained-new i may =
       follows = refl;
       heads = heads-new i;
       rules = rules-new i;
+      tx_rules = tx-rules-new i;
     }
 
 explained-after : (i : Input) (ss : List Step) → MayStart i.plan i.packets
@@ -115,9 +125,8 @@ always-by P says =
 
 heads-rise : (i : Input) (m : Machine) → Explained i m → HeadsAreRising (history_of m)
 heads-rise i m e =
-    let b = e.based in let h = e.heads in
-    let start : m.tx.fixed.start ≡ m.rx.fixed.start =
-    ap (λ (f : Fixed). f.start) b.tx ∙ sym (ap (λ (f : Fixed). f.start) b.rx) in
+    let h = e.heads in
+    let start = same-start i m e.based in
     record {
       rx = h.rx;
       tx = λ a. subst (λ n. HeadsRise n (lane_lists m.tx.bare) (choices_of m.tx a)) start (h.tx a);

@@ -8,4 +8,6 @@ pub mod HeadSteps
 pub mod Moments
 pub mod Rules
 pub mod RuleSteps
+pub mod TxRules
+pub mod TxRuleSteps
 pub mod Explained

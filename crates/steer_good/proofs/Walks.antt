@@ -506,7 +506,7 @@ module _ (m : Machine) (h : Held m) (Q : Machine → Type 0) (kinds : Kinds m Q)
 
 -- ---- what lasts through every step
 
-lasts-noted : (m : Machine) (q : ℕ) (x : Note) → Lasts m (noted m q x)
+pub lasts-noted : (m : Machine) (q : ℕ) (x : Note) → Lasts m (noted m q x)
 lasts-noted m q x =
     let l = lasts-self m in
     record {
