@@ -25,6 +25,7 @@ use Rattle.steer_laws.proofs.KeptSimple.{goes-simple}
 use Rattle.steer_laws.proofs.NamedLift.{after-keeps}
 use Rattle.steer_good.specs.Always.{Always}
 use Rattle.steer_good.specs.Ruled.{AreChosen}
+use Rattle.steer_good.proofs.CommandSteps.{Commanding, commanding-new, commanding-simple}
 use Rattle.steer_good.proofs.HeadSteps.{Heads, heads-new, heads-simple}
 use Rattle.steer_good.proofs.Lasts.{Lasts}
 use Rattle.steer_good.proofs.RuleSteps.{Follows, follows-simple, rules-new, rules-simple}
@@ -59,6 +60,7 @@ pub record Explained (i : Input) (m : Machine) : Type 0 where
   pub heads : Heads m
   pub rules : Rules i m
   pub tx_rules : TxRules i m
+  pub commanding : Commanding i m
 
 -- both hops number from one start
 same-start : (i : Input) (m : Machine) → Based i m → SameStart m
@@ -79,6 +81,7 @@ explained-simple i m s named e =
       heads = heads-simple m s h g here e.heads;
       rules = rules-simple i m s b.setup e.follows h g here e.rules;
       tx_rules = tx-rules-simple i m s b.setup e.follows (same-start i m b) h g here e.tx_rules;
+      commanding = commanding-simple i m s b.setup e.follows h here e.commanding;
     }
 
 explained-new : (i : Input) → MayStart i.plan i.packets
@@ -96,6 +99,7 @@ explained-new i may =
       heads = heads-new i;
       rules = rules-new i;
       tx_rules = tx-rules-new i;
+      commanding = commanding-new i;
     }
 
 explained-after : (i : Input) (ss : List Step) → MayStart i.plan i.packets

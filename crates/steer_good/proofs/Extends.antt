@@ -1,6 +1,6 @@
 -- Lists that begin with another list, as a list does that has grown at its end.
-use Rattle.std.proofs.Common.{ℕ, zero, suc, ◌+◌, ◌≤◌, ◌<◌, ◌≡◌, List, [], ◌∷◌, ◌++◌, Option, Some}
-use Rattle.std.proofs.Common.{length, take, refl, ap, ◌∙◌, sym, arith, get_or, set, replicate}
+use Rattle.std.proofs.Common.{ℕ, zero, suc, ◌+◌, ◌≤◌, ◌<◌, ◌≡◌, ◌⊎◌, List, [], ◌∷◌, ◌++◌, Some}
+use Rattle.std.proofs.Common.{length, take, refl, ap, ◌∙◌, sym, arith, get_or, set, replicate, inl, inr}
 use Rattle.std.specs.Prelude.{slice_get}
 use Rattle.std.proofs.lemmas.List.{append-nil, append_assoc, get_or_append_left, length-append}
 use Rattle.std.proofs.lemmas.List.{take-append-le}
@@ -69,3 +69,15 @@ module _ {X : Type 0} where
   blank-at zero i d = refl
   blank-at (suc n) zero d = refl
   blank-at (suc n) (suc i) d = blank-at n i d
+
+  -- an item of a list with one more is one of the list, or the last
+  pub get-either : (xs : List X) (x y : X) (k : ℕ) → slice_get (xs ++ x ∷ []) k ≡ Some y
+      → (slice_get xs k ≡ Some y) ⊎ ((k ≡ length xs) × (x ≡ y))
+  get-either [] x y zero is = inr (refl, cc)
+  get-either [] x y (suc k) is = absurd (cc)
+  get-either (z ∷ zs) x y zero is = inl is
+  get-either (z ∷ zs) x y (suc k) is =
+      elim (get-either zs x y k is) [
+        | inl old ↦ inl old
+        | inr new ↦ inr (ap suc new.0, new.1)
+      ]

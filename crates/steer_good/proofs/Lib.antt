@@ -10,4 +10,6 @@ pub mod Rules
 pub mod RuleSteps
 pub mod TxRules
 pub mod TxRuleSteps
+pub mod CommandAnswers
+pub mod CommandSteps
 pub mod Explained
