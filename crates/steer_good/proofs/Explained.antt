@@ -18,18 +18,21 @@ use Rattle.steer_parts.specs.Whole.{after}
 use Rattle.steer_laws.specs.Held.{Held}
 use Rattle.steer_laws.specs.HeldLaws.{MayStart}
 use Rattle.steer_laws.specs.Kept.{IsNamed}
+use Rattle.steer_laws.specs.DeliveryLaws.{DeliversInOrder}
+use Rattle.steer_laws.proofs.DeliverySteps.{runs_deliver}
 use Rattle.steer_laws.proofs.HeldNew.{held-new}
 use Rattle.steer_laws.proofs.HeldSteps.{held-simple, named-in, plan_steps_within}
 use Rattle.steer_laws.proofs.KeptLemmas.{flow_small}
 use Rattle.steer_laws.proofs.KeptSimple.{goes-simple}
 use Rattle.steer_laws.proofs.NamedLift.{after-keeps}
 use Rattle.steer_good.specs.Always.{Always}
-use Rattle.steer_good.specs.Ruled.{AreChosen}
+use Rattle.steer_good.specs.Ruled.{AreChosen, AreReplied}
 use Rattle.steer_good.proofs.CommandSteps.{Commanding, commanding-new, commanding-simple}
 use Rattle.steer_good.proofs.HeadSteps.{Heads, heads-new, heads-simple}
 use Rattle.steer_good.proofs.Lasts.{Lasts}
 use Rattle.steer_good.proofs.RuleSteps.{Follows, follows-simple, rules-new, rules-simple}
 use Rattle.steer_good.proofs.Rules.{Rules}
+use Rattle.steer_good.proofs.Stood.{AllStood, stood-new, stood-simple}
 use Rattle.steer_good.proofs.TxRuleSteps.{tx-rules-new, tx-rules-simple}
 use Rattle.steer_good.proofs.TxRules.{SameStart, TxRules}
 use Rattle.steer_good.proofs.Walks.{lasts-simple}
@@ -61,6 +64,7 @@ pub record Explained (i : Input) (m : Machine) : Type 0 where
   pub rules : Rules i m
   pub tx_rules : TxRules i m
   pub commanding : Commanding i m
+  pub stood : AllStood i m
 
 -- both hops number from one start
 same-start : (i : Input) (m : Machine) → Based i m → SameStart m
@@ -82,6 +86,7 @@ explained-simple i m s named e =
       rules = rules-simple i m s b.setup e.follows h g here e.rules;
       tx_rules = tx-rules-simple i m s b.setup e.follows (same-start i m b) h g here e.tx_rules;
       commanding = commanding-simple i m s b.setup e.follows h here e.commanding;
+      stood = stood-simple i m s b.setup e.follows e.commanding h here e.stood;
     }
 
 explained-new : (i : Input) → MayStart i.plan i.packets
@@ -100,6 +105,7 @@ explained-new i may =
       rules = rules-new i;
       tx_rules = tx-rules-new i;
       commanding = commanding-new i;
+      stood = stood-new i;
     }
 
 explained-after : (i : Input) (ss : List Step) → MayStart i.plan i.packets
@@ -113,17 +119,22 @@ explained-after i ss may named =
     (λ x. flow_small (setup_in i) x k.given) (explained-simple i) ss m
     (named-in i.plan i.packets i.cut ss named) e
 
--- what an explained machine's history says, that of every replay says
+-- what an explained machine's history says that delivers in order, that of every replay says
 pub always-by : (P : Input → History → Type 0)
-    → ((i : Input) (m : Machine) → Explained i m → P i (history_of m)) → Always P
+    → ((i : Input) (m : Machine) → Explained i m → DeliversInOrder i (history_of m)
+    → P i (history_of m)) → Always P
 always-by P says =
     record {
-      runs = λ i ss may named.
-          says i (after ss (new_machine i.plan i.packets i.cut)) (explained-after i ss may named);
-      replays = λ i may.
-          says i (after (steps_of i.plan) (new_machine i.plan i.packets i.cut))
-          (explained-after i (steps_of i.plan) may (plan_steps_within i.plan));
+      runs = run;
+      replays = λ i may. run i (steps_of i.plan) may (plan_steps_within i.plan);
     }
+  where
+    run : (i : Input) (ss : List Step) → MayStart i.plan i.packets
+        → AllPass (step_is_within (sizes_of i.plan)) ss
+        → P i (history_of (after ss (new_machine i.plan i.packets i.cut)))
+    run i ss may named =
+        says i (after ss (new_machine i.plan i.packets i.cut)) (explained-after i ss may named)
+        (runs_deliver i ss may named)
 
 -- ---- the heads in the words of a history
 
@@ -137,7 +148,7 @@ heads-rise i m e =
     }
 
 pub heads_always_rise : Always (λ i h. HeadsAreRising h)
-heads_always_rise = always-by (λ i h. HeadsAreRising h) heads-rise
+heads_always_rise = always-by (λ i h. HeadsAreRising h) (λ i m e d. heads-rise i m e)
 
 -- ---- the choices of receive queues
 
@@ -151,4 +162,27 @@ choices-ruled i m e = (
 )
 
 pub choices_always_ruled : Always AreChosen
-choices_always_ruled = always-by AreChosen choices-ruled
+choices_always_ruled = always-by AreChosen (λ i m e d. choices-ruled i m e)
+
+-- ---- the replies
+
+replies-ruled : (i : Input) (m : Machine) → Explained i m → DeliversInOrder i (history_of m)
+    → AreReplied i (history_of m)
+replies-ruled i m e d =
+    let h = e.held in let k = h.kept in let r = h.recorded in let t = e.tx_rules in (
+      λ a. (t.each a).0,
+      record {
+        sent = λ a. record {
+          first = k.replied.first a;
+          queue = r.queues a;
+          stood = e.stood a;
+        };
+        prefixes = λ a. (let x = (t.each a).1 in x.prefixes);
+        each = λ a j lt. (let x = (t.each a).1 in x.each j lt);
+        places = d.places;
+        leave = d.leave;
+      },
+    )
+
+pub replies_always_ruled : Always AreReplied
+replies_always_ruled = always-by AreReplied replies-ruled

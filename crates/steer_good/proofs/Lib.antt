@@ -12,4 +12,6 @@ pub mod TxRules
 pub mod TxRuleSteps
 pub mod CommandAnswers
 pub mod CommandSteps
+pub mod Origins
+pub mod Stood
 pub mod Explained

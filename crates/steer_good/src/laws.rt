@@ -1,6 +1,6 @@
 //! Laws of the histories that replays make, each the contract of a function that does nothing.
 ghost use Rattle.steer_good.specs.Always.{Always};
-ghost use Rattle.steer_good.specs.Ruled.{AreChosen};
+ghost use Rattle.steer_good.specs.Ruled.{AreChosen, AreReplied};
 ghost use Rattle.steer_parts.specs.GoodChoices.{HeadsAreRising};
 
 /// Along the choices of a producer, a receive queue or an application, the counts of the heads that
@@ -13,4 +13,11 @@ pub fn heads_never_fall()
 /// with the settings after the commands that were given before it.
 pub fn every_choice_is_by_the_rule()
     ensures { Always AreChosen }
+{}
+
+/// Each choice for a reply is the migration rule with the flow as class and the pick of the maps as
+/// want and as desired transmit queue, with the settings after the commands that were given before
+/// it; each reply keeps a processor where its application stood.
+pub fn every_reply_is_by_the_rule()
+    ensures { Always AreReplied }
 {}
