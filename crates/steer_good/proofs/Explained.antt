@@ -1,6 +1,6 @@
 -- What holds of the machine after every step beside what it is held by: all that its history says
 -- of choices, of what they saw, of writes and of commands.
-use Rattle.std.proofs.Common.{ℕ, ◌≡◌, List, None, length, refl, ap, ◌∙◌, sym, subst}
+use Rattle.std.proofs.Common.{ℕ, ◌≡◌, List, None, length, refl, ap, ◌∙◌, sym, subst, arith}
 use Rattle.std.specs.List.{AllPass}
 use Rattle.std.proofs.lemmas.List.{length-replicate}
 use Rattle.history.specs.declared.history.History.{History}
@@ -8,13 +8,18 @@ use Rattle.hop_core.specs.Hop.{Fixed, choices_of}
 use Rattle.plan_reader.specs.Plans.{sizes_of}
 use Rattle.plan_reader.specs.Ranges.{step_is_within}
 use Rattle.steer_base.specs.declared.step.Step.{Step}
+use Rattle.steer_parts.specs.FilterOrigins.{FiltersAreFrom}
+use Rattle.steer_parts.specs.GoodArrivals.{QueuesAreSeen}
 use Rattle.steer_parts.specs.GoodChoices.{HeadsAreRising, HeadsRise}
 use Rattle.steer_parts.specs.Inputs.{Input, setup_in}
 use Rattle.steer_parts.specs.Machine.{Machine, history_of, lane_lists}
 use Rattle.steer_parts.specs.Setup.{Setup}
 use Rattle.steer_parts.specs.Start.{fresh_rx, fresh_tx, new_machine, steps_of}
 use Rattle.steer_parts.specs.Steps.{simple}
+use Rattle.steer_parts.specs.TableOrigins.{SocketIsWritten}
 use Rattle.steer_parts.specs.Whole.{after}
+use Rattle.steer_parts.proofs.FilterOriginLemmas.{filters_are_from_choices}
+use Rattle.steer_parts.proofs.TableOriginLemmas.{entries_are_written}
 use Rattle.steer_laws.specs.Held.{Held}
 use Rattle.steer_laws.specs.HeldLaws.{MayStart}
 use Rattle.steer_laws.specs.Kept.{IsNamed}
@@ -30,8 +35,11 @@ use Rattle.steer_good.specs.Ruled.{AreChosen, AreReplied}
 use Rattle.steer_good.proofs.CommandSteps.{Commanding, commanding-new, commanding-simple}
 use Rattle.steer_good.proofs.HeadSteps.{Heads, heads-new, heads-simple}
 use Rattle.steer_good.proofs.Lasts.{Lasts}
+use Rattle.steer_good.proofs.Looks.{Looking, looking-new, looking-simple}
 use Rattle.steer_good.proofs.RuleSteps.{Follows, follows-simple, rules-new, rules-simple}
 use Rattle.steer_good.proofs.Rules.{Rules}
+use Rattle.steer_good.proofs.Seen.{AllSeen, seen-new, seen-simple}
+use Rattle.steer_good.proofs.Singles.{single}
 use Rattle.steer_good.proofs.Stood.{AllStood, stood-new, stood-simple}
 use Rattle.steer_good.proofs.TxRuleSteps.{tx-rules-new, tx-rules-simple}
 use Rattle.steer_good.proofs.TxRules.{SameStart, TxRules}
@@ -61,10 +69,14 @@ pub record Explained (i : Input) (m : Machine) : Type 0 where
   pub based : Based i m
   pub follows : Follows i m
   pub heads : Heads m
+  pub socket : SocketIsWritten m
+  pub looking : Looking m
   pub rules : Rules i m
   pub tx_rules : TxRules i m
   pub commanding : Commanding i m
   pub stood : AllStood i m
+  pub from : FiltersAreFrom m
+  pub seen : AllSeen i m
 
 -- both hops number from one start
 same-start : (i : Input) (m : Machine) → Based i m → SameStart m
@@ -83,10 +95,14 @@ explained-simple i m s named e =
       based = based-lasts i m (simple m s).0 l b;
       follows = follows-simple i m s h here e.follows;
       heads = heads-simple m s h g here e.heads;
-      rules = rules-simple i m s b.setup e.follows h g here e.rules;
+      socket = single SocketIsWritten entries_are_written.later m s e.socket;
+      looking = looking-simple m s h e.socket here e.looking;
+      rules = rules-simple i m s b.setup e.follows e.looking h g here e.rules;
       tx_rules = tx-rules-simple i m s b.setup e.follows (same-start i m b) h g here e.tx_rules;
       commanding = commanding-simple i m s b.setup e.follows h here e.commanding;
       stood = stood-simple i m s b.setup e.follows e.commanding h here e.stood;
+      from = single FiltersAreFrom filters_are_from_choices.later m s e.from;
+      seen = seen-simple i m s b.setup b.filters e.from e.commanding e.follows h g here e.seen;
     }
 
 explained-new : (i : Input) → MayStart i.plan i.packets
@@ -102,10 +118,15 @@ explained-new i may =
       };
       follows = refl;
       heads = heads-new i;
+      socket = entries_are_written.start i.plan i.packets i.cut
+          (let w = i.plan.within in omega (arith, w.apps_length.at_least));
+      looking = looking-new i;
       rules = rules-new i;
       tx_rules = tx-rules-new i;
       commanding = commanding-new i;
       stood = stood-new i;
+      from = filters_are_from_choices.start i.plan i.packets i.cut;
+      seen = seen-new i;
     }
 
 explained-after : (i : Input) (ss : List Step) → MayStart i.plan i.packets
@@ -153,16 +174,23 @@ heads_always_rise = always-by (λ i h. HeadsAreRising h) (λ i m e d. heads-rise
 -- ---- the choices of receive queues
 
 choices-ruled : (i : Input) (m : Machine) → Explained i m → AreChosen i (history_of m)
-choices-ruled i m e = (
-  λ q. (e.rules q).0,
-  record {
-    prefixes = λ q. (let r = (e.rules q).1 in r.prefixes);
-    each = λ q k lt. (let r = (e.rules q).1 in r.each k lt);
-  },
-)
+choices-ruled i m e =
+    record {
+      at = λ q. (e.rules q).0;
+      choices = record {
+        prefixes = λ q. (let r = (e.rules q).1 in r.prefixes);
+        each = λ q k lt. (let r = (e.rules q).1 in r.each k lt);
+      };
+      wants = λ q k want lt is. (let r = (e.rules q).1 in r.wants k want lt is);
+    }
 
 pub choices_always_ruled : Always AreChosen
 choices_always_ruled = always-by AreChosen (λ i m e d. choices-ruled i m e)
+
+-- ---- the queues of arrivals
+
+pub queues_always_seen : Always QueuesAreSeen
+queues_always_seen = always-by QueuesAreSeen (λ i m e d. e.seen)
 
 -- ---- the replies
 

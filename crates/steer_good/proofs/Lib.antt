@@ -5,6 +5,8 @@ pub mod Gives
 pub mod Walks
 pub mod Heads
 pub mod HeadSteps
+pub mod Singles
+pub mod Looks
 pub mod Moments
 pub mod Rules
 pub mod RuleSteps
@@ -14,4 +16,5 @@ pub mod CommandAnswers
 pub mod CommandSteps
 pub mod Origins
 pub mod Stood
+pub mod Seen
 pub mod Explained

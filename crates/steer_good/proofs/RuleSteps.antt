@@ -21,6 +21,7 @@ use Rattle.steer_laws.specs.Held.{Held}
 use Rattle.steer_laws.specs.Kept.{IsNamed}
 use Rattle.steer_good.proofs.Extends.{blank-at}
 use Rattle.steer_good.proofs.Lasts.{Given, Lasts, Still}
+use Rattle.steer_good.proofs.Looks.{Looking, LooksAt}
 use Rattle.steer_good.proofs.Moments.{settings-pushed, since-given, then_at}
 use Rattle.steer_good.proofs.Rules.{Ruled, Rules, ruled-chosen, ruled-stays}
 use Rattle.steer_good.proofs.Walks.{new_choice, walk, weighed}
@@ -80,7 +81,7 @@ rules-beside : (i : Input) (m : Machine) (notes : List Note) (t : HopState) → 
     → Rules i (record m { notes = notes; tx = t })
 rules-beside i m notes t old q =
     let r = (old q).1 in
-    ((old q).0, record { prefixes = r.prefixes; each = r.each; since = r.since })
+    ((old q).0, record { prefixes = r.prefixes; each = r.each; wants = r.wants; since = r.since })
 
 rules-given : (i : Input) (m n : Machine) (c : Command) → Held m → Held n
     → Given m c (answer_to m c) n → Rules i m → Rules i n
@@ -103,8 +104,8 @@ rules-given i m n c h g d old q =
 
 rules-weighed : (i : Input) (m : Machine) (q : ℕ) (want : Option ℕ) → m.setup ≡ setup_in i
     → Follows i m → Held m → Held (weighed m q want) → q < length m.setup.homes
-    → Lasts m (weighed m q want) → Rules i m → Rules i (weighed m q want)
-rules-weighed i m q want setup follows h g in' l old p =
+    → LooksAt m q want → Lasts m (weighed m q want) → Rules i m → Rules i (weighed m q want)
+rules-weighed i m q want setup follows h g in' looks l old p =
     let k = h.kept in let j = g.kept in
     let z = k.rx.sizes in let w = k.rx.sound.wide in
     let long : q < length m.rx.choices = omega (arith, in', z.queues, w.choices) in
@@ -113,7 +114,7 @@ rules-weighed i m q want setup follows h g in' l old p =
           let at = (old q).0 in let r = (old q).1 in
           let one : (bt : ℕ → ℕ) × Ruled i (weighed m q want) q bt = (
             then_at (length (choices_of m.rx q)) (length m.commands) at,
-            ruled-chosen i m q want setup follows k.rx.sound j.rx.sound long at l r,
+            ruled-chosen i m q want setup follows k.rx.sound j.rx.sound long looks.from at l r,
           ) in
           subst (λ n. (bt : ℕ → ℕ) × Ruled i (weighed m q want) n bt) (sym e) one
       | inr ne ↦
@@ -127,14 +128,16 @@ rules-weighed i m q want setup follows h g in' l old p =
     ]
 
 pub rules-simple : (i : Input) (m : Machine) (s : Step) → m.setup ≡ setup_in i → Follows i m
-    → Held m → Held (simple m s).0 → IsNamed m.setup s → Rules i m → Rules i (simple m s).0
-rules-simple i m s setup follows h g named old =
+    → Looking m → Held m → Held (simple m s).0 → IsNamed m.setup s → Rules i m
+    → Rules i (simple m s).0
+rules-simple i m s setup follows looks h g named old =
     walk m h (λ n. Held n → Rules i n)
     (record {
       quiet = λ n k g. rules-still i m n h g k.still old;
       arrive = λ few k g. rules-still i m _ h g k old;
       look = λ q in' inside more g. rules-beside i m _ m.tx old;
-      weigh = λ q want in' is more l g. rules-weighed i m q want setup follows h g in' l old;
+      weigh = λ q want in' is more l g.
+          rules-weighed i m q want setup follows h g in' (looks q want is) l old;
       write = λ flow hash is some k g. rules-still i m _ h g k old;
       send = λ a x in' is k g. rules-still i m _ h g k old;
       tx_weigh = λ a in' more l g. rules-beside i m m.notes _ old;
@@ -156,6 +159,7 @@ rules-new i q =
           grow = λ k lt. omega arith;
         };
         each = λ k lt. absurd (omega (arith, lt, long));
+        wants = λ k want lt. absurd (omega (arith, lt, long));
         since = blank-at many q 0
             ∙ ap (λ n. since_at [] q (then_at n 0 (λ k. 0)) n) (sym long);
       },

@@ -5,7 +5,7 @@ use Rattle.std.proofs.Common.{sym, subst, arith, inl, inr, unwrap_or}
 use Rattle.std.specs.Prelude.{◌==◌}
 use Rattle.std.proofs.Math.Seq.{take-append_seam}
 use Rattle.std.proofs.lemmas.Bool.{cases_lt}
-use Rattle.steer_base.specs.Choices.{by_entry, desired_cpu, migrate}
+use Rattle.steer_base.specs.Choices.{by_entry, class_of, desired_cpu, migrate}
 use Rattle.steer_base.specs.Counters.{has_reached}
 use Rattle.steer_base.specs.Entries.{entry}
 use Rattle.steer_base.specs.Sets.{has}
@@ -21,16 +21,17 @@ use Rattle.hop_core.specs.Sound.{Sound}
 use Rattle.hop_core.proofs.KeptHeads.{kept_head_decides}
 use Rattle.hop_core.proofs.Lists.{Changed-set, chosen-push_last, length-push}
 use Rattle.history.specs.Lists.{lane_at}
-use Rattle.steer_parts.specs.GoodChoices.{IsByRule, accepted_in}
+use Rattle.steer_parts.specs.GoodChoices.{IsByRule, WasWritten, accepted_in}
 use Rattle.steer_parts.specs.Inputs.{Input, Prefixes, settings_after, settings_at, setup_in}
 use Rattle.steer_parts.specs.Inputs.{since_at}
 use Rattle.steer_parts.specs.Machine.{Machine, history_of, lane_lists}
 use Rattle.steer_parts.specs.Settings.{Settings, class_at, plain_lane}
-use Rattle.steer_parts.specs.Setup.{Setup}
+use Rattle.steer_parts.specs.Setup.{Setup, hash_of}
 use Rattle.steer_parts.specs.Start.{settings_of}
 use Rattle.steer_laws.proofs.Lanes.{lane-is}
 use Rattle.steer_good.proofs.Extends.{extends-get, extends-length}
 use Rattle.steer_good.proofs.Lasts.{Lasts}
+use Rattle.steer_good.proofs.Looks.{WantFrom, was-written-lasts}
 use Rattle.steer_good.proofs.Moments.{settings-all, settings-longer, since-agree, since-chosen}
 use Rattle.steer_good.proofs.Moments.{since-longer, then-before, then-from, then_at}
 use Rattle.steer_good.proofs.Stays.{Stays}
@@ -79,6 +80,14 @@ by_entry-want k want desired tail head online None = refl
 by_entry-want k want desired tail head online (Some lane) =
     want-by k want desired tail lane (head lane) (lane == desired) (not (online lane))
     (has_reached (head lane) tail 0)
+
+-- a want that is set was seen
+migrate-want : (class want : Option ℕ) (desired : ℕ) (entries : ℕ → Entry) (head : ℕ → ℕ)
+    (online : ℕ → Bool) (cpu : ℕ)
+    → (migrate class want desired entries head online).want ≡ Some cpu → want ≡ Some cpu
+migrate-want None want desired entries head online cpu is = absurd (cc)
+migrate-want (Some k) want desired entries head online cpu is =
+    sym (by_entry-want k want desired (entries k).tail head online (entries k).lane) ∙ is
 
 kept-want : (class want : Option ℕ) (online : CpuMask) (rps : ℕ) (entries : ℕ → Entry)
     (head : ℕ → ℕ) (c : Choice)
@@ -135,13 +144,24 @@ rule-stays i m n q k st since h g stays lt old =
     let same = sym (entries-stay m.rx n.rx h g stays q since k lt) in
     ap (λ d. d.choice) here ∙ old ∙ (λ j. ruled (setup_in i) st q (back j) (same j))
 
+-- the want of a choice was written, by the size after so many commands
+abbrev pub WantOf : Input → Machine → ℕ → ℕ → ℕ → ℕ → Type 0
+WantOf i m q k n want =
+    (place : ℕ)
+    × (class_of (settings_at i (history_of m) n).sock
+    (hash_of (setup_in i) (chosen_at (choices_of m.rx q) k).id) ≡ Some place)
+    × WasWritten (history_of m) (record { entry = place; cpu = want })
+
 -- Of a queue, for each of its choices the number of commands that it was made after; each choice is
--- by the rule; and what the hop takes for its recent choices begins at the last resize.
+-- by the rule, with a want that was written; and what the hop takes for its recent choices begins
+-- at the last resize.
 pub record Ruled (i : Input) (m : Machine) (q : ℕ) (at : ℕ → ℕ) : Type 0 where
   pub prefixes : Prefixes (length (choices_of m.rx q)) (length m.commands) at
   pub each : (k : ℕ) → k < length (choices_of m.rx q)
       → IsByRule i (history_of m) q k (settings_at i (history_of m) (at k))
       (since_at m.commands q at k)
+  pub wants : (k want : ℕ) → k < length (choices_of m.rx q)
+      → (chosen_at (choices_of m.rx q) k).choice.want ≡ Some want → WantOf i m q k (at k) want
   pub since : since_of m.rx q
       ≡ since_at m.commands q
       (then_at (length (choices_of m.rx q)) (length m.commands) at)
@@ -170,6 +190,20 @@ module _ (i : Input) (m n : Machine) (h : Sound m.rx) (g : Sound n.rx) (l : Last
       (rule-stays i m n q k (settings_at i (history_of m) (at k)) (since_at m.commands q at k) h g
       l.rx lt (r.each k lt)))
 
+  want-stays : (k want : ℕ) → k < length (choices_of m.rx q)
+      → (chosen_at (choices_of n.rx q) k).choice.want ≡ Some want → WantOf i n q k (at k) want
+  want-stays k want lt is =
+      let here : chosen_at (choices_of n.rx q) k ≡ chosen_at (choices_of m.rx q) k =
+      extends-get (choices_of m.rx q) (choices_of n.rx q) k nobody (l.rx.choices q) lt in
+      let settings : settings_at i (history_of n) (at k) ≡ settings_at i (history_of m) (at k) =
+      settings-longer (settings_of i.plan) m.commands n.commands (at k) l.commands
+      (within k k lt (omega arith)) in
+      let w = r.wants k want lt (ap (λ c. c.choice.want) (sym here) ∙ is) in (
+        w.0,
+        (λ j. class_of (settings j).sock (hash_of (setup_in i) (here j).id)) ∙ w.1,
+        was-written-lasts m n (record { entry = w.0; cpu = want }) l w.2,
+      )
+
   -- where no choice is added
   pub ruled-stays : choices_of n.rx q ≡ choices_of m.rx q
       → since_of n.rx q
@@ -186,6 +220,7 @@ module _ (i : Input) (m n : Machine) (h : Sound m.rx) (g : Sound n.rx) (l : Last
           grow = λ k lt. r.prefixes.grow k (omega (arith, lt, long));
         };
         each = λ k lt. each-stays k (omega (arith, lt, long));
+        wants = λ k want lt. want-stays k want (omega (arith, lt, long));
         since = since
             ∙ ap (λ c. since_at n.commands q (then_at c (length n.commands) at) c) (sym long);
       }
@@ -194,7 +229,8 @@ module _ (i : Input) (m n : Machine) (h : Sound m.rx) (g : Sound n.rx) (l : Last
 
 module _ (i : Input) (m : Machine) (q : ℕ) (want : Option ℕ) (setup : m.setup ≡ setup_in i)
     (follows : m.settings ≡ settings_after (settings_of i.plan) m.commands) (h : Sound m.rx)
-    (g : Sound (weighed m q want).rx) (in' : q < length m.rx.choices) (at : ℕ → ℕ)
+    (g : Sound (weighed m q want).rx) (in' : q < length m.rx.choices)
+    (seen : (cpu : ℕ) → want ≡ Some cpu → WantFrom m (next_of m.rx q) cpu) (at : ℕ → ℕ)
     (l : Lasts m (weighed m q want)) (r : Ruled i m q at) where
   abbrev len : ℕ
   len = length (choices_of m.rx q)
@@ -217,6 +253,9 @@ module _ (i : Input) (m : Machine) (q : ℕ) (want : Option ℕ) (setup : m.setu
       ∙ (let e = length-push (choices_of m.rx q) newest in
       let f : length (choices_of m.rx q ++ newest ∷ []) ≡ suc len = omega (arith, e) in f)
 
+  mine : chosen_at (choices_of (weighed m q want).rx q) len ≡ newest
+  mine = ap (λ cs. chosen_at cs len) grown ∙ chosen-push_last (choices_of m.rx q) newest nobody
+
   -- it is by the rule with the settings in force
   new-rule : IsByRule i (history_of (weighed m q want)) q len m.settings (since_of m.rx q)
   new-rule =
@@ -226,8 +265,6 @@ module _ (i : Input) (m : Machine) (q : ℕ) (want : Option ℕ) (setup : m.setu
       let x : ℕ = next_of s q in
       let entries : ℕ → Entry = entry s.fixed.start (accepted_at s.bare) (recent s q) in
       let class : Option ℕ = class_at m.setup m.settings q x in
-      let mine : chosen_at (choices_of t q) len ≡ newest =
-      ap (λ cs. chosen_at cs len) grown ∙ chosen-push_last (choices_of s q) newest nobody in
       let back : newest ≡ chosen_at (choices_of t q) len = sym mine in
       let front : take len (choices_of t q) ≡ choices_of s q =
       ap (take len) grown ∙ take-append_seam (choices_of s q) (newest ∷ []) in
@@ -251,6 +288,19 @@ module _ (i : Input) (m : Machine) (q : ℕ) (want : Option ℕ) (setup : m.setu
       follows ∙ sym (settings-all (settings_of i.plan) m.commands)
       ∙ ap (λ n. settings_after (settings_of i.plan) (take n m.commands)) (sym last-at)
 
+  -- and its want was written
+  new-want : (cpu : ℕ) → newest.choice.want ≡ Some cpu
+      → WantOf i (weighed m q want) q len (bt len) cpu
+  new-want cpu is =
+      let x : ℕ = next_of m.rx q in
+      let back : newest ≡ chosen_at (choices_of (weighed m q want).rx q) len = sym mine in
+      let e : want ≡ Some cpu = migrate-want (class_at m.setup m.settings q x) want _ _ _ _ cpu is in
+      let w = seen cpu e in (
+        w.0,
+        sym (λ j. class_of (last-settings j).sock (hash_of (setup j) (back j).id)) ∙ w.1,
+        was-written-lasts m (weighed m q want) (record { entry = w.0; cpu = cpu }) l w.2,
+      )
+
   old-at : (k : ℕ) → k < len → bt k ≡ at k
   old-at k lt = then-before len now at k lt
 
@@ -259,6 +309,7 @@ module _ (i : Input) (m : Machine) (q : ℕ) (want : Option ℕ) (setup : m.setu
       record {
         prefixes = record { within = below; grow = grow };
         each = each;
+        wants = wants;
         since = r.since ∙ sym (since-chosen m.commands q len now at (omega arith))
             ∙ ap (λ c. since_at m.commands q (then_at c now bt) c) (sym long);
       }
@@ -314,4 +365,21 @@ module _ (i : Input) (m : Machine) (q : ℕ) (want : Option ℕ) (setup : m.setu
                 (subst
                 (λ from. IsByRule i (history_of (weighed m q want)) q len m.settings from) r.since
                 new-rule))
+          ]
+
+      wants : (k cpu : ℕ) → k < length (choices_of (weighed m q want).rx q)
+          → (chosen_at (choices_of (weighed m q want).rx q) k).choice.want ≡ Some cpu
+          → WantOf i (weighed m q want) q k (bt k) cpu
+      wants k cpu lt is =
+          elim (cases_lt k len) [
+            | inl early ↦
+                subst (λ n. WantOf i (weighed m q want) q k n cpu) (sym (old-at k early))
+                (want-stays i m (weighed m q want) h g l q at r k cpu early is)
+            | inr late ↦
+                let e : k ≡ len = omega (arith, lt, late, long) in
+                subst (λ n. WantOf i (weighed m q want) q n (bt n) cpu) (sym e)
+                (new-want cpu
+                (ap (λ c. c.choice.want) (sym mine)
+                ∙ ap (λ n. (chosen_at (choices_of (weighed m q want).rx q) n).choice.want) (sym e)
+                ∙ is))
           ]

@@ -1,6 +1,7 @@
 //! Laws of the histories that replays make, each the contract of a function that does nothing.
 ghost use Rattle.steer_good.specs.Always.{Always};
 ghost use Rattle.steer_good.specs.Ruled.{AreChosen, AreReplied};
+ghost use Rattle.steer_parts.specs.GoodArrivals.{QueuesAreSeen};
 ghost use Rattle.steer_parts.specs.GoodChoices.{HeadsAreRising};
 
 /// Along the choices of a producer, a receive queue or an application, the counts of the heads that
@@ -9,8 +10,16 @@ pub fn heads_never_fall()
     ensures { Always (λ i h. HeadsAreRising h) }
 {}
 
+/// Each arrival is at the queue of an entry of the redirection table, by the plan or by a done
+/// command, or at that of a filter, which a choice wrote that moved to the home of this queue and
+/// whose packet was accepted there.
+pub fn every_queue_was_seen()
+    ensures { Always QueuesAreSeen }
+{}
+
 /// Each choice of a receive queue is the migration rule over the entry of its class at its moment,
-/// with the settings after the commands that were given before it.
+/// with the settings after the commands that were given before it. A want that it keeps was
+/// written to the socket flow table.
 pub fn every_choice_is_by_the_rule()
     ensures { Always AreChosen }
 {}

@@ -3,4 +3,6 @@
 
 mod laws;
 
-pub use laws::{every_choice_is_by_the_rule, every_reply_is_by_the_rule, heads_never_fall};
+pub use laws::{
+    every_choice_is_by_the_rule, every_queue_was_seen, every_reply_is_by_the_rule, heads_never_fall,
+};
