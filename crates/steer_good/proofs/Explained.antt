@@ -31,8 +31,11 @@ use Rattle.steer_laws.proofs.KeptLemmas.{flow_small}
 use Rattle.steer_laws.proofs.KeptSimple.{goes-simple}
 use Rattle.steer_laws.proofs.NamedLift.{after-keeps}
 use Rattle.steer_good.specs.Always.{Always}
+use Rattle.steer_good.specs.GoodSoFar.{GoodSoFar}
+use Rattle.steer_good.specs.Made.{AreAnswered, WritesAreMade}
 use Rattle.steer_good.specs.Ruled.{AreChosen, AreReplied}
 use Rattle.steer_good.proofs.CommandSteps.{Commanding, commanding-new, commanding-simple}
+use Rattle.steer_good.proofs.CommandWords.{commands-answered}
 use Rattle.steer_good.proofs.HeadSteps.{Heads, heads-new, heads-simple}
 use Rattle.steer_good.proofs.Lasts.{Lasts}
 use Rattle.steer_good.proofs.Looks.{Looking, looking-new, looking-simple}
@@ -44,6 +47,7 @@ use Rattle.steer_good.proofs.Stood.{AllStood, stood-new, stood-simple}
 use Rattle.steer_good.proofs.TxRuleSteps.{tx-rules-new, tx-rules-simple}
 use Rattle.steer_good.proofs.TxRules.{SameStart, TxRules}
 use Rattle.steer_good.proofs.Walks.{lasts-simple}
+use Rattle.steer_good.proofs.Writes.{Written, written-new, written-simple}
 
 -- ---- what the plan fixes
 
@@ -77,6 +81,7 @@ pub record Explained (i : Input) (m : Machine) : Type 0 where
   pub stood : AllStood i m
   pub from : FiltersAreFrom m
   pub seen : AllSeen i m
+  pub written : Written i m
 
 -- both hops number from one start
 same-start : (i : Input) (m : Machine) → Based i m → SameStart m
@@ -103,6 +108,7 @@ explained-simple i m s named e =
       stood = stood-simple i m s b.setup e.follows e.commanding h here e.stood;
       from = single FiltersAreFrom filters_are_from_choices.later m s e.from;
       seen = seen-simple i m s b.setup b.filters e.from e.commanding e.follows h g here e.seen;
+      written = written-simple i m s b.setup e.follows e.commanding h here e.written;
     }
 
 explained-new : (i : Input) → MayStart i.plan i.packets
@@ -127,6 +133,7 @@ explained-new i may =
       stood = stood-new i;
       from = filters_are_from_choices.start i.plan i.packets i.cut;
       seen = seen-new i;
+      written = written-new i;
     }
 
 explained-after : (i : Input) (ss : List Step) → MayStart i.plan i.packets
@@ -214,3 +221,43 @@ replies-ruled i m e d =
 
 pub replies_always_ruled : Always AreReplied
 replies_always_ruled = always-by AreReplied replies-ruled
+
+-- ---- writes and commands
+
+writes-made : (i : Input) (m : Machine) → Explained i m → WritesAreMade i (history_of m)
+writes-made i m e = e.written
+
+pub writes_always_made : Always WritesAreMade
+writes_always_made = always-by WritesAreMade (λ i m e d. writes-made i m e)
+
+answers-allowed : (i : Input) (m : Machine) → Explained i m → AreAnswered i (history_of m)
+answers-allowed i m e =
+    let b = e.based in let h = e.held in
+    commands-answered i m b.setup (same-start i m b) b.filters h.kept e.commanding
+
+pub commands_always_answered : Always AreAnswered
+commands_always_answered = always-by AreAnswered (λ i m e d. answers-allowed i m e)
+
+-- ---- all of it
+
+good-so-far : (i : Input) (m : Machine) → Explained i m → DeliversInOrder i (history_of m)
+    → GoodSoFar i (history_of m)
+good-so-far i m e d =
+    let c = choices-ruled i m e in
+    let r = replies-ruled i m e d in
+    record {
+      at = c.at;
+      tx_at = r.0;
+      queues = e.seen;
+      choices = c.choices;
+      wants = c.wants;
+      heads = heads-rise i m e;
+      drops = d.drops;
+      steered = d.steered;
+      writes = e.written;
+      commands = answers-allowed i m e;
+      replies = r.1;
+    }
+
+pub always_good_so_far : Always GoodSoFar
+always_good_so_far = always-by GoodSoFar good-so-far

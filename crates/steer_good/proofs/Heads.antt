@@ -214,7 +214,7 @@ retired-small s h c =
     let d = h.counts.pulled_first c in
     omega (arith, f, r, a, b, d)
 
-distance-is : (start count : ℕ) → start < 2 ^ 32 → count ≤ 262144
+pub distance-is : (start count : ℕ) → start < 2 ^ 32 → count ≤ 262144
     → distance (number start count) start ≡ count
 distance-is start count s c = omega arith
 

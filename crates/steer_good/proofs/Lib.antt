@@ -17,4 +17,6 @@ pub mod CommandSteps
 pub mod Origins
 pub mod Stood
 pub mod Seen
+pub mod Writes
+pub mod CommandWords
 pub mod Explained

@@ -1,5 +1,7 @@
 //! Laws of the histories that replays make, each the contract of a function that does nothing.
 ghost use Rattle.steer_good.specs.Always.{Always};
+ghost use Rattle.steer_good.specs.GoodSoFar.{GoodSoFar};
+ghost use Rattle.steer_good.specs.Made.{AreAnswered, WritesAreMade};
 ghost use Rattle.steer_good.specs.Ruled.{AreChosen, AreReplied};
 ghost use Rattle.steer_parts.specs.GoodArrivals.{QueuesAreSeen};
 ghost use Rattle.steer_parts.specs.GoodChoices.{HeadsAreRising};
@@ -29,4 +31,22 @@ pub fn every_choice_is_by_the_rule()
 /// it; each reply keeps a processor where its application stood.
 pub fn every_reply_is_by_the_rule()
     ensures { Always AreReplied }
+{}
+
+/// Each write to the socket flow table is that of an application for a packet of its own with a
+/// hash, at the entry that a size of the run gives, with a processor where the application stood.
+pub fn every_write_is_of_a_packet()
+    ensures { Always WritesAreMade }
+{}
+
+/// Each command is refused exactly by the done ones before it, else busy for a lane that was not
+/// empty or somebody who was inside, else done.
+pub fn every_command_is_answered()
+    ensures { Always AreAnswered }
+{}
+
+/// The history of every replay meets each clause of a good history that does not ask that the run
+/// is over.
+pub fn every_replay_is_good_so_far()
+    ensures { Always GoodSoFar }
 {}
