@@ -1,0 +1,263 @@
+-- What holds of the machine after every step beside what it is held by: all that its history says
+-- of choices, of what they saw, of writes and of commands.
+use Rattle.std.proofs.Common.{ℕ, ◌≡◌, List, None, length, refl, ap, ◌∙◌, sym, subst, arith}
+use Rattle.std.specs.List.{AllPass}
+use Rattle.std.proofs.lemmas.List.{length-replicate}
+use Rattle.history.specs.declared.history.History.{History}
+use Rattle.hop_core.specs.Hop.{Fixed, choices_of}
+use Rattle.plan_reader.specs.Plans.{sizes_of}
+use Rattle.plan_reader.specs.Ranges.{step_is_within}
+use Rattle.steer_base.specs.declared.step.Step.{Step}
+use Rattle.steer_parts.specs.FilterOrigins.{FiltersAreFrom}
+use Rattle.steer_parts.specs.GoodArrivals.{QueuesAreSeen}
+use Rattle.steer_parts.specs.GoodChoices.{HeadsAreRising, HeadsRise}
+use Rattle.steer_parts.specs.Inputs.{Input, setup_in}
+use Rattle.steer_parts.specs.Machine.{Machine, history_of, lane_lists}
+use Rattle.steer_parts.specs.Setup.{Setup}
+use Rattle.steer_parts.specs.Start.{fresh_rx, fresh_tx, new_machine, steps_of}
+use Rattle.steer_parts.specs.Steps.{simple}
+use Rattle.steer_parts.specs.TableOrigins.{SocketIsWritten}
+use Rattle.steer_parts.specs.Whole.{after}
+use Rattle.steer_parts.proofs.FilterOriginLemmas.{filters_are_from_choices}
+use Rattle.steer_parts.proofs.TableOriginLemmas.{entries_are_written}
+use Rattle.steer_laws.specs.Held.{Held}
+use Rattle.steer_laws.specs.HeldLaws.{MayStart}
+use Rattle.steer_laws.specs.Kept.{IsNamed}
+use Rattle.steer_laws.specs.DeliveryLaws.{DeliversInOrder}
+use Rattle.steer_laws.proofs.DeliverySteps.{runs_deliver}
+use Rattle.steer_laws.proofs.HeldNew.{held-new}
+use Rattle.steer_laws.proofs.HeldSteps.{held-simple, named-in, plan_steps_within}
+use Rattle.steer_laws.proofs.KeptLemmas.{flow_small}
+use Rattle.steer_laws.proofs.KeptSimple.{goes-simple}
+use Rattle.steer_laws.proofs.NamedLift.{after-keeps}
+use Rattle.steer_good.specs.Always.{Always}
+use Rattle.steer_good.specs.GoodSoFar.{GoodSoFar}
+use Rattle.steer_good.specs.Made.{AreAnswered, WritesAreMade}
+use Rattle.steer_good.specs.Ruled.{AreChosen, AreReplied}
+use Rattle.steer_good.proofs.CommandSteps.{Commanding, commanding-new, commanding-simple}
+use Rattle.steer_good.proofs.CommandWords.{commands-answered}
+use Rattle.steer_good.proofs.HeadSteps.{Heads, heads-new, heads-simple}
+use Rattle.steer_good.proofs.Lasts.{Lasts}
+use Rattle.steer_good.proofs.Looks.{Looking, looking-new, looking-simple}
+use Rattle.steer_good.proofs.RuleSteps.{Follows, follows-simple, rules-new, rules-simple}
+use Rattle.steer_good.proofs.Rules.{Rules}
+use Rattle.steer_good.proofs.Seen.{AllSeen, seen-new, seen-simple}
+use Rattle.steer_good.proofs.Singles.{single}
+use Rattle.steer_good.proofs.Stood.{AllStood, stood-new, stood-simple}
+use Rattle.steer_good.proofs.TxRuleSteps.{tx-rules-new, tx-rules-simple}
+use Rattle.steer_good.proofs.TxRules.{SameStart, TxRules}
+use Rattle.steer_good.proofs.Walks.{lasts-simple}
+use Rattle.steer_good.proofs.Writes.{Written, written-new, written-simple}
+
+-- ---- what the plan fixes
+
+pub record Based (i : Input) (m : Machine) : Type 0 where
+  pub setup : m.setup ≡ setup_in i
+  pub rx : m.rx.fixed ≡ (fresh_rx i.plan i.packets).fixed
+  pub tx : m.tx.fixed ≡ (fresh_tx i.plan i.packets).fixed
+  pub filters : length m.filters ≡ i.plan.filters
+
+based-lasts : (i : Input) (m n : Machine) → Lasts m n → Based i m → Based i n
+based-lasts i m n l b =
+    record {
+      setup = l.setup ∙ b.setup;
+      rx = l.rx.fixed ∙ b.rx;
+      tx = l.tx.fixed ∙ b.tx;
+      filters = l.filters ∙ b.filters;
+    }
+
+-- ---- all of it
+
+pub record Explained (i : Input) (m : Machine) : Type 0 where
+  pub held : Held m
+  pub based : Based i m
+  pub follows : Follows i m
+  pub heads : Heads m
+  pub socket : SocketIsWritten m
+  pub looking : Looking m
+  pub rules : Rules i m
+  pub tx_rules : TxRules i m
+  pub commanding : Commanding i m
+  pub stood : AllStood i m
+  pub from : FiltersAreFrom m
+  pub seen : AllSeen i m
+  pub written : Written i m
+
+-- both hops number from one start
+same-start : (i : Input) (m : Machine) → Based i m → SameStart m
+same-start i m b =
+    ap (λ (f : Fixed). f.start) b.tx ∙ sym (ap (λ (f : Fixed). f.start) b.rx)
+
+explained-simple : (i : Input) (m : Machine) (s : Step) → IsNamed (setup_in i) s
+    → Explained i m → Explained i (simple m s).0
+explained-simple i m s named e =
+    let b = e.based in let h = e.held in
+    let here : IsNamed m.setup s = subst (λ (p : Setup). IsNamed p s) (sym b.setup) named in
+    let l = lasts-simple m s h here in
+    let g = held-simple m s here h in
+    record {
+      held = g;
+      based = based-lasts i m (simple m s).0 l b;
+      follows = follows-simple i m s h here e.follows;
+      heads = heads-simple m s h g here e.heads;
+      socket = single SocketIsWritten entries_are_written.later m s e.socket;
+      looking = looking-simple m s h e.socket here e.looking;
+      rules = rules-simple i m s b.setup e.follows e.looking h g here e.rules;
+      tx_rules = tx-rules-simple i m s b.setup e.follows (same-start i m b) h g here e.tx_rules;
+      commanding = commanding-simple i m s b.setup e.follows h here e.commanding;
+      stood = stood-simple i m s b.setup e.follows e.commanding h here e.stood;
+      from = single FiltersAreFrom filters_are_from_choices.later m s e.from;
+      seen = seen-simple i m s b.setup b.filters e.from e.commanding e.follows h g here e.seen;
+      written = written-simple i m s b.setup e.follows e.commanding h here e.written;
+    }
+
+explained-new : (i : Input) → MayStart i.plan i.packets
+    → Explained i (new_machine i.plan i.packets i.cut)
+explained-new i may =
+    record {
+      held = held-new i.plan i.packets i.cut may;
+      based = record {
+        setup = refl;
+        rx = refl;
+        tx = refl;
+        filters = length-replicate i.plan.filters None;
+      };
+      follows = refl;
+      heads = heads-new i;
+      socket = entries_are_written.start i.plan i.packets i.cut
+          (let w = i.plan.within in omega (arith, w.apps_length.at_least));
+      looking = looking-new i;
+      rules = rules-new i;
+      tx_rules = tx-rules-new i;
+      commanding = commanding-new i;
+      stood = stood-new i;
+      from = filters_are_from_choices.start i.plan i.packets i.cut;
+      seen = seen-new i;
+      written = written-new i;
+    }
+
+explained-after : (i : Input) (ss : List Step) → MayStart i.plan i.packets
+    → AllPass (step_is_within (sizes_of i.plan)) ss
+    → Explained i (after ss (new_machine i.plan i.packets i.cut))
+explained-after i ss may named =
+    let m : Machine = new_machine i.plan i.packets i.cut in
+    let e : Explained i m = explained-new i may in
+    let k = e.held.kept in
+    after-keeps (setup_in i) (Explained i) (λ n w. w.based.setup)
+    (λ x. flow_small (setup_in i) x k.given) (explained-simple i) ss m
+    (named-in i.plan i.packets i.cut ss named) e
+
+-- what an explained machine's history says that delivers in order, that of every replay says
+pub always-by : (P : Input → History → Type 0)
+    → ((i : Input) (m : Machine) → Explained i m → DeliversInOrder i (history_of m)
+    → P i (history_of m)) → Always P
+always-by P says =
+    record {
+      runs = run;
+      replays = λ i may. run i (steps_of i.plan) may (plan_steps_within i.plan);
+    }
+  where
+    run : (i : Input) (ss : List Step) → MayStart i.plan i.packets
+        → AllPass (step_is_within (sizes_of i.plan)) ss
+        → P i (history_of (after ss (new_machine i.plan i.packets i.cut)))
+    run i ss may named =
+        says i (after ss (new_machine i.plan i.packets i.cut)) (explained-after i ss may named)
+        (runs_deliver i ss may named)
+
+-- ---- the heads in the words of a history
+
+heads-rise : (i : Input) (m : Machine) → Explained i m → HeadsAreRising (history_of m)
+heads-rise i m e =
+    let h = e.heads in
+    let start = same-start i m e.based in
+    record {
+      rx = h.rx;
+      tx = λ a. subst (λ n. HeadsRise n (lane_lists m.tx.bare) (choices_of m.tx a)) start (h.tx a);
+    }
+
+pub heads_always_rise : Always (λ i h. HeadsAreRising h)
+heads_always_rise = always-by (λ i h. HeadsAreRising h) (λ i m e d. heads-rise i m e)
+
+-- ---- the choices of receive queues
+
+choices-ruled : (i : Input) (m : Machine) → Explained i m → AreChosen i (history_of m)
+choices-ruled i m e =
+    record {
+      at = λ q. (e.rules q).0;
+      choices = record {
+        prefixes = λ q. (let r = (e.rules q).1 in r.prefixes);
+        each = λ q k lt. (let r = (e.rules q).1 in r.each k lt);
+      };
+      wants = λ q k want lt is. (let r = (e.rules q).1 in r.wants k want lt is);
+    }
+
+pub choices_always_ruled : Always AreChosen
+choices_always_ruled = always-by AreChosen (λ i m e d. choices-ruled i m e)
+
+-- ---- the queues of arrivals
+
+pub queues_always_seen : Always QueuesAreSeen
+queues_always_seen = always-by QueuesAreSeen (λ i m e d. e.seen)
+
+-- ---- the replies
+
+replies-ruled : (i : Input) (m : Machine) → Explained i m → DeliversInOrder i (history_of m)
+    → AreReplied i (history_of m)
+replies-ruled i m e d =
+    let h = e.held in let k = h.kept in let r = h.recorded in let t = e.tx_rules in (
+      λ a. (t.each a).0,
+      record {
+        sent = λ a. record {
+          first = k.replied.first a;
+          queue = r.queues a;
+          stood = e.stood a;
+        };
+        prefixes = λ a. (let x = (t.each a).1 in x.prefixes);
+        each = λ a j lt. (let x = (t.each a).1 in x.each j lt);
+        places = d.places;
+        leave = d.leave;
+      },
+    )
+
+pub replies_always_ruled : Always AreReplied
+replies_always_ruled = always-by AreReplied replies-ruled
+
+-- ---- writes and commands
+
+writes-made : (i : Input) (m : Machine) → Explained i m → WritesAreMade i (history_of m)
+writes-made i m e = e.written
+
+pub writes_always_made : Always WritesAreMade
+writes_always_made = always-by WritesAreMade (λ i m e d. writes-made i m e)
+
+answers-allowed : (i : Input) (m : Machine) → Explained i m → AreAnswered i (history_of m)
+answers-allowed i m e =
+    let b = e.based in let h = e.held in
+    commands-answered i m b.setup (same-start i m b) b.filters h.kept e.commanding
+
+pub commands_always_answered : Always AreAnswered
+commands_always_answered = always-by AreAnswered (λ i m e d. answers-allowed i m e)
+
+-- ---- all of it
+
+good-so-far : (i : Input) (m : Machine) → Explained i m → DeliversInOrder i (history_of m)
+    → GoodSoFar i (history_of m)
+good-so-far i m e d =
+    let c = choices-ruled i m e in
+    let r = replies-ruled i m e d in
+    record {
+      at = c.at;
+      tx_at = r.0;
+      queues = e.seen;
+      choices = c.choices;
+      wants = c.wants;
+      heads = heads-rise i m e;
+      drops = d.drops;
+      steered = d.steered;
+      writes = e.written;
+      commands = answers-allowed i m e;
+      replies = r.1;
+    }
+
+pub always_good_so_far : Always GoodSoFar
+always_good_so_far = always-by GoodSoFar good-so-far

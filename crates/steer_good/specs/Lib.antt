@@ -1,0 +1,4 @@
+pub mod Always
+pub mod Ruled
+pub mod Made
+pub mod GoodSoFar

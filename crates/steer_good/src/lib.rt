@@ -1,0 +1,10 @@
+//! The history of every replay is a good one so far: laws over its definitions alone.
+#![tactic(auto)]
+
+mod laws;
+
+pub use laws::{
+    every_choice_is_by_the_rule, every_command_is_answered, every_queue_was_seen,
+    every_replay_is_good_so_far, every_reply_is_by_the_rule, every_write_is_of_a_packet,
+    heads_never_fall,
+};
