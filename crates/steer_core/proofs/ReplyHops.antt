@@ -52,12 +52,12 @@ weighs s a class want desired online named in' upto more =
     (λ inside. either Q (nat_lt (length (choices_of s a)) (taken_of s a))
     (chose s a (choice_of s a class want desired online), _) (idles s idle.WrongStage)
     (λ some. (
-        let c : Chosen = record { id = next_of s a; choice = choice_of s a class want desired online } in
-        let e : choices_of (chose s a c.choice) a ≡ choices_of s a ++ c ∷ [] =
-        get_or-set_same s.choices a (choices_of s a ++ c ∷ []) [] named in
-        let l : length (choices_of (chose s a c.choice) a) ≡ length (choices_of s a) + 1 =
-        ap length e ∙ length-push (choices_of s a) c in
-        omega (arith, l, upto)))
+    let c : Chosen = record { id = next_of s a; choice = choice_of s a class want desired online } in
+    let e : choices_of (chose s a c.choice) a ≡ choices_of s a ++ c ∷ [] =
+    get_or-set_same s.choices a (choices_of s a ++ c ∷ []) [] named in
+    let l : length (choices_of (chose s a c.choice) a) ≡ length (choices_of s a) + 1 =
+    ap length e ∙ length-push (choices_of s a) c in
+    omega (arith, l, upto)))
     (λ none. (let f = ltb-false _ _ none in omega (arith, f, more))))
 
 -- and then it is put

@@ -61,9 +61,9 @@ sent-fills m a x named long whole upto is =
     either Q (nat_lt (placed_of m.tx a) (taken_of m.tx a)) (idles m idle.HandFull) (send_by m a (next_in m a))
     (λ full. record { choices = refl; placed = refl; visits = refl; full = ltb-true _ _ full })
     (λ free. (
-        let next : next_in m a ≡ Some x = rw free at is in
-        let empty = ltb-false _ _ free in
-        subst (λ o. Q (send_by m a o)) (sym next) (begun m.tx a x named long empty whole upto)))
+    let next : next_in m a ≡ Some x = rw free at is in
+    let empty = ltb-false _ _ free in
+    subst (λ o. Q (send_by m a o)) (sym next) (begun m.tx a x named long empty whole upto)))
 
 -- a machine with the same hands, inboxes and replies replies to the same packet
 pub replies-same : (m n : Machine) (a x : ℕ) → n.tx.placed ≡ m.tx.placed → n.tx.taken ≡ m.tx.taken

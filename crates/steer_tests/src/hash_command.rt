@@ -4,7 +4,7 @@ ghost use Rattle.outside_io.specs.Counts.{last_count};
 
 use crate::calls::{desk_of, outcome, sink, words};
 use crate::files::{
-    ARP, FRAGMENT, FRAME_A, FRAME_B, HEADER, ZEROS, OTHER_LINK, SYN, TAGGED_V6, VERSION_2_5,
+    ARP, FRAGMENT, FRAME_A, FRAME_B, HEADER, OTHER_LINK, SYN, TAGGED_V6, VERSION_2_5, ZEROS,
     big_file, file, tcpdump_file,
 };
 use outside_io::{

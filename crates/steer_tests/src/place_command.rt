@@ -23,8 +23,8 @@ const SWAPPED_A: [u8; 54] = [
 
 /// A frame from 10.0.0.1 port 7 to itself.
 const SELF: [u8; 54] = [
-    2, 0, 0, 0, 0, 2, 2, 0, 0, 0, 0, 1, 8, 0, 0x45, 0, 0, 0x28, 0, 0, 0, 0, 0x40, 6, 0, 0, 10, 0, 0,
-    1, 10, 0, 0, 1, 0, 7, 0, 7, 0, 0, 0, 0, 0, 0, 0, 0, 0x50, 0, 0, 0, 0, 0, 0, 0,
+    2, 0, 0, 0, 0, 2, 2, 0, 0, 0, 0, 1, 8, 0, 0x45, 0, 0, 0x28, 0, 0, 0, 0, 0x40, 6, 0, 0, 10, 0,
+    0, 1, 10, 0, 0, 1, 0, 7, 0, 7, 0, 0, 0, 0, 0, 0, 0, 0, 0x50, 0, 0, 0, 0, 0, 0, 0,
 ];
 
 /// What `place` comes to with these rules and this capture.
@@ -71,7 +71,11 @@ packets 2\n",
             b"packet 0 tcp4 420995bb a18e6450 2794 1766 hash 51ccc178 entry 120 queue 0 rule - depth 1\n\
 packets 1\n",
         ),
-        (INNER, &three[..100], b"packet 0 tcp4 420995bb a18e6450 2794 1766 hash 51ccc178 entry 120 queue 0 rule - depth 0\npackets 1 cut 6\n"),
+        (
+            INNER,
+            &three[..100],
+            b"packet 0 tcp4 420995bb a18e6450 2794 1766 hash 51ccc178 entry 120 queue 0 rule - depth 0\npackets 1 cut 6\n",
+        ),
     ];
     for (case, (rules, capture, wanted)) in cases.into_iter().enumerate() {
         let got = placed(alloc, rules, capture)?;
@@ -90,7 +94,10 @@ fn what_is_no_rules_is_named(rt: HostRuntime) -> Result<(), Fail> {
         (b"7", b"rules: wrong kind \n"),
         (b"{}", b"rules: missing queues\n"),
         (b"{\"queues\":17,\"rules\":[]}", b"rules: range queues 17\n"),
-        (b"{\"queues\":1,\"rules\":[],\"zeal\":1}", b"rules: unknown key zeal\n"),
+        (
+            b"{\"queues\":1,\"rules\":[],\"zeal\":1}",
+            b"rules: unknown key zeal\n",
+        ),
         (
             b"{\"queues\":4,\"rules\":[{\"kind\":\"ip4\",\"src\":\"0a\",\"queue\":1}]}",
             b"rules: wrong kind rules/0/src\n",
@@ -128,7 +135,11 @@ fn each_file_has_its_status(rt: HostRuntime) -> Result<(), Fail> {
     )?;
     let cases: [(Outcome, u8, &[u8]); 4] = [
         (placed(alloc, &long, &one)?, 8, b"rules too long\n"),
-        (placed(alloc, RULES, &HEADER[..23])?, 4, b"capture: short header 23\n"),
+        (
+            placed(alloc, RULES, &HEADER[..23])?,
+            4,
+            b"capture: short header 23\n",
+        ),
         (missing, 5, b"read fault\n"),
         (unread, 5, b"read fault\n"),
     ];

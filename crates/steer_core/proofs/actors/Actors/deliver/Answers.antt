@@ -15,8 +15,7 @@ step-requires c =
 
 pub invariant_of-self : goal.invariant_of-self
 invariant_of-self c =
-    let e = rw (← c.self.view_is) at c.delivering-event.ensures in
-    (
+    let e = rw (← c.self.view_is) at c.delivering-event.ensures in (
       held_deliver _ c.args.c c.delivering-event.result c.step.new.self
           (rw (← c.self.view_is) at c.requires) e c.step.ensures.state c.self.invariant.0,
       c.self.invariant.1,

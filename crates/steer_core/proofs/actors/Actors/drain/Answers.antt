@@ -8,8 +8,7 @@ loop-init c = (again-start (drain_one c.args.c) (c.args.self.now.machine, c.args
 
 pub loop-preserved : goal.loop-preserved
 loop-preserved c =
-    let done = c.drain_one-done.ensures in
-    (
+    let done = c.drain_one-done.ensures in (
       again-then c.loop.counter (drain_one c.args.c) (c.args.self.now.machine, c.args.worked)
           (c.loop.self.machine, c.loop.done) (c.drain_one-done.new.self.machine, c.drain_one-done.result)
           c.loop.invariant.0 done.turn,

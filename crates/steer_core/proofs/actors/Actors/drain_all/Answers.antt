@@ -9,8 +9,7 @@ loop-c-init c = (each-start drain (c.args.self.now.machine, c.args.worked), refl
 pub loop-c-preserved : goal.loop-c-preserved
 loop-c-preserved c =
     let done = c.drain-done.ensures in
-    let before = c.loop-c.invariant in
-    (
+    let before = c.loop-c.invariant in (
       each-then c.loop-c.c drain (c.args.self.now.machine, c.args.worked)
           (c.loop-c.self.machine, c.loop-c.done) (c.drain-done.new.self.machine, c.drain-done.result)
           before.0 done.turn,

@@ -9,8 +9,7 @@ loop-q-init c = (each-start poll (c.args.self.now.machine, c.args.worked), refl,
 pub loop-q-preserved : goal.loop-q-preserved
 loop-q-preserved c =
     let done = c.poll-done.ensures in
-    let before = c.loop-q.invariant in
-    (
+    let before = c.loop-q.invariant in (
       each-then c.loop-q.q poll (c.args.self.now.machine, c.args.worked)
           (c.loop-q.self.machine, c.loop-q.done) (c.poll-done.new.self.machine, c.poll-done.result)
           before.0 done.turn,

@@ -27,8 +27,7 @@ serve-done-requires-clause-room c =
 pub loop-a-preserved : goal.loop-a-preserved
 loop-a-preserved c =
     let done = c.serve-done.ensures in
-    let before = c.loop-a.invariant in
-    (
+    let before = c.loop-a.invariant in (
       each-then c.loop-a.a serve (c.args.self.now.machine, c.args.worked)
           (c.loop-a.self.machine, c.loop-a.done) (c.serve-done.new.self.machine, c.serve-done.result)
           before.0 done.turn,

@@ -8,8 +8,7 @@ loop-init c = (again-start (ship_one c.args.t) (c.args.self.now.machine, c.args.
 
 pub loop-preserved : goal.loop-preserved
 loop-preserved c =
-    let done = c.ship_one-done.ensures in
-    (
+    let done = c.ship_one-done.ensures in (
       again-then c.loop.counter (ship_one c.args.t) (c.args.self.now.machine, c.args.worked)
           (c.loop.self.machine, c.loop.done) (c.ship_one-done.new.self.machine, c.ship_one-done.result)
           c.loop.invariant.0 done.turn,

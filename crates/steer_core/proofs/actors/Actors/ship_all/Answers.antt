@@ -9,8 +9,7 @@ loop-t-init c = (each-start ship (c.args.self.now.machine, c.args.worked), refl,
 pub loop-t-preserved : goal.loop-t-preserved
 loop-t-preserved c =
     let done = c.ship-done.ensures in
-    let before = c.loop-t.invariant in
-    (
+    let before = c.loop-t.invariant in (
       each-then c.loop-t.t ship (c.args.self.now.machine, c.args.worked)
           (c.loop-t.self.machine, c.loop-t.done) (c.ship-done.new.self.machine, c.ship-done.result)
           before.0 done.turn,

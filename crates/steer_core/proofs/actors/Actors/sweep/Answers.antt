@@ -29,8 +29,7 @@ returns-then-not-round-clause-rooms c = c.round.ensures.rooms ∙ c.loop.invaria
 
 pub loop-preserved : goal.loop-preserved
 loop-preserved c =
-    let once = c.round.ensures in
-    (
+    let once = c.round.ensures in (
       rounds-on c.most_rounds-end.result c.loop.counter c.loop.self.machine c.round.new.self.machine c.loop.worked
           c.round.result _ c.loop-test.true once.turn c.if-not-round.false c.loop.invariant.0,
       once.setup ∙ c.loop.invariant.1,

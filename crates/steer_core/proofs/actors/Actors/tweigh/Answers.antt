@@ -14,8 +14,7 @@ step-requires c =
 
 pub invariant_of-self : goal.invariant_of-self
 invariant_of-self c =
-    let e = rw (← c.self.view_is) at c.next_sending-event.ensures in
-    (
+    let e = rw (← c.self.view_is) at c.next_sending-event.ensures in (
       held_tweigh _ c.args.a c.next_sending-event.result c.step.new.self (rw (← c.self.view_is) at c.requires) e
           c.step.ensures.state c.self.invariant.0,
       c.self.invariant.1,

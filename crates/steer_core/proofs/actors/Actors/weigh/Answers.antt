@@ -14,8 +14,7 @@ step-requires c =
 
 pub invariant_of-self : goal.invariant_of-self
 invariant_of-self c =
-    let e = rw (← c.self.view_is) at c.weighing-event.ensures in
-    (
+    let e = rw (← c.self.view_is) at c.weighing-event.ensures in (
       held_weigh _ c.args.q c.in-Looked.want c.weighing-event.result c.step.new.self
           (rw (← c.self.view_is) at c.requires) e c.step.ensures.state c.self.invariant.0,
       c.self.invariant.1,
