@@ -126,7 +126,7 @@ commanding-given i m n c setup follows h named d old =
 pub commanding-simple : (i : Input) (m : Machine) (s : Step) → m.setup ≡ setup_in i
     → Follows i m → Held m → IsNamed m.setup s → Commanding i m → Commanding i (simple m s).0
 commanding-simple i m s setup follows h named old =
-    walk m h (Commanding i)
+    walk m h (Commanding i) s
     (record {
       quiet = λ n k. commanding-stays i m n k.still.lasts k.still.commands old;
       arrive = λ few k. commanding-stays i m _ k.lasts refl old;
@@ -135,8 +135,8 @@ commanding-simple i m s setup follows h named old =
       write = λ flow hash is some k. commanding-stays i m _ k.lasts refl old;
       send = λ a x in' is k. commanding-stays i m _ k.lasts refl old;
       tx_weigh = λ a in' more l. commanding-stays i m _ l refl old;
-      give = λ c in' d. commanding-given i m (given m c).0 c setup follows h in' d old;
-    }) s named
+      give = λ c is in' d. commanding-given i m (given m c).0 c setup follows h in' d old;
+    }) named
 
 pub commanding-new : (i : Input) → Commanding i (new_machine i.plan i.packets i.cut)
 commanding-new i =

@@ -10,8 +10,8 @@ use Rattle.plan_reader.specs.Ranges.{step_is_within}
 use Rattle.steer_base.specs.declared.step.Step.{Step}
 use Rattle.steer_parts.specs.FilterOrigins.{FiltersAreFrom}
 use Rattle.steer_parts.specs.GoodArrivals.{QueuesAreSeen}
-use Rattle.steer_parts.specs.GoodChoices.{HeadsAreRising, HeadsRise}
-use Rattle.steer_parts.specs.Inputs.{Input, setup_in}
+use Rattle.steer_parts.specs.GoodChoices.{AreByRule, HeadsAreRising, HeadsRise}
+use Rattle.steer_parts.specs.Inputs.{Input, settings_at, setup_in}
 use Rattle.steer_parts.specs.Machine.{Machine, history_of, lane_lists}
 use Rattle.steer_parts.specs.Setup.{Setup}
 use Rattle.steer_parts.specs.Start.{fresh_rx, fresh_tx, new_machine, steps_of}
@@ -39,6 +39,7 @@ use Rattle.steer_good.proofs.CommandWords.{commands-answered}
 use Rattle.steer_good.proofs.HeadSteps.{Heads, heads-new, heads-simple}
 use Rattle.steer_good.proofs.Lasts.{Lasts}
 use Rattle.steer_good.proofs.Looks.{Looking, looking-new, looking-simple}
+use Rattle.steer_good.proofs.Moves.{flows_move, reply-changes}
 use Rattle.steer_good.proofs.RuleSteps.{Follows, follows-simple, rules-new, rules-simple}
 use Rattle.steer_good.proofs.Rules.{Rules}
 use Rattle.steer_good.proofs.Seen.{AllSeen, seen-new, seen-simple}
@@ -136,7 +137,7 @@ explained-new i may =
       written = written-new i;
     }
 
-explained-after : (i : Input) (ss : List Step) → MayStart i.plan i.packets
+pub explained-after : (i : Input) (ss : List Step) → MayStart i.plan i.packets
     → AllPass (step_is_within (sizes_of i.plan)) ss
     → Explained i (after ss (new_machine i.plan i.packets i.cut))
 explained-after i ss may named =
@@ -182,13 +183,17 @@ heads_always_rise = always-by (λ i h. HeadsAreRising h) (λ i m e d. heads-rise
 
 choices-ruled : (i : Input) (m : Machine) → Explained i m → AreChosen i (history_of m)
 choices-ruled i m e =
+    let at : ℕ → ℕ → ℕ = λ q. (e.rules q).0 in
+    let by_rule : AreByRule i (history_of m) at =
     record {
-      at = λ q. (e.rules q).0;
-      choices = record {
-        prefixes = λ q. (let r = (e.rules q).1 in r.prefixes);
-        each = λ q k lt. (let r = (e.rules q).1 in r.each k lt);
-      };
+      prefixes = λ q. (let r = (e.rules q).1 in r.prefixes);
+      each = λ q k lt. (let r = (e.rules q).1 in r.each k lt);
+    } in
+    record {
+      at = at;
+      choices = by_rule;
       wants = λ q k want lt is. (let r = (e.rules q).1 in r.wants k want lt is);
+      moves = flows_move i (history_of m) at by_rule;
     }
 
 pub choices_always_ruled : Always AreChosen
@@ -204,9 +209,11 @@ queues_always_seen = always-by QueuesAreSeen (λ i m e d. e.seen)
 replies-ruled : (i : Input) (m : Machine) → Explained i m → DeliversInOrder i (history_of m)
     → AreReplied i (history_of m)
 replies-ruled i m e d =
-    let h = e.held in let k = h.kept in let r = h.recorded in let t = e.tx_rules in (
-      λ a. (t.each a).0,
-      record {
+    let h = e.held in let k = h.kept in let r = h.recorded in let t = e.tx_rules in
+    let at : ℕ → ℕ → ℕ = λ a. (t.each a).0 in
+    record {
+      at = at;
+      replies = record {
         sent = λ a. record {
           first = k.replied.first a;
           queue = r.queues a;
@@ -216,8 +223,11 @@ replies-ruled i m e d =
         each = λ a j lt. (let x = (t.each a).1 in x.each j lt);
         places = d.places;
         leave = d.leave;
-      },
-    )
+      };
+      changes = λ a j s lt is. (
+          let x = (t.each a).1 in
+          reply-changes i m a j (settings_at i (history_of m) (at a j)) s k lt is (x.each j lt));
+    }
 
 pub replies_always_ruled : Always AreReplied
 replies_always_ruled = always-by AreReplied replies-ruled
@@ -240,14 +250,14 @@ commands_always_answered = always-by AreAnswered (λ i m e d. answers-allowed i 
 
 -- ---- all of it
 
-good-so-far : (i : Input) (m : Machine) → Explained i m → DeliversInOrder i (history_of m)
+pub good-so-far : (i : Input) (m : Machine) → Explained i m → DeliversInOrder i (history_of m)
     → GoodSoFar i (history_of m)
 good-so-far i m e d =
     let c = choices-ruled i m e in
     let r = replies-ruled i m e d in
     record {
       at = c.at;
-      tx_at = r.0;
+      tx_at = r.at;
       queues = e.seen;
       choices = c.choices;
       wants = c.wants;
@@ -256,7 +266,7 @@ good-so-far i m e d =
       steered = d.steered;
       writes = e.written;
       commands = answers-allowed i m e;
-      replies = r.1;
+      replies = r.replies;
     }
 
 pub always_good_so_far : Always GoodSoFar

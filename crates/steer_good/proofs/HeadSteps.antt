@@ -34,7 +34,7 @@ still-heads m n h g s old =
 pub heads-simple : (m : Machine) (s : Step) → Held m → Held (simple m s).0
     → IsNamed m.setup s → Heads m → Heads (simple m s).0
 heads-simple m s h g named old =
-    walk m h (λ n. Held n → Heads n)
+    walk m h (λ n. Held n → Heads n) s
     (record {
       quiet = λ n k g. still-heads m n h g k.still old;
       arrive = λ few k g. still-heads m _ h g k old;
@@ -56,13 +56,13 @@ heads-simple m s h g named old =
             tx = heads-chose m.tx a (Some (flow_of m.setup r.id)) (Some (pick_for m r))
                 (pick_for m r) everyone k.tx.sound (omega (arith, in', z.apps, w.choices)) old.tx;
           });
-      give = λ c in' d g. (
+      give = λ c is in' d g. (
           let k = h.kept in let l = g.kept in
           record {
             rx = heads-stay m.rx _ k.rx.sound l.rx.sound d.lasts.rx d.choices old.rx;
             tx = heads-stay m.tx _ k.tx.sound l.tx.sound d.lasts.tx d.tx.choices old.tx;
           });
-    }) s named g
+    }) named g
 
 -- ---- a new machine
 

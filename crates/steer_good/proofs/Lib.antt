@@ -19,4 +19,6 @@ pub mod Stood
 pub mod Seen
 pub mod Writes
 pub mod CommandWords
+pub mod Moves
 pub mod Explained
+pub mod AtRest

@@ -192,7 +192,7 @@ looking-tx m t old q want is =
 pub looking-simple : (m : Machine) (s : Step) → Held m → SocketIsWritten m → IsNamed m.setup s
     → Looking m → Looking (simple m s).0
 looking-simple m s h w named old =
-    walk m h Looking
+    walk m h Looking s
     (record {
       quiet = λ n k. looking-still m n h k.still old;
       arrive = λ few k. looking-still m _ h k old;
@@ -201,8 +201,8 @@ looking-simple m s h w named old =
       write = λ flow hash is some k. looking-still m _ h k old;
       send = λ a x in' is k. looking-still m _ h k old;
       tx_weigh = λ a in' more l. looking-tx m _ old;
-      give = λ c in' d. looking-given m (given m c).0 c h d old;
-    }) s named
+      give = λ c is in' d. looking-given m (given m c).0 c h d old;
+    }) named
 
 pub looking-new : (i : Input) → Looking (new_machine i.plan i.packets i.cut)
 looking-new i q want is =

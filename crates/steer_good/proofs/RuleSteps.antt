@@ -48,7 +48,7 @@ follows-given i m n c g f =
 pub follows-simple : (i : Input) (m : Machine) (s : Step) → Held m → IsNamed m.setup s
     → Follows i m → Follows i (simple m s).0
 follows-simple i m s h named f =
-    walk m h (Follows i)
+    walk m h (Follows i) s
     (record {
       quiet = λ n k. follows-still i m n k.still f;
       arrive = λ few k. f;
@@ -57,8 +57,8 @@ follows-simple i m s h named f =
       write = λ flow hash is some k. f;
       send = λ a x in' is k. f;
       tx_weigh = λ a in' more l. f;
-      give = λ c in' g. follows-given i m (given m c).0 c g f;
-    }) s named
+      give = λ c is in' g. follows-given i m (given m c).0 c g f;
+    }) named
 
 -- ---- the rule
 
@@ -131,7 +131,7 @@ pub rules-simple : (i : Input) (m : Machine) (s : Step) → m.setup ≡ setup_in
     → Looking m → Held m → Held (simple m s).0 → IsNamed m.setup s → Rules i m
     → Rules i (simple m s).0
 rules-simple i m s setup follows looks h g named old =
-    walk m h (λ n. Held n → Rules i n)
+    walk m h (λ n. Held n → Rules i n) s
     (record {
       quiet = λ n k g. rules-still i m n h g k.still old;
       arrive = λ few k g. rules-still i m _ h g k old;
@@ -141,8 +141,8 @@ rules-simple i m s setup follows looks h g named old =
       write = λ flow hash is some k g. rules-still i m _ h g k old;
       send = λ a x in' is k g. rules-still i m _ h g k old;
       tx_weigh = λ a in' more l g. rules-beside i m m.notes _ old;
-      give = λ c in' d g. rules-given i m (given m c).0 c h g d old;
-    }) s named g
+      give = λ c is in' d g. rules-given i m (given m c).0 c h g d old;
+    }) named g
 
 -- ---- a new machine
 

@@ -217,7 +217,7 @@ pub seen-simple : (i : Input) (m : Machine) (s : Step) → m.setup ≡ setup_in 
     → length m.filters ≡ i.plan.filters → FiltersAreFrom m → Commanding i m → Follows i m
     → Held m → Held (simple m s).0 → IsNamed m.setup s → AllSeen i m → AllSeen i (simple m s).0
 seen-simple i m s setup rows filters w follows h g named old =
-    walk m h (λ n. Held n → AllSeen i n)
+    walk m h (λ n. Held n → AllSeen i n) s
     (record {
       quiet = λ n k g. seen-stay i m n h g k.still.lasts k.arrivals old;
       arrive = λ few k g. seen-arrived i m setup rows filters w follows h g k.lasts old;
@@ -228,8 +228,8 @@ seen-simple i m s setup rows filters w follows h g named old =
       write = λ flow hash is some k g. seen-stay i m _ h g k.lasts refl old;
       send = λ a x in' is k g. seen-stay i m (sends m a x) h g k.lasts refl old;
       tx_weigh = λ a in' more l g. seen-stay i m (tx_weighed m a) h g l refl old;
-      give = λ c in' d g. seen-stay i m (given m c).0 h g d.lasts d.arrivals old;
-    }) s named g
+      give = λ c is in' d g. seen-stay i m (given m c).0 h g d.lasts d.arrivals old;
+    }) named g
 
 pub seen-new : (i : Input) → AllSeen i (new_machine i.plan i.packets i.cut)
 seen-new i =

@@ -55,7 +55,7 @@ all-sent i m a x setup follows w lt l old =
 pub stood-simple : (i : Input) (m : Machine) (s : Step) → m.setup ≡ setup_in i → Follows i m
     → Commanding i m → Held m → IsNamed m.setup s → AllStood i m → AllStood i (simple m s).0
 stood-simple i m s setup follows w h named old =
-    walk m h (AllStood i)
+    walk m h (AllStood i) s
     (record {
       quiet = λ n k. all-stay i m n k.still.lasts k.sent old;
       arrive = λ few k. all-stay i m _ k.lasts refl old;
@@ -66,8 +66,8 @@ stood-simple i m s setup follows w h named old =
       write = λ flow hash is some k. all-stay i m _ k.lasts refl old;
       send = λ a x in' is k. all-sent i m a x setup follows w in' k.lasts old;
       tx_weigh = λ a in' more l. all-stay i m _ l refl old;
-      give = λ c in' d. all-stay i m _ d.lasts d.sent old;
-    }) s named
+      give = λ c is in' d. all-stay i m _ d.lasts d.sent old;
+    }) named
 
 pub stood-new : (i : Input) → AllStood i (new_machine i.plan i.packets i.cut)
 stood-new i a =

@@ -78,7 +78,7 @@ pub tx-rules-simple : (i : Input) (m : Machine) (s : Step) → m.setup ≡ setup
     → SameStart m → Held m → Held (simple m s).0 → IsNamed m.setup s → TxRules i m
     → TxRules i (simple m s).0
 tx-rules-simple i m s setup follows start h g named old =
-    walk m h (λ n. Held n → TxRules i n)
+    walk m h (λ n. Held n → TxRules i n) s
     (record {
       quiet = λ n k g. tx-rules-stay i m n h g start k.still.lasts k.still.tx old;
       arrive = λ few k g. tx-rules-stay i m _ h g start k.lasts k.tx old;
@@ -90,8 +90,8 @@ tx-rules-simple i m s setup follows start h g named old =
       send = λ a x in' is k g. tx-rules-stay i m _ h g start k.lasts k.tx old;
       tx_weigh = λ a in' more l g.
           tx-rules-weighed i m a setup follows start h g in' more l old;
-      give = λ c in' d g. tx-rules-stay i m _ h g start d.lasts d.tx old;
-    }) s named g
+      give = λ c is in' d g. tx-rules-stay i m _ h g start d.lasts d.tx old;
+    }) named g
 
 -- ---- a new machine
 

@@ -84,7 +84,7 @@ tx_weighed m a = record m { tx = chose m.tx a (new_tx_choice m a) }
 
 -- What holds after each kind of step: one by which the lists do not grow; an arrival; a look; a
 -- choice; a write to the socket flow table; a reply that is begun; its choice; and a command.
-pub record Kinds (m : Machine) (Q : Machine → Type 0) : Type 0 where
+pub record Kinds (m : Machine) (s : Step) (Q : Machine → Type 0) : Type 0 where
   pub quiet : (n : Machine) → Quiet m n → Q n
   pub arrive : length m.arrivals < length m.setup.packets → Still m (arrives m (next_arrival m))
       → Q (arrives m (next_arrival m))
@@ -102,8 +102,8 @@ pub record Kinds (m : Machine) (Q : Machine → Type 0) : Type 0 where
       → Q (sends m a x)
   pub tx_weigh : (a : ℕ) → a < m.setup.apps → length (choices_of m.tx a) < taken_of m.tx a
       → Lasts m (tx_weighed m a) → Q (tx_weighed m a)
-  pub give : (c : Command) → IsCommandNamed m.setup c → Given m c (answer_to m c) (given m c).0
-      → Q (given m c).0
+  pub give : (c : Command) → s ≡ act.Give c → IsCommandNamed m.setup c
+      → Given m c (answer_to m c) (given m c).0 → Q (given m c).0
 
 -- ---- what a poller has to weigh
 
@@ -242,267 +242,272 @@ filters-long filters (Some hash) f = row-long (class_of (length filters) (Some h
 
 -- ---- the walk
 
-module _ (m : Machine) (h : Held m) (Q : Machine → Type 0) (kinds : Kinds m Q) where
-  abbrev Then : Outcome → Type 0
-  Then o = Q o.0
+module _ (m : Machine) (h : Held m) (Q : Machine → Type 0) (this : Step) (kinds : Kinds m this Q)
+  where
+    abbrev Then : Outcome → Type 0
+    Then o = Q o.0
 
-  self : Q m
-  self = kinds.quiet m (quiet-self m h)
+    self : Q m
+    self = kinds.quiet m (quiet-self m h)
 
-  at-arrive : Then (simple m act.Arrive)
-  at-arrive =
-      let a = next_arrival m in
-      either Then (nat_lt (length m.arrivals) (length m.setup.packets))
-      (arrives m a, says.Done) (idles m idle.NothingLeft)
-      (λ few. (
-      let lt = ltb-true (length m.arrivals) (length m.setup.packets) few in
-      let s = event-rx m h (event.Arrive a.queue a.id) (refl, refl)
-      ((asks m h).arrive lt)
-      (λ q want is. same-inside m.rx (event.Arrive a.queue a.id) q refl) in
-      let l = s.lasts in
-      kinds.arrive lt (record {
-        lasts = record {
+    at-arrive : Then (simple m act.Arrive)
+    at-arrive =
+        let a = next_arrival m in
+        either Then (nat_lt (length m.arrivals) (length m.setup.packets))
+        (arrives m a, says.Done) (idles m idle.NothingLeft)
+        (λ few. (
+        let lt = ltb-true (length m.arrivals) (length m.setup.packets) few in
+        let s = event-rx m h (event.Arrive a.queue a.id) (refl, refl)
+        ((asks m h).arrive lt)
+        (λ q want is. same-inside m.rx (event.Arrive a.queue a.id) q refl) in
+        let l = s.lasts in
+        kinds.arrive lt (record {
+          lasts = record {
+            setup = refl;
+            rx = l.rx;
+            tx = l.tx;
+            filters = refl;
+            arrivals = extends-push m.arrivals a;
+            sent = l.sent;
+            writes = l.writes;
+            commands = l.commands;
+          };
+          rx = s.rx;
+          tx = s.tx;
+          settings = refl;
+          commands = refl;
+          looked = s.looked;
+        })))
+        (λ _. self)
+
+    at-look : (q : ℕ) (x : Option ℕ) → to_weigh m.rx q ≡ x → q < length m.setup.homes
+        → inside_of m.rx q ≡ true → Then (look_by m q x)
+    at-look q None is named inside = self
+    at-look q (Some x) is named inside =
+        subst (λ y. Q (noted m q (note.Looked (seen_by m q y)))) (sym (weighs-is m q x is))
+        (kinds.look q named inside (weighs-more m.rx q x is))
+
+    at-weigh : (q : ℕ) (n : Note) (x : Option ℕ) → note_of m q ≡ n → to_weigh m.rx q ≡ x
+        → q < length m.setup.homes → Then (weigh_by m q n x)
+    at-weigh q note.Nothing x note is named = self
+    at-weigh q (note.Asking filter) x note is named = self
+    at-weigh q (note.Looked want) None note is named = self
+    at-weigh q (note.Looked want) (Some x) noted-is is named =
+        let k = h.kept in
+        let e : HopEvent = weighing m q (next_of m.rx q) want in
+        let may : MayAsk m.rx e = (asks m h).weigh q want named in
+        let stays = stays-happens m.rx e may k.rx.sound in
+        let more = weighs-more m.rx q x is in
+        let l = lasts-self m in
+        subst (λ y. Q (record (noted m q note.Nothing) { rx = (happens m.rx (weighing m q y want)).0 }))
+        (sym (weighs-is m q x is))
+        (by_cases (λ t. Stays m.rx t → Q (record (noted m q note.Nothing) { rx = t })) m.rx e
+        (λ same. kinds.quiet (noted m q note.Nothing)
+        (quiet-noted m h m q note.Nothing m.filters (quiet-self m h) (λ w f. cc) refl))
+        (λ inside enough stay. kinds.weigh q want named noted-is more
+        (record {
           setup = refl;
-          rx = l.rx;
-          tx = l.tx;
-          filters = refl;
-          arrivals = extends-push m.arrivals a;
-          sent = l.sent;
-          writes = l.writes;
-          commands = l.commands;
-        };
-        rx = s.rx;
-        tx = s.tx;
-        settings = refl;
-        commands = refl;
-        looked = s.looked;
-      })))
-      (λ _. self)
-
-  at-look : (q : ℕ) (x : Option ℕ) → to_weigh m.rx q ≡ x → q < length m.setup.homes
-      → inside_of m.rx q ≡ true → Then (look_by m q x)
-  at-look q None is named inside = self
-  at-look q (Some x) is named inside =
-      subst (λ y. Q (noted m q (note.Looked (seen_by m q y)))) (sym (weighs-is m q x is))
-      (kinds.look q named inside (weighs-more m.rx q x is))
-
-  at-weigh : (q : ℕ) (n : Note) (x : Option ℕ) → note_of m q ≡ n → to_weigh m.rx q ≡ x
-      → q < length m.setup.homes → Then (weigh_by m q n x)
-  at-weigh q note.Nothing x note is named = self
-  at-weigh q (note.Asking filter) x note is named = self
-  at-weigh q (note.Looked want) None note is named = self
-  at-weigh q (note.Looked want) (Some x) noted-is is named =
-      let k = h.kept in
-      let e : HopEvent = weighing m q (next_of m.rx q) want in
-      let may : MayAsk m.rx e = (asks m h).weigh q want named in
-      let stays = stays-happens m.rx e may k.rx.sound in
-      let more = weighs-more m.rx q x is in
-      let l = lasts-self m in
-      subst (λ y. Q (record (noted m q note.Nothing) { rx = (happens m.rx (weighing m q y want)).0 }))
-      (sym (weighs-is m q x is))
-      (by_cases (λ t. Stays m.rx t → Q (record (noted m q note.Nothing) { rx = t })) m.rx e
-      (λ same. kinds.quiet (noted m q note.Nothing)
-      (quiet-noted m h m q note.Nothing m.filters (quiet-self m h) (λ w f. cc) refl))
-      (λ inside enough stay. kinds.weigh q want named noted-is more
-      (record {
-        setup = refl;
-        rx = stay;
-        tx = l.tx;
-        filters = refl;
-        arrivals = l.arrivals;
-        sent = l.sent;
-        writes = l.writes;
-        commands = l.commands;
-      }))
-      stays)
-
-  at-put : (q : ℕ) (position : Option ℕ) → q < length m.setup.homes
-      → Then (put_by (by_rx m (putting m q)).0 q position (happens m.rx (putting m q)).1)
-  at-put q position named =
-      put-rest position
-      (beside-rx m h (putting m q) (refl, refl) refl
-      ((asks m h).put q (hash_of m.setup (last_of m.rx q).id) named))
-    where
-      put-rest : (position : Option ℕ) → Quiet m (by_rx m (putting m q)).0
-          → Then (put_by (by_rx m (putting m q)).0 q position (happens m.rx (putting m q)).1)
-      put-rest None k = kinds.quiet (by_rx m (putting m q)).0 k
-      put-rest (Some position) k =
-          let n : Machine = (by_rx m (putting m q)).0 in
-          let asked : Option Filter =
-          filter_for n.setup.homes (length n.filters) (last_of n.rx q).choice position in
-          kinds.quiet (noted n q (asking asked))
-          (quiet-noted m h n q (asking asked) n.filters k (asking-other asked) refl)
-
-  at-ask : (q : ℕ) (n : Note) → Then (ask_by m q n)
-  at-ask q note.Nothing = self
-  at-ask q (note.Looked want) = self
-  at-ask q (note.Asking filter) =
-      let hash = hash_of m.setup (last_of m.rx q).id in
-      kinds.quiet (ask_by m q (note.Asking filter)).0
-      (quiet-noted m h m q note.Nothing (with_filter m.filters hash filter) (quiet-self m h)
-      (λ w f. cc) (filters-long m.filters hash filter))
-
-  at-write : (flow : ℕ) (hash : Option (Option ℕ)) → flow_hash m.setup flow ≡ hash
-      → Then (record_by m hash)
-  at-write flow None is = self
-  at-write flow (Some None) is = self
-  at-write flow (Some (Some hash)) is =
-      let a : ℕ = hash % m.setup.apps in
-      let g : ℕ = length m.setup.homes + a in
-      let k = h.kept in
-      let below : a < m.setup.apps = mod_below hash m.setup.apps k.given.some_app in
-      let es : List HopEvent = event.Enter g ∷ event.Leave g ∷ [] in
-      let may : AllMayAsk es m.rx = (asks m h).visit a below in
-      let s = still-rx m (run es m.rx) (stays-run es m.rx may k.rx.sound)
-      (turns-run es m.rx ((refl, refl), ((refl, refl), tt)))
-      (λ q want is in'. leave-inside (happens m.rx (event.Enter g)).0 g q (λ e. (
-      let lt = looked-below m h q want is in omega (arith, lt, e)))
-      (enter-inside m.rx g q in')) in
-      let l = s.lasts in
-      either Then (nat_lt 0 (length m.socket)) (wrote (visited m a) a hash, says.Done)
-      (idles m idle.NoTable)
-      (λ some. kinds.write flow hash is (ltb-true 0 (length m.socket) some) (record {
-        lasts = record {
-          setup = refl;
-          rx = l.rx;
+          rx = stay;
           tx = l.tx;
           filters = refl;
           arrivals = l.arrivals;
           sent = l.sent;
-          writes = λ b. extends-set m.writes a b (write_of m a hash);
-          commands = l.commands;
-        };
-        rx = s.rx;
-        tx = s.tx;
-        settings = refl;
-        commands = refl;
-        looked = s.looked;
-      }))
-      (λ _. self)
-
-  at-send : (a : ℕ) (x : Option ℕ) → next_in m a ≡ x → a < m.setup.apps → Then (send_by m a x)
-  at-send a None is named = self
-  at-send a (Some x) is named =
-      let k = h.kept in
-      let es : List HopEvent = event.Arrive a x ∷ event.Take a ∷ [] in
-      let may : AllMayAsk es m.tx = (tx_asks m h).send a x named is in
-      let s = still-tx m (run es m.tx) (stays-run es m.tx may k.tx.sound)
-      (turns-run es m.tx ((refl, refl), ((refl, refl), tt))) in
-      let l = s.lasts in
-      kinds.send a x named is (record {
-        lasts = record {
-          setup = refl;
-          rx = l.rx;
-          tx = l.tx;
-          filters = refl;
-          arrivals = l.arrivals;
-          sent = λ b. extends-set m.sent a b (reply_to m a x);
           writes = l.writes;
           commands = l.commands;
-        };
-        rx = s.rx;
-        tx = s.tx;
-        settings = refl;
-        commands = refl;
-        looked = s.looked;
-      })
+        }))
+        stays)
 
-  at-tx_weigh : (a : ℕ) → a < m.setup.apps → Then (simple m (act.TWeigh a))
-  at-tx_weigh a named =
-      let k = h.kept in
-      let r : Sent = in_reply m a in
-      let e : HopEvent = sending m a r in
-      let may : MayAsk m.tx e = (tx_asks m h).weigh a r named in
-      let stays = stays-happens m.tx e may k.tx.sound in
-      let l = lasts-self m in
-      by_cases (λ t. Stays m.tx t → Q (record m { tx = t })) m.tx e (λ same. self)
-      (λ inside more stay. kinds.tx_weigh a named more
-      (record {
-        setup = refl;
-        rx = l.rx;
-        tx = stay;
-        filters = refl;
-        arrivals = l.arrivals;
-        sent = l.sent;
-        writes = l.writes;
-        commands = l.commands;
-      }))
-      stays
+    at-put : (q : ℕ) (position : Option ℕ) → q < length m.setup.homes
+        → Then (put_by (by_rx m (putting m q)).0 q position (happens m.rx (putting m q)).1)
+    at-put q position named =
+        put-rest position
+        (beside-rx m h (putting m q) (refl, refl) refl
+        ((asks m h).put q (hash_of m.setup (last_of m.rx q).id) named))
+      where
+        put-rest : (position : Option ℕ) → Quiet m (by_rx m (putting m q)).0
+            → Then (put_by (by_rx m (putting m q)).0 q position (happens m.rx (putting m q)).1)
+        put-rest None k = kinds.quiet (by_rx m (putting m q)).0 k
+        put-rest (Some position) k =
+            let n : Machine = (by_rx m (putting m q)).0 in
+            let asked : Option Filter =
+            filter_for n.setup.homes (length n.filters) (last_of n.rx q).choice position in
+            kinds.quiet (noted n q (asking asked))
+            (quiet-noted m h n q (asking asked) n.filters k (asking-other asked) refl)
 
-  -- an event of the transmit hop alone
-  by-tx : (e : HopEvent) → MakesNoTurn e → MayAsk m.tx e → Then (by_tx m e)
-  by-tx e off may = kinds.quiet (by_tx m e).0 (event-tx m h e off may)
+    at-ask : (q : ℕ) (n : Note) → Then (ask_by m q n)
+    at-ask q note.Nothing = self
+    at-ask q (note.Looked want) = self
+    at-ask q (note.Asking filter) =
+        let hash = hash_of m.setup (last_of m.rx q).id in
+        kinds.quiet (ask_by m q (note.Asking filter)).0
+        (quiet-noted m h m q note.Nothing (with_filter m.filters hash filter) (quiet-self m h)
+        (λ w f. cc) (filters-long m.filters hash filter))
 
-  beside : (e : HopEvent) → MakesNoTurn e → changes e Field.visits ≡ false → MayAsk m.rx e
-      → Then (by_rx m e)
-  beside e off same may = kinds.quiet (by_rx m e).0 (beside-rx m h e off same may)
+    at-write : (flow : ℕ) (hash : Option (Option ℕ)) → flow_hash m.setup flow ≡ hash
+        → Then (record_by m hash)
+    at-write flow None is = self
+    at-write flow (Some None) is = self
+    at-write flow (Some (Some hash)) is =
+        let a : ℕ = hash % m.setup.apps in
+        let g : ℕ = length m.setup.homes + a in
+        let k = h.kept in
+        let below : a < m.setup.apps = mod_below hash m.setup.apps k.given.some_app in
+        let es : List HopEvent = event.Enter g ∷ event.Leave g ∷ [] in
+        let may : AllMayAsk es m.rx = (asks m h).visit a below in
+        let s = still-rx m (run es m.rx) (stays-run es m.rx may k.rx.sound)
+        (turns-run es m.rx ((refl, refl), ((refl, refl), tt)))
+        (λ q want is in'. leave-inside (happens m.rx (event.Enter g)).0 g q (λ e. (
+        let lt = looked-below m h q want is in omega (arith, lt, e)))
+        (enter-inside m.rx g q in')) in
+        let l = s.lasts in
+        either Then (nat_lt 0 (length m.socket)) (wrote (visited m a) a hash, says.Done)
+        (idles m idle.NoTable)
+        (λ some. kinds.write flow hash is (ltb-true 0 (length m.socket) some) (record {
+          lasts = record {
+            setup = refl;
+            rx = l.rx;
+            tx = l.tx;
+            filters = refl;
+            arrivals = l.arrivals;
+            sent = l.sent;
+            writes = λ b. extends-set m.writes a b (write_of m a hash);
+            commands = l.commands;
+          };
+          rx = s.rx;
+          tx = s.tx;
+          settings = refl;
+          commands = refl;
+          looked = s.looked;
+        }))
+        (λ _. self)
 
-  pub walk : (s : Step) → IsNamed m.setup s → Q (simple m s).0
-  walk act.Arrive named = at-arrive
-  walk (act.Take q) named =
-      either Then (is_asking (note_of m q)) (idles m idle.HandFull) (by_rx m (event.Take q))
-      (λ _. self)
-      (λ _. beside (event.Take q) (refl, refl) refl ((asks m h).take q (ltb-true _ _ named)))
-  walk (act.Enter q) named =
-      kinds.quiet (by_rx m (event.Enter q)).0 (quiet-enter m h q (ltb-true _ _ named))
-  walk (act.Look q) named =
-      let seen : Outcome = look_by m q (to_weigh m.rx q) in
-      let early : Outcome = idles m idle.WrongStage in
-      either Then (not (inside_of m.rx q)) (idles m idle.NotInside)
-      (cond (is_nothing (note_of m q)) seen early) (λ _. self)
-      (λ inside. either Then (is_nothing (note_of m q)) seen early
-      (λ _. at-look q (to_weigh m.rx q) refl (ltb-true _ _ named) (not-false _ inside))
-      (λ _. self))
-  walk (act.Weigh q) named =
-      either Then (not (inside_of m.rx q)) (idles m idle.NotInside)
-      (weigh_by m q (note_of m q) (to_weigh m.rx q)) (λ _. self)
-      (λ _. at-weigh q (note_of m q) (to_weigh m.rx q) refl refl (ltb-true _ _ named))
-  walk (act.Put q) named =
-      at-put q (position_of (happens m.rx (putting m q)).1) (ltb-true _ _ named)
-  walk (act.Ask q) named =
-      either Then (not (inside_of m.rx q)) (idles m idle.NotInside) (ask_by m q (note_of m q))
-      (λ _. self) (λ _. at-ask q (note_of m q))
-  walk (act.Leave q) named =
-      let gone : Outcome = by_rx m (event.Leave q) in
-      let early : Outcome = idles m idle.MidPacket in
-      either Then (not (inside_of m.rx q)) (idles m idle.NotInside)
-      (cond (is_nothing (note_of m q)) gone early) (λ _. self)
-      (λ _. either Then (is_nothing (note_of m q)) gone early
-      (λ nothing. kinds.quiet gone.0 (quiet-leave m h q (ltb-true _ _ named) nothing))
-      (λ _. self))
-  walk (act.Pull c) named =
-      beside (event.Pull c) (refl, refl) refl ((asks m h).pull c (ltb-true _ _ named))
-  walk (act.Deliver c) named =
-      beside (event.Deliver c (app_for m.setup (in_lane m.rx c))) (refl, refl) refl
-      ((asks m h).deliver c (in_lane m.rx c) (ltb-true _ _ named))
-  walk (act.Retire c) named =
-      beside (event.Retire c) (refl, refl) refl ((asks m h).retire c (ltb-true _ _ named))
-  walk (act.Record flow) named = at-write flow (flow_hash m.setup flow) refl
-  walk (act.Send a) named =
-      either Then (nat_lt (placed_of m.tx a) (taken_of m.tx a)) (idles m idle.HandFull)
-      (send_by m a (next_in m a)) (λ _. self)
-      (λ _. at-send a (next_in m a) refl (ltb-true _ _ named))
-  walk (act.TEnter a) named =
-      by-tx (event.Enter a) (refl, refl) ((tx_asks m h).enter a (ltb-true _ _ named))
-  walk (act.TLeave a) named =
-      by-tx (event.Leave a) (refl, refl) ((tx_asks m h).leave a (ltb-true _ _ named))
-  walk (act.TWeigh a) named = at-tx_weigh a (ltb-true _ _ named)
-  walk (act.TPut a) named =
-      let hash = hash_of m.setup (last_of m.tx a).id in
-      by-tx (event.Put a hash) (refl, refl) ((tx_asks m h).put a hash (ltb-true _ _ named))
-  walk (act.TPull t) named =
-      by-tx (event.Pull t) (refl, refl) ((tx_asks m h).pull t (ltb-true _ _ named))
-  walk (act.TDeliver t) named =
-      by-tx (event.Deliver t 0) (refl, refl) ((tx_asks m h).deliver t (ltb-true _ _ named))
-  walk (act.TRetire t) named =
-      by-tx (event.Retire t) (refl, refl) ((tx_asks m h).retire t (ltb-true _ _ named))
-  walk (act.Give c) named = kinds.give c named (given-is m c h.kept named)
-  walk (act.Poll q) named = self
-  walk (act.Drain c) named = self
-  walk (act.Reply a) named = self
-  walk (act.Serve a) named = self
-  walk (act.Ship t) named = self
-  walk act.Sweep named = self
+    at-send : (a : ℕ) (x : Option ℕ) → next_in m a ≡ x → a < m.setup.apps → Then (send_by m a x)
+    at-send a None is named = self
+    at-send a (Some x) is named =
+        let k = h.kept in
+        let es : List HopEvent = event.Arrive a x ∷ event.Take a ∷ [] in
+        let may : AllMayAsk es m.tx = (tx_asks m h).send a x named is in
+        let s = still-tx m (run es m.tx) (stays-run es m.tx may k.tx.sound)
+        (turns-run es m.tx ((refl, refl), ((refl, refl), tt))) in
+        let l = s.lasts in
+        kinds.send a x named is (record {
+          lasts = record {
+            setup = refl;
+            rx = l.rx;
+            tx = l.tx;
+            filters = refl;
+            arrivals = l.arrivals;
+            sent = λ b. extends-set m.sent a b (reply_to m a x);
+            writes = l.writes;
+            commands = l.commands;
+          };
+          rx = s.rx;
+          tx = s.tx;
+          settings = refl;
+          commands = refl;
+          looked = s.looked;
+        })
+
+    at-tx_weigh : (a : ℕ) → a < m.setup.apps → Then (simple m (act.TWeigh a))
+    at-tx_weigh a named =
+        let k = h.kept in
+        let r : Sent = in_reply m a in
+        let e : HopEvent = sending m a r in
+        let may : MayAsk m.tx e = (tx_asks m h).weigh a r named in
+        let stays = stays-happens m.tx e may k.tx.sound in
+        let l = lasts-self m in
+        by_cases (λ t. Stays m.tx t → Q (record m { tx = t })) m.tx e (λ same. self)
+        (λ inside more stay. kinds.tx_weigh a named more
+        (record {
+          setup = refl;
+          rx = l.rx;
+          tx = stay;
+          filters = refl;
+          arrivals = l.arrivals;
+          sent = l.sent;
+          writes = l.writes;
+          commands = l.commands;
+        }))
+        stays
+
+    -- an event of the transmit hop alone
+    by-tx : (e : HopEvent) → MakesNoTurn e → MayAsk m.tx e → Then (by_tx m e)
+    by-tx e off may = kinds.quiet (by_tx m e).0 (event-tx m h e off may)
+
+    beside : (e : HopEvent) → MakesNoTurn e → changes e Field.visits ≡ false → MayAsk m.rx e
+        → Then (by_rx m e)
+    beside e off same may = kinds.quiet (by_rx m e).0 (beside-rx m h e off same may)
+
+    walk-by : (s : Step) → this ≡ s → IsNamed m.setup s → Q (simple m s).0
+    walk-by act.Arrive is named = at-arrive
+    walk-by (act.Take q) is named =
+        either Then (is_asking (note_of m q)) (idles m idle.HandFull) (by_rx m (event.Take q))
+        (λ _. self)
+        (λ _. beside (event.Take q) (refl, refl) refl ((asks m h).take q (ltb-true _ _ named)))
+    walk-by (act.Enter q) is named =
+        kinds.quiet (by_rx m (event.Enter q)).0 (quiet-enter m h q (ltb-true _ _ named))
+    walk-by (act.Look q) is named =
+        let seen : Outcome = look_by m q (to_weigh m.rx q) in
+        let early : Outcome = idles m idle.WrongStage in
+        either Then (not (inside_of m.rx q)) (idles m idle.NotInside)
+        (cond (is_nothing (note_of m q)) seen early) (λ _. self)
+        (λ inside. either Then (is_nothing (note_of m q)) seen early
+        (λ _. at-look q (to_weigh m.rx q) refl (ltb-true _ _ named) (not-false _ inside))
+        (λ _. self))
+    walk-by (act.Weigh q) is named =
+        either Then (not (inside_of m.rx q)) (idles m idle.NotInside)
+        (weigh_by m q (note_of m q) (to_weigh m.rx q)) (λ _. self)
+        (λ _. at-weigh q (note_of m q) (to_weigh m.rx q) refl refl (ltb-true _ _ named))
+    walk-by (act.Put q) is named =
+        at-put q (position_of (happens m.rx (putting m q)).1) (ltb-true _ _ named)
+    walk-by (act.Ask q) is named =
+        either Then (not (inside_of m.rx q)) (idles m idle.NotInside) (ask_by m q (note_of m q))
+        (λ _. self) (λ _. at-ask q (note_of m q))
+    walk-by (act.Leave q) is named =
+        let gone : Outcome = by_rx m (event.Leave q) in
+        let early : Outcome = idles m idle.MidPacket in
+        either Then (not (inside_of m.rx q)) (idles m idle.NotInside)
+        (cond (is_nothing (note_of m q)) gone early) (λ _. self)
+        (λ _. either Then (is_nothing (note_of m q)) gone early
+        (λ nothing. kinds.quiet gone.0 (quiet-leave m h q (ltb-true _ _ named) nothing))
+        (λ _. self))
+    walk-by (act.Pull c) is named =
+        beside (event.Pull c) (refl, refl) refl ((asks m h).pull c (ltb-true _ _ named))
+    walk-by (act.Deliver c) is named =
+        beside (event.Deliver c (app_for m.setup (in_lane m.rx c))) (refl, refl) refl
+        ((asks m h).deliver c (in_lane m.rx c) (ltb-true _ _ named))
+    walk-by (act.Retire c) is named =
+        beside (event.Retire c) (refl, refl) refl ((asks m h).retire c (ltb-true _ _ named))
+    walk-by (act.Record flow) is named = at-write flow (flow_hash m.setup flow) refl
+    walk-by (act.Send a) is named =
+        either Then (nat_lt (placed_of m.tx a) (taken_of m.tx a)) (idles m idle.HandFull)
+        (send_by m a (next_in m a)) (λ _. self)
+        (λ _. at-send a (next_in m a) refl (ltb-true _ _ named))
+    walk-by (act.TEnter a) is named =
+        by-tx (event.Enter a) (refl, refl) ((tx_asks m h).enter a (ltb-true _ _ named))
+    walk-by (act.TLeave a) is named =
+        by-tx (event.Leave a) (refl, refl) ((tx_asks m h).leave a (ltb-true _ _ named))
+    walk-by (act.TWeigh a) is named = at-tx_weigh a (ltb-true _ _ named)
+    walk-by (act.TPut a) is named =
+        let hash = hash_of m.setup (last_of m.tx a).id in
+        by-tx (event.Put a hash) (refl, refl) ((tx_asks m h).put a hash (ltb-true _ _ named))
+    walk-by (act.TPull t) is named =
+        by-tx (event.Pull t) (refl, refl) ((tx_asks m h).pull t (ltb-true _ _ named))
+    walk-by (act.TDeliver t) is named =
+        by-tx (event.Deliver t 0) (refl, refl) ((tx_asks m h).deliver t (ltb-true _ _ named))
+    walk-by (act.TRetire t) is named =
+        by-tx (event.Retire t) (refl, refl) ((tx_asks m h).retire t (ltb-true _ _ named))
+    walk-by (act.Give c) is named = kinds.give c is named (given-is m c h.kept named)
+    walk-by (act.Poll q) is named = self
+    walk-by (act.Drain c) is named = self
+    walk-by (act.Reply a) is named = self
+    walk-by (act.Serve a) is named = self
+    walk-by (act.Ship t) is named = self
+    walk-by act.Sweep is named = self
+
+pub walk : (m : Machine) (h : Held m) (Q : Machine → Type 0) (s : Step) → Kinds m s Q
+    → IsNamed m.setup s → Q (simple m s).0
+walk m h Q s kinds named = walk-by m h Q s kinds s refl named
 
 -- ---- what lasts through every step
 
@@ -523,7 +528,7 @@ lasts-noted m q x =
 pub lasts-simple : (m : Machine) (s : Step) → Held m → IsNamed m.setup s
     → Lasts m (simple m s).0
 lasts-simple m s h named =
-    walk m h (Lasts m)
+    walk m h (Lasts m) s
     (record {
       quiet = λ n k. k.still.lasts;
       arrive = λ few k. k.lasts;
@@ -533,5 +538,5 @@ lasts-simple m s h named =
       write = λ flow hash is some k. k.lasts;
       send = λ a x in' is k. k.lasts;
       tx_weigh = λ a in' more l. l;
-      give = λ c in' g. g.lasts;
-    }) s named
+      give = λ c is in' g. g.lasts;
+    }) named

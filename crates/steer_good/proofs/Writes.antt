@@ -155,7 +155,7 @@ module _ (i : Input) (m : Machine) (setup : m.setup ≡ setup_in i) (follows : F
 pub written-simple : (i : Input) (m : Machine) (s : Step) → m.setup ≡ setup_in i → Follows i m
     → Commanding i m → Held m → IsNamed m.setup s → Written i m → Written i (simple m s).0
 written-simple i m s setup follows w h named old =
-    walk m h (Written i)
+    walk m h (Written i) s
     (record {
       quiet = λ n k. writes-stay i m n k.still.lasts k.writes old;
       arrive = λ few k. writes-stay i m _ k.lasts refl old;
@@ -167,8 +167,8 @@ written-simple i m s setup follows w h named old =
           written-more i m setup follows w h flow hash is some k.lasts old;
       send = λ a x in' is k. writes-stay i m (sends m a x) k.lasts refl old;
       tx_weigh = λ a in' more l. writes-stay i m (tx_weighed m a) l refl old;
-      give = λ c in' d. writes-stay i m (given m c).0 d.lasts d.writes old;
-    }) s named
+      give = λ c is in' d. writes-stay i m (given m c).0 d.lasts d.writes old;
+    }) named
 
 pub written-new : (i : Input) → Written i (new_machine i.plan i.packets i.cut)
 written-new i a =

@@ -1,4 +1,6 @@
 pub mod Always
 pub mod Ruled
+pub mod Moves
 pub mod Made
 pub mod GoodSoFar
+pub mod GoodAtRest

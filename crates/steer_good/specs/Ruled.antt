@@ -4,15 +4,20 @@ use Rattle.history.specs.declared.history.History.{History}
 use Rattle.steer_parts.specs.GoodChoices.{AreByRule, WantsAreWritten}
 use Rattle.steer_parts.specs.GoodReplies.{RepliesAreByRule}
 use Rattle.steer_parts.specs.Inputs.{Input}
+use Rattle.steer_good.specs.Moves.{FlowsChangeAsSaid, FlowsMoveAsSaid}
 
 -- Each choice of each receive queue is by the rule, after some number of commands, and a want that
--- it keeps was written.
+-- it keeps was written; so flows change their processor as said.
 pub record AreChosen (i : Input) (h : History) : Type 0 where
   pub at : ℕ → ℕ → ℕ
   pub choices : AreByRule i h at
   pub wants : WantsAreWritten i h at
+  pub moves : FlowsMoveAsSaid i h at
 
 -- Each reply is of the next packet of its inbox and keeps a processor where its application stood;
--- its choice is by the rule, after some number of commands; and replies leave in order.
-abbrev pub AreReplied : Input → History → Type 0
-AreReplied i h = (at : ℕ → ℕ → ℕ) × RepliesAreByRule i h at
+-- its choice is by the rule, after some number of commands, and replies leave in order; so flows
+-- change their transmit queue as said.
+pub record AreReplied (i : Input) (h : History) : Type 0 where
+  pub at : ℕ → ℕ → ℕ
+  pub replies : RepliesAreByRule i h at
+  pub changes : FlowsChangeAsSaid i h at

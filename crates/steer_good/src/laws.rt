@@ -1,5 +1,6 @@
 //! Laws of the histories that replays make, each the contract of a function that does nothing.
 ghost use Rattle.steer_good.specs.Always.{Always};
+ghost use Rattle.steer_good.specs.GoodAtRest.{SeededReplaysAreGood, SweptRunsAreGood};
 ghost use Rattle.steer_good.specs.GoodSoFar.{GoodSoFar};
 ghost use Rattle.steer_good.specs.Made.{AreAnswered, WritesAreMade};
 ghost use Rattle.steer_good.specs.Ruled.{AreChosen, AreReplied};
@@ -49,4 +50,12 @@ pub fn every_command_is_answered()
 /// is over.
 pub fn every_replay_is_good_so_far()
     ensures { Always GoodSoFar }
+{}
+
+/// A replay that ends with a sweep meets them all, but that its writes and its tries of commands are
+/// those of its steps: every packet arrived, each that was taken has a choice, and all is swept. So
+/// does every seeded plan.
+pub fn swept_replays_are_good_at_rest()
+    ensures runs { SweptRunsAreGood }
+    ensures seeded { SeededReplaysAreGood }
 {}

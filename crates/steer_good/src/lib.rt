@@ -6,5 +6,5 @@ mod laws;
 pub use laws::{
     every_choice_is_by_the_rule, every_command_is_answered, every_queue_was_seen,
     every_replay_is_good_so_far, every_reply_is_by_the_rule, every_write_is_of_a_packet,
-    heads_never_fall,
+    heads_never_fall, swept_replays_are_good_at_rest,
 };
