@@ -1,0 +1,4 @@
+pub mod Instances
+pub mod Laws
+pub mod Reads
+pub mod Rules
