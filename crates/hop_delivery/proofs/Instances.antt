@@ -16,10 +16,11 @@ use Rattle.hop_story.specs.Premises.{MeetsPremises}
 use Rattle.hop_story.specs.Receives.{receive_steering}
 use Rattle.hop_story.specs.Stories.{Story, Steering}
 use Rattle.hop_story.specs.Transmits.{transmit_steering}
-use Rattle.hop_story.proofs.Examples.{receive_example, transmit_example}
+use Rattle.hop_story.proofs.ReceiveExample.{receive_example}
+use Rattle.hop_story.proofs.TransmitExample.{transmit_example}
 use Rattle.hop_delivery.specs.Instances.{CanClose, ReceiveClosing, TransmitClosing}
 use Rattle.hop_delivery.specs.Laws.{accepted_left}
-use Rattle.hop_delivery.proofs.Laws.{accepted_same}
+use Rattle.hop_delivery.proofs.InOrder.{accepted_same}
 
 can_close : (table : TableId) (about : BoardSizes) (order : List (StepBy BoardStep)) (t : Story)
     (r : Steering) → MeetsAll about order t r → CanClose about t r

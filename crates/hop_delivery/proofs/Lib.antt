@@ -1,4 +1,4 @@
+pub mod InOrder
 pub mod Instances
-pub mod Laws
-pub mod Reads
 pub mod Rules
+pub mod TurnReads
