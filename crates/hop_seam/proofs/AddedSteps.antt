@@ -1,6 +1,5 @@
 -- What is read of a seat's own list after new steps.
 use Rattle.std.proofs.Common.{◌≡◌, ℕ, ◌/◌, ◌^◌, List, [], ◌∷◌, ◌++◌, Some, sym, refl, ap, ◌∙◌, subst}
-use Rattle.std.specs.List.{cons_option}
 use Rattle.std.proofs.lemmas.List.Elements.{filter_map-append}
 use Rattle.steer_base.specs.Lanes.{LaneLists}
 use Rattle.seat_order.proofs.Lists.{if_same}
@@ -11,16 +10,14 @@ use Rattle.hop_rule.specs.OutLanes.{OutList}
 use Rattle.hop_rule.specs.Owns.{visit_in, visits_of}
 use Rattle.hop_rule.specs.declared.sizes.BoardSizes.{BoardSizes}
 use Rattle.hop_rule.specs.declared.step.BoardStep.{BoardStep}
-use Rattle.hop_rule.specs.declared.step.BoardStep.TheVariants.{Lane, Gate, Weighed, Counted, LaneOut, LaneIn}
-use Rattle.hop_rule.specs.declared.step.GateStep.TheVariants.{Entered, Turned, Left, Shut, NotShut, Opened, Set, Read}
+use Rattle.hop_rule.specs.declared.step.BoardStep.TheVariants.{Lane, Gate, LaneOut}
+use Rattle.hop_rule.specs.declared.step.GateStep.TheVariants.{Read}
 use Rattle.hop_rule.specs.declared.step.LaneStep.TheVariants.{Held, OutHeld}
-use Rattle.hop_seam.specs.HeldLanes.{FitsLane, HoldsKind, IsMiddle, IsOut}
+use Rattle.hop_seam.specs.HeldLanes.{FitsLane, IsMiddle, IsOut}
 use Rattle.hop_seam.specs.OwnLaws.{QuietStepsStay, TakenLanesAreHeld}
 use Rattle.hop_seam.specs.Seats.{BoardSeatView}
-use Rattle.hop_seam.specs.Tells.{Took, TookMiddle, TookOut}
-use Rattle.hop_seam.specs.declared.held_lane.HeldLane.{HeldLane}
+use Rattle.hop_seam.specs.Tells.{TookMiddle, TookOut}
 use Rattle.hop_seam.specs.declared.held_lane.HeldLane.TheVariants as held
-use Rattle.hop_seam.specs.declared.held_lane.LaneId.{LaneId}
 use Rattle.hop_seam.specs.declared.held_lane.LaneId.TheVariants as id
 
 -- ---- lanes

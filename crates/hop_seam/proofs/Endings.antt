@@ -1,8 +1,7 @@
 -- A law of the orders of steps is a law of each closing: the own lists in the seats are those of the
 -- order, and the lists that are left are its lists.
-use Rattle.std.proofs.Common.{◌≡◌, ◌≢◌, ℕ, zero, suc, ◌+◌, ◌<◌, ◌≤◌, ◌==◌, List, [], ◌∷◌, map, length, All, Option, Some, None, if◌then◌else◌, sym, refl, ap, ◌∙◌, subst, arith}
+use Rattle.std.proofs.Common.{◌≡◌, ◌≢◌, ℕ, zero, suc, ◌+◌, ◌<◌, List, [], ◌∷◌, map, All, sym, refl, ap, ◌∙◌, subst, arith}
 use Rattle.std.specs.List.{Contains, range_with_len}
-use Rattle.std.specs.Prelude.{slice_get, slice_index_or}
 use Rattle.std.proofs.lemmas.List.Elements.{All-cons, All-head, All-nil, All-tail}
 use Rattle.std.proofs.lemmas.List.FromFn.{get_or-range_with_len, length-range_with_len}
 use mathlib.Core.Logic.{dite}
@@ -12,14 +11,12 @@ use Rattle.seat_order.specs.Orders.{StepBy, steps_of}
 use Rattle.seat_order.specs.Seats.{SeatView, ArePartsOf, HasPart, IsByOne, numbers_of}
 use Rattle.seat_order.proofs.Lists.{if_same, if_other}
 use Rattle.seat_order.proofs.Views.{steps_of_other}
-use Rattle.history.specs.Lists.{lane_at, list_at, no_lane}
-use Rattle.history.specs.declared.lane_list.LaneList.{LaneList}
 use Rattle.hop_rule.specs.Boards.{IsLawful}
 use Rattle.hop_rule.specs.Owns.{own_of}
 use Rattle.hop_rule.specs.Sizes.{FitSizes}
 use Rattle.hop_rule.specs.declared.sizes.BoardSizes.{BoardSizes}
 use Rattle.hop_rule.specs.declared.step.BoardStep.{BoardStep}
-use Rattle.hop_seam.specs.Closings.{AtEachClosing, EachOrderCloses, HasEnded, own_in, seat_in, seats_in}
+use Rattle.hop_seam.specs.Closings.{AtEachClosing, EachOrderCloses, own_in, seat_in, seats_in}
 use Rattle.hop_seam.specs.Finals.{lists_of}
 use Rattle.hop_seam.specs.Seats.{BoardSeatView, ordered_seat}
 use Rattle.hop_seam.specs.declared.lists.BoardLists.{BoardLists}

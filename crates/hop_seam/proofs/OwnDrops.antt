@@ -1,15 +1,11 @@
 -- The laws of sums and of drops, by own steps.
-use Rattle.std.proofs.Common.{◌≡◌, inl, inr, ℕ, ◌-◌, ◌<◌, List, [], length, take, Option, Some, sym, refl, ap, ◌∙◌, subst, arith}
+use Rattle.std.proofs.Common.{◌≡◌, inl, inr, ℕ, ◌<◌, List, [], length, sym, ap, ◌∙◌, subst}
 use Rattle.std.specs.Prelude.{slice_get}
 use Rattle.std.proofs.lemmas.Bool.{cases_lt}
-use Rattle.steer_base.specs.Drops.{drop_cause, offers_of}
 use Rattle.steer_base.specs.Lanes.{LaneLists}
-use Rattle.steer_base.specs.Sets.{has}
-use Rattle.steer_base.specs.declared.put.LaneDrop.{LaneDrop}
-use Rattle.backlog.specs.Offers.{AllExplained, IsExplained, buckets_of}
+use Rattle.backlog.specs.Offers.{IsExplained}
 use Rattle.backlog.specs.Rising.{AreRising}
 use Rattle.seat_order.specs.Orders.{StepBy}
-use Rattle.history.specs.Lists.{lane_at as left_at}
 use Rattle.history.specs.declared.lane_list.LaneList.{LaneList}
 use Rattle.hop_rule.specs.Boards.{IsLawful, lane_at}
 use Rattle.hop_rule.specs.declared.sizes.BoardSizes.{BoardSizes}
@@ -17,7 +13,7 @@ use Rattle.hop_rule.specs.declared.step.BoardStep.{BoardStep}
 use Rattle.hop_rule.proofs.Drops.{drop_counts_rise, drops_are_explained}
 use Rattle.hop_rule.proofs.Lists.{none-some}
 use Rattle.hop_seam.specs.Finals.{lists_of}
-use Rattle.hop_seam.specs.Lists.{IsLaneOf, as_lane}
+use Rattle.hop_seam.specs.Lists.{as_lane}
 use Rattle.hop_seam.specs.OwnSteps.{put_step}
 use Rattle.hop_seam.specs.PutLaws.{CountsAreSums, DropsHaveCauses, DropsRise}
 use Rattle.hop_seam.specs.declared.lists.BoardLists.{BoardLists}

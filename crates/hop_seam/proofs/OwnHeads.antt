@@ -1,10 +1,9 @@
 -- The laws of heads and of lanes that were found empty, by own steps.
-use Rattle.std.proofs.Common.{◌≡◌, ◌↔◌, inl, inr, ℕ, zero, suc, ◌+◌, ◌*◌, ◌/◌, ◌^◌, ◌<◌, ◌≤◌, List, length, Some, sym, refl, ap, ◌∙◌, subst, arith}
+use Rattle.std.proofs.Common.{◌≡◌, inl, inr, ℕ, zero, suc, ◌+◌, ◌<◌, ◌≤◌, List, length, sym, refl, ap, ◌∙◌, subst, arith}
 use Rattle.std.proofs.lemmas.Bool.{cases_eq}
-use Rattle.steer_base.specs.Lanes.{LaneLists}
 use Rattle.seat_order.specs.Orders.{StepBy}
 use Rattle.history.specs.declared.lane_list.LaneList.{LaneList}
-use Rattle.hop_rule.specs.Boards.{IsLawful, gate_steps, lane_at, lanes_of, retired}
+use Rattle.hop_rule.specs.Boards.{IsLawful, gate_steps, lanes_of, retired}
 use Rattle.hop_rule.specs.Deliveries.{Delivery, given}
 use Rattle.hop_rule.specs.Emptied.{WasEmptied}
 use Rattle.hop_rule.specs.Gates.{visit_number}
@@ -24,15 +23,14 @@ use Rattle.hop_rule.proofs.Lists.{some-is}
 use Rattle.hop_rule.proofs.Moments.{one-step}
 use Rattle.hop_rule.proofs.Numbers.{none_between}
 use Rattle.hop_seam.specs.Finals.{lists_of}
-use Rattle.hop_seam.specs.HeadLaws.{EarlyStandFirst, EmptiedLanesStandFirst, FindsEmpty}
-use Rattle.hop_seam.specs.HeadLaws.{HeadsAreBelowTails, HeadsArePassed, HeadsRise, StandsFirst}
+use Rattle.hop_seam.specs.HeadLaws.{EmptiedLanesStandFirst, FindsEmpty}
+use Rattle.hop_seam.specs.HeadLaws.{HeadsAreBelowTails, HeadsArePassed, HeadsRise}
 use Rattle.hop_seam.specs.OwnSteps.{Has, delivered_by, put_step, visit_before}
 use Rattle.hop_seam.specs.PutLaws.{WasPut}
-use Rattle.hop_seam.specs.StepWords.{openings_in}
 use Rattle.hop_seam.specs.declared.lists.BoardLists.{BoardLists}
 use Rattle.hop_seam.proofs.Left.{lane_is}
 use Rattle.hop_seam.proofs.OwnPuts.{order_put}
-use Rattle.hop_seam.proofs.OwnTimes.{in_time, moments, own, rise, step_is, when}
+use Rattle.hop_seam.proofs.OwnTimes.{moments, own, rise, step_is, when}
 use Rattle.hop_seam.proofs.Owners.{given_own}
 
 bit-small : (h : ℕ) → lanes.bit h ≤ 1

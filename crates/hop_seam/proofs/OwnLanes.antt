@@ -1,13 +1,13 @@
 -- The laws of holds, deliveries and of the one server of a lane, by own steps.
-use Rattle.std.proofs.Common.{◌≡◌, ◌⊎◌, inl, inr, ℕ, suc, ◌+◌, ◌-◌, ◌*◌, ◌<◌, ◌≤◌, List, [], length, Option, Some, sym, refl, ap, ◌∙◌, subst, arith}
+use Rattle.std.proofs.Common.{◌≡◌, inl, inr, ℕ, suc, ◌+◌, ◌-◌, ◌*◌, ◌<◌, List, length, Some, sym, ap, ◌∙◌, subst, arith}
 use Rattle.std.specs.Prelude.{slice_get}
 use Rattle.std.proofs.lemmas.Bool.{cases_eq, cases_lt}
 use Rattle.steer_base.specs.Lanes.{LaneLists}
-use Rattle.seat_order.specs.Orders.{StepBy, steps_of}
-use Rattle.history.specs.Lists.{lane_at as left_at, list_at, no_lane}
+use Rattle.seat_order.specs.Orders.{StepBy}
+use Rattle.history.specs.Lists.{list_at}
 use Rattle.history.specs.declared.lane_list.LaneList.{LaneList}
-use Rattle.hop_rule.specs.Boards.{IsLawful, lane_at, lanes_of, out, retired}
-use Rattle.hop_rule.specs.Deliveries.{Delivery, given}
+use Rattle.hop_rule.specs.Boards.{IsLawful, lane_at, lanes_of, out}
+use Rattle.hop_rule.specs.Deliveries.{given}
 use Rattle.hop_rule.specs.Fronts.{Front}
 use Rattle.hop_rule.specs.Lanes as lanes
 use Rattle.hop_rule.specs.Moments.{nth_step, past}
@@ -21,7 +21,7 @@ use Rattle.hop_rule.proofs.Boards.{step_lawful}
 use Rattle.hop_rule.proofs.Fronts.{lane_later, out_later}
 use Rattle.hop_rule.proofs.Heads.{delivered_as_accepted, delivered_in_order, in_turn}
 use Rattle.hop_rule.proofs.Puts.{each_delivery_is_right, each_member_was_given, places_rise, top}
-use Rattle.hop_seam.specs.Finals.{lane_list, lists_of}
+use Rattle.hop_seam.specs.Finals.{lists_of}
 use Rattle.hop_seam.specs.LaneLaws.{DeliveriesHavePlaces, GivesPlace, HoldFinds, HoldsFindFronts}
 use Rattle.hop_seam.specs.LaneLaws.{IsInTurn, IsServedByOne, LanesAreInTurn, LanesAreServedByOne}
 use Rattle.hop_seam.specs.LaneLaws.{OutHoldFinds, WasGiven}

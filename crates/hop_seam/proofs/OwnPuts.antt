@@ -1,17 +1,14 @@
 -- The laws of puts, by own steps.
-use Rattle.std.proofs.Common.{◌≡◌, ◌≢◌, ◌⊎◌, inl, inr, ℕ, suc, ◌+◌, ◌<◌, ◌≤◌, List, [], ◌∷◌, length, Bool, Option, Some, None, sym, refl, ap, ◌∙◌, subst, arith}
-use Rattle.std.specs.Prelude.{slice_get}
+use Rattle.std.proofs.Common.{◌≡◌, inl, inr, ℕ, suc, ◌<◌, List, [], ◌∷◌, length, Option, Some, None, sym, refl, ap, ◌∙◌, subst, arith}
 use Rattle.std.proofs.lemmas.Bool.{cases_eq, cases_lt}
 use Rattle.steer_base.specs.Drops.{bucket_of, lane_drop_cause}
 use Rattle.steer_base.specs.Lanes.{LaneLists}
 use Rattle.steer_base.specs.Sets.{has}
 use Rattle.steer_base.specs.declared.put.DropCause.{DropCause}
-use Rattle.steer_base.specs.declared.put.LaneDrop.{LaneDrop}
 use Rattle.steer_base.specs.declared.put.Put.{Put}
 use Rattle.backlog.specs.Puts.{after_put, put_by}
-use Rattle.seat_order.specs.Orders.{StepBy, steps_of}
+use Rattle.seat_order.specs.Orders.{StepBy}
 use Rattle.history.specs.Lists.{lane_at as left_at}
-use Rattle.history.specs.declared.lane_list.LaneList.{LaneList}
 use Rattle.hop_rule.specs.Boards.{IsLawful, lane_at, lanes_of, lane_steps}
 use Rattle.hop_rule.specs.Fronts.{IsEarlier}
 use Rattle.hop_rule.specs.Lanes as lanes
@@ -27,11 +24,11 @@ use Rattle.hop_rule.proofs.Cases.{lane_case}
 use Rattle.hop_rule.proofs.Fronts.{lane_later}
 use Rattle.hop_rule.proofs.Lists.{some-is}
 use Rattle.hop_rule.proofs.Puts.{each_put_is_right, each_accepted_was_put, each_drop_was_put}
-use Rattle.hop_seam.specs.Finals.{lane_list, lists_of}
+use Rattle.hop_seam.specs.Finals.{lists_of}
 use Rattle.hop_seam.specs.Lists.{IsFrontOf, IsLaneOf}
 use Rattle.hop_seam.specs.OwnSteps.{Has, held_before, put_step}
 use Rattle.hop_seam.specs.PutLaws.{AcceptedWerePut, DropsWerePut, PutStands, PutsKeepOrder}
-use Rattle.hop_seam.specs.PutLaws.{PutsStand, PutsTakeTurns, WasDropped, WasPut}
+use Rattle.hop_seam.specs.PutLaws.{PutsStand, PutsTakeTurns, WasPut}
 use Rattle.hop_seam.specs.declared.lists.BoardLists.{BoardLists}
 use Rattle.hop_seam.proofs.Left.{accepted_left, drop_left, lane_is}
 use Rattle.hop_seam.proofs.OwnTimes.{moments, own, same_step, when}

@@ -1,5 +1,5 @@
 -- The deliveries, pulls and retires of a lane are those of the one seat that serves it.
-use Rattle.std.proofs.Common.{◌≡◌, ◌≢◌, ℕ, ◌+◌, ◌-◌, ◌<◌, ◌==◌, List, [], ◌∷◌, length, Option, Some, None, if◌then◌else◌, sym, refl, ap, ◌∙◌, subst, arith}
+use Rattle.std.proofs.Common.{◌≡◌, ◌≢◌, ℕ, ◌+◌, List, [], ◌∷◌, length, Option, Some, None, sym, refl, ap, ◌∙◌, subst, arith}
 use Rattle.std.specs.List.{cons_option, filter_map}
 use Rattle.std.specs.Prelude.{slice_get}
 use mathlib.Core.Logic.{dite}
@@ -8,18 +8,18 @@ use Rattle.steer_base.specs.Drops.{bucket_of, lane_drop_cause}
 use Rattle.steer_base.specs.Lanes.{LaneLists}
 use Rattle.steer_base.specs.declared.put.DropCause.{DropCause}
 use Rattle.backlog.specs.Puts.{after_put, put_by}
-use Rattle.seat_order.specs.Orders.{StepBy, step_by, steps_of}
+use Rattle.seat_order.specs.Orders.{StepBy, step_by}
 use Rattle.seat_order.proofs.Lists.{if_same, if_other}
 use Rattle.seat_order.proofs.Views.{steps_of_own, steps_of_other}
 use Rattle.hop_rule.specs.Boards.{IsLawful, MayCome, lane_at, lanes_of, retired}
-use Rattle.hop_rule.specs.Deliveries.{Delivery, delivery, given}
+use Rattle.hop_rule.specs.Deliveries.{delivery, given}
 use Rattle.hop_rule.specs.Lanes.{changed}
 use Rattle.hop_rule.specs.Moments.{nth_step}
 use Rattle.hop_rule.specs.Owns.{own_of}
 use Rattle.hop_rule.specs.Sizes.{puller}
 use Rattle.hop_rule.specs.declared.sizes.BoardSizes.{BoardSizes}
 use Rattle.hop_rule.specs.declared.step.BoardStep.{BoardStep}
-use Rattle.hop_rule.specs.declared.step.BoardStep.TheVariants.{Lane, Gate, Weighed, Counted, LaneOut, LaneIn}
+use Rattle.hop_rule.specs.declared.step.BoardStep.TheVariants.{Lane}
 use Rattle.hop_rule.specs.declared.step.Change.TheVariants.{Nothing, Offered, Pulled}
 use Rattle.hop_rule.specs.declared.step.LaneStep.TheVariants.{Freed, Given, Retired}
 use Rattle.hop_rule.proofs.Boards.{parts}

@@ -1,13 +1,13 @@
 -- A count that goes up with the steps of a kind is the sum of all seats' steps of that kind.
-use Rattle.std.proofs.Common.{◌≡◌, ◌≢◌, ℕ, zero, suc, ◌+◌, ◌<◌, List, [], ◌∷◌, ◌++◌, length, length-append, Option, Some, None, sym, refl, ap, ◌∙◌, subst, arith}
-use Rattle.std.specs.List.{cons_option, filter_map, range_with_len, sum_by}
+use Rattle.std.proofs.Common.{◌≡◌, ◌≢◌, ℕ, zero, suc, ◌+◌, ◌<◌, List, [], ◌∷◌, length, length-append, Option, Some, None, sym, refl, ap, ◌∙◌, subst, arith}
+use Rattle.std.specs.List.{cons_option, filter_map}
 use Rattle.steer_base.specs.Drops.{bucket_of, lane_drop_cause}
 use Rattle.steer_base.specs.Lanes.{LaneLists}
 use Rattle.steer_base.specs.declared.put.DropCause.{DropCause}
 use Rattle.steer_base.specs.declared.put.Put.{Put}
 use Rattle.steer_base.specs.declared.put.Put.TheVariants.{At, Dropped}
 use Rattle.backlog.specs.Puts.{after_put, answer_by, put_answer, put_by}
-use Rattle.seat_order.specs.Orders.{StepBy, step_by, steps_of}
+use Rattle.seat_order.specs.Orders.{StepBy, step_by}
 use Rattle.seat_order.proofs.Views.{steps_of_own, steps_of_other}
 use Rattle.hop_rule.specs.Boards.{IsLawful, MayCome, lane_at, lanes_of}
 use Rattle.hop_rule.specs.Events.{sum_below}
@@ -15,11 +15,9 @@ use Rattle.hop_rule.specs.Lanes as lanes
 use Rattle.hop_rule.specs.Owns.{own_of}
 use Rattle.hop_rule.specs.declared.sizes.BoardSizes.{BoardSizes}
 use Rattle.hop_rule.specs.declared.step.BoardStep.{BoardStep}
-use Rattle.hop_rule.specs.declared.step.BoardStep.TheVariants.{Lane, Gate, Weighed, Counted, LaneOut, LaneIn}
-use Rattle.hop_rule.specs.declared.step.Change.{Change}
+use Rattle.hop_rule.specs.declared.step.BoardStep.TheVariants.{Lane}
 use Rattle.hop_rule.specs.declared.step.Change.TheVariants.{Nothing, Offered, Pulled}
-use Rattle.hop_rule.specs.declared.step.LaneStep.{LaneStep}
-use Rattle.hop_rule.specs.declared.step.LaneStep.TheVariants.{Held, Missed, Freed, OutHeld, OutMissed, OutFreed, Given, Retired}
+use Rattle.hop_rule.specs.declared.step.LaneStep.TheVariants.{Freed}
 use Rattle.hop_rule.proofs.Boards.{parts}
 use Rattle.hop_rule.proofs.Cases.{pick}
 use Rattle.hop_rule.proofs.Gates.{sum_one}

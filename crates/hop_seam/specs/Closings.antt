@@ -4,7 +4,7 @@ use Rattle.std.specs.List.{range_with_len}
 use Rattle.atomic_table.specs.Seated.{TableId}
 use Rattle.seat_order.specs.Orders.{StepBy}
 use Rattle.seat_order.specs.Seats.{ArePartsOf}
-use Rattle.hop_rule.specs.Boards.{IsLawful, lane_steps, gate_steps}
+use Rattle.hop_rule.specs.Boards.{IsLawful, lane_steps}
 use Rattle.hop_rule.specs.Lanes.{holding, out_holding, phase, idle}
 use Rattle.hop_rule.specs.Owns.{own_of}
 use Rattle.hop_rule.specs.Sizes.{FitSizes}

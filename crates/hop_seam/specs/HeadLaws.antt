@@ -1,6 +1,5 @@
 -- What loads of heads and of lanes' words tell, and what the lanes found empty tell of visits.
-use Rattle.std.specs.Prelude.{◌≡◌, ◌↔◌, ℕ, ◌+◌, ◌/◌, ◌^◌, ◌<◌, ◌≤◌, List, Some, length}
-use Rattle.std.specs.Prelude.{slice_get}
+use Rattle.std.specs.Prelude.{◌≡◌, ◌↔◌, ℕ, ◌+◌, ◌/◌, ◌<◌, ◌≤◌, List, Some, length}
 use Rattle.history.specs.Lists.{lane_at}
 use Rattle.hop_rule.specs.Boards.{gate_steps}
 use Rattle.hop_rule.specs.Deliveries.{Delivery}

@@ -2,7 +2,6 @@
 use Rattle.std.specs.Prelude.{◌≡◌, ℕ, ◌<◌, ◌≤◌, []}
 use Rattle.steer_base.specs.Lanes.{LaneLists}
 use Rattle.steer_base.specs.Sets.{has}
-use Rattle.backlog.specs.Puts.{IsLane}
 use Rattle.history.specs.Lists.{lane_at}
 use Rattle.history.specs.declared.lane_list.LaneList.{LaneList}
 use Rattle.hop_rule.specs.Fronts.{Front}

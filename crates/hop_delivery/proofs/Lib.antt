@@ -1,0 +1,4 @@
+pub mod InOrder
+pub mod Instances
+pub mod Rules
+pub mod TurnReads
