@@ -1,11 +1,14 @@
 //! A replay of a plan over frames: the answers of its steps, and the history that they leave.
+ghost use Rattle.std.specs.Prelude.{◌≤◌, length};
+ghost use Rattle.steer_parts.specs.Given.{AreOfFlows};
+
 use crate::frames::{Frame, captured};
 use history::History;
 use pcap_reader::read_capture;
 use plan_reader::{Plan, read_plan};
 use std::alloc::Global;
 use std::test::Fail;
-use steer_base::{Answer, OutOfMemory};
+use steer_base::{Answer, OutOfMemory, Packet};
 use steer_core::{Steering, packets};
 use toeplitz::{Key, Kinds};
 
@@ -23,13 +26,20 @@ pub fn replayed(alloc: Global, plan: &[u8], frames: &[Frame]) -> Result<Replay, 
     let capture = read_capture(alloc, &bytes)?;
     let key = Key::make(plan.key);
     let list = packets(alloc, &capture, &bytes, &key, Kinds(plan.kinds))?;
-    let steering = Steering::make(alloc, &plan, &list, capture.cut)?;
-    Ok(run(alloc, &plan, steering)?)
+    Ok(run(alloc, &plan, &list, capture.cut)?)
 }
 
 // Makes all steps of a plan.
-fn run(alloc: Global, plan: &Plan, steering: Steering) -> Result<Replay, OutOfMemory> {
-    let mut steering = steering;
+fn run(
+    alloc: Global,
+    plan: &Plan,
+    packets: &[Packet],
+    cut: Option<u32>,
+) -> Result<Replay, OutOfMemory>
+    requires few { length packets.now ≤ 262144 }
+    requires flows { AreOfFlows packets.now }
+{
+    let mut steering = Steering::make(alloc, plan, packets, cut)?;
     let mut answers = Vec::new(alloc);
     for i in 0..plan.step_count() {
         let step = plan.step_at(i);
