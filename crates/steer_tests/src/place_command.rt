@@ -1,5 +1,5 @@
 //! The command `place` on files in memory.
-use crate::calls::{Outcome, desk_of, outcome};
+use crate::calls::{Outcome, called, desk_of};
 use crate::files::{ARP, FRAME_A, FRAME_B, HEADER, file};
 use std::alloc::Global;
 use std::test::Fail;
@@ -23,14 +23,14 @@ const SWAPPED_A: [u8; 54] = [
 
 /// A frame from 10.0.0.1 port 7 to itself.
 const SELF: [u8; 54] = [
-    2, 0, 0, 0, 0, 2, 2, 0, 0, 0, 0, 1, 8, 0, 0x45, 0, 0, 0x28, 0, 0, 0, 0, 0x40, 6, 0, 0, 10, 0, 0,
-    1, 10, 0, 0, 1, 0, 7, 0, 7, 0, 0, 0, 0, 0, 0, 0, 0, 0x50, 0, 0, 0, 0, 0, 0, 0,
+    2, 0, 0, 0, 0, 2, 2, 0, 0, 0, 0, 1, 8, 0, 0x45, 0, 0, 0x28, 0, 0, 0, 0, 0x40, 6, 0, 0, 10, 0,
+    0, 1, 10, 0, 0, 1, 0, 7, 0, 7, 0, 0, 0, 0, 0, 0, 0, 0, 0x50, 0, 0, 0, 0, 0, 0, 0,
 ];
 
 /// What `place` comes to with these rules and this capture.
 fn placed(alloc: Global, rules: &[u8], capture: &[u8]) -> Result<Outcome, Fail> {
     let desk = desk_of(alloc, &[("r.json", rules), ("a.pcap", capture)], &[])?;
-    outcome(alloc, &["place", "r.json", "a.pcap"], desk)
+    called(alloc, &["place", "r.json", "a.pcap"], desk)
 }
 
 #[test]
@@ -71,7 +71,11 @@ packets 2\n",
             b"packet 0 tcp4 420995bb a18e6450 2794 1766 hash 51ccc178 entry 120 queue 0 rule - depth 1\n\
 packets 1\n",
         ),
-        (INNER, &three[..100], b"packet 0 tcp4 420995bb a18e6450 2794 1766 hash 51ccc178 entry 120 queue 0 rule - depth 0\npackets 1 cut 6\n"),
+        (
+            INNER,
+            &three[..100],
+            b"packet 0 tcp4 420995bb a18e6450 2794 1766 hash 51ccc178 entry 120 queue 0 rule - depth 0\npackets 1 cut 6\n",
+        ),
     ];
     for (case, (rules, capture, wanted)) in cases.into_iter().enumerate() {
         let got = placed(alloc, rules, capture)?;
@@ -90,7 +94,10 @@ fn what_is_no_rules_is_named(rt: HostRuntime) -> Result<(), Fail> {
         (b"7", b"rules: wrong kind \n"),
         (b"{}", b"rules: missing queues\n"),
         (b"{\"queues\":17,\"rules\":[]}", b"rules: range queues 17\n"),
-        (b"{\"queues\":1,\"rules\":[],\"zeal\":1}", b"rules: unknown key zeal\n"),
+        (
+            b"{\"queues\":1,\"rules\":[],\"zeal\":1}",
+            b"rules: unknown key zeal\n",
+        ),
         (
             b"{\"queues\":4,\"rules\":[{\"kind\":\"ip4\",\"src\":\"0a\",\"queue\":1}]}",
             b"rules: wrong kind rules/0/src\n",
@@ -103,7 +110,7 @@ fn what_is_no_rules_is_named(rt: HostRuntime) -> Result<(), Fail> {
     // The capture is missing each time: the rules are refused before it is asked for.
     for (case, (rules, wanted)) in cases.into_iter().enumerate() {
         let desk = desk_of(alloc, &[("r.json", rules)], &[])?;
-        let got = outcome(alloc, &["place", "r.json", "a.pcap"], desk)?;
+        let got = called(alloc, &["place", "r.json", "a.pcap"], desk)?;
         assert_eq!(rt; got.status, 3, "case {case}");
         assert!(rt; got.out.is_empty(), "case {case}");
         assert_eq!(rt; got.err.as_slice(), wanted, "case {case}");
@@ -116,19 +123,23 @@ fn each_file_has_its_status(rt: HostRuntime) -> Result<(), Fail> {
     let alloc = rt.alloc();
     let long = vec![in alloc; b' '; 16_777_217]?;
     let one = file(alloc, &[&FRAME_A])?;
-    let missing = outcome(
+    let missing = called(
         alloc,
         &["place", "r.json", "a.pcap"],
         desk_of(alloc, &[("r.json", RULES)], &[])?,
     )?;
-    let unread = outcome(
+    let unread = called(
         alloc,
         &["place", "r.json", "a.pcap"],
         desk_of(alloc, &[("r.json", RULES), ("a.pcap", &one)], &[2])?,
     )?;
     let cases: [(Outcome, u8, &[u8]); 4] = [
         (placed(alloc, &long, &one)?, 8, b"rules too long\n"),
-        (placed(alloc, RULES, &HEADER[..23])?, 4, b"capture: short header 23\n"),
+        (
+            placed(alloc, RULES, &HEADER[..23])?,
+            4,
+            b"capture: short header 23\n",
+        ),
         (missing, 5, b"read fault\n"),
         (unread, 5, b"read fault\n"),
     ];
@@ -145,7 +156,7 @@ fn each_file_has_its_status(rt: HostRuntime) -> Result<(), Fail> {
     ];
     for (case, texts) in words.into_iter().enumerate() {
         let desk = desk_of(alloc, &[("r.json", RULES), ("a.pcap", &one)], &[])?;
-        assert_eq!(rt; outcome(alloc, texts, desk)?.status, 2, "case {case}");
+        assert_eq!(rt; called(alloc, texts, desk)?.status, 2, "case {case}");
     }
     Ok(())
 }
