@@ -43,7 +43,7 @@ pub struct Outcome {
 }
 
 /// What a call over this desk comes to.
-pub fn outcome(alloc: Global, texts: &[&str], mut desk: MemoryDesk) -> Result<Outcome, Fail> {
+pub fn called(alloc: Global, texts: &[&str], mut desk: MemoryDesk) -> Result<Outcome, Fail> {
     let mut out = sink(alloc, &[])?;
     let mut err = sink(alloc, &[])?;
     let status = steer_still(alloc, &words(alloc, texts)?, &mut desk, &mut out, &mut err);

@@ -2,7 +2,7 @@
 ghost use Rattle.std.specs.Prelude.{◌≡◌, Option, None};
 ghost use Rattle.outside_io.specs.Counts.{last_count};
 
-use crate::calls::{desk_of, outcome, sink, words};
+use crate::calls::{called, desk_of, sink, words};
 use crate::files::{
     ARP, FRAGMENT, FRAME_A, FRAME_B, HEADER, OTHER_LINK, SYN, TAGGED_V6, VERSION_2_5, ZEROS,
     big_file, file, tcpdump_file,
@@ -86,7 +86,7 @@ fn captures_are_hashed(rt: HostRuntime) -> Result<(), Fail> {
         (&["hash", "a.pcap"], &long, b"packets 0 cut 15\n"),
     ];
     for (case, (texts, bytes, wanted)) in cases.into_iter().enumerate() {
-        let got = outcome(alloc, texts, desk_with(alloc, bytes, &[])?)?;
+        let got = called(alloc, texts, desk_with(alloc, bytes, &[])?)?;
         assert_eq!(rt; got.status, 0, "case {case}");
         assert_eq!(rt; got.out.as_slice(), wanted, "case {case}");
         assert!(rt; got.err.is_empty(), "case {case}");
@@ -110,7 +110,7 @@ fn what_is_no_capture_is_named(rt: HostRuntime) -> Result<(), Fail> {
         (&many, b"capture: too many packets\n"),
     ];
     for (case, (bytes, wanted)) in cases.into_iter().enumerate() {
-        let got = outcome(alloc, &["hash", "a.pcap"], desk_with(alloc, bytes, &[])?)?;
+        let got = called(alloc, &["hash", "a.pcap"], desk_with(alloc, bytes, &[])?)?;
         assert_eq!(rt; got.status, 4, "case {case}");
         assert!(rt; got.out.is_empty(), "case {case}");
         assert_eq!(rt; got.err.as_slice(), wanted, "case {case}");
@@ -139,7 +139,7 @@ fn words_that_are_no_command_get_the_usage(rt: HostRuntime) -> Result<(), Fail> 
         &["hash", "a.pcap", "4", "63", "1"],
     ];
     for (case, texts) in cases.into_iter().enumerate() {
-        let got = outcome(alloc, texts, desk_with(alloc, &bytes, &[])?)?;
+        let got = called(alloc, texts, desk_with(alloc, &bytes, &[])?)?;
         assert_eq!(rt; got.status, 2, "case {case}");
         assert!(rt; got.out.is_empty(), "case {case}");
         assert_eq!(rt; got.err.as_slice(), USAGE, "case {case}");

@@ -1,5 +1,5 @@
 //! The command `hash` on captures in the pcapng format.
-use crate::calls::{Outcome, desk_of, outcome};
+use crate::calls::{Outcome, called, desk_of};
 use crate::files::FRAME_A;
 use pcapng_reader::{put_enhanced, put_section};
 use std::alloc::Global;
@@ -43,7 +43,7 @@ fn with(alloc: Global, place: usize, byte: u8) -> Result<Vec<u8>, Fail> {
 
 fn hashed(alloc: Global, bytes: &[u8]) -> Result<Outcome, Fail> {
     let desk = desk_of(alloc, &[("a.pcapng", bytes)], &[])?;
-    outcome(alloc, &["hash", "a.pcapng"], desk)
+    called(alloc, &["hash", "a.pcapng"], desk)
 }
 
 #[test]

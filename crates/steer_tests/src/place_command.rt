@@ -1,5 +1,5 @@
 //! The command `place` on files in memory.
-use crate::calls::{Outcome, desk_of, outcome};
+use crate::calls::{Outcome, called, desk_of};
 use crate::files::{ARP, FRAME_A, FRAME_B, HEADER, file};
 use std::alloc::Global;
 use std::test::Fail;
@@ -30,7 +30,7 @@ const SELF: [u8; 54] = [
 /// What `place` comes to with these rules and this capture.
 fn placed(alloc: Global, rules: &[u8], capture: &[u8]) -> Result<Outcome, Fail> {
     let desk = desk_of(alloc, &[("r.json", rules), ("a.pcap", capture)], &[])?;
-    outcome(alloc, &["place", "r.json", "a.pcap"], desk)
+    called(alloc, &["place", "r.json", "a.pcap"], desk)
 }
 
 #[test]
@@ -110,7 +110,7 @@ fn what_is_no_rules_is_named(rt: HostRuntime) -> Result<(), Fail> {
     // The capture is missing each time: the rules are refused before it is asked for.
     for (case, (rules, wanted)) in cases.into_iter().enumerate() {
         let desk = desk_of(alloc, &[("r.json", rules)], &[])?;
-        let got = outcome(alloc, &["place", "r.json", "a.pcap"], desk)?;
+        let got = called(alloc, &["place", "r.json", "a.pcap"], desk)?;
         assert_eq!(rt; got.status, 3, "case {case}");
         assert!(rt; got.out.is_empty(), "case {case}");
         assert_eq!(rt; got.err.as_slice(), wanted, "case {case}");
@@ -123,12 +123,12 @@ fn each_file_has_its_status(rt: HostRuntime) -> Result<(), Fail> {
     let alloc = rt.alloc();
     let long = vec![in alloc; b' '; 16_777_217]?;
     let one = file(alloc, &[&FRAME_A])?;
-    let missing = outcome(
+    let missing = called(
         alloc,
         &["place", "r.json", "a.pcap"],
         desk_of(alloc, &[("r.json", RULES)], &[])?,
     )?;
-    let unread = outcome(
+    let unread = called(
         alloc,
         &["place", "r.json", "a.pcap"],
         desk_of(alloc, &[("r.json", RULES), ("a.pcap", &one)], &[2])?,
@@ -156,7 +156,7 @@ fn each_file_has_its_status(rt: HostRuntime) -> Result<(), Fail> {
     ];
     for (case, texts) in words.into_iter().enumerate() {
         let desk = desk_of(alloc, &[("r.json", RULES), ("a.pcap", &one)], &[])?;
-        assert_eq!(rt; outcome(alloc, texts, desk)?.status, 2, "case {case}");
+        assert_eq!(rt; called(alloc, texts, desk)?.status, 2, "case {case}");
     }
     Ok(())
 }
