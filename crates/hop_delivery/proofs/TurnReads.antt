@@ -46,7 +46,7 @@ past-split : {X : Type 0} (front : List X) (x : X) (back : List X)
     → past (length back) (front ++ x ∷ back) ≡ back
 past-split front x back =
     let whole : front ++ x ∷ back ≡ (front ++ x ∷ []) ++ back =
-      sym (append_assoc front (x ∷ []) back) in
+    sym (append_assoc front (x ∷ []) back) in
     let size = length-append (front ++ x ∷ []) back in
     let same = ap length whole in
     let n : length (front ++ x ∷ back) - length back ≡ length (front ++ x ∷ []) = omega arith in
@@ -59,7 +59,7 @@ quiet-back : (front back : List BoardStep) (d : BoardStep) → visit_in d ≡ No
 quiet-back front back d none all =
     let parts = filter_map-append visit_in front (d ∷ back) in
     let here : visits_of (d ∷ back) ≡ visits_of back =
-      ap (λ o. cons_option o (visits_of back)) none in
+    ap (λ o. cons_option o (visits_of back)) none in
     no-more (visits_of front) (visits_of back)
     (ap (λ gs. visits_of front ++ gs) (sym here) ∙ (sym parts ∙ all))
   where
@@ -81,18 +81,18 @@ module _ (about : BoardSizes) (own : ℕ → List BoardStep) (lists : BoardLists
       let begun : List BoardStep = Gate (Entered u.word) ∷ older in
       let back : List BoardStep = t.1 ++ begun in
       let front : List BoardStep =
-        newer ++ Gate Left ∷ (late ++ (put_step u ∷ t.0)) in
+      newer ++ Gate Left ∷ (late ++ (put_step u ∷ t.0)) in
       let whole : own q ≡ front ++ reading ∷ back = list ∙ joined t.0 t.1 t.2 in
       let k : ℕ = length back in
       let does : Has (own q) k reading =
-        ap (λ ds. nth_step ds k) whole ∙ nth-split front reading back in
+      ap (λ ds. nth_step ds k) whole ∙ nth-split front reading back in
       let before : past k (own q) ≡ back =
-        ap (past k) whole ∙ past-split front reading back in
+      ap (past k) whole ∙ past-split front reading back in
       let stays = quiet_steps_stay t.1 begun
-        (quiet-back t.0 t.1 reading refl (ap visits_of (sym t.2) ∙ quiet)) in
+      (quiet-back t.0 t.1 reading refl (ap visits_of (sym t.2) ∙ quiet)) in
       law.in_visit q k word value does (ap (λ ds. visit (gate_steps ds)) before ∙ stays.place)
       ∙ ap (λ n. own_settings about (opened n (gate_steps (own (closer about)))) word)
-        (ap (λ ds. visit_number (gate_steps ds)) before ∙ stays.number)
+      (ap (λ ds. visit_number (gate_steps ds)) before ∙ stays.number)
     where
       joined : (a b : List BoardStep) → u.early ≡ a ++ reading ∷ b
           → newer ++ visit_with u late older
@@ -105,7 +105,7 @@ module _ (about : BoardSizes) (own : ℕ → List BoardStep) (lists : BoardLists
           ap (λ z. newer ++ Gate Left ∷ (late ++ (put_step u ∷ z)))
           (ap (λ z. z ++ begun) e ∙ append_assoc a (reading ∷ b) begun)
           ∙ sym (append_assoc newer (Gate Left ∷ late_part) rest
-            ∙ ap (λ z. newer ++ Gate Left ∷ z) (append_assoc late (put_step u ∷ a) rest))
+          ∙ ap (λ z. newer ++ Gate Left ∷ z) (append_assoc late (put_step u ∷ a) rest))
 
   -- what comes before a turn's visit is at the end of the list
   visit-split : (u : Turn) (late older : List BoardStep)
@@ -124,32 +124,32 @@ module _ (about : BoardSizes) (own : ℕ → List BoardStep) (lists : BoardLists
   turn_among front ds (t ∷ ts) list (newer, late, older, is, no_puts, quiet_late, quiet, rest) p i u
       at has =
       let whole : own q ≡ (front ++ newer) ++ visit_with t.step late older =
-        list ∙ (ap (λ z. front ++ z) is
-        ∙ sym (append_assoc front newer (visit_with t.step late older))) in
+      list ∙ (ap (λ z. front ++ z) is
+      ∙ sym (append_assoc front newer (visit_with t.step late older))) in
       let before : own q ≡ ((front ++ newer) ++ visit_with t.step late []) ++ older =
-        whole ∙ (ap (λ z. (front ++ newer) ++ z) (visit-split t.step late older)
-        ∙ sym (append_assoc (front ++ newer) (visit_with t.step late []) older)) in
+      whole ∙ (ap (λ z. (front ++ newer) ++ z) (visit-split t.step late older)
+      ∙ sym (append_assoc (front ++ newer) (visit_with t.step late []) older)) in
       let others : List Turn = steps_of p ts in
       let further : nth_step others i ≡ Some u → value ≡ settings_of_visit about own u.word word =
-        λ there. turn_among ((front ++ newer) ++ visit_with t.step late []) older ts before rest p i u
-          there has in
+      λ there. turn_among ((front ++ newer) ++ visit_with t.step late []) older ts before rest p i u
+      there has in
       dite (ℕ_discrete t.by p)
       (λ mine.
-        let here : nth_step (t.step ∷ others) i ≡ Some u =
-          ap (λ z. nth_step z i) (sym (if_same t.by p (t.step ∷ others) others mine)) ∙ at in
-        dite (ℕ_discrete (length others) i)
-        (λ e.
-          let same : t.step ≡ u =
-            some-is t.step u
-            (sym (if_same (length others) i (Some t.step) (nth_step others i) e) ∙ here) in
-          subst (λ (z : Turn). value ≡ settings_of_visit about own z.word word) same
-          (turn_read t.step (front ++ newer) late older whole quiet.visits
-            (subst (λ (z : Turn). HasRead z word value) (sym same) has)))
-        (λ ne.
-          further (sym (if_other (length others) i (Some t.step) (nth_step others i) ne) ∙ here)))
+      let here : nth_step (t.step ∷ others) i ≡ Some u =
+      ap (λ z. nth_step z i) (sym (if_same t.by p (t.step ∷ others) others mine)) ∙ at in
+      dite (ℕ_discrete (length others) i)
+      (λ e.
+      let same : t.step ≡ u =
+      some-is t.step u
+      (sym (if_same (length others) i (Some t.step) (nth_step others i) e) ∙ here) in
+      subst (λ (z : Turn). value ≡ settings_of_visit about own z.word word) same
+      (turn_read t.step (front ++ newer) late older whole quiet.visits
+      (subst (λ (z : Turn). HasRead z word value) (sym same) has)))
+      (λ ne.
+      further (sym (if_other (length others) i (Some t.step) (nth_step others i) ne) ∙ here)))
       (λ other.
-        further
-        (ap (λ z. nth_step z i) (sym (if_other t.by p (t.step ∷ others) others other)) ∙ at))
+      further
+      (ap (λ z. nth_step z i) (sym (if_other t.by p (t.step ∷ others) others other)) ∙ at))
 
 pub turns_read : (about : BoardSizes) (own : ℕ → List BoardStep) (lists : BoardLists)
     → ReadsAreSettings about own lists → TurnsReadSettings about own lists

@@ -23,4 +23,4 @@ FlowsAreInOrder about own lists =
     → MeetsPremises about own (accepted_left lists) t r
     → (p f : ℕ)
     → InOrder (came_by t r p f) (t.arrivals p)
-      (map (λ (lane : LaneList). lane.drops) lists.lanes) (list_at lists.outs (r.to f))
+    (map (λ (lane : LaneList). lane.drops) lists.lanes) (list_at lists.outs (r.to f))

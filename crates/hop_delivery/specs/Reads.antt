@@ -75,6 +75,6 @@ module _ (about : BoardSizes) (own : ℕ → List BoardStep) (lists : BoardLists
       (q : Queues) (t : Story) (seen : ℕ → ℕ → ℕ) (p i : ℕ) (u : Turn) → p < queues q
       → Explained (own (t.seat p)) (t.turns (t.seat p)) → nth_step (turns_of t p) i ≡ Some u
       → ((j : ℕ) (v : Turn) → j ≤ i → nth_step (turns_of t p) j ≡ Some v
-        → HasSeen q p v (seen j))
+      → HasSeen q p v (seen j))
       → IsBySeen about (accepted_left lists) t (receive_steering q) seen p i u
       → IsByRule about own (accepted_left lists) t (receive_steering q) p i u

@@ -11,13 +11,13 @@ pub returns-clause-reads : goal.returns-clause-reads
 returns-clause-reads c =
     at_closings TurnsReadSettings
     (λ about order fit lawful.
-      turns_read about (own_of order) (lists_of about order)
-      (reads_are_settings about order fit lawful))
+    turns_read about (own_of order) (lists_of about order)
+    (reads_are_settings about order fit lawful))
 
 pub returns-clause-rule : goal.returns-clause-rule
 returns-clause-rule c =
     at_closings RulesAreByReads
     (λ about order fit lawful.
-      rules_by_reads about (own_of order) (lists_of about order)
-      (turns_read about (own_of order) (lists_of about order)
-        (reads_are_settings about order fit lawful)))
+    rules_by_reads about (own_of order) (lists_of about order)
+    (turns_read about (own_of order) (lists_of about order)
+    (reads_are_settings about order fit lawful)))
