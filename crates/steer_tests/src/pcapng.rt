@@ -53,12 +53,7 @@ fn pcapng_captures_are_hashed(rt: HostRuntime) -> Result<(), Fail> {
     let mut written = Vec::new(alloc);
     put_section(&mut written)?;
     put_enhanced(&mut written, &FRAME_A)?;
-    let cases: [(&[u8], &[u8]); 4] = [
-        (&one, LINE_A),
-        (&one[..135], b"packets 0 cut 87\n"),
-        (&one[..4], b"packets 0 cut 4\n"),
-        (&written, LINE_A),
-    ];
+    let cases: [(&[u8], &[u8]); 2] = [(&one, LINE_A), (&written, LINE_A)];
     for (case, (bytes, wanted)) in cases.into_iter().enumerate() {
         let got = hashed(alloc, bytes)?;
         assert_eq!(rt; got.status, 0, "case {case}");

@@ -43,7 +43,7 @@ fn packets_are_placed(rt: HostRuntime) -> Result<(), Fail> {
     let both = file(alloc, &[&FRAME_A, &SWAPPED_A])?;
     let to_itself = file(alloc, &[&SELF])?;
     let tunnel = file(alloc, &[&tunnel])?;
-    let cases: [(&[u8], &[u8], &[u8]); 5] = [
+    let cases: [(&[u8], &[u8], &[u8]); 4] = [
         (
             RULES,
             &three,
@@ -70,11 +70,6 @@ packets 2\n",
             &tunnel,
             b"packet 0 tcp4 420995bb a18e6450 2794 1766 hash 51ccc178 entry 120 queue 0 rule - depth 1\n\
 packets 1\n",
-        ),
-        (
-            INNER,
-            &three[..100],
-            b"packet 0 tcp4 420995bb a18e6450 2794 1766 hash 51ccc178 entry 120 queue 0 rule - depth 0\npackets 1 cut 6\n",
         ),
     ];
     for (case, (rules, capture, wanted)) in cases.into_iter().enumerate() {
