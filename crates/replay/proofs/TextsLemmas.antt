@@ -17,10 +17,12 @@ enumerate_map f g n [] = refl
 enumerate_map f g n (x ∷ xs) = ap (λ t. f n (g x) ∷ t) (enumerate_map f g (n + 1) xs)
 
 -- a replay by its parts
-module _ {X : Type 0} (plan : Plan) (packets : List Packet) (meaning : X → Meaning) (xs : List X) where
+module _ {X : Type 0} (plan : Plan) (packets : List Packet) (meaning : X → Meaning)
+    (xs : List X) where
   pub shown_is : (h k : History) (lines : LineLists) (texts : List (List ℕ))
       → h ≡ k → lines ≡ lines_of packets (length plan.apps) h
-      → texts ≡ map (λ p. meaning p.1 (shown_to p.0 plan.detach lines.packets)) (enumerate_from 0 xs)
+      → texts ≡ map (λ p. meaning p.1 (shown_to p.0 plan.detach lines.packets))
+      (enumerate_from 0 xs)
       → replay_with h lines texts ≡ shown_with plan packets (map meaning xs) k
   shown_is h k lines texts same made told =
       let told_with : LineLists → List (List ℕ) =

@@ -7,7 +7,7 @@ use Rattle.plan_reader.specs.declared.plan.Plan.{Plan}
 use Rattle.toeplitz.specs.Toeplitz.{number_of}
 use Rattle.steer_parts.specs.Packets.{ArePackets}
 use Rattle.replay.specs.Meanings.{Meaning}
-use Rattle.replay.specs.Replays.{replay_of, replay_text}
+use Rattle.replay.specs.Replays.{ReplayLists, replay_of, replay_text}
 
 -- these bytes are the text of this plan
 abbrev pub HasPlan : List ℕ → Plan → Type 0
@@ -18,6 +18,13 @@ HasPlan bytes plan = plan_of bytes ≡ Ok (settings_of plan)
 abbrev pub ArePacketsBy : Plan → List ℕ → Capture → List Packet → Type 0
 ArePacketsBy plan bytes capture packets =
     ArePackets (number_of plan.key) plan.kinds bytes capture.records packets
+
+-- A replay is that of all steps of a plan over the packets of a capture, with taps that mean this.
+pub record IsReplayOf (plan : Plan) (bytes : List ℕ) (capture : Capture) (taps : List Meaning)
+    (r : ReplayLists) : Type 0 where
+  pub packets : List Packet
+  pub are_packets : ArePacketsBy plan bytes capture packets
+  pub is : r ≡ replay_of plan packets capture.cut taps
 
 -- A text is the report of the history that the steps of the plan give on the packets of the
 -- capture, with the texts of the taps.

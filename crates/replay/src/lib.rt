@@ -5,6 +5,7 @@
 mod counts;
 mod flows;
 mod laws;
+mod packets;
 mod play;
 mod replay;
 mod summary;
@@ -12,5 +13,6 @@ mod summary;
 pub use counts::Counts;
 pub use flows::flow_count;
 pub use laws::flows_are_counted;
+pub use packets::packets_by;
 pub use replay::Replay;
 pub use summary::Summary;

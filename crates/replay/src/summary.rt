@@ -7,16 +7,15 @@ ghost use Rattle.replay.specs.Summaries.{after_drops, counts_line, input_line, u
 
 use crate::counts::Counts;
 use crate::flows::flow_count;
+use crate::packets::packets_by;
 use crate::play::{play, tell_countable};
-use cap_gen::generate;
+use cap_gen::{Generated, generate};
 use outside_io::{Sink, WriteFault};
 use pcap_reader::read_capture;
 use plan_reader::read_plan;
 use report::LineBuf;
 use std::alloc::Global;
 use steer_base::OutOfMemory;
-use steer_core::packets as packets_of;
-use toeplitz::{Key, Kinds};
 
 /// What the replay of generated input comes to.
 #[derive(Clone, Copy, Debug, PartialEq, Eq)]
@@ -42,19 +41,24 @@ impl Summary {
         requires few_flows { flows ≤ 65536 }
         ensures { IfOk result (IsSummaryOf seed packets flows) }
     {
-        let input = generate(alloc, seed, packets, flows)?;
+        let Generated {
+            capture: bytes,
+            plan: text,
+        } = generate(alloc, seed, packets, flows)?;
         // What is generated has a plan and a capture, so that memory alone can be wanting.
-        let Ok(plan) = read_plan(alloc, &input.plan) else {
+        let Ok(plan) = read_plan(alloc, &text) else {
             return Err(OutOfMemory);
         };
-        let Ok(capture) = read_capture(alloc, &input.capture) else {
+        let Ok(capture) = read_capture(alloc, &bytes) else {
             return Err(OutOfMemory);
         };
-        let key = Key::make(plan.key);
-        let kinds = Kinds(plan.kinds);
-        let list = packets_of(alloc, &capture, &input.capture, &key, kinds)?;
-        let history = play(alloc, &plan, &list, capture.cut)?;
-        tell_countable(&plan, &list, capture.cut);
+        let list = packets_by(alloc, &plan, &capture, &bytes)?;
+        let cut = capture.cut;
+        // The file is given up before the machine takes its memory.
+        drop(capture);
+        drop(bytes);
+        let history = play(alloc, &plan, &list, cut)?;
+        tell_countable(&plan, &list, cut);
         Ok(Summary {
             seed,
             packets,

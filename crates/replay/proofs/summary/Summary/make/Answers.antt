@@ -6,11 +6,10 @@ use Rattle.replay.proofs.summary.Summary.make.Goals as goal
 
 pub returns : goal.returns
 returns c =
-    let input = c.in_ok-input.ensures in
+    let input = c.in_ok-bytes.ensures in
     let plan = c.in-Ok.plan in
     let capture = c.in-Ok-read_capture.capture in
     let list = c.in_ok-list.list.items in
-    let listed = rw c.make-key.ensures at c.in_ok-list.ensures.list in
     let plan_bytes = c.deref.ensures.value ∙ input.plan_text in
     let read_bytes = c.deref-2.ensures.value ∙ input.capture_bytes in
     let framed_bytes = c.deref-3.ensures.value ∙ input.capture_bytes in
@@ -23,6 +22,7 @@ returns c =
       has_capture = subst (λ b. HasCapture b capture) read_bytes
           c.in-Ok-read_capture.ensures.found;
       list = list;
-      are_packets = subst (λ b. ArePacketsBy plan b capture list) framed_bytes listed;
+      are_packets = subst (λ b. ArePacketsBy plan b capture list) framed_bytes
+          c.in_ok-list.ensures.list;
       is = summary_is c.args.seed c.args.packets _ _ list _ _ counted c.of.ensures played;
     }
