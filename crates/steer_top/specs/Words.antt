@@ -110,7 +110,7 @@ pub data CommandWords : Type 0 where
   Place : PlaceWords → CommandWords
 
 -- the command of this name with these arguments, if there is one
-abbrev pub command_named : List ℕ → List (List ℕ) → Option CommandWords
+unfoldable pub command_named : List ℕ → List (List ℕ) → Option CommandWords
 command_named name arguments =
     if bytes_eq name (codes "hash") then option_map Hash (hash_arguments arguments) else
     if bytes_eq name (codes "replay") then option_map Replay (replay_arguments arguments) else

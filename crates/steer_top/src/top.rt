@@ -191,7 +191,7 @@ fn perform<D: Desk, K: Sink>(
     match command {
         Command::Hash(hash) => hash_file(alloc, hash, desk, out),
         Command::Replay(replay) => replay_file(alloc, replay, desk, out, taps),
-        Command::Gen(gen) => gen_input(alloc, gen, out),
+        Command::Gen(input) => gen_input(alloc, input, out),
         Command::Place(place) => place_file(alloc, place, desk, out),
     }
 }

@@ -173,6 +173,7 @@ pub fn command_of_words(words: &[String]) -> Option<Command<'_>>
 }
 
 // The command of this name with these arguments.
+#[tactic(auto, unfolding(crate::specs::Words::command_named))]
 fn command_named<'a>(name: &str, arguments: &'a [String]) -> Option<Command<'a>>
     ensures { option_map words_of result ≡
         the_command_named name.now (map (λ word. string_bytes word) arguments.now) }
