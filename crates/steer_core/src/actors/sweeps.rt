@@ -1,7 +1,8 @@
 //! A sweep: rounds of all actors until one in which no work was done.
 ghost use Rattle.std.specs.Prelude.{◌≡◌, ◌≤◌, false, length};
 ghost use Rattle.steer_core.specs.Rooms.{HasSpare};
-ghost use Rattle.steer_parts.specs.Whole.{drain, for_each, most_rounds as the_most, one_round, poll};
+ghost use Rattle.steer_parts.specs.Whole.{drain, for_each, most_rounds as the_most, one_round};
+ghost use Rattle.steer_parts.specs.Whole.{poll};
 ghost use Rattle.steer_parts.specs.Whole.{serve, ship, sweep};
 
 use crate::actors::Actors;

@@ -19,17 +19,20 @@ serve-done-requires-clause-room c =
     let held : Held m = subst (λ (r : Running). Held r.machine) c.self.view_is c.self.invariant.0 in
     let apps = c.apps-a-end.ensures.value in
     let below : c.loop-a.a ≤ m.setup.apps =
-    (let lt = c.loop-a-test.true in let is = ap (λ (r : Running). r.machine.setup.apps) c.self.view_is in omega arith) in
+    (let lt = c.loop-a-test.true in
+    let is = ap (λ (r : Running). r.machine.setup.apps) c.self.view_is in omega arith) in
     let before = c.loop-a.invariant in
     spare_at _ _ m c.loop-a.self.machine (for_each c.loop-a.a serve (m, c.args.worked)).0
-    (ap (λ (t : Turn). t.0) before.0) before.2 (serves-paced m held c.loop-a.a c.args.worked below) c.requires
+    (ap (λ (t : Turn). t.0) before.0) before.2 (serves-paced m held c.loop-a.a c.args.worked below)
+    c.requires
 
 pub loop-a-preserved : goal.loop-a-preserved
 loop-a-preserved c =
     let done = c.serve-done.ensures in
     let before = c.loop-a.invariant in (
       each-then c.loop-a.a serve (c.args.self.now.machine, c.args.worked)
-          (c.loop-a.self.machine, c.loop-a.done) (c.serve-done.new.self.machine, c.serve-done.result)
+          (c.loop-a.self.machine, c.loop-a.done)
+          (c.serve-done.new.self.machine, c.serve-done.result)
           before.0 done.turn,
       done.setup ∙ before.1,
       done.rooms ∙ before.2,
@@ -41,7 +44,9 @@ returns-clause-spare c =
     let held : Held m = subst (λ (r : Running). Held r.machine) c.self.view_is c.self.invariant.0 in
     let apps = c.apps-a-end.ensures.value in
     let below : c.loop-a.a ≤ m.setup.apps =
-    (let upto = c.loop-a.auto.a-end in let is = ap (λ (r : Running). r.machine.setup.apps) c.self.view_is in omega arith) in
+    (let upto = c.loop-a.auto.a-end in
+    let is = ap (λ (r : Running). r.machine.setup.apps) c.self.view_is in omega arith) in
     let before = c.loop-a.invariant in
     spare_at _ _ m c.loop-a.self.machine (for_each c.loop-a.a serve (m, c.args.worked)).0
-    (ap (λ (t : Turn). t.0) before.0) before.2 (serves-paced m held c.loop-a.a c.args.worked below) c.requires
+    (ap (λ (t : Turn). t.0) before.0) before.2 (serves-paced m held c.loop-a.a c.args.worked below)
+    c.requires
