@@ -56,7 +56,7 @@ progress() {
 
 build() {
     if ! command -v rt >/dev/null; then
-        echo "steer: the sources are not those of release/, and there is no rt to build them with" >&2
+        echo "steer: release/ has no program of these sources, and there is no rt to build one with" >&2
         return 1
     fi
     mkdir -p "$crate/out" && touch "$stamp.begun" || return 1
