@@ -1,6 +1,6 @@
 //! The command `replay` where a plan is refused, the desk or a sink fails, or both are slow.
 use crate::calls::{called, desk_of, sink, words};
-use crate::files::{FRAME_A, HEADER, file};
+use crate::files::{FRAME_A, HEADER, file, front};
 use crate::plans::{FOUR_LINES, FOUR_STEPS, ONE_FLOW, SWEPT, four_packets, plan_of};
 use crate::slow::{Dripping, Slowly};
 use std::test::Fail;
@@ -57,7 +57,7 @@ fn each_file_has_its_status(rt: HostRuntime) -> Result<(), Fail> {
     let (plan, capture) = four_packets(alloc)?;
     let cases: [(&[u8], &[u8], &[u64], u8, &[u8]); 4] = [
         (&long, &capture, &[], 8, b"plan too long\n"),
-        (&plan, &HEADER[..23], &[], 4, b"capture: short header 23\n"),
+        (&plan, front(&HEADER, 23), &[], 4, b"capture: short header 23\n"),
         (&plan, &capture, &[1], 5, b"read fault\n"),
         (&plan, &capture, &[5], 5, b"read fault\n"),
     ];
@@ -92,7 +92,7 @@ fn a_write_that_fails_leaves_the_lines_before_it(rt: HostRuntime) -> Result<(), 
             Vec::new(alloc),
         );
         assert_eq!(rt; status, 6, "write {failing}");
-        assert_eq!(rt; out.bytes(), &text[..before], "write {failing}");
+        assert_eq!(rt; out.bytes(), front(&text, before), "write {failing}");
         assert_eq!(rt; err.bytes(), b"write fault\n".as_slice(), "write {failing}");
         before = next_line(&text, before);
     }
