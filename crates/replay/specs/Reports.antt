@@ -7,7 +7,7 @@ use Rattle.plan_reader.specs.declared.plan.Plan.{Plan}
 use Rattle.toeplitz.specs.Toeplitz.{number_of}
 use Rattle.steer_parts.specs.Packets.{ArePackets}
 use Rattle.replay.specs.Meanings.{Meaning}
-use Rattle.replay.specs.Replays.{ReplayLists, replay_of, replay_text}
+use Rattle.replay.specs.Replays.{IsWithinTypes, ReplayLists, replay_of, replay_text}
 
 -- these bytes are the text of this plan
 abbrev pub HasPlan : List ℕ → Plan → Type 0
@@ -25,6 +25,7 @@ pub record IsReplayOf (plan : Plan) (bytes : List ℕ) (capture : Capture) (taps
   pub packets : List Packet
   pub are_packets : ArePacketsBy plan bytes capture packets
   pub is : r ≡ replay_of plan packets capture.cut taps
+  pub fits : IsWithinTypes plan r
 
 -- A text is the report of the history that the steps of the plan give on the packets of the
 -- capture, with the texts of the taps.
@@ -35,3 +36,4 @@ pub record IsReportOf (plan_bytes capture_bytes : List ℕ) (capture : Capture) 
   pub packets : List Packet
   pub are_packets : ArePacketsBy plan capture_bytes capture packets
   pub is : text ≡ replay_text (replay_of plan packets capture.cut taps)
+  pub fits : IsWithinTypes plan (replay_of plan packets capture.cut taps)
