@@ -207,7 +207,7 @@ retired-is : (s : HopState) → Sound s → (c : ℕ)
     → (lane_at (lane_lists s.bare) c).retired ≡ retired_at s.bare c
 retired-is s h c = ap (λ lane. lane.retired) (lane-is s h c)
 
-retired-small : (s : HopState) → Sound s → (c : ℕ) → retired_at s.bare c ≤ 262144
+pub retired-small : (s : HopState) → Sound s → (c : ℕ) → retired_at s.bare c ≤ 262144
 retired-small s h c =
     let f = (fits_room s h).puts c in let r = h.small.room in
     let a = h.counts.retired_first c in let b = h.counts.delivered_first c in

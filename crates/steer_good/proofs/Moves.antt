@@ -37,12 +37,12 @@ use Rattle.steer_good.specs.Moves.{MovesAsSaid, MovesClass}
 
 -- ---- the rule, case by case
 
-record MovesBy (c : Choice) (desired tail : ℕ) (head : ℕ → ℕ) (online : ℕ → Bool)
+pub record MovesBy (c : Choice) (desired tail : ℕ) (head : ℕ → ℕ) (online : ℕ → Bool)
     (current : Option ℕ) : Type 0 where
-  cases : has_moved c.why ≡ true → IsMove c.why
-  may : has_moved c.why ≡ true ↔ MayLeave desired tail head online current
-  moved : has_moved c.why ≡ true → c.lane ≡ desired
-  kept : has_moved c.why ≡ false → Some c.lane ≡ current
+  pub cases : has_moved c.why ≡ true → IsMove c.why
+  pub may : has_moved c.why ≡ true ↔ MayLeave desired tail head online current
+  pub moved : has_moved c.why ≡ true → c.lane ≡ desired
+  pub kept : has_moved c.why ≡ false → Some c.lane ≡ current
 
 moves-by : (k : ℕ) (want : Option ℕ) (desired tail : ℕ) (head : ℕ → ℕ) (online : ℕ → Bool)
     (current : Option ℕ)
@@ -102,7 +102,7 @@ moves-by k want desired tail head online (Some lane) =
     not-both on reached e f (inl g) = (let h : true ≡ false = sym e ∙ g in cc)
     not-both on reached e f (inr g) = (let h : true ≡ false = sym g ∙ f in cc)
 
-moves-of : (c : Choice) (k : ℕ) (want : Option ℕ) (desired tail : ℕ) (head : ℕ → ℕ)
+pub moves-of : (c : Choice) (k : ℕ) (want : Option ℕ) (desired tail : ℕ) (head : ℕ → ℕ)
     (online : ℕ → Bool) (current : Option ℕ)
     → c ≡ by_entry k want desired tail head online current
     → MovesBy c desired tail head online current
@@ -112,7 +112,7 @@ moves-of c k want desired tail head online current is =
 
 -- ---- the receive side
 
-migrate-class : (class want : Option ℕ) (desired : ℕ) (entries : ℕ → Entry) (head : ℕ → ℕ)
+pub migrate-class : (class want : Option ℕ) (desired : ℕ) (entries : ℕ → Entry) (head : ℕ → ℕ)
     (online : ℕ → Bool) → (migrate class want desired entries head online).class ≡ class
 migrate-class None want desired entries head online = refl
 migrate-class (Some k) want desired entries head online =
