@@ -6,8 +6,10 @@ ghost use Rattle.outside_io.specs.Desk.{GoesOnTelling};
 ghost use Rattle.outside_io.specs.Sink.{AppendsSome};
 ghost use Rattle.steer_top.specs.Commands.{words_of};
 ghost use Rattle.steer_top.specs.Files.{Accepted, Files, Refused};
+ghost use Rattle.steer_top.specs.Headlines.{TookHeadline};
 ghost use Rattle.steer_top.specs.Outcomes.{Asks, Writes, roles_of};
-ghost use Rattle.steer_top.specs.Words.{CommandWords, command_of};
+ghost use Rattle.steer_top.specs.Words.{CommandWords, ReplayWords, command_of};
+ghost use Rattle.steer_top.specs.Words.CommandWords.{Replay};
 ghost use Rattle.steer_top.specs.Endings.{Ends, EndsCommand, Flushes, IsRefusal, IsUnread, Told};
 ghost use Rattle.steer_top.specs.Endings.{line_of, line_of_refusal, line_of_status};
 ghost use Rattle.steer_top.specs.Endings.{status_of, status_of_refusal};
@@ -25,6 +27,7 @@ use crate::status::status;
 use crate::telling::tell;
 use crate::words::command_of_words;
 use outside_io::{Desk, Sink, WriteFault};
+use replay::every_report_has_the_headline;
 use std::alloc::Global;
 use taps::Tap;
 
@@ -90,6 +93,12 @@ pub fn steer_still<D: Desk, K: Sink, E: Sink>(
         × AppendsSome (K.written out.old) (K.written out.new) bytes }
     ensures nothing { result ≢ 0 → result ≢ 6 → Keeps (K.written out.old) (K.written out.new) }
 
+    // The headline: with status 0 the text of a replay is the report of just one history, of which
+    // all that is promised of a replay holds.
+    ensures headline { result ≡ 0 → (replay : ReplayWords) (files : Files)
+        → Asks (D.held desk.old) words.now (Replay replay) files
+        → TookHeadline files (K.written out.old) (K.written out.new) }
+
     // `err` took the line of the status, or of the one reason of a refusal, or a prefix where it
     // failed.
     ensures line { (IsRefusal result → ⊥) → Told (E.faults err.old) (E.faults err.new)
@@ -122,8 +131,9 @@ pub fn steer_still<D: Desk, K: Sink, E: Sink>(
         × Told (E.faults err.old) (E.faults err.new) (E.written err.old) (E.written err.new)
         (line_of ending) }
 {
-    // No code: the law says that the files have one outcome.
+    // No code: the laws say that the files have one outcome, and what a report promises.
     a_call_is_decided();
+    every_report_has_the_headline();
     let ending = run(alloc, words, desk, out, taps);
     tell(err, &ending);
     status(&ending)

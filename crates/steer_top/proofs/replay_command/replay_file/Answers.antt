@@ -1,6 +1,6 @@
-use Rattle.std.proofs.Common.{[], ◌∷◌, ap, map, refl}
+use Rattle.std.proofs.Common.{[], ◌∷◌, ap, map, refl, subst}
 use Rattle.plan_reader.specs.PlanTexts.{settings_of}
-use Rattle.replay.specs.Replays.{replay_text}
+use Rattle.replay.specs.Replays.{IsWithinTypes, replay_text}
 use Rattle.replay.specs.Reports.{IsReportOf}
 use Rattle.std.proofs.KnownBytes.{Keeps-refl}
 use Rattle.steer_top.specs.Commands.{replay_words_of}
@@ -83,7 +83,9 @@ returns-in-Ok-replay_of-clause-ends g c =
       has_plan = taken.has;
       packets = made.packets;
       are_packets = made.are_packets;
+      few = made.few;
       is = ap replay_text made.is;
+      fits = subst (IsWithinTypes plan) made.is made.fits;
     } in
     ends_written (Replay words) course (files_of taken.bytes bytes) (replay_text replay)
     c.write_report.result
