@@ -10,6 +10,8 @@ mod gen_command;
 #[cfg(test)]
 mod hash_command;
 #[cfg(test)]
+mod headline;
+#[cfg(test)]
 mod pcapng;
 #[cfg(test)]
 mod place_command;
