@@ -1,5 +1,5 @@
 -- The report of bytes has the headline.
-use Rattle.std.proofs.Common.{ℕ, ◌≡◌, ◌≤◌, List, Option, length, refl, ◌∙◌, sym, subst, arith}
+use Rattle.std.proofs.Common.{ℕ, ◌≡◌, List, Option, length, refl, ◌∙◌, sym, subst}
 use Rattle.headline.specs.Headline.{Headline, Says}
 use Rattle.headline.specs.Laws.{ReportsHaveTheHeadline}
 use Rattle.history.specs.Lines.{lines_of}
@@ -39,14 +39,13 @@ module _ (plan : Plan) (packets : List Packet) (cut : Option ℕ) (taps : List M
   shown-fit fits = fits.texts
 
 pub report_has_headline : ReportsHaveTheHeadline → PacketsAreOfFlows → EveryReportHasTheHeadline
-report_has_headline headline of_flows plan_bytes capture_bytes capture taps text few r =
+report_has_headline headline of_flows plan_bytes capture_bytes capture taps text r =
     let i : Input = record { plan = r.plan; packets = r.packets; cut = capture.cut } in
     let says : Says plan_bytes capture_bytes capture i =
     record { plan = r.has_plan; packets = r.are_packets; cut = refl } in
-    let many = r.are_packets.many in
     let may : MayStart r.plan r.packets = record {
       start = r.fits.start;
-      few = omega (arith, few, many);
+      few = r.few;
       flows = of_flows (number_of r.plan.key) r.plan.kinds capture_bytes capture.records r.packets
           r.are_packets;
     } in

@@ -1,5 +1,5 @@
 -- What the report of the bytes of a plan and of a capture promises.
-use Rattle.std.specs.Prelude.{ℕ, ◌≤◌, List, length}
+use Rattle.std.specs.Prelude.{ℕ, List}
 use Rattle.headline.specs.Headline.{Headline}
 use Rattle.pcap_reader.specs.declared.capture.Capture.{Capture}
 use Rattle.replay.specs.Meanings.{Meaning}
@@ -9,5 +9,5 @@ use Rattle.replay.specs.Reports.{IsReportOf}
 abbrev pub EveryReportHasTheHeadline : Type 0
 EveryReportHasTheHeadline =
     (plan_bytes capture_bytes : List ℕ) (capture : Capture) (taps : List Meaning) (text : List ℕ)
-    → length capture.records ≤ 262144 → IsReportOf plan_bytes capture_bytes capture taps text
+    → IsReportOf plan_bytes capture_bytes capture taps text
     → Headline plan_bytes capture_bytes capture text

@@ -11,8 +11,8 @@ pub fn flows_are_counted()
     ensures { FlowsAreCounted }
 {}
 
-/// The report of the bytes of a plan and of a capture with at most 262,144 records is that of just
-/// one history, and what is promised of a replay holds of that history.
+/// The report of the bytes of a plan and of a capture is that of just one history, and what is
+/// promised of a replay holds of that history.
 pub fn every_report_has_the_headline()
     ensures { EveryReportHasTheHeadline }
 {
