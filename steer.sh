@@ -1,42 +1,47 @@
 #!/bin/sh
-# Builds the program where its sources have changed, and runs it with these words in this folder.
+# Runs the program with these words in this folder: the one of release/ where the sources are those that it
+# was built from, and else one that is built here, with its proofs, where its sources have changed. With
+# STEER_BUILD set to anything it is built here in any case.
 # A build shows on standard error a line for each crate that it proves, with how many come after it; all
 # that the tools say goes to out/steer.log in the crate. A failed build shows the end of that log and has
 # status 1.
 root=$(cd "$(dirname "$0")" && pwd) || exit 1
 crate=$root/crates/steer
+release=$root/release
 stamp=$crate/out/steer.built
+seen=$crate/out/release.seen
 log=$crate/out/steer.log
 
-is_built() {
-    [ -x "$crate/out/steer" ] && [ -f "$stamp" ] && [ -z "$(changed)" ]
-}
-
+# What has changed since this file was written, of the sources and of what further words name.
 changed() {
-    find "$root/crates.txt" "$root"/crates/*/src "$root"/crates/*/specs "$root"/crates/*/proofs \
-        -newer "$stamp" 2>/dev/null | head -n 1
+    since=$1
+    shift
+    find "$@" "$root/crates.txt" "$root/HANDLES" "$root"/crates/*/src "$root"/crates/*/specs \
+        "$root"/crates/*/proofs -newer "$since" 2>/dev/null | head -n 1
 }
 
-# The crates of which the program is built, in the order in which they are: each behind those that it
-# stands on, with a space before and behind each.
-crates() {
-    awk -F: '
-        { sub(/#.*/, "") }
-        NF > 1 { split($1, words, " "); below[words[1]] = $2 }
-        function visit(name, names, count, i) {
-            if (!(name in below) || name in seen) return
-            seen[name] = 1
-            count = split(below[name], names, " ")
-            for (i = 1; i <= count; i++) visit(names[i])
-            printf " %s", name
-        }
-        END { visit("steer"); print " " }
-    ' "$root/crates.txt"
+is_built() {
+    [ -x "$crate/out/steer" ] && [ -f "$stamp" ] && [ -z "$(changed "$stamp")" ]
+}
+
+# The value behind this name in release/RELEASE.
+released() {
+    sed -n "s/^$1 //p" "$release/RELEASE"
+}
+
+is_released() {
+    [ -f "$release/RELEASE" ] && [ "$(uname -sm)" = "$(released system)" ] || return 1
+    [ ! -f "$seen" ] || [ -n "$(changed "$seen" "$release")" ] || return 0
+    mkdir -p "$crate/out" 2>/dev/null && touch "$seen.begun" 2>/dev/null
+    [ "$("$release/sources.sh" hash)" = "$(released sources)" ] || return 1
+    [ "$(sha256sum <"$release/steer")" = "$(released steer)  -" ] || return 1
+    mv "$seen.begun" "$seen" 2>/dev/null
+    return 0
 }
 
 # A line for each crate that the tools begin with.
 progress() {
-    all=$(crates)
+    all=" $("$release/sources.sh" crates | tr '\n' ' ')"
     while read -r line; do
         case $line in
         "rt: chose --jobs "*)
@@ -50,6 +55,10 @@ progress() {
 }
 
 build() {
+    if ! command -v rt >/dev/null; then
+        echo "steer: release/ has no program of these sources, and there is no rt to build one with" >&2
+        return 1
+    fi
     mkdir -p "$crate/out" && touch "$stamp.begun" || return 1
     echo "steer: building; from nothing this proves every crate first and takes minutes ($log)" >&2
     # With no words the program only says how it is used.
@@ -62,5 +71,8 @@ build() {
     fi
 }
 
+if [ -z "${STEER_BUILD-}" ] && ! is_built && is_released; then
+    exec "$release/steer" "$@"
+fi
 is_built || build || exit 1
 exec "$crate/out/steer" "$@"
