@@ -10,8 +10,6 @@ mod gen_command;
 #[cfg(test)]
 mod hash_command;
 #[cfg(test)]
-mod headline;
-#[cfg(test)]
 mod pcapng;
 #[cfg(test)]
 mod place_command;
@@ -25,3 +23,5 @@ mod replay_faults;
 mod replay_taps;
 #[cfg(test)]
 mod slow;
+#[cfg(test)]
+mod worked;
