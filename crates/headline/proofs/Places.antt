@@ -98,25 +98,25 @@ module _ (packets : List Packet) (apps : ℕ) (h : History) (regular : Regular p
       → is_in x (drop_ids (lane_at h.lanes k)) ≡ false
   not-dropped c k s =
       not-true (is_in x (drop_ids (lane_at h.lanes k))) (λ t. (
-          let same : c ≡ k =
-          same_Some c k (sym (lane-accepted packets apps h regular c x s)
-          ∙ lane-dropped packets apps h regular k x t) in
-          let within = in-lanes c s in
-          let front : List (List ℕ) = accepted_lists h.lanes in
-          let back : List (List ℕ) = dropped_lists h.lanes in
-          let fl : length front ≡ length h.lanes = length-map h.lanes (λ lane. lane.accepted) in
-          let bl : length back ≡ length h.lanes = length-map h.lanes drop_ids in
-          let all : length (front ++ back) ≡ length front + length back =
-          length-append front back in
-          let left : get_or (front ++ back) c [] ≡ (lane_at h.lanes c).accepted =
-          get_or-append front back [] c (omega (arith, within, fl)) ∙ list-accepted h.lanes c in
-          let right : get_or (front ++ back) (length front + k) [] ≡ drop_ids (lane_at h.lanes k) =
-          get_or-append-add front back k [] ∙ list-dropped h.lanes k in
-          let e : c ≡ length front + k =
-          both (front ++ back) c (length front + k) once.lanes
-          (omega (arith, within, fl, bl, all)) (omega (arith, within, same, fl, bl, all))
-          (ap (is_in x) left ∙ s) (ap (is_in x) right ∙ t) in
-          omega (arith, e, within, fl)))
+      let same : c ≡ k =
+      same_Some c k (sym (lane-accepted packets apps h regular c x s)
+      ∙ lane-dropped packets apps h regular k x t) in
+      let within = in-lanes c s in
+      let front : List (List ℕ) = accepted_lists h.lanes in
+      let back : List (List ℕ) = dropped_lists h.lanes in
+      let fl : length front ≡ length h.lanes = length-map h.lanes (λ lane. lane.accepted) in
+      let bl : length back ≡ length h.lanes = length-map h.lanes drop_ids in
+      let all : length (front ++ back) ≡ length front + length back =
+      length-append front back in
+      let left : get_or (front ++ back) c [] ≡ (lane_at h.lanes c).accepted =
+      get_or-append front back [] c (omega (arith, within, fl)) ∙ list-accepted h.lanes c in
+      let right : get_or (front ++ back) (length front + k) [] ≡ drop_ids (lane_at h.lanes k) =
+      get_or-append-add front back k [] ∙ list-dropped h.lanes k in
+      let e : c ≡ length front + k =
+      both (front ++ back) c (length front + k) once.lanes
+      (omega (arith, within, fl, bl, all)) (omega (arith, within, same, fl, bl, all))
+      (ap (is_in x) left ∙ s) (ap (is_in x) right ∙ t) in
+      omega (arith, e, within, fl)))
 
   not-accepted : (c k : ℕ) → is_in x (drop_ids (lane_at h.lanes c)) ≡ true
       → is_in x (lane_at h.lanes k).accepted ≡ false
@@ -177,8 +177,8 @@ module _ (packets : List Packet) (apps : ℕ) (h : History) (regular : Regular p
   unplaced t is none =
       place-is None None None None t (dropped-none (λ c. (none c).1))
       (inbox-none (λ a. not-true (is_in x (list_at h.inboxes a)) (λ s. (
-          let w = regular.delivered.accepted a x s in
-          let f : true ≡ false = sym w.1 ∙ (none w.0).0 in cc))))
+      let w = regular.delivered.accepted a x s in
+      let f : true ≡ false = sym w.1 ∙ (none w.0).0 in cc))))
       (pulled-none (λ c. not-true (is_among (lane_at h.lanes c).pulled x (lane_at h.lanes c).accepted)
       (λ s. let f : true ≡ false = sym (pulled-accepted c s) ∙ (none c).0 in cc)))
       (accepted-none (λ c. (none c).0)) is
@@ -191,11 +191,11 @@ module _ (packets : List Packet) (apps : ℕ) (h : History) (regular : Regular p
       (inbox-none none)
       (pulled-none (λ k. not-true (is_among (lane_at h.lanes k).pulled x (lane_at h.lanes k).accepted)
       (λ s. (
-          let same : k ≡ c = one-accepted k c (pulled-accepted k s) is in
-          let t : is_among (lane_at h.lanes c).pulled x (lane_at h.lanes c).accepted ≡ true =
-          subst (λ n. is_among (lane_at h.lanes n).pulled x (lane_at h.lanes n).accepted ≡ true) same s
-          in
-          let f : true ≡ false = sym t ∙ waits in cc))))
+      let same : k ≡ c = one-accepted k c (pulled-accepted k s) is in
+      let t : is_among (lane_at h.lanes c).pulled x (lane_at h.lanes c).accepted ≡ true =
+      subst (λ n. is_among (lane_at h.lanes n).pulled x (lane_at h.lanes n).accepted ≡ true) same s
+      in
+      let f : true ≡ false = sym t ∙ waits in cc))))
       (accepted-at c is) refl
   place-from (Hand c) (is, none) =
       place-is None None (Some c) accepted (was_taken h x)

@@ -114,8 +114,7 @@ module _ (i : Input) (h : History) (w : AreReplied i h) where
       let sent : List Sent = list_at h.sent a in
       let here : StoodAt i h a (get_or sent k r).cpu =
       All-get_or (λ (s : Sent). StoodAt i h a s.cpu) sent k r (slice_get_within sent k r is)
-      (w.replies.sent a).stood in
-      (
+      (w.replies.sent a).stood in (
         r,
         is,
         record {
@@ -133,8 +132,7 @@ module _ (i : Input) (h : History) (w : AreReplied i h) where
         moments = w.replies.prefixes;
         each = λ a k c is. (
             let cs : List Chosen = list_at h.tx_choices a in
-            let (r, at, by) = sent-at a k (slice_get_within cs k c is) in
-            (
+            let (r, at, by) = sent-at a k (slice_get_within cs k c is) in (
               r,
               at,
               subst (λ (d : Chosen). IsSentBy i h a k d r (settings_at i h (w.at a k)))

@@ -1,8 +1,13 @@
 //! Plans of the tests, and their replays.
 use crate::calls::{Outcome, called, desk_of};
-use crate::files::{FRAME_A, file};
+use crate::files::{ARP, FRAME_A, FRAME_B, file};
 use std::alloc::Global;
+use std::process::Abort;
 use std::test::Fail;
+
+/// The settings and the steps of a plan, a letter for each frame of a capture, and a report or
+/// lines of it.
+pub type Case<'a> = (&'a [u8], &'a [u8], &'a [u8], &'a [u8]);
 
 /// One receive queue with one flow entry, steered to processor 1; its application stands on
 /// processor 2.
@@ -43,17 +48,63 @@ pub fn plan_of(alloc: Global, settings: &[u8], steps: &[u8]) -> Result<Vec<u8>, 
     Ok(plan)
 }
 
-/// What the replay of a plan with these settings and steps on these frames comes to.
+/// The frame of a letter: `a` and `b` are those of two flows, and every other one has no flow.
+fn frame_of(letter: u8) -> &'static [u8] {
+    match letter {
+        b'a' => &FRAME_A,
+        b'b' => &FRAME_B,
+        _ => &ARP,
+    }
+}
+
+/// What the replay of a plan with these settings and steps on the frames of these letters comes to.
 pub fn replayed(
     alloc: Global,
     settings: &[u8],
     steps: &[u8],
-    frames: &[&[u8]],
+    letters: &[u8],
 ) -> Result<Outcome, Fail> {
     let plan = plan_of(alloc, settings, steps)?;
-    let capture = file(alloc, frames)?;
+    let mut frames = Vec::new(alloc);
+    for letter in letters {
+        frames.push(frame_of(*letter))?;
+    }
+    let capture = file(alloc, &frames)?;
     let desk = desk_of(alloc, &[("p.json", &plan), ("a.pcap", &capture)], &[])?;
     called(alloc, &["replay", "p.json", "a.pcap"], desk)
+}
+
+/// Asserts that the replay of each case has just its report.
+pub fn are_reported(rt: &impl Abort, alloc: Global, cases: &[Case<'_>]) -> Result<(), Fail> {
+    for (case, (settings, steps, letters, report)) in cases.iter().enumerate() {
+        let got = replayed(alloc, settings, steps, letters)?;
+        assert_eq!(rt; got.status, 0, "case {case}");
+        assert_eq!(rt; got.out.as_slice(), *report, "case {case}");
+        assert!(rt; got.err.is_empty(), "case {case}");
+    }
+    Ok(())
+}
+
+fn has_line(text: &[u8], line: &[u8]) -> bool {
+    text.split(|byte| *byte == b'\n').any(|found| found == line)
+}
+
+/// Whether each of these lines is one of the text.
+pub fn has_lines(text: &[u8], lines: &[u8]) -> bool {
+    lines
+        .split(|byte| *byte == b'\n')
+        .all(|line| has_line(text, line))
+}
+
+/// Asserts that the report of each case has its lines.
+pub fn have_lines(rt: &impl Abort, alloc: Global, cases: &[Case<'_>]) -> Result<(), Fail> {
+    for (case, (settings, steps, letters, lines)) in cases.iter().enumerate() {
+        let got = replayed(alloc, settings, steps, letters)?;
+        assert_eq!(rt; got.status, 0, "case {case}");
+        assert!(rt; has_lines(&got.out, lines), "case {case}");
+        assert!(rt; got.err.is_empty(), "case {case}");
+    }
+    Ok(())
 }
 
 /// The files of four packets of one flow and their plan.

@@ -1,13 +1,7 @@
 //! Small plans, one for each case of the headline, with whole reports that were worked out by hand
 //! from the definitions. Frame A has hash 51ccc178 and frame B c626b0ea.
-use crate::files::{FRAME_A, FRAME_B};
-use crate::plans::replayed;
-use std::alloc::Global;
-use std::process::Abort;
+use crate::plans::{Case, are_reported, has_lines, replayed};
 use std::test::Fail;
-
-/// A plan's settings and steps, the frames of a capture, and the report.
-type Worked<'a> = (&'a [u8], &'a [u8], &'a [&'a [u8]], &'a [u8]);
 
 /// One receive queue with one flow entry, whose packets go to processor 1; the application stands
 /// on processor 2.
@@ -157,86 +151,68 @@ c 0 stand 0 3 done
 end 3 of 3
 ";
 
-fn are_worked(rt: &impl Abort, alloc: Global, plans: &[Worked<'_>]) -> Result<(), Fail> {
-    for (case, (settings, steps, frames, report)) in plans.iter().enumerate() {
-        let got = replayed(alloc, settings, steps, frames)?;
-        assert_eq!(rt; got.status, 0, "plan {case}");
-        assert_eq!(rt; got.out.as_slice(), *report, "plan {case}");
-        assert!(rt; got.err.is_empty(), "plan {case}");
-    }
-    Ok(())
-}
-
 #[test]
 fn each_case_of_the_rule_is_reported(rt: HostRuntime) -> Result<(), Fail> {
-    let a: &[u8] = &FRAME_A;
-    let plans: [Worked; 4] = [
-        (STEERED, br#""arrive","poll 0""#, &[a], UNSET),
+    let plans: [Case; 4] = [
+        (STEERED, br#""arrive","poll 0""#, b"a", UNSET),
         (
             STEERED,
             br#""arrive","poll 0","record 0","pull 1","deliver 1","arrive","poll 0""#,
-            &[a, a],
+            b"aa",
             KEPT,
         ),
         (
             STEERED,
             br#""arrive","poll 0","record 0","drain 1","arrive","poll 0","arrive","poll 0""#,
-            &[a, a, a],
+            b"aaa",
             PASSED,
         ),
         (
             STEERED,
             br#""arrive","poll 0","pull 1","offline 1","deliver 1","retire 1","offline 1","arrive","poll 0""#,
-            &[a, a],
+            b"aa",
             OFFLINE,
         ),
     ];
-    are_worked(&rt, rt.alloc(), &plans)
+    are_reported(&rt, rt.alloc(), &plans)
 }
 
 #[test]
 fn each_place_and_a_full_backlog_are_reported(rt: HostRuntime) -> Result<(), Fail> {
-    let a: &[u8] = &FRAME_A;
-    let plans: [Worked; 2] = [
+    let plans: [Case; 2] = [
         (
             SHORT,
             br#""arrive","poll 0","record 0","arrive","poll 0","drain 1","arrive","poll 0""#,
-            &[a, a, a],
+            b"aaa",
             FULL,
         ),
         (
             PLAIN,
             br#""arrive","arrive","arrive","arrive","arrive","arrive","poll 0","drain 1","poll 0","pull 1","poll 0","poll 0","take 0""#,
-            &[a, a, a, a, a, a, a],
+            b"aaaaaaa",
             PLACES,
         ),
     ];
-    are_worked(&rt, rt.alloc(), &plans)
+    are_reported(&rt, rt.alloc(), &plans)
 }
 
 #[test]
 fn moves_by_a_filter_and_of_replies_are_reported(rt: HostRuntime) -> Result<(), Fail> {
-    let a: &[u8] = &FRAME_A;
-    let b: &[u8] = &FRAME_B;
-    let plans: [Worked; 2] = [
+    let plans: [Case; 2] = [
         (
             FILTERED,
             br#""record 0","arrive","poll 0","arrive","poll 0","arrive","poll 1""#,
-            &[a, b, a],
+            b"aba",
             FILTER,
         ),
         (
             SENT,
             br#""arrive","poll 0","drain 0","reply 0","stand 0 3","tpull 0","tdeliver 0","arrive","poll 0","drain 0","reply 0","tretire 0","ship 0","arrive","poll 0","drain 0","reply 0""#,
-            &[a, a, a],
+            b"aaa",
             TRANSMIT,
         ),
     ];
-    are_worked(&rt, rt.alloc(), &plans)
-}
-
-fn has_line(text: &[u8], line: &[u8]) -> bool {
-    text.split(|byte| *byte == b'\n').any(|found| found == line)
+    are_reported(&rt, rt.alloc(), &plans)
 }
 
 // 130 packets arrive and are polled, and nothing is pulled. Of flow A 128 are accepted. The next
@@ -245,26 +221,21 @@ fn has_line(text: &[u8], line: &[u8]) -> bool {
 #[test]
 fn a_drop_by_the_flow_limit_is_reported(rt: HostRuntime) -> Result<(), Fail> {
     let alloc = rt.alloc();
-    let mut frames: Vec<&[u8]> = Vec::new(alloc);
+    let mut letters = vec![in alloc; b'a'; 129]?;
+    letters.push(b'b')?;
     let mut steps = b"\"expire\"".to_vec(alloc)?;
-    for _ in 0..129 {
-        frames.push(&FRAME_A)?;
+    for _ in 0..130 {
         steps.extend_from_slice(b",\"arrive\",\"poll 0\"")?;
     }
-    frames.push(&FRAME_B)?;
-    steps.extend_from_slice(b",\"arrive\",\"poll 0\"")?;
-    let got = replayed(alloc, LIMITED, &steps, &frames)?;
+    let got = replayed(alloc, LIMITED, &steps, &letters)?;
     assert_eq!(rt; got.status, 0);
-    let lines: [&[u8]; 6] = [
-        b"p 127 q 0 via reta class - want - head - tail - cpu 1 why plain at 128 app 0 in - place backlog",
-        b"p 128 q 0 via reta class - want - head - tail - cpu 1 why plain at drop 1 128 0 flow 129 app 0 in - place drop",
-        b"p 129 q 0 via reta class - want - head - tail - cpu 1 why plain at 129 app 0 in - place backlog",
-        b"cpu 1 accepted 129 pulled 0 delivered 0 retired 0 dropped 1",
-        b"c 0 expire expired 0",
-        b"end 130 of 130",
-    ];
-    for (i, line) in lines.iter().enumerate() {
-        assert!(rt; has_line(&got.out, line), "line {i}");
-    }
+    let lines =
+        b"p 127 q 0 via reta class - want - head - tail - cpu 1 why plain at 128 app 0 in - place backlog
+p 128 q 0 via reta class - want - head - tail - cpu 1 why plain at drop 1 128 0 flow 129 app 0 in - place drop
+p 129 q 0 via reta class - want - head - tail - cpu 1 why plain at 129 app 0 in - place backlog
+cpu 1 accepted 129 pulled 0 delivered 0 retired 0 dropped 1
+c 0 expire expired 0
+end 130 of 130";
+    assert!(rt; has_lines(&got.out, lines));
     Ok(())
 }
