@@ -1,12 +1,12 @@
--- How flows change their processor and their transmit queue, and why packets are dropped, in words of
--- the lists alone.
+-- How flows change their processor and their transmit queue, and why packets are dropped, in words
+-- of the lists alone.
 use Rattle.std.proofs.Common.{ℕ, ◌<◌, ◌≤◌, ◌≡◌, ◌≢◌, Bool, true, false, List, Option, Some, None}
 use Rattle.std.proofs.Common.{length, refl, ap, ◌∙◌, sym, subst, inl, inr, get_or, unwrap_or}
 use Rattle.std.specs.Prelude.{◌↔◌, slice_get}
 use Rattle.std.proofs.Math.ListN.{get_or-eq_default}
 use Rattle.std.proofs.lemmas.Bool.{cases_Bool, cases_lt}
 use Rattle.std.proofs.lemmas.List.Elements.{All-get_or}
-use Rattle.std.proofs.lemmas.Option.{get_or_from_slice_get, same_Some, slice_get_within}
+use Rattle.std.proofs.lemmas.Option.{get_or_from_slice_get, slice_get_within}
 use Rattle.history.specs.Lists.{lane_at, list_at, no_lane}
 use Rattle.history.specs.declared.history.History.{History}
 use Rattle.history.specs.declared.lane_list.LaneList.{LaneList}
@@ -33,8 +33,8 @@ use Rattle.headline.specs.Replies.{ChangesByThePick, IsSentBy, QueuesArePicked}
 
 -- ---- a change
 
--- What moves just where it may leave, and then to the goal, changes its lane just there: the goal is
--- another lane than the one that it may leave.
+-- What moves just where it may leave, and then to the goal, changes its lane just there: the goal
+-- is another lane than the one that it may leave.
 module _ (c : Choice) (goal : ℕ) (before : Option ℕ) (May : Option ℕ → Type 0)
     (may : has_moved c.why ≡ true ↔ May before) (moved : has_moved c.why ≡ true → c.lane ≡ goal)
     (kept : has_moved c.why ≡ false → Some c.lane ≡ before)
@@ -114,8 +114,7 @@ module _ (i : Input) (h : History) (w : AreReplied i h) where
       let sent : List Sent = list_at h.sent a in
       let here : StoodAt i h a (get_or sent k r).cpu =
       All-get_or (λ (s : Sent). StoodAt i h a s.cpu) sent k r (slice_get_within sent k r is)
-      (w.replies.sent a).stood in
-      (
+      (w.replies.sent a).stood in (
         r,
         is,
         record {
@@ -133,8 +132,7 @@ module _ (i : Input) (h : History) (w : AreReplied i h) where
         moments = w.replies.prefixes;
         each = λ a k c is. (
             let cs : List Chosen = list_at h.tx_choices a in
-            let (r, at, by) = sent-at a k (slice_get_within cs k c is) in
-            (
+            let (r, at, by) = sent-at a k (slice_get_within cs k c is) in (
               r,
               at,
               subst (λ (d : Chosen). IsSentBy i h a k d r (settings_at i h (w.at a k)))

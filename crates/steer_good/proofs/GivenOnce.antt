@@ -1,6 +1,7 @@
 -- The commands of a history are those among its steps, each given once.
-use Rattle.std.proofs.Common.{ℕ, zero, suc, ◌+◌, ◌<◌, ◌≤◌, ◌≡◌, Bool, true, false, cond, List, [], ◌∷◌}
-use Rattle.std.proofs.Common.{◌++◌, Option, Some, None, length, map, refl, ap, ◌∙◌, sym, subst, arith}
+use Rattle.std.proofs.Common.{ℕ, zero, suc, ◌+◌, ◌<◌, ◌≤◌, ◌≡◌, Bool, true, false, cond, List, []}
+use Rattle.std.proofs.Common.{◌∷◌, ◌++◌, Option, Some, None, length, map, refl, ap, ◌∙◌, sym}
+use Rattle.std.proofs.Common.{subst, arith}
 use Rattle.std.proofs.Common.{append_assoc, append-nil}
 use Rattle.std.specs.Prelude.{◌==◌, ◌%◌, ◌/◌, nat_lt, slice_get, if◌then◌else◌}
 use Rattle.std.specs.List.{All, AllPass, cons_option, filter_map, range_with_len}
@@ -275,7 +276,8 @@ commands-listed : (z : Sizes) (ss : Steps)
     ≡ commands_of ss
 commands-listed z (steps.List list) =
     ap (filter_map command_in)
-    (picked-all list (slice_get list) 0 (λ k. ap (slice_get list) (let e : 0 + k ≡ k = omega arith in e)))
+    (picked-all list (slice_get list) 0
+    (λ k. ap (slice_get list) (let e : 0 + k ≡ k = omega arith in e)))
 commands-listed z (steps.Seed seed count) =
     none-picked (nth_of z (steps.Seed seed count))
     (λ i s is. nth-none (nat_lt i count) (i == count) (seeded_step z (word_of seed i)) act.Sweep s

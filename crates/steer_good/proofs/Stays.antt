@@ -145,10 +145,10 @@ positions-landed s q None bucket h more p j lt =
     put_positions s q h more (λ d. get_or new d []) (record { here = ch.here; there = ch.there }) p j
     (omega (arith, lt))
     (λ e same. (
-        let long : length (choices_of s p) ≡ length (choices_of s q) =
-        ap (λ r. length (choices_of s r)) e in
-        let a = h.hands.one q in let b = h.hands.chosen q in
-        omega (arith, a, b, lt, long, same)))
+    let long : length (choices_of s p) ≡ length (choices_of s q) =
+    ap (λ r. length (choices_of s r)) e in
+    let a = h.hands.one q in let b = h.hands.chosen q in
+    omega (arith, a, b, lt, long, same)))
 
 positions-enabled : (s : HopState) (e : HopEvent) → Sound s → Enabled (PositionsStay s) s e
 positions-enabled s (event.Put q hash) h =

@@ -11,22 +11,28 @@ type Worked<'a> = (&'a [u8], &'a [u8], &'a [&'a [u8]], &'a [u8]);
 
 /// One receive queue with one flow entry, whose packets go to processor 1; the application stands
 /// on processor 2.
-const STEERED: &[u8] = br#""cpus":3,"queues":[{"home":0,"mask":[1],"flows":1}],"sock":4,"apps":[2],"tx":[{"cpus":[],"queues":[]}]"#;
+const STEERED: &[u8] =
+    br#""cpus":3,"queues":[{"home":0,"mask":[1],"flows":1}],"sock":4,"apps":[2],"tx":[{"cpus":[],"queues":[]}]"#;
 
 /// The same with a backlog of one packet.
-const SHORT: &[u8] = br#""cpus":3,"queues":[{"home":0,"mask":[1],"flows":1}],"sock":4,"backlog":1,"apps":[2],"tx":[{"cpus":[],"queues":[]}]"#;
+const SHORT: &[u8] =
+    br#""cpus":3,"queues":[{"home":0,"mask":[1],"flows":1}],"sock":4,"backlog":1,"apps":[2],"tx":[{"cpus":[],"queues":[]}]"#;
 
 /// No flow table, and a backlog of one packet.
-const PLAIN: &[u8] = br#""cpus":2,"queues":[{"home":0,"mask":[1],"flows":0}],"sock":0,"backlog":1,"apps":[0],"tx":[{"cpus":[],"queues":[]}]"#;
+const PLAIN: &[u8] =
+    br#""cpus":2,"queues":[{"home":0,"mask":[1],"flows":0}],"sock":0,"backlog":1,"apps":[0],"tx":[{"cpus":[],"queues":[]}]"#;
 
 /// Two receive queues and eight filters; the application stands on the home of the second.
-const FILTERED: &[u8] = br#""cpus":2,"queues":[{"home":0,"mask":[0],"flows":1},{"home":1,"mask":[],"flows":1}],"sock":4,"filters":8,"apps":[1],"tx":[{"cpus":[],"queues":[]}]"#;
+const FILTERED: &[u8] =
+    br#""cpus":2,"queues":[{"home":0,"mask":[0],"flows":1},{"home":1,"mask":[],"flows":1}],"sock":4,"filters":8,"apps":[1],"tx":[{"cpus":[],"queues":[]}]"#;
 
 /// Two transmit queues, for processors 2 and 3.
-const SENT: &[u8] = br#""cpus":4,"queues":[{"home":0,"mask":[],"flows":0}],"sock":0,"apps":[2],"tx":[{"cpus":[2],"queues":[]},{"cpus":[3],"queues":[]}]"#;
+const SENT: &[u8] =
+    br#""cpus":4,"queues":[{"home":0,"mask":[],"flows":0}],"sock":0,"apps":[2],"tx":[{"cpus":[2],"queues":[]},{"cpus":[3],"queues":[]}]"#;
 
 /// A backlog of 200 packets under the flow limit.
-const LIMITED: &[u8] = br#""cpus":2,"queues":[{"home":0,"mask":[1],"flows":0}],"sock":0,"backlog":200,"limited":[1],"apps":[0],"tx":[{"cpus":[],"queues":[]}]"#;
+const LIMITED: &[u8] =
+    br#""cpus":2,"queues":[{"home":0,"mask":[1],"flows":0}],"sock":0,"backlog":200,"limited":[1],"apps":[0],"tx":[{"cpus":[],"queues":[]}]"#;
 
 // The class has no lane: it gets the RPS choice, the one processor of the mask.
 const UNSET: &[u8] = b"steer 1

@@ -57,7 +57,13 @@ fn each_file_has_its_status(rt: HostRuntime) -> Result<(), Fail> {
     let (plan, capture) = four_packets(alloc)?;
     let cases: [(&[u8], &[u8], &[u64], u8, &[u8]); 4] = [
         (&long, &capture, &[], 8, b"plan too long\n"),
-        (&plan, front(&HEADER, 23), &[], 4, b"capture: short header 23\n"),
+        (
+            &plan,
+            front(&HEADER, 23),
+            &[],
+            4,
+            b"capture: short header 23\n",
+        ),
         (&plan, &capture, &[1], 5, b"read fault\n"),
         (&plan, &capture, &[5], 5, b"read fault\n"),
     ];
