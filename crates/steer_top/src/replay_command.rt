@@ -74,7 +74,7 @@ fn replay_of(
 {
     let cut = file.capture.cut;
     let packets = packets_of(alloc, plan, file)?;
-    Replay::make(alloc, plan, &packets, cut, taps)
+    Replay::make(alloc, plan, packets.as_slice(), cut, taps)
 }
 
 // The packets of a file.
