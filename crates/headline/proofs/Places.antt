@@ -11,7 +11,7 @@ use Rattle.std.proofs.lemmas.Option.{same_Some}
 use Rattle.steer_base.specs.Orders.{Apart}
 use Rattle.steer_base.specs.declared.packet.Packet.{Packet}
 use Rattle.history.specs.Finding.{is_among, is_in}
-use Rattle.history.specs.Lists.{accepted_lists, drop_ids, dropped_lists, lane_at, list_at}
+use Rattle.history.specs.Lists.{accepted_lists, drop_ids, dropped_lists, lane_at}
 use Rattle.history.specs.Lists.{no_lane}
 use Rattle.history.specs.Places.{AreInOnePlace, place_by, place_of, was_taken}
 use Rattle.history.specs.Regular.{Regular}
@@ -92,7 +92,8 @@ module _ (packets : List Packet) (apps : ℕ) (h : History) (regular : Regular p
         | inl lt ↦ lt
         | inr le ↦ (
             let e : was_accepted h c x ≡ false =
-            ap (λ (lane : LaneList). is_in x lane.accepted) (get_or-eq_default h.lanes no_lane le) in
+            ap (λ (lane : LaneList). is_in x lane.accepted)
+            (get_or-eq_default h.lanes no_lane le) in
             absurd (let f : true ≡ false = sym s ∙ e in cc))
       ]
 
