@@ -1,6 +1,6 @@
 -- A packet of a regular history stands at one place, and that is the one which its line shows.
-use Rattle.std.proofs.Common.{ℕ, ◌+◌, ◌<◌, ◌≡◌, Bool, true, false, List, [], ◌++◌, Option, Some, None}
-use Rattle.std.proofs.Common.{length, refl, ap, ◌∙◌, sym, subst, arith, inl, inr, get_or, map}
+use Rattle.std.proofs.Common.{ℕ, ◌+◌, ◌<◌, ◌≡◌, Bool, true, false, List, [], ◌++◌, Option, Some}
+use Rattle.std.proofs.Common.{None, length, refl, ap, ◌∙◌, sym, subst, arith, inl, inr, get_or}
 use Rattle.std.specs.List.{position}
 use Rattle.std.specs.Prelude.{if◌then◌else◌}
 use Rattle.std.proofs.Math.ListN.{get_or-append, get_or-eq_default}
@@ -11,20 +11,22 @@ use Rattle.std.proofs.lemmas.Option.{same_Some}
 use Rattle.steer_base.specs.Orders.{Apart}
 use Rattle.steer_base.specs.declared.packet.Packet.{Packet}
 use Rattle.history.specs.Finding.{is_among, is_in}
-use Rattle.history.specs.Lists.{accepted_lists, app_at, drop_ids, dropped_lists, lane_at, list_at}
+use Rattle.history.specs.Lists.{accepted_lists, drop_ids, dropped_lists, lane_at}
 use Rattle.history.specs.Lists.{no_lane}
 use Rattle.history.specs.Places.{AreInOnePlace, place_by, place_of, was_taken}
 use Rattle.history.specs.Regular.{Regular}
 use Rattle.history.specs.declared.history.History.{History}
 use Rattle.history.specs.declared.lane_list.LaneList.{LaneList}
 use Rattle.history.specs.declared.place.Place.{Place}
-use Rattle.history.specs.declared.place.Place.TheVariants.{Backlog, Dropped, Hand, Inbox, Poller, Ring}
+use Rattle.history.specs.declared.place.Place.TheVariants.{Backlog, Dropped, Hand}
+use Rattle.history.specs.declared.place.Place.TheVariants.{Inbox, Poller, Ring}
 use Rattle.history.proofs.BoundLemmas.{list-accepted, list-dropped}
 use Rattle.history.proofs.FindingLemmas.{is_in-among}
 use Rattle.history.proofs.OwnLemmas.{own-position, not-true}
 use Rattle.history.proofs.RegularLemmas.{lane-accepted, lane-dropped}
 use Rattle.history.proofs.SamePlaces.{place-index}
 use Rattle.headline.specs.Places.{IsInNoInbox, StandsAt, StandsAtOnePlace, WasNotPut}
+use Rattle.headline.specs.Places.{is_in_inbox, was_accepted, was_dropped_by, was_pulled}
 
 -- ---- the one item that passes
 
@@ -52,28 +54,28 @@ module _ {B : Type 0} (p : B → Bool) (d : B) (default : p d ≡ false) (xs : L
 
 module _ (packets : List Packet) (apps : ℕ) (h : History) (regular : Regular packets apps h)
     (once : AreInOnePlace h) (x : ℕ) where
-  pulled-accepted : (c : ℕ) → is_among (lane_at h.lanes c).pulled x (lane_at h.lanes c).accepted ≡ true
-      → is_in x (lane_at h.lanes c).accepted ≡ true
+  pulled-accepted : (c : ℕ) → was_pulled h c x ≡ true
+      → was_accepted h c x ≡ true
   pulled-accepted c t = is_in-among (lane_at h.lanes c).pulled x (lane_at h.lanes c).accepted t
 
-  one-accepted : (c k : ℕ) → is_in x (lane_at h.lanes c).accepted ≡ true
-      → is_in x (lane_at h.lanes k).accepted ≡ true → c ≡ k
+  one-accepted : (c k : ℕ) → was_accepted h c x ≡ true
+      → was_accepted h k x ≡ true → c ≡ k
   one-accepted c k s t =
       same_Some c k (sym (lane-accepted packets apps h regular c x s)
       ∙ lane-accepted packets apps h regular k x t)
 
-  one-dropped : (c k : ℕ) → is_in x (drop_ids (lane_at h.lanes c)) ≡ true
-      → is_in x (drop_ids (lane_at h.lanes k)) ≡ true → c ≡ k
+  one-dropped : (c k : ℕ) → was_dropped_by h c x ≡ true
+      → was_dropped_by h k x ≡ true → c ≡ k
   one-dropped c k s t =
       same_Some c k (sym (lane-dropped packets apps h regular c x s)
       ∙ lane-dropped packets apps h regular k x t)
 
-  one-pulled : (c k : ℕ) → is_among (lane_at h.lanes c).pulled x (lane_at h.lanes c).accepted ≡ true
-      → is_among (lane_at h.lanes k).pulled x (lane_at h.lanes k).accepted ≡ true → c ≡ k
+  one-pulled : (c k : ℕ) → was_pulled h c x ≡ true
+      → was_pulled h k x ≡ true → c ≡ k
   one-pulled c k s t = one-accepted c k (pulled-accepted c s) (pulled-accepted k t)
 
-  one-inbox : (a b : ℕ) → is_in x (list_at h.inboxes a) ≡ true
-      → is_in x (list_at h.inboxes b) ≡ true → a ≡ b
+  one-inbox : (a b : ℕ) → is_in_inbox h a x ≡ true
+      → is_in_inbox h b x ≡ true → a ≡ b
   one-inbox a b s t = sym (regular.delivered.own a x s) ∙ regular.delivered.own b x t
 
   -- lists that are apart do not both have it
@@ -84,20 +86,21 @@ module _ (packets : List Packet) (apps : ℕ) (h : History) (regular : Regular p
       let j = place-index x (get_or lists q []) t in
       (apart p q i.0 j.0 lp lq i.1 j.1 (i.2 ∙ sym j.2)).0
 
-  in-lanes : (c : ℕ) → is_in x (lane_at h.lanes c).accepted ≡ true → c < length h.lanes
+  in-lanes : (c : ℕ) → was_accepted h c x ≡ true → c < length h.lanes
   in-lanes c s =
       elim (cases_lt c (length h.lanes)) [
         | inl lt ↦ lt
         | inr le ↦ (
-            let e : is_in x (lane_at h.lanes c).accepted ≡ false =
-            ap (λ (lane : LaneList). is_in x lane.accepted) (get_or-eq_default h.lanes no_lane le) in
+            let e : was_accepted h c x ≡ false =
+            ap (λ (lane : LaneList). is_in x lane.accepted)
+            (get_or-eq_default h.lanes no_lane le) in
             absurd (let f : true ≡ false = sym s ∙ e in cc))
       ]
 
-  not-dropped : (c k : ℕ) → is_in x (lane_at h.lanes c).accepted ≡ true
-      → is_in x (drop_ids (lane_at h.lanes k)) ≡ false
+  not-dropped : (c k : ℕ) → was_accepted h c x ≡ true
+      → was_dropped_by h k x ≡ false
   not-dropped c k s =
-      not-true (is_in x (drop_ids (lane_at h.lanes k))) (λ t. (
+      not-true (was_dropped_by h k x) (λ t. (
       let same : c ≡ k =
       same_Some c k (sym (lane-accepted packets apps h regular c x s)
       ∙ lane-dropped packets apps h regular k x t) in
@@ -118,10 +121,10 @@ module _ (packets : List Packet) (apps : ℕ) (h : History) (regular : Regular p
       (ap (is_in x) left ∙ s) (ap (is_in x) right ∙ t) in
       omega (arith, e, within, fl)))
 
-  not-accepted : (c k : ℕ) → is_in x (drop_ids (lane_at h.lanes c)) ≡ true
-      → is_in x (lane_at h.lanes k).accepted ≡ false
+  not-accepted : (c k : ℕ) → was_dropped_by h c x ≡ true
+      → was_accepted h k x ≡ false
   not-accepted c k t =
-      not-true (is_in x (lane_at h.lanes k).accepted)
+      not-true (was_accepted h k x)
       (λ s. let f : true ≡ false = sym t ∙ not-dropped k c s in cc)
 
   -- ---- what the place is found by
@@ -138,32 +141,32 @@ module _ (packets : List Packet) (apps : ℕ) (h : History) (regular : Regular p
   abbrev accepted : Option ℕ
   accepted = position (λ lane. is_in x lane.accepted) h.lanes
 
-  dropped-at : (c : ℕ) → is_in x (drop_ids (lane_at h.lanes c)) ≡ true → dropped ≡ Some c
+  dropped-at : (c : ℕ) → was_dropped_by h c x ≡ true → dropped ≡ Some c
   dropped-at = first-at (λ lane. is_in x (drop_ids lane)) no_lane refl h.lanes one-dropped
 
-  dropped-none : ((c : ℕ) → is_in x (drop_ids (lane_at h.lanes c)) ≡ false) → dropped ≡ None
+  dropped-none : ((c : ℕ) → was_dropped_by h c x ≡ false) → dropped ≡ None
   dropped-none = first-none (λ lane. is_in x (drop_ids lane)) no_lane refl h.lanes one-dropped
 
-  inbox-at : (a : ℕ) → is_in x (list_at h.inboxes a) ≡ true → inbox ≡ Some a
+  inbox-at : (a : ℕ) → is_in_inbox h a x ≡ true → inbox ≡ Some a
   inbox-at = first-at (is_in x) [] refl h.inboxes one-inbox
 
   inbox-none : IsInNoInbox h x → inbox ≡ None
   inbox-none = first-none (is_in x) [] refl h.inboxes one-inbox
 
-  pulled-at : (c : ℕ) → is_among (lane_at h.lanes c).pulled x (lane_at h.lanes c).accepted ≡ true
+  pulled-at : (c : ℕ) → was_pulled h c x ≡ true
       → pulled ≡ Some c
   pulled-at =
       first-at (λ lane. is_among lane.pulled x lane.accepted) no_lane refl h.lanes one-pulled
 
-  pulled-none : ((c : ℕ) → is_among (lane_at h.lanes c).pulled x (lane_at h.lanes c).accepted ≡ false)
+  pulled-none : ((c : ℕ) → was_pulled h c x ≡ false)
       → pulled ≡ None
   pulled-none =
       first-none (λ lane. is_among lane.pulled x lane.accepted) no_lane refl h.lanes one-pulled
 
-  accepted-at : (c : ℕ) → is_in x (lane_at h.lanes c).accepted ≡ true → accepted ≡ Some c
+  accepted-at : (c : ℕ) → was_accepted h c x ≡ true → accepted ≡ Some c
   accepted-at = first-at (λ lane. is_in x lane.accepted) no_lane refl h.lanes one-accepted
 
-  accepted-none : ((c : ℕ) → is_in x (lane_at h.lanes c).accepted ≡ false) → accepted ≡ None
+  accepted-none : ((c : ℕ) → was_accepted h c x ≡ false) → accepted ≡ None
   accepted-none = first-none (λ lane. is_in x lane.accepted) no_lane refl h.lanes one-accepted
 
   -- ---- where it stands is its place
@@ -176,10 +179,10 @@ module _ (packets : List Packet) (apps : ℕ) (h : History) (regular : Regular p
       → place_of h x ≡ place_by None None None None t
   unplaced t is none =
       place-is None None None None t (dropped-none (λ c. (none c).1))
-      (inbox-none (λ a. not-true (is_in x (list_at h.inboxes a)) (λ s. (
+      (inbox-none (λ a. not-true (is_in_inbox h a x) (λ s. (
       let w = regular.delivered.accepted a x s in
       let f : true ≡ false = sym w.1 ∙ (none w.0).0 in cc))))
-      (pulled-none (λ c. not-true (is_among (lane_at h.lanes c).pulled x (lane_at h.lanes c).accepted)
+      (pulled-none (λ c. not-true (was_pulled h c x)
       (λ s. let f : true ≡ false = sym (pulled-accepted c s) ∙ (none c).0 in cc)))
       (accepted-none (λ c. (none c).0)) is
 
@@ -189,11 +192,11 @@ module _ (packets : List Packet) (apps : ℕ) (h : History) (regular : Regular p
   place-from (Backlog c) (is, waits, none) =
       place-is None None None (Some c) (was_taken h x) (dropped-none (λ k. not-dropped c k is))
       (inbox-none none)
-      (pulled-none (λ k. not-true (is_among (lane_at h.lanes k).pulled x (lane_at h.lanes k).accepted)
+      (pulled-none (λ k. not-true (was_pulled h k x)
       (λ s. (
       let same : k ≡ c = one-accepted k c (pulled-accepted k s) is in
-      let t : is_among (lane_at h.lanes c).pulled x (lane_at h.lanes c).accepted ≡ true =
-      subst (λ n. is_among (lane_at h.lanes n).pulled x (lane_at h.lanes n).accepted ≡ true) same s
+      let t : was_pulled h c x ≡ true =
+      subst (λ n. was_pulled h n x ≡ true) same s
       in
       let f : true ≡ false = sym t ∙ waits in cc))))
       (accepted-at c is) refl

@@ -5,7 +5,8 @@ use Rattle.history.specs.declared.history.History.{History}
 use Rattle.steer_good.specs.Always.{Always}
 use Rattle.steer_good.specs.Clear.{NothingIsOutstanding}
 use Rattle.steer_good.specs.Ruled.{AreChosen, AreReplied}
-use Rattle.steer_laws.specs.DeliveryLaws.{DeliversInOrder, ReplaysDeliverInOrder, RunsDeliverInOrder}
+use Rattle.steer_laws.specs.DeliveryLaws.{DeliversInOrder, ReplaysDeliverInOrder}
+use Rattle.steer_laws.specs.DeliveryLaws.{RunsDeliverInOrder}
 use Rattle.steer_parts.specs.Inputs.{Input}
 use Rattle.steer_parts.specs.Machine.{history_of}
 use Rattle.steer_parts.specs.Start.{new_machine, replayed}

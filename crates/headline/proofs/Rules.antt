@@ -1,12 +1,12 @@
--- How flows change their processor and their transmit queue, and why packets are dropped, in words of
--- the lists alone.
+-- How flows change their processor and their transmit queue, and why packets are dropped, in words
+-- of the lists alone.
 use Rattle.std.proofs.Common.{ℕ, ◌<◌, ◌≤◌, ◌≡◌, ◌≢◌, Bool, true, false, List, Option, Some, None}
 use Rattle.std.proofs.Common.{length, refl, ap, ◌∙◌, sym, subst, inl, inr, get_or, unwrap_or}
 use Rattle.std.specs.Prelude.{◌↔◌, slice_get}
 use Rattle.std.proofs.Math.ListN.{get_or-eq_default}
 use Rattle.std.proofs.lemmas.Bool.{cases_Bool, cases_lt}
 use Rattle.std.proofs.lemmas.List.Elements.{All-get_or}
-use Rattle.std.proofs.lemmas.Option.{get_or_from_slice_get, same_Some, slice_get_within}
+use Rattle.std.proofs.lemmas.Option.{get_or_from_slice_get, slice_get_within}
 use Rattle.history.specs.Lists.{lane_at, list_at, no_lane}
 use Rattle.history.specs.declared.history.History.{History}
 use Rattle.history.specs.declared.lane_list.LaneList.{LaneList}
@@ -33,8 +33,8 @@ use Rattle.headline.specs.Replies.{ChangesByThePick, IsSentBy, QueuesArePicked}
 
 -- ---- a change
 
--- What moves just where it may leave, and then to the goal, changes its lane just there: the goal is
--- another lane than the one that it may leave.
+-- What moves just where it may leave, and then to the goal, changes its lane just there: the goal
+-- is another lane than the one that it may leave.
 module _ (c : Choice) (goal : ℕ) (before : Option ℕ) (May : Option ℕ → Type 0)
     (may : has_moved c.why ≡ true ↔ May before) (moved : has_moved c.why ≡ true → c.lane ≡ goal)
     (kept : has_moved c.why ≡ false → Some c.lane ≡ before)

@@ -6,9 +6,7 @@ use Rattle.history.specs.Places.{AreInOnePlace, has_arrived}
 use Rattle.history.specs.declared.history.History.{History}
 use Rattle.pcap_reader.specs.declared.capture.Capture.{Capture}
 use Rattle.plan_reader.specs.PlanTexts.{plan_of, settings_of}
-use Rattle.plan_reader.specs.declared.plan.Plan.{Plan}
 use Rattle.report.specs.Laws.{IsReportOf}
-use Rattle.steer_base.specs.declared.packet.Packet.{Packet}
 use Rattle.steer_base.specs.declared.put.LaneDrop.{LaneDrop}
 use Rattle.steer_parts.specs.Inputs.{Input}
 use Rattle.steer_parts.specs.Packets.{ArePackets}
@@ -25,7 +23,7 @@ use Rattle.headline.specs.Replies.{QueuesArePicked}
 -- receive queue, the inbox of its application, and the port, have the packets in the order of their
 -- arrival without the dropped ones. A flow changed its processor exactly where the manual lets it,
 -- and its transmit queue exactly where another was picked and the head of its own had reached the
--- recorded tail. Nothing of it was left under way where it did so.
+-- recorded tail. Where it did so, what was accepted of it before is retired.
 pub record IsRight (i : Input) (h : History) : Type 0 where
   pub once : AreInOnePlace h
   pub places : (x : ℕ) → has_arrived h x ≡ true → StandsAtOnePlace h x

@@ -6,9 +6,9 @@ use Rattle.steer_base.specs.Choices.{has_moved}
 use Rattle.steer_base.specs.Entries.{place_in}
 use Rattle.steer_base.specs.declared.choice.Chosen.{Chosen}
 
--- Where choice k, the later one, moved the class of choice j, the packet of choice j is retired, if its
--- lane accepted it. Right after a choice this says that nothing of its class was under way when it
--- was made.
+-- Where choice k, the later one, moved the class of choice j, the packet of choice j is retired, if
+-- its lane accepted it. Right after a choice this says that nothing of its class was under way when
+-- it was made.
 pub record IsLeftClear (lanes : List LaneList) (choices : List Chosen) : Type 0 where
   pub retired : (j k class n : ℕ) (earlier later : Chosen) → j < k
       → slice_get choices j ≡ Some earlier → slice_get choices k ≡ Some later

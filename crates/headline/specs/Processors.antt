@@ -32,8 +32,8 @@ plain_cpu i s q x =
     (slice_index (map (λ queue. queue.home) i.plan.queues) q)
 
 -- A flow leaves the lane that its class had just where the manual lets it, having none, or another
--- than the desired one that is offline or whose head has reached the recorded tail; and it leaves it
--- for the desired one.
+-- than the desired one that is offline or whose head has reached the recorded tail; and then it
+-- goes to the desired one.
 pub record ChangesByTheManual (c : Choice) (desired : ℕ) (online : ℕ → Bool) (before : Entry)
     : Type 0 where
   pub just_where : Some c.lane ≢ before.lane

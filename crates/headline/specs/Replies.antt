@@ -15,8 +15,8 @@ use Rattle.steer_parts.specs.Settings.{Settings}
 use Rattle.xps_map.specs.Maps.{picked}
 use Rattle.headline.specs.Processors.{entry_before}
 
--- A flow leaves its transmit queue just where it has none, or another than the picked one whose head
--- has reached the recorded tail; and it leaves it for the picked one.
+-- A flow leaves its transmit queue just where it has none, or another than the picked one whose
+-- head has reached the recorded tail; and then it goes to the picked one.
 pub record ChangesByThePick (c : Choice) (pick : ℕ) (before : Entry) : Type 0 where
   pub just_where : Some c.lane ≢ before.lane ↔ MayChange pick before.tail c.head before.lane
   pub to : Some c.lane ≢ before.lane → c.lane ≡ pick

@@ -1,7 +1,7 @@
 -- The history of a machine at rest meets all clauses of a good history that its steps allow.
-use Rattle.std.proofs.Common.{ℕ, ◌+◌, ◌≤◌, ◌<◌, ◌≡◌, Bool, true, List, [], ◌∷◌, ◌++◌, Option, Some}
+use Rattle.std.proofs.Common.{ℕ, ◌+◌, ◌≡◌, Bool, true, List, [], ◌∷◌, ◌++◌, Option, Some}
 use Rattle.std.proofs.Common.{length, map, take, refl}
-use Rattle.std.proofs.Common.{ap, ◌∙◌, sym, subst, arith, inl, inr, get_or, suc, zero}
+use Rattle.std.proofs.Common.{ap, ◌∙◌, sym, subst, arith, inl, inr}
 use Rattle.std.specs.Prelude.{slice_index}
 use Rattle.std.specs.List.{AllPass, cons_option, filter_map, range_with_len}
 use Rattle.std.proofs.Math.ListN.{get_or-eq_default, length-map}
@@ -10,7 +10,7 @@ use Rattle.std.proofs.lemmas.Bool.{cases_lt, eq-eqb, le-ltb}
 use Rattle.std.proofs.lemmas.List.{get_or_append_left, length-append}
 use Rattle.std.proofs.lemmas.List.Elements.{All-push, filter_map-append}
 use Rattle.history.specs.Lists.{arrivals_at, list_at}
-use Rattle.hop_core.specs.Hop.{arrivals_of, choices_of, taken_of}
+use Rattle.hop_core.specs.Hop.{choices_of, taken_of}
 use Rattle.plan_reader.specs.Plans.{count_of, nth_of, sizes_of}
 use Rattle.plan_reader.specs.Ranges.{step_is_within}
 use Rattle.plan_reader.specs.declared.plan.Plan.{Plan}
@@ -18,11 +18,9 @@ use Rattle.plan_reader.specs.declared.plan.Steps.{Steps}
 use Rattle.plan_reader.specs.declared.plan.Steps.TheVariants as steps
 use Rattle.plan_reader.specs.declared.settings.sizes.Sizes.{Sizes}
 use Rattle.steer_base.specs.Orders.{IsPrefix}
-use Rattle.steer_base.specs.declared.choice.Chosen.{Chosen}
 use Rattle.steer_base.specs.declared.step.Step.{Step}
 use Rattle.steer_base.specs.declared.step.Step.TheVariants as act
 use Rattle.steer_parts.specs.GoodArrivals.{HasArrived}
-use Rattle.steer_parts.specs.GoodDeliveries.{IsSwept}
 use Rattle.steer_parts.specs.Inputs.{Input}
 use Rattle.steer_parts.specs.Machine.{Machine, history_of}
 use Rattle.steer_parts.specs.Start.{new_machine, steps_of}

@@ -1,24 +1,24 @@
 -- Where a choice moved a class, the earlier packets of the class that were accepted are retired.
-use Rattle.std.proofs.Common.{ℕ, suc, ◌+◌, ◌-◌, ◌≤◌, ◌<◌, ◌≡◌, ◌⊎◌, Bool, true, false, List, [], ◌∷◌}
-use Rattle.std.proofs.Common.{◌++◌, Option, Some, None, length, drop, refl, ap, ◌∙◌, sym, subst, arith}
+use Rattle.std.proofs.Common.{ℕ, ◌+◌, ◌-◌, ◌≤◌, ◌<◌, ◌≡◌, true, false, List, []}
+use Rattle.std.proofs.Common.{◌∷◌, ◌++◌, Option, Some, None, length, refl, ap, ◌∙◌, sym}
+use Rattle.std.proofs.Common.{subst, arith}
 use Rattle.std.proofs.Common.{inl, inr, get_or}
 use Rattle.std.specs.Prelude.{nat_le}
 use Rattle.std.proofs.Math.ListN.{get_or-eq_default}
 use Rattle.std.proofs.lemmas.Bool.{cases_eq, cases_lt, eq-eqb, leb-true}
 use Rattle.std.proofs.lemmas.List.{get_or-drop, length-drop}
 use Rattle.std.proofs.lemmas.Option.{same_Some}
-use Rattle.history.specs.Lists.{lane_at}
 use Rattle.history.specs.declared.lane_list.LaneList.{LaneList}
 use Rattle.hop_core.specs.Events.{IsEmptied}
-use Rattle.hop_core.specs.Hop.{HopState, accepted_at, choice_of, choices_of, chosen_at, chose, head_at}
-use Rattle.hop_core.specs.Hop.{next_of, nobody, placed_of, recent, retired_at, since_of}
+use Rattle.hop_core.specs.Hop.{HopState, accepted_at, choice_of, choices_of, chosen_at, chose}
+use Rattle.hop_core.specs.Hop.{head_at}
+use Rattle.hop_core.specs.Hop.{next_of, nobody, recent, retired_at, since_of}
 use Rattle.hop_core.specs.Sound.{Sound}
 use Rattle.hop_core.specs.Standing.{StandsAt}
 use Rattle.hop_core.proofs.Alone.{All-passed}
 use Rattle.hop_core.proofs.Fits.{fits_room}
 use Rattle.hop_core.proofs.Lists.{Changed-set, chosen-push_front, chosen-push_last, length-push}
 use Rattle.steer_base.specs.Choices.{has_moved}
-use Rattle.steer_base.specs.Counters.{has_reached, number}
 use Rattle.steer_base.specs.Entries.{current_lane, entry, is_class, of_class, place_in, position}
 use Rattle.steer_base.specs.Entries.{recorded_count}
 use Rattle.steer_base.specs.Moves.{MayLeave}
@@ -29,7 +29,6 @@ use Rattle.steer_base.specs.declared.choice.Entry.{Entry}
 use Rattle.steer_base.specs.declared.cpu_mask.CpuMask.{CpuMask}
 use Rattle.steer_base.proofs.CountersLemmas.{has_reached-counts}
 use Rattle.steer_base.proofs.EntriesLemmas.{place_in-le, recorded_count-le}
-use Rattle.steer_parts.specs.GoodChoices.{accepted_in}
 use Rattle.steer_parts.specs.Machine.{lane_lists}
 use Rattle.steer_laws.proofs.Lanes.{lane-is}
 use Rattle.steer_good.specs.Clear.{MovesAreClear}
@@ -246,8 +245,8 @@ module _ (s : HopState) (q : ℕ) (of want : Option ℕ) (desired : ℕ) (online
                 let last : length cs ≡ k = omega (arith, late, lt, long, n-long) in
                 let mine : new ≡ chosen_at (choices_of t p) k =
                 sym
-                (ap (chosen_at (choices_of t p)) (sym last) ∙ ap (λ l. chosen_at l (length cs)) (grown e)
-                ∙ chosen-push_last cs new nobody) in
+                (ap (chosen_at (choices_of t p)) (sym last)
+                ∙ ap (λ l. chosen_at l (length cs)) (grown e) ∙ chosen-push_last cs new nobody) in
                 let low = by-class of refl class j n jl
                 (ap (λ c. has_moved c.choice.why) mine ∙ moved)
                 (ap (λ c. c.choice.class) mine ∙ is) class-j before in

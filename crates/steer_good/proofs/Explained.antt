@@ -29,7 +29,6 @@ use Rattle.steer_laws.proofs.DeliverySteps.{runs_deliver}
 use Rattle.steer_laws.proofs.HeldNew.{held-new}
 use Rattle.steer_laws.proofs.HeldSteps.{held-simple, named-in, plan_steps_within}
 use Rattle.steer_laws.proofs.KeptLemmas.{flow_small}
-use Rattle.steer_laws.proofs.KeptSimple.{goes-simple}
 use Rattle.steer_laws.proofs.Lanes.{lists-long}
 use Rattle.steer_laws.proofs.NamedLift.{after-keeps}
 use Rattle.steer_good.specs.Always.{Always}

@@ -1,16 +1,17 @@
 -- The commands of a history are those among its steps, each given once.
-use Rattle.std.proofs.Common.{ℕ, zero, suc, ◌+◌, ◌<◌, ◌≤◌, ◌≡◌, Bool, true, false, cond, List, [], ◌∷◌}
-use Rattle.std.proofs.Common.{◌++◌, Option, Some, None, length, map, refl, ap, ◌∙◌, sym, subst, arith}
+use Rattle.std.proofs.Common.{ℕ, zero, suc, ◌+◌, ◌<◌, ◌≡◌, Bool, true, false, List, []}
+use Rattle.std.proofs.Common.{◌∷◌, ◌++◌, Option, Some, None, length, map, refl, ap, ◌∙◌, sym}
+use Rattle.std.proofs.Common.{subst, arith}
 use Rattle.std.proofs.Common.{append_assoc, append-nil}
 use Rattle.std.specs.Prelude.{◌==◌, ◌%◌, ◌/◌, nat_lt, slice_get, if◌then◌else◌}
-use Rattle.std.specs.List.{All, AllPass, cons_option, filter_map, range_with_len}
+use Rattle.std.specs.List.{cons_option, filter_map, range_with_len}
 use Rattle.std.proofs.lemmas.Bool.{ltb-true}
 use Rattle.std.proofs.lemmas.List.{map_push}
 use Rattle.std.proofs.lemmas.List.Elements.{All-cons, All-nil}
 use Rattle.std.proofs.lemmas.Option.{same_Some}
 use Rattle.history.specs.declared.commanded.Commanded.{Commanded}
 use Rattle.plan_reader.specs.Plans.{count_of, nth_of, sizes_of}
-use Rattle.plan_reader.specs.Ranges.{command_in, commands_of, step_is_within}
+use Rattle.plan_reader.specs.Ranges.{command_in, commands_of}
 use Rattle.plan_reader.specs.Seeds.{event_of, seeded_step, word_of}
 use Rattle.plan_reader.specs.declared.plan.Steps.{Steps}
 use Rattle.plan_reader.specs.declared.plan.Steps.TheVariants as steps
@@ -19,8 +20,7 @@ use Rattle.steer_base.specs.declared.command.Command.{Command}
 use Rattle.steer_base.specs.declared.step.Step.{Step}
 use Rattle.steer_base.specs.declared.step.Step.TheVariants as act
 use Rattle.steer_parts.specs.Commands.{answer_to, given}
-use Rattle.steer_parts.specs.GoodCommands.{AreGiven, AreTries}
-use Rattle.steer_parts.specs.Inputs.{Input}
+use Rattle.steer_parts.specs.GoodCommands.{AreGiven}
 use Rattle.steer_parts.specs.Machine.{Machine}
 use Rattle.steer_parts.specs.Setup.{Setup, flow_of}
 use Rattle.steer_parts.specs.Start.{new_machine, steps_of}
@@ -275,7 +275,8 @@ commands-listed : (z : Sizes) (ss : Steps)
     ≡ commands_of ss
 commands-listed z (steps.List list) =
     ap (filter_map command_in)
-    (picked-all list (slice_get list) 0 (λ k. ap (slice_get list) (let e : 0 + k ≡ k = omega arith in e)))
+    (picked-all list (slice_get list) 0
+    (λ k. ap (slice_get list) (let e : 0 + k ≡ k = omega arith in e)))
 commands-listed z (steps.Seed seed count) =
     none-picked (nth_of z (steps.Seed seed count))
     (λ i s is. nth-none (nat_lt i count) (i == count) (seeded_step z (word_of seed i)) act.Sweep s

@@ -1,8 +1,8 @@
 -- Choices by the rule move their classes in three cases alone.
-use Rattle.std.proofs.Common.{ℕ, ◌<◌, ◌≤◌, ◌≡◌, ◌≢◌, ◌⊎◌, Bool, true, false, not, List, Option, Some}
+use Rattle.std.proofs.Common.{ℕ, ◌<◌, ◌≡◌, ◌⊎◌, Bool, true, false, List, Option, Some}
 use Rattle.std.proofs.Common.{None, length, take, drop, refl, ap, ◌∙◌, sym, subst, arith, inl, inr}
 use Rattle.std.proofs.Common.{unwrap_or, get_or}
-use Rattle.std.specs.Prelude.{◌==◌, ◌↔◌, slice_get}
+use Rattle.std.specs.Prelude.{◌↔◌, slice_get}
 use Rattle.std.specs.List.{All}
 use Rattle.std.proofs.lemmas.Bool.{cases_Bool, cases_eq, eq-eqb, lt-ltb, ne_eqb}
 use Rattle.std.proofs.lemmas.List.{get_or-take, get_or_default, length-take-le}
@@ -33,7 +33,7 @@ use Rattle.steer_parts.specs.Setup.{flow_of, hash_of}
 use Rattle.steer_laws.specs.Kept.{Kept}
 use Rattle.xps_map.specs.Maps.{picked}
 use Rattle.steer_good.specs.Moves.{ChangesFlow, FlowsMoveAsSaid, MayChange}
-use Rattle.steer_good.specs.Moves.{MovesAsSaid, MovesClass}
+use Rattle.steer_good.specs.Moves.{MovesClass}
 
 -- ---- the rule, case by case
 

@@ -10,8 +10,9 @@ use Rattle.steer_base.specs.Entries.{position}
 use Rattle.steer_base.specs.declared.choice.Chosen.{Chosen}
 use Rattle.steer_parts.specs.GoodChoices.{accepted_in}
 
--- Where a choice moved a class, each packet of an earlier choice for this class that was accepted is
--- retired. In the state right after the choice it says that none was outstanding when it was made.
+-- Where a choice moved a class, each packet of an earlier choice for this class that was accepted
+-- is retired. In the state right after the choice it says that none was outstanding when it was
+-- made.
 abbrev pub MovesAreClear : List LaneList → List Chosen → Type 0
 MovesAreClear lanes cs =
     (j k class n : ℕ) → j < k → k < length cs
