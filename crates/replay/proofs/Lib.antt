@@ -4,3 +4,4 @@ mod FlowsLemmas
 mod TextsLemmas
 mod WrittenLemmas
 mod SummariesLemmas
+mod HeadlineLemmas

@@ -1,6 +1,7 @@
 pub mod Meanings
 pub mod Replays
 pub mod Reports
+pub mod Headlines
 pub mod Counts
 pub mod FlowCounts
 pub mod Summaries

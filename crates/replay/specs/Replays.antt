@@ -1,9 +1,11 @@
 -- The replay of a plan over the packets of a capture, and its report.
-use Rattle.std.specs.Prelude.{ℕ, List, Option, length}
+use Rattle.std.specs.Prelude.{ℕ, ◌^◌, ◌<◌, List, Option, length}
 use Rattle.steer_base.specs.declared.packet.Packet.{Packet}
 use Rattle.history.specs.Lines.{LineLists, lines_of}
+use Rattle.history.specs.Ranges.{HistoryFits}
 use Rattle.history.specs.declared.history.History.{History}
 use Rattle.plan_reader.specs.declared.plan.Plan.{Plan}
+use Rattle.report.specs.Laws.{TextsFit}
 use Rattle.report.specs.Report.{rows_of}
 use Rattle.report.specs.Texts.{text_of}
 use Rattle.steer_parts.specs.Start.{replayed}
@@ -14,6 +16,13 @@ pub record ReplayLists : Type 0 where
   pub history : History
   pub lines : LineLists
   pub texts : List (List ℕ)
+
+-- Numbers within the types that a program has for them: the start of a plan, and those of a
+-- history and of the texts of its taps.
+pub record IsWithinTypes (plan : Plan) (r : ReplayLists) : Type 0 where
+  pub start : plan.start < 2 ^ 32
+  pub numbers : HistoryFits r.history
+  pub texts : TextsFit r.texts
 
 abbrev pub replay_with : History → LineLists → List (List ℕ) → ReplayLists
 replay_with h lines texts = record { history = h; lines = lines; texts = texts }

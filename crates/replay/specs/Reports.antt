@@ -1,5 +1,5 @@
 -- The report of the bytes of a plan and of a capture.
-use Rattle.std.specs.Prelude.{◌≡◌, ℕ, List, Ok}
+use Rattle.std.specs.Prelude.{◌≡◌, ◌≤◌, ℕ, List, Ok, length}
 use Rattle.steer_base.specs.declared.packet.Packet.{Packet}
 use Rattle.pcap_reader.specs.declared.capture.Capture.{Capture}
 use Rattle.plan_reader.specs.PlanTexts.{plan_of, settings_of}
@@ -7,7 +7,7 @@ use Rattle.plan_reader.specs.declared.plan.Plan.{Plan}
 use Rattle.toeplitz.specs.Toeplitz.{number_of}
 use Rattle.steer_parts.specs.Packets.{ArePackets}
 use Rattle.replay.specs.Meanings.{Meaning}
-use Rattle.replay.specs.Replays.{ReplayLists, replay_of, replay_text}
+use Rattle.replay.specs.Replays.{IsWithinTypes, ReplayLists, replay_of, replay_text}
 
 -- these bytes are the text of this plan
 abbrev pub HasPlan : List ℕ → Plan → Type 0
@@ -24,7 +24,9 @@ pub record IsReplayOf (plan : Plan) (bytes : List ℕ) (capture : Capture) (taps
     (r : ReplayLists) : Type 0 where
   pub packets : List Packet
   pub are_packets : ArePacketsBy plan bytes capture packets
+  pub few : length packets ≤ 262144
   pub is : r ≡ replay_of plan packets capture.cut taps
+  pub fits : IsWithinTypes plan r
 
 -- A text is the report of the history that the steps of the plan give on the packets of the
 -- capture, with the texts of the taps.
@@ -34,4 +36,6 @@ pub record IsReportOf (plan_bytes capture_bytes : List ℕ) (capture : Capture) 
   pub has_plan : HasPlan plan_bytes plan
   pub packets : List Packet
   pub are_packets : ArePacketsBy plan capture_bytes capture packets
+  pub few : length packets ≤ 262144
   pub is : text ≡ replay_text (replay_of plan packets capture.cut taps)
+  pub fits : IsWithinTypes plan (replay_of plan packets capture.cut taps)

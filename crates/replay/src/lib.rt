@@ -12,7 +12,7 @@ mod summary;
 
 pub use counts::Counts;
 pub use flows::flow_count;
-pub use laws::flows_are_counted;
+pub use laws::{every_report_has_the_headline, flows_are_counted};
 pub use packets::packets_by;
 pub use replay::Replay;
 pub use summary::Summary;

@@ -4,13 +4,13 @@ ghost use Rattle.std.specs.Io.KnownBytes.{Appends};
 ghost use Rattle.outside_io.specs.Counts.{Rose};
 ghost use Rattle.outside_io.specs.Sink.{AppendsSome};
 ghost use Rattle.steer_parts.specs.Given.{AreOfFlows};
-ghost use Rattle.replay.specs.Replays.{replay_of, replay_text};
+ghost use Rattle.replay.specs.Replays.{IsWithinTypes, replay_of, replay_text};
 
 use crate::play::{play, tell_start};
 use history::{History, Lines};
 use outside_io::{Sink, WriteFault};
 use plan_reader::Plan;
-use report::{LineBuf, render};
+use report::{LineBuf, render, texts_fit};
 use std::alloc::Global;
 use std::marker::Model;
 use steer_base::{OutOfMemory, Packet};
@@ -56,8 +56,9 @@ impl Replay {
     ) -> Result<Replay, OutOfMemory>
         requires few { length packets.now ≤ 262144 }
         requires flows { AreOfFlows packets.now }
-        ensures { IfOk result (λ replay. replay
+        ensures is { IfOk result (λ replay. replay
             ≡ replay_of plan.now packets.now cut (map (λ tap lines. text tap lines) taps.items)) }
+        ensures fits { IfOk result (IsWithinTypes plan.now) }
     {
         let history = play(alloc, plan, packets, cut)?;
         tell_start(plan, packets);
@@ -65,6 +66,8 @@ impl Replay {
         let lines = Lines::make(alloc, &history, packets, plan.apps.len() as u8)?;
         let arrived = lines.len() as u32;
         let texts = feed(alloc, taps, &lines, arrived, plan.detach.as_slice())?;
+        history.numbers_fit();
+        texts_fit(&texts);
         Ok(Replay {
             history,
             lines,

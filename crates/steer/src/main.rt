@@ -2,11 +2,14 @@
 //! each.
 #![tactic(auto)]
 
-use outside_io::{FileDesk, StdSink};
+use outside_io::{Desk, FileDesk, Sink, StdSink};
+use std::alloc::Global;
 use std::io::BufWriter;
 use std::process::ExitCode;
 use std::{env, io};
+use steer_base::OutOfMemory;
 use steer_top::steer_still;
+use taps::{Depth, PerCpu, PerFlow, Tap};
 
 const OUT_OF_MEMORY: u8 = 7;
 
@@ -20,6 +23,24 @@ fn words_of(rt: &HostRuntime) -> io::Result<Vec<String>> {
         words.push(word)?;
     }
     Ok(words)
+}
+
+// Does the command of the words with a tap of each kind, and answers its status.
+fn call<D: Desk, K: Sink, E: Sink>(
+    alloc: Global,
+    words: &[String],
+    desk: &mut D,
+    out: &mut K,
+    err: &mut E,
+) -> Result<u8, OutOfMemory> {
+    let per_cpu: Box<dyn Tap> = Box::new(alloc, PerCpu::make(alloc))?;
+    let per_flow: Box<dyn Tap> = Box::new(alloc, PerFlow::make(alloc))?;
+    let depth: Box<dyn Tap> = Box::new(alloc, Depth::make(alloc))?;
+    let mut taps = Vec::new(alloc);
+    taps.push(per_cpu)?;
+    taps.push(per_flow)?;
+    taps.push(depth)?;
+    Ok(steer_still(alloc, words, desk, out, err, taps))
 }
 
 fn main(rt: HostRuntime) -> ExitCode {
@@ -38,5 +59,8 @@ fn main(rt: HostRuntime) -> ExitCode {
         Err(_) => Vec::new(alloc),
     };
     let mut desk = FileDesk::make(rt);
-    ExitCode::from(steer_still(alloc, &words, &mut desk, &mut out, &mut err))
+    match call(alloc, &words, &mut desk, &mut out, &mut err) {
+        Ok(status) => ExitCode::from(status),
+        Err(OutOfMemory) => ExitCode::from(OUT_OF_MEMORY),
+    }
 }

@@ -1,7 +1,7 @@
 -- The history of a machine at rest meets all clauses of a good history that its steps allow.
-use Rattle.std.proofs.Common.{ℕ, ◌+◌, ◌≤◌, ◌<◌, ◌≡◌, Bool, true, List, [], ◌∷◌, ◌++◌, Option, Some}
+use Rattle.std.proofs.Common.{ℕ, ◌+◌, ◌≡◌, Bool, true, List, [], ◌∷◌, ◌++◌, Option, Some}
 use Rattle.std.proofs.Common.{length, map, take, refl}
-use Rattle.std.proofs.Common.{ap, ◌∙◌, sym, subst, arith, inl, inr, get_or, suc, zero}
+use Rattle.std.proofs.Common.{ap, ◌∙◌, sym, subst, arith, inl, inr}
 use Rattle.std.specs.Prelude.{slice_index}
 use Rattle.std.specs.List.{AllPass, cons_option, filter_map, range_with_len}
 use Rattle.std.proofs.Math.ListN.{get_or-eq_default, length-map}
@@ -10,7 +10,7 @@ use Rattle.std.proofs.lemmas.Bool.{cases_lt, eq-eqb, le-ltb}
 use Rattle.std.proofs.lemmas.List.{get_or_append_left, length-append}
 use Rattle.std.proofs.lemmas.List.Elements.{All-push, filter_map-append}
 use Rattle.history.specs.Lists.{arrivals_at, list_at}
-use Rattle.hop_core.specs.Hop.{Fixed, arrivals_of, choices_of, taken_of}
+use Rattle.hop_core.specs.Hop.{choices_of, taken_of}
 use Rattle.plan_reader.specs.Plans.{count_of, nth_of, sizes_of}
 use Rattle.plan_reader.specs.Ranges.{step_is_within}
 use Rattle.plan_reader.specs.declared.plan.Plan.{Plan}
@@ -18,14 +18,11 @@ use Rattle.plan_reader.specs.declared.plan.Steps.{Steps}
 use Rattle.plan_reader.specs.declared.plan.Steps.TheVariants as steps
 use Rattle.plan_reader.specs.declared.settings.sizes.Sizes.{Sizes}
 use Rattle.steer_base.specs.Orders.{IsPrefix}
-use Rattle.steer_base.specs.declared.choice.Chosen.{Chosen}
 use Rattle.steer_base.specs.declared.step.Step.{Step}
 use Rattle.steer_base.specs.declared.step.Step.TheVariants as act
 use Rattle.steer_parts.specs.GoodArrivals.{HasArrived}
-use Rattle.steer_parts.specs.GoodDeliveries.{IsSwept}
-use Rattle.steer_parts.specs.Inputs.{Input, setup_in}
+use Rattle.steer_parts.specs.Inputs.{Input}
 use Rattle.steer_parts.specs.Machine.{Machine, history_of}
-use Rattle.steer_parts.specs.Setup.{Setup}
 use Rattle.steer_parts.specs.Start.{new_machine, steps_of}
 use Rattle.steer_parts.specs.Whole.{after, step}
 use Rattle.steer_laws.specs.DeliveryLaws.{DeliversInOrder}
@@ -35,32 +32,25 @@ use Rattle.steer_laws.specs.Rest.{AtRest}
 use Rattle.steer_laws.proofs.DeliverySteps.{runs_deliver}
 use Rattle.steer_laws.proofs.HeldSteps.{plan_steps_within, runs_are_held}
 use Rattle.steer_laws.proofs.KeptArrives.{range-more}
-use Rattle.steer_laws.proofs.Lanes.{chosen-first, lists-long}
+use Rattle.steer_laws.proofs.Lanes.{chosen-first}
 use Rattle.steer_laws.proofs.SweptHistories.{rest_is_swept}
 use Rattle.steer_laws.proofs.Sweeps.{sweep_ends_at_rest}
 use Rattle.steer_good.specs.GoodAtRest.{GoodAtRest, SeededReplaysAreGood, SweptRunsAreGood}
-use Rattle.steer_good.proofs.Explained.{Based, Explained, explained-after, good-so-far}
+use Rattle.steer_good.proofs.Explained.{Explained, explained-after, good-so-far, of-its-input}
 
 -- ---- every packet arrived
 
-has-arrived : (i : Input) (m : Machine) → Kept m → Based i m → AtRest m
-    → HasArrived i (history_of m)
-has-arrived i m k b r =
-    let p = b.setup in
-    let z = k.rx.sizes in let y = k.tx.sizes in let w = k.rx.sound.wide in
-    let packets : length m.setup.packets ≡ length i.packets =
-    ap (λ (q : Setup). length q.packets) p in
-    let queues : length m.setup.homes ≡ length i.plan.queues =
-    ap (λ (q : Setup). length q.homes) p
-    ∙ length-map i.plan.queues (λ queue. queue.home) in
+has-arrived : (i : Input) (m : Machine) → Explained i m → AtRest m → HasArrived i (history_of m)
+has-arrived i m e r =
+    let w = of-its-input i m e in let h = e.held in let k = h.kept in
     record {
-      all = k.came.numbered ∙ ap (range_with_len 0) (r.arrived ∙ packets);
-      total = packets;
-      cut = ap (λ (q : Setup). q.cut) p;
-      start = ap (λ (f : Fixed). f.start) b.rx;
-      queues = w.taken ∙ z.queues ∙ queues;
-      cpus = lists-long m.rx k.rx.sound ∙ z.cpus ∙ ap (λ (q : Setup). q.cpus) p;
-      txs = lists-long m.tx k.tx.sound ∙ y.txs ∙ ap (λ (q : Setup). q.txs) p;
+      all = k.came.numbered ∙ ap (range_with_len 0) (r.arrived ∙ w.total);
+      total = w.total;
+      cut = w.cut;
+      start = w.start;
+      queues = w.queues;
+      cpus = w.cpus;
+      txs = w.txs;
     }
 
 -- ---- every taken packet has a choice
@@ -104,7 +94,7 @@ good-at-rest i m e d r =
     record {
       at = g.at;
       tx_at = g.tx_at;
-      arrived = has-arrived i m k e.based r;
+      arrived = has-arrived i m e r;
       queues = g.queues;
       choices = record { all = all-chosen m k r; by_rule = g.choices };
       wants = g.wants;

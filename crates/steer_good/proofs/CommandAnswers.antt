@@ -1,16 +1,14 @@
 -- How each command was answered, as it stays through every step.
-use Rattle.std.proofs.Common.{ℕ, zero, suc, ◌+◌, ◌≤◌, ◌<◌, ◌≡◌, ◌≢◌, ◌⊎◌, Bool, true, false, cond}
-use Rattle.std.proofs.Common.{not, List, [], ◌∷◌, ◌++◌, Option, Some, None, length, take, refl, ap}
+use Rattle.std.proofs.Common.{ℕ, ◌≤◌, ◌<◌, ◌≡◌, ◌≢◌, ◌⊎◌, Bool, true, false}
+use Rattle.std.proofs.Common.{not, List, [], ◌∷◌, Option, Some, None, length, refl, ap}
 use Rattle.std.proofs.Common.{◌∙◌, sym, subst, arith, inl, inr}
-use Rattle.std.specs.Prelude.{◌==◌, ◌&&◌, slice_get}
-use Rattle.std.specs.List.{All, filter}
-use Rattle.std.proofs.lemmas.Bool.{and_parts, cases_eq, eq-eqb}
+use Rattle.std.specs.Prelude.{◌==◌}
+use Rattle.std.specs.List.{All}
+use Rattle.std.proofs.lemmas.Bool.{and_parts, eq-eqb}
 use Rattle.std.proofs.lemmas.List.Elements.{All-head}
 use Rattle.std.proofs.lemmas.List.Sums.{count_by-le-length, length-filter}
-use Rattle.std.proofs.lemmas.Option.{slice_get_within}
 use Rattle.steer_base.specs.Commands.{refusal}
 use Rattle.steer_base.specs.Counters.{number}
-use Rattle.steer_base.specs.Sets.{those_below}
 use Rattle.steer_base.specs.declared.command.Answer.{Answer}
 use Rattle.steer_base.specs.declared.command.Answer.TheVariants as says
 use Rattle.steer_base.specs.declared.command.Busy.{Busy}
@@ -22,18 +20,16 @@ use Rattle.steer_base.proofs.SetsLemmas.{those_below-below, those_below-passes}
 use Rattle.hop_core.specs.Emptied.{emptied_of, first_busy, is_waiting, waiting}
 use Rattle.hop_core.specs.Hop.{HopState, accepted_at, head_at, retired_at, tail_at}
 use Rattle.hop_core.specs.Sound.{Sound}
-use Rattle.history.specs.declared.commanded.Commanded.{Commanded}
-use Rattle.steer_parts.specs.Commands.{affects, answer_to, by_gate, emptied_answer, gate_answer}
+use Rattle.steer_parts.specs.Commands.{affects, answer_to, by_gate, emptied_answer}
 use Rattle.steer_parts.specs.Commands.{gated, gone, may_go, refused_answer, refused_or}
 use Rattle.steer_parts.specs.GoodCommands.{refused_with}
-use Rattle.steer_parts.specs.Inputs.{Input, settings_after, setup_in}
+use Rattle.steer_parts.specs.Inputs.{Input, setup_in}
 use Rattle.steer_parts.specs.Machine.{Machine}
 use Rattle.steer_parts.specs.Settings.{Settings}
 use Rattle.steer_parts.specs.Setup.{Setup}
-use Rattle.steer_parts.specs.Start.{settings_of}
 use Rattle.steer_laws.specs.Kept.{Kept}
 use Rattle.steer_laws.proofs.EitherLemmas.{either}
-use Rattle.steer_good.proofs.Extends.{extends-length, extends-take}
+use Rattle.steer_good.proofs.Extends.{extends-length}
 use Rattle.steer_good.proofs.Lasts.{Lasts}
 use Rattle.steer_good.proofs.Stays.{Stays}
 

@@ -1,5 +1,5 @@
 -- Every step keeps the answers of the commands.
-use Rattle.std.proofs.Common.{ℕ, ◌+◌, ◌<◌, ◌≤◌, ◌≡◌, List, [], ◌∷◌, ◌++◌, None, Some, length, take, refl}
+use Rattle.std.proofs.Common.{ℕ, ◌≤◌, ◌≡◌, List, [], ◌∷◌, ◌++◌, None, Some, length, take, refl}
 use Rattle.std.proofs.Common.{ap, ◌∙◌, sym, subst, arith, inl, inr}
 use Rattle.std.specs.Prelude.{slice_get}
 use Rattle.std.specs.List.{All}
@@ -20,10 +20,10 @@ use Rattle.steer_parts.specs.Setup.{Setup}
 use Rattle.steer_parts.specs.Start.{new_machine, settings_of}
 use Rattle.steer_parts.specs.Steps.{simple}
 use Rattle.steer_laws.specs.Held.{Held}
-use Rattle.steer_laws.specs.Kept.{IsCommandNamed, IsNamed, Kept}
+use Rattle.steer_laws.specs.Kept.{IsCommandNamed, IsNamed}
 use Rattle.steer_good.proofs.CommandAnswers.{AnswersBy, answers-last, answers-new}
-use Rattle.steer_good.proofs.Extends.{extends-push, extends-take, get-either}
-use Rattle.steer_good.proofs.Lasts.{Given, Lasts, Still}
+use Rattle.steer_good.proofs.Extends.{get-either}
+use Rattle.steer_good.proofs.Lasts.{Given, Lasts}
 use Rattle.steer_good.proofs.Moments.{settings-all, settings-longer}
 use Rattle.steer_good.proofs.RuleSteps.{Follows}
 use Rattle.steer_good.proofs.Walks.{lasts-noted, walk}

@@ -1,6 +1,6 @@
 -- How each command was answered, in the words of a history.
-use Rattle.std.proofs.Common.{ℕ, ◌+◌, ◌≤◌, ◌<◌, ◌≡◌, ◌⊎◌, List, Option, Some, None, length, refl, ap}
-use Rattle.std.proofs.Common.{◌∙◌, sym, subst, arith, inl, inr}
+use Rattle.std.proofs.Common.{ℕ, ◌≤◌, ◌≡◌, ◌⊎◌, List, Option, Some, None, length, refl, ap}
+use Rattle.std.proofs.Common.{◌∙◌, sym, arith, inl, inr}
 use Rattle.history.specs.Lists.{lane_at}
 use Rattle.history.specs.declared.commanded.Commanded.{Commanded}
 use Rattle.history.specs.declared.lane_list.LaneList.{LaneList}

@@ -2,6 +2,7 @@
 -- of choices, of what they saw, of writes and of commands.
 use Rattle.std.proofs.Common.{ℕ, ◌≡◌, List, None, length, refl, ap, ◌∙◌, sym, subst, arith}
 use Rattle.std.specs.List.{AllPass}
+use Rattle.std.proofs.Math.ListN.{length-map}
 use Rattle.std.proofs.lemmas.List.{length-replicate}
 use Rattle.history.specs.declared.history.History.{History}
 use Rattle.hop_core.specs.Hop.{Fixed, choices_of}
@@ -28,12 +29,16 @@ use Rattle.steer_laws.proofs.DeliverySteps.{runs_deliver}
 use Rattle.steer_laws.proofs.HeldNew.{held-new}
 use Rattle.steer_laws.proofs.HeldSteps.{held-simple, named-in, plan_steps_within}
 use Rattle.steer_laws.proofs.KeptLemmas.{flow_small}
-use Rattle.steer_laws.proofs.KeptSimple.{goes-simple}
+use Rattle.steer_laws.proofs.Lanes.{lists-long}
 use Rattle.steer_laws.proofs.NamedLift.{after-keeps}
 use Rattle.steer_good.specs.Always.{Always}
+use Rattle.steer_good.specs.Clear.{NothingIsOutstanding}
 use Rattle.steer_good.specs.GoodSoFar.{GoodSoFar}
 use Rattle.steer_good.specs.Made.{AreAnswered, WritesAreMade}
 use Rattle.steer_good.specs.Ruled.{AreChosen, AreReplied}
+use Rattle.steer_good.specs.Sizes.{IsOfItsInput}
+use Rattle.steer_good.proofs.Clear.{clear-words}
+use Rattle.steer_good.proofs.ClearSteps.{Clear, clear-new_machine, clear-simple}
 use Rattle.steer_good.proofs.CommandSteps.{Commanding, commanding-new, commanding-simple}
 use Rattle.steer_good.proofs.CommandWords.{commands-answered}
 use Rattle.steer_good.proofs.HeadSteps.{Heads, heads-new, heads-simple}
@@ -83,6 +88,7 @@ pub record Explained (i : Input) (m : Machine) : Type 0 where
   pub from : FiltersAreFrom m
   pub seen : AllSeen i m
   pub written : Written i m
+  pub clear : Clear m
 
 -- both hops number from one start
 same-start : (i : Input) (m : Machine) → Based i m → SameStart m
@@ -110,6 +116,7 @@ explained-simple i m s named e =
       from = single FiltersAreFrom filters_are_from_choices.later m s e.from;
       seen = seen-simple i m s b.setup b.filters e.from e.commanding e.follows h g here e.seen;
       written = written-simple i m s b.setup e.follows e.commanding h here e.written;
+      clear = clear-simple m s h here e.clear;
     }
 
 explained-new : (i : Input) → MayStart i.plan i.packets
@@ -135,6 +142,7 @@ explained-new i may =
       from = filters_are_from_choices.start i.plan i.packets i.cut;
       seen = seen-new i;
       written = written-new i;
+      clear = clear-new_machine i;
     }
 
 pub explained-after : (i : Input) (ss : List Step) → MayStart i.plan i.packets
@@ -164,6 +172,27 @@ always-by P says =
     run i ss may named =
         says i (after ss (new_machine i.plan i.packets i.cut)) (explained-after i ss may named)
         (runs_deliver i ss may named)
+
+-- ---- what it has of its plan and its capture
+
+pub of-its-input : (i : Input) (m : Machine) → Explained i m → IsOfItsInput i (history_of m)
+of-its-input i m e =
+    let b = e.based in let p = b.setup in let h = e.held in let k = h.kept in
+    let z = k.rx.sizes in let y = k.tx.sizes in let w = k.rx.sound.wide in
+    let queues : length m.setup.homes ≡ length i.plan.queues =
+    ap (λ (q : Setup). length q.homes) p
+    ∙ length-map i.plan.queues (λ queue. queue.home) in
+    record {
+      total = ap (λ (q : Setup). length q.packets) p;
+      cut = ap (λ (q : Setup). q.cut) p;
+      start = ap (λ (f : Fixed). f.start) b.rx;
+      queues = w.taken ∙ z.queues ∙ queues;
+      cpus = lists-long m.rx k.rx.sound ∙ z.cpus ∙ ap (λ (q : Setup). q.cpus) p;
+      txs = lists-long m.tx k.tx.sound ∙ y.txs ∙ ap (λ (q : Setup). q.txs) p;
+    }
+
+pub histories_always_of_input : Always IsOfItsInput
+histories_always_of_input = always-by IsOfItsInput (λ i m e d. of-its-input i m e)
 
 -- ---- the heads in the words of a history
 
@@ -198,6 +227,19 @@ choices-ruled i m e =
 
 pub choices_always_ruled : Always AreChosen
 choices_always_ruled = always-by AreChosen (λ i m e d. choices-ruled i m e)
+
+-- ---- what is left behind
+
+moves-clear : (i : Input) (m : Machine) → Explained i m → NothingIsOutstanding (history_of m)
+moves-clear i m e =
+    let h = e.held in let k = h.kept in let c = e.clear in
+    record {
+      rx = clear-words m.rx k.rx.sound c.rx;
+      tx = clear-words m.tx k.tx.sound c.tx;
+    }
+
+pub moves_always_clear : Always (λ i h. NothingIsOutstanding h)
+moves_always_clear = always-by (λ i h. NothingIsOutstanding h) (λ i m e d. moves-clear i m e)
 
 -- ---- the queues of arrivals
 

@@ -1,5 +1,5 @@
 -- What a command does that is given.
-use Rattle.std.proofs.Common.{ℕ, ◌+◌, ◌<◌, ◌≤◌, ◌≡◌, ◌⊎◌, Bool, true, false, cond, List, [], ◌∷◌}
+use Rattle.std.proofs.Common.{ℕ, ◌<◌, ◌≡◌, ◌⊎◌, Bool, true, false, cond, List, [], ◌∷◌}
 use Rattle.std.proofs.Common.{◌++◌, Option, length, refl, ap, ◌∙◌, sym, arith, inl, inr, get_or, set}
 use Rattle.std.specs.Prelude.{◌==◌, ◌&&◌}
 use Rattle.std.proofs.lemmas.Bool.{cases_Bool, cases_eq, eq-eqb, ne_eqb}
@@ -11,13 +11,12 @@ use Rattle.steer_base.specs.declared.command.Command.TheVariants as give
 use Rattle.hop_core.specs.declared.event.HopEvent.{HopEvent}
 use Rattle.hop_core.specs.declared.event.HopEvent.TheVariants as event
 use Rattle.hop_core.specs.Events.{happens, run}
-use Rattle.hop_core.specs.Hop.{HopState, choices_of, inside_of, since_of}
+use Rattle.hop_core.specs.Hop.{HopState, choices_of, since_of}
 use Rattle.hop_core.specs.Leaves.{Field}
 use Rattle.hop_core.proofs.Leaves.{each_leaves}
-use Rattle.history.specs.Lists.{list_at}
 use Rattle.steer_parts.specs.Commands.{affects, answer_to, by_gate, given, is_done, kept_filter}
 use Rattle.steer_parts.specs.Commands.{listed, set_by}
-use Rattle.steer_parts.specs.Inputs.{is_flows, is_resize}
+use Rattle.steer_parts.specs.Inputs.{is_flows}
 use Rattle.steer_parts.specs.Machine.{Machine}
 use Rattle.steer_parts.specs.Settings.{changed}
 use Rattle.steer_parts.specs.declared.note.Note.TheVariants as note
@@ -26,7 +25,7 @@ use Rattle.steer_laws.proofs.BelowLemmas.{both-below}
 use Rattle.steer_laws.proofs.HeldAsks.{asks_rx}
 use Rattle.steer_laws.proofs.KeptGates.{gate_passed, not-refused}
 use Rattle.steer_good.proofs.Extends.{extends-more, extends-push}
-use Rattle.steer_good.proofs.Lasts.{Given, Lasts, LookedStays, SameTurns, lasts-self, same_turns}
+use Rattle.steer_good.proofs.Lasts.{Given, Lasts, lasts-self, same_turns}
 use Rattle.steer_good.proofs.Stays.{stays-run}
 
 -- ---- another flow count

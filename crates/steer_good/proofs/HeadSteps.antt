@@ -1,5 +1,5 @@
 -- Every step keeps the heads of both hops rising.
-use Rattle.std.proofs.Common.{ℕ, ◌+◌, ◌<◌, ◌≡◌, List, [], Some, length, max, sym, subst, arith}
+use Rattle.std.proofs.Common.{ℕ, ◌+◌, ◌≡◌, List, [], Some, length, max, sym, subst, arith}
 use Rattle.std.proofs.Common.{replicate}
 use Rattle.hop_core.specs.Hop.{Fixed, HopState, choices_of}
 use Rattle.hop_core.specs.Shape.{fresh_hop}

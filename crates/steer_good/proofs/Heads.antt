@@ -1,6 +1,6 @@
 -- The heads that choices saw never fall, and none is over what its lane retired.
-use Rattle.std.proofs.Common.{ℕ, zero, suc, ◌+◌, ◌^◌, ◌≤◌, ◌<◌, ◌≡◌, Bool, true, false, cond, not}
-use Rattle.std.proofs.Common.{List, [], ◌∷◌, ◌++◌, Option, Some, None, map, length, take, drop, refl}
+use Rattle.std.proofs.Common.{ℕ, zero, suc, ◌^◌, ◌≤◌, ◌<◌, ◌≡◌, Bool, true, false, cond, not}
+use Rattle.std.proofs.Common.{List, [], ◌∷◌, ◌++◌, Option, Some, None, map, length, drop, refl}
 use Rattle.std.proofs.Common.{ap, ◌∙◌, sym, subst, arith, inl, inr}
 use Rattle.std.specs.Prelude.{◌==◌, slice_index_or}
 use Rattle.std.proofs.lemmas.Bool.{cases_Bool, cases_eq, cases_lt}
@@ -18,14 +18,14 @@ use Rattle.steer_base.specs.declared.choice.Why.TheVariants.{Kept, Offline, Pass
 use Rattle.steer_base.specs.declared.cpu_mask.CpuMask.{CpuMask}
 use Rattle.steer_base.proofs.RuleLemmas.{by_entry-class}
 use Rattle.hop_core.specs.Hop.{HopState, accepted_at, choice_of, choices_of, chosen_at, chose}
-use Rattle.hop_core.specs.Hop.{head_at, next_of, nobody, recent, retired_at, since_of}
+use Rattle.hop_core.specs.Hop.{head_at, next_of, nobody, retired_at, since_of}
 use Rattle.hop_core.specs.Sound.{Sound}
 use Rattle.hop_core.proofs.Fits.{fits_room}
 use Rattle.hop_core.proofs.Lists.{Changed-set, chosen-push_front, chosen-push_last, length-push}
 use Rattle.history.specs.Lists.{lane_at}
 use Rattle.history.specs.declared.lane_list.LaneList.{LaneList}
 use Rattle.steer_parts.specs.GoodChoices.{HeadsRise, lane_of_class, lane_seen}
-use Rattle.steer_parts.specs.Machine.{lane_list, lane_lists}
+use Rattle.steer_parts.specs.Machine.{lane_lists}
 use Rattle.steer_laws.proofs.Lanes.{lane-is}
 use Rattle.steer_good.proofs.Stays.{Stays}
 
@@ -207,7 +207,7 @@ retired-is : (s : HopState) → Sound s → (c : ℕ)
     → (lane_at (lane_lists s.bare) c).retired ≡ retired_at s.bare c
 retired-is s h c = ap (λ lane. lane.retired) (lane-is s h c)
 
-retired-small : (s : HopState) → Sound s → (c : ℕ) → retired_at s.bare c ≤ 262144
+pub retired-small : (s : HopState) → Sound s → (c : ℕ) → retired_at s.bare c ≤ 262144
 retired-small s h c =
     let f = (fits_room s h).puts c in let r = h.small.room in
     let a = h.counts.retired_first c in let b = h.counts.delivered_first c in

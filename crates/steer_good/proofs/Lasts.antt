@@ -1,16 +1,15 @@
 -- What lasts in the machine through every step, and what no step changes that makes no choice and
 -- gives no command.
-use Rattle.std.proofs.Common.{ℕ, zero, suc, ◌+◌, ◌<◌, ◌≡◌, ◌⊎◌, true, false, cond, List, [], ◌∷◌}
-use Rattle.std.proofs.Common.{◌++◌, Option, length, refl, ap, ◌∙◌, sym, inl, inr}
+use Rattle.std.proofs.Common.{ℕ, zero, suc, ◌≡◌, ◌⊎◌, true, false, cond, List, [], ◌∷◌}
+use Rattle.std.proofs.Common.{◌++◌, Option, length, refl, ap, ◌∙◌, inl, inr}
 use Rattle.std.specs.Prelude.{slice_index_or, slice_set}
 use Rattle.steer_base.specs.declared.command.Answer.{Answer}
 use Rattle.steer_base.specs.declared.command.Command.{Command}
 use Rattle.steer_base.specs.declared.filter.Filter.{Filter}
 use Rattle.hop_core.specs.declared.event.HopEvent.{HopEvent}
-use Rattle.hop_core.specs.Events.{AllMayAsk, MayAsk, happens, run}
+use Rattle.hop_core.specs.Events.{happens, run}
 use Rattle.hop_core.specs.Hop.{HopState, choices_of, inside_of, since_of}
 use Rattle.hop_core.specs.Leaves.{Field, changes}
-use Rattle.hop_core.specs.Sound.{Sound}
 use Rattle.hop_core.proofs.Leaves.{each_leaves}
 use Rattle.history.specs.Lists.{list_at}
 use Rattle.steer_parts.specs.Commands.{is_done}
@@ -20,7 +19,7 @@ use Rattle.steer_parts.specs.Settings.{changed}
 use Rattle.steer_parts.specs.declared.note.Note.{Note}
 use Rattle.steer_parts.specs.declared.note.Note.TheVariants as note
 use Rattle.steer_good.proofs.Extends.{Extends, extends-self}
-use Rattle.steer_good.proofs.Stays.{Stays, stays-happens, stays-self}
+use Rattle.steer_good.proofs.Stays.{Stays, stays-self}
 
 -- ---- what lasts
 

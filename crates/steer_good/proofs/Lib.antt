@@ -20,5 +20,8 @@ pub mod Seen
 pub mod Writes
 pub mod CommandWords
 pub mod Moves
+pub mod Clear
+pub mod ClearSteps
 pub mod Explained
 pub mod AtRest
+pub mod GivenOnce

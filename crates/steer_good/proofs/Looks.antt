@@ -1,16 +1,15 @@
 -- What a poller saw in the socket flow table was written there, and stays so until it weighs.
-use Rattle.std.proofs.Common.{ℕ, ◌+◌, ◌<◌, ◌≤◌, ◌≡◌, ◌≢◌, true, List, [], ◌∷◌, ◌++◌, Option, Some}
+use Rattle.std.proofs.Common.{ℕ, ◌<◌, ◌≡◌, true, List, [], ◌∷◌, ◌++◌, Option, Some}
 use Rattle.std.proofs.Common.{None, length, refl, ap, ◌∙◌, sym, subst, arith, inl, inr, get_or}
 use Rattle.std.specs.Prelude.{slice_index, slice_index_or}
 use Rattle.std.proofs.lemmas.Bool.{cases_eq}
 use Rattle.std.proofs.lemmas.List.{get_or-set_same}
 use Rattle.history.specs.Lists.{list_at}
 use Rattle.history.specs.declared.sock_write.SockWrite.{SockWrite}
-use Rattle.hop_core.specs.Hop.{HopState, arrivals_of, choices_of, chose, inside_of, next_of, taken_of}
+use Rattle.hop_core.specs.Hop.{HopState, arrivals_of, choices_of, inside_of, next_of, taken_of}
 use Rattle.hop_core.specs.Sound.{Sound}
 use Rattle.hop_core.proofs.GateSteps.{count_some}
 use Rattle.hop_core.proofs.Lists.{Changed-set}
-use Rattle.sock_flow_table.specs.Sockets.{wanted}
 use Rattle.steer_base.specs.Choices.{class_of}
 use Rattle.steer_base.specs.HashTables.{row_at}
 use Rattle.steer_base.specs.declared.choice.Chosen.{Chosen}
@@ -23,17 +22,15 @@ use Rattle.steer_parts.specs.GoodChoices.{WasWritten}
 use Rattle.steer_parts.specs.Machine.{Machine, history_of, note_of}
 use Rattle.steer_parts.specs.Pollers.{noted, seen_by, socket_seen}
 use Rattle.steer_parts.specs.Settings.{Settings, class_at}
-use Rattle.steer_parts.specs.Setup.{Setup, hash_of}
+use Rattle.steer_parts.specs.Setup.{hash_of}
 use Rattle.steer_parts.specs.Steps.{simple}
 use Rattle.steer_parts.specs.TableOrigins.{SocketIsWritten}
-use Rattle.steer_parts.specs.declared.note.Note.{Note}
 use Rattle.steer_parts.specs.declared.note.Note.TheVariants as note
 use Rattle.steer_laws.specs.Held.{Held}
 use Rattle.steer_laws.specs.Kept.{IsNamed}
 use Rattle.steer_laws.specs.KeptHops.{IsNoted}
 use Rattle.steer_good.proofs.Extends.{blank-at, extends-get, extends-slice_get}
-use Rattle.steer_good.proofs.Lasts.{Given, Lasts, Still, lasts-self, looked-in}
-use Rattle.steer_good.proofs.Stays.{Stays}
+use Rattle.steer_good.proofs.Lasts.{Given, Lasts, Still, looked-in}
 use Rattle.steer_good.proofs.Walks.{lasts-noted, new_choice, walk, weighed}
 
 -- ---- what is seen was written

@@ -1,8 +1,8 @@
 -- Choices by the rule move their classes in three cases alone.
-use Rattle.std.proofs.Common.{ℕ, ◌<◌, ◌≤◌, ◌≡◌, ◌≢◌, ◌⊎◌, Bool, true, false, not, List, Option, Some}
+use Rattle.std.proofs.Common.{ℕ, ◌<◌, ◌≡◌, ◌⊎◌, Bool, true, false, List, Option, Some}
 use Rattle.std.proofs.Common.{None, length, take, drop, refl, ap, ◌∙◌, sym, subst, arith, inl, inr}
 use Rattle.std.proofs.Common.{unwrap_or, get_or}
-use Rattle.std.specs.Prelude.{◌==◌, ◌↔◌, slice_get}
+use Rattle.std.specs.Prelude.{◌↔◌, slice_get}
 use Rattle.std.specs.List.{All}
 use Rattle.std.proofs.lemmas.Bool.{cases_Bool, cases_eq, eq-eqb, lt-ltb, ne_eqb}
 use Rattle.std.proofs.lemmas.List.{get_or-take, get_or_default, length-take-le}
@@ -33,16 +33,16 @@ use Rattle.steer_parts.specs.Setup.{flow_of, hash_of}
 use Rattle.steer_laws.specs.Kept.{Kept}
 use Rattle.xps_map.specs.Maps.{picked}
 use Rattle.steer_good.specs.Moves.{ChangesFlow, FlowsMoveAsSaid, MayChange}
-use Rattle.steer_good.specs.Moves.{MovesAsSaid, MovesClass}
+use Rattle.steer_good.specs.Moves.{MovesClass}
 
 -- ---- the rule, case by case
 
-record MovesBy (c : Choice) (desired tail : ℕ) (head : ℕ → ℕ) (online : ℕ → Bool)
+pub record MovesBy (c : Choice) (desired tail : ℕ) (head : ℕ → ℕ) (online : ℕ → Bool)
     (current : Option ℕ) : Type 0 where
-  cases : has_moved c.why ≡ true → IsMove c.why
-  may : has_moved c.why ≡ true ↔ MayLeave desired tail head online current
-  moved : has_moved c.why ≡ true → c.lane ≡ desired
-  kept : has_moved c.why ≡ false → Some c.lane ≡ current
+  pub cases : has_moved c.why ≡ true → IsMove c.why
+  pub may : has_moved c.why ≡ true ↔ MayLeave desired tail head online current
+  pub moved : has_moved c.why ≡ true → c.lane ≡ desired
+  pub kept : has_moved c.why ≡ false → Some c.lane ≡ current
 
 moves-by : (k : ℕ) (want : Option ℕ) (desired tail : ℕ) (head : ℕ → ℕ) (online : ℕ → Bool)
     (current : Option ℕ)
@@ -102,7 +102,7 @@ moves-by k want desired tail head online (Some lane) =
     not-both on reached e f (inl g) = (let h : true ≡ false = sym e ∙ g in cc)
     not-both on reached e f (inr g) = (let h : true ≡ false = sym g ∙ f in cc)
 
-moves-of : (c : Choice) (k : ℕ) (want : Option ℕ) (desired tail : ℕ) (head : ℕ → ℕ)
+pub moves-of : (c : Choice) (k : ℕ) (want : Option ℕ) (desired tail : ℕ) (head : ℕ → ℕ)
     (online : ℕ → Bool) (current : Option ℕ)
     → c ≡ by_entry k want desired tail head online current
     → MovesBy c desired tail head online current
@@ -112,7 +112,7 @@ moves-of c k want desired tail head online current is =
 
 -- ---- the receive side
 
-migrate-class : (class want : Option ℕ) (desired : ℕ) (entries : ℕ → Entry) (head : ℕ → ℕ)
+pub migrate-class : (class want : Option ℕ) (desired : ℕ) (entries : ℕ → Entry) (head : ℕ → ℕ)
     (online : ℕ → Bool) → (migrate class want desired entries head online).class ≡ class
 migrate-class None want desired entries head online = refl
 migrate-class (Some k) want desired entries head online =

@@ -1,10 +1,10 @@
 -- Where the values in force come from: the plan, or a command that was done.
-use Rattle.std.proofs.Common.{ℕ, zero, suc, ◌+◌, ◌<◌, ◌≤◌, ◌≡◌, ◌⊎◌, Bool, true, false, cond, List}
-use Rattle.std.proofs.Common.{[], ◌∷◌, Option, Some, None, length, refl, ap, ◌∙◌, sym, subst, arith}
+use Rattle.std.proofs.Common.{ℕ, suc, ◌<◌, ◌≡◌, ◌⊎◌, true, false, List}
+use Rattle.std.proofs.Common.{[], ◌∷◌, Option, Some, None, length, refl, ap, ◌∙◌, sym, subst}
 use Rattle.std.proofs.Common.{inl, inr}
-use Rattle.std.specs.Prelude.{◌==◌, slice_get, slice_index}
-use Rattle.std.specs.List.{All, cons_option, filter_map}
-use Rattle.std.proofs.lemmas.Bool.{cases_Bool, cases_eq, eq-eqb, eqb-true, ne_eqb}
+use Rattle.std.specs.Prelude.{slice_get, slice_index}
+use Rattle.std.specs.List.{cons_option, filter_map}
+use Rattle.std.proofs.lemmas.Bool.{cases_Bool, cases_eq, eq-eqb, ne_eqb}
 use Rattle.std.proofs.lemmas.Option.{same_Some, slice_get-get_or}
 use Rattle.history.specs.declared.commanded.Commanded.{Commanded}
 use Rattle.history.specs.declared.history.History.{History}
@@ -21,12 +21,11 @@ use Rattle.steer_parts.specs.Commands.{is_done, refused_answer}
 use Rattle.steer_parts.specs.GoodArrivals.{EntryFrom}
 use Rattle.steer_parts.specs.GoodCommands.{refused_with}
 use Rattle.steer_parts.specs.GoodWrites.{IsSize, StoodAt}
-use Rattle.steer_parts.specs.Inputs.{Input, WasDone, settings_after, setup_in}
+use Rattle.steer_parts.specs.Inputs.{Input, WasDone}
 use Rattle.steer_parts.specs.LastWrites.{AreLastWrites, entry_for, if_done, last_write, sock_for}
 use Rattle.steer_parts.specs.LastWrites.{stand_for}
 use Rattle.steer_parts.specs.Machine.{Machine, history_of}
 use Rattle.steer_parts.specs.Settings.{Settings}
-use Rattle.steer_parts.specs.Setup.{Setup}
 use Rattle.steer_parts.specs.Start.{settings_of}
 use Rattle.steer_parts.proofs.LastWriteLemmas.{values_are_last_writes}
 use Rattle.steer_good.proofs.CommandAnswers.{AnswersBy, Ends}

@@ -1,5 +1,5 @@
 -- Each choice of a receive queue is by the rule with the settings after the commands before it.
-use Rattle.std.proofs.Common.{ℕ, zero, suc, ◌+◌, ◌≤◌, ◌<◌, ◌≡◌, Bool, true, false, cond, not, List}
+use Rattle.std.proofs.Common.{ℕ, suc, ◌+◌, ◌≤◌, ◌<◌, ◌≡◌, Bool, true, false, cond, not}
 use Rattle.std.proofs.Common.{[], ◌∷◌, ◌++◌, Option, Some, None, length, take, drop, refl, ap, ◌∙◌}
 use Rattle.std.proofs.Common.{sym, subst, arith, inl, inr, unwrap_or}
 use Rattle.std.specs.Prelude.{◌==◌}
@@ -14,13 +14,12 @@ use Rattle.steer_base.specs.declared.choice.Chosen.{Chosen}
 use Rattle.steer_base.specs.declared.choice.Entry.{Entry}
 use Rattle.steer_base.specs.declared.choice.Why.TheVariants.{Kept, Offline, Passed, Same}
 use Rattle.steer_base.specs.declared.cpu_mask.CpuMask.{CpuMask}
-use Rattle.hop_core.specs.Hop.{HopState, accepted_at, choices_of, chosen_at, chose, head_at}
+use Rattle.hop_core.specs.Hop.{HopState, accepted_at, choices_of, chosen_at, head_at}
 use Rattle.hop_core.specs.Hop.{next_of, nobody, recent, since_of}
 use Rattle.hop_core.specs.Laws.{entries_before}
 use Rattle.hop_core.specs.Sound.{Sound}
 use Rattle.hop_core.proofs.KeptHeads.{kept_head_decides}
 use Rattle.hop_core.proofs.Lists.{Changed-set, chosen-push_last, length-push}
-use Rattle.history.specs.Lists.{lane_at}
 use Rattle.steer_parts.specs.GoodChoices.{IsByRule, WasWritten, accepted_in}
 use Rattle.steer_parts.specs.Inputs.{Input, Prefixes, settings_after, settings_at, setup_in}
 use Rattle.steer_parts.specs.Inputs.{since_at}

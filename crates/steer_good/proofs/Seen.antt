@@ -1,7 +1,7 @@
 -- The queue of each arrival is that of an entry or of a filter that came from the run.
-use Rattle.std.proofs.Common.{ℕ, ◌+◌, ◌<◌, ◌≡◌, ◌⊎◌, Bool, true, false, List, [], ◌∷◌, ◌++◌, Option}
+use Rattle.std.proofs.Common.{ℕ, ◌<◌, ◌≡◌, true, List, Option}
 use Rattle.std.proofs.Common.{Some, None, length, refl, ap, ◌∙◌, sym, subst, arith, inl, inr, get_or}
-use Rattle.std.specs.Prelude.{slice_get, slice_index, slice_index_or}
+use Rattle.std.specs.Prelude.{slice_index, slice_index_or}
 use Rattle.std.specs.List.{All}
 use Rattle.std.specs.Option.{option_map}
 use Rattle.std.proofs.lemmas.Bool.{cases_Bool}
@@ -10,14 +10,13 @@ use Rattle.std.proofs.lemmas.Nat.{mod_below}
 use Rattle.std.proofs.lemmas.Option.{get_or_from_slice_get, slice_get_within}
 use Rattle.accel_filter.specs.Table.{filter_of}
 use Rattle.history.specs.Finding.{is_in}
-use Rattle.history.specs.Lists.{lane_at, list_at}
 use Rattle.history.specs.declared.arrival.Arrival.{Arrival}
 use Rattle.history.specs.declared.lane_list.LaneList.{LaneList}
 use Rattle.history.proofs.RegularLemmas.{is_in-append}
 use Rattle.hop_core.specs.Hop.{accepted_at, choices_of, chosen_at, next_of, nobody}
 use Rattle.hop_core.specs.Sound.{Sound}
 use Rattle.rss_table.specs.Redirection.{queue_of}
-use Rattle.steer_base.specs.Arrivals.{Route, filter_place, route, table_place}
+use Rattle.steer_base.specs.Arrivals.{route, table_place}
 use Rattle.steer_base.specs.Choices.{class_of, has_moved}
 use Rattle.steer_base.specs.Filters.{filter_written, home_queue}
 use Rattle.steer_base.specs.HashTables.{row_at}
@@ -30,8 +29,8 @@ use Rattle.steer_parts.specs.Commands.{given}
 use Rattle.steer_parts.specs.FilterOrigins.{FilterIsFrom, FiltersAreFrom}
 use Rattle.steer_parts.specs.GoodArrivals.{FilterFrom, QueuesAreSeen, SeenBy}
 use Rattle.steer_parts.specs.Inputs.{Input, setup_in}
-use Rattle.steer_parts.specs.Machine.{Machine, history_of, lane_lists}
-use Rattle.steer_parts.specs.Pollers.{arrival_by, arrives, filter_seen, noted, route_by, seen_by}
+use Rattle.steer_parts.specs.Machine.{Machine, history_of}
+use Rattle.steer_parts.specs.Pollers.{arrival_by, arrives, noted, route_by, seen_by}
 use Rattle.steer_parts.specs.Setup.{Setup, hash_of}
 use Rattle.steer_parts.specs.Start.{new_machine}
 use Rattle.steer_parts.specs.Steps.{simple}

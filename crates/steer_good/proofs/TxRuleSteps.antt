@@ -1,8 +1,8 @@
 -- Every step keeps each transmit choice of each application by the rule.
-use Rattle.std.proofs.Common.{ℕ, ◌+◌, ◌<◌, ◌≤◌, ◌≡◌, List, [], ◌∷◌, ◌++◌, length, max, refl, ap, ◌∙◌}
+use Rattle.std.proofs.Common.{ℕ, ◌<◌, ◌≡◌, List, [], ◌∷◌, ◌++◌, length, refl, ap, ◌∙◌}
 use Rattle.std.proofs.Common.{sym, subst, arith, inl, inr, get_or}
 use Rattle.std.proofs.lemmas.Bool.{cases_eq}
-use Rattle.hop_core.specs.Hop.{choices_of, next_of, since_of, taken_of}
+use Rattle.hop_core.specs.Hop.{choices_of, next_of, taken_of}
 use Rattle.hop_core.proofs.Lists.{Changed-set}
 use Rattle.steer_base.specs.declared.choice.Chosen.{Chosen}
 use Rattle.steer_base.specs.declared.step.Step.{Step}
@@ -13,7 +13,7 @@ use Rattle.steer_parts.specs.Steps.{simple}
 use Rattle.steer_laws.specs.Held.{Held}
 use Rattle.steer_laws.specs.Kept.{IsNamed}
 use Rattle.steer_good.proofs.Extends.{blank-at}
-use Rattle.steer_good.proofs.Lasts.{Lasts, SameTurns, lasts-self}
+use Rattle.steer_good.proofs.Lasts.{Lasts, SameTurns}
 use Rattle.steer_good.proofs.Moments.{then_at}
 use Rattle.steer_good.proofs.RuleSteps.{Follows}
 use Rattle.steer_good.proofs.TxRules.{SameStart, TxRuled, TxRules, tx-ruled-chosen}

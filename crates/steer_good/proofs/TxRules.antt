@@ -1,8 +1,7 @@
 -- Each transmit choice of an application is by the rule with the pick of the maps that were in
 -- force after the commands before it.
-use Rattle.std.proofs.Common.{ℕ, suc, ◌+◌, ◌≤◌, ◌<◌, ◌≡◌, List, [], ◌∷◌, ◌++◌, Option, Some, length}
+use Rattle.std.proofs.Common.{ℕ, suc, ◌+◌, ◌≤◌, ◌<◌, ◌≡◌, [], ◌∷◌, ◌++◌, Some, length}
 use Rattle.std.proofs.Common.{take, drop, refl, ap, ◌∙◌, sym, subst, arith, inl, inr, unwrap_or}
-use Rattle.std.specs.Prelude.{slice_get}
 use Rattle.std.proofs.Math.ListN.{length-map}
 use Rattle.std.proofs.Math.Seq.{take-append_seam}
 use Rattle.std.proofs.lemmas.Bool.{cases_lt}
@@ -29,7 +28,6 @@ use Rattle.steer_parts.specs.Machine.{Machine, history_of, lane_lists}
 use Rattle.steer_parts.specs.Settings.{Settings}
 use Rattle.steer_parts.specs.Setup.{Setup, flow_of, hash_of}
 use Rattle.steer_parts.specs.Start.{settings_of}
-use Rattle.steer_laws.specs.Held.{Held}
 use Rattle.steer_laws.specs.Kept.{Kept}
 use Rattle.steer_laws.proofs.RecordedRows.{in_reply-is}
 use Rattle.steer_good.proofs.Extends.{extends-get, extends-length, extends-slice_get}

@@ -1,6 +1,6 @@
 -- A step of one event or a command is one of a few kinds, as far as its history grows: what holds
 -- after each kind holds after the step.
-use Rattle.std.proofs.Common.{ℕ, ◌+◌, ◌<◌, ◌≡◌, Bool, true, false, not, cond, List, [], ◌∷◌, ◌++◌}
+use Rattle.std.proofs.Common.{ℕ, ◌+◌, ◌<◌, ◌≡◌, true, false, not, cond, List, [], ◌∷◌}
 use Rattle.std.proofs.Common.{Option, Some, None, length, refl, ap, ◌∙◌, sym, subst, arith, get_or, inl, inr}
 use Rattle.std.specs.Prelude.{◌%◌, nat_lt, slice_set}
 use Rattle.std.proofs.Math.ListN.{get_or-eq_default, length-set}
@@ -16,21 +16,18 @@ use Rattle.steer_base.specs.declared.filter.Filter.{Filter}
 use Rattle.steer_base.specs.declared.idle.Idle.TheVariants as idle
 use Rattle.steer_base.specs.declared.step.Step.{Step}
 use Rattle.steer_base.specs.declared.step.Step.TheVariants as act
-use Rattle.hop_core.specs.declared.event.HopAnswer.{HopAnswer}
 use Rattle.hop_core.specs.declared.event.HopEvent.{HopEvent}
 use Rattle.hop_core.specs.declared.event.HopEvent.TheVariants as event
 use Rattle.hop_core.specs.Events.{AllMayAsk, MayAsk, happens, run}
 use Rattle.hop_core.specs.Hop.{HopState, choice_of, choices_of, chose, inside_of, next_of}
-use Rattle.hop_core.specs.Hop.{placed_of, taken_of, with_visit}
+use Rattle.hop_core.specs.Hop.{placed_of, taken_of}
 use Rattle.hop_core.specs.Leaves.{Field, changes}
 use Rattle.hop_core.specs.Reads.{to_weigh}
-use Rattle.hop_core.proofs.AllSteps.{Sound-happens}
 use Rattle.hop_core.proofs.Cases.{by_cases}
 use Rattle.hop_core.proofs.Leaves.{each_leaves}
-use Rattle.history.specs.Lists.{list_at}
 use Rattle.history.specs.declared.sent.Sent.{Sent}
 use Rattle.steer_parts.specs.Applications.{everyone, in_lane, in_reply, next_in, pick_for}
-use Rattle.steer_parts.specs.Applications.{record_by, reply_to, send_by, sending, sends, sent_of}
+use Rattle.steer_parts.specs.Applications.{record_by, reply_to, send_by, sending, sends}
 use Rattle.steer_parts.specs.Applications.{visited, write_of, wrote}
 use Rattle.steer_parts.specs.Commands.{answer_to, given}
 use Rattle.steer_parts.specs.Machine.{Machine, last_of, note_of}
@@ -50,10 +47,10 @@ use Rattle.steer_laws.proofs.EitherLemmas.{either}
 use Rattle.steer_laws.proofs.HeldAsks.{asks_rx, asks_tx}
 use Rattle.steer_laws.proofs.KeptArrives.{next_arrival}
 use Rattle.steer_laws.proofs.KeptSimple.{weighs-is}
-use Rattle.steer_good.proofs.Extends.{extends-push, extends-self, extends-set}
+use Rattle.steer_good.proofs.Extends.{extends-push, extends-set}
 use Rattle.steer_good.proofs.Gives.{given-is}
-use Rattle.steer_good.proofs.Lasts.{Given, InsideStays, Lasts, MakeNoTurns, MakesNoTurn, Quiet}
-use Rattle.steer_good.proofs.Lasts.{SameTurns, Still, lasts-self, still-noted, still-rx, still-self}
+use Rattle.steer_good.proofs.Lasts.{Given, InsideStays, Lasts, MakesNoTurn, Quiet}
+use Rattle.steer_good.proofs.Lasts.{Still, lasts-self, still-noted, still-rx, still-self}
 use Rattle.steer_good.proofs.Lasts.{still-tx, turns-happens, turns-run}
 use Rattle.steer_good.proofs.Stays.{Stays, stays-happens, stays-run}
 

@@ -1,5 +1,5 @@
 -- Each write to the socket flow table is that of an application for a packet of its own.
-use Rattle.std.proofs.Common.{ℕ, zero, suc, ◌+◌, ◌<◌, ◌≡◌, List, [], ◌∷◌, Option, Some, None, length}
+use Rattle.std.proofs.Common.{ℕ, ◌<◌, ◌≡◌, List, [], Option, Some, None, length}
 use Rattle.std.proofs.Common.{refl, ap, ◌∙◌, sym, subst, arith, get_or}
 use Rattle.std.specs.Prelude.{◌%◌}
 use Rattle.std.specs.List.{All}
@@ -19,11 +19,10 @@ use Rattle.steer_base.specs.declared.packet.Packet.{Packet}
 use Rattle.steer_base.specs.declared.step.Step.{Step}
 use Rattle.steer_parts.specs.Applications.{sends, visited, write_of, wrote}
 use Rattle.steer_parts.specs.Commands.{given}
-use Rattle.steer_parts.specs.GoodWrites.{IsWrite}
 use Rattle.steer_parts.specs.Inputs.{Input, setup_in}
 use Rattle.steer_parts.specs.Machine.{Machine, history_of}
 use Rattle.steer_parts.specs.Pollers.{noted, seen_by}
-use Rattle.steer_parts.specs.Setup.{Setup, app_for, flow_hash, hash_of}
+use Rattle.steer_parts.specs.Setup.{Setup, flow_hash, hash_of}
 use Rattle.steer_parts.specs.Start.{new_machine}
 use Rattle.steer_parts.specs.Steps.{simple}
 use Rattle.steer_parts.specs.declared.note.Note.{Note}

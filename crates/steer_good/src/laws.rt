@@ -1,11 +1,20 @@
 //! Laws of the histories that replays make, each the contract of a function that does nothing.
 ghost use Rattle.steer_good.specs.Always.{Always};
+ghost use Rattle.steer_good.specs.Clear.{NothingIsOutstanding};
+ghost use Rattle.steer_good.specs.GivenOnce.{ReplaysGiveOnce, RunsGiveOnce};
 ghost use Rattle.steer_good.specs.GoodAtRest.{SeededReplaysAreGood, SweptRunsAreGood};
 ghost use Rattle.steer_good.specs.GoodSoFar.{GoodSoFar};
 ghost use Rattle.steer_good.specs.Made.{AreAnswered, WritesAreMade};
 ghost use Rattle.steer_good.specs.Ruled.{AreChosen, AreReplied};
+ghost use Rattle.steer_good.specs.Sizes.{IsOfItsInput};
 ghost use Rattle.steer_parts.specs.GoodArrivals.{QueuesAreSeen};
 ghost use Rattle.steer_parts.specs.GoodChoices.{HeadsAreRising};
+
+/// A history has the capture's number of packets and its cut, the plan's start, and lists for the
+/// plan's queues, processors and transmit queues.
+pub fn every_history_is_of_its_input()
+    ensures { Always IsOfItsInput }
+{}
 
 /// Along the choices of a producer, a receive queue or an application, the counts of the heads that
 /// they saw at one lane never fall, and none is over the number that the lane retired.
@@ -34,6 +43,12 @@ pub fn every_reply_is_by_the_rule()
     ensures { Always AreReplied }
 {}
 
+/// Where a choice moved a flow's class to another processor, or a flow to another transmit queue,
+/// each of its earlier packets that was accepted is retired: none was outstanding.
+pub fn a_flow_moves_only_where_nothing_of_it_is_outstanding()
+    ensures { Always (λ i h. NothingIsOutstanding h) }
+{}
+
 /// Each write to the socket flow table is that of an application for a packet of its own with a
 /// hash, at the entry that a size of the run gives, with a processor where the application stood.
 pub fn every_write_is_of_a_packet()
@@ -58,4 +73,10 @@ pub fn every_replay_is_good_so_far()
 pub fn swept_replays_are_good_at_rest()
     ensures runs { SweptRunsAreGood }
     ensures seeded { SeededReplaysAreGood }
+{}
+
+/// The commands of a replay's history are those among its steps, each given once.
+pub fn commands_are_given_once()
+    ensures runs { RunsGiveOnce }
+    ensures replays { ReplaysGiveOnce }
 {}

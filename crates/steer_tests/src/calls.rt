@@ -3,6 +3,7 @@ use outside_io::{MemoryDesk, MemorySink};
 use std::alloc::Global;
 use std::test::Fail;
 use steer_top::steer_still;
+use taps::Tap;
 
 /// The words of a call.
 pub fn words(alloc: Global, texts: &[&str]) -> Result<Vec<String>, Fail> {
@@ -28,7 +29,7 @@ pub fn desk_of(
 
 /// A sink whose writes with these numbers fail.
 pub fn sink(alloc: Global, failing: &[u64]) -> Result<MemorySink, Fail> {
-    Ok(MemorySink::make(alloc, 4096, failing.to_vec(alloc)?)?)
+    Ok(MemorySink::make(alloc, 65_536, failing.to_vec(alloc)?)?)
 }
 
 /// What a call came to.
@@ -42,11 +43,22 @@ pub struct Outcome {
     pub err: Vec<u8>,
 }
 
-/// What a call over this desk comes to.
-pub fn called(alloc: Global, texts: &[&str], mut desk: MemoryDesk) -> Result<Outcome, Fail> {
+/// What a call over this desk comes to, without taps.
+pub fn called(alloc: Global, texts: &[&str], desk: MemoryDesk) -> Result<Outcome, Fail> {
+    called_with(alloc, texts, desk, Vec::new(alloc))
+}
+
+/// What a call over this desk comes to, with these taps.
+pub fn called_with(
+    alloc: Global,
+    texts: &[&str],
+    mut desk: MemoryDesk,
+    taps: Vec<Box<dyn Tap>>,
+) -> Result<Outcome, Fail> {
     let mut out = sink(alloc, &[])?;
     let mut err = sink(alloc, &[])?;
-    let status = steer_still(alloc, &words(alloc, texts)?, &mut desk, &mut out, &mut err);
+    let words = words(alloc, texts)?;
+    let status = steer_still(alloc, &words, &mut desk, &mut out, &mut err, taps);
     Ok(Outcome {
         status,
         out: out.bytes().to_vec(alloc)?,

@@ -100,3 +100,8 @@ pub fn tcpdump_file(alloc: Global, frame: &[u8; 74]) -> Result<Vec<u8>, Fail> {
     bytes.extend_from_slice(frame)?;
     Ok(bytes)
 }
+
+/// The first bytes of a file, all of them where it has fewer.
+pub fn front(bytes: &[u8], len: usize) -> &[u8] {
+    bytes.get(..len).unwrap_or(bytes)
+}

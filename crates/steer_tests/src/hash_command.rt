@@ -7,6 +7,7 @@ use crate::files::{
     ARP, FRAGMENT, FRAME_A, FRAME_B, HEADER, OTHER_LINK, SYN, TAGGED_V6, VERSION_2_5, ZEROS,
     big_file, file, tcpdump_file,
 };
+use crate::slow::{Dripping, Slowly};
 use outside_io::{
     Begin, Desk, Got, MemoryDesk, MemorySink, Sink, SureDesk, SureSink, Took, WriteFault,
 };
@@ -156,7 +157,14 @@ fn faults_of_the_desk_and_the_sinks_are_told(rt: HostRuntime) -> Result<(), Fail
     let mut desk = desk_with(alloc, &bytes, &[2])?;
     let mut out = sink(alloc, &[])?;
     let mut err = sink(alloc, &[])?;
-    let status = steer_still(alloc, &words, &mut desk, &mut out, &mut err);
+    let status = steer_still(
+        alloc,
+        &words,
+        &mut desk,
+        &mut out,
+        &mut err,
+        Vec::new(alloc),
+    );
     assert_eq!(rt; status, 5);
     assert!(rt; out.bytes().is_empty());
     assert_eq!(rt; err.bytes(), b"read fault\n".as_slice());
@@ -164,7 +172,14 @@ fn faults_of_the_desk_and_the_sinks_are_told(rt: HostRuntime) -> Result<(), Fail
     let mut desk = desk_with(alloc, &bytes, &[])?;
     let mut out = sink(alloc, &[2])?;
     let mut err = sink(alloc, &[])?;
-    let status = steer_still(alloc, &words, &mut desk, &mut out, &mut err);
+    let status = steer_still(
+        alloc,
+        &words,
+        &mut desk,
+        &mut out,
+        &mut err,
+        Vec::new(alloc),
+    );
     assert_eq!(rt; status, 6);
     assert_eq!(rt; out.bytes(), &LINE_A[..74]);
     assert_eq!(rt; err.bytes(), b"write fault\n".as_slice());
@@ -172,7 +187,14 @@ fn faults_of_the_desk_and_the_sinks_are_told(rt: HostRuntime) -> Result<(), Fail
     let mut desk = desk_with(alloc, &HEADER[..23], &[])?;
     let mut out = sink(alloc, &[])?;
     let mut err = sink(alloc, &[1])?;
-    let status = steer_still(alloc, &words, &mut desk, &mut out, &mut err);
+    let status = steer_still(
+        alloc,
+        &words,
+        &mut desk,
+        &mut out,
+        &mut err,
+        Vec::new(alloc),
+    );
     assert_eq!(rt; status, 4);
     assert!(rt; err.bytes().is_empty());
     Ok(())
@@ -191,7 +213,14 @@ fn a_sure_desk_and_sure_sinks_serve(rt: HostRuntime) -> Result<(), Fail> {
     let mut err = SureSink::make();
     let words = words(alloc, &["hash", "a.pcap"])?;
     assert_eq!(rt;
-        steer_still(alloc, &words, &mut desk, &mut out, &mut err),
+        steer_still(
+            alloc,
+            &words,
+            &mut desk,
+            &mut out,
+            &mut err,
+            Vec::new(alloc)
+        ),
         0
     );
     assert_eq!(rt; out.count(), 84);
@@ -242,77 +271,37 @@ fn a_file_that_is_too_long_is_refused(rt: HostRuntime) -> Result<(), Fail> {
     let mut out = sink(alloc, &[])?;
     let mut err = sink(alloc, &[])?;
     let words = words(alloc, &["hash", "a.pcap"])?;
-    let status = steer_still(alloc, &words, &mut desk, &mut out, &mut err);
+    let status = steer_still(
+        alloc,
+        &words,
+        &mut desk,
+        &mut out,
+        &mut err,
+        Vec::new(alloc),
+    );
     assert_eq!(rt; status, 8);
     assert!(rt; out.bytes().is_empty());
     assert_eq!(rt; err.bytes(), b"capture too long\n".as_slice());
     Ok(())
 }
 
-// A desk that gives one byte a read, and a sink that takes one byte a write; neither tells its
-// bytes.
-#[derive(Drop)]
-struct Slowly {
-    file: Vec<u8>,
-    at: usize,
-}
-
-impl Desk for Slowly {
-    ghost held = { λ _ _. None };
-
-    ghost left = { λ _. None };
-
-    ghost taken = { λ _. last_count };
-
-    ghost reads = { λ _. last_count };
-
-    ghost faults = { λ _. 0 };
-
-    fn begin(&mut self, _name: &str) -> Begin {
-        self.at = 0;
-        Begin::Ok
-    }
-
-    fn read(&mut self, buf: &mut [u8]) -> Got {
-        match self.file.get(self.at) {
-            Some(byte) => {
-                buf[0] = *byte;
-                self.at = self.at.saturating_add(1);
-                Got::Bytes(1)
-            }
-            None => Got::End,
-        }
-    }
-}
-
-#[derive(Drop)]
-struct Dripping {
-    inner: MemorySink,
-}
-
-impl Sink for Dripping {
-    ghost written = { λ _. None };
-
-    ghost faults = { λ _. last_count };
-
-    fn write(&mut self, bytes: &[u8]) -> Took {
-        self.inner.write(&bytes[..1])
-    }
-}
-
 #[test]
 fn one_byte_at_a_time_gives_the_same_text(rt: HostRuntime) -> Result<(), Fail> {
     let alloc = rt.alloc();
-    let mut desk = Slowly {
-        file: file(alloc, &[&FRAME_A])?,
-        at: 0,
-    };
+    let mut desk = Slowly::make(Vec::new(alloc), file(alloc, &[&FRAME_A])?);
     let mut out = Dripping {
         inner: sink(alloc, &[])?,
     };
     let mut err = sink(alloc, &[])?;
     let words = words(alloc, &["hash", "a.pcap"])?;
-    let status = steer_still(alloc, &words, &mut desk, &mut out, &mut err);
+    let status = steer_still(
+        alloc,
+        &words,
+        &mut desk,
+        &mut out,
+        &mut err,
+        Vec::new(alloc),
+    );
     assert_eq!(rt; status, 0);
     assert_eq!(rt; out.inner.bytes(), LINE_A);
     assert!(rt; err.bytes().is_empty());
@@ -360,7 +349,14 @@ fn a_text_is_flushed_once_and_a_flush_may_fail(rt: HostRuntime) -> Result<(), Fa
         };
         let mut err = sink(alloc, &[])?;
         let words = words(alloc, &["hash", "a.pcap"])?;
-        let status = steer_still(alloc, &words, &mut desk, &mut out, &mut err);
+        let status = steer_still(
+            alloc,
+            &words,
+            &mut desk,
+            &mut out,
+            &mut err,
+            Vec::new(alloc),
+        );
         assert_eq!(rt; status, wanted, "case {case}");
         assert_eq!(rt; out.flushes, flushes, "case {case}");
         if wanted == 6 {

@@ -6,8 +6,22 @@ mod calls;
 #[cfg(test)]
 mod files;
 #[cfg(test)]
+mod gen_command;
+#[cfg(test)]
 mod hash_command;
 #[cfg(test)]
 mod pcapng;
 #[cfg(test)]
 mod place_command;
+#[cfg(test)]
+mod plans;
+#[cfg(test)]
+mod replay_command;
+#[cfg(test)]
+mod replay_faults;
+#[cfg(test)]
+mod replay_taps;
+#[cfg(test)]
+mod slow;
+#[cfg(test)]
+mod worked;

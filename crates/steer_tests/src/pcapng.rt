@@ -1,6 +1,7 @@
-//! The command `hash` on captures in the pcapng format.
+//! Captures in the pcapng format: the command `hash`, and a replay.
 use crate::calls::{Outcome, called, desk_of};
-use crate::files::FRAME_A;
+use crate::files::{FRAME_A, front};
+use crate::plans::{FOUR_LINES, FOUR_STEPS, ONE_FLOW, plan_of};
 use pcapng_reader::{put_enhanced, put_section};
 use std::alloc::Global;
 use std::test::Fail;
@@ -53,7 +54,12 @@ fn pcapng_captures_are_hashed(rt: HostRuntime) -> Result<(), Fail> {
     let mut written = Vec::new(alloc);
     put_section(&mut written)?;
     put_enhanced(&mut written, &FRAME_A)?;
-    let cases: [(&[u8], &[u8]); 2] = [(&one, LINE_A), (&written, LINE_A)];
+    let cases: [(&[u8], &[u8]); 4] = [
+        (&one, LINE_A),
+        (front(&one, 135), b"packets 0 cut 87\n"),
+        (front(&one, 4), b"packets 0 cut 4\n"),
+        (&written, LINE_A),
+    ];
     for (case, (bytes, wanted)) in cases.into_iter().enumerate() {
         let got = hashed(alloc, bytes)?;
         assert_eq!(rt; got.status, 0, "case {case}");
@@ -82,5 +88,23 @@ fn faults_of_pcapng_captures_are_named(rt: HostRuntime) -> Result<(), Fail> {
         assert!(rt; got.out.is_empty(), "case {case}");
         assert_eq!(rt; got.err.as_slice(), wanted, "case {case}");
     }
+    Ok(())
+}
+
+#[test]
+fn pcapng_captures_are_replayed(rt: HostRuntime) -> Result<(), Fail> {
+    let alloc = rt.alloc();
+    let plan = plan_of(alloc, ONE_FLOW, FOUR_STEPS)?;
+    let mut capture = Vec::new(alloc);
+    put_section(&mut capture)?;
+    for _ in 0..4 {
+        put_enhanced(&mut capture, &FRAME_A)?;
+    }
+    let desk = desk_of(alloc, &[("p.json", &plan), ("a.pcapng", &capture)], &[])?;
+    let got = called(alloc, &["replay", "p.json", "a.pcapng"], desk)?;
+    let mut text = FOUR_LINES.to_vec(alloc)?;
+    text.extend_from_slice(b"end 4 of 4\n")?;
+    assert_eq!(rt; got.status, 0);
+    assert_eq!(rt; got.out.as_slice(), text.as_slice());
     Ok(())
 }

@@ -1,6 +1,6 @@
 //! The command `place` on files in memory.
 use crate::calls::{Outcome, called, desk_of};
-use crate::files::{ARP, FRAME_A, FRAME_B, HEADER, file};
+use crate::files::{ARP, FRAME_A, FRAME_B, HEADER, file, front};
 use std::alloc::Global;
 use std::test::Fail;
 use steer_top::both_directions_have_one_queue;
@@ -43,7 +43,7 @@ fn packets_are_placed(rt: HostRuntime) -> Result<(), Fail> {
     let both = file(alloc, &[&FRAME_A, &SWAPPED_A])?;
     let to_itself = file(alloc, &[&SELF])?;
     let tunnel = file(alloc, &[&tunnel])?;
-    let cases: [(&[u8], &[u8], &[u8]); 4] = [
+    let cases: [(&[u8], &[u8], &[u8]); 5] = [
         (
             RULES,
             &three,
@@ -70,6 +70,12 @@ packets 2\n",
             &tunnel,
             b"packet 0 tcp4 420995bb a18e6450 2794 1766 hash 51ccc178 entry 120 queue 0 rule - depth 1\n\
 packets 1\n",
+        ),
+        (
+            INNER,
+            front(&three, 100),
+            b"packet 0 tcp4 420995bb a18e6450 2794 1766 hash 51ccc178 entry 120 queue 0 rule - depth 0\n\
+packets 1 cut 6\n",
         ),
     ];
     for (case, (rules, capture, wanted)) in cases.into_iter().enumerate() {

@@ -7,10 +7,11 @@ use Rattle.std.proofs.KnownBytes.{Appends-kept, Keeps-trans}
 use Rattle.std.proofs.lemmas.List.{take_all}
 use Rattle.outside_io.specs.Counts.{Rose}
 use Rattle.outside_io.specs.Sink.{AppendsSome}
+use Rattle.replay.specs.Meanings.{Meaning}
 use Rattle.steer_top.specs.Files.{Accepted, Files, IsBad, IsNot, Refused, limit_of}
 use Rattle.steer_top.specs.Outcomes.{Writes, name_of, roles_of, told_of}
-use Rattle.steer_top.specs.Words.{HashWords, PlaceWords, CommandWords}
-use Rattle.steer_top.specs.Words.CommandWords.{Hash, Place}
+use Rattle.steer_top.specs.Words.{GenWords, HashWords, PlaceWords, ReplayWords, CommandWords}
+use Rattle.steer_top.specs.Words.CommandWords.{Gen, Hash, Place, Replay}
 use Rattle.steer_top.specs.Endings.{Course, Gave, NothingOut, EndsAs, EndsAt, EndsBy, EndsCommand}
 use Rattle.steer_top.specs.Endings.{EndsUnfit, EndsUnread, EndsWriting, Flushes, StopsAt}
 use Rattle.steer_top.specs.declared.ending.Role.{Role}
@@ -21,10 +22,11 @@ use Rattle.steer_top.specs.declared.ending.Ending.{Ending}
 use Rattle.steer_top.specs.declared.ending.Ending.TheVariants as ending
 
 -- the course of a call, by what it met
-abbrev pub course_of : (List ℕ → Option (List ℕ)) → Option (List ℕ) → ℕ → ℕ → ℕ → ℕ
+abbrev pub course_of : (List ℕ → Option (List ℕ)) → List Meaning → Option (List ℕ) → ℕ → ℕ → ℕ → ℕ
     → Option (List ℕ) → Option (List ℕ) → Course
-course_of held asked desk desk' out out' written written' = record {
+course_of held taps asked desk desk' out out' written written' = record {
   held = held;
+  taps = taps;
   asked = asked;
   desk_before = desk;
   desk_after = desk';
@@ -67,6 +69,7 @@ stops_unread ending.OutOfMemory r name held before after asked h = record {
 stops_unread ending.Done r name held before after asked h = absurd h
 stops_unread ending.Usage r name held before after asked h = absurd h
 stops_unread ending.WriteFault r name held before after asked h = absurd h
+stops_unread (ending.Refuses (refusal.Plan f)) r name held before after asked h = absurd h
 stops_unread (ending.Refuses (refusal.Rules f)) r name held before after asked h = absurd h
 stops_unread (ending.Refuses (refusal.Capture f)) r name held before after asked h = absurd h
 stops_unread (ending.Refuses (refusal.Pcapng f)) r name held before after asked h = absurd h
@@ -168,7 +171,7 @@ ends_at command course files earlier later r name ending.WriteFault gave roles i
 pub ends_written : (command : CommandWords) (course : Course) (files : Files) (text : List ℕ)
     (e : Ending)
     → Gave (told_of course.held command) files → Accepted (roles_of command) files
-    → Writes command files text
+    → Writes course.taps command files text
     → EndsWriting e text course.out_before course.out_after course.written_before
     course.written_after → EndsCommand e command course
 ends_written command course files text ending.Done gave all writes took =
@@ -180,15 +183,17 @@ ends_written command course files text ending.Usage gave all writes h = absurd h
 ends_written command course files text ending.ReadFault gave all writes h = absurd h
 ends_written command course files text (ending.Refuses reason) gave all writes h = absurd h
 
--- the files of a command
+-- the files of a command: a plan or rules, and a capture
 abbrev pub files_of : List ℕ → List ℕ → Files
-files_of rules capture role.Rules = rules
-files_of rules capture role.Capture = capture
+files_of first capture role.Plan = first
+files_of first capture role.Rules = first
+files_of first capture role.Capture = capture
 
 -- the one file of the command `hash`
 pub hash_gave : (words : HashWords) (held : List ℕ → Option (List ℕ)) (rules capture : List ℕ)
     → Keeps (held words.capture) (Some capture)
     → Gave (told_of held (Hash words)) (files_of rules capture)
+hash_gave words held rules capture told role.Plan = tt
 hash_gave words held rules capture told role.Rules = tt
 hash_gave words held rules capture told role.Capture = told
 
@@ -197,8 +202,25 @@ pub place_gave : (words : PlaceWords) (held : List ℕ → Option (List ℕ)) (r
     → Keeps (held words.rules) (Some rules)
     → Keeps (held words.capture) (Some capture)
     → Gave (told_of held (Place words)) (files_of rules capture)
+place_gave words held rules capture first second role.Plan = tt
 place_gave words held rules capture first second role.Rules = first
 place_gave words held rules capture first second role.Capture = second
+
+-- the two files of the command `replay`
+pub replay_gave : (words : ReplayWords) (held : List ℕ → Option (List ℕ)) (plan capture : List ℕ)
+    → Keeps (held words.plan) (Some plan)
+    → Keeps (held words.capture) (Some capture)
+    → Gave (told_of held (Replay words)) (files_of plan capture)
+replay_gave words held plan capture first second role.Plan = first
+replay_gave words held plan capture first second role.Rules = tt
+replay_gave words held plan capture first second role.Capture = second
+
+-- the command `gen` has no file
+pub gen_gave : (words : GenWords) (held : List ℕ → Option (List ℕ))
+    → Gave (told_of held (Gen words)) (files_of [] [])
+gen_gave words held role.Plan = tt
+gen_gave words held role.Rules = tt
+gen_gave words held role.Capture = tt
 
 -- a file of which nothing is told, or just what is told
 pub told_bytes : (told : Option (List ℕ)) → (bytes : List ℕ) × Keeps told (Some bytes)

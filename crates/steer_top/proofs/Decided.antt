@@ -8,6 +8,8 @@ use Rattle.std.proofs.lemmas.Slice.Eq.{bytes_eq-Decides}
 use Rattle.pcap_reader.specs.Laws as pcap
 use Rattle.pcapng_reader.specs.Laws as pcapng
 use Rattle.pcapng_reader.specs.Captures.{BeginsNg}
+use Rattle.plan_reader.specs.PlanTexts.{plan_of}
+use Rattle.plan_reader.specs.Settings.{Settings}
 use Rattle.plan_reader.specs.declared.plan_fault.PlanFault.{PlanFault}
 use Rattle.ntuple_rules.specs.Readings.{rules_of}
 use Rattle.ntuple_rules.specs.declared.rules.Rules.{Rules}
@@ -39,6 +41,12 @@ pub record OneCapture : Type 0 where
 module _ (law : OneCapture) where
   is_either : (r : Role) (bytes : List ℕ)
       → IsRead r bytes ⊎ ((reason : Refusal) × IsNot r bytes reason)
+  is_either role.Plan bytes = by (plan_of bytes) refl
+    where
+      by : (read : Result Settings PlanFault) → plan_of bytes ≡ read
+          → IsRead role.Plan bytes ⊎ ((reason : Refusal) × IsNot role.Plan bytes reason)
+      by (Ok plan) is = inl (plan, is)
+      by (Err fault) is = inr (refusal.Plan fault, is)
   is_either role.Rules bytes = by (rules_of bytes) refl
     where
       by : (read : Result Rules PlanFault) → rules_of bytes ≡ read
@@ -69,10 +77,18 @@ module _ (law : OneCapture) where
   not_both role.Capture bytes (refusal.Pcapng fault) (capture, inr (other, has)) is =
       other is.begins
   not_both role.Capture bytes (refusal.TooLong other) good is = is
+  not_both role.Capture bytes (refusal.Plan fault) good is = is
   not_both role.Capture bytes (refusal.Rules fault) good is = is
+  not_both role.Plan bytes (refusal.Plan fault) (plan, has) is =
+      let both : Ok plan ≡ Err fault = sym has ∙ is in cc
+  not_both role.Plan bytes (refusal.TooLong other) good is = is
+  not_both role.Plan bytes (refusal.Rules fault) good is = is
+  not_both role.Plan bytes (refusal.Capture fault) good is = is
+  not_both role.Plan bytes (refusal.Pcapng fault) good is = is
   not_both role.Rules bytes (refusal.Rules fault) (rules, has) is =
       let both : Ok rules ≡ Err fault = sym has ∙ is in cc
   not_both role.Rules bytes (refusal.TooLong other) good is = is
+  not_both role.Rules bytes (refusal.Plan fault) good is = is
   not_both role.Rules bytes (refusal.Capture fault) good is = is
   not_both role.Rules bytes (refusal.Pcapng fault) good is = is
 
@@ -85,13 +101,28 @@ module _ (law : OneCapture) where
   is_one role.Capture bytes (refusal.Pcapng f) (refusal.Capture g) is was = absurd (was.0 is.begins)
   is_one role.Rules bytes (refusal.Rules f) (refusal.Rules g) is was =
       let both : Err f ≡ Err g = sym is ∙ was in let same : f ≡ g = cc in ap refusal.Rules same
+  is_one role.Plan bytes (refusal.Plan f) (refusal.Plan g) is was =
+      let both : Err f ≡ Err g = sym is ∙ was in let same : f ≡ g = cc in ap refusal.Plan same
+  is_one role.Plan bytes (refusal.Plan f) (refusal.TooLong other) is was = absurd was
+  is_one role.Plan bytes (refusal.Plan f) (refusal.Rules g) is was = absurd was
+  is_one role.Plan bytes (refusal.Plan f) (refusal.Capture g) is was = absurd was
+  is_one role.Plan bytes (refusal.Plan f) (refusal.Pcapng g) is was = absurd was
+  is_one role.Plan bytes (refusal.TooLong other) b is was = absurd is
+  is_one role.Plan bytes (refusal.Rules f) b is was = absurd is
+  is_one role.Plan bytes (refusal.Capture f) b is was = absurd is
+  is_one role.Plan bytes (refusal.Pcapng f) b is was = absurd is
   is_one role.Rules bytes (refusal.Rules f) (refusal.TooLong other) is was = absurd was
+  is_one role.Rules bytes (refusal.Rules f) (refusal.Plan g) is was = absurd was
+  is_one role.Rules bytes (refusal.Plan f) b is was = absurd is
   is_one role.Rules bytes (refusal.Rules f) (refusal.Capture g) is was = absurd was
   is_one role.Rules bytes (refusal.Rules f) (refusal.Pcapng g) is was = absurd was
   is_one role.Rules bytes (refusal.TooLong other) b is was = absurd is
   is_one role.Rules bytes (refusal.Capture f) b is was = absurd is
   is_one role.Rules bytes (refusal.Pcapng f) b is was = absurd is
+  is_one role.Capture bytes (refusal.Plan f) b is was = absurd is
   is_one role.Capture bytes (refusal.Rules f) b is was = absurd is
+  is_one role.Capture bytes (refusal.Capture f) (refusal.Plan g) is was = absurd was
+  is_one role.Capture bytes (refusal.Pcapng f) (refusal.Plan g) is was = absurd was
   is_one role.Capture bytes (refusal.Capture f) (refusal.Rules g) is was = absurd was
   is_one role.Capture bytes (refusal.Pcapng f) (refusal.Rules g) is was = absurd was
   is_one role.Capture bytes (refusal.TooLong other) b is was = absurd is

@@ -3,3 +3,4 @@ pub mod Decided
 pub mod Lines
 pub mod Statuses
 pub mod Tellings
+pub mod Replays

@@ -9,13 +9,16 @@ use Rattle.steer_top.specs.Files.{Files, IsGood, IsBad, Accepted, Refused, IsRef
 use Rattle.steer_top.specs.HashText.{capture_text}
 use Rattle.steer_top.specs.PlaceText.{place_text}
 use Rattle.ntuple_rules.specs.Readings.{rules_of}
+use Rattle.replay.specs.Meanings.{Meaning}
+use Rattle.replay.specs.Reports.{IsReportOf}
 use Rattle.steer_top.specs.Outcomes.{AreTold, Writes, roles_of, told_of}
 use Rattle.steer_top.specs.Words.{CommandWords}
-use Rattle.steer_top.specs.Words.CommandWords.{Hash, Place}
+use Rattle.steer_top.specs.Words.CommandWords.{Gen, Hash, Place, Replay}
 use Rattle.steer_top.specs.Endings.{Course, DeskFailed, OutFailed, Gave, EndsCommand, IsRefusal}
 use Rattle.steer_top.specs.Endings.{IsUnread}
 use Rattle.steer_top.specs.Endings.{status_of, status_of_refusal}
 use Rattle.steer_top.specs.declared.ending.Role.{Role}
+use Rattle.steer_top.specs.declared.ending.Role.TheVariants as role
 use Rattle.steer_top.specs.declared.ending.Refusal.{Refusal}
 use Rattle.steer_top.specs.declared.ending.Refusal.TheVariants as refusal
 use Rattle.steer_top.specs.declared.ending.Ending.{Ending}
@@ -23,6 +26,7 @@ use Rattle.steer_top.specs.declared.ending.Ending.TheVariants as ending
 
 -- a refusal has a status of refusals, and no other number is one
 is_refusal : (reason : Refusal) → IsRefusal (status_of_refusal reason)
+is_refusal (refusal.Plan f) = inl refl
 is_refusal (refusal.Rules f) = inl refl
 is_refusal (refusal.Capture f) = inr (inl refl)
 is_refusal (refusal.Pcapng f) = inr (inl refl)
@@ -36,6 +40,7 @@ no_refusal n three four eight (inr (inr is)) = eight is
 -- a status that is none of refusals is no refusal's
 other_status : {A : Type 0} (reason : Refusal) (n : ℕ) → status_of_refusal reason ≡ n → n ≢ 3
     → n ≢ 4 → n ≢ 8 → A
+other_status (refusal.Plan f) n is three four eight = absurd (three (sym is))
 other_status (refusal.Rules f) n is three four eight = absurd (three (sym is))
 other_status (refusal.Capture f) n is three four eight = absurd (four (sym is))
 other_status (refusal.Pcapng f) n is three four eight = absurd (four (sym is))
@@ -77,15 +82,22 @@ same_refused (r ∷ roles) given told reason (is, same) (inl bad) =
 same_refused (r ∷ roles) given told reason (is, same) (inr (good, later)) =
     inr (subst (IsGood r) is good, same_refused roles given told reason same later)
 
-same_writes : (command : CommandWords) (given told : Files) (text : List ℕ)
+same_writes : (taps : List Meaning) (command : CommandWords) (given told : Files) (text : List ℕ)
     → Same (roles_of command) given told
-    → Writes command given text → Writes command told text
-same_writes (Hash words) given told text (same, rest) (capture, has, is) = (
+    → Writes taps command given text → Writes taps command told text
+same_writes taps (Hash words) given told text (same, rest) (capture, has, is) = (
   capture,
   subst (λ bytes. HasAnyCapture bytes capture) same has,
   is ∙ ap (λ bytes. capture_text words.queues words.kinds bytes capture) same,
 )
-same_writes (Place words) given told text (first, (second, rest))
+same_writes taps (Replay words) given told text (first, (second, rest)) (capture, has, report) = (
+  capture,
+  subst (λ bytes. HasAnyCapture bytes capture) second has,
+  subst (λ bytes. IsReportOf bytes (told role.Capture) capture taps text) first
+      (subst (λ bytes. IsReportOf (given role.Plan) bytes capture taps text) second report),
+)
+same_writes taps (Gen words) given told text same writes = writes
+same_writes taps (Place words) given told text (first, (second, rest))
     (rules, capture, reads, has, is) = (
       rules,
       capture,
@@ -160,10 +172,10 @@ module _ (once : IsRefusedOnce) (apart : IsNotBoth) (command : CommandWords) (to
   accepted_of ending.OutOfMemory h s = absurd (omega (arith, s))
 
   pub text_of : (e : Ending) → EndsCommand e command course → status_of e ≡ 0
-      → (text : List ℕ) × Writes command told text
+      → (text : List ℕ) × Writes course.taps command told text
       × Appends course.written_before course.written_after text
   text_of ending.Done (files, gave, (all, text, is_text, took)) s =
-      (text, same_writes command files told text (same files gave) is_text, took)
+      (text, same_writes course.taps command files told text (same files gave) is_text, took)
   text_of (ending.Refuses reason) h s =
       other_status reason 0 s (omega arith) (omega arith) (omega arith)
   text_of ending.Usage h s = absurd (omega (arith, s))
@@ -191,10 +203,10 @@ module _ (once : IsRefusedOnce) (apart : IsNotBoth) (command : CommandWords) (to
   unread_of ending.OutOfMemory h s = absurd (omega (arith, s))
 
   pub part_of : (e : Ending) → EndsCommand e command course → status_of e ≡ 6
-      → (text : List ℕ) × Writes command told text
+      → (text : List ℕ) × Writes course.taps command told text
       × AppendsSome course.written_before course.written_after text
   part_of ending.WriteFault (files, gave, (all, failed, text, is_text, took)) s =
-      (text, same_writes command files told text (same files gave) is_text, took)
+      (text, same_writes course.taps command files told text (same files gave) is_text, took)
   part_of (ending.Refuses reason) h s =
       other_status reason 6 s (omega arith) (omega arith) (omega arith)
   part_of ending.Usage h s = absurd (omega (arith, s))

@@ -1,14 +1,24 @@
 -- What the program's commands say of the words.
-use Rattle.steer_top.specs.Words.{HashWords, PlaceWords, CommandWords}
-use Rattle.steer_top.specs.Words.CommandWords.{Hash, Place}
+use Rattle.steer_top.specs.Words.{GenWords, HashWords, PlaceWords, ReplayWords, CommandWords}
+use Rattle.steer_top.specs.Words.CommandWords.{Gen, Hash, Place, Replay}
+use Rattle.steer_top.specs.declared.command.GenCommand.{GenCommand}
 use Rattle.steer_top.specs.declared.command.HashCommand.{HashCommand}
 use Rattle.steer_top.specs.declared.command.PlaceCommand.{PlaceCommand}
+use Rattle.steer_top.specs.declared.command.ReplayCommand.{ReplayCommand}
 use Rattle.steer_top.specs.declared.command.Command.{Command}
 use Rattle.steer_top.specs.declared.command.Command.TheVariants as command
 
 -- the words of the command `hash`
 abbrev pub hash_words_of : HashCommand → HashWords
 hash_words_of hash = record { capture = hash.capture.now; queues = hash.queues; kinds = hash.kinds }
+
+-- the words of the command `replay`
+abbrev pub replay_words_of : ReplayCommand → ReplayWords
+replay_words_of replay = record { plan = replay.plan.now; capture = replay.capture.now }
+
+-- the words of the command `gen`
+abbrev pub gen_words_of : GenCommand → GenWords
+gen_words_of gen = record { seed = gen.seed; packets = gen.packets; flows = gen.flows }
 
 -- the words of the command `place`
 abbrev pub place_words_of : PlaceCommand → PlaceWords
@@ -17,4 +27,6 @@ place_words_of place = record { rules = place.rules.now; capture = place.capture
 -- the words of a command
 abbrev pub words_of : Command → CommandWords
 words_of (command.Hash hash) = Hash (hash_words_of hash)
+words_of (command.Replay replay) = Replay (replay_words_of replay)
+words_of (command.Gen gen) = Gen (gen_words_of gen)
 words_of (command.Place place) = Place (place_words_of place)

@@ -12,6 +12,7 @@ use Rattle.pcapng_reader.specs.declared.fault.NgFault.{NgFault}
 use Rattle.pcapng_reader.specs.declared.fault.NgFault.TheVariants as ng
 use Rattle.plan_reader.specs.declared.plan_fault.PlanFault.{PlanFault}
 use Rattle.plan_reader.specs.declared.plan_fault.PlanFault.TheVariants as plan
+use Rattle.replay.specs.Meanings.{Meaning}
 use Rattle.steer_top.specs.Files.{Files, Accepted, IsBad, IsNot, Refused, limit_of}
 use Rattle.steer_top.specs.Outcomes.{Writes, name_of, roles_of, told_of}
 use Rattle.steer_top.specs.Words.{CommandWords}
@@ -31,6 +32,7 @@ EndsAs fault memory reason e =
 
 -- the status of a refusal
 abbrev pub status_of_refusal : Refusal → ℕ
+status_of_refusal (refusal.Plan f) = 3
 status_of_refusal (refusal.Rules f) = 3
 status_of_refusal (refusal.Capture f) = 4
 status_of_refusal (refusal.Pcapng f) = 4
@@ -99,12 +101,14 @@ line_of_ng_fault ng.OutOfMemory = codes "out of memory\n"
 
 -- what a file of a role is called
 abbrev pub name_of_role : Role → List ℕ
+name_of_role role.Plan = codes "plan"
 name_of_role role.Rules = codes "rules"
 name_of_role role.Capture = codes "capture"
 
 -- the line that names a refusal
 abbrev pub line_of_refusal : Refusal → List ℕ
 line_of_refusal (refusal.TooLong r) = name_of_role r ++ codes " too long\n"
+line_of_refusal (refusal.Plan f) = line_of_plan_fault (codes "plan") f
 line_of_refusal (refusal.Rules f) = line_of_plan_fault (codes "rules") f
 line_of_refusal (refusal.Capture f) = line_of_fault f
 line_of_refusal (refusal.Pcapng f) = line_of_ng_fault f
@@ -126,11 +130,12 @@ line_of_status status =
     if status == 5 then codes "read fault\n" else
     if status == 6 then codes "write fault\n" else codes "out of memory\n"
 
--- what a call met: the bytes that the desk held by name, the name that it was asked for last, where
--- it tells it, the counts of faults of the desk and of the sink of the text before and after, and
--- the bytes that this sink had taken before and after
+-- what a call met: the bytes that the desk held by name, what the taps meant, the name that the
+-- desk was asked for last, where it tells it, the counts of faults of the desk and of the sink of
+-- the text before and after, and the bytes that this sink had taken before and after
 pub record Course : Type 0 where
   pub held : List ℕ → Option (List ℕ)
+  pub taps : List Meaning
   pub asked : Option (List ℕ)
   pub desk_before : ℕ
   pub desk_after : ℕ
@@ -168,7 +173,7 @@ pub record IsUnread (command : CommandWords) (files : Files) (asked : Option (Li
 abbrev pub EndsBy : CommandWords → Files → Ending → Course → Type 0
 EndsBy command files ending.Done course =
     Accepted (roles_of command) files
-    × (text : List ℕ) × Writes command files text
+    × (text : List ℕ) × Writes course.taps command files text
     × Appends course.written_before course.written_after text
 EndsBy command files ending.Usage course = ⊥
 EndsBy command files (ending.Refuses reason) course =
@@ -177,7 +182,7 @@ EndsBy command files ending.ReadFault course =
     IsUnread command files course.asked × DeskFailed course × NothingOut course
 EndsBy command files ending.WriteFault course =
     Accepted (roles_of command) files × OutFailed course
-    × (text : List ℕ) × Writes command files text
+    × (text : List ℕ) × Writes course.taps command files text
     × AppendsSome course.written_before course.written_after text
 EndsBy command files ending.OutOfMemory course = NothingOut course
 

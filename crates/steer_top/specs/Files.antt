@@ -3,6 +3,8 @@ use Rattle.std.specs.Prelude.{◌≡◌, ◌≤◌, ◌<◌, ◌⊎◌, ℕ, Lis
 use Rattle.pcap_reader.specs.Faults.{HasFault}
 use Rattle.pcap_reader.specs.declared.capture.Capture.{Capture}
 use Rattle.pcapng_reader.specs.Captures.{BeginsNg, HasNgFault}
+use Rattle.plan_reader.specs.PlanTexts.{plan_of}
+use Rattle.plan_reader.specs.Settings.{Settings}
 use Rattle.ntuple_rules.specs.Readings.{rules_of}
 use Rattle.ntuple_rules.specs.declared.rules.Rules.{Rules}
 use Rattle.steer_top.specs.Captures.{HasAnyCapture}
@@ -13,16 +15,19 @@ use Rattle.steer_top.specs.declared.ending.Refusal.TheVariants as refusal
 
 -- the most bytes that a file of a role may have
 abbrev pub limit_of : Role → ℕ
+limit_of role.Plan = 16777216
 limit_of role.Rules = 16777216
 limit_of role.Capture = 268435456
 
 -- the bytes are what they are read as
 abbrev pub IsRead : Role → List ℕ → Type 0
+IsRead role.Plan bytes = (plan : Settings) × (plan_of bytes ≡ Ok plan)
 IsRead role.Rules bytes = (rules : Rules) × (rules_of bytes ≡ Ok rules)
 IsRead role.Capture bytes = (capture : Capture) × HasAnyCapture bytes capture
 
 -- the bytes are not what they are read as, for this reason
 abbrev pub IsNot : Role → List ℕ → Refusal → Type 0
+IsNot role.Plan bytes (refusal.Plan fault) = plan_of bytes ≡ Err fault
 IsNot role.Rules bytes (refusal.Rules fault) = rules_of bytes ≡ Err fault
 IsNot role.Capture bytes (refusal.Capture fault) = (BeginsNg bytes → ⊥) × HasFault bytes fault
 IsNot role.Capture bytes (refusal.Pcapng fault) = HasNgFault bytes fault

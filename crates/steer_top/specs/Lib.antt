@@ -6,5 +6,6 @@ pub mod HashText
 pub mod PlaceText
 pub mod Taken
 pub mod Outcomes
+pub mod Headlines
 pub mod Endings
 pub mod Laws

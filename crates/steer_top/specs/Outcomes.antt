@@ -5,33 +5,47 @@ use Rattle.std.specs.declared.alloc.Global.{Global}
 use Rattle.ntuple_rules.specs.Readings.{rules_of}
 use Rattle.ntuple_rules.specs.declared.rules.Rules.{Rules}
 use Rattle.pcap_reader.specs.declared.capture.Capture.{Capture}
+use Rattle.replay.specs.Meanings.{Meaning}
+use Rattle.replay.specs.Reports.{IsReportOf}
+use Rattle.replay.specs.Summaries.{IsSummaryOf, summary_text}
+use Rattle.replay.specs.declared.summary.Summary.{Summary}
 use Rattle.steer_top.specs.Captures.{HasAnyCapture}
 use Rattle.steer_top.specs.Files.{Files}
 use Rattle.steer_top.specs.HashText.{capture_text}
 use Rattle.steer_top.specs.PlaceText.{place_text}
 use Rattle.steer_top.specs.Words.{CommandWords, command_of}
-use Rattle.steer_top.specs.Words.CommandWords.{Hash, Place}
+use Rattle.steer_top.specs.Words.CommandWords.{Gen, Hash, Place, Replay}
 use Rattle.steer_top.specs.declared.ending.Role.{Role}
 use Rattle.steer_top.specs.declared.ending.Role.TheVariants as role
 
 -- the roles of the files that a command reads, in this order
 abbrev pub roles_of : CommandWords → List Role
 roles_of (Hash words) = role.Capture ∷ []
+roles_of (Replay words) = role.Plan ∷ role.Capture ∷ []
+roles_of (Gen words) = []
 roles_of (Place words) = role.Rules ∷ role.Capture ∷ []
 
 -- the name of a command's file of a role, where it reads one
 abbrev pub name_of : CommandWords → Role → Option (List ℕ)
-name_of (Hash words) role.Rules = None
 name_of (Hash words) role.Capture = Some words.capture
+name_of (Replay words) role.Plan = Some words.plan
+name_of (Replay words) role.Capture = Some words.capture
 name_of (Place words) role.Rules = Some words.rules
 name_of (Place words) role.Capture = Some words.capture
+name_of _ _ = None
 
--- a text that a command may write of its files
-abbrev pub Writes : CommandWords → Files → List ℕ → Type 0
-Writes (Hash words) files text =
+-- a text that a command may write of its files, with taps that mean this
+abbrev pub Writes : List Meaning → CommandWords → Files → List ℕ → Type 0
+Writes taps (Hash words) files text =
     (capture : Capture) × HasAnyCapture (files role.Capture) capture
     × (text ≡ capture_text words.queues words.kinds (files role.Capture) capture)
-Writes (Place words) files text =
+Writes taps (Replay words) files text =
+    (capture : Capture) × HasAnyCapture (files role.Capture) capture
+    × IsReportOf (files role.Plan) (files role.Capture) capture taps text
+Writes taps (Gen words) files text =
+    (summary : Summary) × IsSummaryOf words.seed words.packets words.flows summary
+    × (text ≡ summary_text summary)
+Writes taps (Place words) files text =
     (rules : Rules) × (capture : Capture) × (rules_of (files role.Rules) ≡ Ok rules)
     × HasAnyCapture (files role.Capture) capture
     × (text ≡ place_text rules (files role.Capture) capture)

@@ -1,6 +1,8 @@
 -- What was taken of a file, by the bytes that the desk tells of its name.
 use Rattle.std.specs.Prelude.{◌≡◌, ◌≤◌, ℕ, List, All, length, Option, Some, Ok}
 use Rattle.std.specs.Io.KnownBytes.{Keeps}
+use Rattle.plan_reader.specs.declared.plan.Plan.{Plan}
+use Rattle.replay.specs.Reports.{HasPlan}
 use Rattle.ntuple_rules.specs.Ranges.{IsWithin as AreWithin}
 use Rattle.ntuple_rules.specs.Readings.{rules_of}
 use Rattle.ntuple_rules.specs.declared.rules.Rules.{Rules}
@@ -15,7 +17,15 @@ pub record IsCaptureOf (held : Option (List ℕ)) (file : CaptureFile) : Type 0 
   pub whole : Keeps held (Some file.bytes.items)
   pub few : length file.bytes.items ≤ limit_of role.Capture
   pub has : HasAnyCapture file.bytes.items file.capture
+  pub few_records : length file.capture.records ≤ 262144
   pub within : All (IsWithin file.bytes.items) file.capture.records
+
+-- the plan is that of some bytes that the file may have, within the limit
+pub record IsPlanOf (held : Option (List ℕ)) (plan : Plan) : Type 0 where
+  pub bytes : List ℕ
+  pub whole : Keeps held (Some bytes)
+  pub few : length bytes ≤ limit_of role.Plan
+  pub has : HasPlan bytes plan
 
 -- the rules are those of some bytes that the file may have, within the limit
 pub record IsRulesOf (held : Option (List ℕ)) (rules : Rules) : Type 0 where

@@ -48,6 +48,45 @@ hash_arguments (capture ∷ queues ∷ kinds ∷ []) =
     hash_with capture (number_within 1 16 queues) (number_within 0 63 kinds)
 hash_arguments (capture ∷ queues ∷ kinds ∷ more ∷ rest) = None
 
+-- the command `replay`: the names of a plan and of a capture
+pub record ReplayWords : Type 0 where
+  pub plan : List ℕ
+  pub capture : List ℕ
+
+-- what stands behind the word `replay`: PLAN CAPTURE
+unfoldable pub replay_arguments : List (List ℕ) → Option ReplayWords
+replay_arguments [] = None
+replay_arguments (plan ∷ []) = None
+replay_arguments (plan ∷ capture ∷ []) =
+    if is_name plan && is_name capture
+    then Some (record { plan = plan; capture = capture })
+    else None
+replay_arguments (plan ∷ capture ∷ more ∷ rest) = None
+
+-- the command `gen`: a seed, a number of packets, and the most flows that they may have
+pub record GenWords : Type 0 where
+  pub seed : ℕ
+  pub packets : ℕ
+  pub flows : ℕ
+
+-- these three numbers, where all are there
+abbrev pub gen_with : Option ℕ → Option ℕ → Option ℕ → Option GenWords
+gen_with None packets flows = None
+gen_with (Some seed) None flows = None
+gen_with (Some seed) (Some packets) None = None
+gen_with (Some seed) (Some packets) (Some flows) =
+    Some (record { seed = seed; packets = packets; flows = flows })
+
+-- what stands behind the word `gen`: SEED PACKETS FLOWS
+unfoldable pub gen_arguments : List (List ℕ) → Option GenWords
+gen_arguments [] = None
+gen_arguments (seed ∷ []) = None
+gen_arguments (seed ∷ packets ∷ []) = None
+gen_arguments (seed ∷ packets ∷ flows ∷ []) =
+    gen_with (number_within 0 18446744073709551615 seed) (number_within 0 262144 packets)
+    (number_within 1 65536 flows)
+gen_arguments (seed ∷ packets ∷ flows ∷ more ∷ rest) = None
+
 -- the command `place`: the names of the rules and of a capture
 pub record PlaceWords : Type 0 where
   pub rules : List ℕ
@@ -66,12 +105,16 @@ place_arguments (rules ∷ capture ∷ more ∷ rest) = None
 -- a command with its numbers and the names of its files
 pub data CommandWords : Type 0 where
   Hash : HashWords → CommandWords
+  Replay : ReplayWords → CommandWords
+  Gen : GenWords → CommandWords
   Place : PlaceWords → CommandWords
 
 -- the command of this name with these arguments, if there is one
-abbrev pub command_named : List ℕ → List (List ℕ) → Option CommandWords
+unfoldable pub command_named : List ℕ → List (List ℕ) → Option CommandWords
 command_named name arguments =
     if bytes_eq name (codes "hash") then option_map Hash (hash_arguments arguments) else
+    if bytes_eq name (codes "replay") then option_map Replay (replay_arguments arguments) else
+    if bytes_eq name (codes "gen") then option_map Gen (gen_arguments arguments) else
     if bytes_eq name (codes "place") then option_map Place (place_arguments arguments) else None
 
 -- the command that the words are, if they are one

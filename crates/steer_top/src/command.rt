@@ -6,7 +6,11 @@ ghost use Rattle.std.specs.Prelude.{◌≤◌};
 pub enum Command<'a> {
     /// The flow, the hash and the queue of each packet of a capture.
     Hash(HashCommand<'a>),
-    /// The same by rules, with the rule that matched and the depth of its tunnel.
+    /// The report of a plan's steps on the packets of a capture.
+    Replay(ReplayCommand<'a>),
+    /// The sums of the replay of generated input.
+    Gen(GenCommand),
+    /// The same as `hash` by rules, with the rule that matched and the depth of its tunnel.
     Place(PlaceCommand<'a>),
 }
 
@@ -21,6 +25,29 @@ pub struct HashCommand<'a> {
     pub kinds: u8,
     ghost some_queue: { 1 ≤ queues },
     ghost few_queues: { queues ≤ 16 },
+}
+
+/// The command `replay` with its arguments.
+#[derive(Drop)]
+pub struct ReplayCommand<'a> {
+    /// The name of the plan.
+    pub plan: &'a str,
+    /// The name of the capture.
+    pub capture: &'a str,
+}
+
+/// The command `gen` with its arguments.
+#[derive(Drop)]
+pub struct GenCommand {
+    /// The seed of the input.
+    pub seed: u64,
+    /// The number of packets.
+    pub packets: u32,
+    /// The most flows that they may have.
+    pub flows: u32,
+    ghost few_packets: { packets ≤ 262144 },
+    ghost some_flow: { 1 ≤ flows },
+    ghost few_flows: { flows ≤ 65536 },
 }
 
 /// The command `place` with its arguments.

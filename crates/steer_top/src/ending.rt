@@ -10,6 +10,8 @@ use plan_reader::PlanFault;
 /// What a file of a command is read as.
 #[derive(Clone, Copy, Debug, PartialEq, Eq)]
 pub enum Role {
+    /// A plan.
+    Plan,
     /// Rules by which packets are placed.
     Rules,
     /// A capture of packets.
@@ -23,7 +25,7 @@ impl Role {
         ensures few { result ≤ 268435456 }
     {
         match self {
-            Role::Rules => 16_777_216,
+            Role::Plan | Role::Rules => 16_777_216,
             Role::Capture => 268_435_456,
         }
     }
@@ -33,6 +35,7 @@ impl Role {
         ensures { result.now ≡ name_of_role self }
     {
         match self {
+            Role::Plan => b"plan",
             Role::Rules => b"rules",
             Role::Capture => b"capture",
         }
@@ -44,6 +47,8 @@ impl Role {
 pub enum Refusal {
     /// It has more bytes than a file of its role may have.
     TooLong(Role),
+    /// It has no plan, by this fault.
+    Plan(PlanFault),
     /// It has no rules, by this fault.
     Rules(PlanFault),
     /// It is no classic capture, by this fault, and does not begin as a pcapng file.
@@ -77,6 +82,16 @@ impl Ending {
         match fault {
             CaptureFault::OutOfMemory => Ending::OutOfMemory,
             fault => Ending::Refuses(Refusal::Capture(fault)),
+        }
+    }
+
+    /// The same of the bytes of a plan.
+    pub fn of_plan_fault(fault: PlanFault) -> Ending
+        ensures { EndsAs fault PlanFault.OutOfMemory (Refusal.Plan fault) result }
+    {
+        match fault {
+            PlanFault::OutOfMemory => Ending::OutOfMemory,
+            fault => Ending::Refuses(Refusal::Plan(fault)),
         }
     }
 

@@ -4,13 +4,14 @@ ghost use Rattle.std.specs.Io.KnownBytes.{Keeps};
 ghost use Rattle.outside_io.specs.Desk.{GoesOnTelling};
 ghost use Rattle.steer_top.specs.Files.{limit_of};
 ghost use Rattle.steer_top.specs.Endings.{EndsAt, EndsUnread};
-ghost use Rattle.steer_top.specs.Taken.{IsCaptureOf, IsRulesOf};
+ghost use Rattle.steer_top.specs.Taken.{IsCaptureOf, IsPlanOf, IsRulesOf};
 
 use crate::capture::read_any;
 use crate::ending::{Ending, Refusal, Role};
 use ntuple_rules::{Rules, read_rules};
 use outside_io::{Desk, ReadWhole, read_whole};
 use pcap_reader::Capture;
+use plan_reader::{Plan, read_plan};
 use std::alloc::Global;
 
 /// The bytes of a file, and the capture that they are.
@@ -61,6 +62,26 @@ pub fn take_capture<D: Desk>(alloc: Global, name: &str, desk: &mut D) -> Result<
     match read_any(alloc, &bytes) {
         Ok(capture) => Ok(CaptureFile { bytes, capture }),
         Err(ending) => Err(ending),
+    }
+}
+
+/// The plan of a file, or how the command ends without it. Its bytes are given up.
+pub fn take_plan<D: Desk>(alloc: Global, name: &str, desk: &mut D) -> Result<Plan, Ending>
+    ensures taken { IfOk result (IsPlanOf (D.held desk.old name.now)) }
+    ensures ends { IfErr result (λ ending. EndsAt ending Role.Plan name.now
+        (D.held desk.old name.now) (D.faults desk.old) (D.faults desk.new) (D.asked desk.new)) }
+
+    ensures held { D.held desk.new ≡ D.held desk.old }
+    ensures told { GoesOnTelling (D.left desk.old) (D.left desk.new) }
+    ensures later { D.faults desk.old ≤ D.faults desk.new }
+{
+    let bytes = match read_file(alloc, Role::Plan, name, desk) {
+        Ok(bytes) => bytes,
+        Err(ending) => return Err(ending),
+    };
+    match read_plan(alloc, &bytes) {
+        Ok(plan) => Ok(plan),
+        Err(fault) => Err(Ending::of_plan_fault(fault)),
     }
 }
 

@@ -2,6 +2,7 @@
 //! packet.
 ghost use Rattle.std.specs.Prelude.{◌≡◌, ◌≤◌, ℕ, List};
 ghost use Rattle.outside_io.specs.Desk.{GoesOnTelling};
+ghost use Rattle.replay.specs.Meanings.{Meaning};
 ghost use Rattle.steer_top.specs.Commands.{place_words_of};
 ghost use Rattle.steer_top.specs.Endings.{EndsCommand};
 ghost use Rattle.steer_top.specs.Words.CommandWords.{Place};
@@ -22,16 +23,18 @@ pub fn place_file<D: Desk, K: Sink>(
     desk: &mut D,
     out: &mut K,
 ) -> Ending
-    ensures ends { EndsCommand result (Place (place_words_of command.now)) (record {
-      held = D.held desk.old;
-      asked = D.asked desk.new;
-      desk_before = D.faults desk.old;
-      desk_after = D.faults desk.new;
-      out_before = K.faults out.old;
-      out_after = K.faults out.new;
-      written_before = K.written out.old;
-      written_after = K.written out.new;
-    }) }
+    ensures ends { (taps : List Meaning)
+        → EndsCommand result (Place (place_words_of command.now)) (record {
+          held = D.held desk.old;
+          taps = taps;
+          asked = D.asked desk.new;
+          desk_before = D.faults desk.old;
+          desk_after = D.faults desk.new;
+          out_before = K.faults out.old;
+          out_after = K.faults out.new;
+          written_before = K.written out.old;
+          written_after = K.written out.new;
+        }) }
 
     ensures held { D.held desk.new ≡ D.held desk.old }
     ensures told { GoesOnTelling (D.left desk.old) (D.left desk.new) }

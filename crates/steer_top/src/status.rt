@@ -11,6 +11,7 @@ pub fn status(ending: &Ending) -> u8
     match ending {
         Ending::Done => 0,
         Ending::Usage => 2,
+        Ending::Refuses(Refusal::Plan(_)) => 3,
         Ending::Refuses(Refusal::Rules(_)) => 3,
         Ending::Refuses(Refusal::Capture(_)) => 4,
         Ending::Refuses(Refusal::Pcapng(_)) => 4,

@@ -36,6 +36,7 @@ fn tell_refusal<E: Sink>(err: &mut E, refusal: &Refusal)
 {
     match refusal {
         Refusal::TooLong(role) => say(err, &[role.name(), b" too long\n"]),
+        Refusal::Plan(fault) => tell_plan_fault(err, b"plan", fault),
         Refusal::Rules(fault) => tell_plan_fault(err, b"rules", fault),
         Refusal::Capture(fault) => tell_fault(err, *fault),
         Refusal::Pcapng(fault) => tell_ng_fault(err, *fault),

@@ -1,13 +1,15 @@
 //! The top call.
-ghost use Rattle.std.specs.Prelude.{◌≡◌, ◌≢◌, ◌⊎◌, ◌≤◌, ◌<◌, ℕ, List, Some, None};
+ghost use Rattle.std.specs.Prelude.{◌≡◌, ◌≢◌, ◌⊎◌, ◌≤◌, ◌<◌, ℕ, List, Some, None, map};
 ghost use Rattle.std.specs.Io.KnownBytes.{Keeps, Appends};
 ghost use Rattle.outside_io.specs.Counts.{Rose};
 ghost use Rattle.outside_io.specs.Desk.{GoesOnTelling};
 ghost use Rattle.outside_io.specs.Sink.{AppendsSome};
 ghost use Rattle.steer_top.specs.Commands.{words_of};
 ghost use Rattle.steer_top.specs.Files.{Accepted, Files, Refused};
+ghost use Rattle.steer_top.specs.Headlines.{TookHeadline};
 ghost use Rattle.steer_top.specs.Outcomes.{Asks, Writes, roles_of};
-ghost use Rattle.steer_top.specs.Words.{CommandWords, command_of};
+ghost use Rattle.steer_top.specs.Words.{CommandWords, ReplayWords, command_of};
+ghost use Rattle.steer_top.specs.Words.CommandWords.{Replay};
 ghost use Rattle.steer_top.specs.Endings.{Ends, EndsCommand, Flushes, IsRefusal, IsUnread, Told};
 ghost use Rattle.steer_top.specs.Endings.{line_of, line_of_refusal, line_of_status};
 ghost use Rattle.steer_top.specs.Endings.{status_of, status_of_refusal};
@@ -16,28 +18,34 @@ ghost use Rattle.steer_top.specs.declared.ending.Refusal.{Refusal as ARefusal};
 
 use crate::command::Command;
 use crate::ending::Ending;
+use crate::gen_command::gen_input;
 use crate::hash_command::hash_file;
 use crate::laws::a_call_is_decided;
 use crate::place_command::place_file;
+use crate::replay_command::replay_file;
 use crate::status::status;
 use crate::telling::tell;
 use crate::words::command_of_words;
 use outside_io::{Desk, Sink, WriteFault};
+use replay::every_report_has_the_headline;
 use std::alloc::Global;
+use taps::Tap;
 
 /// Does the command that the words are, without the program's name, and answers its status: 0 where
 /// all was done, written and sent on, 2 for words that are no command, 3 for a file that has no
-/// rules, 4 for one that is no capture, 5 and 6 where the desk or the sink of the text failed, 7
-/// for want of memory, and 8 for a file that is too long. It always returns.
+/// plan or no rules, 4 for one that is no capture, 5 and 6 where the desk or the sink of the text
+/// failed, 7 for want of memory, and 8 for a file that is too long. It always returns.
 ///
 /// All memory is taken before the first byte goes to `out`, which is flushed once, behind the whole
-/// text. `err` takes one line for every status but 0.
+/// text. `err` takes one line for every status but 0. A replay shows its packet lines to the taps,
+/// and its report has their texts in their order; the other commands drop them.
 pub fn steer_still<D: Desk, K: Sink, E: Sink>(
     alloc: Global,
     words: &[String],
     desk: &mut D,
     out: &mut K,
     err: &mut E,
+    taps: Vec<Box<dyn Tap>>,
 ) -> u8
     // Status 2 exactly where the words are no command.
     ensures usage { result ≡ 2 → command_of words.now ≡ None }
@@ -75,13 +83,21 @@ pub fn steer_still<D: Desk, K: Sink, E: Sink>(
     // With status 0 the whole text went out, with 6 a prefix of it, and else nothing.
     ensures text { result ≡ 0 → (command : CommandWords) (files : Files)
         → Asks (D.held desk.old) words.now command files
-        → (text : List ℕ) × Writes command files text
-        × Appends (K.written out.old) (K.written out.new) text }
+        → (bytes : List ℕ)
+        × Writes (map (λ tap lines. text tap lines) taps.items) command files bytes
+        × Appends (K.written out.old) (K.written out.new) bytes }
     ensures part { result ≡ 6 → (command : CommandWords) (files : Files)
         → Asks (D.held desk.old) words.now command files
-        → (text : List ℕ) × Writes command files text
-        × AppendsSome (K.written out.old) (K.written out.new) text }
+        → (bytes : List ℕ)
+        × Writes (map (λ tap lines. text tap lines) taps.items) command files bytes
+        × AppendsSome (K.written out.old) (K.written out.new) bytes }
     ensures nothing { result ≢ 0 → result ≢ 6 → Keeps (K.written out.old) (K.written out.new) }
+
+    // The headline: with status 0 the text of a replay is the report of just one history, of which
+    // all that is promised of a replay holds.
+    ensures headline { result ≡ 0 → (replay : ReplayWords) (files : Files)
+        → Asks (D.held desk.old) words.now (Replay replay) files
+        → TookHeadline files (K.written out.old) (K.written out.new) }
 
     // `err` took the line of the status, or of the one reason of a refusal, or a prefix where it
     // failed.
@@ -103,6 +119,7 @@ pub fn steer_still<D: Desk, K: Sink, E: Sink>(
     ensures ends { (ending : AnEnding) × (result ≡ status_of ending)
         × Ends ending (command_of words.now) (record {
           held = D.held desk.old;
+          taps = map (λ tap lines. text tap lines) taps.items;
           asked = D.asked desk.new;
           desk_before = D.faults desk.old;
           desk_after = D.faults desk.new;
@@ -114,17 +131,25 @@ pub fn steer_still<D: Desk, K: Sink, E: Sink>(
         × Told (E.faults err.old) (E.faults err.new) (E.written err.old) (E.written err.new)
         (line_of ending) }
 {
-    // No code: the law says that the files have one outcome.
+    // No code: the laws say that the files have one outcome, and what a report promises.
     a_call_is_decided();
-    let ending = run(alloc, words, desk, out);
+    every_report_has_the_headline();
+    let ending = run(alloc, words, desk, out, taps);
     tell(err, &ending);
     status(&ending)
 }
 
 // Does the command that the words are, and says how it ended.
-fn run<D: Desk, K: Sink>(alloc: Global, words: &[String], desk: &mut D, out: &mut K) -> Ending
+fn run<D: Desk, K: Sink>(
+    alloc: Global,
+    words: &[String],
+    desk: &mut D,
+    out: &mut K,
+    taps: Vec<Box<dyn Tap>>,
+) -> Ending
     ensures ends { Ends result (command_of words.now) (record {
       held = D.held desk.old;
+      taps = map (λ tap lines. text tap lines) taps.items;
       asked = D.asked desk.new;
       desk_before = D.faults desk.old;
       desk_after = D.faults desk.new;
@@ -142,16 +167,23 @@ fn run<D: Desk, K: Sink>(alloc: Global, words: &[String], desk: &mut D, out: &mu
     match command_of_words(words) {
         None => Ending::Usage,
         Some(command) => {
-            let ending = perform(alloc, &command, desk, out);
+            let ending = perform(alloc, &command, desk, out, taps);
             flush(ending, out)
         }
     }
 }
 
 // Does the command, up to the flush of its text.
-fn perform<D: Desk, K: Sink>(alloc: Global, command: &Command, desk: &mut D, out: &mut K) -> Ending
+fn perform<D: Desk, K: Sink>(
+    alloc: Global,
+    command: &Command,
+    desk: &mut D,
+    out: &mut K,
+    taps: Vec<Box<dyn Tap>>,
+) -> Ending
     ensures ends { EndsCommand result (words_of command.now) (record {
       held = D.held desk.old;
+      taps = map (λ tap lines. text tap lines) taps.items;
       asked = D.asked desk.new;
       desk_before = D.faults desk.old;
       desk_after = D.faults desk.new;
@@ -168,6 +200,8 @@ fn perform<D: Desk, K: Sink>(alloc: Global, command: &Command, desk: &mut D, out
 {
     match command {
         Command::Hash(hash) => hash_file(alloc, hash, desk, out),
+        Command::Replay(replay) => replay_file(alloc, replay, desk, out, taps),
+        Command::Gen(input) => gen_input(alloc, input, out),
         Command::Place(place) => place_file(alloc, place, desk, out),
     }
 }

@@ -1,19 +1,26 @@
 //! The words of the command line.
-ghost use Rattle.std.specs.Prelude.{◌≡◌, ◌≤◌, Some, None, IfSome, map, string_bytes};
+ghost use Rattle.std.specs.Prelude.{◌≡◌, ◌≤◌, ◌<◌, ◌^◌, Some, None, IfSome, map, string_bytes};
 ghost use Rattle.std.specs.Option.{option_map};
-ghost use Rattle.steer_top.specs.Commands.{hash_words_of, place_words_of, words_of};
-ghost use Rattle.steer_top.specs.Words.{command_of, hash_with as hash_words};
+ghost use Rattle.steer_top.specs.Commands.{gen_words_of, hash_words_of, place_words_of};
+ghost use Rattle.steer_top.specs.Commands.{replay_words_of, words_of};
+ghost use Rattle.steer_top.specs.Words.{command_of, gen_with as gen_words};
+ghost use Rattle.steer_top.specs.Words.{hash_with as hash_words};
 ghost use Rattle.steer_top.specs.Words.{command_named as the_command_named};
+ghost use Rattle.steer_top.specs.Words.{gen_arguments as the_gen_arguments};
 ghost use Rattle.steer_top.specs.Words.{hash_arguments as the_hash_arguments};
 ghost use Rattle.steer_top.specs.Words.{place_arguments as the_place_arguments};
+ghost use Rattle.steer_top.specs.Words.{replay_arguments as the_replay_arguments};
 ghost use Rattle.steer_top.specs.Words.{is_name as names_a_file};
 ghost use Rattle.steer_top.specs.Words.{number_of, number_within as the_number_within};
 
-use crate::command::{Command, HashCommand, PlaceCommand};
+use crate::command::{Command, GenCommand, HashCommand, PlaceCommand, ReplayCommand};
 use steer_base::decimal_number;
 
 /// The most digits that a number may have.
 const MAX_DIGITS: u8 = 20;
+
+/// The greatest seed.
+const MAX_SEED: u128 = 18_446_744_073_709_551_615;
 
 // Whether the word is neither empty nor an option.
 fn is_name(word: &str) -> bool
@@ -88,6 +95,56 @@ fn hash_arguments(words: &[String]) -> Option<HashCommand<'_>>
     }
 }
 
+// What stands behind the word `replay`.
+#[tactic(auto, unfolding(crate::specs::Words::replay_arguments))]
+fn replay_arguments(words: &[String]) -> Option<ReplayCommand<'_>>
+    ensures { option_map replay_words_of result ≡
+        the_replay_arguments (map (λ word. string_bytes word) words.now) }
+{
+    match words {
+        [plan, capture] if is_name(plan.as_str()) && is_name(capture.as_str()) => {
+            Some(ReplayCommand {
+                plan: plan.as_str(),
+                capture: capture.as_str(),
+            })
+        }
+        _ => None,
+    }
+}
+
+// The command with these numbers, where all are there.
+fn gen_with(seed: Option<u128>, packets: Option<u128>, flows: Option<u128>) -> Option<GenCommand>
+    requires seed { IfSome seed (λ n. n < 2 ^ 64) }
+    requires packets { IfSome packets (λ n. n ≤ 262144) }
+    requires flows { IfSome flows (λ n. (1 ≤ n) × (n ≤ 65536)) }
+    ensures { option_map gen_words_of result ≡ gen_words seed packets flows }
+{
+    let seed = seed? as u64;
+    let packets = packets? as u32;
+    let flows = flows? as u32;
+    Some(GenCommand {
+        seed,
+        packets,
+        flows,
+    })
+}
+
+// What stands behind the word `gen`.
+#[tactic(auto, unfolding(crate::specs::Words::gen_arguments))]
+fn gen_arguments(words: &[String]) -> Option<GenCommand>
+    ensures { option_map gen_words_of result ≡
+        the_gen_arguments (map (λ word. string_bytes word) words.now) }
+{
+    match words {
+        [seed, packets, flows] => gen_with(
+            number_within(seed.as_str(), 0, MAX_SEED),
+            number_within(packets.as_str(), 0, 262_144),
+            number_within(flows.as_str(), 1, 65_536),
+        ),
+        _ => None,
+    }
+}
+
 // What stands behind the word `place`.
 #[tactic(auto, unfolding(crate::specs::Words::place_arguments))]
 fn place_arguments(words: &[String]) -> Option<PlaceCommand<'_>>
@@ -116,12 +173,19 @@ pub fn command_of_words(words: &[String]) -> Option<Command<'_>>
 }
 
 // The command of this name with these arguments.
+#[tactic(auto, unfolding(crate::specs::Words::command_named))]
 fn command_named<'a>(name: &str, arguments: &'a [String]) -> Option<Command<'a>>
     ensures { option_map words_of result ≡
         the_command_named name.now (map (λ word. string_bytes word) arguments.now) }
 {
     if name == "hash" {
         return Some(Command::Hash(hash_arguments(arguments)?));
+    }
+    if name == "replay" {
+        return Some(Command::Replay(replay_arguments(arguments)?));
+    }
+    if name == "gen" {
+        return Some(Command::Gen(gen_arguments(arguments)?));
     }
     if name == "place" {
         return Some(Command::Place(place_arguments(arguments)?));

@@ -10,7 +10,7 @@ use Rattle.steer_top.proofs.Commands.{course_of, ends_at, ends_written, files_of
 use Rattle.steer_top.proofs.hash_command.hash_file.Goals as goal
 
 pub returns-in-Err-clause-ends : goal.returns-in-Err-clause-ends
-returns-in-Err-clause-ends g c =
+returns-in-Err-clause-ends g c = λ taps.
     let words = hash_words_of c.args.command.now in
     let old = c.args.desk.now in
     let new = c.take_capture.new.desk in
@@ -18,7 +18,7 @@ returns-in-Err-clause-ends g c =
     let held = g.D.Desk.held old in
     let written = g.K.Sink.written out in
     let course : Course =
-    course_of held (g.D.Desk.asked new) (g.D.Desk.faults old) (g.D.Desk.faults new)
+    course_of held taps (g.D.Desk.asked new) (g.D.Desk.faults old) (g.D.Desk.faults new)
     (g.K.Sink.faults out) (g.K.Sink.faults out) written written in
     let at = c.in-Err.ensures.ends in
     ends_at (Hash words) course
@@ -26,7 +26,7 @@ returns-in-Err-clause-ends g c =
     (hash_gave words held [] at.bytes at.gave) refl refl tt (Keeps-refl written) at.stops
 
 pub returns-in-Ok-make-clause-ends : goal.returns-in-Ok-make-clause-ends
-returns-in-Ok-make-clause-ends g c =
+returns-in-Ok-make-clause-ends g c = λ taps.
     let words = hash_words_of c.args.command.now in
     let old = c.args.desk.now in
     let new = c.take_capture.new.desk in
@@ -34,7 +34,7 @@ returns-in-Ok-make-clause-ends g c =
     let last = c.write_lines.new.out in
     let held = g.D.Desk.held old in
     let course : Course =
-    course_of held (g.D.Desk.asked new) (g.D.Desk.faults old) (g.D.Desk.faults new)
+    course_of held taps (g.D.Desk.asked new) (g.D.Desk.faults old) (g.D.Desk.faults new)
     (g.K.Sink.faults out) (g.K.Sink.faults last) (g.K.Sink.written out) (g.K.Sink.written last) in
     let file = c.in-Ok.file in
     let taken = c.in-Ok.ensures.taken in
@@ -46,7 +46,7 @@ returns-in-Ok-make-clause-ends g c =
     (rw (c.in-Ok-make.ensures.kinds, c.in-Ok-make.ensures.table) at c.write_lines.ensures.ends)
 
 pub returns-clause-ends : goal.returns-clause-ends
-returns-clause-ends g c =
+returns-clause-ends g c = λ taps.
     let words = hash_words_of c.args.command.now in
     let old = c.args.desk.now in
     let new = c.take_capture.new.desk in
@@ -54,7 +54,7 @@ returns-clause-ends g c =
     let held = g.D.Desk.held old in
     let written = g.K.Sink.written out in
     let course : Course =
-    course_of held (g.D.Desk.asked new) (g.D.Desk.faults old) (g.D.Desk.faults new)
+    course_of held taps (g.D.Desk.asked new) (g.D.Desk.faults old) (g.D.Desk.faults new)
     (g.K.Sink.faults out) (g.K.Sink.faults out) written written in
     let file = c.in-Ok.file in
     ends_at (Hash words) course

@@ -11,7 +11,7 @@ use Rattle.steer_top.proofs.Commands.{stops_later, told_bytes}
 use Rattle.steer_top.proofs.place_command.place_file.Goals as goal
 
 pub returns-in-Err-clause-ends : goal.returns-in-Err-clause-ends
-returns-in-Err-clause-ends g c =
+returns-in-Err-clause-ends g c = λ taps.
     let words = place_words_of c.args.command.now in
     let old = c.args.desk.now in
     let new = c.take_rules.new.desk in
@@ -19,7 +19,7 @@ returns-in-Err-clause-ends g c =
     let held = g.D.Desk.held old in
     let written = g.K.Sink.written out in
     let course : Course =
-    course_of held (g.D.Desk.asked new) (g.D.Desk.faults old) (g.D.Desk.faults new)
+    course_of held taps (g.D.Desk.asked new) (g.D.Desk.faults old) (g.D.Desk.faults new)
     (g.K.Sink.faults out) (g.K.Sink.faults out) written written in
     let at = c.in-Err.ensures.ends in
     let (capture, told) = told_bytes (held words.capture) in
@@ -28,7 +28,7 @@ returns-in-Err-clause-ends g c =
     (place_gave words held at.bytes capture at.gave told) refl refl tt (Keeps-refl written) at.stops
 
 pub returns-in-Err-take_capture-clause-ends : goal.returns-in-Err-take_capture-clause-ends
-returns-in-Err-take_capture-clause-ends g c =
+returns-in-Err-take_capture-clause-ends g c = λ taps.
     let words = place_words_of c.args.command.now in
     let old = c.args.desk.now in
     let mid = c.take_rules.new.desk in
@@ -37,7 +37,7 @@ returns-in-Err-take_capture-clause-ends g c =
     let held = g.D.Desk.held old in
     let written = g.K.Sink.written out in
     let course : Course =
-    course_of held (g.D.Desk.asked new) (g.D.Desk.faults old) (g.D.Desk.faults new)
+    course_of held taps (g.D.Desk.asked new) (g.D.Desk.faults old) (g.D.Desk.faults new)
     (g.K.Sink.faults out) (g.K.Sink.faults out) written written in
     let rules = c.in-Ok.rules in
     let taken = c.in-Ok.ensures.taken in
@@ -53,7 +53,7 @@ returns-in-Err-take_capture-clause-ends g c =
     (g.D.Desk.asked new) c.take_rules.ensures.later at.stops)
 
 pub returns-in-Ok-make-clause-ends : goal.returns-in-Ok-make-clause-ends
-returns-in-Ok-make-clause-ends g c =
+returns-in-Ok-make-clause-ends g c = λ taps.
     let words = place_words_of c.args.command.now in
     let old = c.args.desk.now in
     let new = c.take_capture.new.desk in
@@ -61,7 +61,7 @@ returns-in-Ok-make-clause-ends g c =
     let last = c.write_lines.new.out in
     let held = g.D.Desk.held old in
     let course : Course =
-    course_of held (g.D.Desk.asked new) (g.D.Desk.faults old) (g.D.Desk.faults new)
+    course_of held taps (g.D.Desk.asked new) (g.D.Desk.faults old) (g.D.Desk.faults new)
     (g.K.Sink.faults out) (g.K.Sink.faults last) (g.K.Sink.written out) (g.K.Sink.written last) in
     let rules = c.in-Ok.rules in
     let taken = c.in-Ok.ensures.taken in
@@ -76,7 +76,7 @@ returns-in-Ok-make-clause-ends g c =
     (rw c.in-Ok-make.ensures at c.write_lines.ensures.ends)
 
 pub returns-clause-ends : goal.returns-clause-ends
-returns-clause-ends g c =
+returns-clause-ends g c = λ taps.
     let words = place_words_of c.args.command.now in
     let old = c.args.desk.now in
     let new = c.take_capture.new.desk in
@@ -84,7 +84,7 @@ returns-clause-ends g c =
     let held = g.D.Desk.held old in
     let written = g.K.Sink.written out in
     let course : Course =
-    course_of held (g.D.Desk.asked new) (g.D.Desk.faults old) (g.D.Desk.faults new)
+    course_of held taps (g.D.Desk.asked new) (g.D.Desk.faults old) (g.D.Desk.faults new)
     (g.K.Sink.faults out) (g.K.Sink.faults out) written written in
     let taken = c.in-Ok.ensures.taken in
     let (capture, told) = told_bytes (held words.capture) in

@@ -9,7 +9,7 @@ returns-in-Some-clause-ends g c =
     let out = c.args.out.now in
     let done = c.perform-ending.new.out in
     let course : Course =
-    course_of (g.D.Desk.held desk) (g.D.Desk.asked c.perform-ending.new.desk)
+    course_of (g.D.Desk.held desk) _ (g.D.Desk.asked c.perform-ending.new.desk)
     (g.D.Desk.faults desk) (g.D.Desk.faults c.perform-ending.new.desk)
     (g.K.Sink.faults out) (g.K.Sink.faults done) (g.K.Sink.written out) (g.K.Sink.written done) in
     rw (← c.in-Some.ensures)

@@ -3,6 +3,7 @@ use Rattle.steer_top.specs.Endings.{IsRefusal}
 use Rattle.steer_top.specs.declared.ending.Ending.TheVariants as ending
 use Rattle.steer_top.proofs.Statuses.{refuses_of, refused_of, complete_of, accepted_of, text_of}
 use Rattle.steer_top.proofs.Statuses.{part_of, refused_is, unread_of}
+use Rattle.steer_top.proofs.Replays.{headline_of}
 use Rattle.steer_top.proofs.top.steer_still.Goals as goal
 
 pub returns-clause-refuses : goal.returns-clause-refuses
@@ -58,3 +59,9 @@ returns-clause-unread g c = λ status command files asks.
     let law = c.a_call_is_decided.ensures in
     unread_of law.once law.apart command files _ asks.told c.run-ending.result
     (rw asks.is at c.run-ending.ensures.ends) (sym c.status.ensures ∙ status)
+
+pub returns-clause-headline : goal.returns-clause-headline
+returns-clause-headline g c = λ status words files asks.
+    let law = c.a_call_is_decided.ensures in
+    headline_of law.once law.apart c.every_report_has_the_headline.ensures words files _ asks.told
+    c.run-ending.result (rw asks.is at c.run-ending.ensures.ends) (sym c.status.ensures ∙ status)

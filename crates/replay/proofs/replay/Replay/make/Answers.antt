@@ -2,9 +2,9 @@ use Rattle.replay.specs.Replays.{replay_of}
 use Rattle.replay.proofs.TextsLemmas.{shown_is}
 use Rattle.replay.proofs.replay.Replay.make.Goals as goal
 
-pub returns : goal.returns
+pub returns-clause-is : goal.returns-clause-is
 unfolding replay_of
-returns g c =
+returns-clause-is g c =
     let plan = c.args.plan.now in
     let packets = c.args.packets.now in
     let told = rw c.as_slice.ensures at c.in_ok-texts.ensures in

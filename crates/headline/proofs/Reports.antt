@@ -1,0 +1,84 @@
+-- The report of a replay is that of just one history.
+use Rattle.std.proofs.Common.{ℕ, ◌≡◌, List, Result, Ok, length, refl, ap, ◌∙◌, sym, subst, arith}
+use Rattle.history.specs.declared.history.History.{History}
+use Rattle.pcap_reader.specs.declared.capture.Capture.{Capture}
+use Rattle.plan_reader.specs.PlanTexts.{settings_of}
+use Rattle.plan_reader.specs.Settings.{Settings}
+use Rattle.report.specs.Laws.{HasOneHistory, IsReportOf}
+use Rattle.report.specs.Report.{report}
+use Rattle.steer_good.specs.Always.{Always}
+use Rattle.steer_good.specs.Sizes.{IsOfItsInput}
+use Rattle.steer_laws.specs.HeldLaws.{ReplaysAreReportable}
+use Rattle.steer_parts.specs.Inputs.{Input}
+use Rattle.steer_parts.specs.PacketLaws.{PacketsAreOne}
+use Rattle.steer_parts.specs.Packets.{ArePackets}
+use Rattle.steer_parts.specs.Start.{replayed}
+use Rattle.toeplitz.specs.Toeplitz.{number_of}
+use Rattle.headline.specs.Headline.{IsRight, Reports, Says}
+use Rattle.headline.specs.Laws.{ReportsHaveTheHeadline}
+
+-- ---- one plan and one list of packets
+
+same_ok : {E : Type 0} (s t : Settings) → ◌≡◌ {A = Result Settings E} (Ok s) (Ok t) → s ≡ t
+same_ok s t e = cc
+
+module _ (plan_bytes capture_bytes : List ℕ) (capture : Capture) (i j : Input)
+    (said : Says plan_bytes capture_bytes capture i)
+    (says : Says plan_bytes capture_bytes capture j) (one : PacketsAreOne) where
+  plans : settings_of j.plan ≡ settings_of i.plan
+  plans = same_ok (settings_of j.plan) (settings_of i.plan) (sym says.plan ∙ said.plan)
+
+  same-packets : j.packets ≡ i.packets
+  same-packets =
+      let key : number_of j.plan.key ≡ number_of i.plan.key =
+      ap (λ (s : Settings). number_of s.key) plans in
+      let kinds : j.plan.kinds ≡ i.plan.kinds = ap (λ (s : Settings). s.kinds) plans in
+      let by_kinds =
+      subst (λ k. ArePackets (number_of j.plan.key) k capture_bytes capture.records j.packets) kinds
+      says.packets in
+      one (number_of i.plan.key) i.plan.kinds capture_bytes capture.records j.packets i.packets
+      (subst
+      (λ k. ArePackets k i.plan.kinds capture_bytes capture.records j.packets) key by_kinds)
+      said.packets
+
+  -- so what is a report for the one is one for the other
+  reports-same : (h : History) (text : List ℕ) → Reports j h text → Reports i h text
+  reports-same h text (taps, is) =
+      let apps : length j.plan.apps ≡ length i.plan.apps =
+      ap (λ (s : Settings). length s.apps) plans in
+      let start : j.plan.start ≡ i.plan.start = ap (λ (s : Settings). s.start) plans in
+      let first = subst (λ ps. IsReportOf ps (length j.plan.apps) j.plan.start h taps text)
+      same-packets is in
+      let second = subst (λ n. IsReportOf i.packets n j.plan.start h taps text) apps first in
+      (taps, subst (λ n. IsReportOf i.packets (length i.plan.apps) n h taps text) start second)
+
+-- ---- the headline
+
+pub headline-of : Always IsRight → ReplaysAreReportable → Always IsOfItsInput → HasOneHistory
+    → PacketsAreOne → ReportsHaveTheHeadline
+headline-of right reportable of one_history one plan_bytes capture_bytes capture i taps said may
+    numbers fit =
+    let h : History = replayed i.plan i.packets i.cut in
+    let text : List ℕ = report i.packets (length i.plan.apps) h taps in
+    let can = reportable i.plan i.packets i.cut may in
+    let size = of.replays i may in
+    let is : IsReportOf i.packets (length i.plan.apps) i.plan.start h taps text = record {
+      regular = can.regular;
+      queued = can.queued;
+      numbers = numbers;
+      taps = fit;
+      starts = size.start;
+      text = refl;
+    } in
+    let few = can.few_apps in
+    record {
+      input = i;
+      says = said;
+      history = h;
+      reports = (taps, is);
+      only = λ j k says other. (
+          let same = reports-same plan_bytes capture_bytes capture i j said says one k text other in
+          (one_history i.packets (length i.plan.apps) i.plan.start k h same.0 taps text may.few
+          (omega (arith, few)) same.1 is).0);
+      right = right.replays i may;
+    }

@@ -1,0 +1,25 @@
+-- The laws on what is promised of a replay.
+use Rattle.std.specs.Prelude.{ℕ, List, length}
+use Rattle.history.specs.Ranges.{HistoryFits}
+use Rattle.pcap_reader.specs.declared.capture.Capture.{Capture}
+use Rattle.report.specs.Laws.{TextsFit}
+use Rattle.report.specs.Report.{report}
+use Rattle.steer_good.specs.Always.{Always}
+use Rattle.steer_laws.specs.HeldLaws.{MayStart}
+use Rattle.steer_parts.specs.Inputs.{Input}
+use Rattle.steer_parts.specs.Start.{replayed}
+use Rattle.headline.specs.Headline.{Headline, IsRight, Says}
+
+-- The history of every replay is as it should be, in every state.
+abbrev pub ReplaysAreRight : Type 0
+ReplaysAreRight = Always IsRight
+
+-- Where bytes say what was to be done, the report of its replay has the headline. The replay's
+-- numbers, and the texts of the taps, are such as a program holds.
+abbrev pub ReportsHaveTheHeadline : Type 0
+ReportsHaveTheHeadline =
+    (plan_bytes capture_bytes : List ℕ) (capture : Capture) (i : Input) (taps : List (List ℕ))
+    → Says plan_bytes capture_bytes capture i → MayStart i.plan i.packets
+    → HistoryFits (replayed i.plan i.packets i.cut) → TextsFit taps
+    → Headline plan_bytes capture_bytes capture
+    (report i.packets (length i.plan.apps) (replayed i.plan i.packets i.cut) taps)

@@ -1,0 +1,8 @@
+pub mod Places
+pub mod Orders
+pub mod Drops
+pub mod Processors
+pub mod Replies
+pub mod Outstanding
+pub mod Headline
+pub mod Laws

@@ -1,0 +1,44 @@
+-- Where a packet stands.
+use Rattle.std.specs.Prelude.{ℕ, ◌≡◌, ◌↔◌, Bool, true, false}
+use Rattle.history.specs.Finding.{is_among, is_in}
+use Rattle.history.specs.Lists.{drop_ids, lane_at, list_at}
+use Rattle.history.specs.Places.{place_of, was_taken}
+use Rattle.history.specs.declared.history.History.{History}
+use Rattle.history.specs.declared.place.Place.{Place}
+use Rattle.history.specs.declared.place.Place.TheVariants.{Backlog, Dropped, Hand}
+use Rattle.history.specs.declared.place.Place.TheVariants.{Inbox, Poller, Ring}
+
+-- whether a processor accepted the packet, pulled it, dropped it
+abbrev pub was_accepted : History → ℕ → ℕ → Bool
+was_accepted h c x = is_in x (lane_at h.lanes c).accepted
+
+abbrev pub was_pulled : History → ℕ → ℕ → Bool
+was_pulled h c x = is_among (lane_at h.lanes c).pulled x (lane_at h.lanes c).accepted
+
+abbrev pub was_dropped_by : History → ℕ → ℕ → Bool
+was_dropped_by h c x = is_in x (drop_ids (lane_at h.lanes c))
+
+-- whether an application has it in its inbox
+abbrev pub is_in_inbox : History → ℕ → ℕ → Bool
+is_in_inbox h a x = is_in x (list_at h.inboxes a)
+
+-- no processor accepted or dropped it
+abbrev pub WasNotPut : History → ℕ → Type 0
+WasNotPut h x = (c : ℕ) → (was_accepted h c x ≡ false) × (was_dropped_by h c x ≡ false)
+
+abbrev pub IsInNoInbox : History → ℕ → Type 0
+IsInNoInbox h x = (a : ℕ) → is_in_inbox h a x ≡ false
+
+-- A packet that arrived stands here, by the lists of the history alone.
+abbrev pub StandsAt : History → ℕ → Place → Type 0
+StandsAt h x Ring = (was_taken h x ≡ false) × WasNotPut h x
+StandsAt h x Poller = (was_taken h x ≡ true) × WasNotPut h x
+StandsAt h x (Backlog c) =
+    (was_accepted h c x ≡ true) × (was_pulled h c x ≡ false) × IsInNoInbox h x
+StandsAt h x (Hand c) = (was_pulled h c x ≡ true) × IsInNoInbox h x
+StandsAt h x (Inbox a) = is_in_inbox h a x ≡ true
+StandsAt h x (Dropped c) = was_dropped_by h c x ≡ true
+
+-- It stands at the place that its line in the report shows, and at no other.
+abbrev pub StandsAtOnePlace : History → ℕ → Type 0
+StandsAtOnePlace h x = (place : Place) → StandsAt h x place ↔ (place_of h x ≡ place)

@@ -1,0 +1,13 @@
+-- What the report of the bytes of a plan and of a capture promises.
+use Rattle.std.specs.Prelude.{ℕ, List}
+use Rattle.headline.specs.Headline.{Headline}
+use Rattle.pcap_reader.specs.declared.capture.Capture.{Capture}
+use Rattle.replay.specs.Meanings.{Meaning}
+use Rattle.replay.specs.Reports.{IsReportOf}
+
+-- It has the headline, whatever the taps mean.
+abbrev pub EveryReportHasTheHeadline : Type 0
+EveryReportHasTheHeadline =
+    (plan_bytes capture_bytes : List ℕ) (capture : Capture) (taps : List Meaning) (text : List ℕ)
+    → IsReportOf plan_bytes capture_bytes capture taps text
+    → Headline plan_bytes capture_bytes capture text

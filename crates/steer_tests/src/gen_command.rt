@@ -1,0 +1,85 @@
+//! The command `gen`.
+use crate::calls::{called, desk_of};
+use std::alloc::Global;
+use std::test::Fail;
+
+// The number behind this word and a space in a line.
+fn number_after(line: &str, word: &str) -> Option<u64> {
+    let mut words = line.split(' ');
+    while let Some(found) = words.next() {
+        if found == word {
+            return words.next()?.parse().ok();
+        }
+    }
+    None
+}
+
+#[test]
+fn small_input_is_replayed(rt: HostRuntime) -> Result<(), Fail> {
+    let alloc = rt.alloc();
+    let cases: [(&[&str], &[u8]); 3] = [
+        (
+            &["gen", "1", "0", "1"],
+            b"gen 1 packets 0 flows 0\ndelivered 0 dropped 0 moved 0 replies 0\n",
+        ),
+        (
+            &["gen", "7", "1", "1"],
+            b"gen 7 packets 1 flows 1\ndelivered 1 dropped 0 moved 1 replies 1\n",
+        ),
+        (
+            &["gen", "007", "01", "1"],
+            b"gen 7 packets 1 flows 1\ndelivered 1 dropped 0 moved 1 replies 1\n",
+        ),
+    ];
+    for (case, (texts, wanted)) in cases.into_iter().enumerate() {
+        let got = called(alloc, texts, desk_of(alloc, &[], &[])?)?;
+        assert_eq!(rt; got.status, 0, "case {case}");
+        assert_eq!(rt; got.out.as_slice(), wanted, "case {case}");
+        assert!(rt; got.err.is_empty(), "case {case}");
+    }
+    Ok(())
+}
+
+#[test]
+fn numbers_out_of_range_get_the_usage(rt: HostRuntime) -> Result<(), Fail> {
+    let alloc = rt.alloc();
+    let cases: [&[&str]; 7] = [
+        &["gen"],
+        &["gen", "1", "1"],
+        &["gen", "18446744073709551616", "1", "1"],
+        &["gen", "1", "262145", "1"],
+        &["gen", "1", "1", "0"],
+        &["gen", "1", "1", "65537"],
+        &["gen", "1", "1", "1", "1"],
+    ];
+    for (case, texts) in cases.into_iter().enumerate() {
+        let got = called(alloc, texts, desk_of(alloc, &[], &[])?)?;
+        assert_eq!(rt; got.status, 2, "case {case}");
+        assert!(rt; got.out.is_empty(), "case {case}");
+    }
+    Ok(())
+}
+
+// The two lines of `gen 7 131072 512`.
+fn large(alloc: Global) -> Result<Vec<u8>, Fail> {
+    let got = called(
+        alloc,
+        &["gen", "7", "131072", "512"],
+        desk_of(alloc, &[], &[])?,
+    )?;
+    Ok(got.out)
+}
+
+#[test]
+fn large_input_is_swept_and_gives_one_text(rt: HostRuntime) -> Result<(), Fail> {
+    let alloc = rt.alloc();
+    let text = String::from_utf8(large(alloc)?)?;
+    assert_eq!(rt; large(alloc)?.as_slice(), text.as_bytes());
+    let (head, rest) = text.split_once('\n').unwrap_or(("", ""));
+    assert!(rt; head.starts_with("gen 7 packets 131072 flows "), "{head}");
+    let delivered = number_after(rest, "delivered").unwrap_or(0);
+    let dropped = number_after(rest, "dropped").unwrap_or(0);
+    assert_eq!(rt; delivered.saturating_add(dropped), 131_072);
+    assert_eq!(rt; number_after(rest.trim(), "replies"), Some(delivered));
+    Ok(())
+}

@@ -1,0 +1,131 @@
+//! The command `replay` with taps.
+use crate::calls::{Outcome, called_with, desk_of};
+use crate::files::{FRAME_A, file};
+use crate::plans::{FOUR_LINES, FOUR_STEPS, ONE_FLOW, plan_of};
+use history::PacketLine;
+use std::alloc::Global;
+use std::cell::Cell;
+use std::rc::Rc;
+use std::test::Fail;
+use steer_base::OutOfMemory;
+use taps::{Depth, PerCpu, PerFlow, Tap, TapText};
+
+// What the replay of four packets of one flow comes to, with these settings and taps.
+fn observed(alloc: Global, settings: &[u8], taps: Vec<Box<dyn Tap>>) -> Result<Outcome, Fail> {
+    let plan = plan_of(alloc, settings, FOUR_STEPS)?;
+    let capture = file(alloc, &[&FRAME_A, &FRAME_A, &FRAME_A, &FRAME_A])?;
+    let desk = desk_of(alloc, &[("p.json", &plan), ("a.pcap", &capture)], &[])?;
+    called_with(alloc, &["replay", "p.json", "a.pcap"], desk, taps)
+}
+
+#[test]
+fn texts_of_taps_stand_before_the_end(rt: HostRuntime) -> Result<(), Fail> {
+    let alloc = rt.alloc();
+    let per_cpu: Box<dyn Tap> = Box::new(alloc, PerCpu::make(alloc))?;
+    let per_flow: Box<dyn Tap> = Box::new(alloc, PerFlow::make(alloc))?;
+    let mut taps = Vec::new(alloc);
+    taps.push(per_cpu)?;
+    taps.push(per_flow)?;
+    let got = observed(
+        alloc,
+        br#""cpus":4,"queues":[{"home":0,"mask":[1],"flows":1}],"sock":4,"detach":[{"tap":0,"after":2}],"apps":[2],"tx":[{"cpus":[],"queues":[]}]"#,
+        taps,
+    )?;
+    let mut text = FOUR_LINES.to_vec(alloc)?;
+    text.extend_from_slice(
+        b"tap 0 bytes 16\ncpu 1 packets 2\ntap 1 bytes 17\nflow 0 packets 4\nend 4 of 4\n",
+    )?;
+    assert_eq!(rt; got.status, 0);
+    assert_eq!(rt; got.out.as_slice(), text.as_slice());
+    Ok(())
+}
+
+// The report that the program writes, with the three taps that it hands in.
+#[test]
+fn the_report_of_the_readme_is_written(rt: HostRuntime) -> Result<(), Fail> {
+    let alloc = rt.alloc();
+    let per_cpu: Box<dyn Tap> = Box::new(alloc, PerCpu::make(alloc))?;
+    let per_flow: Box<dyn Tap> = Box::new(alloc, PerFlow::make(alloc))?;
+    let depth: Box<dyn Tap> = Box::new(alloc, Depth::make(alloc))?;
+    let mut taps = Vec::new(alloc);
+    taps.push(per_cpu)?;
+    taps.push(per_flow)?;
+    taps.push(depth)?;
+    let got = observed(alloc, ONE_FLOW, taps)?;
+    let mut text = FOUR_LINES.to_vec(alloc)?;
+    text.extend_from_slice(
+        b"tap 0 bytes 32\ncpu 1 packets 3\ncpu 2 packets 1\n\
+tap 1 bytes 17\nflow 0 packets 4\n\
+tap 2 bytes 34\ndepth cpu 1 at 3\ndepth cpu 2 at 1\nend 4 of 4\n",
+    )?;
+    assert_eq!(rt; got.status, 0);
+    assert_eq!(rt; got.out.as_slice(), text.as_slice());
+    Ok(())
+}
+
+// A tap that counts its lines and its drops, and finds no memory for its second line where it is
+// told so.
+struct Counting {
+    alloc: Global,
+    lines: u32,
+    drops: Rc<Cell<u32>>,
+    fails: bool,
+}
+
+impl Drop for Counting {
+    fn drop(self) {
+        let Counting {
+            alloc: _,
+            lines: _,
+            drops,
+            fails: _,
+        } = self;
+        drops.set(drops.get().wrapping_add(1));
+    }
+}
+
+impl Tap for Counting {
+    ghost use Rattle.std.specs.Prelude.{[]};
+
+    ghost text = { λ tap lines. [] };
+
+    fn note(&mut self, _: &PacketLine) -> Result<(), OutOfMemory> {
+        self.lines = self.lines.saturating_add(1);
+        if self.fails && self.lines == 2 {
+            Err(OutOfMemory)
+        } else {
+            Ok(())
+        }
+    }
+
+    fn finish(&mut self) -> Result<TapText, OutOfMemory> {
+        Ok(TapText {
+            bytes: Vec::new(self.alloc),
+        })
+    }
+}
+
+#[test]
+fn a_tap_without_memory_ends_the_replay(rt: HostRuntime) -> Result<(), Fail> {
+    let alloc = rt.alloc();
+    let drops = Rc::new(alloc, Cell::new(0))?;
+    let mut taps: Vec<Box<dyn Tap>> = Vec::new(alloc);
+    for fails in [false, true, false] {
+        let tap: Box<dyn Tap> = Box::new(
+            alloc,
+            Counting {
+                alloc,
+                lines: 0,
+                drops: drops.clone()?,
+                fails,
+            },
+        )?;
+        taps.push(tap)?;
+    }
+    let got = observed(alloc, ONE_FLOW, taps)?;
+    assert_eq!(rt; got.status, 7);
+    assert!(rt; got.out.is_empty());
+    assert_eq!(rt; got.err.as_slice(), b"out of memory\n".as_slice());
+    assert_eq!(rt; drops.get(), 3);
+    Ok(())
+}
