@@ -16,6 +16,8 @@ mod place_command;
 #[cfg(test)]
 mod plans;
 #[cfg(test)]
+mod readme;
+#[cfg(test)]
 mod replay_command;
 #[cfg(test)]
 mod replay_faults;

@@ -8,7 +8,7 @@ use std::cell::Cell;
 use std::rc::Rc;
 use std::test::Fail;
 use steer_base::OutOfMemory;
-use taps::{Depth, PerCpu, PerFlow, Tap, TapText};
+use taps::{PerCpu, PerFlow, Tap, TapText};
 
 // What the replay of four packets of one flow comes to, with these settings and taps.
 fn observed(alloc: Global, settings: &[u8], taps: Vec<Box<dyn Tap>>) -> Result<Outcome, Fail> {
@@ -34,29 +34,6 @@ fn texts_of_taps_stand_before_the_end(rt: HostRuntime) -> Result<(), Fail> {
     let mut text = FOUR_LINES.to_vec(alloc)?;
     text.extend_from_slice(
         b"tap 0 bytes 16\ncpu 1 packets 2\ntap 1 bytes 17\nflow 0 packets 4\nend 4 of 4\n",
-    )?;
-    assert_eq!(rt; got.status, 0);
-    assert_eq!(rt; got.out.as_slice(), text.as_slice());
-    Ok(())
-}
-
-// The report that the program writes, with the three taps that it hands in.
-#[test]
-fn the_report_of_the_readme_is_written(rt: HostRuntime) -> Result<(), Fail> {
-    let alloc = rt.alloc();
-    let per_cpu: Box<dyn Tap> = Box::new(alloc, PerCpu::make(alloc))?;
-    let per_flow: Box<dyn Tap> = Box::new(alloc, PerFlow::make(alloc))?;
-    let depth: Box<dyn Tap> = Box::new(alloc, Depth::make(alloc))?;
-    let mut taps = Vec::new(alloc);
-    taps.push(per_cpu)?;
-    taps.push(per_flow)?;
-    taps.push(depth)?;
-    let got = observed(alloc, ONE_FLOW, taps)?;
-    let mut text = FOUR_LINES.to_vec(alloc)?;
-    text.extend_from_slice(
-        b"tap 0 bytes 32\ncpu 1 packets 3\ncpu 2 packets 1\n\
-tap 1 bytes 17\nflow 0 packets 4\n\
-tap 2 bytes 34\ndepth cpu 1 at 3\ndepth cpu 2 at 1\nend 4 of 4\n",
     )?;
     assert_eq!(rt; got.status, 0);
     assert_eq!(rt; got.out.as_slice(), text.as_slice());
