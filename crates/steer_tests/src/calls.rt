@@ -59,6 +59,31 @@ pub fn called_with(
     let mut err = sink(alloc, &[])?;
     let words = words(alloc, texts)?;
     let status = steer_still(alloc, &words, &mut desk, &mut out, &mut err, taps);
+    outcome_of(alloc, status, &out, &err)
+}
+
+/// What a call over this desk comes to, without taps, where the writes of these numbers fail.
+pub fn called_failing(
+    alloc: Global,
+    texts: &[&str],
+    mut desk: MemoryDesk,
+    out_failing: &[u64],
+    err_failing: &[u64],
+) -> Result<Outcome, Fail> {
+    let mut out = sink(alloc, out_failing)?;
+    let mut err = sink(alloc, err_failing)?;
+    let words = words(alloc, texts)?;
+    let taps = Vec::new(alloc);
+    let status = steer_still(alloc, &words, &mut desk, &mut out, &mut err, taps);
+    outcome_of(alloc, status, &out, &err)
+}
+
+fn outcome_of(
+    alloc: Global,
+    status: u8,
+    out: &MemorySink,
+    err: &MemorySink,
+) -> Result<Outcome, Fail> {
     Ok(Outcome {
         status,
         out: out.bytes().to_vec(alloc)?,

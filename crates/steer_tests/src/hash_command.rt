@@ -2,10 +2,10 @@
 ghost use Rattle.std.specs.Prelude.{◌≡◌, Option, None};
 ghost use Rattle.outside_io.specs.Counts.{last_count};
 
-use crate::calls::{called, desk_of, sink, words};
+use crate::calls::{called, called_failing, desk_of, sink, words};
 use crate::files::{
     ARP, FRAGMENT, FRAME_A, FRAME_B, HEADER, OTHER_LINK, SYN, TAGGED_V6, VERSION_2_5, ZEROS,
-    big_file, file, tcpdump_file,
+    big_file, file, front, tcpdump_file,
 };
 use crate::slow::{Dripping, Slowly};
 use outside_io::{
@@ -151,52 +151,23 @@ fn words_that_are_no_command_get_the_usage(rt: HostRuntime) -> Result<(), Fail> 
 #[test]
 fn faults_of_the_desk_and_the_sinks_are_told(rt: HostRuntime) -> Result<(), Fail> {
     let alloc = rt.alloc();
+    let texts: &[&str] = &["hash", "a.pcap"];
     let bytes = file(alloc, &[&FRAME_A])?;
-    let words = words(alloc, &["hash", "a.pcap"])?;
 
-    let mut desk = desk_with(alloc, &bytes, &[2])?;
-    let mut out = sink(alloc, &[])?;
-    let mut err = sink(alloc, &[])?;
-    let status = steer_still(
-        alloc,
-        &words,
-        &mut desk,
-        &mut out,
-        &mut err,
-        Vec::new(alloc),
-    );
-    assert_eq!(rt; status, 5);
-    assert!(rt; out.bytes().is_empty());
-    assert_eq!(rt; err.bytes(), b"read fault\n".as_slice());
+    let got = called(alloc, texts, desk_with(alloc, &bytes, &[2])?)?;
+    assert_eq!(rt; got.status, 5);
+    assert!(rt; got.out.is_empty());
+    assert_eq!(rt; got.err.as_slice(), b"read fault\n".as_slice());
 
-    let mut desk = desk_with(alloc, &bytes, &[])?;
-    let mut out = sink(alloc, &[2])?;
-    let mut err = sink(alloc, &[])?;
-    let status = steer_still(
-        alloc,
-        &words,
-        &mut desk,
-        &mut out,
-        &mut err,
-        Vec::new(alloc),
-    );
-    assert_eq!(rt; status, 6);
-    assert_eq!(rt; out.bytes(), &LINE_A[..74]);
-    assert_eq!(rt; err.bytes(), b"write fault\n".as_slice());
+    let got = called_failing(alloc, texts, desk_with(alloc, &bytes, &[])?, &[2], &[])?;
+    assert_eq!(rt; got.status, 6);
+    assert_eq!(rt; got.out.as_slice(), front(LINE_A, 74));
+    assert_eq!(rt; got.err.as_slice(), b"write fault\n".as_slice());
 
-    let mut desk = desk_with(alloc, &HEADER[..23], &[])?;
-    let mut out = sink(alloc, &[])?;
-    let mut err = sink(alloc, &[1])?;
-    let status = steer_still(
-        alloc,
-        &words,
-        &mut desk,
-        &mut out,
-        &mut err,
-        Vec::new(alloc),
-    );
-    assert_eq!(rt; status, 4);
-    assert!(rt; err.bytes().is_empty());
+    let short = desk_with(alloc, front(&HEADER, 23), &[])?;
+    let got = called_failing(alloc, texts, short, &[], &[1])?;
+    assert_eq!(rt; got.status, 4);
+    assert!(rt; got.err.is_empty());
     Ok(())
 }
 

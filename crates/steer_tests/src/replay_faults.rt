@@ -1,8 +1,9 @@
 //! The command `replay` where a plan is refused, the desk or a sink fails, or both are slow.
-use crate::calls::{called, desk_of, sink, words};
+use crate::calls::{Outcome, called, called_failing, desk_of, sink, words};
 use crate::files::{FRAME_A, HEADER, file, front};
 use crate::plans::{FOUR_LINES, FOUR_STEPS, ONE_FLOW, SWEPT, four_packets, plan_of};
 use crate::slow::{Dripping, Slowly};
+use std::alloc::Global;
 use std::test::Fail;
 use steer_top::steer_still;
 
@@ -80,30 +81,35 @@ fn each_file_has_its_status(rt: HostRuntime) -> Result<(), Fail> {
 #[test]
 fn a_write_that_fails_leaves_the_lines_before_it(rt: HostRuntime) -> Result<(), Fail> {
     let alloc = rt.alloc();
-    let (plan, capture) = four_packets(alloc)?;
-    let words = words(alloc, &["replay", "p.json", "a.pcap"])?;
     let mut text = FOUR_LINES.to_vec(alloc)?;
     text.extend_from_slice(b"end 4 of 4\n")?;
     let mut before = 0;
     for failing in 1..14u64 {
-        let mut desk = desk_of(alloc, &[("p.json", &plan), ("a.pcap", &capture)], &[])?;
-        let mut out = sink(alloc, &[failing])?;
-        let mut err = sink(alloc, &[])?;
-        let status = steer_still(
-            alloc,
-            &words,
-            &mut desk,
-            &mut out,
-            &mut err,
-            Vec::new(alloc),
+        let got = four_failing(alloc, failing)?;
+        assert_eq!(rt; got.status, 6, "write {failing}");
+        assert_eq!(rt; got.out.as_slice(), front(&text, before), "write {failing}");
+        assert_eq!(rt;
+            got.err.as_slice(),
+            b"write fault\n".as_slice(),
+            "write {failing}"
         );
-        assert_eq!(rt; status, 6, "write {failing}");
-        assert_eq!(rt; out.bytes(), front(&text, before), "write {failing}");
-        assert_eq!(rt; err.bytes(), b"write fault\n".as_slice(), "write {failing}");
         before = next_line(&text, before);
     }
     assert_eq!(rt; before, text.len());
     Ok(())
+}
+
+// What the replay of four packets of one flow comes to, where a write fails.
+fn four_failing(alloc: Global, failing: u64) -> Result<Outcome, Fail> {
+    let (plan, capture) = four_packets(alloc)?;
+    let desk = desk_of(alloc, &[("p.json", &plan), ("a.pcap", &capture)], &[])?;
+    called_failing(
+        alloc,
+        &["replay", "p.json", "a.pcap"],
+        desk,
+        &[failing],
+        &[],
+    )
 }
 
 // Where the line after this place ends.
@@ -124,24 +130,14 @@ fn a_swept_packet_stops_at_the_third_write(rt: HostRuntime) -> Result<(), Fail> 
     let alloc = rt.alloc();
     let plan = plan_of(alloc, SWEPT, b"\"sweep\"")?;
     let capture = file(alloc, &[&FRAME_A])?;
-    let words = words(alloc, &["replay", "p.json", "a.pcap"])?;
-    let mut desk = desk_of(alloc, &[("p.json", &plan), ("a.pcap", &capture)], &[])?;
-    let mut out = sink(alloc, &[3])?;
-    let mut err = sink(alloc, &[])?;
-    let status = steer_still(
-        alloc,
-        &words,
-        &mut desk,
-        &mut out,
-        &mut err,
-        Vec::new(alloc),
-    );
-    assert_eq!(rt; status, 6);
+    let desk = desk_of(alloc, &[("p.json", &plan), ("a.pcap", &capture)], &[])?;
+    let got = called_failing(alloc, &["replay", "p.json", "a.pcap"], desk, &[3], &[])?;
+    assert_eq!(rt; got.status, 6);
     assert_eq!(rt;
-        out.bytes(),
+        got.out.as_slice(),
         b"steer 1\np 0 q 0 via reta class - want - head - tail - cpu 1 why plain at 1 app 0 in 1 place inbox\n".as_slice()
     );
-    assert_eq!(rt; err.bytes(), b"write fault\n".as_slice());
+    assert_eq!(rt; got.err.as_slice(), b"write fault\n".as_slice());
     Ok(())
 }
 
