@@ -114,15 +114,11 @@ fn four_failing(alloc: Global, failing: u64) -> Result<Outcome, Fail> {
 
 // Where the line after this place ends.
 fn next_line(text: &[u8], from: usize) -> usize {
-    let mut at = from.min(text.len());
-    while at < text.len() {
-        let end = text[at] == b'\n';
-        at += 1;
-        if end {
-            return at;
-        }
+    let rest = text.get(from..).unwrap_or(&[]);
+    match rest.iter().position(|byte| *byte == b'\n') {
+        Some(at) => from.saturating_add(at).saturating_add(1),
+        None => text.len(),
     }
-    at
 }
 
 #[test]
