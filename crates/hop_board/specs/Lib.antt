@@ -1,0 +1,5 @@
+pub mod Closed
+pub mod Makings
+pub mod Plays
+pub mod Steps
+pub mod Tables
