@@ -1,5 +1,7 @@
 pub mod Closed
 pub mod Makings
+pub mod Named
 pub mod Plays
+pub mod Releases
 pub mod Steps
 pub mod Tables

@@ -17,17 +17,12 @@ use Rattle.hop_rule.specs.Boards.{empty, slot_state}
 use Rattle.hop_seam.specs.HeldLanes.{FitsLane}
 use Rattle.hop_seam.specs.declared.held_lane.LaneId.{LaneId}
 use Rattle.hop_seam.specs.declared.held_lane.LaneId.TheVariants as id
+use Rattle.hop_board.specs.declared.places.Word.{Word}
+use Rattle.hop_board.specs.declared.places.Word.TheVariants as kind
 
 -- a slot has a lane, or nothing while a seat holds its lane
 abbrev pub InSlot : Type 0
 InSlot = prelude.Option Slot
-
--- the words of a board
-pub data Word : Type 0 where
-  at_lane : LaneId → Word
-  at_head : ℕ → Word
-  at_gate : Word
-  at_setting : ℕ → Word
 
 module _ (about : BoardSizes) where
   -- ---- where the words and the slots are: the lanes, the out lanes, the heads, the gate, the
@@ -41,20 +36,20 @@ module _ (about : BoardSizes) where
   slots = about.lanes + about.outs
 
   abbrev pub place : Word → ℕ
-  place (at_lane x) = slot_of x
-  place (at_head l) = about.lanes + about.outs + l
-  place at_gate = about.lanes + about.outs + about.lanes
-  place (at_setting i) = about.lanes + about.outs + about.lanes + 1 + i
+  place (kind.Lane x) = slot_of x
+  place (kind.Head l) = about.lanes + about.outs + l
+  place kind.Gate = about.lanes + about.outs + about.lanes
+  place (kind.Setting i) = about.lanes + about.outs + about.lanes + 1 + i
 
   abbrev pub width : ℕ
   width = about.lanes + about.outs + about.lanes + 1 + length about.settings
 
   -- it is a word of this board
   abbrev pub IsWord : Word → Type 0
-  IsWord (at_lane x) = FitsLane about x
-  IsWord (at_head l) = l < about.lanes
-  IsWord at_gate = Unit {0}
-  IsWord (at_setting i) = i < length about.settings
+  IsWord (kind.Lane x) = FitsLane about x
+  IsWord (kind.Head l) = l < about.lanes
+  IsWord kind.Gate = Unit {0}
+  IsWord (kind.Setting i) = i < length about.settings
 
   -- ---- what an order leaves
 
@@ -71,10 +66,10 @@ module _ (about : BoardSizes) where
   lane_value ls (id.Out o) = lanes.out_word about o ls
 
   abbrev pub value_by : List (StepBy LaneStep) → List (StepBy GateStep) → Word → ℕ
-  value_by ls gs (at_lane x) = lane_value ls x
-  value_by ls gs (at_head l) = lanes.head_word about l ls
-  value_by ls gs at_gate = gates.gate_word gs
-  value_by ls gs (at_setting i) = gates.settings about gs i
+  value_by ls gs (kind.Lane x) = lane_value ls x
+  value_by ls gs (kind.Head l) = lanes.head_word about l ls
+  value_by ls gs kind.Gate = gates.gate_word gs
+  value_by ls gs (kind.Setting i) = gates.settings about gs i
 
   -- the word after these steps
   abbrev pub value : List (StepBy BoardStep) → Word → ℕ

@@ -1,0 +1,15 @@
+//! A board: lanes, heads, a gate and settings that threads share by atomic words, without a lock.
+#![tactic(auto)]
+
+mod board;
+mod holds;
+mod places;
+mod plays;
+mod release;
+mod rule;
+mod slots;
+mod spare;
+mod steps;
+mod visits;
+
+pub use board::Board;
