@@ -33,7 +33,7 @@ use Rattle.hop_seam.specs.declared.held_lane.LaneId.{LaneId}
 use Rattle.hop_seam.specs.declared.held_lane.LaneId.TheVariants as id
 use Rattle.hop_board.specs.declared.places.Word.{Word}
 use Rattle.hop_board.specs.declared.places.Word.TheVariants as kind
-use Rattle.hop_board.specs.Makings.{entering, closing, loaded, MayLoad}
+use Rattle.hop_board.specs.Makings.{closing, entering, loaded, IsBusy, MayLoad}
 use Rattle.hop_board.specs.Steps.{IsStepAt, MayAct}
 use Rattle.hop_board.specs.Tables.{IsWord, value, value_by}
 use Rattle.hop_board.specs.Tables.{home_after}
@@ -232,14 +232,10 @@ module _ (about : BoardSizes) where
 
   -- ---- the closer
 
-  -- what a close tells of the word, where it was not that of an empty gate
-  abbrev pub ToldBusy : ℕ → ℕ → Type 0
-  ToldBusy free n = n ≢ free → (0 < low_half n) × (low_half n + 1 ≤ about.seats)
-
   pub shuts : (seat : SeatView BoardStep) (free : ℕ) → IsCloser about seat.number
       → IsOutside seat.steps → HasOpen seat.steps → gates.openings (gate_steps seat.steps) < 1000000000
       → free ≡ gates.openings (gate_steps seat.steps) * 2 ^ 32
-      → MayAct about seat kind.Gate (λ n. either (n == free) (free + 2 ^ 31) n) (closing free) (ToldBusy free)
+      → MayAct about seat kind.Gate (λ n. either (n == free) (free + 2 ^ 31) n) (closing free) (IsBusy about free)
   shuts seat free is_closer out open_ rarely free_is fit order few_ own lawful =
       let p : ℕ = seat.number in
       let s = seen order p seat.steps own in
@@ -259,7 +255,7 @@ module _ (about : BoardSizes) where
       let none_in = finds.0 (same ∙ free_is) in
       let by_word : (n == free) ≡ true = eq-eqb n free same in
       subst (λ (b : Bool). IsStepAt about order p kind.Gate (either b (free + 2 ^ 31) n)
-      (if b then Gate (Shut n) else Gate (NotShut n)) × ToldBusy free n) (sym by_word) (
+      (if b then Gate (Shut n) else Gate (NotShut n)) × IsBusy about free n) (sym by_word) (
         record {
           may = (
             is_closer,
@@ -279,7 +275,7 @@ module _ (about : BoardSizes) where
       let busy = finds.1 (λ e. other (e ∙ sym free_is)) in
       let by_word : (n == free) ≡ false = ne_eqb n free other in
       subst (λ (b : Bool). IsStepAt about order p kind.Gate (either b (free + 2 ^ 31) n)
-      (if b then Gate (Shut n) else Gate (NotShut n)) × ToldBusy free n) (sym by_word) (
+      (if b then Gate (Shut n) else Gate (NotShut n)) × IsBusy about free n) (sym by_word) (
         record {
           may = (is_closer, refl, busy.0, ap gates.closed s ∙ open_);
           here = refl;

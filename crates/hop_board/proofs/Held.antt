@@ -140,13 +140,13 @@ module _ (about : BoardSizes) where
       )) refl
 
   pub may_deliver : (seat : SeatView BoardStep) (o from packet place : ℕ) (y : OutList)
-      → IsOut about seat.steps o y → from < about.lanes → length y.items < y.room → y.room ≤ 262144
+      → IsOut about seat.steps o y → from < about.lanes → length y.items < y.room
       → puller about from ≡ seat.number
       → lanes.phase from (lane_steps seat.steps) ≡ lanes.has_pulled packet
       → place ≡ length y.items + 1
       → MayGive about seat (id.Out o) true (slot.Out (out_list (y.items ++ packet ∷ []) y.room))
       (step_in (Given o from packet place)) (Unit {0})
-  may_deliver seat o from packet place y h inside some_room small_room mine pulled_ place_is =
+  may_deliver seat o from packet place y h inside some_room mine pulled_ place_is =
       subst (λ (k : ℕ). MayGive about seat (id.Out o) true (slot.Out (out_list (y.items ++ packet ∷ []) y.room))
       (step_in (Given o from packet k)) (Unit {0})) (sym place_is)
-      (gives_packet about seat o from packet y h.within inside h.holds some_room small_room mine pulled_)
+      (gives_packet about seat o from packet y h.within inside h.holds some_room mine pulled_)

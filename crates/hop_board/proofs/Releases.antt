@@ -181,7 +181,7 @@ module _ (about : BoardSizes) where
       → lanes.out_holding o (lane_steps seat.steps) ≡ Some y
       → ((xs : List ℕ) → xs ≡ y.items → LeavesOut d o xs after)
       → length after ≡ risen rises (length y.items)
-      → (rises ≡ true → length y.items ≤ 262144)
+      → (FitSizes about → about.room ≡ y.room → rises ≡ true → length y.items ≤ 262144)
       → ((order : Order) → IsLawful about order → steps_of seat.number (lanes_of order) ≡ lane_steps seat.steps
       → own_state about (slot_of about (id.Out o)) (steps_of seat.number order) ≡ taken
       → out_list (lanes.out o (lanes_of order)) about.room ≡ y
@@ -208,7 +208,7 @@ module _ (about : BoardSizes) where
       let asked = may order lawful s state found.1 in (
         record {
           may = asked.0;
-          here = released rises n t m n_is wide (λ up. let few_ = few_items up in omega arith) m_is
+          here = released rises n t m n_is wide (λ up. let few_ = few_items fit room_is up in omega arith) m_is
               ∙ sym (λ i. 2 * (about.start + length (leaves.out i))
               + lanes.bit ((leaves.holder p (lanes.out_holder o ls) o ∙ if_same o o 0 (lanes.out_holder o ls) refl) i));
           others = out_else d o p order (lanes.out o ls) after leaves;
@@ -238,7 +238,7 @@ module _ (about : BoardSizes) where
         held = λ p l h. refl;
         head = λ l k. refl;
         state = λ k s. refl;
-      }) refl (λ up. absurd (let z : false ≡ true = up in cc))
+      }) refl (λ fit same up. absurd (let z : false ≡ true = up in cc))
       (λ order lawful s state is. (
         ((inside, (y, ap (lanes.out_holding o) s ∙ held)), tt, state),
         tells order lawful is,
@@ -247,11 +247,11 @@ module _ (about : BoardSizes) where
   -- the out lane is given back with a packet more
   pub gives_packet : (seat : SeatView BoardStep) (o from packet : ℕ) (y : OutList) → o < about.outs
       → from < about.lanes → lanes.out_holding o (lane_steps seat.steps) ≡ Some y
-      → length y.items < about.room → about.room ≤ 262144 → puller about from ≡ seat.number
+      → length y.items < y.room → puller about from ≡ seat.number
       → lanes.phase from (lane_steps seat.steps) ≡ lanes.has_pulled packet
       → MayGive about seat (id.Out o) true (slot.Out (out_list (y.items ++ packet ∷ []) y.room))
       (Lane (Given o from packet (length y.items + 1))) (Unit {0})
-  gives_packet seat o from packet y inside from_inside held some_room small_room mine pulled_ =
+  gives_packet seat o from packet y inside from_inside held some_room mine pulled_ =
       let longer = length-append y.items (packet ∷ []) in
       gives_out_by seat o y (Given o from packet (length y.items + 1)) (y.items ++ packet ∷ []) true (Unit {0})
       inside held
@@ -263,8 +263,8 @@ module _ (about : BoardSizes) where
         held = λ p l h. refl;
         head = λ l k. refl;
         state = λ k s. refl;
-      }) (omega arith) (λ up. omega arith)
-      (λ order lawful s state is. (
+      }) (omega arith) (λ fit same up. let r = fit.room in omega arith)
+      (λ order lawful s state is. let room_is : about.room ≡ y.room = ap (λ (x : OutList). x.room) is in (
         (
           (
             inside,
@@ -272,7 +272,7 @@ module _ (about : BoardSizes) where
             (
               y,
               ap (lanes.out_holding o) s ∙ held,
-              some_room,
+              omega arith,
               refl,
               mine,
               ap (lanes.phase from) s ∙ pulled_,

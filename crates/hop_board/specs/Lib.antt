@@ -1,4 +1,5 @@
 pub mod Closed
+pub mod Emptying
 pub mod Makings
 pub mod Named
 pub mod Plays

@@ -1,13 +1,14 @@
 -- The steps that calls make by the word that they find.
-use Rattle.std.specs.Prelude.{◌≡◌, ℕ, ◌==◌, true, false, List, ◌∷◌, if◌then◌else◌}
+use Rattle.std.specs.Prelude.{◌≡◌, ◌≢◌, ℕ, ◌+◌, ◌<◌, ◌≤◌, ◌==◌, true, false, List, ◌∷◌, if◌then◌else◌}
 use Rattle.hop_rule.specs.declared.sizes.BoardSizes.{BoardSizes}
 use Rattle.hop_rule.specs.declared.step.BoardStep.{BoardStep}
-use Rattle.hop_rule.specs.declared.step.BoardStep.TheVariants.{Gate, Counted, Weighed, LaneOut}
-use Rattle.hop_rule.specs.declared.step.GateStep.TheVariants.{Entered, Turned, Left, Read, Shut, NotShut}
+use Rattle.hop_rule.specs.declared.step.BoardStep.TheVariants.{Gate, Lane, Counted, Weighed, LaneOut}
+use Rattle.hop_rule.specs.declared.step.GateStep.TheVariants.{Entered, Turned, Left, Read, Set, Shut, NotShut}
+use Rattle.hop_rule.specs.declared.step.LaneStep.TheVariants.{Retired}
 use Rattle.hop_rule.specs.declared.step.Slot.{Slot}
 use Rattle.seat_order.specs.Seats.{SeatView}
 use Rattle.hop_seam.specs.Rights.{MayRead}
-use Rattle.hop_seam.specs.StepWords.{is_odd, is_marked}
+use Rattle.hop_seam.specs.StepWords.{is_odd, is_marked, low_half}
 use Rattle.hop_seam.specs.Tells.{MissedAt}
 use Rattle.hop_seam.specs.declared.held_lane.LaneId.{LaneId}
 use Rattle.hop_seam.specs.declared.held_lane.LaneId.TheVariants as id
@@ -23,6 +24,21 @@ entering word = if is_marked word then Gate (Turned word) else Gate (Entered wor
 -- the gate is closed where its word was this one
 abbrev pub closing : ℕ → ℕ → BoardStep
 closing empty word = if word == empty then Gate (Shut word) else Gate (NotShut word)
+
+-- what is so of a word that was not that of an empty gate: at most each other seat is on a visit
+abbrev pub IsBusy : BoardSizes → ℕ → ℕ → Type 0
+IsBusy about empty word =
+    word ≢ empty → (0 < low_half word) × (low_half word + 1 ≤ about.seats)
+
+-- a head is raised
+abbrev pub raised : Word → ℕ → BoardStep
+raised (kind.Head l) word = Lane (Retired l word)
+raised _ word = Gate Left
+
+-- a setting is made
+abbrev pub changed : Word → ℕ → BoardStep
+changed (kind.Setting i) value = Gate (Set i value)
+changed _ value = Gate Left
 
 -- the step of a load
 abbrev pub loaded : Word → ℕ → BoardStep

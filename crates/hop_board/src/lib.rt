@@ -2,7 +2,9 @@
 #![tactic(auto)]
 
 mod board;
+mod closer;
 mod holds;
+mod packets;
 mod places;
 mod plays;
 mod release;

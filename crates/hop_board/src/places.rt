@@ -1,5 +1,6 @@
 //! Where the words and slots of a board stand in its table.
 ghost use Rattle.std.specs.Prelude.{◌≡◌};
+ghost use Rattle.hop_rule.specs.Sizes.{FitSizes};
 ghost use Rattle.hop_board.specs.Tables.{place, slot_of};
 
 use crate::board::Board;
@@ -17,6 +18,14 @@ pub enum Word {
 }
 
 impl Board {
+    // What holds of the sizes of each board.
+    pub(crate) fn fits(&self)
+        ensures { FitSizes self.now.sizes }
+    {
+        // A read of the board, so that what holds of it is known here.
+        let _ = &self.sizes;
+    }
+
     // The number of a word in the table: first those of the middle lanes and of the out lanes, then
     // the heads, the gate and the settings.
     pub(crate) fn place(&self, word: Word) -> usize
