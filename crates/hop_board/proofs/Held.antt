@@ -1,13 +1,14 @@
 -- Lanes that seats take and give back, as the calls tell it.
-use Rattle.std.proofs.Common.{◌≡◌, ℕ, ◌+◌, ◌-◌, ◌<◌, ◌≤◌, List, [], ◌∷◌, ◌++◌, Bool, true, false, Option}
+use Rattle.std.proofs.Common.{◌≡◌, ℕ, zero, suc, if◌then◌else◌, ◌+◌, ◌-◌, ◌<◌, ◌≤◌, List, [], ◌∷◌, ◌++◌, Bool, true, false, Option}
 use Rattle.std.proofs.Common.{Some, None, length, sym, refl, ap, ◌∙◌, subst, arith, length-append}
 use Rattle.std.specs.Prelude.{slice_get}
+use Rattle.std.proofs.lemmas.Bool.{le-ltb, lt-ltb}
 use Rattle.steer_base.specs.Lanes.{LaneLists}
 use Rattle.steer_base.specs.Drops.{bucket_of, lane_drop_cause}
 use Rattle.steer_base.specs.declared.put.DropCause.{DropCause}
 use Rattle.steer_base.specs.declared.put.Put.{Put}
 use Rattle.steer_base.specs.declared.put.Put.TheVariants.{At, Dropped}
-use Rattle.backlog.specs.Puts.{after_put, answer_by, next_waiting, put_answer, put_by, put_count}
+use Rattle.backlog.specs.Puts.{after_put, after_take, answer_by, next_waiting, put_answer, put_by, put_count}
 use Rattle.seat_order.specs.Orders.{StepBy}
 use Rattle.seat_order.specs.Seats.{SeatView}
 use Rattle.hop_rule.specs.declared.sizes.BoardSizes.{BoardSizes}
@@ -22,6 +23,7 @@ use Rattle.hop_rule.specs.Gates as gates
 use Rattle.hop_rule.specs.Lanes as lanes
 use Rattle.hop_rule.specs.OutLanes.{OutList, out_list}
 use Rattle.hop_rule.specs.Sizes.{FitSizes, puller}
+use Rattle.hop_rule.proofs.Lists.{get-inside, none-some}
 use Rattle.hop_rule.proofs.Owns.{lane_room}
 use Rattle.hop_seam.specs.HeldLanes.{FitsLane, IsMiddle, IsOut, Holds}
 use Rattle.hop_seam.specs.Seats.{BoardSeatView}
@@ -40,6 +42,26 @@ use Rattle.hop_board.specs.Tables.{slot_of}
 use Rattle.hop_board.specs.declared.release.Release.TheVariants.{Unchanged, Offered, Pulled, Given}
 use Rattle.hop_board.proofs.Releases.{gives_middle, gives_out, gives_packet, risen}
 use Rattle.hop_board.proofs.Told.{accepted_below, out_below}
+
+-- ---- what waits in a lane
+
+past_end : (xs : List ℕ) (k : ℕ) → slice_get xs k ≡ None → length xs ≤ k
+past_end [] k e = omega arith
+past_end (x ∷ xs) zero e = absurd (none-some x (sym e))
+past_end (x ∷ xs) (suc k) e = let t = past_end xs k e in omega arith
+
+-- a take pulls the packet that waits
+pub taken_is : (y : LaneLists) (packet : ℕ) → next_waiting y ≡ Some packet
+    → after_take y ≡ record y { pulled = y.pulled + 1 }
+taken_is y packet e =
+    ap (λ b. if b then record y { pulled = y.pulled + 1 } else y)
+    (lt-ltb y.pulled (length y.accepted) (get-inside y.accepted y.pulled packet e).0)
+
+-- and leaves a lane as it is where none waits
+pub none_taken : (y : LaneLists) → next_waiting y ≡ None → after_take y ≡ y
+none_taken y e =
+    ap (λ b. if b then record y { pulled = y.pulled + 1 } else y)
+    (le-ltb y.pulled (length y.accepted) (past_end y.accepted y.pulled e))
 
 module _ (about : BoardSizes) where
   -- ---- holds

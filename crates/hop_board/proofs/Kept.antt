@@ -1,9 +1,10 @@
 -- What a seat keeps besides its steps, after more of them.
-use Rattle.std.proofs.Common.{◌≡◌, ◌≢◌, ℕ, ◌+◌, ◌<◌, List, ◌∷◌, Result, Ok, Err, MatchResult, set}
+use Rattle.std.proofs.Common.{◌≡◌, ◌≢◌, ℕ, ◌+◌, ◌<◌, Bool, List, [], ◌∷◌, ◌++◌, Result, Ok, Err, MatchResult, set}
 use Rattle.std.proofs.Common.{slice_index, length, sym, refl, ap, ◌∙◌, subst, arith, get_or-set_same}
 use Rattle.std.proofs.Common.{get_or-set_other}
 use mathlib.Core.Logic.{dite}
 use native.Mathlib.Decide.{ℕ_discrete}
+use Rattle.steer_base.specs.declared.cpu_mask.CpuMask.{CpuMask}
 use Rattle.seat_order.specs.Seats.{SeatView}
 use Rattle.seat_order.proofs.Lists.{if_same, if_other}
 use Rattle.hop_rule.specs.declared.sizes.BoardSizes.{BoardSizes}
@@ -16,10 +17,14 @@ use Rattle.hop_rule.specs.declared.step.Slot.{Slot}
 use Rattle.hop_rule.specs.declared.step.Slot.TheVariants as slot
 use Rattle.hop_rule.specs.Boards.{lane_steps}
 use Rattle.hop_rule.specs.Lanes.{Phase, gave, has_pulled, idle, phase}
-use Rattle.hop_seam.specs.Seats.{KeepsSteps}
-use Rattle.hop_seam.specs.Tells.{MissedAt}
+use Rattle.hop_seam.specs.Seats.{BoardSeatView, KeepsSteps}
+use Rattle.hop_seam.specs.Tells.{EmptiedTells, Looked, MissedAt, looking}
+use Rattle.hop_seam.specs.declared.answers.Emptied.{Emptied}
+use Rattle.hop_seam.specs.declared.answers.Emptied.TheVariants as emptied
 use Rattle.hop_seam.specs.declared.held_lane.LaneId.{LaneId}
 use Rattle.hop_seam.specs.declared.held_lane.LaneId.TheVariants as id
+use Rattle.hop_board.specs.Emptying.{emptied_after}
+use Rattle.hop_board.specs.Named.{board_seat}
 use Rattle.hop_board.specs.Makings.{TookSlot, MissedSlot}
 use Rattle.hop_board.specs.Plays.{HeldAt}
 use Rattle.hop_board.specs.Tables.{slot_of}
@@ -102,3 +107,18 @@ module _ (pulled : List ℕ) (opened : ℕ) where
         ∙ t.in_hand lane packet inside (sym (if_other l lane (has_pulled id) (phase lane (lane_steps ds)) ne) ∙ at));
     opens = t.opens;
   }
+
+  -- lanes were looked at
+  looked_kept : (xs : List Looked) (ds : List BoardStep) → Keeps ds → Keeps (looking xs ds)
+  looked_kept [] ds t = t
+  looked_kept (x ∷ xs) ds t = looked_kept xs (looking (x ∷ []) ds)
+      record { in_hand = λ lane packet inside at. t.in_hand lane packet inside at; opens = t.opens }
+
+  pub emptied_kept : (about : BoardSizes) (mask : CpuMask) (old new : SeatView BoardStep) (e : Bool) (answer : Emptied)
+      → EmptiedTells about mask (board_seat old e) (board_seat new (emptied_after e answer)) answer
+      → Keeps old.steps → Keeps new.steps
+  emptied_kept about mask old new e emptied.Ok t k =
+      subst Keeps (sym (ap (λ (s : BoardSeatView). s.steps) t.step)) (looked_kept t.looked old.steps k)
+  emptied_kept about mask old new e (emptied.NotEmpty lane head tail) t k =
+      subst Keeps (sym (ap (λ (s : BoardSeatView). s.steps) t.step))
+      (looked_kept (t.looked ++ t.last ∷ []) old.steps k)
