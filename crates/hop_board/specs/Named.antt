@@ -1,5 +1,5 @@
 -- Lanes in hands, and seats at a board, by their parts.
-use Rattle.std.specs.Prelude.{ℕ, Bool}
+use Rattle.std.specs.Prelude.{◌≡◌, ℕ, Bool, []}
 use Rattle.seat_order.specs.Seats.{SeatView}
 use Rattle.hop_rule.specs.declared.step.BoardStep.{BoardStep}
 use Rattle.hop_rule.specs.declared.step.Slot.{Slot}
@@ -35,3 +35,7 @@ content_of (held.Out o y) = slot.Out y
 abbrev pub board_seat : SeatView BoardStep → Bool → BoardSeatView
 board_seat s emptied =
     record { table = s.table; number = s.number; steps = s.steps; has_emptied = emptied }
+
+-- a seat that has made no step
+abbrev pub HasNoSteps : SeatView BoardStep → Type 0
+HasNoSteps s = s.steps ≡ []

@@ -4,6 +4,7 @@
 mod board;
 mod closer;
 mod holds;
+mod making;
 mod packets;
 mod places;
 mod plays;
