@@ -1,5 +1,6 @@
 pub mod Closed
 pub mod Emptying
+pub mod Left
 pub mod Made
 pub mod Makings
 pub mod Named

@@ -3,7 +3,9 @@
 
 mod board;
 mod closer;
+mod closing;
 mod holds;
+mod left;
 mod making;
 mod packets;
 mod places;

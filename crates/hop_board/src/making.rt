@@ -1,9 +1,8 @@
 //! How a board is made.
-ghost use Rattle.std.specs.Prelude.{◌≡◌, ◌≤◌, All, IfOk, map};
+ghost use Rattle.std.specs.Prelude.{◌≡◌, ◌<◌, ◌≤◌, ◌^◌, false, All, IfOk, map};
 ghost use Rattle.std.specs.Vec.{vec_len};
 ghost use Rattle.hop_board.specs.Made.{new_board_seats, new_middles, new_slots, new_words, sizes_of};
 ghost use Rattle.hop_board.specs.Named.{HasNoSteps, board_seat};
-ghost use Rattle.std.specs.Prelude.{false};
 
 use crate::board::{Board, WordSeat};
 use crate::spare::Spare;
@@ -63,8 +62,10 @@ fn copy_sizes(
     settings: &[u64],
     seats: u32,
 ) -> Result<BoardSizes, OutOfMemory>
-    ensures { IfOk result (λ sizes. sizes ≡ sizes_of shape.now settings.now seats) }
+    ensures sizes { IfOk result (λ sizes. sizes ≡ sizes_of shape.now settings.now seats) }
+    ensures start { IfOk result (λ sizes. sizes.start < 2 ^ 32) }
 {
+    let start = shape.start;
     let mut values = Vec::with_capacity(alloc, settings.len())?;
     values.extend_from_slice(settings)?;
     Ok(BoardSizes {
@@ -72,7 +73,7 @@ fn copy_sizes(
         outs: shape.outs as u32,
         limit: shape.limit,
         room: shape.room,
-        start: shape.start,
+        start,
         limited: shape.limited,
         settings: List::from_vec(values),
         seats,
