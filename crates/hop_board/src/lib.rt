@@ -2,6 +2,7 @@
 #![tactic(auto)]
 
 mod board;
+mod calls;
 mod closer;
 mod closing;
 mod holds;
