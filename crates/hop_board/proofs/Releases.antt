@@ -105,8 +105,7 @@ module _ (about : BoardSizes) where
       let m : ℕ = about.start + length (lanes.changed c y).accepted in
       let m_is : m ≡ risen rises t = rise_from rises about.start (length y.accepted) (length (lanes.changed c y).accepted) goes in
       let now : lanes.lane about l (step_by p (Freed l c) ∷ ls) ≡ lanes.changed c y =
-      if_same l l (lanes.changed c (lanes.lane about l ls)) (lanes.lane about l ls) refl ∙ ap (lanes.changed c) found.1 in
-      (
+      if_same l l (lanes.changed c (lanes.lane about l ls)) (lanes.lane about l ls) refl ∙ ap (lanes.changed c) found.1 in (
         record {
           may = (
             (

@@ -13,7 +13,13 @@ pub(crate) type WordSeat = OrderedSeat<Option<Slot>, BoardStep>;
 /// Lanes in their slots, with a word for each lane, for each head, for the gate and for each setting.
 #[derive(Drop)]
 pub struct Board {
-    pub(crate) table: Table<Option<Slot>, Hands<BoardStep>, BoardSizes, OneOrder<BoardRule>, Global>,
+    pub(crate) table: Table<
+        Option<Slot>,
+        Hands<BoardStep>,
+        BoardSizes,
+        OneOrder<BoardRule>,
+        Global,
+    >,
     pub(crate) sizes: BoardSizes,
     pub(crate) spare: Spare,
 }

@@ -65,7 +65,7 @@ fn copy_sizes(
     ensures sizes { IfOk result (λ sizes. sizes ≡ sizes_of shape.now settings.now seats) }
     ensures start { IfOk result (λ sizes. sizes.start < 2 ^ 32) }
 {
-    let start = shape.start;
+    let start = counter_start(shape.start);
     let mut values = Vec::with_capacity(alloc, settings.len())?;
     values.extend_from_slice(settings)?;
     Ok(BoardSizes {
@@ -78,6 +78,14 @@ fn copy_sizes(
         settings: List::from_vec(values),
         seats,
     })
+}
+
+// The number itself, which a counter of 32 bits may start at.
+fn counter_start(start: u32) -> u32
+    ensures same { result ≡ start }
+    ensures small { result < 2 ^ 32 }
+{
+    start
 }
 
 // The words before any step.

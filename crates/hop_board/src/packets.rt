@@ -14,13 +14,7 @@ use steer_base::{PacketId, Put};
 
 impl Board {
     /// Offers a packet with its hash to a middle lane, which is given back.
-    pub fn put(
-        &self,
-        seat: &mut BoardSeat,
-        held: HeldLane,
-        id: PacketId,
-        hash: Option<u32>,
-    ) -> Put
+    pub fn put(&self, seat: &mut BoardSeat, held: HeldLane, id: PacketId, hash: Option<u32>) -> Put
         requires table { seat.old.table ≡ self.now.table }
         requires inside { IsInside seat.old.steps }
         requires held { HoldsMiddle self.now.sizes seat.old.steps held }

@@ -21,6 +21,7 @@ impl Told for Brand {
     ghost use Rattle.hop_rule.specs.declared.step.GateStep.TheVariants.{Left};
 
     ghost makes = { λ n. Gate Left };
+
     ghost says = { λ n. Unit {0} };
 }
 
@@ -90,6 +91,7 @@ impl Given for Brand {
     ghost use Rattle.hop_rule.specs.declared.step.LaneStep.TheVariants.{OutFreed};
 
     ghost step = { Lane (OutFreed 0) };
+
     ghost says = { Unit {0} };
 }
 

@@ -18,7 +18,10 @@ pub enum Release {
         answer: Put,
     },
     /// The next packet that waits was pulled from a middle lane.
-    Pulled { lane: u8, id: PacketId },
+    Pulled {
+        lane: u8,
+        id: PacketId,
+    },
     /// A packet of a middle lane was delivered to an out lane, at this place there.
     Given {
         out: u8,

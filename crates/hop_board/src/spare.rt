@@ -36,11 +36,7 @@ impl Spare {
 }
 
 // So many empty lists with this room.
-fn journals<T: Drop>(
-    alloc: Global,
-    count: u32,
-    room: u32,
-) -> Result<Vec<Journal<T>>, OutOfMemory>
+fn journals<T: Drop>(alloc: Global, count: u32, room: u32) -> Result<Vec<Journal<T>>, OutOfMemory>
     ensures { IfOk result (λ all. all.items ≡ replicate count (journal [] room)) }
 {
     let mut all = Vec::with_capacity(alloc, count as usize)?;

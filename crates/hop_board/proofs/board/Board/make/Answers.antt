@@ -12,12 +12,12 @@ use Rattle.hop_board.proofs.board.Board.make.Goals as goal
 pub new-requires : goal.new-requires
 new-requires c =
     begins c.in_ok-sizes.sizes c.deref.result.now c.in_ok-slots.slots.items
-        (c.deref.ensures.value ∙ c.in_ok-words.ensures) c.in_ok-slots.ensures
+    (c.deref.ensures.value ∙ c.in_ok-words.ensures) c.in_ok-slots.ensures
 
 pub at_board-requires : goal.at_board-requires
 at_board-requires c =
     subst (λ (xs : List (SeatView BoardStep)). All HasNoSteps xs) (sym c.in_ok-given.ensures.given)
-        (new_fresh c.in-Ok.made.0.shared.table_id 0 c.args.seats)
+    (new_fresh c.in-Ok.made.0.shared.table_id 0 c.args.seats)
 
 pub invariant_of-result : goal.invariant_of-result
 invariant_of-result c =
@@ -48,5 +48,5 @@ invariant_of-result c =
 pub returns-clause-table : goal.returns-clause-table
 returns-clause-table c =
     subst (λ (xs : List BoardSeatView). All (λ (s : BoardSeatView). s.table ≡ c.in-Ok.made.0.shared.table_id) xs)
-        (sym c.in_ok-seats.ensures)
-        (tables_at_board c.in-Ok.made.0.shared.table_id c.in_ok-given.given.items c.in_ok-given.ensures.table)
+    (sym c.in_ok-seats.ensures)
+    (tables_at_board c.in-Ok.made.0.shared.table_id c.in_ok-given.given.items c.in_ok-given.ensures.table)
