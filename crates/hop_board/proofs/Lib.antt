@@ -1,0 +1,11 @@
+pub mod Acts
+pub mod Apart
+pub mod Ended
+pub mod Held
+pub mod Keeps
+pub mod Kept
+pub mod Looks
+pub mod Opening
+pub mod Releases
+pub mod Taking
+pub mod Told

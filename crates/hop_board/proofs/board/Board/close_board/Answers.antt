@@ -1,0 +1,37 @@
+use Rattle.std.proofs.Common.{◌≡◌, All, List, map, sym, ap, ◌∙◌, subst}
+use Rattle.std.specs.Slots.{slots_items}
+use Rattle.seat_order.specs.Closings.{Ends}
+use Rattle.seat_order.specs.Seats.{SeatView}
+use Rattle.hop_rule.specs.declared.sizes.BoardSizes.{BoardSizes}
+use Rattle.hop_rule.specs.declared.step.BoardStep.{BoardStep}
+use Rattle.hop_seam.specs.Closings.{HasEnded, IsAtRest}
+use Rattle.hop_seam.specs.Seats.{BoardSeatView}
+use Rattle.hop_seam.specs.Views.{BoardView}
+use Rattle.hop_board.specs.Tables.{HasBoard}
+use Rattle.hop_board.proofs.Ended.{all_lie, ended}
+use Rattle.hop_board.proofs.board.Board.close_board.Goals as goal
+
+pub lists_of-lists-requires-clause-lie : goal.lists_of-lists-requires-clause-lie
+lists_of-lists-requires-clause-lie c =
+    let about = c.self.inside.sizes in
+    let closed = c.finish-closed.result in
+    let words = slots_items closed.words in
+    let items = slots_items closed.slots in
+    let sizes = ap (λ (h : BoardView). h.sizes) c.self.view_is in
+    let rest = subst (λ (b : BoardSizes). All (λ (s : BoardSeatView). IsAtRest b s.steps) c.args.seats.items) (sym sizes) c.requires.rest in
+    let ends = subst (λ (z : BoardSizes × List (SeatView BoardStep)). Ends z.0.seats (HasBoard z.0) z.1 words items)
+    (λ i. (c.self.invariant.told_is i, c.gathered-all.ensures.all i)) c.finish-closed.ensures.ends in
+    all_lie about c.args.seats.items rest words items ends
+
+pub returns : goal.returns
+returns c =
+    let about = c.self.inside.sizes in
+    let closed = c.finish-closed.result in
+    let words = slots_items closed.words in
+    let items = slots_items closed.slots in
+    let sizes = ap (λ (h : BoardView). h.sizes) c.self.view_is in
+    let rest = subst (λ (b : BoardSizes). All (λ (s : BoardSeatView). IsAtRest b s.steps) c.args.seats.items) (sym sizes) c.requires.rest in
+    let ends = subst (λ (z : BoardSizes × List (SeatView BoardStep)). Ends z.0.seats (HasBoard z.0) z.1 words items)
+    (λ i. (c.self.invariant.told_is i, c.gathered-all.ensures.all i)) c.finish-closed.ensures.ends in
+    subst (λ (b : BoardSizes). HasEnded b c.args.seats.items c.lists_of-lists.result) sizes
+    (ended about c.args.seats.items rest words items ends c.self.invariant.fit c.lists_of-lists.result c.lists_of-lists.ensures.lists)

@@ -1,0 +1,5 @@
+use Rattle.hop_board.specs.Makings.{raised}
+use Rattle.hop_board.proofs.board.Board.raise_head.Given as goal
+
+abbrev pub ghosts-add_as : goal.ghosts-add_as
+ghosts-add_as a = record { makes = raised a.word; says = λ n. Unit {0} }

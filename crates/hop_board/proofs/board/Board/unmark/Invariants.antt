@@ -1,0 +1,10 @@
+use Rattle.std.proofs.Common.{◌<◌}
+use Rattle.hop_rule.specs.Boards.{gate_steps}
+use Rattle.hop_rule.specs.Gates.{openings}
+use Rattle.hop_rule.specs.declared.step.BoardStep.TheVariants.{Gate}
+use Rattle.hop_rule.specs.declared.step.GateStep.TheVariants.{Opened}
+use Rattle.hop_board.proofs.board.Board.unmark.Given as goal
+
+abbrev pub ghosts-add_as : goal.ghosts-add_as
+ghosts-add_as a =
+    record { makes = λ n. Gate Opened; says = λ n. openings (gate_steps a.seat.now.steps) < 1000000000 }

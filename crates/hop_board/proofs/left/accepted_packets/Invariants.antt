@@ -1,0 +1,6 @@
+use Rattle.std.proofs.Common.{◌≡◌, take}
+use Rattle.steer_base.specs.Journals.{journal}
+use Rattle.hop_board.proofs.left.accepted_packets.Given as goal
+
+abbrev pub invariant-loop-n : goal.invariant-loop-n
+invariant-loop-n l = l.packets ≡ journal (take l.n l.lane.accepted) l.initial.packets.room

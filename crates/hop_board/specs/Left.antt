@@ -1,0 +1,102 @@
+-- The lists that a closed board's slots leave.
+use Rattle.std.specs.Prelude.{◌≡◌, ℕ, ◌+◌, ◌<◌, ◌≤◌, Bool, true, false, List, [], Some, None, All, length, map}
+use Rattle.std.specs.Prelude.{slice_index_or}
+use Rattle.steer_base.specs.Journals.{Journal, journal}
+use Rattle.std.specs.List.{range_with_len}
+use Rattle.steer_base.specs.Lanes.{LaneLists}
+use Rattle.backlog.specs.Puts.{put_count}
+use Rattle.history.specs.Lists.{no_lane}
+use Rattle.history.specs.declared.lane_list.LaneList.{LaneList}
+use Rattle.hop_rule.specs.Boards.{out_slot}
+use Rattle.hop_rule.specs.declared.sizes.BoardSizes.{BoardSizes}
+use Rattle.hop_rule.specs.declared.step.Slot.TheVariants as slot
+use Rattle.hop_seam.specs.HeldLanes.{FitsLane}
+use Rattle.hop_seam.specs.declared.held_lane.LaneId.{LaneId}
+use Rattle.hop_seam.specs.declared.held_lane.LaneId.TheVariants as id
+use Rattle.hop_seam.specs.declared.lists.BoardLists.{BoardLists}
+use Rattle.hop_board.specs.Tables.{InSlot, slot_of}
+
+-- a middle lane of which nobody has a packet in hand: each that was pulled was delivered and retired
+abbrev pub left_of : LaneLists → LaneList
+left_of y =
+    record {
+      accepted = y.accepted;
+      drops = y.drops;
+      pulled = y.pulled;
+      delivered = y.pulled;
+      retired = y.pulled;
+    }
+
+-- the same of what lies in a slot
+abbrev pub middle_left : InSlot → LaneList
+middle_left (Some (slot.Middle y)) = left_of y
+middle_left (Some (slot.Out y)) = no_lane
+middle_left None = no_lane
+
+abbrev pub out_left : InSlot → List ℕ
+out_left (Some (slot.Middle y)) = []
+out_left (Some (slot.Out y)) = y.items
+out_left None = []
+
+module _ (about : BoardSizes) where
+  -- the lane x lies in its slot, with no more packets than there is room for
+  abbrev pub LiesIn : LaneId → InSlot → Type 0
+  LiesIn (id.Middle l) (Some (slot.Middle y)) = put_count y ≤ about.room
+  LiesIn (id.Middle l) (Some (slot.Out y)) = ⊥
+  LiesIn (id.Middle l) None = ⊥
+  LiesIn (id.Out o) (Some (slot.Middle y)) = ⊥
+  LiesIn (id.Out o) (Some (slot.Out y)) = Unit {0}
+  LiesIn (id.Out o) None = ⊥
+
+  -- each lane lies in its slot
+  abbrev pub AllLie : List InSlot → Type 0
+  AllLie items =
+      (x : LaneId) → FitsLane about x → LiesIn x (slice_index_or items (slot_of about x) None)
+
+  abbrev pub middles_left : ℕ → List InSlot → List LaneList
+  middles_left n items =
+      map (λ l. middle_left (slice_index_or items l None)) (range_with_len 0 n)
+
+  abbrev pub outs_left : ℕ → List InSlot → List (List ℕ)
+  outs_left n items =
+      map (λ o. out_left (slice_index_or items (out_slot about o) None)) (range_with_len 0 n)
+
+  -- the lists of all lanes
+  abbrev pub lists_left : List InSlot → BoardLists
+  lists_left items =
+      record { lanes = middles_left about.lanes items; outs = outs_left about.outs items }
+
+-- what lies in a slot is a middle lane, with no more packets than this room
+abbrev pub IsMiddleOf : ℕ → InSlot → Type 0
+IsMiddleOf room (Some (slot.Middle y)) = put_count y ≤ room
+IsMiddleOf room (Some (slot.Out y)) = ⊥
+IsMiddleOf room None = ⊥
+
+-- what lies in a slot is an out lane
+abbrev pub IsOut : InSlot → Type 0
+IsOut (Some (slot.Middle y)) = ⊥
+IsOut (Some (slot.Out y)) = Unit {0}
+IsOut None = ⊥
+
+-- ---- slots whose values were taken one by one
+
+-- so many empty lists with this room
+pub record AreSpare {X : Type 0} (count room : ℕ) (all : List (Journal X)) : Type 0 where
+  pub count_is : length all ≡ count
+  pub each : All (λ (j : Journal X). j ≡ journal [] room) all
+
+-- of so many slots, those from the n-th on have their values
+abbrev pub AreFullFrom : ℕ → ℕ → List Bool → Type 0
+AreFullFrom n count filled =
+    (k : ℕ) → n ≤ k → k < count → slice_index_or filled k false ≡ true
+
+-- the values of the slots below n were taken, and the others have theirs
+pub record AreTakenTo (n count : ℕ) (filled : List Bool) : Type 0 where
+  pub taken : (k : ℕ) → k < n → slice_index_or filled k false ≡ false
+  pub left : AreFullFrom n count filled
+
+-- the values of the slots from the n-th on were taken, of the m next ones or of all, and those below
+-- are as they were
+pub record AreTakenFrom (n m : ℕ) (old filled : List Bool) : Type 0 where
+  pub taken : (k : ℕ) → n ≤ k → k < n + m → slice_index_or filled k false ≡ false
+  pub below : (k : ℕ) → k < n → slice_index_or filled k false ≡ slice_index_or old k false

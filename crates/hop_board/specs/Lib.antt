@@ -1,0 +1,10 @@
+pub mod Closed
+pub mod Emptying
+pub mod Left
+pub mod Made
+pub mod Makings
+pub mod Named
+pub mod Plays
+pub mod Releases
+pub mod Steps
+pub mod Tables

@@ -1,0 +1,58 @@
+-- A board before any step.
+use Rattle.std.specs.Prelude.{ℕ, ◌+◌, ◌*◌, false, List, [], ◌∷◌, ◌++◌, Some, map, replicate}
+use Rattle.std.specs.List.{range_with_len}
+use Rattle.steer_base.specs.Sets.{has}
+use Rattle.atomic_table.specs.Seated.{TableId}
+use Rattle.backlog.specs.Puts.{new_lane}
+use Rattle.seat_order.specs.Seats.{new_seats}
+use Rattle.hop_core.specs.declared.shape.HopShape.{HopShape}
+use Rattle.hop_rule.specs.OutLanes.{out_list}
+use Rattle.hop_rule.specs.declared.sizes.BoardSizes.{BoardSizes}
+use Rattle.hop_rule.specs.declared.step.Slot.TheVariants as slot
+use Rattle.hop_seam.specs.Seats.{BoardSeatView}
+use Rattle.hop_board.specs.Named.{board_seat}
+use Rattle.hop_board.specs.Tables.{InSlot}
+
+-- the sizes of a board of this shape, with these settings and so many seats
+abbrev pub sizes_of : HopShape → List ℕ → ℕ → BoardSizes
+sizes_of shape settings seats =
+    record {
+      lanes = shape.lanes;
+      outs = shape.outs;
+      limit = shape.limit;
+      room = shape.room;
+      start = shape.start;
+      limited = shape.limited;
+      settings = settings;
+      seats = seats;
+    }
+
+-- all seats of a board, which have made no step
+abbrev pub new_board_seats : TableId → ℕ → List BoardSeatView
+new_board_seats table seats = map (λ s. board_seat s false) (new_seats table 0 seats)
+
+module _ (about : BoardSizes) where
+  -- the words: each lane free and without packets, each head at the start, an open gate with nobody
+  -- inside, and the settings
+  abbrev pub lane_words : List ℕ
+  lane_words = replicate (about.lanes + about.outs) (2 * (about.start + 0))
+
+  abbrev pub head_words : List ℕ
+  head_words = replicate about.lanes about.start
+
+  abbrev pub new_words : List ℕ
+  new_words = ((lane_words ++ head_words) ++ 0 ∷ []) ++ about.settings
+
+  -- the slots: each lane without packets
+  abbrev pub new_middle : ℕ → InSlot
+  new_middle l =
+      Some (slot.Middle (new_lane about.limit about.room about.start (has about.limited l)))
+
+  abbrev pub new_middles : List InSlot
+  new_middles = map new_middle (range_with_len 0 about.lanes)
+
+  abbrev pub new_outs : List InSlot
+  new_outs = replicate about.outs (Some (slot.Out (out_list [] about.room)))
+
+  abbrev pub new_slots : List InSlot
+  new_slots = new_middles ++ new_outs

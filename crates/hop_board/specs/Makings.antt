@@ -1,0 +1,72 @@
+-- The steps that calls make by the word that they find.
+use Rattle.std.specs.Prelude.{◌≡◌, ◌≢◌, ℕ, ◌+◌, ◌<◌, ◌≤◌, ◌==◌, true, false, List, ◌∷◌, if◌then◌else◌}
+use Rattle.hop_rule.specs.declared.sizes.BoardSizes.{BoardSizes}
+use Rattle.hop_rule.specs.declared.step.BoardStep.{BoardStep}
+use Rattle.hop_rule.specs.declared.step.BoardStep.TheVariants.{Gate, Lane, Counted, Weighed, LaneOut}
+use Rattle.hop_rule.specs.declared.step.GateStep.TheVariants.{Entered, Turned, Left, Read, Set, Shut, NotShut}
+use Rattle.hop_rule.specs.declared.step.LaneStep.TheVariants.{Retired}
+use Rattle.hop_rule.specs.declared.step.Slot.{Slot}
+use Rattle.seat_order.specs.Seats.{SeatView}
+use Rattle.hop_seam.specs.Rights.{MayRead}
+use Rattle.hop_seam.specs.StepWords.{is_odd, is_marked, low_half}
+use Rattle.hop_seam.specs.Tells.{MissedAt}
+use Rattle.hop_seam.specs.declared.held_lane.LaneId.{LaneId}
+use Rattle.hop_seam.specs.declared.held_lane.LaneId.TheVariants as id
+use Rattle.hop_board.specs.declared.places.Word.{Word}
+use Rattle.hop_board.specs.declared.places.Word.TheVariants as kind
+use Rattle.hop_board.specs.Plays.{HeldAt}
+use Rattle.hop_board.specs.Tables.{slot_of}
+
+-- a visit begins, or a visitor meets the closed mark
+abbrev pub entering : ℕ → BoardStep
+entering word = if is_marked word then Gate (Turned word) else Gate (Entered word)
+
+-- the gate is closed where its word was this one
+abbrev pub closing : ℕ → ℕ → BoardStep
+closing empty word = if word == empty then Gate (Shut word) else Gate (NotShut word)
+
+-- what is so of a word that was not that of an empty gate: at most each other seat is on a visit
+abbrev pub IsBusy : BoardSizes → ℕ → ℕ → Type 0
+IsBusy about empty word =
+    word ≢ empty → (0 < low_half word) × (low_half word + 1 ≤ about.seats)
+
+-- a head is raised
+abbrev pub raised : Word → ℕ → BoardStep
+raised (kind.Head l) word = Lane (Retired l word)
+raised _ word = Gate Left
+
+-- a setting is made
+abbrev pub changed : Word → ℕ → BoardStep
+changed (kind.Setting i) value = Gate (Set i value)
+changed _ value = Gate Left
+
+-- the step of a load
+abbrev pub loaded : Word → ℕ → BoardStep
+loaded (kind.Lane (id.Middle l)) word = Counted l word
+loaded (kind.Lane (id.Out o)) word = Counted o word
+loaded (kind.Head l) word = Weighed l word
+loaded kind.Gate word = Gate Left
+loaded (kind.Setting i) word = Gate (Read i word)
+
+-- The words that are loaded are those of middle lanes and of heads; and settings, by a seat that may
+-- read them.
+abbrev pub MayLoad : List BoardStep → Word → Type 0
+MayLoad steps (kind.Lane (id.Middle l)) = Unit {0}
+MayLoad steps (kind.Lane (id.Out o)) = ⊥
+MayLoad steps (kind.Head l) = Unit {0}
+MayLoad steps kind.Gate = ⊥
+MayLoad steps (kind.Setting i) = MayRead steps
+
+-- the lane was taken with an even word and moved out of its slot
+pub record TookSlot (about : BoardSizes) (x : LaneId) (old new : SeatView BoardStep) (found : Slot)
+    : Type 0 where
+  pub word : ℕ
+  pub held : BoardStep
+  pub free : is_odd word ≡ false
+  pub is_hold : HeldAt x word found held
+  pub step : new ≡ record old { steps = LaneOut (slot_of about x) ∷ held ∷ old.steps }
+
+-- the word of the lane was odd
+pub record MissedSlot (x : LaneId) (old new : SeatView BoardStep) (word : ℕ) : Type 0 where
+  pub odd : is_odd word ≡ true
+  pub step : new ≡ record old { steps = MissedAt x word ∷ old.steps }

@@ -1,0 +1,41 @@
+-- Lanes in hands, and seats at a board, by their parts.
+use Rattle.std.specs.Prelude.{◌≡◌, ℕ, Bool, []}
+use Rattle.seat_order.specs.Seats.{SeatView}
+use Rattle.hop_rule.specs.declared.step.BoardStep.{BoardStep}
+use Rattle.hop_rule.specs.declared.step.Slot.{Slot}
+use Rattle.hop_rule.specs.declared.step.Slot.TheVariants as slot
+use Rattle.hop_seam.specs.Seats.{BoardSeatView}
+use Rattle.hop_seam.specs.declared.held_lane.HeldLane.{HeldLane}
+use Rattle.hop_seam.specs.declared.held_lane.HeldLane.TheVariants as held
+use Rattle.hop_seam.specs.declared.held_lane.LaneId.{LaneId}
+use Rattle.hop_seam.specs.declared.held_lane.LaneId.TheVariants as id
+
+-- the lane of this number with what was found in its slot
+abbrev pub held_as : ℕ → Slot → HeldLane
+held_as number (slot.Middle y) = held.Middle number y
+held_as number (slot.Out y) = held.Out number y
+
+abbrev pub number_of : LaneId → ℕ
+number_of (id.Middle l) = l
+number_of (id.Out o) = o
+
+abbrev pub held_by : LaneId → Slot → HeldLane
+held_by x found = held_as (number_of x) found
+
+-- the name of a lane in hand, and what was found in it
+abbrev pub lane_of : HeldLane → LaneId
+lane_of (held.Middle l y) = id.Middle l
+lane_of (held.Out o y) = id.Out o
+
+abbrev pub content_of : HeldLane → Slot
+content_of (held.Middle l y) = slot.Middle y
+content_of (held.Out o y) = slot.Out y
+
+-- a seat at the words and whether it has found lanes empty
+abbrev pub board_seat : SeatView BoardStep → Bool → BoardSeatView
+board_seat s emptied =
+    record { table = s.table; number = s.number; steps = s.steps; has_emptied = emptied }
+
+-- a seat that has made no step
+abbrev pub HasNoSteps : SeatView BoardStep → Type 0
+HasNoSteps s = s.steps ≡ []

@@ -1,0 +1,101 @@
+-- The rule of a board: its words and its slots are what one lawful order of steps leaves there.
+use Rattle.std.specs.Prelude.{◌≡◌, ℕ, ◌+◌, ◌*◌, ◌<◌, List, length, slice_index, Some, None}
+use Rattle.std.specs.Prelude as prelude
+use mathlib.Core.Option.{Option, none, some}
+use lib.ListN.{get_elem?}
+use Rattle.seat_order.specs.Orders.{StepBy}
+use Rattle.hop_rule.specs.declared.sizes.BoardSizes.{BoardSizes}
+use Rattle.hop_rule.specs.declared.step.BoardStep.{BoardStep}
+use Rattle.hop_rule.specs.declared.step.LaneStep.{LaneStep}
+use Rattle.hop_rule.specs.declared.step.GateStep.{GateStep}
+use Rattle.hop_rule.specs.declared.step.Slot.{Slot}
+use Rattle.hop_rule.specs.declared.step.Slot.TheVariants as slot
+use Rattle.hop_rule.specs.Lanes as lanes
+use Rattle.hop_rule.specs.Gates as gates
+use Rattle.hop_rule.specs.Boards.{lanes_of, gates_of, out_slot, IsLawful, SlotState, full, taken}
+use Rattle.hop_rule.specs.Boards.{empty, slot_state}
+use Rattle.hop_seam.specs.HeldLanes.{FitsLane}
+use Rattle.hop_seam.specs.declared.held_lane.LaneId.{LaneId}
+use Rattle.hop_seam.specs.declared.held_lane.LaneId.TheVariants as id
+use Rattle.hop_board.specs.declared.places.Word.{Word}
+use Rattle.hop_board.specs.declared.places.Word.TheVariants as kind
+
+-- a slot has a lane, or nothing while a seat holds its lane
+abbrev pub InSlot : Type 0
+InSlot = prelude.Option Slot
+
+module _ (about : BoardSizes) where
+  -- ---- where the words and the slots are: the lanes, the out lanes, the heads, the gate, the
+  -- settings
+
+  abbrev pub slot_of : LaneId → ℕ
+  slot_of (id.Middle l) = l
+  slot_of (id.Out o) = out_slot about o
+
+  abbrev pub slots : ℕ
+  slots = about.lanes + about.outs
+
+  abbrev pub place : Word → ℕ
+  place (kind.Lane x) = slot_of x
+  place (kind.Head l) = about.lanes + about.outs + l
+  place kind.Gate = about.lanes + about.outs + about.lanes
+  place (kind.Setting i) = about.lanes + about.outs + about.lanes + 1 + i
+
+  abbrev pub width : ℕ
+  width = about.lanes + about.outs + about.lanes + 1 + length about.settings
+
+  -- it is a word of this board
+  abbrev pub IsWord : Word → Type 0
+  IsWord (kind.Lane x) = FitsLane about x
+  IsWord (kind.Head l) = l < about.lanes
+  IsWord kind.Gate = Unit {0}
+  IsWord (kind.Setting i) = i < length about.settings
+
+  -- ---- what an order leaves
+
+  abbrev pub holder_of : List (StepBy LaneStep) → LaneId → ℕ
+  holder_of ls (id.Middle l) = lanes.holder l ls
+  holder_of ls (id.Out o) = lanes.out_holder o ls
+
+  abbrev pub content : List (StepBy LaneStep) → LaneId → Slot
+  content ls (id.Middle l) = slot.Middle (lanes.lane about l ls)
+  content ls (id.Out o) = slot.Out (lanes.out_content about o ls)
+
+  abbrev pub lane_value : List (StepBy LaneStep) → LaneId → ℕ
+  lane_value ls (id.Middle l) = lanes.lane_word about l ls
+  lane_value ls (id.Out o) = lanes.out_word about o ls
+
+  abbrev pub value_by : List (StepBy LaneStep) → List (StepBy GateStep) → Word → ℕ
+  value_by ls gs (kind.Lane x) = lane_value ls x
+  value_by ls gs (kind.Head l) = lanes.head_word about l ls
+  value_by ls gs kind.Gate = gates.gate_word gs
+  value_by ls gs (kind.Setting i) = gates.settings about gs i
+
+  -- the word after these steps
+  abbrev pub value : List (StepBy BoardStep) → Word → ℕ
+  value es w = value_by (lanes_of es) (gates_of es) w
+
+  abbrev pub home_by : SlotState → Slot → Option InSlot
+  home_by full x = some (Some x)
+  home_by empty x = some None
+  home_by taken x = none
+
+  -- what is at home in the slot of a lane after these steps
+  abbrev pub home_after : List (StepBy BoardStep) → LaneId → Option InSlot
+  home_after es x = home_by (slot_state about (slot_of x) es) (content (lanes_of es) x)
+
+  -- ---- the rule
+
+  abbrev pub WordsAre : List (StepBy BoardStep) → List ℕ → Type 0
+  WordsAre order words = (w : Word) → IsWord w → slice_index words (place w) ≡ value order w
+
+  abbrev pub HomesAre : List (StepBy BoardStep) → List (Option InSlot) → Type 0
+  HomesAre order homes =
+      (x : LaneId) → FitsLane about x → get_elem? homes (slot_of x) ≡ some (home_after order x)
+
+  pub record HasBoard (order : List (StepBy BoardStep)) (words : List ℕ)
+      (homes : List (Option InSlot)) : Type 0 where
+    pub lawful : IsLawful about order
+    pub counted : length words ≡ width
+    pub words_are : WordsAre order words
+    pub homes_are : HomesAre order homes

@@ -1,0 +1,79 @@
+//! Lanes that seats take into their hands and give back as they were.
+ghost use Rattle.std.specs.Prelude.{◌≡◌};
+ghost use Rattle.hop_seam.specs.HeldLanes.{FitsLane, Holds, HoldsOut};
+ghost use Rattle.hop_seam.specs.Tells.{BackTells, HoldTells, ReadTells};
+ghost use Rattle.hop_board.specs.Named.{content_of, held_by, lane_of};
+
+use crate::board::Board;
+use crate::release::Release;
+use hop_rule::Slot;
+use hop_seam::{BoardSeat, HeldLane, Hold, LaneId};
+use steer_base::PacketId;
+
+impl Board {
+    /// Takes a lane, unless a seat holds it.
+    pub fn try_hold(&self, seat: &mut BoardSeat, lane: LaneId) -> Hold
+        requires table { seat.old.table ≡ self.now.table }
+        requires within { FitsLane self.now.sizes lane }
+        ensures { HoldTells self.now.sizes lane seat.old seat.new result }
+    {
+        match self.take(&mut seat.seat, lane) {
+            Ok(found) => Hold::Ok(held_by(lane, found)),
+            Err(word) => Hold::Held { word },
+        }
+    }
+
+    /// Gives a lane back as it was.
+    pub fn give_back(&self, seat: &mut BoardSeat, held: HeldLane)
+        requires table { seat.old.table ≡ self.now.table }
+        requires held { Holds self.now.sizes seat.old.steps held }
+        ensures { BackTells self.now.sizes held seat.old seat.new }
+    {
+        let (lane, content) = parts(held);
+        self.give(&mut seat.seat, Release::Unchanged(lane), content);
+    }
+
+    /// The packet at index `n` of an out lane, from 0, if it has more than `n`. The lane is given
+    /// back as it was.
+    pub fn read_out(&self, seat: &mut BoardSeat, held: HeldLane, n: u32) -> Option<PacketId>
+        requires table { seat.old.table ≡ self.now.table }
+        requires held { HoldsOut self.now.sizes seat.old.steps held }
+        ensures step { BackTells self.now.sizes held seat.old seat.new }
+        ensures packet { ReadTells self.now.sizes held n result }
+    {
+        match held {
+            HeldLane::Out(out, content) => {
+                let packet = content.get(n);
+                let release = Release::Unchanged(LaneId::Out(out));
+                self.give(&mut seat.seat, release, Slot::Out(content));
+                packet
+            }
+            HeldLane::Middle(_, _) => unreachable!(),
+        }
+    }
+}
+
+// The lane in a hand, with what was found in its slot.
+fn held_by(lane: LaneId, found: Slot) -> HeldLane
+    ensures { result ≡ held_by lane found }
+{
+    let number = match lane {
+        LaneId::Middle(number) => number,
+        LaneId::Out(number) => number,
+    };
+    match found {
+        Slot::Middle(content) => HeldLane::Middle(number, content),
+        Slot::Out(content) => HeldLane::Out(number, content),
+    }
+}
+
+// The name of a lane in a hand, and what was found in it.
+fn parts(held: HeldLane) -> (LaneId, Slot)
+    ensures lane { result.0 ≡ lane_of held }
+    ensures content { result.1 ≡ content_of held }
+{
+    match held {
+        HeldLane::Middle(lane, content) => (LaneId::Middle(lane), Slot::Middle(content)),
+        HeldLane::Out(out, content) => (LaneId::Out(out), Slot::Out(content)),
+    }
+}

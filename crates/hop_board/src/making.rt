@@ -1,0 +1,152 @@
+//! How a board is made.
+ghost use Rattle.std.specs.Prelude.{◌≡◌, ◌<◌, ◌≤◌, ◌^◌, false, All, IfOk, map};
+ghost use Rattle.std.specs.Vec.{vec_len};
+ghost use Rattle.hop_board.specs.Made.{new_board_seats, new_middles, new_slots, new_words, sizes_of};
+ghost use Rattle.hop_board.specs.Named.{HasNoSteps, board_seat};
+
+use crate::board::{Board, WordSeat};
+use crate::spare::Spare;
+use atomic_table::Table;
+use backlog::Lane;
+use hop_core::HopShape;
+use hop_rule::{BoardSizes, OutLane, Slot};
+use hop_seam::{BoardSeat, LaneWord};
+use seat_order::deal;
+use std::alloc::Global;
+use steer_base::{List, OutOfMemory};
+
+impl Board {
+    /// A board on which no step was made, with the lanes of this shape, these settings and so many
+    /// seats, numbered from 0 on. It has all the memory that it ever takes.
+    pub fn make(
+        alloc: Global,
+        shape: &HopShape,
+        settings: &[u64],
+        seats: u32,
+    ) -> Result<(Board, Vec<BoardSeat>), OutOfMemory>
+        requires limit { 1 ≤ shape.now.limit }
+        requires room { shape.now.room ≤ 262144 }
+        requires lanes { shape.now.lanes ≤ 32 }
+        requires some_seat { 1 ≤ seats }
+        requires seats { seats ≤ 64 }
+        ensures sizes { IfOk result (λ r. r.0.sizes ≡ sizes_of shape.now settings.now seats) }
+        ensures given { IfOk result (λ r. r.1.items ≡ new_board_seats r.0.table seats) }
+        ensures table { IfOk result (λ r. All (λ s. s.table ≡ r.0.table) r.1.items) }
+        ensures all { IfOk result (λ r. vec_len r.1 ≡ seats) }
+    {
+        let sizes = copy_sizes(alloc, shape, settings, seats)?;
+        let words = first_words(alloc, &sizes)?;
+        let slots = first_slots(alloc, &sizes)?;
+        let spare = Spare::make(alloc, &sizes)?;
+        let (table, main) = match Table::new(alloc, &words, slots, &sizes) {
+            Ok(made) => made,
+            Err(_) => return Err(OutOfMemory),
+        };
+        let given = deal(alloc, &table.shared, main, seats)?;
+        let seats = at_board(alloc, given)?;
+        Ok((
+            Board {
+                table,
+                sizes,
+                spare,
+            },
+            seats,
+        ))
+    }
+}
+
+// The sizes of a board of this shape.
+fn copy_sizes(
+    alloc: Global,
+    shape: &HopShape,
+    settings: &[u64],
+    seats: u32,
+) -> Result<BoardSizes, OutOfMemory>
+    ensures sizes { IfOk result (λ sizes. sizes ≡ sizes_of shape.now settings.now seats) }
+    ensures start { IfOk result (λ sizes. sizes.start < 2 ^ 32) }
+{
+    let start = counter_start(shape.start);
+    let mut values = Vec::with_capacity(alloc, settings.len())?;
+    values.extend_from_slice(settings)?;
+    Ok(BoardSizes {
+        lanes: shape.lanes as u32,
+        outs: shape.outs as u32,
+        limit: shape.limit,
+        room: shape.room,
+        start,
+        limited: shape.limited,
+        settings: List::from_vec(values),
+        seats,
+    })
+}
+
+// The number itself, which a counter of 32 bits may start at.
+fn counter_start(start: u32) -> u32
+    ensures same { result ≡ start }
+    ensures small { result < 2 ^ 32 }
+{
+    start
+}
+
+// The words before any step.
+fn first_words(alloc: Global, sizes: &BoardSizes) -> Result<Vec<u64>, OutOfMemory>
+    ensures { IfOk result (λ words. words.items ≡ new_words sizes.now) }
+{
+    let lanes = sizes.lanes as usize;
+    let free = LaneWord::resting(sizes.start, 0).0;
+    let mut words = Vec::from_elem(alloc, free, lanes + sizes.outs as usize)?;
+    let heads = Vec::from_elem(alloc, sizes.start as u64, lanes)?;
+    words.extend_from_slice(&heads)?;
+    words.push(0)?;
+    words.extend_from_slice(sizes.settings.as_slice())?;
+    Ok(words)
+}
+
+// The slots before any step.
+fn first_slots(alloc: Global, sizes: &BoardSizes) -> Result<Vec<Option<Slot>>, OutOfMemory>
+    requires limit { 1 ≤ sizes.now.limit }
+    requires room { sizes.now.room ≤ 262144 }
+    requires lanes { sizes.now.lanes ≤ 32 }
+    ensures { IfOk result (λ slots. slots.items ≡ new_slots sizes.now) }
+{
+    let mut slots = middle_slots(alloc, sizes)?;
+    for _ in 0..sizes.outs {
+        let out = OutLane::make(alloc, sizes.room)?;
+        slots.push(Some(Slot::Out(out)))?;
+    }
+    Ok(slots)
+}
+
+// Those of the middle lanes.
+fn middle_slots(alloc: Global, sizes: &BoardSizes) -> Result<Vec<Option<Slot>>, OutOfMemory>
+    requires limit { 1 ≤ sizes.now.limit }
+    requires room { sizes.now.room ≤ 262144 }
+    requires lanes { sizes.now.lanes ≤ 32 }
+    ensures { IfOk result (λ slots. slots.items ≡ new_middles sizes.now) }
+{
+    let mut slots = Vec::with_capacity(alloc, sizes.lanes as usize + sizes.outs as usize)?;
+    for lane in 0..sizes.lanes as u8 {
+        let limited = sizes.limited.has(lane);
+        let middle = Lane::make(alloc, sizes.limit, sizes.room, sizes.start, limited)?;
+        slots.push(Some(Slot::Middle(middle)))?;
+    }
+    Ok(slots)
+}
+
+// Seats that have made no step, with what they keep besides.
+fn at_board(alloc: Global, mut given: Vec<WordSeat>) -> Result<Vec<BoardSeat>, OutOfMemory>
+    requires { All HasNoSteps given.items }
+    ensures { IfOk result (λ seats. seats.items ≡ map (λ s. board_seat s false) given.items) }
+{
+    let mut seats = Vec::with_capacity(alloc, given.len())?;
+    while let Some(seat) = given.pop() {
+        seats.push_reserved(BoardSeat {
+            seat,
+            pulled: [0; 32],
+            openings: 0,
+            has_emptied: false,
+        });
+    }
+    seats.reverse();
+    Ok(seats)
+}

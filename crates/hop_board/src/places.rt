@@ -1,0 +1,53 @@
+//! Where the words and slots of a board stand in its table.
+ghost use Rattle.std.specs.Prelude.{◌≡◌};
+ghost use Rattle.hop_rule.specs.Sizes.{FitSizes};
+ghost use Rattle.hop_board.specs.Tables.{place, slot_of};
+
+use crate::board::Board;
+use hop_seam::LaneId;
+
+/// A word of a board.
+#[derive(Clone, Copy)]
+pub enum Word {
+    /// The word of a lane, with the same number as its slot.
+    Lane(LaneId),
+    /// The head of a middle lane.
+    Head(u8),
+    Gate,
+    Setting(u32),
+}
+
+impl Board {
+    // What holds of the sizes of each board.
+    pub(crate) fn fits(&self)
+        ensures { FitSizes self.now.sizes }
+    {
+        // A read of the board, so that what holds of it is known here.
+        let _ = &self.sizes;
+    }
+
+    // The number of a word in the table: first those of the middle lanes and of the out lanes, then
+    // the heads, the gate and the settings.
+    pub(crate) fn place(&self, word: Word) -> usize
+        ensures { result ≡ place self.now.sizes word }
+    {
+        let lanes = self.sizes.lanes as usize;
+        let outs = self.sizes.outs as usize;
+        match word {
+            Word::Lane(lane) => self.slot_of(lane),
+            Word::Head(lane) => lanes + outs + lane as usize,
+            Word::Gate => lanes + outs + lanes,
+            Word::Setting(i) => lanes + outs + lanes + 1 + i as usize,
+        }
+    }
+
+    // The number of a lane's slot, and of its word.
+    pub(crate) fn slot_of(&self, lane: LaneId) -> usize
+        ensures { result ≡ slot_of self.now.sizes lane }
+    {
+        match lane {
+            LaneId::Middle(lane) => lane as usize,
+            LaneId::Out(out) => self.sizes.lanes as usize + out as usize,
+        }
+    }
+}

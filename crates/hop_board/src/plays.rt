@@ -1,0 +1,106 @@
+//! What the steps of seats at a board tell. What is named here is picked at each call.
+ghost use Rattle.std.specs.Prelude.{ℕ};
+
+use hop_rule::{BoardStep, Slot};
+use hop_seam::LaneId;
+use seat_order::{Making, Moving};
+use std::marker::{Brand, PhantomData};
+
+/// A step at a word, which leaves the slots as they are.
+pub trait Told {
+    ghost use Rattle.hop_rule.specs.declared.step.BoardStep.{BoardStep};
+
+    // The step, by the word that was found.
+    ghost makes: { ℕ → BoardStep };
+    // What is so of the word that was found.
+    ghost says: { ℕ → Type 0 };
+}
+
+impl Told for Brand {
+    ghost use Rattle.hop_rule.specs.declared.step.BoardStep.TheVariants.{Gate};
+    ghost use Rattle.hop_rule.specs.declared.step.GateStep.TheVariants.{Left};
+
+    ghost makes = { λ n. Gate Left };
+
+    ghost says = { λ n. Unit {0} };
+}
+
+pub struct Adds<J> {
+    of: PhantomData<J>,
+}
+
+impl<J: Told> Making<Option<Slot>, BoardStep> for Adds<J> {
+    ghost makes = { λ st n. J.makes n };
+
+    ghost tells = { λ st n order. J.says n };
+}
+
+/// A lane that is taken, unless a seat holds it.
+pub trait Taken {
+    ghost use Rattle.hop_seam.specs.declared.held_lane.LaneId.{LaneId};
+
+    ghost lane: { LaneId };
+}
+
+impl Taken for Brand {
+    ghost use Rattle.hop_seam.specs.declared.held_lane.LaneId.TheVariants.{Middle};
+
+    ghost lane = { Middle 0 };
+}
+
+pub struct Holds<J> {
+    of: PhantomData<J>,
+}
+
+impl<J: Taken> Moving<Option<Slot>, BoardStep> for Holds<J> {
+    ghost use Rattle.hop_board.specs.Plays.{HoldsThen};
+
+    ghost moved = { HoldsThen J.lane };
+}
+
+/// An emptied slot is given back.
+pub struct Empties;
+
+impl Moving<Option<Slot>, BoardStep> for Empties {
+    ghost use Rattle.hop_board.specs.Plays.{EmptiesThen};
+
+    ghost moved = { EmptiesThen };
+}
+
+/// An emptied slot is taken again.
+pub struct Fills;
+
+impl Moving<Option<Slot>, BoardStep> for Fills {
+    ghost use Rattle.hop_board.specs.Plays.{FillsThen};
+
+    ghost moved = { FillsThen };
+}
+
+/// A lane that is given back with its slot.
+pub trait Given {
+    ghost use Rattle.hop_rule.specs.declared.step.BoardStep.{BoardStep};
+
+    // The step that gives it back.
+    ghost step: { BoardStep };
+    // What is so at this step.
+    ghost says: { Type 0 };
+}
+
+impl Given for Brand {
+    ghost use Rattle.hop_rule.specs.declared.step.BoardStep.TheVariants.{Lane};
+    ghost use Rattle.hop_rule.specs.declared.step.LaneStep.TheVariants.{OutFreed};
+
+    ghost step = { Lane (OutFreed 0) };
+
+    ghost says = { Unit {0} };
+}
+
+pub struct Frees<J> {
+    of: PhantomData<J>,
+}
+
+impl<J: Given> Moving<Option<Slot>, BoardStep> for Frees<J> {
+    ghost use Rattle.hop_board.specs.Plays.{GivesThen};
+
+    ghost moved = { GivesThen J.step J.says };
+}

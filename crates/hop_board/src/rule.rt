@@ -1,0 +1,13 @@
+//! The rule of a board's table: words and slots are what one lawful order of steps leaves.
+use hop_rule::{BoardSizes, BoardStep, Slot};
+use seat_order::StepRule;
+
+pub struct BoardRule;
+
+impl StepRule<Option<Slot>, BoardStep, BoardSizes> for BoardRule {
+    ghost use Rattle.hop_board.specs.Tables.{HasBoard};
+
+    ghost seats = { λ about. about.seats };
+
+    ghost lawful = { HasBoard };
+}

@@ -1,0 +1,88 @@
+//! Lanes that seats take out of their slots and put into them.
+ghost use Rattle.std.specs.Prelude.{◌≡◌, true, ◌∷◌, MatchResult};
+ghost use Rattle.hop_rule.specs.Boards.{own_state, empty};
+ghost use Rattle.hop_seam.specs.HeldLanes.{FitsLane};
+ghost use Rattle.hop_board.specs.Makings.{TookSlot, MissedSlot};
+ghost use Rattle.hop_board.specs.Releases.{lane_in, rises_in, step_in, is_told};
+ghost use Rattle.hop_board.specs.Steps.{MayGive};
+ghost use Rattle.hop_board.specs.Tables.{slot_of};
+
+use crate::board::{Board, WordSeat};
+use crate::plays::{Empties, Fills, Frees, Given, Holds, Taken};
+use crate::release::Release;
+use hop_rule::{BoardStep, Slot};
+use hop_seam::LaneId;
+use seat_order::Moves;
+use std::marker::Brand;
+
+impl Board {
+    // Takes a lane and moves it out of its slot, or answers the odd word that was found.
+    pub(crate) fn take(&self, seat: &mut WordSeat, lane: LaneId) -> Result<Slot, u64>
+        requires table { seat.old.table ≡ self.now.table }
+        requires within { FitsLane self.now.sizes lane }
+        ensures { MatchResult result (λ found. TookSlot self.now.sizes lane seat.old seat.new found)
+            (λ word. MissedSlot lane seat.old seat.new word) }
+    {
+        self.take_as::<Brand>(seat, lane)
+    }
+
+    fn take_as<J: Taken>(&self, seat: &mut WordSeat, lane: LaneId) -> Result<Slot, u64>
+        requires table { seat.old.table ≡ self.now.table }
+        requires within { FitsLane self.now.sizes lane }
+        requires lane { J.lane ≡ lane }
+        ensures { MatchResult result (λ found. TookSlot self.now.sizes lane seat.old seat.new found)
+            (λ word. MissedSlot lane seat.old seat.new word) }
+    {
+        let slot = self.slot_of(lane);
+        let shared = &self.table.shared;
+        let word = shared.fetch_or::<Moves<Holds<J>>>(&mut seat.seat, slot, 1);
+        if word % 2 == 1 {
+            return Err(word);
+        }
+        let found = shared.exchange(&mut seat.seat, slot, None);
+        shared.load::<Moves<Empties>>(&mut seat.seat, slot);
+        Ok(found.unwrap())
+    }
+
+    // Moves a lane into its slot and releases it.
+    pub(crate) fn give(&self, seat: &mut WordSeat, release: Release, lane: Slot)
+        requires table { seat.old.table ≡ self.now.table }
+        requires within { FitsLane self.now.sizes (lane_in release) }
+        requires empty { own_state self.now.sizes (slot_of self.now.sizes (lane_in release))
+            seat.old.steps ≡ empty }
+        requires give { MayGive self.now.sizes seat.old (lane_in release) (rises_in release) lane
+            (step_in release) (is_told self.now.sizes release lane) }
+        ensures step { seat.new ≡ record seat.old {
+          steps = step_in release
+              ∷ BoardStep.LaneIn (slot_of self.now.sizes (lane_in release)) ∷ seat.old.steps;
+        } }
+        ensures told { is_told self.now.sizes release lane }
+    {
+        self.give_as::<Brand>(seat, release, lane);
+    }
+
+    // The lane's word is one up where its tail rises, and else one down.
+    fn give_as<J: Given>(&self, seat: &mut WordSeat, release: Release, lane: Slot)
+        requires table { seat.old.table ≡ self.now.table }
+        requires within { FitsLane self.now.sizes (lane_in release) }
+        requires empty { own_state self.now.sizes (slot_of self.now.sizes (lane_in release))
+            seat.old.steps ≡ empty }
+        requires give { MayGive self.now.sizes seat.old (lane_in release) (rises_in release) lane
+            J.step J.says }
+        ensures step { seat.new ≡ record seat.old {
+          steps = J.step
+              ∷ BoardStep.LaneIn (slot_of self.now.sizes (lane_in release)) ∷ seat.old.steps;
+        } }
+        ensures says { J.says }
+    {
+        let slot = self.slot_of(release.lane());
+        let shared = &self.table.shared;
+        shared.load::<Moves<Fills>>(&mut seat.seat, slot);
+        shared.exchange(&mut seat.seat, slot, Some(lane));
+        if release.rises() {
+            shared.fetch_add::<Moves<Frees<J>>>(&mut seat.seat, slot, 1);
+        } else {
+            shared.fetch_sub::<Moves<Frees<J>>>(&mut seat.seat, slot, 1);
+        }
+    }
+}

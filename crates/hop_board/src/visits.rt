@@ -1,0 +1,82 @@
+//! Visits, and what is read in them.
+ghost use Rattle.std.specs.Prelude.{◌≡◌, ◌≢◌, ◌<◌, ◌∷◌, [], length};
+ghost use Rattle.hop_rule.specs.Boards.{gate_steps};
+ghost use Rattle.hop_rule.specs.Gates.{outside, visit};
+ghost use Rattle.hop_seam.specs.Rights.{HasOpen, IsInside, IsOutside, MayRead};
+ghost use Rattle.hop_seam.specs.Seats.{Adds};
+ghost use Rattle.hop_seam.specs.Tells.{EnterTells, WeighTells};
+ghost use Rattle.hop_board.specs.Makings.{entering};
+
+use crate::board::{Board, WordSeat};
+use crate::places::Word;
+use hop_rule::{BoardStep, GateStep};
+use hop_seam::{BoardSeat, EnterAnswer, GateWord, HeadWord};
+use std::marker::Brand;
+
+impl Board {
+    /// Begins a visit at an open gate. At a closed one the visitor steps back in the same call.
+    pub fn enter(&self, seat: &mut BoardSeat) -> EnterAnswer
+        requires table { seat.old.table ≡ self.now.table }
+        requires outside { IsOutside seat.old.steps }
+        requires open { HasOpen seat.old.steps }
+        ensures { EnterTells seat.old seat.new result }
+    {
+        let word = self.step_in(&mut seat.seat);
+        if GateWord(word).is_closed() {
+            self.step_out(&mut seat.seat);
+            return EnterAnswer::Closed { word };
+        }
+        EnterAnswer::Ok
+    }
+
+    /// Ends the visit.
+    pub fn leave(&self, seat: &mut BoardSeat)
+        requires table { seat.old.table ≡ self.now.table }
+        requires inside { IsInside seat.old.steps }
+        ensures { Adds (BoardStep.Gate GateStep.Left ∷ []) seat.old seat.new }
+    {
+        self.step_out(&mut seat.seat);
+    }
+
+    /// Reads a setting.
+    pub fn setting(&self, seat: &mut BoardSeat, i: u32) -> u64
+        requires table { seat.old.table ≡ self.now.table }
+        requires inside { MayRead seat.old.steps }
+        requires within { i < length self.now.sizes.settings }
+        ensures { Adds (BoardStep.Gate (GateStep.Read i result) ∷ []) seat.old seat.new }
+    {
+        self.load(&mut seat.seat, Word::Setting(i))
+    }
+
+    /// Reads the head of a middle lane, a counter number that wraps.
+    pub fn weigh(&self, seat: &mut BoardSeat, lane: u8) -> u32
+        requires table { seat.old.table ≡ self.now.table }
+        requires inside { MayRead seat.old.steps }
+        requires within { lane < self.now.sizes.lanes }
+        ensures { WeighTells lane seat.old seat.new result }
+    {
+        HeadWord(self.load(&mut seat.seat, Word::Head(lane))).head()
+    }
+
+    // Adds a visit to the gate's word, and answers it as it was: a marked one is that of a closed
+    // gate.
+    fn step_in(&self, seat: &mut WordSeat) -> u64
+        requires table { seat.old.table ≡ self.now.table }
+        requires outside { IsOutside seat.old.steps }
+        requires open { HasOpen seat.old.steps }
+        ensures { seat.new ≡ record seat.old { steps = entering result ∷ seat.old.steps } }
+    {
+        self.add_as::<Brand>(seat, Word::Gate, 1)
+    }
+
+    // Takes a visit from the gate's word.
+    fn step_out(&self, seat: &mut WordSeat)
+        requires table { seat.old.table ≡ self.now.table }
+        requires inside { visit (gate_steps seat.old.steps) ≢ outside }
+        ensures { seat.new ≡ record seat.old {
+          steps = BoardStep.Gate GateStep.Left ∷ seat.old.steps;
+        } }
+    {
+        self.sub_as::<Brand>(seat, Word::Gate, 1);
+    }
+}
