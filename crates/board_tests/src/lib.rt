@@ -1,6 +1,9 @@
-//! Tests of the words that the steps on a board find and leave, and of the lanes that seats hold.
+//! Tests of boards: the words of their steps, the lanes that seats hold, and the calls of seats that
+//! take turns and that run beside each other.
 #![tactic(auto)]
 
+#[cfg(test)]
+mod gate;
 #[cfg(test)]
 mod held;
 #[cfg(test)]
