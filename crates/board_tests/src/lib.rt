@@ -8,3 +8,5 @@ mod gate;
 mod held;
 #[cfg(test)]
 mod words;
+#[cfg(test)]
+mod wrapping;
