@@ -36,6 +36,7 @@ use Rattle.hop_seam.specs.declared.lists.BoardLists.{BoardLists}
 use Rattle.hop_board.specs.Left.{AllLie, LiesIn, left_of, lists_left, middle_left, out_left}
 use Rattle.hop_board.specs.Tables.{HasBoard, InSlot, content, holder_of, slot_of}
 use Rattle.hop_board.proofs.Keeps.{home_is}
+use Rattle.hop_board.proofs.Opening.{fresh_rests}
 use Rattle.hop_board.proofs.Taking.{at_or}
 
 -- ---- lists
@@ -64,20 +65,12 @@ module _ (about : BoardSizes) where
   abbrev Rests : BoardSeatView → Type 0
   Rests s = IsAtRest about s.steps
 
-  fresh_rests : IsAtRest about []
-  fresh_rests = record {
-    visit = refl;
-    lanes = λ l less. refl;
-    hands = λ l less. refl;
-    outs = λ o less. refl;
-  }
-
   rests_as : (order : List (StepBy BoardStep)) (q : ℕ) (seats : List BoardSeatView)
       → All (HasPart order) (map ordered_seat seats) → All Rests seats
       → ((Contains (numbers_of (map ordered_seat seats)) q → ⊥) → steps_of q order ≡ [])
       → IsAtRest about (steps_of q order)
   rests_as order q [] each rest none =
-      subst (IsAtRest about) (sym (none (λ h. let l = h.1 in absurd (omega arith)))) fresh_rests
+      subst (IsAtRest about) (sym (none (λ h. let l = h.1 in absurd (omega arith)))) (fresh_rests about)
   rests_as order q (s ∷ seats) each rest none =
       dite (ℕ_discrete s.number q)
       (λ e. subst (IsAtRest about)

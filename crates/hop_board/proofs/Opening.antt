@@ -17,6 +17,7 @@ use Rattle.seat_order.specs.Seats.{SeatView, new_seats, seat_view}
 use Rattle.seat_order.proofs.Views.{views_open}
 use Rattle.hop_rule.specs.declared.sizes.BoardSizes.{BoardSizes}
 use Rattle.hop_rule.specs.declared.step.BoardStep.{BoardStep}
+use Rattle.hop_seam.specs.Closings.{IsAtRest}
 use Rattle.hop_seam.specs.HeldLanes.{FitsLane}
 use Rattle.hop_seam.specs.Seats.{BoardSeatView}
 use Rattle.hop_seam.specs.declared.held_lane.LaneId.{LaneId}
@@ -138,6 +139,14 @@ module _ (about : BoardSizes) where
 
 -- ---- the seats
 
+pub fresh_rests : (about : BoardSizes) → IsAtRest about []
+fresh_rests about = record {
+  visit = refl;
+  lanes = λ l less. refl;
+  hands = λ l less. refl;
+  outs = λ o less. refl;
+}
+
 pub new_fresh : (z : TableId) (n k : ℕ) → All HasNoSteps (new_seats z n k)
 new_fresh z n zero = All-nil HasNoSteps
 new_fresh z n (suc k) = All-cons HasNoSteps (seat_view z n []) (new_seats z (n + 1) k) refl (new_fresh z (n + 1) k)
@@ -149,3 +158,11 @@ tables_at_board z (x ∷ xs) all =
     All-cons (λ (s : BoardSeatView). s.table ≡ z) (board_seat x false) (map (λ s. board_seat s false) xs)
     (All-head (λ (s : SeatView BoardStep). s.table ≡ z) x xs all)
     (tables_at_board z xs (All-tail (λ (s : SeatView BoardStep). s.table ≡ z) x xs all))
+
+pub rest_at_board : (about : BoardSizes) (xs : List (SeatView BoardStep)) → All HasNoSteps xs
+    → All (λ (s : BoardSeatView). IsAtRest about s.steps) (map (λ s. board_seat s false) xs)
+rest_at_board about [] all = All-nil (λ (s : BoardSeatView). IsAtRest about s.steps)
+rest_at_board about (x ∷ xs) all =
+    All-cons (λ (s : BoardSeatView). IsAtRest about s.steps) (board_seat x false) (map (λ s. board_seat s false) xs)
+    (subst (IsAtRest about) (sym (All-head HasNoSteps x xs all)) (fresh_rests about))
+    (rest_at_board about xs (All-tail HasNoSteps x xs all))

@@ -1,7 +1,9 @@
 //! How a board is made.
 ghost use Rattle.std.specs.Prelude.{◌≡◌, ◌<◌, ◌≤◌, ◌^◌, false, All, IfOk, map};
 ghost use Rattle.std.specs.Vec.{vec_len};
-ghost use Rattle.hop_board.specs.Made.{new_board_seats, new_middles, new_slots, new_words, sizes_of};
+ghost use Rattle.hop_seam.specs.Closings.{IsAtRest};
+ghost use Rattle.hop_board.specs.Made.{new_board_seats, new_middles, new_slots, new_words};
+ghost use Rattle.hop_board.specs.Made.{sizes_of};
 ghost use Rattle.hop_board.specs.Named.{HasNoSteps, board_seat};
 
 use crate::board::{Board, WordSeat};
@@ -32,6 +34,7 @@ impl Board {
         ensures sizes { IfOk result (λ r. r.0.sizes ≡ sizes_of shape.now settings.now seats) }
         ensures given { IfOk result (λ r. r.1.items ≡ new_board_seats r.0.table seats) }
         ensures table { IfOk result (λ r. All (λ s. s.table ≡ r.0.table) r.1.items) }
+        ensures rest { IfOk result (λ r. All (λ s. IsAtRest r.0.sizes s.steps) r.1.items) }
         ensures all { IfOk result (λ r. vec_len r.1 ≡ seats) }
     {
         let sizes = copy_sizes(alloc, shape, settings, seats)?;

@@ -3,10 +3,11 @@ use Rattle.seat_order.specs.Seats.{SeatView}
 use Rattle.hop_rule.specs.Sizes.{FitSizes}
 use Rattle.hop_rule.specs.declared.sizes.BoardSizes.{BoardSizes}
 use Rattle.hop_rule.specs.declared.step.BoardStep.{BoardStep}
+use Rattle.hop_seam.specs.Closings.{IsAtRest}
 use Rattle.hop_seam.specs.Seats.{BoardSeatView}
 use Rattle.hop_board.specs.Named.{HasNoSteps}
 use Rattle.hop_board.specs.Tables.{InSlot}
-use Rattle.hop_board.proofs.Opening.{begins, new_fresh, slots_long, tables_at_board, words_long}
+use Rattle.hop_board.proofs.Opening.{begins, new_fresh, rest_at_board, slots_long, tables_at_board, words_long}
 use Rattle.hop_board.proofs.board.Board.make.Goals as goal
 
 pub new-requires : goal.new-requires
@@ -50,3 +51,11 @@ returns-clause-table c =
     subst (λ (xs : List BoardSeatView). All (λ (s : BoardSeatView). s.table ≡ c.in-Ok.made.0.shared.table_id) xs)
     (sym c.in_ok-seats.ensures)
     (tables_at_board c.in-Ok.made.0.shared.table_id c.in_ok-given.given.items c.in_ok-given.ensures.table)
+
+pub returns-clause-rest : goal.returns-clause-rest
+returns-clause-rest c =
+    subst (λ (xs : List BoardSeatView). All (λ (s : BoardSeatView). IsAtRest c.in_ok-sizes.sizes s.steps) xs)
+        (sym c.in_ok-seats.ensures)
+        (rest_at_board c.in_ok-sizes.sizes c.in_ok-given.given.items
+        (subst (λ (xs : List (SeatView BoardStep)). All HasNoSteps xs) (sym c.in_ok-given.ensures.given)
+        (new_fresh c.in-Ok.made.0.shared.table_id 0 c.args.seats)))
