@@ -28,8 +28,8 @@ fn plan(alloc: Global, start: &str) -> Result<Vec<u8>, Fail> {
 // What 200 packets of one flow and then one of another leave.
 fn flooded(alloc: Global, start: &str) -> Result<History, Fail> {
     let text = plan(alloc, start)?;
-    let mut frames = [Frame::A; 201];
-    frames[200] = Frame::B;
+    let mut frames = Vec::from_elem(alloc, Frame::A, 200)?;
+    frames.push(Frame::B)?;
     let replay = replayed(alloc, &text, &frames)?;
     Ok(replay.history)
 }
