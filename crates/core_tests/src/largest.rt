@@ -3,37 +3,40 @@ use crate::frames::Frame;
 use crate::replays::packets_of;
 use history::History;
 use plan_reader::read_plan;
+use std::alloc::{AllocError, Global};
 use std::process::Abort;
 use std::test::Fail;
 use steer_base::{Answer, Step};
 use steer_core::Steering;
 
+// Puts so many of an item behind the text, with commas between them.
+fn repeat(text: &mut Vec<u8>, item: &[u8], count: u8) -> Result<(), AllocError> {
+    for i in 0..count {
+        if i > 0 {
+            text.push(b',')?;
+        }
+        text.extend_from_slice(item)?;
+    }
+    Ok(())
+}
+
 // 16 receive queues, 32 processors, applications and transmit queues, all tables of the largest
 // sizes, and 999,999 seeded steps.
-const LARGEST: &str =
-    r#"{"cpus":32,"queues":[{"home":0,"mask":[],"flows":32768},{"home":2,"mask":[],"flows":32768},
-{"home":4,"mask":[],"flows":32768},{"home":6,"mask":[],"flows":32768},{"home":8,"mask":[],
-"flows":32768},{"home":10,"mask":[],"flows":32768},{"home":12,"mask":[],"flows":32768},{"home":14,
-"mask":[],"flows":32768},{"home":16,"mask":[],"flows":32768},{"home":18,"mask":[],"flows":32768},
-{"home":20,"mask":[],"flows":32768},{"home":22,"mask":[],"flows":32768},{"home":24,"mask":[],
-"flows":32768},{"home":26,"mask":[],"flows":32768},{"home":28,"mask":[],"flows":32768},{"home":30,
-"mask":[],"flows":32768}],"sock":65536,"filters":4096,"backlog":65536,"apps":[0,1,2,3,4,5,6,7,8,9,
-10,11,12,13,14,15,16,17,18,19,20,21,22,23,24,25,26,27,28,29,30,31],"tx":[{"cpus":[0],"queues":[]},
-{"cpus":[1],"queues":[]},{"cpus":[2],"queues":[]},{"cpus":[3],"queues":[]},{"cpus":[4],
-"queues":[]},{"cpus":[5],"queues":[]},{"cpus":[6],"queues":[]},{"cpus":[7],"queues":[]},
-{"cpus":[8],"queues":[]},{"cpus":[9],"queues":[]},{"cpus":[10],"queues":[]},{"cpus":[11],
-"queues":[]},{"cpus":[12],"queues":[]},{"cpus":[13],"queues":[]},{"cpus":[14],"queues":[]},
-{"cpus":[15],"queues":[]},{"cpus":[16],"queues":[]},{"cpus":[17],"queues":[]},{"cpus":[18],
-"queues":[]},{"cpus":[19],"queues":[]},{"cpus":[20],"queues":[]},{"cpus":[21],"queues":[]},
-{"cpus":[22],"queues":[]},{"cpus":[23],"queues":[]},{"cpus":[24],"queues":[]},{"cpus":[25],
-"queues":[]},{"cpus":[26],"queues":[]},{"cpus":[27],"queues":[]},{"cpus":[28],"queues":[]},
-{"cpus":[29],"queues":[]},{"cpus":[30],"queues":[]},{"cpus":[31],"queues":[]}],"steps":{"seed":7,
-"count":999999}}"#;
+fn largest(alloc: Global) -> Result<Vec<u8>, AllocError> {
+    let mut text = br#"{"cpus":32,"queues":["#.to_vec(alloc)?;
+    repeat(&mut text, br#"{"home":0,"mask":[],"flows":32768}"#, 16)?;
+    text.extend_from_slice(br#"],"sock":65536,"filters":4096,"backlog":65536,"apps":["#)?;
+    repeat(&mut text, b"0", 32)?;
+    text.extend_from_slice(br#"],"tx":["#)?;
+    repeat(&mut text, br#"{"cpus":[],"queues":[]}"#, 32)?;
+    text.extend_from_slice(br#"],"steps":{"seed":7,"count":999999}}"#)?;
+    Ok(text)
+}
 
 #[test]
 fn the_largest_plan_is_made(rt: HostRuntime) -> Result<(), Fail> {
     let alloc = rt.alloc();
-    let plan = read_plan(alloc, LARGEST.as_bytes())?;
+    let plan = read_plan(alloc, &largest(alloc)?)?;
     let frames = Vec::from_elem(alloc, Frame::A, 262_144)?;
     let packets = packets_of(alloc, &plan, &frames)?;
     let mut steering = Steering::make(alloc, &plan, &packets, Some(7))?;

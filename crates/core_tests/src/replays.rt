@@ -107,8 +107,10 @@ fn run(alloc: Global, plan: &Plan, packets: &[Packet]) -> Result<Replay, OutOfMe
     let mut steering = Steering::make(alloc, plan, packets, None)?;
     let mut answers = Vec::new(alloc);
     for i in 0..plan.step_count() {
-        let step = plan.step_at(i);
-        answers.push(steering.step(&step))?;
+        if steering.made() < steering.steps() {
+            let answer = steering.step(&plan.step_at(i));
+            answers.push(answer)?;
+        }
     }
     let history = steering.history(alloc)?;
     Ok(Replay { answers, history })
