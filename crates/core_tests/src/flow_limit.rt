@@ -1,0 +1,68 @@
+//! The flow limit: many packets of one flow, and one of another, at a processor that is limited and
+//! at one that is not.
+use crate::frames::Frame;
+use crate::machine::{packets_of, played};
+use crate::wanted::at;
+use history::History;
+use plan_reader::{Plan, read_plan};
+use std::alloc::{AllocError, Global};
+use std::test::Fail;
+use steer_base::{DropCause, LaneDrop, PacketId};
+
+const LIMITED: &str = r#"{"cpus":4,"queues":[{"home":0,"mask":[1],"flows":0}],"sock":4,"apps":[2],
+"tx":[{"cpus":[],"queues":[]}],"backlog":300,"limited":[1],"steps":["#;
+
+const UNLIMITED: &str = r#"{"cpus":4,"queues":[{"home":0,"mask":[1],"flows":0}],"sock":4,"apps":[2],
+"tx":[{"cpus":[],"queues":[]}],"backlog":300,"steps":["#;
+
+// The plan that begins with a text, with 201 packets that arrive and are polled.
+fn plan(alloc: Global, start: &str) -> Result<Plan, Fail> {
+    let text = text(alloc, start)?;
+    Ok(read_plan(alloc, &text)?)
+}
+
+fn text(alloc: Global, start: &str) -> Result<Vec<u8>, AllocError> {
+    let mut text = Vec::new(alloc);
+    text.extend_from_slice(start.as_bytes())?;
+    for _ in 0..200 {
+        text.extend_from_slice(br#""arrive","poll 0","#)?;
+    }
+    text.extend_from_slice(br#""arrive","poll 0"]}"#)?;
+    Ok(text)
+}
+
+// What 200 packets of one flow and then one of another leave.
+fn flooded(alloc: Global, start: &str) -> Result<History, Fail> {
+    let mut frames = Vec::from_elem(alloc, Frame::A, 200)?;
+    frames.push(Frame::B)?;
+    let plan = plan(alloc, start)?;
+    let packets = packets_of(alloc, &plan, &frames)?;
+    Ok(played(alloc, &plan, &packets)?)
+}
+
+#[test]
+fn the_flow_limit_drops(rt: HostRuntime) -> Result<(), Fail> {
+    let left = flooded(rt.alloc(), LIMITED)?;
+    let lane = at(&rt, &left.lanes, 1);
+    assert_eq!(rt; (lane.accepted.len(), lane.drops.len()), (152, 49));
+    assert_eq!(rt; *lane.accepted.get(150), PacketId(150));
+    assert_eq!(rt; *lane.accepted.get(151), PacketId(200));
+    for (place, id, offers) in [(0usize, 151u32, 152u32), (48, 199, 200)] {
+        let wanted = LaneDrop {
+            id: PacketId(id),
+            accepted: 151,
+            pulled: 0,
+            cause: DropCause::Flow(offers),
+        };
+        assert_eq!(rt; lane.drops.as_slice().get(place), Some(&wanted));
+    }
+    Ok(())
+}
+
+#[test]
+fn without_the_flow_limit_none_is_dropped(rt: HostRuntime) -> Result<(), Fail> {
+    let left = flooded(rt.alloc(), UNLIMITED)?;
+    let lane = at(&rt, &left.lanes, 1);
+    assert_eq!(rt; (lane.accepted.len(), lane.drops.len()), (201, 0));
+    Ok(())
+}
