@@ -3,10 +3,22 @@
 #![tactic(auto)]
 
 #[cfg(test)]
+mod closer;
+#[cfg(test)]
 mod gate;
 #[cfg(test)]
 mod held;
 #[cfg(test)]
+mod notes;
+#[cfg(test)]
+mod rounds;
+#[cfg(test)]
+mod threads;
+#[cfg(test)]
+mod told;
+#[cfg(test)]
 mod words;
+#[cfg(test)]
+mod worker;
 #[cfg(test)]
 mod wrapping;

@@ -1,0 +1,10 @@
+use Rattle.std.proofs.Common.{All, sym, subst}
+use Rattle.board_tests.proofs.Crews.{all_done}
+use Rattle.board_tests.specs.Stands.{IsDone}
+use Rattle.board_tests.proofs.threads.add_seat.Goals as goal
+
+pub returns-clause-seats : goal.returns-clause-seats
+returns-clause-seats c =
+    subst (All (IsDone c.args.board.now)) (sym c.in-Ok.ensures.items)
+    (all_done c.args.board.now c.args.seats.now.items c.args.seat c.requires.seats
+    c.requires.seat)

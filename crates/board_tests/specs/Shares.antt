@@ -1,0 +1,28 @@
+-- What the threads of a board are, and how they begin.
+use Rattle.std.specs.Prelude.{◌≡◌, ℕ, ◌+◌, ◌<◌, ◌≤◌, length}
+use Rattle.hop_rule.specs.declared.sizes.BoardSizes.{BoardSizes}
+use Rattle.hop_seam.specs.Seats.{BoardSeatView}
+use Rattle.hop_seam.specs.Views.{BoardView}
+use Rattle.board_tests.specs.Stands.{IsOut}
+
+-- a board of four lanes and two out lanes for these workers and one seat more, with a setting
+pub record IsWide (about : BoardSizes) (workers : ℕ) : Type 0 where
+  pub lanes : about.lanes ≡ 4
+  pub outs : about.outs ≡ 2
+  pub room : about.room ≡ 40000
+  pub settings : 0 < length about.settings
+  pub some_worker : 0 < workers
+  pub few : workers ≤ 4
+  pub seats : about.seats ≡ workers + 1
+
+-- the seat of one of the workers, outside, with nothing in hand
+pub record IsReady (board : BoardView) (number workers : ℕ) (seat : BoardSeatView)
+    : Type 0 where
+  pub within : number < workers
+  pub stands : IsOut board number seat
+
+-- the same at a wide board
+pub record MayWork (board : BoardView) (number workers : ℕ) (seat : BoardSeatView)
+    : Type 0 where
+  pub wide : IsWide board.sizes workers
+  pub ready : IsReady board number workers seat

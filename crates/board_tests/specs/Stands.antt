@@ -1,0 +1,59 @@
+-- Where a seat stands between two calls.
+use Rattle.std.specs.Prelude.{◌≡◌, ℕ, ◌==◌, Option, Some, None, if◌then◌else◌}
+use Rattle.hop_rule.specs.Boards.{gate_steps, lane_steps}
+use Rattle.hop_rule.specs.Gates.{Visit, closed, inside, openings, outside, visit}
+use Rattle.hop_rule.specs.Lanes.{Phase, gave, has_pulled, holding, idle, out_holding, phase}
+use Rattle.hop_seam.specs.Seats.{BoardSeatView}
+use Rattle.hop_seam.specs.Views.{BoardView}
+
+-- no packet in hand, of any lane
+abbrev pub no_hand : ℕ → Phase
+no_hand l = idle
+
+-- a packet of the lane l alone
+abbrev pub hand_of : ℕ → Phase → ℕ → Phase
+hand_of l p i = if l == i then p else idle
+
+-- The seat with this number, at this board: by its own steps it stands here, has closed the gate or
+-- not, holds no lane, and has these packets in hand.
+pub record Stands (board : BoardView) (number : ℕ) (place : Visit) (gate : ℕ) (hand : ℕ → Phase)
+    (seat : BoardSeatView) : Type 0 where
+  pub table : seat.table ≡ board.table
+  pub number_is : seat.number ≡ number
+  pub place_is : visit (gate_steps seat.steps) ≡ place
+  pub gate_is : closed (gate_steps seat.steps) ≡ gate
+  pub lanes : (l : ℕ) → holding l (lane_steps seat.steps) ≡ None
+  pub hands : (l : ℕ) → phase l (lane_steps seat.steps) ≡ hand l
+  pub outs : (o : ℕ) → out_holding o (lane_steps seat.steps) ≡ None
+
+-- outside, with nothing in hand
+abbrev pub IsOut : BoardView → ℕ → BoardSeatView → Type 0
+IsOut board number seat = Stands board number outside 0 no_hand seat
+
+-- the same by its own number
+abbrev pub IsDone : BoardView → BoardSeatView → Type 0
+IsDone board seat = IsOut board seat.number seat
+
+-- inside
+abbrev pub IsIn : BoardView → ℕ → BoardSeatView → Type 0
+IsIn board number seat = Stands board number inside 0 no_hand seat
+
+-- behind the gate that it has closed
+abbrev pub IsBehind : BoardView → ℕ → BoardSeatView → Type 0
+IsBehind board number seat = Stands board number outside 1 no_hand seat
+
+-- with a packet of the lane that it has pulled, if it has pulled one
+abbrev pub HasTaken : BoardView → ℕ → ℕ → Option ℕ → BoardSeatView → Type 0
+HasTaken board number lane (Some id) seat =
+    Stands board number outside 0 (hand_of lane (has_pulled id)) seat
+HasTaken board number lane None seat = IsOut board number seat
+
+-- with a packet of the lane that it has delivered, if it found the out lane free
+abbrev pub HasGiven : BoardView → ℕ → ℕ → ℕ → Option ℕ → BoardSeatView → Type 0
+HasGiven board number lane id (Some place) seat =
+    Stands board number outside 0 (hand_of lane gave) seat
+HasGiven board number lane id None seat = HasTaken board number lane (Some id) seat
+
+-- how often the seat has opened the gate
+abbrev pub opened_by : BoardSeatView → ℕ
+opened_by seat = openings (gate_steps seat.steps)
