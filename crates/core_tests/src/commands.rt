@@ -135,3 +135,65 @@ const UNGATED: Worked = Worked {
 fn some_commands_wait_for_nothing(rt: HostRuntime) -> Result<(), Fail> {
     UNGATED.holds(&rt, rt.alloc())
 }
+
+// Both packets wait, one at processor 1 and one at processor 0, and a poller is inside.
+const ORDER: Worked = Worked {
+    plan: PLAN,
+    steps: &[
+        ("arrive", Said::Done),
+        ("poll 0", Said::Done),
+        ("arrive", Said::Done),
+        ("poll 0", Said::Done),
+        ("offline 3", Said::Done),
+        ("enter 0", Said::Done),
+        // What may not be given is refused first, and then for those inside.
+        ("offline 0", Said::InUseByQueue(0)),
+        ("offline 2", Said::InUseByApp(0)),
+        ("offline 3", Said::Offline),
+        ("online 1", Said::Idle(Idle::AlreadyOnline)),
+        ("mask 0 2", Said::Inside(1)),
+        ("offline 1", Said::Inside(1)),
+        ("online 3", Said::Inside(1)),
+        // Then for the lowest of the lanes that have to be empty.
+        ("leave 0", Said::Done),
+        ("mask 0 2", Said::Waits(0, 0, 1)),
+        ("offline 1", Said::Waits(1, 0, 1)),
+        ("online 3", Said::Waits(0, 0, 1)),
+        ("drain 0", Said::Done),
+        ("mask 0 2", Said::Waits(1, 0, 1)),
+        ("online 3", Said::Done),
+    ],
+    frames: &[Frame::A, Frame::Arp],
+    left: &[],
+};
+
+// Two queues, three applications, and two of each gate's actors inside.
+const TWO: Worked = Worked {
+    plan: r#"{"cpus":4,"queues":[{"home":3,"mask":[],"flows":0},{"home":0,"mask":[],"flows":0}],
+"sock":4,"apps":[0,1,1],"tx":[{"cpus":[],"queues":[]}]"#,
+    steps: &[
+        ("offline 0", Said::InUseByQueue(1)),
+        ("offline 1", Said::InUseByApp(1)),
+        ("enter 0", Said::Done),
+        ("enter 1", Said::Done),
+        ("sock 8", Said::Inside(2)),
+        ("xcpus 0 1", Said::Done),
+        ("leave 0", Said::Done),
+        ("sock 8", Said::Inside(1)),
+        ("leave 1", Said::Done),
+        ("tenter 2", Said::Done),
+        ("tenter 0", Said::Done),
+        ("sock 8", Said::Done),
+        ("xcpus 0 1", Said::Inside(2)),
+        ("tleave 2", Said::Done),
+        ("xcpus 0 1", Said::Inside(1)),
+    ],
+    frames: &[],
+    left: &[],
+};
+
+#[test]
+fn a_command_is_refused_for_its_first_reason(rt: HostRuntime) -> Result<(), Fail> {
+    ORDER.holds(&rt, rt.alloc())?;
+    TWO.holds(&rt, rt.alloc())
+}

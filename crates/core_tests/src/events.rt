@@ -1,10 +1,10 @@
-//! Steps of one event each, with every reason for which one is idle, and an application that is
-//! served.
+//! Steps of one event each, with every reason for which one is idle, and steps of many events.
 use crate::frames::Frame;
 use crate::replays::Worked;
+use crate::rows::chose;
 use crate::wanted::{Said, Wanted};
 use std::test::Fail;
-use steer_base::Idle;
+use steer_base::{Choice, Idle, Why};
 
 // Two queues, whose homes are processors 0 and 1, filters, and an application on processor 1.
 const POLLER: Worked = Worked {
@@ -14,6 +14,9 @@ const POLLER: Worked = Worked {
         ("record 0", Said::Done),
         ("arrive", Said::Done),
         ("look 0", Said::Idle(Idle::NotInside)),
+        ("weigh 0", Said::Idle(Idle::NotInside)),
+        ("put 0", Said::Idle(Idle::NotInside)),
+        ("ask 0", Said::Idle(Idle::NotInside)),
         ("enter 0", Said::Done),
         ("enter 0", Said::Idle(Idle::AlreadyInside)),
         ("look 0", Said::Idle(Idle::WrongStage)),
@@ -66,6 +69,8 @@ const REPLIER: Worked = Worked {
         ("deliver 1", Said::Idle(Idle::HandEmpty)),
         ("pull 1", Said::Idle(Idle::NothingWaiting)),
         ("tweigh 0", Said::Idle(Idle::NotInside)),
+        ("tput 0", Said::Idle(Idle::NotInside)),
+        ("tleave 0", Said::Idle(Idle::NotInside)),
         ("tenter 0", Said::Done),
         ("tenter 0", Said::Idle(Idle::AlreadyInside)),
         ("tweigh 0", Said::Idle(Idle::WrongStage)),
@@ -78,9 +83,12 @@ const REPLIER: Worked = Worked {
         ("send 0", Said::Idle(Idle::InboxDone)),
         ("tleave 0", Said::Done),
         ("tdeliver 0", Said::Idle(Idle::HandEmpty)),
+        ("tretire 0", Said::Idle(Idle::HandEmpty)),
         ("tpull 0", Said::Done),
+        ("tpull 0", Said::Idle(Idle::HandFull)),
         ("tretire 0", Said::Idle(Idle::NotDelivered)),
         ("tdeliver 0", Said::Done),
+        ("tdeliver 0", Said::Idle(Idle::AlreadyDelivered)),
         ("tretire 0", Said::Done),
         ("tpull 0", Said::Idle(Idle::NothingWaiting)),
     ],
@@ -125,4 +133,53 @@ const SERVED: Worked = Worked {
 #[test]
 fn an_application_that_is_served_records_its_flow(rt: HostRuntime) -> Result<(), Fail> {
     SERVED.holds(&rt, rt.alloc())
+}
+
+// Each step of many events begins where one of its events was made before.
+const BEGUN: Worked = Worked {
+    plan: r#"{"cpus":4,"queues":[{"home":0,"mask":[1],"flows":1}],"sock":4,"apps":[2],
+"tx":[{"cpus":[],"queues":[]}]"#,
+    steps: &[
+        ("arrive", Said::Done),
+        ("arrive", Said::Done),
+        ("take 0", Said::Done),
+        ("poll 0", Said::Done),
+        ("poll 0", Said::Done),
+        ("pull 1", Said::Done),
+        ("drain 1", Said::Done),
+        ("send 0", Said::Done),
+        ("serve 0", Said::Done),
+        ("reply 0", Said::Done),
+        ("tpull 0", Said::Done),
+        ("ship 0", Said::Done),
+    ],
+    frames: &[Frame::A, Frame::A],
+    left: &[
+        Wanted::Taken(&[2]),
+        Wanted::Choices(
+            0,
+            &[
+                chose!(0, Some(0), None, None, Some(0), 1, Unset),
+                chose!(1, Some(0), None, None, Some(1), 1, Same),
+            ],
+        ),
+        Wanted::Lane(1, &[0, 1], [2, 2, 2, 0]),
+        Wanted::Inbox(0, &[0, 1]),
+        Wanted::Replies(0, &[(0, 0, 2), (1, 0, 2)]),
+        Wanted::TxChoices(
+            0,
+            &[
+                chose!(0, Some(0), Some(0), None, Some(0), 0, Unset),
+                chose!(1, Some(0), Some(0), None, Some(1), 0, Same),
+            ],
+        ),
+        Wanted::TxLane(0, &[0, 1], [2, 2, 2, 0]),
+        Wanted::Port(&[0, 1]),
+        Wanted::Writes(0, &[(0, 2)]),
+    ],
+};
+
+#[test]
+fn a_step_of_many_events_ends_what_was_begun(rt: HostRuntime) -> Result<(), Fail> {
+    BEGUN.holds(&rt, rt.alloc())
 }

@@ -189,6 +189,50 @@ fn a_full_backlog_drops(rt: HostRuntime) -> Result<(), Fail> {
     FULL.holds(&rt, rt.alloc())
 }
 
+// The second and the third packet find a full backlog. Their class, 2 of 4, stays at the recorded
+// tail 0, and their flow gets no filter, while the first one's gets filter 0.
+const DROPPED: Worked = Worked {
+    plan: r#"{"cpus":2,"queues":[{"home":0,"mask":[0],"flows":4},{"home":1,"mask":[],
+"flows":1}],"sock":4,"filters":8,"backlog":1,"apps":[1],"tx":[{"cpus":[],"queues":[]}]"#,
+    steps: &[
+        ("record 0", Said::Done),
+        ("record 1", Said::Done),
+        ("arrive", Said::Done),
+        ("poll 0", Said::Done),
+        ("arrive", Said::Done),
+        ("poll 0", Said::Done),
+        ("arrive", Said::Done),
+        ("poll 0", Said::Done),
+        ("arrive", Said::Done),
+    ],
+    frames: &[Frame::A, Frame::B, Frame::B, Frame::A],
+    left: &[
+        Wanted::Arrivals(&[
+            (0, 0, None, Some(0)),
+            (1, 0, None, Some(0)),
+            (2, 0, None, Some(0)),
+            (3, 1, Some(1), None),
+        ]),
+        Wanted::Taken(&[3, 0]),
+        Wanted::Choices(
+            0,
+            &[
+                chose!(0, Some(0), Some(1), None, Some(0), 1, Unset),
+                chose!(1, Some(2), Some(1), None, Some(0), 1, Unset),
+                chose!(2, Some(2), Some(1), None, Some(0), 1, Same),
+            ],
+        ),
+        Wanted::Lane(1, &[0], [0, 0, 0, 2]),
+        Wanted::Drops(1, &[(1, 1, 0, DropCause::Full), (2, 1, 0, DropCause::Full)]),
+        Wanted::Writes(0, &[(0, 1), (2, 1)]),
+    ],
+};
+
+#[test]
+fn a_dropped_packet_leaves_no_tail_and_no_filter(rt: HostRuntime) -> Result<(), Fail> {
+    DROPPED.holds(&rt, rt.alloc())
+}
+
 const HELD: Worked = Worked {
     plan: r#"{"cpus":4,"queues":[{"home":0,"mask":[1],"flows":0}],"sock":0,"apps":[2],
 "tx":[{"cpus":[],"queues":[]}]"#,
