@@ -462,12 +462,19 @@ fn the_largest_hop_is_made(rt: HostRuntime) -> Result<(), Fail> {
 // the producer.
 fn shows_its_hands(rt: &impl Abort, hop: &Hop)
     requires producer { 0 < length hop.now.arrivals }
+{
+    same(rt, &(hop.taken(0), hop.placed(0)), &(2, 1), 0);
+    same(rt, &hop.to_put(0), &None, 1);
+    same(rt, &hop.to_weigh(0), &Some(PacketId(1)), 1);
+}
+
+// One producer is inside.
+fn shows_its_gate(rt: &impl Abort, hop: &Hop)
     requires actor { 0 < length hop.now.visits }
 {
-    assert!(rt; hop.is_inside(0) && hop.inside() == 1 && !hop.is_closed());
-    same(rt, &(hop.taken(0), hop.placed(0)), &(2, 1), 0);
-    let hands = (hop.to_put(0), hop.to_weigh(0));
-    same(rt, &hands, &(None, Some(PacketId(1))), 1);
+    same(rt, &hop.is_inside(0), &true, 0);
+    same(rt, &hop.inside(), &1, 0);
+    same(rt, &hop.is_closed(), &false, 0);
 }
 
 // The one choice was this.
@@ -517,6 +524,7 @@ fn a_hop_shows_its_hands(rt: HostRuntime) -> Result<(), Fail> {
     play(&rt, &mut hop, &turns);
     assert!(rt; hop.may_ask(HopEvent::Take { p: 0 }) && hop.may_ask(HopEvent::Enter { p: 0 }));
     assert!(rt; hop.may_ask(HopEvent::Deliver { lane: 1, to: 0 }));
+    shows_its_gate(&rt, &hop);
     shows_its_hands(&rt, &hop);
     shows_its_choice(&rt, &hop, choice);
     shows_its_lanes(&rt, &hop);
