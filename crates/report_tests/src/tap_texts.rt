@@ -151,24 +151,6 @@ fn three_lines(rt: &impl Abort, alloc: Global) -> Lines
     lines
 }
 
-fn counting_tap(
-    alloc: Global,
-    lines: &Rc<Cell<u32>>,
-    drops: &Rc<Cell<u32>>,
-    failing: u32,
-) -> Result<Box<dyn Tap>, Fail> {
-    let tap: Box<dyn Tap> = Box::new(
-        alloc,
-        Counting {
-            alloc,
-            lines: lines.clone()?,
-            drops: drops.clone()?,
-            failing,
-        },
-    )?;
-    Ok(tap)
-}
-
 // Whether two taps are fed with three lines, of which the second tap finds no memory for the one of
 // this number, how many of the taps are dropped, and how many lines each sees.
 fn fed(alloc: Global, lines: &Lines, failing: u32) -> Result<(bool, u32, u32, u32), Fail>
@@ -183,8 +165,18 @@ fn fed(alloc: Global, lines: &Lines, failing: u32) -> Result<(bool, u32, u32, u3
     let first = Rc::new(alloc, Cell::new(0))?;
     let second = Rc::new(alloc, Cell::new(0))?;
     let mut taps = Vec::new(alloc);
-    taps.push(counting_tap(alloc, &first, &drops, 0)?)?;
-    taps.push(counting_tap(alloc, &second, &drops, failing)?)?;
+    for (lines, failing) in [(&first, 0), (&second, failing)] {
+        let tap: Box<dyn Tap> = Box::new(
+            alloc,
+            Counting {
+                alloc,
+                lines: lines.clone()?,
+                drops: drops.clone()?,
+                failing,
+            },
+        )?;
+        taps.push(tap)?;
+    }
     let answered = feed(alloc, taps, lines, 3, &detach).is_ok();
     Ok((answered, drops.get(), first.get(), second.get()))
 }
