@@ -1,7 +1,9 @@
 //! The vectors of Microsoft's verification suite for the RSS hash.
+use crate::pieces::same;
+use std::process::Abort;
 use std::test::Fail;
 use steer_base::{Flow, Pair, Proto};
-use toeplitz::{Kinds, TabledKey, verification_key};
+use toeplitz::{Key, Kinds, TabledKey, verification_key};
 
 const ALL: Kinds = Kinds(0b11_1111);
 
@@ -16,6 +18,19 @@ fn v4(src: [u8; 4], dst: [u8; 4]) -> Pair {
 
 fn v6(src: u128, dst: u128) -> Pair {
     Pair::V6 { src, dst }
+}
+
+/// Asserts that the flow has this hash, by the key and by its table.
+fn has_hash(
+    rt: &impl Abort,
+    key: &Key,
+    tabled: &TabledKey,
+    flow: Flow,
+    kinds: Kinds,
+    hash: Option<u32>,
+) {
+    same(rt, &(flow, key.hash(&flow, kinds)), &(flow, hash), 0);
+    same(rt, &(flow, tabled.hash(&flow, kinds)), &(flow, hash), 1);
 }
 
 #[test]
@@ -99,12 +114,7 @@ fn gives_the_published_hashes(rt: HostRuntime) -> Result<(), Fail> {
             (Flow::Four(pair, Proto::Tcp, sport, dport), ALL, with_ports),
             (Flow::Four(pair, Proto::Udp, sport, dport), ALL, with_ports),
         ] {
-            assert_eq!(rt; key.hash(&flow, kinds), Some(hash), "{flow:?}");
-            assert_eq!(rt;
-                tabled.hash(&flow, kinds),
-                Some(hash),
-                "{flow:?} by the table"
-            );
+            has_hash(&rt, &key, &tabled, flow, kinds, Some(hash));
         }
     }
     Ok(())
@@ -126,12 +136,7 @@ fn gives_no_hash_where_no_kind_is_on(rt: HostRuntime) -> Result<(), Fail> {
         (Flow::Four(long, Proto::Udp, 1, 2), 0b01_0111),
         (Flow::Two(pair), 0b1100_0000),
     ] {
-        assert_eq!(rt; key.hash(&flow, Kinds(kinds)), None, "{flow:?}");
-        assert_eq!(rt;
-            tabled.hash(&flow, Kinds(kinds)),
-            None,
-            "{flow:?} by the table"
-        );
+        has_hash(&rt, &key, &tabled, flow, Kinds(kinds), None);
     }
     Ok(())
 }

@@ -1,11 +1,13 @@
 //! Files byte by byte, and what they are read as.
 ghost use Rattle.std.specs.Prelude.{◌≤◌, ◌+◌, length};
 
-use crate::pieces::{HEADER, SEGMENT, joined};
+use crate::pieces::{HEADER, SEGMENT, joined, same, same_items};
 use pcap_reader::{
-    CaptureFault, PcapRecord, captures_read_back, one_capture_or_fault, put_header, put_packet,
-    read_capture,
+    Capture, CaptureFault, PcapRecord, captures_read_back, one_capture_or_fault, put_header,
+    put_packet, read_capture,
 };
+use std::alloc::Global;
+use std::process::Abort;
 use std::test::Fail;
 
 /// The header of a record of 54 bytes.
@@ -27,17 +29,36 @@ fn both(rt: &HostRuntime) -> Result<Vec<u8>, Fail> {
 }
 
 /// How many records a file has, and how many bytes of a last one that is cut.
-fn counts(rt: &HostRuntime, file: &[u8]) -> Result<(usize, Option<u32>), CaptureFault> {
-    let capture = read_capture(rt.alloc(), file)?;
+fn counts(alloc: Global, file: &[u8]) -> Result<(usize, Option<u32>), CaptureFault> {
+    let capture = read_capture(alloc, file)?;
     Ok((capture.records.len(), capture.cut))
+}
+
+/// Asserts that a file has these counts.
+fn has_counts(
+    rt: &impl Abort,
+    alloc: Global,
+    file: &[u8],
+    wanted: Result<(usize, Option<u32>), CaptureFault>,
+) {
+    same(rt, &counts(alloc, file), &wanted, file.len());
+}
+
+/// The capture of a file that is one.
+fn capture_of(alloc: Global, file: &[u8]) -> Result<Capture, Fail> {
+    Ok(read_capture(alloc, file).ok().ok_or("no capture")?)
+}
+
+/// The first bytes of a file, all of them where it has fewer.
+fn front(file: &[u8], len: usize) -> &[u8] {
+    file.get(..len).unwrap_or(file)
 }
 
 #[test]
 fn each_prefix_is_read(rt: HostRuntime) -> Result<(), Fail> {
     let file = both(&rt)?;
-    assert_eq!(rt; file.len(), 164);
+    same(&rt, &file.len(), &164, 0);
     for end in 0..165usize {
-        assert!(rt; end <= file.len());
         let want = match end {
             0..=23 => Err(CaptureFault::ShortHeader { len: end }),
             24 => Ok((0, None)),
@@ -46,8 +67,7 @@ fn each_prefix_is_read(rt: HostRuntime) -> Result<(), Fail> {
             95..=163 => Ok((1, Some(end as u32 - 94))),
             _ => Ok((2, None)),
         };
-        let got = counts(&rt, &file[..end]);
-        assert_eq!(rt; got, want, "at {end}");
+        has_counts(&rt, rt.alloc(), front(&file, end), want);
     }
     Ok(())
 }
@@ -55,9 +75,7 @@ fn each_prefix_is_read(rt: HostRuntime) -> Result<(), Fail> {
 #[test]
 fn records_tell_times_places_and_lengths(rt: HostRuntime) -> Result<(), Fail> {
     let file = both(&rt)?;
-    let capture = read_capture(rt.alloc(), file.as_slice())
-        .ok()
-        .ok_or("no capture")?;
+    let capture = capture_of(rt.alloc(), &file)?;
     let record = PcapRecord {
         sec: 0,
         frac: 0,
@@ -69,8 +87,8 @@ fn records_tell_times_places_and_lengths(rt: HostRuntime) -> Result<(), Fail> {
         start: 110,
         ..record
     };
-    assert_eq!(rt; capture.records.as_slice(), [record, last].as_slice());
-    assert!(rt; !capture.big && !capture.nano);
+    same_items(&rt, capture.records.as_slice(), &[record, last]);
+    same(&rt, &(capture.big, capture.nano), &(false, false), 0);
     Ok(())
 }
 
@@ -80,12 +98,16 @@ fn writes_the_file_that_is_read(rt: HostRuntime) -> Result<(), Fail> {
     put_header(&mut file)?;
     put_packet(&mut file, 0, 0, &SEGMENT)?;
     put_packet(&mut file, 0, 0, &SECOND)?;
-    assert_eq!(rt; file.as_slice(), both(&rt)?.as_slice());
+    same_items(&rt, &file, &both(&rt)?);
+    Ok(())
+}
 
+#[test]
+fn writes_times_and_lengths(rt: HostRuntime) -> Result<(), Fail> {
     let mut times = Vec::new(rt.alloc());
     put_packet(&mut times, 0x0102_0304, 0x0506_0708, b"ab")?;
     let want = [4, 3, 2, 1, 8, 7, 6, 5, 2, 0, 0, 0, 2, 0, 0, 0, b'a', b'b'];
-    assert_eq!(rt; times.as_slice(), want.as_slice());
+    same_items(&rt, &times, &want);
     Ok(())
 }
 
@@ -96,7 +118,7 @@ fn reads_the_highest_byte_first(rt: HostRuntime) -> Result<(), Fail> {
         0, 0, 0xff, 0xff, 0, 0, 0, 1, // its second part
         0x65, 0x43, 0x21, 0, 0x3b, 0x9a, 0xc9, 0xff, 0, 0, 0, 2, 0, 0, 5, 0xdc, b'a', b'b',
     ];
-    let capture = read_capture(rt.alloc(), &file).ok().ok_or("no capture")?;
+    let capture = capture_of(rt.alloc(), &file)?;
     let record = PcapRecord {
         sec: 0x6543_2100,
         frac: 999_999_999,
@@ -104,9 +126,9 @@ fn reads_the_highest_byte_first(rt: HostRuntime) -> Result<(), Fail> {
         len: 2,
         orig: 1500,
     };
-    assert_eq!(rt; capture.records.as_slice(), [record].as_slice());
-    assert_eq!(rt; capture.cut, None);
-    assert!(rt; capture.big && capture.nano && !capture.records.is_empty());
+    same_items(&rt, capture.records.as_slice(), &[record]);
+    same(&rt, &capture.cut, &None, 0);
+    same(&rt, &(capture.big, capture.nano), &(true, true), 1);
     Ok(())
 }
 
@@ -155,9 +177,8 @@ fn names_each_fault_of_a_header(rt: HostRuntime) {
             Ok((0, None)),
         ),
     ];
-    for (i, (file, want)) in cases.iter().enumerate() {
-        let got = counts(&rt, file);
-        assert_eq!(rt; got, *want, "case {i}");
+    for (file, want) in cases {
+        has_counts(&rt, rt.alloc(), &file, want);
     }
 }
 
@@ -182,10 +203,9 @@ fn names_a_record_that_is_too_long(rt: HostRuntime) -> Result<(), Fail> {
         (&[0, 0, 4, 0, 0, 0, 0, 0], Ok((1, Some(16)))),
         (&[1, 0, 0, 0, 0, 0, 0, 0, 9], Ok((2, None))),
     ];
-    for (i, (end, want)) in cases.iter().enumerate() {
+    for (end, want) in cases {
         let file = joined(rt.alloc(), &[&HEADER, &RECORD, &SEGMENT, &[0; 8], end])?;
-        let got = counts(&rt, file.as_slice());
-        assert_eq!(rt; got, *want, "case {i}");
+        has_counts(&rt, rt.alloc(), &file, want);
     }
     Ok(())
 }
@@ -194,13 +214,13 @@ fn names_a_record_that_is_too_long(rt: HostRuntime) -> Result<(), Fail> {
 fn asks_for_a_length_once_its_header_is_whole(rt: HostRuntime) -> Result<(), Fail> {
     let cut = [0, 0, 0, 0, 0, 0, 0, 0, 0xff, 0xff, 0xff, 0xff, 0, 0, 0];
     let mut file = joined(rt.alloc(), &[&HEADER, &cut])?;
-    assert_eq!(rt; counts(&rt, file.as_slice()), Ok((0, Some(15))));
+    has_counts(&rt, rt.alloc(), &file, Ok((0, Some(15))));
     file.push(0)?;
     let too_long = CaptureFault::RecordTooLong {
         at: 0,
         len: 4_294_967_295,
     };
-    assert_eq!(rt; counts(&rt, file.as_slice()), Err(too_long));
+    has_counts(&rt, rt.alloc(), &file, Err(too_long));
     Ok(())
 }
 
@@ -209,11 +229,9 @@ fn counts_at_most_262144_packets(rt: HostRuntime) -> Result<(), Fail> {
     let mut file = Vec::with_capacity(rt.alloc(), 24 + 16 * 262_144 + 1)?;
     file.extend_from_slice(&HEADER)?;
     file.resize(24 + 16 * 262_144, 0)?;
-    let full = counts(&rt, file.as_slice());
-    assert_eq!(rt; full, Ok((262_144, None)));
+    has_counts(&rt, rt.alloc(), &file, Ok((262_144, None)));
     file.push(0)?;
-    let more = counts(&rt, file.as_slice());
-    assert_eq!(rt; more, Err(CaptureFault::TooManyPackets));
+    has_counts(&rt, rt.alloc(), &file, Err(CaptureFault::TooManyPackets));
     Ok(())
 }
 

@@ -1,10 +1,11 @@
 //! Files byte by byte, and what they are read as.
-use crate::pieces::{SEGMENT, joined};
+use crate::pieces::{SEGMENT, joined, same, same_items};
 use pcap_reader::{Capture, PcapRecord};
 use pcapng_reader::{
     NgFault, a_block_is_four_pieces, frames_are_read_back, is_pcapng, one_capture_or_fault,
     put_enhanced, put_section, read_ng,
 };
+use std::process::Abort;
 use std::test::Fail;
 
 /// A little-endian section header.
@@ -32,11 +33,6 @@ const BIG_SECTION: [u8; 28] = [
     0xff, 0xff, 0xff, 0xff, 0xff, 0, 0, 0, 0x1c,
 ];
 
-/// A big-endian interface of Ethernet frames, of which it keeps 3 bytes.
-const BIG_INTERFACE: [u8; 20] = [
-    0, 0, 0, 1, 0, 0, 0, 0x14, 0, 1, 0, 0, 0, 0, 0, 3, 0, 0, 0, 0x14,
-];
-
 type Counts = Result<(usize, Option<u32>), NgFault>;
 
 fn capture_of(rt: &HostRuntime, file: &[u8]) -> Result<Result<Capture, NgFault>, Fail> {
@@ -44,6 +40,11 @@ fn capture_of(rt: &HostRuntime, file: &[u8]) -> Result<Result<Capture, NgFault>,
         return Err("not a pcapng file".into());
     }
     Ok(read_ng(rt.alloc(), file))
+}
+
+/// The capture of a file that is one.
+fn sure_capture_of(rt: &HostRuntime, file: &[u8]) -> Result<Capture, Fail> {
+    Ok(capture_of(rt, file)?.ok().ok_or("no capture")?)
 }
 
 /// How many records a file has, and how many bytes of a last block that is cut.
@@ -54,15 +55,19 @@ fn counts(rt: &HostRuntime, file: &[u8]) -> Result<Counts, Fail> {
     })
 }
 
+/// The first bytes of a file, all of them where it has fewer.
+fn front(file: &[u8], len: usize) -> &[u8] {
+    file.get(..len).unwrap_or(file)
+}
+
 #[test]
 fn each_prefix_is_read(rt: HostRuntime) -> Result<(), Fail> {
     let file = joined(
         rt.alloc(),
         &[&SECTION, &INTERFACE, &BEFORE, &SEGMENT, &BEHIND],
     )?;
-    assert_eq!(rt; file.len(), 136);
+    same(&rt, &file.len(), &136, 0);
     for end in 4..137usize {
-        assert!(rt; end <= file.len());
         let want = match end {
             4..=27 => Ok((0, Some(end as u32))),
             28 | 48 => Ok((0, None)),
@@ -70,8 +75,8 @@ fn each_prefix_is_read(rt: HostRuntime) -> Result<(), Fail> {
             49..=135 => Ok((0, Some(end as u32 - 48))),
             _ => Ok((1, None)),
         };
-        let got = counts(&rt, &file[..end])?;
-        assert_eq!(rt; got, want, "at {end}");
+        let got = counts(&rt, front(&file, end))?;
+        same(&rt, &got, &want, end);
     }
     Ok(())
 }
@@ -85,62 +90,48 @@ fn writes_the_file_that_is_read(rt: HostRuntime) -> Result<(), Fail> {
         rt.alloc(),
         &[&SECTION, &INTERFACE, &BEFORE, &SEGMENT, &BEHIND],
     )?;
-    assert_eq!(rt; file.as_slice(), want.as_slice());
-
-    let capture = capture_of(&rt, file.as_slice())?.ok().ok_or("no capture")?;
-    let record = PcapRecord {
-        sec: 0,
-        frac: 0,
-        start: 76,
-        len: 54,
-        orig: 54,
-    };
-    assert_eq!(rt; capture.records.as_slice(), [record].as_slice());
-    assert!(rt; !capture.big && !capture.nano);
+    same_items(&rt, &file, &want);
+    let capture = sure_capture_of(&rt, &file)?;
+    same_items(&rt, capture.records.as_slice(), &[simple(76, 54, 54)]);
+    same(&rt, &(capture.big, capture.nano), &(false, false), 0);
     Ok(())
 }
 
-#[test]
-fn reads_sections_of_both_orders(rt: HostRuntime) -> Result<(), Fail> {
-    // A section with an option, two interfaces, a name resolution block, a packet of the second,
-    // and statistics; a big-endian section with two simple packets; one that keeps whole frames.
-    let file = joined(
-        rt.alloc(),
-        &[
-            &[0x0a, 0x0d, 0x0d, 0x0a, 32, 0, 0, 0, 0x4d, 0x3c, 0x2b, 0x1a],
-            &[1, 0, 0, 0, 0, 0, 0, 0, 0, 0, 0, 0, 0, 0, 0, 0, 32, 0, 0, 0],
-            &[
-                1, 0, 0, 0, 20, 0, 0, 0, 101, 0, 0, 0, 0, 0, 4, 0, 20, 0, 0, 0,
-            ],
-            &INTERFACE,
-            &[4, 0, 0, 0, 16, 0, 0, 0, 9, 9, 9, 9, 16, 0, 0, 0],
-            &[6, 0, 0, 0, 36, 0, 0, 0, 1, 0, 0, 0, 4, 3, 2, 1, 8, 7, 6, 5],
-            &[2, 0, 0, 0, 5, 0, 0, 0, b'a', b'b', 0, 0, 36, 0, 0, 0],
-            &[5, 0, 0, 0, 12, 0, 0, 0, 12, 0, 0, 0],
-            &BIG_SECTION,
-            &BIG_INTERFACE,
-            &[
-                0, 0, 0, 3, 0, 0, 0, 20, 0, 0, 0, 5, b'c', b'd', b'e', 0, 0, 0, 0, 20,
-            ],
-            &[
-                0, 0, 0, 3, 0, 0, 0, 20, 0, 0, 0, 2, b'f', b'g', 0, 0, 0, 0, 0, 20,
-            ],
-            &SECTION,
-            &[1, 0, 0, 0, 20, 0, 0, 0, 1, 0, 0, 0, 0, 0, 0, 0, 20, 0, 0, 0],
-            &[
-                3, 0, 0, 0, 24, 0, 0, 0, 5, 0, 0, 0, b'h', b'i', b'j', b'k', b'l', 0, 0, 0,
-            ],
-            &[24, 0, 0, 0],
-        ],
-    )?;
-    let capture = capture_of(&rt, file.as_slice())?.ok().ok_or("no capture")?;
-    let simple = |start: usize, len: u32, orig: u32| PcapRecord {
+/// A section with an option, two interfaces, a name resolution block, a packet of the second, and
+/// statistics; a big-endian section with two simple packets; one that keeps whole frames.
+const SECTIONS: [u8; 296] = [
+    0x0a, 0x0d, 0x0d, 0x0a, 32, 0, 0, 0, 0x4d, 0x3c, 0x2b, 0x1a, 1, 0, 0, 0, 0, 0, 0, 0, 0, 0, 0,
+    0, 0, 0, 0, 0, 32, 0, 0, 0, // the first section
+    1, 0, 0, 0, 20, 0, 0, 0, 101, 0, 0, 0, 0, 0, 4, 0, 20, 0, 0, 0, // of another link
+    1, 0, 0, 0, 20, 0, 0, 0, 1, 0, 0, 0, 0, 0, 4, 0, 20, 0, 0, 0, // of Ethernet
+    4, 0, 0, 0, 16, 0, 0, 0, 9, 9, 9, 9, 16, 0, 0, 0, // names
+    6, 0, 0, 0, 36, 0, 0, 0, 1, 0, 0, 0, 4, 3, 2, 1, 8, 7, 6, 5, 2, 0, 0, 0, 5, 0, 0, 0, b'a',
+    b'b', 0, 0, 36, 0, 0, 0, // a packet at 116
+    5, 0, 0, 0, 12, 0, 0, 0, 12, 0, 0, 0, // statistics
+    0x0a, 0x0d, 0x0d, 0x0a, 0, 0, 0, 0x1c, 0x1a, 0x2b, 0x3c, 0x4d, 0, 1, 0, 9, 0xff, 0xff, 0xff,
+    0xff, 0xff, 0xff, 0xff, 0xff, 0, 0, 0, 0x1c, // the second section, big-endian
+    0, 0, 0, 1, 0, 0, 0, 0x14, 0, 1, 0, 0, 0, 0, 0, 3, 0, 0, 0, 0x14, // three bytes are kept
+    0, 0, 0, 3, 0, 0, 0, 20, 0, 0, 0, 5, b'c', b'd', b'e', 0, 0, 0, 0, 20, // a packet at 196
+    0, 0, 0, 3, 0, 0, 0, 20, 0, 0, 0, 2, b'f', b'g', 0, 0, 0, 0, 0, 20, // and at 216
+    0x0a, 0x0d, 0x0d, 0x0a, 0x1c, 0, 0, 0, 0x4d, 0x3c, 0x2b, 0x1a, 1, 0, 0, 0, 0xff, 0xff, 0xff,
+    0xff, 0xff, 0xff, 0xff, 0xff, 0x1c, 0, 0, 0, // the third section
+    1, 0, 0, 0, 20, 0, 0, 0, 1, 0, 0, 0, 0, 0, 0, 0, 20, 0, 0, 0, // whole frames are kept
+    3, 0, 0, 0, 24, 0, 0, 0, 5, 0, 0, 0, b'h', b'i', b'j', b'k', b'l', 0, 0, 0, 24, 0, 0, 0,
+];
+
+fn simple(start: usize, len: u32, orig: u32) -> PcapRecord {
+    PcapRecord {
         sec: 0,
         frac: 0,
         start,
         len,
         orig,
-    };
+    }
+}
+
+#[test]
+fn reads_sections_of_both_orders(rt: HostRuntime) -> Result<(), Fail> {
+    let capture = sure_capture_of(&rt, &SECTIONS)?;
     let enhanced = PcapRecord {
         sec: 0x0102_0304,
         frac: 0x0506_0708,
@@ -154,13 +145,17 @@ fn reads_sections_of_both_orders(rt: HostRuntime) -> Result<(), Fail> {
         simple(216, 2, 2),
         simple(284, 5, 5),
     ];
-    assert_eq!(rt; capture.records.as_slice(), want.as_slice());
-    assert_eq!(rt; capture.cut, None);
-    assert!(rt; !capture.big && !capture.nano);
+    same_items(&rt, capture.records.as_slice(), &want);
+    same(&rt, &capture.cut, &None, 0);
+    same(&rt, &(capture.big, capture.nano), &(false, false), 1);
+    Ok(())
+}
 
+#[test]
+fn the_first_section_tells_the_order(rt: HostRuntime) -> Result<(), Fail> {
     let big = joined(rt.alloc(), &[&BIG_SECTION, &SECTION])?;
-    let capture = capture_of(&rt, big.as_slice())?.ok().ok_or("no capture")?;
-    assert!(rt; capture.big && capture.records.is_empty());
+    let capture = sure_capture_of(&rt, &big)?;
+    same(&rt, &(capture.big, capture.records.len()), &(true, 0), 0);
     Ok(())
 }
 
@@ -272,7 +267,7 @@ fn names_the_first_fault_of_a_block(rt: HostRuntime) -> Result<(), Fail> {
     for (i, (end, want)) in cases.iter().enumerate() {
         let file = joined(rt.alloc(), &[&SECTION, &INTERFACE, end])?;
         let got = counts(&rt, file.as_slice())?;
-        assert_eq!(rt; got, *want, "case {i}");
+        same(&rt, &got, want, i);
     }
     Ok(())
 }
@@ -285,11 +280,11 @@ fn counts_at_most_262144_packets(rt: HostRuntime) -> Result<(), Fail> {
         put_enhanced(&mut file, &[])?;
     }
     file.extend_from_slice(&SECTION)?;
-    assert_eq!(rt; counts(&rt, file.as_slice())?, Ok((262_144, None)));
+    same(&rt, &counts(&rt, &file)?, &Ok((262_144, None)), 0);
     file.extend_from_slice(&[3, 0, 0, 0, 16, 0, 0, 0, 1, 0, 0, 0, 16, 0, 0])?;
-    assert_eq!(rt; counts(&rt, file.as_slice())?, Ok((262_144, Some(15))));
+    same(&rt, &counts(&rt, &file)?, &Ok((262_144, Some(15))), 15);
     file.push(0)?;
-    assert_eq!(rt; counts(&rt, file.as_slice())?, Err(NgFault::TooManyPackets));
+    same(&rt, &counts(&rt, &file)?, &Err(NgFault::TooManyPackets), 16);
     Ok(())
 }
 

@@ -1,5 +1,7 @@
 //! Frames, headers of files, and bytes put together of pieces.
 use std::alloc::{AllocError, Global};
+use std::fmt::Debug;
+use std::process::Abort;
 
 /// The header of a little-endian capture with microseconds.
 pub(crate) const HEADER: [u8; 24] = [
@@ -23,4 +25,14 @@ pub(crate) fn joined(alloc: Global, pieces: &[&[u8]]) -> Result<Vec<u8>, AllocEr
         bytes.extend_from_slice(piece)?;
     }
     Ok(bytes)
+}
+
+/// Asserts that what was got in a case of a table is what is wanted there.
+pub(crate) fn same<T: PartialEq + Debug>(rt: &impl Abort, got: &T, wanted: &T, case: usize) {
+    assert!(rt; *got == *wanted, "case {case}: {got:?}, and not {wanted:?}");
+}
+
+/// Asserts that the items are those that are wanted.
+pub(crate) fn same_items<T: PartialEq + Debug>(rt: &impl Abort, got: &[T], wanted: &[T]) {
+    assert_eq!(rt; got, wanted);
 }

@@ -1,7 +1,8 @@
 //! Plans by their texts, and the faults of texts that are no plan.
-use crate::pieces::joined;
+use crate::pieces::{joined, same, same_items};
 use plan_reader::{Plan, PlanFault, QueuePlan, Steps, TxPlan, read_plan};
 use std::alloc::{AllocError, Global};
+use std::process::Abort;
 use std::test::Fail;
 use steer_base::{AppId, Command, Cpu, CpuMask, RxQueue, Step, TxQueue};
 use toeplitz::VERIFICATION_KEY_BYTES;
@@ -42,9 +43,22 @@ fn has_fault(alloc: Global, bytes: &[u8], kind: &str, path: &str, value: u64) ->
     }
 }
 
+/// Asserts that the bytes of a case have this fault.
+fn is_refused(rt: &impl Abort, alloc: Global, bytes: &[u8], fault: (&str, &str, u64), case: usize) {
+    let (kind, path, value) = fault;
+    same(rt, &has_fault(alloc, bytes, kind, path, value), &true, case);
+}
+
+/// Asserts that each text has its fault.
+fn texts_are_refused(rt: &impl Abort, alloc: Global, cases: &[(&str, &str, &str, u64)]) {
+    for (i, &(text, kind, path, value)) in cases.iter().enumerate() {
+        is_refused(rt, alloc, text.as_bytes(), (kind, path, value), i);
+    }
+}
+
 #[test]
-fn faults_of_whole_texts(rt: HostRuntime) {
-    let cases: [(&str, &str, &str, u64); 16] = [
+fn texts_that_are_no_plan(rt: HostRuntime) {
+    let cases: [(&str, &str, &str, u64); 8] = [
         ("{", "not json", "", 0),
         ("", "not json", "", 0),
         ("{\"cpus\":1e400}", "not json", "", 0),
@@ -53,6 +67,15 @@ fn faults_of_whole_texts(rt: HostRuntime) {
         ("[]", "wrong kind", "", 0),
         ("null", "wrong kind", "", 0),
         ("{\"cpus\":33}", "range", "cpus", 33),
+    ];
+    texts_are_refused(&rt, rt.alloc(), &cases);
+    let no_text = b"{\"a\":\"\xff\"}";
+    is_refused(&rt, rt.alloc(), no_text, ("not json", "", 0), 8);
+}
+
+#[test]
+fn faults_of_whole_texts(rt: HostRuntime) {
+    let cases: [(&str, &str, &str, u64); 8] = [
         ("{\"cpus\":0}", "range", "cpus", 0),
         ("{\"cpus\":null}", "wrong kind", "cpus", 0),
         ("{\"cpus\":-0}", "wrong kind", "cpus", 0),
@@ -72,18 +95,24 @@ fn faults_of_whole_texts(rt: HostRuntime) {
         ),
         ("{\"cpus\":4,\"queues\":[]}", "range", "queues", 0),
     ];
-    for (i, &(text, kind, path, value)) in cases.iter().enumerate() {
-        assert!(rt;
-            has_fault(rt.alloc(), text.as_bytes(), kind, path, value),
-            "case {i}"
-        );
+    texts_are_refused(&rt, rt.alloc(), &cases);
+}
+
+/// A further key, steps, and the fault that they make: its words, its path and its number.
+type Fault<'a> = (&'a str, &'a str, &'a str, &'a str, u64);
+
+/// Asserts that each case has its fault.
+fn are_refused(rt: &impl Abort, alloc: Global, cases: &[Fault<'_>]) -> Result<(), Fail> {
+    for (i, &(more, steps, kind, path, value)) in cases.iter().enumerate() {
+        let text = text_with(alloc, more.as_bytes(), steps.as_bytes())?;
+        is_refused(rt, alloc, &text, (kind, path, value), i);
     }
-    assert!(rt; has_fault(rt.alloc(), b"{\"a\":\"\xff\"}", "not json", "", 0));
+    Ok(())
 }
 
 #[test]
-fn faults_of_keys_and_steps(rt: HostRuntime) -> Result<(), Fail> {
-    let cases: [(&str, &str, &str, &str, u64); 32] = [
+fn faults_of_keys(rt: HostRuntime) -> Result<(), Fail> {
+    let cases: [Fault; 8] = [
         (",\"zeal\":1", "[]", "unknown key", "zeal", 0),
         (",\"zeal\":1,\"\":2", "[]", "unknown key", "", 0),
         (",\"sock\":4.0", "[]", "wrong kind", "sock", 0),
@@ -110,6 +139,13 @@ fn faults_of_keys_and_steps(rt: HostRuntime) -> Result<(), Fail> {
             "queues/0/a",
             0,
         ),
+    ];
+    are_refused(&rt, rt.alloc(), &cases)
+}
+
+#[test]
+fn faults_of_settings(rt: HostRuntime) -> Result<(), Fail> {
+    let cases: [Fault; 7] = [
         (",\"queues\":[7]", "[]", "wrong kind", "queues/0", 0),
         (",\"key\":\"6d5a\"", "[]", "wrong kind", "key", 0),
         (",\"reta\":[]", "[]", "range", "reta", 0),
@@ -117,6 +153,13 @@ fn faults_of_keys_and_steps(rt: HostRuntime) -> Result<(), Fail> {
         (",\"start\":4294967296", "[]", "range", "start", 4294967296),
         (",\"limited\":[true]", "[]", "wrong kind", "limited/0", 0),
         (",\"tx\":[{\"cpus\":[]}]", "[]", "missing", "tx/0/queues", 0),
+    ];
+    are_refused(&rt, rt.alloc(), &cases)
+}
+
+#[test]
+fn faults_of_transmit_queues_and_detaches(rt: HostRuntime) -> Result<(), Fail> {
+    let cases: [Fault; 7] = [
         (
             ",\"tx\":[{\"cpus\":[],\"queues\":[1]}]",
             "[]",
@@ -160,6 +203,13 @@ fn faults_of_keys_and_steps(rt: HostRuntime) -> Result<(), Fail> {
             "detach/1/tap",
             32,
         ),
+    ];
+    are_refused(&rt, rt.alloc(), &cases)
+}
+
+#[test]
+fn faults_of_steps(rt: HostRuntime) -> Result<(), Fail> {
+    let cases: [Fault; 10] = [
         ("", "4", "wrong kind", "steps", 0),
         ("", "{\"seed\":1}", "missing", "steps/count", 0),
         (
@@ -183,11 +233,7 @@ fn faults_of_keys_and_steps(rt: HostRuntime) -> Result<(), Fail> {
         ("", "[\"mask 1 0,9,8\"]", "range", "steps/0", 1),
         ("", "[\"mask 0 0,9,8\"]", "range", "steps/0", 9),
     ];
-    for (i, &(more, steps, kind, path, value)) in cases.iter().enumerate() {
-        let text = text_with(rt.alloc(), more.as_bytes(), steps.as_bytes())?;
-        assert!(rt; has_fault(rt.alloc(), &text, kind, path, value), "case {i}");
-    }
-    Ok(())
+    are_refused(&rt, rt.alloc(), &cases)
 }
 
 /// `count` times a piece between two texts.
@@ -215,10 +261,7 @@ fn long_and_deep_texts(rt: HostRuntime) -> Result<(), Fail> {
     ] {
         let steps = repeated(alloc, b"[0", b",0", more, b"]")?;
         let text = text_with(alloc, b"", &steps)?;
-        assert!(rt;
-            has_fault(alloc, &text, kind, path, value),
-            "{more} more steps"
-        );
+        is_refused(&rt, alloc, &text, (kind, path, value), more);
     }
     for (depth, kind) in [
         (127usize, "wrong kind"),
@@ -227,7 +270,7 @@ fn long_and_deep_texts(rt: HostRuntime) -> Result<(), Fail> {
     ] {
         let open = repeated(alloc, b"", b"[", depth, b"")?;
         let text = repeated(alloc, &open, b"]", depth, b"")?;
-        assert!(rt; has_fault(alloc, &text, kind, "", 0), "depth {depth}");
+        is_refused(&rt, alloc, &text, (kind, "", 0), depth);
     }
     Ok(())
 }
@@ -254,28 +297,40 @@ fn fields_are_read(rt: HostRuntime) -> Result<(), Fail> {
         cpus: CpuMask(0),
         queues: 0,
     };
-    assert_eq!(rt; plan.queues.as_slice(), [queue].as_slice());
-    assert_eq!(rt; plan.tx.as_slice(), [tx].as_slice());
-    assert_eq!(rt; plan.apps.as_slice(), [Cpu(2)].as_slice());
-    assert_eq!(rt; (plan.cpus, plan.sock, plan.tries), (4, 4, 64));
-    assert_eq!(rt; plan.limited, CpuMask(9));
+    same_items(&rt, plan.queues.as_slice(), &[queue]);
+    same_items(&rt, plan.tx.as_slice(), &[tx]);
+    same_items(&rt, plan.apps.as_slice(), &[Cpu(2)]);
+    same(&rt, &(plan.cpus, plan.sock, plan.tries), &(4, 4, 64), 0);
+    same(&rt, &plan.limited, &CpuMask(9), 1);
     Ok(())
 }
 
 #[test]
 fn keys_that_are_not_given_have_defaults(rt: HostRuntime) -> Result<(), Fail> {
     let plan = plan_from(rt.alloc(), b"", b"[]")?;
-    assert_eq!(rt; plan.key, VERIFICATION_KEY_BYTES);
-    assert_eq!(rt;
-        (plan.kinds, plan.filters, plan.backlog, plan.start),
-        (63, 0, 1000, 0)
-    );
-    assert_eq!(rt; (plan.limited, plan.workers), (CpuMask(0), 1));
-    assert_eq!(rt;
-        (plan.reta.len(), plan.detach.len(), plan.commands().len()),
-        (128, 0, 0)
-    );
+    same_items(&rt, &plan.key, &VERIFICATION_KEY_BYTES);
+    has_default_numbers(&rt, &plan);
+    has_default_lists(&rt, &plan);
     Ok(())
+}
+
+fn has_default_numbers(rt: &impl Abort, plan: &Plan) {
+    let numbers = (plan.kinds, plan.filters, plan.backlog, plan.start);
+    same(rt, &numbers, &(63, 0, 1000, 0), 0);
+    same(rt, &(plan.limited, plan.workers), &(CpuMask(0), 1), 1);
+}
+
+fn has_default_lists(rt: &impl Abort, plan: &Plan) {
+    let lens = (plan.reta.len(), plan.detach.len(), plan.commands().len());
+    same(rt, &lens, &(128, 0, 0), 2);
+}
+
+/// The one step of a list of steps.
+fn only_step(plan: &Plan) -> Option<Step> {
+    match &plan.steps {
+        Steps::List(list) if list.len() == 1 => list.as_slice().first().copied(),
+        _ => None,
+    }
 }
 
 #[test]
@@ -314,10 +369,7 @@ fn texts_of_steps(rt: HostRuntime) -> Result<(), Fail> {
     ];
     for (i, &(text, step)) in cases.iter().enumerate() {
         let plan = plan_from(rt.alloc(), b"", text.as_bytes())?;
-        let Steps::List(list) = &plan.steps else {
-            return Err("a seed")?;
-        };
-        assert_eq!(rt; list.as_slice(), [step].as_slice(), "case {i}");
+        same(&rt, &only_step(&plan), &Some(step), i);
     }
     Ok(())
 }
@@ -330,8 +382,16 @@ fn commands_of_a_list(rt: HostRuntime) -> Result<(), Fail> {
         b"[\"arrive\",\"sock 0\",\"sweep\",\"online 1\"]",
     )?;
     let wanted = [Command::Sock(0), Command::Online(Cpu(1))];
-    assert_eq!(rt; plan.commands(), wanted.as_slice());
+    same_items(&rt, plan.commands(), &wanted);
     Ok(())
+}
+
+/// Asserts that the plan has just these steps.
+fn has_steps(rt: &impl Abort, plan: &Plan, wanted: &[Step]) {
+    assert!(rt; plan.step_count() as usize == wanted.len());
+    for (i, step) in wanted.iter().enumerate() {
+        same(rt, &plan.step_at(i as u32), step, i);
+    }
 }
 
 // The first words of the seed 42 that the generator's author prints are a15c02b7, 7b47f409,
@@ -356,10 +416,7 @@ fn steps_of_a_seed(rt: HostRuntime) -> Result<(), Fail> {
         Step::Ship(0),
         Step::Sweep,
     ];
-    assert_eq!(rt; plan.step_count(), 7);
-    for (i, &step) in wanted.iter().enumerate() {
-        assert_eq!(rt; plan.step_at(i as u32), step, "step {i}");
-    }
-    assert_eq!(rt; plan.commands().len(), 0);
+    has_steps(&rt, &plan, &wanted);
+    same(&rt, &plan.commands().len(), &0, 0);
     Ok(())
 }

@@ -1,9 +1,12 @@
 //! Rules by their texts, the faults of texts that have none, and the first matches of flows.
+use crate::pieces::same;
 use ntuple_rules::{
-    Classifier, Rule, RuleKind, a_match_is_the_first, both_directions_fold_alike, fold, read_rules,
+    Classifier, Rule, RuleKind, Rules, a_match_is_the_first, both_directions_fold_alike, fold,
+    read_rules,
 };
 use plan_reader::PlanFault;
 use std::alloc::Global;
+use std::process::Abort;
 use std::test::Fail;
 use steer_base::{Flow, Pair, Proto, RxQueue};
 
@@ -111,16 +114,25 @@ fn faults_of_rules(rt: HostRuntime) {
         ),
     ];
     for (i, &(text, kind, path, value)) in cases.iter().enumerate() {
-        assert!(rt; has_fault(rt.alloc(), text, kind, path, value), "case {i}");
+        let refused = has_fault(rt.alloc(), text, kind, path, value);
+        same(&rt, &refused, &true, i);
     }
+}
+
+fn has_settings(rt: &impl Abort, rules: &Rules, numbers: (u8, u8), switches: (bool, bool)) {
+    same(rt, &(rules.queues, rules.kinds), &numbers, 0);
+    same(rt, &(rules.symmetric, rules.inner), &switches, 1);
+}
+
+fn has_second_of_six(rt: &impl Abort, rules: &Rules, wanted: Rule) {
+    assert!(rt; rules.rules.len() == 6);
+    same(rt, rules.rules.get(1), &wanted, 1);
 }
 
 #[test]
 fn rules_have_their_fields_and_defaults(rt: HostRuntime) -> Result<(), Fail> {
     let rules = read_rules(rt.alloc(), SIX)?;
-    assert_eq!(rt; (rules.queues, rules.kinds), (4, 63));
-    assert_eq!(rt; (rules.symmetric, rules.inner), (false, false));
-    assert_eq!(rt; rules.rules.len(), 6);
+    has_settings(&rt, &rules, (4, 63), (false, false));
     let wanted = Rule {
         kind: RuleKind::Udp6,
         src: 0x2001_0db8 << 96,
@@ -133,12 +145,15 @@ fn rules_have_their_fields_and_defaults(rt: HostRuntime) -> Result<(), Fail> {
         dportmask: 0,
         queue: RxQueue(2),
     };
-    assert_eq!(rt; *rules.rules.get(1), wanted);
+    has_second_of_six(&rt, &rules, wanted);
     let text = b"{\"queues\":16,\"kinds\":0,\"symmetric\":true,\"inner\":true,\"rules\":[]}";
     let rules = read_rules(rt.alloc(), text)?;
-    assert_eq!(rt; (rules.queues, rules.kinds), (16, 0));
-    assert_eq!(rt; (rules.symmetric, rules.inner), (true, true));
+    has_settings(&rt, &rules, (16, 0), (true, true));
     Ok(())
+}
+
+fn first_match(classifier: &Classifier, flow: &Flow) -> Option<u32> {
+    classifier.find(flow)
 }
 
 #[test]
@@ -164,7 +179,7 @@ fn the_first_match_is_found(rt: HostRuntime) -> Result<(), Fail> {
         (Flow::Four(pair6(1, 2), Proto::Udp, 1, 1), Some(4)),
     ];
     for (i, (flow, wanted)) in cases.iter().enumerate() {
-        assert_eq!(rt; classifier.find(flow), *wanted, "case {i}");
+        same(&rt, &first_match(&classifier, flow), wanted, i);
     }
     Ok(())
 }
@@ -186,6 +201,6 @@ fn both_directions_have_one_fold(rt: HostRuntime) {
         ),
     ];
     for (i, (flow, wanted)) in cases.iter().enumerate() {
-        assert_eq!(rt; fold(flow), *wanted, "case {i}");
+        same(&rt, &fold(flow), wanted, i);
     }
 }

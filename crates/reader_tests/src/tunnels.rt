@@ -1,5 +1,6 @@
 //! Frames in tunnels byte by byte, and the flows that are found in them.
-use crate::pieces::joined;
+use crate::pieces::{joined, same, same_items};
+use std::process::Abort;
 use std::test::Fail;
 use steer_base::{Flow, Pair, Proto};
 use tunnel_dissector::{Inner, a_tunnel_is_one_level_more, dissect_inner, put_vxlan};
@@ -61,22 +62,22 @@ fn inner_of(rt: &HostRuntime, pieces: &[&[u8]]) -> Result<(Flow, u8), Fail> {
 fn enters_each_kind_of_tunnel(rt: HostRuntime) -> Result<(), Fail> {
     let six = Flow::Two(Pair::V6 { src: 1, dst: 2 });
     let got = inner_of(&rt, &[&ETHERNET, &TCP])?;
-    assert_eq!(rt; got, (tcp(), 0), "no tunnel");
+    same(&rt, &got, &(tcp(), 0), 0);
     let got = inner_of(&rt, &[&[]])?;
-    assert_eq!(rt; got, (Flow::Bare, 0), "no frame");
+    same(&rt, &got, &(Flow::Bare, 0), 1);
     let got = inner_of(&rt, &[&ETHERNET, &ipv4(4), &TCP])?;
-    assert_eq!(rt; got, (tcp(), 1), "IPv4 in IPv4");
+    same(&rt, &got, &(tcp(), 1), 2);
     let got = inner_of(&rt, &[&ETHERNET, &ipv4(41), &SIX])?;
-    assert_eq!(rt; got, (six, 1), "IPv6 in IPv4");
+    same(&rt, &got, &(six, 1), 3);
     let got = inner_of(&rt, &[&ETHERNET, &ipv4(4), &SIX])?;
-    assert_eq!(rt; got, (outer(), 0), "not IPv4, as the protocol says");
+    same(&rt, &got, &(outer(), 0), 4);
 
     // GRE over IPv6 with destination options, and a TCP packet in it.
     let mut over_six = SIX;
     over_six[6] = 60;
     let options = [47, 0, 0, 0, 0, 0, 0, 0];
     let got = inner_of(&rt, &[&ETHERNET6, &over_six, &options, &[0, 0, 8, 0], &TCP])?;
-    assert_eq!(rt; got, (tcp(), 1), "IPv4 in GRE over IPv6");
+    same(&rt, &got, &(tcp(), 1), 5);
     Ok(())
 }
 
@@ -107,10 +108,10 @@ fn reads_the_header_of_gre(rt: HostRuntime) -> Result<(), Fail> {
     ];
     for (i, (header, want)) in cases.iter().enumerate() {
         let got = inner_of(&rt, &[&ETHERNET, &GRE, header, &TCP])?;
-        assert_eq!(rt; got, *want, "case {i}");
+        same(&rt, &got, want, i);
     }
     let got = inner_of(&rt, &[&ETHERNET, &GRE, &[0xb0, 0, 8, 0], &[9; 11]])?;
-    assert_eq!(rt; got, (outer(), 0), "a header that is cut");
+    same(&rt, &got, &(outer(), 0), 12);
     Ok(())
 }
 
@@ -138,7 +139,7 @@ fn reads_the_header_of_vxlan(rt: HostRuntime) -> Result<(), Fail> {
             &rt,
             &[&ETHERNET, &ipv4(17), ports, &header, &ETHERNET, &TCP],
         )?;
-        assert_eq!(rt; got, want, "case {i}");
+        same(&rt, &got, &want, i);
     }
     Ok(())
 }
@@ -147,7 +148,7 @@ fn reads_the_header_of_vxlan(rt: HostRuntime) -> Result<(), Fail> {
 fn enters_at_most_four_levels(rt: HostRuntime) -> Result<(), Fail> {
     let through = ipv4(4);
     let four = [&ETHERNET[..], &through, &through, &through, &through, &TCP];
-    assert_eq!(rt; inner_of(&rt, &four)?, (tcp(), 4));
+    same(&rt, &inner_of(&rt, &four)?, &(tcp(), 4), 4);
     let five = [
         &ETHERNET[..],
         &through,
@@ -157,8 +158,18 @@ fn enters_at_most_four_levels(rt: HostRuntime) -> Result<(), Fail> {
         &through,
         &TCP,
     ];
-    assert_eq!(rt; inner_of(&rt, &five)?, (outer(), 4));
+    same(&rt, &inner_of(&rt, &five)?, &(outer(), 4), 5);
     Ok(())
+}
+
+fn has_ends_and_network(rt: &impl Abort, tunnel: &[u8]) {
+    assert!(rt; tunnel.len() == 88);
+    same_items(
+        rt,
+        &tunnel[26..38],
+        &[10, 0, 0, 1, 10, 0, 0, 2, 4, 0, 0x12, 0xb5],
+    );
+    same_items(rt, &tunnel[42..50], &[8, 0, 0, 0, 0, 0, 5, 0]);
 }
 
 #[test]
@@ -167,15 +178,22 @@ fn puts_a_frame_into_a_vxlan(rt: HostRuntime) -> Result<(), Fail> {
     assert!(rt; frame.len() == 38);
     let mut tunnel = Vec::new(rt.alloc());
     put_vxlan(&mut tunnel, 0x0a00_0001, 0x0a00_0002, 5, frame.as_slice())?;
-    assert_eq!(rt; tunnel.len(), 88);
-    let ends = [10, 0, 0, 1, 10, 0, 0, 2, 4, 0, 0x12, 0xb5];
-    assert_eq!(rt; &tunnel.as_slice()[26..38], ends.as_slice());
-    let network = [8, 0, 0, 0, 0, 0, 5, 0];
-    assert_eq!(rt; &tunnel.as_slice()[42..50], network.as_slice());
+    has_ends_and_network(&rt, &tunnel);
     let got = inner_of(&rt, &[tunnel.as_slice()])?;
-    assert_eq!(rt; got, (tcp(), 1));
+    same(&rt, &got, &(tcp(), 1), 0);
     a_tunnel_is_one_level_more();
     Ok(())
+}
+
+fn has_header_sum(rt: &impl Abort, tunnel: &[u8]) {
+    assert!(rt; tunnel.len() == 74);
+    let mut sum = 0u32;
+    for i in 7..17usize {
+        let high = u32::from(tunnel[2 * i]);
+        let low = u32::from(tunnel[2 * i + 1]);
+        sum = sum.wrapping_add(high * 256 + low);
+    }
+    same(rt, &(sum % 65_535), &0, 0);
 }
 
 #[test]
@@ -184,14 +202,7 @@ fn sums_up_the_header_that_it_puts(rt: HostRuntime) -> Result<(), Fail> {
     for address in [0, 0x0a00_0001, 0xffff_ffff, 0xc0a8_0101u32] {
         let mut tunnel = Vec::new(rt.alloc());
         put_vxlan(&mut tunnel, address, 0xffff_ffff, 0x00ff_ffff, &TCP)?;
-        assert_eq!(rt; tunnel.len(), 74);
-        let mut sum = 0u32;
-        for i in 7..17usize {
-            let high = u32::from(tunnel[2 * i]);
-            let low = u32::from(tunnel[2 * i + 1]);
-            sum = sum.wrapping_add(high * 256 + low);
-        }
-        assert_eq!(rt; sum % 65_535, 0, "{address}");
+        has_header_sum(&rt, &tunnel);
     }
     Ok(())
 }

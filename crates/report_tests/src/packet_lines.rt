@@ -1,16 +1,28 @@
 //! The lines of a packet and of its reply.
+use crate::equal::same;
 use crate::histories::{PLAIN, SEGMENT, classed, lines_of, replied};
-use history::{PacketLine, Place, ReplyLine, Via};
+use history::{Lines, PacketLine, Place, ReplyLine, Via};
 use std::alloc::Global;
 use std::process::Abort;
 use steer_base::{AppId, Cpu, PacketId, Put, RxQueue, Why};
+
+// The one packet has this line.
+fn has_packet(rt: &impl Abort, lines: &Lines, line: PacketLine) {
+    assert!(rt; lines.len() == 1 && lines.queues() == 1);
+    same(rt, &lines.arrived_at(0), &1, 0);
+    same(rt, &lines.packet(PacketId(0)), &line, 1);
+}
+
+// The one reply has this line.
+fn has_reply(rt: &impl Abort, lines: &Lines, reply: ReplyLine) {
+    same(rt, &lines.reply(PacketId(0)), &Some(reply), 2);
+    same(rt, &lines.reply(PacketId(1)), &None, 3);
+}
 
 // The lines of a packet that was delivered, and whose reply was sent, where the counters begin at
 // `start`: both have this position.
 fn has_lines(rt: &impl Abort, alloc: Global, start: u32, position: u32) {
     let lines = lines_of(rt, alloc, &replied(rt, alloc, start), &[SEGMENT], 1);
-    assert!(rt; lines.len() == 1 && lines.queues() == 1);
-    assert_eq!(rt; lines.arrived_at(0), 1);
     let line = PacketLine {
         id: PacketId(0),
         queue: RxQueue(0),
@@ -22,7 +34,7 @@ fn has_lines(rt: &impl Abort, alloc: Global, start: u32, position: u32) {
         place: Place::Inbox(AppId(0)),
         flow_number: 0,
     };
-    assert_eq!(rt; lines.packet(PacketId(0)), line);
+    has_packet(rt, &lines, line);
     let reply = ReplyLine {
         id: PacketId(0),
         app: AppId(0),
@@ -33,8 +45,7 @@ fn has_lines(rt: &impl Abort, alloc: Global, start: u32, position: u32) {
         port: Some(1),
         flow_number: 0,
     };
-    assert_eq!(rt; lines.reply(PacketId(0)), Some(reply));
-    assert_eq!(rt; lines.reply(PacketId(1)), None);
+    has_reply(rt, &lines, reply);
 }
 
 #[test]

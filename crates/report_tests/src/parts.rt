@@ -3,6 +3,7 @@ ghost use Rattle.std.specs.Prelude.{◌≡◌};
 ghost use Rattle.steer_parts.specs.Settings.{MayChange, changed};
 ghost use Rattle.steer_parts.specs.Start.{settings_of};
 
+use crate::equal::{same, same_items};
 use pcap_reader::{put_header, put_packet, read_capture};
 use plan_reader::{Plan, read_plan};
 use std::alloc::Global;
@@ -55,7 +56,7 @@ fn flows_are_numbered_as_they_appear(rt: HostRuntime) -> Result<(), Fail> {
     // By their addresses alone the first two flows have one hash, and are two flows.
     let hash = Some(0x323e_8fc2u32);
     let found = packets(rt.alloc(), &capture, &bytes, &verification_key(), Kinds(1))?;
-    assert_eq!(rt; found.len(), 5);
+    same(&rt, &found.len(), &5, 0);
     for (packet, wanted) in found.iter().zip([
         (hash, 38u32, 0u32),
         (hash, 38, 1),
@@ -63,7 +64,12 @@ fn flows_are_numbered_as_they_appear(rt: HostRuntime) -> Result<(), Fail> {
         (None, 14, 2),
         (hash, 38, 0),
     ]) {
-        assert_eq!(rt; (packet.hash, packet.len, packet.flow_number), wanted);
+        same(
+            &rt,
+            &(packet.hash, packet.len, packet.flow_number),
+            &wanted,
+            0,
+        );
     }
     Ok(())
 }
@@ -75,35 +81,36 @@ fn a_plan_and_packets_are_given(rt: HostRuntime) -> Result<(), Fail> {
     let found = packets(rt.alloc(), &capture, &bytes, &verification_key(), Kinds(2))?;
     let plan = read_plan(rt.alloc(), PLAN)?;
     let given = Given::of_plan(rt.alloc(), &plan, &found, capture.cut)?;
-    assert_eq!(rt; given.flow_hash(0), Some(Some(0x51cc_c178)));
-    assert_eq!(rt; given.flow_hash(2), Some(None));
-    assert_eq!(rt; given.flow_hash(3), None);
-    assert_eq!(rt; given.flow_of(PacketId(1)), 1);
-    assert_eq!(rt; given.hash_of(PacketId(4)), Some(0x51cc_c178));
-    assert_eq!(rt; given.app_of(PacketId(0)), AppId(0));
-    assert_eq!(rt; given.homes(), [Cpu(3)].as_slice());
-    assert_eq!(rt;
-        (given.queues(), given.cpus(), given.apps(), given.txs()),
-        (1u8, 4u8, 2u8, 1u8)
-    );
-    assert_eq!(rt; (given.packet_count(), given.cut()), (5u32, None));
-    assert!(rt; plan.queues.len() == 1 && given.queues() == 1);
+    has_flows(&rt, &given);
+    has_counts(&rt, &given);
     // Without a mask a packet stays at its home.
-    let settings = after(
-        &rt,
-        rt.alloc(),
-        &plan,
-        Command::Mask(RxQueue(0), CpuMask(0)),
-    );
-    assert_eq!(rt; settings.plain_lane(&given, 0, PacketId(0)), Cpu(3));
-    let settings = after(
-        &rt,
-        rt.alloc(),
-        &plan,
-        Command::Mask(RxQueue(0), CpuMask(0b10)),
-    );
-    assert_eq!(rt; settings.plain_lane(&given, 0, PacketId(0)), Cpu(1));
+    for (mask, cpu) in [(0, 3u8), (0b10, 1)] {
+        let found = masked_lane(&rt, rt.alloc(), &plan, &given, CpuMask(mask));
+        same(&rt, &found, &Cpu(cpu), 0);
+    }
     Ok(())
+}
+
+fn has_flows(rt: &impl Abort, given: &Given) {
+    let hashes = (given.flow_hash(0), given.flow_hash(2), given.flow_hash(3));
+    same(rt, &hashes, &(Some(Some(0x51cc_c178)), Some(None), None), 0);
+    let of_packets = (given.flow_of(PacketId(1)), given.hash_of(PacketId(4)));
+    same(rt, &of_packets, &(1, Some(0x51cc_c178)), 1);
+    same(rt, &given.app_of(PacketId(0)), &AppId(0), 2);
+}
+
+fn has_counts(rt: &impl Abort, given: &Given) {
+    same_items(rt, given.homes(), &[Cpu(3)]);
+    let counts = (given.queues(), given.cpus(), given.apps(), given.txs());
+    same(rt, &counts, &(1, 4, 2, 1), 3);
+    same(rt, &(given.packet_count(), given.cut()), &(5, None), 4);
+}
+
+// The processor of the first packet, which has no class, where the one queue has this mask.
+fn masked_lane(rt: &impl Abort, alloc: Global, plan: &Plan, given: &Given, mask: CpuMask) -> Cpu {
+    assert!(rt; plan.queues.len() == 1 && given.queues() == 1);
+    let settings = after(rt, alloc, plan, Command::Mask(RxQueue(0), mask));
+    settings.plain_lane(given, 0, PacketId(0))
 }
 
 // The hash of the first flow: 0 modulo 2, and at entry 120.
@@ -125,29 +132,60 @@ fn after(rt: &impl Abort, alloc: Global, plan: &Plan, command: Command) -> InFor
     settings
 }
 
+fn flow_counts(rt: &impl Abort, alloc: Global, plan: &Plan) -> (u32, u32) {
+    assert!(rt; plan.queues.len() == 2);
+    let flows = after(rt, alloc, plan, Command::Flows(RxQueue(1), 5));
+    (flows.flow_count(0), flows.flow_count(1))
+}
+
+fn online(rt: &impl Abort, alloc: Global, plan: &Plan) -> (CpuMask, CpuMask) {
+    let online = after(rt, alloc, plan, Command::Online(Cpu(3)));
+    let offline = after(rt, alloc, plan, Command::Offline(Cpu(1)));
+    (online.online(), offline.online())
+}
+
+fn stands(rt: &impl Abort, alloc: Global, plan: &Plan) {
+    assert!(rt; plan.apps.len() == 2);
+    let stand = after(rt, alloc, plan, Command::Stand(AppId(1), Cpu(2)));
+    same_items(rt, stand.stands(), &[Cpu(0), Cpu(2)]);
+}
+
+fn picked_by_cpu(rt: &impl Abort, alloc: Global, plan: &Plan) -> u8 {
+    assert!(rt; plan.tx.len() == 2);
+    let maps = after(rt, alloc, plan, Command::XCpus(TxQueue(1), CpuMask(0b10)));
+    maps.pick(RxQueue(0), Cpu(1), Some(HASH))
+}
+
+fn picked_by_queue(rt: &impl Abort, alloc: Global, plan: &Plan) -> (u8, u8) {
+    assert!(rt; plan.tx.len() == 2);
+    let maps = after(rt, alloc, plan, Command::XQueues(TxQueue(1), 0b10));
+    let mapped = maps.pick(RxQueue(1), Cpu(1), Some(HASH));
+    (mapped, maps.pick(RxQueue(0), Cpu(1), Some(HASH)))
+}
+
+fn entry_queue(rt: &impl Abort, alloc: Global, plan: &Plan) -> RxQueue {
+    assert!(rt; plan.queues.len() == 2);
+    after(rt, alloc, plan, Command::Reta(120, RxQueue(1))).queue(Some(HASH))
+}
+
 #[test]
 fn each_command_changes_its_own_setting(rt: HostRuntime) -> Result<(), Fail> {
     let alloc = rt.alloc();
     let plan = read_plan(alloc, SETTINGS)?;
-    assert!(rt; plan.queues.len() == 2 && plan.tx.len() == 2 && plan.apps.len() == 2);
-    let flows = after(&rt, alloc, &plan, Command::Flows(RxQueue(1), 5));
-    assert_eq!(rt; (flows.flow_count(0), flows.flow_count(1)), (1, 8));
-    let sock = after(&rt, alloc, &plan, Command::Sock(9));
-    assert_eq!(rt; sock.sock(), 16);
-    let online = after(&rt, alloc, &plan, Command::Online(Cpu(3)));
-    assert_eq!(rt; online.online(), CpuMask(0b1111));
-    let offline = after(&rt, alloc, &plan, Command::Offline(Cpu(1)));
-    assert_eq!(rt; offline.online(), CpuMask(0b101));
-    let stand = after(&rt, alloc, &plan, Command::Stand(AppId(1), Cpu(2)));
-    assert_eq!(rt; stand.stands(), [Cpu(0), Cpu(2)].as_slice());
-    let by_cpu = after(&rt, alloc, &plan, Command::XCpus(TxQueue(1), CpuMask(0b10)));
-    assert_eq!(rt; by_cpu.pick(RxQueue(0), Cpu(1), Some(HASH)), 1);
-    let by_queue = after(&rt, alloc, &plan, Command::XQueues(TxQueue(1), 0b10));
-    assert_eq!(rt; by_queue.pick(RxQueue(1), Cpu(1), Some(HASH)), 1);
-    assert_eq!(rt; by_queue.pick(RxQueue(0), Cpu(1), Some(HASH)), 0);
-    let entry = after(&rt, alloc, &plan, Command::Reta(120, RxQueue(1)));
-    assert_eq!(rt; entry.queue(Some(HASH)), RxQueue(1));
-    let expired = after(&rt, alloc, &plan, Command::Expire);
-    assert_eq!(rt; expired.queue(Some(HASH)), RxQueue(0));
+    same(&rt, &flow_counts(&rt, alloc, &plan), &(1, 8), 0);
+    let sock = after(&rt, alloc, &plan, Command::Sock(9)).sock();
+    same(&rt, &sock, &16, 1);
+    same(
+        &rt,
+        &online(&rt, alloc, &plan),
+        &(CpuMask(0b1111), CpuMask(0b101)),
+        2,
+    );
+    stands(&rt, alloc, &plan);
+    same(&rt, &picked_by_cpu(&rt, alloc, &plan), &1, 3);
+    same(&rt, &picked_by_queue(&rt, alloc, &plan), &(1, 0), 4);
+    same(&rt, &entry_queue(&rt, alloc, &plan), &RxQueue(1), 5);
+    let expired = after(&rt, alloc, &plan, Command::Expire).queue(Some(HASH));
+    same(&rt, &expired, &RxQueue(0), 6);
     Ok(())
 }

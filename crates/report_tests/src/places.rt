@@ -2,6 +2,7 @@
 ghost use Rattle.std.specs.Prelude.{◌≤◌, length};
 ghost use Rattle.history.specs.Places.{IsInReach};
 
+use crate::equal::same;
 use crate::histories::{full, lane, lanes, moved, none, one, received};
 use history::{History, Place};
 use std::process::Abort;
@@ -14,15 +15,17 @@ fn is_in_reach(h: &History, id: PacketId)
     ensures { IsInReach h.now id }
 {}
 
+fn has_place(rt: &impl Abort, h: &History, id: u32, place: Place) {
+    assert!(rt; h.lanes.len() <= 256 && h.inboxes.len() <= 256);
+    assert!(rt; h.has_arrived(PacketId(id)));
+    is_in_reach(h, PacketId(id));
+    same(rt, &h.place(PacketId(id)), &place, id as usize);
+}
+
 // Each packet has its place, the first one that of number 0.
 fn has_places(rt: &impl Abort, h: History, places: &[Place]) {
-    assert!(rt; h.lanes.len() <= 256 && h.inboxes.len() <= 256);
-    let mut id = 0;
-    for place in places {
-        assert!(rt; h.has_arrived(PacketId(id)), "packet {id}");
-        is_in_reach(&h, PacketId(id));
-        assert_eq!(rt; h.place(PacketId(id)), *place, "packet {id}");
-        id = id.saturating_add(1);
+    for (place, id) in places.iter().zip(0u32..) {
+        has_place(rt, &h, id, *place);
     }
 }
 

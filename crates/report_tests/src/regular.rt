@@ -1,4 +1,6 @@
 //! Which histories are regular.
+ghost use Rattle.std.specs.Prelude.{◌≤◌, length};
+
 use crate::histories::{
     PLAIN, SEGMENT, chosen, classed, ids, lane, lanes, none, one, replied, two,
 };
@@ -7,7 +9,8 @@ use history_check::is_regular;
 use std::alloc::Global;
 use std::process::Abort;
 use steer_base::{
-    Answer, Choice, Chosen, Command, Cpu, DropCause, Idle, LaneDrop, List, PacketId, RxQueue, Why,
+    Answer, Choice, Chosen, Command, Cpu, DropCause, Idle, LaneDrop, List, Packet, PacketId,
+    RxQueue, Why,
 };
 
 // What is wrong in a history.
@@ -101,14 +104,21 @@ fn faulty(rt: &impl Abort, alloc: Global, fault: Fault) -> History {
     h
 }
 
+fn has_passed(rt: &impl Abort, alloc: Global, h: &History, packets: &[Packet], apps: u8) -> bool
+    requires apps { 1 ≤ apps }
+    requires few { length packets.now ≤ 262144 }
+{
+    is_regular(alloc, h, packets, apps).expect(rt, "memory")
+}
+
 #[test]
 fn each_fault_is_irregular(rt: HostRuntime) {
     let alloc = rt.alloc();
     let packets = [SEGMENT];
     let whole = replied(&rt, alloc, 0);
-    assert!(&rt; is_regular(alloc, &whole, &packets, 1).expect(&rt, "memory"));
-    assert!(&rt; !is_regular(alloc, &whole, &packets, 2).expect(&rt, "memory"));
-    assert!(&rt; !is_regular(alloc, &whole, &[], 1).expect(&rt, "memory"));
+    assert!(&rt; has_passed(&rt, alloc, &whole, &packets, 1));
+    assert!(&rt; !has_passed(&rt, alloc, &whole, &packets, 2));
+    assert!(&rt; !has_passed(&rt, alloc, &whole, &[], 1));
     let faults = [
         Fault::MoreTakenThanArrived,
         Fault::OtherLaneChosen,
@@ -125,9 +135,6 @@ fn each_fault_is_irregular(rt: HostRuntime) {
     ];
     for fault in faults {
         let h = faulty(&rt, alloc, fault);
-        assert!(&rt;
-            !is_regular(alloc, &h, &packets, 1).expect(&rt, "memory"),
-            "{fault:?}"
-        );
+        assert!(&rt; !has_passed(&rt, alloc, &h, &packets, 1), "{fault:?}");
     }
 }

@@ -2,6 +2,7 @@
 ghost use Rattle.std.specs.Prelude.{◌≤◌, length};
 ghost use Rattle.report.specs.Made.{AreLinesOf};
 
+use crate::equal::same_items;
 use crate::histories::{
     OTHER_SEGMENT, SEGMENT, delivered, filtered, full, lane, limited, lines_of, list, moved, one,
     received, replied, replying, waiting,
@@ -41,7 +42,7 @@ fn reads(rt: &impl Abort, alloc: Global, h: &History, packets: &[Packet], wanted
     let lines = lines_of(rt, alloc, h, packets, 1);
     let (done, out) = written(rt, alloc, h, &lines, &[], &[]);
     assert!(rt; done);
-    assert_eq!(rt; out.bytes(), wanted);
+    same_items(rt, out.bytes(), wanted);
 }
 
 #[test]
@@ -376,6 +377,38 @@ end 4 of 4
     assert!(&rt; out.bytes().ends_with(wanted.as_slice()));
 }
 
+// Where the write of this number fails, the report stops behind these bytes.
+fn stops_behind(
+    rt: &impl Abort,
+    alloc: Global,
+    h: &History,
+    lines: &Lines,
+    texts: &[TapText],
+    failing: u64,
+    wanted: &[u8],
+)
+    requires { AreLinesOf lines.now h.now }
+{
+    let (done, out) = written(rt, alloc, h, lines, texts, &[failing]);
+    assert!(rt; !done);
+    same_items(rt, out.bytes(), wanted);
+}
+
+fn goes_out_whole(
+    rt: &impl Abort,
+    alloc: Global,
+    h: &History,
+    lines: &Lines,
+    texts: &[TapText],
+    wanted: &[u8],
+)
+    requires { AreLinesOf lines.now h.now }
+{
+    let (done, out) = written(rt, alloc, h, lines, texts, &[]);
+    assert!(rt; done);
+    same_items(rt, out.bytes(), wanted);
+}
+
 // The report goes out as these pieces, one a write, and nothing goes out from a write that fails
 // on.
 fn goes_out(
@@ -390,14 +423,10 @@ fn goes_out(
 {
     let mut wanted = Vec::new(alloc);
     for (taken, piece) in pieces.iter().enumerate() {
-        let (done, out) = written(rt, alloc, h, lines, texts, &[taken as u64 + 1]);
-        assert!(rt; !done);
-        assert_eq!(rt; out.bytes(), wanted.as_slice(), "after {taken} pieces");
+        stops_behind(rt, alloc, h, lines, texts, taken as u64 + 1, &wanted);
         wanted.extend_from_slice(piece).expect(rt, "memory");
     }
-    let (done, out) = written(rt, alloc, h, lines, texts, &[]);
-    assert!(rt; done);
-    assert_eq!(rt; out.bytes(), wanted.as_slice());
+    goes_out_whole(rt, alloc, h, lines, texts, &wanted);
 }
 
 #[test]

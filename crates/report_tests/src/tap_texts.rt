@@ -1,6 +1,7 @@
 //! Texts of the three kinds, and taps of the tests that count their drops.
 ghost use Rattle.std.specs.Prelude.{◌≡◌, length};
 
+use crate::equal::{same, same_items};
 use crate::histories::{PLAIN, SEGMENT, lines_of, none, received};
 use history::{Lines, PacketLine, Place, Via};
 use std::alloc::Global;
@@ -53,14 +54,11 @@ fn each_kind_gives_its_text(rt: HostRuntime) -> Result<(), Fail> {
         line(0, 2, Put::At(1)),
     ];
     let text = text_after(PerCpu::make(alloc), &lines[..2])?;
-    assert_eq!(rt; text.bytes.as_slice(), b"cpu 1 packets 2\n".as_slice());
+    same_items(&rt, &text.bytes, b"cpu 1 packets 2\n");
     let text = text_after(PerFlow::make(alloc), &lines)?;
-    assert_eq!(rt; text.bytes.as_slice(), b"flow 0 packets 4\n".as_slice());
+    same_items(&rt, &text.bytes, b"flow 0 packets 4\n");
     let text = text_after(Depth::make(alloc), &lines)?;
-    assert_eq!(rt;
-        text.bytes.as_slice(),
-        b"depth cpu 1 at 3\ndepth cpu 2 at 1\n".as_slice()
-    );
+    same_items(&rt, &text.bytes, b"depth cpu 1 at 3\ndepth cpu 2 at 1\n");
     Ok(())
 }
 
@@ -82,19 +80,22 @@ fn drops_waiting_packets_and_wrapped_positions(rt: HostRuntime) -> Result<(), Fa
         in_ring(3),
     ];
     let text = text_after(PerCpu::make(alloc), &lines)?;
-    assert_eq!(rt;
-        text.bytes.as_slice(),
-        b"cpu 0 packets 1\ncpu 1 packets 3\ncpu 2 packets 1\n".as_slice()
+    same_items(
+        &rt,
+        &text.bytes,
+        b"cpu 0 packets 1\ncpu 1 packets 3\ncpu 2 packets 1\n",
     );
     let text = text_after(PerFlow::make(alloc), &lines)?;
-    assert_eq!(rt;
-        text.bytes.as_slice(),
-        b"flow 7 packets 4\nflow 0 packets 1\nflow 3 packets 1\n".as_slice()
+    same_items(
+        &rt,
+        &text.bytes,
+        b"flow 7 packets 4\nflow 0 packets 1\nflow 3 packets 1\n",
     );
     let text = text_after(Depth::make(alloc), &lines)?;
-    assert_eq!(rt;
-        text.bytes.as_slice(),
-        b"depth cpu 1 at 1\ndepth cpu 2 at 4294967295\n".as_slice()
+    same_items(
+        &rt,
+        &text.bytes,
+        b"depth cpu 1 at 1\ndepth cpu 2 at 4294967295\n",
     );
     Ok(())
 }
@@ -146,41 +147,45 @@ fn three_lines(rt: &impl Abort, alloc: Global) -> Lines
 {
     let h = received(rt, alloc, &[0; 3], &[], none(alloc), &[]);
     let lines = lines_of(rt, alloc, &h, &[SEGMENT; 3], 1);
-    assert_eq!(rt; lines.len(), 3);
+    assert!(rt; lines.len() == 3);
     lines
+}
+
+// Whether two taps are fed with three lines, of which the second tap finds no memory for the one of
+// this number, how many of the taps are dropped, and how many lines each sees.
+fn fed(alloc: Global, lines: &Lines, failing: u32) -> Result<(bool, u32, u32, u32), Fail>
+    requires { length lines.now.packets ≡ 3 }
+{
+    let detach = [
+        Detach { tap: 0, after: 2 },
+        Detach { tap: 0, after: 1 },
+        Detach { tap: 9, after: 0 },
+    ];
+    let drops = Rc::new(alloc, Cell::new(0))?;
+    let first = Rc::new(alloc, Cell::new(0))?;
+    let second = Rc::new(alloc, Cell::new(0))?;
+    let mut taps = Vec::new(alloc);
+    for (lines, failing) in [(&first, 0), (&second, failing)] {
+        let tap: Box<dyn Tap> = Box::new(
+            alloc,
+            Counting {
+                alloc,
+                lines: lines.clone()?,
+                drops: drops.clone()?,
+                failing,
+            },
+        )?;
+        taps.push(tap)?;
+    }
+    let answered = feed(alloc, taps, lines, 3, &detach).is_ok();
+    Ok((answered, drops.get(), first.get(), second.get()))
 }
 
 #[test]
 fn every_tap_is_dropped_once(rt: HostRuntime) -> Result<(), Fail> {
     let alloc = rt.alloc();
     let lines = three_lines(&rt, alloc);
-    let detach = [
-        Detach { tap: 0, after: 2 },
-        Detach { tap: 0, after: 1 },
-        Detach { tap: 9, after: 0 },
-    ];
-    // The number of the line for which the second tap finds no memory, and how many lines the two
-    // taps see.
-    for (failing, first, second) in [(9, 1, 3), (2, 1, 2)] {
-        let drops = Rc::new(alloc, Cell::new(0))?;
-        let seen = [Rc::new(alloc, Cell::new(0))?, Rc::new(alloc, Cell::new(0))?];
-        let mut taps = Vec::new(alloc);
-        for (i, lines) in seen.iter().enumerate() {
-            let tap: Box<dyn Tap> = Box::new(
-                alloc,
-                Counting {
-                    alloc,
-                    lines: lines.clone()?,
-                    drops: drops.clone()?,
-                    failing: if i == 1 { failing } else { 0 },
-                },
-            )?;
-            taps.push(tap)?;
-        }
-        let answer = feed(alloc, taps, &lines, 3, &detach);
-        assert_eq!(rt; answer.is_ok(), failing == 9);
-        assert_eq!(rt; drops.get(), 2);
-        assert_eq!(rt; (seen[0].get(), seen[1].get()), (first, second));
-    }
+    same(&rt, &fed(alloc, &lines, 9)?, &(true, 2, 1, 3), 0);
+    same(&rt, &fed(alloc, &lines, 2)?, &(false, 2, 1, 2), 1);
     Ok(())
 }

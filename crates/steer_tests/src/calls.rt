@@ -1,12 +1,14 @@
 //! Calls of the program over files in memory.
-use outside_io::{MemoryDesk, MemorySink};
+use outside_io::{Desk, MemoryDesk, MemorySink, Sink};
 use std::alloc::Global;
+use std::fmt::Debug;
+use std::process::Abort;
 use std::test::Fail;
 use steer_top::steer_still;
 use taps::Tap;
 
 /// The words of a call.
-pub fn words(alloc: Global, texts: &[&str]) -> Result<Vec<String>, Fail> {
+fn words(alloc: Global, texts: &[&str]) -> Result<Vec<String>, Fail> {
     let mut words = Vec::new(alloc);
     for text in texts {
         words.push(String::from_str(alloc, *text)?)?;
@@ -43,6 +45,19 @@ pub struct Outcome {
     pub err: Vec<u8>,
 }
 
+/// The status of a call of these words.
+pub fn run<D: Desk, O: Sink, E: Sink>(
+    alloc: Global,
+    texts: &[&str],
+    desk: &mut D,
+    out: &mut O,
+    err: &mut E,
+    taps: Vec<Box<dyn Tap>>,
+) -> Result<u8, Fail> {
+    let words = words(alloc, texts)?;
+    Ok(steer_still(alloc, &words, desk, out, err, taps))
+}
+
 /// What a call over this desk comes to, without taps.
 pub fn called(alloc: Global, texts: &[&str], desk: MemoryDesk) -> Result<Outcome, Fail> {
     called_with(alloc, texts, desk, Vec::new(alloc))
@@ -57,8 +72,7 @@ pub fn called_with(
 ) -> Result<Outcome, Fail> {
     let mut out = sink(alloc, &[])?;
     let mut err = sink(alloc, &[])?;
-    let words = words(alloc, texts)?;
-    let status = steer_still(alloc, &words, &mut desk, &mut out, &mut err, taps);
+    let status = run(alloc, texts, &mut desk, &mut out, &mut err, taps)?;
     outcome_of(alloc, status, &out, &err)
 }
 
@@ -72,9 +86,8 @@ pub fn called_failing(
 ) -> Result<Outcome, Fail> {
     let mut out = sink(alloc, out_failing)?;
     let mut err = sink(alloc, err_failing)?;
-    let words = words(alloc, texts)?;
     let taps = Vec::new(alloc);
-    let status = steer_still(alloc, &words, &mut desk, &mut out, &mut err, taps);
+    let status = run(alloc, texts, &mut desk, &mut out, &mut err, taps)?;
     outcome_of(alloc, status, &out, &err)
 }
 
@@ -89,4 +102,21 @@ fn outcome_of(
         out: out.bytes().to_vec(alloc)?,
         err: err.bytes().to_vec(alloc)?,
     })
+}
+
+/// Asserts that what was got in a case is what is wanted there.
+pub fn same<T: PartialEq + Debug>(rt: &impl Abort, got: &T, wanted: &T, case: usize) {
+    assert!(rt; *got == *wanted, "case {case}: {got:?}, and not {wanted:?}");
+}
+
+/// Asserts that the bytes of a case are these.
+pub fn same_bytes(rt: &impl Abort, got: &[u8], wanted: &[u8], case: usize) {
+    assert!(rt; got == wanted, "case {case}: {got:?}, and not {wanted:?}");
+}
+
+/// Asserts that a call of a case came to this status and these texts.
+pub fn comes_to(rt: &impl Abort, got: &Outcome, status: u8, out: &[u8], err: &[u8], case: usize) {
+    same(rt, &got.status, &status, case);
+    same_bytes(rt, &got.out, out, case);
+    same_bytes(rt, &got.err, err, case);
 }

@@ -1,6 +1,7 @@
 //! The command `gen`.
-use crate::calls::{called, desk_of};
+use crate::calls::{called, comes_to, desk_of, same, same_bytes};
 use std::alloc::Global;
+use std::process::Abort;
 use std::test::Fail;
 
 // The number behind this word and a space in a line.
@@ -33,9 +34,7 @@ fn small_input_is_replayed(rt: HostRuntime) -> Result<(), Fail> {
     ];
     for (case, (texts, wanted)) in cases.into_iter().enumerate() {
         let got = called(alloc, texts, desk_of(alloc, &[], &[])?)?;
-        assert_eq!(rt; got.status, 0, "case {case}");
-        assert_eq!(rt; got.out.as_slice(), wanted, "case {case}");
-        assert!(rt; got.err.is_empty(), "case {case}");
+        comes_to(&rt, &got, 0, wanted, b"", case);
     }
     Ok(())
 }
@@ -54,8 +53,8 @@ fn numbers_out_of_range_get_the_usage(rt: HostRuntime) -> Result<(), Fail> {
     ];
     for (case, texts) in cases.into_iter().enumerate() {
         let got = called(alloc, texts, desk_of(alloc, &[], &[])?)?;
-        assert_eq!(rt; got.status, 2, "case {case}");
-        assert!(rt; got.out.is_empty(), "case {case}");
+        same(&rt, &got.status, &2, case);
+        same_bytes(&rt, &got.out, b"", case);
     }
     Ok(())
 }
@@ -70,16 +69,26 @@ fn large(alloc: Global) -> Result<Vec<u8>, Fail> {
     Ok(got.out)
 }
 
-#[test]
-fn large_input_is_swept_and_gives_one_text(rt: HostRuntime) -> Result<(), Fail> {
-    let alloc = rt.alloc();
-    let text = String::from_utf8(large(alloc)?)?;
-    assert_eq!(rt; large(alloc)?.as_slice(), text.as_bytes());
+// Each packet was delivered or dropped, and each one that was delivered was replied to.
+fn is_swept(rt: &impl Abort, text: &str) {
     let (head, rest) = text.split_once('\n').unwrap_or(("", ""));
     assert!(rt; head.starts_with("gen 7 packets 131072 flows "), "{head}");
     let delivered = number_after(rest, "delivered").unwrap_or(0);
     let dropped = number_after(rest, "dropped").unwrap_or(0);
-    assert_eq!(rt; delivered.saturating_add(dropped), 131_072);
-    assert_eq!(rt; number_after(rest.trim(), "replies"), Some(delivered));
+    same(rt, &delivered.saturating_add(dropped), &131_072, 0);
+    same(
+        rt,
+        &number_after(rest.trim(), "replies"),
+        &Some(delivered),
+        1,
+    );
+}
+
+#[test]
+fn large_input_is_swept_and_gives_one_text(rt: HostRuntime) -> Result<(), Fail> {
+    let alloc = rt.alloc();
+    let text = String::from_utf8(large(alloc)?)?;
+    same_bytes(&rt, &large(alloc)?, text.as_bytes(), 0);
+    is_swept(&rt, &text);
     Ok(())
 }

@@ -2,7 +2,7 @@
 ghost use Rattle.std.specs.Prelude.{◌≡◌, Option, None};
 ghost use Rattle.outside_io.specs.Counts.{last_count};
 
-use crate::calls::{called, called_failing, desk_of, sink, words};
+use crate::calls::{called, called_failing, comes_to, desk_of, run, same, same_bytes, sink};
 use crate::files::{
     ARP, FRAGMENT, FRAME_A, FRAME_B, HEADER, OTHER_LINK, SYN, TAGGED_V6, VERSION_2_5, ZEROS,
     big_file, file, front, tcpdump_file,
@@ -13,7 +13,6 @@ use outside_io::{
 };
 use std::alloc::Global;
 use std::test::Fail;
-use steer_top::steer_still;
 
 const LINE_A: &[u8] =
     b"packet 0 tcp4 420995bb a18e6450 2794 1766 hash 51ccc178 entry 120 queue 0\npackets 1\n";
@@ -24,6 +23,16 @@ const USAGE: &[u8] =
 // A desk that holds this file as a.pcap, and whose calls with these numbers fail.
 fn desk_with(alloc: Global, bytes: &[u8], failing: &[u64]) -> Result<MemoryDesk, Fail> {
     desk_of(alloc, &[("a.pcap", bytes)], failing)
+}
+
+// The status of the command on the file of this desk.
+fn hashed<D: Desk, O: Sink, E: Sink>(
+    alloc: Global,
+    desk: &mut D,
+    out: &mut O,
+    err: &mut E,
+) -> Result<u8, Fail> {
+    run(alloc, &["hash", "a.pcap"], desk, out, err, Vec::new(alloc))
 }
 
 #[test]
@@ -88,9 +97,7 @@ fn captures_are_hashed(rt: HostRuntime) -> Result<(), Fail> {
     ];
     for (case, (texts, bytes, wanted)) in cases.into_iter().enumerate() {
         let got = called(alloc, texts, desk_with(alloc, bytes, &[])?)?;
-        assert_eq!(rt; got.status, 0, "case {case}");
-        assert_eq!(rt; got.out.as_slice(), wanted, "case {case}");
-        assert!(rt; got.err.is_empty(), "case {case}");
+        comes_to(&rt, &got, 0, wanted, b"", case);
     }
     Ok(())
 }
@@ -112,9 +119,7 @@ fn what_is_no_capture_is_named(rt: HostRuntime) -> Result<(), Fail> {
     ];
     for (case, (bytes, wanted)) in cases.into_iter().enumerate() {
         let got = called(alloc, &["hash", "a.pcap"], desk_with(alloc, bytes, &[])?)?;
-        assert_eq!(rt; got.status, 4, "case {case}");
-        assert!(rt; got.out.is_empty(), "case {case}");
-        assert_eq!(rt; got.err.as_slice(), wanted, "case {case}");
+        comes_to(&rt, &got, 4, b"", wanted, case);
     }
     Ok(())
 }
@@ -141,9 +146,7 @@ fn words_that_are_no_command_get_the_usage(rt: HostRuntime) -> Result<(), Fail> 
     ];
     for (case, texts) in cases.into_iter().enumerate() {
         let got = called(alloc, texts, desk_with(alloc, &bytes, &[])?)?;
-        assert_eq!(rt; got.status, 2, "case {case}");
-        assert!(rt; got.out.is_empty(), "case {case}");
-        assert_eq!(rt; got.err.as_slice(), USAGE, "case {case}");
+        comes_to(&rt, &got, 2, b"", USAGE, case);
     }
     Ok(())
 }
@@ -155,19 +158,15 @@ fn faults_of_the_desk_and_the_sinks_are_told(rt: HostRuntime) -> Result<(), Fail
     let bytes = file(alloc, &[&FRAME_A])?;
 
     let got = called(alloc, texts, desk_with(alloc, &bytes, &[2])?)?;
-    assert_eq!(rt; got.status, 5);
-    assert!(rt; got.out.is_empty());
-    assert_eq!(rt; got.err.as_slice(), b"read fault\n".as_slice());
+    comes_to(&rt, &got, 5, b"", b"read fault\n", 0);
 
     let got = called_failing(alloc, texts, desk_with(alloc, &bytes, &[])?, &[2], &[])?;
-    assert_eq!(rt; got.status, 6);
-    assert_eq!(rt; got.out.as_slice(), front(LINE_A, 74));
-    assert_eq!(rt; got.err.as_slice(), b"write fault\n".as_slice());
+    comes_to(&rt, &got, 6, front(LINE_A, 74), b"write fault\n", 0);
 
     let short = desk_with(alloc, front(&HEADER, 23), &[])?;
     let got = called_failing(alloc, texts, short, &[], &[1])?;
-    assert_eq!(rt; got.status, 4);
-    assert!(rt; got.err.is_empty());
+    same(&rt, &got.status, &4, 2);
+    same_bytes(&rt, &got.err, b"", 2);
     Ok(())
 }
 
@@ -182,20 +181,8 @@ fn a_sure_desk_and_sure_sinks_serve(rt: HostRuntime) -> Result<(), Fail> {
     let mut desk = SureDesk::make(files);
     let mut out = SureSink::make();
     let mut err = SureSink::make();
-    let words = words(alloc, &["hash", "a.pcap"])?;
-    assert_eq!(rt;
-        steer_still(
-            alloc,
-            &words,
-            &mut desk,
-            &mut out,
-            &mut err,
-            Vec::new(alloc)
-        ),
-        0
-    );
-    assert_eq!(rt; out.count(), 84);
-    assert_eq!(rt; err.count(), 0);
+    let status = hashed(alloc, &mut desk, &mut out, &mut err)?;
+    same(&rt, &(status, out.count(), err.count()), &(0, 84, 0), 0);
     Ok(())
 }
 
@@ -241,18 +228,10 @@ fn a_file_that_is_too_long_is_refused(rt: HostRuntime) -> Result<(), Fail> {
     };
     let mut out = sink(alloc, &[])?;
     let mut err = sink(alloc, &[])?;
-    let words = words(alloc, &["hash", "a.pcap"])?;
-    let status = steer_still(
-        alloc,
-        &words,
-        &mut desk,
-        &mut out,
-        &mut err,
-        Vec::new(alloc),
-    );
-    assert_eq!(rt; status, 8);
-    assert!(rt; out.bytes().is_empty());
-    assert_eq!(rt; err.bytes(), b"capture too long\n".as_slice());
+    let status = hashed(alloc, &mut desk, &mut out, &mut err)?;
+    same(&rt, &status, &8, 0);
+    same_bytes(&rt, out.bytes(), b"", 0);
+    same_bytes(&rt, err.bytes(), b"capture too long\n", 0);
     Ok(())
 }
 
@@ -264,18 +243,10 @@ fn one_byte_at_a_time_gives_the_same_text(rt: HostRuntime) -> Result<(), Fail> {
         inner: sink(alloc, &[])?,
     };
     let mut err = sink(alloc, &[])?;
-    let words = words(alloc, &["hash", "a.pcap"])?;
-    let status = steer_still(
-        alloc,
-        &words,
-        &mut desk,
-        &mut out,
-        &mut err,
-        Vec::new(alloc),
-    );
-    assert_eq!(rt; status, 0);
-    assert_eq!(rt; out.inner.bytes(), LINE_A);
-    assert!(rt; err.bytes().is_empty());
+    let status = hashed(alloc, &mut desk, &mut out, &mut err)?;
+    same(&rt, &status, &0, 0);
+    same_bytes(&rt, out.inner.bytes(), LINE_A, 0);
+    same_bytes(&rt, err.bytes(), b"", 0);
     Ok(())
 }
 
@@ -319,20 +290,11 @@ fn a_text_is_flushed_once_and_a_flush_may_fail(rt: HostRuntime) -> Result<(), Fa
             fails,
         };
         let mut err = sink(alloc, &[])?;
-        let words = words(alloc, &["hash", "a.pcap"])?;
-        let status = steer_still(
-            alloc,
-            &words,
-            &mut desk,
-            &mut out,
-            &mut err,
-            Vec::new(alloc),
-        );
-        assert_eq!(rt; status, wanted, "case {case}");
-        assert_eq!(rt; out.flushes, flushes, "case {case}");
+        let status = hashed(alloc, &mut desk, &mut out, &mut err)?;
+        same(&rt, &(status, out.flushes), &(wanted, flushes), case);
         if wanted == 6 {
-            assert_eq!(rt; out.inner.bytes(), LINE_A);
-            assert_eq!(rt; err.bytes(), b"write fault\n".as_slice());
+            same_bytes(&rt, out.inner.bytes(), LINE_A, case);
+            same_bytes(&rt, err.bytes(), b"write fault\n", case);
         }
     }
     Ok(())

@@ -1,5 +1,5 @@
 //! Captures in the pcapng format: the command `hash`, and a replay.
-use crate::calls::{Outcome, called, desk_of};
+use crate::calls::{Outcome, called, comes_to, desk_of, same, same_bytes};
 use crate::files::{FRAME_A, front};
 use crate::plans::{FOUR_LINES, FOUR_STEPS, ONE_FLOW, plan_of};
 use pcapng_reader::{put_enhanced, put_section};
@@ -62,9 +62,7 @@ fn pcapng_captures_are_hashed(rt: HostRuntime) -> Result<(), Fail> {
     ];
     for (case, (bytes, wanted)) in cases.into_iter().enumerate() {
         let got = hashed(alloc, bytes)?;
-        assert_eq!(rt; got.status, 0, "case {case}");
-        assert_eq!(rt; got.out.as_slice(), wanted, "case {case}");
-        assert!(rt; got.err.is_empty(), "case {case}");
+        comes_to(&rt, &got, 0, wanted, b"", case);
     }
     Ok(())
 }
@@ -84,9 +82,7 @@ fn faults_of_pcapng_captures_are_named(rt: HostRuntime) -> Result<(), Fail> {
     ];
     for (case, (place, byte, wanted)) in cases.into_iter().enumerate() {
         let got = hashed(alloc, &with(alloc, place, byte)?)?;
-        assert_eq!(rt; got.status, 4, "case {case}");
-        assert!(rt; got.out.is_empty(), "case {case}");
-        assert_eq!(rt; got.err.as_slice(), wanted, "case {case}");
+        comes_to(&rt, &got, 4, b"", wanted, case);
     }
     Ok(())
 }
@@ -104,7 +100,7 @@ fn pcapng_captures_are_replayed(rt: HostRuntime) -> Result<(), Fail> {
     let got = called(alloc, &["replay", "p.json", "a.pcapng"], desk)?;
     let mut text = FOUR_LINES.to_vec(alloc)?;
     text.extend_from_slice(b"end 4 of 4\n")?;
-    assert_eq!(rt; got.status, 0);
-    assert_eq!(rt; got.out.as_slice(), text.as_slice());
+    same(&rt, &got.status, &0, 0);
+    same_bytes(&rt, &got.out, &text, 0);
     Ok(())
 }

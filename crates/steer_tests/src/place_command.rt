@@ -1,5 +1,5 @@
 //! The command `place` on files in memory.
-use crate::calls::{Outcome, called, desk_of};
+use crate::calls::{Outcome, called, comes_to, desk_of, same};
 use crate::files::{ARP, FRAME_A, FRAME_B, HEADER, file, front};
 use std::alloc::Global;
 use std::test::Fail;
@@ -80,9 +80,7 @@ packets 1 cut 6\n",
     ];
     for (case, (rules, capture, wanted)) in cases.into_iter().enumerate() {
         let got = placed(alloc, rules, capture)?;
-        assert_eq!(rt; got.status, 0, "case {case}");
-        assert_eq!(rt; got.out.as_slice(), wanted, "case {case}");
-        assert!(rt; got.err.is_empty(), "case {case}");
+        comes_to(&rt, &got, 0, wanted, b"", case);
     }
     Ok(())
 }
@@ -112,9 +110,7 @@ fn what_is_no_rules_is_named(rt: HostRuntime) -> Result<(), Fail> {
     for (case, (rules, wanted)) in cases.into_iter().enumerate() {
         let desk = desk_of(alloc, &[("r.json", rules)], &[])?;
         let got = called(alloc, &["place", "r.json", "a.pcap"], desk)?;
-        assert_eq!(rt; got.status, 3, "case {case}");
-        assert!(rt; got.out.is_empty(), "case {case}");
-        assert_eq!(rt; got.err.as_slice(), wanted, "case {case}");
+        comes_to(&rt, &got, 3, b"", wanted, case);
     }
     Ok(())
 }
@@ -145,9 +141,7 @@ fn each_file_has_its_status(rt: HostRuntime) -> Result<(), Fail> {
         (unread, 5, b"read fault\n"),
     ];
     for (case, (got, status, line)) in cases.into_iter().enumerate() {
-        assert_eq!(rt; got.status, status, "case {case}");
-        assert!(rt; got.out.is_empty(), "case {case}");
-        assert_eq!(rt; got.err.as_slice(), line, "case {case}");
+        comes_to(&rt, &got, status, b"", line, case);
     }
     let words: [&[&str]; 4] = [
         &["place"],
@@ -157,7 +151,7 @@ fn each_file_has_its_status(rt: HostRuntime) -> Result<(), Fail> {
     ];
     for (case, texts) in words.into_iter().enumerate() {
         let desk = desk_of(alloc, &[("r.json", RULES), ("a.pcap", &one)], &[])?;
-        assert_eq!(rt; called(alloc, texts, desk)?.status, 2, "case {case}");
+        same(&rt, &called(alloc, texts, desk)?.status, &2, case);
     }
     Ok(())
 }

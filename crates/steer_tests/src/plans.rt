@@ -1,5 +1,5 @@
 //! Plans of the tests, and their replays.
-use crate::calls::{Outcome, called, desk_of};
+use crate::calls::{Outcome, called, comes_to, desk_of, same, same_bytes};
 use crate::files::{ARP, FRAME_A, FRAME_B, file};
 use std::alloc::Global;
 use std::process::Abort;
@@ -78,9 +78,7 @@ pub fn replayed(
 pub fn are_reported(rt: &impl Abort, alloc: Global, cases: &[Case<'_>]) -> Result<(), Fail> {
     for (case, (settings, steps, letters, report)) in cases.iter().enumerate() {
         let got = replayed(alloc, settings, steps, letters)?;
-        assert_eq!(rt; got.status, 0, "case {case}");
-        assert_eq!(rt; got.out.as_slice(), *report, "case {case}");
-        assert!(rt; got.err.is_empty(), "case {case}");
+        comes_to(rt, &got, 0, *report, b"", case);
     }
     Ok(())
 }
@@ -100,9 +98,9 @@ pub fn has_lines(text: &[u8], lines: &[u8]) -> bool {
 pub fn have_lines(rt: &impl Abort, alloc: Global, cases: &[Case<'_>]) -> Result<(), Fail> {
     for (case, (settings, steps, letters, lines)) in cases.iter().enumerate() {
         let got = replayed(alloc, settings, steps, letters)?;
-        assert_eq!(rt; got.status, 0, "case {case}");
-        assert!(rt; has_lines(&got.out, lines), "case {case}");
-        assert!(rt; got.err.is_empty(), "case {case}");
+        same(rt, &got.status, &0, case);
+        same(rt, &has_lines(&got.out, lines), &true, case);
+        same_bytes(rt, &got.err, b"", case);
     }
     Ok(())
 }

@@ -1,5 +1,5 @@
 //! The example of the README: three packets of one flow, of which one is dropped and one moves.
-use crate::calls::{called_with, desk_of};
+use crate::calls::{called_with, comes_to, desk_of};
 use crate::files::{FRAME_A, file};
 use std::alloc::Global;
 use std::test::Fail;
@@ -55,8 +55,6 @@ fn the_report_of_the_readme_is_written(rt: HostRuntime) -> Result<(), Fail> {
     let desk = desk_of(alloc, &files, &[])?;
     let taps = taps_of_the_program(alloc)?;
     let got = called_with(alloc, &["replay", "three.json", "three.pcap"], desk, taps)?;
-    assert_eq!(rt; got.status, 0);
-    assert_eq!(rt; got.out.as_slice(), REPORT);
-    assert!(rt; got.err.is_empty());
+    comes_to(&rt, &got, 0, REPORT, b"", 0);
     Ok(())
 }

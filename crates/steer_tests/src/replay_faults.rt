@@ -1,11 +1,12 @@
 //! The command `replay` where a plan is refused, the desk or a sink fails, or both are slow.
-use crate::calls::{Outcome, called, called_failing, desk_of, sink, words};
+use crate::calls::{
+    Outcome, called, called_failing, comes_to, desk_of, run, same, same_bytes, sink,
+};
 use crate::files::{FRAME_A, HEADER, file, front};
 use crate::plans::{FOUR_LINES, FOUR_STEPS, ONE_FLOW, SWEPT, four_packets, plan_of};
 use crate::slow::{Dripping, Slowly};
 use std::alloc::Global;
 use std::test::Fail;
-use steer_top::steer_still;
 
 #[test]
 fn what_is_no_plan_is_named(rt: HostRuntime) -> Result<(), Fail> {
@@ -44,9 +45,7 @@ fn what_is_no_plan_is_named(rt: HostRuntime) -> Result<(), Fail> {
     for (case, (plan, wanted)) in cases.into_iter().enumerate() {
         let desk = desk_of(alloc, &[("p.json", plan)], &[])?;
         let got = called(alloc, &["replay", "p.json", "a.pcap"], desk)?;
-        assert_eq!(rt; got.status, 3, "case {case}");
-        assert!(rt; got.out.is_empty(), "case {case}");
-        assert_eq!(rt; got.err.as_slice(), wanted, "case {case}");
+        comes_to(&rt, &got, 3, b"", wanted, case);
     }
     Ok(())
 }
@@ -71,9 +70,7 @@ fn each_file_has_its_status(rt: HostRuntime) -> Result<(), Fail> {
     for (case, (plan, capture, failing, status, line)) in cases.into_iter().enumerate() {
         let desk = desk_of(alloc, &[("p.json", plan), ("a.pcap", capture)], failing)?;
         let got = called(alloc, &["replay", "p.json", "a.pcap"], desk)?;
-        assert_eq!(rt; got.status, status, "case {case}");
-        assert!(rt; got.out.is_empty(), "case {case}");
-        assert_eq!(rt; got.err.as_slice(), line, "case {case}");
+        comes_to(&rt, &got, status, b"", line, case);
     }
     Ok(())
 }
@@ -86,16 +83,11 @@ fn a_write_that_fails_leaves_the_lines_before_it(rt: HostRuntime) -> Result<(), 
     let mut before = 0;
     for failing in 1..14u64 {
         let got = four_failing(alloc, failing)?;
-        assert_eq!(rt; got.status, 6, "write {failing}");
-        assert_eq!(rt; got.out.as_slice(), front(&text, before), "write {failing}");
-        assert_eq!(rt;
-            got.err.as_slice(),
-            b"write fault\n".as_slice(),
-            "write {failing}"
-        );
+        let case = failing as usize;
+        comes_to(&rt, &got, 6, front(&text, before), b"write fault\n", case);
         before = next_line(&text, before);
     }
-    assert_eq!(rt; before, text.len());
+    same(&rt, &before, &text.len(), 14);
     Ok(())
 }
 
@@ -128,12 +120,14 @@ fn a_swept_packet_stops_at_the_third_write(rt: HostRuntime) -> Result<(), Fail> 
     let capture = file(alloc, &[&FRAME_A])?;
     let desk = desk_of(alloc, &[("p.json", &plan), ("a.pcap", &capture)], &[])?;
     let got = called_failing(alloc, &["replay", "p.json", "a.pcap"], desk, &[3], &[])?;
-    assert_eq!(rt; got.status, 6);
-    assert_eq!(rt;
-        got.out.as_slice(),
-        b"steer 1\np 0 q 0 via reta class - want - head - tail - cpu 1 why plain at 1 app 0 in 1 place inbox\n".as_slice()
+    comes_to(
+        &rt,
+        &got,
+        6,
+        b"steer 1\np 0 q 0 via reta class - want - head - tail - cpu 1 why plain at 1 app 0 in 1 place inbox\n",
+        b"write fault\n",
+        0,
     );
-    assert_eq!(rt; got.err.as_slice(), b"write fault\n".as_slice());
     Ok(())
 }
 
@@ -146,19 +140,13 @@ fn one_byte_at_a_time_gives_the_same_report(rt: HostRuntime) -> Result<(), Fail>
         inner: sink(alloc, &[])?,
     };
     let mut err = sink(alloc, &[])?;
-    let words = words(alloc, &["replay", "p.json", "a.pcap"])?;
-    let status = steer_still(
-        alloc,
-        &words,
-        &mut desk,
-        &mut out,
-        &mut err,
-        Vec::new(alloc),
-    );
-    assert_eq!(rt; status, 0);
+    let texts = ["replay", "p.json", "a.pcap"];
+    let taps = Vec::new(alloc);
+    let status = run(alloc, &texts, &mut desk, &mut out, &mut err, taps)?;
+    same(&rt, &status, &0, 0);
     let mut text = FOUR_LINES.to_vec(alloc)?;
     text.extend_from_slice(b"end 4 of 4\n")?;
-    assert_eq!(rt; out.inner.bytes(), text.as_slice());
-    assert!(rt; err.bytes().is_empty());
+    same_bytes(&rt, out.inner.bytes(), &text, 0);
+    same_bytes(&rt, err.bytes(), b"", 0);
     Ok(())
 }

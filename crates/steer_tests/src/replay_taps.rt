@@ -1,5 +1,5 @@
 //! The command `replay` with taps.
-use crate::calls::{Outcome, called_with, desk_of};
+use crate::calls::{Outcome, called_with, comes_to, desk_of, same, same_bytes};
 use crate::files::{FRAME_A, file};
 use crate::plans::{FOUR_LINES, FOUR_STEPS, ONE_FLOW, plan_of};
 use history::PacketLine;
@@ -35,8 +35,8 @@ fn texts_of_taps_stand_before_the_end(rt: HostRuntime) -> Result<(), Fail> {
     text.extend_from_slice(
         b"tap 0 bytes 16\ncpu 1 packets 2\ntap 1 bytes 17\nflow 0 packets 4\nend 4 of 4\n",
     )?;
-    assert_eq!(rt; got.status, 0);
-    assert_eq!(rt; got.out.as_slice(), text.as_slice());
+    same(&rt, &got.status, &0, 0);
+    same_bytes(&rt, &got.out, &text, 0);
     Ok(())
 }
 
@@ -100,9 +100,7 @@ fn a_tap_without_memory_ends_the_replay(rt: HostRuntime) -> Result<(), Fail> {
         taps.push(tap)?;
     }
     let got = observed(alloc, ONE_FLOW, taps)?;
-    assert_eq!(rt; got.status, 7);
-    assert!(rt; got.out.is_empty());
-    assert_eq!(rt; got.err.as_slice(), b"out of memory\n".as_slice());
-    assert_eq!(rt; drops.get(), 3);
+    comes_to(&rt, &got, 7, b"", b"out of memory\n", 0);
+    same(&rt, &drops.get(), &3, 0);
     Ok(())
 }

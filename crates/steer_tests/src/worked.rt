@@ -1,5 +1,6 @@
 //! Small plans, one for each case of the headline, with whole reports that were worked out by hand
 //! from the definitions. Frame A has hash 51ccc178 and frame B c626b0ea.
+use crate::calls::same;
 use crate::plans::{Case, are_reported, has_lines, replayed};
 use std::test::Fail;
 
@@ -228,7 +229,7 @@ fn a_drop_by_the_flow_limit_is_reported(rt: HostRuntime) -> Result<(), Fail> {
         steps.extend_from_slice(b",\"arrive\",\"poll 0\"")?;
     }
     let got = replayed(alloc, LIMITED, &steps, &letters)?;
-    assert_eq!(rt; got.status, 0);
+    same(&rt, &got.status, &0, 0);
     let lines =
         b"p 127 q 0 via reta class - want - head - tail - cpu 1 why plain at 128 app 0 in - place backlog
 p 128 q 0 via reta class - want - head - tail - cpu 1 why plain at drop 1 128 0 flow 129 app 0 in - place drop
@@ -236,6 +237,6 @@ p 129 q 0 via reta class - want - head - tail - cpu 1 why plain at 129 app 0 in 
 cpu 1 accepted 129 pulled 0 delivered 0 retired 0 dropped 1
 c 0 expire expired 0
 end 130 of 130";
-    assert!(rt; has_lines(&got.out, lines));
+    same(&rt, &has_lines(&got.out, lines), &true, 0);
     Ok(())
 }

@@ -2,6 +2,7 @@
 ghost use Rattle.std.specs.Prelude.{◌≡◌};
 ghost use Rattle.dev_flow_table.specs.Tables.{IsClassOf};
 
+use crate::equal::same;
 use dev_flow_table::DevTable;
 use std::process::Abort;
 use std::test::Fail;
@@ -50,18 +51,25 @@ fn weigh(table: &mut DevTable, class: u32, turn: Turn) -> Choice
     choice
 }
 
+// The choice that is wanted of a turn.
+fn wanted(class: u32, turn: Turn) -> Choice {
+    Choice {
+        class: Some(class),
+        want: turn.want,
+        head: turn.head,
+        tail: Some(turn.tail),
+        lane: turn.lane,
+        why: turn.why,
+    }
+}
+
 fn play(rt: &impl Abort, table: &mut DevTable, turns: &[Turn]) -> Result<(), Fail>
     ensures { table.new.exact ≡ table.old.exact }
 {
     for (at, turn) in turns.iter().enumerate() {
         let class = table.class(Some(turn.hash)).ok_or("a class")?;
         let choice = weigh(table, class, *turn);
-        assert_eq!(rt; choice.class, Some(class), "turn {at}");
-        assert_eq!(rt; choice.want, turn.want, "turn {at}");
-        assert_eq!(rt; choice.head, turn.head, "turn {at}");
-        assert_eq!(rt; choice.tail, Some(turn.tail), "turn {at}");
-        assert_eq!(rt; choice.lane, turn.lane, "turn {at}");
-        assert_eq!(rt; choice.why, turn.why, "turn {at}");
+        same(rt, &choice, &wanted(class, *turn), at);
     }
     Ok(())
 }
@@ -69,7 +77,7 @@ fn play(rt: &impl Abort, table: &mut DevTable, turns: &[Turn]) -> Result<(), Fai
 #[test]
 fn two_flows_of_one_class_move_together(rt: HostRuntime) -> Result<(), Fail> {
     let mut table = DevTable::make(rt.alloc(), 2, 0)?;
-    assert_eq!(rt; table.class(None), None);
+    same(&rt, &table.class(None), &None, 0);
     let turn = Turn {
         hash: FIRST,
         want: None,
@@ -164,11 +172,8 @@ fn a_flow_moves_across_the_wrap_of_the_counters(rt: HostRuntime) -> Result<(), F
     ];
     play(&rt, &mut table, &turns)?;
     table.resize(3);
-    assert_eq!(rt;
-        table.class(Some(7)),
-        Some(3),
-        "three classes are rounded up to four"
-    );
+    // Three classes are rounded up to four.
+    same(&rt, &table.class(Some(7)), &Some(3), 0);
     play(&rt, &mut table, &[Turn { hash: 7, ..turn }])
 }
 
@@ -248,7 +253,13 @@ fn a_flow_of_replies_changes_its_queue(rt: HostRuntime) -> Result<(), Fail> {
         },
     ];
     play(&rt, &mut table, &turns)?;
-    assert_eq!(rt; table.class(Some(3)), Some(0), "three classes stay three");
-    assert_eq!(rt; table.weigh(None, Some(1), 2, None, ALL).why, Why::Plain);
+    // Three classes stay three.
+    same(&rt, &table.class(Some(3)), &Some(0), 0);
+    same(
+        &rt,
+        &table.weigh(None, Some(1), 2, None, ALL).why,
+        &Why::Plain,
+        1,
+    );
     Ok(())
 }

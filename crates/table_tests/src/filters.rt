@@ -1,5 +1,9 @@
 //! The filters of a network card, as they are written, found and expired.
+ghost use Rattle.std.specs.Prelude.{◌≤◌};
+
+use crate::equal::same;
 use accel_filter::{FilterTable, filter_written};
+use std::alloc::Global;
 use std::test::Fail;
 use steer_base::{Cpu, Filter, RxQueue, Why};
 
@@ -25,11 +29,8 @@ fn a_move_to_a_home_writes_a_filter(rt: HostRuntime) {
         (Why::Plain, 1, None),
     ];
     for (why, cpu, wanted) in cases {
-        assert_eq!(rt;
-            filter_written(&homes, why, Cpu(cpu), 9),
-            wanted,
-            "{why:?} {cpu}"
-        );
+        let found = filter_written(&homes, why, Cpu(cpu), 9);
+        same(&rt, &(why, found), &(why, wanted), cpu as usize);
     }
 }
 
@@ -45,12 +46,12 @@ fn a_filter_goes_when_its_packets_have_gone(rt: HostRuntime) -> Result<(), Fail>
         mark,
     };
     let mut table = FilterTable::make(rt.alloc(), 8)?;
-    assert_eq!(rt; table.count(), 8);
-    assert_eq!(rt; table.look(HASH), None);
+    same(&rt, &table.count(), &8, 0);
+    same(&rt, &table.look(HASH), &None, 1);
     table.steer(HASH, filter(1));
     table.steer(HASH, filter(2));
-    assert_eq!(rt; table.look(HASH + 8), Some(filter(2)));
-    assert_eq!(rt; table.look(HASH + 1), None);
+    same(&rt, &table.look(HASH + 8), &Some(filter(2)), 2);
+    same(&rt, &table.look(HASH + 1), &None, 3);
     // Nothing was pulled, so no filter goes.
     assert!(rt; !table.expire(0, 0, 1));
     assert!(rt; !table.expire(1, 0, 1));
@@ -58,8 +59,23 @@ fn a_filter_goes_when_its_packets_have_gone(rt: HostRuntime) -> Result<(), Fail>
     assert!(rt; table.expire(0, 2, 1));
     assert!(rt; !table.expire(1, 2, 1));
     assert!(rt; !table.expire(0, 2, 1));
-    assert_eq!(rt; table.look(HASH), None);
+    same(&rt, &table.look(HASH), &None, 4);
     Ok(())
+}
+
+// Whether the one filter, with the mark 4294967295, goes at this head, and whether it is gone then.
+fn goes(alloc: Global, head: u32, entries: u32) -> Result<(bool, bool), Fail>
+    requires { entries ≤ 32768 }
+{
+    let mut table = FilterTable::make(alloc, 1)?;
+    let filter = Filter {
+        queue: RxQueue(0),
+        cpu: Cpu(0),
+        mark: 4294967295,
+    };
+    table.steer(HASH, filter);
+    let expired = table.expire(0, head, entries);
+    Ok((expired, table.look(HASH).is_none()))
 }
 
 #[test]
@@ -79,16 +95,14 @@ fn marks_wrap(rt: HostRuntime) -> Result<(), Fail> {
         (2147483647, 1, false),
     ];
     for (head, entries, wanted) in cases {
-        let mut table = FilterTable::make(rt.alloc(), 1)?;
-        let filter = Filter {
-            queue: RxQueue(0),
-            cpu: Cpu(0),
-            mark: 4294967295,
-        };
-        table.steer(HASH, filter);
         assert!(rt; entries <= 32768);
-        assert_eq!(rt; table.expire(0, head, entries), wanted, "{head} {entries}");
-        assert_eq!(rt; table.look(HASH).is_none(), wanted, "{head} {entries}");
+        let gone = goes(rt.alloc(), head, entries)?;
+        same(
+            &rt,
+            &(head, entries, gone),
+            &(head, entries, (wanted, wanted)),
+            0,
+        );
     }
     Ok(())
 }
@@ -102,6 +116,6 @@ fn no_filters(rt: HostRuntime) -> Result<(), Fail> {
         mark: 1,
     };
     table.steer(HASH, filter);
-    assert_eq!(rt; table.look(HASH), None);
+    same(&rt, &table.look(HASH), &None, 0);
     Ok(())
 }

@@ -2,6 +2,7 @@
 //! give.
 ghost use Rattle.std.specs.Prelude.{◌<◌, ◌≤◌, length};
 
+use crate::equal::same;
 use hop_core::{Hop, HopAnswer, HopEvent, HopShape};
 use std::alloc::Global;
 use std::process::Abort;
@@ -25,7 +26,8 @@ fn ask(rt: &impl Abort, hop: &mut Hop, e: HopEvent) -> HopAnswer {
 // Plays events, each with the answer that is wanted.
 fn play(rt: &impl Abort, hop: &mut Hop, turns: &[(HopEvent, HopAnswer)]) {
     for (event, wanted) in turns {
-        assert_eq!(rt; ask(rt, hop, *event), *wanted, "{event:?}");
+        let answer = ask(rt, hop, *event);
+        same(rt, &(*event, answer), &(*event, *wanted), 0);
     }
 }
 
@@ -123,62 +125,69 @@ fn chose(want: Option<u8>, head: Option<u32>, tail: u32, lane: u8, why: Why) -> 
     }
 }
 
+// Four packets of one flow, where these are the numbers of 0 to 3 packets: the first two choose lane
+// 1, the third is kept there, and the fourth moves to lane 2.
+fn moving_packets(numbers: [u32; 4]) -> [Packet; 4] {
+    let [none, one, two, three] = numbers;
+    let first = Packet {
+        id: 0,
+        hash: FIRST,
+        online: ALL,
+        desired: 1,
+        choice: chose(None, None, none, 1, Why::Unset),
+        went: Put::At(one),
+    };
+    let second = Packet {
+        id: 1,
+        desired: 2,
+        choice: chose(Some(2), Some(none), one, 1, Why::Kept),
+        went: Put::At(two),
+        ..first
+    };
+    let third = Packet {
+        id: 2,
+        choice: chose(Some(2), Some(none), two, 1, Why::Kept),
+        went: Put::At(three),
+        ..second
+    };
+    let fourth = Packet {
+        id: 3,
+        choice: chose(Some(2), Some(three), three, 2, Why::Passed),
+        went: Put::At(one),
+        ..second
+    };
+    [first, second, third, fourth]
+}
+
+// The first packet is delivered before the third comes, and retired behind it.
+fn play_moving(rt: &impl Abort, hop: &mut Hop, packets: [Packet; 4]) {
+    let [first, second, third, fourth] = packets;
+    play(rt, hop, &[arrive(0), arrive(1), arrive(2), arrive(3)]);
+    poll(rt, hop, first);
+    poll(rt, hop, second);
+    play(
+        rt,
+        hop,
+        &[
+            (HopEvent::Pull { lane: 1 }, HopAnswer::Took(PacketId(0))),
+            (HopEvent::Deliver { lane: 1, to: 0 }, HopAnswer::Position(1)),
+        ],
+    );
+    poll(rt, hop, third);
+    play(rt, hop, &[(HopEvent::Retire { lane: 1 }, HopAnswer::Done)]);
+    drain(rt, hop, 1, 1, 2);
+    drain(rt, hop, 1, 2, 3);
+    poll(rt, hop, fourth);
+}
+
 #[test]
 fn a_flow_moves_once_the_head_has_reached_its_tail(rt: HostRuntime) -> Result<(), Fail> {
-    // At each start, the numbers of 0 to 3 packets.
     for (start, numbers) in [
         (0, [0u32, 1, 2, 3]),
         (4294967294, [4294967294, 4294967295, 0, 1]),
     ] {
         let mut hop = receive_hop(rt.alloc(), 1, 1000, 4, start, CpuMask(0))?;
-        let [none, one, two, three] = numbers;
-        let first = Packet {
-            id: 0,
-            hash: FIRST,
-            online: ALL,
-            desired: 1,
-            choice: chose(None, None, none, 1, Why::Unset),
-            went: Put::At(one),
-        };
-        let second = Packet {
-            id: 1,
-            desired: 2,
-            choice: chose(Some(2), Some(none), one, 1, Why::Kept),
-            went: Put::At(two),
-            ..first
-        };
-        let third = Packet {
-            id: 2,
-            choice: chose(Some(2), Some(none), two, 1, Why::Kept),
-            went: Put::At(three),
-            ..second
-        };
-        let fourth = Packet {
-            id: 3,
-            choice: chose(Some(2), Some(three), three, 2, Why::Passed),
-            went: Put::At(one),
-            ..second
-        };
-        play(&rt, &mut hop, &[arrive(0), arrive(1), arrive(2), arrive(3)]);
-        poll(&rt, &mut hop, first);
-        poll(&rt, &mut hop, second);
-        play(
-            &rt,
-            &mut hop,
-            &[
-                (HopEvent::Pull { lane: 1 }, HopAnswer::Took(PacketId(0))),
-                (HopEvent::Deliver { lane: 1, to: 0 }, HopAnswer::Position(1)),
-            ],
-        );
-        poll(&rt, &mut hop, third);
-        play(
-            &rt,
-            &mut hop,
-            &[(HopEvent::Retire { lane: 1 }, HopAnswer::Done)],
-        );
-        drain(&rt, &mut hop, 1, 1, 2);
-        drain(&rt, &mut hop, 1, 2, 3);
-        poll(&rt, &mut hop, fourth);
+        play_moving(&rt, &mut hop, moving_packets(numbers));
     }
     Ok(())
 }
@@ -357,10 +366,10 @@ fn a_lane_is_empty_where_its_head_is_its_tail(rt: HostRuntime) -> Result<(), Fai
         };
         play(&rt, &mut hop, &[arrive(0)]);
         poll(&rt, &mut hop, packet);
-        assert_eq!(rt; hop.emptied(ALL), Err(busy));
-        assert_eq!(rt; hop.emptied(CpuMask(0b1101)), Ok(()));
+        same(&rt, &hop.emptied(ALL), &Err(busy), 0);
+        same(&rt, &hop.emptied(CpuMask(0b1101)), &Ok(()), 1);
         drain(&rt, &mut hop, 1, 0, 1);
-        assert_eq!(rt; hop.emptied(ALL), Ok(()));
+        same(&rt, &hop.emptied(ALL), &Ok(()), 2);
     }
     Ok(())
 }
@@ -451,31 +460,45 @@ fn the_largest_hop_is_made(rt: HostRuntime) -> Result<(), Fail> {
 
 // What is read of a hop in which one packet is in the hand of lane 1 and the next one in that of
 // the producer.
-fn shows_its_hands(rt: &impl Abort, hop: &Hop, choice: Choice)
+fn shows_its_hands(rt: &impl Abort, hop: &Hop)
     requires producer { 0 < length hop.now.arrivals }
+{
+    same(rt, &(hop.taken(0), hop.placed(0)), &(2, 1), 0);
+    same(rt, &hop.to_put(0), &None, 1);
+    same(rt, &hop.to_weigh(0), &Some(PacketId(1)), 1);
+}
+
+// One producer is inside.
+fn shows_its_gate(rt: &impl Abort, hop: &Hop)
     requires actor { 0 < length hop.now.visits }
+{
+    same(rt, &hop.is_inside(0), &true, 0);
+    same(rt, &hop.inside(), &1, 0);
+    same(rt, &hop.is_closed(), &false, 0);
+}
+
+// The one choice was this.
+fn shows_its_choice(rt: &impl Abort, hop: &Hop, choice: Choice)
+    requires producer { 0 < length hop.now.arrivals }
+{
+    same(rt, &hop.choices(0).len(), &1, 2);
+    let id = PacketId(0);
+    same(rt, &hop.last_choice(0), &Some(Chosen { id, choice }), 3);
+    same(rt, &hop.class(0, Some(FIRST)), &Some(0), 4);
+}
+
+// And of its lane 1 and of its out lane.
+fn shows_its_lanes(rt: &impl Abort, hop: &Hop)
     requires lane { 1 < length hop.now.bare.accepted }
     requires out { 0 < length hop.now.bare.outs }
 {
-    let (first, second) = (PacketId(0), PacketId(1));
-    let id = first;
-    assert!(rt; hop.is_inside(0) && hop.inside() == 1 && !hop.is_closed());
-    assert_eq!(rt; (hop.taken(0), hop.placed(0)), (2, 1));
-    assert_eq!(rt; hop.to_put(0), None);
-    assert_eq!(rt; hop.choices(0).len(), 1);
-    assert_eq!(rt; hop.to_weigh(0), Some(second));
-    assert_eq!(rt; hop.last_choice(0), Some(Chosen { id, choice }));
-    assert_eq!(rt; hop.class(0, Some(FIRST)), Some(0));
-    assert_eq!(rt; (hop.head(1), hop.tail(1)), (7, 8));
-    assert_eq!(rt;
-        (hop.pulled(1), hop.delivered(1), hop.retired(1)),
-        (1, 0, 0)
-    );
-    assert_eq!(rt; (hop.unretired(1), hop.accepted_len(1)), (1, 1));
-    assert_eq!(rt; hop.accepted_at(1, 0), Some(first));
-    assert!(rt; hop.drops(1).is_empty());
-    assert_eq!(rt; hop.to_deliver(1), Some(first));
-    assert!(rt; hop.out(0).is_empty());
+    same(rt, &(hop.head(1), hop.tail(1)), &(7, 8), 5);
+    let counts = (hop.pulled(1), hop.delivered(1), hop.retired(1));
+    same(rt, &counts, &(1, 0, 0), 6);
+    same(rt, &(hop.unretired(1), hop.accepted_len(1)), &(1, 1), 7);
+    let packets = (hop.accepted_at(1, 0), hop.to_deliver(1));
+    same(rt, &packets, &(Some(PacketId(0)), Some(PacketId(0))), 8);
+    assert!(rt; hop.drops(1).is_empty() && hop.out(0).is_empty());
     hop.sound();
 }
 
@@ -501,6 +524,9 @@ fn a_hop_shows_its_hands(rt: HostRuntime) -> Result<(), Fail> {
     play(&rt, &mut hop, &turns);
     assert!(rt; hop.may_ask(HopEvent::Take { p: 0 }) && hop.may_ask(HopEvent::Enter { p: 0 }));
     assert!(rt; hop.may_ask(HopEvent::Deliver { lane: 1, to: 0 }));
-    shows_its_hands(&rt, &hop, choice);
+    shows_its_gate(&rt, &hop);
+    shows_its_hands(&rt, &hop);
+    shows_its_choice(&rt, &hop, choice);
+    shows_its_lanes(&rt, &hop);
     Ok(())
 }

@@ -4,6 +4,8 @@
 #[cfg(test)]
 mod dev_flow;
 #[cfg(test)]
+mod equal;
+#[cfg(test)]
 mod filters;
 #[cfg(test)]
 mod hop;

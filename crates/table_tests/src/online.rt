@@ -1,4 +1,5 @@
 //! Which commands are refused, and which lanes a command affects.
+use crate::equal::same;
 use hotplug::{Online, affected};
 use steer_base::{AppId, Command, Cpu, CpuMask, Refused, RxQueue, TxQueue, User};
 
@@ -51,23 +52,23 @@ fn commands_are_refused(rt: HostRuntime) {
         (without_2, Command::XCpus(TxQueue(0), CpuMask(0)), 3, Ok(())),
     ];
     for (online, command, stand, wanted) in cases {
-        assert_eq!(rt;
-            online.may(&command, &home, &[Cpu(stand)]),
-            wanted,
-            "{command:?}"
-        );
+        let answer = online.may(&command, &home, &[Cpu(stand)]);
+        same(&rt, &(command, answer), &(command, wanted), 0);
     }
+}
+
+#[test]
+fn the_lowest_user_is_named(rt: HostRuntime) {
+    let all = Online {
+        mask: CpuMask(0b1111),
+    };
     // The lowest queue is named before an application, and the lowest application.
     let homes = [Cpu(0), Cpu(1), Cpu(1)];
     let stands = [Cpu(3), Cpu(2), Cpu(1), Cpu(2)];
-    assert_eq!(rt;
-        all.may(&Command::Offline(Cpu(1)), &homes, &stands),
-        Err(Refused::CpuInUse(User::Queue(RxQueue(1))))
-    );
-    assert_eq!(rt;
-        all.may(&Command::Offline(Cpu(2)), &homes, &stands),
-        Err(Refused::CpuInUse(User::App(AppId(1))))
-    );
+    for (cpu, user) in [(1u8, User::Queue(RxQueue(1))), (2, User::App(AppId(1)))] {
+        let answer = all.may(&Command::Offline(Cpu(cpu)), &homes, &stands);
+        same(&rt, &answer, &Err(Refused::CpuInUse(user)), cpu as usize);
+    }
 }
 
 #[test]
@@ -86,14 +87,9 @@ fn commands_affect_lanes(rt: HostRuntime) {
         (Command::Expire, 0),
     ];
     for (command, wanted) in cases {
-        assert_eq!(rt;
-            affected(&command, &homes, 4, 2),
-            CpuMask(wanted),
-            "{command:?}"
-        );
+        let lanes = affected(&command, &homes, 4, 2);
+        same(&rt, &(command, lanes), &(command, CpuMask(wanted)), 0);
     }
-    assert_eq!(rt;
-        affected(&Command::Sock(1), &homes, 32, 1),
-        CpuMask(0xffff_ffff)
-    );
+    let all = affected(&Command::Sock(1), &homes, 32, 1);
+    same(&rt, &all, &CpuMask(0xffff_ffff), 1);
 }

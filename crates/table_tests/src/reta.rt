@@ -1,4 +1,5 @@
 //! The redirection table, by hashes of published verification flows.
+use crate::equal::same;
 use rss_table::{EntryRange, Reta};
 use steer_base::RxQueue;
 
@@ -12,10 +13,12 @@ fn spreads_hashes_over_the_queues(rt: HostRuntime) {
         (1, Some(0xffff_ffff), 0),
     ] {
         let table = Reta::even(queues);
-        assert_eq!(rt;
-            table.queue(hash),
-            RxQueue(queue),
-            "{hash:?} over {queues} queues"
+        let found = table.queue(hash);
+        same(
+            &rt,
+            &(queues, hash, found),
+            &(queues, hash, RxQueue(queue)),
+            0,
         );
     }
 }
@@ -23,12 +26,12 @@ fn spreads_hashes_over_the_queues(rt: HostRuntime) {
 #[test]
 fn moves_one_entry(rt: HostRuntime) {
     let mut table = Reta::even(4);
-    assert_eq!(rt; table.set(120, RxQueue(3)), Ok(()));
-    assert_eq!(rt; table.set(128, RxQueue(0)), Err(EntryRange));
-    assert_eq!(rt; table.set(66, RxQueue(4)), Err(EntryRange));
-    assert_eq!(rt; table.queue(Some(0x51ccc178)), RxQueue(3));
-    assert_eq!(rt; table.queue(Some(0x323e8fc2)), RxQueue(2));
-    assert_eq!(rt; table.queue(None), RxQueue(0));
+    same(&rt, &table.set(120, RxQueue(3)), &Ok(()), 0);
+    same(&rt, &table.set(128, RxQueue(0)), &Err(EntryRange), 1);
+    same(&rt, &table.set(66, RxQueue(4)), &Err(EntryRange), 2);
+    same(&rt, &table.queue(Some(0x51ccc178)), &RxQueue(3), 3);
+    same(&rt, &table.queue(Some(0x323e8fc2)), &RxQueue(2), 4);
+    same(&rt, &table.queue(None), &RxQueue(0), 5);
     let other = Reta::from_entries(3, &[RxQueue(2); 128]);
-    assert_eq!(rt; other.queue(Some(5)), RxQueue(2));
+    same(&rt, &other.queue(Some(5)), &RxQueue(2), 6);
 }

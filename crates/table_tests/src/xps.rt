@@ -1,4 +1,6 @@
 //! The maps of transmit queues.
+use crate::equal::same;
+use std::process::Abort;
 use steer_base::{Cpu, CpuMask, RxQueue, TxQueue};
 use xps_map::XpsMaps;
 
@@ -28,20 +30,31 @@ fn receive_queue_maps_come_first(rt: HostRuntime) {
         (1, 1, None, 0),
     ];
     for (rxq, cpu, hash, wanted) in cases {
-        assert_eq!(rt;
-            maps.pick(RxQueue(rxq), Cpu(cpu), hash),
-            TxQueue(wanted),
-            "{rxq} {cpu} {hash:?}"
-        );
+        picks(&rt, &maps, (rxq, cpu, hash), wanted);
     }
+}
+
+fn picks(rt: &impl Abort, maps: &XpsMaps, reply: (u8, u8, Option<u32>), wanted: u8) {
+    let (rxq, cpu, hash) = reply;
+    let found = maps.pick(RxQueue(rxq), Cpu(cpu), hash);
+    same(rt, &(reply, found), &(reply, TxQueue(wanted)), 0);
+}
+
+#[test]
+fn maps_are_made_of_lists(rt: HostRuntime) {
     let lists = XpsMaps::from_lists(&[CpuMask(0), CpuMask(0b100)], &[0b10, 0]);
-    assert_eq!(rt; lists.pick(RxQueue(1), Cpu(2), Some(D)), TxQueue(0));
-    assert_eq!(rt; lists.pick(RxQueue(0), Cpu(2), Some(A)), TxQueue(1));
+    picks(&rt, &lists, (1, 2, Some(D)), 0);
+    picks(&rt, &lists, (0, 2, Some(A)), 1);
+}
+
+#[test]
+fn the_highest_queues_are_picked(rt: HostRuntime) {
     let mut most = XpsMaps::make(32);
+    let last = (15, 31, Some(A));
     most.set_cpus(TxQueue(31), CpuMask(1 << 31));
-    assert_eq!(rt; most.pick(RxQueue(15), Cpu(31), Some(A)), TxQueue(31));
+    picks(&rt, &most, last, 31);
     most.set_queues(TxQueue(30), 1 << 15);
-    assert_eq!(rt; most.pick(RxQueue(15), Cpu(31), Some(A)), TxQueue(30));
+    picks(&rt, &most, last, 30);
     most.set_queues(TxQueue(30), 0);
-    assert_eq!(rt; most.pick(RxQueue(15), Cpu(31), Some(A)), TxQueue(31));
+    picks(&rt, &most, last, 31);
 }
