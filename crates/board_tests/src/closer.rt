@@ -7,7 +7,7 @@ use hop_seam::{Board, BoardSeat, CloseAnswer, Emptied};
 use steer_base::CpuMask;
 
 /// How often the gate is closed, or found with somebody inside.
-const ROUNDS: u64 = 20_000;
+const ROUNDS: u64 = 1_000_000;
 
 /// Closes the gate many times, and changes the setting to numbers that rise. Answers the last one.
 pub fn change_often<B: Board>(board: &B, seat: &mut BoardSeat) -> u64
