@@ -4,37 +4,34 @@ use Rattle.std.proofs.Common.{sym, refl, ap, ◌∙◌, subst}
 use Rattle.seat_order.proofs.Lists.{if_same}
 use Rattle.hop_rule.specs.Boards.{gate_steps, lane_steps}
 use Rattle.hop_rule.specs.Gates.{Visit, closed, inside, openings, outside, visit}
-use Rattle.hop_rule.specs.Lanes.{Phase, freed_phase, gave, has_pulled, holding, idle, out_holding, phase, phase_after}
+use Rattle.hop_rule.specs.Lanes.{Phase, freed_phase, gave, has_pulled, holding, idle, out_holding, phase}
 use Rattle.hop_rule.specs.declared.sizes.BoardSizes.{BoardSizes}
 use Rattle.hop_rule.specs.declared.step.BoardStep.{BoardStep}
-use Rattle.hop_rule.specs.declared.step.BoardStep.TheVariants.{Lane, Gate, Weighed, Counted, LaneOut, LaneIn}
+use Rattle.hop_rule.specs.declared.step.BoardStep.TheVariants.{Lane, Gate, Weighed, Counted, LaneIn}
 use Rattle.hop_rule.specs.declared.step.Change.{Change}
 use Rattle.hop_rule.specs.declared.step.Change.TheVariants.{Nothing, Offered, Pulled}
 use Rattle.hop_rule.specs.declared.step.GateStep.TheVariants.{Entered, Turned, Left, Read, Shut, NotShut, Opened, Set}
-use Rattle.hop_rule.specs.declared.step.LaneStep.{LaneStep}
-use Rattle.hop_rule.specs.declared.step.LaneStep.TheVariants.{Held, Missed, OutMissed, Given, OutFreed, OutHeld, Retired}
+use Rattle.hop_rule.specs.declared.step.LaneStep.TheVariants.{Given, OutFreed}
 use Rattle.hop_seam.specs.Closings.{IsAtRest}
 use Rattle.hop_seam.specs.HeldLanes.{HasNoneOf, PullsFrom}
-use Rattle.hop_seam.specs.Rights.{HasDelivered, HasPulled, Pulls}
+use Rattle.hop_seam.specs.Rights.{HasPulled, Pulls}
 use Rattle.hop_seam.specs.Seats.{BoardSeatView, Adds}
 use Rattle.steer_base.specs.Lanes.{LaneLists}
 use Rattle.steer_base.specs.declared.cpu_mask.CpuMask.{CpuMask}
 use Rattle.steer_base.specs.declared.put.Put.{Put}
 use Rattle.hop_rule.specs.OutLanes.{OutList}
-use Rattle.hop_seam.specs.Tells.{TookMiddle, TookOut, released, BackTells, CloseTells, DeliverTells, EmptiedTells, EnterTells, HoldTells, Looked, MissedAt, OpenTells, PullTells, PutTells, RetireTells, Took, WeighTells, looking}
+use Rattle.hop_seam.specs.Tells.{TookMiddle, TookOut, released, BackTells, CloseTells, DeliverTells, EmptiedTells, EnterTells, Looked, MissedAt, OpenTells, PullTells, PutTells, RetireTells, Took, WeighTells, looking}
 use Rattle.hop_seam.specs.Views.{BoardView}
 use Rattle.hop_seam.specs.declared.answers.CloseAnswer.TheVariants as close
 use Rattle.hop_seam.specs.declared.answers.Emptied.{Emptied}
 use Rattle.hop_seam.specs.declared.answers.Emptied.TheVariants as emptied
-use Rattle.hop_seam.specs.declared.answers.EnterAnswer.{EnterAnswer}
 use Rattle.hop_seam.specs.declared.answers.EnterAnswer.TheVariants as enter
-use Rattle.hop_seam.specs.declared.answers.Pull.{Pull}
 use Rattle.hop_seam.specs.declared.answers.Pull.TheVariants as pull
 use Rattle.hop_seam.specs.declared.held_lane.HeldLane.{HeldLane}
 use Rattle.hop_seam.specs.declared.held_lane.HeldLane.TheVariants as held
 use Rattle.hop_seam.specs.declared.held_lane.LaneId.{LaneId}
 use Rattle.hop_seam.specs.declared.held_lane.LaneId.TheVariants as id
-use Rattle.board_tests.specs.Stands.{HasGiven, HasTaken, IsBehind, IsIn, IsOut, Stands, hand_of, no_hand, opened_by}
+use Rattle.board_tests.specs.Stands.{IsIn, IsOut, Stands, hand_of, no_hand, opened_by}
 
 abbrev Seat : Type 0
 Seat = BoardSeatView

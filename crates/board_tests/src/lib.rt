@@ -5,9 +5,13 @@
 #[cfg(test)]
 mod closer;
 #[cfg(test)]
+mod crew;
+#[cfg(test)]
 mod gate;
 #[cfg(test)]
 mod held;
+#[cfg(test)]
+mod largest;
 #[cfg(test)]
 mod notes;
 #[cfg(test)]
@@ -16,6 +20,8 @@ mod rounds;
 mod threads;
 #[cfg(test)]
 mod told;
+#[cfg(test)]
+mod turns;
 #[cfg(test)]
 mod words;
 #[cfg(test)]
