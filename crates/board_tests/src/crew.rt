@@ -15,8 +15,8 @@ use hop_seam::{BoardLists, BoardSeat};
 use std::alloc::Global;
 use steer_base::CpuMask;
 
-/// A hop of four lanes and two out lanes, with room for all packets of four threads, of which few may
-/// wait. The counters wrap at the first.
+/// A hop of four lanes and two out lanes, with room for all packets of four threads, of which few
+/// may wait. The counters wrap at the first.
 pub fn wide_shape(counts: Vec<u32>) -> HopShape
     ensures lanes { result.lanes ≡ 4 }
     ensures outs { result.outs ≡ 2 }

@@ -156,7 +156,8 @@ fn give<B: Board>(board: &B, seat: &mut BoardSeat, lane: u8, id: PacketId, out: 
 fn raise<B: Board>(board: &B, seat: &mut BoardSeat, lane: u8)
     requires lane { lane < (B.view board.now).sizes.lanes }
     requires mine { Pulls (B.view board.now).sizes seat.old.number lane }
-    requires stands { Stands (B.view board.now) seat.old.number outside 0 (hand_of lane gave) seat.old }
+    requires stands { Stands (B.view board.now) seat.old.number outside 0 (hand_of lane gave)
+        seat.old }
     ensures { IsOut (B.view board.now) seat.old.number seat.new }
 {
     board.retire(seat, lane);

@@ -1,5 +1,5 @@
-//! Threads that put, pull, deliver and retire beside each other, while one more closes and opens the
-//! gate.
+//! Threads that put, pull, deliver and retire beside each other, while one more closes and opens
+//! the gate.
 ghost use Rattle.std.specs.Prelude.{◌≡◌, ◌+◌, ◌<◌, All, IfOk, OnOk, length};
 ghost use Rattle.std.specs.Thread.{IsSync};
 ghost use Rattle.std.specs.Vec.{vec_len};
