@@ -1,40 +1,42 @@
 -- What calls leave of where a seat stands.
-use Rattle.std.proofs.Common.{◌≡◌, ℕ, ◌+◌, ◌*◌, ◌^◌, ◌==◌, Bool, true, false, List, [], ◌∷◌, ◌++◌, Option, Some, None, if◌then◌else◌}
+use Rattle.std.proofs.Common.{◌≡◌, ℕ, ◌+◌, ◌*◌, ◌^◌, ◌==◌, Bool, true, false, List, [], ◌∷◌, ◌++◌}
+use Rattle.std.proofs.Common.{Option, Some, None, if◌then◌else◌}
 use Rattle.std.proofs.Common.{sym, refl, ap, ◌∙◌, subst}
 use Rattle.seat_order.proofs.Lists.{if_same}
 use Rattle.hop_rule.specs.Boards.{gate_steps, lane_steps}
 use Rattle.hop_rule.specs.Gates.{Visit, closed, inside, openings, outside, visit}
-use Rattle.hop_rule.specs.Lanes.{Phase, freed_phase, gave, has_pulled, holding, idle, out_holding, phase, phase_after}
+use Rattle.hop_rule.specs.Lanes.{Phase, freed_phase, gave, has_pulled, holding, idle, out_holding}
+use Rattle.hop_rule.specs.Lanes.{phase}
 use Rattle.hop_rule.specs.declared.sizes.BoardSizes.{BoardSizes}
 use Rattle.hop_rule.specs.declared.step.BoardStep.{BoardStep}
-use Rattle.hop_rule.specs.declared.step.BoardStep.TheVariants.{Lane, Gate, Weighed, Counted, LaneOut, LaneIn}
+use Rattle.hop_rule.specs.declared.step.BoardStep.TheVariants.{Lane, Gate, Weighed, Counted, LaneIn}
 use Rattle.hop_rule.specs.declared.step.Change.{Change}
 use Rattle.hop_rule.specs.declared.step.Change.TheVariants.{Nothing, Offered, Pulled}
-use Rattle.hop_rule.specs.declared.step.GateStep.TheVariants.{Entered, Turned, Left, Read, Shut, NotShut, Opened, Set}
-use Rattle.hop_rule.specs.declared.step.LaneStep.{LaneStep}
-use Rattle.hop_rule.specs.declared.step.LaneStep.TheVariants.{Held, Missed, OutMissed, Given, OutFreed, OutHeld, Retired}
+use Rattle.hop_rule.specs.declared.step.GateStep.TheVariants.{Entered, Turned, Left, Read, Shut}
+use Rattle.hop_rule.specs.declared.step.GateStep.TheVariants.{NotShut, Opened, Set}
+use Rattle.hop_rule.specs.declared.step.LaneStep.TheVariants.{Given, OutFreed}
 use Rattle.hop_seam.specs.Closings.{IsAtRest}
 use Rattle.hop_seam.specs.HeldLanes.{HasNoneOf, PullsFrom}
-use Rattle.hop_seam.specs.Rights.{HasDelivered, HasPulled, Pulls}
+use Rattle.hop_seam.specs.Rights.{HasPulled, Pulls}
 use Rattle.hop_seam.specs.Seats.{BoardSeatView, Adds}
 use Rattle.steer_base.specs.Lanes.{LaneLists}
 use Rattle.steer_base.specs.declared.cpu_mask.CpuMask.{CpuMask}
 use Rattle.steer_base.specs.declared.put.Put.{Put}
 use Rattle.hop_rule.specs.OutLanes.{OutList}
-use Rattle.hop_seam.specs.Tells.{TookMiddle, TookOut, released, BackTells, CloseTells, DeliverTells, EmptiedTells, EnterTells, HoldTells, Looked, MissedAt, OpenTells, PullTells, PutTells, RetireTells, Took, WeighTells, looking}
+use Rattle.hop_seam.specs.Tells.{TookMiddle, TookOut, released, BackTells, CloseTells, DeliverTells}
+use Rattle.hop_seam.specs.Tells.{EmptiedTells, EnterTells, Looked, MissedAt, OpenTells, PullTells}
+use Rattle.hop_seam.specs.Tells.{PutTells, RetireTells, Took, WeighTells, looking}
 use Rattle.hop_seam.specs.Views.{BoardView}
 use Rattle.hop_seam.specs.declared.answers.CloseAnswer.TheVariants as close
 use Rattle.hop_seam.specs.declared.answers.Emptied.{Emptied}
 use Rattle.hop_seam.specs.declared.answers.Emptied.TheVariants as emptied
-use Rattle.hop_seam.specs.declared.answers.EnterAnswer.{EnterAnswer}
 use Rattle.hop_seam.specs.declared.answers.EnterAnswer.TheVariants as enter
-use Rattle.hop_seam.specs.declared.answers.Pull.{Pull}
 use Rattle.hop_seam.specs.declared.answers.Pull.TheVariants as pull
 use Rattle.hop_seam.specs.declared.held_lane.HeldLane.{HeldLane}
 use Rattle.hop_seam.specs.declared.held_lane.HeldLane.TheVariants as held
 use Rattle.hop_seam.specs.declared.held_lane.LaneId.{LaneId}
 use Rattle.hop_seam.specs.declared.held_lane.LaneId.TheVariants as id
-use Rattle.board_tests.specs.Stands.{HasGiven, HasTaken, IsBehind, IsIn, IsOut, Stands, hand_of, no_hand, opened_by}
+use Rattle.board_tests.specs.Stands.{IsIn, IsOut, Stands, hand_of, no_hand, opened_by}
 
 abbrev Seat : Type 0
 Seat = BoardSeatView
@@ -331,7 +333,8 @@ module _ (board : BoardView) (number : ℕ) where
     pub pulled_none : (l : ℕ) (h : HeldLane) → Stands board number place 0 no_hand old
         → Took board.sizes (id.Middle l) old mid h → PullTells board.sizes h mid new pull.Empty
         → Stands board number place 0 no_hand new
-    pulled_none l (held.Middle i x) s t e = freed no_hand no_hand i x Nothing s (middle_at l i x old mid t.0 t.1) e.1 s.hands
+    pulled_none l (held.Middle i x) s t e =
+        freed no_hand no_hand i x Nothing s (middle_at l i x old mid t.0 t.1) e.1 s.hands
     pulled_none l (held.Out i x) s t e = absurd t
 
     pub pulled_one : (l packet : ℕ) (h : HeldLane) → Stands board number place 0 no_hand old

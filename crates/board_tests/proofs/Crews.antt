@@ -1,16 +1,17 @@
 -- The seats of a board before and after the threads.
-use Rattle.std.proofs.Common.{◌≡◌, ℕ, zero, suc, ◌+◌, ◌-◌, ◌<◌, false, List, [], ◌∷◌, ◌++◌, All, IfSome, Option, Some}
+use Rattle.std.proofs.Common.{◌≡◌, ℕ, zero, suc, ◌+◌, ◌-◌, ◌<◌, false, List, [], ◌∷◌, ◌++◌, All}
 use Rattle.std.proofs.Common.{map, take, slice_index_or, sym, refl, ap, ◌∙◌, subst, arith}
 use Rattle.std.proofs.lemmas.List.Elements.{All-append, All-cons, All-nil}
 use Rattle.atomic_table.specs.Seated.{TableId}
 use Rattle.seat_order.specs.Seats.{new_seats, seat_view}
+use Rattle.hop_rule.specs.declared.sizes.BoardSizes.{BoardSizes}
 use Rattle.hop_seam.specs.Closings.{IsAtRest}
 use Rattle.hop_seam.specs.Seats.{BoardSeatView}
 use Rattle.hop_seam.specs.Views.{BoardView}
 use Rattle.hop_board.specs.Made.{new_board_seats}
 use Rattle.hop_board.specs.Named.{board_seat}
 use Rattle.board_tests.proofs.Calls.{rests}
-use Rattle.board_tests.specs.Stands.{IsDone, IsOut, opened_by}
+use Rattle.board_tests.specs.Stands.{IsDone, IsOut}
 
 abbrev pub Seat : Type 0
 Seat = BoardSeatView
@@ -75,3 +76,25 @@ pub all_rest : (board : BoardView) (seats : List Seat) → All (IsDone board) se
 all_rest board seats all k d less =
     let s = slice_index_or seats k d in
     rests board s.number s (all k d less)
+
+-- seats that have made no step are at rest
+fresh_rests : (about : BoardSizes) → IsAtRest about []
+fresh_rests about =
+    record {
+      visit = refl;
+      lanes = λ l less. refl;
+      hands = λ l less. refl;
+      outs = λ o less. refl;
+    }
+
+rest-from : (about : BoardSizes) (z : TableId) (n k : ℕ)
+    → All (λ (s : Seat). IsAtRest about s.steps) (seats_from z n k)
+rest-from about z n zero = All-nil (λ (s : Seat). IsAtRest about s.steps)
+rest-from about z n (suc k) =
+    All-cons (λ (s : Seat). IsAtRest about s.steps) (new_seat z n) (seats_from z (n + 1) k)
+    (fresh_rests about) (rest-from about z (n + 1) k)
+
+pub new_rest : (about : BoardSizes) (z : TableId) (count : ℕ) (seats : List Seat)
+    → seats ≡ new_board_seats z count → All (λ (s : Seat). IsAtRest about s.steps) seats
+new_rest about z count seats e =
+    subst (All (λ (s : Seat). IsAtRest about s.steps)) (sym e) (rest-from about z 0 count)

@@ -7,7 +7,7 @@ use hop_seam::{Board, BoardSeat, CloseAnswer, Emptied};
 use steer_base::CpuMask;
 
 /// How often the gate is closed, or found with somebody inside.
-const ROUNDS: u64 = 20_000;
+const ROUNDS: u64 = 1_000_000;
 
 /// Closes the gate many times, and changes the setting to numbers that rise. Answers the last one.
 pub fn change_often<B: Board>(board: &B, seat: &mut BoardSeat) -> u64
@@ -31,9 +31,9 @@ pub fn change_often<B: Board>(board: &B, seat: &mut BoardSeat) -> u64
     last
 }
 
-// Closes the gate, changes a setting if these lanes are empty, and opens. Answers whether it was
-// changed.
-fn change<B: Board>(board: &B, seat: &mut BoardSeat, lanes: CpuMask, value: u64) -> bool
+/// Closes the gate, changes a setting if these lanes are empty, and opens. Answers whether it was
+/// changed.
+pub fn change<B: Board>(board: &B, seat: &mut BoardSeat, lanes: CpuMask, value: u64) -> bool
     requires closer { IsCloser (B.view board.now).sizes seat.old.number }
     requires setting { 0 < length (B.view board.now).sizes.settings }
     requires few { opened_by seat.old < 1000000000 }

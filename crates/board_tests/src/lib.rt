@@ -1,13 +1,17 @@
-//! Tests of boards: the words of their steps, the lanes that seats hold, and the calls of seats that
-//! take turns and that run beside each other.
+//! Tests of boards: the words of their steps, the lanes that seats hold, and the calls of seats
+//! that take turns and that run beside each other.
 #![tactic(auto)]
 
 #[cfg(test)]
 mod closer;
 #[cfg(test)]
+mod crew;
+#[cfg(test)]
 mod gate;
 #[cfg(test)]
 mod held;
+#[cfg(test)]
+mod largest;
 #[cfg(test)]
 mod notes;
 #[cfg(test)]
@@ -16,6 +20,8 @@ mod rounds;
 mod threads;
 #[cfg(test)]
 mod told;
+#[cfg(test)]
+mod turns;
 #[cfg(test)]
 mod words;
 #[cfg(test)]

@@ -22,7 +22,7 @@ impl From<OutOfMemory> for Stuck {
 }
 
 /// What a visit read, and what became of its packet where the lane was free.
-#[derive(Drop)]
+#[derive(Debug, PartialEq, Drop)]
 pub struct Seen {
     pub setting: u64,
     pub head: u32,
@@ -156,8 +156,37 @@ fn give<B: Board>(board: &B, seat: &mut BoardSeat, lane: u8, id: PacketId, out: 
 fn raise<B: Board>(board: &B, seat: &mut BoardSeat, lane: u8)
     requires lane { lane < (B.view board.now).sizes.lanes }
     requires mine { Pulls (B.view board.now).sizes seat.old.number lane }
-    requires stands { Stands (B.view board.now) seat.old.number outside 0 (hand_of lane gave) seat.old }
+    requires stands { Stands (B.view board.now) seat.old.number outside 0 (hand_of lane gave)
+        seat.old }
     ensures { IsOut (B.view board.now) seat.old.number seat.new }
 {
     board.retire(seat, lane);
+}
+
+/// How many packets more fit a lane, where it is free.
+pub fn room_of<B: Board>(board: &B, seat: &mut BoardSeat, lane: u8) -> Option<u32>
+    requires lane { lane < (B.view board.now).sizes.lanes }
+    requires stands { IsOut (B.view board.now) seat.old.number seat.old }
+    ensures { IsOut (B.view board.now) seat.old.number seat.new }
+{
+    let held = match board.try_hold(seat, LaneId::Middle(lane)) {
+        Hold::Ok(held) => held,
+        Hold::Held { word: _ } => return None,
+    };
+    let room = held.room();
+    board.give_back(seat, held);
+    Some(room)
+}
+
+/// The packet at an index of an out lane, where the lane is free and has it.
+pub fn read<B: Board>(board: &B, seat: &mut BoardSeat, out: u8, n: u32) -> Option<PacketId>
+    requires out { out < (B.view board.now).sizes.outs }
+    requires stands { IsOut (B.view board.now) seat.old.number seat.old }
+    ensures { IsOut (B.view board.now) seat.old.number seat.new }
+{
+    let held = match board.try_hold(seat, LaneId::Out(out)) {
+        Hold::Ok(held) => held,
+        Hold::Held { word: _ } => return None,
+    };
+    board.read_out(seat, held, n)
 }

@@ -1,92 +1,26 @@
-//! Threads that put, pull, deliver and retire beside each other, while one more closes and opens the
-//! gate.
-ghost use Rattle.std.specs.Prelude.{◌≡◌, ◌+◌, ◌-◌, ◌<◌, ◌≤◌, All, IfOk, IfSome, OnOk, length};
+//! Threads that put, pull, deliver and retire beside each other, while one more closes and opens
+//! the gate.
+ghost use Rattle.std.specs.Prelude.{◌≡◌, ◌+◌, ◌<◌, All, IfOk, OnOk, length};
 ghost use Rattle.std.specs.Thread.{IsSync};
 ghost use Rattle.std.specs.Vec.{vec_len};
 ghost use Rattle.hop_seam.specs.Rights.{IsCloser};
-ghost use Rattle.hop_board.specs.Made.{new_board_seats};
-ghost use Rattle.board_tests.specs.Shares.{IsReady, MayWork};
+ghost use Rattle.board_tests.specs.Shares.{MayWork};
 ghost use Rattle.board_tests.specs.Stands.{IsDone, IsOut, opened_by};
 
 use crate::closer::change_often;
+use crate::crew::{add_seat, last_seat, last_worker, lists_of, wide_shape};
 use crate::notes::Notes;
 use crate::rounds::Stuck;
 use crate::told::{
-    START, gifts_stand, given_to, heads_rise, lane_was_served, offers_stand, put_to, settings_rise,
+    gifts_stand, given_to, heads_rise, lane_was_served, offers_stand, put_to, settings_rise,
 };
-use crate::worker::{PACKETS, Worker, work};
+use crate::worker::{Worker, work};
 use hop_board::Board;
-use hop_core::HopShape;
 use hop_seam::{BoardLists, BoardSeat};
-use std::alloc::Global;
 use std::process::Abort;
 use std::test::Fail;
 use std::thread::{Threads, join};
-use steer_base::{CpuMask, OutOfMemory};
-
-// A hop of four lanes and two out lanes, with room for all packets of four threads, of which few may
-// wait. The counters wrap soon.
-fn wide_shape(counts: Vec<u32>) -> HopShape
-    ensures lanes { result.lanes ≡ 4 }
-    ensures outs { result.outs ≡ 2 }
-    ensures limit { result.limit ≡ 8 }
-    ensures room { result.room ≡ 40000 }
-{
-    HopShape {
-        producers: 4,
-        guests: 0,
-        lanes: 4,
-        outs: 2,
-        limit: 8,
-        room: 40_000,
-        counts,
-        exact: false,
-        start: START,
-        limited: CpuMask(0),
-    }
-}
-
-// The last of so many seats that have made no step.
-fn last_seat(board: &Board, seats: &mut Vec<BoardSeat>, count: u32) -> Option<BoardSeat>
-    requires some { 0 < count }
-    requires seats { seats.old.items ≡ new_board_seats board.now.table count }
-    requires all { vec_len seats.old ≡ count }
-    ensures stands { IfSome result (λ s. IsOut board.now (count - 1) s) }
-    ensures opened { IfSome result (λ s. opened_by s ≡ 0) }
-    ensures seats { seats.new.items ≡ new_board_seats board.now.table (count - 1) }
-    ensures all { vec_len seats.new ≡ count - 1 }
-{
-    seats.pop()
-}
-
-// A worker that takes the last seat.
-fn last_worker(
-    alloc: Global,
-    board: &Board,
-    seats: &mut Vec<BoardSeat>,
-    number: u8,
-    workers: u8,
-) -> Result<Worker, Stuck>
-    requires within { number < workers }
-    requires seats { seats.old.items ≡ new_board_seats board.now.table (number + 1) }
-    requires all { vec_len seats.old ≡ number + 1 }
-    ensures worker { IfOk result (λ w. IsReady board.now number workers w.seat) }
-    ensures number { IfOk result (λ w. w.number ≡ number) }
-    ensures workers { IfOk result (λ w. w.workers ≡ workers) }
-    ensures seats { OnOk result (seats.new.items ≡ new_board_seats board.now.table number) }
-    ensures all { OnOk result (vec_len seats.new ≡ number) }
-{
-    let Some(seat) = last_seat(board, seats, number as u32 + 1) else {
-        return Err(Stuck);
-    };
-    let notes = Notes::make(alloc, PACKETS as usize)?;
-    Ok(Worker {
-        number,
-        workers,
-        seat,
-        notes,
-    })
-}
+use steer_base::OutOfMemory;
 
 // The thread of the gate.
 fn keep_gate(board: &Board, mut seat: BoardSeat) -> (BoardSeat, u64)
@@ -183,27 +117,6 @@ fn collect(
 fn add_notes(notes: &mut Vec<Notes>, own: Notes) -> Result<(), OutOfMemory> {
     notes.push(own)?;
     Ok(())
-}
-
-// One seat more, which is done.
-fn add_seat(board: &Board, seats: &mut Vec<BoardSeat>, seat: BoardSeat) -> Result<(), Stuck>
-    requires seats { All (IsDone board.now) seats.old.items }
-    requires seat { IsDone board.now seat }
-    ensures seats { OnOk result (All (IsDone board.now) seats.new.items) }
-    ensures one_more { OnOk result (vec_len seats.new ≡ vec_len seats.old + 1) }
-{
-    let Ok(()) = seats.push(seat) else {
-        return Err(Stuck);
-    };
-    Ok(())
-}
-
-// The lists of a board with all of its seats, which are done.
-fn lists_of(board: Board, seats: Vec<BoardSeat>) -> BoardLists
-    requires seats { All (IsDone board) seats.items }
-    requires all { vec_len seats ≡ board.sizes.seats }
-{
-    board.close_board(seats)
 }
 
 // Holds all notes against the lists, of which `last` is the last setting that was made.

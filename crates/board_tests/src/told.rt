@@ -5,7 +5,7 @@ use hop_seam::BoardLists;
 use steer_base::{LaneDrop, Put};
 
 /// The number that the counters of the lanes show at no packet.
-pub const START: u32 = 4_294_967_290;
+pub const START: u32 = 4_294_967_295;
 
 /// Each packet that was accepted stands at the position of its answer, and each that was dropped at
 /// its number among the drops, with the counts and the cause that the answer told.

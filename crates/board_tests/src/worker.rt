@@ -41,7 +41,8 @@ pub fn work<B: Board>(board: &B, worker: Worker) -> Result<Worker, Stuck>
     } = worker;
     for round in 0..PACKETS {
         let id = PacketId(PACKETS * number as u32 + round);
-        offer_soon(board, &mut seat, (round % 4) as u8, id, &mut notes)?;
+        let lane = (round + number as u32) % 4;
+        offer_soon(board, &mut seat, lane as u8, id, &mut notes)?;
         serve_all(
             board,
             &mut seat,
@@ -110,7 +111,7 @@ fn offer_once<B: Board>(
     Ok(true)
 }
 
-// Serves each lane of the seat once.
+// Serves each lane of the seat twice.
 fn serve_all<B: Board>(
     board: &B,
     seat: &mut BoardSeat,
@@ -124,7 +125,8 @@ fn serve_all<B: Board>(
     requires stands { IsOut (B.view board.now) number seat.old }
     ensures { IfOk result (λ _. IsOut (B.view board.now) number seat.new) }
 {
-    for lane in 0..LANES {
+    for turn in 0..2 * LANES {
+        let lane = turn % LANES;
         if lane % workers == number {
             serve_one(board, seat, lane, out, notes)?;
         }

@@ -1,9 +1,9 @@
-//! A packet on its way through a board whose counters wrap with it.
+//! A board whose counters wrap with its first packet.
 ghost use Rattle.std.specs.Prelude.{◌≡◌};
 
 use hop_board::Board;
 use hop_core::HopShape;
-use hop_seam::{CloseAnswer, Emptied, EnterAnswer, Hold, LaneId, Pull};
+use hop_seam::{CloseAnswer, Emptied, EnterAnswer, Hold, LaneId};
 use std::test::Fail;
 use steer_base::{CpuMask, PacketId, Put};
 
@@ -61,36 +61,5 @@ fn heads_and_tails_wrap(rt: HostRuntime) -> Result<(), Fail> {
             tail: 0,
         }
     );
-    Ok(())
-}
-
-// The packet is pulled, delivered and retired by the seat that serves its lane.
-#[test]
-fn a_packet_goes_through(rt: HostRuntime) -> Result<(), Fail> {
-    let shape = wrapping_shape(Vec::new(rt.alloc()));
-    let (board, mut seats) = Board::make(rt.alloc(), &shape, &[], 2)?;
-    let (Some(mut one), Some(mut zero)) = (seats.pop(), seats.pop()) else {
-        panic!(rt; "fewer than two seats")
-    };
-    let EnterAnswer::Ok = board.enter(&mut zero) else {
-        panic!(rt; "a closed gate")
-    };
-    let Hold::Ok(held) = board.try_hold(&mut zero, LaneId::Middle(1)) else {
-        panic!(rt; "a lane that is held")
-    };
-    assert_eq!(rt; held.room(), 4);
-    assert_eq!(rt;
-        board.put(&mut zero, held, PacketId(3), Some(9)),
-        Put::At(0)
-    );
-    board.leave(&mut zero);
-    let Hold::Ok(held) = board.try_hold(&mut zero, LaneId::Middle(1)) else {
-        panic!(rt; "a lane that is held")
-    };
-    assert_eq!(rt; board.pull(&mut zero, held), Pull::Took(PacketId(3)));
-    let CloseAnswer::Ok = board.try_close(&mut one) else {
-        panic!(rt; "somebody inside")
-    };
-    assert_eq!(rt; board.weigh(&mut one, 1), 4_294_967_295);
     Ok(())
 }

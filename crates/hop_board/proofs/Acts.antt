@@ -1,9 +1,9 @@
 -- Steps at the gate and at settings, and loads of heads and of lanes' words.
-use Rattle.std.proofs.Common.{◌≡◌, ◌≢◌, ℕ, ◌+◌, ◌-◌, ◌*◌, ◌%◌, ◌^◌, ◌<◌, ◌≤◌, ◌==◌, List, ◌∷◌, Bool, true}
-use Rattle.std.proofs.Common.{false, length, if◌then◌else◌, sym, refl, ap, ◌∙◌, subst, arith, inl, inr}
+use Rattle.std.proofs.Common.{◌≡◌, ◌≢◌, ℕ, ◌+◌, ◌-◌, ◌*◌, ◌%◌, ◌^◌, ◌<◌, ◌==◌, List, ◌∷◌, Bool, true}
+use Rattle.std.proofs.Common.{false, length, if◌then◌else◌, sym, refl, ap, ◌∙◌, subst, arith}
 use Rattle.std.proofs.Common.{eq-eqb, ne_eqb}
 use Rattle.std.specs.Prelude.{◌⊎◌}
-use Rattle.std.proofs.lemmas.Bool.{cases_Bool, leb-true, leb-false}
+use Rattle.std.proofs.lemmas.Bool.{leb-true, leb-false}
 use mathlib.Core.Logic.{dite}
 use native.Mathlib.Decide.{ℕ_discrete}
 use prog.Atomic.{either}
@@ -21,14 +21,14 @@ use Rattle.hop_rule.specs.declared.step.LaneStep.TheVariants.{Retired}
 use Rattle.hop_rule.specs.Boards.{lanes_of, gates_of, gate_steps, lane_steps, IsLawful}
 use Rattle.hop_rule.specs.Gates as gates
 use Rattle.hop_rule.specs.Lanes as lanes
-use Rattle.hop_rule.specs.Sizes.{FitSizes, closer, puller}
+use Rattle.hop_rule.specs.Sizes.{FitSizes, closer}
 use Rattle.hop_rule.proofs.Boards.{parts, few}
 use Rattle.hop_rule.proofs.Gates.{enter_finds, enter_word, leave_word, close_finds, closes, small}
 use Rattle.hop_rule.proofs.Gates.{word, sum_most, open_small}
 use Rattle.hop_rule.proofs.Owns.{gates_own, lanes_own}
 use Rattle.hop_seam.specs.Rights.{IsOutside, HasOpen, HasClosed, IsCloser, MayRead, Pulls}
 use Rattle.hop_seam.specs.Rights.{HasDelivered}
-use Rattle.hop_seam.specs.StepWords.{low_half, is_marked}
+use Rattle.hop_seam.specs.StepWords.{is_marked}
 use Rattle.hop_seam.specs.declared.held_lane.LaneId.{LaneId}
 use Rattle.hop_seam.specs.declared.held_lane.LaneId.TheVariants as id
 use Rattle.hop_board.specs.declared.places.Word.{Word}

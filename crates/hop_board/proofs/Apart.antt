@@ -1,5 +1,5 @@
 -- Each word and each slot of a board has a place of its own.
-use Rattle.std.proofs.Common.{◌≡◌, ℕ, ◌+◌, ◌<◌, length, refl, ap, arith}
+use Rattle.std.proofs.Common.{◌≡◌, ◌<◌, refl, ap, arith}
 use Rattle.hop_rule.specs.declared.sizes.BoardSizes.{BoardSizes}
 use Rattle.hop_seam.specs.HeldLanes.{FitsLane}
 use Rattle.hop_seam.specs.declared.held_lane.LaneId.{LaneId}

@@ -1,23 +1,20 @@
 -- What a board leaves is what its order of steps leaves.
-use Rattle.std.proofs.Common.{◌≡◌, ◌≢◌, ℕ, zero, suc, ◌+◌, ◌<◌, ◌≤◌, List, [], ◌∷◌, All, Some, None}
-use Rattle.std.proofs.Common.{get_or, map, length, slice_index_or, sym, refl, ap, ◌∙◌, subst, arith}
+use Rattle.std.proofs.Common.{◌≡◌, ◌≢◌, ℕ, zero, suc, ◌+◌, ◌<◌, List, [], ◌∷◌, All, Some, None}
+use Rattle.std.proofs.Common.{map, length, slice_index_or, sym, refl, ap, ◌∙◌, subst, arith}
 use Rattle.std.specs.List.{Contains, range_with_len}
 use Rattle.std.proofs.lemmas.List.Elements.{All-head, All-tail}
 use mathlib.Core.Logic.{dite}
 use mathlib.Core.Option.{some}
 use native.Mathlib.Decide.{ℕ_discrete}
-use lib.ListN.{get_elem?}
-use Rattle.steer_base.specs.Lanes.{LaneLists}
 use Rattle.seat_order.specs.Closings.{Ends}
 use Rattle.seat_order.specs.Orders.{StepBy, steps_of}
-use Rattle.seat_order.specs.Seats.{SeatView, ArePartsOf, HasPart, IsByOne, numbers_of}
+use Rattle.seat_order.specs.Seats.{SeatView, HasPart, IsByOne, numbers_of}
 use Rattle.seat_order.proofs.Views.{steps_of_other}
 use Rattle.hop_rule.specs.declared.sizes.BoardSizes.{BoardSizes}
 use Rattle.hop_rule.specs.declared.step.BoardStep.{BoardStep}
 use Rattle.hop_rule.specs.declared.step.LaneStep.{LaneStep}
-use Rattle.hop_rule.specs.Boards.{IsLawful, lane_at, lane_steps, lanes_of, out, retired}
+use Rattle.hop_rule.specs.Boards.{IsLawful, lane_at, lanes_of, out, retired}
 use Rattle.hop_rule.specs.Deliveries.{given}
-use Rattle.hop_rule.specs.Gates.{outside}
 use Rattle.hop_rule.specs.Lanes as lanes
 use Rattle.hop_rule.specs.Sizes.{FitSizes, puller}
 use Rattle.hop_rule.proofs.Boards.{parts}
@@ -27,13 +24,13 @@ use Rattle.hop_rule.proofs.Lanes.{counted}
 use Rattle.hop_rule.proofs.Lists.{none-some}
 use Rattle.hop_rule.proofs.Owns.{lanes_own}
 use Rattle.hop_seam.specs.Closings.{HasEnded, IsAtRest}
-use Rattle.hop_seam.specs.Finals.{lane_list, lists_of}
+use Rattle.hop_seam.specs.Finals.{lane_list}
 use Rattle.hop_seam.specs.HeldLanes.{FitsLane}
 use Rattle.hop_seam.specs.Seats.{BoardSeatView, ordered_seat}
 use Rattle.hop_seam.specs.declared.held_lane.LaneId.{LaneId}
 use Rattle.hop_seam.specs.declared.held_lane.LaneId.TheVariants as id
 use Rattle.hop_seam.specs.declared.lists.BoardLists.{BoardLists}
-use Rattle.hop_board.specs.Left.{AllLie, LiesIn, left_of, lists_left, middle_left, out_left}
+use Rattle.hop_board.specs.Left.{AllLie, LiesIn, lists_left, middle_left, out_left}
 use Rattle.hop_board.specs.Tables.{HasBoard, InSlot, content, holder_of, slot_of}
 use Rattle.hop_board.proofs.Keeps.{home_is}
 use Rattle.hop_board.proofs.Taking.{at_or}

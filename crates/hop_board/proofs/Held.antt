@@ -9,7 +9,6 @@ use Rattle.steer_base.specs.declared.put.DropCause.{DropCause}
 use Rattle.steer_base.specs.declared.put.Put.{Put}
 use Rattle.steer_base.specs.declared.put.Put.TheVariants.{At, Dropped}
 use Rattle.backlog.specs.Puts.{after_put, after_take, answer_by, next_waiting, put_answer, put_by, put_count}
-use Rattle.seat_order.specs.Orders.{StepBy}
 use Rattle.seat_order.specs.Seats.{SeatView}
 use Rattle.hop_rule.specs.declared.sizes.BoardSizes.{BoardSizes}
 use Rattle.hop_rule.specs.declared.step.BoardStep.{BoardStep}
@@ -17,16 +16,15 @@ use Rattle.hop_rule.specs.declared.step.BoardStep.TheVariants.{LaneOut}
 use Rattle.hop_rule.specs.declared.step.Change.TheVariants as change
 use Rattle.hop_rule.specs.declared.step.Slot.{Slot}
 use Rattle.hop_rule.specs.declared.step.Slot.TheVariants as slot
-use Rattle.hop_rule.specs.Boards.{IsLawful, gate_steps, lane_at, lane_steps, lanes_of, own_state}
+use Rattle.hop_rule.specs.Boards.{gate_steps, lane_steps, lanes_of, own_state}
 use Rattle.hop_rule.specs.Boards.{empty}
 use Rattle.hop_rule.specs.Gates as gates
 use Rattle.hop_rule.specs.Lanes as lanes
 use Rattle.hop_rule.specs.OutLanes.{OutList, out_list}
-use Rattle.hop_rule.specs.Sizes.{FitSizes, puller}
+use Rattle.hop_rule.specs.Sizes.{puller}
 use Rattle.hop_rule.proofs.Lists.{get-inside, none-some}
 use Rattle.hop_rule.proofs.Owns.{lane_room}
 use Rattle.hop_seam.specs.HeldLanes.{FitsLane, IsMiddle, IsOut, Holds}
-use Rattle.hop_seam.specs.Seats.{BoardSeatView}
 use Rattle.hop_seam.specs.Tells.{HoldTells, Took}
 use Rattle.hop_seam.specs.declared.answers.Hold.TheVariants as hold
 use Rattle.hop_seam.specs.declared.held_lane.HeldLane.{HeldLane}

@@ -2,14 +2,14 @@
 use Rattle.std.proofs.Common.{◌≡◌, ◌≢◌, ℕ, zero, suc, ◌+◌, ◌*◌, ◌/◌, ◌%◌, ◌<◌, max, List, [], ◌∷◌}
 use Rattle.std.proofs.Common.{length, get_or, set, slice_index, sym, refl, ap, ◌∙◌, subst, arith}
 use Rattle.std.proofs.Common.{length-set, get_or-set_same, get_or-set_other, Some, None, bit_or}
-use Rattle.std.proofs.Common.{Bool, true, false, ◌==◌, eq-eqb, if◌then◌else◌}
+use Rattle.std.proofs.Common.{Bool, true, false, ◌==◌, if◌then◌else◌}
 use Rattle.std.proofs.lemmas.Nat.{or_comm}
 use mathlib.Core.Logic.{dite}
 use mathlib.Core.Option.{Option, none, some}
 use native.Mathlib.Decide.{ℕ_discrete}
 use lib.ListN.{get_elem?}
 use lib.Bits.{or_step}
-use Rattle.atomic_table.specs.Table.{Me, step, Step, keeps, takes, gives, homes_after, Allows, rest}
+use Rattle.atomic_table.specs.Table.{Me, step, Step, keeps, takes, gives, homes_after, Allows}
 use Rattle.atomic_table.proofs.Lists.{set_here, set_else}
 use Rattle.seat_order.specs.declared.hands.Hands.{Hands}
 use Rattle.seat_order.specs.Orders.{StepBy, step_by, steps_of}
@@ -23,11 +23,11 @@ use Rattle.hop_rule.specs.declared.sizes.BoardSizes.{BoardSizes}
 use Rattle.hop_rule.specs.declared.step.BoardStep.{BoardStep}
 use Rattle.hop_rule.specs.declared.step.BoardStep.TheVariants.{Lane, LaneOut, LaneIn}
 use Rattle.hop_rule.specs.declared.step.LaneStep.{LaneStep}
-use Rattle.hop_rule.specs.declared.step.LaneStep.TheVariants.{Held, Missed, OutHeld, OutMissed}
+use Rattle.hop_rule.specs.declared.step.LaneStep.TheVariants.{Held, OutHeld}
 use Rattle.hop_rule.specs.declared.step.Slot.{Slot}
 use Rattle.hop_rule.specs.declared.step.Slot.TheVariants as slot
 use Rattle.hop_rule.specs.Lanes as lanes
-use Rattle.hop_rule.specs.Boards.{IsLawful, MayCome, lanes_of, full, taken, empty, slot_state}
+use Rattle.hop_rule.specs.Boards.{IsLawful, MayCome, lanes_of, taken, empty, slot_state}
 use Rattle.hop_rule.specs.Boards.{own_state, SlotState}
 use Rattle.hop_rule.specs.Sizes.{FitSizes}
 use Rattle.hop_rule.proofs.Slots.{agrees, out_agrees, is_out}
@@ -39,10 +39,10 @@ use Rattle.hop_seam.specs.declared.held_lane.LaneId.TheVariants as id
 use Rattle.hop_board.specs.declared.places.Word.{Word}
 use Rattle.hop_board.specs.declared.places.Word.TheVariants as kind
 use Rattle.hop_board.specs.Tables.{InSlot, slot_of}
-use Rattle.hop_board.specs.Tables.{slots, place, width, IsWord, holder_of, content, lane_value}
+use Rattle.hop_board.specs.Tables.{slots, place, IsWord, holder_of, content, lane_value}
 use Rattle.hop_board.specs.Tables.{value, home_by, home_after, HomesAre, HasBoard}
-use Rattle.hop_board.specs.Steps.{IsAt, IsStepAt, MayAct, IsRelease, MayGive, released_word}
-use Rattle.hop_board.specs.Plays.{HeldAt, Carried, Takes, HoldsThen, EmptiesThen, FillsThen}
+use Rattle.hop_board.specs.Steps.{IsAt, MayAct, MayGive, released_word}
+use Rattle.hop_board.specs.Plays.{HeldAt, Carried, HoldsThen, EmptiesThen, FillsThen}
 use Rattle.hop_board.specs.Plays.{GivesThen}
 use Rattle.hop_board.proofs.Apart.{same_lane, same_word, slot_inside, place_inside}
 

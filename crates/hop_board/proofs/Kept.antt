@@ -1,6 +1,6 @@
 -- What a seat keeps besides its steps, after more of them.
 use Rattle.std.proofs.Common.{◌≡◌, ◌≢◌, ℕ, ◌+◌, ◌<◌, Bool, List, [], ◌∷◌, ◌++◌, Result, Ok, Err, MatchResult, set}
-use Rattle.std.proofs.Common.{slice_index, length, sym, refl, ap, ◌∙◌, subst, arith, get_or-set_same}
+use Rattle.std.proofs.Common.{slice_index, length, sym, ap, ◌∙◌, subst, arith, get_or-set_same}
 use Rattle.std.proofs.Common.{get_or-set_other}
 use mathlib.Core.Logic.{dite}
 use native.Mathlib.Decide.{ℕ_discrete}
@@ -11,8 +11,8 @@ use Rattle.hop_rule.specs.declared.sizes.BoardSizes.{BoardSizes}
 use Rattle.hop_rule.specs.declared.step.BoardStep.{BoardStep}
 use Rattle.hop_rule.specs.declared.step.BoardStep.TheVariants.{Lane, LaneIn, LaneOut}
 use Rattle.hop_rule.specs.declared.step.Change.TheVariants.{Pulled}
-use Rattle.hop_rule.specs.declared.step.LaneStep.TheVariants.{Freed, Given, Held, Missed, OutHeld}
-use Rattle.hop_rule.specs.declared.step.LaneStep.TheVariants.{OutMissed, Retired}
+use Rattle.hop_rule.specs.declared.step.LaneStep.TheVariants.{Freed, Given}
+use Rattle.hop_rule.specs.declared.step.LaneStep.TheVariants.{Retired}
 use Rattle.hop_rule.specs.declared.step.Slot.{Slot}
 use Rattle.hop_rule.specs.declared.step.Slot.TheVariants as slot
 use Rattle.hop_rule.specs.Boards.{lane_steps}

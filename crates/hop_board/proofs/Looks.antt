@@ -1,6 +1,6 @@
 -- Lanes that are looked at.
 use Rattle.std.proofs.Common.{◌≡◌, ◌≢◌, ℕ, zero, suc, ◌+◌, ◌-◌, ◌<◌, List, [], ◌∷◌, ◌++◌, Bool, true, false}
-use Rattle.std.proofs.Common.{cond, map, sym, refl, ap, ◌∙◌, subst, arith, append-nil, append_assoc}
+use Rattle.std.proofs.Common.{cond, map, sym, refl, ap, ◌∙◌, arith, append-nil, append_assoc}
 use Rattle.std.proofs.lemmas.List.Elements.{All-nil, All-cons}
 use Rattle.steer_base.specs.Sets.{has, those_below}
 use Rattle.steer_base.specs.declared.cpu_mask.CpuMask.{CpuMask}
@@ -8,7 +8,6 @@ use Rattle.steer_base.proofs.SetsLemmas.{those_below-more}
 use Rattle.seat_order.specs.Seats.{SeatView}
 use Rattle.hop_rule.specs.declared.sizes.BoardSizes.{BoardSizes}
 use Rattle.hop_rule.specs.declared.step.BoardStep.{BoardStep}
-use Rattle.hop_seam.specs.Seats.{BoardSeatView}
 use Rattle.hop_seam.specs.StepWords.{low_half, tail_in}
 use Rattle.hop_seam.specs.Tells.{EmptiedTells, IsEmpty, Looked, looking}
 use Rattle.hop_seam.specs.declared.answers.Emptied.TheVariants as emptied

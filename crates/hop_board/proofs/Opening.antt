@@ -1,13 +1,12 @@
 -- A board before any step has its words and slots.
-use Rattle.std.proofs.Common.{◌≡◌, ℕ, zero, suc, ◌+◌, ◌-◌, ◌*◌, ◌<◌, ◌≤◌, false, List, [], ◌∷◌, ◌++◌, All}
-use Rattle.std.proofs.Common.{Some, get_or, length, map, replicate, slice_index, sym, refl, ap, ◌∙◌, subst}
+use Rattle.std.proofs.Common.{◌≡◌, ℕ, zero, suc, ◌+◌, ◌-◌, ◌*◌, ◌<◌, false, List, [], ◌∷◌, ◌++◌, All}
+use Rattle.std.proofs.Common.{Some, get_or, length, map, sym, refl, ap, ◌∙◌, subst}
 use Rattle.std.proofs.Common.{arith, length-append}
-use Rattle.std.specs.List.{range_with_len}
 use Rattle.std.proofs.lemmas.List.{get_or_append_left, get_or-append_right}
 use Rattle.std.proofs.lemmas.List.Elements.{All-nil, All-cons, All-head, All-tail}
 use Rattle.std.proofs.lemmas.List.FromFn.{get_or-map-range_with_len, length-map-range_with_len}
 use mathlib.Core.Option.{some}
-use lib.ListN.{get_elem?, get_or-replicate, length-replicate}
+use lib.ListN.{get_or-replicate, length-replicate}
 use Rattle.atomic_table.specs.Seated.{TableId}
 use Rattle.atomic_table.specs.Table.{opening}
 use Rattle.atomic_table.proofs.Lists.{at_index, at_map}
@@ -24,9 +23,8 @@ use Rattle.hop_seam.specs.declared.held_lane.LaneId.TheVariants as id
 use Rattle.hop_board.specs.Made.{head_words, lane_words, new_middle, new_middles, new_outs, new_slots}
 use Rattle.hop_board.specs.Made.{new_words}
 use Rattle.hop_board.specs.Named.{HasNoSteps, board_seat}
-use Rattle.hop_board.specs.Tables.{HasBoard, HomesAre, InSlot, IsWord, WordsAre, content, place, slot_of}
-use Rattle.hop_board.specs.Tables.{slots, value, width}
-use Rattle.hop_board.specs.declared.places.Word.{Word}
+use Rattle.hop_board.specs.Tables.{HasBoard, HomesAre, InSlot, WordsAre, content, slot_of}
+use Rattle.hop_board.specs.Tables.{slots, width}
 use Rattle.hop_board.specs.declared.places.Word.TheVariants as kind
 
 module _ (about : BoardSizes) where

@@ -1,8 +1,7 @@
 -- Lanes that are given back.
-use Rattle.std.proofs.Common.{◌≡◌, ◌≢◌, ℕ, suc, ◌+◌, ◌-◌, ◌*◌, ◌%◌, ◌^◌, ◌<◌, ◌≤◌, ◌==◌, List, []}
+use Rattle.std.proofs.Common.{◌≡◌, ◌≢◌, ℕ, ◌+◌, ◌-◌, ◌*◌, ◌<◌, ◌≤◌, ◌==◌, List, []}
 use Rattle.std.proofs.Common.{◌∷◌, ◌++◌, Bool, true, false, Some, length, if◌then◌else◌, sym, refl, ap}
 use Rattle.std.proofs.Common.{◌∙◌, subst, arith, length-append}
-use mathlib.Core.Option.{some}
 use Rattle.steer_base.specs.Lanes.{LaneLists}
 use Rattle.seat_order.specs.Orders.{StepBy, step_by, steps_of}
 use Rattle.seat_order.specs.Seats.{SeatView}
@@ -14,10 +13,9 @@ use Rattle.hop_rule.specs.declared.step.Change.{Change}
 use Rattle.hop_rule.specs.declared.step.GateStep.{GateStep}
 use Rattle.hop_rule.specs.declared.step.LaneStep.{LaneStep}
 use Rattle.hop_rule.specs.declared.step.LaneStep.TheVariants.{Freed, OutFreed, Given}
-use Rattle.hop_rule.specs.declared.step.Slot.{Slot}
 use Rattle.hop_rule.specs.declared.step.Slot.TheVariants as slot
-use Rattle.hop_rule.specs.Boards.{lanes_of, gates_of, gate_steps, lane_steps, IsLawful, IsInside}
-use Rattle.hop_rule.specs.Boards.{HasSlot, lane_at, full, taken, own_state, slot_state, MayCome}
+use Rattle.hop_rule.specs.Boards.{lanes_of, gate_steps, lane_steps, IsLawful, IsInside}
+use Rattle.hop_rule.specs.Boards.{lane_at, full, taken, own_state, slot_state, MayCome}
 use Rattle.hop_rule.specs.Gates as gates
 use Rattle.hop_rule.specs.Lanes as lanes
 use Rattle.hop_rule.specs.OutLanes.{OutList, out_list}
@@ -29,10 +27,9 @@ use Rattle.hop_seam.specs.declared.held_lane.LaneId.{LaneId}
 use Rattle.hop_seam.specs.declared.held_lane.LaneId.TheVariants as id
 use Rattle.hop_board.specs.declared.places.Word.{Word}
 use Rattle.hop_board.specs.declared.places.Word.TheVariants as kind
-use Rattle.hop_board.specs.Steps.{IsRelease, MayGive, released_word}
+use Rattle.hop_board.specs.Steps.{MayGive, released_word}
 use Rattle.hop_board.specs.Tables.{value, slot_of}
 use Rattle.hop_board.specs.Tables.{home_by, home_after, content}
-use Rattle.hop_board.proofs.Keeps.{state_else}
 use Rattle.hop_board.proofs.Acts.{seen, lanes_seen}
 
 abbrev Order : Type 0

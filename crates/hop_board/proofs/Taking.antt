@@ -1,8 +1,7 @@
 -- Lanes that are taken out of their slots one by one.
-use Rattle.std.proofs.Common.{◌≡◌, ◌≢◌, ℕ, zero, suc, ◌+◌, ◌-◌, ◌<◌, ◌≤◌, Bool, true, false, List, [], ◌∷◌}
-use Rattle.std.proofs.Common.{◌++◌, All, Some, None, get_or, set, length, slice_index_or, sym, refl, ap, ◌∙◌}
-use Rattle.std.proofs.Common.{subst, arith, length-append, get_or-set_same, get_or-set_other, Option}
-use Rattle.std.specs.Option.{option_to_list}
+use Rattle.std.proofs.Common.{◌≡◌, ◌≢◌, ℕ, zero, suc, ◌+◌, ◌-◌, ◌<◌, Bool, false, List, [], ◌∷◌}
+use Rattle.std.proofs.Common.{◌++◌, Some, None, get_or, set, length, slice_index_or, sym, ap, ◌∙◌}
+use Rattle.std.proofs.Common.{subst, arith, length-append, get_or-set_same, get_or-set_other}
 use Rattle.std.proofs.lemmas.List.{get_or_append_left}
 use Rattle.std.proofs.Math.Seq.{get_or-append_seam}
 use mathlib.Core.Logic.{dite}
@@ -12,8 +11,6 @@ use lib.ListN.{get_elem?}
 use Rattle.steer_base.specs.Journals.{Journal, journal}
 use Rattle.hop_rule.specs.declared.sizes.BoardSizes.{BoardSizes}
 use Rattle.hop_rule.specs.declared.step.Slot.TheVariants as slot
-use Rattle.hop_seam.specs.HeldLanes.{FitsLane}
-use Rattle.hop_seam.specs.declared.held_lane.LaneId.{LaneId}
 use Rattle.hop_seam.specs.declared.held_lane.LaneId.TheVariants as id
 use Rattle.hop_board.specs.Left.{AllLie, AreFullFrom, AreSpare, AreTakenFrom, AreTakenTo, IsMiddleOf}
 use Rattle.hop_board.specs.Left.{IsOut, LiesIn}

@@ -1,6 +1,5 @@
 -- The packets that a board has are below its room.
-use Rattle.std.proofs.Common.{◌≡◌, ℕ, suc, ◌<◌, List, Some}
-use Rattle.std.specs.Prelude.{slice_get}
+use Rattle.std.proofs.Common.{ℕ, suc, List}
 use Rattle.seat_order.specs.Orders.{StepBy}
 use Rattle.hop_rule.specs.declared.sizes.BoardSizes.{BoardSizes}
 use Rattle.hop_rule.specs.declared.step.BoardStep.{BoardStep}

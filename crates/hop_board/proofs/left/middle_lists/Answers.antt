@@ -1,9 +1,8 @@
-use Rattle.std.proofs.Common.{◌≡◌, ◌+◌, ◌-◌, ◌<◌, ◌≤◌, ℕ, [], ◌∷◌, ◌++◌, None, length, slice_index_or, sym, ap, ◌∙◌, subst, arith}
+use Rattle.std.proofs.Common.{◌≡◌, ◌+◌, ◌-◌, ℕ, [], ◌∷◌, ◌++◌, None, length, slice_index_or, sym, ap, ◌∙◌, subst, arith}
 use Rattle.std.specs.Option.{option_to_list}
 use Rattle.std.specs.Slots.{slots_counts, slots_filled, slots_items, slots_len}
 use Rattle.std.specs.Vec.{vec_len}
 use Rattle.std.proofs.lemmas.List.FromFn.{length-map-range_with_len, map-range_with_len_more}
-use Rattle.steer_base.specs.Journals.{Journal}
 use Rattle.hop_board.specs.Left.{AreSpare, AreTakenTo, IsMiddleOf, middle_left}
 use Rattle.hop_board.proofs.Taking.{found_is, middle_found, popped_is, popped_left, taken_to}
 use Rattle.hop_board.proofs.left.middle_lists.Goals as goal

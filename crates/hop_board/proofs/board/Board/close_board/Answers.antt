@@ -1,4 +1,4 @@
-use Rattle.std.proofs.Common.{◌≡◌, All, List, map, sym, ap, ◌∙◌, subst}
+use Rattle.std.proofs.Common.{All, List, sym, ap, subst}
 use Rattle.std.specs.Slots.{slots_items}
 use Rattle.seat_order.specs.Closings.{Ends}
 use Rattle.seat_order.specs.Seats.{SeatView}

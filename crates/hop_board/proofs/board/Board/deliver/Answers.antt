@@ -1,5 +1,4 @@
-use Rattle.std.proofs.Common.{◌≡◌, ◌+◌, ◌<◌, [], ◌∷◌, ◌++◌, true, refl, ap, sym, ◌∙◌, subst, arith, List, length, slice_index, length-append}
-use Rattle.seat_order.specs.Seats.{SeatView}
+use Rattle.std.proofs.Common.{◌≡◌, ◌+◌, ◌<◌, [], ◌∷◌, true, ap, sym, ◌∙◌, subst, arith, List, length, slice_index, length-append}
 use Rattle.hop_rule.specs.declared.step.BoardStep.{BoardStep}
 use Rattle.hop_rule.specs.declared.step.BoardStep.TheVariants.{Lane, LaneIn}
 use Rattle.hop_rule.specs.declared.step.LaneStep.TheVariants as step

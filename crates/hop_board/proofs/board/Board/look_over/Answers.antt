@@ -1,4 +1,4 @@
-use Rattle.std.proofs.Common.{◌≡◌, ◌+◌, ◌<◌, sym, ap, ◌∙◌, subst}
+use Rattle.std.proofs.Common.{◌+◌, ◌<◌, sym, ap, ◌∙◌, subst}
 use Rattle.hop_seam.specs.Views.{BoardView}
 use Rattle.hop_board.specs.Emptying.{LooksBelow}
 use Rattle.hop_board.proofs.Looks.{finds_first, looks_more, looks_none, looks_past}

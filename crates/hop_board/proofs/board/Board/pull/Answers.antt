@@ -1,4 +1,4 @@
-use Rattle.std.proofs.Common.{◌≡◌, ◌+◌, ◌<◌, false, ap, sym, ◌∙◌, subst, List}
+use Rattle.std.proofs.Common.{◌<◌, false, ap, sym, ◌∙◌, subst, List}
 use Rattle.steer_base.specs.Lanes.{LaneLists}
 use Rattle.hop_rule.specs.declared.step.BoardStep.{BoardStep}
 use Rattle.hop_rule.specs.declared.step.Slot.TheVariants as slot

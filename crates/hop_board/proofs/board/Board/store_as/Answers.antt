@@ -1,9 +1,7 @@
-use Rattle.std.proofs.Common.{◌≡◌, ◌+◌, ◌-◌, ◌%◌, ◌^◌, ◌<◌, ◌==◌, ap, sym, ◌∙◌, subst, arith}
-use prog.Atomic.{either}
-use Rattle.hop_rule.specs.declared.sizes.BoardSizes.{BoardSizes}
+use Rattle.std.proofs.Common.{◌≡◌, ◌-◌, ap, sym, ◌∙◌, subst, arith}
 use Rattle.hop_rule.specs.Sizes.{FitSizes}
 use Rattle.hop_seam.specs.Views.{BoardView}
-use Rattle.hop_board.specs.Tables.{place, width}
+use Rattle.hop_board.specs.Tables.{width}
 use Rattle.hop_board.proofs.Apart.{place_inside}
 use Rattle.hop_board.proofs.Keeps.{stores_in}
 use Rattle.hop_board.proofs.board.Board.store_as.Goals as goal

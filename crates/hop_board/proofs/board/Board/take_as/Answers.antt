@@ -1,8 +1,8 @@
-use Rattle.std.proofs.Common.{◌≡◌, ◌%◌, ◌<◌, [], ◌∷◌, false, Some, None, sym, refl, ap, ◌∙◌, subst, arith}
+use Rattle.std.proofs.Common.{◌≡◌, [], ◌∷◌, false, Some, None, sym, refl, ap, ◌∙◌, subst, arith}
 use Rattle.atomic_table.specs.Table.{rest}
 use Rattle.seat_order.specs.Hands.{one, number_in, steps_in}
 use Rattle.seat_order.specs.Seats.{seat_view}
-use Rattle.hop_rule.specs.Boards.{own_state, taken}
+use Rattle.hop_rule.specs.Boards.{own_state}
 use Rattle.hop_rule.specs.Sizes.{FitSizes}
 use Rattle.hop_seam.specs.StepWords.{is_odd}
 use Rattle.hop_seam.specs.Views.{BoardView}

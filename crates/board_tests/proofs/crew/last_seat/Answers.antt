@@ -1,7 +1,8 @@
-use Rattle.std.proofs.Common.{◌≡◌, ◌-◌, ◌<◌, IfSome, Option, Some, slice_index_or, take, vec_len, sym, ap, ◌∙◌, subst, arith}
+use Rattle.std.proofs.Common.{◌≡◌, ◌-◌, IfSome, Option, slice_index_or, take, vec_len, sym, ap, ◌∙◌}
+use Rattle.std.proofs.Common.{subst, arith}
 use Rattle.board_tests.proofs.Crews.{Seat, fresh_out, front_is, last_is, new_seat}
 use Rattle.board_tests.specs.Stands.{IsOut, opened_by}
-use Rattle.board_tests.proofs.threads.last_seat.Goals as goal
+use Rattle.board_tests.proofs.crew.last_seat.Goals as goal
 
 pub returns-clause-stands : goal.returns-clause-stands
 returns-clause-stands c =

@@ -1,7 +1,7 @@
 use Rattle.std.proofs.Common.{All, sym, subst}
 use Rattle.board_tests.proofs.Crews.{all_done}
 use Rattle.board_tests.specs.Stands.{IsDone}
-use Rattle.board_tests.proofs.threads.add_seat.Goals as goal
+use Rattle.board_tests.proofs.crew.add_seat.Goals as goal
 
 pub returns-clause-seats : goal.returns-clause-seats
 returns-clause-seats c =

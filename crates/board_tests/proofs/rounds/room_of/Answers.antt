@@ -1,0 +1,17 @@
+use Rattle.hop_rule.specs.Gates.{outside}
+use Rattle.hop_seam.specs.declared.held_lane.LaneId.TheVariants as id
+use Rattle.board_tests.proofs.Calls.{given_back, missed}
+use Rattle.board_tests.specs.Stands.{no_hand}
+use Rattle.board_tests.proofs.rounds.room_of.Goals as goal
+
+pub returns-in-Held : goal.returns-in-Held
+returns-in-Held g c =
+    missed (g.B.Board.view c.args.board.now) c.args.seat.now.number no_hand c.args.seat.now
+    c.try_hold.new.seat outside (id.Middle c.args.lane) c.in-Held.word c.requires.stands
+    c.in-Held.ensures.1
+
+pub returns : goal.returns
+returns g c =
+    given_back (g.B.Board.view c.args.board.now) c.args.seat.now.number outside c.args.seat.now
+    c.try_hold.new.seat c.give_back.new.seat no_hand (id.Middle c.args.lane) c.in-Ok.held
+    c.requires.stands c.in-Ok.ensures.0 c.give_back.ensures
