@@ -26,5 +26,3 @@ mod turns;
 mod words;
 #[cfg(test)]
 mod worker;
-#[cfg(test)]
-mod wrapping;
