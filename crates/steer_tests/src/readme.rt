@@ -1,6 +1,7 @@
 //! The example of the README: three packets of one flow, of which one is dropped and one moves.
-use crate::calls::{called_with, comes_to, desk_of};
+use crate::calls::{Outcome, called_with, comes_to, desk_of};
 use crate::files::{FRAME_A, file};
+use outside_io::MemoryDesk;
 use std::alloc::Global;
 use std::test::Fail;
 use taps::{Depth, PerCpu, PerFlow, Tap};
@@ -35,8 +36,8 @@ depth cpu 2 at 1
 end 3 of 3
 ";
 
-// The taps that the program hands in, in their order.
-fn taps_of_the_program(alloc: Global) -> Result<Vec<Box<dyn Tap>>, Fail> {
+// What the program's taps, in their order, and its report come to over the files of this desk.
+fn observed(alloc: Global, desk: MemoryDesk) -> Result<Outcome, Fail> {
     let per_cpu: Box<dyn Tap> = Box::new(alloc, PerCpu::make(alloc))?;
     let per_flow: Box<dyn Tap> = Box::new(alloc, PerFlow::make(alloc))?;
     let depth: Box<dyn Tap> = Box::new(alloc, Depth::make(alloc))?;
@@ -44,7 +45,7 @@ fn taps_of_the_program(alloc: Global) -> Result<Vec<Box<dyn Tap>>, Fail> {
     taps.push(per_cpu)?;
     taps.push(per_flow)?;
     taps.push(depth)?;
-    Ok(taps)
+    called_with(alloc, &["replay", "three.json", "three.pcap"], desk, taps)
 }
 
 #[test]
@@ -53,8 +54,7 @@ fn the_report_of_the_readme_is_written(rt: HostRuntime) -> Result<(), Fail> {
     let capture = file(alloc, &[&FRAME_A, &FRAME_A, &FRAME_A])?;
     let files: [(&str, &[u8]); 2] = [("three.json", PLAN), ("three.pcap", &capture)];
     let desk = desk_of(alloc, &files, &[])?;
-    let taps = taps_of_the_program(alloc)?;
-    let got = called_with(alloc, &["replay", "three.json", "three.pcap"], desk, taps)?;
+    let got = observed(alloc, desk)?;
     comes_to(&rt, &got, 0, REPORT, b"", 0);
     Ok(())
 }
