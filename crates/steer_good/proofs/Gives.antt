@@ -87,16 +87,7 @@ sets-settings : (m : Machine) (c : Command) (socket : List (Option ℕ))
 sets-settings m c socket none sock =
     let l = lasts-self m in
     record {
-      lasts = record {
-        setup = refl;
-        rx = l.rx;
-        tx = l.tx;
-        filters = refl;
-        arrivals = l.arrivals;
-        sent = l.sent;
-        writes = l.writes;
-        commands = l.commands;
-      };
+      lasts = assumption;
       commands = refl;
       settings = refl;
       choices = refl;
@@ -114,16 +105,7 @@ sets-expire : (m : Machine) → Sets m give.Expire (set_by m give.Expire)
 sets-expire m =
     let l = lasts-self m in
     record {
-      lasts = record {
-        setup = refl;
-        rx = l.rx;
-        tx = l.tx;
-        filters = length-map m.filters (kept_filter m);
-        arrivals = l.arrivals;
-        sent = l.sent;
-        writes = l.writes;
-        commands = l.commands;
-      };
+      lasts = assumption (length-map m.filters (kept_filter m));
       commands = refl;
       settings = refl;
       choices = refl;
@@ -158,17 +140,9 @@ module _ (m : Machine) (k : Kept m) where
       let asks = asks_rx m k in
       let l = lasts-self m in
       record {
-        lasts = record {
-          setup = refl;
-          rx = stays-run (resizing q count) m.rx
-              (asks.flows q count below (omega (arith, few)) done) k.rx.sound;
-          tx = l.tx;
-          filters = refl;
-          arrivals = l.arrivals;
-          sent = l.sent;
-          writes = l.writes;
-          commands = l.commands;
-        };
+        lasts = assumption (
+            stays-run (resizing q count) m.rx (asks.flows q count below (omega (arith, few))
+            done) k.rx.sound);
         commands = refl;
         settings = refl;
         choices = resize-choices m.rx q count;
@@ -217,18 +191,9 @@ when-refused false d x y e = refl
 -- a machine that only grew, and then one command more is listed
 lasts-listed : (m k : Machine) (c : Command) (a : Answer) → Lasts m k → Lasts m (listed k c a)
 lasts-listed m k c a l =
-    record {
-      setup = l.setup;
-      rx = l.rx;
-      tx = l.tx;
-      filters = l.filters;
-      arrivals = l.arrivals;
-      sent = l.sent;
-      writes = l.writes;
-      commands = extends-more m.commands k.commands
-          (k.commands ++ record { command = c; answer = a } ∷ []) l.commands
-          (extends-push k.commands (record { command = c; answer = a }));
-    }
+    assumption (
+    extends-more m.commands k.commands (k.commands ++ record { command = c; answer = a } ∷ [])
+    l.commands (extends-push k.commands (record { command = c; answer = a })))
 
 given-done : (m k : Machine) (c : Command) (a : Answer) → is_done a ≡ true → Sets m c k
     → Given m c a (listed k c a)

@@ -133,16 +133,7 @@ pub still-rx : (m : Machine) (t : HopState) → Stays m.rx t → SameTurns m.rx 
 still-rx m t stays turns inside =
     let same = still-self m in let l = lasts-self m in
     record {
-      lasts = record {
-        setup = refl;
-        rx = stays;
-        tx = l.tx;
-        filters = refl;
-        arrivals = l.arrivals;
-        sent = l.sent;
-        writes = l.writes;
-        commands = l.commands;
-      };
+      lasts = assumption (stays);
       rx = turns;
       tx = same.tx;
       settings = refl;
@@ -154,23 +145,7 @@ pub still-tx : (m : Machine) (t : HopState) → Stays m.tx t → SameTurns m.tx 
     → Still m (record m { tx = t })
 still-tx m t stays turns =
     let same = still-self m in let l = lasts-self m in
-    record {
-      lasts = record {
-        setup = refl;
-        rx = l.rx;
-        tx = stays;
-        filters = refl;
-        arrivals = l.arrivals;
-        sent = l.sent;
-        writes = l.writes;
-        commands = l.commands;
-      };
-      rx = same.rx;
-      tx = turns;
-      settings = refl;
-      commands = refl;
-      looked = same.looked;
-    }
+    assumption (stays, turns)
 
 -- a note that is no look, and as many filters
 pub still-noted : (m n : Machine) (q : ℕ) (x : Note) (filters : List (Option Filter)) → Still m n
@@ -179,16 +154,7 @@ pub still-noted : (m n : Machine) (q : ℕ) (x : Note) (filters : List (Option F
 still-noted m n q x filters s quiet same =
     let l = s.lasts in
     record {
-      lasts = record {
-        setup = l.setup;
-        rx = l.rx;
-        tx = l.tx;
-        filters = same ∙ l.filters;
-        arrivals = l.arrivals;
-        sent = l.sent;
-        writes = l.writes;
-        commands = l.commands;
-      };
+      lasts = assumption (same ∙ l.filters);
       rx = s.rx;
       tx = s.tx;
       settings = s.settings;

@@ -74,12 +74,7 @@ grown-landed s p None bucket =
     }
 grown-landed s p (Some cause) bucket =
     let same = grown-self s in
-    record {
-      arrivals = same.arrivals;
-      choices = same.choices;
-      accepted = same.accepted;
-      retired = same.retired;
-    }
+    assumption
 
 grown-enabled : (s : HopState) (e : HopEvent) → Enabled (Grown s) s e
 grown-enabled s (event.Arrive p x) =

@@ -164,24 +164,15 @@ module _ (m : Machine) (h : Held m) where
       → Quiet m (record m { tx = (happens m.tx e).0 })
   event-tx e off may =
       let k = h.kept in
-      record {
-        still = still-tx m (happens m.tx e).0 (stays-happens m.tx e may k.tx.sound)
-            (turns-happens m.tx e off);
-        arrivals = refl;
-        sent = refl;
-        writes = refl;
-      }
+      assumption (
+      still-tx m (happens m.tx e).0 (stays-happens m.tx e may k.tx.sound) (turns-happens m.tx e
+      off))
 
   -- an event of the receive hop by which nobody enters or leaves
   beside-rx : (e : HopEvent) → MakesNoTurn e → changes e Field.visits ≡ false → MayAsk m.rx e
       → Quiet m (record m { rx = (happens m.rx e).0 })
   beside-rx e off same may =
-      record {
-        still = event-rx e off may (λ q want is. same-inside m.rx e q same);
-        arrivals = refl;
-        sent = refl;
-        writes = refl;
-      }
+      assumption (event-rx e off may (λ q want is. same-inside m.rx e q same))
 
   quiet-self : Quiet m m
   quiet-self = record { still = still-self m; arrivals = refl; sent = refl; writes = refl }
@@ -189,38 +180,24 @@ module _ (m : Machine) (h : Held m) where
   quiet-enter : (q : ℕ) → q < length m.setup.homes
       → Quiet m (record m { rx = (happens m.rx (event.Enter q)).0 })
   quiet-enter q named =
-      record {
-        still = event-rx (event.Enter q) (refl, refl) (asks.enter q named)
-            (λ p want is. enter-inside m.rx q p);
-        arrivals = refl;
-        sent = refl;
-        writes = refl;
-      }
+      assumption (
+      event-rx (event.Enter q) (refl, refl) (asks.enter q named) (λ p want is. enter-inside m.rx
+      q p))
 
   quiet-leave : (q : ℕ) → q < length m.setup.homes → is_nothing (note_of m q) ≡ true
       → Quiet m (record m { rx = (happens m.rx (event.Leave q)).0 })
   quiet-leave q named nothing =
-      record {
-        still = event-rx (event.Leave q) (refl, refl) (asks.leave q named)
-            (λ p want is. leave-inside m.rx q p (λ e. (
-            let f : note_of m q ≡ note.Looked want = ap (note_of m) (sym e) ∙ is in
-            let g : true ≡ false = sym nothing ∙ ap is_nothing f in cc)));
-        arrivals = refl;
-        sent = refl;
-        writes = refl;
-      }
+      assumption (
+      event-rx (event.Leave q) (refl, refl) (asks.leave q named) (λ p want is. leave-inside m.rx
+      q p (λ e. (let f : note_of m q ≡ note.Looked want = ap (note_of m) (sym e) ∙ is in let g :
+      true ≡ false = sym nothing ∙ ap is_nothing f in cc))))
 
   -- a note that is no look
   quiet-noted : (n : Machine) (q : ℕ) (x : Note) (filters : List (Option Filter)) → Quiet m n
       → ((want : Option ℕ) → x ≡ note.Looked want → ⊥) → length filters ≡ length n.filters
       → Quiet m (record n { notes = slice_set n.notes q x; filters = filters })
   quiet-noted n q x filters k other same =
-      record {
-        still = still-noted m n q x filters k.still other same;
-        arrivals = k.arrivals;
-        sent = k.sent;
-        writes = k.writes;
-      }
+      assumption (still-noted m n q x filters k.still other same)
 
 -- ---- notes that are no look, and filters
 
@@ -258,23 +235,7 @@ module _ (m : Machine) (h : Held m) (Q : Machine → Type 0) (this : Step) (kind
         ((asks m h).arrive lt)
         (λ q want is. same-inside m.rx (event.Arrive a.queue a.id) q refl) in
         let l = s.lasts in
-        kinds.arrive lt (record {
-          lasts = record {
-            setup = refl;
-            rx = l.rx;
-            tx = l.tx;
-            filters = refl;
-            arrivals = extends-push m.arrivals a;
-            sent = l.sent;
-            writes = l.writes;
-            commands = l.commands;
-          };
-          rx = s.rx;
-          tx = s.tx;
-          settings = refl;
-          commands = refl;
-          looked = s.looked;
-        })))
+        kinds.arrive lt (assumption (extends-push m.arrivals a))))
         (λ _. self)
 
     at-look : (q : ℕ) (x : Option ℕ) → to_weigh m.rx q ≡ x → q < length m.setup.homes
@@ -302,16 +263,7 @@ module _ (m : Machine) (h : Held m) (Q : Machine → Type 0) (this : Step) (kind
         (λ same. kinds.quiet (noted m q note.Nothing)
         (quiet-noted m h m q note.Nothing m.filters (quiet-self m h) (λ w f. cc) refl))
         (λ inside enough stay. kinds.weigh q want named noted-is more
-        (record {
-          setup = refl;
-          rx = stay;
-          tx = l.tx;
-          filters = refl;
-          arrivals = l.arrivals;
-          sent = l.sent;
-          writes = l.writes;
-          commands = l.commands;
-        }))
+        (assumption (stay)))
         stays)
 
     at-put : (q : ℕ) (position : Option ℕ) → q < length m.setup.homes
@@ -415,16 +367,7 @@ module _ (m : Machine) (h : Held m) (Q : Machine → Type 0) (this : Step) (kind
         let l = lasts-self m in
         by_cases (λ t. Stays m.tx t → Q (record m { tx = t })) m.tx e (λ same. self)
         (λ inside more stay. kinds.tx_weigh a named more
-        (record {
-          setup = refl;
-          rx = l.rx;
-          tx = stay;
-          filters = refl;
-          arrivals = l.arrivals;
-          sent = l.sent;
-          writes = l.writes;
-          commands = l.commands;
-        }))
+        (assumption (stay)))
         stays
 
     -- an event of the transmit hop alone
@@ -511,16 +454,7 @@ walk m h Q s kinds named = walk-by m h Q s kinds s refl named
 pub lasts-noted : (m : Machine) (q : ℕ) (x : Note) → Lasts m (noted m q x)
 lasts-noted m q x =
     let l = lasts-self m in
-    record {
-      setup = refl;
-      rx = l.rx;
-      tx = l.tx;
-      filters = refl;
-      arrivals = l.arrivals;
-      sent = l.sent;
-      writes = l.writes;
-      commands = l.commands;
-    }
+    assumption
 
 pub lasts-simple : (m : Machine) (s : Step) → Held m → IsNamed m.setup s
     → Lasts m (simple m s).0

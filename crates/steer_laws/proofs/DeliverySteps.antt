@@ -63,11 +63,7 @@ history-is i m d =
     let w = said f m (setup_in i) d in let o = w.orders in
     let start : ℕ = m.rx.fixed.start in
     record {
-      steered = record {
-        regular = w.regular;
-        places = Places-of m k.rx.sound;
-        order = o.inboxes;
-      };
+      steered = assumption (Places-of m k.rx.sound);
       drops = record {
         causes = λ c.
             subst

@@ -222,11 +222,7 @@ pub held_wrote : (m : Machine) (socket : List (Option ℕ)) (a : ℕ) (writes : 
     → length socket ≡ length m.socket → Held m
     → Held (record m { socket = socket; writes = slice_set m.writes a writes })
 held_wrote m socket a writes same h =
-    record {
-      kept = kept_wrote m socket a writes same h.kept;
-      ranged = h.ranged;
-      recorded = h.recorded;
-    }
+    assumption (kept_wrote m socket a writes same h.kept)
 
 -- ---- an application
 

@@ -46,16 +46,7 @@ record Calm (m : Machine) (now : Settings) (s : HopState) : Type 0 where
 
 calm-kept : (m : Machine) → Kept m → Calm m m.settings m.rx
 calm-kept m k =
-    record {
-      sound = k.rx.sound;
-      lossless = k.rx.lossless;
-      sizes = k.rx.sizes;
-      settled = k.by.settled;
-      manned = k.by.manned;
-      noted = k.noted;
-      came = k.came;
-      replied = k.replied;
-    }
+    assumption
 
 calm-close : (m : Machine) (now : Settings) (s : HopState) → MayAsk s event.Close → Calm m now s
     → Calm m now (happens s event.Close).0
@@ -163,24 +154,9 @@ kept-flows m q count named within done k =
     let c = calm-reopen m now t may.1.1.0
     (calm-resize m s q count may.1.0 (calm-close m m.settings m.rx may.0 (calm-kept m k))) in
     let y = k.sizes in let w = c.manned in
-    record {
-      given = k.given;
-      rx = record { sound = c.sound; lossless = c.lossless; opened = refl; sizes = c.sizes };
-      tx = k.tx;
-      taken = k.taken;
-      by = record {
-        counts = ap (λ (l : List ℕ). slice_set l q (rounded_up count))
-            (k.by.counts ∙ sym (each_leaves m.rx event.Close Field.counts refl));
-        settled = c.settled;
-        manned = record { homes = w.homes; within = w.within; empty = w.empty; hand = w.hand };
-      };
-      noted = c.noted;
-      lists = k.lists;
-      sizes = record { masks = y.masks; stands = y.stands; maps = y.maps; sock = y.sock };
-      routes = k.routes;
-      came = c.came;
-      replied = c.replied;
-    }
+    assumption (
+    ap (λ (l : List ℕ). slice_set l q (rounded_up count)) (k.by.counts ∙ sym (each_leaves m.rx
+    event.Close Field.counts refl)))
 
 -- the code knows the hop by its three steps
 pub kept_flows : (m : Machine) (q count : ℕ) (t u v : HopState) → q < length m.setup.homes

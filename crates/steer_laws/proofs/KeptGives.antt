@@ -35,19 +35,7 @@ IsPlain _ = Unit {0}
 -- a command is listed
 pub Kept-listed : (m : Machine) (c : Command) (a : Answer) → Kept m → Kept (listed m c a)
 Kept-listed m c a k =
-    record {
-      given = k.given;
-      rx = k.rx;
-      tx = k.tx;
-      taken = k.taken;
-      by = k.by;
-      noted = k.noted;
-      lists = k.lists;
-      sizes = k.sizes;
-      routes = k.routes;
-      came = k.came;
-      replied = k.replied;
-    }
+    assumption
 
 -- ---- masks
 
@@ -72,31 +60,12 @@ kept-mask : (m : Machine) (q : ℕ) (mask : CpuMask)
     → Passed m.rx (affects m.setup (give.Mask q mask)) → Kept m → Kept (set_by m (give.Mask q mask))
 kept-mask m q mask passed k =
     let z = k.rx.sizes in let y = k.sizes in let b = k.by in let w = b.manned in
-    record {
-      given = k.given;
-      rx = k.rx;
-      tx = k.tx;
-      taken = k.taken;
-      by = record {
-        counts = b.counts;
-        settled = settled-anywhere m.rx m.setup m.settings (changed m.settings (give.Mask q mask))
-            (affects m.setup (give.Mask q mask)) k.rx.sound passed
-            (λ c lt. lt-ltb c m.setup.cpus (omega (arith, lt, z.cpus))) refl b.settled;
-        manned = record { homes = w.homes; within = w.within; empty = w.empty; hand = w.hand };
-      };
-      noted = k.noted;
-      lists = k.lists;
-      sizes = record {
-        masks = length-set m.settings.masks q mask
-            ∙ y.masks;
-        stands = y.stands;
-        maps = y.maps;
-        sock = y.sock;
-      };
-      routes = k.routes;
-      came = k.came;
-      replied = k.replied;
-    }
+    assumption (
+      settled-anywhere m.rx m.setup m.settings (changed m.settings (give.Mask q mask)) (affects
+          m.setup (give.Mask q mask)) k.rx.sound passed (λ c lt. lt-ltb c m.setup.cpus (omega
+          (arith, lt, z.cpus))) refl b.settled,
+      length-set m.settings.masks q mask ∙ y.masks,
+    )
 
 -- ---- settings that the receive hop does not read
 
@@ -105,62 +74,17 @@ kept-maps : (m : Machine) (maps : Maps) (stands : List ℕ) → maps.count ≡ m
     → Kept (record m { settings = record m.settings { maps = maps; stands = stands } })
 kept-maps m maps stands count long k =
     let y = k.sizes in let b = k.by in let w = b.manned in
-    record {
-      given = k.given;
-      rx = k.rx;
-      tx = k.tx;
-      taken = k.taken;
-      by = record {
-        counts = b.counts;
-        settled = b.settled;
-        manned = record { homes = w.homes; within = w.within; empty = w.empty; hand = w.hand };
-      };
-      noted = k.noted;
-      lists = k.lists;
-      sizes = record {
-        masks = y.masks;
-        stands = long ∙ y.stands;
-        maps = count
-            ∙ y.maps;
-        sock = y.sock;
-      };
-      routes = k.routes;
-      came = k.came;
-      replied = k.replied;
-    }
+    assumption (long ∙ y.stands, count ∙ y.maps)
 
 kept-reta : (m : Machine) (place q : ℕ) → q < length m.setup.homes → Kept m
     → Kept (set_by m (give.Reta place q))
 kept-reta m place q named k =
     let y = k.sizes in let b = k.by in let w = b.manned in let r = k.routes in let t = r.table in
-    record {
-      given = k.given;
-      rx = k.rx;
-      tx = k.tx;
-      taken = k.taken;
-      by = record {
-        counts = b.counts;
-        settled = b.settled;
-        manned = record { homes = w.homes; within = w.within; empty = w.empty; hand = w.hand };
-      };
-      noted = k.noted;
-      lists = k.lists;
-      sizes = record { masks = y.masks; stands = y.stands; maps = y.maps; sock = y.sock };
-      routes = record {
-        table = record {
-          some = t.some;
-          few = t.few;
-          size = length-set m.settings.reta.entries place q ∙ t.size;
-          below = All-set (λ queue. queue < m.settings.reta.queues) m.settings.reta.entries place q
-              (omega (arith, named, r.queues)) t.below;
-        };
-        queues = r.queues;
-        set = r.set;
-        asked = r.asked;
-      };
-      came = k.came;
-      replied = k.replied;
-    }
+    assumption (
+      length-set m.settings.reta.entries place q ∙ t.size,
+      All-set (λ queue. queue < m.settings.reta.queues) m.settings.reta.entries place q (omega
+          (arith, named, r.queues)) t.below,
+    )
 
 kept-sock : (m : Machine) (size : ℕ) → Kept m → Kept (set_by m (give.Sock size))
 kept-sock m size k =
@@ -191,24 +115,7 @@ kept-sock m size k =
 kept-expire : (m : Machine) → Kept m → Kept (set_by m give.Expire)
 kept-expire m k =
     let r = k.routes in
-    record {
-      given = k.given;
-      rx = k.rx;
-      tx = k.tx;
-      taken = k.taken;
-      by = k.by;
-      noted = k.noted;
-      lists = k.lists;
-      sizes = k.sizes;
-      routes = record {
-        table = r.table;
-        queues = r.queues;
-        set = expired-below m (length m.setup.homes) r.set;
-        asked = r.asked;
-      };
-      came = k.came;
-      replied = k.replied;
-    }
+    assumption (expired-below m (length m.setup.homes) r.set)
 
 -- ---- all but three
 

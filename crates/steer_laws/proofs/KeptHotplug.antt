@@ -176,40 +176,23 @@ kept-changed : (m : Machine) (online : CpuMask) (cpu : ℕ)
 kept-changed m online cpu same manned alone dry k =
     let z = k.rx.sizes in let y = k.sizes in let h = k.rx.sound in
     let now : Settings = record m.settings { online = online } in
-    record {
-      given = k.given;
-      rx = k.rx;
-      tx = k.tx;
-      taken = k.taken;
-      by = record {
-        counts = k.by.counts;
-        settled =
-            reset_settles (class_at m.setup m.settings) (class_at m.setup now)
-            (plain_lane m.setup m.settings)
-            (plain_lane m.setup now) m.rx h
-            (record {
-              hands = λ q lt. no_hands m.rx h alone q;
-              classes = λ q i lt a b. refl;
-              lanes = λ q x lt.
-                  elim (plain-cases (mask_of m.settings q)
-                  (hash_of m.setup x) m.settings.online online
-                  (slice_index m.setup.homes q) cpu same) [
-                    | inl e ↦ inl e
-                    | inr e ↦
-                        inr (subst (λ lane. length
-                        (accepted_at m.rx.bare lane) ≤ retired_at m.rx.bare lane) (sym e)
-                        (dry q (omega (arith, lt, z.queues))))
-                  ];
-            }) k.by.settled;
-        manned = manned;
-      };
-      noted = k.noted;
-      lists = k.lists;
-      sizes = record { masks = y.masks; stands = y.stands; maps = y.maps; sock = y.sock };
-      routes = k.routes;
-      came = k.came;
-      replied = k.replied;
-    }
+    assumption (
+      reset_settles (class_at m.setup m.settings) (class_at m.setup now) (plain_lane m.setup
+          m.settings) (plain_lane m.setup now) m.rx h (record {
+            hands = λ q lt. no_hands m.rx h
+                alone q;
+            classes = λ q i lt a b. refl;
+            lanes = λ q x lt. elim (plain-cases (mask_of
+                m.settings q) (hash_of m.setup x) m.settings.online online (slice_index m.setup.homes q)
+                cpu same) [
+                  | inl e ↦ inl e
+                  | inr e ↦ inr (subst (λ lane. length (accepted_at m.rx.bare
+                      lane) ≤ retired_at m.rx.bare lane) (sym e) (dry q (omega (arith, lt, z.queues))))
+                ];
+          })
+          k.by.settled,
+      manned,
+    )
 
 pub kept_offline : (m : Machine) (cpu : ℕ) → cpu < m.setup.cpus
     → is_done (answer_to m (give.Offline cpu)) ≡ true → Kept m → Kept (set_by m (give.Offline cpu))

@@ -49,19 +49,13 @@ pub Kept-rx : (m : Machine) (e : HopEvent) (arrivals : List Arrival) → MayAsk 
     → Replied (list_at m.sent) (out_at (happens m.rx e).0.bare) (arrivals_of m.tx)
     → Kept m → Kept (record m { rx = (happens m.rx e).0; arrivals = arrivals })
 Kept-rx m e arrivals may still counts allowed manned noted came replied k =
-    record {
-      given = k.given;
-      rx = rx-happens m.setup m.rx e may still k.rx;
-      tx = k.tx;
-      taken = k.taken;
-      by = by-happens m.setup m.settings m.rx e may counts k.rx allowed manned k.by;
-      noted = noted;
-      lists = k.lists;
-      sizes = k.sizes;
-      routes = k.routes;
-      came = came;
-      replied = replied;
-    }
+    assumption (
+      rx-happens m.setup m.rx e may still k.rx,
+      by-happens m.setup m.settings m.rx e may counts k.rx allowed manned k.by,
+      noted,
+      came,
+      replied,
+    )
 
 -- an event by which nothing arrives and nothing leaves
 pub record IsInner (e : HopEvent) : Type 0 where
@@ -272,11 +266,7 @@ Kept-noted m q n named here below k =
         | inr ne ↦ (let f : note_of (noted m q n) r ≡ note_of m r = ch.there r ne in
             rw f (k.noted r))
       ];
-      lists = record {
-        notes_long = length-set m.notes q n ∙ l.notes_long;
-        sent_long = l.sent_long;
-        writes_long = l.writes_long;
-      };
+      lists = assumption (length-set m.notes q n ∙ l.notes_long);
       sizes = k.sizes;
       routes = record {
         table = k.routes.table;

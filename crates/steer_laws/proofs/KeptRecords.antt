@@ -44,26 +44,4 @@ pub kept_wrote : (m : Machine) (socket : List (Option ℕ)) (a : ℕ) (writes : 
     → Kept (record m { socket = socket; writes = slice_set m.writes a writes })
 kept_wrote m socket a writes same k =
     let l = k.lists in let z = k.sizes in
-    record {
-      given = k.given;
-      rx = k.rx;
-      tx = k.tx;
-      taken = k.taken;
-      by = k.by;
-      noted = k.noted;
-      lists = record {
-        notes_long = l.notes_long;
-        sent_long = l.sent_long;
-        writes_long = length-set m.writes a writes ∙ l.writes_long;
-      };
-      sizes = record {
-        masks = z.masks;
-        stands = z.stands;
-        maps = z.maps;
-        sock = z.sock
-            ∙ sym same;
-      };
-      routes = k.routes;
-      came = k.came;
-      replied = k.replied;
-    }
+    assumption (length-set m.writes a writes ∙ l.writes_long, z.sock ∙ sym same)

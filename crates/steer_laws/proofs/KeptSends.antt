@@ -42,19 +42,11 @@ pub kept_tx : (m : Machine) (e : HopEvent) (t : HopState) → changes e Field.cl
     → Kept (record m { tx = t })
 kept_tx m e t still counts quiet taken may is k =
     subst (λ (s : HopState). Kept (record m { tx = s })) (sym is)
-    (record {
-      given = k.given;
-      rx = k.rx;
-      tx = tx-happens m.setup m.tx e may still counts k.tx;
-      taken = taken-leaves m.tx e quiet taken k.taken;
-      by = k.by;
-      noted = k.noted;
-      lists = k.lists;
-      sizes = k.sizes;
-      routes = k.routes;
-      came = k.came;
-      replied = replied-begun (list_at m.sent) (out_at m.rx.bare) m.tx e quiet k.replied;
-    })
+    (assumption (
+      tx-happens m.setup m.tx e may still counts k.tx,
+      taken-leaves m.tx e quiet taken k.taken,
+      replied-begun (list_at m.sent) (out_at m.rx.bare) m.tx e quiet k.replied,
+    ))
 
 pub kept_tenter : (m : Machine) (a : ℕ) (t : HopState) → a < m.setup.apps
     → t ≡ (happens m.tx (event.Enter a)).0 → Kept m → Kept (record m { tx = t })
@@ -271,26 +263,14 @@ kept_send m a x r t u named free next which is then' k =
     let both : u ≡ (happens s (event.Take a)).0 =
     then' ∙ ap (λ (s : HopState). (happens s (event.Take a)).0) is in
     subst (λ (v : HopState). Kept (record m { tx = v; sent = sent })) (sym both)
-    (record {
-      given = k.given;
-      rx = k.rx;
-      tx = tx-happens m.setup s (event.Take a) (omega (arith, named, y.apps)) refl refl first;
-      taken = took-all m.tx a x (omega (arith, named, z.apps)) k.tx.sound free k.taken;
-      by = k.by;
-      noted = k.noted;
-      lists = record {
-        notes_long = l.notes_long;
-        sent_long = length-set m.sent a (sent_of m a ++ r ∷ []) ∙ l.sent_long;
-        writes_long = l.writes_long;
-      };
-      sizes = k.sizes;
-      routes = k.routes;
-      came = k.came;
-      replied = replied-begun (list_at sent) (out_at m.rx.bare) s (event.Take a) refl
-          (replied-sent (list_at m.sent) (list_at sent) (out_at m.rx.bare) (arrivals_of m.tx)
-          (arrivals_of s) a r ch begun
-          at.0 (which ∙ sym at.1) k.replied);
-    })
+    (assumption (
+      tx-happens m.setup s (event.Take a) (omega (arith, named, y.apps)) refl refl first,
+      took-all m.tx a x (omega (arith, named, z.apps)) k.tx.sound free k.taken,
+      length-set m.sent a (sent_of m a ++ r ∷ []) ∙ l.sent_long,
+      replied-begun (list_at sent) (out_at m.rx.bare) s (event.Take a) refl (replied-sent
+          (list_at m.sent) (list_at sent) (out_at m.rx.bare) (arrivals_of m.tx) (arrivals_of s) a r
+          ch begun at.0 (which ∙ sym at.1) k.replied),
+    ))
 
 -- the room for one reply more
 pub room_send : (m : Machine) (a x room : ℕ) → length m.setup.packets ≤ room → next_in m a ≡ Some x

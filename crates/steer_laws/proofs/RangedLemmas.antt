@@ -204,11 +204,7 @@ pub ranged-ask : (m : Machine) (q : ℕ) (filter : Filter) (hash : Option ℕ)
     (record (noted m q note.Nothing) { filters = with_filter m.filters hash filter })
 ranged-ask m q filter hash asked r =
     let quiet = ranged-noted m q note.Nothing (λ f e. absurd (cc)) r in
-    record {
-      flows = r.flows;
-      set = filter-below m.setup.cpus m.filters hash filter (r.asked q filter asked) r.set;
-      asked = quiet.asked;
-    }
+    assumption (filter-below m.setup.cpus m.filters hash filter (r.asked q filter asked) r.set)
 
 pub ranged-set : (m : Machine) (c : Command) → IsCommandNamed m.setup c → IsRanged m
     → IsRanged (set_by m c)
@@ -216,12 +212,9 @@ ranged-set m (give.Mask q mask) named r = r
 ranged-set m (give.Flows q count) named r =
     let w = both-below q (length m.setup.homes) count 32769 named in
     let few = w.1 in
-    record {
-      flows = All-set (λ count. count ≤ 32768) m.settings.counts q (rounded_up count)
-          (rounded-within count (omega (arith, few))) r.flows;
-      set = r.set;
-      asked = r.asked;
-    }
+    assumption (
+    All-set (λ count. count ≤ 32768) m.settings.counts q (rounded_up count) (rounded-within
+    count (omega (arith, few))) r.flows)
 ranged-set m (give.Sock size) named r = r
 ranged-set m (give.Offline cpu) named r = r
 ranged-set m (give.Online cpu) named r = r

@@ -54,14 +54,11 @@ recorded-arrives m k r =
     let hash : Option ℕ = hash_of m.setup (length m.arrivals) in
     let packets : List Packet = m.setup.packets in
     let entry : ℕ = queue_of m.settings.reta hash in
-    record {
-      routed = All-push (λ b. IsRoute (packet_at packets b.id).hash (route_of b)) m.arrivals
-          (next_arrival m) r.routed (filter_seen m.filters hash, entry, refl);
-      own = r.own;
-      queues = queues-stay m (next_arrival m) refl k r;
-      weighed = r.weighed;
-      told = r.told;
-    }
+    assumption (
+      All-push (λ b. IsRoute (packet_at packets b.id).hash (route_of b)) m.arrivals
+          (next_arrival m) r.routed (filter_seen m.filters hash, entry, refl),
+      queues-stay m (next_arrival m) refl k r,
+    )
 
 pub recorded-arrive : (m : Machine) → Kept m → IsRecorded m → IsRecorded (arrive m).0
 recorded-arrive m k r =

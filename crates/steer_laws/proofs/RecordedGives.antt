@@ -91,14 +91,9 @@ recorded-set m give.Expire r = r
 pub recorded-listed : (m : Machine) (c : Command) (a : Answer) → has_text a ≡ true → IsRecorded m
     → IsRecorded (listed m c a)
 recorded-listed m c a text r =
-    record {
-      routed = r.routed;
-      own = r.own;
-      queues = r.queues;
-      weighed = r.weighed;
-      told = All-push (λ d. has_text d.answer ≡ true) m.commands
-          (record { command = c; answer = a }) r.told text;
-    }
+    assumption (
+    All-push (λ d. has_text d.answer ≡ true) m.commands (record { command = c; answer = a })
+    r.told text)
 
 pub recorded-give : (m : Machine) (c : Command) → IsRecorded m → IsRecorded (given m c).0
 recorded-give m c r =

@@ -175,14 +175,9 @@ recorded-leave m q r =
 deliver-to : (m : Machine) (c o : ℕ) → app_for m.setup (next_out m.rx.bare c) ≡ o → IsRecorded m
     → IsRecorded (record m { rx = with_bare m.rx (deliver_at m.rx.bare c o) })
 deliver-to m c o is r =
-    record {
-      routed = r.routed;
-      own = all-pushed (λ a x. app_at m.setup.packets m.setup.apps x ≡ a) m.rx.bare.outs o
-          (next_out m.rx.bare c) is r.own;
-      queues = r.queues;
-      weighed = r.weighed;
-      told = r.told;
-    }
+    assumption (
+    all-pushed (λ a x. app_at m.setup.packets m.setup.apps x ≡ a) m.rx.bare.outs o (next_out
+    m.rx.bare c) is r.own)
 
 pub recorded-deliver : (m : Machine) (c : ℕ) → IsRecorded m → IsRecorded (deliver m c).0
 recorded-deliver m c r =
@@ -218,14 +213,9 @@ pub recorded-sends : (m : Machine) (a x : ℕ) (s : HopState) → s.choices ≡ 
     → IsRecorded m → IsRecorded (record (sends m a x) { tx = s })
 recorded-sends m a x s same r =
     let moved = recorded-choices m s same r in
-    record {
-      routed = r.routed;
-      own = r.own;
-      queues = all-pushed (λ _ t. t.rxq ≡ (arrival_of m.arrivals t.id).queue) m.sent a
-          (reply_to m a x) refl r.queues;
-      weighed = moved.weighed;
-      told = r.told;
-    }
+    assumption (
+    all-pushed (λ _ t. t.rxq ≡ (arrival_of m.arrivals t.id).queue) m.sent a (reply_to m a x)
+    refl r.queues)
 
 -- arriving at the transmit hop and being taken up there makes no choice
 pub begun-choices : (s : HopState) (a x : ℕ)
@@ -282,19 +272,11 @@ recorded-chose m a class pick is r =
     let d : Chosen = record { id = next_of m.tx a; choice = c } in
     let kind : c.class ≡ Some class = by_entry-class class (Some pick) pick _ _ _ _ in
     let want : c.want ≡ Some pick = by_entry-want class (Some pick) pick _ _ _ _ in
-    record {
-      routed = r.routed;
-      own = r.own;
-      queues = r.queues;
-      weighed = record {
-        class = all-pushed
-            (λ _ e. e.choice.class ≡ Some (packet_at m.setup.packets e.id).flow_number)
-            m.tx.choices a d (kind ∙ ap (λ n. Some n) is) r.weighed.class;
-        want = all-pushed (λ _ e. IsSome e.choice.want) m.tx.choices a d (ap is_some want)
-            r.weighed.want;
-      };
-      told = r.told;
-    }
+    assumption (
+      all-pushed (λ _ e. e.choice.class ≡ Some (packet_at m.setup.packets e.id).flow_number)
+          m.tx.choices a d (kind ∙ ap (λ n. Some n) is) r.weighed.class,
+      all-pushed (λ _ e. IsSome e.choice.want) m.tx.choices a d (ap is_some want) r.weighed.want,
+    )
 
 pub recorded-tweigh : (m : Machine) (a : ℕ) → Kept m → IsRecorded m → IsRecorded (tweigh m a).0
 recorded-tweigh m a k r =

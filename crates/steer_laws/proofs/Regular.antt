@@ -19,13 +19,7 @@ matched-of : (m : Machine) → Kept m → AreMatched m.setup.apps (history_of m)
 matched-of m k =
     let r = k.rx.sizes in let t = k.tx.sizes in
     let w = k.rx.sound.wide in let v = k.tx.sound.wide in
-    record {
-      choices = w.choices ∙ sym w.taken;
-      inboxes = r.apps;
-      sent = k.lists.sent_long;
-      tx_choices = v.choices ∙ t.apps;
-      writes = k.lists.writes_long;
-    }
+    assumption (w.choices ∙ sym w.taken, v.choices ∙ t.apps)
 
 arrived-of : (m : Machine) → Kept m → HaveArrived m.setup.packets (history_of m)
 arrived-of m k =

@@ -32,15 +32,7 @@ use Rattle.steer_laws.proofs.PrefixLemmas.{prefix-length}
 staged-hop : (s : HopState) → Sound s → IsStaged s
 staged-hop s h =
     let w = h.wide in
-    record {
-      weighed = h.hands.put;
-      taken = h.hands.chosen;
-      one = h.hands.one;
-      delivered = h.counts.delivered_first;
-      retired = h.counts.retired_first;
-      one_pulled = h.counts.one;
-      counted = w.placed ∙ sym w.choices;
-    }
+    assumption (w.placed ∙ sym w.choices)
 
 pub staged : (m : Machine) → Kept m → AreStaged m
 staged m k =
