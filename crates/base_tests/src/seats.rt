@@ -1,9 +1,9 @@
 //! Seats that are dealt out and taken back.
 ghost use Rattle.std.specs.Prelude.{◌≡◌, [], ◌∷◌, IfOk};
-ghost use Rattle.seat_order.specs.Hands.{all_hands};
+ghost use Rattle.linearization.specs.Views.{all_hands};
 
 use atomic_table::{Seat, Table};
-use seat_order::{Gathered, Hands, OneOrder, StepRule, close, deal};
+use linearization::{Gathered, Hands, OneOrder, StepRule, close, deal};
 use std::alloc::{AllocError, Global};
 
 // One word, which stays 7. The table is told how many seats there are.

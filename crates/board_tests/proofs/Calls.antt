@@ -2,7 +2,7 @@
 use Rattle.std.proofs.Common.{◌≡◌, ℕ, ◌+◌, ◌*◌, ◌^◌, ◌==◌, Bool, true, false, List, [], ◌∷◌, ◌++◌}
 use Rattle.std.proofs.Common.{Option, Some, None, if◌then◌else◌}
 use Rattle.std.proofs.Common.{sym, refl, ap, ◌∙◌, subst}
-use Rattle.seat_order.proofs.Lists.{if_same}
+use Rattle.linearization.proofs.ListLemmas.{if_same}
 use Rattle.hop_rule.specs.Boards.{gate_steps, lane_steps}
 use Rattle.hop_rule.specs.Gates.{Visit, closed, inside, openings, outside, visit}
 use Rattle.hop_rule.specs.Lanes.{Phase, freed_phase, gave, has_pulled, holding, idle, out_holding}
@@ -15,27 +15,27 @@ use Rattle.hop_rule.specs.declared.step.Change.TheVariants.{Nothing, Offered, Pu
 use Rattle.hop_rule.specs.declared.step.GateStep.TheVariants.{Entered, Turned, Left, Read, Shut}
 use Rattle.hop_rule.specs.declared.step.GateStep.TheVariants.{NotShut, Opened, Set}
 use Rattle.hop_rule.specs.declared.step.LaneStep.TheVariants.{Given, OutFreed}
-use Rattle.hop_seam.specs.Closings.{IsAtRest}
-use Rattle.hop_seam.specs.HeldLanes.{HasNoneOf, PullsFrom}
-use Rattle.hop_seam.specs.Rights.{HasPulled, Pulls}
-use Rattle.hop_seam.specs.Seats.{BoardSeatView, Adds}
+use Rattle.board_api.specs.Closings.Closings.{IsAtRest}
+use Rattle.board_api.specs.Calls.HeldLanes.{HasNoneOf, PullsFrom}
+use Rattle.board_api.specs.Calls.Rights.{HasPulled, Pulls}
+use Rattle.board_api.specs.Seats.{BoardSeatView, Adds}
 use Rattle.steer_base.specs.Lanes.{LaneLists}
 use Rattle.steer_base.specs.declared.cpu_mask.CpuMask.{CpuMask}
 use Rattle.steer_base.specs.declared.put.Put.{Put}
 use Rattle.hop_rule.specs.OutLanes.{OutList}
-use Rattle.hop_seam.specs.Tells.{TookMiddle, TookOut, released, BackTells, CloseTells, DeliverTells}
-use Rattle.hop_seam.specs.Tells.{EmptiedTells, EnterTells, Looked, MissedAt, OpenTells, PullTells}
-use Rattle.hop_seam.specs.Tells.{PutTells, RetireTells, Took, WeighTells, looking}
-use Rattle.hop_seam.specs.Views.{BoardView}
-use Rattle.hop_seam.specs.declared.answers.CloseAnswer.TheVariants as close
-use Rattle.hop_seam.specs.declared.answers.Emptied.{Emptied}
-use Rattle.hop_seam.specs.declared.answers.Emptied.TheVariants as emptied
-use Rattle.hop_seam.specs.declared.answers.EnterAnswer.TheVariants as enter
-use Rattle.hop_seam.specs.declared.answers.Pull.TheVariants as pull
-use Rattle.hop_seam.specs.declared.held_lane.HeldLane.{HeldLane}
-use Rattle.hop_seam.specs.declared.held_lane.HeldLane.TheVariants as held
-use Rattle.hop_seam.specs.declared.held_lane.LaneId.{LaneId}
-use Rattle.hop_seam.specs.declared.held_lane.LaneId.TheVariants as id
+use Rattle.board_api.specs.Calls.Answers.{TookMiddle, TookOut, released, BackTells, CloseTells, DeliverTells}
+use Rattle.board_api.specs.Calls.Answers.{EmptiedTells, EnterTells, Looked, MissedAt, OpenTells, PullTells}
+use Rattle.board_api.specs.Calls.Answers.{PutTells, RetireTells, Took, WeighTells, looking}
+use Rattle.board_api.specs.Views.{BoardView}
+use Rattle.board_api.specs.declared.answers.CloseAnswer.TheVariants as close
+use Rattle.board_api.specs.declared.answers.Emptied.{Emptied}
+use Rattle.board_api.specs.declared.answers.Emptied.TheVariants as emptied
+use Rattle.board_api.specs.declared.answers.EnterAnswer.TheVariants as enter
+use Rattle.board_api.specs.declared.answers.Pull.TheVariants as pull
+use Rattle.board_api.specs.declared.held_lane.HeldLane.{HeldLane}
+use Rattle.board_api.specs.declared.held_lane.HeldLane.TheVariants as held
+use Rattle.board_api.specs.declared.held_lane.LaneId.{LaneId}
+use Rattle.board_api.specs.declared.held_lane.LaneId.TheVariants as id
 use Rattle.board_tests.specs.Stands.{IsIn, IsOut, Stands, hand_of, no_hand, opened_by}
 
 abbrev Seat : Type 0

@@ -3,11 +3,11 @@ use Rattle.std.proofs.Common.{◌≡◌, ℕ, zero, suc, ◌+◌, ◌-◌, ◌<�
 use Rattle.std.proofs.Common.{map, take, slice_index_or, sym, refl, ap, ◌∙◌, subst, arith}
 use Rattle.std.proofs.lemmas.List.Elements.{All-append, All-cons, All-nil}
 use Rattle.atomic_table.specs.Seated.{TableId}
-use Rattle.seat_order.specs.Seats.{new_seats, seat_view}
+use Rattle.linearization.specs.Seats.{new_seats, seat_view}
 use Rattle.hop_rule.specs.declared.sizes.BoardSizes.{BoardSizes}
-use Rattle.hop_seam.specs.Closings.{IsAtRest}
-use Rattle.hop_seam.specs.Seats.{BoardSeatView}
-use Rattle.hop_seam.specs.Views.{BoardView}
+use Rattle.board_api.specs.Closings.Closings.{IsAtRest}
+use Rattle.board_api.specs.Seats.{BoardSeatView}
+use Rattle.board_api.specs.Views.{BoardView}
 use Rattle.hop_board.specs.Made.{new_board_seats}
 use Rattle.hop_board.specs.Named.{board_seat}
 use Rattle.board_tests.proofs.Calls.{rests}

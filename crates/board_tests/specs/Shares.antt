@@ -1,8 +1,8 @@
 -- What the threads of a board are, and how they begin.
 use Rattle.std.specs.Prelude.{◌≡◌, ℕ, ◌+◌, ◌<◌, ◌≤◌, length}
 use Rattle.hop_rule.specs.declared.sizes.BoardSizes.{BoardSizes}
-use Rattle.hop_seam.specs.Seats.{BoardSeatView}
-use Rattle.hop_seam.specs.Views.{BoardView}
+use Rattle.board_api.specs.Seats.{BoardSeatView}
+use Rattle.board_api.specs.Views.{BoardView}
 use Rattle.board_tests.specs.Stands.{IsOut}
 
 -- a board of four lanes and two out lanes for these workers and one seat more, with a setting

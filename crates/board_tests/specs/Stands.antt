@@ -3,8 +3,8 @@ use Rattle.std.specs.Prelude.{◌≡◌, ℕ, ◌==◌, Option, Some, None, if�
 use Rattle.hop_rule.specs.Boards.{gate_steps, lane_steps}
 use Rattle.hop_rule.specs.Gates.{Visit, closed, inside, openings, outside, visit}
 use Rattle.hop_rule.specs.Lanes.{Phase, gave, has_pulled, holding, idle, out_holding, phase}
-use Rattle.hop_seam.specs.Seats.{BoardSeatView}
-use Rattle.hop_seam.specs.Views.{BoardView}
+use Rattle.board_api.specs.Seats.{BoardSeatView}
+use Rattle.board_api.specs.Views.{BoardView}
 
 -- no packet in hand, of any lane
 abbrev pub no_hand : ℕ → Phase

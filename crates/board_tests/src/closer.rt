@@ -1,9 +1,9 @@
 //! What the thread of the gate does.
 ghost use Rattle.std.specs.Prelude.{◌≡◌, ◌<◌, ◌≤◌, ◌+◌, length, false, true};
-ghost use Rattle.hop_seam.specs.Rights.{IsCloser};
+ghost use Rattle.board_api.specs.Calls.Rights.{IsCloser};
 ghost use Rattle.board_tests.specs.Stands.{IsBehind, IsOut, opened_by};
 
-use hop_seam::{Board, BoardSeat, CloseAnswer, Emptied};
+use board_api::{Board, BoardSeat, CloseAnswer, Emptied};
 use steer_base::CpuMask;
 
 /// How often the gate is closed, or found with somebody inside.

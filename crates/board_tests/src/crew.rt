@@ -11,7 +11,7 @@ use crate::told::START;
 use crate::worker::{PACKETS, Worker};
 use hop_board::Board;
 use hop_core::HopShape;
-use hop_seam::{BoardLists, BoardSeat};
+use board_api::{BoardLists, BoardSeat};
 use std::alloc::Global;
 use steer_base::CpuMask;
 

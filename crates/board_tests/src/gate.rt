@@ -3,7 +3,7 @@ ghost use Rattle.std.specs.Prelude.{◌≡◌};
 
 use hop_board::Board;
 use hop_core::HopShape;
-use hop_seam::{CloseAnswer, Emptied, EnterAnswer, Hold, LaneId};
+use board_api::{CloseAnswer, Emptied, EnterAnswer, Hold, LaneId};
 use std::alloc::Global;
 use std::process::Abort;
 use std::test::Fail;

@@ -1,6 +1,6 @@
 //! A middle lane in a seat's hand.
 use backlog::Lane;
-use hop_seam::HeldLane;
+use board_api::HeldLane;
 use std::test::Fail;
 use steer_base::PacketId;
 

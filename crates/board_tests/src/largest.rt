@@ -3,7 +3,7 @@ ghost use Rattle.std.specs.Prelude.{◌≡◌, ◌≤◌};
 
 use hop_board::Board;
 use hop_core::HopShape;
-use hop_seam::BoardLists;
+use board_api::BoardLists;
 use std::alloc::Global;
 use std::test::Fail;
 use steer_base::{CpuMask, OutOfMemory};

@@ -2,10 +2,10 @@
 ghost use Rattle.std.specs.Prelude.{◌≡◌, ◌<◌, IfOk, length, Some};
 ghost use Rattle.hop_rule.specs.Gates.{outside};
 ghost use Rattle.hop_rule.specs.Lanes.{gave};
-ghost use Rattle.hop_seam.specs.Rights.{Pulls};
+ghost use Rattle.board_api.specs.Calls.Rights.{Pulls};
 ghost use Rattle.board_tests.specs.Stands.{HasGiven, HasTaken, IsIn, IsOut, Stands, hand_of};
 
-use hop_seam::{Board, BoardSeat, EnterAnswer, Hold, LaneId, Pull};
+use board_api::{Board, BoardSeat, EnterAnswer, Hold, LaneId, Pull};
 use steer_base::{OutOfMemory, PacketId, Put};
 
 /// How often a thread tries an out lane before it gives up.

@@ -3,7 +3,7 @@
 ghost use Rattle.std.specs.Prelude.{◌≡◌, ◌+◌, ◌<◌, All, IfOk, OnOk, length};
 ghost use Rattle.std.specs.Thread.{IsSync};
 ghost use Rattle.std.specs.Vec.{vec_len};
-ghost use Rattle.hop_seam.specs.Rights.{IsCloser};
+ghost use Rattle.board_api.specs.Calls.Rights.{IsCloser};
 ghost use Rattle.board_tests.specs.Shares.{MayWork};
 ghost use Rattle.board_tests.specs.Stands.{IsDone, IsOut, opened_by};
 
@@ -16,7 +16,7 @@ use crate::told::{
 };
 use crate::worker::{Worker, work};
 use hop_board::Board;
-use hop_seam::{BoardLists, BoardSeat};
+use board_api::{BoardLists, BoardSeat};
 use std::process::Abort;
 use std::test::Fail;
 use std::thread::{Threads, join};

@@ -1,5 +1,5 @@
 //! Words of lanes, heads and gates, with counters that start at 0 and that wrap.
-use hop_seam::{GateWord, HeadWord, LaneWord};
+use board_api::{GateWord, HeadWord, LaneWord};
 
 // The first three are a lane of a board that starts at 0: before its hold, while it is held, and
 // after a put. The others wrap: their start is the last number of 32 bits, or the one before it.

@@ -1,12 +1,12 @@
 //! A thread that puts packets to all lanes, and serves its own.
 ghost use Rattle.std.specs.Prelude.{◌≡◌, ◌<◌, ◌≤◌, IfOk, IfSome, length};
-ghost use Rattle.hop_seam.specs.Rights.{Pulls};
+ghost use Rattle.board_api.specs.Calls.Rights.{Pulls};
 ghost use Rattle.board_tests.specs.Stands.{IsDone, IsOut};
 ghost use Rattle.board_tests.specs.Shares.{IsReady, IsWide};
 
 use crate::notes::{Gift, Notes, Offer, Reading};
 use crate::rounds::{Stuck, serve, visit};
-use hop_seam::{Board, BoardSeat};
+use board_api::{Board, BoardSeat};
 use steer_base::PacketId;
 
 /// How many packets each thread has.

@@ -1,6 +1,6 @@
 //! The largest plan, with the most packets.
 ghost use Rattle.std.specs.Prelude.{◌≤◌, length};
-ghost use Rattle.steer_parts.specs.Given.{AreOfFlows};
+ghost use Rattle.steer_model.specs.State.Ranges.{AreOfFlows};
 
 use crate::frames::Frame;
 use crate::machine::{begun, left_by, packets_of};

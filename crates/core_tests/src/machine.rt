@@ -2,8 +2,8 @@
 //! holds is dropped in one place alone.
 ghost use Rattle.std.specs.Prelude.{◌+◌, ◌<◌, ◌≡◌, ◌≤◌, IfOk, length};
 ghost use Rattle.plan_reader.specs.Plans.{sizes_of, step_count};
-ghost use Rattle.steer_laws.specs.Kept.{sizes_in};
-ghost use Rattle.steer_parts.specs.Given.{AreOfFlows};
+ghost use Rattle.steer_invariant.specs.StepInvariant.{sizes_in};
+ghost use Rattle.steer_model.specs.State.Ranges.{AreOfFlows};
 
 use crate::frames::{Frame, captured};
 use history::History;

@@ -1,8 +1,8 @@
 //! Worked replays: a plan, its steps with their answers, and the history that they leave.
 ghost use Rattle.std.specs.Prelude.{◌≡◌, ◌≤◌, length};
 ghost use Rattle.plan_reader.specs.Plans.{sizes_of, step_count};
-ghost use Rattle.steer_laws.specs.Kept.{sizes_in};
-ghost use Rattle.steer_parts.specs.Given.{AreOfFlows};
+ghost use Rattle.steer_invariant.specs.StepInvariant.{sizes_in};
+ghost use Rattle.steer_model.specs.State.Ranges.{AreOfFlows};
 
 use crate::frames::Frame;
 use crate::machine::{answer_of, begun, left_by, packets_of};

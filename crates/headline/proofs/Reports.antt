@@ -6,13 +6,13 @@ use Rattle.plan_reader.specs.PlanTexts.{settings_of}
 use Rattle.plan_reader.specs.Settings.{Settings}
 use Rattle.report.specs.Laws.{HasOneHistory, IsReportOf}
 use Rattle.report.specs.Report.{report}
-use Rattle.steer_good.specs.Always.{Always}
-use Rattle.steer_good.specs.Sizes.{IsOfItsInput}
-use Rattle.steer_laws.specs.HeldLaws.{ReplaysAreReportable}
-use Rattle.steer_parts.specs.Inputs.{Input}
-use Rattle.steer_parts.specs.PacketLaws.{PacketsAreOne}
-use Rattle.steer_parts.specs.Packets.{ArePackets}
-use Rattle.steer_parts.specs.Start.{replayed}
+use Rattle.steer_properties.specs.Histories.Always.{Always}
+use Rattle.steer_properties.specs.Histories.Sizes.{IsOfItsInput}
+use Rattle.steer_invariant.specs.InvariantLaws.{ReplaysAreReportable}
+use Rattle.steer_model.specs.Good.Inputs.{Input}
+use Rattle.steer_model.specs.Laws.Packets.{PacketsAreOne}
+use Rattle.steer_model.specs.Capture.Packets.{ArePackets}
+use Rattle.steer_model.specs.State.Start.{replayed}
 use Rattle.toeplitz.specs.Toeplitz.{number_of}
 use Rattle.headline.specs.Headline.{IsRight, Reports, Says}
 use Rattle.headline.specs.Laws.{ReportsHaveTheHeadline}

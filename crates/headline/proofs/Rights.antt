@@ -2,15 +2,15 @@
 use Rattle.std.proofs.Common.{length}
 use Rattle.history.specs.Lists.{list_at}
 use Rattle.history.specs.declared.history.History.{History}
-use Rattle.steer_good.specs.Always.{Always}
-use Rattle.steer_good.specs.Clear.{NothingIsOutstanding}
-use Rattle.steer_good.specs.Ruled.{AreChosen, AreReplied}
-use Rattle.steer_laws.specs.DeliveryLaws.{DeliversInOrder, ReplaysDeliverInOrder}
-use Rattle.steer_laws.specs.DeliveryLaws.{RunsDeliverInOrder}
-use Rattle.steer_parts.specs.Inputs.{Input}
-use Rattle.steer_parts.specs.Machine.{history_of}
-use Rattle.steer_parts.specs.Start.{new_machine, replayed}
-use Rattle.steer_parts.specs.Whole.{after}
+use Rattle.steer_properties.specs.Histories.Always.{Always}
+use Rattle.steer_properties.specs.Choices.Clear.{NothingIsOutstanding}
+use Rattle.steer_properties.specs.Choices.ByTheRule.{AreChosen, AreReplied}
+use Rattle.steer_properties.specs.Delivery.DeliveryLaws.{DeliversInOrder, ReplaysDeliverInOrder}
+use Rattle.steer_properties.specs.Delivery.DeliveryLaws.{RunsDeliverInOrder}
+use Rattle.steer_model.specs.Good.Inputs.{Input}
+use Rattle.steer_model.specs.State.Machine.{history_of}
+use Rattle.steer_model.specs.State.Start.{new_machine, replayed}
+use Rattle.steer_model.specs.Steps.CompoundSteps.{after}
 use Rattle.headline.specs.Headline.{IsRight}
 use Rattle.headline.proofs.Places.{stands-at_one}
 use Rattle.headline.proofs.Rules.{dropped-for, left-clear, processors-chosen, queues-picked}

@@ -19,13 +19,13 @@ use Rattle.steer_base.specs.declared.choice.Choice.{Choice}
 use Rattle.steer_base.specs.declared.choice.Chosen.{Chosen}
 use Rattle.steer_base.specs.declared.choice.Entry.{Entry}
 use Rattle.steer_base.specs.declared.put.LaneDrop.{LaneDrop}
-use Rattle.steer_good.specs.Clear.{MovesAreClear}
-use Rattle.steer_good.specs.Moves.{ChangesAsSaid, MayChange, MovesAsSaid}
-use Rattle.steer_good.specs.Ruled.{AreChosen, AreReplied}
-use Rattle.steer_parts.specs.GoodChoices.{accepted_in}
-use Rattle.steer_parts.specs.GoodDrops.{DropsAreExplained, DropsRise}
-use Rattle.steer_parts.specs.GoodWrites.{StoodAt}
-use Rattle.steer_parts.specs.Inputs.{Input, settings_at, since_at}
+use Rattle.steer_properties.specs.Choices.Clear.{MovesAreClear}
+use Rattle.steer_properties.specs.Choices.Moves.{ChangesAsSaid, MayChange, MovesAsSaid}
+use Rattle.steer_properties.specs.Choices.ByTheRule.{AreChosen, AreReplied}
+use Rattle.steer_model.specs.Good.Choices.{accepted_in}
+use Rattle.steer_model.specs.Good.Drops.{DropsAreExplained, DropsRise}
+use Rattle.steer_model.specs.Good.Writes.{StoodAt}
+use Rattle.steer_model.specs.Good.Inputs.{Input, settings_at, since_at}
 use Rattle.headline.specs.Drops.{IsDroppedFor}
 use Rattle.headline.specs.Outstanding.{IsLeftClear}
 use Rattle.headline.specs.Processors.{ChangesByTheManual, IsChosen, ProcessorsAreChosen}

@@ -7,7 +7,7 @@ use Rattle.history.specs.declared.lane_list.LaneList.{LaneList}
 use Rattle.steer_base.specs.Drops.{bucket_of, drop_cause, offers_of}
 use Rattle.steer_base.specs.Sets.{has}
 use Rattle.steer_base.specs.declared.put.LaneDrop.{LaneDrop}
-use Rattle.steer_parts.specs.Inputs.{Input}
+use Rattle.steer_model.specs.Good.Inputs.{Input}
 
 -- the packets that were put to a processor before its drop j, in the order of their puts
 abbrev pub offered_before : LaneList → ℕ → LaneDrop → List ℕ

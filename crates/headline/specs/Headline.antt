@@ -8,8 +8,8 @@ use Rattle.pcap_reader.specs.declared.capture.Capture.{Capture}
 use Rattle.plan_reader.specs.PlanTexts.{plan_of, settings_of}
 use Rattle.report.specs.Laws.{IsReportOf}
 use Rattle.steer_base.specs.declared.put.LaneDrop.{LaneDrop}
-use Rattle.steer_parts.specs.Inputs.{Input}
-use Rattle.steer_parts.specs.Packets.{ArePackets}
+use Rattle.steer_model.specs.Good.Inputs.{Input}
+use Rattle.steer_model.specs.Capture.Packets.{ArePackets}
 use Rattle.toeplitz.specs.Toeplitz.{number_of}
 use Rattle.headline.specs.Drops.{IsDroppedFor}
 use Rattle.headline.specs.Orders.{AreInOrder}

@@ -4,10 +4,10 @@ use Rattle.history.specs.Ranges.{HistoryFits}
 use Rattle.pcap_reader.specs.declared.capture.Capture.{Capture}
 use Rattle.report.specs.Laws.{TextsFit}
 use Rattle.report.specs.Report.{report}
-use Rattle.steer_good.specs.Always.{Always}
-use Rattle.steer_laws.specs.HeldLaws.{MayStart}
-use Rattle.steer_parts.specs.Inputs.{Input}
-use Rattle.steer_parts.specs.Start.{replayed}
+use Rattle.steer_properties.specs.Histories.Always.{Always}
+use Rattle.steer_invariant.specs.InvariantLaws.{MayStart}
+use Rattle.steer_model.specs.Good.Inputs.{Input}
+use Rattle.steer_model.specs.State.Start.{replayed}
 use Rattle.headline.specs.Headline.{Headline, IsRight, Says}
 
 -- The history of every replay is as it should be, in every state.

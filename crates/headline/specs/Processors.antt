@@ -11,9 +11,9 @@ use Rattle.steer_base.specs.Sets.{has}
 use Rattle.steer_base.specs.declared.choice.Choice.{Choice}
 use Rattle.steer_base.specs.declared.choice.Chosen.{Chosen}
 use Rattle.steer_base.specs.declared.choice.Entry.{Entry}
-use Rattle.steer_parts.specs.GoodChoices.{WasWritten}
-use Rattle.steer_parts.specs.Inputs.{Input, Prefixes, settings_at, since_at}
-use Rattle.steer_parts.specs.Settings.{Settings, mask_of}
+use Rattle.steer_model.specs.Good.Choices.{WasWritten}
+use Rattle.steer_model.specs.Good.Inputs.{Input, Prefixes, settings_at, since_at}
+use Rattle.steer_model.specs.State.Settings.{Settings, mask_of}
 
 -- what a lane accepted
 abbrev pub accepted_by : List LaneList → ℕ → List ℕ

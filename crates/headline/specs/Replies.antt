@@ -8,10 +8,10 @@ use Rattle.steer_base.specs.Sets.{first_cpus, has}
 use Rattle.steer_base.specs.declared.choice.Choice.{Choice}
 use Rattle.steer_base.specs.declared.choice.Chosen.{Chosen}
 use Rattle.steer_base.specs.declared.choice.Entry.{Entry}
-use Rattle.steer_good.specs.Moves.{MayChange}
-use Rattle.steer_parts.specs.GoodWrites.{StoodAt}
-use Rattle.steer_parts.specs.Inputs.{Input, Prefixes, settings_at}
-use Rattle.steer_parts.specs.Settings.{Settings}
+use Rattle.steer_properties.specs.Choices.Moves.{MayChange}
+use Rattle.steer_model.specs.Good.Writes.{StoodAt}
+use Rattle.steer_model.specs.Good.Inputs.{Input, Prefixes, settings_at}
+use Rattle.steer_model.specs.State.Settings.{Settings}
 use Rattle.xps_map.specs.Maps.{picked}
 use Rattle.headline.specs.Processors.{entry_before}
 

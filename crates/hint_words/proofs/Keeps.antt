@@ -7,16 +7,16 @@ use native.Mathlib.Decide.{ℕ_discrete}
 use lib.ListN.{get_or-replicate, length-replicate}
 use prog.Atomic.{either}
 use Rattle.atomic_table.specs.Table.{Me, Allows, step, keeps, opening}
-use Rattle.seat_order.specs.declared.hands.Hands.{Hands}
-use Rattle.seat_order.specs.Orders.{StepBy, step_by, AreBySeats}
-use Rattle.seat_order.specs.Hands.{one, number_in, steps_in, all_hands}
-use Rattle.seat_order.specs.Rules.{Ordered, Made}
-use Rattle.seat_order.proofs.Keeps.{goes, moves}
-use Rattle.seat_order.proofs.Views.{views_open}
+use Rattle.linearization.specs.declared.hands.Hands.{Hands}
+use Rattle.linearization.specs.Orders.{StepBy, step_by, AreBySeats}
+use Rattle.linearization.specs.Views.{one, number_in, steps_in, all_hands}
+use Rattle.linearization.specs.Rules.{Ordered, Made}
+use Rattle.linearization.proofs.RuleLemmas.{goes, moves}
+use Rattle.linearization.proofs.ViewLemmas.{views_open}
 use Rattle.hint_words.specs.declared.step.HintStep.{HintStep}
 use Rattle.hint_words.specs.declared.step.HintStep.TheVariants.{Load, Store, ClearIf}
 use Rattle.hint_words.specs.declared.sizes.Sizes.{Sizes}
-use Rattle.seat_order.specs.Moments.{Found}
+use Rattle.linearization.specs.Prefixes.{Found}
 use Rattle.hint_words.specs.Steps.{written, word_after, AnswersAfter, IsLawful}
 use Rattle.hint_words.specs.Tables.{HasLastWrites, load_of, store_of, clear_of}
 

@@ -1,7 +1,7 @@
 -- Where the values of loads come from.
 use Rattle.std.specs.Prelude.{◌≢◌, ℕ, List, All}
 use Rattle.std.specs.List.{Contains}
-use Rattle.seat_order.specs.Seats.{SeatView}
+use Rattle.linearization.specs.Seats.{SeatView}
 use Rattle.hint_words.specs.declared.step.HintStep.{HintStep}
 use Rattle.hint_words.specs.declared.step.HintStep.TheVariants.{Load, Store, ClearIf}
 

@@ -2,7 +2,7 @@
 use Rattle.std.specs.Prelude.{◌≡◌, ℕ, ◌+◌, ◌<◌, ◌==◌, List, length, slice_index}
 use mathlib.Core.Option.{Option}
 use Rattle.atomic_table.specs.Table.{Step}
-use Rattle.seat_order.specs.Orders.{StepBy}
+use Rattle.linearization.specs.Orders.{StepBy}
 use Rattle.hint_words.specs.declared.step.HintStep.{HintStep}
 use Rattle.hint_words.specs.declared.step.HintStep.TheVariants.{Load, Store, ClearIf}
 use Rattle.hint_words.specs.declared.sizes.Sizes.{Sizes}

@@ -1,13 +1,13 @@
 //! The three calls on a word. Each is one atomic step, takes no memory and waits for nobody.
 ghost use Rattle.std.specs.Prelude.{◌≡◌, ℕ, ◌<◌, ◌==◌, List, ◌∷◌};
-ghost use Rattle.seat_order.specs.Orders.{StepBy};
-ghost use Rattle.seat_order.specs.Moments.{IsPastOf};
+ghost use Rattle.linearization.specs.Orders.{StepBy};
+ghost use Rattle.linearization.specs.Prefixes.{IsPastOf};
 ghost use Rattle.hint_words.specs.Steps.{word_after, IsLawful};
 
 use crate::hints::{HintSeat, Hints};
 use crate::making::{Clears, Loads, Stores};
 use crate::step::HintStep;
-use seat_order::{Counted, Makes};
+use linearization::{Counted, Makes};
 use std::marker::Brand;
 
 impl Hints {

@@ -1,8 +1,8 @@
 //! The words, and how they are made and closed.
 ghost use Rattle.std.specs.Prelude.{◌≡◌, ℕ, List, IfOk, All};
 ghost use Rattle.std.specs.Vec.{vec_len};
-ghost use Rattle.seat_order.specs.Orders.{StepBy};
-ghost use Rattle.seat_order.specs.Seats.{new_seats, ArePartsOf};
+ghost use Rattle.linearization.specs.Orders.{StepBy};
+ghost use Rattle.linearization.specs.Seats.{new_seats, ArePartsOf};
 ghost use Rattle.hint_words.specs.Steps.{IsLawful};
 ghost use Rattle.hint_words.specs.Loads.{LoadsAreStored};
 
@@ -10,7 +10,7 @@ use crate::rule::LastWrites;
 use crate::sizes::Sizes;
 use crate::step::HintStep;
 use atomic_table::Table;
-use seat_order::{Hands, OneOrder, OrderedSeat, close, deal};
+use linearization::{Hands, OneOrder, OrderedSeat, close, deal};
 use std::alloc::Global;
 use std::marker::Model;
 use steer_base::OutOfMemory;

@@ -1,6 +1,6 @@
 //! Laws of the definitions that the contracts cite.
 ghost use Rattle.std.specs.Prelude.{◌≡◌, ◌⊎◌, ℕ, List};
-ghost use Rattle.seat_order.specs.Orders.{StepBy};
+ghost use Rattle.linearization.specs.Orders.{StepBy};
 ghost use Rattle.hint_words.specs.Steps.{word_after, NoneWrites, IsWrittenLast};
 
 use crate::step::HintStep;

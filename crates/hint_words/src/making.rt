@@ -1,6 +1,6 @@
 //! What the calls add to their seat's list.
 use crate::step::HintStep;
-use seat_order::{Counted, Making};
+use linearization::{Counted, Making};
 use std::marker::PhantomData;
 
 pub struct Loads<J> {
@@ -8,7 +8,7 @@ pub struct Loads<J> {
 }
 
 impl<J: Counted> Making<(), HintStep> for Loads<J> {
-    ghost use Rattle.seat_order.specs.Moments.{Found};
+    ghost use Rattle.linearization.specs.Prefixes.{Found};
     ghost use Rattle.hint_words.specs.Steps.{word_after, IsLawful};
     ghost use Rattle.hint_words.specs.Tables.{load_of};
 
@@ -22,7 +22,7 @@ pub struct Clears<J> {
 }
 
 impl<J: Counted> Making<(), HintStep> for Clears<J> {
-    ghost use Rattle.seat_order.specs.Moments.{Found};
+    ghost use Rattle.linearization.specs.Prefixes.{Found};
     ghost use Rattle.hint_words.specs.Steps.{word_after, IsLawful};
     ghost use Rattle.hint_words.specs.Tables.{clear_of};
 

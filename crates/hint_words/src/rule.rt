@@ -1,7 +1,7 @@
 //! The rule of the words: each holds what was written there last, in one order of all seats' steps.
 use crate::sizes::Sizes;
 use crate::step::HintStep;
-use seat_order::StepRule;
+use linearization::StepRule;
 
 pub struct LastWrites;
 

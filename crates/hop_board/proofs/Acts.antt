@@ -7,9 +7,9 @@ use Rattle.std.proofs.lemmas.Bool.{leb-true, leb-false}
 use mathlib.Core.Logic.{dite}
 use native.Mathlib.Decide.{ℕ_discrete}
 use prog.Atomic.{either}
-use Rattle.seat_order.specs.Orders.{StepBy, step_by, steps_of}
-use Rattle.seat_order.specs.Seats.{SeatView}
-use Rattle.seat_order.proofs.Lists.{if_same, if_other}
+use Rattle.linearization.specs.Orders.{StepBy, step_by, steps_of}
+use Rattle.linearization.specs.Seats.{SeatView}
+use Rattle.linearization.proofs.ListLemmas.{if_same, if_other}
 use Rattle.hop_rule.specs.declared.sizes.BoardSizes.{BoardSizes}
 use Rattle.hop_rule.specs.declared.step.BoardStep.{BoardStep}
 use Rattle.hop_rule.specs.declared.step.BoardStep.TheVariants.{Lane, Gate, Weighed, Counted}
@@ -26,11 +26,11 @@ use Rattle.hop_rule.proofs.Boards.{parts, few}
 use Rattle.hop_rule.proofs.Gates.{enter_finds, enter_word, leave_word, close_finds, closes, small}
 use Rattle.hop_rule.proofs.Gates.{word, sum_most, open_small}
 use Rattle.hop_rule.proofs.Owns.{gates_own, lanes_own}
-use Rattle.hop_seam.specs.Rights.{IsOutside, HasOpen, HasClosed, IsCloser, MayRead, Pulls}
-use Rattle.hop_seam.specs.Rights.{HasDelivered}
-use Rattle.hop_seam.specs.StepWords.{is_marked}
-use Rattle.hop_seam.specs.declared.held_lane.LaneId.{LaneId}
-use Rattle.hop_seam.specs.declared.held_lane.LaneId.TheVariants as id
+use Rattle.board_api.specs.Calls.Rights.{IsOutside, HasOpen, HasClosed, IsCloser, MayRead, Pulls}
+use Rattle.board_api.specs.Calls.Rights.{HasDelivered}
+use Rattle.board_api.specs.StepWords.{is_marked}
+use Rattle.board_api.specs.declared.held_lane.LaneId.{LaneId}
+use Rattle.board_api.specs.declared.held_lane.LaneId.TheVariants as id
 use Rattle.hop_board.specs.declared.places.Word.{Word}
 use Rattle.hop_board.specs.declared.places.Word.TheVariants as kind
 use Rattle.hop_board.specs.Makings.{closing, entering, loaded, IsBusy, MayLoad}

@@ -1,9 +1,9 @@
 -- Each word and each slot of a board has a place of its own.
 use Rattle.std.proofs.Common.{◌≡◌, ◌<◌, refl, ap, arith}
 use Rattle.hop_rule.specs.declared.sizes.BoardSizes.{BoardSizes}
-use Rattle.hop_seam.specs.HeldLanes.{FitsLane}
-use Rattle.hop_seam.specs.declared.held_lane.LaneId.{LaneId}
-use Rattle.hop_seam.specs.declared.held_lane.LaneId.TheVariants as id
+use Rattle.board_api.specs.Calls.HeldLanes.{FitsLane}
+use Rattle.board_api.specs.declared.held_lane.LaneId.{LaneId}
+use Rattle.board_api.specs.declared.held_lane.LaneId.TheVariants as id
 use Rattle.hop_board.specs.declared.places.Word.{Word}
 use Rattle.hop_board.specs.declared.places.Word.TheVariants as kind
 use Rattle.hop_board.specs.Tables.{slot_of, slots, place}

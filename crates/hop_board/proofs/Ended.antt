@@ -6,10 +6,10 @@ use Rattle.std.proofs.lemmas.List.Elements.{All-head, All-tail}
 use mathlib.Core.Logic.{dite}
 use mathlib.Core.Option.{some}
 use native.Mathlib.Decide.{ℕ_discrete}
-use Rattle.seat_order.specs.Closings.{Ends}
-use Rattle.seat_order.specs.Orders.{StepBy, steps_of}
-use Rattle.seat_order.specs.Seats.{SeatView, HasPart, IsByOne, numbers_of}
-use Rattle.seat_order.proofs.Views.{steps_of_other}
+use Rattle.linearization.specs.Closings.{Ends}
+use Rattle.linearization.specs.Orders.{StepBy, steps_of}
+use Rattle.linearization.specs.Seats.{SeatView, HasPart, IsByOne, numbers_of}
+use Rattle.linearization.proofs.ViewLemmas.{steps_of_other}
 use Rattle.hop_rule.specs.declared.sizes.BoardSizes.{BoardSizes}
 use Rattle.hop_rule.specs.declared.step.BoardStep.{BoardStep}
 use Rattle.hop_rule.specs.declared.step.LaneStep.{LaneStep}
@@ -23,13 +23,13 @@ use Rattle.hop_rule.proofs.Deliveries.{facts, gone, waiting}
 use Rattle.hop_rule.proofs.Lanes.{counted}
 use Rattle.hop_rule.proofs.Lists.{none-some}
 use Rattle.hop_rule.proofs.Owns.{lanes_own}
-use Rattle.hop_seam.specs.Closings.{HasEnded, IsAtRest}
-use Rattle.hop_seam.specs.Finals.{lane_list}
-use Rattle.hop_seam.specs.HeldLanes.{FitsLane}
-use Rattle.hop_seam.specs.Seats.{BoardSeatView, ordered_seat}
-use Rattle.hop_seam.specs.declared.held_lane.LaneId.{LaneId}
-use Rattle.hop_seam.specs.declared.held_lane.LaneId.TheVariants as id
-use Rattle.hop_seam.specs.declared.lists.BoardLists.{BoardLists}
+use Rattle.board_api.specs.Closings.Closings.{HasEnded, IsAtRest}
+use Rattle.board_api.specs.Closings.Finals.{lane_list}
+use Rattle.board_api.specs.Calls.HeldLanes.{FitsLane}
+use Rattle.board_api.specs.Seats.{BoardSeatView, ordered_seat}
+use Rattle.board_api.specs.declared.held_lane.LaneId.{LaneId}
+use Rattle.board_api.specs.declared.held_lane.LaneId.TheVariants as id
+use Rattle.board_api.specs.declared.lists.BoardLists.{BoardLists}
 use Rattle.hop_board.specs.Left.{AllLie, LiesIn, lists_left, middle_left, out_left}
 use Rattle.hop_board.specs.Tables.{HasBoard, InSlot, content, holder_of, slot_of}
 use Rattle.hop_board.proofs.Keeps.{home_is}

@@ -9,7 +9,7 @@ use Rattle.steer_base.specs.declared.put.DropCause.{DropCause}
 use Rattle.steer_base.specs.declared.put.Put.{Put}
 use Rattle.steer_base.specs.declared.put.Put.TheVariants.{At, Dropped}
 use Rattle.backlog.specs.Puts.{after_put, after_take, answer_by, next_waiting, put_answer, put_by, put_count}
-use Rattle.seat_order.specs.Seats.{SeatView}
+use Rattle.linearization.specs.Seats.{SeatView}
 use Rattle.hop_rule.specs.declared.sizes.BoardSizes.{BoardSizes}
 use Rattle.hop_rule.specs.declared.step.BoardStep.{BoardStep}
 use Rattle.hop_rule.specs.declared.step.BoardStep.TheVariants.{LaneOut}
@@ -24,14 +24,14 @@ use Rattle.hop_rule.specs.OutLanes.{OutList, out_list}
 use Rattle.hop_rule.specs.Sizes.{puller}
 use Rattle.hop_rule.proofs.Lists.{get-inside, none-some}
 use Rattle.hop_rule.proofs.Owns.{lane_room}
-use Rattle.hop_seam.specs.HeldLanes.{FitsLane, IsMiddle, IsOut, Holds}
-use Rattle.hop_seam.specs.Tells.{HoldTells, Took}
-use Rattle.hop_seam.specs.declared.answers.Hold.TheVariants as hold
-use Rattle.hop_seam.specs.declared.held_lane.HeldLane.{HeldLane}
-use Rattle.hop_seam.specs.declared.held_lane.HeldLane.TheVariants as held
-use Rattle.hop_seam.specs.declared.held_lane.LaneId.{LaneId}
-use Rattle.hop_seam.specs.declared.held_lane.LaneId.TheVariants as id
-use Rattle.hop_seam.proofs.AddedSteps.{taken_lanes_are_held}
+use Rattle.board_api.specs.Calls.HeldLanes.{FitsLane, IsMiddle, IsOut, Holds}
+use Rattle.board_api.specs.Calls.Answers.{HoldTells, Took}
+use Rattle.board_api.specs.declared.answers.Hold.TheVariants as hold
+use Rattle.board_api.specs.declared.held_lane.HeldLane.{HeldLane}
+use Rattle.board_api.specs.declared.held_lane.HeldLane.TheVariants as held
+use Rattle.board_api.specs.declared.held_lane.LaneId.{LaneId}
+use Rattle.board_api.specs.declared.held_lane.LaneId.TheVariants as id
+use Rattle.board_api.proofs.AddedSteps.{taken_lanes_are_held}
 use Rattle.hop_board.specs.Makings.{TookSlot}
 use Rattle.hop_board.specs.Named.{board_seat, held_by, lane_of, content_of}
 use Rattle.hop_board.specs.Releases.{is_told, step_in, rises_by}

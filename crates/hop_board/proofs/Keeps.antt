@@ -11,14 +11,14 @@ use lib.ListN.{get_elem?}
 use lib.Bits.{or_step}
 use Rattle.atomic_table.specs.Table.{Me, step, Step, keeps, takes, gives, homes_after, Allows}
 use Rattle.atomic_table.proofs.Lists.{set_here, set_else}
-use Rattle.seat_order.specs.declared.hands.Hands.{Hands}
-use Rattle.seat_order.specs.Orders.{StepBy, step_by, steps_of}
-use Rattle.seat_order.specs.Hands.{one, number_in, steps_in}
-use Rattle.seat_order.specs.Rules.{Ordered, Made, Moved}
-use Rattle.seat_order.specs.Seats.{SeatView, seat_view}
+use Rattle.linearization.specs.declared.hands.Hands.{Hands}
+use Rattle.linearization.specs.Orders.{StepBy, step_by, steps_of}
+use Rattle.linearization.specs.Views.{one, number_in, steps_in}
+use Rattle.linearization.specs.Rules.{Ordered, Made, Moved}
+use Rattle.linearization.specs.Seats.{SeatView, seat_view}
 use Rattle.atomic_table.specs.Seated.{TableId}
-use Rattle.seat_order.proofs.Keeps.{goes, moves, moves_taking}
-use Rattle.seat_order.proofs.Lists.{if_same, if_other}
+use Rattle.linearization.proofs.RuleLemmas.{goes, moves, moves_taking}
+use Rattle.linearization.proofs.ListLemmas.{if_same, if_other}
 use Rattle.hop_rule.specs.declared.sizes.BoardSizes.{BoardSizes}
 use Rattle.hop_rule.specs.declared.step.BoardStep.{BoardStep}
 use Rattle.hop_rule.specs.declared.step.BoardStep.TheVariants.{Lane, LaneOut, LaneIn}
@@ -31,11 +31,11 @@ use Rattle.hop_rule.specs.Boards.{IsLawful, MayCome, lanes_of, taken, empty, slo
 use Rattle.hop_rule.specs.Boards.{own_state, SlotState}
 use Rattle.hop_rule.specs.Sizes.{FitSizes}
 use Rattle.hop_rule.proofs.Slots.{agrees, out_agrees, is_out}
-use Rattle.hop_seam.specs.HeldLanes.{FitsLane}
-use Rattle.hop_seam.specs.StepWords.{is_odd}
-use Rattle.hop_seam.specs.Tells.{MissedAt}
-use Rattle.hop_seam.specs.declared.held_lane.LaneId.{LaneId}
-use Rattle.hop_seam.specs.declared.held_lane.LaneId.TheVariants as id
+use Rattle.board_api.specs.Calls.HeldLanes.{FitsLane}
+use Rattle.board_api.specs.StepWords.{is_odd}
+use Rattle.board_api.specs.Calls.Answers.{MissedAt}
+use Rattle.board_api.specs.declared.held_lane.LaneId.{LaneId}
+use Rattle.board_api.specs.declared.held_lane.LaneId.TheVariants as id
 use Rattle.hop_board.specs.declared.places.Word.{Word}
 use Rattle.hop_board.specs.declared.places.Word.TheVariants as kind
 use Rattle.hop_board.specs.Tables.{InSlot, slot_of}

@@ -5,8 +5,8 @@ use Rattle.std.proofs.Common.{get_or-set_other}
 use mathlib.Core.Logic.{dite}
 use native.Mathlib.Decide.{ℕ_discrete}
 use Rattle.steer_base.specs.declared.cpu_mask.CpuMask.{CpuMask}
-use Rattle.seat_order.specs.Seats.{SeatView}
-use Rattle.seat_order.proofs.Lists.{if_same, if_other}
+use Rattle.linearization.specs.Seats.{SeatView}
+use Rattle.linearization.proofs.ListLemmas.{if_same, if_other}
 use Rattle.hop_rule.specs.declared.sizes.BoardSizes.{BoardSizes}
 use Rattle.hop_rule.specs.declared.step.BoardStep.{BoardStep}
 use Rattle.hop_rule.specs.declared.step.BoardStep.TheVariants.{Lane, LaneIn, LaneOut}
@@ -17,12 +17,12 @@ use Rattle.hop_rule.specs.declared.step.Slot.{Slot}
 use Rattle.hop_rule.specs.declared.step.Slot.TheVariants as slot
 use Rattle.hop_rule.specs.Boards.{lane_steps}
 use Rattle.hop_rule.specs.Lanes.{Phase, gave, has_pulled, idle, phase}
-use Rattle.hop_seam.specs.Seats.{BoardSeatView, KeepsSteps}
-use Rattle.hop_seam.specs.Tells.{EmptiedTells, Looked, MissedAt, looking}
-use Rattle.hop_seam.specs.declared.answers.Emptied.{Emptied}
-use Rattle.hop_seam.specs.declared.answers.Emptied.TheVariants as emptied
-use Rattle.hop_seam.specs.declared.held_lane.LaneId.{LaneId}
-use Rattle.hop_seam.specs.declared.held_lane.LaneId.TheVariants as id
+use Rattle.board_api.specs.Seats.{BoardSeatView, KeepsSteps}
+use Rattle.board_api.specs.Calls.Answers.{EmptiedTells, Looked, MissedAt, looking}
+use Rattle.board_api.specs.declared.answers.Emptied.{Emptied}
+use Rattle.board_api.specs.declared.answers.Emptied.TheVariants as emptied
+use Rattle.board_api.specs.declared.held_lane.LaneId.{LaneId}
+use Rattle.board_api.specs.declared.held_lane.LaneId.TheVariants as id
 use Rattle.hop_board.specs.Emptying.{emptied_after}
 use Rattle.hop_board.specs.Named.{board_seat}
 use Rattle.hop_board.specs.Makings.{TookSlot, MissedSlot}

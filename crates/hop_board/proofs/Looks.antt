@@ -5,12 +5,12 @@ use Rattle.std.proofs.lemmas.List.Elements.{All-nil, All-cons}
 use Rattle.steer_base.specs.Sets.{has, those_below}
 use Rattle.steer_base.specs.declared.cpu_mask.CpuMask.{CpuMask}
 use Rattle.steer_base.proofs.SetsLemmas.{those_below-more}
-use Rattle.seat_order.specs.Seats.{SeatView}
+use Rattle.linearization.specs.Seats.{SeatView}
 use Rattle.hop_rule.specs.declared.sizes.BoardSizes.{BoardSizes}
 use Rattle.hop_rule.specs.declared.step.BoardStep.{BoardStep}
-use Rattle.hop_seam.specs.StepWords.{low_half, tail_in}
-use Rattle.hop_seam.specs.Tells.{EmptiedTells, IsEmpty, Looked, looking}
-use Rattle.hop_seam.specs.declared.answers.Emptied.TheVariants as emptied
+use Rattle.board_api.specs.StepWords.{low_half, tail_in}
+use Rattle.board_api.specs.Calls.Answers.{EmptiedTells, IsEmpty, Looked, looking}
+use Rattle.board_api.specs.declared.answers.Emptied.TheVariants as emptied
 use Rattle.hop_board.specs.Emptying.{LooksBelow, emptied_after}
 use Rattle.hop_board.specs.Named.{board_seat}
 

@@ -10,16 +10,16 @@ use lib.ListN.{get_or-replicate, length-replicate}
 use Rattle.atomic_table.specs.Seated.{TableId}
 use Rattle.atomic_table.specs.Table.{opening}
 use Rattle.atomic_table.proofs.Lists.{at_index, at_map}
-use Rattle.seat_order.specs.Hands.{all_hands}
-use Rattle.seat_order.specs.Rules.{Ordered}
-use Rattle.seat_order.specs.Seats.{SeatView, new_seats, seat_view}
-use Rattle.seat_order.proofs.Views.{views_open}
+use Rattle.linearization.specs.Views.{all_hands}
+use Rattle.linearization.specs.Rules.{Ordered}
+use Rattle.linearization.specs.Seats.{SeatView, new_seats, seat_view}
+use Rattle.linearization.proofs.ViewLemmas.{views_open}
 use Rattle.hop_rule.specs.declared.sizes.BoardSizes.{BoardSizes}
 use Rattle.hop_rule.specs.declared.step.BoardStep.{BoardStep}
-use Rattle.hop_seam.specs.HeldLanes.{FitsLane}
-use Rattle.hop_seam.specs.Seats.{BoardSeatView}
-use Rattle.hop_seam.specs.declared.held_lane.LaneId.{LaneId}
-use Rattle.hop_seam.specs.declared.held_lane.LaneId.TheVariants as id
+use Rattle.board_api.specs.Calls.HeldLanes.{FitsLane}
+use Rattle.board_api.specs.Seats.{BoardSeatView}
+use Rattle.board_api.specs.declared.held_lane.LaneId.{LaneId}
+use Rattle.board_api.specs.declared.held_lane.LaneId.TheVariants as id
 use Rattle.hop_board.specs.Made.{head_words, lane_words, new_middle, new_middles, new_outs, new_slots}
 use Rattle.hop_board.specs.Made.{new_words}
 use Rattle.hop_board.specs.Named.{HasNoSteps, board_seat}

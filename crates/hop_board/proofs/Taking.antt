@@ -11,7 +11,7 @@ use lib.ListN.{get_elem?}
 use Rattle.steer_base.specs.Journals.{Journal, journal}
 use Rattle.hop_rule.specs.declared.sizes.BoardSizes.{BoardSizes}
 use Rattle.hop_rule.specs.declared.step.Slot.TheVariants as slot
-use Rattle.hop_seam.specs.declared.held_lane.LaneId.TheVariants as id
+use Rattle.board_api.specs.declared.held_lane.LaneId.TheVariants as id
 use Rattle.hop_board.specs.Left.{AllLie, AreFullFrom, AreSpare, AreTakenFrom, AreTakenTo, IsMiddleOf}
 use Rattle.hop_board.specs.Left.{IsOut, LiesIn}
 use Rattle.hop_board.specs.Tables.{InSlot, slot_of}

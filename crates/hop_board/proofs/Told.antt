@@ -1,6 +1,6 @@
 -- The packets that a board has are below its room.
 use Rattle.std.proofs.Common.{ℕ, suc, List}
-use Rattle.seat_order.specs.Orders.{StepBy}
+use Rattle.linearization.specs.Orders.{StepBy}
 use Rattle.hop_rule.specs.declared.sizes.BoardSizes.{BoardSizes}
 use Rattle.hop_rule.specs.declared.step.BoardStep.{BoardStep}
 use Rattle.hop_rule.specs.Boards.{IsLawful, lane_at, out, lanes_of}

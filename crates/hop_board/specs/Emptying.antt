@@ -2,11 +2,11 @@
 use Rattle.std.specs.Prelude.{◌≡◌, ℕ, Bool, true, List, map, All}
 use Rattle.steer_base.specs.Sets.{has, those_below}
 use Rattle.steer_base.specs.declared.cpu_mask.CpuMask.{CpuMask}
-use Rattle.seat_order.specs.Seats.{SeatView}
+use Rattle.linearization.specs.Seats.{SeatView}
 use Rattle.hop_rule.specs.declared.step.BoardStep.{BoardStep}
-use Rattle.hop_seam.specs.Tells.{IsEmpty, Looked, looking}
-use Rattle.hop_seam.specs.declared.answers.Emptied.{Emptied}
-use Rattle.hop_seam.specs.declared.answers.Emptied.TheVariants as emptied
+use Rattle.board_api.specs.Calls.Answers.{IsEmpty, Looked, looking}
+use Rattle.board_api.specs.declared.answers.Emptied.{Emptied}
+use Rattle.board_api.specs.declared.answers.Emptied.TheVariants as emptied
 
 -- whether lanes have been found empty, after a look at them
 abbrev pub emptied_after : Bool → Emptied → Bool

@@ -10,10 +10,10 @@ use Rattle.history.specs.declared.lane_list.LaneList.{LaneList}
 use Rattle.hop_rule.specs.Boards.{out_slot}
 use Rattle.hop_rule.specs.declared.sizes.BoardSizes.{BoardSizes}
 use Rattle.hop_rule.specs.declared.step.Slot.TheVariants as slot
-use Rattle.hop_seam.specs.HeldLanes.{FitsLane}
-use Rattle.hop_seam.specs.declared.held_lane.LaneId.{LaneId}
-use Rattle.hop_seam.specs.declared.held_lane.LaneId.TheVariants as id
-use Rattle.hop_seam.specs.declared.lists.BoardLists.{BoardLists}
+use Rattle.board_api.specs.Calls.HeldLanes.{FitsLane}
+use Rattle.board_api.specs.declared.held_lane.LaneId.{LaneId}
+use Rattle.board_api.specs.declared.held_lane.LaneId.TheVariants as id
+use Rattle.board_api.specs.declared.lists.BoardLists.{BoardLists}
 use Rattle.hop_board.specs.Tables.{InSlot, slot_of}
 
 -- a middle lane of which nobody has a packet in hand: each that was pulled was delivered and retired

@@ -4,12 +4,12 @@ use Rattle.std.specs.List.{range_with_len}
 use Rattle.steer_base.specs.Sets.{has}
 use Rattle.atomic_table.specs.Seated.{TableId}
 use Rattle.backlog.specs.Puts.{new_lane}
-use Rattle.seat_order.specs.Seats.{new_seats}
+use Rattle.linearization.specs.Seats.{new_seats}
 use Rattle.hop_core.specs.declared.shape.HopShape.{HopShape}
 use Rattle.hop_rule.specs.OutLanes.{out_list}
 use Rattle.hop_rule.specs.declared.sizes.BoardSizes.{BoardSizes}
 use Rattle.hop_rule.specs.declared.step.Slot.TheVariants as slot
-use Rattle.hop_seam.specs.Seats.{BoardSeatView}
+use Rattle.board_api.specs.Seats.{BoardSeatView}
 use Rattle.hop_board.specs.Named.{board_seat}
 use Rattle.hop_board.specs.Tables.{InSlot}
 

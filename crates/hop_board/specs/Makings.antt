@@ -6,12 +6,12 @@ use Rattle.hop_rule.specs.declared.step.BoardStep.TheVariants.{Gate, Lane, Count
 use Rattle.hop_rule.specs.declared.step.GateStep.TheVariants.{Entered, Turned, Left, Read, Set, Shut, NotShut}
 use Rattle.hop_rule.specs.declared.step.LaneStep.TheVariants.{Retired}
 use Rattle.hop_rule.specs.declared.step.Slot.{Slot}
-use Rattle.seat_order.specs.Seats.{SeatView}
-use Rattle.hop_seam.specs.Rights.{MayRead}
-use Rattle.hop_seam.specs.StepWords.{is_odd, is_marked, low_half}
-use Rattle.hop_seam.specs.Tells.{MissedAt}
-use Rattle.hop_seam.specs.declared.held_lane.LaneId.{LaneId}
-use Rattle.hop_seam.specs.declared.held_lane.LaneId.TheVariants as id
+use Rattle.linearization.specs.Seats.{SeatView}
+use Rattle.board_api.specs.Calls.Rights.{MayRead}
+use Rattle.board_api.specs.StepWords.{is_odd, is_marked, low_half}
+use Rattle.board_api.specs.Calls.Answers.{MissedAt}
+use Rattle.board_api.specs.declared.held_lane.LaneId.{LaneId}
+use Rattle.board_api.specs.declared.held_lane.LaneId.TheVariants as id
 use Rattle.hop_board.specs.declared.places.Word.{Word}
 use Rattle.hop_board.specs.declared.places.Word.TheVariants as kind
 use Rattle.hop_board.specs.Plays.{HeldAt}

@@ -1,14 +1,14 @@
 -- Lanes in hands, and seats at a board, by their parts.
 use Rattle.std.specs.Prelude.{◌≡◌, ℕ, Bool, []}
-use Rattle.seat_order.specs.Seats.{SeatView}
+use Rattle.linearization.specs.Seats.{SeatView}
 use Rattle.hop_rule.specs.declared.step.BoardStep.{BoardStep}
 use Rattle.hop_rule.specs.declared.step.Slot.{Slot}
 use Rattle.hop_rule.specs.declared.step.Slot.TheVariants as slot
-use Rattle.hop_seam.specs.Seats.{BoardSeatView}
-use Rattle.hop_seam.specs.declared.held_lane.HeldLane.{HeldLane}
-use Rattle.hop_seam.specs.declared.held_lane.HeldLane.TheVariants as held
-use Rattle.hop_seam.specs.declared.held_lane.LaneId.{LaneId}
-use Rattle.hop_seam.specs.declared.held_lane.LaneId.TheVariants as id
+use Rattle.board_api.specs.Seats.{BoardSeatView}
+use Rattle.board_api.specs.declared.held_lane.HeldLane.{HeldLane}
+use Rattle.board_api.specs.declared.held_lane.HeldLane.TheVariants as held
+use Rattle.board_api.specs.declared.held_lane.LaneId.{LaneId}
+use Rattle.board_api.specs.declared.held_lane.LaneId.TheVariants as id
 
 -- the lane of this number with what was found in its slot
 abbrev pub held_as : ℕ → Slot → HeldLane

@@ -9,10 +9,10 @@ use Rattle.hop_rule.specs.declared.step.BoardStep.TheVariants.{Lane, LaneOut, La
 use Rattle.hop_rule.specs.declared.step.LaneStep.TheVariants.{Held, OutHeld}
 use Rattle.hop_rule.specs.declared.step.Slot.{Slot}
 use Rattle.hop_rule.specs.declared.step.Slot.TheVariants as slot
-use Rattle.hop_seam.specs.StepWords.{is_odd}
-use Rattle.hop_seam.specs.Tells.{MissedAt}
-use Rattle.hop_seam.specs.declared.held_lane.LaneId.{LaneId}
-use Rattle.hop_seam.specs.declared.held_lane.LaneId.TheVariants as id
+use Rattle.board_api.specs.StepWords.{is_odd}
+use Rattle.board_api.specs.Calls.Answers.{MissedAt}
+use Rattle.board_api.specs.declared.held_lane.LaneId.{LaneId}
+use Rattle.board_api.specs.declared.held_lane.LaneId.TheVariants as id
 use Rattle.hop_board.specs.Tables.{InSlot}
 
 -- the step by which the lane x was taken, with the word and the content that were found

@@ -9,8 +9,8 @@ use Rattle.hop_rule.specs.declared.step.Change.TheVariants as change
 use Rattle.hop_rule.specs.declared.step.LaneStep.TheVariants as lane
 use Rattle.hop_rule.specs.declared.step.Slot.{Slot}
 use Rattle.hop_rule.specs.declared.step.Slot.TheVariants as slot
-use Rattle.hop_seam.specs.declared.held_lane.LaneId.{LaneId}
-use Rattle.hop_seam.specs.declared.held_lane.LaneId.TheVariants as id
+use Rattle.board_api.specs.declared.held_lane.LaneId.{LaneId}
+use Rattle.board_api.specs.declared.held_lane.LaneId.TheVariants as id
 use Rattle.hop_board.specs.declared.release.Release.{Release}
 use Rattle.hop_board.specs.declared.release.Release.TheVariants.{Unchanged, Offered, Pulled, Given}
 

@@ -1,16 +1,16 @@
 -- What the steps of a seat at the words of a board need, and what they leave.
 use Rattle.std.specs.Prelude.{◌≡◌, ◌≢◌, ℕ, ◌+◌, ◌-◌, ◌%◌, ◌^◌, ◌<◌, List, ◌∷◌, Bool, true, false, Some}
 use mathlib.Core.Option.{some}
-use Rattle.seat_order.specs.Orders.{StepBy, step_by, steps_of}
-use Rattle.seat_order.specs.Seats.{SeatView}
+use Rattle.linearization.specs.Orders.{StepBy, step_by, steps_of}
+use Rattle.linearization.specs.Seats.{SeatView}
 use Rattle.hop_rule.specs.declared.sizes.BoardSizes.{BoardSizes}
 use Rattle.hop_rule.specs.declared.step.BoardStep.{BoardStep}
 use Rattle.hop_rule.specs.declared.step.BoardStep.TheVariants.{LaneIn}
 use Rattle.hop_rule.specs.declared.step.Slot.{Slot}
 use Rattle.hop_rule.specs.Boards.{IsLawful, MayCome}
 use Rattle.hop_rule.specs.Sizes.{FitSizes}
-use Rattle.hop_seam.specs.HeldLanes.{FitsLane}
-use Rattle.hop_seam.specs.declared.held_lane.LaneId.{LaneId}
+use Rattle.board_api.specs.Calls.HeldLanes.{FitsLane}
+use Rattle.board_api.specs.declared.held_lane.LaneId.{LaneId}
 use Rattle.hop_board.specs.declared.places.Word.{Word}
 use Rattle.hop_board.specs.declared.places.Word.TheVariants as kind
 use Rattle.hop_board.specs.Tables.{IsWord, place, slot_of, value, home_after}

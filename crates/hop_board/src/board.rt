@@ -3,7 +3,7 @@ use crate::rule::BoardRule;
 use crate::spare::Spare;
 use atomic_table::Table;
 use hop_rule::{BoardSizes, BoardStep, Slot};
-use seat_order::{Hands, OneOrder, OrderedSeat};
+use linearization::{Hands, OneOrder, OrderedSeat};
 use std::alloc::Global;
 use std::marker::Model;
 
@@ -25,7 +25,7 @@ pub struct Board {
 }
 
 impl Model for Board {
-    ghost use Rattle.hop_seam.specs.Views.{BoardView};
+    ghost use Rattle.board_api.specs.Views.{BoardView};
     ghost use Rattle.hop_board.specs.Closed.{IsBoard};
 
     ghost Value = { BoardView };

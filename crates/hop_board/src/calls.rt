@@ -1,6 +1,6 @@
 //! A board of words is a board for the threads that steer on it.
 use crate::board::Board;
-use hop_seam::{
+use board_api::{
     Board as Calls, BoardLists, BoardSeat, CloseAnswer, Emptied, EnterAnswer, HeldLane, Hold,
     LaneId, Pull,
 };

@@ -2,10 +2,10 @@
 ghost use Rattle.std.specs.Prelude.{◌≡◌, ◌∷◌, ◌<◌, ◌*◌, ◌^◌, [], Bool, true, length};
 ghost use Rattle.hop_rule.specs.Boards.{gate_steps};
 ghost use Rattle.hop_rule.specs.Gates.{openings};
-ghost use Rattle.hop_seam.specs.Rights.{HasClosed, HasOpen, IsCloser, IsOutside};
-ghost use Rattle.hop_seam.specs.Seats.{Adds};
-ghost use Rattle.hop_seam.specs.StepWords.{low_half, tail_in};
-ghost use Rattle.hop_seam.specs.Tells.{CloseTells, EmptiedTells, Looked, OpenTells, looking};
+ghost use Rattle.board_api.specs.Calls.Rights.{HasClosed, HasOpen, IsCloser, IsOutside};
+ghost use Rattle.board_api.specs.Seats.{Adds};
+ghost use Rattle.board_api.specs.StepWords.{low_half, tail_in};
+ghost use Rattle.board_api.specs.Calls.Answers.{CloseTells, EmptiedTells, Looked, OpenTells, looking};
 ghost use Rattle.hop_board.specs.Makings.{IsBusy, closing};
 ghost use Rattle.hop_board.specs.Named.{board_seat};
 ghost use Rattle.hop_board.specs.Emptying.{emptied_after};
@@ -13,7 +13,7 @@ ghost use Rattle.hop_board.specs.Emptying.{emptied_after};
 use crate::board::{Board, WordSeat};
 use crate::places::Word;
 use hop_rule::{BoardStep, GateStep};
-use hop_seam::{BoardSeat, CloseAnswer, Emptied, GateWord, HeadWord, LaneId, LaneWord};
+use board_api::{BoardSeat, CloseAnswer, Emptied, GateWord, HeadWord, LaneId, LaneWord};
 use std::marker::Brand;
 use steer_base::CpuMask;
 

@@ -1,16 +1,16 @@
 //! The end of a board.
 ghost use Rattle.std.specs.Prelude.{◌≡◌, ◌<◌, ◌≤◌, [], All, map, length};
 ghost use Rattle.std.specs.Vec.{vec_len};
-ghost use Rattle.hop_seam.specs.Closings.{HasEnded, IsAtRest};
-ghost use Rattle.hop_seam.specs.Seats.{ordered_seat};
+ghost use Rattle.board_api.specs.Closings.Closings.{HasEnded, IsAtRest};
+ghost use Rattle.board_api.specs.Seats.{ordered_seat};
 
 use crate::board::Board;
 use crate::left::lists_of;
 use crate::rule::BoardRule;
 use atomic_table::Shared;
 use hop_rule::{BoardSizes, BoardStep, Slot};
-use hop_seam::{BoardLists, BoardSeat};
-use seat_order::{Gathered, Hands, OneOrder};
+use board_api::{BoardLists, BoardSeat};
+use linearization::{Gathered, Hands, OneOrder};
 
 impl Board {
     /// Ends the board with all of its seats, each outside, with no lane held and no packet in hand.

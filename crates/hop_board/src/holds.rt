@@ -1,13 +1,13 @@
 //! Lanes that seats take into their hands and give back as they were.
 ghost use Rattle.std.specs.Prelude.{◌≡◌};
-ghost use Rattle.hop_seam.specs.HeldLanes.{FitsLane, Holds, HoldsOut};
-ghost use Rattle.hop_seam.specs.Tells.{BackTells, HoldTells, ReadTells};
+ghost use Rattle.board_api.specs.Calls.HeldLanes.{FitsLane, Holds, HoldsOut};
+ghost use Rattle.board_api.specs.Calls.Answers.{BackTells, HoldTells, ReadTells};
 ghost use Rattle.hop_board.specs.Named.{content_of, held_by, lane_of};
 
 use crate::board::Board;
 use crate::release::Release;
 use hop_rule::Slot;
-use hop_seam::{BoardSeat, HeldLane, Hold, LaneId};
+use board_api::{BoardSeat, HeldLane, Hold, LaneId};
 use steer_base::PacketId;
 
 impl Board {

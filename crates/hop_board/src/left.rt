@@ -15,7 +15,7 @@ use atomic_table::Closed;
 use backlog::Lane;
 use history::LaneList;
 use hop_rule::{BoardSizes, Slot};
-use hop_seam::BoardLists;
+use board_api::BoardLists;
 use std::alloc::Global;
 use steer_base::{Journal, LaneDrop, List, PacketId};
 

@@ -10,8 +10,8 @@ use atomic_table::Table;
 use backlog::Lane;
 use hop_core::HopShape;
 use hop_rule::{BoardSizes, OutLane, Slot};
-use hop_seam::{BoardSeat, LaneWord};
-use seat_order::deal;
+use board_api::{BoardSeat, LaneWord};
+use linearization::deal;
 use std::alloc::Global;
 use steer_base::{List, OutOfMemory};
 

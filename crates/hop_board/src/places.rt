@@ -4,7 +4,7 @@ ghost use Rattle.hop_rule.specs.Sizes.{FitSizes};
 ghost use Rattle.hop_board.specs.Tables.{place, slot_of};
 
 use crate::board::Board;
-use hop_seam::LaneId;
+use board_api::LaneId;
 
 /// A word of a board.
 #[derive(Clone, Copy)]

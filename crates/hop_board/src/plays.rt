@@ -2,8 +2,8 @@
 ghost use Rattle.std.specs.Prelude.{ℕ};
 
 use hop_rule::{BoardStep, Slot};
-use hop_seam::LaneId;
-use seat_order::{Making, Moving};
+use board_api::LaneId;
+use linearization::{Making, Moving};
 use std::marker::{Brand, PhantomData};
 
 /// A step at a word, which leaves the slots as they are.
@@ -37,13 +37,13 @@ impl<J: Told> Making<Option<Slot>, BoardStep> for Adds<J> {
 
 /// A lane that is taken, unless a seat holds it.
 pub trait Taken {
-    ghost use Rattle.hop_seam.specs.declared.held_lane.LaneId.{LaneId};
+    ghost use Rattle.board_api.specs.declared.held_lane.LaneId.{LaneId};
 
     ghost lane: { LaneId };
 }
 
 impl Taken for Brand {
-    ghost use Rattle.hop_seam.specs.declared.held_lane.LaneId.TheVariants.{Middle};
+    ghost use Rattle.board_api.specs.declared.held_lane.LaneId.TheVariants.{Middle};
 
     ghost lane = { Middle 0 };
 }

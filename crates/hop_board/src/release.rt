@@ -2,7 +2,7 @@
 ghost use Rattle.std.specs.Prelude.{◌≡◌};
 ghost use Rattle.hop_board.specs.Releases.{lane_in, rises_in};
 
-use hop_seam::LaneId;
+use board_api::LaneId;
 use steer_base::{PacketId, Put};
 
 /// A release of a lane, with what it does to it.

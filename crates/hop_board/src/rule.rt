@@ -1,6 +1,6 @@
 //! The rule of a board's table: words and slots are what one lawful order of steps leaves.
 use hop_rule::{BoardSizes, BoardStep, Slot};
-use seat_order::StepRule;
+use linearization::StepRule;
 
 pub struct BoardRule;
 

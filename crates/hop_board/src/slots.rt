@@ -1,7 +1,7 @@
 //! Lanes that seats take out of their slots and put into them.
 ghost use Rattle.std.specs.Prelude.{◌≡◌, true, ◌∷◌, MatchResult};
 ghost use Rattle.hop_rule.specs.Boards.{own_state, empty};
-ghost use Rattle.hop_seam.specs.HeldLanes.{FitsLane};
+ghost use Rattle.board_api.specs.Calls.HeldLanes.{FitsLane};
 ghost use Rattle.hop_board.specs.Makings.{TookSlot, MissedSlot};
 ghost use Rattle.hop_board.specs.Releases.{lane_in, rises_in, step_in, is_told};
 ghost use Rattle.hop_board.specs.Steps.{MayGive};
@@ -11,8 +11,8 @@ use crate::board::{Board, WordSeat};
 use crate::plays::{Empties, Fills, Frees, Given, Holds, Taken};
 use crate::release::Release;
 use hop_rule::{BoardStep, Slot};
-use hop_seam::LaneId;
-use seat_order::Moves;
+use board_api::LaneId;
+use linearization::Moves;
 use std::marker::Brand;
 
 impl Board {

@@ -8,7 +8,7 @@ ghost use Rattle.hop_board.specs.Tables.{IsWord};
 use crate::board::{Board, WordSeat};
 use crate::places::Word;
 use crate::plays::{Adds, Told};
-use seat_order::Makes;
+use linearization::Makes;
 use std::marker::Brand;
 
 impl Board {

@@ -2,15 +2,15 @@
 ghost use Rattle.std.specs.Prelude.{◌≡◌, ◌≢◌, ◌<◌, ◌∷◌, [], length};
 ghost use Rattle.hop_rule.specs.Boards.{gate_steps};
 ghost use Rattle.hop_rule.specs.Gates.{outside, visit};
-ghost use Rattle.hop_seam.specs.Rights.{HasOpen, IsInside, IsOutside, MayRead};
-ghost use Rattle.hop_seam.specs.Seats.{Adds};
-ghost use Rattle.hop_seam.specs.Tells.{EnterTells, WeighTells};
+ghost use Rattle.board_api.specs.Calls.Rights.{HasOpen, IsInside, IsOutside, MayRead};
+ghost use Rattle.board_api.specs.Seats.{Adds};
+ghost use Rattle.board_api.specs.Calls.Answers.{EnterTells, WeighTells};
 ghost use Rattle.hop_board.specs.Makings.{entering};
 
 use crate::board::{Board, WordSeat};
 use crate::places::Word;
 use hop_rule::{BoardStep, GateStep};
-use hop_seam::{BoardSeat, EnterAnswer, GateWord, HeadWord};
+use board_api::{BoardSeat, EnterAnswer, GateWord, HeadWord};
 use std::marker::Brand;
 
 impl Board {

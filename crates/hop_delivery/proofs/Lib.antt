@@ -1,4 +1,2 @@
-pub mod InOrder
-pub mod Instances
-pub mod Rules
-pub mod TurnReads
+pub mod Orders
+pub mod Closings

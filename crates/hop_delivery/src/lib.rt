@@ -1,8 +1,14 @@
-//! Delivery in order on a board that was closed: by the seats' own lists and the lists that are left.
+//! Delivery in order on a board that threads share: over one order of all steps, and by the seats'
+//! own lists once the board is closed.
 #![tactic(auto)]
 
-mod laws;
+mod closing_laws;
+mod order_laws;
 
-pub use laws::{
+pub use closing_laws::{
     closings_can_meet_the_premises, flows_of_closings_are_in_order, turns_read_their_settings,
+};
+pub use order_laws::{
+    commands_empty_their_lanes, flows_are_delivered_in_order, goals_are_online, settings_steer,
+    the_premises_can_be_met,
 };

@@ -3,8 +3,8 @@ use Rattle.std.proofs.Common.{◌≡◌, ℕ, zero, suc, ◌-◌, ◌<◌, ◌�
 use Rattle.std.proofs.Common.{length, drop, sym, refl, ap, ◌∙◌, subst, arith, append_assoc}
 use Rattle.steer_base.specs.declared.put.Put.{Put}
 use Rattle.backlog.specs.Puts.{after_put}
-use Rattle.seat_order.specs.Orders.{StepBy, step_by}
-use Rattle.seat_order.proofs.Lists.{if_same}
+use Rattle.linearization.specs.Orders.{StepBy, step_by}
+use Rattle.linearization.proofs.ListLemmas.{if_same}
 use Rattle.hop_rule.specs.Boards.{lane_at, lanes_of, gates_of, MayCome, IsLawful, retired}
 use Rattle.hop_rule.specs.Gates as gates
 use Rattle.hop_rule.specs.Lanes as lanes

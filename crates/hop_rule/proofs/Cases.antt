@@ -7,8 +7,8 @@ use Rattle.std.specs.Option.{option_map}
 use mathlib.Core.Logic.{dite}
 use native.Mathlib.Decide.{ℕ_discrete}
 use Rattle.steer_base.specs.Lanes.{LaneLists}
-use Rattle.seat_order.specs.Orders.{StepBy, step_by}
-use Rattle.seat_order.proofs.Lists.{if_same, if_other}
+use Rattle.linearization.specs.Orders.{StepBy, step_by}
+use Rattle.linearization.proofs.ListLemmas.{if_same, if_other}
 use Rattle.hop_rule.specs.Boards.{lane_in, gate_in}
 use Rattle.hop_rule.specs.Lanes.{changed, lane_after, out_after, retired_after}
 use Rattle.hop_rule.specs.declared.step.BoardStep.{BoardStep}

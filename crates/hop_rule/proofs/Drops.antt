@@ -12,7 +12,7 @@ use Rattle.backlog.specs.Puts.{after_put, after_take, new_lane, next_waiting}
 use Rattle.backlog.specs.Rising.{AreRising}
 use Rattle.backlog.proofs.ExplainedLemmas.{AllExplained-put, AllExplained-take, AreOffers-put}
 use Rattle.backlog.proofs.RisingLemmas.{AreRising-new, AreRising-put, AreRising-take}
-use Rattle.seat_order.specs.Orders.{StepBy}
+use Rattle.linearization.specs.Orders.{StepBy}
 use Rattle.hop_rule.specs.Boards.{IsLawful, lane_at, lanes_of}
 use Rattle.hop_rule.specs.Lanes as lanes
 use Rattle.hop_rule.specs.Moments.{past, IsStep}

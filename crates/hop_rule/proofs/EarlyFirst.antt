@@ -2,7 +2,7 @@
 use Rattle.std.proofs.Common.{◌≡◌, ◌⊎◌, inl, inr, ℕ, zero, suc, ◌+◌, ◌/◌, ◌%◌, ◌^◌, ◌<◌, ◌≤◌}
 use Rattle.std.proofs.Common.{List, ◌∷◌, length, sym, ap, ◌∙◌, refl, subst, arith}
 use Rattle.std.proofs.lemmas.Bool.{cases_lt}
-use Rattle.seat_order.specs.Orders.{StepBy, step_by}
+use Rattle.linearization.specs.Orders.{StepBy, step_by}
 use Rattle.hop_rule.specs.Boards.{gates_of, lanes_of, lane_at, IsLawful, retired}
 use Rattle.hop_rule.specs.Deliveries.{Delivery}
 use Rattle.hop_rule.specs.Emptied.{WasEmptied}

@@ -12,9 +12,9 @@ use Rattle.steer_base.specs.Sets.{has}
 use Rattle.steer_base.specs.declared.put.DropCause.{DropCause}
 use Rattle.steer_base.specs.declared.put.LaneDrop.{LaneDrop}
 use Rattle.backlog.specs.Puts.{put_by, after_put, new_lane}
-use Rattle.seat_order.specs.Orders.{StepBy, step_by, steps_of}
-use Rattle.seat_order.proofs.Views.{steps_of_own, steps_of_other}
-use Rattle.seat_order.proofs.Lists.{if_same, if_other}
+use Rattle.linearization.specs.Orders.{StepBy, step_by, steps_of}
+use Rattle.linearization.proofs.ViewLemmas.{steps_of_own, steps_of_other}
+use Rattle.linearization.proofs.ListLemmas.{if_same, if_other}
 use Rattle.hop_rule.specs.declared.sizes.BoardSizes.{BoardSizes}
 use Rattle.hop_rule.specs.declared.step.BoardStep.{BoardStep}
 use Rattle.hop_rule.specs.declared.step.BoardStep.TheVariants.{Lane, Gate, Weighed, Counted}

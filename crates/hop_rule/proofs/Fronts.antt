@@ -7,7 +7,7 @@ use Rattle.steer_base.specs.Drops.{bucket_of, lane_drop_cause}
 use Rattle.steer_base.specs.Lanes.{LaneLists}
 use Rattle.steer_base.specs.declared.put.DropCause.{DropCause}
 use Rattle.backlog.specs.Puts.{put_by, after_put}
-use Rattle.seat_order.specs.Orders.{StepBy}
+use Rattle.linearization.specs.Orders.{StepBy}
 use Rattle.hop_rule.specs.Boards.{lane_at, lanes_of, out}
 use Rattle.hop_rule.specs.Fronts.{Front, IsEarlier}
 use Rattle.hop_rule.specs.Lanes as lanes

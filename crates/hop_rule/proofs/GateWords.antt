@@ -1,6 +1,6 @@
 -- The gate's word by the seats' own lists.
 use Rattle.std.proofs.Common.{◌≡◌, List, sym, ap, ◌∙◌, arith}
-use Rattle.seat_order.specs.Orders.{StepBy, steps_of}
+use Rattle.linearization.specs.Orders.{StepBy, steps_of}
 use Rattle.hop_rule.specs.Boards.{gates_of}
 use Rattle.hop_rule.specs.Events.{sum_below}
 use Rattle.hop_rule.specs.Gates as gates

@@ -3,8 +3,8 @@ use Rattle.std.proofs.Common.{◌≡◌, ◌≢◌, ◌⊎◌, inl, inr, ℕ, ze
 use Rattle.std.proofs.Common.{List, [], ◌∷◌, ◌++◌, sym, refl, ap, ◌∙◌, subst, arith}
 use mathlib.Core.Logic.{dite}
 use native.Mathlib.Decide.{ℕ_discrete}
-use Rattle.seat_order.specs.Orders.{StepBy, step_by, steps_of}
-use Rattle.seat_order.proofs.Views.{steps_of_own, steps_of_other}
+use Rattle.linearization.specs.Orders.{StepBy, step_by, steps_of}
+use Rattle.linearization.proofs.ViewLemmas.{steps_of_own, steps_of_other}
 use Rattle.hop_rule.specs.declared.sizes.BoardSizes.{BoardSizes}
 use Rattle.hop_rule.specs.declared.step.GateStep.{GateStep}
 use Rattle.hop_rule.specs.declared.step.GateStep.TheVariants.{Entered, Turned, Left, Shut, NotShut}

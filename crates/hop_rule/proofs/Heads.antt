@@ -2,7 +2,7 @@
 use Rattle.std.proofs.Common.{◌≡◌, ℕ, ◌+◌, ◌<◌, ◌≤◌, List, ◌++◌, length, Some, sym, ap, ◌∙◌}
 use Rattle.std.proofs.Common.{subst, arith}
 use Rattle.backlog.specs.Puts.{put_count}
-use Rattle.seat_order.specs.Orders.{StepBy, steps_of}
+use Rattle.linearization.specs.Orders.{StepBy, steps_of}
 use Rattle.hop_rule.specs.Boards.{IsLawful, lane_at, lanes_of, retired}
 use Rattle.hop_rule.specs.Deliveries.{Delivery, given}
 use Rattle.hop_rule.specs.LaneLaws.{AreInTurn, HeadsFollowDeliveries, EachRetireFollows}

@@ -4,8 +4,8 @@ use Rattle.std.proofs.Common.{Some, None, sym, refl, ap, ◌∙◌, arith}
 use mathlib.Core.Logic.{dite}
 use native.Mathlib.Decide.{ℕ_discrete}
 use Rattle.steer_base.specs.Lanes.{LaneLists}
-use Rattle.seat_order.specs.Orders.{StepBy}
-use Rattle.seat_order.proofs.Lists.{if_same, if_other}
+use Rattle.linearization.specs.Orders.{StepBy}
+use Rattle.linearization.proofs.ListLemmas.{if_same, if_other}
 use Rattle.hop_rule.specs.Boards.{MayCome, IsLawful, full, taken, empty, SlotState, lane_at}
 use Rattle.hop_rule.specs.Boards.{lane_steps, lanes_of, out, out_slot, own_state, slot_state}
 use Rattle.hop_rule.specs.LaneLaws.{Holds, OutHolds, IsHeldByOne, IsOutHeldByOne}

@@ -8,9 +8,9 @@ use Rattle.steer_base.specs.Lanes.{LaneLists}
 use Rattle.steer_base.specs.Drops.{bucket_of, lane_drop_cause}
 use Rattle.steer_base.specs.declared.put.DropCause.{DropCause}
 use Rattle.backlog.specs.Puts.{put_by, after_put, put_count}
-use Rattle.seat_order.specs.Orders.{StepBy, step_by, steps_of}
-use Rattle.seat_order.proofs.Views.{steps_of_own, steps_of_other}
-use Rattle.seat_order.proofs.Lists.{if_same, if_other}
+use Rattle.linearization.specs.Orders.{StepBy, step_by, steps_of}
+use Rattle.linearization.proofs.ViewLemmas.{steps_of_own, steps_of_other}
+use Rattle.linearization.proofs.ListLemmas.{if_same, if_other}
 use Rattle.hop_rule.proofs.Cases.{pick}
 use Rattle.hop_rule.proofs.Lists.{some-is, none-some, get-inside}
 use Rattle.hop_rule.specs.OutLanes.{OutList, out_list}

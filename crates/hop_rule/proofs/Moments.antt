@@ -5,8 +5,8 @@ use Rattle.std.proofs.Common.{length-append}
 use Rattle.std.proofs.lemmas.Bool.{cases_eq, cases_lt}
 use mathlib.Core.Logic.{dite}
 use native.Mathlib.Decide.{ℕ_discrete}
-use Rattle.seat_order.specs.Orders.{StepBy, step_by}
-use Rattle.seat_order.proofs.Lists.{if_same, if_other}
+use Rattle.linearization.specs.Orders.{StepBy, step_by}
+use Rattle.linearization.proofs.ListLemmas.{if_same, if_other}
 use Rattle.hop_rule.proofs.Lists.{none-some}
 use Rattle.hop_rule.specs.Moments.{past, nth_step, IsStep}
 

@@ -1,7 +1,7 @@
 -- The numbers of a seat's own steps rise as their moments do.
 use Rattle.std.proofs.Common.{◌≡◌, ℕ, ◌<◌, List, ap, arith, inl, inr}
 use Rattle.std.proofs.lemmas.Bool.{cases_eq, cases_lt}
-use Rattle.seat_order.specs.Orders.{StepBy, steps_of}
+use Rattle.linearization.specs.Orders.{StepBy, steps_of}
 use Rattle.hop_rule.specs.declared.sizes.BoardSizes.{BoardSizes}
 use Rattle.hop_rule.specs.declared.step.BoardStep.{BoardStep}
 use Rattle.hop_rule.specs.Moments.{IsStep, moment_of, Did}

@@ -3,9 +3,9 @@ use Rattle.std.proofs.Common.{◌≡◌, ℕ, ◌==◌, List, [], ◌∷◌, if�
 use Rattle.std.proofs.Common.{length, Some, sym, ap, ◌∙◌, arith}
 use mathlib.Core.Logic.{dite}
 use native.Mathlib.Decide.{ℕ_discrete}
-use Rattle.seat_order.specs.Orders.{StepBy, steps_of}
-use Rattle.seat_order.proofs.Lists.{if_same, if_other}
-use Rattle.seat_order.proofs.Views.{steps_of_own, steps_of_other}
+use Rattle.linearization.specs.Orders.{StepBy, steps_of}
+use Rattle.linearization.proofs.ListLemmas.{if_same, if_other}
+use Rattle.linearization.proofs.ViewLemmas.{steps_of_own, steps_of_other}
 use Rattle.hop_rule.specs.Moments.{Did, past, nth_step, moment_of}
 use Rattle.hop_rule.specs.OwnLaws.{OwnStepsHaveMoments}
 use Rattle.hop_rule.proofs.Lists.{none-some}

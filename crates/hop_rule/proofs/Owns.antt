@@ -6,8 +6,8 @@ use Rattle.steer_base.specs.Lanes.{LaneLists}
 use Rattle.steer_base.specs.Drops.{bucket_of, lane_drop_cause}
 use Rattle.steer_base.specs.declared.put.DropCause.{DropCause}
 use Rattle.backlog.specs.Puts.{put_by, after_put}
-use Rattle.seat_order.specs.Orders.{StepBy, step_by, steps_of}
-use Rattle.seat_order.proofs.Views.{steps_of_own, steps_of_other}
+use Rattle.linearization.specs.Orders.{StepBy, step_by, steps_of}
+use Rattle.linearization.proofs.ViewLemmas.{steps_of_own, steps_of_other}
 use Rattle.hop_rule.specs.declared.sizes.BoardSizes.{BoardSizes}
 use Rattle.hop_rule.specs.declared.step.BoardStep.{BoardStep}
 use Rattle.hop_rule.specs.declared.step.BoardStep.TheVariants.{Lane, Gate, Weighed, Counted}

@@ -4,9 +4,9 @@ use Rattle.std.proofs.Common.{◌≡◌, ℕ, suc, ◌<◌, ◌==◌, List, [], 
 use Rattle.std.proofs.Common.{refl, ap, ◌∙◌, subst, arith, Some}
 use mathlib.Core.Logic.{dite}
 use native.Mathlib.Decide.{ℕ_discrete}
-use Rattle.seat_order.specs.Orders.{StepBy, step_by, steps_of}
-use Rattle.seat_order.proofs.Views.{steps_of_own, steps_of_other}
-use Rattle.seat_order.proofs.Lists.{if_same, if_other}
+use Rattle.linearization.specs.Orders.{StepBy, step_by, steps_of}
+use Rattle.linearization.proofs.ViewLemmas.{steps_of_own, steps_of_other}
+use Rattle.linearization.proofs.ListLemmas.{if_same, if_other}
 use Rattle.hop_rule.specs.Moments.{IsStep, nth_step, moment_of}
 use Rattle.hop_rule.proofs.Lists.{some-is, none-some}
 use Rattle.hop_rule.proofs.Moments.{nth-inside, past-old, step-inside, step-more, step-last}

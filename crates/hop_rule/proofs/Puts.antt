@@ -9,8 +9,8 @@ use Rattle.steer_base.specs.declared.put.DropCause.{DropCause}
 use Rattle.steer_base.specs.declared.put.LaneDrop.{LaneDrop}
 use Rattle.steer_base.specs.declared.put.Put.{Put}
 use Rattle.backlog.specs.Puts.{after_put, put_by}
-use Rattle.seat_order.specs.Orders.{StepBy, step_by, steps_of}
-use Rattle.seat_order.proofs.Lists.{if_same}
+use Rattle.linearization.specs.Orders.{StepBy, step_by, steps_of}
+use Rattle.linearization.proofs.ListLemmas.{if_same}
 use Rattle.hop_rule.specs.Boards.{lane_at, lanes_of, IsLawful, out}
 use Rattle.hop_rule.specs.Deliveries.{given}
 use Rattle.hop_rule.specs.Fronts.{Front}

@@ -3,9 +3,9 @@ use Rattle.std.proofs.Common.{◌≡◌, ◌≢◌, ℕ, suc, ◌+◌, ◌<◌, 
 use Rattle.std.proofs.Common.{arith}
 use mathlib.Core.Logic.{dite}
 use native.Mathlib.Decide.{ℕ_discrete}
-use Rattle.seat_order.specs.Orders.{StepBy, step_by, steps_of}
-use Rattle.seat_order.proofs.Views.{steps_of_own, steps_of_other}
-use Rattle.seat_order.proofs.Lists.{if_same, if_other}
+use Rattle.linearization.specs.Orders.{StepBy, step_by, steps_of}
+use Rattle.linearization.proofs.ViewLemmas.{steps_of_own, steps_of_other}
+use Rattle.linearization.proofs.ListLemmas.{if_same, if_other}
 use Rattle.hop_rule.specs.declared.sizes.BoardSizes.{BoardSizes}
 use Rattle.hop_rule.specs.declared.step.BoardStep.{BoardStep}
 use Rattle.hop_rule.specs.declared.step.BoardStep.TheVariants.{Lane, Gate, Weighed, Counted}

@@ -2,7 +2,7 @@
 use Rattle.std.proofs.Common.{◌≡◌, ◌+◌, List, length, sym, ap}
 use Rattle.std.proofs.Common.{◌∙◌, arith}
 use Rattle.backlog.specs.Puts.{next_waiting}
-use Rattle.seat_order.specs.Orders.{StepBy, steps_of}
+use Rattle.linearization.specs.Orders.{StepBy, steps_of}
 use Rattle.hop_rule.specs.Boards.{gates_of, lanes_of, retired}
 use Rattle.hop_rule.specs.Deliveries.{given}
 use Rattle.hop_rule.specs.Gates as gates

@@ -6,7 +6,7 @@ use Rattle.std.specs.List.{filter_map, range_with_len}
 use Rattle.std.specs.Option.{option_map}
 use Rattle.steer_base.specs.Lanes.{LaneLists}
 use Rattle.steer_base.specs.declared.put.LaneDrop.{LaneDrop}
-use Rattle.seat_order.specs.Orders.{StepBy, step_by, steps_of}
+use Rattle.linearization.specs.Orders.{StepBy, step_by, steps_of}
 use Rattle.hop_rule.specs.declared.sizes.BoardSizes.{BoardSizes}
 use Rattle.hop_rule.specs.declared.step.Change.TheVariants.{Offered}
 use Rattle.hop_rule.specs.declared.step.BoardStep.{BoardStep}

@@ -1,6 +1,6 @@
 -- A lane that was found empty, by the moments of an order.
 use Rattle.std.specs.Prelude.{◌≡◌, ℕ, ◌/◌, ◌%◌, ◌^◌, ◌<◌, List}
-use Rattle.seat_order.specs.Orders.{StepBy}
+use Rattle.linearization.specs.Orders.{StepBy}
 use Rattle.hop_rule.specs.Moments.{IsStep}
 use Rattle.hop_rule.specs.Sizes.{closer}
 use Rattle.hop_rule.specs.declared.sizes.BoardSizes.{BoardSizes}

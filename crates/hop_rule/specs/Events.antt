@@ -1,7 +1,7 @@
 -- The bare hop that an order of steps shows, and the event of it that each step is.
 use Rattle.std.specs.Prelude.{◌≡◌, ℕ, zero, suc, ◌+◌, true, List, [], ◌∷◌, length, map, nat_lt}
 use Rattle.std.specs.List.{range_with_len}
-use Rattle.seat_order.specs.Orders.{StepBy, step_by}
+use Rattle.linearization.specs.Orders.{StepBy, step_by}
 use Rattle.hop_core.specs.BareEvents.{BareEvent, MayBe, bare_after, nothing, enters, leaves, closes}
 use Rattle.hop_core.specs.BareEvents.{opens, offers, pulls, delivers, retires}
 use Rattle.hop_core.specs.Hop.{Fixed, Bare}

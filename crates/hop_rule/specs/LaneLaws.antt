@@ -1,7 +1,7 @@
 -- What a lawful order of steps shows of its lanes and their heads.
 use Rattle.std.specs.Prelude.{◌≡◌, ◌≢◌, ℕ, ◌+◌, ◌*◌, ◌%◌, ◌<◌, ◌≤◌, List, Some, None, length}
 use Rattle.steer_base.specs.Lanes.{LaneLists}
-use Rattle.seat_order.specs.Orders.{StepBy}
+use Rattle.linearization.specs.Orders.{StepBy}
 use Rattle.hop_rule.specs.Boards.{IsLawful, full, lane_at, lane_steps, lanes_of, out, out_slot}
 use Rattle.hop_rule.specs.Boards.{own_state, retired, slot_state}
 use Rattle.hop_rule.specs.Deliveries.{given}

@@ -6,7 +6,7 @@ use Rattle.std.specs.Prelude.{Option, Some, None, length, if◌then◌else◌}
 use Rattle.steer_base.specs.Lanes.{LaneLists}
 use Rattle.steer_base.specs.Sets.{has}
 use Rattle.backlog.specs.Puts.{new_lane, after_put, put_answer, put_count, next_waiting}
-use Rattle.seat_order.specs.Orders.{StepBy, steps_of}
+use Rattle.linearization.specs.Orders.{StepBy, steps_of}
 use Rattle.hop_rule.specs.OutLanes.{OutList, out_list}
 use Rattle.hop_rule.specs.Sizes.{puller}
 use Rattle.hop_rule.specs.declared.sizes.BoardSizes.{BoardSizes}

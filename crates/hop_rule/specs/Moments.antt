@@ -1,7 +1,7 @@
 -- Moments of an order: the moment of a step is how many steps came before it.
 use Rattle.std.specs.Prelude.{◌≡◌, ℕ, suc, ◌-◌, ◌==◌, List, [], ◌∷◌, Option, Some, None}
 use Rattle.std.specs.Prelude.{length, drop, if◌then◌else◌}
-use Rattle.seat_order.specs.Orders.{StepBy, step_by, steps_of}
+use Rattle.linearization.specs.Orders.{StepBy, step_by, steps_of}
 
 -- the first n steps of an order, or of a seat's own list
 abbrev pub past : {X : Type 0} → ℕ → List X → List X

@@ -1,6 +1,6 @@
 -- What a seat's own steps tell of the order.
 use Rattle.std.specs.Prelude.{◌≡◌, ℕ, ◌<◌, List}
-use Rattle.seat_order.specs.Orders.{StepBy, steps_of}
+use Rattle.linearization.specs.Orders.{StepBy, steps_of}
 use Rattle.hop_rule.specs.Moments.{Did, IsStep, moment_of, past}
 use Rattle.hop_rule.specs.declared.step.BoardStep.{BoardStep}
 

@@ -9,7 +9,7 @@ use Rattle.steer_base.specs.declared.put.Put.{Put}
 use Rattle.backlog.specs.Offers.{AllExplained, AreOffers}
 use Rattle.backlog.specs.Puts.{after_put, put_answer, put_count}
 use Rattle.backlog.specs.Rising.{AreRising}
-use Rattle.seat_order.specs.Orders.{StepBy}
+use Rattle.linearization.specs.Orders.{StepBy}
 use Rattle.hop_rule.specs.Boards.{IsLawful, lane_at, lanes_of, out, retired, visit_of}
 use Rattle.hop_rule.specs.Deliveries.{Delivery, given}
 use Rattle.hop_rule.specs.Fronts.{IsEarlier}

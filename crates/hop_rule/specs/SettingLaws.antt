@@ -1,6 +1,6 @@
 -- What a lawful order of steps shows of its gate and its settings.
 use Rattle.std.specs.Prelude.{◌≡◌, ◌≢◌, ◌↔◌, ℕ, ◌+◌, ◌*◌, ◌/◌, ◌^◌, ◌<◌, ◌≤◌, List, Some, length}
-use Rattle.seat_order.specs.Orders.{StepBy}
+use Rattle.linearization.specs.Orders.{StepBy}
 use Rattle.hop_rule.specs.Boards.{IsLawful, gate_steps, gates_of, lane_at, lanes_of}
 use Rattle.hop_rule.specs.Boards.{settings}
 use Rattle.hop_rule.specs.Deliveries.{Delivery, given}

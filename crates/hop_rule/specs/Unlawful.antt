@@ -3,7 +3,7 @@ use Rattle.std.specs.Prelude.{◌≡◌, ◌≢◌, ℕ, ◌<◌, List, ◌∷�
 use Rattle.steer_base.specs.Lanes.{LaneLists}
 use Rattle.steer_base.specs.declared.put.Put.{Put}
 use Rattle.backlog.specs.Puts.{next_waiting}
-use Rattle.seat_order.specs.Orders.{StepBy, step_by}
+use Rattle.linearization.specs.Orders.{StepBy, step_by}
 use Rattle.hop_rule.specs.Boards.{IsLawful, lane_steps, lanes_of, retired}
 use Rattle.hop_rule.specs.Deliveries.{given}
 use Rattle.hop_rule.specs.Gates.{closed}

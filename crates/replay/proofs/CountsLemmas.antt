@@ -13,9 +13,9 @@ use Rattle.history.proofs.BoundLemmas.{short-lists}
 use Rattle.steer_base.specs.Choices.{has_moved}
 use Rattle.steer_base.specs.declared.choice.Chosen.{Chosen}
 use Rattle.steer_base.specs.declared.packet.Packet.{Packet}
-use Rattle.steer_parts.specs.Machine.{Machine, history_of, lane_list}
-use Rattle.steer_laws.specs.Held.{Held}
-use Rattle.steer_laws.specs.HeldLaws.{IsReportable}
+use Rattle.steer_model.specs.State.Machine.{Machine, history_of, lane_list}
+use Rattle.steer_invariant.specs.Invariant.{Invariant}
+use Rattle.steer_invariant.specs.InvariantLaws.{IsReportable}
 use Rattle.replay.specs.Counts.{IsCountable}
 
 -- the sum of few small numbers is small
@@ -54,7 +54,7 @@ few_moves packets apps h r q =
       r.few_arrivals,
     )
 
-pub countable : (m : Machine) → Held m → IsReportable m.setup.packets m.setup.apps (history_of m)
+pub countable : (m : Machine) → Invariant m → IsReportable m.setup.packets m.setup.apps (history_of m)
     → IsCountable (history_of m)
 countable m held r =
     let h = history_of m in

@@ -8,10 +8,10 @@ use Rattle.plan_reader.specs.declared.plan.Plan.{Plan}
 use Rattle.report.specs.Laws.{TextsFit}
 use Rattle.report.specs.Report.{report}
 use Rattle.steer_base.specs.declared.packet.Packet.{Packet}
-use Rattle.steer_laws.specs.HeldLaws.{MayStart}
-use Rattle.steer_parts.specs.Inputs.{Input}
-use Rattle.steer_parts.specs.PacketLaws.{PacketsAreOfFlows}
-use Rattle.steer_parts.specs.Start.{replayed}
+use Rattle.steer_invariant.specs.InvariantLaws.{MayStart}
+use Rattle.steer_model.specs.Good.Inputs.{Input}
+use Rattle.steer_model.specs.Laws.Packets.{PacketsAreOfFlows}
+use Rattle.steer_model.specs.State.Start.{replayed}
 use Rattle.toeplitz.specs.Toeplitz.{number_of}
 use Rattle.replay.specs.Headlines.{EveryReportHasTheHeadline}
 use Rattle.replay.specs.Meanings.{Meaning, texts_of}

@@ -8,10 +8,10 @@ use Rattle.plan_reader.specs.declared.plan.Plan.{Plan}
 use Rattle.steer_base.specs.declared.packet.Packet.{Packet}
 use Rattle.steer_base.specs.declared.step.Step.{Step}
 use Rattle.steer_core.specs.Runs.{Run, stepped}
-use Rattle.steer_parts.specs.Machine.{Machine}
-use Rattle.steer_parts.specs.Start.{new_machine}
-use Rattle.steer_parts.specs.Whole.{after, step}
-use Rattle.steer_laws.proofs.KeptArrives.{range-more}
+use Rattle.steer_model.specs.State.Machine.{Machine}
+use Rattle.steer_model.specs.State.Start.{new_machine}
+use Rattle.steer_model.specs.Steps.CompoundSteps.{after, step}
+use Rattle.steer_invariant.proofs.StepInvariant.ArrivalLemmas.{range-more}
 
 -- the first n steps of a plan
 abbrev pub first_steps : Plan → ℕ → List Step

@@ -2,7 +2,7 @@
 use Rattle.std.specs.Prelude.{ℕ, ◌+◌, ◌<◌, ◌≡◌, List, fold, length, map, max}
 use Rattle.steer_base.specs.declared.packet.Packet.{Packet}
 use Rattle.history.specs.Lists.{packet_at}
-use Rattle.steer_parts.specs.Packets.{AreNumbered}
+use Rattle.steer_model.specs.Capture.Packets.{AreNumbered}
 
 -- one more than the greatest number of a flow, and 0 without packets
 abbrev pub flow_count : List Packet → ℕ

@@ -8,7 +8,7 @@ use Rattle.plan_reader.specs.declared.plan.Plan.{Plan}
 use Rattle.report.specs.Laws.{TextsFit}
 use Rattle.report.specs.Report.{rows_of}
 use Rattle.report.specs.Texts.{text_of}
-use Rattle.steer_parts.specs.Start.{replayed}
+use Rattle.steer_model.specs.State.Start.{replayed}
 use Rattle.replay.specs.Meanings.{Meaning, texts_of}
 
 -- a history, the lines of its packets, and the texts of the taps

@@ -5,7 +5,7 @@ use Rattle.pcap_reader.specs.declared.capture.Capture.{Capture}
 use Rattle.plan_reader.specs.PlanTexts.{plan_of, settings_of}
 use Rattle.plan_reader.specs.declared.plan.Plan.{Plan}
 use Rattle.toeplitz.specs.Toeplitz.{number_of}
-use Rattle.steer_parts.specs.Packets.{ArePackets}
+use Rattle.steer_model.specs.Capture.Packets.{ArePackets}
 use Rattle.replay.specs.Meanings.{Meaning}
 use Rattle.replay.specs.Replays.{IsWithinTypes, ReplayLists, replay_of, replay_text}
 

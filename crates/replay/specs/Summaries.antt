@@ -8,7 +8,7 @@ use Rattle.pcap_reader.specs.declared.capture.Capture.{Capture}
 use Rattle.plan_reader.specs.declared.plan.Plan.{Plan}
 use Rattle.serde_json.specs.Written.{compact_text}
 use Rattle.steer_base.specs.declared.packet.Packet.{Packet}
-use Rattle.steer_parts.specs.Start.{replayed}
+use Rattle.steer_model.specs.State.Start.{replayed}
 use Rattle.replay.specs.Counts.{counts_of}
 use Rattle.replay.specs.FlowCounts.{flow_count}
 use Rattle.replay.specs.Reports.{ArePacketsBy, HasPlan}

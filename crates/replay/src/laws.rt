@@ -3,7 +3,7 @@ ghost use Rattle.replay.specs.FlowCounts.{FlowsAreCounted};
 ghost use Rattle.replay.specs.Headlines.{EveryReportHasTheHeadline};
 
 use headline::a_report_has_the_headline;
-use steer_parts::packets_are_of_flows;
+use steer_model::packets_are_of_flows;
 
 /// Packets whose flows are numbered have as many flows as `flow_count` says: each has one of the
 /// numbers below it, and each of these is the number of some packet's flow.

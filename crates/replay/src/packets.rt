@@ -1,7 +1,7 @@
 //! The packets of a capture by a plan.
 ghost use Rattle.std.specs.Prelude.{◌≤◌, All, IfOk, length};
 ghost use Rattle.pcap_reader.specs.Captures.{IsWithin};
-ghost use Rattle.steer_parts.specs.Given.{AreOfFlows};
+ghost use Rattle.steer_model.specs.State.Ranges.{AreOfFlows};
 ghost use Rattle.replay.specs.Reports.{ArePacketsBy};
 
 use pcap_reader::Capture;

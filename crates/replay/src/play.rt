@@ -1,8 +1,8 @@
 //! The steps of a plan, made one by one.
 ghost use Rattle.std.specs.Prelude.{◌≡◌, ◌≤◌, IfOk, length};
-ghost use Rattle.steer_laws.specs.HeldLaws.{MayStart};
-ghost use Rattle.steer_parts.specs.Given.{AreOfFlows};
-ghost use Rattle.steer_parts.specs.Start.{replayed};
+ghost use Rattle.steer_invariant.specs.InvariantLaws.{MayStart};
+ghost use Rattle.steer_model.specs.State.Ranges.{AreOfFlows};
+ghost use Rattle.steer_model.specs.State.Start.{replayed};
 ghost use Rattle.replay.specs.Counts.{IsCountable};
 
 use history::History;
@@ -10,8 +10,8 @@ use plan_reader::Plan;
 use std::alloc::Global;
 use steer_base::{OutOfMemory, Packet};
 use steer_core::Steering;
-use steer_laws::{a_machine_has_a_history_to_report, every_step_keeps_the_machine};
-use steer_parts::steps_of_a_plan_are_within;
+use steer_invariant::{a_machine_has_a_history_to_report, every_step_keeps_the_machine};
+use steer_model::steps_of_a_plan_are_within;
 
 /// The history of all steps of a plan over these packets.
 pub fn play(

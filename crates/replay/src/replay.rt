@@ -3,7 +3,7 @@ ghost use Rattle.std.specs.Prelude.{◌≡◌, ◌≤◌, IfOk, OnErr, OnOk, len
 ghost use Rattle.std.specs.Io.KnownBytes.{Appends};
 ghost use Rattle.outside_io.specs.Counts.{Rose};
 ghost use Rattle.outside_io.specs.Sink.{AppendsSome};
-ghost use Rattle.steer_parts.specs.Given.{AreOfFlows};
+ghost use Rattle.steer_model.specs.State.Ranges.{AreOfFlows};
 ghost use Rattle.replay.specs.Replays.{IsWithinTypes, replay_of, replay_text};
 
 use crate::play::{play, tell_start};
@@ -14,7 +14,7 @@ use report::{LineBuf, render, texts_fit};
 use std::alloc::Global;
 use std::marker::Model;
 use steer_base::{OutOfMemory, Packet};
-use steer_laws::every_replay_can_be_reported;
+use steer_invariant::every_replay_can_be_reported;
 use taps::{Tap, TapText, feed};
 
 /// What a plan made of the packets of a capture: the history of its steps, the lines of its

@@ -1,7 +1,7 @@
 //! The packets of a capture, what a plan and they give, and the settings that commands change.
 ghost use Rattle.std.specs.Prelude.{◌≡◌};
-ghost use Rattle.steer_parts.specs.Settings.{MayChange, changed};
-ghost use Rattle.steer_parts.specs.Start.{settings_of};
+ghost use Rattle.steer_model.specs.State.Settings.{MayChange, changed};
+ghost use Rattle.steer_model.specs.State.Start.{settings_of};
 
 use crate::equal::{same, same_items};
 use pcap_reader::{put_header, put_packet, read_capture};
@@ -10,7 +10,7 @@ use std::alloc::Global;
 use std::process::Abort;
 use std::test::Fail;
 use steer_base::{AppId, Command, Cpu, CpuMask, OutOfMemory, PacketId, RxQueue, TxQueue};
-use steer_parts::{Given, InForce, packets};
+use steer_model::{Given, InForce, packets};
 use toeplitz::{Kinds, verification_key};
 
 // A TCP frame of a published verification flow: 66.9.149.187 port 2794 to 161.142.100.80 port

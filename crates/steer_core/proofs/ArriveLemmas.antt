@@ -4,13 +4,13 @@ use Rattle.hop_core.specs.declared.event.HopEvent.TheVariants as event
 use Rattle.hop_core.specs.Events.{MayAsk, happens}
 use Rattle.hop_core.specs.Hop.{HopState}
 use Rattle.history.specs.declared.arrival.Arrival.{Arrival}
-use Rattle.steer_parts.specs.Machine.{Machine}
-use Rattle.steer_laws.specs.Held.{Held}
-use Rattle.steer_laws.proofs.HeldRows.{held_arrive}
-use Rattle.steer_laws.proofs.KeptArrives.{may_arrive, next_arrival, next_queue}
+use Rattle.steer_model.specs.State.Machine.{Machine}
+use Rattle.steer_invariant.specs.Invariant.{Invariant}
+use Rattle.steer_invariant.proofs.Invariant.RowLemmas.{held_arrive}
+use Rattle.steer_invariant.proofs.StepInvariant.ArrivalLemmas.{may_arrive, next_arrival, next_queue}
 
 module _ (m : Machine) (a : Arrival) (q n : ℕ) (which : a ≡ next_arrival m) (queue : q ≡ a.queue)
-    (next : n ≡ length m.arrivals) (few : length m.arrivals < length m.setup.packets) (h : Held m) where
+    (next : n ≡ length m.arrivals) (few : length m.arrivals < length m.setup.packets) (h : Invariant m) where
   named : q < length m.setup.homes
   named =
       let e : q ≡ (next_arrival m).queue = queue ∙ ap (λ (b : Arrival). b.queue) which in
@@ -20,7 +20,7 @@ module _ (m : Machine) (a : Arrival) (q n : ℕ) (which : a ≡ next_arrival m) 
   may_come = subst (λ x. MayAsk m.rx (event.Arrive q x)) (sym next) (may_arrive m q named few h.kept)
 
   pub held_come : (t : HopState) → t ≡ (happens m.rx (event.Arrive q n)).0
-      → Held (record m { rx = t; arrivals = m.arrivals ++ a ∷ [] })
+      → Invariant (record m { rx = t; arrivals = m.arrivals ++ a ∷ [] })
   held_come t is =
       let id : n ≡ a.id = next ∙ sym (ap (λ (b : Arrival). b.id) which) in
       held_arrive m a t which few

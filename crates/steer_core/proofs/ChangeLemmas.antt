@@ -5,9 +5,9 @@ use Rattle.steer_base.specs.declared.command.Command.TheVariants as give
 use Rattle.hop_core.specs.declared.event.HopEvent.{HopEvent}
 use Rattle.hop_core.specs.Events.{happens}
 use Rattle.hop_core.specs.Hop.{HopState}
-use Rattle.steer_parts.specs.Machine.{Machine}
-use Rattle.steer_parts.specs.Outcomes.{by_tx}
-use Rattle.steer_laws.proofs.HeldCommands.{SetsAlone}
+use Rattle.steer_model.specs.State.Machine.{Machine}
+use Rattle.steer_model.specs.Steps.Outcomes.{by_tx}
+use Rattle.steer_invariant.proofs.Invariant.CommandLemmas.{SetsAlone}
 use Rattle.steer_core.specs.Changes.{stands_alone}
 
 pub sets_alone : (c : Command) → stands_alone c ≡ true → SetsAlone c

@@ -9,10 +9,10 @@ use Rattle.history.specs.Lists.{list_at}
 use Rattle.history.specs.declared.sock_write.SockWrite.{SockWrite}
 use Rattle.plan_reader.specs.Plans.{step_count}
 use Rattle.plan_reader.specs.declared.plan.Plan.{Plan}
-use Rattle.steer_parts.specs.Machine.{Machine}
-use Rattle.steer_parts.specs.Whole.{step}
-use Rattle.steer_laws.specs.Held.{Held}
-use Rattle.steer_laws.specs.Kept.{IsNamed}
+use Rattle.steer_model.specs.State.Machine.{Machine}
+use Rattle.steer_model.specs.Steps.CompoundSteps.{step}
+use Rattle.steer_invariant.specs.Invariant.{Invariant}
+use Rattle.steer_invariant.specs.StepInvariant.{IsNamed}
 use Rattle.steer_core.specs.Rooms.{HasRoomFor, HasSpare}
 use Rattle.steer_core.specs.Running.{Rooms, Running}
 use Rattle.steer_core.specs.Runs.{IsCounted}
@@ -57,7 +57,7 @@ module _ (r : Running) (made steps : ℕ) (left : made < steps) (k : IsCounted r
   room_for (act.Give c) = listed
 
   -- and then the lists are no longer than one step more allows
-  pub counted_step : (n : Running) (s : Step) → IsNamed r.machine.setup s → Held r.machine
+  pub counted_step : (n : Running) (s : Step) → IsNamed r.machine.setup s → Invariant r.machine
       → n.machine ≡ (step r.machine s).0 → n.rooms ≡ r.rooms → IsCounted n (made + 1) steps
   counted_step n s named h is rooms =
       let p = step-paced r.machine s named h in

@@ -2,7 +2,7 @@
 use Rattle.std.proofs.Common.{ℕ, ◌+◌, ◌<◌, ◌≡◌, ◌≢◌, List, [], ◌∷◌, ◌++◌, Some, length, refl, ap, ◌∙◌, sym, arith, take, zero, suc}
 use Rattle.std.specs.Prelude.{slice_get}
 use Rattle.std.proofs.lemmas.List.{take_more}
-use Rattle.steer_laws.proofs.KeptSends.{read_at}
+use Rattle.steer_invariant.proofs.StepInvariant.ReplyLemmas.{read_at}
 use Rattle.history.proofs.FindingLemmas.{found-here, found-past}
 use Rattle.history.proofs.RegularLemmas.{AreNumbered, numbered-head, numbered-tail}
 use Rattle.history.specs.Finding.{found}

@@ -17,13 +17,13 @@ use Rattle.history.specs.declared.sock_write.SockWrite.{SockWrite}
 use Rattle.plan_reader.specs.Plans.{step_count}
 use Rattle.plan_reader.specs.declared.plan.Plan.{Plan}
 use Rattle.plan_reader.specs.declared.plan.QueuePlan.{QueuePlan}
-use Rattle.steer_parts.specs.Settings.{Settings}
-use Rattle.steer_parts.specs.Setup.{Setup}
-use Rattle.steer_parts.specs.Start.{fresh_rx, fresh_tx, settings_of, setup_of}
-use Rattle.steer_parts.specs.declared.note.Note.{Note}
-use Rattle.steer_parts.specs.declared.note.Note.TheVariants as note
-use Rattle.steer_laws.specs.HeldLaws.{MayStart}
-use Rattle.steer_laws.proofs.HeldNew.{held-new}
+use Rattle.steer_model.specs.State.Settings.{Settings}
+use Rattle.steer_model.specs.State.Setup.{Setup}
+use Rattle.steer_model.specs.State.Start.{fresh_rx, fresh_tx, settings_of, setup_of}
+use Rattle.steer_model.specs.declared.note.Note.{Note}
+use Rattle.steer_model.specs.declared.note.Note.TheVariants as note
+use Rattle.steer_invariant.specs.InvariantLaws.{MayStart}
+use Rattle.steer_invariant.proofs.Invariant.StartLemmas.{held-new}
 use Rattle.steer_core.specs.Running.{IsRunning, Parts, parts_of, running}
 use Rattle.steer_core.specs.Starting.{started}
 

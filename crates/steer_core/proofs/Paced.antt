@@ -3,7 +3,7 @@ use Rattle.std.proofs.Common.{ℕ, ◌+◌, ◌≤◌, ◌<◌, ◌≡◌, List,
 use Rattle.hop_core.specs.Hop.{placed_of}
 use Rattle.history.specs.Lists.{list_at}
 use Rattle.history.specs.declared.sock_write.SockWrite.{SockWrite}
-use Rattle.steer_parts.specs.Machine.{Machine}
+use Rattle.steer_model.specs.State.Machine.{Machine}
 use Rattle.steer_core.specs.Rooms.{HasSpare}
 use Rattle.steer_core.specs.Running.{Rooms}
 use Rattle.steer_core.proofs.QuietLemmas.{Quiet}

@@ -12,18 +12,18 @@ use Rattle.hop_core.specs.Hop.{HopState, placed_of}
 use Rattle.hop_core.proofs.Lists.{length-push}
 use Rattle.history.specs.Lists.{list_at}
 use Rattle.history.specs.declared.commanded.Commanded.{Commanded}
-use Rattle.steer_parts.specs.Commands.{answer_to, given, is_done, listed, set_by}
-use Rattle.steer_parts.specs.Machine.{Machine}
-use Rattle.steer_parts.specs.Setup.{Setup, flow_hash, flow_of}
-use Rattle.steer_parts.specs.Steps.{simple}
-use Rattle.steer_parts.specs.Whole.{Turn, drain, for_each, most_rounds, one_round, poll, rounds, serve, ship, step, tried}
-use Rattle.steer_laws.specs.Held.{Held}
-use Rattle.steer_laws.specs.Kept.{IsNamed}
-use Rattle.steer_laws.proofs.EitherLemmas.{either}
-use Rattle.steer_laws.proofs.HeldSteps.{held-simple}
-use Rattle.steer_laws.proofs.KeptLemmas.{flow_small}
-use Rattle.steer_laws.proofs.KeptSimple.{goes-simple}
-use Rattle.steer_laws.proofs.TurnLift.{IsTried, arrive-keeps, drains-keep, polls-keep, round-keeps, serve-keeps}
+use Rattle.steer_model.specs.Steps.Commands.{answer_to, given, is_done, listed, set_by}
+use Rattle.steer_model.specs.State.Machine.{Machine}
+use Rattle.steer_model.specs.State.Setup.{Setup, flow_hash, flow_of}
+use Rattle.steer_model.specs.Steps.SingleSteps.{simple}
+use Rattle.steer_model.specs.Steps.CompoundSteps.{Turn, drain, for_each, most_rounds, one_round, poll, rounds, serve, ship, step, tried}
+use Rattle.steer_invariant.specs.Invariant.{Invariant}
+use Rattle.steer_invariant.specs.StepInvariant.{IsNamed}
+use Rattle.steer_invariant.proofs.EitherLemmas.{either}
+use Rattle.steer_invariant.proofs.Invariant.StepLemmas.{held-simple}
+use Rattle.steer_invariant.proofs.StepInvariant.StepLemmas.{flow_small}
+use Rattle.steer_invariant.proofs.StepInvariant.SingleStepLemmas.{goes-simple}
+use Rattle.steer_invariant.proofs.TurnLiftLemmas.{IsTried, arrive-keeps, drains-keep, polls-keep, round-keeps, serve-keeps}
 use Rattle.steer_core.proofs.Paced.{Paced, paced-listed, paced-more, paced-refl, paced-trans, quiet-paced}
 use Rattle.steer_core.proofs.QuietLemmas.{is_quiet, quiet-simple}
 use Rattle.steer_core.proofs.QuietTurns.{quiet-arrive, quiet-drain, quiet-each, quiet-poll, quiet-reply, quiet-ship}
@@ -33,9 +33,9 @@ use Rattle.steer_core.proofs.ServeLemmas.{serve-paced}
 -- a machine of this setup that is held
 record Stands (p : Setup) (t : Turn) : Type 0 where
   setup : t.0.setup ≡ p
-  held : Held t.0
+  held : Invariant t.0
 
-module _ (m : Machine) (h : Held m) where
+module _ (m : Machine) (h : Invariant m) where
   flows : (x : ℕ) → flow_of m.setup x < 262144
   flows x = flow_small m.setup x h.kept.given
 
@@ -96,7 +96,7 @@ module _ (m : Machine) (h : Held m) where
             (quiet-paced served.0 (one_round (m, w)).0 (quiet-each m.setup.txs ship quiet-ship served));
       }
 
-rounds-paced : (k : ℕ) (t : Turn) → Held t.0 → Paced 0 0 t.0 (rounds k t).0
+rounds-paced : (k : ℕ) (t : Turn) → Invariant t.0 → Paced 0 0 t.0 (rounds k t).0
 unfolding rounds
 rounds-paced zero t h = paced-refl t.0
 rounds-paced (suc k) t h =
@@ -146,7 +146,7 @@ given-paced m c =
 quietly : (m : Machine) (s : Step) → is_quiet s ≡ true → Paced 1 1 m (simple m s).0
 quietly m s quiet = paced-more 1 1 m (simple m s).0 (quiet-paced m (simple m s).0 (quiet-simple m s quiet))
 
-pub step-paced : (m : Machine) (s : Step) → IsNamed m.setup s → Held m → Paced 1 1 m (step m s).0
+pub step-paced : (m : Machine) (s : Step) → IsNamed m.setup s → Invariant m → Paced 1 1 m (step m s).0
 step-paced m (act.Poll q) named h = paced-more 1 1 m _ (quiet-paced m _ (quiet-poll q (m, false)))
 step-paced m (act.Drain c) named h = paced-more 1 1 m _ (quiet-paced m _ (quiet-drain c (m, false)))
 step-paced m (act.Reply a) named h = paced-more 1 1 m _ (quiet-paced m _ (quiet-reply a (m, false)))

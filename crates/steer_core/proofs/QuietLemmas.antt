@@ -18,17 +18,17 @@ use Rattle.hop_core.specs.Leaves.{Field, changes}
 use Rattle.hop_core.specs.Reads.{to_weigh}
 use Rattle.hop_core.proofs.Cases.{by_cases}
 use Rattle.hop_core.proofs.Leaves.{each_leaves}
-use Rattle.steer_parts.specs.Applications.{in_reply, next_in, send_by, sending}
-use Rattle.steer_parts.specs.Machine.{Machine, last_of, note_of}
-use Rattle.steer_parts.specs.Notes.{is_asking, is_nothing}
-use Rattle.steer_parts.specs.Outcomes.{Outcome, by_rx, idles}
-use Rattle.steer_parts.specs.Pollers.{arrival_by, arrives, ask_by, look_by, position_of, put_by, putting}
-use Rattle.steer_parts.specs.Pollers.{route_by, weigh_by}
-use Rattle.steer_parts.specs.Setup.{hash_of}
-use Rattle.steer_parts.specs.Steps.{simple}
-use Rattle.steer_parts.specs.declared.note.Note.{Note}
-use Rattle.steer_parts.specs.declared.note.Note.TheVariants as note
-use Rattle.steer_laws.proofs.EitherLemmas.{either}
+use Rattle.steer_model.specs.Steps.Applications.{in_reply, next_in, send_by, sending}
+use Rattle.steer_model.specs.State.Machine.{Machine, last_of, note_of}
+use Rattle.steer_model.specs.State.Notes.{is_asking, is_nothing}
+use Rattle.steer_model.specs.Steps.Outcomes.{Outcome, by_rx, idles}
+use Rattle.steer_model.specs.Steps.Pollers.{arrival_by, arrives, ask_by, look_by, position_of, put_by, putting}
+use Rattle.steer_model.specs.Steps.Pollers.{route_by, weigh_by}
+use Rattle.steer_model.specs.State.Setup.{hash_of}
+use Rattle.steer_model.specs.Steps.SingleSteps.{simple}
+use Rattle.steer_model.specs.declared.note.Note.{Note}
+use Rattle.steer_model.specs.declared.note.Note.TheVariants as note
+use Rattle.steer_invariant.proofs.EitherLemmas.{either}
 
 -- ---- puts of a hop
 

@@ -2,8 +2,8 @@
 use Rattle.std.proofs.Common.{ℕ, ◌≡◌, true, List, [], ◌∷◌, refl, suc, zero}
 use Rattle.steer_base.specs.declared.step.Step.{Step}
 use Rattle.steer_base.specs.declared.step.Step.TheVariants as act
-use Rattle.steer_parts.specs.Machine.{Machine}
-use Rattle.steer_parts.specs.Whole.{Turn, again, drain, drain_one, for_each, poll, reply, ship, ship_one, tried, tries}
+use Rattle.steer_model.specs.State.Machine.{Machine}
+use Rattle.steer_model.specs.Steps.CompoundSteps.{Turn, again, drain, drain_one, for_each, poll, reply, ship, ship_one, tried, tries}
 use Rattle.steer_core.proofs.QuietLemmas.{Quiet, is_quiet, quiet-refl, quiet-simple, quiet-trans}
 
 abbrev AreQuiet : List Step → Type 0

@@ -19,12 +19,12 @@ use Rattle.history.specs.Finding.{found}
 use Rattle.history.specs.Lists.{list_at, no_packet, packet_at}
 use Rattle.history.specs.declared.sock_write.SockWrite.{SockWrite}
 use Rattle.history.proofs.FindingLemmas.{found-here, found-past}
-use Rattle.steer_parts.specs.Applications.{record_by, record_hash, visited, write_of, wrote}
-use Rattle.steer_parts.specs.Given.{AreOfFlows}
-use Rattle.steer_parts.specs.Machine.{Machine}
-use Rattle.steer_parts.specs.Outcomes.{Outcome, idles}
-use Rattle.steer_parts.specs.Setup.{Setup, flow_hash, flow_of, hash_of}
-use Rattle.steer_laws.proofs.EitherLemmas.{either}
+use Rattle.steer_model.specs.Steps.Applications.{record_by, record_hash, visited, write_of, wrote}
+use Rattle.steer_model.specs.State.Ranges.{AreOfFlows}
+use Rattle.steer_model.specs.State.Machine.{Machine}
+use Rattle.steer_model.specs.Steps.Outcomes.{Outcome, idles}
+use Rattle.steer_model.specs.State.Setup.{Setup, flow_hash, flow_of, hash_of}
+use Rattle.steer_invariant.proofs.EitherLemmas.{either}
 use Rattle.steer_core.proofs.Paced.{Paced}
 
 -- ---- the hash of a packet's flow

@@ -16,7 +16,7 @@ use Rattle.hop_core.specs.Hop.{lane_of, next_of, placed_of, put_one, taken_of, t
 use Rattle.hop_core.specs.Leaves.{Field}
 use Rattle.hop_core.proofs.Leaves.{each_leaves}
 use Rattle.hop_core.proofs.Lists.{length-push}
-use Rattle.steer_laws.proofs.EitherLemmas.{either}
+use Rattle.steer_invariant.proofs.EitherLemmas.{either}
 
 -- an open gate lets an actor in, if it is not inside
 pub enters : (s : HopState) (a : ℕ) → a < length s.visits → s.bare.closed ≡ false

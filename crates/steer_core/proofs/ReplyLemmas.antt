@@ -15,14 +15,14 @@ use Rattle.hop_core.specs.Leaves.{Field}
 use Rattle.hop_core.proofs.Leaves.{each_leaves}
 use Rattle.hop_core.proofs.Lists.{length-push}
 use Rattle.history.specs.declared.sent.Sent.{Sent}
-use Rattle.steer_parts.specs.Applications.{everyone, in_reply, next_in, pick_for, send_by, sending}
-use Rattle.steer_parts.specs.Machine.{Machine, last_of}
-use Rattle.steer_parts.specs.Outcomes.{Outcome, idles}
-use Rattle.steer_parts.specs.Setup.{flow_of, hash_of}
-use Rattle.steer_parts.specs.Steps.{simple}
-use Rattle.steer_parts.specs.Whole.{Turn, reply, replying}
-use Rattle.steer_laws.specs.Kept.{Kept}
-use Rattle.steer_laws.proofs.EitherLemmas.{either}
+use Rattle.steer_model.specs.Steps.Applications.{everyone, in_reply, next_in, pick_for, send_by, sending}
+use Rattle.steer_model.specs.State.Machine.{Machine, last_of}
+use Rattle.steer_model.specs.Steps.Outcomes.{Outcome, idles}
+use Rattle.steer_model.specs.State.Setup.{flow_of, hash_of}
+use Rattle.steer_model.specs.Steps.SingleSteps.{simple}
+use Rattle.steer_model.specs.Steps.CompoundSteps.{Turn, reply, replying}
+use Rattle.steer_invariant.specs.StepInvariant.{StepInvariant}
+use Rattle.steer_invariant.proofs.EitherLemmas.{either}
 use Rattle.steer_core.proofs.ReplyHops.{enters, puts, takes, weighs}
 
 -- Between two states the choices, the puts and who is inside are the same, and the second has a
@@ -72,7 +72,7 @@ replies-same m n a x p t o s is = rw (p, t, o, s) is
 
 -- ---- the five events
 
-pub reply-puts : (m : Machine) (a x : ℕ) (w : Bool) → a < m.setup.apps → Kept m → replying m a ≡ Some x
+pub reply-puts : (m : Machine) (a x : ℕ) (w : Bool) → a < m.setup.apps → StepInvariant m → replying m a ≡ Some x
     → placed_of (reply a (m, w)).0.tx a ≡ placed_of m.tx a + 1
 reply-puts m a x w named k is =
     let s : HopState = m.tx in

@@ -3,11 +3,11 @@ use Rattle.std.proofs.Common.{ℕ, ◌+◌, ◌≤◌, ◌<◌, ◌≡◌, List,
 use Rattle.hop_core.specs.Hop.{choices_of, placed_of}
 use Rattle.hop_core.proofs.Fits.{fits_room}
 use Rattle.history.specs.Lists.{list_at}
-use Rattle.steer_parts.specs.Machine.{Machine}
-use Rattle.steer_laws.specs.Kept.{Kept}
+use Rattle.steer_model.specs.State.Machine.{Machine}
+use Rattle.steer_invariant.specs.StepInvariant.{StepInvariant}
 
 -- for one write more of an application
-pub room_write : (m : Machine) (room a : ℕ) → Kept m
+pub room_write : (m : Machine) (room a : ℕ) → StepInvariant m
     → length (list_at m.writes a) + length m.setup.packets < room + placed_of m.tx a
     → length (list_at m.writes a) < room
 room_write m room a k spare =

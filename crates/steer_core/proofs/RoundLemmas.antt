@@ -1,8 +1,8 @@
 -- The room for writes stays through the parts of a round, by what the code knows of each.
 use Rattle.std.proofs.Common.{ℕ, ◌≡◌, Bool, ap, sym, subst}
 use Rattle.steer_base.specs.declared.step.Step.TheVariants as act
-use Rattle.steer_parts.specs.Machine.{Machine}
-use Rattle.steer_parts.specs.Whole.{Turn, drain, for_each, poll, ship, tried}
+use Rattle.steer_model.specs.State.Machine.{Machine}
+use Rattle.steer_model.specs.Steps.CompoundSteps.{Turn, drain, for_each, poll, ship, tried}
 use Rattle.steer_core.proofs.Paced.{Paced, paced-trans, quiet-paced}
 use Rattle.steer_core.proofs.QuietTurns.{quiet-arrive, quiet-drain, quiet-each, quiet-poll, quiet-ship}
 

@@ -11,18 +11,18 @@ use Rattle.hop_core.specs.Hop.{HopState, accepted_at, arrivals_of, out_at, place
 use Rattle.hop_core.proofs.Fits.{put_below}
 use Rattle.history.specs.Lists.{app_at, list_at}
 use Rattle.history.specs.declared.sent.Sent.{Sent}
-use Rattle.steer_parts.specs.Applications.{next_in, nothing_sent, record_by, sent_of}
-use Rattle.steer_parts.specs.Machine.{Machine}
-use Rattle.steer_parts.specs.Setup.{flow_hash, flow_of, hash_of}
-use Rattle.steer_parts.specs.Steps.{simple}
-use Rattle.steer_parts.specs.Whole.{Turn, recorded, reply, replying, serve, tried}
-use Rattle.steer_laws.specs.Held.{Held}
-use Rattle.steer_laws.specs.Kept.{Kept}
-use Rattle.steer_laws.proofs.EitherLemmas.{either}
-use Rattle.steer_laws.proofs.KeptLemmas.{flow_small}
-use Rattle.steer_laws.proofs.KeptSends.{read_at}
-use Rattle.steer_laws.proofs.KeptSimple.{goes-simple}
-use Rattle.steer_laws.proofs.PrefixLemmas.{prefix-at, prefix-length}
+use Rattle.steer_model.specs.Steps.Applications.{next_in, nothing_sent, record_by, sent_of}
+use Rattle.steer_model.specs.State.Machine.{Machine}
+use Rattle.steer_model.specs.State.Setup.{flow_hash, flow_of, hash_of}
+use Rattle.steer_model.specs.Steps.SingleSteps.{simple}
+use Rattle.steer_model.specs.Steps.CompoundSteps.{Turn, recorded, reply, replying, serve, tried}
+use Rattle.steer_invariant.specs.Invariant.{Invariant}
+use Rattle.steer_invariant.specs.StepInvariant.{StepInvariant}
+use Rattle.steer_invariant.proofs.EitherLemmas.{either}
+use Rattle.steer_invariant.proofs.StepInvariant.StepLemmas.{flow_small}
+use Rattle.steer_invariant.proofs.StepInvariant.ReplyLemmas.{read_at}
+use Rattle.steer_invariant.proofs.StepInvariant.SingleStepLemmas.{goes-simple}
+use Rattle.steer_invariant.proofs.PrefixLemmas.{prefix-at, prefix-length}
 use Rattle.steer_core.proofs.Paced.{Paced, quiet-paced}
 use Rattle.steer_core.proofs.QuietTurns.{quiet-reply}
 use Rattle.steer_core.proofs.RecordLemmas.{Wrote, flow-hash, wrote-by}
@@ -35,7 +35,7 @@ abbrev InInbox : Machine → ℕ → ℕ → Type 0
 InInbox m a x = (i : ℕ) × (i < length (out_at m.rx.bare a)) × (slice_index (out_at m.rx.bare a) i ≡ x)
 
 -- where it is in hand already
-in-hand : (m : Machine) (a : ℕ) → Kept m → placed_of m.tx a < taken_of m.tx a
+in-hand : (m : Machine) (a : ℕ) → StepInvariant m → placed_of m.tx a < taken_of m.tx a
     → InInbox m a (slice_index_or (sent_of m a) (placed_of m.tx a) nothing_sent).id
 in-hand m a k full =
     let p : ℕ = placed_of m.tx a in
@@ -52,7 +52,7 @@ in-hand m a k full =
     get_or-map (λ (s : Sent). s.id) (sent_of m a) p nothing_sent 0 (omega (arith, below, long)) in
     (p, omega (arith, below, within), at ∙ is)
 
-replied-in : (m : Machine) (a x : ℕ) → Kept m → replying m a ≡ Some x → InInbox m a x
+replied-in : (m : Machine) (a x : ℕ) → StepInvariant m → replying m a ≡ Some x → InInbox m a x
 replied-in m a x k =
     let hand : ℕ = (slice_index_or (sent_of m a) (placed_of m.tx a) nothing_sent).id in
     either (λ o. o ≡ Some x → InInbox m a x) (nat_lt (placed_of m.tx a) (taken_of m.tx a)) (Some hand) (next_in m a)
@@ -64,7 +64,7 @@ replied-in m a x k =
     value (Some y) d = y
 
 -- it is a packet of the capture
-inbox-below : (m : Machine) (a x : ℕ) → Kept m → InInbox m a x → x < length m.setup.packets
+inbox-below : (m : Machine) (a x : ℕ) → StepInvariant m → InInbox m a x → x < length m.setup.packets
 inbox-below m a x k in' =
     let h = k.rx.sound in
     let f = h.places.from a in'.0 in'.1 in
@@ -79,7 +79,7 @@ hash-of-app : (hash : ℕ) (o : Option ℕ) (apps a : ℕ) → o ≡ Some hash �
 hash-of-app hash o apps a e is = sym (ap (λ (h : Option ℕ). app_of h apps) e) ∙ is
 
 -- the hash of its flow leads to the application itself
-own-app : (m : Machine) (a x hash : ℕ) → Held m → InInbox m a x
+own-app : (m : Machine) (a x hash : ℕ) → Invariant m → InInbox m a x
     → flow_hash m.setup (flow_of m.setup x) ≡ Some (Some hash) → hash % m.setup.apps ≡ a
 own-app m a x hash h in' is =
     let k = h.kept in
@@ -95,7 +95,7 @@ own-app m a x hash h in' is =
 
 -- ---- a turn of an application
 
-served : (m : Machine) (a : ℕ) (w : Bool) (o : Option ℕ) → replying m a ≡ o → a < m.setup.apps → Held m
+served : (m : Machine) (a : ℕ) (w : Bool) (o : Option ℕ) → replying m a ≡ o → a < m.setup.apps → Invariant m
     → Paced 0 0 m (reply a (recorded o (m, w))).0
 served m a w None is named h = quiet-paced m _ (quiet-reply a (m, w))
 served m a w (Some x) is named h =
@@ -107,7 +107,7 @@ served m a w (Some x) is named h =
     let wrote : Wrote m n a =
     wrote-by m (flow_hash m.setup flow) a (λ hash e. own-app m a x hash h in' e) in
     let named' : a < n.setup.apps = subst (λ q. a < q.apps) (sym wrote.setup) named in
-    let kept : Kept n =
+    let kept : StepInvariant n =
     (goes-simple m k (act.Record flow) (lt-ltb flow 262144 (flow_small m.setup x k.given))).kept in
     let next : replying n a ≡ Some x =
     replies-same m n a x (ap (λ (s : HopState). s.placed) wrote.tx) (ap (λ (s : HopState). s.taken) wrote.tx)
@@ -136,5 +136,5 @@ served m a w (Some x) is named h =
           let c = ap length quiet.commands in let d = ap length wrote.commands in omega (arith, c, d));
     }
 
-pub serve-paced : (a : ℕ) (t : Turn) → a < t.0.setup.apps → Held t.0 → Paced 0 0 t.0 (serve a t).0
+pub serve-paced : (a : ℕ) (t : Turn) → a < t.0.setup.apps → Invariant t.0 → Paced 0 0 t.0 (serve a t).0
 serve-paced a t named h = served t.0 a t.1 (replying t.0 a) refl named h

@@ -1,8 +1,8 @@
 -- Steps that are tried again in a row and those of each actor, from the last one back; and rounds.
 use Rattle.std.proofs.Common.{ℕ, ◌+◌, ◌-◌, ◌<◌, ◌≤◌, ◌≡◌, zero, suc, Bool, true, false, cond, List, refl, ap, ◌∙◌, sym, add-one, arith}
 use Rattle.steer_base.specs.declared.step.Step.{Step}
-use Rattle.steer_parts.specs.Machine.{Machine}
-use Rattle.steer_parts.specs.Whole.{Turn, again, for_each, one_round, rounds, tries}
+use Rattle.steer_model.specs.State.Machine.{Machine}
+use Rattle.steer_model.specs.Steps.CompoundSteps.{Turn, again, for_each, one_round, rounds, tries}
 
 again-none : (ss : List Step) (t : Turn) → again 0 ss t ≡ t
 unfolding again

@@ -4,7 +4,7 @@ use Rattle.std.specs.Prelude.{slice_index, if◌then◌else◌}
 use Rattle.steer_base.specs.Filters.{may_expire}
 use Rattle.steer_base.specs.declared.filter.Filter.{Filter}
 use Rattle.hop_core.specs.Hop.{HopState, head_at}
-use Rattle.steer_parts.specs.Settings.{Settings}
+use Rattle.steer_model.specs.State.Settings.{Settings}
 
 -- whether a filter is set and may go, by the head of its processor at the receive hop and the flow
 -- count of its queue

@@ -4,7 +4,7 @@ use Rattle.steer_base.specs.declared.step.Step.{Step}
 use Rattle.steer_base.specs.declared.step.Step.TheVariants as act
 use Rattle.hop_core.specs.Hop.{placed_of}
 use Rattle.history.specs.Lists.{list_at}
-use Rattle.steer_parts.specs.Machine.{Machine}
+use Rattle.steer_model.specs.State.Machine.{Machine}
 use Rattle.steer_core.specs.Running.{Rooms}
 
 -- Each application has room for one write of the socket flow table, and for one more with each

@@ -7,11 +7,11 @@ use Rattle.history.specs.declared.arrival.Arrival.{Arrival}
 use Rattle.history.specs.declared.commanded.Commanded.{Commanded}
 use Rattle.history.specs.declared.sent.Sent.{Sent}
 use Rattle.history.specs.declared.sock_write.SockWrite.{SockWrite}
-use Rattle.steer_parts.specs.Machine.{Machine}
-use Rattle.steer_parts.specs.Settings.{Settings}
-use Rattle.steer_parts.specs.Setup.{Setup}
-use Rattle.steer_parts.specs.declared.note.Note.{Note}
-use Rattle.steer_laws.specs.Held.{Held}
+use Rattle.steer_model.specs.State.Machine.{Machine}
+use Rattle.steer_model.specs.State.Settings.{Settings}
+use Rattle.steer_model.specs.State.Setup.{Setup}
+use Rattle.steer_model.specs.declared.note.Note.{Note}
+use Rattle.steer_invariant.specs.Invariant.{Invariant}
 
 -- how many writes of each application, and how many commands there is memory for
 pub record Rooms : Type 0 where
@@ -85,4 +85,4 @@ pub record HasRoom (packets arrivals sent : ℕ) : Type 0 where
 -- What holds of the parts between steps.
 abbrev pub IsRunning : Parts → Type 0
 IsRunning p =
-    Held (machine_of p) × HasRoom (length p.given.packets) p.arrivals.room p.sent.room
+    Invariant (machine_of p) × HasRoom (length p.given.packets) p.arrivals.room p.sent.room

@@ -6,9 +6,9 @@ use Rattle.hop_core.specs.Hop.{placed_of}
 use Rattle.history.specs.Lists.{list_at}
 use Rattle.plan_reader.specs.Plans.{step_count}
 use Rattle.plan_reader.specs.declared.plan.Plan.{Plan}
-use Rattle.steer_parts.specs.Machine.{Machine}
-use Rattle.steer_parts.specs.Start.{new_machine}
-use Rattle.steer_parts.specs.Whole.{step}
+use Rattle.steer_model.specs.State.Machine.{Machine}
+use Rattle.steer_model.specs.State.Start.{new_machine}
+use Rattle.steer_model.specs.Steps.CompoundSteps.{step}
 use Rattle.steer_core.specs.Running.{Running}
 
 -- a machine, how many steps it made, and the most that it may make

@@ -3,7 +3,7 @@ use Rattle.std.specs.Prelude.{ℕ, ◌+◌, List, Option, length}
 use Rattle.steer_base.specs.declared.packet.Packet.{Packet}
 use Rattle.plan_reader.specs.Plans.{step_count}
 use Rattle.plan_reader.specs.declared.plan.Plan.{Plan}
-use Rattle.steer_parts.specs.Start.{new_machine}
+use Rattle.steer_model.specs.State.Start.{new_machine}
 use Rattle.steer_core.specs.Running.{Running}
 
 -- There is room for a command of each step, and for a write of each step and each packet.

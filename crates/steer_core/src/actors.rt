@@ -2,11 +2,11 @@
 ghost use Rattle.std.specs.Prelude.{◌≡◌, true, if◌then◌else◌};
 ghost use Rattle.steer_base.specs.declared.command.Answer.TheVariants as says;
 ghost use Rattle.steer_base.specs.declared.idle.Idle.TheVariants as idle;
-ghost use Rattle.steer_laws.specs.Held.{Held};
-ghost use Rattle.steer_laws.specs.Kept.{sizes_in};
+ghost use Rattle.steer_invariant.specs.Invariant.{Invariant};
+ghost use Rattle.steer_invariant.specs.StepInvariant.{sizes_in};
 ghost use Rattle.plan_reader.specs.Ranges.{step_is_within};
 ghost use Rattle.steer_core.specs.Rooms.{HasRoomFor};
-ghost use Rattle.steer_parts.specs.Whole.{step as step_of};
+ghost use Rattle.steer_model.specs.Steps.CompoundSteps.{step as step_of};
 
 mod applications;
 mod changes;
@@ -28,7 +28,7 @@ use hop_core::Hop;
 use sock_flow_table::SockTable;
 use std::marker::Model;
 use steer_base::{Answer, Idle, Journal, Journals, Step};
-use steer_parts::{Given, InForce, Note};
+use steer_model::{Given, InForce, Note};
 
 /// The wire, the pollers, the processors, the applications, the transmit queues and the controller:
 /// what is fixed and what is set, the tables and the notes that they read and write, the hop of
@@ -82,7 +82,7 @@ impl Actors {
 
     /// Says what holds of the machine between steps.
     pub fn sound(&self)
-        ensures { Held self.now.machine }
+        ensures { Invariant self.now.machine }
     {
         // A read of the machine, so that what holds of it is known here.
         let _ = &self.given;

@@ -5,5 +5,5 @@
 mod actors;
 mod steering;
 
-pub use steer_parts::packets;
+pub use steer_model::packets;
 pub use steering::Steering;

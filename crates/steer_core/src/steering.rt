@@ -2,11 +2,11 @@
 ghost use Rattle.std.specs.Prelude.{◌≡◌, ◌<◌, ◌≤◌, IfOk, length, true};
 ghost use Rattle.plan_reader.specs.Ranges.{step_is_within};
 ghost use Rattle.steer_core.specs.Runs.{new_run, stepped};
-ghost use Rattle.steer_laws.specs.Held.{Held};
-ghost use Rattle.steer_laws.specs.Kept.{sizes_in};
-ghost use Rattle.steer_parts.specs.Given.{AreOfFlows};
-ghost use Rattle.steer_parts.specs.Machine.{history_of};
-ghost use Rattle.steer_parts.specs.Whole.{step as step_of};
+ghost use Rattle.steer_invariant.specs.Invariant.{Invariant};
+ghost use Rattle.steer_invariant.specs.StepInvariant.{sizes_in};
+ghost use Rattle.steer_model.specs.State.Ranges.{AreOfFlows};
+ghost use Rattle.steer_model.specs.State.Machine.{history_of};
+ghost use Rattle.steer_model.specs.Steps.CompoundSteps.{step as step_of};
 
 use crate::actors::Actors;
 use history::History;
@@ -99,7 +99,7 @@ impl Steering {
 
     /// Says what holds of the machine after any steps.
     pub fn sound(&self)
-        ensures { Held self.now.machine }
+        ensures { Invariant self.now.machine }
     {
         self.actors.sound();
     }

@@ -5,7 +5,7 @@ ghost use Rattle.outside_io.specs.Desk.{GoesOnTelling};
 ghost use Rattle.pcap_reader.specs.Captures.{IsWithin};
 ghost use Rattle.replay.specs.Replays.{replay_text};
 ghost use Rattle.replay.specs.Reports.{ArePacketsBy, IsReplayOf};
-ghost use Rattle.steer_parts.specs.Given.{AreOfFlows};
+ghost use Rattle.steer_model.specs.State.Ranges.{AreOfFlows};
 ghost use Rattle.steer_top.specs.Commands.{replay_words_of};
 ghost use Rattle.steer_top.specs.Endings.{EndsCommand, EndsWriting};
 ghost use Rattle.steer_top.specs.Words.CommandWords.{Replay as TheReplay};

@@ -2,16 +2,16 @@
 ghost use Rattle.std.specs.Prelude.{◌≡◌, ◌<◌, slice_index_or};
 ghost use Rattle.history.specs.Lists.{arrival_of};
 ghost use Rattle.hop_core.specs.declared.event.HopEvent.TheVariants as event;
-ghost use Rattle.steer_parts.specs.Applications.{in_reply, next_in, nothing_sent, reply_to, send};
-ghost use Rattle.steer_parts.specs.Applications.{sending, tput, tweigh};
-ghost use Rattle.steer_parts.specs.Outcomes.{by_tx};
-ghost use Rattle.steer_parts.specs.Whole.{replying};
+ghost use Rattle.steer_model.specs.Steps.Applications.{in_reply, next_in, nothing_sent, reply_to, send};
+ghost use Rattle.steer_model.specs.Steps.Applications.{sending, tput, tweigh};
+ghost use Rattle.steer_model.specs.Steps.Outcomes.{by_tx};
+ghost use Rattle.steer_model.specs.Steps.CompoundSteps.{replying};
 
 use crate::actors::Actors;
 use history::Sent;
 use hop_core::HopEvent;
 use steer_base::{Answer, Cpu, CpuMask, Idle, PacketId, RxQueue};
-use steer_parts::{last_of, told};
+use steer_model::{last_of, told};
 
 // All transmit queues are online.
 const EVERYONE: CpuMask = CpuMask(0xffff_ffff);

@@ -1,8 +1,8 @@
 //! What a command changes that is done.
 ghost use Rattle.std.specs.Prelude.{◌≡◌, true};
 ghost use Rattle.steer_core.specs.Changes.{stands_alone};
-ghost use Rattle.steer_laws.specs.Kept.{IsCommandNamed};
-ghost use Rattle.steer_parts.specs.Commands.{answer_to, is_done, set_by, with_settings};
+ghost use Rattle.steer_invariant.specs.StepInvariant.{IsCommandNamed};
+ghost use Rattle.steer_model.specs.Steps.Commands.{answer_to, is_done, set_by, with_settings};
 
 use crate::actors::Actors;
 use crate::actors::old_filters::clear_old;

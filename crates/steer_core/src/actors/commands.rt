@@ -2,15 +2,15 @@
 ghost use Rattle.std.specs.Prelude.{◌≡◌, ◌<◌, length, true};
 ghost use Rattle.history.specs.Regular.{has_text};
 ghost use Rattle.steer_base.specs.Commands.{refusal};
-ghost use Rattle.steer_laws.specs.Kept.{IsCommandNamed};
-ghost use Rattle.steer_parts.specs.Commands.{affects, answer_to, by_gate, gated, given, listed};
+ghost use Rattle.steer_invariant.specs.StepInvariant.{IsCommandNamed};
+ghost use Rattle.steer_model.specs.Steps.Commands.{affects, answer_to, by_gate, gated, given, listed};
 
 use crate::actors::Actors;
 use crate::actors::old_filters::count_old;
 use history::Commanded;
 use hotplug::{Online, affected};
 use steer_base::{Answer, Command, Refused};
-use steer_parts::{gate_answer, is_done, refused_answer};
+use steer_model::{gate_answer, is_done, refused_answer};
 
 impl Actors {
     /// A command is listed with its answer, and changes nothing else where it is not done.

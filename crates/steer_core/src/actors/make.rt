@@ -5,8 +5,8 @@ ghost use Rattle.plan_reader.specs.Plans.{step_count};
 ghost use Rattle.sock_flow_table.specs.Sockets as sockets;
 ghost use Rattle.steer_base.specs.Journals.{journal, new_journals};
 ghost use Rattle.steer_core.specs.Starting.{started};
-ghost use Rattle.steer_parts.specs.Given.{AreOfFlows};
-ghost use Rattle.steer_parts.specs.Start.{fresh_rx, fresh_tx, settings_of};
+ghost use Rattle.steer_model.specs.State.Ranges.{AreOfFlows};
+ghost use Rattle.steer_model.specs.State.Start.{fresh_rx, fresh_tx, settings_of};
 
 use crate::actors::Actors;
 use accel_filter::FilterTable;
@@ -16,7 +16,7 @@ use plan_reader::{Plan, QueuePlan};
 use sock_flow_table::SockTable;
 use std::alloc::Global;
 use steer_base::{CpuMask, Journal, Journals, OutOfMemory, Packet};
-use steer_parts::{Given, InForce, Note};
+use steer_model::{Given, InForce, Note};
 
 impl Actors {
     /// The machine of a plan before its first step: open gates, empty lists, and room for all that

@@ -6,7 +6,7 @@ ghost use Rattle.steer_core.specs.OldFilters.{IsSeated, is_old as may_go, kept_o
 use accel_filter::{FilterTable, may_expire};
 use hop_core::Hop;
 use steer_base::Filter;
-use steer_parts::InForce;
+use steer_model::InForce;
 
 /// How many filters may go.
 pub fn count_old(filters: &FilterTable, rx: &Hop, settings: &InForce) -> u32

@@ -2,16 +2,16 @@
 ghost use Rattle.std.specs.Prelude.{◌≡◌, ◌<◌, length};
 ghost use Rattle.hop_core.specs.declared.event.HopEvent.TheVariants as event;
 ghost use Rattle.hop_core.specs.Hop.{next_of};
-ghost use Rattle.steer_parts.specs.Machine.{note_of};
-ghost use Rattle.steer_parts.specs.Outcomes.{by_rx};
-ghost use Rattle.steer_parts.specs.Pollers.{ask, leave, look, put, seen_by, take, weigh, weighing};
-ghost use Rattle.steer_parts.specs.Pollers.{with_filter};
+ghost use Rattle.steer_model.specs.State.Machine.{note_of};
+ghost use Rattle.steer_model.specs.Steps.Outcomes.{by_rx};
+ghost use Rattle.steer_model.specs.Steps.Pollers.{ask, leave, look, put, seen_by, take, weigh, weighing};
+ghost use Rattle.steer_model.specs.Steps.Pollers.{with_filter};
 
 use crate::actors::Actors;
 use accel_filter::FilterTable;
 use hop_core::HopEvent;
 use steer_base::{Answer, Filter, Idle, PacketId};
-use steer_parts::{Note, desired_cpu, filter_for, last_of, position_of, socket_seen, told};
+use steer_model::{Note, desired_cpu, filter_for, last_of, position_of, socket_seen, told};
 
 impl Actors {
     /// The first packet of the ring is in hand. The hand of a poller that asks for a filter is

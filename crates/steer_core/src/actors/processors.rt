@@ -1,14 +1,14 @@
 //! The steps of a processor, from its backlog to the inboxes.
 ghost use Rattle.std.specs.Prelude.{◌≡◌, ◌<◌};
 ghost use Rattle.hop_core.specs.declared.event.HopEvent.TheVariants as event;
-ghost use Rattle.steer_parts.specs.Applications.{deliver, in_lane};
-ghost use Rattle.steer_parts.specs.Outcomes.{by_rx};
-ghost use Rattle.steer_parts.specs.Setup.{app_for};
+ghost use Rattle.steer_model.specs.Steps.Applications.{deliver, in_lane};
+ghost use Rattle.steer_model.specs.Steps.Outcomes.{by_rx};
+ghost use Rattle.steer_model.specs.State.Setup.{app_for};
 
 use crate::actors::Actors;
 use hop_core::HopEvent;
 use steer_base::{Answer, PacketId};
-use steer_parts::told;
+use steer_model::told;
 
 impl Actors {
     /// The first packet that waits is in hand.

@@ -1,7 +1,7 @@
 //! The step of a socket: an application records its processor for a flow.
 ghost use Rattle.std.specs.Prelude.{◌≡◌, ◌<◌, length};
 ghost use Rattle.steer_core.specs.Rooms.{HasSpare};
-ghost use Rattle.steer_parts.specs.Applications.{record_flow, record_hash, visited, wrote};
+ghost use Rattle.steer_model.specs.Steps.Applications.{record_flow, record_hash, visited, wrote};
 
 use crate::actors::Actors;
 use history::SockWrite;

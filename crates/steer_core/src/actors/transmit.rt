@@ -1,12 +1,12 @@
 //! The steps of a transmit queue, from its replies to the port.
 ghost use Rattle.std.specs.Prelude.{◌≡◌, ◌<◌};
 ghost use Rattle.hop_core.specs.declared.event.HopEvent.TheVariants as event;
-ghost use Rattle.steer_parts.specs.Outcomes.{by_tx};
+ghost use Rattle.steer_model.specs.Steps.Outcomes.{by_tx};
 
 use crate::actors::Actors;
 use hop_core::HopEvent;
 use steer_base::Answer;
-use steer_parts::told;
+use steer_model::told;
 
 impl Actors {
     /// The first reply that waits is in hand.

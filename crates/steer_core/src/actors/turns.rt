@@ -2,14 +2,14 @@
 ghost use Rattle.std.specs.Prelude.{◌≡◌, ◌<◌, length, true};
 ghost use Rattle.plan_reader.specs.Ranges.{step_is_within};
 ghost use Rattle.steer_core.specs.Rooms.{HasRoomFor, HasSpare};
-ghost use Rattle.steer_laws.specs.Kept.{sizes_in};
-ghost use Rattle.steer_parts.specs.Steps.{simple};
-ghost use Rattle.steer_parts.specs.Whole.{drain, drain_one, poll, recorded, reply, replying, serve};
-ghost use Rattle.steer_parts.specs.Whole.{ship, ship_one, tried, tries};
+ghost use Rattle.steer_invariant.specs.StepInvariant.{sizes_in};
+ghost use Rattle.steer_model.specs.Steps.SingleSteps.{simple};
+ghost use Rattle.steer_model.specs.Steps.CompoundSteps.{drain, drain_one, poll, recorded, reply, replying, serve};
+ghost use Rattle.steer_model.specs.Steps.CompoundSteps.{ship, ship_one, tried, tries};
 
 use crate::actors::Actors;
 use steer_base::{Answer, Idle, Step};
-use steer_parts::{is_idle, is_work};
+use steer_model::{is_idle, is_work};
 
 impl Actors {
     /// A step of one event, or a command. A step of many events does nothing here.

@@ -1,7 +1,7 @@
 //! The step of the wire: a packet of the capture arrives.
 ghost use Rattle.std.specs.Prelude.{◌≡◌, ◌<◌, length};
-ghost use Rattle.steer_parts.specs.Pollers.{arrival_by, arrive, route_by};
-ghost use Rattle.steer_parts.specs.Setup.{hash_of};
+ghost use Rattle.steer_model.specs.Steps.Pollers.{arrival_by, arrive, route_by};
+ghost use Rattle.steer_model.specs.State.Setup.{hash_of};
 
 use crate::actors::Actors;
 use history::Arrival;

@@ -1,5 +1,5 @@
 use Rattle.std.proofs.Common.{[], refl}
-use Rattle.seat_order.proofs.Views.{views_open}
+use Rattle.linearization.proofs.ViewLemmas.{views_open}
 use Rattle.base_tests.proofs.seats.made.Goals as goal
 
 pub of_words-requires : goal.of_words-requires

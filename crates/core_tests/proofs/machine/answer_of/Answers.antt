@@ -1,6 +1,6 @@
 use Rattle.std.proofs.Common.{ℕ, ◌+◌, ◌∙◌, ap}
 use Rattle.steer_core.specs.Runs.{Run}
-use Rattle.steer_laws.specs.Kept.{sizes_in}
+use Rattle.steer_invariant.specs.StepInvariant.{sizes_in}
 use Rattle.core_tests.proofs.machine.answer_of.Goals as goal
 
 pub returns : goal.returns

@@ -1,6 +1,6 @@
 use Rattle.std.proofs.Common.{◌≡◌}
 use Rattle.plan_reader.specs.Plans.{sizes_of, step_count}
-use Rattle.steer_laws.specs.Kept.{sizes_in}
+use Rattle.steer_invariant.specs.StepInvariant.{sizes_in}
 use Rattle.core_tests.proofs.machine.make_all.Given as goal
 
 -- the steps before this one were made, of those of the plan, and the machine has what the plan has

@@ -1,8 +1,8 @@
 use Rattle.std.proofs.Common.{◌≡◌, ◌∙◌, IfOk, ap, arith, subst}
 use Rattle.plan_reader.specs.Plans.{step_count}
 use Rattle.steer_core.specs.Runs.{Run}
-use Rattle.steer_laws.specs.Kept.{sizes_in}
-use Rattle.steer_parts.specs.Machine.{history_of}
+use Rattle.steer_invariant.specs.StepInvariant.{sizes_in}
+use Rattle.steer_model.specs.State.Machine.{history_of}
 use Rattle.replay.proofs.StepsLemmas.{run_at, stepped_at}
 use Rattle.replay.proofs.play.play.Goals as goal
 

@@ -1,6 +1,6 @@
 use Rattle.std.proofs.Common.{◌≡◌}
 use Rattle.plan_reader.specs.Plans.{sizes_of}
-use Rattle.steer_laws.specs.Kept.{sizes_in}
+use Rattle.steer_invariant.specs.StepInvariant.{sizes_in}
 use Rattle.replay.proofs.StepsLemmas.{run_at}
 use Rattle.replay.proofs.play.play.Given as goal
 

@@ -4,9 +4,9 @@ use Rattle.std.specs.List.{AllPass}
 use Rattle.plan_reader.specs.Plans.{sizes_of}
 use Rattle.plan_reader.specs.Ranges.{step_is_within}
 use Rattle.plan_reader.specs.declared.settings.sizes.Sizes.{Sizes}
-use Rattle.steer_laws.specs.Kept.{sizes_in}
-use Rattle.steer_parts.specs.Start.{new_machine, setup_of, steps_of}
-use Rattle.steer_parts.specs.Whole.{after}
+use Rattle.steer_invariant.specs.StepInvariant.{sizes_in}
+use Rattle.steer_model.specs.State.Start.{new_machine, setup_of, steps_of}
+use Rattle.steer_model.specs.Steps.CompoundSteps.{after}
 use Rattle.replay.proofs.CountsLemmas.{countable}
 use Rattle.replay.proofs.play.tell_countable.Goals as goal
 

@@ -1,12 +1,12 @@
 use Rattle.std.proofs.Common.{All, List, sym, ap, subst}
 use Rattle.std.specs.Slots.{slots_items}
-use Rattle.seat_order.specs.Closings.{Ends}
-use Rattle.seat_order.specs.Seats.{SeatView}
+use Rattle.linearization.specs.Closings.{Ends}
+use Rattle.linearization.specs.Seats.{SeatView}
 use Rattle.hop_rule.specs.declared.sizes.BoardSizes.{BoardSizes}
 use Rattle.hop_rule.specs.declared.step.BoardStep.{BoardStep}
-use Rattle.hop_seam.specs.Closings.{HasEnded, IsAtRest}
-use Rattle.hop_seam.specs.Seats.{BoardSeatView}
-use Rattle.hop_seam.specs.Views.{BoardView}
+use Rattle.board_api.specs.Closings.Closings.{HasEnded, IsAtRest}
+use Rattle.board_api.specs.Seats.{BoardSeatView}
+use Rattle.board_api.specs.Views.{BoardView}
 use Rattle.hop_board.specs.Tables.{HasBoard}
 use Rattle.hop_board.proofs.Ended.{all_lie, ended}
 use Rattle.hop_board.proofs.board.Board.close_board.Goals as goal

@@ -6,11 +6,11 @@ use Rattle.hop_rule.specs.declared.step.Slot.TheVariants as slot
 use Rattle.hop_rule.specs.Boards.{lane_steps, out_slot}
 use Rattle.hop_rule.specs.Lanes.{has_pulled, phase}
 use Rattle.hop_rule.specs.OutLanes.{OutList}
-use Rattle.hop_seam.specs.HeldLanes.{HoldsOut, IsOut, room_in}
-use Rattle.hop_seam.specs.Seats.{BoardSeatView}
-use Rattle.hop_seam.specs.Tells.{DeliverTells}
-use Rattle.hop_seam.specs.declared.held_lane.HeldLane.{HeldLane}
-use Rattle.hop_seam.specs.declared.held_lane.LaneId.TheVariants as id
+use Rattle.board_api.specs.Calls.HeldLanes.{HoldsOut, IsOut, room_in}
+use Rattle.board_api.specs.Seats.{BoardSeatView}
+use Rattle.board_api.specs.Calls.Answers.{DeliverTells}
+use Rattle.board_api.specs.declared.held_lane.HeldLane.{HeldLane}
+use Rattle.board_api.specs.declared.held_lane.LaneId.TheVariants as id
 use Rattle.hop_board.specs.Named.{board_seat}
 use Rattle.hop_board.specs.Releases.{step_in}
 use Rattle.hop_board.specs.Steps.{MayGive}

@@ -1,7 +1,7 @@
 use Rattle.std.proofs.Common.{◌≡◌, ◌-◌, ◌==◌, ap, sym, ◌∙◌, subst, arith}
 use prog.Atomic.{either}
 use Rattle.hop_rule.specs.Sizes.{FitSizes}
-use Rattle.hop_seam.specs.Views.{BoardView}
+use Rattle.board_api.specs.Views.{BoardView}
 use Rattle.hop_board.specs.Tables.{width}
 use Rattle.hop_board.proofs.Apart.{place_inside}
 use Rattle.hop_board.proofs.Keeps.{acts_in}

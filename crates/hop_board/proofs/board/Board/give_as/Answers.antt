@@ -1,11 +1,11 @@
 use Rattle.std.proofs.Common.{◌≡◌, ◌+◌, ◌-◌, ◌%◌, ◌^◌, [], ◌∷◌, true, false, Some, None, sym, refl, ap, ◌∙◌, subst, arith}
 use Rattle.atomic_table.specs.Table.{rest}
-use Rattle.seat_order.specs.Hands.{one, number_in, steps_in}
-use Rattle.seat_order.specs.Seats.{SeatView, seat_view}
+use Rattle.linearization.specs.Views.{one, number_in, steps_in}
+use Rattle.linearization.specs.Seats.{SeatView, seat_view}
 use Rattle.hop_rule.specs.declared.step.BoardStep.{BoardStep}
 use Rattle.hop_rule.specs.declared.step.BoardStep.TheVariants.{LaneIn}
 use Rattle.hop_rule.specs.Sizes.{FitSizes}
-use Rattle.hop_seam.specs.Views.{BoardView}
+use Rattle.board_api.specs.Views.{BoardView}
 use Rattle.hop_board.specs.Releases.{lane_in, rises_in}
 use Rattle.hop_board.specs.Steps.{MayGive, released_word}
 use Rattle.hop_board.specs.Tables.{slots, slot_of, width}

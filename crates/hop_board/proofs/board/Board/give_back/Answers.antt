@@ -1,9 +1,9 @@
 use Rattle.std.proofs.Common.{ap, sym, subst}
 use Rattle.hop_rule.specs.declared.step.BoardStep.{BoardStep}
 use Rattle.hop_rule.specs.declared.step.Slot.{Slot}
-use Rattle.hop_seam.specs.HeldLanes.{Holds}
-use Rattle.hop_seam.specs.Seats.{BoardSeatView}
-use Rattle.hop_seam.specs.declared.held_lane.LaneId.{LaneId}
+use Rattle.board_api.specs.Calls.HeldLanes.{Holds}
+use Rattle.board_api.specs.Seats.{BoardSeatView}
+use Rattle.board_api.specs.declared.held_lane.LaneId.{LaneId}
 use Rattle.hop_board.specs.Releases.{is_told, step_in}
 use Rattle.hop_board.specs.Steps.{MayGive}
 use Rattle.hop_board.specs.declared.release.Release.TheVariants.{Unchanged}

@@ -1,5 +1,5 @@
 use Rattle.std.proofs.Common.{◌∷◌, refl, ap, ◌∙◌}
-use Rattle.seat_order.specs.Seats.{SeatView}
+use Rattle.linearization.specs.Seats.{SeatView}
 use Rattle.hop_rule.specs.declared.step.BoardStep.{BoardStep}
 use Rattle.hop_rule.specs.declared.step.BoardStep.TheVariants.{Counted}
 use Rattle.hop_board.proofs.board.Board.look_at.Goals as goal

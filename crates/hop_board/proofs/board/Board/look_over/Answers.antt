@@ -1,5 +1,5 @@
 use Rattle.std.proofs.Common.{◌+◌, ◌<◌, sym, ap, ◌∙◌, subst}
-use Rattle.hop_seam.specs.Views.{BoardView}
+use Rattle.board_api.specs.Views.{BoardView}
 use Rattle.hop_board.specs.Emptying.{LooksBelow}
 use Rattle.hop_board.proofs.Looks.{finds_first, looks_more, looks_none, looks_past}
 use Rattle.hop_board.proofs.board.Board.look_over.Goals as goal

@@ -1,8 +1,8 @@
 use Rattle.std.proofs.Common.{◌≡◌, All, List, length, sym, ap, ◌∙◌, subst, arith}
-use Rattle.seat_order.specs.Seats.{SeatView}
+use Rattle.linearization.specs.Seats.{SeatView}
 use Rattle.hop_rule.specs.declared.sizes.BoardSizes.{BoardSizes}
 use Rattle.hop_rule.specs.declared.step.BoardStep.{BoardStep}
-use Rattle.hop_seam.specs.Seats.{BoardSeatView}
+use Rattle.board_api.specs.Seats.{BoardSeatView}
 use Rattle.hop_board.specs.Named.{HasNoSteps}
 use Rattle.hop_board.specs.Tables.{InSlot}
 use Rattle.hop_board.proofs.Opening.{begins, new_fresh, slots_long, tables_at_board, words_long}

@@ -4,10 +4,10 @@ use Rattle.hop_rule.specs.declared.step.BoardStep.{BoardStep}
 use Rattle.hop_rule.specs.declared.step.Slot.TheVariants as slot
 use Rattle.hop_rule.specs.Boards.{lane_steps}
 use Rattle.hop_rule.specs.Lanes.{phase}
-use Rattle.hop_seam.specs.HeldLanes.{HasNoneOf, HoldsMiddle, IsMiddle, PullsFrom}
-use Rattle.hop_seam.specs.Seats.{BoardSeatView}
-use Rattle.hop_seam.specs.declared.held_lane.HeldLane.TheVariants as held
-use Rattle.hop_seam.specs.declared.held_lane.LaneId.TheVariants as id
+use Rattle.board_api.specs.Calls.HeldLanes.{HasNoneOf, HoldsMiddle, IsMiddle, PullsFrom}
+use Rattle.board_api.specs.Seats.{BoardSeatView}
+use Rattle.board_api.specs.declared.held_lane.HeldLane.TheVariants as held
+use Rattle.board_api.specs.declared.held_lane.LaneId.TheVariants as id
 use Rattle.hop_board.specs.Releases.{step_in}
 use Rattle.hop_board.specs.Steps.{MayGive}
 use Rattle.hop_board.specs.declared.release.Release.TheVariants.{Pulled, Unchanged}

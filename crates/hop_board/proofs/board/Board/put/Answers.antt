@@ -4,10 +4,10 @@ use Rattle.hop_rule.specs.declared.step.BoardStep.{BoardStep}
 use Rattle.hop_rule.specs.declared.step.Slot.TheVariants as slot
 use Rattle.hop_rule.specs.Boards.{gate_steps}
 use Rattle.hop_rule.specs.Gates.{visit}
-use Rattle.hop_seam.specs.HeldLanes.{HoldsMiddle, IsMiddle, room_in}
-use Rattle.hop_seam.specs.Seats.{BoardSeatView}
-use Rattle.hop_seam.specs.declared.held_lane.HeldLane.{HeldLane}
-use Rattle.hop_seam.specs.declared.held_lane.LaneId.TheVariants as id
+use Rattle.board_api.specs.Calls.HeldLanes.{HoldsMiddle, IsMiddle, room_in}
+use Rattle.board_api.specs.Seats.{BoardSeatView}
+use Rattle.board_api.specs.declared.held_lane.HeldLane.{HeldLane}
+use Rattle.board_api.specs.declared.held_lane.LaneId.TheVariants as id
 use Rattle.hop_board.specs.Releases.{rises_by, step_in}
 use Rattle.hop_board.specs.Steps.{MayGive}
 use Rattle.hop_board.specs.declared.release.Release.TheVariants.{Offered}

@@ -1,11 +1,11 @@
 use Rattle.std.proofs.Common.{◌≡◌, [], ◌∷◌, false, Some, None, sym, refl, ap, ◌∙◌, subst, arith}
 use Rattle.atomic_table.specs.Table.{rest}
-use Rattle.seat_order.specs.Hands.{one, number_in, steps_in}
-use Rattle.seat_order.specs.Seats.{seat_view}
+use Rattle.linearization.specs.Views.{one, number_in, steps_in}
+use Rattle.linearization.specs.Seats.{seat_view}
 use Rattle.hop_rule.specs.Boards.{own_state}
 use Rattle.hop_rule.specs.Sizes.{FitSizes}
-use Rattle.hop_seam.specs.StepWords.{is_odd}
-use Rattle.hop_seam.specs.Views.{BoardView}
+use Rattle.board_api.specs.StepWords.{is_odd}
+use Rattle.board_api.specs.Views.{BoardView}
 use Rattle.hop_board.specs.Plays.{HeldAt}
 use Rattle.hop_board.specs.Tables.{slots, slot_of, width}
 use Rattle.hop_board.proofs.Apart.{slot_inside}

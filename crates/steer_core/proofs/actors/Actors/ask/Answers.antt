@@ -1,6 +1,6 @@
 use Rattle.std.proofs.Common.{◌∙◌, sym}
-use Rattle.steer_laws.proofs.HeldRows.{held_ask}
-use Rattle.steer_laws.proofs.KeptPollers.{read-note}
+use Rattle.steer_invariant.proofs.Invariant.RowLemmas.{held_ask}
+use Rattle.steer_invariant.proofs.StepInvariant.PollerLemmas.{read-note}
 use Rattle.steer_core.proofs.actors.Actors.ask.Goals as goal
 
 pub invariant_of-self : goal.invariant_of-self

@@ -1,9 +1,9 @@
 use Rattle.std.proofs.Common.{subst, sym}
 use Rattle.hop_core.specs.Events.{MayAsk}
 use Rattle.hop_core.specs.declared.event.HopEvent.{HopEvent}
-use Rattle.steer_parts.specs.Applications.{in_lane}
-use Rattle.steer_laws.proofs.HeldRows.{held_deliver}
-use Rattle.steer_laws.proofs.KeptPollers.{may_deliver}
+use Rattle.steer_model.specs.Steps.Applications.{in_lane}
+use Rattle.steer_invariant.proofs.Invariant.RowLemmas.{held_deliver}
+use Rattle.steer_invariant.proofs.StepInvariant.PollerLemmas.{may_deliver}
 use Rattle.steer_core.proofs.actors.Actors.deliver.Goals as goal
 
 pub step-requires : goal.step-requires

@@ -1,5 +1,5 @@
 use Rattle.std.proofs.Common.{refl, ◌∙◌}
-use Rattle.steer_parts.specs.Whole.{drain_one}
+use Rattle.steer_model.specs.Steps.CompoundSteps.{drain_one}
 use Rattle.steer_core.proofs.TurnLemmas.{again-start, again-then}
 use Rattle.steer_core.proofs.actors.Actors.drain.Goals as goal
 

@@ -1,5 +1,5 @@
 use Rattle.std.proofs.Common.{◌≡◌}
-use Rattle.steer_parts.specs.Whole.{Turn, again, drain_one}
+use Rattle.steer_model.specs.Steps.CompoundSteps.{Turn, again, drain_one}
 use Rattle.steer_core.proofs.actors.Actors.drain.Given as goal
 
 abbrev pub invariant-loop : goal.invariant-loop

@@ -1,5 +1,5 @@
 use Rattle.std.proofs.Common.{refl, ◌∙◌}
-use Rattle.steer_parts.specs.Whole.{drain}
+use Rattle.steer_model.specs.Steps.CompoundSteps.{drain}
 use Rattle.steer_core.proofs.TurnLemmas.{each-start, each-then}
 use Rattle.steer_core.proofs.actors.Actors.drain_all.Goals as goal
 

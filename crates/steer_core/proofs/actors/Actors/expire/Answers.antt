@@ -1,5 +1,5 @@
 use Rattle.std.proofs.Common.{refl}
-use Rattle.steer_laws.proofs.HeldCommands.{held_expire}
+use Rattle.steer_invariant.proofs.Invariant.CommandLemmas.{held_expire}
 use Rattle.steer_core.proofs.SeatedLemmas.{seated}
 use Rattle.steer_core.proofs.actors.Actors.expire.Goals as goal
 

@@ -1,4 +1,4 @@
-use Rattle.steer_laws.proofs.RecordedGives.{text-answer}
+use Rattle.steer_invariant.proofs.Recorded.CommandLemmas.{text-answer}
 use Rattle.steer_core.proofs.actors.Actors.give.Goals as goal
 
 pub list-requires-clause-text : goal.list-requires-clause-text

@@ -1,4 +1,4 @@
-use Rattle.steer_laws.proofs.HeldRows.{held_leave}
+use Rattle.steer_invariant.proofs.Invariant.RowLemmas.{held_leave}
 use Rattle.steer_core.proofs.actors.Actors.leave.Goals as goal
 
 pub invariant_of-self : goal.invariant_of-self

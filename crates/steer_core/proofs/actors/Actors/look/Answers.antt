@@ -1,5 +1,5 @@
 use Rattle.std.proofs.Common.{sym, ◌∙◌}
-use Rattle.steer_laws.proofs.HeldRows.{held_look}
+use Rattle.steer_invariant.proofs.Invariant.RowLemmas.{held_look}
 use Rattle.steer_core.proofs.actors.Actors.look.Goals as goal
 
 pub invariant_of-self : goal.invariant_of-self

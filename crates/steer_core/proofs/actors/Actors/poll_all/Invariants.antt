@@ -1,5 +1,5 @@
 use Rattle.std.proofs.Common.{◌≡◌}
-use Rattle.steer_parts.specs.Whole.{Turn, for_each, poll}
+use Rattle.steer_model.specs.Steps.CompoundSteps.{Turn, for_each, poll}
 use Rattle.steer_core.proofs.actors.Actors.poll_all.Given as goal
 
 abbrev pub invariant-loop-q : goal.invariant-loop-q

@@ -1,7 +1,7 @@
 use Rattle.std.proofs.Common.{◌∙◌, ap, sym}
 use Rattle.steer_base.specs.declared.choice.Chosen.{Chosen}
-use Rattle.steer_parts.specs.Pollers.{position_of}
-use Rattle.steer_laws.proofs.HeldRows.{held_asking, held_put}
+use Rattle.steer_model.specs.Steps.Pollers.{position_of}
+use Rattle.steer_invariant.proofs.Invariant.RowLemmas.{held_asking, held_put}
 use Rattle.steer_core.proofs.actors.Actors.put.Goals as goal
 
 pub invariant_of-self : goal.invariant_of-self

@@ -1,6 +1,6 @@
 use Rattle.std.proofs.Common.{ap, ◌∙◌}
 use Rattle.steer_base.specs.declared.step.Step.TheVariants as act
-use Rattle.steer_parts.specs.Whole.{Turn, tried}
+use Rattle.steer_model.specs.Steps.CompoundSteps.{Turn, tried}
 use Rattle.steer_core.proofs.actors.Actors.reply.Goals as goal
 
 pub returns-clause-turn : goal.returns-clause-turn

@@ -1,5 +1,5 @@
 use Rattle.std.proofs.Common.{ap, ◌∙◌}
-use Rattle.steer_parts.specs.Whole.{Turn, reply}
+use Rattle.steer_model.specs.Steps.CompoundSteps.{Turn, reply}
 use Rattle.steer_core.proofs.actors.Actors.serve.Goals as goal
 
 pub returns-clause-turn : goal.returns-clause-turn

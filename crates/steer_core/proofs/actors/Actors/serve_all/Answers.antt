@@ -1,10 +1,10 @@
 use Rattle.std.proofs.Common.{refl, ◌∙◌}
-use Rattle.steer_parts.specs.Whole.{serve}
+use Rattle.steer_model.specs.Steps.CompoundSteps.{serve}
 use Rattle.steer_core.proofs.TurnLemmas.{each-start, each-then}
 use Rattle.std.proofs.Common.{◌≡◌, ◌≤◌, ap, arith, subst, sym}
-use Rattle.steer_laws.specs.Held.{Held}
-use Rattle.steer_parts.specs.Machine.{Machine}
-use Rattle.steer_parts.specs.Whole.{Turn, for_each}
+use Rattle.steer_invariant.specs.Invariant.{Invariant}
+use Rattle.steer_model.specs.State.Machine.{Machine}
+use Rattle.steer_model.specs.Steps.CompoundSteps.{Turn, for_each}
 use Rattle.steer_core.specs.Running.{Running}
 use Rattle.steer_core.proofs.Paced.{spare_at}
 use Rattle.steer_core.proofs.PacedSteps.{serves-paced}
@@ -16,7 +16,7 @@ loop-a-init c = (each-start serve (c.args.self.now.machine, c.args.worked), refl
 pub serve-done-requires-clause-room : goal.serve-done-requires-clause-room
 serve-done-requires-clause-room c =
     let m : Machine = c.args.self.now.machine in
-    let held : Held m = subst (λ (r : Running). Held r.machine) c.self.view_is c.self.invariant.0 in
+    let held : Invariant m = subst (λ (r : Running). Invariant r.machine) c.self.view_is c.self.invariant.0 in
     let apps = c.apps-a-end.ensures.value in
     let below : c.loop-a.a ≤ m.setup.apps =
     (let lt = c.loop-a-test.true in let is = ap (λ (r : Running). r.machine.setup.apps) c.self.view_is in omega arith) in
@@ -38,7 +38,7 @@ loop-a-preserved c =
 pub returns-clause-spare : goal.returns-clause-spare
 returns-clause-spare c =
     let m : Machine = c.args.self.now.machine in
-    let held : Held m = subst (λ (r : Running). Held r.machine) c.self.view_is c.self.invariant.0 in
+    let held : Invariant m = subst (λ (r : Running). Invariant r.machine) c.self.view_is c.self.invariant.0 in
     let apps = c.apps-a-end.ensures.value in
     let below : c.loop-a.a ≤ m.setup.apps =
     (let upto = c.loop-a.auto.a-end in let is = ap (λ (r : Running). r.machine.setup.apps) c.self.view_is in omega arith) in

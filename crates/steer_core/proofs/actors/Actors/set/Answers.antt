@@ -1,4 +1,4 @@
-use Rattle.steer_laws.proofs.HeldCommands.{held_settings}
+use Rattle.steer_invariant.proofs.Invariant.CommandLemmas.{held_settings}
 use Rattle.steer_core.proofs.ChangeLemmas.{sets_alone}
 use Rattle.steer_core.proofs.actors.Actors.set.Goals as goal
 

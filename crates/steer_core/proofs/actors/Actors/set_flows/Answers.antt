@@ -1,7 +1,7 @@
 use Rattle.std.proofs.Common.{◌≤◌, arith}
-use Rattle.steer_laws.proofs.BelowLemmas.{both-below}
-use Rattle.steer_laws.proofs.KeptFlows.{may_flows}
-use Rattle.steer_laws.proofs.HeldCommands.{held_flows}
+use Rattle.steer_invariant.proofs.BelowLemmas.{both-below}
+use Rattle.steer_invariant.proofs.StepInvariant.FlowCountLemmas.{may_flows}
+use Rattle.steer_invariant.proofs.Invariant.CommandLemmas.{held_flows}
 use Rattle.steer_core.proofs.actors.Actors.set_flows.Goals as goal
 
 pub step-requires-2 : goal.step-requires-2

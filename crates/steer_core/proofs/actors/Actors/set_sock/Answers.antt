@@ -1,4 +1,4 @@
-use Rattle.steer_laws.proofs.HeldCommands.{held_sock}
+use Rattle.steer_invariant.proofs.Invariant.CommandLemmas.{held_sock}
 use Rattle.steer_core.proofs.actors.Actors.set_sock.Goals as goal
 
 pub invariant_of-self : goal.invariant_of-self

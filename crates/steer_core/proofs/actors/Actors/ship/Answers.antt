@@ -1,5 +1,5 @@
 use Rattle.std.proofs.Common.{refl, ◌∙◌}
-use Rattle.steer_parts.specs.Whole.{ship_one}
+use Rattle.steer_model.specs.Steps.CompoundSteps.{ship_one}
 use Rattle.steer_core.proofs.TurnLemmas.{again-start, again-then}
 use Rattle.steer_core.proofs.actors.Actors.ship.Goals as goal
 

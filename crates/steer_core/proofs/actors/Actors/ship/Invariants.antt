@@ -1,5 +1,5 @@
 use Rattle.std.proofs.Common.{◌≡◌}
-use Rattle.steer_parts.specs.Whole.{Turn, again, ship_one}
+use Rattle.steer_model.specs.Steps.CompoundSteps.{Turn, again, ship_one}
 use Rattle.steer_core.proofs.actors.Actors.ship.Given as goal
 
 abbrev pub invariant-loop : goal.invariant-loop

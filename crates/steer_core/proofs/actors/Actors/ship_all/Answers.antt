@@ -1,5 +1,5 @@
 use Rattle.std.proofs.Common.{refl, ◌∙◌}
-use Rattle.steer_parts.specs.Whole.{ship}
+use Rattle.steer_model.specs.Steps.CompoundSteps.{ship}
 use Rattle.steer_core.proofs.TurnLemmas.{each-start, each-then}
 use Rattle.steer_core.proofs.actors.Actors.ship_all.Goals as goal
 

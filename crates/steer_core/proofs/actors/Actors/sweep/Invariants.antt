@@ -1,5 +1,5 @@
 use Rattle.std.proofs.Common.{◌≡◌, ◌-◌}
-use Rattle.steer_parts.specs.Whole.{Turn, rounds}
+use Rattle.steer_model.specs.Steps.CompoundSteps.{Turn, rounds}
 use Rattle.steer_core.specs.Rooms.{HasSpare}
 use Rattle.steer_core.proofs.actors.Actors.sweep.Given as goal
 

@@ -1,7 +1,7 @@
 use Rattle.std.proofs.Common.{false, sym, ap, ◌∙◌}
-use Rattle.steer_parts.specs.Notes.{is_asking}
-use Rattle.steer_laws.proofs.HeldRows.{held_take}
-use Rattle.steer_laws.proofs.KeptPollers.{read-note}
+use Rattle.steer_model.specs.State.Notes.{is_asking}
+use Rattle.steer_invariant.proofs.Invariant.RowLemmas.{held_take}
+use Rattle.steer_invariant.proofs.StepInvariant.PollerLemmas.{read-note}
 use Rattle.steer_core.proofs.actors.Actors.take.Goals as goal
 
 pub invariant_of-self : goal.invariant_of-self

@@ -1,4 +1,4 @@
-use Rattle.steer_laws.proofs.HeldRows.{held_tretire}
+use Rattle.steer_invariant.proofs.Invariant.RowLemmas.{held_tretire}
 use Rattle.steer_core.proofs.actors.Actors.tretire.Goals as goal
 
 pub invariant_of-self : goal.invariant_of-self

@@ -2,8 +2,8 @@ use Rattle.std.proofs.Common.{subst, sym}
 use Rattle.hop_core.specs.Events.{MayAsk}
 use Rattle.hop_core.specs.declared.event.HopEvent.{HopEvent}
 use Rattle.steer_core.proofs.ChangeLemmas.{by_tx-is}
-use Rattle.steer_laws.proofs.HeldRows.{held_tweigh}
-use Rattle.steer_laws.proofs.KeptSends.{may_tweigh}
+use Rattle.steer_invariant.proofs.Invariant.RowLemmas.{held_tweigh}
+use Rattle.steer_invariant.proofs.StepInvariant.ReplyLemmas.{may_tweigh}
 use Rattle.steer_core.proofs.actors.Actors.tweigh.Goals as goal
 
 pub step-requires : goal.step-requires

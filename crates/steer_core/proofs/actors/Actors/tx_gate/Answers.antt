@@ -1,5 +1,5 @@
 use Rattle.std.proofs.Common.{◌<◌, ap, ◌∙◌, arith}
-use Rattle.steer_parts.specs.Commands.{affects, gate_answer}
+use Rattle.steer_model.specs.Steps.Commands.{affects, gate_answer}
 use Rattle.hop_core.proofs.Empties.{set_is_asked}
 use Rattle.steer_core.proofs.actors.Actors.tx_gate.Goals as goal
 

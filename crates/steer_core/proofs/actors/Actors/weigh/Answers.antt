@@ -1,8 +1,8 @@
 use Rattle.std.proofs.Common.{subst, sym}
 use Rattle.hop_core.specs.Events.{MayAsk}
 use Rattle.hop_core.specs.declared.event.HopEvent.{HopEvent}
-use Rattle.steer_laws.proofs.HeldRows.{held_weigh}
-use Rattle.steer_laws.proofs.KeptWeighs.{may_weigh}
+use Rattle.steer_invariant.proofs.Invariant.RowLemmas.{held_weigh}
+use Rattle.steer_invariant.proofs.StepInvariant.WeighLemmas.{may_weigh}
 use Rattle.steer_core.proofs.actors.Actors.weigh.Goals as goal
 
 pub step-requires : goal.step-requires

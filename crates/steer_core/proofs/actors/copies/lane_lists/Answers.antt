@@ -2,7 +2,7 @@ use Rattle.std.proofs.Common.{ℕ, ◌++◌, ◌∷◌, [], List, map, ap, sym, 
 use Rattle.std.specs.List.{range_with_len}
 use Rattle.std.proofs.lemmas.List.FromFn.{map-range_with_len_more}
 use Rattle.history.specs.declared.lane_list.LaneList.{LaneList}
-use Rattle.steer_parts.specs.Machine.{lane_list}
+use Rattle.steer_model.specs.State.Machine.{lane_list}
 use Rattle.steer_core.proofs.actors.copies.lane_lists.Goals as goal
 
 pub loop-lane-preserved : goal.loop-lane-preserved

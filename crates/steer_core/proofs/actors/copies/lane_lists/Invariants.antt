@@ -1,6 +1,6 @@
 use Rattle.std.proofs.Common.{◌≡◌, map}
 use Rattle.std.specs.List.{range_with_len}
-use Rattle.steer_parts.specs.Machine.{lane_list}
+use Rattle.steer_model.specs.State.Machine.{lane_list}
 use Rattle.steer_core.proofs.actors.copies.lane_lists.Given as goal
 
 abbrev pub invariant-loop-lane : goal.invariant-loop-lane

@@ -1,5 +1,5 @@
 use Rattle.std.proofs.Common.{ap, ◌∙◌}
-use Rattle.steer_parts.specs.Machine.{Machine}
+use Rattle.steer_model.specs.State.Machine.{Machine}
 use Rattle.steer_core.specs.Runs.{Run}
 use Rattle.steer_core.proofs.CountLemmas.{counted_step, room_for}
 use Rattle.steer_core.proofs.PacedSteps.{step-paced}

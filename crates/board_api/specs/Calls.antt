@@ -1,0 +1,3 @@
+pub mod HeldLanes
+pub mod Rights
+pub mod Answers

@@ -1,0 +1,4 @@
+pub mod Heads
+pub mod Lanes
+pub mod OwnSteps
+pub mod Puts

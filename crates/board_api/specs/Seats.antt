@@ -1,0 +1,31 @@
+-- What contracts see of a seat at a board.
+use Rattle.std.specs.Prelude.{◌≡◌, ℕ, ◌<◌, Bool, List, ◌++◌, slice_index}
+use Rattle.atomic_table.specs.Seated.{TableId}
+use Rattle.linearization.specs.Seats.{SeatView, seat_view}
+use Rattle.hop_rule.specs.Boards.{lane_steps, gate_steps}
+use Rattle.hop_rule.specs.Gates.{openings}
+use Rattle.hop_rule.specs.Lanes.{phase, has_pulled}
+use Rattle.hop_rule.specs.declared.step.BoardStep.{BoardStep}
+
+-- a seat's table, its number there, its own steps, the newest first, and whether it has found lanes
+-- empty since it last closed the gate
+pub record BoardSeatView : Type 0 where
+  pub table : TableId
+  pub number : ℕ
+  pub steps : List BoardStep
+  pub has_emptied : Bool
+
+-- what the order of all steps sees of a seat
+abbrev pub ordered_seat : BoardSeatView → SeatView BoardStep
+ordered_seat s = seat_view s.table s.number s.steps
+
+-- What a seat keeps follows from its steps: of each lane the packet that it has pulled and not
+-- delivered, and how often it has opened the gate.
+pub record KeepsSteps (steps : List BoardStep) (pulled : List ℕ) (opened : ℕ) : Type 0 where
+  pub in_hand : (lane id : ℕ) → lane < 32 → phase lane (lane_steps steps) ≡ has_pulled id
+      → slice_index pulled lane ≡ id
+  pub opens : opened ≡ openings (gate_steps steps)
+
+-- The call added these steps to its seat's own list, and changed nothing else of what is seen.
+abbrev pub Adds : List BoardStep → BoardSeatView → BoardSeatView → Type 0
+Adds added old new = new ≡ record old { steps = added ++ old.steps }

@@ -1,0 +1,4 @@
+pub mod DeliveryLemmas
+pub mod ExampleLemmas
+pub mod RuleLemmas
+pub mod TurnReadLemmas

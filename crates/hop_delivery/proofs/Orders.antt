@@ -1,0 +1,17 @@
+pub mod AccountedLemmas
+pub mod AccountLemmas
+pub mod CommandLemmas
+pub mod EmptyingLemmas
+pub mod FilterLemmas
+pub mod DeliveryLemmas
+pub mod PlaceLemmas
+pub mod ReceiveSettingLemmas
+pub mod TransmitSettingLemmas
+pub mod TurnLemmas
+pub mod WalkLemmas
+pub mod PlayLemmas
+pub mod TransmitMoves
+pub mod ReceiveMoves
+pub mod ExampleLemmas
+pub mod TransmitExample
+pub mod ReceiveExample

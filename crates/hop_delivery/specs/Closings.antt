@@ -1,0 +1,3 @@
+pub mod Examples
+pub mod DeliveryLaw
+pub mod TurnReads

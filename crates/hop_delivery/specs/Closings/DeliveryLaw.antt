@@ -1,0 +1,26 @@
+-- Delivery in order on a board, by the seats' own lists and the lists that the board leaves.
+use Rattle.std.specs.Prelude.{ℕ, List, map}
+use Rattle.steer_base.specs.Orders.{InOrder}
+use Rattle.history.specs.Lists.{lane_at, list_at}
+use Rattle.history.specs.declared.lane_list.LaneList.{LaneList}
+use Rattle.hop_rule.specs.declared.sizes.BoardSizes.{BoardSizes}
+use Rattle.hop_rule.specs.declared.step.BoardStep.{BoardStep}
+use Rattle.board_api.specs.declared.lists.BoardLists.{BoardLists}
+use Rattle.hop_delivery.specs.Orders.DeliveryLaw.{came_by}
+use Rattle.hop_delivery.specs.Orders.Premises.{MeetsPremises}
+use Rattle.hop_delivery.specs.Orders.Runs.{Story, Steering, IsSteering}
+
+-- what is left of each middle lane as accepted
+abbrev pub accepted_left : BoardLists → ℕ → List ℕ
+accepted_left lists l = (lane_at lists.lanes l).accepted
+
+-- Where the six premises hold of the seats' own lists and of what the lanes accepted, then of each
+-- producer and flow what lies in the flow's out lane is a prefix of what arrived, without what was
+-- dropped.
+abbrev pub FlowsAreInOrder : BoardSizes → (ℕ → List BoardStep) → BoardLists → Type 0
+FlowsAreInOrder about own lists =
+    (t : Story) (r : Steering) → IsSteering about.lanes r
+    → MeetsPremises about own (accepted_left lists) t r
+    → (p f : ℕ)
+    → InOrder (came_by t r p f) (t.arrivals p)
+    (map (λ (lane : LaneList). lane.drops) lists.lanes) (list_at lists.outs (r.to f))

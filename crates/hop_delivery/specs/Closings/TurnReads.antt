@@ -1,0 +1,80 @@
+-- What a turn reads of the settings, and choices by what was read.
+use Rattle.std.specs.Prelude.{◌≡◌, ℕ, ◌%◌, ◌/◌, ◌^◌, ◌<◌, ◌≤◌, true, List, Option, Some, take, drop}
+use Rattle.std.specs.List.{Contains}
+use Rattle.steer_base.specs.Choices.{migrate}
+use Rattle.steer_base.specs.Entries.{entry, of_class, current_lane}
+use Rattle.steer_base.specs.declared.choice.Chosen.{Chosen}
+use Rattle.dev_flow_table.specs.Walks.{since_of}
+use Rattle.hop_rule.specs.Moments.{nth_step}
+use Rattle.hop_rule.specs.declared.sizes.BoardSizes.{BoardSizes}
+use Rattle.hop_rule.specs.declared.step.BoardStep.{BoardStep}
+use Rattle.hop_rule.specs.declared.step.BoardStep.TheVariants.{Gate, Weighed}
+use Rattle.hop_rule.specs.declared.step.GateStep.TheVariants.{Read}
+use Rattle.board_api.specs.declared.lists.BoardLists.{BoardLists}
+use Rattle.hop_delivery.specs.Orders.ReceiveSettings.{Queues, queues, receive_steering}
+use Rattle.hop_delivery.specs.Orders.ReceiveSettings.{flows_word, mask_word, online_word}
+use Rattle.hop_delivery.specs.Orders.Runs.{Story, Steering, IsByRule, goal_of, settings_of_visit, turns_of}
+use Rattle.hop_delivery.specs.Orders.Turns.{Turn, Explained}
+use Rattle.hop_delivery.specs.Closings.DeliveryLaw.{accepted_left}
+
+-- the turn read this value of a setting word, between its entry and its put
+abbrev pub HasRead : Turn → ℕ → ℕ → Type 0
+HasRead u word value = Contains u.early (Gate (Read word value))
+
+module _ (about : BoardSizes) (own : ℕ → List BoardStep) (lists : BoardLists) where
+  -- What a turn reads is what the settings of its visit are.
+  abbrev pub TurnsReadSettings : Type 0
+  TurnsReadSettings =
+      (t : Story) (p i word value : ℕ) (u : Turn)
+      → Explained (own (t.seat p)) (t.turns (t.seat p)) → nth_step (turns_of t p) i ≡ Some u
+      → HasRead u word value → value ≡ settings_of_visit about own u.word word
+
+-- ---- receive boards
+
+-- A turn of queue p read its mask, its flow count and the online mask, and these are as in s.
+pub record HasSeen (q : Queues) (p : ℕ) (u : Turn) (s : ℕ → ℕ) : Type 0 where
+  pub mask : HasRead u (mask_word q p) (s (mask_word q p))
+  pub flows : HasRead u (flows_word q p) (s (flows_word q p))
+  pub online : HasRead u (online_word q) (s (online_word q))
+
+module _ (about : BoardSizes) (accepted : ℕ → List ℕ) (t : Story) (r : Steering)
+    (seen : ℕ → ℕ → ℕ) where
+  abbrev pub shape_seen : ℕ → ℕ → ℕ
+  shape_seen p i = r.shape (seen i) p
+
+  abbrev pub class_seen : ℕ → ℕ → Turn → Option ℕ
+  class_seen p i u = r.class (shape_seen p i) (r.flow u.chosen.id)
+
+  -- the choices of the producer before the i-th, since the last that saw another shape than the one
+  -- before it
+  abbrev pub before_seen : ℕ → ℕ → List Chosen
+  before_seen p i = drop (since_of (shape_seen p) i) (take i (t.choices p))
+
+  abbrev pub goal_seen : ℕ → ℕ → Turn → ℕ
+  goal_seen p i u =
+      goal_of r (seen i) p (r.flow u.chosen.id) (class_seen p i u) u.chosen.choice.want
+
+  -- The choice of the i-th turn of a producer is by the migration rule with the settings that the
+  -- producer's turns have seen, the i-th of them `seen i`.
+  pub record IsBySeen (p i : ℕ) (u : Turn) : Type 0 where
+    pub head : ℕ
+    pub rule : u.chosen.choice
+        ≡ migrate (class_seen p i u) u.chosen.choice.want (goal_seen p i u)
+        (entry about.start accepted (before_seen p i)) (λ _. head) (r.online (seen i))
+    pub loaded : (k l : ℕ) → class_seen p i u ≡ Some k
+        → current_lane (of_class k (before_seen p i)) ≡ Some l
+        → u.chosen.choice.head ≡ Some head
+        → (w : ℕ) × Contains u.early (Weighed l w) × (w % 2 ^ 32 ≡ head)
+    pub goal_online : r.online (seen i) (goal_seen p i u) ≡ true
+
+module _ (about : BoardSizes) (own : ℕ → List BoardStep) (lists : BoardLists) where
+  -- Where the turns of a queue up to the i-th have seen settings, a choice by these is by the rule
+  -- that the premises of delivery in order ask for.
+  abbrev pub RulesAreByReads : Type 0
+  RulesAreByReads =
+      (q : Queues) (t : Story) (seen : ℕ → ℕ → ℕ) (p i : ℕ) (u : Turn) → p < queues q
+      → Explained (own (t.seat p)) (t.turns (t.seat p)) → nth_step (turns_of t p) i ≡ Some u
+      → ((j : ℕ) (v : Turn) → j ≤ i → nth_step (turns_of t p) j ≡ Some v
+      → HasSeen q p v (seen j))
+      → IsBySeen about (accepted_left lists) t (receive_steering q) seen p i u
+      → IsByRule about own (accepted_left lists) t (receive_steering q) p i u

@@ -1,0 +1,9 @@
+pub mod Commands
+pub mod Examples
+pub mod DeliveryLaw
+pub mod Plays
+pub mod Premises
+pub mod ReceiveSettings
+pub mod Runs
+pub mod TransmitSettings
+pub mod Turns

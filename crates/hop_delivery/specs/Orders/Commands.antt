@@ -1,0 +1,68 @@
+-- The settings that a command makes on a board, and the lanes that have to be empty for them.
+use Rattle.std.specs.Prelude.{◌≡◌, ℕ, ◌+◌, ◌*◌, ◌/◌, ◌^◌, ◌<◌, true, List, [], ◌∷◌, All}
+use Rattle.steer_base.specs.Commands.{is_affected}
+use Rattle.steer_base.specs.Counters.{rounded_up}
+use Rattle.steer_base.specs.Sets.{with_cpu, without_cpu}
+use Rattle.steer_base.specs.declared.command.Command.{Command}
+use Rattle.steer_base.specs.declared.command.Command.TheVariants.{Mask, Flows, Sock, Offline}
+use Rattle.steer_base.specs.declared.command.Command.TheVariants.{Online, XCpus, XQueues, Reta}
+use Rattle.steer_base.specs.declared.command.Command.TheVariants.{Stand, Expire}
+use Rattle.hop_delivery.specs.Orders.ReceiveSettings.{Queues, flows_word, mask_word, online}
+use Rattle.hop_delivery.specs.Orders.ReceiveSettings.{online_word, receive_steering, socket_word}
+use Rattle.hop_delivery.specs.Orders.Runs.{Steering}
+use Rattle.hop_delivery.specs.Orders.TransmitSettings.{transmit_steering}
+
+-- a setting that is made: its word and its new value
+pub record Made : Type 0 where
+  pub word : ℕ
+  pub value : ℕ
+
+abbrev pub made : ℕ → ℕ → Made
+made word value = record { word = word; value = value }
+
+-- a rounded flow count with the next generation
+abbrev pub next_flows : ℕ → ℕ → ℕ
+next_flows old count = rounded_up count + 2 ^ 32 * (old / 2 ^ 32 + 1)
+
+-- What a done command sets on the receive board.
+abbrev pub received_sets : Queues → (ℕ → ℕ) → Command → List Made
+received_sets q s (Mask queue cpus) = made (mask_word q queue) cpus.0 ∷ []
+received_sets q s (Flows queue count) =
+    made (flows_word q queue) (next_flows (s (flows_word q queue)) count) ∷ []
+received_sets q s (Sock size) = made (socket_word q) (rounded_up size) ∷ []
+received_sets q s (Offline cpu) = made (online_word q) (without_cpu (online q s) cpu).0 ∷ []
+received_sets q s (Online cpu) = made (online_word q) (with_cpu (online q s) cpu).0 ∷ []
+received_sets q s (XCpus tx cpus) = []
+received_sets q s (XQueues tx queues) = []
+received_sets q s (Reta place queue) = []
+received_sets q s (Stand app cpu) = []
+received_sets q s Expire = []
+
+-- What a done command sets on the transmit board with so many queues.
+abbrev pub sent_sets : ℕ → Command → List Made
+sent_sets count (XCpus tx cpus) = made tx cpus.0 ∷ []
+sent_sets count (XQueues tx queues) = made (count + tx) queues ∷ []
+sent_sets count _ = []
+
+-- the processor that a command names is one
+abbrev pub NamesCpu : Command → Type 0
+NamesCpu (Offline cpu) = cpu < 32
+NamesCpu (Online cpu) = cpu < 32
+NamesCpu _ = Unit {0}
+
+-- Of each setting that a command makes, the lanes that have to be empty are among those that the
+-- command affects.
+abbrev pub AreAffected : Steering → (ℕ → ℕ) → Command → List ℕ → ℕ → ℕ → ℕ → List Made → Type 0
+AreAffected r s c homes cpus txs l sets =
+    All (λ m. r.affects s m.word m.value l ≡ true → is_affected c homes cpus txs l ≡ true) sets
+
+abbrev pub ReceivedCommandsEmpty : Type 0
+ReceivedCommandsEmpty =
+    (q : Queues) (s : ℕ → ℕ) (c : Command) (cpus txs l : ℕ) → NamesCpu c → l < cpus
+    → AreAffected (receive_steering q) s c q.homes cpus txs l
+    (received_sets q s c)
+
+abbrev pub SentCommandsEmpty : Type 0
+SentCommandsEmpty =
+    (flow : ℕ → ℕ) (s : ℕ → ℕ) (c : Command) (homes : List ℕ) (count cpus l : ℕ)
+    → AreAffected (transmit_steering flow) s c homes cpus count l (sent_sets count c)

@@ -1,0 +1,27 @@
+-- The law of a board: delivery in order.
+use Rattle.std.specs.Prelude.{ℕ, Bool, ◌&&◌, ◌==◌, List}
+use Rattle.std.specs.List.{list_any}
+use Rattle.steer_base.specs.Orders.{InOrder}
+use Rattle.linearization.specs.Orders.{StepBy}
+use Rattle.hop_rule.specs.Boards.{IsLawful, accepted, drops, out}
+use Rattle.hop_rule.specs.Owns.{own_of}
+use Rattle.hop_rule.specs.Sizes.{FitSizes}
+use Rattle.hop_rule.specs.declared.sizes.BoardSizes.{BoardSizes}
+use Rattle.hop_rule.specs.declared.step.BoardStep.{BoardStep}
+use Rattle.hop_delivery.specs.Orders.Premises.{MeetsPremises}
+use Rattle.hop_delivery.specs.Orders.Runs.{Story, Steering, IsSteering}
+
+-- the packets of the flow f that arrived at the producer p
+abbrev pub came_by : Story → Steering → ℕ → ℕ → ℕ → Bool
+came_by t r p f x = list_any (λ y. y == x) (t.arrivals p) && (r.flow x == f)
+
+-- Where the premises hold of the own lists that a lawful order has as its parts, then of each
+-- producer and flow what the order delivered to the flow's out lane is a prefix of what arrived,
+-- without what the order dropped.
+abbrev pub DeliversInOrder : Type 0
+DeliversInOrder =
+    (about : BoardSizes) (order : List (StepBy BoardStep)) (t : Story) (r : Steering)
+    → FitSizes about → IsLawful about order → IsSteering about.lanes r
+    → MeetsPremises about (own_of order) (accepted about order) t r
+    → (p f : ℕ)
+    → InOrder (came_by t r p f) (t.arrivals p) (drops about order) (out about order (r.to f))

@@ -1,0 +1,47 @@
+-- A seat's own list, explained by turns: all its puts, each in a visit of its own. Lists have the
+-- newest first.
+use Rattle.std.specs.Prelude.{◌≡◌, ℕ, List, [], ◌∷◌, ◌++◌, Option}
+use Rattle.steer_base.specs.declared.choice.Chosen.{Chosen}
+use Rattle.steer_base.specs.declared.put.Put.{Put}
+use Rattle.linearization.specs.Orders.{StepBy}
+use Rattle.hop_rule.specs.declared.step.BoardStep.{BoardStep}
+use Rattle.hop_rule.specs.declared.step.BoardStep.TheVariants.{Lane, Gate}
+use Rattle.hop_rule.specs.declared.step.LaneStep.TheVariants.{Freed}
+use Rattle.hop_rule.specs.declared.step.GateStep.TheVariants.{Entered, Left}
+use Rattle.hop_rule.specs.declared.step.Change.TheVariants.{Offered}
+use Rattle.hop_rule.specs.Owns.{puts_of, visits_of}
+
+-- One packet that was chosen for and put: the packet with its choice, the word that the entry
+-- of its
+-- visit found, what the seat did between that entry and the put, the packet's hash, and the answer
+-- of the put.
+pub record Turn : Type 0 where
+  pub chosen : Chosen
+  pub word : ℕ
+  pub early : List BoardStep
+  pub hash : Option ℕ
+  pub answer : Put
+
+-- the put of a turn
+abbrev pub put_step : Turn → BoardStep
+put_step t = Lane (Freed t.chosen.choice.lane (Offered t.chosen.id t.hash t.answer))
+
+-- neither puts nor steps at the gate, but looks at settings
+pub record AreQuiet (ds : List BoardStep) : Type 0 where
+  pub puts : puts_of ds ≡ []
+  pub visits : visits_of ds ≡ []
+
+-- A visit with its put: the entry, what the turn did early, the put, what came late, and the leave.
+abbrev pub visit_with : Turn → List BoardStep → List BoardStep → List BoardStep
+visit_with t late older = Gate Left ∷
+    (late ++ (put_step t ∷ (t.early ++ (Gate (Entered t.word) ∷ older))))
+
+-- A seat's own list has the turns' visits in their order, and no put besides. Each turn is with the
+-- number of its producer. (That a visit has one entry, one leave and one put would not say that the
+-- put stands between the two.)
+abbrev pub Explained : List BoardStep → List (StepBy Turn) → Type 0
+Explained ds [] = puts_of ds ≡ []
+Explained ds (t ∷ ts) =
+    (newer : List BoardStep) × (late : List BoardStep) × (older : List BoardStep)
+    × (ds ≡ newer ++ visit_with t.step late older) × (puts_of newer ≡ []) × AreQuiet late
+    × AreQuiet t.step.early × Explained older ts

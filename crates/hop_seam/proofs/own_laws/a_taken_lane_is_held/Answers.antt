@@ -1,5 +1,0 @@
-use Rattle.hop_seam.proofs.AddedSteps.{taken_lanes_are_held}
-use Rattle.hop_seam.proofs.own_laws.a_taken_lane_is_held.Goals as goal
-
-pub returns : goal.returns
-returns c = taken_lanes_are_held

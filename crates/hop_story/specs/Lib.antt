@@ -1,9 +1,0 @@
-pub mod Commands
-pub mod Examples
-pub mod Laws
-pub mod Plays
-pub mod Premises
-pub mod Receives
-pub mod Stories
-pub mod Transmits
-pub mod Turns

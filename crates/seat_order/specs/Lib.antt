@@ -1,6 +1,0 @@
-pub mod Closings
-pub mod Hands
-pub mod Moments
-pub mod Orders
-pub mod Rules
-pub mod Seats

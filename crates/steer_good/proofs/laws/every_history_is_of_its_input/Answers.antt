@@ -1,5 +1,0 @@
-use Rattle.steer_good.proofs.Explained.{histories_always_of_input}
-use Rattle.steer_good.proofs.laws.every_history_is_of_its_input.Goals as goal
-
-pub returns : goal.returns
-returns c = histories_always_of_input

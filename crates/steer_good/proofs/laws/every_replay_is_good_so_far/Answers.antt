@@ -1,5 +1,0 @@
-use Rattle.steer_good.proofs.Explained.{always_good_so_far}
-use Rattle.steer_good.proofs.laws.every_replay_is_good_so_far.Goals as goal
-
-pub returns : goal.returns
-returns c = always_good_so_far

@@ -1,5 +1,0 @@
-use Rattle.steer_good.proofs.Explained.{writes_always_made}
-use Rattle.steer_good.proofs.laws.every_write_is_of_a_packet.Goals as goal
-
-pub returns : goal.returns
-returns c = writes_always_made

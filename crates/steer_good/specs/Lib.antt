@@ -1,9 +1,0 @@
-pub mod Always
-pub mod Sizes
-pub mod Ruled
-pub mod Moves
-pub mod Clear
-pub mod Made
-pub mod GoodSoFar
-pub mod GoodAtRest
-pub mod GivenOnce

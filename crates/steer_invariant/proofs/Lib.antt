@@ -1,0 +1,12 @@
+pub mod BelowLemmas
+pub mod EitherLemmas
+pub mod PrefixLemmas
+pub mod StepInvariant
+pub mod TurnLiftLemmas
+pub mod NamedLiftLemmas
+pub mod ListedLemmas
+pub mod LaneLemmas
+pub mod RegularLemmas
+pub mod Recorded
+pub mod Ranges
+pub mod Invariant

@@ -1,0 +1,4 @@
+pub mod RowLemmas
+pub mod ArrivalLemmas
+pub mod CommandLemmas
+pub mod StepLemmas

@@ -1,0 +1,14 @@
+pub mod FrameLemmas
+pub mod GateLemmas
+pub mod RouteLemmas
+pub mod PollerLemmas
+pub mod WeighLemmas
+pub mod PutLemmas
+pub mod ArrivalLemmas
+pub mod RecordLemmas
+pub mod ReplyLemmas
+pub mod CommandLemmas
+pub mod FlowCountLemmas
+pub mod HotplugLemmas
+pub mod SingleStepLemmas
+pub mod StepLemmas

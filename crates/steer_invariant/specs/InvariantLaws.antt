@@ -1,0 +1,99 @@
+-- Laws of the machine and of the histories that it makes.
+use Rattle.std.specs.Prelude.{ℕ, ◌^◌, ◌<◌, ◌≤◌, ◌≡◌, true, List, Option, length}
+use Rattle.std.specs.List.{AllPass}
+use Rattle.steer_base.specs.declared.command.Command.{Command}
+use Rattle.steer_base.specs.declared.packet.Packet.{Packet}
+use Rattle.steer_base.specs.declared.step.Step.{Step}
+use Rattle.history.specs.Places.{AreInOnePlace, InboxesAreDelivered, IsInReach}
+use Rattle.history.specs.Regular.{AreQueued, Regular}
+use Rattle.history.specs.declared.history.History.{History}
+use Rattle.plan_reader.specs.Plans.{sizes_of}
+use Rattle.plan_reader.specs.Ranges.{step_is_within}
+use Rattle.plan_reader.specs.declared.plan.Plan.{Plan}
+use Rattle.steer_model.specs.Steps.Commands.{answer_to, is_done, listed, set_by}
+use Rattle.steer_model.specs.State.Ranges.{AreOfFlows}
+use Rattle.steer_model.specs.State.Machine.{Machine, history_of}
+use Rattle.steer_model.specs.State.Start.{new_machine, replayed}
+use Rattle.steer_model.specs.Steps.CompoundSteps.{after, step}
+use Rattle.steer_invariant.specs.EventPremises.{AreSeated, AsksRx, AsksTx}
+use Rattle.steer_invariant.specs.Invariant.{Invariant}
+use Rattle.steer_invariant.specs.StepInvariant.{AreNamed, IsCommandNamed, IsNamed}
+
+-- A history of which lines and a report can be made, with no test in the way: it is regular for
+-- these packets and applications, its arrivals are at the queues that their kept values lead to,
+-- each packet is in one place, and the numbers of packets, arrivals and applications are in range.
+pub record IsReportable (packets : List Packet) (apps : ℕ) (h : History) : Type 0 where
+  pub regular : Regular packets apps h
+  pub queued : AreQueued packets h
+  pub delivered : InboxesAreDelivered h
+  pub places : AreInOnePlace h
+  pub in_reach : (x : ℕ) → IsInReach h x
+  pub some_app : 1 ≤ apps
+  pub few_apps : apps ≤ 32
+  pub few_packets : length packets ≤ 262144
+  pub few_arrivals : length h.arrivals ≤ 262144
+
+-- In every state of the machine its history is such a one.
+abbrev pub InvariantIsReportable : Type 0
+InvariantIsReportable =
+    (m : Machine) → Invariant m → IsReportable m.setup.packets m.setup.apps (history_of m)
+
+-- It may ask its hops for the events of its steps.
+abbrev pub RxPremisesHold : Type 0
+RxPremisesHold = (m : Machine) → Invariant m → AsksRx m
+
+abbrev pub TxPremisesHold : Type 0
+TxPremisesHold = (m : Machine) → Invariant m → AsksTx m
+
+-- What an expiry reads of its filters is there.
+abbrev pub FiltersAreSeated : Type 0
+FiltersAreSeated = (m : Machine) → Invariant m → AreSeated m
+
+-- ---- every state
+
+-- What a plan and the packets of a capture have to be for a machine of them, beside what the plan
+-- says of itself: its counters start within 32 bits, and there are at most 262,144 packets, each of
+-- a flow with a number below theirs and with one hash.
+pub record MayStart (plan : Plan) (packets : List Packet) : Type 0 where
+  pub start : plan.start < 2 ^ 32
+  pub few : length packets ≤ 262144
+  pub flows : AreOfFlows packets
+
+-- A machine that a plan starts is held.
+abbrev pub StartHasInvariant : Type 0
+StartHasInvariant =
+    (plan : Plan) (packets : List Packet) (cut : Option ℕ) → MayStart plan packets
+    → Invariant (new_machine plan packets cut)
+
+-- Each step that names what there is keeps the machine held, and so do such steps in a row.
+abbrev pub StepsKeepInvariant : Type 0
+StepsKeepInvariant = (m : Machine) (s : Step) → IsNamed m.setup s → Invariant m → Invariant (step m s).0
+
+abbrev pub RunsKeepInvariant : Type 0
+RunsKeepInvariant =
+    (m : Machine) (ss : List Step) → AreNamed m.setup ss → Invariant m → Invariant (after ss m)
+
+-- A command that is done keeps the machine held before it is listed, and so does its listing with
+-- its answer.
+abbrev pub CommandsKeepInvariant : Type 0
+CommandsKeepInvariant =
+    (m : Machine) (c : Command) → IsCommandNamed m.setup c → is_done (answer_to m c) ≡ true
+    → Invariant m → Invariant (set_by m c)
+
+abbrev pub ListingKeepsInvariant : Type 0
+ListingKeepsInvariant = (m n : Machine) (c : Command) → Invariant n → Invariant (listed n c (answer_to m c))
+
+-- ---- every history
+
+-- The history of all steps that the plan has, and of every list of steps that name what it has, can
+-- be reported.
+abbrev pub RunsAreReportable : Type 0
+RunsAreReportable =
+    (plan : Plan) (packets : List Packet) (cut : Option ℕ) (ss : List Step) → MayStart plan packets
+    → AllPass (step_is_within (sizes_of plan)) ss
+    → IsReportable packets (length plan.apps) (history_of (after ss (new_machine plan packets cut)))
+
+abbrev pub ReplaysAreReportable : Type 0
+ReplaysAreReportable =
+    (plan : Plan) (packets : List Packet) (cut : Option ℕ) → MayStart plan packets
+    → IsReportable packets (length plan.apps) (replayed plan packets cut)

@@ -1,0 +1,9 @@
+pub mod HopInvariants
+pub mod ListInvariants
+pub mod StepInvariant
+pub mod StepInvariantLaws
+pub mod RecordedLists
+pub mod Ranges
+pub mod Invariant
+pub mod EventPremises
+pub mod InvariantLaws

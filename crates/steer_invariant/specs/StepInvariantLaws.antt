@@ -1,0 +1,32 @@
+-- Laws of what the machine keeps.
+use Rattle.std.specs.Prelude.{ℕ, ◌≡◌, false, List, []}
+use Rattle.steer_base.specs.declared.step.Step.{Step}
+use Rattle.hop_core.specs.Hop.{drops_at}
+use Rattle.steer_model.specs.State.Machine.{Machine}
+use Rattle.steer_model.specs.Steps.SingleSteps.{simple}
+use Rattle.steer_model.specs.Steps.CompoundSteps.{after, step}
+use Rattle.steer_invariant.specs.StepInvariant.{AreNamed, IsNamed, StepInvariant}
+
+-- Both gates are open, and no reply was dropped.
+pub record IsOpen (m : Machine) : Type 0 where
+  pub rx : m.rx.bare.closed ≡ false
+  pub tx : m.tx.bare.closed ≡ false
+  pub no_drops : (t : ℕ) → drops_at m.tx.bare t ≡ []
+
+abbrev pub GatesAreOpen : Type 0
+GatesAreOpen = (m : Machine) → StepInvariant m → IsOpen m
+
+-- Every step that names what there is keeps the invariant, and what the plan and the capture fix:
+-- a step of one event or a command, any step, and steps in a row.
+abbrev pub EventsKeepStepInvariant : Type 0
+EventsKeepStepInvariant = (m : Machine) (s : Step) → IsNamed m.setup s → StepInvariant m → StepInvariant (simple m s).0
+
+abbrev pub StepKeepsStepInvariant : Type 0
+StepKeepsStepInvariant = (m : Machine) (s : Step) → IsNamed m.setup s → StepInvariant m → StepInvariant (step m s).0
+
+abbrev pub StepsKeepStepInvariant : Type 0
+StepsKeepStepInvariant = (m : Machine) (ss : List Step) → AreNamed m.setup ss → StepInvariant m → StepInvariant (after ss m)
+
+abbrev pub StepsKeepSetup : Type 0
+StepsKeepSetup =
+    (m : Machine) (ss : List Step) → AreNamed m.setup ss → StepInvariant m → (after ss m).setup ≡ m.setup

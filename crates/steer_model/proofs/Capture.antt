@@ -1,0 +1,5 @@
+pub mod FlowOrder
+pub mod HashLemmas
+pub mod FlowNumberLemmas
+pub mod PacketLemmas
+pub mod PlanLemmas

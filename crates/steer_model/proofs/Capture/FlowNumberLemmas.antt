@@ -1,0 +1,293 @@
+-- The map from flows to their numbers, and the packets that were numbered by it.
+use Rattle.std.proofs.Common.{ℕ, ◌+◌, ◌<◌, ◌≤◌, ◌≡◌, true, cond, List, [], ◌∷◌, ◌++◌, Some, None}
+use Rattle.std.proofs.Common.{◌⊎◌, length, ap, ◌∙◌, sym, subst, arith, inl, inr, length-append}
+use Rattle.std.specs.BTreeMap.{BTreeMap, btree_map_len, get, is_at}
+use Rattle.std.specs.Map.{lookup}
+use Rattle.std.specs.Ordering.{is_eq}
+use Rattle.std.specs.declared.cmp.Ordering.{Ordering}
+use Rattle.std.proofs.lemmas.Bool.{cases_Bool, cases_lt}
+use Rattle.std.proofs.lemmas.Option.{none-some}
+use Rattle.std.proofs.lemmas.List.{get_or_append_left, get_or-append-add}
+use Rattle.history.specs.Lists.{no_packet, packet_at}
+use Rattle.steer_base.specs.declared.flow.Flow.{Flow}
+use Rattle.steer_base.specs.declared.packet.Packet.{Packet}
+use Rattle.steer_model.specs.Capture.FlowNumbers.{IsFresh, IsNumberOf}
+use Rattle.steer_model.specs.Capture.Packets.{AreNumbered}
+
+-- The map has the number of each packet's flow, and every number below its length is one of these.
+pub record HasNumbers (cmp : Flow → Flow → Ordering) (numbers : BTreeMap Flow ℕ) (packets : List Packet)
+    : Type 0 where
+  pub has : (y : ℕ) → y < length packets
+      → get cmp numbers (packet_at packets y).flow ≡ Some (packet_at packets y).flow_number
+  pub from : (flow : Flow) (n : ℕ) → get cmp numbers flow ≡ Some n
+      → (y : ℕ) × (y < length packets) × ((packet_at packets y).flow ≡ flow)
+  pub below : (y : ℕ) → y < length packets → (packet_at packets y).flow_number < btree_map_len numbers
+  pub every : (n : ℕ) → n < btree_map_len numbers
+      → (y : ℕ) × (y < length packets) × ((packet_at packets y).flow_number ≡ n)
+  pub few : btree_map_len numbers ≤ length packets
+  pub numbered : AreNumbered packets
+
+-- what an order of flows has to be: equal only at the same flow
+pub record IsExact (cmp : Flow → Flow → Ordering) : Type 0 where
+  pub exact : (f g : Flow) → is_eq (cmp f g) ≡ true → f ≡ g
+  pub own : (f : Flow) → is_eq (cmp f f) ≡ true
+
+-- a list with a packet more
+pub record IsLonger (packets : List Packet) (x : Packet) (more : List Packet) : Type 0 where
+  pub many : length more ≡ length packets + 1
+  pub old : (y : ℕ) → y < length packets → packet_at more y ≡ packet_at packets y
+  pub last : packet_at more (length packets) ≡ x
+
+pub longer : (packets : List Packet) (x : Packet) → IsLonger packets x (packets ++ x ∷ [])
+longer packets x =
+    record {
+      many = length-append packets (x ∷ []);
+      old = λ y lt. get_or_append_left packets (x ∷ []) no_packet y lt;
+      last = (
+          let at : length packets + 0 ≡ length packets = omega arith in
+          ap (λ n. packet_at (packets ++ x ∷ []) n) (sym at) ∙ get_or-append-add packets (x ∷ []) 0 no_packet);
+    }
+
+-- a place of the longer list is one of the other, or the last one
+place-of : {packets more : List Packet} {x : Packet} → IsLonger packets x more → (y : ℕ) → y < length more
+    → (y < length packets) ⊎ (y ≡ length packets)
+place-of {packets} {more} {x} l y lt =
+    elim (cases_lt y (length packets)) [ inl below ↦ inl below | inr over ↦ inr (omega (arith, l.many)) ]
+
+-- one number for each flow, by the map
+same-by : (cmp : Flow → Flow → Ordering) (numbers : BTreeMap Flow ℕ) (packets : List Packet)
+    → ((y : ℕ) → y < length packets
+    → get cmp numbers (packet_at packets y).flow ≡ Some (packet_at packets y).flow_number)
+    → (x y : ℕ) → x < length packets → y < length packets
+    → (packet_at packets x).flow ≡ (packet_at packets y).flow
+    → (packet_at packets x).flow_number ≡ (packet_at packets y).flow_number
+same-by cmp numbers packets has x y lt within flow =
+    let a = has x lt in
+    let b = has y within in
+    let c : get cmp numbers (packet_at packets x).flow ≡ get cmp numbers (packet_at packets y).flow =
+    ap (λ f. get cmp numbers f) flow in
+    cc
+
+-- the numbering with a packet more, whose number is that of its flow or the next one
+numbered-more : (packets : List Packet) (x : Packet) (more : List Packet) → IsLonger packets x more
+    → AreNumbered packets
+    → ((a b : ℕ) → a < length more → b < length more
+    → (packet_at more a).flow ≡ (packet_at more b).flow
+    → (packet_at more a).flow_number ≡ (packet_at more b).flow_number)
+    → ((a : ℕ) → a < length packets → (packet_at packets a).flow_number ≡ x.flow_number
+    → (packet_at packets a).flow ≡ x.flow)
+    → ((n : ℕ) → n < x.flow_number
+    → (y : ℕ) × (y < length packets) × ((packet_at packets y).flow_number ≡ n))
+    → AreNumbered more
+numbered-more packets x more l numbered same apart_last first_last =
+    record { same = same; apart = apart; first = first }
+  where
+    flow-old : (y : ℕ) → y < length packets → (packet_at more y).flow ≡ (packet_at packets y).flow
+    flow-old y lt = ap (λ (p : Packet). p.flow) (l.old y lt)
+
+    number-old : (y : ℕ) → y < length packets
+        → (packet_at more y).flow_number ≡ (packet_at packets y).flow_number
+    number-old y lt = ap (λ (p : Packet). p.flow_number) (l.old y lt)
+
+    is-last : (y : ℕ) → y ≡ length packets → packet_at more y ≡ x
+    is-last y e = ap (λ n. packet_at more n) e ∙ l.last
+
+    apart : (a b : ℕ) → a < length more → b < length more
+        → (packet_at more a).flow_number ≡ (packet_at more b).flow_number
+        → (packet_at more a).flow ≡ (packet_at more b).flow
+    apart a b la lb e =
+        elim (place-of l a la) [
+          | inl oa ↦ elim (place-of l b lb) [
+            | inl ob ↦
+                flow-old a oa
+                ∙ numbered.apart a b oa ob (sym (number-old a oa) ∙ e ∙ number-old b ob)
+                ∙ sym (flow-old b ob)
+            | inr eb ↦
+                let here = is-last b eb in
+                flow-old a oa
+                ∙ apart_last a oa (sym (number-old a oa) ∙ e ∙ ap (λ (p : Packet). p.flow_number) here)
+                ∙ sym (ap (λ (p : Packet). p.flow) here)
+          ]
+          | inr ea ↦ elim (place-of l b lb) [
+            | inl ob ↦
+                let here = is-last a ea in
+                ap (λ (p : Packet). p.flow) here
+                ∙ sym (apart_last b ob (sym (number-old b ob) ∙ sym e ∙ ap (λ (p : Packet). p.flow_number) here))
+                ∙ sym (flow-old b ob)
+            | inr eb ↦ ap (λ (p : Packet). p.flow) (is-last a ea ∙ sym (is-last b eb))
+          ]
+        ]
+
+    first : (a n : ℕ) → a < length more → n < (packet_at more a).flow_number
+        → (y : ℕ) × (y < a) × ((packet_at more y).flow_number ≡ n)
+    first a n la lt =
+        elim (place-of l a la) [
+          | inl oa ↦
+              let before = numbered.first a n oa (subst (λ k. n < k) (number-old a oa) lt) in
+              (before.0, before.1, number-old before.0 (omega (arith, before.1)) ∙ before.2)
+          | inr ea ↦
+              let at : (packet_at more a).flow_number ≡ x.flow_number =
+              ap (λ (p : Packet). p.flow_number) (is-last a ea) in
+              let before = first_last n (subst (λ k. n < k) at lt) in
+              (before.0, omega (arith, before.1, ea), number-old before.0 before.1 ∙ before.2)
+        ]
+
+-- a packet of a flow that is known
+known-step : (cmp : Flow → Flow → Ordering) (numbers : BTreeMap Flow ℕ) (packets : List Packet) (x : Packet)
+    (more : List Packet) → IsLonger packets x more → HasNumbers cmp numbers packets
+    → get cmp numbers x.flow ≡ Some x.flow_number → HasNumbers cmp numbers more
+known-step cmp numbers packets x more l h known =
+    record {
+      has = has;
+      from = λ flow n e. (let y = h.from flow n e in
+          (y.0, omega (arith, y.1, l.many), ap (λ (p : Packet). p.flow) (l.old y.0 y.1) ∙ y.2));
+      below = below;
+      every = λ n lt. (let y = h.every n lt in
+          (y.0, omega (arith, y.1, l.many), ap (λ (p : Packet). p.flow_number) (l.old y.0 y.1) ∙ y.2));
+      few = omega (arith, l.many, h.few);
+      numbered = numbered-more packets x more l h.numbered (same-by cmp numbers more has)
+          (λ a la e. h.numbered.apart a twin.0 la twin.1 (e ∙ sym number) ∙ twin.2)
+          (λ n lt. (
+          let before = h.numbered.first twin.0 n twin.1 (omega (arith, number)) in
+          (before.0, omega (arith, before.1, twin.1), before.2)));
+    }
+  where
+    has : (y : ℕ) → y < length more
+        → get cmp numbers (packet_at more y).flow ≡ Some (packet_at more y).flow_number
+    has y ly =
+        elim (place-of l y ly) [
+          | inl o ↦
+              subst (λ (p : Packet). get cmp numbers p.flow ≡ Some p.flow_number) (sym (l.old y o)) (h.has y o)
+          | inr e ↦
+              subst (λ (p : Packet). get cmp numbers p.flow ≡ Some p.flow_number)
+              (sym (ap (λ n. packet_at more n) e ∙ l.last)) known
+        ]
+
+    twin : (t : ℕ) × (t < length packets) × ((packet_at packets t).flow ≡ x.flow)
+    twin = h.from x.flow x.flow_number known
+
+    number : (packet_at packets twin.0).flow_number ≡ x.flow_number
+    number =
+        let a = h.has twin.0 twin.1 in
+        let b : get cmp numbers (packet_at packets twin.0).flow ≡ get cmp numbers x.flow =
+        ap (λ f. get cmp numbers f) twin.2 in
+        cc
+
+    below : (y : ℕ) → y < length more → (packet_at more y).flow_number < btree_map_len numbers
+    below y ly =
+        elim (place-of l y ly) [
+          | inl o ↦ subst (λ (p : Packet). p.flow_number < btree_map_len numbers) (sym (l.old y o)) (h.below y o)
+          | inr e ↦
+              subst (λ (p : Packet). p.flow_number < btree_map_len numbers)
+              (sym (ap (λ n. packet_at more n) e ∙ l.last))
+              (subst (λ n. n < btree_map_len numbers) number (h.below twin.0 twin.1))
+        ]
+
+-- a packet of a new flow
+fresh-step : (cmp : Flow → Flow → Ordering) → IsExact cmp → (old new : BTreeMap Flow ℕ) (packets : List Packet)
+    (x : Packet) (more : List Packet) → IsLonger packets x more → HasNumbers cmp old packets
+    → IsFresh cmp old new x.flow x.flow_number → HasNumbers cmp new more
+fresh-step cmp order old new packets x more l h fresh =
+    record {
+      has = has;
+      from = from;
+      below = below;
+      every = every;
+      few = omega (arith, l.many, h.few, fresh.longer);
+      numbered = numbered-more packets x more l h.numbered (same-by cmp new more has)
+          (λ a la e. absurd (omega (arith, h.below a la, e, fresh.next)))
+          (λ n lt. h.every n (omega (arith, fresh.next)));
+    }
+  where
+    known : (flow : Flow) (n : ℕ) → get cmp old flow ≡ Some n → get cmp new flow ≡ Some n
+    known flow n e =
+        elim (cases_Bool (is_at (cmp x.flow) flow)) [
+          | inl t ↦ (
+              let same : x.flow ≡ flow = order.exact x.flow flow t in
+              let none : get cmp old flow ≡ None = ap (λ f. get cmp old f) (sym same) ∙ fresh.unknown in
+              cc)
+          | inr f ↦ fresh.updates.0 flow ∙ ap (λ b. cond b (Some x.flow_number) (get cmp old flow)) f ∙ e
+        ]
+
+    own : get cmp new x.flow ≡ Some x.flow_number
+    own =
+        fresh.updates.0 x.flow
+        ∙ ap (λ b. cond b (Some x.flow_number) (get cmp old x.flow)) (order.own x.flow)
+
+    has : (y : ℕ) → y < length more
+        → get cmp new (packet_at more y).flow ≡ Some (packet_at more y).flow_number
+    has y ly =
+        elim (place-of l y ly) [
+          | inl o ↦
+              subst (λ (p : Packet). get cmp new p.flow ≡ Some p.flow_number) (sym (l.old y o))
+              (known _ _ (h.has y o))
+          | inr e ↦
+              subst (λ (p : Packet). get cmp new p.flow ≡ Some p.flow_number)
+              (sym (ap (λ n. packet_at more n) e ∙ l.last)) own
+        ]
+
+    from : (flow : Flow) (n : ℕ) → get cmp new flow ≡ Some n
+        → (y : ℕ) × (y < length more) × ((packet_at more y).flow ≡ flow)
+    from flow n e =
+        elim (cases_Bool (is_at (cmp x.flow) flow)) [
+          | inl t ↦
+              (length packets, omega (arith, l.many), ap (λ (p : Packet). p.flow) l.last ∙ order.exact x.flow flow t)
+          | inr f ↦ (
+              let before : get cmp old flow ≡ Some n =
+              sym (fresh.updates.0 flow ∙ ap (λ b. cond b (Some x.flow_number) (get cmp old flow)) f) ∙ e in
+              let y = h.from flow n before in
+              (y.0, omega (arith, y.1, l.many), ap (λ (p : Packet). p.flow) (l.old y.0 y.1) ∙ y.2))
+        ]
+
+    below : (y : ℕ) → y < length more → (packet_at more y).flow_number < btree_map_len new
+    below y ly =
+        elim (place-of l y ly) [
+          | inl o ↦ (
+              let at : (packet_at more y).flow_number ≡ (packet_at packets y).flow_number =
+              ap (λ (p : Packet). p.flow_number) (l.old y o) in
+              omega (arith, at, h.below y o, fresh.longer))
+          | inr e ↦ (
+              let at : (packet_at more y).flow_number ≡ x.flow_number =
+              ap (λ (p : Packet). p.flow_number) (ap (λ n. packet_at more n) e ∙ l.last) in
+              omega (arith, at, fresh.next, fresh.longer))
+        ]
+
+    every : (n : ℕ) → n < btree_map_len new
+        → (y : ℕ) × (y < length more) × ((packet_at more y).flow_number ≡ n)
+    every n lt =
+        elim (cases_lt n (btree_map_len old)) [
+          | inl before ↦ (
+              let y = h.every n before in
+              (y.0, omega (arith, y.1, l.many), ap (λ (p : Packet). p.flow_number) (l.old y.0 y.1) ∙ y.2))
+          | inr over ↦ (
+              let at : x.flow_number ≡ n = omega (arith, fresh.next, fresh.longer) in
+              (length packets, omega (arith, l.many), ap (λ (p : Packet). p.flow_number) l.last ∙ at))
+        ]
+
+-- no packets, and an empty map
+pub has-none : (cmp : Flow → Flow → Ordering) (numbers : BTreeMap Flow ℕ) → numbers.entries ≡ []
+    → HasNumbers cmp numbers []
+has-none cmp numbers empty =
+    let many : btree_map_len numbers ≡ 0 = ap length empty in
+    record {
+      has = λ y lt. absurd (omega arith);
+      from = λ flow n e. absurd (none-some n (sym (ap (λ es. lookup (is_at (cmp flow)) es) empty) ∙ e));
+      below = λ y lt. absurd (omega arith);
+      every = λ n lt. absurd (omega (arith, many));
+      few = omega (arith, many);
+      numbered = record {
+        same = λ x y lt. absurd (omega arith);
+        apart = λ x y lt. absurd (omega arith);
+        first = λ x n lt. absurd (omega arith);
+      };
+    }
+
+-- the packets with one more, numbered by the map
+pub has-more : (cmp : Flow → Flow → Ordering) → IsExact cmp → (old new : BTreeMap Flow ℕ) (packets : List Packet)
+    (x : Packet) → HasNumbers cmp old packets → IsNumberOf cmp old new x.flow x.flow_number
+    → HasNumbers cmp new (packets ++ x ∷ [])
+has-more cmp order old new packets x h (inl known) =
+    subst (λ m. HasNumbers cmp m (packets ++ x ∷ [])) (sym known.same)
+    (known-step cmp old packets x _ (longer packets x) h known.number_is)
+has-more cmp order old new packets x h (inr fresh) =
+    fresh-step cmp order old new packets x _ (longer packets x) h fresh

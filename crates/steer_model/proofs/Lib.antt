@@ -1,0 +1,4 @@
+pub mod Capture
+pub mod Steps
+pub mod Origins
+pub mod Good

@@ -1,0 +1,16 @@
+use Rattle.steer_model.proofs.Origins.FilterOriginLemmas.{filters_are_from_choices}
+use Rattle.steer_model.proofs.Origins.SocketOriginLemmas.{entries_are_written}
+use Rattle.steer_model.proofs.Origins.TableWriteLemmas.{entries_are_last_writes, filters_are_last_writes, steps_are_events}
+use Rattle.steer_model.proofs.Origins.TableWriteLemmas.{tables_start_unset}
+use Rattle.steer_model.proofs.laws.a_table_in_force_is_the_last_writes.Goals as goal
+
+pub returns : goal.returns
+returns c =
+    record {
+      start = tables_start_unset;
+      steps = steps_are_events;
+      entries = entries_are_last_writes;
+      filters = filters_are_last_writes;
+      written = entries_are_written;
+      chosen = filters_are_from_choices;
+    }

@@ -1,0 +1,28 @@
+use Rattle.std.proofs.Common.{◌≡◌, ◌∙◌, ap, arith, length, refl, subst}
+use Rattle.steer_model.specs.Capture.Packets.{ArePackets}
+use Rattle.steer_model.proofs.Capture.PacketLemmas.{packets_are_of_flows}
+use Rattle.steer_model.proofs.Steps.ReadLemmas.{AreRead, read-all, read-more}
+use Rattle.steer_model.proofs.packet_list.packets.Goals as goal
+use Rattle.toeplitz.specs.Flows.{hash_of_flow}
+
+pub loop-from-preserved : goal.loop-from-preserved
+loop-from-preserved c =
+    let hash =
+    c.hash.ensures
+    ∙ ap (λ key. hash_of_flow key c.dissect-flow.result c.args.kinds.0) c.in_ok-key.ensures in
+    read-more c.args.key.now c.args.kinds.0 c.args.bytes.now c.as_slice-records.result.now c.loop-from.from-index _
+    c.loop-from.packets.items c.push.new.self.items _ c.loop-from.numbers c.number_of.new.numbers
+    c.loop-from-test.true c.loop-from.invariant c.in_ok-push.ensures.items
+    (record { flow = c.dissect-flow.ensures.flow; hash = hash; len = refl })
+    c.in_ok-flow_number.ensures
+
+pub returns : goal.returns
+returns c =
+    let all : c.loop-from.from-index ≡ length c.as_slice-records.result.now = omega arith in
+    let list =
+    subst (λ rs. ArePackets c.args.key.now c.args.kinds.0 c.args.bytes.now rs c.loop-from.packets.items)
+    c.as_slice-records.ensures
+    (read-all _ _ _ _ _ _
+    (subst (λ n. AreRead c.args.key.now c.args.kinds.0 c.args.bytes.now c.as_slice-records.result.now n
+    c.loop-from.packets.items c.loop-from.numbers) all c.loop-from.invariant)) in
+    record { list = list; flows = packets_are_of_flows _ _ _ _ _ list }

@@ -1,0 +1,2 @@
+pub mod FlowNumbers
+pub mod Packets

@@ -1,0 +1,9 @@
+pub mod Inputs
+pub mod Arrivals
+pub mod Choices
+pub mod Drops
+pub mod Deliveries
+pub mod Writes
+pub mod Commands
+pub mod Replies
+pub mod GoodHistory

@@ -1,0 +1,4 @@
+pub mod GoodHistories
+pub mod Packets
+pub mod Settings
+pub mod Steps

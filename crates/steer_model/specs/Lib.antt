@@ -1,0 +1,6 @@
+pub mod State
+pub mod Steps
+pub mod Good
+pub mod Laws
+pub mod Origins
+pub mod Capture

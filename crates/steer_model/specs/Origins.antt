@@ -1,0 +1,4 @@
+pub mod SettingWrites
+pub mod FilterOrigins
+pub mod SocketOrigins
+pub mod TableWrites

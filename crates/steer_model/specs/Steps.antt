@@ -1,0 +1,7 @@
+pub mod Outcomes
+pub mod Pollers
+pub mod Applications
+pub mod Commands
+pub mod SingleSteps
+pub mod CompoundSteps
+pub mod IdleReasons

@@ -1,0 +1,130 @@
+-- The steps of a processor, of a socket and of an application (kernel scaling chapter, sections
+-- RFS and XPS): what each does where it is enabled, and else the first reason for which it is idle.
+use Rattle.std.specs.Prelude.{ℕ, ◌+◌, ◌%◌, nat_lt, List, [], ◌∷◌, ◌++◌, Option, Some, None, length}
+use Rattle.std.specs.Prelude.{slice_get, slice_index, slice_index_or, slice_set, unwrap_or}
+use Rattle.std.specs.Prelude.{if◌then◌else◌}
+use Rattle.steer_base.specs.declared.command.Answer.TheVariants as says
+use Rattle.steer_base.specs.declared.cpu_mask.CpuMask.{CpuMask}
+use Rattle.steer_base.specs.declared.idle.Idle.TheVariants as idle
+use Rattle.hop_core.specs.declared.event.HopEvent.{HopEvent}
+use Rattle.hop_core.specs.declared.event.HopEvent.TheVariants as event
+use Rattle.hop_core.specs.Hop.{HopState, choices_of, out_at, placed_of, taken_of}
+use Rattle.hop_core.specs.Events.{run}
+use Rattle.hop_core.specs.Reads.{to_deliver}
+use Rattle.sock_flow_table.specs.Sockets.{noted as with_note}
+use Rattle.xps_map.specs.Maps.{picked}
+use Rattle.history.specs.Lists.{arrival_of, list_at}
+use Rattle.history.specs.declared.sent.Sent.{Sent}
+use Rattle.history.specs.declared.sock_write.SockWrite.{SockWrite}
+use Rattle.steer_model.specs.State.Machine.{Machine, last_of}
+use Rattle.steer_model.specs.Steps.Outcomes.{Outcome, by_rx, by_tx, idles}
+use Rattle.steer_model.specs.State.Setup.{app_for, flow_hash, flow_of, hash_of}
+
+-- ---- a processor
+
+-- the packet in the hand of a processor that is delivered next
+abbrev pub in_lane : HopState → ℕ → ℕ
+in_lane s c = unwrap_or (to_deliver s.bare c) 0
+
+-- The packet in hand goes to the inbox of its application.
+abbrev pub deliver : Machine → ℕ → Outcome
+deliver m c = by_rx m (event.Deliver c (app_for m.setup (in_lane m.rx c)))
+
+-- ---- a socket
+
+-- an application goes through the receive gate and out again, as a guest after the queues
+abbrev pub visited : Machine → ℕ → Machine
+visited m a =
+    let guest = length m.setup.homes + a in
+    record m { rx = run (event.Enter guest ∷ event.Leave guest ∷ []) m.rx }
+
+-- the processor on which an application stands
+abbrev pub stand_of : Machine → ℕ → ℕ
+stand_of m a = slice_index m.settings.stands a
+
+-- the write of an application for a hash
+abbrev pub write_of : Machine → ℕ → ℕ → SockWrite
+write_of m a hash = record { entry = hash % length m.socket; cpu = stand_of m a }
+
+-- an application writes its processor to the entry of a hash
+abbrev pub wrote : Machine → ℕ → ℕ → Machine
+wrote m a hash =
+    record m {
+      socket = with_note m.socket hash (stand_of m a);
+      writes = slice_set m.writes a (list_at m.writes a ++ write_of m a hash ∷ []);
+    }
+
+abbrev pub record_hash : Machine → ℕ → Outcome
+record_hash m hash =
+    if nat_lt 0 (length m.socket)
+    then (wrote (visited m (hash % m.setup.apps)) (hash % m.setup.apps) hash, says.Done)
+    else idles m idle.NoTable
+
+abbrev pub record_by : Machine → Option (Option ℕ) → Outcome
+record_by m None = idles m idle.NoFlow
+record_by m (Some None) = idles m idle.NoHash
+record_by m (Some (Some hash)) = record_hash m hash
+
+-- The socket of a flow records the processor of its application.
+abbrev pub record_flow : Machine → ℕ → Outcome
+record_flow m flow = record_by m (flow_hash m.setup flow)
+
+-- ---- an application
+
+abbrev pub sent_of : Machine → ℕ → List Sent
+sent_of m a = list_at m.sent a
+
+-- the next packet of its inbox to reply to, if there is one
+abbrev pub next_in : Machine → ℕ → Option ℕ
+next_in m a = slice_get (out_at m.rx.bare a) (length (sent_of m a))
+
+-- the reply to a packet: its receive queue, and the processor of the application now
+abbrev pub reply_to : Machine → ℕ → ℕ → Sent
+reply_to m a x =
+    record { id = x; rxq = (arrival_of m.arrivals x).queue; cpu = stand_of m a }
+
+abbrev pub sends : Machine → ℕ → ℕ → Machine
+sends m a x =
+    record m {
+      tx = run (event.Arrive a x ∷ event.Take a ∷ []) m.tx;
+      sent = slice_set m.sent a (sent_of m a ++ reply_to m a x ∷ []);
+    }
+
+abbrev pub send_by : Machine → ℕ → Option ℕ → Outcome
+send_by m a (Some x) = (sends m a x, says.Done)
+send_by m a None = idles m idle.InboxDone
+
+-- The next packet of the inbox is in hand, to be replied to.
+abbrev pub send : Machine → ℕ → Outcome
+send m a =
+    if nat_lt (placed_of m.tx a) (taken_of m.tx a) then idles m idle.HandFull else
+    send_by m a (next_in m a)
+
+-- stands for a reply where there is none
+abbrev pub nothing_sent : Sent
+nothing_sent = record { id = 0; rxq = 0; cpu = 0 }
+
+-- the reply of an application that is weighed next
+abbrev pub in_reply : Machine → ℕ → Sent
+in_reply m a = slice_index_or (sent_of m a) (length (choices_of m.tx a)) nothing_sent
+
+-- the transmit queue that the maps pick for a reply
+abbrev pub pick_for : Machine → Sent → ℕ
+pick_for m r = picked m.settings.maps r.rxq r.cpu (hash_of m.setup r.id)
+
+-- all transmit queues are online
+abbrev pub everyone : CpuMask
+everyone = record { 0 = 4294967295 }
+
+-- what a reply is weighed with: its flow number as class, and the pick as want and as desired queue
+abbrev pub sending : Machine → ℕ → Sent → HopEvent
+sending m a r =
+    event.Weigh a (Some (flow_of m.setup r.id)) (Some (pick_for m r)) (pick_for m r) everyone
+
+-- The reply in hand gets a transmit queue by the migration rule.
+abbrev pub tweigh : Machine → ℕ → Outcome
+tweigh m a = by_tx m (sending m a (in_reply m a))
+
+-- The reply in hand is put to its transmit queue.
+abbrev pub tput : Machine → ℕ → Outcome
+tput m a = by_tx m (event.Put a (hash_of m.setup (last_of m.tx a).id))

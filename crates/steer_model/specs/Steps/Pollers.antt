@@ -1,0 +1,166 @@
+-- The steps of the wire and of the pollers (kernel scaling chapter, sections RSS, RPS, RFS and
+-- accelerated RFS): what each does where it is enabled, and else the first reason for which it is
+-- idle.
+use Rattle.std.specs.Prelude.{ℕ, not, nat_lt, List, [], ◌∷◌, ◌++◌, Option, Some, None, length}
+use Rattle.std.specs.Prelude.{slice_set}
+use Rattle.std.specs.Prelude.{if◌then◌else◌}
+use Rattle.std.specs.Option.{option_map}
+use Rattle.steer_base.specs.Arrivals.{Route, route}
+use Rattle.steer_base.specs.Choices.{desired_cpu}
+use Rattle.steer_base.specs.Filters.{filter_written}
+use Rattle.steer_base.specs.declared.choice.Choice.{Choice}
+use Rattle.steer_base.specs.declared.command.Answer.TheVariants as says
+use Rattle.steer_base.specs.declared.filter.Filter.{Filter}
+use Rattle.steer_base.specs.declared.idle.Idle.TheVariants as idle
+use Rattle.steer_base.specs.declared.put.Put.TheVariants as went
+use Rattle.hop_core.specs.declared.event.HopEvent.{HopEvent}
+use Rattle.hop_core.specs.declared.event.HopEvent.TheVariants as event
+use Rattle.hop_core.specs.declared.event.HopAnswer.{HopAnswer}
+use Rattle.hop_core.specs.declared.event.HopAnswer.TheVariants as answer
+use Rattle.hop_core.specs.Hop.{inside_of}
+use Rattle.hop_core.specs.Events.{happens}
+use Rattle.hop_core.specs.Reads.{to_weigh}
+use Rattle.sock_flow_table.specs.Sockets.{wanted}
+use Rattle.accel_filter.specs.Table.{filter_of, steered}
+use Rattle.rss_table.specs.Redirection.{queue_of}
+use Rattle.history.specs.declared.arrival.Arrival.{Arrival}
+use Rattle.steer_model.specs.State.Machine.{Machine, note_of, last_of}
+use Rattle.steer_model.specs.State.Notes.{asking, is_asking, is_nothing}
+use Rattle.steer_model.specs.Steps.Outcomes.{Outcome, by_rx, idles, told}
+use Rattle.steer_model.specs.State.Settings.{class_at, plain_lane}
+use Rattle.steer_model.specs.State.Setup.{hash_of}
+use Rattle.steer_model.specs.declared.note.Note.{Note}
+use Rattle.steer_model.specs.declared.note.Note.TheVariants as note
+
+-- ---- the wire
+
+-- the queue of the filter that a packet with this hash finds
+abbrev pub filter_seen : List (Option Filter) → Option ℕ → Option ℕ
+filter_seen filters None = None
+filter_seen filters (Some hash) = option_map (λ filter. filter.queue) (filter_of filters hash)
+
+-- the queue of an arriving packet with this hash, and the value that leads to it
+abbrev pub route_by : Machine → Option ℕ → Route
+route_by m hash = route hash (filter_seen m.filters hash) (queue_of m.settings.reta hash)
+
+abbrev pub arrival_by : ℕ → Route → Arrival
+arrival_by x r = record { id = x; queue = r.queue; filter = r.filter; entry = r.entry }
+
+abbrev pub arrives : Machine → Arrival → Machine
+arrives m a =
+    record m {
+      rx = (happens m.rx (event.Arrive a.queue a.id)).0;
+      arrivals = m.arrivals ++ a ∷ [];
+    }
+
+-- The next packet of the capture enters the ring of its queue.
+abbrev pub arrive : Machine → Outcome
+arrive m =
+    let next = length m.arrivals in
+    if nat_lt next (length m.setup.packets)
+    then (arrives m (arrival_by next (route_by m (hash_of m.setup next))), says.Done)
+    else idles m idle.NothingLeft
+
+-- ---- a poller
+
+abbrev pub noted : Machine → ℕ → Note → Machine
+noted m q n = record m { notes = slice_set m.notes q n }
+
+-- The first packet of the ring is in hand. The hand of a poller that asks for a filter is full.
+abbrev pub take : Machine → ℕ → Outcome
+take m q = if is_asking (note_of m q) then idles m idle.HandFull else by_rx m (event.Take q)
+
+-- the processor that a packet with this class and hash finds in the socket flow table
+abbrev pub socket_seen : List (Option ℕ) → Option ℕ → Option ℕ → Option ℕ
+socket_seen socket (Some class) (Some hash) = wanted socket hash
+socket_seen socket (Some class) None = None
+socket_seen socket None hash = None
+
+abbrev pub seen_by : Machine → ℕ → ℕ → Option ℕ
+seen_by m q x = socket_seen m.socket (class_at m.setup m.settings q x) (hash_of m.setup x)
+
+abbrev pub look_by : Machine → ℕ → Option ℕ → Outcome
+look_by m q (Some x) = (noted m q (note.Looked (seen_by m q x)), says.Done)
+look_by m q None = idles m idle.WrongStage
+
+-- The poller keeps what it sees in the socket flow table for the packet in hand.
+abbrev pub look : Machine → ℕ → Outcome
+look m q =
+    if not (inside_of m.rx q) then idles m idle.NotInside else
+    if is_nothing (note_of m q) then look_by m q (to_weigh m.rx q) else
+    idles m idle.WrongStage
+
+-- what a packet is weighed with, where this was seen in the socket flow table
+abbrev pub weighing : Machine → ℕ → ℕ → Option ℕ → HopEvent
+weighing m q x want =
+    event.Weigh q (class_at m.setup m.settings q x) want
+    (desired_cpu (class_at m.setup m.settings q x) want m.settings.online
+    (plain_lane m.setup m.settings q x))
+    m.settings.online
+
+abbrev pub weigh_by : Machine → ℕ → Note → Option ℕ → Outcome
+weigh_by m q (note.Looked want) (Some x) = by_rx (noted m q note.Nothing) (weighing m q x want)
+weigh_by m q (note.Looked want) None = idles m idle.WrongStage
+weigh_by m q note.Nothing in_hand = idles m idle.WrongStage
+weigh_by m q (note.Asking filter) in_hand = idles m idle.WrongStage
+
+-- The packet in hand gets a processor by the migration rule, with what was seen.
+abbrev pub weigh : Machine → ℕ → Outcome
+weigh m q =
+    if not (inside_of m.rx q) then idles m idle.NotInside else
+    weigh_by m q (note_of m q) (to_weigh m.rx q)
+
+-- the filter that is asked for after a packet was accepted at a position by this choice, where
+-- there are so many filters
+abbrev pub filter_for : List ℕ → ℕ → Choice → ℕ → Option Filter
+filter_for homes filters c position =
+    if nat_lt 0 filters then filter_written homes c.why c.lane position else None
+
+-- the position at which a put was accepted, where it was
+abbrev pub position_of : HopAnswer → Option ℕ
+position_of (answer.Went (went.At position)) = Some position
+position_of _ = None
+
+-- what a poller does after its put
+abbrev pub put_by : Machine → ℕ → Option ℕ → HopAnswer → Outcome
+put_by m q (Some position) a = (
+  noted m q
+      (asking (filter_for m.setup.homes (length m.filters) (last_of m.rx q).choice position)),
+  told a,
+)
+put_by m q None a = (m, told a)
+
+abbrev pub putting : Machine → ℕ → HopEvent
+putting m q = event.Put q (hash_of m.setup (last_of m.rx q).id)
+
+-- The packet in hand is put to its processor, and a filter is asked for where one is due.
+abbrev pub put : Machine → ℕ → Outcome
+put m q =
+    put_by (by_rx m (putting m q)).0 q (position_of (happens m.rx (putting m q)).1)
+    (happens m.rx (putting m q)).1
+
+abbrev pub with_filter : List (Option Filter) → Option ℕ → Filter → List (Option Filter)
+with_filter filters None filter = filters
+with_filter filters (Some hash) filter = steered filters hash filter
+
+abbrev pub ask_by : Machine → ℕ → Note → Outcome
+ask_by m q (note.Asking filter) = (
+  record (noted m q note.Nothing) {
+    filters = with_filter m.filters (hash_of m.setup (last_of m.rx q).id) filter;
+  },
+  says.Done,
+)
+ask_by m q note.Nothing = idles m idle.WrongStage
+ask_by m q (note.Looked want) = idles m idle.WrongStage
+
+-- The filter that is asked for is written.
+abbrev pub ask : Machine → ℕ → Outcome
+ask m q =
+    if not (inside_of m.rx q) then idles m idle.NotInside else ask_by m q (note_of m q)
+
+-- The poller leaves, but not between its look and the end of its put or its filter.
+abbrev pub leave : Machine → ℕ → Outcome
+leave m q =
+    if not (inside_of m.rx q) then idles m idle.NotInside else
+    if is_nothing (note_of m q) then by_rx m (event.Leave q) else
+    idles m idle.MidPacket

@@ -1,0 +1,50 @@
+//! What the machine reads from the answers and the choices of a hop.
+ghost use Rattle.std.specs.Prelude.{◌≡◌, ◌<◌, length};
+ghost use Rattle.steer_model.specs.State.Machine.{last_of as last_choice_of};
+ghost use Rattle.steer_model.specs.Steps.Outcomes.{told as told_by};
+ghost use Rattle.steer_model.specs.Steps.Pollers.{position_of as position_in};
+
+use hop_core::{Hop, HopAnswer};
+use steer_base::{Answer, Choice, Chosen, PacketId, Put, Why};
+
+/// The answer of a hop as the machine gives it: the reason for which an event was idle, else that
+/// it was done.
+pub fn told(answer: HopAnswer) -> Answer
+    ensures { result ≡ told_by answer }
+{
+    match answer {
+        HopAnswer::Idle(why) => Answer::Idle(why),
+        _ => Answer::Done,
+    }
+}
+
+/// The position at which a put was accepted, a counter number that wraps; none where it was not.
+pub fn position_of(answer: &HopAnswer) -> Option<u32>
+    ensures { result ≡ position_in answer.now }
+{
+    match answer {
+        HopAnswer::Went(Put::At(position)) => Some(*position),
+        _ => None,
+    }
+}
+
+/// The last choice of a producer; with none a choice of packet 0 for lane 0.
+pub fn last_of(hop: &Hop, p: u8) -> Chosen
+    requires { p < length hop.now.arrivals }
+    ensures { result ≡ last_choice_of hop.now p }
+{
+    match hop.last_choice(p) {
+        Some(chosen) => chosen,
+        None => Chosen {
+            id: PacketId(0),
+            choice: Choice {
+                class: None,
+                head: None,
+                tail: None,
+                want: None,
+                lane: 0,
+                why: Why::Plain,
+            },
+        },
+    }
+}

@@ -1,0 +1,29 @@
+//! The machine of two steered hops in words: its steps, the good history of a run, and its parts.
+#![tactic(auto)]
+
+mod desired;
+mod flow_hashes;
+mod gate;
+mod hop_answers;
+mod laws;
+mod note;
+mod packet_list;
+mod settings;
+mod setup;
+mod turns;
+
+pub use desired::{desired_cpu, filter_for, socket_seen};
+pub use gate::{gate_answer, is_done, refused_answer};
+pub use hop_answers::{last_of, position_of, told};
+pub use laws::{
+    a_capture_has_one_list_of_packets, a_hand_has_one_packet, a_history_is_good_by_its_clauses,
+    a_refused_command_leaves_all, a_step_is_idle_for_its_first_reason,
+    a_table_in_force_is_the_last_writes, a_value_in_force_is_the_last_write,
+    an_idle_step_leaves_all, packets_are_of_flows, settings_follow_the_commands,
+    steps_of_a_plan_are_within,
+};
+pub use note::Note;
+pub use packet_list::packets;
+pub use settings::InForce;
+pub use setup::Given;
+pub use turns::{is_idle, is_work};

@@ -1,0 +1,190 @@
+//! What the plan and the capture fix.
+ghost use Rattle.std.specs.Prelude.{◌≡◌, ◌<◌, ◌≤◌, IfOk, length, slice_index};
+ghost use Rattle.steer_model.specs.State.Ranges.{AreFlowHashes, AreOfFlows, IsGiven};
+ghost use Rattle.steer_model.specs.State.Setup.{app_for, flow_hash, flow_of, hash_of};
+ghost use Rattle.steer_model.specs.State.Start.{setup_of};
+
+use crate::flow_hashes::flow_hashes;
+use plan_reader::Plan;
+use std::alloc::Global;
+use std::marker::Model;
+use steer_base::{AppId, Cpu, OutOfMemory, Packet, PacketId, app_of};
+
+/// What never changes in a run: the plan's homes and sizes, the packets of the capture, and the
+/// length of its cut record. The hash of each flow lies beside them.
+#[derive(Drop)]
+pub struct Given {
+    homes: Vec<Cpu>,
+    cpus: u8,
+    txs: u8,
+    apps: u8,
+    packets: Vec<Packet>,
+    cut: Option<u32>,
+    hashes: Vec<Option<Option<u32>>>,
+}
+
+impl Model for Given {
+    ghost use Rattle.steer_model.specs.State.Ranges.{AreFlowHashes, IsGiven};
+    ghost use Rattle.steer_model.specs.State.Setup.{Setup};
+
+    ghost Value = { Setup };
+
+    ghost view = { λ g. record {
+      homes = g.homes.items;
+      cpus = g.cpus;
+      txs = g.txs;
+      apps = g.apps;
+      packets = g.packets.items;
+      cut = g.cut;
+    } };
+
+    ghost invariant = { λ g. IsGiven (record {
+      homes = g.homes.items;
+      cpus = g.cpus;
+      txs = g.txs;
+      apps = g.apps;
+      packets = g.packets.items;
+      cut = g.cut;
+    }) × AreFlowHashes g.packets.items g.hashes.items };
+}
+
+impl Given {
+    /// What a plan and the packets of a capture fix. There are at most 262,144 packets, each flow
+    /// has a number below the number of packets, and all packets of a flow have one hash.
+    pub fn of_plan(
+        alloc: Global,
+        plan: &Plan,
+        packets: &[Packet],
+        cut: Option<u32>,
+    ) -> Result<Given, OutOfMemory>
+        requires few { length packets.now ≤ 262144 }
+        requires flows { AreOfFlows packets.now }
+        ensures { IfOk result (λ given. given ≡ setup_of plan.now packets.now cut) }
+    {
+        let homes = plan
+            .queues
+            .as_slice()
+            .iter()
+            .map(|queue| queue.home)
+            .collect(alloc)?;
+        let hashes = flow_hashes(alloc, packets)?;
+        let packets = packets.iter().copied().collect(alloc)?;
+        Ok(Given {
+            homes,
+            cpus: plan.cpus,
+            txs: plan.tx.len() as u8,
+            apps: plan.apps.len() as u8,
+            packets,
+            cut,
+            hashes,
+        })
+    }
+
+    /// The number of packets.
+    pub fn packet_count(&self) -> u32
+        ensures value { result ≡ length self.now.packets }
+        ensures few { result ≤ 262144 }
+    {
+        self.packets.len() as u32
+    }
+
+    /// The length of the capture's cut record, if there is one.
+    pub fn cut(&self) -> Option<u32>
+        ensures { result ≡ self.now.cut }
+    {
+        self.cut
+    }
+
+    /// The hash of a packet, if it has one. There is none beyond the capture.
+    pub fn hash_of(&self, id: PacketId) -> Option<u32>
+        ensures { result ≡ hash_of self.now id }
+    {
+        match self.packets.get(id.0 as usize) {
+            Some(packet) => packet.hash,
+            None => None,
+        }
+    }
+
+    /// The number of a packet's flow; 0 beyond the capture.
+    pub fn flow_of(&self, id: PacketId) -> u32
+        ensures { result ≡ flow_of self.now id }
+    {
+        match self.packets.get(id.0 as usize) {
+            Some(packet) => packet.flow_number,
+            None => 0,
+        }
+    }
+
+    /// The application of a packet.
+    pub fn app_of(&self, id: PacketId) -> AppId
+        ensures { result ≡ app_for self.now id }
+    {
+        app_of(self.hash_of(id), self.apps)
+    }
+
+    /// The hash of a flow, if it has one; nothing where the capture has no such flow.
+    pub fn flow_hash(&self, flow: u32) -> Option<Option<u32>>
+        ensures { result ≡ flow_hash self.now flow }
+    {
+        match self.hashes.get(flow as usize) {
+            Some(hash) => *hash,
+            None => None,
+        }
+    }
+
+    /// The home processor of a receive queue.
+    pub fn home(&self, q: u8) -> Cpu
+        requires { q < length self.now.homes }
+        ensures { result ≡ slice_index self.now.homes q }
+    {
+        self.homes[q as usize]
+    }
+
+    /// The home processors of all receive queues.
+    pub fn homes(&self) -> &[Cpu]
+        ensures homes { result.now ≡ self.now.homes }
+        ensures few { length result.now ≤ 16 }
+    {
+        &self.homes
+    }
+
+    /// The number of receive queues.
+    pub fn queues(&self) -> u8
+        ensures value { result ≡ length self.now.homes }
+        ensures few { result ≤ 16 }
+    {
+        self.homes.len() as u8
+    }
+
+    /// The number of processors.
+    pub fn cpus(&self) -> u8
+        ensures value { result ≡ self.now.cpus }
+        ensures few { result ≤ 32 }
+    {
+        self.cpus
+    }
+
+    /// The number of applications.
+    pub fn apps(&self) -> u8
+        ensures value { result ≡ self.now.apps }
+        ensures some { 1 ≤ result }
+        ensures few { result ≤ 32 }
+    {
+        self.apps
+    }
+
+    /// The number of transmit queues.
+    pub fn txs(&self) -> u8
+        ensures value { result ≡ self.now.txs }
+        ensures few { result ≤ 32 }
+    {
+        self.txs
+    }
+
+    /// Says what is fixed in every run.
+    pub fn ranges(&self)
+        ensures { IsGiven self.now }
+    {
+        let _ = &self.cpus;
+    }
+}

@@ -1,6 +1,0 @@
-use Rattle.std.proofs.Common.{take}
-use Rattle.steer_parts.specs.Given.{AreFlowHashes}
-use Rattle.steer_parts.proofs.flow_hashes.keep_hashes.Given as goal
-
-abbrev pub invariant-loop-packet : goal.invariant-loop-packet
-invariant-loop-packet l = AreFlowHashes (take l.packet-index l.packets) l.hashes

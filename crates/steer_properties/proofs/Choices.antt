@@ -1,0 +1,11 @@
+pub mod HeadLemmas
+pub mod HeadStepLemmas
+pub mod SingleChoiceLemmas
+pub mod LookLemmas
+pub mod RuleLemmas
+pub mod RuleStepLemmas
+pub mod ReplyRuleLemmas
+pub mod ReplyRuleStepLemmas
+pub mod MoveLemmas
+pub mod ClearLemmas
+pub mod ClearStepLemmas

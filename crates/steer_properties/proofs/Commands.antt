@@ -1,0 +1,5 @@
+pub mod GivingLemmas
+pub mod AnswerLemmas
+pub mod StepLemmas
+pub mod WordLemmas
+pub mod GivenOnceLemmas

@@ -1,0 +1,6 @@
+pub mod Sweep
+pub mod Delivery
+pub mod Histories
+pub mod Commands
+pub mod Choices
+pub mod Writes

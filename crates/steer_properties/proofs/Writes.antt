@@ -1,0 +1,4 @@
+pub mod OriginLemmas
+pub mod PlaceLemmas
+pub mod SeenLemmas
+pub mod WriteLemmas

@@ -1,0 +1,3 @@
+pub mod ByTheRule
+pub mod Moves
+pub mod Clear

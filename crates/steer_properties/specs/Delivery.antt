@@ -1,0 +1,2 @@
+pub mod HopDelivery
+pub mod DeliveryLaws

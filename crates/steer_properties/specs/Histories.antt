@@ -1,0 +1,4 @@
+pub mod Always
+pub mod Sizes
+pub mod GoodSoFar
+pub mod GoodAtRest

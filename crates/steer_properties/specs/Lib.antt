@@ -1,0 +1,5 @@
+pub mod Sweep
+pub mod Delivery
+pub mod Histories
+pub mod Choices
+pub mod Commands

@@ -1,0 +1,28 @@
+//! Laws of the sweep: it ends at rest, and what a machine at rest has done.
+ghost use Rattle.steer_properties.specs.Sweep.SweepLaws.{IdleRoundRests, RestIsSwept, RestIsThrough};
+ghost use Rattle.steer_properties.specs.Sweep.SweepLaws.{SeededReplaysAreSwept, SweepEndsAtRest};
+ghost use Rattle.steer_properties.specs.Sweep.SweepLaws.{SweepEndsIdle, SweepSweeps, SweptIsThrough};
+ghost use Rattle.steer_properties.specs.Sweep.SweepLaws.{SweptRunsAreSwept};
+
+/// A sweep ends since there is nothing left to do, and then the machine is at rest.
+pub fn a_sweep_ends_at_rest()
+    ensures idle { SweepEndsIdle }
+    ensures round { IdleRoundRests }
+    ensures rest { SweepEndsAtRest }
+{}
+
+/// In a machine at rest, and so after a sweep, each packet of the capture was dropped by a
+/// processor, or it is in an inbox and its reply is at the port.
+pub fn packets_go_all_their_way_at_rest()
+    ensures rest { RestIsThrough }
+    ensures swept { SweptIsThrough }
+{}
+
+/// The history of a machine at rest is swept, and so is that of one after a sweep: of each plan
+/// after any of its steps and a sweep, and of each seeded plan.
+pub fn swept_machines_have_swept_histories()
+    ensures rest { RestIsSwept }
+    ensures swept { SweepSweeps }
+    ensures runs { SweptRunsAreSwept }
+    ensures seeded { SeededReplaysAreSwept }
+{}
