@@ -1,16 +1,20 @@
 -- The window of a list of offers that grows.
-use Rattle.std.proofs.Common.{ℕ, ◌+◌, ◌-◌, ◌<◌, ◌≡◌, List, [], ◌∷◌, ◌++◌, length, drop, Option, Some, None, arith, sym, ap, ◌∙◌, length-append, length-drop, append-nil}
+use Rattle.std.proofs.Common.{ℕ, ◌+◌, ◌-◌, ◌<◌, ◌≡◌, List, [], ◌∷◌, ◌++◌, length, drop, Option}
+use Rattle.std.proofs.Common.{Some, None, arith, sym, ap, ◌∙◌, length-append, length-drop}
+use Rattle.std.proofs.Common.{append-nil}
 use Rattle.std.specs.List.{filter_map}
 use Rattle.std.proofs.lemmas.List.{drop-append-le, drop-drop}
 use Rattle.std.proofs.lemmas.List.Elements.{filter_map-append}
 use Rattle.steer_base.specs.Drops.{last_of, window}
 
 -- the last n of a list that grew are the last n of the last n before and the new one
-last_of-append : (n x : ℕ) (xs : List ℕ) → 0 < n → last_of n (xs ++ x ∷ []) ≡ last_of n (last_of n xs ++ x ∷ [])
+last_of-append : (n x : ℕ) (xs : List ℕ) → 0 < n → last_of n (xs ++ x ∷ []) ≡ last_of n
+    (last_of n xs ++ x ∷ [])
 last_of-append n x xs some =
     let cut : ℕ = length xs - n in
     let long : length (xs ++ x ∷ []) ≡ length xs + 1 = length-append xs (x ∷ []) in
-    let kept : length (drop cut xs ++ x ∷ []) ≡ length (drop cut xs) + 1 = length-append (drop cut xs) (x ∷ []) in
+    let kept : length (drop cut xs ++ x ∷ []) ≡ length (drop cut xs) + 1 =
+    length-append (drop cut xs) (x ∷ []) in
     let size : length (drop cut xs) ≡ length xs - cut = length-drop cut xs in
     let more : ℕ = length xs + 1 - n - cut in
     let left : length (xs ++ x ∷ []) - n ≡ cut + more = omega arith in
@@ -21,11 +25,13 @@ last_of-append n x xs some =
     ∙ sym (drop-append-le more (drop cut xs) (x ∷ []) (omega arith))
     ∙ ap (λ k. drop k (drop cut xs ++ x ∷ [])) (sym right)
 
-pub window-hashed : (offers : List (Option ℕ)) (bucket : ℕ) → window (offers ++ Some bucket ∷ []) ≡ last_of 256 (window offers ++ bucket ∷ [])
+pub window-hashed : (offers : List (Option ℕ)) (bucket : ℕ) → window (offers ++ Some bucket
+    ∷ []) ≡ last_of 256 (window offers ++ bucket ∷ [])
 window-hashed offers bucket =
     ap (last_of 256) (filter_map-append (λ b. b) offers (Some bucket ∷ []))
     ∙ last_of-append 256 bucket (filter_map (λ b. b) offers) (omega arith)
 
 pub window-plain : (offers : List (Option ℕ)) → window (offers ++ None ∷ []) ≡ window offers
 window-plain offers =
-    ap (last_of 256) (filter_map-append (λ b. b) offers (None ∷ []) ∙ append-nil (filter_map (λ b. b) offers))
+    ap (last_of 256) (filter_map-append (λ b. b) offers (None ∷ []) ∙ append-nil
+    (filter_map (λ b. b) offers))

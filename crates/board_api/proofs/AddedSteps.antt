@@ -1,5 +1,6 @@
 -- What is read of a seat's own list after new steps.
-use Rattle.std.proofs.Common.{◌≡◌, ℕ, ◌/◌, ◌^◌, List, [], ◌∷◌, ◌++◌, Some, sym, refl, ap, ◌∙◌, subst}
+use Rattle.std.proofs.Common.{◌≡◌, ℕ, ◌/◌, ◌^◌, List, [], ◌∷◌, ◌++◌, Some, sym, refl, ap, ◌∙◌}
+use Rattle.std.proofs.Common.{subst}
 use Rattle.std.proofs.lemmas.List.Elements.{filter_map-append}
 use Rattle.steer_base.specs.Lanes.{LaneLists}
 use Rattle.linearization.proofs.ListLemmas.{if_same}

@@ -1,6 +1,7 @@
--- A law of the orders of steps is a law of each closing: the own lists in the seats are those of the
--- order, and the lists that are left are its lists.
-use Rattle.std.proofs.Common.{◌≡◌, ◌≢◌, ℕ, zero, suc, ◌+◌, ◌<◌, List, [], ◌∷◌, map, All, sym, refl, ap, ◌∙◌, subst, arith}
+-- A law of the orders of steps is a law of each closing: the own lists in the seats are those of
+-- the order, and the lists that are left are its lists.
+use Rattle.std.proofs.Common.{◌≡◌, ◌≢◌, ℕ, zero, suc, ◌+◌, ◌<◌, List, [], ◌∷◌, map, All, sym, refl}
+use Rattle.std.proofs.Common.{ap, ◌∙◌, subst, arith}
 use Rattle.std.specs.List.{Contains, range_with_len}
 use Rattle.std.proofs.lemmas.List.Elements.{All-cons, All-head, All-nil, All-tail}
 use Rattle.std.proofs.lemmas.List.FromFn.{get_or-range_with_len, length-range_with_len}
@@ -16,7 +17,8 @@ use Rattle.hop_rule.specs.Owns.{own_of}
 use Rattle.hop_rule.specs.Sizes.{FitSizes}
 use Rattle.hop_rule.specs.declared.sizes.BoardSizes.{BoardSizes}
 use Rattle.hop_rule.specs.declared.step.BoardStep.{BoardStep}
-use Rattle.board_api.specs.Closings.Closings.{AtEachClosing, EachOrderCloses, own_in, seat_in, seats_in}
+use Rattle.board_api.specs.Closings.Closings.{AtEachClosing, EachOrderCloses, own_in, seat_in}
+use Rattle.board_api.specs.Closings.Closings.{seats_in}
 use Rattle.board_api.specs.Closings.Finals.{lists_of}
 use Rattle.board_api.specs.Seats.{BoardSeatView, ordered_seat}
 use Rattle.board_api.specs.declared.lists.BoardLists.{BoardLists}

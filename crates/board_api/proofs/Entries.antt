@@ -1,5 +1,6 @@
 -- Who is inside has entered, by its own list, and not left since.
-use Rattle.std.proofs.Common.{◌≡◌, inl, inr, ℕ, ◌-◌, ◌/◌, ◌^◌, ◌<◌, ◌≤◌, List, [], ◌∷◌, length, take, drop, Some, sym, refl, ap, ◌∙◌, arith, length-drop}
+use Rattle.std.proofs.Common.{◌≡◌, inl, inr, ℕ, ◌-◌, ◌/◌, ◌^◌, ◌<◌, ◌≤◌, List, [], ◌∷◌, length}
+use Rattle.std.proofs.Common.{take, drop, Some, sym, refl, ap, ◌∙◌, arith, length-drop}
 use Rattle.std.proofs.lemmas.Bool.{cases_eq}
 use Rattle.std.proofs.lemmas.List.{take-append-drop}
 use Rattle.linearization.proofs.ListLemmas.{if_same, if_other}
@@ -47,7 +48,8 @@ more d ds same none t =
             | inl is ↦
                 (let z : is_left d ≡ 1 =
                 ap is_left
-                (some-is d (Gate Left) (sym (if_same (length ds) m (Some d) (nth_step ds m) is) ∙ has)) in
+                (some-is d (Gate Left) (sym (if_same (length ds) m (Some d) (nth_step ds m) is)
+                ∙ has)) in
                 absurd (omega arith))
             | inr ne ↦
                 t.stays m after (sym (if_other (length ds) m (Some d) (nth_step ds m) ne) ∙ has)
@@ -67,8 +69,10 @@ entry_of (Gate (Entered w) ∷ ds) is =
           let within = nth-inside (Gate (Entered w) ∷ ds) m (Gate Left) has in
           absurd (omega arith));
     }
-entry_of (Gate (Turned w) ∷ ds) is = let z : kind backing ≡ kind inside = ap kind is in absurd (omega arith)
-entry_of (Gate Left ∷ ds) is = let z : kind outside ≡ kind inside = ap kind is in absurd (omega arith)
+entry_of (Gate (Turned w) ∷ ds) is = let z : kind backing ≡ kind inside =
+    ap kind is in absurd (omega arith)
+entry_of (Gate Left ∷ ds) is = let z : kind outside ≡ kind inside =
+    ap kind is in absurd (omega arith)
 entry_of (d ∷ ds) is = more d ds refl refl (entry_of ds is)
 
 -- ---- the first steps of a list

@@ -46,7 +46,8 @@ module _ (about : BoardSizes) (order : List (StepBy BoardStep)) where
       elim (cases_lt l about.lanes) [
         | inl within ↦ ap (λ (y : LaneList). slice_get y.accepted j) (sym (lane_is l within)) ∙ at
         | inr past ↦
-            none-some id (ap (λ (y : LaneList). slice_get y.accepted j) (sym (lane_past l past)) ∙ at)
+            none-some id (ap (λ (y : LaneList). slice_get y.accepted j) (sym (lane_past l past))
+            ∙ at)
       ]
 
   pub drop_left : (l j : ℕ) (d : LaneDrop)

@@ -35,7 +35,8 @@ bare-rising x t =
       pulled_within = t.pulled_within;
     }
 
-module _ (about : BoardSizes) (order : List (StepBy BoardStep)) (lawful : IsLawful about order) where
+module _ (about : BoardSizes) (order : List (StepBy BoardStep))
+    (lawful : IsLawful about order) where
   abbrev lists : BoardLists
   lists = lists_of about order
 
@@ -78,5 +79,6 @@ module _ (about : BoardSizes) (order : List (StepBy BoardStep)) (lawful : IsLawf
             (let t = (moments order q).own n (put_step i id hash answer) is in
             hashes q t.0 i id hash answer t.1)) l).1 k d (drop_left about order l k d at))
         | inr past ↦
-            none-some d (ap (λ (y : LaneList). slice_get y.drops k) (sym (lane_past about order l past)) ∙ at)
+            none-some d (ap (λ (y : LaneList). slice_get y.drops k)
+            (sym (lane_past about order l past)) ∙ at)
       ]

@@ -1,5 +1,6 @@
 -- The laws of heads and of lanes that were found empty, by own steps.
-use Rattle.std.proofs.Common.{◌≡◌, inl, inr, ℕ, zero, suc, ◌+◌, ◌<◌, ◌≤◌, List, length, sym, refl, ap, ◌∙◌, subst, arith}
+use Rattle.std.proofs.Common.{◌≡◌, inl, inr, ℕ, zero, suc, ◌+◌, ◌<◌, ◌≤◌, List, length, sym, refl}
+use Rattle.std.proofs.Common.{ap, ◌∙◌, subst, arith}
 use Rattle.std.proofs.lemmas.Bool.{cases_eq}
 use Rattle.linearization.specs.Orders.{StepBy}
 use Rattle.history.specs.declared.lane_list.LaneList.{LaneList}
@@ -37,7 +38,8 @@ bit-small : (h : ℕ) → lanes.bit h ≤ 1
 bit-small zero = omega arith
 bit-small (suc h) = omega arith
 
-module _ (about : BoardSizes) (order : List (StepBy BoardStep)) (lawful : IsLawful about order) where
+module _ (about : BoardSizes) (order : List (StepBy BoardStep))
+    (lawful : IsLawful about order) where
   abbrev lists : BoardLists
   lists = lists_of about order
 
@@ -60,7 +62,8 @@ module _ (about : BoardSizes) (order : List (StepBy BoardStep)) (lawful : IsLawf
       record {
         rise = λ q j k l before word less loads loads'. (
             let up = rise order q j k (Weighed l word) less loads' in
-            let more = retired_later about order (when order q j) (when order q k) l (omega arith) in
+            let more = retired_later about order (when order q j) (when order q k) l
+            (omega arith) in
             let a = (head_is q j l before loads).0 in
             let b = (head_is q k l word loads').0 in omega arith);
         from_start = λ q k l word loads. (let a = (head_is q k l word loads).0 in omega arith);

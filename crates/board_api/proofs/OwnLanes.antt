@@ -1,5 +1,6 @@
 -- The laws of holds, deliveries and of the one server of a lane, by own steps.
-use Rattle.std.proofs.Common.{◌≡◌, inl, inr, ℕ, suc, ◌+◌, ◌-◌, ◌*◌, ◌<◌, List, length, Some, sym, ap, ◌∙◌, subst, arith}
+use Rattle.std.proofs.Common.{◌≡◌, inl, inr, ℕ, suc, ◌+◌, ◌-◌, ◌*◌, ◌<◌, List, length, Some, sym}
+use Rattle.std.proofs.Common.{ap, ◌∙◌, subst, arith}
 use Rattle.std.specs.Prelude.{slice_get}
 use Rattle.std.proofs.lemmas.Bool.{cases_eq, cases_lt}
 use Rattle.steer_base.specs.Lanes.{LaneLists}
@@ -34,7 +35,8 @@ use Rattle.board_api.proofs.Owners.{retired_own, retires}
 use Rattle.board_api.proofs.OwnPuts.{front_of, lane_of}
 use Rattle.board_api.proofs.OwnTimes.{in_time, moments, own, same_step, step_is, when}
 
-module _ (about : BoardSizes) (order : List (StepBy BoardStep)) (lawful : IsLawful about order) where
+module _ (about : BoardSizes) (order : List (StepBy BoardStep))
+    (lawful : IsLawful about order) where
   abbrev lists : BoardLists
   lists = lists_of about order
 
@@ -58,7 +60,8 @@ module _ (about : BoardSizes) (order : List (StepBy BoardStep)) (lawful : IsLawf
             subst (Rattle.board_api.specs.Lists.IsLaneOf about l) here
             (lane_of about (past m order) l may.0);
         front = front_of about order l found may.0
-            (subst (λ (z : LaneLists). Rattle.hop_rule.specs.Fronts.IsEarlier z (lane_at about order l))
+            (subst (λ (z : LaneLists). Rattle.hop_rule.specs.Fronts.IsEarlier z
+            (lane_at about order l))
             here
             (subst (λ (z : List (StepBy BoardStep)).
             Rattle.hop_rule.specs.Fronts.IsEarlier (lane_at about (past m order) l)
@@ -69,7 +72,8 @@ module _ (about : BoardSizes) (order : List (StepBy BoardStep)) (lawful : IsLawf
       }
 
   out_hold_finds : (q k o word : ℕ) (found : OutList)
-      → Has (own order q) k (Lane (OutHeld o word found)) → OutHoldFinds about (own order) lists o word found
+      → Has (own order q) k (Lane (OutHeld o word found)) → OutHoldFinds about
+      (own order) lists o word found
   out_hold_finds q k o word found does =
       let d : BoardStep = Lane (OutHeld o word found) in
       let m : ℕ = when order q k in
@@ -183,24 +187,28 @@ module _ (about : BoardSizes) (order : List (StepBy BoardStep)) (lawful : IsLawf
       record { seat = t.seat; step = f.0; from = t.from; does = f.1 }
 
   places_apart : (p q j k o from to x y place : ℕ)
-      → Has (own order p) j (Lane (Given o from x place)) → Has (own order q) k (Lane (Given o to y place))
+      → Has (own order p) j (Lane (Given o from x place)) → Has (own order q) k
+      (Lane (Given o to y place))
       → (p ≡ q) × (j ≡ k)
   places_apart p q j k o from to x y place does did =
       let a = step_is order p j (Lane (Given o from x place)) does in
       let b = step_is order q k (Lane (Given o to y place)) did in
       elim (cases_lt (when order p j) (when order q k)) [
         | inl before ↦
-            (let up = places_rise about order lawful (when order p j) (when order q k) p q o from to x y place
+            (let up = places_rise about order lawful (when order p j)
+            (when order q k) p q o from to x y place
             place before a b in
             absurd (omega arith))
         | inr le ↦
             elim (cases_eq (when order p j) (when order q k)) [
               | inr ne ↦
-                  (let up = places_rise about order lawful (when order q k) (when order p j) q p o to from y x place
+                  (let up = places_rise about order lawful (when order q k)
+                  (when order p j) q p o to from y x place
                   place (omega arith) b a in
                   absurd (omega arith))
               | inl e ↦
-                  same_step order p q j k (Lane (Given o from x place)) (Lane (Given o to y place)) does
+                  same_step order p q j k (Lane (Given o from x place))
+                  (Lane (Given o to y place)) does
                   did e
             ]
       ]

@@ -1,5 +1,6 @@
 -- The laws of puts, by own steps.
-use Rattle.std.proofs.Common.{◌≡◌, inl, inr, ℕ, suc, ◌<◌, List, [], ◌∷◌, length, Option, Some, None, sym, refl, ap, ◌∙◌, subst, arith}
+use Rattle.std.proofs.Common.{◌≡◌, inl, inr, ℕ, suc, ◌<◌, List, [], ◌∷◌, length, Option, Some, None}
+use Rattle.std.proofs.Common.{sym, refl, ap, ◌∙◌, subst, arith}
 use Rattle.std.proofs.lemmas.Bool.{cases_eq, cases_lt}
 use Rattle.steer_base.specs.Drops.{bucket_of, lane_drop_cause}
 use Rattle.steer_base.specs.Lanes.{LaneLists}
@@ -42,7 +43,8 @@ record Shape (about : BoardSizes) (l : ℕ) (x : LaneLists) : Type 0 where
   limited : x.limited ≡ has about.limited l
 
 put_shape : (about : BoardSizes) (l id : ℕ) (hash : Option ℕ) (x : LaneLists)
-    (cause : Option DropCause) → Shape about l x → Shape about l (put_by cause x id (bucket_of hash))
+    (cause : Option DropCause) → Shape about l x → Shape about l
+    (put_by cause x id (bucket_of hash))
 put_shape about l id hash x None t =
     record { limit = t.limit; room = t.room; start = t.start; limited = t.limited }
 put_shape about l id hash x (Some cause) t =
@@ -86,7 +88,8 @@ front_of about order l x within t =
 
 -- ---- own puts
 
-module _ (about : BoardSizes) (order : List (StepBy BoardStep)) (lawful : IsLawful about order) where
+module _ (about : BoardSizes) (order : List (StepBy BoardStep))
+    (lawful : IsLawful about order) where
   abbrev lists : BoardLists
   lists = lists_of about order
 
@@ -138,7 +141,8 @@ module _ (about : BoardSizes) (order : List (StepBy BoardStep)) (lawful : IsLawf
   module _ (p q j k l x y : ℕ) (hash other : Option ℕ) (answer reply : Put)
       (does : Has (own order p) j (put_step l x hash answer))
       (did : Has (own order q) k (put_step l y other reply)) (a b : LaneLists)
-      (finds : held_before (own order p) j l ≡ Some a) (found : held_before (own order q) k l ≡ Some b) where
+      (finds : held_before (own order p) j l ≡ Some a)
+      (found : held_before (own order q) k l ≡ Some b) where
     pub in_turn : when order p j < when order q k → IsEarlier (after_put a x hash) b
     in_turn less =
         subst (λ (z : LaneLists × LaneLists). IsEarlier (after_put z.0 x hash) z.1)
@@ -167,7 +171,8 @@ module _ (about : BoardSizes) (order : List (StepBy BoardStep)) (lawful : IsLawf
                   inr (inr (in_turn q p k j l y x other hash reply answer did does b a found finds
                   (omega arith)))
               | inl e ↦
-                  inl (same_step order p q j k (put_step l x hash answer) (put_step l y other reply) does
+                  inl (same_step order p q j k (put_step l x hash answer)
+                  (put_step l y other reply) does
                   did e)
             ]
       ]
@@ -176,10 +181,12 @@ module _ (about : BoardSizes) (order : List (StepBy BoardStep)) (lawful : IsLawf
 
   pub accepted_were_put : AcceptedWerePut about (own order) lists
   accepted_were_put l j id at =
-      let t = each_accepted_was_put about order lawful l j id (accepted_left about order l j id at) in
+      let t = each_accepted_was_put about order lawful l j id
+      (accepted_left about order l j id at) in
       let f = (moments order t.seat).own t.moment (put_step l id t.hash t.answer) t.is in
       let k : ℕ = f.0 in
-      let here : put.lane_then about order t.moment l ≡ put.lane_then about order (when order t.seat k) l =
+      let here : put.lane_then about order t.moment l ≡ put.lane_then about order
+      (when order t.seat k) l =
       ap (λ n. put.lane_then about order n l) (sym f.2) in
       record {
         seat = t.seat;
@@ -214,7 +221,8 @@ module _ (about : BoardSizes) (order : List (StepBy BoardStep)) (lawful : IsLawf
       let t = each_drop_was_put about order lawful l j d (drop_left about order l j d at) in
       let f = (moments order t.seat).own t.moment (put_step l d.id t.hash t.answer) t.is in
       let k : ℕ = f.0 in
-      let here : put.lane_then about order t.moment l ≡ put.lane_then about order (when order t.seat k) l =
+      let here : put.lane_then about order t.moment l ≡ put.lane_then about order
+      (when order t.seat k) l =
       ap (λ n. put.lane_then about order n l) (sym f.2) in
       record {
         seat = t.seat;

@@ -12,7 +12,8 @@ use Rattle.hop_rule.specs.declared.step.GateStep.TheVariants.{Entered, Left, Rea
 use Rattle.hop_rule.proofs.Boards.{lawful_past, step_lawful}
 use Rattle.hop_rule.proofs.Moments.{nth-inside}
 use Rattle.hop_rule.proofs.Numbers.{none_between}
-use Rattle.hop_rule.proofs.Openings.{settings_are_the_closers, visits_are_numbered, visits_read_settings}
+use Rattle.hop_rule.proofs.Openings.{settings_are_the_closers, visits_are_numbered}
+use Rattle.hop_rule.proofs.Openings.{visits_read_settings}
 use Rattle.board_api.specs.Closings.Finals.{lists_of}
 use Rattle.board_api.specs.Laws.Heads.{ReadsAreSettings, VisitNumbersRise}
 use Rattle.board_api.specs.OwnSteps.{Has, visit_before}

@@ -1,5 +1,6 @@
 -- The deliveries, pulls and retires of a lane are those of the one seat that serves it.
-use Rattle.std.proofs.Common.{◌≡◌, ◌≢◌, ℕ, ◌+◌, List, [], ◌∷◌, length, Option, Some, None, sym, refl, ap, ◌∙◌, subst, arith}
+use Rattle.std.proofs.Common.{◌≡◌, ◌≢◌, ℕ, ◌+◌, List, [], ◌∷◌, length, Option, Some, None, sym}
+use Rattle.std.proofs.Common.{refl, ap, ◌∙◌, subst, arith}
 use Rattle.std.specs.List.{cons_option, filter_map}
 use Rattle.std.specs.Prelude.{slice_get}
 use mathlib.Core.Logic.{dite}
@@ -27,7 +28,8 @@ use Rattle.hop_rule.proofs.Cases.{pick}
 use Rattle.hop_rule.proofs.Deliveries.{lanes_grow}
 use Rattle.hop_rule.proofs.Lanes.{holds}
 use Rattle.hop_rule.proofs.Lists.{none-some, some-is}
-use Rattle.board_api.specs.OwnSteps.{delivered_by, delivered_in, pulled_by, pulled_in, retired_by, retired_in}
+use Rattle.board_api.specs.OwnSteps.{delivered_by, delivered_in, pulled_by, pulled_in, retired_by}
+use Rattle.board_api.specs.OwnSteps.{retired_in}
 
 abbrev Order : Type 0
 Order = List (StepBy BoardStep)
@@ -61,7 +63,8 @@ module _ (about : BoardSizes) (l : ℕ) where
       ≡ cons_option (delivered_in l d) (given l (lanes_of es))
   given_adds q (Lane (Given o from id place)) es may =
       pick from l (delivery o id place ∷ given l (lanes_of es)) (given l (lanes_of es))
-      (λ gs. gs ≡ cons_option (delivered_in l (Lane (Given o from id place))) (given l (lanes_of es)))
+      (λ gs. gs ≡ cons_option (delivered_in l (Lane (Given o from id place)))
+      (given l (lanes_of es)))
       (λ e. pick from l (Some (delivery o id place)) None
       (λ z. delivery o id place ∷ given l (lanes_of es) ≡ cons_option z (given l (lanes_of es)))
       (λ _. refl) (λ ne. absurd (ne e)))
@@ -153,12 +156,14 @@ module _ (about : BoardSizes) (l : ℕ) where
   pulls_step q (Lane (Freed i (Offered id hash answer))) es lawful may t =
       let x : LaneLists = lane_at about es l in
       let d : BoardStep = Lane (Freed i (Offered id hash answer)) in
-      let keeps = lanes_grow about (step_by q (Freed i (Offered id hash answer)) ∷ []) (lanes_of es) l in
+      let keeps = lanes_grow about (step_by q (Freed i (Offered id hash answer)) ∷ [])
+      (lanes_of es) l in
       let same =
       pick i l (after_put x id hash) x (λ (y : LaneLists). y.pulled ≡ x.pulled)
       (λ _. put_pulled x id hash) (λ _. refl) in (
         same ∙ t.0,
-        first-more (all_of (pulled_in l) es) x.accepted (lane_at about (step_by q d ∷ es) l).accepted
+        first-more (all_of (pulled_in l) es) x.accepted
+            (lane_at about (step_by q d ∷ es) l).accepted
             keeps.1 t.1,
       )
   pulls_step q (Lane (Freed i Nothing)) es lawful may t =

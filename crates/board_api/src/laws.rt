@@ -1,5 +1,5 @@
-//! What the seats' own lists and the lists that a board leaves tell of each other, each the contract
-//! of a function that does nothing.
+//! What the seats' own lists and the lists that a board leaves tell of each other, each the
+//! contract of a function that does nothing.
 ghost use Rattle.board_api.specs.Closings.Closings.{AtEachClosing, EachOrderCloses};
 ghost use Rattle.board_api.specs.Laws.Heads.{EmptiedLanesStandFirst, HeadsAreBelowTails};
 ghost use Rattle.board_api.specs.Laws.Heads.{HeadsArePassed, HeadsRise, ReadsAreSettings};
@@ -60,8 +60,9 @@ pub fn loaded_heads_are_passed()
     ensures { AtEachClosing HeadsArePassed }
 {}
 
-/// The numbers of a seat's visits never fall. What a visit reads are the settings after the closer's
-/// own sets before the last opening that its number counts, and the closer reads what its sets left.
+/// The numbers of a seat's visits never fall. What a visit reads are the settings after the
+/// closer's own sets before the last opening that its number counts, and the closer reads what its
+/// sets left.
 pub fn visits_read_the_closers_settings()
     ensures numbers { AtEachClosing VisitNumbersRise }
     ensures settings { AtEachClosing ReadsAreSettings }

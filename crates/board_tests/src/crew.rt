@@ -9,9 +9,9 @@ use crate::notes::Notes;
 use crate::rounds::Stuck;
 use crate::told::START;
 use crate::worker::{PACKETS, Worker};
+use board_api::{BoardLists, BoardSeat};
 use hop_board::Board;
 use hop_core::HopShape;
-use board_api::{BoardLists, BoardSeat};
 use std::alloc::Global;
 use steer_base::CpuMask;
 

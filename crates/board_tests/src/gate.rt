@@ -1,9 +1,9 @@
 //! A visit, a close and a look at lanes, on a board of two seats.
 ghost use Rattle.std.specs.Prelude.{◌≡◌};
 
+use board_api::{CloseAnswer, Emptied, EnterAnswer, Hold, LaneId};
 use hop_board::Board;
 use hop_core::HopShape;
-use board_api::{CloseAnswer, Emptied, EnterAnswer, Hold, LaneId};
 use std::alloc::Global;
 use std::process::Abort;
 use std::test::Fail;
@@ -32,7 +32,8 @@ fn small_shape(counts: Vec<u32>, start: u32) -> HopShape
 }
 
 // What two seats were answered: the room of the held lane, its word, the position of the packet and
-// the head that its visitor read, what the lanes showed behind the closed gate, and the gate's word.
+// the head that its visitor read, what the lanes showed behind the closed gate, and the gate's
+// word.
 #[derive(Drop)]
 struct Answers {
     room: u32,

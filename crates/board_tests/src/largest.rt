@@ -1,9 +1,9 @@
 //! Boards of all sizes are made, and closed before any step.
 ghost use Rattle.std.specs.Prelude.{◌≡◌, ◌≤◌};
 
+use board_api::BoardLists;
 use hop_board::Board;
 use hop_core::HopShape;
-use board_api::BoardLists;
 use std::alloc::Global;
 use std::test::Fail;
 use steer_base::{CpuMask, OutOfMemory};

@@ -15,8 +15,8 @@ use crate::told::{
     gifts_stand, given_to, heads_rise, lane_was_served, offers_stand, put_to, settings_rise,
 };
 use crate::worker::{Worker, work};
-use hop_board::Board;
 use board_api::{BoardLists, BoardSeat};
+use hop_board::Board;
 use std::process::Abort;
 use std::test::Fail;
 use std::thread::{Threads, join};

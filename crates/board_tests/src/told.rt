@@ -1,7 +1,7 @@
 //! The notes of threads beside the lists that their board left.
 use crate::notes::{Notes, Offer};
-use history::LaneList;
 use board_api::BoardLists;
+use history::LaneList;
 use steer_base::{LaneDrop, Put};
 
 /// The number that the counters of the lanes show at no packet.

@@ -1,6 +1,8 @@
 -- The capture of the packets of a seed.
-use Rattle.std.proofs.Common.{◌≡◌, ◌≤◌, ◌<◌, ℕ, ◌+◌, ◌%◌, List, ◌++◌, All, sym, ap, subst, ◌∙◌, arith}
-use Rattle.std.proofs.lemmas.List.FromFn.{get_or-map-range_with_len, length-map-range_with_len, map-range_with_len_more}
+use Rattle.std.proofs.Common.{◌≡◌, ◌≤◌, ◌<◌, ℕ, ◌+◌, ◌%◌, List, ◌++◌, All, sym, ap, subst, ◌∙◌}
+use Rattle.std.proofs.Common.{arith}
+use Rattle.std.proofs.lemmas.List.FromFn.{get_or-map-range_with_len, length-map-range_with_len}
+use Rattle.std.proofs.lemmas.List.FromFn.{map-range_with_len_more}
 use Rattle.pcap_reader.specs.Captures as captures
 use Rattle.pcap_reader.specs.Laws.{GrowsByPacket, ReadsBack}
 use Rattle.pcap_reader.specs.Writing.{CanBeWritten, packet_bytes, capture_bytes, capture_of}
@@ -8,29 +10,41 @@ use Rattle.plan_reader.specs.Seeds.{word_of}
 use Rattle.cap_gen.specs.Packets.{frame_of, packet_of, packets_of}
 
 -- the bytes of i packets and of the next one
-pub one_more : (seed flows i word : ℕ) (frame old new : List ℕ) → GrowsByPacket → old ≡ capture_bytes (packets_of seed flows i)
-    → word ≡ word_of seed i → frame ≡ frame_of (word % flows) → new ≡ old ++ packet_bytes (record { sec = i; frac = 0; frame = frame })
+pub one_more : (seed flows i word : ℕ) (frame old new : List ℕ) → GrowsByPacket
+    → old ≡ capture_bytes (packets_of seed flows i)
+    → word ≡ word_of seed i → frame ≡ frame_of (word % flows) → new ≡ old ++ packet_bytes
+    (record { sec = i; frac = 0; frame = frame })
     → new ≡ capture_bytes (packets_of seed flows (i + 1))
 one_more seed flows i word frame old new grows before is_word is_frame after =
-    let same : frame ≡ frame_of (word_of seed i % flows) = is_frame ∙ ap (λ w. frame_of (w % flows)) is_word in
+    let same : frame ≡ frame_of (word_of seed i % flows) =
+    is_frame ∙ ap (λ w. frame_of (w % flows)) is_word in
     after
     ∙ ap (λ bytes. bytes ++ packet_bytes (record { sec = i; frac = 0; frame = frame })) before
-    ∙ ap (λ f. capture_bytes (packets_of seed flows i) ++ packet_bytes (record { sec = i; frac = 0; frame = f })) same
+    ∙ ap (λ f. capture_bytes (packets_of seed flows i) ++ packet_bytes
+    (record { sec = i; frac = 0; frame = f })) same
     ∙ sym (grows (packets_of seed flows i) (packet_of seed flows i))
     ∙ ap capture_bytes (sym (map-range_with_len_more (packet_of seed flows) 0 i i (omega arith)))
 
 can_be_written : (seed flows i : ℕ) → i < 262144 → CanBeWritten (packet_of seed flows i)
 unfolding frame_of
-can_be_written seed flows i few = record { sec = omega (arith, few); frac = omega arith; frame = omega arith }
+can_be_written seed flows i few = record {
+  sec = omega (arith, few);
+  frac = omega arith;
+  frame = omega arith;
+}
 
 all_can_be_written : (seed flows n : ℕ) → n ≤ 262144 → All CanBeWritten (packets_of seed flows n)
 all_can_be_written seed flows n few = λ i d inside.
-    let below : i < n = omega (arith, inside, length-map-range_with_len (packet_of seed flows) 0 n) in
-    rw (get_or-map-range_with_len (packet_of seed flows) 0 n i i d below (omega arith)) (can_be_written seed flows i (omega (arith, below, few)))
+    let below : i < n =
+    omega (arith, inside, length-map-range_with_len (packet_of seed flows) 0 n) in
+    rw (get_or-map-range_with_len (packet_of seed flows) 0 n i i d below (omega arith))
+    (can_be_written seed flows i (omega (arith, below, few)))
 
 -- those bytes have the capture of the packets
-pub has_capture : (seed flows n : ℕ) (bytes : List ℕ) → ReadsBack → n ≤ 262144 → bytes ≡ capture_bytes (packets_of seed flows n)
+pub has_capture : (seed flows n : ℕ) (bytes : List ℕ) → ReadsBack → n ≤ 262144
+    → bytes ≡ capture_bytes (packets_of seed flows n)
     → captures.HasCapture bytes (capture_of (packets_of seed flows n))
 has_capture seed flows n bytes reads few same =
     subst (λ b. captures.HasCapture b (capture_of (packets_of seed flows n))) (sym same)
-    (reads (packets_of seed flows n) (all_can_be_written seed flows n few) (rw (length-map-range_with_len (packet_of seed flows) 0 n) few))
+    (reads (packets_of seed flows n) (all_can_be_written seed flows n few)
+    (rw (length-map-range_with_len (packet_of seed flows) 0 n) few))

@@ -17,17 +17,21 @@ unfoldable pub generator_at : ℕ → ℕ → Lcg
 generator_at seed i = advance 64 multiplier_64 i (generator seed)
 
 -- a new generator gave no word yet
-pub generator_at-new : (seed : ℕ) (s : Lcg) → s ≡ started 64 multiplier_64 seed (increment_of 64 54) → s ≡ generator_at seed 0
+pub generator_at-new : (seed : ℕ) (s : Lcg) → s ≡ started 64 multiplier_64 seed (increment_of 64 54)
+    → s ≡ generator_at seed 0
 unfolding generator generator_at state_after
 generator_at-new seed s new = new
 
 -- what it gives next is word i
-pub word_at : (seed i word : ℕ) (s t : Lcg) → (word, t) ≡ pcg32 s → s ≡ generator_at seed i → word ≡ word_of seed i
+pub word_at : (seed i word : ℕ) (s t : Lcg) → (word, t) ≡ pcg32 s → s ≡ generator_at seed i
+    → word ≡ word_of seed i
 unfolding generator_at word_of
 word_at seed i word s t step at = ap (λ (p : ℕ × Lcg). p.0) step ∙ ap (λ g. (pcg32 g).0) at
 
 -- and then it gave i + 1
-pub generator_at-more : (seed i word : ℕ) (s t : Lcg) → (word, t) ≡ pcg32 s → s ≡ generator_at seed i → t ≡ generator_at seed (i + 1)
+pub generator_at-more : (seed i word : ℕ) (s t : Lcg) → (word, t) ≡ pcg32 s
+    → s ≡ generator_at seed i → t ≡ generator_at seed (i + 1)
 unfolding generator_at
 generator_at-more seed i word s t step at =
-    ap (λ (p : ℕ × Lcg). p.1) step ∙ ap (λ g. next 64 multiplier_64 g) at ∙ next-advance 64 multiplier_64 i (generator seed)
+    ap (λ (p : ℕ × Lcg). p.1) step ∙ ap (λ g. next 64 multiplier_64 g) at
+    ∙ next-advance 64 multiplier_64 i (generator seed)

@@ -17,10 +17,12 @@ port_of flow = 1024 + flow % 32768
 abbrev pub ethernet : List ℕ
 ethernet = 2 ∷ 0 ∷ 0 ∷ 0 ∷ 0 ∷ 2 ∷ 2 ∷ 0 ∷ 0 ∷ 0 ∷ 0 ∷ 1 ∷ 8 ∷ 0 ∷ []
 
--- IPv4 (RFC 791) with a header of 20 bytes, 40 bytes in all, a time to live of 64 and TCP; to 10.128.0.1
+-- IPv4 (RFC 791) with a header of 20 bytes, 40 bytes in all, a time to live of 64 and TCP; to
+-- 10.128.0.1
 abbrev pub ip_header : ℕ → List ℕ
 ip_header flow =
-    (0x45 ∷ 0 ∷ 0 ∷ 40 ∷ 0 ∷ 0 ∷ 0 ∷ 0 ∷ 64 ∷ 6 ∷ 0 ∷ 0 ∷ []) ++ (big_bytes 4 (source_of flow) ++ (10 ∷ 128 ∷ 0 ∷ 1 ∷ []))
+    (0x45 ∷ 0 ∷ 0 ∷ 40 ∷ 0 ∷ 0 ∷ 0 ∷ 0 ∷ 64 ∷ 6 ∷ 0 ∷ 0 ∷ []) ++ (big_bytes 4 (source_of flow)
+    ++ (10 ∷ 128 ∷ 0 ∷ 1 ∷ []))
 
 -- TCP (RFC 9293) with a header of 20 bytes; to port 80
 abbrev pub tcp_header : ℕ → List ℕ

@@ -1,6 +1,8 @@
--- The plan of a generated capture as a JSON value, with the keys of each object in the order of their bytes.
+-- The plan of a generated capture as a JSON value, with the keys of each object in the order of
+-- their bytes.
 use Rattle.std.specs.Prelude.{ℕ, ◌*◌, codes, min}
-use Rattle.serde_json.specs.Data.{Data, number, unsigned, array, object, item, no_items, member, no_members}
+use Rattle.serde_json.specs.Data.{Data, number, unsigned, array, object, item, no_items, member}
+use Rattle.serde_json.specs.Data.{no_members}
 
 -- how many steps are made of the seed: four for each packet, and no more than a plan may have
 abbrev pub step_count : ℕ → ℕ

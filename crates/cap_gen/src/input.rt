@@ -54,7 +54,8 @@ pub fn generate(
     // The text is the compact JSON of the plan's value, and is read as the plan.
     ensures plan_text { IfOk result
         (λ made. made.plan.items ≡ compact_text (plan_value seed (step_count packets))) }
-    ensures plan { IfOk result (λ made. plan_of made.plan.items ≡ Ok (plan_for seed (step_count packets))) }
+    ensures plan { IfOk result (λ made. plan_of made.plan.items ≡ Ok
+        (plan_for seed (step_count packets))) }
 {
     captures_read_back();
     let capture = capture_bytes(alloc, seed, packets, flows)?;

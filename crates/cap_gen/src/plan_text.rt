@@ -3,7 +3,8 @@ ghost use Rattle.std.specs.Prelude.{◌≡◌, ◌≤◌, IfOk, Ok};
 ghost use Rattle.serde_json.specs.View.{view};
 ghost use Rattle.serde_json.specs.Written.{compact_text};
 ghost use Rattle.plan_reader.specs.PlanTexts.{plan_of};
-ghost use Rattle.cap_gen.specs.PlanValues.{all_four, for_each, queue_value, tx_value, steps_value, plan_value};
+ghost use Rattle.cap_gen.specs.PlanValues.{all_four, for_each, queue_value, tx_value, steps_value};
+ghost use Rattle.cap_gen.specs.PlanValues.{plan_value};
 ghost use Rattle.cap_gen.specs.Plans.{plan_for};
 
 use serde_json::{Value, json};

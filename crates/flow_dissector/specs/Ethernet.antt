@@ -1,5 +1,7 @@
--- From a frame to the IP packet in it (IEEE 802.3, IEEE 802.1Q, and RFC 894 and RFC 2464 for the two types).
-use Rattle.std.specs.Prelude.{ℕ, zero, suc, Bool, not, ◌||◌, ◌==◌, List, length, drop, nat_lt, if◌then◌else◌, Option, None}
+-- From a frame to the IP packet in it (IEEE 802.3, IEEE 802.1Q, and RFC 894 and RFC 2464 for the
+-- two types).
+use Rattle.std.specs.Prelude.{ℕ, zero, suc, Bool, not, ◌||◌, ◌==◌, List, length, drop, nat_lt}
+use Rattle.std.specs.Prelude.{if◌then◌else◌, Option, None}
 use Rattle.std.specs.Option.{option_and_then}
 use Rattle.byteorder.specs.Endian.{big_number}
 use Rattle.flow_dissector.specs.Carried.{Carried, carries}

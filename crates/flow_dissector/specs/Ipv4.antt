@@ -1,5 +1,6 @@
 -- An IPv4 packet (RFC 791, section 3.1).
-use Rattle.std.specs.Prelude.{ℕ, ◌*◌, ◌/◌, ◌%◌, ◌^◌, Bool, not, ◌&&◌, ◌==◌, List, length, drop, nat_le, slice_index, if◌then◌else◌, Option, None}
+use Rattle.std.specs.Prelude.{ℕ, ◌*◌, ◌/◌, ◌%◌, ◌^◌, Bool, not, ◌&&◌, ◌==◌, List, length, drop}
+use Rattle.std.specs.Prelude.{nat_le, slice_index, if◌then◌else◌, Option, None}
 use Rattle.byteorder.specs.Endian.{big_number}
 use Rattle.steer_base.specs.declared.flow.Pair.{Pair}
 use Rattle.steer_base.specs.declared.flow.Pair.TheVariants.{V4}
@@ -34,4 +35,5 @@ ipv4_payload packet =
 
 -- the flow of bytes that are to be an IPv4 packet
 unfoldable pub ipv4_flow : List ℕ → Flow
-ipv4_flow packet = if is_ipv4 packet then flow_between (ipv4_pair packet) (ipv4_payload packet) else Bare
+ipv4_flow packet = if is_ipv4 packet then flow_between (ipv4_pair packet)
+    (ipv4_payload packet) else Bare

@@ -1,5 +1,7 @@
 -- An IPv6 packet (RFC 8200, sections 3 and 4).
-use Rattle.std.specs.Prelude.{ℕ, zero, suc, ◌+◌, ◌*◌, ◌/◌, Bool, not, ◌&&◌, ◌||◌, ◌==◌, List, length, drop, nat_le, nat_lt, slice_index, if◌then◌else◌, Option, None}
+use Rattle.std.specs.Prelude.{ℕ, zero, suc, ◌+◌, ◌*◌, ◌/◌, Bool, not, ◌&&◌, ◌||◌, ◌==◌, List}
+use Rattle.std.specs.Prelude.{length, drop, nat_le, nat_lt, slice_index, if◌then◌else◌, Option}
+use Rattle.std.specs.Prelude.{None}
 use Rattle.std.specs.Option.{option_and_then}
 use Rattle.byteorder.specs.Endian.{big_number}
 use Rattle.steer_base.specs.declared.flow.Pair.{Pair}
@@ -29,8 +31,9 @@ is_extension next = next == 0 || next == 43 || next == 60
 abbrev pub extension_len : List ℕ → ℕ
 extension_len bytes = (slice_index bytes 1 + 1) * 8
 
--- what at most so many extensions carry, the first of which has the number `next`: each begins with the
--- number of the next header and its own length. One that is not whole, or one too many, carries nothing.
+-- what at most so many extensions carry, the first of which has the number `next`: each begins with
+-- the number of the next header and its own length. One that is not whole, or one too many, carries
+-- nothing.
 unfoldable pub after_extensions : ℕ → ℕ → List ℕ → Option Carried
 after_extensions zero next bytes = if not (is_extension next) then carries next bytes else None
 after_extensions (suc left) next bytes =
@@ -45,8 +48,10 @@ unfragmented carried = if carried.kind == 44 then None else carries carried.kind
 
 -- what the header and at most eight extensions carry
 unfoldable pub ipv6_payload : List ℕ → Option Carried
-ipv6_payload packet = option_and_then unfragmented (after_extensions 8 (slice_index packet 6) (drop 40 packet))
+ipv6_payload packet = option_and_then unfragmented (after_extensions 8 (slice_index packet 6)
+    (drop 40 packet))
 
 -- the flow of bytes that are to be an IPv6 packet
 unfoldable pub ipv6_flow : List ℕ → Flow
-ipv6_flow packet = if is_ipv6 packet then flow_between (ipv6_pair packet) (ipv6_payload packet) else Bare
+ipv6_flow packet = if is_ipv6 packet then flow_between (ipv6_pair packet)
+    (ipv6_payload packet) else Bare

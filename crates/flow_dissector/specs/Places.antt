@@ -9,12 +9,14 @@ use Rattle.flow_dissector.specs.Frame.{payload_in}
 
 -- the type of a frame's IP packet, and how many bytes stand before it
 unfoldable pub ip_at : List ℕ → Option IpAt
-ip_at frame = option_map (λ c. record { kind = c.kind; start = length frame - length c.bytes }) (packet_in frame)
+ip_at frame = option_map (λ c. record { kind = c.kind; start = length frame - length c.bytes })
+    (packet_in frame)
 
 -- the protocol of a packet's payload, and how many bytes stand before it
 unfoldable pub payload_at : ℕ → List ℕ → Option Payload
 payload_at kind packet =
-    option_map (λ c. record { proto = c.kind; start = length packet - length c.bytes }) (payload_in kind packet)
+    option_map (λ c. record { proto = c.kind; start = length packet - length c.bytes })
+    (payload_in kind packet)
 
 -- the packet that begins at that place of the frame
 abbrev pub packet_from : List ℕ → IpAt → Carried

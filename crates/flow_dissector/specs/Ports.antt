@@ -1,5 +1,6 @@
 -- The flow that addresses and a payload make.
-use Rattle.std.specs.Prelude.{ℕ, ◌==◌, List, length, drop, nat_lt, if◌then◌else◌, Option, Some, None}
+use Rattle.std.specs.Prelude.{ℕ, ◌==◌, List, length, drop, nat_lt, if◌then◌else◌, Option, Some}
+use Rattle.std.specs.Prelude.{None}
 use Rattle.byteorder.specs.Endian.{big_number}
 use Rattle.steer_base.specs.declared.flow.Pair.{Pair}
 use Rattle.steer_base.specs.declared.flow.Proto.{Proto}

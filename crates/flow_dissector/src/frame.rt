@@ -11,9 +11,9 @@ use crate::ipv6::{ipv6_flow, ipv6_payload, is_ipv6};
 use crate::payload::Payload;
 use steer_base::Flow;
 
-/// The flow of an Ethernet frame (IEEE 802.1Q, RFC 791, RFC 8200): `Bare` where it carries no whole IP
-/// header, `Two` for a fragment and for what has no ports, else `Four`. Total lengths, payload lengths
-/// and checksums are not looked at.
+/// The flow of an Ethernet frame (IEEE 802.1Q, RFC 791, RFC 8200): `Bare` where it carries no whole
+/// IP header, `Two` for a fragment and for what has no ports, else `Four`. Total lengths, payload
+/// lengths and checksums are not looked at.
 #[tactic(auto, unfolding(crate::specs::Frame::flow_of))]
 pub fn dissect(frame: &[u8]) -> Flow
     ensures flow { result ≡ flow_of frame.now }

@@ -9,8 +9,8 @@ use crate::ports::flow_between;
 use byteorder::{BigEndian, ByteOrder};
 use steer_base::{Flow, Pair};
 
-/// The bit of a packet that may not be cut. Below it stand the bit that says that more fragments follow, and the
-/// offset of a fragment.
+/// The bit of a packet that may not be cut. Below it stand the bit that says that more fragments
+/// follow, and the offset of a fragment.
 const DONT_FRAGMENT: u16 = 0x4000;
 
 /// How many bytes a header has at the least.

@@ -1,7 +1,8 @@
 //! An IPv6 packet (RFC 8200), over at most eight extension headers.
 ghost use Rattle.std.specs.Prelude.{◌≡◌, ◌+◌, ◌≤◌, length, drop, slice_index, IsTrue, IfSome};
 ghost use Rattle.std.specs.Option.{option_map};
-ghost use Rattle.flow_dissector.specs.Ipv6.{is_ipv6, ipv6_address, is_extension, after_extensions, ipv6_payload, ipv6_flow};
+ghost use Rattle.flow_dissector.specs.Ipv6.{is_ipv6, ipv6_address, is_extension, after_extensions};
+ghost use Rattle.flow_dissector.specs.Ipv6.{ipv6_payload, ipv6_flow};
 ghost use Rattle.flow_dissector.specs.Places.{payload_from};
 
 use crate::payload::Payload;

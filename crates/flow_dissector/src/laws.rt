@@ -1,5 +1,6 @@
 //! What follows from the definitions for every packet.
-ghost use Rattle.std.specs.Prelude.{◌≡◌, ℕ, List, Option, None, Some, IsTrue, ◌++◌, slice_index, drop};
+ghost use Rattle.std.specs.Prelude.{◌≡◌, ℕ, List, Option, None, Some, IsTrue, ◌++◌, slice_index};
+ghost use Rattle.std.specs.Prelude.{drop};
 ghost use Rattle.steer_base.specs.declared.flow.Flow.TheVariants.{Two, Four};
 ghost use Rattle.steer_base.specs.declared.flow.Pair.{Pair};
 ghost use Rattle.steer_base.specs.declared.flow.Proto.{Proto};
@@ -9,8 +10,8 @@ ghost use Rattle.flow_dissector.specs.Ipv4.{is_ipv4, is_ipv4_fragment, ipv4_pair
 ghost use Rattle.flow_dissector.specs.Ipv6.{is_ipv6, after_extensions, ipv6_pair};
 ghost use Rattle.flow_dissector.specs.Ports.{flow_between};
 
-/// The flow of a packet whose header is whole lies between its addresses, and has ports where the payload has
-/// them.
+/// The flow of a packet whose header is whole lies between its addresses, and has ports where the
+/// payload has them.
 #[tactic(auto, unfolding(crate::specs::Frame::ip_flow, crate::specs::Frame::payload_in, crate::specs::Ipv4::ipv4_flow, crate::specs::Ipv6::ipv6_flow))]
 pub fn flow_is_of_the_payload()
     ensures ipv4 { (packet : List ℕ) → IsTrue (is_ipv4 packet)
@@ -19,8 +20,8 @@ pub fn flow_is_of_the_payload()
         → ip_flow 0x86dd packet ≡ flow_between (ipv6_pair packet) (payload_in 0x86dd packet) }
 {}
 
-/// A fragment of an IPv4 packet, the first one too, has no payload that is known, and its flow is made of
-/// its addresses alone.
+/// A fragment of an IPv4 packet, the first one too, has no payload that is known, and its flow is
+/// made of its addresses alone.
 #[tactic(auto, unfolding(crate::specs::Frame::ip_flow, crate::specs::Frame::payload_in, crate::specs::Ipv4::ipv4_flow, crate::specs::Ipv4::ipv4_payload, crate::specs::Ports::flow_between))]
 pub fn ipv4_fragment_has_no_ports()
     ensures flow { (packet : List ℕ) → IsTrue (is_ipv4 packet) → IsTrue (is_ipv4_fragment packet)
@@ -29,8 +30,8 @@ pub fn ipv4_fragment_has_no_ports()
         → payload_in 0x0800 packet ≡ None }
 {}
 
-/// An IPv6 packet whose extensions lead to a fragment header has no payload that is known, and its flow is
-/// made of its addresses alone.
+/// An IPv6 packet whose extensions lead to a fragment header has no payload that is known, and its
+/// flow is made of its addresses alone.
 #[tactic(auto, unfolding(crate::specs::Frame::ip_flow, crate::specs::Frame::payload_in, crate::specs::Ipv6::ipv6_flow, crate::specs::Ipv6::ipv6_payload, crate::specs::Ports::flow_between))]
 pub fn ipv6_fragment_has_no_ports()
     ensures flow { (packet rest : List ℕ) → IsTrue (is_ipv6 packet)
@@ -41,8 +42,8 @@ pub fn ipv6_fragment_has_no_ports()
         → payload_in 0x86dd packet ≡ None }
 {}
 
-/// What stands behind the ports, as what a longer capture of the same frame has, changes no flow that has
-/// ports.
+/// What stands behind the ports, as what a longer capture of the same frame has, changes no flow
+/// that has ports.
 pub fn ports_end_the_flow()
     ensures { (frame more : List ℕ) (ends : Pair) (proto : Proto) (source destination : ℕ)
         → flow_of frame ≡ Four ends proto source destination

@@ -2,12 +2,12 @@
 ghost use Rattle.headline.specs.Laws.{ReplaysAreRight, ReportsHaveTheHeadline};
 
 use report::a_report_has_one_history;
+use steer_invariant::{every_replay_can_be_reported, every_replay_delivers_in_order};
+use steer_model::a_capture_has_one_list_of_packets;
 use steer_properties::{
     a_flow_moves_only_where_nothing_of_it_is_outstanding, every_choice_is_by_the_rule,
     every_history_is_of_its_input, every_reply_is_by_the_rule,
 };
-use steer_invariant::{every_replay_can_be_reported, every_replay_delivers_in_order};
-use steer_model::a_capture_has_one_list_of_packets;
 
 /// In every state of every replay each packet that arrived stands at exactly one place, every drop
 /// was by a full backlog or by the flow limit, the packets of each flow from each receive queue are

@@ -1,5 +1,7 @@
 -- The history of one packet is regular.
-use Rattle.std.proofs.Common.{ℕ, ◌≤◌, ◌<◌, ◌≡◌, ◌++◌, true, false, List, [], ◌∷◌, Option, Some, None, map, length, refl, ap, ◌∙◌, sym, arith, suc, zero, inl, inr, get_or, subst}
+use Rattle.std.proofs.Common.{ℕ, ◌≤◌, ◌<◌, ◌≡◌, ◌++◌, true, false, List, [], ◌∷◌, Option, Some}
+use Rattle.std.proofs.Common.{None, map, length, refl, ap, ◌∙◌, sym, arith, suc, zero, inl, inr}
+use Rattle.std.proofs.Common.{get_or, subst}
 use Rattle.std.specs.Prelude.{IsSome, slice_index}
 use Rattle.std.specs.List.{All}
 use Rattle.std.proofs.lemmas.Bool.{cases_eq}
@@ -9,7 +11,8 @@ use Rattle.steer_base.specs.declared.packet.Packet.{Packet}
 use Rattle.history.specs.Examples.{one_packet}
 use Rattle.history.specs.Finding.{is_in, Once}
 use Rattle.history.specs.Lines.{choice_in}
-use Rattle.history.specs.Lists.{accepted_lists, app_at, arrival_of, arrivals_at, drop_ids, packet_at, dropped_lists, lane_at, list_at}
+use Rattle.history.specs.Lists.{accepted_lists, app_at, arrival_of, arrivals_at, drop_ids}
+use Rattle.history.specs.Lists.{packet_at, dropped_lists, lane_at, list_at}
 use Rattle.history.specs.Regular.{AreDelivered, AreSteered, Regular}
 use Rattle.history.specs.declared.history.History.{History}
 use Rattle.history.proofs.FindingLemmas.{is_in-past}
@@ -34,7 +37,8 @@ once-none : Once []
 once-none i j a b e = absurd (omega arith)
 
 -- lists of which one alone has one packet
-apart-one : (lists : List (List ℕ)) (c : ℕ) → ((p i : ℕ) → i < length (get_or lists p []) → (p ≡ c) × (i ≡ 0)) → Apart lists
+apart-one : (lists : List (List ℕ)) (c : ℕ) → ((p i : ℕ) → i < length (get_or lists p []) → (p ≡ c)
+    × (i ≡ 0)) → Apart lists
 apart-one lists c one p q i j a b k l e =
     let left = one p i k in
     let right = one q j l in
@@ -72,7 +76,8 @@ module _ (packet : Packet) (start : ℕ) (flow : packet.flow_number ≡ 0) where
   dropped (suc (suc zero)) x s = in-none x s
   dropped (suc (suc (suc c))) x s = in-none x s
 
-  lanes-one : (p i : ℕ) → i < length (list_at (accepted_lists h.lanes ++ dropped_lists h.lanes) p) → (p ≡ 1) × (i ≡ 0)
+  lanes-one : (p i : ℕ) → i < length (list_at (accepted_lists h.lanes ++ dropped_lists h.lanes) p)
+      → (p ≡ 1) × (i ≡ 0)
   lanes-one zero i l = absurd (omega arith)
   lanes-one (suc zero) i l = (refl, omega arith)
   lanes-one (suc (suc zero)) i l = absurd (omega arith)
@@ -83,7 +88,8 @@ module _ (packet : Packet) (start : ℕ) (flow : packet.flow_number ≡ 0) where
 
   steered : AreSteered h
   steered = record {
-    accepted = λ c x s. let at = accepted c x s in (0, _, ap (λ n. choice_in n (list_at h.choices 0)) at.1, sym at.0);
+    accepted = λ c x s. let at = accepted c x s in
+        (0, _, ap (λ n. choice_in n (list_at h.choices 0)) at.1, sym at.0);
     dropped = λ c x s. absurd (dropped c x s);
     once = apart-one (accepted_lists h.lanes ++ dropped_lists h.lanes) 1 lanes-one;
   }
@@ -98,8 +104,13 @@ module _ (packet : Packet) (start : ℕ) (flow : packet.flow_number ≡ 0) where
 
   delivered : AreDelivered (packet ∷ []) 1 h
   delivered = record {
-    accepted = λ a x s. let at = inbox a x s in (1, subst (λ n. is_in n (0 ∷ []) ≡ true) (sym at.1) refl);
-    own = λ a x s. let at = inbox a x s in ap (app_at (packet ∷ []) 1) at.1 ∙ no-app packet.hash ∙ sym at.0;
+    accepted = λ a x s. let at = inbox a x s in (
+      1,
+      subst (λ n. is_in n (0 ∷ []) ≡ true)
+          (sym at.1) refl,
+    );
+    own = λ a x s. let at = inbox a x s in ap (app_at (packet ∷ []) 1) at.1 ∙ no-app packet.hash
+        ∙ sym at.0;
     once = inbox-once;
   }
 
@@ -112,11 +123,13 @@ module _ (packet : Packet) (start : ℕ) (flow : packet.flow_number ≡ 0) where
   queue zero (suc k) d l = absurd (omega arith)
   queue (suc a) k d l = absurd (omega arith)
 
-  replied : (a : ℕ) → IsPrefix (map (λ c. c.id) (list_at h.tx_choices a)) (map (λ s. s.id) (list_at h.sent a))
+  replied : (a : ℕ) → IsPrefix (map (λ c. c.id) (list_at h.tx_choices a))
+      (map (λ s. s.id) (list_at h.sent a))
   replied zero = ([], refl)
   replied (suc a) = ([], refl)
 
-  class : (a : ℕ) → All (λ c. c.choice.class ≡ Some (packet_at (packet ∷ []) c.id).flow_number) (list_at h.tx_choices a)
+  class : (a : ℕ) → All (λ c. c.choice.class ≡ Some (packet_at (packet ∷ []) c.id).flow_number)
+      (list_at h.tx_choices a)
   class zero zero d l = ap (λ n. Some n) (sym flow)
   class zero (suc k) d l = absurd (omega arith)
   class (suc a) k d l = absurd (omega arith)
@@ -141,13 +154,26 @@ module _ (packet : Packet) (start : ℕ) (flow : packet.flow_number ≡ 0) where
   -- It is regular.
   pub one-regular : Regular (packet ∷ []) 1 h
   one-regular = record {
-    matched = record { choices = refl; inboxes = refl; sent = refl; tx_choices = refl; writes = refl };
-    arrived = record { numbered = refl; of_the_capture = omega arith; taken = taken; chosen = chosen; chosen_taken = chosen_taken };
+    matched = record {
+      choices = refl;
+      inboxes = refl;
+      sent = refl;
+      tx_choices = refl;
+      writes = refl;
+    };
+    arrived = record {
+      numbered = refl;
+      of_the_capture = omega arith;
+      taken = taken;
+      chosen = chosen;
+      chosen_taken = chosen_taken;
+    };
     steered = steered;
     delivered = delivered;
     replies = record { sent = sent; queue = queue; chosen = replied; class = class; want = want };
     shipped = record {
-      accepted = λ t x s. let at = shipped t x s in (0, _, ap (λ n. choice_in n (list_at h.tx_choices 0)) at.1, sym at.0);
+      accepted = λ t x s. let at = shipped t x s in
+          (0, _, ap (λ n. choice_in n (list_at h.tx_choices 0)) at.1, sym at.0);
       once = apart-one (accepted_lists h.tx_lanes) 0 tx_lanes-one;
       no_drops = no_drops;
       port = λ x s. (0, subst (λ n. is_in n (0 ∷ []) ≡ true) (sym (in-one x s)) refl);

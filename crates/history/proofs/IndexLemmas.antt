@@ -1,9 +1,12 @@
 -- What the slots of an index have after a pass over a list, and over the lists of lists one by one.
-use Rattle.std.proofs.Common.{ℕ, ◌+◌, ◌<◌, ◌≡◌, List, [], ◌∷◌, Option, Some, None, map, length, take, replicate, refl, ap, ◌∙◌, sym, arith, suc, zero, inl, inr, get_or, subst}
+use Rattle.std.proofs.Common.{ℕ, ◌+◌, ◌<◌, ◌≡◌, List, [], ◌∷◌, Option, Some, None, map, length}
+use Rattle.std.proofs.Common.{take, replicate, refl, ap, ◌∙◌, sym, arith, suc, zero, inl, inr}
+use Rattle.std.proofs.Common.{get_or, subst}
 use Rattle.std.specs.Prelude.{◌==◌, if◌then◌else◌}
 use Rattle.std.specs.Option.{option_or, option_map, option_and_then}
 use Rattle.std.proofs.lemmas.Bool.{cases_Bool, cases_eq, ne_eqb, eq-eqb}
-use Rattle.std.proofs.lemmas.List.{get_or-set_same, get_or-set_other, get_or-replicate, length-set, length-replicate}
+use Rattle.std.proofs.lemmas.List.{get_or-set_same, get_or-set_other, get_or-replicate, length-set}
+use Rattle.std.proofs.lemmas.List.{length-replicate}
 use Rattle.steer_base.specs.Entries.{place_in}
 use Rattle.steer_base.specs.declared.choice.Chosen.{Chosen}
 use Rattle.steer_base.specs.declared.put.LaneDrop.{LaneDrop}
@@ -16,79 +19,113 @@ use Rattle.history.specs.declared.lane_list.LaneList.{LaneList}
 -- what a list has of a packet: the value of the first item with this key, the items counted from i
 abbrev pub value_at : {A T : Type 0} → (A → ℕ) → (ℕ → A → T) → ℕ → ℕ → List A → Option T
 value_at key value i x [] = None
-value_at key value i x (a ∷ rest) = if x == key a then Some (value i a) else value_at key value (suc i) x rest
+value_at key value i x (a ∷ rest) = if x == key a then Some (value i a) else value_at key value
+    (suc i) x rest
 
 or-none : {T : Type 0} (o : Option T) → option_or o None ≡ o
 or-none None = refl
 or-none (Some a) = refl
 
-pub or-assoc : {T : Type 0} (o p q : Option T) → option_or (option_or o p) q ≡ option_or o (option_or p q)
+pub or-assoc : {T : Type 0} (o p q : Option T) → option_or (option_or o p) q ≡ option_or o
+    (option_or p q)
 or-assoc None p q = refl
 or-assoc (Some a) p q = refl
 
-length-noted : {T : Type 0} (slots : List (Option T)) (x : ℕ) (v : T) → length (noted slots x v) ≡ length slots
+length-noted : {T : Type 0} (slots : List (Option T)) (x : ℕ) (v : T)
+    → length (noted slots x v) ≡ length slots
 length-noted slots x v = length-set slots x (option_or (get_or slots x None) (Some v))
 
-pub length-noted_by : {A T : Type 0} (key : A → ℕ) (value : ℕ → A → T) (i : ℕ) (slots : List (Option T)) (list : List A) → length (noted_by key value i slots list) ≡ length slots
+pub length-noted_by : {A T : Type 0} (key : A → ℕ) (value : ℕ → A → T) (i : ℕ)
+    (slots : List (Option T)) (list : List A) → length (noted_by key value i slots list) ≡ length
+    slots
 length-noted_by key value i slots [] = refl
-length-noted_by key value i slots (a ∷ rest) = length-noted_by key value (suc i) (noted slots (key a) (value i a)) rest ∙ length-noted slots (key a) (value i a)
+length-noted_by key value i slots (a ∷ rest) = length-noted_by key value (suc i)
+    (noted slots (key a) (value i a)) rest ∙ length-noted slots (key a) (value i a)
 
 -- a slot has what it had, or else what was noted
 get-noted : {T : Type 0} (slots : List (Option T)) (k x : ℕ) (v : T) → x < length slots
-    → get_or (noted slots k v) x None ≡ option_or (get_or slots x None) (if x == k then Some v else None)
+    → get_or (noted slots k v) x None ≡ option_or (get_or slots x None)
+    (if x == k then Some v else None)
 get-noted slots k x v l =
     elim (cases_eq x k) [
       | inl e ↦
-          let s : get_or (noted slots k v) k None ≡ option_or (get_or slots k None) (Some v) = get_or-set_same slots k (option_or (get_or slots k None) (Some v)) None (omega arith) in
+          let s : get_or (noted slots k v) k None ≡ option_or (get_or slots k None) (Some v) =
+          get_or-set_same slots k (option_or (get_or slots k None) (Some v)) None
+          (omega arith) in
           rw (eq-eqb x k e, e) s
       | inr ne ↦
-          let s : get_or (noted slots k v) x None ≡ get_or slots x None = get_or-set_other slots k x (option_or (get_or slots k None) (Some v)) None ne in
+          let s : get_or (noted slots k v) x None ≡ get_or slots x None = get_or-set_other slots k x
+          (option_or (get_or slots k None) (Some v)) None ne in
           rw (ne_eqb x k ne) (s ∙ sym (or-none (get_or slots x None)))
     ]
 
-pub get-noted_by : {A T : Type 0} (key : A → ℕ) (value : ℕ → A → T) (i : ℕ) (slots : List (Option T)) (list : List A) (x : ℕ) → x < length slots
-    → get_or (noted_by key value i slots list) x None ≡ option_or (get_or slots x None) (value_at key value i x list)
+pub get-noted_by : {A T : Type 0} (key : A → ℕ) (value : ℕ → A → T) (i : ℕ)
+    (slots : List (Option T)) (list : List A) (x : ℕ) → x < length slots
+    → get_or (noted_by key value i slots list) x None ≡ option_or (get_or slots x None)
+    (value_at key value i x list)
 get-noted_by key value i slots [] x l = sym (or-none (get_or slots x None))
 get-noted_by key value i slots (a ∷ rest) x l =
     let more = noted slots (key a) (value i a) in
-    let ih = get-noted_by key value (suc i) more rest x (omega (arith, length-noted slots (key a) (value i a))) in
-    ih ∙ ap (λ o. option_or o (value_at key value (suc i) x rest)) (get-noted slots (key a) x (value i a) l)
-    ∙ or-assoc (get_or slots x None) (if x == key a then Some (value i a) else None) (value_at key value (suc i) x rest)
-    ∙ ap (λ o. option_or (get_or slots x None) o) (elim (cases_Bool (x == key a)) [ inl t ↦ rw t refl | inr t ↦ rw t refl ])
+    let ih = get-noted_by key value (suc i) more rest x
+    (omega (arith, length-noted slots (key a) (value i a))) in
+    ih ∙ ap (λ o. option_or o (value_at key value (suc i) x rest)) (get-noted slots (key a) x
+    (value i a) l)
+    ∙ or-assoc (get_or slots x None) (if x == key a then Some (value i a) else None)
+    (value_at key value (suc i) x rest)
+    ∙ ap (λ o. option_or (get_or slots x None) o)
+    (elim (cases_Bool (x == key a)) [ inl t ↦ rw t refl | inr t ↦ rw t refl ])
 
-pub first_some-take : {A T : Type 0} (look : A → Option T) (xs : List A) (i : ℕ) (d : A) → i < length xs
-    → first_some look (take (suc i) xs) ≡ option_or (first_some look (take i xs)) (look (get_or xs i d))
+pub first_some-take : {A T : Type 0} (look : A → Option T) (xs : List A) (i : ℕ) (d : A)
+    → i < length xs
+    → first_some look (take (suc i) xs) ≡ option_or (first_some look (take i xs))
+    (look (get_or xs i d))
 first_some-take look [] i d l = absurd (omega arith)
 first_some-take look (a ∷ rest) zero d l = or-none (look a)
 first_some-take look (a ∷ rest) (suc i) d l =
-    ap (λ o. option_or (look a) o) (first_some-take look rest i d (omega arith)) ∙ sym (or-assoc (look a) (first_some look (take i rest)) (look (get_or rest i d)))
+    ap (λ o. option_or (look a) o) (first_some-take look rest i d (omega arith))
+    ∙ sym (or-assoc (look a) (first_some look (take i rest)) (look (get_or rest i d)))
 
 -- The pass over one list more.
-module _ {A B T : Type 0} (key : A → ℕ) (value : ℕ → A → T) (of : B → List A) (look : ℕ → B → Option T) (agrees : (x : ℕ) (b : B) → value_at key value 0 x (of b) ≡ look x b) where
-  pub index-next : (count i j : ℕ) (slots more : List (Option T)) (items lists : List B) (b : B) → items ≡ lists → i < length items → b ≡ get_or items i b → j ≡ suc i
-      → more ≡ noted_by key value 0 slots (of b) → IsIndex count slots (λ x. first_some (look x) (take i lists)) → IsIndex count more (λ x. first_some (look x) (take j lists))
+module _ {A B T : Type 0} (key : A → ℕ) (value : ℕ → A → T) (of : B → List A) (look : ℕ → B
+    → Option T) (agrees : (x : ℕ) (b : B) → value_at key value 0 x (of b) ≡ look x b) where
+  pub index-next : (count i j : ℕ) (slots more : List (Option T)) (items lists : List B) (b : B)
+      → items ≡ lists → i < length items → b ≡ get_or items i b → j ≡ suc i
+      → more ≡ noted_by key value 0 slots (of b) → IsIndex count slots (λ x. first_some (look x)
+      (take i lists)) → IsIndex count more (λ x. first_some (look x) (take j lists))
   index-next count i j slots more items lists b same l here next m before =
       let below : i < length lists = subst (λ xs. i < length xs) same l in
       let at : b ≡ get_or lists i b = subst (λ xs. b ≡ get_or xs i b) same here in
       record {
         width = ap length m ∙ length-noted_by key value 0 slots (of b) ∙ before.width;
         slot = λ x k.
-            ap (λ s. get_or s x None) m ∙ get-noted_by key value 0 slots (of b) x (omega (arith, before.width))
+            ap (λ s. get_or s x None) m ∙ get-noted_by key value 0 slots (of b) x
+            (omega (arith, before.width))
             ∙ ap (λ o. option_or o (value_at key value 0 x (of b))) (before.slot x k)
-            ∙ ap (λ o. option_or (first_some (look x) (take i lists)) o) (agrees x b ∙ ap (look x) at)
-            ∙ sym (first_some-take (look x) lists i b below) ∙ ap (λ n. first_some (look x) (take n lists)) (sym next);
+            ∙ ap (λ o. option_or (first_some (look x) (take i lists)) o)
+            (agrees x b ∙ ap (look x) at)
+            ∙ sym (first_some-take (look x) lists i b below)
+            ∙ ap (λ n. first_some (look x) (take n lists)) (sym next);
       }
 
 -- What a list has of a packet, in the words of a line.
-pub value_at-choices : (x : ℕ) (cs : List Chosen) (i : ℕ) → value_at (λ c. c.id) (λ i c. c.choice) i x cs ≡ choice_in x cs
+pub value_at-choices : (x : ℕ) (cs : List Chosen) (i : ℕ) → value_at (λ c. c.id)
+    (λ i c. c.choice) i x cs ≡ choice_in x cs
 value_at-choices x [] i = refl
-value_at-choices x (c ∷ cs) i = elim (cases_Bool (x == c.id)) [ inl t ↦ rw t refl | inr t ↦ rw t (value_at-choices x cs (suc i)) ]
+value_at-choices x (c ∷ cs) i = elim (cases_Bool (x == c.id)) [
+  | inl t ↦ rw t refl
+  | inr t ↦ rw t (value_at-choices x cs (suc i))
+]
 
-pub value_at-found : {A : Type 0} (key : A → ℕ) (x : ℕ) (xs : List A) (i : ℕ) → value_at key (λ i a. a) i x xs ≡ found key x xs
+pub value_at-found : {A : Type 0} (key : A → ℕ) (x : ℕ) (xs : List A) (i : ℕ) → value_at key
+    (λ i a. a) i x xs ≡ found key x xs
 value_at-found key x [] i = refl
-value_at-found key x (a ∷ rest) i = elim (cases_Bool (x == key a)) [ inl t ↦ rw t refl | inr t ↦ rw t (value_at-found key x rest (suc i)) ]
+value_at-found key x (a ∷ rest) i = elim (cases_Bool (x == key a)) [
+  | inl t ↦ rw t refl
+  | inr t ↦ rw t (value_at-found key x rest (suc i))
+]
 
-map-suc : {T : Type 0} (f : ℕ → T) (i : ℕ) (o : Option ℕ) → option_map (λ n. f (suc i + n)) o ≡ option_map (λ n. f (i + n)) (option_map suc o)
+map-suc : {T : Type 0} (f : ℕ → T) (i : ℕ) (o : Option ℕ) → option_map
+    (λ n. f (suc i + n)) o ≡ option_map (λ n. f (i + n)) (option_map suc o)
 map-suc f i None = refl
 map-suc f i (Some n) = let e : suc i + n ≡ i + suc n = omega arith in ap (λ m. Some (f m)) e
 
@@ -100,43 +137,61 @@ map-same : (o : Option ℕ) → option_map (λ n. n) o ≡ o
 map-same None = refl
 map-same (Some n) = refl
 
-value_at-places_from : (x : ℕ) (xs : List ℕ) (i : ℕ) → value_at (λ y. y) (λ i y. i + 1) i x xs ≡ option_map (λ n. i + n) (place_in x xs)
+value_at-places_from : (x : ℕ) (xs : List ℕ) (i : ℕ) → value_at (λ y. y)
+    (λ i y. i + 1) i x xs ≡ option_map (λ n. i + n) (place_in x xs)
 value_at-places_from x [] i = refl
 value_at-places_from x (y ∷ ys) i =
-    elim (cases_Bool (x == y)) [ inl t ↦ rw t refl | inr t ↦ rw t (value_at-places_from x ys (suc i) ∙ map-suc (λ n. n) i (place_in x ys)) ]
+    elim (cases_Bool (x == y)) [
+      | inl t ↦ rw t refl
+      | inr t ↦ rw t (value_at-places_from x ys (suc i)
+          ∙ map-suc (λ n. n) i (place_in x ys))
+    ]
 
-pub value_at-places : (x : ℕ) (xs : List ℕ) → value_at (λ y. y) (λ i y. i + 1) 0 x xs ≡ place_in x xs
-value_at-places x xs = value_at-places_from x xs 0 ∙ map-zero (λ n. n) (place_in x xs) ∙ map-same (place_in x xs)
+pub value_at-places : (x : ℕ) (xs : List ℕ) → value_at (λ y. y)
+    (λ i y. i + 1) 0 x xs ≡ place_in x xs
+value_at-places x xs = value_at-places_from x xs 0 ∙ map-zero (λ n. n) (place_in x xs)
+    ∙ map-same (place_in x xs)
 
 value_at-drops_from : (x : ℕ) (ds : List LaneDrop) (i : ℕ)
     → value_at (λ d. d.id) (λ i d. Dropped (i + 1) d.accepted d.pulled d.cause) i x ds
-    ≡ option_and_then (λ d. option_map (λ n. dropped_as d (i + n)) (place_in x (map (λ e. e.id) ds))) (found (λ d. d.id) x ds)
+    ≡ option_and_then (λ d. option_map (λ n. dropped_as d (i + n))
+    (place_in x (map (λ e. e.id) ds))) (found (λ d. d.id) x ds)
 value_at-drops_from x [] i = refl
 value_at-drops_from x (d ∷ ds) i =
     elim (cases_Bool (x == d.id)) [
       | inl t ↦ rw t refl
       | inr t ↦ rw t (value_at-drops_from x ds (suc i)
-          ∙ (elim (found (λ d. d.id) x ds) as (λ o. option_and_then (λ d. option_map (λ n. dropped_as d (suc i + n)) (place_in x (map (λ e. e.id) ds))) o
-          ≡ option_and_then (λ d. option_map (λ n. dropped_as d (i + n)) (option_map suc (place_in x (map (λ e. e.id) ds)))) o)
+          ∙ (elim (found (λ d. d.id) x ds) as
+          (λ o. option_and_then (λ d. option_map (λ n. dropped_as d (suc i + n))
+          (place_in x (map (λ e. e.id) ds))) o
+          ≡ option_and_then (λ d. option_map (λ n. dropped_as d (i + n))
+          (option_map suc (place_in x (map (λ e. e.id) ds)))) o)
           [ None ↦ refl | Some e ↦ map-suc (dropped_as e) i (place_in x (map (λ e. e.id) ds)) ]))
     ]
 
-fall-zero : (o : Option LaneDrop) (p : Option ℕ) → option_and_then (λ d. option_map (λ n. dropped_as d (0 + n)) p) o ≡ option_and_then (λ d. option_map (dropped_as d) p) o
+fall-zero : (o : Option LaneDrop) (p : Option ℕ) → option_and_then
+    (λ d. option_map (λ n. dropped_as d (0 + n)) p) o ≡ option_and_then
+    (λ d. option_map (dropped_as d) p) o
 fall-zero None p = refl
 fall-zero (Some d) p = map-zero (dropped_as d) p
 
-pub value_at-drops : (x : ℕ) (lane : LaneList) → value_at (λ d. d.id) (λ i d. Dropped (i + 1) d.accepted d.pulled d.cause) 0 x lane.drops ≡ drop_in x lane
-value_at-drops x lane = value_at-drops_from x lane.drops 0 ∙ fall-zero (found (λ d. d.id) x lane.drops) (place_in x (map (λ e. e.id) lane.drops))
+pub value_at-drops : (x : ℕ) (lane : LaneList) → value_at (λ d. d.id)
+    (λ i d. Dropped (i + 1) d.accepted d.pulled d.cause) 0 x lane.drops ≡ drop_in x lane
+value_at-drops x lane = value_at-drops_from x lane.drops 0 ∙ fall-zero
+    (found (λ d. d.id) x lane.drops) (place_in x (map (λ e. e.id) lane.drops))
 
 -- The pass over one list.
-pub index-list : (count : ℕ) (slots more : List (Option ℕ)) (list : List ℕ) → slots ≡ replicate count None → more ≡ noted_by (λ y. y) (λ i y. i + 1) 0 slots list
+pub index-list : (count : ℕ) (slots more : List (Option ℕ)) (list : List ℕ)
+    → slots ≡ replicate count None → more ≡ noted_by (λ y. y) (λ i y. i + 1) 0 slots list
     → IsIndex count more (λ x. place_in x list)
 index-list count slots more list e m =
     let w : length slots ≡ count = ap length e ∙ length-replicate count None in
     record {
       width = ap length m ∙ length-noted_by (λ y. y) (λ i y. i + 1) 0 slots list ∙ w;
       slot = λ x k.
-          ap (λ s. get_or s x None) m ∙ get-noted_by (λ y. y) (λ i y. i + 1) 0 slots list x (omega arith)
-          ∙ ap (λ o. option_or o (value_at (λ y. y) (λ i y. i + 1) 0 x list)) (ap (λ s. get_or s x None) e ∙ get_or-replicate count x None None k)
+          ap (λ s. get_or s x None) m ∙ get-noted_by (λ y. y) (λ i y. i + 1) 0 slots list x
+          (omega arith)
+          ∙ ap (λ o. option_or o (value_at (λ y. y) (λ i y. i + 1) 0 x list))
+          (ap (λ s. get_or s x None) e ∙ get_or-replicate count x None None k)
           ∙ value_at-places x list;
     }

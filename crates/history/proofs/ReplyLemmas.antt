@@ -1,5 +1,6 @@
 -- Replies of a regular history are to packets that arrived.
-use Rattle.std.proofs.Common.{ℕ, ◌≤◌, ◌<◌, ◌≡◌, true, List, [], ◌∷◌, Option, Some, None, map, length, refl, ap, ◌∙◌, sym, arith, inl, inr, get_or}
+use Rattle.std.proofs.Common.{ℕ, ◌≤◌, ◌<◌, ◌≡◌, true, List, [], ◌∷◌, Option, Some, None, map}
+use Rattle.std.proofs.Common.{length, refl, ap, ◌∙◌, sym, arith, inl, inr, get_or}
 use Rattle.std.specs.Prelude.{◌||◌}
 use Rattle.std.specs.List.{list_any, range_with_len}
 use Rattle.std.specs.Option.{option_map, option_or, is_some}
@@ -18,26 +19,39 @@ use Rattle.history.proofs.RegularLemmas.{arrived-inbox, is_some-found, sent-inbo
 
 module _ (packets : List Packet) (apps : ℕ) (h : History) (regular : Regular packets apps h) where
   -- a list of replies that has one to a packet is that of its application, and the packet arrived
-  pub sent-app : (a x : ℕ) → is_some (found (λ s. s.id) x (list_at h.sent a)) ≡ true → (x < length h.arrivals) × (app_at packets apps x ≡ a)
+  pub sent-app : (a x : ℕ) → is_some (found (λ s. s.id) x (list_at h.sent a)) ≡ true
+      → (x < length h.arrivals) × (app_at packets apps x ≡ a)
   sent-app a x s =
-      let inbox = sent-inbox packets apps h regular a x (sym (is_some-found (λ d. d.id) x (list_at h.sent a)) ∙ s) in
+      let inbox = sent-inbox packets apps h regular a x
+      (sym (is_some-found (λ d. d.id) x (list_at h.sent a)) ∙ s) in
       (arrived-inbox packets apps h regular a x inbox, regular.delivered.own a x inbox)
 
   -- the reply to a packet is in the list of its application
-  pub sent-own : (x : ℕ) → sent_of h x ≡ found (λ s. s.id) x (list_at h.sent (app_at packets apps x))
-  sent-own x = own-first (found (λ s. s.id) x) [] h.sent (Some (app_at packets apps x)) refl (λ a s. ap (λ n. Some n) (sent-app a x s).1)
+  pub sent-own : (x : ℕ) → sent_of h x ≡ found (λ s. s.id) x
+      (list_at h.sent (app_at packets apps x))
+  sent-own x = own-first (found (λ s. s.id) x) [] h.sent (Some (app_at packets apps x)) refl
+      (λ a s. ap (λ n. Some n) (sent-app a x s).1)
 
   not-sent : (x : ℕ) → length h.arrivals ≤ x → sent_of h x ≡ None
-  not-sent x late = first-none (found (λ s. s.id) x) [] h.sent (λ a l. not-true (is_some (found (λ s. s.id) x (list_at h.sent a))) (λ s. let k = (sent-app a x s).0 in omega (arith, k)))
+  not-sent x late = first-none (found (λ s. s.id) x) [] h.sent
+      (λ a l. not-true (is_some (found (λ s. s.id) x (list_at h.sent a))) (λ s.
+      let k = (sent-app a x s).0 in omega (arith, k)))
 
   -- the lines of the replies to the packets that arrived are those of all replies
-  pub reply-at : (x : ℕ) → get_or (map (reply_line packets apps h) (range_with_len 0 (length h.arrivals))) x None ≡ reply_line packets apps h x
+  pub reply-at : (x : ℕ) → get_or (map (reply_line packets apps h)
+      (range_with_len 0 (length h.arrivals))) x None ≡ reply_line packets apps h x
   reply-at x =
       elim (cases_lt x (length h.arrivals)) [
-        | inl l ↦ get_or-map-range_with_len (reply_line packets apps h) 0 (length h.arrivals) x x None l (omega arith)
+        | inl l ↦ get_or-map-range_with_len (reply_line packets apps h) 0
+            (length h.arrivals) x x None l (omega arith)
         | inr l ↦
-            get_or-eq_default (map (reply_line packets apps h) (range_with_len 0 (length h.arrivals))) None
-            (omega (arith, length-map-range_with_len (reply_line packets apps h) 0 (length h.arrivals)))
+            get_or-eq_default (map (reply_line packets apps h)
+            (range_with_len 0 (length h.arrivals))) None
+            (omega (
+              arith,
+              length-map-range_with_len (reply_line packets apps h) 0
+                  (length h.arrivals),
+            ))
             ∙ sym (ap (option_map (line_of_sent packets apps h x)) (not-sent x l))
       ]
 
@@ -46,16 +60,21 @@ is_some-or None p = refl
 is_some-or (Some a) p = refl
 
 -- a reply to a packet was begun where one of the lists has it
-pub is_some-sent : (x : ℕ) (lists : List (List Sent)) → is_some (first_some (found (λ s. s.id) x) lists) ≡ list_any (λ list. is_in x (map (λ s. s.id) list)) lists
+pub is_some-sent : (x : ℕ) (lists : List (List Sent))
+    → is_some (first_some (found (λ s. s.id) x) lists) ≡ list_any
+    (λ list. is_in x (map (λ s. s.id) list)) lists
 is_some-sent x [] = refl
 is_some-sent x (list ∷ lists) =
     is_some-or (found (λ s. s.id) x list) (first_some (found (λ s. s.id) x) lists)
-    ∙ ap (λ b. b || is_some (first_some (found (λ s. s.id) x) lists)) (is_some-found (λ s. s.id) x list)
+    ∙ ap (λ b. b || is_some (first_some (found (λ s. s.id) x) lists))
+    (is_some-found (λ s. s.id) x list)
     ∙ ap (λ b. is_in x (map (λ s. s.id) list) || b) (is_some-sent x lists)
 
 is_some-line : {A B : Type 0} (f : A → B) (o : Option A) → is_some (option_map f o) ≡ is_some o
 is_some-line f None = refl
 is_some-line f (Some a) = refl
 
-pub is_some-reply : (packets : List Packet) (apps : ℕ) (h : History) (x : ℕ) → is_some (reply_line packets apps h x) ≡ is_replied h x
-is_some-reply packets apps h x = is_some-line (line_of_sent packets apps h x) (sent_of h x) ∙ is_some-sent x h.sent
+pub is_some-reply : (packets : List Packet) (apps : ℕ) (h : History) (x : ℕ)
+    → is_some (reply_line packets apps h x) ≡ is_replied h x
+is_some-reply packets apps h x = is_some-line (line_of_sent packets apps h x) (sent_of h x)
+    ∙ is_some-sent x h.sent

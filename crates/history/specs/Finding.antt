@@ -1,5 +1,6 @@
 -- Whether a packet is in a list, and what a list has of it.
-use Rattle.std.specs.Prelude.{ℕ, ◌≡◌, ◌<◌, Bool, List, [], ◌∷◌, Option, Some, None, ◌==◌, is_some, length, slice_index, take, if◌then◌else◌}
+use Rattle.std.specs.Prelude.{ℕ, ◌≡◌, ◌<◌, Bool, List, [], ◌∷◌, Option, Some, None, ◌==◌, is_some}
+use Rattle.std.specs.Prelude.{length, slice_index, take, if◌then◌else◌}
 use Rattle.std.specs.Option.{option_or}
 use Rattle.steer_base.specs.Entries.{place_in}
 

@@ -1,9 +1,11 @@
 -- What the passes over the lists of a history tell of each packet.
-use Rattle.std.specs.Prelude.{ℕ, ◌<◌, ◌^◌, ◌&&◌, List, Option, Some, None, length, nat_lt, nat_le, if◌then◌else◌}
+use Rattle.std.specs.Prelude.{ℕ, ◌<◌, ◌^◌, ◌&&◌, List, Option, Some, None, length, nat_lt, nat_le}
+use Rattle.std.specs.Prelude.{if◌then◌else◌}
 use Rattle.steer_base.specs.Entries.{place_in}
 use Rattle.history.specs.Finding.{first_some}
 use Rattle.history.specs.Index.{IsIndex}
-use Rattle.history.specs.Lines.{accepted_place, choice_of, drop_in, inbox_place_of, sent_of, tx_choice_of}
+use Rattle.history.specs.Lines.{accepted_place, choice_of, drop_in, inbox_place_of, sent_of}
+use Rattle.history.specs.Lines.{tx_choice_of}
 use Rattle.history.specs.Lists.{list_at, lane_at}
 use Rattle.history.specs.declared.history.History.{History}
 use Rattle.history.specs.declared.known.Known.{Known}

@@ -1,12 +1,15 @@
 -- The place of a packet.
-use Rattle.std.specs.Prelude.{ℕ, ◌≡◌, ◌<◌, ◌++◌, Bool, true, false, Option, Some, None, map, slice_index}
+use Rattle.std.specs.Prelude.{ℕ, ◌≡◌, ◌<◌, ◌++◌, Bool, true, false, Option, Some, None, map}
+use Rattle.std.specs.Prelude.{slice_index}
 use Rattle.std.specs.List.{position}
 use Rattle.steer_base.specs.Orders.{Apart}
 use Rattle.history.specs.Finding.{is_in, is_among}
-use Rattle.history.specs.Lists.{list_at, lane_at, drop_ids, accepted_lists, dropped_lists, arrival_of, arrivals_at}
+use Rattle.history.specs.Lists.{list_at, lane_at, drop_ids, accepted_lists, dropped_lists}
+use Rattle.history.specs.Lists.{arrival_of, arrivals_at}
 use Rattle.history.specs.declared.history.History.{History}
 use Rattle.history.specs.declared.place.Place.{Place}
-use Rattle.history.specs.declared.place.Place.TheVariants.{Ring, Poller, Backlog, Hand, Inbox, Dropped}
+use Rattle.history.specs.declared.place.Place.TheVariants.{Ring, Poller, Backlog, Hand, Inbox}
+use Rattle.history.specs.declared.place.Place.TheVariants.{Dropped}
 
 -- whether a packet arrived
 abbrev pub has_arrived : History → ℕ → Bool

@@ -1,6 +1,7 @@
 -- Which histories are regular, for the packets of a capture and a number of applications; and when
 -- each arrival is at the queue that its values lead to.
-use Rattle.std.specs.Prelude.{ℕ, ◌≡◌, ◌≤◌, ◌++◌, Bool, true, false, List, [], Some, IsSome, length, map, slice_index}
+use Rattle.std.specs.Prelude.{ℕ, ◌≡◌, ◌≤◌, ◌++◌, Bool, true, false, List, [], Some, IsSome, length}
+use Rattle.std.specs.Prelude.{map, slice_index}
 use Rattle.std.specs.List.{All, range_with_len}
 use Rattle.steer_base.specs.Arrivals.{Route, IsRoute}
 use Rattle.steer_base.specs.Orders.{Apart, IsPrefix}
@@ -13,7 +14,8 @@ use Rattle.steer_base.specs.declared.idle.Idle.TheVariants as idle
 use Rattle.steer_base.specs.declared.packet.Packet.{Packet}
 use Rattle.history.specs.Finding.{is_in, Once}
 use Rattle.history.specs.Lines.{choice_in}
-use Rattle.history.specs.Lists.{packet_at, app_at, list_at, lane_at, drop_ids, accepted_lists, dropped_lists, arrival_of, arrivals_at}
+use Rattle.history.specs.Lists.{packet_at, app_at, list_at, lane_at, drop_ids, accepted_lists}
+use Rattle.history.specs.Lists.{dropped_lists, arrival_of, arrivals_at}
 use Rattle.history.specs.declared.arrival.Arrival.{Arrival}
 use Rattle.history.specs.declared.history.History.{History}
 

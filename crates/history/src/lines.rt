@@ -1,5 +1,6 @@
 //! The lines of all packets and replies of a history.
-ghost use Rattle.std.specs.Prelude.{◌≡◌, ℕ, ◌<◌, ◌≤◌, None, is_some, length, slice_index, slice_index_or, IfOk};
+ghost use Rattle.std.specs.Prelude.{◌≡◌, ℕ, ◌<◌, ◌≤◌, None, is_some, length, slice_index};
+ghost use Rattle.std.specs.Prelude.{slice_index_or, IfOk};
 ghost use Rattle.history.specs.Lines.{is_replied, lines_of, packet_line, reply_line};
 ghost use Rattle.history.specs.Lists.{arrivals_at};
 ghost use Rattle.history.specs.declared.packet_line.PacketLine.{PacketLine};

@@ -1,4 +1,5 @@
--- What the test of the shape of a history tells: how many its lists are, that its arrivals are numbered, and that its lists are short.
+-- What the test of the shape of a history tells: how many its lists are, that its arrivals are
+-- numbered, and that its lists are short.
 use Rattle.std.proofs.Common.{ℕ, ◌≤◌, ◌≡◌, true, List, [], length, map, ap, arith, inl, inr}
 use Rattle.std.specs.Prelude.{◌&&◌, nat_le}
 use Rattle.std.specs.List.{list_all, range_with_len}
@@ -23,7 +24,8 @@ pub record IsShaped (packets : List Packet) (apps : ℕ) (h : History) : Type 0 
   pub of_the_capture : length h.arrivals ≤ length packets
   pub numbered : map (λ a. a.id) h.arrivals ≡ range_with_len 0 (length h.arrivals)
 
-pub shape_from : (packets : List Packet) (apps : ℕ) (h : History) → has_shape packets apps h ≡ true → IsShaped packets apps h
+pub shape_from : (packets : List Packet) (apps : ℕ) (h : History) → has_shape packets apps h ≡ true
+    → IsShaped packets apps h
 shape_from packets apps h e =
     let numbers = and_parts _ _ e in
     let few = and_parts _ _ numbers.0 in
@@ -41,7 +43,8 @@ shape_from packets apps h e =
       numbered = numbers-of (λ a. a.id) h.arrivals numbers.1;
     }
 
-pub numbered_from : (packets : List Packet) (apps : ℕ) (h : History) → has_shape packets apps h ≡ true
+pub numbered_from : (packets : List Packet) (apps : ℕ) (h : History)
+    → has_shape packets apps h ≡ true
     → map (λ a. a.id) h.arrivals ≡ range_with_len 0 (length h.arrivals)
 numbered_from packets apps h e = (shape_from packets apps h e).numbered
 
@@ -51,24 +54,35 @@ short-lane : (n : ℕ) (lanes : List LaneList) (c : ℕ) → has_short_lanes n l
 short-lane n lanes c e =
     elim (cases_lt c (length lanes)) [
       | inl l ↦
-          let w = and_parts _ _ (AllPass-from_list_all (λ lane. nat_le (length lane.accepted) n && nat_le (length lane.drops) n) lanes e c no_lane l) in
-          (leb-true (length (lane_at lanes c).accepted) n w.0, leb-true (length (lane_at lanes c).drops) n w.1)
+          let w = and_parts _ _
+          (AllPass-from_list_all (λ lane. nat_le (length lane.accepted) n && nat_le
+          (length lane.drops) n) lanes e c no_lane l) in (
+            leb-true (length (lane_at lanes c).accepted) n w.0,
+            leb-true
+                (length (lane_at lanes c).drops) n w.1,
+          )
       | inr l ↦
-          let a : length (lane_at lanes c).accepted ≡ 0 = ap (λ lane. length lane.accepted) (get_or-eq_default lanes no_lane l) in
-          let d : length (lane_at lanes c).drops ≡ 0 = ap (λ lane. length lane.drops) (get_or-eq_default lanes no_lane l) in
+          let a : length (lane_at lanes c).accepted ≡ 0 = ap (λ lane. length lane.accepted)
+          (get_or-eq_default lanes no_lane l) in
+          let d : length (lane_at lanes c).drops ≡ 0 = ap (λ lane. length lane.drops)
+          (get_or-eq_default lanes no_lane l) in
           (omega arith, omega arith)
     ]
 
 -- So is each list of packets.
-short-list : (n : ℕ) (lists : List (List ℕ)) (a : ℕ) → list_all (λ list. nat_le (length list) n) lists ≡ true → length (list_at lists a) ≤ n
+short-list : (n : ℕ) (lists : List (List ℕ)) (a : ℕ)
+    → list_all (λ list. nat_le (length list) n) lists ≡ true → length (list_at lists a) ≤ n
 short-list n lists a e =
     elim (cases_lt a (length lists)) [
-      | inl l ↦ leb-true (length (list_at lists a)) n (AllPass-from_list_all (λ list. nat_le (length list) n) lists e a [] l)
-      | inr l ↦ let z : length (list_at lists a) ≡ 0 = ap length (get_or-eq_default lists [] l) in omega arith
+      | inl l ↦ leb-true (length (list_at lists a)) n
+          (AllPass-from_list_all (λ list. nat_le (length list) n) lists e a [] l)
+      | inr l ↦ let z : length (list_at lists a) ≡ 0 = ap length (get_or-eq_default lists [] l) in
+          omega arith
     ]
 
 -- The lists of a history of few packets are short.
-pub short_from : (packets : List Packet) (apps : ℕ) (h : History) → has_shape packets apps h ≡ true → has_short_lists h ≡ true
+pub short_from : (packets : List Packet) (apps : ℕ) (h : History) → has_shape packets apps h ≡ true
+    → has_short_lists h ≡ true
     → length packets ≤ 262144 → HasShortLists h
 short_from packets apps h shape short few =
     let s : length h.arrivals ≤ length packets = (shape_from packets apps h shape).of_the_capture in

@@ -7,7 +7,8 @@ use Rattle.steer_base.specs.declared.packet.Packet.{Packet}
 use Rattle.history.specs.Finding.{is_in}
 use Rattle.history.specs.Lists.{packet_at, list_at, arrival_of}
 use Rattle.history.specs.Regular.{Regular, has_text}
-use Rattle.history_check.specs.Tests.{has_replies, have_replies, have_texts, is_from_queue, is_of_flow, passes}
+use Rattle.history_check.specs.Tests.{has_replies, have_replies, have_texts, is_from_queue}
+use Rattle.history_check.specs.Tests.{is_of_flow, passes}
 use Rattle.history.specs.declared.history.History.{History}
 use Rattle.history_check.proofs.PassingLanes.{to_delivered, to_shipped, to_steered}
 use Rattle.history_check.proofs.PassingLemmas.{all-below, begins-from, is_in-key, number-from}
@@ -16,14 +17,17 @@ use Rattle.history.proofs.RegularLemmas.{arrived-inbox, is_in-prefix, sent-inbox
 
 module _ (packets : List Packet) (apps : ℕ) (h : History) (regular : Regular packets apps h) where
   -- what an application replied to arrived
-  arrived-sent : (a x : ℕ) → is_in x (map (λ s. s.id) (list_at h.sent a)) ≡ true → x < length h.arrivals
-  arrived-sent a x s = arrived-inbox packets apps h regular a x (sent-inbox packets apps h regular a x s)
+  arrived-sent : (a x : ℕ) → is_in x (map (λ s. s.id) (list_at h.sent a)) ≡ true
+      → x < length h.arrivals
+  arrived-sent a x s = arrived-inbox packets apps h regular a x
+      (sent-inbox packets apps h regular a x s)
 
   sent-passes : (a : ℕ) → list_all (is_from_queue h) (list_at h.sent a) ≡ true
   sent-passes a =
       list_all-from_AllPass (is_from_queue h) (list_at h.sent a) (λ i d l.
       let s = get_or (list_at h.sent a) i d in
-      and_from _ _ (lt-ltb s.id (length h.arrivals) (arrived-sent a s.id (is_in-key (λ s. s.id) (list_at h.sent a) i d l)))
+      and_from _ _ (lt-ltb s.id (length h.arrivals)
+      (arrived-sent a s.id (is_in-key (λ s. s.id) (list_at h.sent a) i d l)))
       (eq-eqb (arrival_of h.arrivals s.id).queue s.rxq (sym (regular.replies.queue a i d l))))
 
   chosen-passes : (a : ℕ) → list_all (is_of_flow packets h) (list_at h.tx_choices a) ≡ true
@@ -32,10 +36,12 @@ module _ (packets : List Packet) (apps : ℕ) (h : History) (regular : Regular p
       list_all-from_AllPass (is_of_flow packets h) (list_at h.tx_choices a) (λ i d l.
       let c = get_or (list_at h.tx_choices a) i d in
       let replied : is_in c.id (map (λ s. s.id) (list_at h.sent a)) ≡ true =
-      is_in-prefix c.id ids (map (λ s. s.id) (list_at h.sent a)) (regular.replies.chosen a) (is_in-key (λ c. c.id) (list_at h.tx_choices a) i d l) in
+      is_in-prefix c.id ids (map (λ s. s.id) (list_at h.sent a)) (regular.replies.chosen a)
+      (is_in-key (λ c. c.id) (list_at h.tx_choices a) i d l) in
       and_from _ _
       (and_from _ _ (lt-ltb c.id (length h.arrivals) (arrived-sent a c.id replied))
-      (number-from c.choice.class (packet_at packets c.id).flow_number (regular.replies.class a i d l)))
+      (number-from c.choice.class (packet_at packets c.id).flow_number
+      (regular.replies.class a i d l)))
       (regular.replies.want a i d l))
 
   to_replies : have_replies packets apps h ≡ true
@@ -43,8 +49,10 @@ module _ (packets : List Packet) (apps : ℕ) (h : History) (regular : Regular p
       all-below (has_replies packets h) apps (λ a l.
       and_from _ _
       (and_from _ _
-      (and_from _ _ (begins-from (map (λ s. s.id) (list_at h.sent a)) (list_at h.inboxes a) (regular.replies.sent a)) (sent-passes a))
-      (begins-from (map (λ c. c.id) (list_at h.tx_choices a)) (map (λ s. s.id) (list_at h.sent a)) (regular.replies.chosen a)))
+      (and_from _ _ (begins-from (map (λ s. s.id) (list_at h.sent a)) (list_at h.inboxes a)
+      (regular.replies.sent a)) (sent-passes a))
+      (begins-from (map (λ c. c.id) (list_at h.tx_choices a)) (map (λ s. s.id) (list_at h.sent a))
+      (regular.replies.chosen a)))
       (chosen-passes a))
 
   to_texts : have_texts h ≡ true
@@ -66,5 +74,6 @@ module _ (packets : List Packet) (apps : ℕ) (h : History) (regular : Regular p
       (to_shipped packets apps h regular))
       to_texts
 
-pub to_tests : (packets : List Packet) (apps : ℕ) (h : History) → Regular packets apps h → passes packets apps h ≡ true
+pub to_tests : (packets : List Packet) (apps : ℕ) (h : History) → Regular packets apps h
+    → passes packets apps h ≡ true
 to_tests packets apps h regular = to_all packets apps h regular

@@ -2,7 +2,9 @@
 ghost use Rattle.std.specs.Prelude.{◌≡◌, ◌≤◌, ◌==◌, ◌&&◌, length, map};
 ghost use Rattle.std.specs.List.{range_with_len};
 ghost use Rattle.history.specs.Known.{IsKnown};
-ghost use Rattle.history_check.specs.Tests.{are_delivered, are_shipped, are_steered, each, is_accepted, is_delivered, is_fallen, is_queued, is_shipped};
+ghost use Rattle.history_check.specs.Tests.{are_delivered, are_shipped, are_steered, each};
+ghost use Rattle.history_check.specs.Tests.{is_accepted, is_delivered, is_fallen, is_queued};
+ghost use Rattle.history_check.specs.Tests.{is_shipped};
 
 use crate::slots::{drop_is, is_place, lane_is};
 use history::{History, Known, LaneList};

@@ -1,7 +1,8 @@
 //! Whether the applications of a history replied to the packets of their inboxes.
 ghost use Rattle.std.specs.Prelude.{◌≡◌, ◌<◌, length, map};
 ghost use Rattle.std.specs.List.{list_all};
-ghost use Rattle.history_check.specs.Tests.{begins, has_replies, have_replies, is_from_queue, is_of_flow};
+ghost use Rattle.history_check.specs.Tests.{begins, has_replies, have_replies, is_from_queue};
+ghost use Rattle.history_check.specs.Tests.{is_of_flow};
 
 use crate::item_test::ItemTest;
 use crate::slots::is_number;

@@ -1,5 +1,6 @@
 -- Steps at the gate and at settings, and loads of heads and of lanes' words.
-use Rattle.std.proofs.Common.{◌≡◌, ◌≢◌, ℕ, ◌+◌, ◌-◌, ◌*◌, ◌%◌, ◌^◌, ◌<◌, ◌==◌, List, ◌∷◌, Bool, true}
+use Rattle.std.proofs.Common.{◌≡◌, ◌≢◌, ℕ, ◌+◌, ◌-◌, ◌*◌, ◌%◌, ◌^◌, ◌<◌, ◌==◌, List, ◌∷◌, Bool}
+use Rattle.std.proofs.Common.{true}
 use Rattle.std.proofs.Common.{false, length, if◌then◌else◌, sym, refl, ap, ◌∙◌, subst, arith}
 use Rattle.std.proofs.Common.{eq-eqb, ne_eqb}
 use Rattle.std.specs.Prelude.{◌⊎◌}
@@ -133,11 +134,13 @@ module _ (about : BoardSizes) where
   -- ---- heads
 
   retire_else : (ls : List (StepBy LaneStep)) (gs : List (StepBy GateStep)) (p l n : ℕ) (v : Word)
-      → v ≢ kind.Head l → value_by about (step_by p (Retired l n) ∷ ls) gs v ≡ value_by about ls gs v
+      → v ≢ kind.Head l → value_by about (step_by p (Retired l n) ∷ ls) gs v ≡ value_by about ls gs
+      v
   retire_else ls gs p l n (kind.Lane (id.Middle j)) ne = refl
   retire_else ls gs p l n (kind.Lane (id.Out j)) ne = refl
   retire_else ls gs p l n (kind.Head j) ne = ap (λ k. about.start + k)
-      (if_other l j (lanes.retired j ls + 1) (lanes.retired j ls) (λ e. ne (ap (λ z. kind.Head z) (sym e))))
+      (if_other l j (lanes.retired j ls + 1) (lanes.retired j ls)
+      (λ e. ne (ap (λ z. kind.Head z) (sym e))))
   retire_else ls gs p l n kind.Gate ne = refl
   retire_else ls gs p l n (kind.Setting i) ne = refl
 
@@ -149,14 +152,16 @@ module _ (about : BoardSizes) where
 module _ (about : BoardSizes) where
   pub retires : (seat : SeatView BoardStep) (l : ℕ) → l < about.lanes → Pulls about seat.number l
       → HasDelivered seat.steps l
-      → MayAct about seat (kind.Head l) (λ n. (n + 1) % 2 ^ 64) (λ n. Lane (Retired l n)) (λ n. Unit {0})
+      → MayAct about seat (kind.Head l) (λ n. (n + 1) % 2 ^ 64) (λ n. Lane (Retired l n))
+      (λ n. Unit {0})
   retires seat l inside mine gave_ fit order few_ own lawful =
       let s = lanes_seen order seat.number seat.steps own in
       let n : ℕ = value about order (kind.Head l) in
       let ls : List (StepBy LaneStep) = lanes_of order in
       let most = few about order l lawful in let a = most.0 in let b = most.1 in
       let c = fit.room in let e = fit.start in
-      let next : (n + 1) % 18446744073709551616 ≡ about.start + (lanes.retired l ls + 1) = omega arith in (
+      let next : (n + 1) % 18446744073709551616 ≡ about.start + (lanes.retired l ls + 1) =
+      omega arith in (
         record {
           may = ((inside, refl, mine, ap (lanes.phase l) s ∙ gave_), tt, tt);
           here = next
@@ -170,12 +175,14 @@ module _ (about : BoardSizes) where
 
   -- ---- visits
 
-  enter_as : FitSizes about → (order : Order) (p : ℕ) (b : Bool) → p < about.seats → IsLawful about order
+  enter_as : FitSizes about → (order : Order) (p : ℕ) (b : Bool) → p < about.seats
+      → IsLawful about order
       → gates.visit (steps_of p (gates_of order)) ≡ gates.outside
       → gates.closed (steps_of p (gates_of order)) ≡ 0
       → is_marked (value about order kind.Gate) ≡ b
       → IsStepAt about order p kind.Gate ((value about order kind.Gate + 1) % 2 ^ 64)
-      (if b then Gate (Turned (value about order kind.Gate)) else Gate (Entered (value about order kind.Gate)))
+      (if b then Gate (Turned (value about order kind.Gate)) else Gate
+      (Entered (value about order kind.Gate)))
   enter_as fit order p true few_ lawful out open_ is =
       let gs : List (StepBy GateStep) = gates_of order in
       let n : ℕ = gates.gate_word gs in
@@ -215,7 +222,8 @@ module _ (about : BoardSizes) where
       )
 
   pub leaves : (seat : SeatView BoardStep) → gates.visit (gate_steps seat.steps) ≢ gates.outside
-      → MayAct about seat kind.Gate (λ n. (n + (2 ^ 64 - 1)) % 2 ^ 64) (λ n. Gate Left) (λ n. Unit {0})
+      → MayAct about seat kind.Gate (λ n. (n + (2 ^ 64 - 1)) % 2 ^ 64) (λ n. Gate Left)
+      (λ n. Unit {0})
   leaves seat within fit order few_ own lawful =
       let s = seen order seat.number seat.steps own in
       let gs : List (StepBy GateStep) = gates_of order in
@@ -223,7 +231,8 @@ module _ (about : BoardSizes) where
       λ e. within (sym (ap gates.visit s) ∙ e) in (
         record {
           may = not_out;
-          here = leave_word about gs seat.number (parts about order lawful).1 fit.seats few_ not_out;
+          here = leave_word about gs seat.number (parts about order lawful).1 fit.seats few_
+              not_out;
           others = gate_else about (lanes_of order) gs seat.number Left (λ s. refl);
           homes = λ x. refl;
         },
@@ -233,9 +242,11 @@ module _ (about : BoardSizes) where
   -- ---- the closer
 
   pub shuts : (seat : SeatView BoardStep) (free : ℕ) → IsCloser about seat.number
-      → IsOutside seat.steps → HasOpen seat.steps → gates.openings (gate_steps seat.steps) < 1000000000
+      → IsOutside seat.steps → HasOpen seat.steps → gates.openings
+      (gate_steps seat.steps) < 1000000000
       → free ≡ gates.openings (gate_steps seat.steps) * 2 ^ 32
-      → MayAct about seat kind.Gate (λ n. either (n == free) (free + 2 ^ 31) n) (closing free) (IsBusy about free)
+      → MayAct about seat kind.Gate (λ n. either (n == free) (free + 2 ^ 31) n) (closing free)
+      (IsBusy about free)
   shuts seat free is_closer out open_ rarely free_is fit order few_ own lawful =
       let p : ℕ = seat.number in
       let s = seen order p seat.steps own in
@@ -264,7 +275,8 @@ module _ (about : BoardSizes) where
             ap gates.closed s ∙ open_,
             subst (λ (z : ℕ). z < 1000000000) (sym (ap gates.openings s)) rarely,
           );
-          here = (let z : free + 2147483648 ≡ gates.visits gs + 2147483648 * 1 + 4294967296 * gates.all_openings gs =
+          here = (let z : free + 2147483648 ≡ gates.visits
+              gs + 2147483648 * 1 + 4294967296 * gates.all_openings gs =
               omega arith in z);
           others = gate_else about (lanes_of order) gs p (Shut n) (λ s. refl);
           homes = λ x. refl;
@@ -297,8 +309,10 @@ module _ (about : BoardSizes) where
       ap (λ q. steps_of q gs) (sym is_closer) ∙ s in
       let sums = closes about gs all in let shut_sum = sums.0 in let opened_sum = sums.1 in
       let small_ = small about gs all in let s0 = small_.0 in let s1 = small_.1 in
-      let shut_is : gates.closed (steps_of (closer about) gs) ≡ 1 = ap gates.closed mine ∙ is_closed in
-      let opened_is : gates.openings (steps_of (closer about) gs) ≡ gates.openings (gate_steps seat.steps) =
+      let shut_is : gates.closed (steps_of (closer about) gs) ≡ 1 = ap gates.closed mine
+      ∙ is_closed in
+      let opened_is : gates.openings (steps_of (closer about) gs) ≡ gates.openings
+      (gate_steps seat.steps) =
       ap gates.openings mine in
       let w = word about gs all in
       let m = sum_most (λ q. gates.is_open (gates.visit (steps_of q gs))) about.seats
@@ -307,7 +321,8 @@ module _ (about : BoardSizes) where
         record {
           may = (is_closer, ap gates.closed s ∙ is_closed);
           here = (let z : (gates.gate_word gs + 2147483648) % 18446744073709551616
-              ≡ gates.visits gs + 2147483648 * 0 + 4294967296 * (gates.all_openings gs + 1) = omega arith in z);
+              ≡ gates.visits gs + 2147483648 * 0 + 4294967296 * (gates.all_openings gs + 1) =
+              omega arith in z);
           others = gate_else about (lanes_of order) gs p Opened (λ s. refl);
           homes = λ x. refl;
         },

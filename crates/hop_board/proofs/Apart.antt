@@ -19,7 +19,8 @@ module _ (about : BoardSizes) where
   same_lane (id.Middle l1) (id.Middle l2) f g e = ap (λ z. id.Middle z) e
   same_lane (id.Middle l1) (id.Out o2) f g e = absurd (omega arith)
   same_lane (id.Out o1) (id.Middle l2) f g e = absurd (omega arith)
-  same_lane (id.Out o1) (id.Out o2) f g e = let same : o1 ≡ o2 = omega arith in ap (λ z. id.Out z) same
+  same_lane (id.Out o1) (id.Out o2) f g e =
+      let same : o1 ≡ o2 = omega arith in ap (λ z. id.Out z) same
 
   pub place_inside : (w : Word) → IsWord about w → place about w < width about
   place_inside (kind.Lane (id.Middle l)) f = omega arith
@@ -30,19 +31,22 @@ module _ (about : BoardSizes) where
 
   pub same_word : (v w : Word) → IsWord about v → IsWord about w
       → place about v ≡ place about w → v ≡ w
-  same_word (kind.Lane (id.Middle l1)) (kind.Lane (id.Middle l2)) f g e = let same : l1 ≡ l2 = omega arith in ap (λ z. kind.Lane (id.Middle z)) same
+  same_word (kind.Lane (id.Middle l1)) (kind.Lane (id.Middle l2)) f g e =
+      let same : l1 ≡ l2 = omega arith in ap (λ z. kind.Lane (id.Middle z)) same
   same_word (kind.Lane (id.Middle l1)) (kind.Lane (id.Out o2)) f g e = absurd (omega arith)
   same_word (kind.Lane (id.Middle l1)) (kind.Head l2) f g e = absurd (omega arith)
   same_word (kind.Lane (id.Middle l1)) kind.Gate f g e = absurd (omega arith)
   same_word (kind.Lane (id.Middle l1)) (kind.Setting i2) f g e = absurd (omega arith)
   same_word (kind.Lane (id.Out o1)) (kind.Lane (id.Middle l2)) f g e = absurd (omega arith)
-  same_word (kind.Lane (id.Out o1)) (kind.Lane (id.Out o2)) f g e = let same : o1 ≡ o2 = omega arith in ap (λ z. kind.Lane (id.Out z)) same
+  same_word (kind.Lane (id.Out o1)) (kind.Lane (id.Out o2)) f g e =
+      let same : o1 ≡ o2 = omega arith in ap (λ z. kind.Lane (id.Out z)) same
   same_word (kind.Lane (id.Out o1)) (kind.Head l2) f g e = absurd (omega arith)
   same_word (kind.Lane (id.Out o1)) kind.Gate f g e = absurd (omega arith)
   same_word (kind.Lane (id.Out o1)) (kind.Setting i2) f g e = absurd (omega arith)
   same_word (kind.Head l1) (kind.Lane (id.Middle l2)) f g e = absurd (omega arith)
   same_word (kind.Head l1) (kind.Lane (id.Out o2)) f g e = absurd (omega arith)
-  same_word (kind.Head l1) (kind.Head l2) f g e = let same : l1 ≡ l2 = omega arith in ap (λ z. kind.Head z) same
+  same_word (kind.Head l1) (kind.Head l2) f g e =
+      let same : l1 ≡ l2 = omega arith in ap (λ z. kind.Head z) same
   same_word (kind.Head l1) kind.Gate f g e = absurd (omega arith)
   same_word (kind.Head l1) (kind.Setting i2) f g e = absurd (omega arith)
   same_word kind.Gate (kind.Lane (id.Middle l2)) f g e = absurd (omega arith)
@@ -54,4 +58,5 @@ module _ (about : BoardSizes) where
   same_word (kind.Setting i1) (kind.Lane (id.Out o2)) f g e = absurd (omega arith)
   same_word (kind.Setting i1) (kind.Head l2) f g e = absurd (omega arith)
   same_word (kind.Setting i1) kind.Gate f g e = absurd (omega arith)
-  same_word (kind.Setting i1) (kind.Setting i2) f g e = let same : i1 ≡ i2 = omega arith in ap (λ z. kind.Setting z) same
+  same_word (kind.Setting i1) (kind.Setting i2) f g e =
+      let same : i1 ≡ i2 = omega arith in ap (λ z. kind.Setting z) same

@@ -78,15 +78,18 @@ module _ (about : BoardSizes) where
   rests_as order q (s ∷ seats) each rest none =
       dite (ℕ_discrete s.number q)
       (λ e. subst (IsAtRest about)
-      (All-head (HasPart order) (ordered_seat s) (map ordered_seat seats) each ∙ ap (λ n. steps_of n order) e)
+      (All-head (HasPart order) (ordered_seat s) (map ordered_seat seats) each
+      ∙ ap (λ n. steps_of n order) e)
       (All-head Rests s seats rest))
       (λ ne. rests_as order q seats
-      (All-tail (HasPart order) (ordered_seat s) (map ordered_seat seats) each) (All-tail Rests s seats rest)
+      (All-tail (HasPart order) (ordered_seat s) (map ordered_seat seats) each)
+      (All-tail Rests s seats rest)
       (λ apart. none (elsewhere s.number q (numbers_of (map ordered_seat seats)) ne apart)))
 
   -- ---- the end of a table
 
-  module _ (seats : List BoardSeatView) (rest : All Rests seats) (words : List ℕ) (items : List InSlot)
+  module _ (seats : List BoardSeatView) (rest : All Rests seats) (words : List ℕ)
+      (items : List InSlot)
       (e : Ends about.seats (HasBoard about) (map ordered_seat seats) words items) where
     abbrev order : List (StepBy BoardStep)
     order = e.order
@@ -98,20 +101,24 @@ module _ (about : BoardSizes) where
     lawful = e.lawfully.lawful
 
     at_rest : (q : ℕ) → IsAtRest about (steps_of q order)
-    at_rest q = rests_as order q seats e.parts.each rest (none_of (map ordered_seat seats) q order e.parts.whole)
+    at_rest q = rests_as order q seats e.parts.each rest
+        (none_of (map ordered_seat seats) q order e.parts.whole)
 
     free_as : (x : LaneId) (h : ℕ) → FitsLane about x → holder_of about ls x ≡ h → h ≡ 0
     free_as x zero fits is = refl
     free_as (id.Middle l) (suc p) fits is =
         none-some (lanes.lane about l ls)
         (sym ((at_rest p).lanes l fits)
-        ∙ (ap (lanes.holding l) (sym (lanes_own p order)) ∙ held_is about ls (parts about order lawful).0 l p is))
+        ∙ (ap (lanes.holding l) (sym (lanes_own p order)) ∙ held_is about ls
+        (parts about order lawful).0 l p is))
     free_as (id.Out o) (suc p) fits is =
         none-some (lanes.out_content about o ls)
         (sym ((at_rest p).outs o fits)
-        ∙ (ap (lanes.out_holding o) (sym (lanes_own p order)) ∙ out_held_is about ls (parts about order lawful).0 o p is))
+        ∙ (ap (lanes.out_holding o) (sym (lanes_own p order)) ∙ out_held_is about ls
+        (parts about order lawful).0 o p is))
 
-    item : (x : LaneId) → FitsLane about x → slice_index_or items (slot_of about x) None ≡ Some (content about ls x)
+    item : (x : LaneId) → FitsLane about x → slice_index_or items (slot_of about x) None ≡ Some
+        (content about ls x)
     item x fits =
         at_or items (slot_of about x) (Some (content about ls x)) None
         (e.at_home (slot_of about x) (Some (content about ls x))
@@ -123,11 +130,13 @@ module _ (about : BoardSizes) where
         (counted about ls (parts about order lawful).0 l).2
     all_lie (id.Out o) fits = subst (LiesIn about (id.Out o)) (sym (item (id.Out o) fits)) tt
 
-    middle_is : (l : ℕ) → l < about.lanes → middle_left (slice_index_or items l None) ≡ lane_list about order l
+    middle_is : (l : ℕ) → l < about.lanes → middle_left (slice_index_or items l None) ≡ lane_list
+        about order l
     middle_is l less =
         let p : ℕ = puller about l in
         let f = facts about ls (parts about order lawful).0 l in
-        let hand : lanes.phase l (steps_of p ls) ≡ lanes.idle = ap (lanes.phase l) (lanes_own p order) ∙ (at_rest p).hands l less in
+        let hand : lanes.phase l (steps_of p ls) ≡ lanes.idle =
+        ap (lanes.phase l) (lanes_own p order) ∙ (at_rest p).hands l less in
         let k : ℕ = (lane_at about order l).pulled in
         let pulled_ : k ≡ length (given l ls) + waiting about lanes.idle =
         f.0 ∙ ap (λ o. length (given l ls) + waiting about o) hand in
@@ -144,7 +153,8 @@ module _ (about : BoardSizes) where
           retired = retired_is i;
         })
 
-    pub ended : FitSizes about → (lists : BoardLists) → lists ≡ lists_left about items → HasEnded about seats lists
+    pub ended : FitSizes about → (lists : BoardLists) → lists ≡ lists_left about items
+        → HasEnded about seats lists
     ended fit lists is = record {
       order = order;
       sizes = fit;
@@ -152,9 +162,11 @@ module _ (about : BoardSizes) where
       parts = e.parts;
       leaves = is
           ∙ (λ i. record {
-            lanes = map-same (λ l. middle_left (slice_index_or items l None)) (lane_list about order) 0 about.lanes
+            lanes = map-same (λ l. middle_left (slice_index_or items l None))
+                (lane_list about order) 0 about.lanes
                 (λ l less. middle_is l (omega arith)) i;
-            outs = map-same (λ o. out_left (slice_index_or items (slot_of about (id.Out o)) None)) (out about order) 0 about.outs
+            outs = map-same (λ o. out_left (slice_index_or items (slot_of about (id.Out o)) None))
+                (out about order) 0 about.outs
                 (λ o less. ap out_left (item (id.Out o) (omega arith))) i;
           });
     }

@@ -1,5 +1,6 @@
 -- Lanes that seats take and give back, as the calls tell it.
-use Rattle.std.proofs.Common.{◌≡◌, ℕ, zero, suc, if◌then◌else◌, ◌+◌, ◌-◌, ◌<◌, ◌≤◌, List, [], ◌∷◌, ◌++◌, Bool, true, false, Option}
+use Rattle.std.proofs.Common.{◌≡◌, ℕ, zero, suc, if◌then◌else◌, ◌+◌, ◌-◌, ◌<◌, ◌≤◌, List, [], ◌∷◌}
+use Rattle.std.proofs.Common.{◌++◌, Bool, true, false, Option}
 use Rattle.std.proofs.Common.{Some, None, length, sym, refl, ap, ◌∙◌, subst, arith, length-append}
 use Rattle.std.specs.Prelude.{slice_get}
 use Rattle.std.proofs.lemmas.Bool.{le-ltb, lt-ltb}
@@ -8,7 +9,8 @@ use Rattle.steer_base.specs.Drops.{bucket_of, lane_drop_cause}
 use Rattle.steer_base.specs.declared.put.DropCause.{DropCause}
 use Rattle.steer_base.specs.declared.put.Put.{Put}
 use Rattle.steer_base.specs.declared.put.Put.TheVariants.{At, Dropped}
-use Rattle.backlog.specs.Puts.{after_put, after_take, answer_by, next_waiting, put_answer, put_by, put_count}
+use Rattle.backlog.specs.Puts.{after_put, after_take, answer_by, next_waiting, put_answer, put_by}
+use Rattle.backlog.specs.Puts.{put_count}
 use Rattle.linearization.specs.Seats.{SeatView}
 use Rattle.hop_rule.specs.declared.sizes.BoardSizes.{BoardSizes}
 use Rattle.hop_rule.specs.declared.step.BoardStep.{BoardStep}
@@ -82,13 +84,17 @@ module _ (about : BoardSizes) where
       word = t.word;
       free = t.free;
       step = ap (λ s. board_seat s e) t.step
-          ∙ ap (λ d. board_seat (record old { steps = LaneOut (slot_of about (id.Out o)) ∷ d ∷ old.steps }) e) t.is_hold;
+          ∙ ap (λ d. board_seat (record old {
+            steps = LaneOut (slot_of about (id.Out o)) ∷ d
+                ∷ old.steps;
+          }) e) t.is_hold;
     },
   )
   took (id.Middle l) old new e (slot.Out y) t = absurd t.is_hold
   took (id.Out o) old new e (slot.Middle y) t = absurd t.is_hold
 
-  pub took_lane : (x : LaneId) (old new : SeatView BoardStep) (e : Bool) (found : Slot) → FitsLane about x
+  pub took_lane : (x : LaneId) (old new : SeatView BoardStep) (e : Bool) (found : Slot)
+      → FitsLane about x
       → TookSlot about x old new found
       → HoldTells about x (board_seat old e) (board_seat new e) (hold.Ok (held_by x found))
   took_lane x old new e found fits t = let taken = took x old new e found t in (
@@ -125,23 +131,28 @@ module _ (about : BoardSizes) where
 
   -- the tail rises where the packet was accepted
   put_rises : (y : LaneLists) (packet : ℕ) (hash : Option ℕ)
-      → length (after_put y packet hash).accepted ≡ risen (rises_by (put_answer y hash)) (length y.accepted)
+      → length (after_put y packet hash).accepted ≡ risen (rises_by (put_answer y hash))
+      (length y.accepted)
   put_rises y packet hash = by_cause (lane_drop_cause y hash)
     where
       by_cause : (cause : Option DropCause)
-          → length (put_by cause y packet (bucket_of hash)).accepted ≡ risen (rises_by (answer_by cause y)) (length y.accepted)
+          → length (put_by cause y packet (bucket_of hash)).accepted ≡ risen
+          (rises_by (answer_by cause y)) (length y.accepted)
       by_cause None = let more = length-append y.accepted (packet ∷ []) in omega arith
       by_cause (Some cause) = refl
 
-  pub may_put : (seat : SeatView BoardStep) (l packet : ℕ) (y : LaneLists) (hash : Option ℕ) (answer : Put)
+  pub may_put : (seat : SeatView BoardStep) (l packet : ℕ) (y : LaneLists) (hash : Option ℕ)
+      (answer : Put)
       → IsMiddle about seat.steps l y → gates.visit (gate_steps seat.steps) ≡ gates.inside
       → packet < about.room → put_count y < y.room → answer ≡ put_answer y hash
       → MayGive about seat (id.Middle l) (rises_by answer) (slot.Middle (after_put y packet hash))
       (step_in (Offered l packet hash answer)) (Unit {0})
   may_put seat l packet y hash answer h inside small some_room is =
-      gives_middle about seat l y (change.Offered packet hash answer) (rises_by answer) (Unit {0}) h.within h.holds
+      gives_middle about seat l y (change.Offered packet hash answer) (rises_by answer)
+      (Unit {0}) h.within h.holds
       (λ order lawful found.
-      let room_is : about.room ≡ y.room = sym (lane_room about (lanes_of order) l) ∙ ap (λ (x : LaneLists). x.room) found in
+      let room_is : about.room ≡ y.room = sym (lane_room about (lanes_of order) l)
+      ∙ ap (λ (x : LaneLists). x.room) found in
       ((small, omega arith, is), inside, tt))
       (put_rises y packet hash ∙ ap (λ a. risen (rises_by a) (length y.accepted)) (sym is))
 
@@ -151,7 +162,8 @@ module _ (about : BoardSizes) where
       → MayGive about seat (id.Middle l) false (slot.Middle (record y { pulled = y.pulled + 1 }))
       (step_in (Pulled l packet)) (packet < about.room)
   may_pull seat l packet y h mine none waits =
-      gives_middle about seat l y (change.Pulled packet) false (packet < about.room) h.within h.holds
+      gives_middle about seat l y (change.Pulled packet) false
+      (packet < about.room) h.within h.holds
       (λ order lawful found. (
         (mine, waits, none),
         tt,
@@ -167,6 +179,7 @@ module _ (about : BoardSizes) where
       → MayGive about seat (id.Out o) true (slot.Out (out_list (y.items ++ packet ∷ []) y.room))
       (step_in (Given o from packet place)) (Unit {0})
   may_deliver seat o from packet place y h inside some_room mine pulled_ place_is =
-      subst (λ (k : ℕ). MayGive about seat (id.Out o) true (slot.Out (out_list (y.items ++ packet ∷ []) y.room))
+      subst (λ (k : ℕ). MayGive about seat (id.Out o) true
+      (slot.Out (out_list (y.items ++ packet ∷ []) y.room))
       (step_in (Given o from packet k)) (Unit {0})) (sym place_is)
       (gives_packet about seat o from packet y h.within inside h.holds some_room mine pulled_)

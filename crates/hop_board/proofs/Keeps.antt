@@ -81,16 +81,21 @@ module _ (about : BoardSizes) where
 
   -- ---- steps that leave the slots as they are
 
-  module _ (fit : FitSizes about) (w : Word) (f : ℕ → ℕ) (makes : ℕ → BoardStep) (says : ℕ → Type 0) where
+  module _ (fit : FitSizes about) (w : Word) (f : ℕ → ℕ) (makes : ℕ → BoardStep)
+      (says : ℕ → Type 0) where
     acts : (p : ℕ) (ds : List BoardStep) (z : TableId) (order : Order) (words : List ℕ)
-        (homes : List (Option InSlot)) → IsWord about w → MayAct about (seat_view z p ds) w f makes says
+        (homes : List (Option InSlot)) → IsWord about w → MayAct about
+        (seat_view z p ds) w f makes says
         → p < about.seats → ds ≡ steps_of p order → HasBoard about order words homes
         → (let n = slice_index words (place about w) in
-        HasBoard about (step_by p (makes n) ∷ order) (set words (place about w) (f n)) homes × says n)
+        HasBoard about (step_by p (makes n) ∷ order) (set words (place about w) (f n)) homes
+        × says n)
     acts p ds z order words homes inside may few own h =
-        let n_is : value about order w ≡ slice_index words (place about w) = sym (h.words_are w inside) in
+        let n_is : value about order w ≡ slice_index words (place about w) =
+        sym (h.words_are w inside) in
         let t = may fit order few own h.lawful in
-        subst (λ (n : ℕ). HasBoard about (step_by p (makes n) ∷ order) (set words (place about w) (f n))
+        subst (λ (n : ℕ). HasBoard about (step_by p (makes n) ∷ order) (set words (place about w)
+        (f n))
         homes × says n) n_is (
           kept order words homes homes p (f (value about order w)) w (makes (value about order w))
               few inside h t.0.may t.0.here t.0.others
@@ -111,9 +116,11 @@ module _ (about : BoardSizes) where
         acts (number_in me.0) (steps_in me.0) z order words homes at.0 may few own h))
 
   -- a store, which tells the value that was stored
-  pub stores_at : FitSizes about → (w : Word) (v : ℕ) (makes : ℕ → BoardStep) (says : ℕ → Type 0) (z : TableId) (n id : ℕ)
+  pub stores_at : FitSizes about → (w : Word) (v : ℕ) (makes : ℕ → BoardStep) (says : ℕ → Type 0)
+      (z : TableId) (n id : ℕ)
       (me : Seated) (i : ℕ) → IsAt about w i → Alone me
-      → MayAct about (seat_view z (number_in me.0) (steps_in me.0)) w (λ _. v) (λ _. makes v) (λ _. says v)
+      → MayAct about (seat_view z (number_in me.0) (steps_in me.0)) w (λ _. v) (λ _. makes v)
+      (λ _. says v)
       → Allows (Ordered about.seats (HasBoard about)) n id me i (λ _. v)
       (λ _. Made (λ st n. makes n) (λ st n order. says n) (step n i v 0 none) me v)
   stores_at fit w v makes says z n id me i at alone may =
@@ -123,7 +130,8 @@ module _ (about : BoardSizes) where
       (λ _. Made (λ st n. makes n) (λ st n order. says n) (step n (place about w) v 0 none) me v)
       (ap (λ m. m.0) alone)
       (λ order words homes _ _ by few own h.
-      let t = acts fit w (λ _. v) (λ _. makes v) (λ _. says v) (number_in me.0) (steps_in me.0) z order words
+      let t = acts fit w (λ _. v) (λ _. makes v) (λ _. says v) (number_in me.0)
+      (steps_in me.0) z order words
       homes at.0 may few own h in (
         makes v,
         keeps,
@@ -135,7 +143,8 @@ module _ (about : BoardSizes) where
   -- ---- slots
 
   homes_with : (order : Order) (homes : List (Option InSlot)) (p : ℕ) (x : LaneId) (d : BoardStep)
-      (y : Option InSlot) → FitsLane about x → length homes ≡ slots about → HomesAre about order homes
+      (y : Option InSlot) → FitsLane about x → length homes ≡ slots about
+      → HomesAre about order homes
       → home_after about (step_by p d ∷ order) x ≡ y
       → ((u : LaneId) → FitsLane about u → u ≢ x
       → home_after about (step_by p d ∷ order) u ≡ home_after about order u)
@@ -152,7 +161,8 @@ module _ (about : BoardSizes) where
 
   -- who has taken a slot by its own steps has it as they say
   pub slot_is : (x : LaneId) (order : Order) (p : ℕ) (s : SlotState) → FitsLane about x
-      → IsLawful about order → own_state about (slot_of about x) (steps_of p order) ≡ s → is_out s ≡ 1
+      → IsLawful about order → own_state about (slot_of about x) (steps_of p order) ≡ s
+      → is_out s ≡ 1
       → slot_state about (slot_of about x) order ≡ s
   slot_is (id.Middle l) order p s inside lawful is out =
       ((agrees about l inside order lawful).own p (ap is_out is ∙ out)).1 ∙ is
@@ -205,7 +215,8 @@ module _ (about : BoardSizes) where
   held_value : (x : LaneId) (w p : ℕ) (order : Order)
       → value about (step_by p (held_step x w (lanes_of order)) ∷ order) (kind.Lane x)
       ≡ 2 * tail_of (lanes_of order) x + 1
-  held_value (id.Middle l) w p order = ap (λ h. 2 * tail_of (lanes_of order) (id.Middle l) + lanes.bit h)
+  held_value (id.Middle l) w p order =
+      ap (λ h. 2 * tail_of (lanes_of order) (id.Middle l) + lanes.bit h)
       (if_same l l (suc p) (lanes.holder l (lanes_of order)) refl)
   held_value (id.Out o) w p order = ap (λ h. 2 * tail_of (lanes_of order) (id.Out o) + lanes.bit h)
       (if_same o o (suc p) (lanes.out_holder o (lanes_of order)) refl)
@@ -214,12 +225,14 @@ module _ (about : BoardSizes) where
       → value about (step_by p (held_step x w (lanes_of order)) ∷ order) v ≡ value about order v
   held_others (id.Middle l) w p order (kind.Lane (id.Middle j)) ne =
       ap (λ h. 2 * tail_of (lanes_of order) (id.Middle j) + lanes.bit h)
-      (if_other l j (suc p) (lanes.holder j (lanes_of order)) (λ e. ne (ap (λ z. kind.Lane (id.Middle z)) (sym e))))
+      (if_other l j (suc p) (lanes.holder j (lanes_of order))
+      (λ e. ne (ap (λ z. kind.Lane (id.Middle z)) (sym e))))
   held_others (id.Middle l) w p order (kind.Lane (id.Out j)) ne = refl
   held_others (id.Out o) w p order (kind.Lane (id.Middle j)) ne = refl
   held_others (id.Out o) w p order (kind.Lane (id.Out j)) ne =
       ap (λ h. 2 * tail_of (lanes_of order) (id.Out j) + lanes.bit h)
-      (if_other o j (suc p) (lanes.out_holder j (lanes_of order)) (λ e. ne (ap (λ z. kind.Lane (id.Out z)) (sym e))))
+      (if_other o j (suc p) (lanes.out_holder j (lanes_of order))
+      (λ e. ne (ap (λ z. kind.Lane (id.Out z)) (sym e))))
   held_others (id.Middle l) w p order (kind.Head j) ne = refl
   held_others (id.Middle l) w p order kind.Gate ne = refl
   held_others (id.Middle l) w p order (kind.Setting i) ne = refl
@@ -251,7 +264,8 @@ module _ (about : BoardSizes) where
 
   held_homes : (x : LaneId) (w p : ℕ) (order : Order) → FitsLane about x → (u : LaneId)
       → FitsLane about u → u ≢ x
-      → home_after about (step_by p (held_step x w (lanes_of order)) ∷ order) u ≡ home_after about order u
+      → home_after about (step_by p (held_step x w (lanes_of order)) ∷ order) u ≡ home_after about
+      order u
   held_homes (id.Middle l) w p order inside u fits ne =
       ap (λ s. home_by about s (content about (lanes_of order) u))
       (state_else (id.Middle l) u taken (slot_state about (slot_of about u) order) inside fits ne)
@@ -306,26 +320,33 @@ module _ (about : BoardSizes) where
 
   -- ---- the steps at slots
 
-  module _ (x : LaneId) (n id : ℕ) (me : Seated) (i : ℕ) (at : IsAt about (kind.Lane x) i) (many : n ≡ slots about) where
+  module _ (x : LaneId) (n id : ℕ) (me : Seated) (i : ℕ) (at : IsAt about (kind.Lane x) i)
+      (many : n ≡ slots about) where
     -- a step that moves a slot, at the word of its lane
-    moves_slot : (goes_so : Step InSlot → ℕ → BoardStep → Carried → Carried → Type 0) (f : ℕ → ℕ) (a : ℕ)
+    moves_slot : (goes_so : Step InSlot → ℕ → BoardStep → Carried → Carried → Type 0) (f : ℕ → ℕ)
+        (a : ℕ)
         → me.0 ≡ one (number_in me.0) (steps_in me.0)
-        → ((order : Order) (words : List ℕ) (homes : List (Option InSlot)) → length homes ≡ slots about
+        → ((order : Order) (words : List ℕ) (homes : List (Option InSlot))
+        → length homes ≡ slots about
         → number_in me.0 < about.seats → steps_in me.0 ≡ steps_of (number_in me.0) order
         → HasBoard about order words homes
         → let k = slice_index words (place about (kind.Lane x)) in
         (k ≡ value about order (kind.Lane x)) → k < 18446744073709551616
         → (d : BoardStep) × (act : Rattle.atomic_table.specs.Table.Act InSlot)
         × Rattle.atomic_table.specs.Table.Valid homes me.1 act
-        × HasBoard about (step_by (number_in me.0) d ∷ order) (set words (place about (kind.Lane x)) (f k))
+        × HasBoard about (step_by (number_in me.0) d ∷ order) (set words (place about (kind.Lane x))
+        (f k))
         (homes_after homes me.1 act)
         × goes_so (step n (slot_of about x) a 0 none) k d me.1
         (Rattle.atomic_table.specs.Table.carried_after me.1 act))
-        → Allows (Ordered about.seats (HasBoard about)) n id me i f (Moved goes_so (step n i a 0 none) me)
+        → Allows (Ordered about.seats (HasBoard about)) n id me i f
+        (Moved goes_so (step n i a 0 none) me)
     moves_slot goes_so f a alone on =
-        subst (λ (k : ℕ). Allows (Ordered about.seats (HasBoard about)) n id me k f (Moved goes_so (step n k a 0 none) me))
+        subst (λ (k : ℕ). Allows (Ordered about.seats (HasBoard about)) n id me k f
+        (Moved goes_so (step n k a 0 none) me))
         (sym at.1)
-        (moves_taking about.seats (HasBoard about) goes_so (step n (slot_of about x) a 0 none) n id me (slot_of about x) f alone
+        (moves_taking about.seats (HasBoard about) goes_so (step n (slot_of about x) a 0 none) n id
+        me (slot_of about x) f alone
         (λ order words homes all wide by few own h.
         on order words homes (all ∙ many) few own h (h.words_are (kind.Lane x) at.0) wide))
 
@@ -350,10 +371,12 @@ module _ (about : BoardSizes) where
           d,
           takes (slot_of about x) (Some (content about ls x)),
           h.homes_are x at.0 ∙ ap some (home_is x order at.0 h.lawful free),
-          kept order words homes (set homes (slot_of about x) none) p (bit_or k 1) (kind.Lane x) d few at.0 h
+          kept order words homes (set homes (slot_of about x) none) p (bit_or k 1)
+              (kind.Lane x) d few at.0 h
               (held_may x k p order at.0 word free) (now ∙ sym (held_value x k p order))
               (held_others x k p order)
-              (homes_with order homes p x d none at.0 all h.homes_are (held_home x k p order) (held_homes x k p order at.0)),
+              (homes_with order homes p x d none at.0 all h.homes_are (held_home x k p order)
+              (held_homes x k p order at.0)),
           (
             (λ e. record {
               found = content about ls x;
@@ -397,7 +420,8 @@ module _ (about : BoardSizes) where
           d,
           gives,
           tt,
-          subst (λ (cs : Carried). HasBoard about (step_by p d ∷ order) (set words s k) (homes_after homes cs gives))
+          subst (λ (cs : Carried). HasBoard about (step_by p d ∷ order) (set words s k)
+              (homes_after homes cs gives))
               (sym carried)
               (kept order words homes (set homes s (some None)) p k (kind.Lane x) d few at.0 h
               (inside, ap (own_state about s) (sym own) ∙ state) word (λ v ne. refl)
@@ -420,12 +444,16 @@ module _ (about : BoardSizes) where
         let k : ℕ = slice_index words s in
         let d : BoardStep = LaneIn s in
         let inside = slot_inside about x at.0 in
-        let mine : own_state about s (steps_of p order) ≡ empty = ap (own_state about s) (sym own) ∙ state in
-        let there : slot_state about s order ≡ empty = slot_is x order p empty at.0 h.lawful mine refl in (
+        let mine : own_state about s (steps_of p order) ≡ empty = ap (own_state about s) (sym own)
+        ∙ state in
+        let there : slot_state about s order ≡ empty =
+        slot_is x order p empty at.0 h.lawful mine refl in (
           d,
           takes s None,
-          h.homes_are x at.0 ∙ ap (λ z. some (home_by about z (content about (lanes_of order) x))) there,
-          kept order words homes (set homes s none) p k (kind.Lane x) d few at.0 h (inside, mine) word (λ v ne. refl)
+          h.homes_are x at.0 ∙ ap (λ z. some (home_by about z (content about (lanes_of order) x)))
+              there,
+          kept order words homes (set homes s none) p k (kind.Lane x) d few at.0 h
+              (inside, mine) word (λ v ne. refl)
               (homes_with order homes p x d none at.0 all h.homes_are
               (ap (λ z. home_by about z (content about (lanes_of order) x))
               (if_same s s taken (slot_state about s order) refl))
@@ -435,14 +463,16 @@ module _ (about : BoardSizes) where
         ))
 
     -- the slot is given back with a lane in it
-    pub given_back : FitSizes about → (rises : Bool) (c : Slot) (given : BoardStep) (says : Type 0) (z : TableId) (ds : List BoardStep)
+    pub given_back : FitSizes about → (rises : Bool) (c : Slot) (given : BoardStep) (says : Type 0)
+        (z : TableId) (ds : List BoardStep)
         (f : ℕ → ℕ) (a : ℕ) → f ≡ released_word rises
         → me.0 ≡ one (number_in me.0) (LaneIn (slot_of about x) ∷ ds)
         → me.1 ≡ (slot_of about x, Some c) ∷ []
         → MayGive about (seat_view z (number_in me.0) ds) x rises c given says
         → Allows (Ordered about.seats (HasBoard about)) n id me i f
         (Moved (GivesThen given says) (step n i a 0 none) me)
-    given_back fit rises c given says z ds f a f_is alone carried may = moves_slot (GivesThen given says) f a
+    given_back fit rises c given says z ds f a f_is alone carried may =
+        moves_slot (GivesThen given says) f a
         (alone ∙ ap (one (number_in me.0)) (sym (ap steps_in alone)))
         (λ order words homes all few own h word wide.
         let p : ℕ = number_in me.0 in
@@ -455,18 +485,23 @@ module _ (about : BoardSizes) where
           given,
           gives,
           tt,
-          subst (λ (cs : Carried). HasBoard about (step_by p given ∷ order) (set words s (f k)) (homes_after homes cs gives))
+          subst (λ (cs : Carried). HasBoard about (step_by p given ∷ order) (set words s (f k))
+              (homes_after homes cs gives))
               (sym carried)
-              (kept order words homes (set homes s (some (Some c))) p (f k) (kind.Lane x) given few at.0 h
+              (kept order words homes (set homes s (some (Some c))) p (f k)
+              (kind.Lane x) given few at.0 h
               t.0.may here t.0.others
-              (homes_with order homes p x given (some (Some c)) at.0 all h.homes_are t.0.home t.0.homes)),
+              (homes_with order homes p x given (some (Some c)) at.0 all h.homes_are t.0.home
+              t.0.homes)),
           (refl, refl, t.1),
         ))
 
 -- ---- the same in a table that was told these sizes, for a seat as contracts see it
 
-module _ (about told : BoardSizes) (told_is : told ≡ about) (fit : FitSizes about) (seat : SeatView BoardStep) (z : TableId)
-    (n id : ℕ) (me : Seated) (seen : seat_view z (number_in me.0) (steps_in me.0) ≡ seat) (i : ℕ) where
+module _ (about told : BoardSizes) (told_is : told ≡ about) (fit : FitSizes about)
+    (seat : SeatView BoardStep) (z : TableId)
+    (n id : ℕ) (me : Seated) (seen : seat_view z (number_in me.0) (steps_in me.0) ≡ seat)
+    (i : ℕ) where
   pub acts_in : (w : Word) (f : ℕ → ℕ) (makes : ℕ → BoardStep) (says : ℕ → Type 0) (a b : ℕ)
       → IsWord about w → i ≡ place about w → Alone me → MayAct about seat w f makes says
       → Allows (Ordered told.seats (HasBoard told)) n id me i f
@@ -486,33 +521,41 @@ module _ (about told : BoardSizes) (told_is : told ≡ about) (fit : FitSizes ab
       subst (λ (k : BoardSizes). Allows (Ordered k.seats (HasBoard k)) n id me i (λ _. v)
       (λ _. Made (λ st n. makes n) (λ st n order. says n) (step n i v 0 none) me v)) (sym told_is)
       (stores_at about fit w v makes says z n id me i (inside, here) alone
-      (subst (λ (s : SeatView BoardStep). MayAct about s w (λ _. v) (λ _. makes v) (λ _. says v)) (sym seen) may))
+      (subst (λ (s : SeatView BoardStep). MayAct about s w (λ _. v) (λ _. makes v) (λ _. says v))
+      (sym seen) may))
 
-  module _ (x : LaneId) (within : FitsLane about x) (here : i ≡ slot_of about x) (many : n ≡ slots about) where
+  module _ (x : LaneId) (within : FitsLane about x) (here : i ≡ slot_of about x)
+      (many : n ≡ slots about) where
     pub holds_in : (y : LaneId) → y ≡ x → Alone me
         → Allows (Ordered told.seats (HasBoard told)) n id me i (λ k. bit_or k 1)
         (Moved (HoldsThen y) (step n i 1 0 none) me)
-    holds_in y y_is alone = subst (λ (k : BoardSizes × LaneId). Allows (Ordered k.0.seats (HasBoard k.0)) n id me i
-        (λ k. bit_or k 1) (Moved (HoldsThen k.1) (step n i 1 0 none) me)) (λ j. (sym told_is j, sym y_is j))
+    holds_in y y_is alone =
+        subst (λ (k : BoardSizes × LaneId). Allows (Ordered k.0.seats (HasBoard k.0)) n id me i
+        (λ k. bit_or k 1) (Moved (HoldsThen k.1) (step n i 1 0 none) me))
+        (λ j. (sym told_is j, sym y_is j))
         (holds about x n id me i (within, here) many alone)
 
-    pub empties_in : me.0 ≡ one (number_in me.0) (steps_in me.0) → me.1 ≡ (slot_of about x, None) ∷ []
+    pub empties_in : me.0 ≡ one (number_in me.0) (steps_in me.0) → me.1 ≡ (slot_of about x, None)
+        ∷ []
         → own_state about (slot_of about x) (steps_in me.0) ≡ taken
         → Allows (Ordered told.seats (HasBoard told)) n id me i (λ k. k)
         (Moved EmptiesThen (step n i 0 0 none) me)
-    empties_in alone carried state = subst (λ (k : BoardSizes). Allows (Ordered k.seats (HasBoard k)) n id me i
+    empties_in alone carried state =
+        subst (λ (k : BoardSizes). Allows (Ordered k.seats (HasBoard k)) n id me i
         (λ k. k) (Moved EmptiesThen (step n i 0 0 none) me)) (sym told_is)
         (empties about x n id me i (within, here) many alone carried state)
 
     pub fills_in : Alone me → own_state about (slot_of about x) seat.steps ≡ empty
         → Allows (Ordered told.seats (HasBoard told)) n id me i (λ k. k)
         (Moved FillsThen (step n i 0 0 none) me)
-    fills_in alone state = subst (λ (k : BoardSizes). Allows (Ordered k.seats (HasBoard k)) n id me i
+    fills_in alone state =
+        subst (λ (k : BoardSizes). Allows (Ordered k.seats (HasBoard k)) n id me i
         (λ k. k) (Moved FillsThen (step n i 0 0 none) me)) (sym told_is)
         (fills about x n id me i (within, here) many alone
         (ap (λ (s : SeatView BoardStep). own_state about (slot_of about x) s.steps) seen ∙ state))
 
-    pub gives_in : (rises : Bool) (c : Slot) (given : BoardStep) (says : Type 0) (ds : List BoardStep)
+    pub gives_in : (rises : Bool) (c : Slot) (given : BoardStep) (says : Type 0)
+        (ds : List BoardStep)
         (f : ℕ → ℕ) (a p : ℕ) → f ≡ released_word rises
         → me.0 ≡ one p (LaneIn (slot_of about x) ∷ ds) → me.1 ≡ (slot_of about x, Some c) ∷ []
         → MayGive about (seat_view z p ds) x rises c given says

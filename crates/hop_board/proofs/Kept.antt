@@ -1,5 +1,6 @@
 -- What a seat keeps besides its steps, after more of them.
-use Rattle.std.proofs.Common.{◌≡◌, ◌≢◌, ℕ, ◌+◌, ◌<◌, Bool, List, [], ◌∷◌, ◌++◌, Result, Ok, Err, MatchResult, set}
+use Rattle.std.proofs.Common.{◌≡◌, ◌≢◌, ℕ, ◌+◌, ◌<◌, Bool, List, [], ◌∷◌, ◌++◌, Result, Ok, Err}
+use Rattle.std.proofs.Common.{MatchResult, set}
 use Rattle.std.proofs.Common.{slice_index, length, sym, ap, ◌∙◌, subst, arith, get_or-set_same}
 use Rattle.std.proofs.Common.{get_or-set_other}
 use mathlib.Core.Logic.{dite}
@@ -35,7 +36,8 @@ module _ (pulled : List ℕ) (opened : ℕ) where
 
   held_kept : (k : ℕ) (x : LaneId) (w : ℕ) (found : Slot) (d : BoardStep) (ds : List BoardStep)
       → HeldAt x w found d → Keeps ds → Keeps (LaneOut k ∷ d ∷ ds)
-  held_kept k (id.Middle l) w (slot.Middle y) d ds is t = subst (λ z. Keeps (LaneOut k ∷ z ∷ ds)) (sym is)
+  held_kept k (id.Middle l) w (slot.Middle y) d ds is t = subst (λ z. Keeps (LaneOut k ∷ z ∷ ds))
+      (sym is)
       record { in_hand = λ lane packet inside at. t.in_hand lane packet inside at; opens = t.opens }
   held_kept k (id.Out o) w (slot.Out y) d ds is t = subst (λ z. Keeps (LaneOut k ∷ z ∷ ds)) (sym is)
       record { in_hand = λ lane packet inside at. t.in_hand lane packet inside at; opens = t.opens }
@@ -49,12 +51,16 @@ module _ (pulled : List ℕ) (opened : ℕ) where
       record { in_hand = λ lane packet inside at. t.in_hand lane packet inside at; opens = t.opens }
 
   -- a lane was taken, or missed
-  pub taken_kept : (about : BoardSizes) (x : LaneId) (old new : SeatView BoardStep) (result : Result Slot ℕ)
-      → MatchResult result (λ found. TookSlot about x old new found) (λ word. MissedSlot x old new word)
+  pub taken_kept : (about : BoardSizes) (x : LaneId) (old new : SeatView BoardStep)
+      (result : Result Slot ℕ)
+      → MatchResult result (λ found. TookSlot about x old new found)
+      (λ word. MissedSlot x old new word)
       → Keeps old.steps → Keeps new.steps
-  taken_kept about x old new (Ok found) t k = subst Keeps (sym (ap (λ (s : SeatView BoardStep). s.steps) t.step))
+  taken_kept about x old new (Ok found) t k =
+      subst Keeps (sym (ap (λ (s : SeatView BoardStep). s.steps) t.step))
       (held_kept (slot_of about x) x t.word found t.held old.steps t.is_hold k)
-  taken_kept about x old new (Err word) t k = subst Keeps (sym (ap (λ (s : SeatView BoardStep). s.steps) t.step))
+  taken_kept about x old new (Err word) t k =
+      subst Keeps (sym (ap (λ (s : SeatView BoardStep). s.steps) t.step))
       (missed_kept x word old.steps k)
 
   abbrev kind : Phase → ℕ
@@ -68,8 +74,10 @@ module _ (pulled : List ℕ) (opened : ℕ) where
   packet_in gave = 0
 
   -- the hand of one lane goes on from a packet that was pulled
-  other_hand : (l lane packet : ℕ) (now before : Phase) → kind now ≢ 1 → (if_ : Phase) → ((l ≡ lane) → if_ ≡ now)
-      → ((l ≢ lane) → if_ ≡ before) → if_ ≡ has_pulled packet → (l ≢ lane) × (before ≡ has_pulled packet)
+  other_hand : (l lane packet : ℕ) (now before : Phase) → kind now ≢ 1 → (if_ : Phase)
+      → ((l ≡ lane) → if_ ≡ now)
+      → ((l ≢ lane) → if_ ≡ before) → if_ ≡ has_pulled packet → (l ≢ lane)
+      × (before ≡ has_pulled packet)
   other_hand l lane packet now before ne if_ same other at = dite (ℕ_discrete l lane)
       (λ e. absurd (ne (ap kind (sym (same e) ∙ at))))
       (λ n. (n, sym (other n) ∙ at))
@@ -79,17 +87,20 @@ module _ (pulled : List ℕ) (opened : ℕ) where
   given_kept k o from id place ds t = record {
     in_hand = λ lane packet inside at. (
         let before : Phase = phase lane (lane_steps ds) in
-        let h = other_hand from lane packet gave before (λ e. absurd (omega arith)) (phase lane (lane_steps (Lane (Given o from id place) ∷ LaneIn k ∷ ds)))
+        let h = other_hand from lane packet gave before (λ e. absurd (omega arith))
+        (phase lane (lane_steps (Lane (Given o from id place) ∷ LaneIn k ∷ ds)))
         (λ e. if_same from lane gave before e) (λ ne. if_other from lane gave before ne) at in
         t.in_hand lane packet inside h.1);
     opens = t.opens;
   }
 
-  pub retired_kept : (l word : ℕ) (ds : List BoardStep) → Keeps ds → Keeps (Lane (Retired l word) ∷ ds)
+  pub retired_kept : (l word : ℕ) (ds : List BoardStep) → Keeps ds → Keeps (Lane (Retired l word)
+      ∷ ds)
   retired_kept l word ds t = record {
     in_hand = λ lane packet inside at. (
         let before : Phase = phase lane (lane_steps ds) in
-        let h = other_hand l lane packet idle before (λ e. absurd (omega arith)) (phase lane (lane_steps (Lane (Retired l word) ∷ ds)))
+        let h = other_hand l lane packet idle before (λ e. absurd (omega arith))
+        (phase lane (lane_steps (Lane (Retired l word) ∷ ds)))
         (λ e. if_same l lane idle before e) (λ ne. if_other l lane idle before ne) at in
         t.in_hand lane packet inside h.1);
     opens = t.opens;
@@ -104,7 +115,8 @@ module _ (pulled : List ℕ) (opened : ℕ) where
         (get_or-set_same pulled l id 0 room
         ∙ ap packet_in (sym (if_same l lane (has_pulled id) (phase lane (lane_steps ds)) e) ∙ at)))
         (λ ne. get_or-set_other pulled l lane id 0 (λ e. ne (sym e))
-        ∙ t.in_hand lane packet inside (sym (if_other l lane (has_pulled id) (phase lane (lane_steps ds)) ne) ∙ at));
+        ∙ t.in_hand lane packet inside
+        (sym (if_other l lane (has_pulled id) (phase lane (lane_steps ds)) ne) ∙ at));
     opens = t.opens;
   }
 
@@ -114,11 +126,13 @@ module _ (pulled : List ℕ) (opened : ℕ) where
   looked_kept (x ∷ xs) ds t = looked_kept xs (looking (x ∷ []) ds)
       record { in_hand = λ lane packet inside at. t.in_hand lane packet inside at; opens = t.opens }
 
-  pub emptied_kept : (about : BoardSizes) (mask : CpuMask) (old new : SeatView BoardStep) (e : Bool) (answer : Emptied)
+  pub emptied_kept : (about : BoardSizes) (mask : CpuMask) (old new : SeatView BoardStep) (e : Bool)
+      (answer : Emptied)
       → EmptiedTells about mask (board_seat old e) (board_seat new (emptied_after e answer)) answer
       → Keeps old.steps → Keeps new.steps
   emptied_kept about mask old new e emptied.Ok t k =
-      subst Keeps (sym (ap (λ (s : BoardSeatView). s.steps) t.step)) (looked_kept t.looked old.steps k)
+      subst Keeps (sym (ap (λ (s : BoardSeatView). s.steps) t.step))
+      (looked_kept t.looked old.steps k)
   emptied_kept about mask old new e (emptied.NotEmpty lane head tail) t k =
       subst Keeps (sym (ap (λ (s : BoardSeatView). s.steps) t.step))
       (looked_kept (t.looked ++ t.last ∷ []) old.steps k)

@@ -1,5 +1,6 @@
 -- Lanes that are looked at.
-use Rattle.std.proofs.Common.{◌≡◌, ◌≢◌, ℕ, zero, suc, ◌+◌, ◌-◌, ◌<◌, List, [], ◌∷◌, ◌++◌, Bool, true, false}
+use Rattle.std.proofs.Common.{◌≡◌, ◌≢◌, ℕ, zero, suc, ◌+◌, ◌-◌, ◌<◌, List, [], ◌∷◌, ◌++◌, Bool}
+use Rattle.std.proofs.Common.{true, false}
 use Rattle.std.proofs.Common.{cond, map, sym, refl, ap, ◌∙◌, arith, append-nil, append_assoc}
 use Rattle.std.proofs.lemmas.List.Elements.{All-nil, All-cons}
 use Rattle.steer_base.specs.Sets.{has, those_below}
@@ -32,14 +33,16 @@ all-end (y ∷ ys) x all is = All-cons IsEmpty y (ys ++ x ∷ [])
     (all-end ys x (Rattle.std.proofs.lemmas.List.Elements.All-tail IsEmpty y ys all) is)
 
 -- a set up to a greater number begins as it does up to a smaller one
-further : (test : ℕ → Bool) (n k : ℕ) → (rest : List ℕ) × (those_below (n + k) test ≡ those_below n test ++ rest)
+further : (test : ℕ → Bool) (n k : ℕ) → (rest : List ℕ)
+    × (those_below (n + k) test ≡ those_below n test ++ rest)
 further test n zero = let none : n + 0 ≡ n = omega arith in
     ([], ap (λ z. those_below z test) none ∙ sym (append-nil (those_below n test)))
 further test n (suc k) = let t = further test n k in
     let one : List ℕ = cond (test (n + k)) ((n + k) ∷ []) [] in
     let more : n + suc k ≡ n + k + 1 = omega arith in (
       t.0 ++ one,
-      ap (λ z. those_below z test) more ∙ those_below-more (n + k) test ∙ (ap (λ l. l ++ one) t.1 ∙ append_assoc (those_below n test) t.0 one),
+      ap (λ z. those_below z test) more ∙ those_below-more (n + k) test ∙ (ap (λ l. l ++ one) t.1
+          ∙ append_assoc (those_below n test) t.0 one),
     )
 
 -- from a member on
@@ -50,7 +53,8 @@ from_member test n m less is =
     let m_is : n + 1 + (m - (n + 1)) ≡ m = omega arith in (
       t.0,
       sym (ap (λ z. those_below z test) (sym m_is)
-          ∙ (t.1 ∙ (ap (λ l. l ++ t.0) (those_below-more n test ∙ ap (λ b. those_below n test ++ cond b (n ∷ []) []) is)
+          ∙ (t.1 ∙ (ap (λ l. l ++ t.0) (those_below-more n test ∙ ap (λ b. those_below n test
+          ++ cond b (n ∷ []) []) is)
           ∙ append_assoc (those_below n test) (n ∷ []) t.0))),
     )
 
@@ -65,14 +69,17 @@ module _ (about : BoardSizes) (mask : CpuMask) (old : SeatView BoardStep) where
       looked = t.looked;
       lanes = t.lanes
           ∙ sym (those_below-more n (has mask)
-          ∙ (ap (λ b. those_below n (has mask) ++ cond b (n ∷ []) []) none ∙ append-nil (those_below n (has mask))));
+          ∙ (ap (λ b. those_below n (has mask) ++ cond b (n ∷ []) []) none ∙ append-nil
+          (those_below n (has mask))));
       empty = t.empty;
       step = t.step;
     }
 
-    module _ (x : Looked) (lane_is : x.lane ≡ n) (step : new ≡ record mid { steps = looking (x ∷ []) mid.steps }) where
+    module _ (x : Looked) (lane_is : x.lane ≡ n)
+        (step : new ≡ record mid { steps = looking (x ∷ []) mid.steps }) where
       abbrev steps_are : new ≡ record old { steps = looking (t.looked ++ x ∷ []) old.steps }
-      steps_are = step ∙ (ap (λ (s : SeatView BoardStep). record s { steps = looking (x ∷ []) s.steps }) t.step
+      steps_are = step
+          ∙ (ap (λ (s : SeatView BoardStep). record s { steps = looking (x ∷ []) s.steps }) t.step
           ∙ ap (λ ds. record old { steps = ds }) (sym (looking-end t.looked x old.steps)))
 
       pub looks_more : has mask n ≡ true → IsEmpty x → LooksBelow mask (n + 1) old new
@@ -80,15 +87,18 @@ module _ (about : BoardSizes) (mask : CpuMask) (old : SeatView BoardStep) where
         looked = t.looked ++ x ∷ [];
         lanes = map-end t.looked x
             ∙ ((λ i. t.lanes i ++ lane_is i ∷ [])
-            ∙ sym (those_below-more n (has mask) ∙ ap (λ b. those_below n (has mask) ++ cond b (n ∷ []) []) has_it));
+            ∙ sym (those_below-more n (has mask) ∙ ap (λ b. those_below n (has mask)
+            ++ cond b (n ∷ []) []) has_it));
         empty = all-end t.looked x t.empty empty;
         step = steps_are;
       }
 
-      pub finds_first : has mask n ≡ true → n < about.lanes → (head tail : ℕ) → head ≡ low_half x.head
+      pub finds_first : has mask n ≡ true → n < about.lanes → (head tail : ℕ)
+          → head ≡ low_half x.head
           → tail ≡ tail_in x.tail → head ≢ tail → (e : Bool)
           → EmptiedTells about mask (board_seat old e)
-          (board_seat new (emptied_after e (emptied.NotEmpty n head tail))) (emptied.NotEmpty n head tail)
+          (board_seat new (emptied_after e (emptied.NotEmpty n head tail)))
+          (emptied.NotEmpty n head tail)
       finds_first has_it less head tail head_is tail_is ne e =
           let rest = from_member (has mask) n about.lanes less has_it in record {
             looked = t.looked;
@@ -104,7 +114,8 @@ module _ (about : BoardSizes) (mask : CpuMask) (old : SeatView BoardStep) where
           }
 
   pub finds_all : (new : SeatView BoardStep) → LooksBelow mask about.lanes old new → (e : Bool)
-      → EmptiedTells about mask (board_seat old e) (board_seat new (emptied_after e emptied.Ok)) emptied.Ok
+      → EmptiedTells about mask (board_seat old e) (board_seat new (emptied_after e emptied.Ok))
+      emptied.Ok
   finds_all new t e = record {
     looked = t.looked;
     lanes = t.lanes;

@@ -1,6 +1,7 @@
 -- Lanes that are given back.
 use Rattle.std.proofs.Common.{◌≡◌, ◌≢◌, ℕ, ◌+◌, ◌-◌, ◌*◌, ◌<◌, ◌≤◌, ◌==◌, List, []}
-use Rattle.std.proofs.Common.{◌∷◌, ◌++◌, Bool, true, false, Some, length, if◌then◌else◌, sym, refl, ap}
+use Rattle.std.proofs.Common.{◌∷◌, ◌++◌, Bool, true, false, Some, length, if◌then◌else◌, sym, refl}
+use Rattle.std.proofs.Common.{ap}
 use Rattle.std.proofs.Common.{◌∙◌, subst, arith, length-append}
 use Rattle.steer_base.specs.Lanes.{LaneLists}
 use Rattle.linearization.specs.Orders.{StepBy, step_by, steps_of}
@@ -41,7 +42,8 @@ risen true t = t + 1
 risen false t = t
 
 released : (rises : Bool) (n t m : ℕ) → n ≡ 2 * t + 1 → n < 18446744073709551616
-    → (rises ≡ true → t < 9223372036854775807) → m ≡ risen rises t → released_word rises n ≡ 2 * m + 0
+    → (rises ≡ true → t < 9223372036854775807) → m ≡ risen rises t
+    → released_word rises n ≡ 2 * m + 0
 released true n t m is wide small goes = let few_ = small refl in omega arith
 released false n t m is wide small goes = omega arith
 
@@ -63,7 +65,8 @@ module _ (about : BoardSizes) where
         → value about (step_by p (Lane (Freed l c)) ∷ order) v ≡ value about order v
     middle_else (kind.Lane (id.Middle j)) ne =
         let apart : l ≢ j = λ e. ne (ap (λ z. kind.Lane (id.Middle z)) (sym e)) in
-        λ i. 2 * (about.start + length (if_other l j (lanes.changed c (lanes.lane about j ls)) (lanes.lane about j ls) apart i).accepted)
+        λ i. 2 * (about.start + length (if_other l j (lanes.changed c (lanes.lane about j ls))
+        (lanes.lane about j ls) apart i).accepted)
         + lanes.bit (if_other l j 0 (lanes.holder j ls) apart i)
     middle_else (kind.Lane (id.Out j)) ne = refl
     middle_else (kind.Head j) ne = refl
@@ -75,16 +78,19 @@ module _ (about : BoardSizes) where
     middle_homes inside (id.Middle j) fits ne =
         let apart : l ≢ j = λ e. ne (ap (λ z. id.Middle z) (sym e)) in
         λ i. home_by about (if_other l j full (slot_state about j order) apart i)
-        (slot.Middle (if_other l j (lanes.changed c (lanes.lane about j ls)) (lanes.lane about j ls) apart i))
+        (slot.Middle (if_other l j (lanes.changed c (lanes.lane about j ls))
+        (lanes.lane about j ls) apart i))
     middle_homes inside (id.Out j) fits ne =
         ap (λ s. home_by about s (content about ls (id.Out j)))
-        (if_other l (slot_of about (id.Out j)) full (slot_state about (slot_of about (id.Out j)) order) (λ e. absurd (omega arith)))
+        (if_other l (slot_of about (id.Out j)) full
+        (slot_state about (slot_of about (id.Out j)) order) (λ e. absurd (omega arith)))
 
   pub gives_middle : (seat : SeatView BoardStep) (l : ℕ) (y : LaneLists) (c : Change) (rises : Bool)
       (says : Type 0) → l < about.lanes → lanes.holding l (lane_steps seat.steps) ≡ Some y
       → MayChange seat l y c says
       → length (lanes.changed c y).accepted ≡ risen rises (length y.accepted)
-      → MayGive about seat (id.Middle l) rises (slot.Middle (lanes.changed c y)) (Lane (Freed l c)) says
+      → MayGive about seat (id.Middle l) rises (slot.Middle (lanes.changed c y))
+      (Lane (Freed l c)) says
   gives_middle seat l y c rises says inside held may goes fit order few_ own lawful wide =
       let p : ℕ = seat.number in
       let ls : List (StepBy LaneStep) = lanes_of order in
@@ -95,14 +101,18 @@ module _ (about : BoardSizes) where
       let asked = may order lawful found.1 in
       let most = few about order l lawful in let a = most.0 in let b = most.1 in
       let r = fit.room in let q = fit.start in
-      let many : length (lanes.lane about l ls).accepted ≡ length y.accepted = ap (λ (x : LaneLists). length x.accepted) found.1 in
+      let many : length (lanes.lane about l ls).accepted ≡ length y.accepted =
+      ap (λ (x : LaneLists). length x.accepted) found.1 in
       let t : ℕ = about.start + length y.accepted in
       let n : ℕ = value about order (kind.Lane (id.Middle l)) in
-      let n_is : n ≡ 2 * t + 1 = λ i. 2 * (about.start + length (found.1 i).accepted) + lanes.bit (found.0 i) in
+      let n_is : n ≡ 2 * t + 1 = λ i. 2 * (about.start + length (found.1 i).accepted) + lanes.bit
+      (found.0 i) in
       let m : ℕ = about.start + length (lanes.changed c y).accepted in
-      let m_is : m ≡ risen rises t = rise_from rises about.start (length y.accepted) (length (lanes.changed c y).accepted) goes in
+      let m_is : m ≡ risen rises t = rise_from rises about.start (length y.accepted)
+      (length (lanes.changed c y).accepted) goes in
       let now : lanes.lane about l (step_by p (Freed l c) ∷ ls) ≡ lanes.changed c y =
-      if_same l l (lanes.changed c (lanes.lane about l ls)) (lanes.lane about l ls) refl ∙ ap (lanes.changed c) found.1 in (
+      if_same l l (lanes.changed c (lanes.lane about l ls)) (lanes.lane about l ls) refl
+      ∙ ap (lanes.changed c) found.1 in (
         record {
           may = (
             (
@@ -113,20 +123,24 @@ module _ (about : BoardSizes) where
                 subst (λ (ds : List LaneStep). lanes.FitsChange about l p ds y c) (sym s) asked.0,
               ),
             ),
-            subst (λ (ds : List GateStep). IsInside about (gates.visit ds) (Freed l c)) (sym g) asked.1,
-            ap (own_state about l) (sym own) ∙ if_same l l taken (own_state about l seat.steps) refl,
+            subst (λ (ds : List GateStep). IsInside about (gates.visit ds) (Freed l c))
+                (sym g) asked.1,
+            ap (own_state about l) (sym own) ∙ if_same l l taken
+                (own_state about l seat.steps) refl,
           );
           here = released rises n t m n_is wide (λ _. omega arith) m_is
               ∙ sym (λ i. 2 * (about.start + length (now i).accepted)
               + lanes.bit (if_same l l 0 (lanes.holder l ls) refl i));
           others = middle_else l c p order;
-          home = λ i. home_by about (if_same l l full (slot_state about l order) refl i) (slot.Middle (now i));
+          home = λ i. home_by about (if_same l l full (slot_state about l order) refl i)
+              (slot.Middle (now i));
           homes = middle_homes l c p order inside;
         },
         asked.2,
       )
     where
-      rise_from : (rises : Bool) (start a b : ℕ) → b ≡ risen rises a → start + b ≡ risen rises (start + a)
+      rise_from : (rises : Bool) (start a b : ℕ) → b ≡ risen rises a → start + b ≡ risen rises
+          (start + a)
       rise_from true start a b e = omega arith
       rise_from false start a b e = omega arith
 
@@ -141,9 +155,11 @@ module _ (about : BoardSizes) where
     pub held : (p l h : ℕ) → lanes.holder_after l p d h ≡ h
     pub head : (l k : ℕ) → lanes.retired_after l d k ≡ k
     pub state : (k : ℕ) (s : Rattle.hop_rule.specs.Boards.SlotState)
-        → Rattle.hop_rule.specs.Boards.state_after_lane about k d s ≡ (if slot_of about (id.Out o) == k then full else s)
+        → Rattle.hop_rule.specs.Boards.state_after_lane about k d s ≡ (if slot_of about
+        (id.Out o) == k then full else s)
 
-  module _ (d : LaneStep) (o : ℕ) (p : ℕ) (order : Order) (xs after : List ℕ) (leaves : LeavesOut d o xs after) where
+  module _ (d : LaneStep) (o : ℕ) (p : ℕ) (order : Order) (xs after : List ℕ)
+      (leaves : LeavesOut d o xs after) where
     abbrev outs_ : List (StepBy LaneStep)
     outs_ = lanes_of order
 
@@ -152,7 +168,8 @@ module _ (about : BoardSizes) where
     out_else (kind.Lane (id.Out j)) ne =
         let apart : o ≢ j = λ e. ne (ap (λ z. kind.Lane (id.Out z)) (sym e)) in
         λ i. 2 * (about.start + length (leaves.same j apart (lanes.out j outs_) i))
-        + lanes.bit ((leaves.holder p (lanes.out_holder j outs_) j ∙ if_other o j 0 (lanes.out_holder j outs_) apart) i)
+        + lanes.bit ((leaves.holder p (lanes.out_holder j outs_) j ∙ if_other o j 0
+        (lanes.out_holder j outs_) apart) i)
     out_else (kind.Lane (id.Middle j)) ne =
         λ i. 2 * (about.start + length (leaves.lane j (lanes.lane about j outs_) i).accepted)
         + lanes.bit (leaves.held p j (lanes.holder j outs_) i)
@@ -164,12 +181,16 @@ module _ (about : BoardSizes) where
         → home_after about (step_by p (Lane d) ∷ order) u ≡ home_after about order u
     out_homes (id.Out j) fits ne =
         let apart : o ≢ j = λ e. ne (ap (λ z. id.Out z) (sym e)) in
-        λ i. home_by about ((leaves.state (slot_of about (id.Out j)) (slot_state about (slot_of about (id.Out j)) order)
-        ∙ if_other (slot_of about (id.Out o)) (slot_of about (id.Out j)) full (slot_state about (slot_of about (id.Out j)) order) (λ e. apart (omega arith))) i)
+        λ i. home_by about
+        ((leaves.state (slot_of about (id.Out j))
+        (slot_state about (slot_of about (id.Out j)) order)
+        ∙ if_other (slot_of about (id.Out o)) (slot_of about (id.Out j)) full
+        (slot_state about (slot_of about (id.Out j)) order) (λ e. apart (omega arith))) i)
         (slot.Out (out_list (leaves.same j apart (lanes.out j outs_) i) about.room))
     out_homes (id.Middle j) fits ne =
         λ i. home_by about ((leaves.state j (slot_state about j order)
-        ∙ if_other (slot_of about (id.Out o)) j full (slot_state about j order) (λ e. absurd (omega arith))) i)
+        ∙ if_other (slot_of about (id.Out o)) j full (slot_state about j order)
+        (λ e. absurd (omega arith))) i)
         (slot.Middle (leaves.lane j (lanes.lane about j outs_) i))
 
   gives_out_by : (seat : SeatView BoardStep) (o : ℕ) (y : OutList) (d : LaneStep) (after : List ℕ)
@@ -178,17 +199,20 @@ module _ (about : BoardSizes) where
       → ((xs : List ℕ) → xs ≡ y.items → LeavesOut d o xs after)
       → length after ≡ risen rises (length y.items)
       → (FitSizes about → about.room ≡ y.room → rises ≡ true → length y.items ≤ 262144)
-      → ((order : Order) → IsLawful about order → steps_of seat.number (lanes_of order) ≡ lane_steps seat.steps
+      → ((order : Order) → IsLawful about order → steps_of seat.number
+      (lanes_of order) ≡ lane_steps seat.steps
       → own_state about (slot_of about (id.Out o)) (steps_of seat.number order) ≡ taken
       → out_list (lanes.out o (lanes_of order)) about.room ≡ y
       → MayCome about seat.number order (Lane d) × says)
       → MayGive about seat (id.Out o) rises (slot.Out (out_list after y.room)) (Lane d) says
-  gives_out_by seat o y d after rises says inside held leaves_ goes few_items may fit order few_ own lawful wide =
+  gives_out_by seat o y d after rises says inside held leaves_ goes few_items may fit order few_ own
+      lawful wide =
       let p : ℕ = seat.number in
       let ls : List (StepBy LaneStep) = lanes_of order in
       let k : ℕ = slot_of about (id.Out o) in
       let s = lanes_seen order p (LaneIn k ∷ seat.steps) own in
-      let holds_ : lanes.out_holding o (steps_of p ls) ≡ Some y = ap (lanes.out_holding o) s ∙ held in
+      let holds_ : lanes.out_holding o (steps_of p ls) ≡ Some y = ap (lanes.out_holding o) s
+      ∙ held in
       let found = out_holds about ls (parts about order lawful).0 o p y holds_ in
       let room_is : about.room ≡ y.room = ap (λ (x : OutList). x.room) found.1 in
       let items_are : lanes.out o ls ≡ y.items = ap (λ (x : OutList). x.items) found.1 in
@@ -196,33 +220,40 @@ module _ (about : BoardSizes) where
       let q = fit.start in
       let t : ℕ = about.start + length y.items in
       let n : ℕ = value about order (kind.Lane (id.Out o)) in
-      let n_is : n ≡ 2 * t + 1 = λ i. 2 * (about.start + length (items_are i)) + lanes.bit (found.0 i) in
+      let n_is : n ≡ 2 * t + 1 = λ i. 2 * (about.start + length (items_are i)) + lanes.bit
+      (found.0 i) in
       let m : ℕ = about.start + length after in
-      let m_is : m ≡ risen rises t = rise_from rises about.start (length y.items) (length after) goes in
+      let m_is : m ≡ risen rises t = rise_from rises about.start (length y.items)
+      (length after) goes in
       let state : own_state about k (steps_of p order) ≡ taken =
       ap (own_state about k) (sym own) ∙ if_same k k taken (own_state about k seat.steps) refl in
       let asked = may order lawful s state found.1 in (
         record {
           may = asked.0;
-          here = released rises n t m n_is wide (λ up. let few_ = few_items fit room_is up in omega arith) m_is
+          here = released rises n t m n_is wide (λ up. let few_ = few_items fit room_is up in
+              omega arith) m_is
               ∙ sym (λ i. 2 * (about.start + length (leaves.out i))
-              + lanes.bit ((leaves.holder p (lanes.out_holder o ls) o ∙ if_same o o 0 (lanes.out_holder o ls) refl) i));
+              + lanes.bit ((leaves.holder p (lanes.out_holder o ls) o ∙ if_same o o 0
+              (lanes.out_holder o ls) refl) i));
           others = out_else d o p order (lanes.out o ls) after leaves;
-          home = λ i. home_by about ((leaves.state k (slot_state about k order) ∙ if_same k k full (slot_state about k order) refl) i)
+          home = λ i. home_by about ((leaves.state k (slot_state about k order) ∙ if_same k k full
+              (slot_state about k order) refl) i)
               (slot.Out (out_list (leaves.out i) (room_is i)));
           homes = out_homes d o p order (lanes.out o ls) after leaves;
         },
         asked.1,
       )
     where
-      rise_from : (rises : Bool) (start a b : ℕ) → b ≡ risen rises a → start + b ≡ risen rises (start + a)
+      rise_from : (rises : Bool) (start a b : ℕ) → b ≡ risen rises a → start + b ≡ risen rises
+          (start + a)
       rise_from true start a b e = omega arith
       rise_from false start a b e = omega arith
 
   -- the out lane is given back as it was
   pub gives_out : (seat : SeatView BoardStep) (o : ℕ) (y : OutList) (says : Type 0) → o < about.outs
       → lanes.out_holding o (lane_steps seat.steps) ≡ Some y
-      → ((order : Order) → IsLawful about order → out_list (lanes.out o (lanes_of order)) about.room ≡ y → says)
+      → ((order : Order) → IsLawful about order
+      → out_list (lanes.out o (lanes_of order)) about.room ≡ y → says)
       → MayGive about seat (id.Out o) false (slot.Out y) (Lane (OutFreed o)) says
   gives_out seat o y says inside held tells =
       gives_out_by seat o y (OutFreed o) y.items false says inside held
@@ -249,7 +280,8 @@ module _ (about : BoardSizes) where
       (Lane (Given o from packet (length y.items + 1))) (Unit {0})
   gives_packet seat o from packet y inside from_inside held some_room mine pulled_ =
       let longer = length-append y.items (packet ∷ []) in
-      gives_out_by seat o y (Given o from packet (length y.items + 1)) (y.items ++ packet ∷ []) true (Unit {0})
+      gives_out_by seat o y (Given o from packet (length y.items + 1)) (y.items ++ packet ∷ []) true
+      (Unit {0})
       inside held
       (λ xs is. record {
         out = if_same o o (xs ++ packet ∷ []) xs refl ∙ ap (λ zs. zs ++ packet ∷ []) is;
@@ -260,7 +292,8 @@ module _ (about : BoardSizes) where
         head = λ l k. refl;
         state = λ k s. refl;
       }) (omega arith) (λ fit same up. let r = fit.room in omega arith)
-      (λ order lawful s state is. let room_is : about.room ≡ y.room = ap (λ (x : OutList). x.room) is in (
+      (λ order lawful s state is. let room_is : about.room ≡ y.room = ap
+      (λ (x : OutList). x.room) is in (
         (
           (
             inside,

@@ -12,11 +12,13 @@ use Rattle.steer_base.specs.Journals.{Journal, journal}
 use Rattle.hop_rule.specs.declared.sizes.BoardSizes.{BoardSizes}
 use Rattle.hop_rule.specs.declared.step.Slot.TheVariants as slot
 use Rattle.board_api.specs.declared.held_lane.LaneId.TheVariants as id
-use Rattle.hop_board.specs.Left.{AllLie, AreFullFrom, AreSpare, AreTakenFrom, AreTakenTo, IsMiddleOf}
+use Rattle.hop_board.specs.Left.{AllLie, AreFullFrom, AreSpare, AreTakenFrom, AreTakenTo}
+use Rattle.hop_board.specs.Left.{IsMiddleOf}
 use Rattle.hop_board.specs.Left.{IsOut, LiesIn}
 use Rattle.hop_board.specs.Tables.{InSlot, slot_of}
 
-pub at_or : {A : Type 0} (xs : List A) (i : ℕ) (a d : A) → get_elem? xs i ≡ some a → get_or xs i d ≡ a
+pub at_or : {A : Type 0} (xs : List A) (i : ℕ) (a d : A) → get_elem? xs i ≡ some a
+    → get_or xs i d ≡ a
 at_or [] i a d e = absurd (some-ne-none a (sym e))
 at_or (x ∷ xs) zero a d e = some-injective x a e
 at_or (x ∷ xs) (suc i) a d e = at_or xs i a d e
@@ -25,10 +27,12 @@ at_or (x ∷ xs) (suc i) a d e = at_or xs i a d e
 
 pub found_is : (old items : List InSlot) (i : ℕ) (found : InSlot) → items ≡ old
     → get_elem? items i ≡ some found → slice_index_or old i None ≡ found
-found_is old items i found same at = at_or old i found None (ap (λ xs. get_elem? xs i) (sym same) ∙ at)
+found_is old items i found same at = at_or old i found None (ap (λ xs. get_elem? xs i) (sym same)
+    ∙ at)
 
 module _ (about : BoardSizes) where
-  middle_lies : (l : ℕ) (found : InSlot) → LiesIn about (id.Middle l) found → IsMiddleOf about.room found
+  middle_lies : (l : ℕ) (found : InSlot) → LiesIn about (id.Middle l) found
+      → IsMiddleOf about.room found
   middle_lies l (Some (slot.Middle y)) lies = lies
   middle_lies l (Some (slot.Out y)) lies = lies
   middle_lies l None lies = lies
@@ -38,19 +42,22 @@ module _ (about : BoardSizes) where
   out_lies o (Some (slot.Out y)) lies = lies
   out_lies o None lies = lies
 
-  pub middle_found : (items : List InSlot) (l : ℕ) (found : InSlot) → AllLie about items → l < about.lanes
+  pub middle_found : (items : List InSlot) (l : ℕ) (found : InSlot) → AllLie about items
+      → l < about.lanes
       → slice_index_or items l None ≡ found → IsMiddleOf about.room found
   middle_found items l found all inside is =
       middle_lies l found (subst (LiesIn about (id.Middle l)) is (all (id.Middle l) inside))
 
-  pub out_found : (items : List InSlot) (o : ℕ) (found : InSlot) → AllLie about items → o < about.outs
+  pub out_found : (items : List InSlot) (o : ℕ) (found : InSlot) → AllLie about items
+      → o < about.outs
       → slice_index_or items (slot_of about (id.Out o)) None ≡ found → IsOut found
   out_found items o found all inside is =
       out_lies o found (subst (LiesIn about (id.Out o)) is (all (id.Out o) inside))
 
 -- ---- which slots have their values
 
-module _ (old new : List Bool) (count i : ℕ) (long : length old ≡ count) (inside : i < count) (is : new ≡ set old i false) where
+module _ (old new : List Bool) (count i : ℕ) (long : length old ≡ count) (inside : i < count)
+    (is : new ≡ set old i false) where
   now_false : slice_index_or new i false ≡ false
   now_false = ap (λ xs. get_or xs i false) is ∙ get_or-set_same old i false false (omega arith)
 
@@ -66,7 +73,8 @@ module _ (old new : List Bool) (count i : ℕ) (long : length old ≡ count) (in
   }
 
   pub full_from : (n : ℕ) → i ≡ n → AreFullFrom n count old → AreFullFrom (n + 1) count new
-  full_from n i_is t = λ k from less. else_same k (λ e. absurd (omega arith)) ∙ t k (omega arith) less
+  full_from n i_is t = λ k from less. else_same k (λ e. absurd (omega arith))
+      ∙ t k (omega arith) less
 
   pub taken_from : (first : List Bool) (n m : ℕ) → i ≡ n + m → AreTakenFrom n m first old
       → AreTakenFrom n (m + 1) first new
@@ -79,7 +87,8 @@ module _ (old new : List Bool) (count i : ℕ) (long : length old ≡ count) (in
 
 -- ---- spare lists
 
-module _ {X : Type 0} (old new : List (Journal X)) (x : Journal X) (n room : ℕ) (is : old ≡ new ++ x ∷ []) (t : AreSpare (n + 1) room old) where
+module _ {X : Type 0} (old new : List (Journal X)) (x : Journal X) (n room : ℕ) (is : old ≡ new ++ x
+    ∷ []) (t : AreSpare (n + 1) room old) where
   shorter : length new + 1 ≡ n + 1
   shorter = let a = length-append new (x ∷ []) in
       omega arith ∙ (sym a ∙ (ap (λ l. length l) (sym is) ∙ t.count_is))

@@ -11,7 +11,8 @@ use Rattle.hop_rule.proofs.Members.{out_given}
 use Rattle.hop_rule.proofs.Puts.{each_accepted_was_put, each_put_is_right}
 use Rattle.hop_board.specs.Releases.{AreBelow}
 
-module _ (about : BoardSizes) (order : List (StepBy BoardStep)) (lawful : IsLawful about order) where
+module _ (about : BoardSizes) (order : List (StepBy BoardStep))
+    (lawful : IsLawful about order) where
   pub accepted_below : (l : ℕ) → AreBelow about.room (lane_at about order l).accepted
   accepted_below l n packet at =
       let w = each_accepted_was_put about order lawful l n packet at in

@@ -1,5 +1,6 @@
 -- The lists that a closed board's slots leave.
-use Rattle.std.specs.Prelude.{◌≡◌, ℕ, ◌+◌, ◌<◌, ◌≤◌, Bool, true, false, List, [], Some, None, All, length, map}
+use Rattle.std.specs.Prelude.{◌≡◌, ℕ, ◌+◌, ◌<◌, ◌≤◌, Bool, true, false, List, [], Some, None, All}
+use Rattle.std.specs.Prelude.{length, map}
 use Rattle.std.specs.Prelude.{slice_index_or}
 use Rattle.steer_base.specs.Journals.{Journal, journal}
 use Rattle.std.specs.List.{range_with_len}
@@ -16,7 +17,8 @@ use Rattle.board_api.specs.declared.held_lane.LaneId.TheVariants as id
 use Rattle.board_api.specs.declared.lists.BoardLists.{BoardLists}
 use Rattle.hop_board.specs.Tables.{InSlot, slot_of}
 
--- a middle lane of which nobody has a packet in hand: each that was pulled was delivered and retired
+-- a middle lane of which nobody has a packet in hand: each that was pulled was delivered and
+-- retired
 abbrev pub left_of : LaneLists → LaneList
 left_of y =
     record {
@@ -95,8 +97,8 @@ pub record AreTakenTo (n count : ℕ) (filled : List Bool) : Type 0 where
   pub taken : (k : ℕ) → k < n → slice_index_or filled k false ≡ false
   pub left : AreFullFrom n count filled
 
--- the values of the slots from the n-th on were taken, of the m next ones or of all, and those below
--- are as they were
+-- the values of the slots from the n-th on were taken, of the m next ones or of all, and those
+-- below are as they were
 pub record AreTakenFrom (n m : ℕ) (old filled : List Bool) : Type 0 where
   pub taken : (k : ℕ) → n ≤ k → k < n + m → slice_index_or filled k false ≡ false
   pub below : (k : ℕ) → k < n → slice_index_or filled k false ≡ slice_index_or old k false

@@ -1,9 +1,12 @@
 -- The steps that calls make by the word that they find.
-use Rattle.std.specs.Prelude.{◌≡◌, ◌≢◌, ℕ, ◌+◌, ◌<◌, ◌≤◌, ◌==◌, true, false, List, ◌∷◌, if◌then◌else◌}
+use Rattle.std.specs.Prelude.{◌≡◌, ◌≢◌, ℕ, ◌+◌, ◌<◌, ◌≤◌, ◌==◌, true, false, List, ◌∷◌}
+use Rattle.std.specs.Prelude.{if◌then◌else◌}
 use Rattle.hop_rule.specs.declared.sizes.BoardSizes.{BoardSizes}
 use Rattle.hop_rule.specs.declared.step.BoardStep.{BoardStep}
-use Rattle.hop_rule.specs.declared.step.BoardStep.TheVariants.{Gate, Lane, Counted, Weighed, LaneOut}
-use Rattle.hop_rule.specs.declared.step.GateStep.TheVariants.{Entered, Turned, Left, Read, Set, Shut, NotShut}
+use Rattle.hop_rule.specs.declared.step.BoardStep.TheVariants.{Gate, Lane, Counted, Weighed}
+use Rattle.hop_rule.specs.declared.step.BoardStep.TheVariants.{LaneOut}
+use Rattle.hop_rule.specs.declared.step.GateStep.TheVariants.{Entered, Turned, Left, Read, Set}
+use Rattle.hop_rule.specs.declared.step.GateStep.TheVariants.{Shut, NotShut}
 use Rattle.hop_rule.specs.declared.step.LaneStep.TheVariants.{Retired}
 use Rattle.hop_rule.specs.declared.step.Slot.{Slot}
 use Rattle.linearization.specs.Seats.{SeatView}
@@ -48,8 +51,8 @@ loaded (kind.Head l) word = Weighed l word
 loaded kind.Gate word = Gate Left
 loaded (kind.Setting i) word = Gate (Read i word)
 
--- The words that are loaded are those of middle lanes and of heads; and settings, by a seat that may
--- read them.
+-- The words that are loaded are those of middle lanes and of heads; and settings, by a seat that
+-- may read them.
 abbrev pub MayLoad : List BoardStep → Word → Type 0
 MayLoad steps (kind.Lane (id.Middle l)) = Unit {0}
 MayLoad steps (kind.Lane (id.Out o)) = ⊥

@@ -44,8 +44,8 @@ step_in (Given o from packet place) = Lane (lane.Given o from packet place)
 abbrev pub AreBelow : ℕ → List ℕ → Type 0
 AreBelow room items = (n packet : ℕ) → slice_get items n ≡ Some packet → packet < room
 
--- what is told at a release: the packet that was pulled, and those of an out lane that was held, are
--- below the room
+-- what is told at a release: the packet that was pulled, and those of an out lane that was held,
+-- are below the room
 abbrev pub is_told : BoardSizes → Release → Slot → Type 0
 is_told about (Unchanged x) (slot.Middle y) = Unit {0}
 is_told about (Unchanged x) (slot.Out y) = AreBelow about.room y.items

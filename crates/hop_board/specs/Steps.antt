@@ -1,5 +1,6 @@
 -- What the steps of a seat at the words of a board need, and what they leave.
-use Rattle.std.specs.Prelude.{◌≡◌, ◌≢◌, ℕ, ◌+◌, ◌-◌, ◌%◌, ◌^◌, ◌<◌, List, ◌∷◌, Bool, true, false, Some}
+use Rattle.std.specs.Prelude.{◌≡◌, ◌≢◌, ℕ, ◌+◌, ◌-◌, ◌%◌, ◌^◌, ◌<◌, List, ◌∷◌, Bool, true, false}
+use Rattle.std.specs.Prelude.{Some}
 use mathlib.Core.Option.{some}
 use Rattle.linearization.specs.Orders.{StepBy, step_by, steps_of}
 use Rattle.linearization.specs.Seats.{SeatView}
@@ -25,8 +26,8 @@ module _ (about : BoardSizes) where
   abbrev pub IsAt : Word → ℕ → Type 0
   IsAt w i = IsWord about w × (i ≡ place about w)
 
-  -- After these steps the seat p may make the step d. It leaves m in the word w, and all other words
-  -- and all slots as they were.
+  -- After these steps the seat p may make the step d. It leaves m in the word w, and all other
+  -- words and all slots as they were.
   pub record IsStepAt (order : List (StepBy BoardStep)) (p : ℕ) (w : Word) (m : ℕ) (d : BoardStep)
       : Type 0 where
     pub may : MayCome about p order d
@@ -46,8 +47,8 @@ module _ (about : BoardSizes) where
       → IsStepAt order seat.number w (f (value about order w)) (makes (value about order w))
       × says (value about order w)
 
-  -- After these steps the seat p, which has taken the slot of the lane x, may give it back with this
-  -- in it by the step d. It leaves m in the word of the lane, and all else as it was.
+  -- After these steps the seat p, which has taken the slot of the lane x, may give it back with
+  -- this in it by the step d. It leaves m in the word of the lane, and all else as it was.
   pub record IsRelease (order : List (StepBy BoardStep)) (p : ℕ) (x : LaneId) (m : ℕ)
       (given : Slot) (d : BoardStep) : Type 0 where
     pub may : MayCome about p order d
@@ -65,5 +66,6 @@ module _ (about : BoardSizes) where
       FitSizes about → (order : List (StepBy BoardStep)) → seat.number < about.seats
       → LaneIn (slot_of about x) ∷ seat.steps ≡ steps_of seat.number order → IsLawful about order
       → value about order (kind.Lane x) < 2 ^ 64
-      → IsRelease order seat.number x (released_word rises (value about order (kind.Lane x))) given d
+      → IsRelease order seat.number x (released_word rises (value about order (kind.Lane x))) given
+      d
       × says

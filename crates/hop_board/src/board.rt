@@ -10,7 +10,8 @@ use std::marker::Model;
 /// A seat at the words of a board.
 pub(crate) type WordSeat = OrderedSeat<Option<Slot>, BoardStep>;
 
-/// Lanes in their slots, with a word for each lane, for each head, for the gate and for each setting.
+/// Lanes in their slots, with a word for each lane, for each head, for the gate and for each
+/// setting.
 #[derive(Drop)]
 pub struct Board {
     pub(crate) table: Table<

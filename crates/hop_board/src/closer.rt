@@ -5,15 +5,16 @@ ghost use Rattle.hop_rule.specs.Gates.{openings};
 ghost use Rattle.board_api.specs.Calls.Rights.{HasClosed, HasOpen, IsCloser, IsOutside};
 ghost use Rattle.board_api.specs.Seats.{Adds};
 ghost use Rattle.board_api.specs.StepWords.{low_half, tail_in};
-ghost use Rattle.board_api.specs.Calls.Answers.{CloseTells, EmptiedTells, Looked, OpenTells, looking};
+ghost use Rattle.board_api.specs.Calls.Answers.{CloseTells, EmptiedTells, Looked, OpenTells};
+ghost use Rattle.board_api.specs.Calls.Answers.{looking};
 ghost use Rattle.hop_board.specs.Makings.{IsBusy, closing};
 ghost use Rattle.hop_board.specs.Named.{board_seat};
 ghost use Rattle.hop_board.specs.Emptying.{emptied_after};
 
 use crate::board::{Board, WordSeat};
 use crate::places::Word;
-use hop_rule::{BoardStep, GateStep};
 use board_api::{BoardSeat, CloseAnswer, Emptied, GateWord, HeadWord, LaneId, LaneWord};
+use hop_rule::{BoardStep, GateStep};
 use std::marker::Brand;
 use steer_base::CpuMask;
 

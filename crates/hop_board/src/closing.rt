@@ -8,8 +8,8 @@ use crate::board::Board;
 use crate::left::lists_of;
 use crate::rule::BoardRule;
 use atomic_table::Shared;
-use hop_rule::{BoardSizes, BoardStep, Slot};
 use board_api::{BoardLists, BoardSeat};
+use hop_rule::{BoardSizes, BoardStep, Slot};
 use linearization::{Gathered, Hands, OneOrder};
 
 impl Board {

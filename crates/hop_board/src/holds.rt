@@ -6,8 +6,8 @@ ghost use Rattle.hop_board.specs.Named.{content_of, held_by, lane_of};
 
 use crate::board::Board;
 use crate::release::Release;
-use hop_rule::Slot;
 use board_api::{BoardSeat, HeldLane, Hold, LaneId};
+use hop_rule::Slot;
 use steer_base::PacketId;
 
 impl Board {

@@ -1,5 +1,6 @@
 //! The lists of a closed board's lanes, taken out of their slots.
-ghost use Rattle.std.specs.Prelude.{◌≡◌, ℕ, ◌+◌, ◌<◌, ◌≤◌, false, true, [], None, length, slice_index_or};
+ghost use Rattle.std.specs.Prelude.{◌≡◌, ℕ, ◌+◌, ◌<◌, ◌≤◌, false, true, [], None, length};
+ghost use Rattle.std.specs.Prelude.{slice_index_or};
 ghost use Rattle.std.specs.Prelude.{vec_capacity};
 ghost use Rattle.std.specs.Slots.{IsFull, slots_filled, slots_items, slots_len};
 ghost use Rattle.backlog.specs.Puts.{put_count};
@@ -13,9 +14,9 @@ ghost use Rattle.hop_board.specs.Tables.{slots};
 use crate::spare::Spare;
 use atomic_table::Closed;
 use backlog::Lane;
+use board_api::BoardLists;
 use history::LaneList;
 use hop_rule::{BoardSizes, Slot};
-use board_api::BoardLists;
 use std::alloc::Global;
 use steer_base::{Journal, LaneDrop, List, PacketId};
 
@@ -102,7 +103,8 @@ fn middle_lists(
     requires drops { AreSpare sizes.now.lanes sizes.now.room drops.items }
     requires none { lists.items ≡ [] }
     requires room { sizes.now.lanes ≤ vec_capacity lists }
-    ensures lists { result.items ≡ middles_left sizes.now sizes.now.lanes (slots_items closed.old.slots) }
+    ensures lists { result.items ≡ middles_left sizes.now sizes.now.lanes
+        (slots_items closed.old.slots) }
     ensures same { slots_items closed.new.slots ≡ slots_items closed.old.slots }
     ensures count { slots_len closed.new.slots ≡ slots_len closed.old.slots }
     ensures taken { AreTakenTo sizes.now.lanes (slots_len closed.new.slots)
@@ -147,7 +149,8 @@ fn out_lists(
     requires lie { AllLie sizes.now (slots_items closed.old.slots) }
     requires none { lists.items ≡ [] }
     requires room { sizes.now.outs ≤ vec_capacity lists }
-    ensures lists { result.items ≡ outs_left sizes.now sizes.now.outs (slots_items closed.old.slots) }
+    ensures lists { result.items ≡ outs_left sizes.now sizes.now.outs
+        (slots_items closed.old.slots) }
     ensures count { slots_len closed.new.slots ≡ slots_len closed.old.slots }
     ensures taken { AreTakenFrom sizes.now.lanes sizes.now.outs
         (slots_filled closed.old.slots) (slots_filled closed.new.slots) }

@@ -1,16 +1,17 @@
 //! How a board is made.
 ghost use Rattle.std.specs.Prelude.{◌≡◌, ◌<◌, ◌≤◌, ◌^◌, false, All, IfOk, map};
 ghost use Rattle.std.specs.Vec.{vec_len};
-ghost use Rattle.hop_board.specs.Made.{new_board_seats, new_middles, new_slots, new_words, sizes_of};
+ghost use Rattle.hop_board.specs.Made.{new_board_seats, new_middles, new_slots, new_words};
+ghost use Rattle.hop_board.specs.Made.{sizes_of};
 ghost use Rattle.hop_board.specs.Named.{HasNoSteps, board_seat};
 
 use crate::board::{Board, WordSeat};
 use crate::spare::Spare;
 use atomic_table::Table;
 use backlog::Lane;
+use board_api::{BoardSeat, LaneWord};
 use hop_core::HopShape;
 use hop_rule::{BoardSizes, OutLane, Slot};
-use board_api::{BoardSeat, LaneWord};
 use linearization::deal;
 use std::alloc::Global;
 use steer_base::{List, OutOfMemory};

@@ -1,14 +1,15 @@
 //! Packets that are put to lanes, pulled from them, delivered and retired.
 ghost use Rattle.std.specs.Prelude.{◌≡◌, ◌<◌, ◌∷◌};
-ghost use Rattle.board_api.specs.Calls.HeldLanes.{HasNoneOf, HoldsMiddle, HoldsOut, PullsFrom, room_in};
+ghost use Rattle.board_api.specs.Calls.HeldLanes.{HasNoneOf, HoldsMiddle, HoldsOut, PullsFrom};
+ghost use Rattle.board_api.specs.Calls.HeldLanes.{room_in};
 ghost use Rattle.board_api.specs.Calls.Rights.{HasDelivered, HasPulled, IsInside, Pulls};
 ghost use Rattle.board_api.specs.Calls.Answers.{DeliverTells, PullTells, PutTells, RetireTells};
 
 use crate::board::{Board, WordSeat};
 use crate::places::Word;
 use crate::release::Release;
-use hop_rule::{BoardStep, LaneStep, Slot};
 use board_api::{BoardSeat, HeldLane, LaneId, Pull};
+use hop_rule::{BoardStep, LaneStep, Slot};
 use std::marker::Brand;
 use steer_base::{PacketId, Put};
 

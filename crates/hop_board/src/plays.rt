@@ -1,8 +1,8 @@
 //! What the steps of seats at a board tell. What is named here is picked at each call.
 ghost use Rattle.std.specs.Prelude.{ℕ};
 
-use hop_rule::{BoardStep, Slot};
 use board_api::LaneId;
+use hop_rule::{BoardStep, Slot};
 use linearization::{Making, Moving};
 use std::marker::{Brand, PhantomData};
 

@@ -10,8 +10,8 @@ ghost use Rattle.hop_board.specs.Tables.{slot_of};
 use crate::board::{Board, WordSeat};
 use crate::plays::{Empties, Fills, Frees, Given, Holds, Taken};
 use crate::release::Release;
-use hop_rule::{BoardStep, Slot};
 use board_api::LaneId;
+use hop_rule::{BoardStep, Slot};
 use linearization::Moves;
 use std::marker::Brand;
 

@@ -9,8 +9,8 @@ ghost use Rattle.hop_board.specs.Makings.{entering};
 
 use crate::board::{Board, WordSeat};
 use crate::places::Word;
-use hop_rule::{BoardStep, GateStep};
 use board_api::{BoardSeat, EnterAnswer, GateWord, HeadWord};
+use hop_rule::{BoardStep, GateStep};
 use std::marker::Brand;
 
 impl Board {

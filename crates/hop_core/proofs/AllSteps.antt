@@ -11,7 +11,8 @@ use Rattle.hop_core.proofs.Cases.{Enabled, by_cases}
 use Rattle.hop_core.proofs.ProducerSteps.{Sound-arrive, Sound-take, Sound-weigh, emptied-all}
 use Rattle.hop_core.proofs.PutSteps.{Sound-put}
 use Rattle.hop_core.proofs.LaneSteps.{Sound-pull, Sound-deliver, Sound-retire}
-use Rattle.hop_core.proofs.GateSteps.{Sound-enter, Sound-leave, Sound-close, Sound-reopen, Sound-resize}
+use Rattle.hop_core.proofs.GateSteps.{Sound-enter, Sound-leave, Sound-close, Sound-reopen}
+use Rattle.hop_core.proofs.GateSteps.{Sound-resize}
 
 sound-enabled : (s : HopState) (e : HopEvent) → MayAsk s e → Sound s → Enabled Sound s e
 sound-enabled s (event.Arrive p id) m h = Sound-arrive s p id m.producer m.below m.fresh h
@@ -19,13 +20,15 @@ sound-enabled s (event.Take p) m h = λ free more. Sound-take s p m free more h
 sound-enabled s (event.Enter a) m h = λ out' open'. Sound-enter s a m out' open' h
 sound-enabled s (event.Leave a) m h = λ inside done. Sound-leave s a m inside done h
 sound-enabled s (event.Weigh p class want desired online) m h =
-    λ inside more. Sound-weigh s p class want desired online m.producer m.lane (emptied-all s h (λ d. has online d ≡ false) m.drained) inside more h
+    λ inside more. Sound-weigh s p class want desired online m.producer m.lane
+    (emptied-all s h (λ d. has online d ≡ false) m.drained) inside more h
 sound-enabled s (event.Put p hash) m h = λ inside more. Sound-put s p hash m inside more h
 sound-enabled s (event.Pull c) m h = λ free more. Sound-pull s c m free more h
 sound-enabled s (event.Deliver c o) m h = λ more. Sound-deliver s c o m.lane m.out more h
 sound-enabled s (event.Retire c) m h = λ more. Sound-retire s c m more h
 sound-enabled s (event.Resize p count) m h =
-    Sound-resize s p (rounded_up count) m.producer m.closed (λ d. emptied-all s h (λ _. Unit {0}) (λ c lt _. m.drained c lt) d tt) h
+    Sound-resize s p (rounded_up count) m.producer m.closed (λ d. emptied-all s h (λ _. Unit {0})
+    (λ c lt _. m.drained c lt) d tt) h
 sound-enabled s event.Close m h = λ none. Sound-close s none h
 sound-enabled s event.Reopen m h = Sound-reopen s h
 

@@ -1,8 +1,10 @@
 -- One of many lanes, tables or lists was changed, seen in the lists of them all.
-use Rattle.std.proofs.Common.{ℕ, ◌+◌, ◌<◌, ◌≡◌, Bool, List, [], ◌∷◌, ◌++◌, length, refl, ap, ◌∙◌, sym, arith, get_or, set, map, replicate, inl, inr}
+use Rattle.std.proofs.Common.{ℕ, ◌+◌, ◌<◌, ◌≡◌, Bool, List, [], ◌∷◌, ◌++◌, length, refl, ap, ◌∙◌}
+use Rattle.std.proofs.Common.{sym, arith, get_or, set, map, replicate, inl, inr}
 use Rattle.std.proofs.Math.Seq.{map-set, get_or-append_seam}
 use Rattle.std.proofs.Math.ListN.{length-set, get_or-append}
-use Rattle.std.proofs.lemmas.List.{get_or-map, get_or-set_same, get_or-set_other, length-append, map-append, replicate-append-replicate}
+use Rattle.std.proofs.lemmas.List.{get_or-map, get_or-set_same, get_or-set_other, length-append}
+use Rattle.std.proofs.lemmas.List.{map-append, replicate-append-replicate}
 use Rattle.std.proofs.lemmas.Bool.{cases_eq}
 use Rattle.steer_base.specs.Lanes.{LaneLists}
 use Rattle.steer_base.specs.Sets.{has}
@@ -26,8 +28,10 @@ table_of ls limit room start limited =
       limited = limited;
     }
 
-pub lane_at-table_of : (ls : List LaneLists) (limit room start : ℕ) (limited : CpuMask) (i : ℕ) (l : LaneLists) → i < length ls
-    → l ≡ get_or ls i l → AreShaped limit room start limited ls → lane_at (table_of ls limit room start limited) i ≡ l
+pub lane_at-table_of : (ls : List LaneLists) (limit room start : ℕ) (limited : CpuMask) (i : ℕ)
+    (l : LaneLists) → i < length ls
+    → l ≡ get_or ls i l → AreShaped limit room start limited ls
+    → lane_at (table_of ls limit room start limited) i ≡ l
 lane_at-table_of ls limit room start limited i l below at shaped =
     let s = shaped i l below in
     let a : l.limit ≡ limit = ap (λ l. l.limit) at ∙ s.limit in
@@ -46,8 +50,10 @@ lane_at-table_of ls limit room start limited i l below at shaped =
       ← d,
     ) refl
 
-pub with_lane-table_of : (ls : List LaneLists) (limit room start : ℕ) (limited : CpuMask) (i : ℕ) (l : LaneLists)
-    → table_of (set ls i l) limit room start limited ≡ with_lane (table_of ls limit room start limited) i l
+pub with_lane-table_of : (ls : List LaneLists) (limit room start : ℕ) (limited : CpuMask) (i : ℕ)
+    (l : LaneLists)
+    → table_of (set ls i l) limit room start limited ≡ with_lane
+    (table_of ls limit room start limited) i l
 with_lane-table_of ls limit room start limited i l =
     rw (
       map-set (λ l. l.accepted) ls i l,
@@ -57,8 +63,10 @@ with_lane-table_of ls limit room start limited i l =
     ) refl
 
 -- a lane of the same shape is put in the place of one
-pub AreShaped-set : (ls : List LaneLists) (limit room start : ℕ) (limited : CpuMask) (i : ℕ) (old new : LaneLists) → i < length ls
-    → old ≡ get_or ls i old → SameShape old new → AreShaped limit room start limited ls → AreShaped limit room start limited (set ls i new)
+pub AreShaped-set : (ls : List LaneLists) (limit room start : ℕ) (limited : CpuMask) (i : ℕ)
+    (old new : LaneLists) → i < length ls
+    → old ≡ get_or ls i old → SameShape old new → AreShaped limit room start limited ls
+    → AreShaped limit room start limited (set ls i new)
 AreShaped-set ls limit room start limited i old new below at same shaped c d inside =
     let n : c < length ls = rw length-set at inside in
     let was = shaped i old below in
@@ -73,13 +81,21 @@ AreShaped-set ls limit room start limited i old new below at same shaped c d ins
     ]
 
 -- one lane more
-pub AreShaped-push : (ls : List LaneLists) (limit room start : ℕ) (limited : CpuMask) (l : LaneLists)
-    → l ≡ new_lane limit room start (has limited (length ls)) → AreShaped limit room start limited ls → AreShaped limit room start limited (ls ++ l ∷ [])
+pub AreShaped-push : (ls : List LaneLists) (limit room start : ℕ) (limited : CpuMask)
+    (l : LaneLists)
+    → l ≡ new_lane limit room start (has limited (length ls))
+    → AreShaped limit room start limited ls → AreShaped limit room start limited (ls ++ l ∷ [])
 AreShaped-push ls limit room start limited l is shaped c d inside =
     let n : c < length ls + 1 = rw length-append at inside in
     elim (cases_eq c (length ls)) [
-      | inl e ↦ rw (e, get_or-append_seam ls l [] d, is) (record { limit = refl; room = refl; start = refl; limited = refl })
-      | inr ne ↦ (let lt : c < length ls = omega arith in rw (get_or-append ls (l ∷ []) d c lt) (shaped c d lt))
+      | inl e ↦ rw (e, get_or-append_seam ls l [] d, is) (record {
+        limit = refl;
+        room = refl;
+        start = refl;
+        limited = refl;
+      })
+      | inr ne ↦ (let lt : c < length ls = omega arith in rw (get_or-append ls (l ∷ []) d c lt)
+          (shaped c d lt))
     ]
 
 -- the tables by the rows of each
@@ -87,15 +103,20 @@ abbrev pub tables_of : List Table → ℕ → Bool → FlowTables
 tables_of ts start exact = record { rows = map (λ t. t.rows) ts; start = start; exact = exact }
 
 -- one table of many was changed
-pub with_rows-tables_of : (f : Table → Table) (ts : List Table) (start : ℕ) (exact : Bool) (i : ℕ) (old new : Table) → i < length ts
+pub with_rows-tables_of : (f : Table → Table) (ts : List Table) (start : ℕ) (exact : Bool) (i : ℕ)
+    (old new : Table) → i < length ts
     → old ≡ get_or ts i old → old.start ≡ start → old.exact ≡ exact → new ≡ f old
-    → tables_of (set ts i new) start exact ≡ with_rows (tables_of ts start exact) i (f (table_at (tables_of ts start exact) i)).rows
+    → tables_of (set ts i new) start exact ≡ with_rows (tables_of ts start exact) i
+    (f (table_at (tables_of ts start exact) i)).rows
 with_rows-tables_of f ts start exact i old new below at s x is =
-    let rows : get_or (map (λ t. t.rows) ts) i [] ≡ old.rows = get_or-map (λ t. t.rows) ts i old [] below ∙ ap (λ t. t.rows) (sym at) in
+    let rows : get_or (map (λ t. t.rows) ts) i [] ≡ old.rows =
+    get_or-map (λ t. t.rows) ts i old [] below ∙ ap (λ t. t.rows) (sym at) in
     let e : table_at (tables_of ts start exact) i ≡ old = rw (rows, ← s, ← x) refl in
     rw (map-set (λ t. t.rows) ts i new, is, e) refl
 
 -- one more value, whose list is that of all the others
-pub map-replicate_more : {V X : Type 0} (f : V → X) (vs more : List V) (v : V) (x : X) (n : ℕ) → more ≡ vs ++ v ∷ [] → map f vs ≡ replicate n x
+pub map-replicate_more : {V X : Type 0} (f : V → X) (vs more : List V) (v : V) (x : X) (n : ℕ)
+    → more ≡ vs ++ v ∷ [] → map f vs ≡ replicate n x
     → f v ≡ x → map f more ≡ replicate (n + 1) x
-map-replicate_more f vs more v x n m e h = rw (m, map-append f vs (v ∷ []), e, h) (replicate-append-replicate n 1 x)
+map-replicate_more f vs more v x n m e h = rw (m, map-append f vs (v ∷ []), e, h)
+    (replicate-append-replicate n 1 x)

@@ -1,11 +1,14 @@
 -- Lists of events that are joined, and the round of a lane.
-use Rattle.std.proofs.Common.{ℕ, ◌+◌, ◌<◌, ◌≡◌, [], ◌∷◌, ◌++◌, length, refl, ap, ◌∙◌, sym, subst, arith}
+use Rattle.std.proofs.Common.{ℕ, ◌+◌, ◌<◌, ◌≡◌, [], ◌∷◌, ◌++◌, length, refl, ap, ◌∙◌, sym, subst}
+use Rattle.std.proofs.Common.{arith}
 use Rattle.std.specs.Prelude.{slice_index}
 use Rattle.std.proofs.lemmas.Bool.{le-ltb, lt-ltb}
 use Rattle.hop_core.specs.declared.event.HopEvent.TheVariants as event
-use Rattle.hop_core.specs.Hop.{HopState, accepted_at, delivered_at, pulled_at, retired_at, out_at, next_out, pull_at, deliver_at, retire_at, with_bare}
+use Rattle.hop_core.specs.Hop.{HopState, accepted_at, delivered_at, pulled_at, retired_at, out_at}
+use Rattle.hop_core.specs.Hop.{next_out, pull_at, deliver_at, retire_at, with_bare}
 use Rattle.hop_core.specs.Events.{happens, run}
-use Rattle.hop_core.specs.Rounds.{AsksAreJoined, RoundMayBeAsked, RoundRetiresOne, RunsAreJoined, WentThrough, round_of}
+use Rattle.hop_core.specs.Rounds.{AsksAreJoined, RoundMayBeAsked, RoundRetiresOne, RunsAreJoined}
+use Rattle.hop_core.specs.Rounds.{WentThrough, round_of}
 use Rattle.hop_core.proofs.Lists.{Changed-set}
 use Rattle.hop_core.proofs.Sizes.{Sizes-happens}
 
@@ -23,7 +26,8 @@ asks_are_joined (e ∷ es) fs s =
 
 -- ---- a round
 
-pulled-is : (s : HopState) (c : ℕ) → pulled_at s.bare c ≡ retired_at s.bare c → retired_at s.bare c < length (accepted_at s.bare c)
+pulled-is : (s : HopState) (c : ℕ) → pulled_at s.bare c ≡ retired_at s.bare c
+    → retired_at s.bare c < length (accepted_at s.bare c)
     → (happens s (event.Pull c)).0 ≡ with_bare s (pull_at s.bare c)
 pulled-is s c free more =
     rw (
@@ -35,15 +39,21 @@ delivered-is : (s : HopState) (c o : ℕ) → delivered_at s.bare c < pulled_at 
     → (happens s (event.Deliver c o)).0 ≡ with_bare s (deliver_at s.bare c o)
 delivered-is s c o more = rw (lt-ltb (delivered_at s.bare c) (pulled_at s.bare c) more) refl
 
-retired-is : (s : HopState) (c : ℕ) → retired_at s.bare c < delivered_at s.bare c → (happens s (event.Retire c)).0 ≡ with_bare s (retire_at s.bare c)
+retired-is : (s : HopState) (c : ℕ) → retired_at s.bare c < delivered_at s.bare c
+    → (happens s (event.Retire c)).0 ≡ with_bare s (retire_at s.bare c)
 retired-is s c more = rw (lt-ltb (retired_at s.bare c) (delivered_at s.bare c) more) refl
 
 pub round_may_be_asked : RoundMayBeAsked
 round_may_be_asked s c o lane out =
     let t : HopState = (happens s (event.Pull c)).0 in
     let a = Sizes-happens s (event.Pull c) in
-    let b = Sizes-happens t (event.Deliver c o) in
-    (lane, (record { lane = rw a.lanes lane; out = rw a.outs out }, (rw (b.lanes, a.lanes) lane, tt)))
+    let b = Sizes-happens t (event.Deliver c o) in (
+      lane,
+      (
+        record { lane = rw a.lanes lane; out = rw a.outs out },
+        (rw (b.lanes, a.lanes) lane, tt),
+      ),
+    )
 
 -- the state after a round
 abbrev rounded : HopState → ℕ → ℕ → HopState
@@ -63,8 +73,10 @@ round_retires_one s c o h lane out free more =
     let in_hand : delivered_at s1.bare c < pulled_at s1.bare c = rw pulled.here (omega arith) in
     let gone : retired_at s2.bare c < delivered_at s2.bare c = rw delivered.here (omega arith) in
     let is : run (round_of c o) s ≡ rounded s c o =
-    ap (λ t. (happens (happens t (event.Deliver c o)).0 (event.Retire c)).0) (pulled-is s c free more)
-    ∙ ap (λ t. (happens t (event.Retire c)).0) (delivered-is s1 c o in_hand) ∙ retired-is s2 c gone in
+    ap (λ t. (happens (happens t (event.Deliver c o)).0 (event.Retire c)).0)
+    (pulled-is s c free more)
+    ∙ ap (λ t. (happens t (event.Retire c)).0) (delivered-is s1 c o in_hand)
+    ∙ retired-is s2 c gone in
     subst (λ t. WentThrough s t c o) (sym is)
     (assumption (
       pulled.here ∙ ap (λ n. n + 1) free ∙ sym retired.here,

@@ -17,8 +17,9 @@ pub fn turns_read_their_settings()
     ensures rule { AtEachClosing RulesAreByReads }
 {}
 
-/// There are closings that meet all premises: of a receive board with two flows, a dropped packet, a
-/// flow that moves and a flow table that is resized, and of a transmit board with a flow that moves.
+/// There are closings that meet all premises: of a receive board with two flows, a dropped packet,
+/// a flow that moves and a flow table that is resized, and of a transmit board with a flow that
+/// moves.
 pub fn closings_can_meet_the_premises()
     ensures received { ReceiveClosing }
     ensures sent { TransmitClosing }

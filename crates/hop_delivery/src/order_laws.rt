@@ -3,7 +3,8 @@ ghost use Rattle.std.specs.Prelude.{ℕ};
 ghost use Rattle.hop_delivery.specs.Orders.Commands.{ReceivedCommandsEmpty, SentCommandsEmpty};
 ghost use Rattle.hop_delivery.specs.Orders.Examples.{ReceiveExample, TransmitExample};
 ghost use Rattle.hop_delivery.specs.Orders.DeliveryLaw.{DeliversInOrder};
-ghost use Rattle.hop_delivery.specs.Orders.ReceiveSettings.{GoalsAreOnline, Queues, receive_steering};
+ghost use Rattle.hop_delivery.specs.Orders.ReceiveSettings.{GoalsAreOnline, Queues};
+ghost use Rattle.hop_delivery.specs.Orders.ReceiveSettings.{receive_steering};
 ghost use Rattle.hop_delivery.specs.Orders.Runs.{IsSteering};
 ghost use Rattle.hop_delivery.specs.Orders.TransmitSettings.{transmit_steering};
 

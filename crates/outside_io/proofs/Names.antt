@@ -1,5 +1,6 @@
 -- The name of a file that was found.
-use Rattle.std.proofs.Common.{◌≡◌, ℕ, List, get_or, Bool, true, Option, Some, None, Vec, sym, ap, refl}
+use Rattle.std.proofs.Common.{◌≡◌, ℕ, List, get_or, Bool, true, Option, Some, None, Vec, sym, ap}
+use Rattle.std.proofs.Common.{refl}
 use Rattle.std.proofs.Common.{subst, ◌∙◌}
 use Rattle.std.specs.Prelude.{IfSome, String, string_bytes, bytes_eq}
 use Rattle.std.specs.declared.alloc.Global.{Global}

@@ -7,9 +7,12 @@ use Rattle.std.proofs.lemmas.List.{take_rest}
 use Rattle.std.proofs.Math.Seq.{take-add}
 
 -- the first `done` bytes are written, and then `count` more of the rest
-pub Appends-next : (a b c : Option (List ℕ)) (bytes : List ℕ) (done count : ℕ) → Appends a b (take done bytes)
-    → Appends b c (take count (take (length bytes - done) (drop done bytes))) → Appends a c (take (done + count) bytes)
+pub Appends-next : (a b c : Option (List ℕ)) (bytes : List ℕ) (done count : ℕ) → Appends a b
+    (take done bytes)
+    → Appends b c (take count (take (length bytes - done) (drop done bytes))) → Appends a c
+    (take (done + count) bytes)
 Appends-next a b c bytes done count first next =
-    let joined : take done bytes ++ take count (take (length bytes - done) (drop done bytes)) ≡ take (done + count) bytes =
+    let joined : take done bytes ++ take count (take (length bytes - done) (drop done bytes)) ≡ take
+    (done + count) bytes =
     rw (take_rest bytes done) (sym (take-add done count bytes)) in
     subst (Appends a c) joined (Appends-trans a b c _ _ first next)

@@ -58,7 +58,8 @@ impl MemoryDesk {
 
 impl Desk for MemoryDesk {
     ghost use Rattle.outside_io.specs.MemoryDesk.{begin_fails, read_fails};
-    ghost use Rattle.outside_io.specs.MemoryDesk.{asked_on, failures_of, faults_of, held_by, left_on};
+    ghost use Rattle.outside_io.specs.MemoryDesk.{asked_on, failures_of, faults_of, held_by};
+    ghost use Rattle.outside_io.specs.MemoryDesk.{left_on};
     ghost use Rattle.outside_io.specs.MemoryDesk.{reads_of, taken_of};
 
     ghost held = { held_by };

@@ -1,13 +1,15 @@
 -- The capture of a file's bytes, after the pcap file format, version 2.4.
 -- `number` is the number in the first bytes of a list, in the byte order of the file.
-use Rattle.std.specs.Prelude.{◌≡◌, ◌≤◌, ◌<◌, ℕ, ◌+◌, ◌%◌, ◌^◌, List, [], ◌∷◌, ◌++◌, length, take, drop, Bool, Option, Some, None}
+use Rattle.std.specs.Prelude.{◌≡◌, ◌≤◌, ◌<◌, ℕ, ◌+◌, ◌%◌, ◌^◌, List, [], ◌∷◌, ◌++◌, length, take}
+use Rattle.std.specs.Prelude.{drop, Bool, Option, Some, None}
 use Rattle.pcap_reader.specs.declared.record.PcapRecord.{PcapRecord}
 use Rattle.pcap_reader.specs.declared.capture.Capture.{Capture}
 use Rattle.pcap_reader.specs.Numbers.{number_of, HasMagic}
 
 -- the version of a header, major and then minor
 abbrev pub IsVersion : (ℕ → List ℕ → ℕ) → List ℕ → ℕ → ℕ → Type 0
-IsVersion number header major minor = (major ≡ number 2 (drop 4 header)) × (minor ≡ number 2 (drop 6 header))
+IsVersion number header major minor = (major ≡ number 2 (drop 4 header))
+    × (minor ≡ number 2 (drop 6 header))
 
 -- the link type of a header, with what stands above its low 16 bits
 abbrev pub link_of : (ℕ → List ℕ → ℕ) → List ℕ → ℕ
@@ -29,7 +31,8 @@ pub record IsWhole (number : ℕ → List ℕ → ℕ) (header frame : List ℕ)
   pub small : frame_len number header ≤ 262144
 
 -- what a whole record tells, where it begins at this place of the file
-pub record IsRecord (number : ℕ → List ℕ → ℕ) (place : ℕ) (header frame : List ℕ) (r : PcapRecord) : Type 0 where
+pub record IsRecord (number : ℕ → List ℕ → ℕ) (place : ℕ) (header frame : List ℕ)
+    (r : PcapRecord) : Type 0 where
   pub whole : IsWhole number header frame
   pub seconds : r.sec ≡ number 4 header
   pub fraction : r.frac ≡ number 4 (drop 4 header)
@@ -47,7 +50,8 @@ Joins number place bytes (r ∷ rs) rest =
 -- no whole record begins these bytes
 abbrev pub BeginsNoRecord : (ℕ → List ℕ → ℕ) → List ℕ → Type 0
 BeginsNoRecord number rest =
-    (header frame more : List ℕ) → rest ≡ header ++ (frame ++ more) → IsWhole number header frame → ⊥
+    (header frame more : List ℕ) → rest ≡ header ++ (frame ++ more) → IsWhole number header frame
+    → ⊥
 
 -- the beginning of a record of which the end is missing
 pub record IsCut (number : ℕ → List ℕ → ℕ) (rest : List ℕ) : Type 0 where
@@ -61,13 +65,15 @@ Ends number count rest None = rest ≡ []
 Ends number count rest (Some cut) = IsCut number rest × (cut ≡ length rest) × (count < 262144)
 
 -- the bytes behind the 24 of the header are these records, and then nothing or a cut record
-pub record HasRecords (number : ℕ → List ℕ → ℕ) (body : List ℕ) (records : List PcapRecord) (cut : Option ℕ) : Type 0 where
+pub record HasRecords (number : ℕ → List ℕ → ℕ) (body : List ℕ) (records : List PcapRecord)
+    (cut : Option ℕ) : Type 0 where
   pub rest : List ℕ
   pub joined : Joins number 24 body records rest
   pub few : length records ≤ 262144
   pub end : Ends number (length records) rest cut
 
--- a file's bytes are a header of 24 bytes, whose magic number tells the byte order and the unit of time, and a body
+-- a file's bytes are a header of 24 bytes, whose magic number tells the byte order and the unit of
+-- time, and a body
 pub record Opens (bytes : List ℕ) (big nano : Bool) (header body : List ℕ) : Type 0 where
   pub joined : bytes ≡ header ++ body
   pub whole : length header ≡ 24

@@ -21,7 +21,8 @@ pub record TellsTooLong (number : ℕ → List ℕ → ℕ) (rest : List ℕ) (l
   pub told : len ≡ frame_len number (take 16 rest)
   pub long : 262144 < len
 
--- behind some whole records a record is too long, or at least one byte follows the 262144 that a capture may have
+-- behind some whole records a record is too long, or at least one byte follows the 262144 that a
+-- capture may have
 abbrev pub RecordsHaveFault : (ℕ → List ℕ → ℕ) → List ℕ → CaptureFault → Type 0
 RecordsHaveFault number body (fault.RecordTooLong at len) =
     (records : List PcapRecord) × (rest : List ℕ) × Joins number 24 body records rest
@@ -34,7 +35,8 @@ RecordsHaveFault number body _ = ⊥
 -- the fault of the header, or else of the records behind it
 abbrev pub PartsHaveFault : (ℕ → List ℕ → ℕ) → List ℕ → List ℕ → CaptureFault → Type 0
 PartsHaveFault number header body fault =
-    HeaderHasFault number header fault ⊎ (IsEthernet number header × RecordsHaveFault number body fault)
+    HeaderHasFault number header fault ⊎ (IsEthernet number header
+    × RecordsHaveFault number body fault)
 
 -- the fault of bytes with a whole header whose magic number is known
 pub record OpensWithFault (bytes : List ℕ) (fault : CaptureFault) : Type 0 where
@@ -49,6 +51,7 @@ pub record OpensWithFault (bytes : List ℕ) (fault : CaptureFault) : Type 0 whe
 abbrev pub HasFault : List ℕ → CaptureFault → Type 0
 HasFault bytes (fault.ShortHeader len) = (len ≡ length bytes) × (len < 24)
 HasFault bytes (fault.BadMagic magic) =
-    (24 ≤ length bytes) × (magic ≡ little_number 4 bytes) × ((big nano : Bool) → HasMagic big nano bytes → ⊥)
+    (24 ≤ length bytes) × (magic ≡ little_number 4 bytes)
+    × ((big nano : Bool) → HasMagic big nano bytes → ⊥)
 HasFault bytes fault.OutOfMemory = ⊥
 HasFault bytes fault = OpensWithFault bytes fault

@@ -5,13 +5,16 @@ use Rattle.pcap_reader.specs.declared.fault.CaptureFault.{CaptureFault}
 use Rattle.pcap_reader.specs.Numbers.{number_of, magic_of, HasMagic}
 use Rattle.pcap_reader.specs.Captures.{HasCapture, frame_of}
 use Rattle.pcap_reader.specs.Faults.{HasFault}
-use Rattle.pcap_reader.specs.Writing.{header_bytes, Packet, CanBeWritten, packet_bytes, capture_bytes, capture_of}
+use Rattle.pcap_reader.specs.Writing.{header_bytes, Packet, CanBeWritten, packet_bytes}
+use Rattle.pcap_reader.specs.Writing.{capture_bytes, capture_of}
 
--- the first four bytes of a file tell a byte order and a unit of time where that is the number that they are in that order
+-- the first four bytes of a file tell a byte order and a unit of time where that is the number that
+-- they are in that order
 abbrev pub MagicIsRead : Type 0
 MagicIsRead =
     (bytes : List ℕ) (big nano : Bool) → 4 ≤ length bytes → All (λ b. b < 256) bytes
-    → (HasMagic big nano bytes → number_of big 4 bytes ≡ magic_of nano) × (number_of big 4 bytes ≡ magic_of nano → HasMagic big nano bytes)
+    → (HasMagic big nano bytes → number_of big 4 bytes ≡ magic_of nano)
+    × (number_of big 4 bytes ≡ magic_of nano → HasMagic big nano bytes)
 
 -- bytes have one capture at most
 abbrev pub HasOneCapture : Type 0
@@ -23,12 +26,14 @@ HasOneFault = (bytes : List ℕ) (a b : CaptureFault) → HasFault bytes a → H
 
 -- bytes with a capture have no fault
 abbrev pub HasNotBoth : Type 0
-HasNotBoth = (bytes : List ℕ) (capture : Capture) (fault : CaptureFault) → HasCapture bytes capture → HasFault bytes fault → ⊥
+HasNotBoth = (bytes : List ℕ) (capture : Capture) (fault : CaptureFault) → HasCapture bytes capture
+    → HasFault bytes fault → ⊥
 
 -- all bytes have a capture or a fault
 abbrev pub HasOneOfBoth : Type 0
 HasOneOfBoth =
-    (bytes : List ℕ) → ((capture : Capture) × HasCapture bytes capture) ⊎ ((fault : CaptureFault) × HasFault bytes fault)
+    (bytes : List ℕ) → ((capture : Capture) × HasCapture bytes capture) ⊎ ((fault : CaptureFault)
+    × HasFault bytes fault)
 
 -- a header alone is the capture of no packets
 abbrev pub BeginsWithHeader : Type 0
@@ -36,7 +41,8 @@ BeginsWithHeader = capture_bytes [] ≡ header_bytes
 
 -- a packet that is written behind a capture is its last
 abbrev pub GrowsByPacket : Type 0
-GrowsByPacket = (packets : List Packet) (p : Packet) → capture_bytes (packets ++ p ∷ []) ≡ capture_bytes packets ++ packet_bytes p
+GrowsByPacket = (packets : List Packet) (p : Packet) → capture_bytes (packets ++ p
+    ∷ []) ≡ capture_bytes packets ++ packet_bytes p
 
 -- at most 262144 packets that were written have the capture with just their times, and no cut
 abbrev pub ReadsBack : Type 0
@@ -47,4 +53,5 @@ ReadsBack =
 -- the records of that capture have just the frames that were written
 abbrev pub KeepsFrames : Type 0
 KeepsFrames =
-    (packets : List Packet) → map (frame_of (capture_bytes packets)) (capture_of packets).records ≡ map (λ p. p.frame) packets
+    (packets : List Packet) → map (frame_of (capture_bytes packets))
+    (capture_of packets).records ≡ map (λ p. p.frame) packets

@@ -12,7 +12,8 @@ abbrev pub bytes_of : Bool → ℕ → List ℕ
 bytes_of true magic = big_bytes 4 magic
 bytes_of false magic = little_bytes 4 magic
 
--- the magic number of a capture: `true` counts nanoseconds, `false` microseconds (the pcap file format)
+-- the magic number of a capture: `true` counts nanoseconds, `false` microseconds (the pcap file
+-- format)
 abbrev pub magic_of : Bool → ℕ
 magic_of true = 0xa1b23c4d
 magic_of false = 0xa1b2c3d4

@@ -8,11 +8,13 @@ use Rattle.pcap_reader.specs.declared.capture.Capture.{Capture}
 -- the header: magic, version 2.4, two unused fields, the largest frame 65535, and Ethernet
 unfoldable pub header_bytes : List ℕ
 header_bytes =
-    0xd4 ∷ 0xc3 ∷ 0xb2 ∷ 0xa1 ∷ 2 ∷ 0 ∷ 4 ∷ 0 ∷ 0 ∷ 0 ∷ 0 ∷ 0 ∷ 0 ∷ 0 ∷ 0 ∷ 0 ∷ 0xff ∷ 0xff ∷ 0 ∷ 0 ∷ 1 ∷ 0 ∷ 0 ∷ 0 ∷ []
+    0xd4 ∷ 0xc3 ∷ 0xb2 ∷ 0xa1 ∷ 2 ∷ 0 ∷ 4 ∷ 0 ∷ 0 ∷ 0 ∷ 0 ∷ 0 ∷ 0 ∷ 0 ∷ 0 ∷ 0 ∷ 0xff ∷ 0xff ∷ 0 ∷ 0
+    ∷ 1 ∷ 0 ∷ 0 ∷ 0 ∷ []
 
 -- the 16 bytes before a frame of this length
 unfoldable pub record_header : ℕ → ℕ → ℕ → List ℕ
-record_header sec frac len = ((little_bytes 4 sec ++ little_bytes 4 frac) ++ little_bytes 4 len) ++ little_bytes 4 len
+record_header sec frac len = ((little_bytes 4 sec ++ little_bytes 4 frac) ++ little_bytes 4 len)
+    ++ little_bytes 4 len
 
 -- a packet to be written: its time and its frame
 pub record Packet : Type 0 where
@@ -37,9 +39,20 @@ capture_bytes packets = header_bytes ++ flat_map packet_bytes packets
 abbrev pub records_from : ℕ → List Packet → List PcapRecord
 records_from place [] = []
 records_from place (p ∷ ps) =
-    record { sec = p.sec; frac = p.frac; start = place + 16; len = length p.frame; orig = length p.frame }
+    record {
+      sec = p.sec;
+      frac = p.frac;
+      start = place + 16;
+      len = length p.frame;
+      orig = length p.frame;
+    }
     ∷ records_from (place + (16 + length p.frame)) ps
 
 -- the capture of packets, which ends behind the last of them
 abbrev pub capture_of : List Packet → Capture
-capture_of packets = record { big = false; nano = false; records = records_from 24 packets; cut = None }
+capture_of packets = record {
+  big = false;
+  nano = false;
+  records = records_from 24 packets;
+  cut = None;
+}

@@ -1,5 +1,7 @@
 //! Laws of captures, as functions that do nothing: their contracts are the laws.
-ghost use Rattle.pcap_reader.specs.Laws.{MagicIsRead, HasOneCapture, HasOneFault, HasNotBoth, HasOneOfBoth, BeginsWithHeader, GrowsByPacket, ReadsBack, KeepsFrames};
+ghost use Rattle.pcap_reader.specs.Laws.{MagicIsRead, HasOneCapture, HasOneFault, HasNotBoth};
+ghost use Rattle.pcap_reader.specs.Laws.{HasOneOfBoth, BeginsWithHeader, GrowsByPacket, ReadsBack};
+ghost use Rattle.pcap_reader.specs.Laws.{KeepsFrames};
 
 /// A file's bytes have one capture or one fault, and never two of these. The magic number may be
 /// held against the four bytes, or against the number that they are.

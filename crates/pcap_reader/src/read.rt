@@ -1,11 +1,13 @@
 //! Reading a capture: one walk over its bytes.
-ghost use Rattle.std.specs.Prelude.{◌≡◌, ◌≢◌, ◌≤◌, ◌⊎◌, length, take, drop, All, IfOk, IfErr, OnOk, IfSome, IfNone, IsErrAnd, MatchResult, Bool};
+ghost use Rattle.std.specs.Prelude.{◌≡◌, ◌≢◌, ◌≤◌, ◌⊎◌, length, take, drop, All, IfOk, IfErr, OnOk};
+ghost use Rattle.std.specs.Prelude.{IfSome, IfNone, IsErrAnd, MatchResult, Bool};
 ghost use Rattle.pcap_reader.specs.declared.capture.Capture.{Capture as ACapture};
 ghost use Rattle.pcap_reader.specs.declared.fault.CaptureFault.{CaptureFault as AFault};
 ghost use Rattle.pcap_reader.specs.declared.fault.CaptureFault.TheVariants.{OutOfMemory as NoMemory};
 ghost use Rattle.pcap_reader.specs.Numbers.{number_of, HasMagic};
 ghost use Rattle.pcap_reader.specs.Captures.{IsEthernet, HasRecords, HasCapture, IsWithin};
-ghost use Rattle.pcap_reader.specs.Faults.{HeaderHasFault, RecordsHaveFault, PartsHaveFault, HasFault};
+ghost use Rattle.pcap_reader.specs.Faults.{HeaderHasFault, RecordsHaveFault, PartsHaveFault};
+ghost use Rattle.pcap_reader.specs.Faults.{HasFault};
 
 use crate::capture::Capture;
 use crate::fault::CaptureFault;
@@ -146,7 +148,8 @@ fn read_records<T: ByteOrder>(
 ) -> Result<(Records, Option<u32>), CaptureFault>
     requires { 24 ≤ length bytes.now }
     ensures found { IfOk result (λ r. HasRecords T.number_of (drop 24 bytes.now) r.0 r.1) }
-    ensures fault { IfErr result (λ e. e ≢ NoMemory → RecordsHaveFault T.number_of (drop 24 bytes.now) e) }
+    ensures fault { IfErr result (λ e. e ≢ NoMemory → RecordsHaveFault T.number_of
+        (drop 24 bytes.now) e) }
 {
     let mut records = Records::new(alloc);
     let (_, mut rest) = bytes.split_at(HEADER);

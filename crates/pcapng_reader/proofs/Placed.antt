@@ -1,5 +1,7 @@
--- A whole block lies within the bytes at whose front it stands, and so does the frame of its packet.
-use Rattle.std.proofs.Common.{◌≡◌, ◌≤◌, ◌<◌, inl, inr, ℕ, ◌+◌, ◌%◌, Bool, true, false, not, leb, ltb, eqb, List, length, Option, Some, None, Ok, refl, subst, arith}
+-- A whole block lies within the bytes at whose front it stands, and so does the frame of its
+-- packet.
+use Rattle.std.proofs.Common.{◌≡◌, ◌≤◌, ◌<◌, inl, inr, ℕ, ◌+◌, ◌%◌, Bool, true, false, not, leb}
+use Rattle.std.proofs.Common.{ltb, eqb, List, length, Option, Some, None, Ok, refl, subst, arith}
 use Rattle.std.proofs.lemmas.Bool.{ltb-false, leb-false, leb-true}
 use Rattle.std.proofs.lemmas.Bool.Decides.{eqb_tells}
 use Rattle.pcap_reader.specs.declared.record.PcapRecord.{PcapRecord}
@@ -10,15 +12,18 @@ use Rattle.pcapng_reader.specs.declared.block.Block.{Block}
 use Rattle.pcapng_reader.specs.declared.content.Content.{Content}
 use Rattle.pcapng_reader.specs.declared.content.Content.TheVariants as content
 use Rattle.pcapng_reader.specs.Numbers.{u16_at, u32_at}
-use Rattle.pcapng_reader.specs.Contents.{least_len, is_len, padded, ethernet_of, framed, enhanced, simple, content_at}
-use Rattle.pcapng_reader.specs.Blocks.{kind_of, order_of, total_len, tail_len, block_in, ordered, block_at}
+use Rattle.pcapng_reader.specs.Contents.{least_len, is_len, padded, ethernet_of, framed, enhanced}
+use Rattle.pcapng_reader.specs.Contents.{simple, content_at}
+use Rattle.pcapng_reader.specs.Blocks.{kind_of, order_of, total_len, tail_len, block_in, ordered}
+use Rattle.pcapng_reader.specs.Blocks.{block_at}
 use Rattle.pcapng_reader.proofs.Checks.{taken, passed, and_then_ok}
 
 -- a packet is not one too many, and its frame lies in its block
 abbrev pub PacketFits : Place → ℕ → Content → Type 0
 PacketFits place len (content.Section big) = Unit {0}
 PacketFits place len (content.Interface interface) = Unit {0}
-PacketFits place len (content.Packet r) = (place.packets < 262144) × (r.start + r.len ≤ place.start + len)
+PacketFits place len (content.Packet r) = (place.packets < 262144)
+    × (r.start + r.len ≤ place.start + len)
 PacketFits place len content.Other = Unit {0}
 
 pub record IsPlaced (place : Place) (rest : List ℕ) (b : Block) : Type 0 where
@@ -26,11 +31,14 @@ pub record IsPlaced (place : Place) (rest : List ℕ) (b : Block) : Type 0 where
   pub whole : b.len ≤ length rest
   pub packet : PacketFits place b.len b.content
 
-ethernet_few : (section : Section) (place : Place) (id : ℕ) (i : Interface) → ethernet_of section place id ≡ Ok i → place.packets < 262144
+ethernet_few : (section : Section) (place : Place) (id : ℕ) (i : Interface)
+    → ethernet_of section place id ≡ Ok i → place.packets < 262144
 unfolding ethernet_of
-ethernet_few section place id i h = leb-false 262144 place.packets (passed (leb 262144 place.packets) _ _ i h).0
+ethernet_few section place id i h = leb-false 262144 place.packets
+    (passed (leb 262144 place.packets) _ _ i h).0
 
-framed_fits : (place : Place) (len at : ℕ) (r : PcapRecord) (c : Content) → place.packets < 262144 → r.start ≡ place.start + at
+framed_fits : (place : Place) (len at : ℕ) (r : PcapRecord) (c : Content) → place.packets < 262144
+    → r.start ≡ place.start + at
     → framed place len at r ≡ Ok c → PacketFits place len c
 unfolding framed
 framed_fits place len at r c few here h =
@@ -40,19 +48,24 @@ framed_fits place len at r c few here h =
     let is : content.Packet r ≡ c = let e = b.1 in cc in
     subst (PacketFits place len) is (few, omega arith)
 
-enhanced_fits : (section : Section) (place : Place) (len : ℕ) (block : List ℕ) (c : Content) → enhanced section place len block ≡ Ok c → PacketFits place len c
+enhanced_fits : (section : Section) (place : Place) (len : ℕ) (block : List ℕ) (c : Content)
+    → enhanced section place len block ≡ Ok c → PacketFits place len c
 unfolding enhanced
 enhanced_fits section place len block c h =
-    let (i, is, told) = and_then_ok _ (ethernet_of section place (u32_at section.big 8 block)) c h in
-    framed_fits place len 28 _ c (ethernet_few section place (u32_at section.big 8 block) i is) refl told
+    let (i, is, told) = and_then_ok _ (ethernet_of section place (u32_at section.big 8 block)) c
+    h in
+    framed_fits place len 28 _ c (ethernet_few section place (u32_at section.big 8 block) i is) refl
+    told
 
-simple_fits : (section : Section) (place : Place) (len : ℕ) (block : List ℕ) (c : Content) → simple section place len block ≡ Ok c → PacketFits place len c
+simple_fits : (section : Section) (place : Place) (len : ℕ) (block : List ℕ) (c : Content)
+    → simple section place len block ≡ Ok c → PacketFits place len c
 unfolding simple
 simple_fits section place len block c h =
     let (i, is, told) = and_then_ok _ (ethernet_of section place 0) c h in
     framed_fits place len 12 _ c (ethernet_few section place 0 i is) refl told
 
-content_fits : (section : Section) (place : Place) (kind : ℕ) (big : Bool) (len : ℕ) (block : List ℕ) (c : Content)
+content_fits : (section : Section) (place : Place) (kind : ℕ) (big : Bool) (len : ℕ)
+    (block : List ℕ) (c : Content)
     → content_at section place kind big len block ≡ Ok c → PacketFits place len c
 unfolding content_at
 content_fits section place kind big len block c h =
@@ -66,7 +79,10 @@ content_fits section place kind big len block c h =
           ]
       | inr a ↦ elim (taken (eqb kind 1) _ _ (Ok c) a.1) [
         | inl b ↦
-            let is : content.Interface (record { link = u16_at big 8 block; snap = u32_at big 12 block }) ≡ c = let e = b.1 in cc in
+            let is : content.Interface (record {
+              link = u16_at big 8 block;
+              snap = u32_at big 12 block;
+            }) ≡ c = let e = b.1 in cc in
             subst P is tt
         | inr b ↦ elim (taken (eqb kind 6) _ _ (Ok c) b.1) [
           | inl d ↦ enhanced_fits section place len block c d.1
@@ -86,7 +102,10 @@ least_is_12 kind =
         | inl b ↦ rw (a.0, b.0) (omega arith)
         | inr b ↦ elim (eqb_tells kind 6) [
           | inl d ↦ rw (a.0, b.0, d.0) (omega arith)
-          | inr d ↦ elim (eqb_tells kind 3) [ inl e ↦ rw (a.0, b.0, d.0, e.0) (omega arith) | inr e ↦ rw (a.0, b.0, d.0, e.0) (omega arith) ]
+          | inr d ↦ elim (eqb_tells kind 3) [
+            | inl e ↦ rw (a.0, b.0, d.0, e.0) (omega arith)
+            | inr e ↦ rw (a.0, b.0, d.0, e.0) (omega arith)
+          ]
         ]
       ]
     ]
@@ -105,7 +124,8 @@ pub not_false : (t : Bool) → not t ≡ false → t ≡ true
 not_false true h = refl
 not_false false h = absurd (cc)
 
-block_placed : (section : Section) (place : Place) (big : Bool) (rest : List ℕ) (b : Block) → block_in section place big rest ≡ Ok (Some b) → IsPlaced place rest b
+block_placed : (section : Section) (place : Place) (big : Bool) (rest : List ℕ) (b : Block)
+    → block_in section place big rest ≡ Ok (Some b) → IsPlaced place rest b
 unfolding block_in
 block_placed section place big rest b h =
     let len = total_len big rest in
@@ -115,8 +135,10 @@ block_placed section place big rest b h =
       | inl short ↦ absurd (let e = short.1 in cc)
       | inr long ↦
           let tail = passed (not (eqb (tail_len big rest) len)) _ _ (Some b) long.1 in
-          let (c, is, told) = and_then_ok _ (content_at section place kind big len rest) (Some b) tail.1 in
-          let same : (let whole : Block = record { len = len; content = c } in whole) ≡ b = let e = told in cc in
+          let (c, is, told) = and_then_ok _ (content_at section place kind big len rest)
+          (Some b) tail.1 in
+          let same : (let whole : Block = record { len = len; content = c } in whole) ≡ b =
+          let e = told in cc in
           subst (IsPlaced place rest) same (record {
             least = is_len_tells kind len (not_false (is_len kind len) sized.0);
             whole = ltb-false (length rest) len long.0;
@@ -124,11 +146,13 @@ block_placed section place big rest b h =
           })
     ]
 
-ordered_placed : (section : Section) (place : Place) (rest : List ℕ) (o : Option Bool) (b : Block) → ordered section place rest o ≡ Ok (Some b) → IsPlaced place rest b
+ordered_placed : (section : Section) (place : Place) (rest : List ℕ) (o : Option Bool) (b : Block)
+    → ordered section place rest o ≡ Ok (Some b) → IsPlaced place rest b
 ordered_placed section place rest None b h = absurd (cc)
 ordered_placed section place rest (Some big) b h = block_placed section place big rest b h
 
-pub placed : (section : Section) (place : Place) (rest : List ℕ) (b : Block) → block_at section place rest ≡ Ok (Some b) → IsPlaced place rest b
+pub placed : (section : Section) (place : Place) (rest : List ℕ) (b : Block)
+    → block_at section place rest ≡ Ok (Some b) → IsPlaced place rest b
 unfolding block_at
 placed section place rest b h = elim (taken (ltb (length rest) 12) (Ok None) _ (Ok (Some b)) h) [
   | inl short ↦ absurd (let e = short.1 in cc)

@@ -1,5 +1,6 @@
 -- The block at the front of what is left of a pcapng file: whole, cut, or at fault.
-use Rattle.std.specs.Prelude.{ℕ, ◌-◌, Bool, true, false, not, ◌==◌, nat_lt, if◌then◌else◌, List, length, Option, Some, None, Result, Ok, Err}
+use Rattle.std.specs.Prelude.{ℕ, ◌-◌, Bool, true, false, not, ◌==◌, nat_lt, if◌then◌else◌, List}
+use Rattle.std.specs.Prelude.{length, Option, Some, None, Result, Ok, Err}
 use Rattle.pcapng_reader.specs.declared.section.Section.{Section}
 use Rattle.pcapng_reader.specs.declared.place.Place.{Place}
 use Rattle.pcapng_reader.specs.declared.block.Block.{Block}

@@ -1,6 +1,7 @@
 -- The capture of a pcapng file's bytes, or its one fault, as a relation over the blocks of the
 -- file.
-use Rattle.std.specs.Prelude.{◌≡◌, ◌<◌, ℕ, ◌+◌, Bool, false, List, [], ◌∷◌, ◌++◌, length, take, drop, Option, Some, None, Result, Ok, Err}
+use Rattle.std.specs.Prelude.{◌≡◌, ◌<◌, ℕ, ◌+◌, Bool, false, List, [], ◌∷◌, ◌++◌, length, take}
+use Rattle.std.specs.Prelude.{drop, Option, Some, None, Result, Ok, Err}
 use Rattle.std.specs.List.{flat_map}
 use Rattle.pcap_reader.specs.declared.record.PcapRecord.{PcapRecord}
 use Rattle.pcap_reader.specs.declared.capture.Capture.{Capture}

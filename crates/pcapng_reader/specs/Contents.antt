@@ -1,6 +1,7 @@
 -- What a whole block tells by its type, or its fault, after the pcapng file format
 -- (draft-ietf-opsawg-pcapng, section 4). `place` says what stands before the block.
-use Rattle.std.specs.Prelude.{ℕ, ◌+◌, ◌*◌, ◌/◌, ◌%◌, min, Bool, ◌&&◌, ◌==◌, nat_le, nat_lt, if◌then◌else◌, List, Option, Some, None, Result, Ok, Err, slice_get}
+use Rattle.std.specs.Prelude.{ℕ, ◌+◌, ◌*◌, ◌/◌, ◌%◌, min, Bool, ◌&&◌, ◌==◌, nat_le, nat_lt}
+use Rattle.std.specs.Prelude.{if◌then◌else◌, List, Option, Some, None, Result, Ok, Err, slice_get}
 use Rattle.pcap_reader.specs.declared.record.PcapRecord.{PcapRecord}
 use Rattle.pcapng_reader.specs.declared.section.Interface.{Interface}
 use Rattle.pcapng_reader.specs.declared.section.Section.{Section}

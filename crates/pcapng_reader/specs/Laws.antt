@@ -1,5 +1,6 @@
 -- What holds of captures and faults, whatever reads or writes them.
-use Rattle.std.specs.Prelude.{◌≡◌, ◌≤◌, ◌⊎◌, ℕ, ◌+◌, ◌%◌, Bool, Some, Ok, List, [], ◌∷◌, ◌++◌, length, map, All}
+use Rattle.std.specs.Prelude.{◌≡◌, ◌≤◌, ◌⊎◌, ℕ, ◌+◌, ◌%◌, Bool, Some, Ok, List, [], ◌∷◌, ◌++◌}
+use Rattle.std.specs.Prelude.{length, map, All}
 use Rattle.pcap_reader.specs.declared.capture.Capture.{Capture}
 use Rattle.pcap_reader.specs.Captures.{frame_of}
 use Rattle.pcap_reader.specs.Numbers.{number_of}

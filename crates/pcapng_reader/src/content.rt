@@ -1,6 +1,7 @@
 //! What a whole block tells, by its type (draft-ietf-opsawg-pcapng, section 4).
 ghost use Rattle.std.specs.Prelude.{◌≡◌, ◌≤◌, ◌+◌, ◌<◌, ◌^◌, length, IsTrue};
-ghost use Rattle.pcapng_reader.specs.Contents.{ethernet_of, framed, enhanced, simple, content_at, least_len, is_len, padded};
+ghost use Rattle.pcapng_reader.specs.Contents.{ethernet_of, framed, enhanced, simple, content_at};
+ghost use Rattle.pcapng_reader.specs.Contents.{least_len, is_len, padded};
 
 use crate::fault::NgFault;
 use crate::numbers::{u16_at, u32_at};

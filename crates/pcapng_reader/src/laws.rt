@@ -1,5 +1,7 @@
 //! Laws of captures, as functions that do nothing: their contracts are the laws.
-ghost use Rattle.pcapng_reader.specs.Laws.{HasOneCapture, HasOneFault, HasNotBoth, HasOneOfBoth, IsNoWant, HasFourPieces, BeginsWithSection, GrowsByFrame, ReadsBack, KeepsFrames};
+ghost use Rattle.pcapng_reader.specs.Laws.{HasOneCapture, HasOneFault, HasNotBoth, HasOneOfBoth};
+ghost use Rattle.pcapng_reader.specs.Laws.{IsNoWant, HasFourPieces, BeginsWithSection};
+ghost use Rattle.pcapng_reader.specs.Laws.{GrowsByFrame, ReadsBack, KeepsFrames};
 
 /// A file's bytes have one capture or one fault, and never two of these. Want of memory is no fault
 /// of bytes.

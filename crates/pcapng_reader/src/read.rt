@@ -1,5 +1,6 @@
 //! Reading a capture: one walk over the blocks of its file.
-ghost use Rattle.std.specs.Prelude.{◌≡◌, ◌≢◌, ◌≤◌, ◌⊎◌, ◌↔◌, length, All, IsTrue, IfOk, IfErr, IsErrAnd, MatchResult};
+ghost use Rattle.std.specs.Prelude.{◌≡◌, ◌≢◌, ◌≤◌, ◌⊎◌, ◌↔◌, length, All, IsTrue, IfOk, IfErr};
+ghost use Rattle.std.specs.Prelude.{IsErrAnd, MatchResult};
 ghost use Rattle.pcap_reader.specs.declared.capture.Capture.{Capture as ACapture};
 ghost use Rattle.pcap_reader.specs.Captures.{IsWithin};
 ghost use Rattle.pcapng_reader.specs.declared.fault.NgFault.{NgFault as AFault};

@@ -1,6 +1,7 @@
 //! What was read of a file up to some place.
 ghost use Rattle.std.specs.Prelude.{◌≡◌, ◌+◌, ◌<◌, ◌^◌, [], length, OnOk, false};
-ghost use Rattle.pcapng_reader.specs.Captures.{no_section, file_start, packets_in, section_behind, place_behind, order_in};
+ghost use Rattle.pcapng_reader.specs.Captures.{no_section, file_start, packets_in, section_behind};
+ghost use Rattle.pcapng_reader.specs.Captures.{place_behind, order_in};
 ghost use Rattle.pcapng_reader.specs.Readers.{TakesIn, capture_of};
 
 use crate::block::Block;

@@ -1,8 +1,10 @@
 //! Writing a capture: one little-endian section of Ethernet frames.
-ghost use Rattle.std.specs.Prelude.{◌≡◌, ◌≤◌, ◌+◌, ◌++◌, length, OnOk, OnErr, IsOk, vec_len, replicate};
+ghost use Rattle.std.specs.Prelude.{◌≡◌, ◌≤◌, ◌+◌, ◌++◌, length, OnOk, OnErr, IsOk, vec_len};
+ghost use Rattle.std.specs.Prelude.{replicate};
 ghost use Rattle.std.specs.Vec.{vec_capacity};
 ghost use Rattle.byteorder.specs.Endian.{little_bytes};
-ghost use Rattle.pcapng_reader.specs.Writing.{section_bytes, enhanced_len, enhanced_header, enhanced_bytes};
+ghost use Rattle.pcapng_reader.specs.Writing.{section_bytes, enhanced_len, enhanced_header};
+ghost use Rattle.pcapng_reader.specs.Writing.{enhanced_bytes};
 
 use crate::content::{ENHANCED, padded};
 use byteorder::{ByteOrder, LittleEndian};

@@ -4,7 +4,8 @@ use Rattle.plan_reader.specs.declared.settings.parts.Parts.{Parts}
 use Rattle.plan_reader.specs.declared.settings.parts.Receive.{Receive}
 use Rattle.plan_reader.specs.declared.settings.parts.Tables.{Tables}
 use Rattle.plan_reader.specs.declared.settings.parts.Sends.{Sends}
-use Rattle.plan_reader.specs.Ranges.{StepsAreWithin, HasLength, QueueIsWithin, TxIsWithin, DetachIsWithin}
+use Rattle.plan_reader.specs.Ranges.{StepsAreWithin, HasLength, QueueIsWithin, TxIsWithin}
+use Rattle.plan_reader.specs.Ranges.{DetachIsWithin}
 
 pub record ReceiveIsWithin (receive : Receive) : Type 0 where
   pub some_cpu : 1 ≤ receive.cpus

@@ -1,5 +1,6 @@
 -- The steps of a plan, and its commands.
-use Rattle.std.specs.Prelude.{ℕ, ◌+◌, ◌==◌, length, slice_get, Option, Some, None, nat_lt, if◌then◌else◌}
+use Rattle.std.specs.Prelude.{ℕ, ◌+◌, ◌==◌, length, slice_get, Option, Some, None, nat_lt}
+use Rattle.std.specs.Prelude.{if◌then◌else◌}
 use Rattle.steer_base.specs.declared.step.Step.{Step}
 use Rattle.steer_base.specs.declared.step.Step.TheVariants.{Sweep}
 use Rattle.plan_reader.specs.declared.settings.sizes.Sizes.{Sizes}

@@ -1,8 +1,11 @@
 -- The ranges of a plan's fields.
-use Rattle.std.specs.Prelude.{ℕ, ◌^◌, ◌<◌, ◌≤◌, ◌&&◌, Bool, true, List, [], length, Option, Some, None, nat_lt}
+use Rattle.std.specs.Prelude.{ℕ, ◌^◌, ◌<◌, ◌≤◌, ◌&&◌, Bool, true, List, [], length, Option, Some}
+use Rattle.std.specs.Prelude.{None, nat_lt}
 use Rattle.std.specs.List.{AllPass, filter_map}
 use Rattle.steer_base.specs.declared.command.Command.{Command}
-use Rattle.steer_base.specs.declared.command.Command.TheVariants.{Mask, Flows, Sock, Offline, Online, XCpus, XQueues, Reta, Stand, Expire}
+use Rattle.steer_base.specs.declared.command.Command.TheVariants.{Mask, Flows, Sock, Offline}
+use Rattle.steer_base.specs.declared.command.Command.TheVariants.{Online, XCpus, XQueues, Reta}
+use Rattle.steer_base.specs.declared.command.Command.TheVariants.{Stand, Expire}
 use Rattle.steer_base.specs.declared.step.Detach.{Detach}
 use Rattle.steer_base.specs.declared.step.Step.{Step}
 use Rattle.steer_base.specs.declared.step.Step.TheVariants as step

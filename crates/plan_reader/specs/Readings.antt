@@ -1,5 +1,7 @@
 -- The plan of a JSON value: a value after another in their order, up to the first that is wrong.
-use Rattle.std.specs.Prelude.{ℕ, ◌+◌, ◌^◌, List, [], ◌∷◌, Bool, Option, Some, None, Result, Ok, Err, nat_le, if◌then◌else◌, is_some, option_and_then, bytes_eq, codes, bit_or, ⊤}
+use Rattle.std.specs.Prelude.{ℕ, ◌+◌, ◌^◌, List, [], ◌∷◌, Bool, Option, Some, None, Result, Ok, Err}
+use Rattle.std.specs.Prelude.{nat_le, if◌then◌else◌, is_some, option_and_then, bytes_eq, codes}
+use Rattle.std.specs.Prelude.{bit_or, ⊤}
 use Rattle.std.specs.Fmt.{decimal}
 use Rattle.std.specs.List.{list_any}
 use Rattle.std.specs.Result.{result_ok}
@@ -10,7 +12,8 @@ use Rattle.serde_json.specs.Find.{get, as_number, as_u64, as_str, as_array, as_o
 use Rattle.steer_base.specs.declared.step.Detach.{Detach}
 use Rattle.steer_base.specs.declared.step.Step.{Step}
 use Rattle.plan_reader.specs.declared.faults.cause.Cause.{Cause}
-use Rattle.plan_reader.specs.declared.faults.cause.Cause.TheVariants.{Missing, WrongKind, UnknownKey, TooLong}
+use Rattle.plan_reader.specs.declared.faults.cause.Cause.TheVariants.{Missing, WrongKind}
+use Rattle.plan_reader.specs.declared.faults.cause.Cause.TheVariants.{UnknownKey, TooLong}
 use Rattle.plan_reader.specs.declared.faults.fault.Fault.{Fault}
 use Rattle.plan_reader.specs.declared.plan.QueuePlan.{QueuePlan}
 use Rattle.plan_reader.specs.declared.plan.TxPlan.{TxPlan}

@@ -3,7 +3,8 @@ use Rattle.std.specs.Prelude.{ℕ, ◌/◌, ◌%◌, nat_lt, ◌==◌, if◌then
 use Rattle.rand_pcg.specs.Lcg.{Lcg, started, increment_of, advance}
 use Rattle.rand_pcg.specs.Pcg.{multiplier_64, pcg32}
 use Rattle.steer_base.specs.declared.step.Step.{Step}
-use Rattle.steer_base.specs.declared.step.Step.TheVariants.{Arrive, Take, Enter, Look, Pull, Poll, Drain, Serve, Ship}
+use Rattle.steer_base.specs.declared.step.Step.TheVariants.{Arrive, Take, Enter, Look, Pull, Poll}
+use Rattle.steer_base.specs.declared.step.Step.TheVariants.{Drain, Serve, Ship}
 use Rattle.plan_reader.specs.declared.settings.sizes.Sizes.{Sizes}
 
 -- the generator of a seed

@@ -5,7 +5,8 @@ use Rattle.steer_base.specs.declared.step.Detach.{Detach}
 use Rattle.plan_reader.specs.declared.plan.QueuePlan.{QueuePlan}
 use Rattle.plan_reader.specs.declared.plan.TxPlan.{TxPlan}
 use Rattle.plan_reader.specs.declared.plan.Steps.{Steps}
-use Rattle.plan_reader.specs.Ranges.{HasLength, QueueIsWithin, TxIsWithin, DetachIsWithin, StepsAreWithin}
+use Rattle.plan_reader.specs.Ranges.{HasLength, QueueIsWithin, TxIsWithin, DetachIsWithin}
+use Rattle.plan_reader.specs.Ranges.{StepsAreWithin}
 
 -- what a plan says, field by field
 pub record Settings : Type 0 where

@@ -1,7 +1,9 @@
 -- The step of a text: the whole text is held against the grammar first, then its numbers against
 -- the plan from the left.
-use Rattle.std.specs.Prelude.{ℕ, Bool, ◌||◌, List, Option, Some, None, Result, Ok, Err, is_some, if◌then◌else◌, bytes_eq, codes}
-use Rattle.steer_base.specs.declared.command.Command.TheVariants.{Mask, Flows, Sock, XCpus, XQueues, Reta, Stand}
+use Rattle.std.specs.Prelude.{ℕ, Bool, ◌||◌, List, Option, Some, None, Result, Ok, Err, is_some}
+use Rattle.std.specs.Prelude.{if◌then◌else◌, bytes_eq, codes}
+use Rattle.steer_base.specs.declared.command.Command.TheVariants.{Mask, Flows, Sock, XCpus, XQueues}
+use Rattle.steer_base.specs.declared.command.Command.TheVariants.{Reta, Stand}
 use Rattle.steer_base.specs.declared.step.Step.{Step}
 use Rattle.steer_base.specs.declared.step.Step.TheVariants.{Record, Give}
 use Rattle.plan_reader.specs.declared.faults.cause.Cause.{Cause}

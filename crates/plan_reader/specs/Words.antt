@@ -1,8 +1,13 @@
 -- The words of steps, by what they are about.
-use Rattle.std.specs.Prelude.{ℕ, List, Option, Some, None, Result, Ok, Err, if◌then◌else◌, bytes_eq, codes}
+use Rattle.std.specs.Prelude.{ℕ, List, Option, Some, None, Result, Ok, Err, if◌then◌else◌, bytes_eq}
+use Rattle.std.specs.Prelude.{codes}
 use Rattle.steer_base.specs.declared.command.Command.TheVariants.{Offline, Online, Expire}
 use Rattle.steer_base.specs.declared.step.Step.{Step}
-use Rattle.steer_base.specs.declared.step.Step.TheVariants.{Arrive, Take, Enter, Look, Weigh, Put, Ask, Leave, Pull, Deliver, Retire, Send, TEnter, TLeave, TWeigh, TPut, TPull, TDeliver, TRetire, Poll, Drain, Reply, Serve, Ship, Sweep, Give}
+use Rattle.steer_base.specs.declared.step.Step.TheVariants.{Arrive, Take, Enter, Look, Weigh, Put}
+use Rattle.steer_base.specs.declared.step.Step.TheVariants.{Ask, Leave, Pull, Deliver, Retire, Send}
+use Rattle.steer_base.specs.declared.step.Step.TheVariants.{TEnter, TLeave, TWeigh, TPut, TPull}
+use Rattle.steer_base.specs.declared.step.Step.TheVariants.{TDeliver, TRetire, Poll, Drain, Reply}
+use Rattle.steer_base.specs.declared.step.Step.TheVariants.{Serve, Ship, Sweep, Give}
 use Rattle.plan_reader.specs.declared.faults.cause.Cause.{Cause}
 use Rattle.plan_reader.specs.declared.faults.cause.Cause.TheVariants.{WrongKind}
 

@@ -54,7 +54,8 @@ few_moves packets apps h r q =
       r.few_arrivals,
     )
 
-pub countable : (m : Machine) → Invariant m → IsReportable m.setup.packets m.setup.apps (history_of m)
+pub countable : (m : Machine) → Invariant m → IsReportable m.setup.packets m.setup.apps
+    (history_of m)
     → IsCountable (history_of m)
 countable m held r =
     let h = history_of m in

@@ -1,5 +1,5 @@
--- Why a report's history has to be regular, within its ranges and of a known start: without one of these, two histories
--- that differ have one report.
+-- Why a report's history has to be regular, within its ranges and of a known start: without one of
+-- these, two histories that differ have one report.
 use Rattle.std.proofs.Common.{◌≡◌, [], ◌∷◌, Some, None, refl}
 use Rattle.std.specs.Fmt.{digits}
 use Rattle.steer_base.specs.Sets.{those_below}
@@ -17,17 +17,48 @@ abbrev Same : History → History → Type 0
 Same h k = report packets 1 h [] ≡ report packets 1 k []
 
 -- the queue rule: the entry that led to the queue is not printed
-queue_rule : Same history (record history { arrivals = record { id = 0; queue = 0; filter = None; entry = Some 5 } ∷ [] })
+queue_rule : Same history (record history {
+  arrivals = record {
+    id = 0;
+    queue = 0;
+    filter = None;
+    entry = Some 5;
+  } ∷ [];
+})
 unfolding digits
 queue_rule = refl
 
 -- the class of a reply is not printed
-class : Same history (record history { tx_choices = (record { id = 0; choice = record { class = Some 9; want = Some 0; head = None; tail = Some 0; lane = 0; why = Unset } } ∷ []) ∷ [] })
+class : Same history
+    (record history {
+      tx_choices =
+          (record {
+            id = 0;
+            choice = record {
+              class = Some 9;
+              want = Some 0;
+              head = None;
+              tail = Some 0;
+              lane = 0;
+              why = Unset;
+            };
+          } ∷ []) ∷ [];
+    })
 unfolding digits
 class = refl
 
 -- nor drops at transmit queues
-tx_drops : Same history (record history { tx_lanes = record lane { drops = record { id = 0; accepted = 0; pulled = 0; cause = Full } ∷ [] } ∷ [] })
+tx_drops : Same history
+    (record history {
+      tx_lanes = record lane {
+        drops = record {
+          id = 0;
+          accepted = 0;
+          pulled = 0;
+          cause = Full;
+        } ∷ [];
+      } ∷ [];
+    })
 unfolding digits
 tx_drops = refl
 
@@ -46,12 +77,34 @@ unfolding digits
 strange = refl
 
 -- an idle answer without a text
-answers : Same (record history { commands = record { command = command.Expire; answer = answer.Idle idle.NoFlow } ∷ [] }) (record history { commands = record { command = command.Expire; answer = answer.Idle idle.NoHash } ∷ [] })
+answers : Same (record history {
+  commands = record {
+    command = command.Expire;
+    answer = answer.Idle idle.NoFlow;
+  } ∷ [];
+}) (record history {
+  commands = record {
+    command =
+        command.Expire;
+    answer = answer.Idle idle.NoHash;
+  } ∷ [];
+})
 unfolding digits
 answers = refl
 
 -- a set beyond its bits
-numbers : Same (record history { commands = record { command = command.Mask 0 (record { 0 = 0 }); answer = answer.Done } ∷ [] }) (record history { commands = record { command = command.Mask 0 (record { 0 = 4294967296 }); answer = answer.Done } ∷ [] })
+numbers : Same (record history {
+  commands = record {
+    command = command.Mask 0 (record { 0 = 0 });
+    answer = answer.Done;
+  } ∷ [];
+}) (record history {
+  commands = record {
+    command =
+        command.Mask 0 (record { 0 = 4294967296 });
+    answer = answer.Done;
+  } ∷ [];
+})
 unfolding digits those_below
 numbers = refl
 
@@ -80,7 +133,13 @@ start = refl
 
 -- numbers of applications: inboxes are not printed
 abbrev wider : History
-wider = record idle_history { inboxes = [] ∷ [] ∷ []; sent = [] ∷ [] ∷ []; tx_choices = [] ∷ [] ∷ []; writes = [] ∷ [] ∷ [] }
+wider = record idle_history {
+  inboxes = [] ∷ [] ∷ [];
+  sent = [] ∷ [] ∷ [];
+  tx_choices = [] ∷ []
+      ∷ [];
+  writes = [] ∷ [] ∷ [];
+}
 
 apps : Same idle_history wider
 unfolding digits

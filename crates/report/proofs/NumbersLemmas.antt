@@ -1,14 +1,17 @@
 -- Hexadecimal digits, one after another.
-use Rattle.std.proofs.Common.{◌≡◌, ◌<◌, ℕ, zero, suc, ◌-◌, ◌*◌, ◌/◌, ◌%◌, ◌^◌, List, [], ◌∷◌, ◌++◌, length, arith, refl, append_assoc, append-nil}
+use Rattle.std.proofs.Common.{◌≡◌, ◌<◌, ℕ, zero, suc, ◌-◌, ◌*◌, ◌/◌, ◌%◌, ◌^◌, List, [], ◌∷◌, ◌++◌}
+use Rattle.std.proofs.Common.{length, arith, refl, append_assoc, append-nil}
 use Rattle.report.specs.Numbers.{hex_digit, hex_digits}
 
-pub hex_digits-first : (k n : ℕ) → 0 < k → hex_digits k n ≡ hex_digit (n / 2 ^ (4 * (k - 1)) % 16) ∷ hex_digits (k - 1) n
+pub hex_digits-first : (k n : ℕ) → 0 < k → hex_digits k n ≡ hex_digit (n / 2 ^ (4 * (k - 1)) % 16)
+    ∷ hex_digits (k - 1) n
 unfolding hex_digits
 hex_digits-first zero n h = absurd (omega (arith, h))
 hex_digits-first (suc k) n h = let e : suc k - 1 ≡ k = omega arith in rw e refl
 
 -- one digit moves from those left to those written
-pub hex_digits-moved : (text next : List ℕ) (k n : ℕ) → 0 < k → next ≡ text ++ hex_digit (n / 2 ^ (4 * (k - 1)) % 16) ∷ []
+pub hex_digits-moved : (text next : List ℕ) (k n : ℕ) → 0 < k → next ≡ text ++ hex_digit
+    (n / 2 ^ (4 * (k - 1)) % 16) ∷ []
     → next ++ hex_digits (k - 1) n ≡ text ++ hex_digits k n
 hex_digits-moved text next k n h e = rw (e, hex_digits-first k n h) (append_assoc text _ _)
 

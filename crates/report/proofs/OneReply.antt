@@ -1,5 +1,6 @@
--- A report that is known from outside: one packet that was steered without a flow table, delivered and replied to. Its
--- history meets all that the laws over reports ask, so they speak of some histories.
+-- A report that is known from outside: one packet that was steered without a flow table, delivered
+-- and replied to. Its history meets all that the laws over reports ask, so they speak of some
+-- histories.
 use Rattle.std.proofs.Common.{◌≡◌, ◌<◌, ◌^◌, List, [], ◌∷◌, Some, None, length, refl, arith}
 use Rattle.std.specs.Prelude.{ℕ, codes}
 use Rattle.std.specs.Fmt.{digits}
@@ -12,7 +13,8 @@ use Rattle.steer_base.specs.declared.flow.Proto.TheVariants.{Tcp}
 use Rattle.steer_base.specs.declared.packet.Packet.{Packet}
 use Rattle.history.specs.Examples.{one_packet}
 use Rattle.history.specs.Lists.{no_lane, packet_at}
-use Rattle.history.specs.Ranges.{HistoryFits, ArrivalFits, ChosenFits, LaneFits, SentFits, WriteFits, CommandedFits, DropFits}
+use Rattle.history.specs.Ranges.{HistoryFits, ArrivalFits, ChosenFits, LaneFits, SentFits}
+use Rattle.history.specs.Ranges.{WriteFits, CommandedFits, DropFits}
 use Rattle.history.specs.Regular.{AreQueued, route_of}
 use Rattle.history.specs.declared.history.History.{History}
 use Rattle.history.specs.declared.lane_list.LaneList.{LaneList}
@@ -22,7 +24,12 @@ use Rattle.report.specs.Report.{report}
 
 -- a TCP segment from 66.9.149.187:2794 to 161.142.100.80:1766
 abbrev packet : Packet
-packet = record { flow = Four (V4 1107924411 2710463568) Tcp 2794 1766; hash = Some 1372373368; len = 54; flow_number = 0 }
+packet = record {
+  flow = Four (V4 1107924411 2710463568) Tcp 2794 1766;
+  hash = Some 1372373368;
+  len = 54;
+  flow_number = 0;
+}
 
 abbrev pub packets : List Packet
 packets = packet ∷ []
@@ -32,14 +39,18 @@ history = one_packet 0
 
 -- its report, written by hand
 abbrev text : List ℕ
-text = codes "steer 1\np 0 q 0 via reta class - want - head - tail - cpu 1 why plain at 1 app 0 in 1 place inbox\nr 0 app 0 rxq 0 cpu 2 pick 0 head - tail 0 tx 0 why unset at 1 port 1\nqueue 0 arrived 1 taken 1\ncpu 0 accepted 0 pulled 0 delivered 0 retired 0 dropped 0\ncpu 1 accepted 1 pulled 1 delivered 1 retired 1 dropped 0\ncpu 2 accepted 0 pulled 0 delivered 0 retired 0 dropped 0\ntx 0 accepted 1 pulled 1 delivered 1 retired 1\nend 1 of 1\n"
+text = codes
+    "steer 1\np 0 q 0 via reta class - want - head - tail - cpu 1 why plain at 1 app 0 in 1 place inbox\nr 0 app 0 rxq 0 cpu 2 pick 0 head - tail 0 tx 0 why unset at 1 port 1\nqueue 0 arrived 1 taken 1\ncpu 0 accepted 0 pulled 0 delivered 0 retired 0 dropped 0\ncpu 1 accepted 1 pulled 1 delivered 1 retired 1 dropped 0\ncpu 2 accepted 0 pulled 0 delivered 0 retired 0 dropped 0\ntx 0 accepted 1 pulled 1 delivered 1 retired 1\nend 1 of 1\n"
 
 known : report packets 1 history [] ≡ text
 unfolding digits
 known = refl
 
--- the same where counters start at their last number: the positions wrap, and counts and places do not
-wrapped : report packets 1 (one_packet 4294967295) [] ≡ codes "steer 1\np 0 q 0 via reta class - want - head - tail - cpu 1 why plain at 0 app 0 in 1 place inbox\nr 0 app 0 rxq 0 cpu 2 pick 0 head - tail 4294967295 tx 0 why unset at 0 port 1\nqueue 0 arrived 1 taken 1\ncpu 0 accepted 0 pulled 0 delivered 0 retired 0 dropped 0\ncpu 1 accepted 1 pulled 1 delivered 1 retired 1 dropped 0\ncpu 2 accepted 0 pulled 0 delivered 0 retired 0 dropped 0\ntx 0 accepted 1 pulled 1 delivered 1 retired 1\nend 1 of 1\n"
+-- the same where counters start at their last number: the positions wrap, and counts and places do
+-- not
+wrapped : report packets 1
+    (one_packet 4294967295) [] ≡ codes
+    "steer 1\np 0 q 0 via reta class - want - head - tail - cpu 1 why plain at 0 app 0 in 1 place inbox\nr 0 app 0 rxq 0 cpu 2 pick 0 head - tail 4294967295 tx 0 why unset at 0 port 1\nqueue 0 arrived 1 taken 1\ncpu 0 accepted 0 pulled 0 delivered 0 retired 0 dropped 0\ncpu 1 accepted 1 pulled 1 delivered 1 retired 1 dropped 0\ncpu 2 accepted 0 pulled 0 delivered 0 retired 0 dropped 0\ntx 0 accepted 1 pulled 1 delivered 1 retired 1\nend 1 of 1\n"
 unfolding digits
 wrapped = refl
 
@@ -53,22 +64,65 @@ abbrev pub lane : LaneList
 lane = record { accepted = 0 ∷ []; drops = []; pulled = 1; delivered = 1; retired = 1 }
 
 no_lane-fits : LaneFits no_lane
-no_lane-fits = record { accepted = All-nil (λ x. x < 2 ^ 32); drops = All-nil DropFits; pulled = omega arith; delivered = omega arith; retired = omega arith }
+no_lane-fits = record {
+  accepted = All-nil (λ x. x < 2 ^ 32);
+  drops = All-nil DropFits;
+  pulled = omega arith;
+  delivered = omega arith;
+  retired = omega arith;
+}
 
 lane-fits : LaneFits lane
-lane-fits = record { accepted = one (λ x. x < 2 ^ 32) 0 (omega arith); drops = All-nil DropFits; pulled = omega arith; delivered = omega arith; retired = omega arith }
+lane-fits = record {
+  accepted = one (λ x. x < 2 ^ 32) 0 (omega arith);
+  drops = All-nil DropFits;
+  pulled = omega arith;
+  delivered = omega arith;
+  retired = omega arith;
+}
 
 numbers : HistoryFits history
 numbers = record {
   total = omega arith;
   cut = tt;
-  arrivals = one ArrivalFits _ (record { id = omega arith; queue = omega arith; filter = tt; entry = omega arith });
+  arrivals = one ArrivalFits _ (record {
+    id = omega arith;
+    queue = omega arith;
+    filter = tt;
+    entry = omega arith;
+  });
   taken = one (λ n. n < 2 ^ 32) 1 (omega arith);
-  choices = one (All ChosenFits) _ (one ChosenFits _ (record { id = omega arith; choice = record { class = tt; want = tt; head = tt; tail = tt; lane = omega arith } }));
-  lanes = All-cons LaneFits no_lane (lane ∷ no_lane ∷ []) no_lane-fits (All-cons LaneFits lane (no_lane ∷ []) lane-fits (one LaneFits no_lane no_lane-fits));
+  choices = one (All ChosenFits) _
+      (one ChosenFits _ (record {
+        id = omega arith;
+        choice = record {
+          class = tt;
+          want = tt;
+          head = tt;
+          tail = tt;
+          lane = omega arith;
+        };
+      }));
+  lanes = All-cons LaneFits no_lane (lane ∷ no_lane ∷ []) no_lane-fits
+      (All-cons LaneFits lane (no_lane ∷ []) lane-fits (one LaneFits no_lane no_lane-fits));
   inboxes = one (All (λ x. x < 2 ^ 32)) _ (one (λ x. x < 2 ^ 32) 0 (omega arith));
-  sent = one (All SentFits) _ (one SentFits _ (record { id = omega arith; rxq = omega arith; cpu = omega arith }));
-  tx_choices = one (All ChosenFits) _ (one ChosenFits _ (record { id = omega arith; choice = record { class = omega arith; want = omega arith; head = tt; tail = omega arith; lane = omega arith } }));
+  sent = one (All SentFits) _ (one SentFits _ (record {
+    id = omega arith;
+    rxq = omega arith;
+    cpu = omega arith;
+  }));
+  tx_choices =
+      one (All ChosenFits) _
+      (one ChosenFits _ (record {
+        id = omega arith;
+        choice = record {
+          class = omega arith;
+          want = omega arith;
+          head = tt;
+          tail = omega arith;
+          lane = omega arith;
+        };
+      }));
   tx_lanes = one LaneFits lane lane-fits;
   port = one (λ x. x < 2 ^ 32) 0 (omega arith);
   writes = one (All WriteFits) [] (All-nil WriteFits);

@@ -1,5 +1,6 @@
 -- A text behind the first bytes of a room of fixed size.
-use Rattle.std.proofs.Common.{ℕ, ◌≤◌, ◌≡◌, ◌+◌, ◌-◌, List, ◌++◌, ◌∙◌, ap, arith, drop, length, length-append, sym, take, Vec}
+use Rattle.std.proofs.Common.{ℕ, ◌≤◌, ◌≡◌, ◌+◌, ◌-◌, List, ◌++◌, ◌∙◌, ap, arith, drop, length}
+use Rattle.std.proofs.Common.{length-append, sym, take, Vec}
 use Rattle.std.specs.Vec.{vec_len, with_items}
 use Rattle.std.proofs.lemmas.List.{length-drop, length-take-le, with_items_is}
 use Rattle.std.proofs.lemmas.Slice.{take-put_mid}

@@ -1,12 +1,14 @@
 -- One spelling: a field of a line determines its value.
-use Rattle.std.proofs.Common.{◌≡◌, ℕ, ◌<◌, ◌^◌, List, [], ◌∷◌, ◌++◌, Option, Some, None, refl, sym, ap, ◌∙◌, arith, decimal, get_or, drop, inl, inr}
+use Rattle.std.proofs.Common.{◌≡◌, ℕ, ◌<◌, ◌^◌, List, [], ◌∷◌, ◌++◌, Option, Some, None, refl, sym}
+use Rattle.std.proofs.Common.{ap, ◌∙◌, arith, decimal, get_or, drop, inl, inr}
 use Rattle.std.specs.Prelude.{slice_index, codes, if◌then◌else◌}
 use Rattle.std.specs.Str.{bytes_eq}
 use Rattle.std.specs.Option.{option_map, IfSome}
 use Rattle.std.proofs.lemmas.Fmt.{decimal_injective}
 use Rattle.steer_base.specs.declared.choice.Choice.{Choice}
 use Rattle.steer_base.specs.declared.choice.Why.{Why}
-use Rattle.steer_base.specs.declared.choice.Why.TheVariants.{Plain, Same, Unset, Offline, Passed, Kept}
+use Rattle.steer_base.specs.declared.choice.Why.TheVariants.{Plain, Same, Unset, Offline, Passed}
+use Rattle.steer_base.specs.declared.choice.Why.TheVariants.{Kept}
 use Rattle.steer_base.specs.declared.put.DropCause.TheVariants.{Full, Flow}
 use Rattle.steer_base.specs.declared.put.Put.{Put}
 use Rattle.steer_base.specs.declared.put.Put.TheVariants.{At, Dropped as FellAs}
@@ -16,7 +18,8 @@ use Rattle.history.specs.declared.packet_line.PacketLine.{PacketLine}
 use Rattle.history.specs.declared.packet_line.Via.{Via}
 use Rattle.history.specs.declared.packet_line.Via.TheVariants.{Filter, Reta, Unhashed}
 use Rattle.history.specs.declared.reply_line.ReplyLine.{ReplyLine}
-use Rattle.report.specs.Lines.{or_dash, via_word, why_word, put_fields, class_in, want_in, head_in, tail_in, lane_in, why_in, last_fields, packet_fields, reply_fields}
+use Rattle.report.specs.Lines.{or_dash, via_word, why_word, put_fields, class_in, want_in, head_in}
+use Rattle.report.specs.Lines.{tail_in, lane_in, why_in, last_fields, packet_fields, reply_fields}
 use Rattle.report.proofs.Digits.{no_number}
 
 -- a field of a row, and the fields from one on
@@ -59,7 +62,8 @@ wider (Some n) h = omega (arith, h)
 
 -- words are read back
 via_back : List ℕ → Via
-via_back w = if bytes_eq w (codes "filter") then Filter else if bytes_eq w (codes "reta") then Reta else Unhashed
+via_back w = if bytes_eq w (codes "filter") then Filter else if bytes_eq w
+    (codes "reta") then Reta else Unhashed
 
 via_read : (v : Via) → via_back (via_word v) ≡ v
 unfolding via_back
@@ -72,9 +76,12 @@ via-same v w e = sym (via_read v) ∙ ap via_back e ∙ via_read w
 
 why_back : List ℕ → Option Why
 why_back w =
-    if bytes_eq w (codes "plain") then Some Plain else if bytes_eq w (codes "same") then Some Same else
-    if bytes_eq w (codes "unset") then Some Unset else if bytes_eq w (codes "offline") then Some Offline else
-    if bytes_eq w (codes "passed") then Some Passed else if bytes_eq w (codes "kept") then Some Kept else None
+    if bytes_eq w (codes "plain") then Some Plain else if bytes_eq w
+    (codes "same") then Some Same else
+    if bytes_eq w (codes "unset") then Some Unset else if bytes_eq w
+    (codes "offline") then Some Offline else
+    if bytes_eq w (codes "passed") then Some Passed else if bytes_eq w
+    (codes "kept") then Some Kept else None
 
 why_read : (v : Option Why) → why_back (why_word v) ≡ v
 unfolding why_back
@@ -111,7 +118,8 @@ lane-fits None h = tt
 lane-fits (Some c) h = let l = h.lane in omega (arith, l)
 
 -- a choice by its parts
-choice-same : (o p : Option Choice) → class_in o ≡ class_in p → want_in o ≡ want_in p → head_in o ≡ head_in p → tail_in o ≡ tail_in p
+choice-same : (o p : Option Choice) → class_in o ≡ class_in p → want_in o ≡ want_in p
+    → head_in o ≡ head_in p → tail_in o ≡ tail_in p
     → lane_in o ≡ lane_in p → why_in o ≡ why_in p → o ≡ p
 choice-same None None a b c d e f = refl
 choice-same None (Some q) a b c d e f = absurd (cc)
@@ -121,7 +129,8 @@ choice-same (Some o) (Some q) a b c d e f =
     let w : o.why ≡ q.why = some_same o.why q.why f in
     λ i. Some (record { class = a i; want = b i; head = c i; tail = d i; lane = l i; why = w i })
 
-unclassed-same : (o p : Option Choice) → want_in o ≡ want_in p → head_in o ≡ head_in p → tail_in o ≡ tail_in p → lane_in o ≡ lane_in p
+unclassed-same : (o p : Option Choice) → want_in o ≡ want_in p → head_in o ≡ head_in p
+    → tail_in o ≡ tail_in p → lane_in o ≡ lane_in p
     → why_in o ≡ why_in p → option_map without_class o ≡ option_map without_class p
 unclassed-same None None b c d e f = refl
 unclassed-same None (Some q) b c d e f = absurd (cc)
@@ -147,10 +156,12 @@ put-same None None r s a b e = (refl, ap (after 2) e)
 put-same None (Some (At n)) r s a b e = absurd (no_dash n b (sym (ap (field 0) e)))
 put-same None (Some (FellAs k x u c)) r s a b e = absurd (no_drop (ap (field 0) e))
 put-same (Some (At m)) None r s a b e = absurd (no_dash m a (ap (field 0) e))
-put-same (Some (At m)) (Some (At n)) r s a b e = let f : m ≡ n = number-same m n a b (ap (field 0) e) in ((λ i. Some (At (f i))), ap (after 2) e)
+put-same (Some (At m)) (Some (At n)) r s a b e =
+    let f : m ≡ n = number-same m n a b (ap (field 0) e) in ((λ i. Some (At (f i))), ap (after 2) e)
 put-same (Some (At m)) (Some (FellAs k x u c)) r s a b e = absurd (drop_number m a (ap (field 0) e))
 put-same (Some (FellAs k x u c)) None r s a b e = absurd (no_drop (sym (ap (field 0) e)))
-put-same (Some (FellAs k x u c)) (Some (At n)) r s a b e = absurd (drop_number n b (sym (ap (field 0) e)))
+put-same (Some (FellAs k x u c)) (Some (At n)) r s a b e =
+    absurd (drop_number n b (sym (ap (field 0) e)))
 put-same (Some (FellAs k x u Full)) (Some (FellAs l y v Full)) r s a b e =
     let f : k ≡ l = number-same k l a.0 b.0 (ap (field 1) e) in
     let g : x ≡ y = number-same x y a.1 b.1 (ap (field 2) e) in
@@ -162,39 +173,62 @@ put-same (Some (FellAs k x u (Flow m))) (Some (FellAs l y v (Flow n))) r s a b e
     let h : u ≡ v = number-same u v a.2 b.2 (ap (field 3) e) in
     let j : m ≡ n = number-same m n a.3 b.3 (ap (field 5) e) in
     ((λ i. Some (FellAs (f i) (g i) (h i) (Flow (j i)))), ap (after 7) e)
-put-same (Some (FellAs k x u Full)) (Some (FellAs l y v (Flow n))) r s a b e = absurd (no_flow (ap (field 4) e))
-put-same (Some (FellAs k x u (Flow m))) (Some (FellAs l y v Full)) r s a b e = absurd (no_flow (sym (ap (field 4) e)))
+put-same (Some (FellAs k x u Full)) (Some (FellAs l y v (Flow n))) r s a b e =
+    absurd (no_flow (ap (field 4) e))
+put-same (Some (FellAs k x u (Flow m))) (Some (FellAs l y v Full)) r s a b e =
+    absurd (no_flow (sym (ap (field 4) e)))
 
 -- what a packet's line shows, by its fields
-pub packet-same : (l m : PacketLine) → PacketFits l → PacketFits m → packet_fields l ≡ packet_fields m → SamePacket l m
+pub packet-same : (l m : PacketLine) → PacketFits l → PacketFits m
+    → packet_fields l ≡ packet_fields m → SamePacket l m
 packet-same l m a b e =
-    let put = put-same l.put m.put (after 1 (last_fields l)) (after 1 (last_fields m)) a.put b.put (ap (after 18) e) in
+    let put = put-same l.put m.put (after 1 (last_fields l)) (after 1 (last_fields m)) a.put b.put
+    (ap (after 18) e) in
     record {
       queue = byte-same l.queue m.queue a.queue b.queue (ap (field 2) e);
       via = via-same l.via m.via (ap (field 4) e);
       choice = choice-same l.choice m.choice
-          (option-same (class_in l.choice) (class_in m.choice) (class-fits l.choice a.choice) (class-fits m.choice b.choice) (ap (field 6) e))
-          (option-same (want_in l.choice) (want_in m.choice) (want-fits l.choice a.choice) (want-fits m.choice b.choice) (ap (field 8) e))
-          (option-same (head_in l.choice) (head_in m.choice) (head-fits l.choice a.choice) (head-fits m.choice b.choice) (ap (field 10) e))
-          (option-same (tail_in l.choice) (tail_in m.choice) (tail-fits l.choice a.choice) (tail-fits m.choice b.choice) (ap (field 12) e))
-          (option-same (lane_in l.choice) (lane_in m.choice) (lane-fits l.choice a.choice) (lane-fits m.choice b.choice) (ap (field 14) e))
+          (option-same (class_in l.choice) (class_in m.choice) (class-fits l.choice a.choice)
+          (class-fits m.choice b.choice) (ap (field 6) e))
+          (option-same (want_in l.choice) (want_in m.choice) (want-fits l.choice a.choice)
+          (want-fits m.choice b.choice) (ap (field 8) e))
+          (option-same (head_in l.choice) (head_in m.choice) (head-fits l.choice a.choice)
+          (head-fits m.choice b.choice) (ap (field 10) e))
+          (option-same (tail_in l.choice) (tail_in m.choice) (tail-fits l.choice a.choice)
+          (tail-fits m.choice b.choice) (ap (field 12) e))
+          (option-same (lane_in l.choice) (lane_in m.choice) (lane-fits l.choice a.choice)
+          (lane-fits m.choice b.choice) (ap (field 14) e))
           (why-same (why_in l.choice) (why_in m.choice) (ap (field 16) e));
       put = put.0;
       inbox = option-same l.inbox m.inbox a.inbox b.inbox (ap (field 2) put.1);
     }
 
 -- what a reply's line shows, by its fields
-pub reply-same : (r s : ReplyLine) → ReplyFits r → ReplyFits s → r.id ≡ s.id → r.app ≡ s.app → r.flow_number ≡ s.flow_number
+pub reply-same : (r s : ReplyLine) → ReplyFits r → ReplyFits s → r.id ≡ s.id → r.app ≡ s.app
+    → r.flow_number ≡ s.flow_number
     → reply_fields r ≡ reply_fields s → shown_of r ≡ shown_of s
 reply-same r s a b i p n e =
     let q : r.rxq ≡ s.rxq = byte-same r.rxq s.rxq a.rxq b.rxq (ap (field 4) e) in
     let c : r.cpu ≡ s.cpu = byte-same r.cpu s.cpu a.cpu b.cpu (ap (field 6) e) in
     let ch = unclassed-same r.choice s.choice
-    (option-same (want_in r.choice) (want_in s.choice) (want-fits r.choice a.choice) (want-fits s.choice b.choice) (ap (field 8) e))
-    (option-same (head_in r.choice) (head_in s.choice) (head-fits r.choice a.choice) (head-fits s.choice b.choice) (ap (field 10) e))
-    (option-same (tail_in r.choice) (tail_in s.choice) (tail-fits r.choice a.choice) (tail-fits s.choice b.choice) (ap (field 12) e))
-    (option-same (lane_in r.choice) (lane_in s.choice) (lane-fits r.choice a.choice) (lane-fits s.choice b.choice) (ap (field 14) e))
+    (option-same (want_in r.choice) (want_in s.choice) (want-fits r.choice a.choice)
+    (want-fits s.choice b.choice) (ap (field 8) e))
+    (option-same (head_in r.choice) (head_in s.choice) (head-fits r.choice a.choice)
+    (head-fits s.choice b.choice) (ap (field 10) e))
+    (option-same (tail_in r.choice) (tail_in s.choice) (tail-fits r.choice a.choice)
+    (tail-fits s.choice b.choice) (ap (field 12) e))
+    (option-same (lane_in r.choice) (lane_in s.choice) (lane-fits r.choice a.choice)
+    (lane-fits s.choice b.choice) (ap (field 14) e))
     (why-same (why_in r.choice) (why_in s.choice) (ap (field 16) e)) in
     let u : r.put ≡ s.put = option-same r.put s.put a.put b.put (ap (field 18) e) in
     let o : r.port ≡ s.port = option-same r.port s.port a.port b.port (ap (field 20) e) in
-    λ k. record { id = i k; app = p k; rxq = q k; cpu = c k; choice = ch k; put = u k; port = o k; flow_number = n k }
+    λ k. record {
+      id = i k;
+      app = p k;
+      rxq = q k;
+      cpu = c k;
+      choice = ch k;
+      put = u k;
+      port = o k;
+      flow_number = n k;
+    }

@@ -4,7 +4,8 @@ use Rattle.std.specs.Prelude.{ℕ, List, [], ◌∷◌, ◌++◌, Option, Some, 
 use Rattle.std.specs.Option.{option_map, option_and_then}
 use Rattle.steer_base.specs.declared.choice.Choice.{Choice}
 use Rattle.steer_base.specs.declared.choice.Why.{Why}
-use Rattle.steer_base.specs.declared.choice.Why.TheVariants.{Plain, Same, Unset, Offline, Passed, Kept}
+use Rattle.steer_base.specs.declared.choice.Why.TheVariants.{Plain, Same, Unset, Offline, Passed}
+use Rattle.steer_base.specs.declared.choice.Why.TheVariants.{Kept}
 use Rattle.steer_base.specs.declared.put.DropCause.{DropCause}
 use Rattle.steer_base.specs.declared.put.DropCause.TheVariants.{Full, Flow}
 use Rattle.steer_base.specs.declared.put.Put.{Put}
@@ -16,7 +17,8 @@ use Rattle.history.specs.declared.reply_line.ReplyLine.{ReplyLine}
 use Rattle.history.specs.declared.packet_line.Via.{Via}
 use Rattle.history.specs.declared.packet_line.Via.TheVariants.{Filter, Reta, Unhashed}
 use Rattle.history.specs.declared.place.Place.{Place}
-use Rattle.history.specs.declared.place.Place.TheVariants.{Ring, Poller, Backlog, Hand, Inbox, Dropped}
+use Rattle.history.specs.declared.place.Place.TheVariants.{Ring, Poller, Backlog, Hand, Inbox}
+use Rattle.history.specs.declared.place.Place.TheVariants.{Dropped}
 use Rattle.report.specs.Texts.{Row}
 use Rattle.report.specs.Texts.Row.{Line}
 

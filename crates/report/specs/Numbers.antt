@@ -1,5 +1,6 @@
 -- Numbers as text.
-use Rattle.std.specs.Prelude.{ℕ, zero, suc, ◌+◌, ◌*◌, ◌/◌, ◌%◌, ◌^◌, List, [], ◌∷◌, nat_lt, if◌then◌else◌}
+use Rattle.std.specs.Prelude.{ℕ, zero, suc, ◌+◌, ◌*◌, ◌/◌, ◌%◌, ◌^◌, List, [], ◌∷◌, nat_lt}
+use Rattle.std.specs.Prelude.{if◌then◌else◌}
 
 -- a lower case hexadecimal digit
 abbrev pub hex_digit : ℕ → ℕ

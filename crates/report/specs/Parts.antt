@@ -3,7 +3,8 @@ use Rattle.std.specs.Prelude.{ℕ, List, ◌++◌, length}
 use Rattle.history.specs.Lines.{LineLists}
 use Rattle.history.specs.declared.history.History.{History}
 use Rattle.report.specs.Lines.{end_row}
-use Rattle.report.specs.Report.{command_rows, cpu_rows, first_row, packet_rows, queue_rows, reply_rows, tap_rows, tx_rows, write_rows}
+use Rattle.report.specs.Report.{command_rows, cpu_rows, first_row, packet_rows, queue_rows}
+use Rattle.report.specs.Report.{reply_rows, tap_rows, tx_rows, write_rows}
 use Rattle.report.specs.Texts.{row_text, text_of}
 
 -- the first line, the packets and the replies

@@ -1,10 +1,12 @@
 -- Rows in pieces: fields that stand behind the first one of a row.
-use Rattle.std.specs.Prelude.{ℕ, Bool, true, false, List, [], ◌∷◌, ◌++◌, Option, Some, None, codes, decimal}
+use Rattle.std.specs.Prelude.{ℕ, Bool, true, false, List, [], ◌∷◌, ◌++◌, Option, Some, None, codes}
+use Rattle.std.specs.Prelude.{decimal}
 use Rattle.steer_base.specs.declared.choice.Choice.{Choice}
 use Rattle.history.specs.declared.packet_line.PacketLine.{PacketLine}
 use Rattle.history.specs.declared.reply_line.ReplyLine.{ReplyLine}
 use Rattle.report.specs.Commands.{with_commas}
-use Rattle.report.specs.Lines.{or_dash, via_word, class_in, want_in, head_in, tail_in, lane_in, why_in, why_word, reply_row}
+use Rattle.report.specs.Lines.{or_dash, via_word, class_in, want_in, head_in, tail_in, lane_in}
+use Rattle.report.specs.Lines.{why_in, why_word, reply_row}
 use Rattle.report.specs.Texts.{row_text}
 
 -- fields, each behind a space

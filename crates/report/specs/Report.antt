@@ -11,7 +11,8 @@ use Rattle.history.specs.declared.packet_line.PacketLine.{PacketLine}
 use Rattle.history.specs.declared.reply_line.ReplyLine.{ReplyLine}
 use Rattle.history.specs.declared.sock_write.SockWrite.{SockWrite}
 use Rattle.report.specs.Commands.{command_row}
-use Rattle.report.specs.Lines.{packet_row, reply_row, queue_row, cpu_row, tx_row, write_row, end_row}
+use Rattle.report.specs.Lines.{packet_row, reply_row, queue_row, cpu_row, tx_row, write_row}
+use Rattle.report.specs.Lines.{end_row}
 use Rattle.report.specs.Texts.{Row, text_of}
 use Rattle.report.specs.Texts.Row.{Line, Tap}
 

@@ -1,7 +1,9 @@
 //! The lines of commands with their answers.
-ghost use Rattle.std.specs.Prelude.{◌≡◌, ◌≤◌, ◌<◌, ◌+◌, ◌++◌, [], ◌∷◌, Bool, codes, decimal, length};
+ghost use Rattle.std.specs.Prelude.{◌≡◌, ◌≤◌, ◌<◌, ◌+◌, ◌++◌, [], ◌∷◌, Bool, codes, decimal};
+ghost use Rattle.std.specs.Prelude.{length};
 ghost use Rattle.steer_base.specs.Sets.{in_bits, those_below};
-ghost use Rattle.report.specs.Commands.{answer_fields, busy_fields, command_fields, command_row, idle_fields, set_field, user_fields};
+ghost use Rattle.report.specs.Commands.{answer_fields, busy_fields, command_fields, command_row};
+ghost use Rattle.report.specs.Commands.{idle_fields, set_field, user_fields};
 ghost use Rattle.report.specs.Pieces.{separator as separator_of, spaced};
 ghost use Rattle.report.specs.Texts.{row_text};
 

@@ -1,7 +1,9 @@
 //! The lines of packets and of replies.
 ghost use Rattle.std.specs.Prelude.{◌≡◌, ◌≤◌, ◌+◌, ◌++◌, [], ◌∷◌, Some, codes, length};
-ghost use Rattle.report.specs.Lines.{cause_fields, last_fields, packet_row, place_word, put_fields, reply_row, via_word, why_word};
-ghost use Rattle.report.specs.Pieces.{choice_fields, front_fields, pick_fields, reply_front_fields, reply_last_fields, spaced};
+ghost use Rattle.report.specs.Lines.{cause_fields, last_fields, packet_row, place_word, put_fields};
+ghost use Rattle.report.specs.Lines.{reply_row, via_word, why_word};
+ghost use Rattle.report.specs.Pieces.{choice_fields, front_fields, pick_fields, reply_front_fields};
+ghost use Rattle.report.specs.Pieces.{reply_last_fields, spaced};
 ghost use Rattle.report.specs.Texts.{row_text};
 
 use crate::fields::{begin, push_lane, push_named, push_number, push_option};

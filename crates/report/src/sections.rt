@@ -2,7 +2,8 @@
 ghost use Rattle.std.specs.Prelude.{◌≡◌, ◌≤◌, ◌++◌, length, map, OnOk, OnErr};
 ghost use Rattle.report.specs.Lines.{write_row};
 ghost use Rattle.report.specs.Pieces.{reply_text};
-ghost use Rattle.report.specs.Report.{command_rows, cpu_rows, packet_rows, queue_rows, reply_rows, tap_rows, tx_rows, write_rows};
+ghost use Rattle.report.specs.Report.{command_rows, cpu_rows, packet_rows, queue_rows, reply_rows};
+ghost use Rattle.report.specs.Report.{tap_rows, tx_rows, write_rows};
 ghost use Rattle.report.specs.Texts.{row_text, text_of};
 ghost use Rattle.report.specs.Texts.Row.{Tap};
 ghost use Rattle.report.specs.Written.{Stopped, Wrote};

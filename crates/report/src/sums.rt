@@ -1,6 +1,7 @@
 //! The first and the last line, and the lines of queues, lanes, socket writes and taps.
 ghost use Rattle.std.specs.Prelude.{◌≡◌, ◌≤◌, ◌+◌, ◌++◌, codes, length};
-ghost use Rattle.report.specs.Lines.{cpu_row, cut_fields, end_row, lane_fields, queue_row, tx_row, write_row};
+ghost use Rattle.report.specs.Lines.{cpu_row, cut_fields, end_row, lane_fields, queue_row, tx_row};
+ghost use Rattle.report.specs.Lines.{write_row};
 ghost use Rattle.report.specs.Pieces.{spaced};
 ghost use Rattle.report.specs.Report.{first_row};
 ghost use Rattle.report.specs.Texts.{fields, further, row_text};

@@ -1,12 +1,17 @@
 -- The members of sets of processors that are made of others.
-use Rattle.std.proofs.Common.{ℕ, zero, suc, ◌≡◌, ◌≤◌, ◌<◌, ◌+◌, ◌-◌, ◌*◌, ◌%◌, ◌^◌, Bool, true, false, not, w32, ◌||◌, inl, inr, refl, sym, ap, ◌∙◌, arith, bit_and, bit_or, length}
+use Rattle.std.proofs.Common.{ℕ, zero, suc, ◌≡◌, ◌≤◌, ◌<◌, ◌+◌, ◌-◌, ◌*◌, ◌%◌, ◌^◌, Bool, true}
+use Rattle.std.proofs.Common.{false, not, w32, ◌||◌, inl, inr, refl, sym, ap, ◌∙◌, arith, bit_and}
+use Rattle.std.proofs.Common.{bit_or, length}
 use Rattle.std.specs.Prelude.{◌==◌, ◌&&◌, nat_lt, count_ones}
 use Rattle.std.specs.Int.{bit_at, bit_not}
 use Rattle.std.proofs.Math.Nat.{mod-eq_of_lt, mod-lt}
 use Rattle.std.proofs.lemmas.Bool.{cases_eq, cases_lt, eq-eqb, ne_eqb, lt-ltb, or_right}
 use Rattle.std.proofs.lemmas.Nat.{pow_pos, mod-pow-add, one_shl, ones-le, ones_cat, zero_from_ones}
-use Rattle.std.proofs.lemmas.Nat.Bits.{bit_at-lt, bit_at_clear_other, bit_at_clear_same, bit_at_ones, bit_at_ones_above, bit_at_set_other, bit_at_set_same}
-use Rattle.steer_base.proofs.SetsLemmas.{length-those_below_pass, those_below-same, those_below-zero, those_below_fail}
+use Rattle.std.proofs.lemmas.Nat.Bits.{bit_at-lt, bit_at_clear_other, bit_at_clear_same}
+use Rattle.std.proofs.lemmas.Nat.Bits.{bit_at_ones, bit_at_ones_above, bit_at_set_other}
+use Rattle.std.proofs.lemmas.Nat.Bits.{bit_at_set_same}
+use Rattle.steer_base.proofs.SetsLemmas.{length-those_below_pass, those_below-same}
+use Rattle.steer_base.proofs.SetsLemmas.{those_below-zero, those_below_fail}
 use Rattle.steer_base.specs.Sets.{first_cpus, has, members, those_below, with_cpu, without_cpu}
 use Rattle.steer_base.specs.declared.cpu_mask.CpuMask.{CpuMask}
 
@@ -27,7 +32,8 @@ and_false false = refl
 bit_at-with : (bits cpu : ℕ) → cpu < 32 → bit_or bits (1 * 2 ^ cpu % 2 ^ 32) ≡ bit_or bits (2 ^ cpu)
 bit_at-with bits cpu small = ap (bit_or bits) (one_shl cpu 32 small)
 
-bit_at-without : (bits cpu : ℕ) → cpu < 32 → bit_and bits (bit_not w32 (1 * 2 ^ cpu % 2 ^ 32)) ≡ bit_and bits (2 ^ 32 - 1 - 2 ^ cpu)
+bit_at-without : (bits cpu : ℕ) → cpu < 32 → bit_and bits
+    (bit_not w32 (1 * 2 ^ cpu % 2 ^ 32)) ≡ bit_and bits (2 ^ 32 - 1 - 2 ^ cpu)
 bit_at-without bits cpu small = ap (λ m. bit_and bits (2 ^ 32 - 1 - m)) (one_shl cpu 32 small)
 
 pub has-with_cpu : (mask : CpuMask) (cpu other : ℕ) → cpu < 32
@@ -38,13 +44,16 @@ has-with_cpu mask cpu other small =
         | inl e ↦ (
             let bit : bit_at (bit_or mask.0 (2 ^ cpu)) other ≡ 1 =
             ap (λ n. bit_at n other) (sym (bit_at-with mask.0 cpu small))
-            ∙ ap (bit_at (bit_or mask.0 (1 * 2 ^ cpu % 2 ^ 32))) (sym e) ∙ bit_at_set_same w32 mask.0 cpu small in
-            rw (lt-ltb other 32 lt, bit, eq-eqb cpu other e) (sym (or_right (bit_at mask.0 other == 1) true refl)))
+            ∙ ap (bit_at (bit_or mask.0 (1 * 2 ^ cpu % 2 ^ 32))) (sym e)
+            ∙ bit_at_set_same w32 mask.0 cpu small in
+            rw (lt-ltb other 32 lt, bit, eq-eqb cpu other e)
+            (sym (or_right (bit_at mask.0 other == 1) true refl)))
         | inr ne ↦ (
             let bit : bit_at (bit_or mask.0 (2 ^ cpu)) other ≡ bit_at mask.0 other =
             ap (λ n. bit_at n other) (sym (bit_at-with mask.0 cpu small))
             ∙ bit_at_set_other w32 mask.0 cpu small other (λ e. ne (sym e)) in
-            rw (lt-ltb other 32 lt, bit, ne_eqb cpu other ne) (sym (or_false (bit_at mask.0 other == 1))))
+            rw (lt-ltb other 32 lt, bit, ne_eqb cpu other ne)
+            (sym (or_false (bit_at mask.0 other == 1))))
       ]
       | inr ge ↦ (let out : nat_lt other 32 ≡ false = grind arith in rw out refl)
     ]
@@ -57,13 +66,16 @@ has-without_cpu mask cpu other small =
         | inl e ↦ (
             let bit : bit_at (bit_and mask.0 (2 ^ 32 - 1 - 2 ^ cpu)) other ≡ 0 =
             ap (λ n. bit_at n other) (sym (bit_at-without mask.0 cpu small))
-            ∙ ap (bit_at (bit_and mask.0 (bit_not w32 (1 * 2 ^ cpu % 2 ^ 32)))) (sym e) ∙ bit_at_clear_same w32 mask.0 cpu small in
-            rw (lt-ltb other 32 lt, bit, eq-eqb cpu other e) (sym (and_false (bit_at mask.0 other == 1))))
+            ∙ ap (bit_at (bit_and mask.0 (bit_not w32 (1 * 2 ^ cpu % 2 ^ 32)))) (sym e)
+            ∙ bit_at_clear_same w32 mask.0 cpu small in
+            rw (lt-ltb other 32 lt, bit, eq-eqb cpu other e)
+            (sym (and_false (bit_at mask.0 other == 1))))
         | inr ne ↦ (
             let bit : bit_at (bit_and mask.0 (2 ^ 32 - 1 - 2 ^ cpu)) other ≡ bit_at mask.0 other =
             ap (λ n. bit_at n other) (sym (bit_at-without mask.0 cpu small))
             ∙ bit_at_clear_other w32 mask.0 cpu small other lt (λ e. ne (sym e)) in
-            rw (lt-ltb other 32 lt, bit, ne_eqb cpu other ne) (sym (and_true (bit_at mask.0 other == 1))))
+            rw (lt-ltb other 32 lt, bit, ne_eqb cpu other ne)
+            (sym (and_true (bit_at mask.0 other == 1))))
       ]
       | inr ge ↦ (let out : nat_lt other 32 ≡ false = grind arith in rw out refl)
     ]
@@ -73,15 +85,18 @@ has-without_cpu mask cpu other small =
 pub has-first_cpus : (count cpu : ℕ) → count ≤ 32 → has (first_cpus count) cpu ≡ nat_lt cpu count
 has-first_cpus count cpu few =
     elim (cases_lt cpu count) [
-      | inl lt ↦ rw (lt-ltb cpu count lt, lt-ltb cpu 32 (omega arith), bit_at_ones count cpu lt) refl
+      | inl lt ↦ rw (lt-ltb cpu count lt, lt-ltb cpu 32 (omega arith), bit_at_ones count cpu lt)
+          refl
       | inr ge ↦ (
           let out : nat_lt cpu count ≡ false = grind arith in
           rw (out, bit_at_ones_above count cpu ge) (and_false (nat_lt cpu 32)))
     ]
 
-pub has-first_shift : (count cpu : ℕ) → count ≤ 32 → has (record { 0 = 1 * 2 ^ count % 2 ^ 64 - 1 }) cpu ≡ nat_lt cpu count
+pub has-first_shift : (count cpu : ℕ) → count ≤ 32 → has (record { 0 = 1 * 2 ^ count % 2 ^ 64 - 1 })
+    cpu ≡ nat_lt cpu count
 has-first_shift count cpu few =
-    ap (λ n. has (record { 0 = n - 1 }) cpu) (one_shl count 64 (omega arith)) ∙ has-first_cpus count cpu few
+    ap (λ n. has (record { 0 = n - 1 }) cpu) (one_shl count 64 (omega arith))
+    ∙ has-first_cpus count cpu few
 
 -- ---- how many members
 
@@ -108,7 +123,8 @@ ones-low n (suc k) =
     let more : suc k ≡ k + 1 = omega arith in
     let split : n % 2 ^ suc k ≡ bit * 2 ^ k + low = ap (λ j. n % 2 ^ j) e ∙ mod-pow-add n 1 k in
     let ones : count_ones (n % 2 ^ suc k) ≡ bit + length (those_below k test) =
-    ap count_ones split ∙ ones_cat k bit low (mod-lt n (pow_pos k)) ∙ ap (λ b. b + count_ones low) (ones-bit bit (bit_at-lt n k))
+    ap count_ones split ∙ ones_cat k bit low (mod-lt n (pow_pos k)) ∙ ap (λ b. b + count_ones low)
+    (ones-bit bit (bit_at-lt n k))
     ∙ ap (λ c. bit + c) (ones-low n k) in
     elim (cases_eq bit 1) [
       | inl on ↦
@@ -120,7 +136,9 @@ ones-low n (suc k) =
           rw (more, kept) (omega (arith, rw more at ones))
     ]
 
-pub count_ones-members : (mask : CpuMask) → mask.0 < 2 ^ 32 → count_ones mask.0 ≡ length (members mask)
+pub count_ones-members : (mask : CpuMask) → mask.0 < 2 ^ 32 → count_ones mask.0 ≡ length
+    (members mask)
 count_ones-members mask fits =
     ap count_ones (sym (mod-eq_of_lt fits)) ∙ ones-low mask.0 32
-    ∙ ap length (those_below-same 32 (λ i. bit_at mask.0 i == 1) (has mask) (λ i lt. rw (lt-ltb i 32 lt) refl))
+    ∙ ap length (those_below-same 32 (λ i. bit_at mask.0 i == 1) (has mask)
+    (λ i lt. rw (lt-ltb i 32 lt) refl))

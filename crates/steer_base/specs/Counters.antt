@@ -1,6 +1,6 @@
 -- Counter numbers: 32-bit counters that wrap, compared by signed difference as the kernel's code
--- compares its queue heads and tails; and table sizes, which are rounded up to powers of two (kernel
--- scaling chapter, section RFS).
+-- compares its queue heads and tails; and table sizes, which are rounded up to powers of two
+-- (kernel scaling chapter, section RFS).
 use Rattle.std.specs.Prelude.{ℕ, ◌+◌, ◌-◌, ◌%◌, ◌^◌, Bool, ◌==◌, ◌&&◌, nat_lt, nat_le, find, map}
 use Rattle.std.specs.Prelude.{unwrap_or, if◌then◌else◌}
 use Rattle.std.specs.List.{range_with_len}

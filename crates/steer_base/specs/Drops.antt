@@ -7,6 +7,7 @@ use Rattle.std.specs.Prelude.{None, ◌==◌, nat_lt, length, drop, map, filter,
 use Rattle.std.specs.Prelude.{if◌then◌else◌}
 use Rattle.std.specs.List.{filter_map}
 use Rattle.std.specs.Option.{option_map}
+use Rattle.steer_base.specs.declared.limits.TheConstants.{FLOW_LIMIT_BUCKETS}
 use Rattle.steer_base.specs.Lanes.{LaneLists}
 use Rattle.steer_base.specs.declared.put.DropCause.{DropCause}
 use Rattle.steer_base.specs.declared.put.DropCause.TheVariants.{Full, Flow}
@@ -14,7 +15,7 @@ use Rattle.steer_base.specs.declared.put.LaneDrop.{LaneDrop}
 
 -- the bucket of a packet: none without a hash
 abbrev pub bucket_of : Option ℕ → Option ℕ
-bucket_of hash = option_map (λ h. h % 4096) hash
+bucket_of hash = option_map (λ h. h % FLOW_LIMIT_BUCKETS) hash
 
 -- the last n of a list
 abbrev pub last_of : {X : Type 0} → ℕ → List X → List X

@@ -1,7 +1,8 @@
--- Tables whose row for a hash is at `hash mod size`: the flow tables of the kernel's scaling chapter,
--- and this project's filters of a card. What stands in a row that was not written since the table
--- was cleared is its unset row.
-use Rattle.std.specs.Prelude.{ℕ, List, Option, Some, None, length, replicate, slice_index_or, slice_set}
+-- Tables whose row for a hash is at `hash mod size`: the flow tables of the kernel's scaling
+-- chapter, and this project's filters of a card. What stands in a row that was not written since
+-- the table was cleared is its unset row.
+use Rattle.std.specs.Prelude.{ℕ, List, Option, Some, None, length, replicate, slice_index_or}
+use Rattle.std.specs.Prelude.{slice_set}
 use Rattle.steer_base.specs.Choices.{class_of}
 
 module _ {Row : Type 0} where
@@ -9,7 +10,8 @@ module _ {Row : Type 0} where
   abbrev pub cleared_rows : ℕ → Row → List Row
   cleared_rows size unset = replicate size unset
 
-  -- the place of a hash: its class among the rows; none without a hash, and none in a table without rows
+  -- the place of a hash: its class among the rows; none without a hash, and none in a table without
+  -- rows
   abbrev pub place_in_rows : List Row → Option ℕ → Option ℕ
   place_in_rows rows hash = class_of (length rows) hash
 

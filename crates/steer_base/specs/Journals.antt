@@ -1,4 +1,5 @@
--- Lists that only grow, up to a room that was reserved for them: one alone, and several side by side.
+-- Lists that only grow, up to a room that was reserved for them: one alone, and several side by
+-- side.
 use Rattle.std.specs.Prelude.{ℕ, List, [], ◌∷◌, ◌++◌, slice_index_or, slice_set, replicate, refl}
 use Rattle.std.specs.Coded.{Coded, code_by, coded×, coded_list, coded_ℕ}
 
@@ -18,7 +19,8 @@ module _ {X : Type 0} where
 
   abbrev pub journal_code : Coded X → Coded (Journal X)
   journal_code c =
-      code_by (List X × ℕ) (coded× (coded_list c) coded_ℕ) (λ j. (j.items, j.room)) (λ p. journal p.0 p.1) (λ _. refl)
+      code_by (List X × ℕ) (coded× (coded_list c) coded_ℕ) (λ j. (j.items, j.room))
+      (λ p. journal p.0 p.1) (λ _. refl)
 
   -- the journal with one item more at its end
   abbrev pub grown : Journal X → X → Journal X
@@ -29,7 +31,8 @@ module _ {X : Type 0} where
 
   abbrev pub journals_code : Coded X → Coded (Journals X)
   journals_code c =
-      code_by (List (List X) × ℕ) (coded× (coded_list (coded_list c)) coded_ℕ) (λ j. (j.lists, j.room))
+      code_by (List (List X) × ℕ) (coded× (coded_list (coded_list c)) coded_ℕ)
+      (λ j. (j.lists, j.room))
       (λ p. journals p.0 p.1) (λ _. refl)
 
   -- the list of this number

@@ -14,3 +14,4 @@ pub mod Moves
 pub mod Orders
 pub mod Sends
 pub mod Sets
+pub mod Sizes

@@ -3,6 +3,7 @@
 use Rattle.std.specs.Prelude.{ℕ, ◌≡◌, ◌≢◌, ◌⊎◌, ◌↔◌, Bool, true, false, Option, Some, None}
 use Rattle.steer_base.specs.Choices.{by_entry, has_moved}
 use Rattle.steer_base.specs.Counters.{has_reached}
+use Rattle.steer_base.specs.declared.choice.Choice.{Choice}
 use Rattle.steer_base.specs.declared.choice.Why.{Why}
 use Rattle.steer_base.specs.declared.choice.Why.TheVariants.{Unset, Offline, Passed}
 
@@ -17,16 +18,20 @@ MayLeave desired tail head online None = Unit {0}
 MayLeave desired tail head online (Some lane) =
     (lane ≢ desired) × ((online lane ≡ false) ⊎ (has_reached (head lane) tail 0 ≡ true))
 
--- What the rule chooses for a class: a move is one of the three cases, and is made just where the
--- class may leave its lane. A move is to the desired lane, and without one the class keeps its
--- lane.
-pub record MovesByThree (class : ℕ) (want : Option ℕ) (desired tail : ℕ) (head : ℕ → ℕ)
-    (online : ℕ → Bool) (current : Option ℕ) : Type 0 where
-  pub cases : has_moved (by_entry class want desired tail head online current).why ≡ true
-      → IsMove (by_entry class want desired tail head online current).why
-  pub may : has_moved (by_entry class want desired tail head online current).why ≡ true
-      ↔ MayLeave desired tail head online current
-  pub moved : has_moved (by_entry class want desired tail head online current).why ≡ true
-      → (by_entry class want desired tail head online current).lane ≡ desired
-  pub kept : has_moved (by_entry class want desired tail head online current).why ≡ false
-      → Some (by_entry class want desired tail head online current).lane ≡ current
+-- What a choice does with a class of this current lane and recorded tail: a move is one of the
+-- three cases, and is made just where the class may leave its lane. A move is to the desired lane,
+-- and without one the class keeps its lane.
+pub record MovesByThree (c : Choice) (desired tail : ℕ) (head : ℕ → ℕ) (online : ℕ → Bool)
+    (current : Option ℕ) : Type 0 where
+  pub cases : has_moved c.why ≡ true → IsMove c.why
+  pub may : has_moved c.why ≡ true ↔ MayLeave desired tail head online current
+  pub moved : has_moved c.why ≡ true → c.lane ≡ desired
+  pub kept : has_moved c.why ≡ false → Some c.lane ≡ current
+
+-- the same of the choice that the rule makes
+abbrev pub RuleMovesByThree : Type 0
+RuleMovesByThree =
+    (class : ℕ) (want : Option ℕ) (desired tail : ℕ) (head : ℕ → ℕ) (online : ℕ → Bool)
+    (current : Option ℕ)
+    → MovesByThree (by_entry class want desired tail head online current) desired tail head online
+    current

@@ -1,5 +1,5 @@
 //! The application that a packet goes to.
-ghost use Rattle.std.specs.Prelude.{◌≡◌, ◌≤◌};
+ghost use Rattle.std.specs.Prelude.{◌<◌, ◌≡◌, ◌≤◌};
 ghost use Rattle.steer_base.specs.Apps.{app_of as app_of_hash};
 
 use crate::ids::AppId;
@@ -8,7 +8,8 @@ use crate::ids::AppId;
 /// without a hash.
 pub fn app_of(hash: Option<u32>, apps: u8) -> AppId
     requires { 1 ≤ apps }
-    ensures { result ≡ app_of_hash hash apps }
+    ensures value { result ≡ app_of_hash hash apps }
+    ensures within { result < apps }
 {
     match hash {
         Some(hash) => AppId((hash % u32::from(apps)) as u8),

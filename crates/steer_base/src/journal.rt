@@ -6,7 +6,8 @@ use crate::memory::OutOfMemory;
 use std::alloc::Global;
 use std::marker::Model;
 
-/// A list of at most `room` items, with the memory for them: while it has room it grows without taking any.
+/// A list of at most `room` items, with the memory for them: while it has room it grows without
+/// taking any.
 #[derive(Debug, Drop)]
 pub struct Journal<T> {
     items: Vec<T>,
@@ -23,7 +24,8 @@ impl<T> Model for Journal<T> {
 
     ghost view = { λ j. journal j.items.items j.room };
 
-    ghost invariant = { λ j. (j.room < 2 ^ 32) × (length j.items.items ≤ j.room) × (j.room ≤ vec_capacity j.items) };
+    ghost invariant = { λ j. (j.room < 2 ^ 32) × (length j.items.items ≤ j.room)
+        × (j.room ≤ vec_capacity j.items) };
 }
 
 impl<T> Journal<T> {

@@ -6,7 +6,8 @@ use crate::memory::OutOfMemory;
 use std::alloc::Global;
 use std::marker::Model;
 
-/// Lists of at most `room` items each, with the memory for them: while one has room it grows without taking any.
+/// Lists of at most `room` items each, with the memory for them: while one has room it grows
+/// without taking any.
 #[derive(Debug, Drop)]
 pub struct Journals<T> {
     lists: Vec<Vec<T>>,

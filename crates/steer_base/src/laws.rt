@@ -1,12 +1,14 @@
 //! Laws over the words of this crate, each the contract of a function that does nothing.
 ghost use Rattle.std.specs.Prelude.{ℕ, ◌≡◌, ◌≤◌, ◌<◌, ◌+◌, ◌-◌, ◌^◌, Bool, Option, nat_le};
 ghost use Rattle.steer_base.specs.Counters.{distance, has_reached, number};
-ghost use Rattle.steer_base.specs.Moves.{MovesByThree};
+ghost use Rattle.steer_base.specs.Moves.{RuleMovesByThree};
+ghost use Rattle.steer_base.specs.Sizes.{SizesAreNumbers};
+ghost use Rattle.steer_base.specs.declared.limits.TheConstants.{MAX_PACKETS};
 
 /// Two numbers of one counter compare as the counts do that they were shown at, whatever number the
-/// counter started at and however often it wrapped, for counts of at most 262,144 packets.
+/// counter started at and however often it wrapped, for counts of at most as many packets as a capture may have.
 pub fn numbers_compare_as_counts()
-    ensures { (start head tail more : ℕ) → start < 2 ^ 32 → head ≤ 262144 → tail ≤ 262144
+    ensures { (start head tail more : ℕ) → start < 2 ^ 32 → head ≤ MAX_PACKETS → tail ≤ MAX_PACKETS
         → has_reached (number start head) (number start tail) more ≡ nat_le (tail + more) head }
 {}
 
@@ -23,6 +25,11 @@ pub fn a_number_tells_its_count()
 /// whose head has reached the recorded tail, and in these cases alone (kernel scaling chapter,
 /// section RFS).
 pub fn a_class_moves_in_three_cases_alone()
-    ensures { (class : ℕ) (want : Option ℕ) (desired tail : ℕ) (head : ℕ → ℕ) (online : ℕ → Bool)
-        (current : Option ℕ) → MovesByThree class want desired tail head online current }
+    ensures { RuleMovesByThree }
+{}
+
+/// The size of a table, rounded up to a power of two, is a number of 32 bits, for each size that
+/// a table may have.
+pub fn rounded_sizes_are_numbers()
+    ensures { SizesAreNumbers }
 {}

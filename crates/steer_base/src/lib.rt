@@ -16,6 +16,7 @@ mod ids;
 mod journal;
 mod journals;
 mod laws;
+mod limits;
 mod list;
 mod memory;
 mod packet;
@@ -25,7 +26,7 @@ mod step;
 pub use app::app_of;
 pub use choice::{Choice, Chosen, Entry, Why};
 pub use command::{Answer, Busy, Command, Refused, User};
-pub use counter::{reached, round_up};
+pub use counter::{MOST_PAST, number_at, reached, round_up};
 pub use cpu_mask::CpuMask;
 pub use decimal::decimal_number;
 pub use even::even_entries;
@@ -38,7 +39,9 @@ pub use journal::Journal;
 pub use journals::Journals;
 pub use laws::{
     a_class_moves_in_three_cases_alone, a_number_tells_its_count, numbers_compare_as_counts,
+    rounded_sizes_are_numbers,
 };
+pub use limits::{FLOW_LIMIT_BUCKETS, MAX_FLOW_COUNT, MAX_PACKETS, MAX_SOCKET_SIZE};
 pub use list::List;
 pub use memory::OutOfMemory;
 pub use packet::Packet;

@@ -1,5 +1,6 @@
 -- There is room for every step that a run may make.
-use Rattle.std.proofs.Common.{ℕ, Option, ◌+◌, ◌<◌, ◌≤◌, ◌≡◌, List, [], length, refl, ap, ◌∙◌, sym, subst, arith, replicate}
+use Rattle.std.proofs.Common.{ℕ, Option, ◌+◌, ◌<◌, ◌≤◌, ◌≡◌, List, [], length, refl, ap, ◌∙◌, sym}
+use Rattle.std.proofs.Common.{subst, arith, replicate}
 use Rattle.steer_base.specs.declared.packet.Packet.{Packet}
 use Rattle.steer_base.specs.declared.step.Step.{Step}
 use Rattle.steer_base.specs.declared.step.Step.TheVariants as act
@@ -72,7 +73,8 @@ module _ (r : Running) (made steps : ℕ) (left : made < steps) (k : IsCounted r
         commands = omega (arith, many, commands, listed);
         writes = λ a. (
             let old = k.writes a in let new = p.written a in
-            let w : length (list_at n.machine.writes a) ≡ length (list_at (step r.machine s).0.writes a) =
+            let w : length (list_at n.machine.writes a) ≡ length
+            (list_at (step r.machine s).0.writes a) =
             ap (λ (m : Machine). length (list_at m.writes a)) is in
             let t : placed_of n.machine.tx a ≡ placed_of (step r.machine s).0.tx a =
             ap (λ (m : Machine). placed_of m.tx a) is in
@@ -89,6 +91,7 @@ counted_new plan packets cut =
       room_for_writes = refl;
       commands = omega arith;
       writes = λ a. (
-          let e : list_at (replicate (length plan.apps) []) a ≡ [] = at_new {X = List SockWrite} (length plan.apps) a [] in
+          let e : list_at (replicate (length plan.apps) []) a ≡ [] = at_new {X = List SockWrite}
+          (length plan.apps) a [] in
           let n = ap length e in omega (arith, n));
     }

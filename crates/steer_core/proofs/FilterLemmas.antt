@@ -1,5 +1,6 @@
 -- Filters by their numbers, and lists of them that are changed one by one.
-use Rattle.std.proofs.Common.{ℕ, ◌+◌, ◌<◌, ◌≤◌, ◌≡◌, List, [], ◌∷◌, ◌++◌, Option, Some, None, length, take, drop, map}
+use Rattle.std.proofs.Common.{ℕ, ◌+◌, ◌<◌, ◌≤◌, ◌≡◌, List, [], ◌∷◌, ◌++◌, Option, Some, None}
+use Rattle.std.proofs.Common.{length, take, drop, map}
 use Rattle.std.proofs.Common.{refl, ap, ◌∙◌, sym, arith, zero, suc, get_or, add-one}
 use Rattle.std.specs.Prelude.{slice_index_or, slice_set}
 use Rattle.std.specs.Prelude.{◌%◌, nat_lt, true}
@@ -18,18 +19,21 @@ found_at filters i lt =
 
 module _ {X : Type 0} (f : X → X) where
   -- a list whose first items are changed has the others as they were
-  pub changed-at : (xs : List X) (i : ℕ) (d : X) → i < length xs → get_or (map f (take i xs) ++ drop i xs) i d ≡ get_or xs i d
+  pub changed-at : (xs : List X) (i : ℕ) (d : X) → i < length xs → get_or (map f (take i xs)
+      ++ drop i xs) i d ≡ get_or xs i d
   changed-at [] i d lt = absurd (omega (arith, lt))
   changed-at (x ∷ xs) zero d lt = refl
   changed-at (x ∷ xs) (suc i) d lt = changed-at xs i d (omega (arith, lt))
 
   next : (xs : List X) (i : ℕ) (d : X) → i < length xs
-      → slice_set (map f (take i xs) ++ drop i xs) i (f (get_or xs i d)) ≡ map f (take (suc i) xs) ++ drop (suc i) xs
+      → slice_set (map f (take i xs) ++ drop i xs) i (f (get_or xs i d)) ≡ map f (take (suc i) xs)
+      ++ drop (suc i) xs
   next [] i d lt = absurd (omega (arith, lt))
   next (x ∷ xs) zero d lt = refl
   next (x ∷ xs) (suc i) d lt = ap (λ ys. f x ∷ ys) (next xs i d (omega (arith, lt)))
 
   -- and one more is changed
   pub changed-next : (xs : List X) (i : ℕ) (d : X) → i < length xs
-      → slice_set (map f (take i xs) ++ drop i xs) i (f (get_or xs i d)) ≡ map f (take (i + 1) xs) ++ drop (i + 1) xs
+      → slice_set (map f (take i xs) ++ drop i xs) i (f (get_or xs i d)) ≡ map f (take (i + 1) xs)
+      ++ drop (i + 1) xs
   changed-next xs i d lt = rw add-one (next xs i d lt)

@@ -1,5 +1,6 @@
 -- The machine of a plan in memory is that of its definition.
-use Rattle.std.proofs.Common.{ℕ, ◌+◌, ◌≤◌, ◌≡◌, Bool, true, false, List, [], ◌∷◌, Option, length, map, max, replicate, suc, zero}
+use Rattle.std.proofs.Common.{ℕ, ◌+◌, ◌≤◌, ◌≡◌, Bool, true, false, List, [], ◌∷◌, Option, length}
+use Rattle.std.proofs.Common.{map, max, replicate, suc, zero}
 use Rattle.std.proofs.Common.{refl, ap, ◌∙◌, sym, subst}
 use Rattle.std.specs.Prelude.{Result, Ok, Err, IfOk}
 use Rattle.steer_base.specs.Counters.{rounded_up}
@@ -28,14 +29,16 @@ use Rattle.steer_core.specs.Running.{IsRunning, Parts, parts_of, running}
 use Rattle.steer_core.specs.Starting.{started}
 
 -- a result that is one value is any that is equal to it
-pub ok-same : {X E : Type 0} (r : Result X E) (a b : X) → a ≡ b → IfOk r (λ x. x ≡ a) → IfOk r (λ x. x ≡ b)
+pub ok-same : {X E : Type 0} (r : Result X E) (a b : X) → a ≡ b → IfOk r (λ x. x ≡ a)
+    → IfOk r (λ x. x ≡ b)
 ok-same (Ok x) a b e is = is ∙ e
 ok-same (Err why) a b e is = tt
 
 -- ---- the hops
 
 rounded-flows : (queues : List QueuePlan)
-    → map (classes_for false) (map (λ queue. queue.flows) queues) ≡ map (λ queue. rounded_up queue.flows) queues
+    → map (classes_for false) (map (λ queue. queue.flows) queues) ≡ map
+    (λ queue. rounded_up queue.flows) queues
 rounded-flows [] = refl
 rounded-flows (q ∷ qs) = ap (λ ns. rounded_up q.flows ∷ ns) (rounded-flows qs)
 
@@ -44,17 +47,31 @@ exact-counts zero count = refl
 exact-counts (suc n) count = ap (λ ns. count ∷ ns) (exact-counts n count)
 
 pub rx-is : (plan : Plan) (packets : List Packet) (counts : List ℕ) (apps room : ℕ)
-    → counts ≡ map (λ queue. queue.flows) plan.queues → apps ≡ length plan.apps → room ≡ length packets
+    → counts ≡ map (λ queue. queue.flows) plan.queues → apps ≡ length plan.apps
+    → room ≡ length packets
     → fresh_hop
-    (record { limit = plan.backlog; room = room; start = plan.start; exact = false; limited = plan.limited })
+    (record {
+      limit = plan.backlog;
+      room = room;
+      start = plan.start;
+      exact = false;
+      limited = plan.limited;
+    })
     (map (classes_for false) counts) (apps + 1) plan.cpus apps
     ≡ fresh_rx plan packets
 rx-is plan packets counts apps room c a r = rw (c, a, r, rounded-flows plan.queues) refl
 
 pub tx-is : (plan : Plan) (packets : List Packet) (counts : List ℕ) (txs room : ℕ)
-    → counts ≡ replicate (length plan.apps) (max 1 (length packets)) → txs ≡ length plan.tx → room ≡ length packets
+    → counts ≡ replicate (length plan.apps) (max 1 (length packets)) → txs ≡ length plan.tx
+    → room ≡ length packets
     → fresh_hop
-    (record { limit = 262144; room = room; start = plan.start; exact = true; limited = record { 0 = 0 } })
+    (record {
+      limit = 262144;
+      room = room;
+      start = plan.start;
+      exact = true;
+      limited = record { 0 = 0 };
+    })
     (map (classes_for true) counts) 0 txs 1
     ≡ fresh_tx plan packets
 tx-is plan packets counts txs room c t r =
@@ -67,24 +84,34 @@ abbrev new_parts : Plan → List Packet → Option ℕ → Parts
 new_parts plan packets cut =
     parts_of (setup_of plan packets cut) (settings_of plan) (sockets.unset (settings_of plan).sock)
     (table.unset plan.filters) (replicate (length plan.queues) note.Nothing) (fresh_rx plan packets)
-    (fresh_tx plan packets) (journal [] (length packets)) (new_journals (length plan.apps) (length packets))
-    (new_journals (length plan.apps) (step_count plan + length packets)) (journal [] (step_count plan))
+    (fresh_tx plan packets) (journal [] (length packets)) (new_journals (length plan.apps)
+    (length packets))
+    (new_journals (length plan.apps) (step_count plan + length packets))
+    (journal [] (step_count plan))
 
-pub are_new : (plan : Plan) (packets : List Packet) (cut : Option ℕ) (given : Setup) (settings : Settings)
-    (socket : List (Option ℕ)) (filters : List (Option Filter)) (notes : List Note) (rx tx : HopState)
-    (arrivals : Journal Arrival) (sent : Journals Sent) (writes : Journals SockWrite) (commands : Journal Commanded)
-    → given ≡ setup_of plan packets cut → settings ≡ settings_of plan → socket ≡ sockets.unset (settings_of plan).sock
+pub are_new : (plan : Plan) (packets : List Packet) (cut : Option ℕ) (given : Setup)
+    (settings : Settings)
+    (socket : List (Option ℕ)) (filters : List (Option Filter)) (notes : List Note)
+    (rx tx : HopState)
+    (arrivals : Journal Arrival) (sent : Journals Sent) (writes : Journals SockWrite)
+    (commands : Journal Commanded)
+    → given ≡ setup_of plan packets cut → settings ≡ settings_of plan → socket ≡ sockets.unset
+    (settings_of plan).sock
     → filters ≡ table.unset plan.filters → notes ≡ replicate (length plan.queues) note.Nothing
-    → rx ≡ fresh_rx plan packets → tx ≡ fresh_tx plan packets → arrivals ≡ journal [] (length packets)
+    → rx ≡ fresh_rx plan packets → tx ≡ fresh_tx plan packets → arrivals ≡ journal []
+    (length packets)
     → sent ≡ new_journals (length plan.apps) (length packets)
     → writes ≡ new_journals (length plan.apps) (step_count plan + length packets)
     → commands ≡ journal [] (step_count plan)
-    → parts_of given settings socket filters notes rx tx arrivals sent writes commands ≡ new_parts plan packets cut
-are_new plan packets cut given settings socket filters notes rx tx arrivals sent writes commands a b c d e f g h i j k =
+    → parts_of given settings socket filters notes rx tx arrivals sent writes commands ≡ new_parts
+    plan packets cut
+are_new plan packets cut given settings socket filters notes rx tx arrivals sent writes commands a b
+    c d e f g h i j k =
     rw (a, b, c, d, e, f, g, h, i, j, k) refl
 
 -- so they are sound, and the machine is the plan's
-pub is_made : (plan : Plan) (packets : List Packet) (cut : Option ℕ) (p : Parts) → MayStart plan packets
+pub is_made : (plan : Plan) (packets : List Packet) (cut : Option ℕ) (p : Parts)
+    → MayStart plan packets
     → p ≡ new_parts plan packets cut → IsRunning p × (running p ≡ started plan packets cut)
 is_made plan packets cut p may is = (
   subst IsRunning (sym is)

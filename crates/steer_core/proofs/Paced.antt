@@ -13,7 +13,8 @@ use Rattle.steer_core.proofs.QuietLemmas.{Quiet}
 pub record Paced (writes commands : ℕ) (m n : Machine) : Type 0 where
   pub setup : n.setup ≡ m.setup
   pub written : (a : ℕ)
-      → length (list_at n.writes a) + placed_of m.tx a ≤ length (list_at m.writes a) + placed_of n.tx a + writes
+      → length (list_at n.writes a) + placed_of m.tx a ≤ length
+      (list_at m.writes a) + placed_of n.tx a + writes
   pub listed : length n.commands ≤ length m.commands + commands
 
 pub paced-refl : (m : Machine) → Paced 0 0 m m
@@ -50,7 +51,8 @@ paced-more writes commands m n p =
     }
 
 -- the room for writes stays
-pub spare-paced : (rooms : Rooms) (m n : Machine) → Paced 0 0 m n → HasSpare rooms m → HasSpare rooms n
+pub spare-paced : (rooms : Rooms) (m n : Machine) → Paced 0 0 m n → HasSpare rooms m
+    → HasSpare rooms n
 spare-paced rooms m n p spare a =
     let e : length n.setup.packets ≡ length m.setup.packets = ap (λ q. length q.packets) p.setup in
     let w = p.written a in let s = spare a in omega (arith, e, w, s)
@@ -60,7 +62,8 @@ paced-listed m n p =
     let l = p.listed in record { setup = p.setup; written = p.written; listed = omega (arith, l) }
 
 -- also where the second machine and the rooms are known by equations
-pub spare_at : (rooms now : Rooms) (m n o : Machine) → n ≡ o → now ≡ rooms → Paced 0 0 m o → HasSpare rooms m
+pub spare_at : (rooms now : Rooms) (m n o : Machine) → n ≡ o → now ≡ rooms → Paced 0 0 m o
+    → HasSpare rooms m
     → HasSpare now n
 spare_at rooms now m n o is same p spare =
     subst (λ (r : Rooms). HasSpare r n) (sym same)

@@ -1,5 +1,6 @@
 -- Every step is paced: it lets the lists of writes and of commands grow by one at most.
-use Rattle.std.proofs.Common.{ℕ, ◌+◌, ◌<◌, ◌≤◌, ◌≡◌, Bool, true, false, cond, List, [], ◌∷◌, ◌++◌, Option, Some, None, length}
+use Rattle.std.proofs.Common.{ℕ, ◌+◌, ◌<◌, ◌≤◌, ◌≡◌, Bool, true, false, cond, List, [], ◌∷◌, ◌++◌}
+use Rattle.std.proofs.Common.{Option, Some, None, length}
 use Rattle.std.proofs.Common.{refl, ap, ◌∙◌, sym, subst, arith, zero, suc}
 use Rattle.std.specs.Prelude.{if◌then◌else◌}
 use Rattle.std.proofs.lemmas.Bool.{ltb-true}
@@ -16,17 +17,21 @@ use Rattle.steer_model.specs.Steps.Commands.{answer_to, given, is_done, listed, 
 use Rattle.steer_model.specs.State.Machine.{Machine}
 use Rattle.steer_model.specs.State.Setup.{Setup, flow_hash, flow_of}
 use Rattle.steer_model.specs.Steps.SingleSteps.{simple}
-use Rattle.steer_model.specs.Steps.CompoundSteps.{Turn, drain, for_each, most_rounds, one_round, poll, rounds, serve, ship, step, tried}
+use Rattle.steer_model.specs.Steps.CompoundSteps.{Turn, drain, for_each, most_rounds, one_round}
+use Rattle.steer_model.specs.Steps.CompoundSteps.{poll, rounds, serve, ship, step, tried}
 use Rattle.steer_invariant.specs.Invariant.{Invariant}
 use Rattle.steer_invariant.specs.StepInvariant.{IsNamed}
 use Rattle.steer_invariant.proofs.EitherLemmas.{either}
 use Rattle.steer_invariant.proofs.Invariant.StepLemmas.{held-simple}
 use Rattle.steer_invariant.proofs.StepInvariant.StepLemmas.{flow_small}
 use Rattle.steer_invariant.proofs.StepInvariant.SingleStepLemmas.{goes-simple}
-use Rattle.steer_invariant.proofs.TurnLiftLemmas.{IsTried, arrive-keeps, drains-keep, polls-keep, round-keeps, serve-keeps}
-use Rattle.steer_core.proofs.Paced.{Paced, paced-listed, paced-more, paced-refl, paced-trans, quiet-paced}
+use Rattle.steer_invariant.proofs.TurnLiftLemmas.{IsTried, arrive-keeps, drains-keep, polls-keep}
+use Rattle.steer_invariant.proofs.TurnLiftLemmas.{round-keeps, serve-keeps}
+use Rattle.steer_core.proofs.Paced.{Paced, paced-listed, paced-more, paced-refl, paced-trans}
+use Rattle.steer_core.proofs.Paced.{quiet-paced}
 use Rattle.steer_core.proofs.QuietLemmas.{is_quiet, quiet-simple}
-use Rattle.steer_core.proofs.QuietTurns.{quiet-arrive, quiet-drain, quiet-each, quiet-poll, quiet-reply, quiet-ship}
+use Rattle.steer_core.proofs.QuietTurns.{quiet-arrive, quiet-drain, quiet-each, quiet-poll}
+use Rattle.steer_core.proofs.QuietTurns.{quiet-reply, quiet-ship}
 use Rattle.steer_core.proofs.RecordLemmas.{record-paced}
 use Rattle.steer_core.proofs.ServeLemmas.{serve-paced}
 
@@ -39,7 +44,8 @@ module _ (m : Machine) (h : Invariant m) where
   flows : (x : ℕ) → flow_of m.setup x < 262144
   flows x = flow_small m.setup x h.kept.given
 
-  stands-tried : (t : Turn) (s : Step) → IsTried m.setup s → Stands m.setup t → Stands m.setup (tried t s)
+  stands-tried : (t : Turn) (s : Step) → IsTried m.setup s → Stands m.setup t → Stands m.setup
+      (tried t s)
   stands-tried t s is k =
       let named : IsNamed t.0.setup s = subst (λ (q : Setup). IsNamed q s) (sym k.setup) is.named in
       let held = k.held in
@@ -61,9 +67,11 @@ module _ (m : Machine) (h : Invariant m) where
       let u : Turn = for_each n serve t in
       let before : Going u = serves n t (omega (arith, few)) g in
       let s = before.stands in
-      let named : n < u.0.setup.apps = subst (λ (q : Setup). n < q.apps) (sym s.setup) (omega (arith, few)) in
+      let named : n < u.0.setup.apps = subst (λ (q : Setup). n < q.apps) (sym s.setup)
+      (omega (arith, few)) in
       record {
-        stands = serve-keeps m.setup (Stands m.setup) (λ t k. k.setup) flows stands-tried n u (omega (arith, few)) s;
+        stands = serve-keeps m.setup (Stands m.setup) (λ t k. k.setup) flows stands-tried n u
+            (omega (arith, few)) s;
         paced = paced-trans m u.0 (serve n u).0 before.paced (serve-paced n u named s.held);
       }
 
@@ -81,19 +89,25 @@ module _ (m : Machine) (h : Invariant m) where
       let polled : Turn = for_each (length m.setup.homes) poll arrived in
       let drained : Turn = for_each m.setup.cpus drain polled in
       let served : Turn = for_each m.setup.apps serve drained in
-      let sa = arrive-keeps m.setup (Stands m.setup) (λ t k. k.setup) flows stands-tried (m, w) (start w).stands in
-      let sp = polls-keep m.setup (Stands m.setup) (λ t k. k.setup) flows stands-tried (length m.setup.homes) arrived refl sa in
-      let sd = drains-keep m.setup (Stands m.setup) (λ t k. k.setup) flows stands-tried m.setup.cpus polled refl sp in
+      let sa = arrive-keeps m.setup (Stands m.setup) (λ t k. k.setup) flows stands-tried (m, w)
+      (start w).stands in
+      let sp = polls-keep m.setup (Stands m.setup) (λ t k. k.setup) flows stands-tried
+      (length m.setup.homes) arrived refl sa in
+      let sd = drains-keep m.setup (Stands m.setup) (λ t k. k.setup) flows stands-tried m.setup.cpus
+      polled refl sp in
       let a = quiet-paced m arrived.0 (quiet-arrive (m, w)) in
       let b = paced-trans m arrived.0 polled.0 a
-      (quiet-paced arrived.0 polled.0 (quiet-each (length m.setup.homes) poll quiet-poll arrived)) in
+      (quiet-paced arrived.0 polled.0 (quiet-each (length m.setup.homes) poll quiet-poll arrived))
+      in
       let c = paced-trans m polled.0 drained.0 b
       (quiet-paced polled.0 drained.0 (quiet-each m.setup.cpus drain quiet-drain polled)) in
       let d = serves m.setup.apps drained (omega arith) (record { stands = sd; paced = c }) in
       record {
-        stands = round-keeps m.setup (Stands m.setup) (λ t k. k.setup) flows stands-tried (m, w) (start w).stands;
+        stands = round-keeps m.setup (Stands m.setup) (λ t k. k.setup) flows stands-tried (m, w)
+            (start w).stands;
         paced = paced-trans m served.0 (one_round (m, w)).0 d.paced
-            (quiet-paced served.0 (one_round (m, w)).0 (quiet-each m.setup.txs ship quiet-ship served));
+            (quiet-paced served.0 (one_round (m, w)).0
+            (quiet-each m.setup.txs ship quiet-ship served));
       }
 
 rounds-paced : (k : ℕ) (t : Turn) → Invariant t.0 → Paced 0 0 t.0 (rounds k t).0
@@ -104,7 +118,8 @@ rounds-paced (suc k) t h =
     let g = round-goes t.0 h false in
     let s = g.stands in
     either (λ (v : Turn). Paced 0 0 t.0 v.0) u.1 (rounds k (u.0, true)) (u.0, t.1)
-    (λ more. paced-trans t.0 u.0 (rounds k (u.0, true)).0 g.paced (rounds-paced k (u.0, true) s.held))
+    (λ more. paced-trans t.0 u.0 (rounds k (u.0, true)).0 g.paced
+    (rounds-paced k (u.0, true) s.held))
     (λ none. g.paced)
 
 -- ---- commands
@@ -130,27 +145,32 @@ changed-paced m (give.Sock size) a = same-lists m _ refl refl refl (one-command 
 changed-paced m (give.Offline cpu) a = same-lists m _ refl refl refl (one-command m.commands _)
 changed-paced m (give.Online cpu) a = same-lists m _ refl refl refl (one-command m.commands _)
 changed-paced m (give.XCpus tx mask) a = same-lists m _ refl refl refl (one-command m.commands _)
-changed-paced m (give.XQueues tx queues) a = same-lists m _ refl refl refl (one-command m.commands _)
+changed-paced m (give.XQueues tx queues) a = same-lists m _ refl refl refl
+    (one-command m.commands _)
 changed-paced m (give.Reta place q) a = same-lists m _ refl refl refl (one-command m.commands _)
 changed-paced m (give.Stand app cpu) a = same-lists m _ refl refl refl (one-command m.commands _)
 changed-paced m give.Expire a = same-lists m _ refl refl refl (one-command m.commands _)
 
 given-paced : (m : Machine) (c : Command) → Paced 1 1 m (given m c).0
 given-paced m c =
-    either (λ (n : Machine). Paced 1 1 m (listed n c (answer_to m c))) (is_done (answer_to m c)) (set_by m c) m
+    either (λ (n : Machine). Paced 1 1 m (listed n c (answer_to m c))) (is_done (answer_to m c))
+    (set_by m c) m
     (λ done. changed-paced m c (answer_to m c))
     (λ refused. same-lists m _ refl refl refl (one-command m.commands _))
 
 -- ---- every step
 
 quietly : (m : Machine) (s : Step) → is_quiet s ≡ true → Paced 1 1 m (simple m s).0
-quietly m s quiet = paced-more 1 1 m (simple m s).0 (quiet-paced m (simple m s).0 (quiet-simple m s quiet))
+quietly m s quiet = paced-more 1 1 m (simple m s).0 (quiet-paced m (simple m s).0
+    (quiet-simple m s quiet))
 
-pub step-paced : (m : Machine) (s : Step) → IsNamed m.setup s → Invariant m → Paced 1 1 m (step m s).0
+pub step-paced : (m : Machine) (s : Step) → IsNamed m.setup s → Invariant m → Paced 1 1 m
+    (step m s).0
 step-paced m (act.Poll q) named h = paced-more 1 1 m _ (quiet-paced m _ (quiet-poll q (m, false)))
 step-paced m (act.Drain c) named h = paced-more 1 1 m _ (quiet-paced m _ (quiet-drain c (m, false)))
 step-paced m (act.Reply a) named h = paced-more 1 1 m _ (quiet-paced m _ (quiet-reply a (m, false)))
-step-paced m (act.Serve a) named h = paced-more 1 1 m _ (serve-paced a (m, false) (ltb-true _ _ named) h)
+step-paced m (act.Serve a) named h =
+    paced-more 1 1 m _ (serve-paced a (m, false) (ltb-true _ _ named) h)
 step-paced m (act.Ship x) named h = paced-more 1 1 m _ (quiet-paced m _ (quiet-ship x (m, false)))
 step-paced m act.Sweep named h = paced-more 1 1 m _ (rounds-paced _ (m, false) h)
 step-paced m (act.Record flow) named h = paced-listed m _ (record-paced m (flow_hash m.setup flow))

@@ -1,6 +1,7 @@
 -- Steps of one event that are neither a record nor a command write nothing to the socket flow table
 -- and list no command, and no put is undone.
-use Rattle.std.proofs.Common.{ℕ, ◌+◌, ◌<◌, ◌≤◌, ◌≡◌, ◌≢◌, Bool, true, false, not, cond, List, [], ◌∷◌, ◌++◌, Option, Some, None, length}
+use Rattle.std.proofs.Common.{ℕ, ◌+◌, ◌<◌, ◌≤◌, ◌≡◌, ◌≢◌, Bool, true, false, not, cond, List, []}
+use Rattle.std.proofs.Common.{◌∷◌, ◌++◌, Option, Some, None, length}
 use Rattle.std.proofs.Common.{refl, ap, ◌∙◌, sym, arith, inl, inr, get_or}
 use Rattle.std.specs.Prelude.{nat_lt, slice_set}
 use Rattle.std.proofs.Math.ListN.{get_or-eq_default}
@@ -22,7 +23,8 @@ use Rattle.steer_model.specs.Steps.Applications.{in_reply, next_in, send_by, sen
 use Rattle.steer_model.specs.State.Machine.{Machine, last_of, note_of}
 use Rattle.steer_model.specs.State.Notes.{is_asking, is_nothing}
 use Rattle.steer_model.specs.Steps.Outcomes.{Outcome, by_rx, idles}
-use Rattle.steer_model.specs.Steps.Pollers.{arrival_by, arrives, ask_by, look_by, position_of, put_by, putting}
+use Rattle.steer_model.specs.Steps.Pollers.{arrival_by, arrives, ask_by, look_by, position_of}
+use Rattle.steer_model.specs.Steps.Pollers.{put_by, putting}
 use Rattle.steer_model.specs.Steps.Pollers.{route_by, weigh_by}
 use Rattle.steer_model.specs.State.Setup.{hash_of}
 use Rattle.steer_model.specs.Steps.SingleSteps.{simple}
@@ -32,29 +34,34 @@ use Rattle.steer_invariant.proofs.EitherLemmas.{either}
 
 -- ---- puts of a hop
 
-set-grows : (xs : List ℕ) (p a : ℕ) → get_or xs a 0 ≤ get_or (slice_set xs p (get_or xs p 0 + 1)) a 0
+set-grows : (xs : List ℕ) (p a : ℕ) → get_or xs a 0 ≤ get_or (slice_set xs p (get_or xs p 0 + 1)) a
+    0
 set-grows xs p a =
     let v : ℕ = get_or xs p 0 + 1 in
     elim (cases_eq a p) [
       | inr other ↦ (
-          let e : get_or (slice_set xs p v) a 0 ≡ get_or xs a 0 = get_or-set_other xs p a v 0 other in omega (arith, e))
+          let e : get_or (slice_set xs p v) a 0 ≡ get_or xs a 0 =
+          get_or-set_other xs p a v 0 other in omega (arith, e))
       | inl same ↦ elim (cases_lt p (length xs)) [
         | inl within ↦ (
-            let e : get_or (slice_set xs p v) p 0 ≡ v = get_or-set_same xs p v 0 within in rw same (omega (arith, e)))
+            let e : get_or (slice_set xs p v) p 0 ≡ v = get_or-set_same xs p v 0 within in
+            rw same (omega (arith, e)))
         | inr past ↦ (
             let e : get_or xs p 0 ≡ 0 = get_or-eq_default xs 0 past in rw same (omega (arith, e)))
       ]
     ]
 
 placed-same : (s t : HopState) (a : ℕ) → t.placed ≡ s.placed → placed_of s a ≤ placed_of t a
-placed-same s t a same = let e : placed_of t a ≡ placed_of s a = ap (λ (l : List ℕ). get_or l a 0) same in omega (arith, e)
+placed-same s t a same = let e : placed_of t a ≡ placed_of s a =
+    ap (λ (l : List ℕ). get_or l a 0) same in omega (arith, e)
 
 same-event : (s : HopState) (e : HopEvent) (a : ℕ) → changes e Field.placed ≡ false
     → placed_of s a ≤ placed_of (happens s e).0 a
 same-event s e a quiet = placed-same s (happens s e).0 a (each_leaves s e Field.placed quiet)
 
 -- no event undoes a put
-pub placed-grows : (s : HopState) (e : HopEvent) (a : ℕ) → placed_of s a ≤ placed_of (happens s e).0 a
+pub placed-grows : (s : HopState) (e : HopEvent) (a : ℕ) → placed_of s a ≤ placed_of
+    (happens s e).0 a
 placed-grows s (event.Put p hash) a =
     by_cases (λ t. placed_of s a ≤ placed_of t a) s (event.Put p hash) (omega arith)
     (λ inside more. set-grows s.placed p a)
@@ -96,14 +103,16 @@ quiet-trans m n o a b =
 
 -- a step that leaves the transmit hop, the writes and the commands
 module _ (m : Machine) where
-  beside : (n : Machine) → n.setup ≡ m.setup → n.writes ≡ m.writes → n.commands ≡ m.commands → n.tx ≡ m.tx
+  beside : (n : Machine) → n.setup ≡ m.setup → n.writes ≡ m.writes → n.commands ≡ m.commands
+      → n.tx ≡ m.tx
       → Quiet m n
   beside n p w c t =
       record {
         setup = p;
         writes = w;
         commands = c;
-        placed = λ a. let e : placed_of n.tx a ≡ placed_of m.tx a = ap (λ (s : HopState). placed_of s a) t in omega (arith, e);
+        placed = λ a. let e : placed_of n.tx a ≡ placed_of m.tx a =
+            ap (λ (s : HopState). placed_of s a) t in omega (arith, e);
       }
 
   idle-stays : (o : Outcome) → o.0 ≡ m → Stays m o
@@ -122,13 +131,15 @@ module _ (m : Machine) where
   quiet-weigh q note.Nothing x = quiet-refl m
   quiet-weigh q (note.Asking filter) x = quiet-refl m
   quiet-weigh q (note.Looked want) None = quiet-refl m
-  quiet-weigh q (note.Looked want) (Some x) = beside (weigh_by m q (note.Looked want) (Some x)).0 refl refl refl refl
+  quiet-weigh q (note.Looked want) (Some x) =
+      beside (weigh_by m q (note.Looked want) (Some x)).0 refl refl refl refl
 
   quiet-put : (q : ℕ) (position : Option ℕ)
       → Stays m (put_by (by_rx m (putting m q)).0 q position (happens m.rx (putting m q)).1)
   quiet-put q None = beside (by_rx m (putting m q)).0 refl refl refl refl
   quiet-put q (Some position) =
-      beside (put_by (by_rx m (putting m q)).0 q (Some position) (happens m.rx (putting m q)).1).0 refl refl refl refl
+      beside (put_by (by_rx m (putting m q)).0 q (Some position) (happens m.rx (putting m q)).1).0
+      refl refl refl refl
 
   quiet-ask : (q : ℕ) (n : Note) → Stays m (ask_by m q n)
   quiet-ask q note.Nothing = quiet-refl m
@@ -144,14 +155,17 @@ module _ (m : Machine) where
         writes = refl;
         commands = refl;
         placed = λ b. (
-            let f = placed-grows m.tx (event.Arrive a x) b in let g = placed-grows t (event.Take a) b in
+            let f = placed-grows m.tx (event.Arrive a x) b in
+            let g = placed-grows t (event.Take a) b in
             omega (arith, f, g));
       }
 
   -- the poller is outside, or a further test decides
-  outside-or : (q : ℕ) (o : Outcome) → Stays m o → Stays m (cond (not (inside_of m.rx q)) (idles m idle.NotInside) o)
+  outside-or : (q : ℕ) (o : Outcome) → Stays m o → Stays m (cond (not (inside_of m.rx q))
+      (idles m idle.NotInside) o)
   outside-or q o s =
-      either (Stays m) (not (inside_of m.rx q)) (idles m idle.NotInside) o (λ out. quiet-refl m) (λ in'. s)
+      either (Stays m) (not (inside_of m.rx q)) (idles m idle.NotInside) o (λ out. quiet-refl m)
+      (λ in'. s)
 
 -- whether a step is one event, and no record
 abbrev pub is_quiet : Step → Bool
@@ -161,8 +175,10 @@ is_quiet _ = true
 
 pub quiet-simple : (m : Machine) (s : Step) → is_quiet s ≡ true → Quiet m (simple m s).0
 quiet-simple m act.Arrive is =
-    either (Stays m) (nat_lt (length m.arrivals) (length m.setup.packets))
-    (arrives m (arrival_by (length m.arrivals) (route_by m (hash_of m.setup (length m.arrivals)))), says.Done)
+    either (Stays m) (nat_lt (length m.arrivals) (length m.setup.packets)) (
+      arrives m (arrival_by (length m.arrivals) (route_by m (hash_of m.setup (length m.arrivals)))),
+      says.Done,
+    )
     (idles m idle.NothingLeft)
     (λ some. beside m _ refl refl refl refl) (λ none. quiet-refl m)
 quiet-simple m (act.Take q) is =
@@ -171,7 +187,8 @@ quiet-simple m (act.Take q) is =
 quiet-simple m (act.Enter q) is = beside m _ refl refl refl refl
 quiet-simple m (act.Look q) is =
     outside-or m q _
-    (either (Stays m) (is_nothing (note_of m q)) (look_by m q (to_weigh m.rx q)) (idles m idle.WrongStage)
+    (either (Stays m) (is_nothing (note_of m q)) (look_by m q (to_weigh m.rx q))
+    (idles m idle.WrongStage)
     (λ free. quiet-look m q (to_weigh m.rx q)) (λ busy. quiet-refl m))
 quiet-simple m (act.Weigh q) is = outside-or m q _ (quiet-weigh m q (note_of m q) (to_weigh m.rx q))
 quiet-simple m (act.Put q) is = quiet-put m q (position_of (happens m.rx (putting m q)).1)
@@ -185,7 +202,8 @@ quiet-simple m (act.Deliver c) is = beside m _ refl refl refl refl
 quiet-simple m (act.Retire c) is = beside m _ refl refl refl refl
 quiet-simple m (act.Record flow) is = absurd (cc)
 quiet-simple m (act.Send a) is =
-    either (Stays m) (nat_lt (placed_of m.tx a) (taken_of m.tx a)) (idles m idle.HandFull) (send_by m a (next_in m a))
+    either (Stays m) (nat_lt (placed_of m.tx a) (taken_of m.tx a)) (idles m idle.HandFull)
+    (send_by m a (next_in m a))
     (λ full. quiet-refl m) (λ free. quiet-send m a (next_in m a))
 quiet-simple m (act.TEnter a) is = by-tx m (event.Enter a)
 quiet-simple m (act.TLeave a) is = by-tx m (event.Leave a)

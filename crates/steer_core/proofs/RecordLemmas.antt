@@ -1,5 +1,6 @@
 -- A record writes at most one entry, that of the application of its flow.
-use Rattle.std.proofs.Common.{ℕ, ◌+◌, ◌<◌, ◌≤◌, ◌≡◌, ◌≢◌, List, [], ◌∷◌, ◌++◌, Option, Some, None, length, refl, ap, ◌∙◌, sym, subst}
+use Rattle.std.proofs.Common.{ℕ, ◌+◌, ◌<◌, ◌≤◌, ◌≡◌, ◌≢◌, List, [], ◌∷◌, ◌++◌, Option, Some, None}
+use Rattle.std.proofs.Common.{length, refl, ap, ◌∙◌, sym, subst}
 use Rattle.std.proofs.Common.{arith, get_or, inl, inr, zero, suc}
 use Rattle.std.specs.Prelude.{◌%◌, nat_lt, slice_index, slice_index_or, slice_set}
 use Rattle.std.specs.Option.{option_map}
@@ -35,19 +36,31 @@ IsFound xs n =
     (j : ℕ) × (j < length xs) × (found (λ p. p.flow_number) n xs ≡ Some (get_or xs j no_packet))
     × ((get_or xs j no_packet).flow_number ≡ n)
 
-found-later : (x : Packet) (xs : List Packet) (n : ℕ) → n ≢ x.flow_number → IsFound xs n → IsFound (x ∷ xs) n
+found-later : (x : Packet) (xs : List Packet) (n : ℕ) → n ≢ x.flow_number → IsFound xs n
+    → IsFound (x ∷ xs) n
 found-later x xs n past r =
-    let below = r.1 in
-    (suc r.0, omega (arith, below), found-past (λ (p : Packet). p.flow_number) n x xs past ∙ r.2, r.3)
+    let below = r.1 in (
+      suc r.0,
+      omega (arith, below),
+      found-past (λ (p : Packet). p.flow_number) n x xs past
+          ∙ r.2,
+      r.3,
+    )
 
-first-found : (xs : List Packet) (i n : ℕ) → i < length xs → (get_or xs i no_packet).flow_number ≡ n → IsFound xs n
+first-found : (xs : List Packet) (i n : ℕ) → i < length xs → (get_or xs i no_packet).flow_number ≡ n
+    → IsFound xs n
 first-found [] i n lt is = absurd (omega (arith, lt))
 first-found (x ∷ xs) zero n lt is =
     (0, omega arith, found-here (λ (p : Packet). p.flow_number) n x xs (sym is), is)
 first-found (x ∷ xs) (suc i) n lt is =
     let rest = first-found xs i n (omega (arith, lt)) is in
     elim (cases_eq n x.flow_number) [
-      | inl here ↦ (0, omega arith, found-here (λ (p : Packet). p.flow_number) n x xs here, sym here)
+      | inl here ↦ (
+        0,
+        omega arith,
+        found-here (λ (p : Packet). p.flow_number) n x xs here,
+        sym here,
+      )
       | inr past ↦ found-later x xs n past rest
     ]
 
@@ -84,12 +97,14 @@ wrote-none m b =
     }
 
 one-more : (writes : List (List SockWrite)) (b : ℕ) (w : SockWrite)
-    → length (list_at (slice_set writes b (list_at writes b ++ w ∷ [])) b) ≤ length (list_at writes b) + 1
+    → length (list_at (slice_set writes b (list_at writes b ++ w ∷ [])) b) ≤ length
+    (list_at writes b) + 1
 one-more writes b w =
     let new : List SockWrite = list_at writes b ++ w ∷ [] in
     elim (cases_lt b (length writes)) [
       | inl within ↦ (
-          let e : list_at (slice_set writes b new) b ≡ new = get_or-set_same writes b new [] within in
+          let e : list_at (slice_set writes b new) b ≡ new =
+          get_or-set_same writes b new [] within in
           let l = ap length e in let p = length-push (list_at writes b) w in omega (arith, l, p))
       | inr past ↦ (
           let long = length-set writes b new in
@@ -108,7 +123,8 @@ wrote-hash : (m : Machine) (hash : ℕ) → Wrote m (record_hash m hash).0 (hash
 wrote-hash m hash =
     let b : ℕ = hash % m.setup.apps in
     let n : Machine = wrote (visited m b) b hash in
-    either (λ (o : Outcome). Wrote m o.0 b) (nat_lt 0 (length m.socket)) (n, says.Done) (idles m idle.NoTable)
+    either (λ (o : Outcome). Wrote m o.0 b) (nat_lt 0 (length m.socket)) (n, says.Done)
+    (idles m idle.NoTable)
     (λ some. record {
       setup = refl;
       commands = refl;
@@ -116,7 +132,8 @@ wrote-hash m hash =
       sent = refl;
       outs = visit-outs m.rx (length m.setup.homes + b);
       here = one-more m.writes b (write_of (visited m b) b hash);
-      there = λ a ne. get_or-set_other m.writes b a (list_at m.writes b ++ write_of (visited m b) b hash ∷ []) [] ne;
+      there = λ a ne. get_or-set_other m.writes b a (list_at m.writes b ++ write_of
+          (visited m b) b hash ∷ []) [] ne;
     })
     (λ none. wrote-none m b)
 
@@ -125,7 +142,8 @@ pub wrote-by : (m : Machine) (o : Option (Option ℕ)) (b : ℕ)
     → ((hash : ℕ) → o ≡ Some (Some hash) → hash % m.setup.apps ≡ b) → Wrote m (record_by m o).0 b
 wrote-by m None b of = wrote-none m b
 wrote-by m (Some None) b of = wrote-none m b
-wrote-by m (Some (Some hash)) b of = subst (Wrote m (record_hash m hash).0) (of hash refl) (wrote-hash m hash)
+wrote-by m (Some (Some hash)) b of = subst (Wrote m (record_hash m hash).0) (of hash refl)
+    (wrote-hash m hash)
 
 -- so there is one write more than puts at most
 pub wrote-paced : (m n : Machine) (b : ℕ) → Wrote m n b → Paced 1 0 m n
@@ -136,8 +154,10 @@ wrote-paced m n b w =
           let p : placed_of n.tx a ≡ placed_of m.tx a = ap (λ (s : HopState). placed_of s a) w.tx in
           elim (cases_eq a b) [
             | inl e ↦ (let h = w.here in
-                let f : length (list_at n.writes a) ≡ length (list_at n.writes b) = ap (λ i. length (list_at n.writes i)) e in
-                let g : length (list_at m.writes a) ≡ length (list_at m.writes b) = ap (λ i. length (list_at m.writes i)) e in
+                let f : length (list_at n.writes a) ≡ length (list_at n.writes b) =
+                ap (λ i. length (list_at n.writes i)) e in
+                let g : length (list_at m.writes a) ≡ length (list_at m.writes b) =
+                ap (λ i. length (list_at m.writes i)) e in
                 omega (arith, h, f, g, p))
             | inr ne ↦ (let f = ap length (w.there a ne) in omega (arith, f, p))
           ]);
@@ -147,4 +167,5 @@ wrote-paced m n b w =
 pub record-paced : (m : Machine) (o : Option (Option ℕ)) → Paced 1 0 m (record_by m o).0
 record-paced m None = wrote-paced m m 0 (wrote-none m 0)
 record-paced m (Some None) = wrote-paced m m 0 (wrote-none m 0)
-record-paced m (Some (Some hash)) = wrote-paced m (record_hash m hash).0 (hash % m.setup.apps) (wrote-hash m hash)
+record-paced m (Some (Some hash)) = wrote-paced m (record_hash m hash).0 (hash % m.setup.apps)
+    (wrote-hash m hash)

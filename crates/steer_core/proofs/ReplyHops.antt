@@ -1,5 +1,6 @@
 -- What the five events of a reply do to the hand of their application in the transmit hop.
-use Rattle.std.proofs.Common.{ℕ, ◌+◌, ◌<◌, ◌≤◌, ◌≡◌, Bool, true, false, not, cond, [], ◌∷◌, ◌++◌, Option, length}
+use Rattle.std.proofs.Common.{ℕ, ◌+◌, ◌<◌, ◌≤◌, ◌≡◌, Bool, true, false, not, cond, [], ◌∷◌, ◌++◌}
+use Rattle.std.proofs.Common.{Option, length}
 use Rattle.std.proofs.Common.{refl, ap, ◌∙◌, sym, arith, get_or}
 use Rattle.std.specs.Prelude.{nat_lt}
 use Rattle.std.proofs.lemmas.Bool.{ltb-false, ltb-true}
@@ -11,7 +12,8 @@ use Rattle.steer_base.specs.declared.put.Put.{Put}
 use Rattle.hop_core.specs.declared.event.HopAnswer.TheVariants as answer
 use Rattle.hop_core.specs.declared.event.HopEvent.TheVariants as event
 use Rattle.hop_core.specs.Events.{Outcome, happens, idles}
-use Rattle.hop_core.specs.Hop.{HopState, arrivals_of, arrived, choice_of, choices_of, chose, in_hand, inside_of}
+use Rattle.hop_core.specs.Hop.{HopState, arrivals_of, arrived, choice_of, choices_of, chose}
+use Rattle.hop_core.specs.Hop.{in_hand, inside_of}
 use Rattle.hop_core.specs.Hop.{lane_of, next_of, placed_of, put_one, taken_of, took, with_visit}
 use Rattle.hop_core.specs.Leaves.{Field}
 use Rattle.hop_core.proofs.Leaves.{each_leaves}
@@ -31,9 +33,11 @@ enters s a named opened =
 
 -- a packet that arrives for an empty hand is taken up
 pub takes : (s : HopState) (a : ℕ) → a < length s.taken → taken_of s a ≤ placed_of s a
-    → taken_of s a < length (arrivals_of s a) → taken_of (happens s (event.Take a)).0 a ≡ taken_of s a + 1
+    → taken_of s a < length (arrivals_of s a) → taken_of (happens s (event.Take a)).0 a ≡ taken_of s
+    a + 1
 takes s a named empty more =
-    either (λ (o : Outcome). taken_of o.0 a ≡ taken_of s a + 1) (nat_lt (placed_of s a) (taken_of s a))
+    either (λ (o : Outcome). taken_of o.0 a ≡ taken_of s a + 1)
+    (nat_lt (placed_of s a) (taken_of s a))
     (idles s idle.HandFull) _
     (λ full. absurd (let f = ltb-true _ _ full in omega (arith, f, empty)))
     (λ free. either (λ (o : Outcome). taken_of o.0 a ≡ taken_of s a + 1)
@@ -42,7 +46,8 @@ takes s a named empty more =
     (λ none. absurd (let f = ltb-false _ _ none in omega (arith, f, more))))
 
 -- with a packet in hand there is a choice to put after the weighing
-pub weighs : (s : HopState) (a : ℕ) (class want : Option ℕ) (desired : ℕ) (online : CpuMask) → a < length s.choices
+pub weighs : (s : HopState) (a : ℕ) (class want : Option ℕ) (desired : ℕ) (online : CpuMask)
+    → a < length s.choices
     → inside_of s a ≡ true → placed_of s a ≤ length (choices_of s a) → placed_of s a < taken_of s a
     → placed_of s a < length (choices_of (happens s (event.Weigh a class want desired online)).0 a)
 weighs s a class want desired online named in' upto more =
@@ -52,7 +57,8 @@ weighs s a class want desired online named in' upto more =
     (λ inside. either Q (nat_lt (length (choices_of s a)) (taken_of s a))
     (chose s a (choice_of s a class want desired online), _) (idles s idle.WrongStage)
     (λ some. (
-    let c : Chosen = record { id = next_of s a; choice = choice_of s a class want desired online } in
+    let c : Chosen =
+    record { id = next_of s a; choice = choice_of s a class want desired online } in
     let e : choices_of (chose s a c.choice) a ≡ choices_of s a ++ c ∷ [] =
     get_or-set_same s.choices a (choices_of s a ++ c ∷ []) [] named in
     let l : length (choices_of (chose s a c.choice) a) ≡ length (choices_of s a) + 1 =
@@ -62,7 +68,8 @@ weighs s a class want desired online named in' upto more =
 
 -- and then it is put
 pub puts : (s : HopState) (a : ℕ) (hash : Option ℕ) → a < length s.placed → inside_of s a ≡ true
-    → placed_of s a < length (choices_of s a) → placed_of (happens s (event.Put a hash)).0 a ≡ placed_of s a + 1
+    → placed_of s a < length (choices_of s a) → placed_of
+    (happens s (event.Put a hash)).0 a ≡ placed_of s a + 1
 puts s a hash named in' more =
     let Q : Outcome → Type 0 = λ o. placed_of o.0 a ≡ placed_of s a + 1 in
     either Q (not (inside_of s a)) (idles s idle.NotInside) _

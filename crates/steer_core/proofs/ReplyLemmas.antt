@@ -1,5 +1,6 @@
 -- An application with a packet to reply to puts one reply more.
-use Rattle.std.proofs.Common.{ℕ, ◌+◌, ◌<◌, ◌≤◌, ◌≡◌, Bool, true, false, cond, List, [], ◌∷◌, ◌++◌, Option, Some, None, length}
+use Rattle.std.proofs.Common.{ℕ, ◌+◌, ◌<◌, ◌≤◌, ◌≡◌, Bool, true, false, cond, List, [], ◌∷◌, ◌++◌}
+use Rattle.std.proofs.Common.{Option, Some, None, length}
 use Rattle.std.proofs.Common.{refl, ap, ◌∙◌, sym, subst, arith}
 use Rattle.std.specs.Prelude.{nat_lt, slice_index, slice_index_or}
 use Rattle.std.proofs.lemmas.Bool.{ltb-false, ltb-true}
@@ -15,7 +16,8 @@ use Rattle.hop_core.specs.Leaves.{Field}
 use Rattle.hop_core.proofs.Leaves.{each_leaves}
 use Rattle.hop_core.proofs.Lists.{length-push}
 use Rattle.history.specs.declared.sent.Sent.{Sent}
-use Rattle.steer_model.specs.Steps.Applications.{everyone, in_reply, next_in, pick_for, send_by, sending}
+use Rattle.steer_model.specs.Steps.Applications.{everyone, in_reply, next_in, pick_for, send_by}
+use Rattle.steer_model.specs.Steps.Applications.{sending}
 use Rattle.steer_model.specs.State.Machine.{Machine, last_of}
 use Rattle.steer_model.specs.Steps.Outcomes.{Outcome, idles}
 use Rattle.steer_model.specs.State.Setup.{flow_of, hash_of}
@@ -34,7 +36,8 @@ record Filled (s t : HopState) (a : ℕ) : Type 0 where
   full : placed_of s a < taken_of t a
 
 -- a packet arrives for an empty hand, and is taken up
-begun : (s : HopState) (a x : ℕ) → a < length s.arrivals → a < length s.taken → taken_of s a ≤ placed_of s a
+begun : (s : HopState) (a x : ℕ) → a < length s.arrivals → a < length s.taken
+    → taken_of s a ≤ placed_of s a
     → placed_of s a ≤ taken_of s a → taken_of s a ≤ length (arrivals_of s a)
     → Filled s (happens (happens s (event.Arrive a x)).0 (event.Take a)).0 a
 begun s a x named long empty whole upto =
@@ -54,11 +57,13 @@ begun s a x named long empty whole upto =
 
 -- so an application with a packet to reply to has one in hand after its send
 sent-fills : (m : Machine) (a x : ℕ) → a < length m.tx.arrivals → a < length m.tx.taken
-    → placed_of m.tx a ≤ taken_of m.tx a → taken_of m.tx a ≤ length (arrivals_of m.tx a) → replying m a ≡ Some x
+    → placed_of m.tx a ≤ taken_of m.tx a → taken_of m.tx a ≤ length (arrivals_of m.tx a)
+    → replying m a ≡ Some x
     → Filled m.tx (simple m (act.Send a)).0.tx a
 sent-fills m a x named long whole upto is =
     let Q : Outcome → Type 0 = λ o. Filled m.tx o.0.tx a in
-    either Q (nat_lt (placed_of m.tx a) (taken_of m.tx a)) (idles m idle.HandFull) (send_by m a (next_in m a))
+    either Q (nat_lt (placed_of m.tx a) (taken_of m.tx a)) (idles m idle.HandFull)
+    (send_by m a (next_in m a))
     (λ full. record { choices = refl; placed = refl; visits = refl; full = ltb-true _ _ full })
     (λ free. (
     let next : next_in m a ≡ Some x = rw free at is in
@@ -67,12 +72,14 @@ sent-fills m a x named long whole upto is =
 
 -- a machine with the same hands, inboxes and replies replies to the same packet
 pub replies-same : (m n : Machine) (a x : ℕ) → n.tx.placed ≡ m.tx.placed → n.tx.taken ≡ m.tx.taken
-    → n.rx.bare.outs ≡ m.rx.bare.outs → n.sent ≡ m.sent → replying m a ≡ Some x → replying n a ≡ Some x
+    → n.rx.bare.outs ≡ m.rx.bare.outs → n.sent ≡ m.sent → replying m a ≡ Some x
+    → replying n a ≡ Some x
 replies-same m n a x p t o s is = rw (p, t, o, s) is
 
 -- ---- the five events
 
-pub reply-puts : (m : Machine) (a x : ℕ) (w : Bool) → a < m.setup.apps → StepInvariant m → replying m a ≡ Some x
+pub reply-puts : (m : Machine) (a x : ℕ) (w : Bool) → a < m.setup.apps → StepInvariant m
+    → replying m a ≡ Some x
     → placed_of (reply a (m, w)).0.tx a ≡ placed_of m.tx a + 1
 reply-puts m a x w named k is =
     let s : HopState = m.tx in
@@ -84,21 +91,29 @@ reply-puts m a x w named k is =
     let placed1 : one.tx.placed ≡ s.placed = each_leaves s (event.Enter a) Field.placed refl in
     let taken1 : one.tx.taken ≡ s.taken = each_leaves s (event.Enter a) Field.taken refl in
     let choices1 : one.tx.choices ≡ s.choices = each_leaves s (event.Enter a) Field.choices refl in
-    let arrivals1 : one.tx.arrivals ≡ s.arrivals = each_leaves s (event.Enter a) Field.arrivals refl in
-    let inside1 : inside_of one.tx a ≡ true = enters s a (omega (arith, named, z.visits)) k.tx.opened in
+    let arrivals1 : one.tx.arrivals ≡ s.arrivals =
+    each_leaves s (event.Enter a) Field.arrivals refl in
+    let inside1 : inside_of one.tx a ≡ true =
+    enters s a (omega (arith, named, z.visits)) k.tx.opened in
     let p1 : placed_of one.tx a ≡ placed_of s a = ap (λ (l : List ℕ). slice_index l a) placed1 in
     let t1 : taken_of one.tx a ≡ taken_of s a = ap (λ (l : List ℕ). slice_index l a) taken1 in
-    let c1 : choices_of one.tx a ≡ choices_of s a = ap (λ (l : List (List Chosen)). slice_index_or l a []) choices1 in
-    let a1 : arrivals_of one.tx a ≡ arrivals_of s a = ap (λ (l : List (List ℕ)). slice_index_or l a []) arrivals1 in
+    let c1 : choices_of one.tx a ≡ choices_of s a =
+    ap (λ (l : List (List Chosen)). slice_index_or l a []) choices1 in
+    let a1 : arrivals_of one.tx a ≡ arrivals_of s a =
+    ap (λ (l : List (List ℕ)). slice_index_or l a []) arrivals1 in
     let n1 : length (arrivals_of one.tx a) ≡ length (arrivals_of s a) = ap length a1 in
     let l1 : length one.tx.arrivals ≡ length s.arrivals = ap length arrivals1 in
     let k1 : length one.tx.taken ≡ length s.taken = ap length taken1 in
     let two : Machine = (simple one (act.Send a)).0 in
     let f : Filled one.tx two.tx a =
-    sent-fills one a x (omega (arith, named, z.apps, l1)) (omega (arith, named, z.apps, wide.taken, k1))
-    (omega (arith, p1, t1, put, chosen)) (omega (arith, t1, arrived, n1)) (replies-same m one a x placed1 taken1 refl refl is) in
-    let inside2 : inside_of two.tx a ≡ true = ap (λ (l : List Bool). slice_index_or l a false) f.visits ∙ inside1 in
-    let p2 : placed_of two.tx a ≡ placed_of one.tx a = ap (λ (l : List ℕ). slice_index l a) f.placed in
+    sent-fills one a x (omega (arith, named, z.apps, l1))
+    (omega (arith, named, z.apps, wide.taken, k1))
+    (omega (arith, p1, t1, put, chosen)) (omega (arith, t1, arrived, n1))
+    (replies-same m one a x placed1 taken1 refl refl is) in
+    let inside2 : inside_of two.tx a ≡ true =
+    ap (λ (l : List Bool). slice_index_or l a false) f.visits ∙ inside1 in
+    let p2 : placed_of two.tx a ≡ placed_of one.tx a =
+    ap (λ (l : List ℕ). slice_index l a) f.placed in
     let c2 : length (choices_of two.tx a) ≡ length (choices_of one.tx a) =
     ap (λ (l : List (List Chosen)). length (slice_index_or l a [])) f.choices in
     let c1' : length (choices_of one.tx a) ≡ length (choices_of s a) = ap length c1 in
@@ -109,18 +124,22 @@ reply-puts m a x w named k is =
     let e : HopEvent = sending two a reply2 in
     let three : Machine = (simple two (act.TWeigh a)).0 in
     let more3 : placed_of two.tx a < length (choices_of three.tx a) =
-    weighs two.tx a (Some (flow_of two.setup reply2.id)) (Some (pick_for two reply2)) (pick_for two reply2) everyone
+    weighs two.tx a (Some (flow_of two.setup reply2.id)) (Some (pick_for two reply2))
+    (pick_for two reply2) everyone
     (omega (arith, named, z.apps, wide.choices, h2)) inside2 (omega (arith, p2, p1, put, c2, c1'))
     (omega (arith, p2, full)) in
     let placed3 : three.tx.placed ≡ two.tx.placed = each_leaves two.tx e Field.placed refl in
     let visits3 : three.tx.visits ≡ two.tx.visits = each_leaves two.tx e Field.visits refl in
-    let inside3 : inside_of three.tx a ≡ true = ap (λ (l : List Bool). slice_index_or l a false) visits3 ∙ inside2 in
-    let p3 : placed_of three.tx a ≡ placed_of two.tx a = ap (λ (l : List ℕ). slice_index l a) placed3 in
+    let inside3 : inside_of three.tx a ≡ true =
+    ap (λ (l : List Bool). slice_index_or l a false) visits3 ∙ inside2 in
+    let p3 : placed_of three.tx a ≡ placed_of two.tx a =
+    ap (λ (l : List ℕ). slice_index l a) placed3 in
     let q3 : length three.tx.placed ≡ length two.tx.placed = ap length placed3 in
     let hash : Option ℕ = hash_of three.setup (last_of three.tx a).id in
     let four : Machine = (simple three (act.TPut a)).0 in
     let p4 : placed_of four.tx a ≡ placed_of three.tx a + 1 =
-    puts three.tx a hash (omega (arith, named, z.apps, wide.placed, q2, q3)) inside3 (omega (arith, p3, more3)) in
+    puts three.tx a hash (omega (arith, named, z.apps, wide.placed, q2, q3)) inside3
+    (omega (arith, p3, more3)) in
     let placed5 : (simple four (act.TLeave a)).0.tx.placed ≡ four.tx.placed =
     each_leaves four.tx (event.Leave a) Field.placed refl in
     ap (λ (l : List ℕ). slice_index l a) placed5 ∙ p4 ∙ ap (λ n. n + 1) (p3 ∙ p2 ∙ p1)

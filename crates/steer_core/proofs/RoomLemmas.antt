@@ -13,5 +13,6 @@ pub room_write : (m : Machine) (room a : ℕ) → StepInvariant m
 room_write m room a k spare =
     let z = k.tx.sizes in
     let put : placed_of m.tx a ≤ length (choices_of m.tx a) = k.tx.sound.hands.put a in
-    let few : length (choices_of m.tx a) ≤ m.tx.fixed.room = (fits_room m.tx k.tx.sound).choices a in
+    let few : length (choices_of m.tx a) ≤ m.tx.fixed.room =
+    (fits_room m.tx k.tx.sound).choices a in
     omega (arith, put, few, spare, z.room)

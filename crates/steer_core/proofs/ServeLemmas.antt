@@ -1,5 +1,6 @@
 -- An application writes no more to the socket flow table than it puts replies, where it is served.
-use Rattle.std.proofs.Common.{ℕ, ◌+◌, ◌<◌, ◌≤◌, ◌≡◌, ◌≢◌, Bool, true, false, cond, List, Option, Some, None, length, map, refl, ap, ◌∙◌}
+use Rattle.std.proofs.Common.{ℕ, ◌+◌, ◌<◌, ◌≤◌, ◌≡◌, ◌≢◌, Bool, true, false, cond, List, Option}
+use Rattle.std.proofs.Common.{Some, None, length, map, refl, ap, ◌∙◌}
 use Rattle.std.proofs.Common.{sym, subst, arith, inl, inr, get_or}
 use Rattle.std.specs.Prelude.{◌%◌, nat_lt, slice_index, slice_index_or}
 use Rattle.std.proofs.Math.ListN.{length-map}
@@ -32,7 +33,8 @@ use Rattle.steer_core.proofs.ReplyLemmas.{replies-same, reply-puts}
 
 -- it is in the inbox
 abbrev InInbox : Machine → ℕ → ℕ → Type 0
-InInbox m a x = (i : ℕ) × (i < length (out_at m.rx.bare a)) × (slice_index (out_at m.rx.bare a) i ≡ x)
+InInbox m a x = (i : ℕ) × (i < length (out_at m.rx.bare a))
+    × (slice_index (out_at m.rx.bare a) i ≡ x)
 
 -- where it is in hand already
 in-hand : (m : Machine) (a : ℕ) → StepInvariant m → placed_of m.tx a < taken_of m.tx a
@@ -55,9 +57,12 @@ in-hand m a k full =
 replied-in : (m : Machine) (a x : ℕ) → StepInvariant m → replying m a ≡ Some x → InInbox m a x
 replied-in m a x k =
     let hand : ℕ = (slice_index_or (sent_of m a) (placed_of m.tx a) nothing_sent).id in
-    either (λ o. o ≡ Some x → InInbox m a x) (nat_lt (placed_of m.tx a) (taken_of m.tx a)) (Some hand) (next_in m a)
-    (λ full is. subst (InInbox m a) (ap (λ (o : Option ℕ). value o x) is) (in-hand m a k (ltb-true _ _ full)))
-    (λ free is. (let at = read_at (out_at m.rx.bare a) (length (sent_of m a)) x is in (length (sent_of m a), at.0, at.1)))
+    either (λ o. o ≡ Some x → InInbox m a x) (nat_lt (placed_of m.tx a) (taken_of m.tx a))
+    (Some hand) (next_in m a)
+    (λ full is. subst (InInbox m a) (ap (λ (o : Option ℕ). value o x) is)
+    (in-hand m a k (ltb-true _ _ full)))
+    (λ free is. (let at = read_at (out_at m.rx.bare a) (length (sent_of m a)) x is in
+    (length (sent_of m a), at.0, at.1)))
   where
     value : Option ℕ → ℕ → ℕ
     value None d = d
@@ -75,7 +80,8 @@ inbox-below m a x k in' =
     let room = k.rx.sizes.room in
     omega (arith, below, is, room)
 
-hash-of-app : (hash : ℕ) (o : Option ℕ) (apps a : ℕ) → o ≡ Some hash → app_of o apps ≡ a → hash % apps ≡ a
+hash-of-app : (hash : ℕ) (o : Option ℕ) (apps a : ℕ) → o ≡ Some hash → app_of o apps ≡ a
+    → hash % apps ≡ a
 hash-of-app hash o apps a e is = sym (ap (λ (h : Option ℕ). app_of h apps) e) ∙ is
 
 -- the hash of its flow leads to the application itself
@@ -87,7 +93,8 @@ own-app m a x hash h in' is =
     subst (λ y. app_at m.setup.packets m.setup.apps y ≡ a) in'.2 (h.recorded.own a in'.0 0 in'.1) in
     let same : Some (hash_of m.setup x) ≡ Some (Some hash) =
     sym (flow-hash m.setup x k.given.flows (inbox-below m a x k in')) ∙ is in
-    hash-of-app hash (hash_of m.setup x) m.setup.apps a (ap (λ (o : Option (Option ℕ)). inner o) same) own
+    hash-of-app hash (hash_of m.setup x) m.setup.apps a
+    (ap (λ (o : Option (Option ℕ)). inner o) same) own
   where
     inner : Option (Option ℕ) → Option ℕ
     inner None = None
@@ -95,7 +102,8 @@ own-app m a x hash h in' is =
 
 -- ---- a turn of an application
 
-served : (m : Machine) (a : ℕ) (w : Bool) (o : Option ℕ) → replying m a ≡ o → a < m.setup.apps → Invariant m
+served : (m : Machine) (a : ℕ) (w : Bool) (o : Option ℕ) → replying m a ≡ o → a < m.setup.apps
+    → Invariant m
     → Paced 0 0 m (reply a (recorded o (m, w))).0
 served m a w None is named h = quiet-paced m _ (quiet-reply a (m, w))
 served m a w (Some x) is named h =
@@ -110,7 +118,8 @@ served m a w (Some x) is named h =
     let kept : StepInvariant n =
     (goes-simple m k (act.Record flow) (lt-ltb flow 262144 (flow_small m.setup x k.given))).kept in
     let next : replying n a ≡ Some x =
-    replies-same m n a x (ap (λ (s : HopState). s.placed) wrote.tx) (ap (λ (s : HopState). s.taken) wrote.tx)
+    replies-same m n a x (ap (λ (s : HopState). s.placed) wrote.tx)
+    (ap (λ (s : HopState). s.taken) wrote.tx)
     wrote.outs wrote.sent is in
     let put : placed_of (reply a (n, t.1)).0.tx a ≡ placed_of n.tx a + 1 =
     reply-puts n a x t.1 named' kept next in
@@ -121,20 +130,25 @@ served m a w (Some x) is named h =
       written = λ b. (
           let w' : length (list_at o.writes b) ≡ length (list_at n.writes b) =
           ap (λ l. length (list_at l b)) quiet.writes in
-          let p : placed_of n.tx b ≡ placed_of m.tx b = ap (λ (s : HopState). placed_of s b) wrote.tx in
+          let p : placed_of n.tx b ≡ placed_of m.tx b =
+          ap (λ (s : HopState). placed_of s b) wrote.tx in
           let g = quiet.placed b in
           elim (cases_eq b a) [
             | inl e ↦ (let one = wrote.here in
-                let u : length (list_at n.writes b) ≡ length (list_at n.writes a) = ap (λ i. length (list_at n.writes i)) e in
-                let v : length (list_at m.writes b) ≡ length (list_at m.writes a) = ap (λ i. length (list_at m.writes i)) e in
+                let u : length (list_at n.writes b) ≡ length (list_at n.writes a) =
+                ap (λ i. length (list_at n.writes i)) e in
+                let v : length (list_at m.writes b) ≡ length (list_at m.writes a) =
+                ap (λ i. length (list_at m.writes i)) e in
                 let x : placed_of o.tx b ≡ placed_of o.tx a = ap (λ i. placed_of o.tx i) e in
                 let y : placed_of n.tx b ≡ placed_of n.tx a = ap (λ i. placed_of n.tx i) e in
                 omega (arith, w', p, one, u, v, x, y, put))
             | inr ne ↦ (let f = ap length (wrote.there b ne) in omega (arith, w', p, g, f))
           ]);
       listed = (
-          let c = ap length quiet.commands in let d = ap length wrote.commands in omega (arith, c, d));
+          let c = ap length quiet.commands in let d = ap length wrote.commands in
+          omega (arith, c, d));
     }
 
-pub serve-paced : (a : ℕ) (t : Turn) → a < t.0.setup.apps → Invariant t.0 → Paced 0 0 t.0 (serve a t).0
+pub serve-paced : (a : ℕ) (t : Turn) → a < t.0.setup.apps → Invariant t.0 → Paced 0 0 t.0
+    (serve a t).0
 serve-paced a t named h = served t.0 a t.1 (replying t.0 a) refl named h

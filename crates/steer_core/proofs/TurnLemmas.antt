@@ -1,5 +1,6 @@
 -- Steps that are tried again in a row and those of each actor, from the last one back; and rounds.
-use Rattle.std.proofs.Common.{ℕ, ◌+◌, ◌-◌, ◌<◌, ◌≤◌, ◌≡◌, zero, suc, Bool, true, false, cond, List, refl, ap, ◌∙◌, sym, add-one, arith}
+use Rattle.std.proofs.Common.{ℕ, ◌+◌, ◌-◌, ◌<◌, ◌≤◌, ◌≡◌, zero, suc, Bool, true, false, cond, List}
+use Rattle.std.proofs.Common.{refl, ap, ◌∙◌, sym, add-one, arith}
 use Rattle.steer_base.specs.declared.step.Step.{Step}
 use Rattle.steer_model.specs.State.Machine.{Machine}
 use Rattle.steer_model.specs.Steps.CompoundSteps.{Turn, again, for_each, one_round, rounds, tries}
@@ -20,8 +21,10 @@ again-more n ss t = ap (λ k. again k ss t) (add-one n) ∙ again-last n ss t
 pub again-start : (ss : List Step) (t : Turn) → t ≡ again 0 ss t
 again-start ss t = sym (again-none ss t)
 
-pub again-then : (n : ℕ) (ss : List Step) (t u v : Turn) → u ≡ again n ss t → v ≡ tries u ss → v ≡ again (n + 1) ss t
-again-then n ss t u v before step = step ∙ ap (λ (t : Turn). tries t ss) before ∙ sym (again-more n ss t)
+pub again-then : (n : ℕ) (ss : List Step) (t u v : Turn) → u ≡ again n ss t → v ≡ tries u ss
+    → v ≡ again (n + 1) ss t
+again-then n ss t u v before step = step ∙ ap (λ (t : Turn). tries t ss) before
+    ∙ sym (again-more n ss t)
 
 -- a loop over actors starts, and comes to the next one
 pub each-start : (f : ℕ → Turn → Turn) (t : Turn) → t ≡ for_each 0 f t

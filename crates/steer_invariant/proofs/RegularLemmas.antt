@@ -11,8 +11,10 @@ use Rattle.steer_model.specs.State.Machine.{Machine, history_of}
 use Rattle.steer_model.specs.State.Setup.{app_for}
 use Rattle.steer_invariant.specs.StepInvariant.{StepInvariant}
 use Rattle.steer_invariant.specs.RecordedLists.{IsRecorded}
-use Rattle.steer_invariant.proofs.LaneLemmas.{accepted-apart, accepted-by, accepted-choice, all-apart}
-use Rattle.steer_invariant.proofs.LaneLemmas.{chosen-first, delivered-at, delivered-by, fallen-choice}
+use Rattle.steer_invariant.proofs.LaneLemmas.{accepted-apart, accepted-by, accepted-choice}
+use Rattle.steer_invariant.proofs.LaneLemmas.{all-apart}
+use Rattle.steer_invariant.proofs.LaneLemmas.{chosen-first, delivered-at, delivered-by}
+use Rattle.steer_invariant.proofs.LaneLemmas.{fallen-choice}
 use Rattle.steer_invariant.proofs.LaneLemmas.{lane-is, outs-apart}
 
 matched-of : (m : Machine) → StepInvariant m → AreMatched m.setup.apps (history_of m)
@@ -52,7 +54,8 @@ delivered-of m h r =
       once = λ a i j l n e. (h.places.out_once a a i j l n e).1;
     }
 
-replies-of : (m : Machine) → StepInvariant m → IsRecorded m → AreReplies m.setup.packets (history_of m)
+replies-of : (m : Machine) → StepInvariant m → IsRecorded m → AreReplies m.setup.packets
+    (history_of m)
 replies-of m k r =
     record {
       sent = k.replied.first;

@@ -6,8 +6,10 @@ use Rattle.steer_base.specs.declared.step.Step.{Step}
 use Rattle.steer_base.specs.declared.step.Step.TheVariants as act
 use Rattle.steer_model.specs.State.Setup.{Setup, flow_of}
 use Rattle.steer_model.specs.Steps.SingleSteps.{is_command}
-use Rattle.steer_model.specs.Steps.CompoundSteps.{Turn, again, drain, drain_one, for_each, one_round, poll}
-use Rattle.steer_model.specs.Steps.CompoundSteps.{recorded, reply, replying, serve, ship, ship_one, tried, tries}
+use Rattle.steer_model.specs.Steps.CompoundSteps.{Turn, again, drain, drain_one, for_each}
+use Rattle.steer_model.specs.Steps.CompoundSteps.{one_round, poll}
+use Rattle.steer_model.specs.Steps.CompoundSteps.{recorded, reply, replying, serve, ship, ship_one}
+use Rattle.steer_model.specs.Steps.CompoundSteps.{tried, tries}
 use Rattle.steer_invariant.specs.StepInvariant.{IsNamed}
 
 -- an event that names what there is, and no command

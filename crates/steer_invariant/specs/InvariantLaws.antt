@@ -67,7 +67,8 @@ StartHasInvariant =
 
 -- Each step that names what there is keeps the machine held, and so do such steps in a row.
 abbrev pub StepsKeepInvariant : Type 0
-StepsKeepInvariant = (m : Machine) (s : Step) → IsNamed m.setup s → Invariant m → Invariant (step m s).0
+StepsKeepInvariant = (m : Machine) (s : Step) → IsNamed m.setup s → Invariant m → Invariant
+    (step m s).0
 
 abbrev pub RunsKeepInvariant : Type 0
 RunsKeepInvariant =
@@ -81,7 +82,8 @@ CommandsKeepInvariant =
     → Invariant m → Invariant (set_by m c)
 
 abbrev pub ListingKeepsInvariant : Type 0
-ListingKeepsInvariant = (m n : Machine) (c : Command) → Invariant n → Invariant (listed n c (answer_to m c))
+ListingKeepsInvariant = (m n : Machine) (c : Command) → Invariant n → Invariant
+    (listed n c (answer_to m c))
 
 -- ---- every history
 

@@ -10,7 +10,8 @@ use Rattle.plan_reader.specs.declared.settings.sizes.Sizes.{Sizes}
 use Rattle.steer_model.specs.State.Ranges.{IsGiven}
 use Rattle.steer_model.specs.State.Machine.{Machine}
 use Rattle.steer_model.specs.State.Setup.{Setup}
-use Rattle.steer_invariant.specs.HopInvariants.{AllTaken, AreNoted, BySettings, RxInvariant, TxInvariant}
+use Rattle.steer_invariant.specs.HopInvariants.{AllTaken, AreNoted, BySettings, RxInvariant}
+use Rattle.steer_invariant.specs.HopInvariants.{TxInvariant}
 use Rattle.steer_invariant.specs.ListInvariants.{Came, ListSizes, Replied, Routes, SettingSizes}
 
 pub record StepInvariant (m : Machine) : Type 0 where

@@ -19,14 +19,18 @@ GatesAreOpen = (m : Machine) → StepInvariant m → IsOpen m
 -- Every step that names what there is keeps the invariant, and what the plan and the capture fix:
 -- a step of one event or a command, any step, and steps in a row.
 abbrev pub EventsKeepStepInvariant : Type 0
-EventsKeepStepInvariant = (m : Machine) (s : Step) → IsNamed m.setup s → StepInvariant m → StepInvariant (simple m s).0
+EventsKeepStepInvariant = (m : Machine) (s : Step) → IsNamed m.setup s → StepInvariant m
+    → StepInvariant (simple m s).0
 
 abbrev pub StepKeepsStepInvariant : Type 0
-StepKeepsStepInvariant = (m : Machine) (s : Step) → IsNamed m.setup s → StepInvariant m → StepInvariant (step m s).0
+StepKeepsStepInvariant = (m : Machine) (s : Step) → IsNamed m.setup s → StepInvariant m
+    → StepInvariant (step m s).0
 
 abbrev pub StepsKeepStepInvariant : Type 0
-StepsKeepStepInvariant = (m : Machine) (ss : List Step) → AreNamed m.setup ss → StepInvariant m → StepInvariant (after ss m)
+StepsKeepStepInvariant = (m : Machine) (ss : List Step) → AreNamed m.setup ss → StepInvariant m
+    → StepInvariant (after ss m)
 
 abbrev pub StepsKeepSetup : Type 0
 StepsKeepSetup =
-    (m : Machine) (ss : List Step) → AreNamed m.setup ss → StepInvariant m → (after ss m).setup ≡ m.setup
+    (m : Machine) (ss : List Step) → AreNamed m.setup ss → StepInvariant m
+    → (after ss m).setup ≡ m.setup

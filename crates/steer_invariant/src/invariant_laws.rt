@@ -1,9 +1,12 @@
 //! Laws of the machine and of the histories that it makes, each the contract of a function that
 //! does nothing.
-ghost use Rattle.steer_invariant.specs.InvariantLaws.{CommandsKeepInvariant, RxPremisesHold, TxPremisesHold};
-ghost use Rattle.steer_invariant.specs.InvariantLaws.{InvariantIsReportable, FiltersAreSeated, ListingKeepsInvariant};
+ghost use Rattle.steer_invariant.specs.InvariantLaws.{CommandsKeepInvariant, RxPremisesHold};
+ghost use Rattle.steer_invariant.specs.InvariantLaws.{TxPremisesHold};
+ghost use Rattle.steer_invariant.specs.InvariantLaws.{InvariantIsReportable, FiltersAreSeated};
+ghost use Rattle.steer_invariant.specs.InvariantLaws.{ListingKeepsInvariant};
 ghost use Rattle.steer_invariant.specs.InvariantLaws.{StartHasInvariant, ReplaysAreReportable};
-ghost use Rattle.steer_invariant.specs.InvariantLaws.{RunsAreReportable, RunsKeepInvariant, StepsKeepInvariant};
+ghost use Rattle.steer_invariant.specs.InvariantLaws.{RunsAreReportable, RunsKeepInvariant};
+ghost use Rattle.steer_invariant.specs.InvariantLaws.{StepsKeepInvariant};
 
 /// In every state of the machine its history is regular, each arrival is at the queue that its kept
 /// values lead to, each packet is in one place, and the numbers of packets, arrivals and

@@ -1,5 +1,6 @@
 //! Laws of the machine's invariant, each the contract of a function that does nothing.
-ghost use Rattle.steer_invariant.specs.StepInvariantLaws.{EventsKeepStepInvariant, GatesAreOpen, StepKeepsStepInvariant};
+ghost use Rattle.steer_invariant.specs.StepInvariantLaws.{EventsKeepStepInvariant, GatesAreOpen};
+ghost use Rattle.steer_invariant.specs.StepInvariantLaws.{StepKeepsStepInvariant};
 ghost use Rattle.steer_invariant.specs.StepInvariantLaws.{StepsKeepStepInvariant, StepsKeepSetup};
 
 /// Every step that names what the machine has keeps its invariant: a step of one event or a

@@ -1,7 +1,8 @@
 //! The processor that a packet is sent to, and the filter that follows it.
 ghost use Rattle.std.specs.Prelude.{◌≡◌, ◌≤◌, length};
 ghost use Rattle.steer_base.specs.Choices.{desired_cpu as desired_with};
-ghost use Rattle.steer_model.specs.Steps.Pollers.{filter_for as filter_after, socket_seen as seen_in};
+ghost use Rattle.steer_model.specs.Steps.Pollers.{filter_for as filter_after};
+ghost use Rattle.steer_model.specs.Steps.Pollers.{socket_seen as seen_in};
 
 use accel_filter::filter_written;
 use sock_flow_table::SockTable;

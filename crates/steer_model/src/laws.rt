@@ -6,7 +6,8 @@ ghost use Rattle.steer_model.specs.Origins.FilterOrigins.{FiltersAreFromChoices}
 ghost use Rattle.steer_model.specs.Laws.GoodHistories.{GoodByClauses};
 ghost use Rattle.steer_model.specs.Origins.SettingWrites.{ValuesAreLastWrites};
 ghost use Rattle.steer_model.specs.Laws.Packets.{PacketsAreOfFlows, PacketsAreOne};
-ghost use Rattle.steer_model.specs.Steps.IdleReasons.{IdleForFirstReason, NewIsStaged, StepsKeepStaged};
+ghost use Rattle.steer_model.specs.Steps.IdleReasons.{IdleForFirstReason, NewIsStaged};
+ghost use Rattle.steer_model.specs.Steps.IdleReasons.{StepsKeepStaged};
 ghost use Rattle.steer_model.specs.Laws.Settings.{SettingsFollow};
 ghost use Rattle.steer_model.specs.State.Start.{steps_of};
 ghost use Rattle.steer_model.specs.Laws.Steps.{IdleLeavesAll, RefusedLeavesAll};

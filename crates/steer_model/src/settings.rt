@@ -4,7 +4,8 @@ ghost use Rattle.std.specs.List.{All};
 ghost use Rattle.rss_table.specs.Redirection.{is_in_range, queue_of, with_entry};
 ghost use Rattle.steer_base.specs.Counters.{rounded_up};
 ghost use Rattle.steer_base.specs.Sets.{with_cpu, without_cpu};
-ghost use Rattle.steer_model.specs.State.Settings.{changed, class_at, MayChange, plain_lane as plain_cpu};
+ghost use Rattle.steer_model.specs.State.Settings.{changed, class_at, MayChange};
+ghost use Rattle.steer_model.specs.State.Settings.{plain_lane as plain_cpu};
 ghost use Rattle.steer_model.specs.State.Start.{maps_of as maps_of_plan, settings_of};
 ghost use Rattle.xps_map.specs.Maps.{picked};
 

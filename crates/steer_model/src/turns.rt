@@ -1,6 +1,7 @@
 //! Whether a step was work.
 ghost use Rattle.std.specs.Prelude.{◌≡◌};
-ghost use Rattle.steer_model.specs.Steps.SingleSteps.{is_idle as was_idle, is_work as counts_as_work};
+ghost use Rattle.steer_model.specs.Steps.SingleSteps.{is_idle as was_idle};
+ghost use Rattle.steer_model.specs.Steps.SingleSteps.{is_work as counts_as_work};
 
 use steer_base::{Answer, Step};
 

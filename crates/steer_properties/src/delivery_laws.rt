@@ -1,5 +1,6 @@
 //! The law of delivery: order, places and drops in every history that a replay makes.
-ghost use Rattle.steer_properties.specs.Delivery.DeliveryLaws.{ReplaysDeliverInOrder, RunsDeliverInOrder};
+ghost use Rattle.steer_properties.specs.Delivery.DeliveryLaws.{ReplaysDeliverInOrder};
+ghost use Rattle.steer_properties.specs.Delivery.DeliveryLaws.{RunsDeliverInOrder};
 
 /// After any steps that name only what the plan has, and after all steps of the plan, each flow of
 /// each queue is delivered in order to the inbox of its application, each flow of each application

@@ -2,7 +2,8 @@
 ghost use Rattle.steer_properties.specs.Histories.Always.{Always};
 ghost use Rattle.steer_properties.specs.Choices.Clear.{NothingIsOutstanding};
 ghost use Rattle.steer_properties.specs.Commands.GivenOnce.{ReplaysGiveOnce, RunsGiveOnce};
-ghost use Rattle.steer_properties.specs.Histories.GoodAtRest.{SeededReplaysAreGood, SweptRunsAreGood};
+ghost use Rattle.steer_properties.specs.Histories.GoodAtRest.{SeededReplaysAreGood};
+ghost use Rattle.steer_properties.specs.Histories.GoodAtRest.{SweptRunsAreGood};
 ghost use Rattle.steer_properties.specs.Histories.GoodSoFar.{GoodSoFar};
 ghost use Rattle.steer_properties.specs.Commands.Answered.{AreAnswered, WritesAreMade};
 ghost use Rattle.steer_properties.specs.Choices.ByTheRule.{AreChosen, AreReplied};
@@ -67,9 +68,9 @@ pub fn every_replay_is_good_so_far()
     ensures { Always GoodSoFar }
 {}
 
-/// A replay that ends with a sweep meets them all, but that its writes and its tries of commands are
-/// those of its steps: every packet arrived, each that was taken has a choice, and all is swept. So
-/// does every seeded plan.
+/// A replay that ends with a sweep meets them all, but that its writes and its tries of commands
+/// are those of its steps: every packet arrived, each that was taken has a choice, and all is
+/// swept. So does every seeded plan.
 pub fn swept_replays_are_good_at_rest()
     ensures runs { SweptRunsAreGood }
     ensures seeded { SeededReplaysAreGood }

@@ -1,4 +1,5 @@
-//! Properties of the history of every replay: choices by the rule, delivery in order, sweeps that end.
+//! Properties of the history of every replay: choices by the rule, delivery in order, sweeps that
+//! end.
 #![tactic(auto)]
 
 mod delivery_laws;

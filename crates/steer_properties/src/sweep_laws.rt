@@ -1,7 +1,9 @@
 //! Laws of the sweep: it ends at rest, and what a machine at rest has done.
-ghost use Rattle.steer_properties.specs.Sweep.SweepLaws.{IdleRoundRests, RestIsSwept, RestIsThrough};
+ghost use Rattle.steer_properties.specs.Sweep.SweepLaws.{IdleRoundRests, RestIsSwept};
+ghost use Rattle.steer_properties.specs.Sweep.SweepLaws.{RestIsThrough};
 ghost use Rattle.steer_properties.specs.Sweep.SweepLaws.{SeededReplaysAreSwept, SweepEndsAtRest};
-ghost use Rattle.steer_properties.specs.Sweep.SweepLaws.{SweepEndsIdle, SweepSweeps, SweptIsThrough};
+ghost use Rattle.steer_properties.specs.Sweep.SweepLaws.{SweepEndsIdle, SweepSweeps};
+ghost use Rattle.steer_properties.specs.Sweep.SweepLaws.{SweptIsThrough};
 ghost use Rattle.steer_properties.specs.Sweep.SweepLaws.{SweptRunsAreSwept};
 
 /// A sweep ends since there is nothing left to do, and then the machine is at rest.

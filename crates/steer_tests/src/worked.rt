@@ -84,8 +84,8 @@ c 1 offline 1 done
 end 2 of 2
 ";
 
-// The second packet is kept on processor 1, where one packet waits, as many as may. It is no part of
-// the recorded tail, so the third one leaves as soon as the first is retired.
+// The second packet is kept on processor 1, where one packet waits, as many as may. It is no part
+// of the recorded tail, so the third one leaves as soon as the first is retired.
 const FULL: &[u8] = b"steer 1
 p 0 q 0 via reta class 0 want - head - tail 0 cpu 1 why unset at 1 app 0 in 1 place inbox
 p 1 q 0 via reta class 0 want 2 head 0 tail 1 cpu 1 why kept at drop 1 1 0 app 0 in - place drop
@@ -217,8 +217,8 @@ fn moves_by_a_filter_and_of_replies_are_reported(rt: HostRuntime) -> Result<(), 
 }
 
 // 130 packets arrive and are polled, and nothing is pulled. Of flow A 128 are accepted. The next
-// finds 128 waiting, more than half of 200, and is the 129th of its bucket 178: the flow limit drops
-// it. Flow B has bucket 0ea, and is accepted.
+// finds 128 waiting, more than half of 200, and is the 129th of its bucket 178: the flow limit
+// drops it. Flow B has bucket 0ea, and is accepted.
 #[test]
 fn a_drop_by_the_flow_limit_is_reported(rt: HostRuntime) -> Result<(), Fail> {
     let alloc = rt.alloc();

@@ -51,7 +51,8 @@ status_of ending.WriteFault = 6
 status_of ending.OutOfMemory = 7
 
 abbrev pub usage_line : List ℕ
-usage_line = codes "usage: steer hash CAPTURE [QUEUES [KINDS]] | replay PLAN CAPTURE | run PLAN CAPTURE | gen SEED PACKETS FLOWS | check PLAN CAPTURE REPORT | place RULES CAPTURE\n"
+usage_line =
+    codes "usage: steer hash CAPTURE [QUEUES [KINDS]] | replay PLAN CAPTURE | run PLAN CAPTURE | gen SEED PACKETS FLOWS | check PLAN CAPTURE REPORT | place RULES CAPTURE\n"
 
 -- the line that names a fault of a text in JSON, which begins with what the text is called
 abbrev pub line_of_plan_fault : List ℕ → PlanFault → List ℕ

@@ -1,5 +1,5 @@
-//! The command `replay`: the plan is read, then the capture, and then the report of the plan's steps
-//! goes out.
+//! The command `replay`: the plan is read, then the capture, and then the report of the plan's
+//! steps goes out.
 ghost use Rattle.std.specs.Prelude.{◌≡◌, ◌≤◌, ℕ, List, All, IfOk, length, map};
 ghost use Rattle.outside_io.specs.Desk.{GoesOnTelling};
 ghost use Rattle.pcap_reader.specs.Captures.{IsWithin};

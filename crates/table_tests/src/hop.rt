@@ -125,8 +125,8 @@ fn chose(want: Option<u8>, head: Option<u32>, tail: u32, lane: u8, why: Why) -> 
     }
 }
 
-// Four packets of one flow, where these are the numbers of 0 to 3 packets: the first two choose lane
-// 1, the third is kept there, and the fourth moves to lane 2.
+// Four packets of one flow, where these are the numbers of 0 to 3 packets: the first two choose
+// lane 1, the third is kept there, and the fourth moves to lane 2.
 fn moving_packets(numbers: [u32; 4]) -> [Packet; 4] {
     let [none, one, two, three] = numbers;
     let first = Packet {

@@ -1,5 +1,6 @@
 -- The text of a tap that counts the packets of each processor.
-use Rattle.std.specs.Prelude.{ℕ, ◌==◌, Bool, false, List, [], Option, Some, None, codes, count_by, if◌then◌else◌}
+use Rattle.std.specs.Prelude.{ℕ, ◌==◌, Bool, false, List, [], Option, Some, None, codes, count_by}
+use Rattle.std.specs.Prelude.{if◌then◌else◌}
 use Rattle.history.specs.declared.packet_line.PacketLine.{PacketLine}
 use Rattle.steer_base.specs.declared.choice.Choice.{Choice}
 use Rattle.taps.specs.Rows.{each_cpu, row}

@@ -1,5 +1,6 @@
 //! A tap that follows how far the positions of each processor have come.
-ghost use Rattle.std.specs.Prelude.{◌≡◌, ◌==◌, ◌++◌, ℕ, List, slice_index_or, IfOk, OnOk, if◌then◌else◌};
+ghost use Rattle.std.specs.Prelude.{◌≡◌, ◌==◌, ◌++◌, ℕ, List, slice_index_or, IfOk, OnOk};
+ghost use Rattle.std.specs.Prelude.{if◌then◌else◌};
 ghost use Rattle.history.specs.declared.packet_line.PacketLine.{PacketLine};
 ghost use Rattle.taps.specs.Positions.{deepened as deepened_to, depth_row, depth_text};
 ghost use Rattle.taps.specs.Rows.{each_cpu};

@@ -1,5 +1,6 @@
 //! A tap that counts the packets of each processor.
-ghost use Rattle.std.specs.Prelude.{◌≡◌, ◌==◌, ◌+◌, ◌++◌, ℕ, List, slice_index, IfOk, OnOk, OnErr, if◌then◌else◌};
+ghost use Rattle.std.specs.Prelude.{◌≡◌, ◌==◌, ◌+◌, ◌++◌, ℕ, List, slice_index, IfOk, OnOk, OnErr};
+ghost use Rattle.std.specs.Prelude.{if◌then◌else◌};
 ghost use Rattle.history.specs.declared.packet_line.PacketLine.{PacketLine};
 ghost use Rattle.taps.specs.Cpus.{per_cpu_text, cpu_row};
 ghost use Rattle.taps.specs.Rows.{each_cpu};

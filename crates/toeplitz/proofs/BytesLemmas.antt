@@ -1,22 +1,27 @@
 -- The hash byte by byte.
-use Rattle.std.proofs.Common.{◌≡◌, ◌≤◌, ℕ, zero, suc, ◌+◌, ◌-◌, ◌*◌, ◌/◌, ◌%◌, List, slice_index, bit_xor, Bool, true, false, if◌then◌else◌, ◌==◌, sym, refl, arith, add-one}
+use Rattle.std.proofs.Common.{◌≡◌, ◌≤◌, ℕ, zero, suc, ◌+◌, ◌-◌, ◌*◌, ◌/◌, ◌%◌, List, slice_index}
+use Rattle.std.proofs.Common.{bit_xor, Bool, true, false, if◌then◌else◌, ◌==◌, sym, refl, arith}
+use Rattle.std.proofs.Common.{add-one}
 use Rattle.std.specs.Int.{bit_at}
 use Rattle.std.specs.Int.Bits.{xor_assoc, xor_zero_r, xor_zero_l}
-use Rattle.std.proofs.Common.{◌<◌, [], ◌∷◌, ◌++◌, length, take, length-append, append_assoc, ap, ◌∙◌}
+use Rattle.std.proofs.Common.{◌<◌, [], ◌∷◌, ◌++◌, length, take, length-append, append_assoc, ap}
+use Rattle.std.proofs.Common.{◌∙◌}
 use Rattle.std.proofs.lemmas.List.{take_more, length-take-le}
 use Rattle.std.proofs.Math.Seq.{take-length}
 use Rattle.toeplitz.specs.Toeplitz.{window, xor_of_bits, hash_of}
 use Rattle.toeplitz.specs.Tables.{xor_of_byte, xor_of_bytes, word_of}
 
 xor_in_either : (b : Bool) (x y w : ℕ)
-    → (if b then bit_xor (bit_xor x y) w else bit_xor x y) ≡ bit_xor x (if b then bit_xor y w else y)
+    → (if b then bit_xor (bit_xor x y) w else bit_xor x y) ≡ bit_xor x
+    (if b then bit_xor y w else y)
 xor_in_either true x y w = xor_assoc x y w
 xor_in_either false x y w = refl
 
 -- so many bits more, all of one byte
 xor_of_bits-add : (key : ℕ) (input : List ℕ) (place k : ℕ) → k ≤ 8
     → xor_of_bits key input (8 * place + k)
-    ≡ bit_xor (xor_of_bits key input (8 * place)) (xor_of_byte key place (slice_index input place) k)
+    ≡ bit_xor (xor_of_bits key input (8 * place))
+    (xor_of_byte key place (slice_index input place) k)
 unfolding xor_of_bits xor_of_byte
 xor_of_bits-add key input place zero h =
     let e : 8 * place + 0 ≡ 8 * place = omega arith in
@@ -26,10 +31,12 @@ xor_of_bits-add key input place (suc k) h =
     let byte : (8 * place + k) / 8 ≡ place = omega (arith, h) in
     let bit : (8 * place + k) % 8 ≡ k = omega (arith, h) in
     let before : xor_of_bits key input (8 * place + k)
-    ≡ bit_xor (xor_of_bits key input (8 * place)) (xor_of_byte key place (slice_index input place) k) =
+    ≡ bit_xor (xor_of_bits key input (8 * place))
+    (xor_of_byte key place (slice_index input place) k) =
     xor_of_bits-add key input place k (omega (arith, h)) in
     rw (more, byte, bit, before) (xor_in_either (bit_at (slice_index input place) (7 - k) == 1)
-    (xor_of_bits key input (8 * place)) (xor_of_byte key place (slice_index input place) k) (window key (8 * place + k)))
+    (xor_of_bits key input (8 * place)) (xor_of_byte key place (slice_index input place) k)
+    (window key (8 * place + k)))
 
 -- one byte more
 pub xor_of_bits-more : (key : ℕ) (input : List ℕ) (place : ℕ)
@@ -54,7 +61,8 @@ xor_of_bytes-append key place (x ∷ xs) ys =
 
 -- one byte more
 pub xor_of_bytes-more : (key place at : ℕ) (bytes : List ℕ) → at < length bytes
-    → bit_xor (xor_of_bytes key place (take at bytes)) (word_of key (place + at) (slice_index bytes at))
+    → bit_xor (xor_of_bytes key place (take at bytes)) (word_of key (place + at)
+    (slice_index bytes at))
     ≡ xor_of_bytes key place (take (at + 1) bytes)
 unfolding xor_of_bytes
 xor_of_bytes-more key place at bytes within =

@@ -1,5 +1,6 @@
 -- The windows of the key, cut out of 40 of its bits, and the word of a byte bit by bit.
-use Rattle.std.proofs.Common.{◌≡◌, ◌≢◌, ◌<◌, ℕ, ◌+◌, ◌-◌, ◌*◌, ◌/◌, ◌%◌, ◌^◌, bit_and, bit_xor, sym, refl, ◌∙◌, arith, add-one}
+use Rattle.std.proofs.Common.{◌≡◌, ◌≢◌, ◌<◌, ℕ, ◌+◌, ◌-◌, ◌*◌, ◌/◌, ◌%◌, ◌^◌, bit_and, bit_xor, sym}
+use Rattle.std.proofs.Common.{refl, ◌∙◌, arith, add-one}
 use Rattle.std.specs.Int.{bit_at}
 use Rattle.std.proofs.lemmas.Nat.{field_of, shr-shr}
 use Rattle.std.proofs.lemmas.Nat.Bits.{shr_and_one}
@@ -19,11 +20,16 @@ pub window_is : (key place k : ℕ) → place < 36 → k < 8
 window_is key place k within small =
     let sums : 40 ≡ (k + 32) + (8 - k) = omega arith in
     let shift : 8 * (35 - place) + (8 - k) ≡ 288 - (8 * place + k) = omega arith in
-    middle_of (key / 2 ^ (8 * (35 - place))) 40 k (8 - k) sums ∙ rw (shr-shr key (8 * (35 - place)) (8 - k), shift) refl
+    middle_of (key / 2 ^ (8 * (35 - place))) 40 k (8 - k) sums ∙ rw (
+      shr-shr key (8 * (35 - place))
+          (8 - k),
+      shift,
+    ) refl
 
 -- one bit more of the byte, that is 1 or not
 pub word_of_one : (key place byte k word : ℕ) → bit_and (byte / 2 ^ (7 - k)) 1 ≡ 1
-    → word ≡ window key (8 * place + k) → bit_xor (xor_of_byte key place byte k) word ≡ xor_of_byte key place byte (k + 1)
+    → word ≡ window key (8 * place + k) → bit_xor (xor_of_byte key place byte k) word ≡ xor_of_byte
+    key place byte (k + 1)
 unfolding xor_of_byte
 word_of_one key place byte k word one e =
     let bit : bit_at byte (7 - k) ≡ 1 = sym (shr_and_one byte (7 - k)) ∙ one in

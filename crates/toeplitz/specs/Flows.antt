@@ -1,5 +1,6 @@
 -- Which bytes of a flow are hashed, after the kinds of hash of the Intel 82599.
-use Rattle.std.specs.Prelude.{ℕ, List, ◌++◌, Bool, false, ◌||◌, Option, Some, None, if◌then◌else◌, ◌==◌}
+use Rattle.std.specs.Prelude.{ℕ, List, ◌++◌, Bool, false, ◌||◌, Option, Some, None, if◌then◌else◌}
+use Rattle.std.specs.Prelude.{◌==◌}
 use Rattle.std.specs.Int.{bit_at, w16, w32, w128, to_be_bytes}
 use Rattle.std.specs.Option.{option_map}
 use Rattle.steer_base.specs.declared.flow.Pair.{Pair}
@@ -37,15 +38,17 @@ ports sport dport = to_be_bytes w16 sport ++ to_be_bytes w16 dport
 
 -- the addresses alone, where their kind is on
 abbrev pub input_of_addresses : Pair → ℕ → Option (List ℕ)
-input_of_addresses pair kinds = if is_on kinds (address_kind pair) then Some (addresses pair) else None
+input_of_addresses pair kinds = if is_on kinds (address_kind pair) then Some
+    (addresses pair) else None
 
--- The hashed bytes of a flow: the addresses and the ports where their kind is on, else the addresses alone where theirs
--- is on, else none.
+-- The hashed bytes of a flow: the addresses and the ports where their kind is on, else the
+-- addresses alone where theirs is on, else none.
 abbrev pub input_of : Flow → ℕ → Option (List ℕ)
 input_of Bare kinds = None
 input_of (Two pair) kinds = input_of_addresses pair kinds
 input_of (Four pair proto sport dport) kinds =
-    if is_on kinds (port_kind pair proto) then Some (addresses pair ++ ports sport dport) else input_of_addresses pair kinds
+    if is_on kinds (port_kind pair proto) then Some (addresses pair ++ ports sport dport) else
+    input_of_addresses pair kinds
 
 -- the hash of a flow under a key, with the kinds that are on
 abbrev pub hash_of_flow : ℕ → Flow → ℕ → Option ℕ
@@ -55,4 +58,5 @@ hash_of_flow key flow kinds = option_map (hash_of key) (input_of flow kinds)
 abbrev pub has_kind : Flow → ℕ → Bool
 has_kind Bare kinds = false
 has_kind (Two pair) kinds = is_on kinds (address_kind pair)
-has_kind (Four pair proto sport dport) kinds = is_on kinds (port_kind pair proto) || is_on kinds (address_kind pair)
+has_kind (Four pair proto sport dport) kinds = is_on kinds (port_kind pair proto) || is_on kinds
+    (address_kind pair)

@@ -1,14 +1,17 @@
 -- A key as a table: a row for each place of an input byte, and in each row a word for each byte.
-use Rattle.std.specs.Prelude.{◌≡◌, ℕ, zero, suc, ◌+◌, ◌*◌, ◌-◌, ◌<◌, List, [], ◌∷◌, length, slice_index}
+use Rattle.std.specs.Prelude.{◌≡◌, ℕ, zero, suc, ◌+◌, ◌*◌, ◌-◌, ◌<◌, List, [], ◌∷◌, length}
+use Rattle.std.specs.Prelude.{slice_index}
 use Rattle.std.specs.Prelude.{bit_xor, if◌then◌else◌, ◌==◌}
 use Rattle.std.specs.Int.{bit_at}
 use Rattle.toeplitz.specs.Toeplitz.{window}
 
--- the XOR of the windows of those of the first n bits of a byte at this place of the input that are 1
+-- the XOR of the windows of those of the first n bits of a byte at this place of the input that are
+-- 1
 unfoldable pub xor_of_byte : ℕ → ℕ → ℕ → ℕ → ℕ
 xor_of_byte key place byte zero = 0
 xor_of_byte key place byte (suc k) =
-    if bit_at byte (7 - k) == 1 then bit_xor (xor_of_byte key place byte k) (window key (8 * place + k))
+    if bit_at byte (7 - k) == 1 then bit_xor (xor_of_byte key place byte k)
+    (window key (8 * place + k))
     else xor_of_byte key place byte k
 
 -- what a byte at this place of the input adds to the hash
@@ -21,7 +24,9 @@ xor_of_bytes key place [] = 0
 xor_of_bytes key place (byte ∷ bytes) =
     bit_xor (word_of key place byte) (xor_of_bytes key (suc place) bytes)
 
--- 36 rows of 256 words, row after row, where row `place` has at `byte` what this byte adds to the hash at this place
+-- 36 rows of 256 words, row after row, where row `place` has at `byte` what this byte adds to the
+-- hash at this place
 pub record IsTable (key : ℕ) (words : List ℕ) : Type 0 where
   pub size : length words ≡ 9216
-  pub word : (place byte : ℕ) → place < 36 → byte < 256 → slice_index words (256 * place + byte) ≡ word_of key place byte
+  pub word : (place byte : ℕ) → place < 36 → byte < 256 → slice_index words
+      (256 * place + byte) ≡ word_of key place byte

@@ -44,9 +44,10 @@ impl Key {
         Key { bytes }
     }
 
-    /// The Toeplitz hash of a flow (Intel 82599 datasheet; Microsoft's description of the RSS hash). The source address, the
-    /// destination address, the source port and the destination port are hashed in network order where their kind is on, else
-    /// the two addresses alone where theirs is on. Otherwise there is no hash.
+    /// The Toeplitz hash of a flow (Intel 82599 datasheet; Microsoft's description of the RSS
+    /// hash). The source address, the destination address, the source port and the destination port
+    /// are hashed in network order where their kind is on, else the two addresses alone where
+    /// theirs is on. Otherwise there is no hash.
     pub fn hash(&self, flow: &Flow, kinds: Kinds) -> Option<u32>
         ensures { result ≡ hash_of_flow self.now flow.now kinds.0 }
     {

@@ -2,8 +2,9 @@
 ghost use Rattle.std.specs.Prelude.{◌≡◌, ◌<◌};
 ghost use Rattle.toeplitz.specs.Flows.{is_on as is_kind_on};
 
-/// The kinds of input that are hashed, a bit each: bit 0 the addresses of IPv4, bit 1 TCP over IPv4, bit 2 UDP over IPv4,
-/// and bits 3 to 5 the same of IPv6. TCP and UDP are hashed with their ports. The other two bits are ignored.
+/// The kinds of input that are hashed, a bit each: bit 0 the addresses of IPv4, bit 1 TCP over
+/// IPv4, bit 2 UDP over IPv4, and bits 3 to 5 the same of IPv6. TCP and UDP are hashed with their
+/// ports. The other two bits are ignored.
 #[derive(Clone, Copy, Debug, PartialEq, Eq)]
 pub struct Kinds(pub u8);
 

@@ -1,4 +1,5 @@
-//! The Toeplitz hash of a flow, as network cards compute it to spread packets over their receive queues.
+//! The Toeplitz hash of a flow, as network cards compute it to spread packets over their receive
+//! queues.
 #![tactic(auto)]
 
 mod key;

@@ -1,5 +1,6 @@
 -- What generic routing encapsulation holds (RFC 2784, RFC 2890, and RFC 1701 for a bridged frame).
-use Rattle.std.specs.Prelude.{ℕ, ◌+◌, ◌*◌, ◌/◌, ◌%◌, Bool, ◌&&◌, ◌==◌, List, length, drop, nat_le, slice_index, if◌then◌else◌, Option, None}
+use Rattle.std.specs.Prelude.{ℕ, ◌+◌, ◌*◌, ◌/◌, ◌%◌, Bool, ◌&&◌, ◌==◌, List, length, drop, nat_le}
+use Rattle.std.specs.Prelude.{slice_index, if◌then◌else◌, Option, None}
 use Rattle.byteorder.specs.Endian.{big_number}
 use Rattle.flow_dissector.specs.Carried.{Carried, carries}
 use Rattle.flow_dissector.specs.Ethernet.{is_ip, packet_in}

@@ -1,5 +1,6 @@
 -- What a virtual extensible LAN holds (RFC 7348, section 5).
-use Rattle.std.specs.Prelude.{ℕ, ◌/◌, ◌%◌, Bool, ◌&&◌, ◌==◌, List, length, drop, nat_le, slice_index, if◌then◌else◌, Option, None}
+use Rattle.std.specs.Prelude.{ℕ, ◌/◌, ◌%◌, Bool, ◌&&◌, ◌==◌, List, length, drop, nat_le}
+use Rattle.std.specs.Prelude.{slice_index, if◌then◌else◌, Option, None}
 use Rattle.byteorder.specs.Endian.{big_number}
 use Rattle.flow_dissector.specs.Carried.{Carried}
 use Rattle.flow_dissector.specs.Ethernet.{packet_in}

@@ -1,7 +1,9 @@
 //! Writing a frame into a VXLAN.
-ghost use Rattle.std.specs.Prelude.{◌≡◌, ◌≤◌, ◌<◌, ◌+◌, ◌^◌, ◌++◌, length, OnOk, OnErr, IsOk, vec_len};
+ghost use Rattle.std.specs.Prelude.{◌≡◌, ◌≤◌, ◌<◌, ◌+◌, ◌^◌, ◌++◌, length, OnOk, OnErr, IsOk};
+ghost use Rattle.std.specs.Prelude.{vec_len};
 ghost use Rattle.std.specs.Vec.{vec_capacity};
-ghost use Rattle.tunnel_dissector.specs.Writing.{folded, header_checksum, vxlan_headers, vxlan_bytes};
+ghost use Rattle.tunnel_dissector.specs.Writing.{folded, header_checksum, vxlan_headers};
+ghost use Rattle.tunnel_dissector.specs.Writing.{vxlan_bytes};
 
 use byteorder::{BigEndian, ByteOrder};
 use steer_base::OutOfMemory;

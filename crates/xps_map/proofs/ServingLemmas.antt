@@ -15,13 +15,16 @@ and_true true = refl
 and_true false = refl
 
 -- its members are those that pass
-pub members-passing : (mask : CpuMask) (n : ℕ) (test : ℕ → Bool) → n ≤ 32 → HasPassing mask n test → members mask ≡ those_below n test
+pub members-passing : (mask : CpuMask) (n : ℕ) (test : ℕ → Bool) → n ≤ 32 → HasPassing mask n test
+    → members mask ≡ those_below n test
 members-passing mask n test few same =
     let e : n + (32 - n) ≡ 32 = omega arith in
     ap (λ k. those_below k (has mask)) (sym e)
-    ∙ those_below-fewer n (32 - n) (has mask) (λ i h. same i ∙ (let out : nat_lt i n ≡ false = grind arith in rw out refl))
+    ∙ those_below-fewer n (32 - n) (has mask) (λ i h. same i
+    ∙ (let out : nat_lt i n ≡ false = grind arith in rw out refl))
     ∙ those_below-same n (has mask) test (λ i lt. same i ∙ rw (lt-ltb i n lt) refl)
 
 -- the first n are all of them
-pub HasPassing-all : (mask : CpuMask) (n : ℕ) → ((i : ℕ) → has mask i ≡ nat_lt i n) → HasPassing mask n (λ i. true)
+pub HasPassing-all : (mask : CpuMask) (n : ℕ) → ((i : ℕ) → has mask i ≡ nat_lt i n)
+    → HasPassing mask n (λ i. true)
 HasPassing-all mask n first = λ i. first i ∙ sym (and_true (nat_lt i n))

@@ -18,8 +18,8 @@ use Rattle.board_api.specs.declared.lists.BoardLists.{BoardLists}
 module _ (about : BoardSizes) (own : ℕ → List BoardStep) (lists : BoardLists) where
   -- ---- heads
 
-  -- The head words that one seat loads of one lane never fall, and none counts more retires than the
-  -- lane has in the end.
+  -- The head words that one seat loads of one lane never fall, and none counts more retires than
+  -- the lane has in the end.
   pub record HeadsRise : Type 0 where
     pub rise : (q j k l before word : ℕ) → j < k → Has (own q) j (Weighed l before)
         → Has (own q) k (Weighed l word) → before ≤ word
@@ -73,8 +73,8 @@ module _ (about : BoardSizes) (own : ℕ → List BoardStep) (lists : BoardLists
 
   -- ---- lanes that were found empty
 
-  -- The closer closed the gate at its step `shut`, and before opening it loaded the head of the lane
-  -- l and then its word, which showed one number.
+  -- The closer closed the gate at its step `shut`, and before opening it loaded the head of the
+  -- lane l and then its word, which showed one number.
   pub record FindsEmpty (shut weighed counted l : ℕ) : Type 0 where
     pub word : ℕ
     pub head : ℕ

@@ -1,5 +1,5 @@
--- What the seats' own holds, pulls, deliveries and retires and the lists at the closing tell of each
--- other.
+-- What the seats' own holds, pulls, deliveries and retires and the lists at the closing tell of
+-- each other.
 use Rattle.std.specs.Prelude.{◌≡◌, ℕ, suc, ◌+◌, ◌-◌, ◌*◌, ◌<◌, ◌≤◌, List, Some, length, slice_get}
 use Rattle.steer_base.specs.Lanes.{LaneLists}
 use Rattle.history.specs.Lists.{lane_at, list_at}
@@ -42,9 +42,9 @@ module _ (about : BoardSizes) (own : ℕ → List BoardStep) (lists : BoardLists
 
   -- ---- the one seat that serves a lane
 
-  -- What was pulled, delivered and retired of a lane are the steps of the seat that pulls there: the
-  -- n-th pull and the n-th delivery are of the n-th accepted packet, along the deliveries to one out
-  -- lane the places rise, and the n-th retire found the head after n.
+  -- What was pulled, delivered and retired of a lane are the steps of the seat that pulls there:
+  -- the n-th pull and the n-th delivery are of the n-th accepted packet, along the deliveries to
+  -- one out lane the places rise, and the n-th retire found the head after n.
   pub record IsServedByOne (l : ℕ) : Type 0 where
     pub pulled : (lane_at lists.lanes l).pulled ≡ length (pulled_by l (own (puller about l)))
     pub delivered : (lane_at lists.lanes l).delivered

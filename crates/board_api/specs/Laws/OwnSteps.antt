@@ -17,8 +17,8 @@ TakenLanesAreHeld =
     (about : BoardSizes) (lane : LaneId) (old new : BoardSeatView) (held : HeldLane)
     → FitsLane about lane → Took about lane old new held → HoldsKind about new.steps lane held
 
--- By these steps a seat is at the gate as by those: it stands inside, outside or on its way back, it
--- has closed the gate or not, and its last visit has the same number.
+-- By these steps a seat is at the gate as by those: it stands inside, outside or on its way back,
+-- it has closed the gate or not, and its last visit has the same number.
 pub record StandsAs (now before : List BoardStep) : Type 0 where
   pub place : visit (gate_steps now) ≡ visit (gate_steps before)
   pub gate : closed (gate_steps now) ≡ closed (gate_steps before)

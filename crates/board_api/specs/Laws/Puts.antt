@@ -65,8 +65,8 @@ module _ (about : BoardSizes) (own : ℕ → List BoardStep) (lists : BoardLists
     pub count : length found.accepted ≡ j
     pub accepts : lane_drop_cause found hash ≡ None
 
-  -- The drop at index j came by a put: it found as many drops, and it keeps the counts that it found
-  -- and the cause.
+  -- The drop at index j came by a put: it found as many drops, and it keeps the counts that it
+  -- found and the cause.
   pub record WasDropped (l j : ℕ) (d : LaneDrop) : Type 0 where
     pub seat : ℕ
     pub step : ℕ

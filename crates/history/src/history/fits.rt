@@ -1,7 +1,8 @@
 //! What the types of a history's fields say of its numbers.
 ghost use Rattle.std.specs.Prelude.{◌<◌, ◌^◌};
 ghost use Rattle.std.specs.List.{All};
-ghost use Rattle.history.specs.Ranges.{ArrivalFits, ChosenFits, CommandedFits, DropFits, FitsIn, HistoryFits, LaneFits, SentFits, WriteFits};
+ghost use Rattle.history.specs.Ranges.{ArrivalFits, ChosenFits, CommandedFits, DropFits, FitsIn};
+ghost use Rattle.history.specs.Ranges.{HistoryFits, LaneFits, SentFits, WriteFits};
 
 use crate::arrival::Arrival;
 use crate::commanded::Commanded;

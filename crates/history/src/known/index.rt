@@ -1,5 +1,6 @@
 //! One slot for each packet, filled in one pass over each list of a history.
-ghost use Rattle.std.specs.Prelude.{◌≡◌, ℕ, ◌<◌, ◌+◌, ◌^◌, None, length, slice_index_or, replicate, IfOk};
+ghost use Rattle.std.specs.Prelude.{◌≡◌, ℕ, ◌<◌, ◌+◌, ◌^◌, None, length, slice_index_or, replicate};
+ghost use Rattle.std.specs.Prelude.{IfOk};
 ghost use Rattle.steer_base.specs.Entries.{place_in};
 ghost use Rattle.steer_base.specs.declared.put.Put.TheVariants.{Dropped as dropped};
 ghost use Rattle.history.specs.Finding.{first_some, found};

@@ -5,8 +5,10 @@ ghost use Rattle.std.specs.Option.{option_and, option_map, option_or};
 ghost use Rattle.steer_base.specs.Counters.{number};
 ghost use Rattle.steer_base.specs.declared.put.Put.TheVariants.{At as at_position};
 ghost use Rattle.history.specs.Known.{IsKnown, pulled_by};
-ghost use Rattle.history.specs.Lines.{packet_line as line_of_packet, reply_line as line_of_reply, via_of as via_of_arrival};
-ghost use Rattle.history.specs.Places.{place_by as first_place, place_of as place_of_packet, was_taken};
+ghost use Rattle.history.specs.Lines.{packet_line as line_of_packet, reply_line as line_of_reply};
+ghost use Rattle.history.specs.Lines.{via_of as via_of_arrival};
+ghost use Rattle.history.specs.Places.{place_by as first_place, place_of as place_of_packet};
+ghost use Rattle.history.specs.Places.{was_taken};
 ghost use Rattle.history.specs.Regular.{Regular};
 
 use crate::arrival::Arrival;

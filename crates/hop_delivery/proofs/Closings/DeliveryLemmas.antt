@@ -1,5 +1,6 @@
 -- Delivery in order by the lists that are left.
-use Rattle.std.proofs.Common.{◌≡◌, inl, inr, ℕ, ◌<◌, ◌≤◌, List, [], ◌∷◌, map, Some, sym, refl, ap, ◌∙◌, subst, arith}
+use Rattle.std.proofs.Common.{◌≡◌, inl, inr, ℕ, ◌<◌, ◌≤◌, List, [], ◌∷◌, map, Some, sym, refl, ap}
+use Rattle.std.proofs.Common.{◌∙◌, subst, arith}
 use Rattle.std.specs.List.{range_with_len}
 use Rattle.std.specs.Prelude.{slice_get}
 use Rattle.std.proofs.lemmas.Bool.{cases_lt}
@@ -39,7 +40,8 @@ drops-map : {A : Type 0} (f : A → LaneList) (xs : List A)
 drops-map f [] = refl
 drops-map f (x ∷ xs) = ap (λ ys. (f x).drops ∷ ys) (drops-map f xs)
 
-module _ (about : BoardSizes) (order : List (StepBy BoardStep)) (lawful : IsLawful about order) where
+module _ (about : BoardSizes) (order : List (StepBy BoardStep))
+    (lawful : IsLawful about order) where
   -- beyond the lanes of the board nothing was accepted, and nothing was delivered
   none_accepted : (l : ℕ) → about.lanes ≤ l → accepted about order l ≡ []
   none_accepted l past =

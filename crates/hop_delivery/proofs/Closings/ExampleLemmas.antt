@@ -9,7 +9,8 @@ use Rattle.hop_rule.specs.declared.step.BoardStep.{BoardStep}
 use Rattle.board_api.specs.Closings.Closings.{own_in, seats_in}
 use Rattle.board_api.specs.Closings.Finals.{lists_of}
 use Rattle.board_api.proofs.Endings.{each_order_closes}
-use Rattle.hop_delivery.specs.Orders.Examples.{MeetsAll, one_flow, one_queue, receive_board, receive_order}
+use Rattle.hop_delivery.specs.Orders.Examples.{MeetsAll, one_flow, one_queue, receive_board}
+use Rattle.hop_delivery.specs.Orders.Examples.{receive_order}
 use Rattle.hop_delivery.specs.Orders.Examples.{receive_story, transmit_board, transmit_order}
 use Rattle.hop_delivery.specs.Orders.Examples.{transmit_story}
 use Rattle.hop_delivery.specs.Orders.Premises.{MeetsPremises}

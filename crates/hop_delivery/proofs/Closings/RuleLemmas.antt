@@ -1,5 +1,7 @@
 -- A choice by what a queue's turns read is a choice by the settings of their visits.
-use Rattle.std.proofs.Common.{◌≡◌, ℕ, zero, suc, ◌+◌, ◌%◌, ◌^◌, ◌<◌, ◌≤◌, ◌==◌, Bool, true, List, Option, Some, None, take, drop, if◌then◌else◌, sym, refl, ap, ◌∙◌, subst, arith}
+use Rattle.std.proofs.Common.{◌≡◌, ℕ, zero, suc, ◌+◌, ◌%◌, ◌^◌, ◌<◌, ◌≤◌, ◌==◌, Bool, true, List}
+use Rattle.std.proofs.Common.{Option, Some, None, take, drop, if◌then◌else◌, sym, refl, ap, ◌∙◌}
+use Rattle.std.proofs.Common.{subst, arith}
 use Rattle.std.specs.Prelude.{nat_lt, slice_index}
 use Rattle.std.specs.List.{Contains}
 use Rattle.steer_base.specs.Choices.{desired_cpu, migrate, rps_choice_of}
@@ -14,13 +16,16 @@ use Rattle.hop_rule.specs.declared.step.BoardStep.{BoardStep}
 use Rattle.hop_rule.specs.declared.step.BoardStep.TheVariants.{Weighed}
 use Rattle.hop_rule.proofs.Moments.{nth-inside, nth-some}
 use Rattle.board_api.specs.declared.lists.BoardLists.{BoardLists}
-use Rattle.hop_delivery.specs.Orders.ReceiveSettings.{Queues, flows_word, mask, mask_word, online, online_word}
+use Rattle.hop_delivery.specs.Orders.ReceiveSettings.{Queues, flows_word, mask, mask_word, online}
+use Rattle.hop_delivery.specs.Orders.ReceiveSettings.{online_word}
 use Rattle.hop_delivery.specs.Orders.ReceiveSettings.{queues, receive_steering, rps}
-use Rattle.hop_delivery.specs.Orders.Runs.{Story, Steering, IsByRule, goal_of, settings_of_visit, turns_of}
+use Rattle.hop_delivery.specs.Orders.Runs.{Story, Steering, IsByRule, goal_of, settings_of_visit}
+use Rattle.hop_delivery.specs.Orders.Runs.{turns_of}
 use Rattle.hop_delivery.specs.Orders.Runs.{settings_at, word_of}
 use Rattle.hop_delivery.specs.Orders.Turns.{Turn, Explained}
 use Rattle.hop_delivery.specs.Closings.DeliveryLaw.{accepted_left}
-use Rattle.hop_delivery.specs.Closings.TurnReads.{HasSeen, IsBySeen, RulesAreByReads, TurnsReadSettings}
+use Rattle.hop_delivery.specs.Closings.TurnReads.{HasSeen, IsBySeen, RulesAreByReads}
+use Rattle.hop_delivery.specs.Closings.TurnReads.{TurnsReadSettings}
 
 -- the last resize before a choice, by the shapes up to it
 since-same : (f g : ℕ → ℕ) (i : ℕ) → ((j : ℕ) → j ≤ i → f j ≡ g j) → since_of f i ≡ since_of g i
@@ -60,7 +65,8 @@ module _ (q : Queues) (p : ℕ) (s z : ℕ → ℕ) (masks : s (mask_word q p) �
 module _ (about : BoardSizes) (own : ℕ → List BoardStep) (lists : BoardLists)
     (law : TurnsReadSettings about own lists) (q : Queues) (t : Story) (seen : ℕ → ℕ → ℕ)
     (p i : ℕ) (explained : Explained (own (t.seat p)) (t.turns (t.seat p)))
-    (sees : (j : ℕ) (v : Turn) → j ≤ i → nth_step (turns_of t p) j ≡ Some v → HasSeen q p v (seen j))
+    (sees : (j : ℕ) (v : Turn) → j ≤ i → nth_step (turns_of t p) j ≡ Some v → HasSeen q p v
+    (seen j))
   where
     abbrev steering : Steering
     steering = receive_steering q
@@ -111,7 +117,8 @@ module _ (about : BoardSizes) (own : ℕ → List BoardStep) (lists : BoardLists
           let class : steering.class (steering.shape (seen i) p) f
           ≡ steering.class (steering.shape (visits_at i) p) f =
           ap (λ x. steering.class x f) (shapes i (omega arith)) in
-          let goal : goal_of steering (seen i) p f (steering.class (steering.shape (seen i) p) f) want
+          let goal : goal_of steering (seen i) p f (steering.class (steering.shape (seen i) p) f)
+          want
           ≡ goal_of steering (visits_at i) p f
           (steering.class (steering.shape (visits_at i) p) f) want =
           ap (λ c. goal_of steering (seen i) p f c want) class

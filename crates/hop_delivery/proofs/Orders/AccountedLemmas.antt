@@ -40,13 +40,16 @@ use Rattle.hop_rule.proofs.Openings.{settings_are_the_closers, visits_show_setti
 use Rattle.hop_rule.proofs.Boards.{lawful_past}
 use Rattle.hop_rule.proofs.OwnMoments.{past_own}
 use Rattle.hop_rule.proofs.Parts.{at_moment, from_moment, moments_rise}
-use Rattle.hop_delivery.specs.Orders.Premises.{MeetsPremises, WasFoundEmpty, FindsEmpty, AllFindEmpty}
+use Rattle.hop_delivery.specs.Orders.Premises.{MeetsPremises, WasFoundEmpty, FindsEmpty}
+use Rattle.hop_delivery.specs.Orders.Premises.{AllFindEmpty}
 use Rattle.hop_delivery.specs.Orders.Premises.{GoesRight}
 use Rattle.hop_delivery.specs.Orders.Runs as stories
 use Rattle.hop_delivery.specs.Orders.Runs.{Story, Steering, turns_of, word_of}
 use Rattle.hop_delivery.specs.Orders.Turns.{Turn, put_step}
-use Rattle.hop_delivery.proofs.Orders.AccountLemmas.{Account, IsAccount, IsRuled, HasVisit, WasLoaded, chosen}
-use Rattle.hop_delivery.proofs.Orders.TurnLemmas.{Places, VisitAt, turns_have_places, nth-split, nth-first}
+use Rattle.hop_delivery.proofs.Orders.AccountLemmas.{Account, IsAccount, IsRuled, HasVisit}
+use Rattle.hop_delivery.proofs.Orders.AccountLemmas.{WasLoaded, chosen}
+use Rattle.hop_delivery.proofs.Orders.TurnLemmas.{Places, VisitAt, turns_have_places, nth-split}
+use Rattle.hop_delivery.proofs.Orders.TurnLemmas.{nth-first}
 
 -- the last change of a size, by the sizes up to a choice
 since-same : (f g : ℕ → ℕ) (i : ℕ) → ((j : ℕ) → j ≤ i → f j ≡ g j) → since_of f i ≡ since_of g i

@@ -13,9 +13,11 @@ use Rattle.steer_base.specs.declared.command.Command.TheVariants.{Online, XCpus,
 use Rattle.steer_base.specs.declared.command.Command.TheVariants.{Stand, Expire}
 use Rattle.steer_base.specs.declared.cpu_mask.CpuMask.{CpuMask}
 use Rattle.steer_base.proofs.MasksLemmas.{has-with_cpu, has-without_cpu}
-use Rattle.hop_delivery.specs.Orders.Commands.{Made, made, received_sets, sent_sets, NamesCpu, AreAffected}
+use Rattle.hop_delivery.specs.Orders.Commands.{Made, made, received_sets, sent_sets, NamesCpu}
+use Rattle.hop_delivery.specs.Orders.Commands.{AreAffected}
 use Rattle.hop_delivery.specs.Orders.Commands.{ReceivedCommandsEmpty, SentCommandsEmpty}
-use Rattle.hop_delivery.specs.Orders.ReceiveSettings.{Queues, came_on, empty_for_mask, must_be_empty, online}
+use Rattle.hop_delivery.specs.Orders.ReceiveSettings.{Queues, came_on, empty_for_mask}
+use Rattle.hop_delivery.specs.Orders.ReceiveSettings.{must_be_empty, online}
 use Rattle.hop_delivery.specs.Orders.ReceiveSettings.{online_word, receive_steering}
 use Rattle.hop_delivery.specs.Orders.TransmitSettings.{transmit_steering}
 

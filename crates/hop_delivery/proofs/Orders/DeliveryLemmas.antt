@@ -35,8 +35,10 @@ use Rattle.hop_delivery.specs.Orders.DeliveryLaw.{DeliversInOrder}
 use Rattle.hop_delivery.specs.Orders.Runs.{Steering, IsSteering}
 use Rattle.hop_delivery.proofs.Orders.AccountedLemmas.{account, is_account}
 use Rattle.hop_delivery.proofs.Orders.AccountLemmas.{Account, IsAccount, At, chosen, lane_chosen}
-use Rattle.hop_delivery.proofs.Orders.FilterLemmas.{any-of, any-at, any-range, range-any, prefix_of_parts}
-use Rattle.hop_delivery.proofs.Orders.PlaceLemmas.{place-get, put_is, once, at_put, put_at, own_put, same_put}
+use Rattle.hop_delivery.proofs.Orders.FilterLemmas.{any-of, any-at, any-range, range-any}
+use Rattle.hop_delivery.proofs.Orders.FilterLemmas.{prefix_of_parts}
+use Rattle.hop_delivery.proofs.Orders.PlaceLemmas.{place-get, put_is, once, at_put, put_at, own_put}
+use Rattle.hop_delivery.proofs.Orders.PlaceLemmas.{same_put}
 use Rattle.hop_delivery.proofs.Orders.PlaceLemmas.{found_at, in_range, rises as places_rise}
 use Rattle.hop_delivery.proofs.Orders.WalkLemmas.{passed}
 

@@ -23,7 +23,8 @@ use Rattle.hop_rule.proofs.Gates.{unshut}
 use Rattle.hop_rule.proofs.Moments.{one-step}
 use Rattle.hop_rule.proofs.Visits.{set_between, inside_at, closed_at}
 use Rattle.hop_delivery.specs.Orders.Runs.{Steering}
-use Rattle.hop_delivery.proofs.Orders.AccountLemmas.{Account, IsAccount, At, chosen, lane_chosen, retired_at}
+use Rattle.hop_delivery.proofs.Orders.AccountLemmas.{Account, IsAccount, At, chosen, lane_chosen}
+use Rattle.hop_delivery.proofs.Orders.AccountLemmas.{retired_at}
 use Rattle.hop_delivery.proofs.Orders.AccountLemmas.{settings_at}
 use Rattle.hop_delivery.proofs.Orders.PlaceLemmas.{counts, in_range, put_before, puts_rise}
 

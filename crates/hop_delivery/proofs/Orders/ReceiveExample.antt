@@ -20,14 +20,18 @@ use Rattle.hop_delivery.specs.Orders.Premises.{MeetsPremises, AllFindEmpty, Find
 use Rattle.hop_delivery.specs.Orders.Premises.{WasFoundEmpty}
 use Rattle.hop_delivery.specs.Orders.Runs.{Steering, IsByRule, before, turns_of}
 use Rattle.hop_delivery.specs.Orders.Turns.{Turn, Explained}
-use Rattle.hop_delivery.proofs.Orders.ExampleLemmas.{own_empty, all_true, nth_of_all, Each, all_of_each}
+use Rattle.hop_delivery.proofs.Orders.ExampleLemmas.{own_empty, all_true, nth_of_all, Each}
+use Rattle.hop_delivery.proofs.Orders.ExampleLemmas.{all_of_each}
 use Rattle.hop_delivery.proofs.Orders.ExampleLemmas.{none_of, range_index}
 use Rattle.std.specs.Prelude.{slice_get}
 use Rattle.steer_base.specs.declared.put.DropCause.TheVariants.{Full}
 use Rattle.steer_base.specs.declared.put.Put.TheVariants.{At, Dropped}
-use Rattle.hop_delivery.specs.Orders.Examples.{ReceiveExample, between, turn, first_chosen, kept_chosen}
-use Rattle.hop_delivery.specs.Orders.Examples.{moved_chosen, other_chosen, again_chosen, four_entries}
-use Rattle.hop_delivery.specs.Orders.Examples.{one_queue, receive_board, receive_order, receive_story}
+use Rattle.hop_delivery.specs.Orders.Examples.{ReceiveExample, between, turn, first_chosen}
+use Rattle.hop_delivery.specs.Orders.Examples.{kept_chosen}
+use Rattle.hop_delivery.specs.Orders.Examples.{moved_chosen, other_chosen, again_chosen}
+use Rattle.hop_delivery.specs.Orders.Examples.{four_entries}
+use Rattle.hop_delivery.specs.Orders.Examples.{one_queue, receive_board, receive_order}
+use Rattle.hop_delivery.specs.Orders.Examples.{receive_story}
 use Rattle.hop_delivery.specs.Orders.Examples.{receive_turns}
 use Rattle.hop_delivery.specs.Orders.ReceiveSettings.{receive_steering}
 use Rattle.hop_delivery.proofs.Orders.ReceiveMoves.{receive_lawful}

@@ -11,8 +11,10 @@ use Rattle.steer_base.specs.Sets.{has, those_below, is_empty, at_hash}
 use Rattle.steer_base.specs.declared.cpu_mask.CpuMask.{CpuMask}
 use Rattle.hop_rule.specs.Gates.{with_setting}
 use Rattle.hop_delivery.specs.Orders.Runs.{IsSteering, goal_of}
-use Rattle.hop_delivery.specs.Orders.ReceiveSettings.{Queues, mask, queues, online_word, online, rps, came_on}
-use Rattle.hop_delivery.specs.Orders.ReceiveSettings.{empty_for_mask, must_be_empty, receive_steering}
+use Rattle.hop_delivery.specs.Orders.ReceiveSettings.{Queues, mask, queues, online_word, online}
+use Rattle.hop_delivery.specs.Orders.ReceiveSettings.{rps, came_on}
+use Rattle.hop_delivery.specs.Orders.ReceiveSettings.{empty_for_mask, must_be_empty}
+use Rattle.hop_delivery.specs.Orders.ReceiveSettings.{receive_steering}
 use Rattle.hop_delivery.specs.Orders.ReceiveSettings.{GoalsAreOnline}
 
 any-here : (test : ℕ → Bool) (xs : List ℕ) (i : ℕ) → i < length xs → test (slice_index xs i) ≡ true

@@ -18,12 +18,15 @@ use Rattle.hop_rule.proofs.Lists.{none-some, some-is}
 use Rattle.hop_delivery.specs.Orders.Premises.{MeetsPremises, AllFindEmpty, GoesRight}
 use Rattle.hop_delivery.specs.Orders.Runs.{Steering, IsByRule, before, turns_of}
 use Rattle.hop_delivery.specs.Orders.Turns.{Turn, Explained}
-use Rattle.hop_delivery.proofs.Orders.ExampleLemmas.{own_empty, all_true, nth_of_all, Each, all_of_each}
+use Rattle.hop_delivery.proofs.Orders.ExampleLemmas.{own_empty, all_true, nth_of_all, Each}
+use Rattle.hop_delivery.proofs.Orders.ExampleLemmas.{all_of_each}
 use Rattle.hop_delivery.proofs.Orders.ExampleLemmas.{none_of, range_index}
 use Rattle.std.specs.Prelude.{slice_get}
 use Rattle.steer_base.specs.declared.put.Put.TheVariants.{At}
-use Rattle.hop_delivery.specs.Orders.Examples.{TransmitExample, between, turn, first_reply, kept_reply}
-use Rattle.hop_delivery.specs.Orders.Examples.{moved_reply, one_flow, transmit_board, transmit_order}
+use Rattle.hop_delivery.specs.Orders.Examples.{TransmitExample, between, turn, first_reply}
+use Rattle.hop_delivery.specs.Orders.Examples.{kept_reply}
+use Rattle.hop_delivery.specs.Orders.Examples.{moved_reply, one_flow, transmit_board}
+use Rattle.hop_delivery.specs.Orders.Examples.{transmit_order}
 use Rattle.hop_delivery.specs.Orders.Examples.{transmit_story, transmit_turns}
 use Rattle.hop_delivery.specs.Orders.TransmitSettings.{transmit_steering}
 use Rattle.hop_delivery.proofs.Orders.TransmitMoves.{transmit_lawful}

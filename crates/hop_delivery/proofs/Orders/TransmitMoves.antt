@@ -4,7 +4,8 @@ use Rattle.linearization.specs.Orders.{StepBy}
 use Rattle.hop_rule.specs.Boards.{IsLawful}
 use Rattle.hop_rule.specs.Gates.{Visit, outside, inside, backing}
 use Rattle.hop_rule.specs.declared.step.BoardStep.{BoardStep}
-use Rattle.hop_delivery.specs.Orders.Examples.{drains, transmit_board, transmit_order, transmit_rows}
+use Rattle.hop_delivery.specs.Orders.Examples.{drains, transmit_board, transmit_order}
+use Rattle.hop_delivery.specs.Orders.Examples.{transmit_rows}
 use Rattle.hop_delivery.specs.Orders.Examples.{visits, weighed_visits}
 use Rattle.hop_delivery.specs.Orders.Plays.{plays_rows}
 use Rattle.hop_delivery.proofs.Orders.PlayLemmas.{MayPlay, rows_lawfully}

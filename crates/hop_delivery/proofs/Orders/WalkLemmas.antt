@@ -27,7 +27,8 @@ use Rattle.hop_rule.specs.declared.step.BoardStep.{BoardStep}
 use Rattle.hop_rule.specs.declared.step.BoardStep.TheVariants.{Weighed}
 use Rattle.hop_rule.proofs.Boards.{few, lawful_past, retired_later, step_lawful}
 use Rattle.hop_delivery.specs.Orders.Runs.{IsSteering, Steering, goal_of}
-use Rattle.hop_delivery.proofs.Orders.AccountLemmas.{Account, IsAccount, IsRuled, At, before, chosen, class_at}
+use Rattle.hop_delivery.proofs.Orders.AccountLemmas.{Account, IsAccount, IsRuled, At, before}
+use Rattle.hop_delivery.proofs.Orders.AccountLemmas.{chosen, class_at}
 use Rattle.hop_delivery.proofs.Orders.AccountLemmas.{flow_at, lane_chosen, retired_at, settings_at}
 use Rattle.hop_delivery.proofs.Orders.AccountLemmas.{shape_at}
 use Rattle.hop_delivery.proofs.Orders.EmptyingLemmas.{empties}

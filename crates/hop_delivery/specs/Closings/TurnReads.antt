@@ -13,7 +13,8 @@ use Rattle.hop_rule.specs.declared.step.GateStep.TheVariants.{Read}
 use Rattle.board_api.specs.declared.lists.BoardLists.{BoardLists}
 use Rattle.hop_delivery.specs.Orders.ReceiveSettings.{Queues, queues, receive_steering}
 use Rattle.hop_delivery.specs.Orders.ReceiveSettings.{flows_word, mask_word, online_word}
-use Rattle.hop_delivery.specs.Orders.Runs.{Story, Steering, IsByRule, goal_of, settings_of_visit, turns_of}
+use Rattle.hop_delivery.specs.Orders.Runs.{Story, Steering, IsByRule, goal_of, settings_of_visit}
+use Rattle.hop_delivery.specs.Orders.Runs.{turns_of}
 use Rattle.hop_delivery.specs.Orders.Turns.{Turn, Explained}
 use Rattle.hop_delivery.specs.Closings.DeliveryLaw.{accepted_left}
 

@@ -1,7 +1,8 @@
 //! The step of a text.
 ghost use Rattle.std.specs.Prelude.{◌≡◌, ◌≤◌, true, IsSome, IfSome, IfOk};
 ghost use Rattle.plan_reader.specs.Ranges.{step_is_within};
-ghost use Rattle.plan_reader.specs.StepTexts.{number_step, pair_step, takes_set, set_step, two_arguments, some_arguments, step_of};
+ghost use Rattle.plan_reader.specs.StepTexts.{number_step, pair_step, takes_set, set_step};
+ghost use Rattle.plan_reader.specs.StepTexts.{two_arguments, some_arguments, step_of};
 ghost use Rattle.plan_reader.specs.Texts.{set_of, before, after};
 
 use crate::faults::cause::Cause;

@@ -2,7 +2,8 @@
 ghost use Rattle.std.specs.Prelude.{◌≡◌, ◌<◌, slice_index_or};
 ghost use Rattle.history.specs.Lists.{arrival_of};
 ghost use Rattle.hop_core.specs.declared.event.HopEvent.TheVariants as event;
-ghost use Rattle.steer_model.specs.Steps.Applications.{in_reply, next_in, nothing_sent, reply_to, send};
+ghost use Rattle.steer_model.specs.Steps.Applications.{in_reply, next_in, nothing_sent, reply_to};
+ghost use Rattle.steer_model.specs.Steps.Applications.{send};
 ghost use Rattle.steer_model.specs.Steps.Applications.{sending, tput, tweigh};
 ghost use Rattle.steer_model.specs.Steps.Outcomes.{by_tx};
 ghost use Rattle.steer_model.specs.Steps.CompoundSteps.{replying};

@@ -3,7 +3,8 @@ ghost use Rattle.std.specs.Prelude.{◌≡◌, ◌<◌, length, true};
 ghost use Rattle.history.specs.Regular.{has_text};
 ghost use Rattle.steer_base.specs.Commands.{refusal};
 ghost use Rattle.steer_invariant.specs.StepInvariant.{IsCommandNamed};
-ghost use Rattle.steer_model.specs.Steps.Commands.{affects, answer_to, by_gate, gated, given, listed};
+ghost use Rattle.steer_model.specs.Steps.Commands.{affects, answer_to, by_gate, gated, given};
+ghost use Rattle.steer_model.specs.Steps.Commands.{listed};
 
 use crate::actors::Actors;
 use crate::actors::old_filters::count_old;

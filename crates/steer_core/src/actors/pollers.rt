@@ -4,7 +4,8 @@ ghost use Rattle.hop_core.specs.declared.event.HopEvent.TheVariants as event;
 ghost use Rattle.hop_core.specs.Hop.{next_of};
 ghost use Rattle.steer_model.specs.State.Machine.{note_of};
 ghost use Rattle.steer_model.specs.Steps.Outcomes.{by_rx};
-ghost use Rattle.steer_model.specs.Steps.Pollers.{ask, leave, look, put, seen_by, take, weigh, weighing};
+ghost use Rattle.steer_model.specs.Steps.Pollers.{ask, leave, look, put, seen_by, take, weigh};
+ghost use Rattle.steer_model.specs.Steps.Pollers.{weighing};
 ghost use Rattle.steer_model.specs.Steps.Pollers.{with_filter};
 
 use crate::actors::Actors;

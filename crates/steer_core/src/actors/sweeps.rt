@@ -1,7 +1,8 @@
 //! A sweep: rounds of all actors until one in which no work was done.
 ghost use Rattle.std.specs.Prelude.{◌≡◌, ◌≤◌, false, length};
 ghost use Rattle.steer_core.specs.Rooms.{HasSpare};
-ghost use Rattle.steer_model.specs.Steps.CompoundSteps.{drain, for_each, most_rounds as the_most, one_round, poll};
+ghost use Rattle.steer_model.specs.Steps.CompoundSteps.{drain, for_each, most_rounds as the_most};
+ghost use Rattle.steer_model.specs.Steps.CompoundSteps.{one_round, poll};
 ghost use Rattle.steer_model.specs.Steps.CompoundSteps.{serve, ship, sweep};
 
 use crate::actors::Actors;

@@ -4,7 +4,8 @@ ghost use Rattle.plan_reader.specs.Ranges.{step_is_within};
 ghost use Rattle.steer_core.specs.Rooms.{HasRoomFor, HasSpare};
 ghost use Rattle.steer_invariant.specs.StepInvariant.{sizes_in};
 ghost use Rattle.steer_model.specs.Steps.SingleSteps.{simple};
-ghost use Rattle.steer_model.specs.Steps.CompoundSteps.{drain, drain_one, poll, recorded, reply, replying, serve};
+ghost use Rattle.steer_model.specs.Steps.CompoundSteps.{drain, drain_one, poll, recorded, reply};
+ghost use Rattle.steer_model.specs.Steps.CompoundSteps.{replying, serve};
 ghost use Rattle.steer_model.specs.Steps.CompoundSteps.{ship, ship_one, tried, tries};
 
 use crate::actors::Actors;

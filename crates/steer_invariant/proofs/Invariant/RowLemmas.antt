@@ -18,7 +18,8 @@ use Rattle.history.specs.Regular.{has_text}
 use Rattle.history.specs.declared.arrival.Arrival.{Arrival}
 use Rattle.history.specs.declared.sent.Sent.{Sent}
 use Rattle.history.specs.declared.sock_write.SockWrite.{SockWrite}
-use Rattle.steer_model.specs.Steps.Applications.{in_lane, in_reply, next_in, reply_to, sending, sent_of}
+use Rattle.steer_model.specs.Steps.Applications.{in_lane, in_reply, next_in, reply_to, sending}
+use Rattle.steer_model.specs.Steps.Applications.{sent_of}
 use Rattle.steer_model.specs.Steps.Commands.{answer_to, listed}
 use Rattle.steer_model.specs.State.Machine.{Machine, last_of, note_of}
 use Rattle.steer_model.specs.State.Notes.{asking, is_asking}
@@ -30,17 +31,22 @@ use Rattle.steer_invariant.specs.Ranges.{IsRanged}
 use Rattle.steer_invariant.specs.RecordedLists.{IsRecorded}
 use Rattle.steer_invariant.proofs.StepInvariant.ArrivalLemmas.{kept_arrive, next_arrival}
 use Rattle.steer_invariant.proofs.StepInvariant.CommandLemmas.{StepInvariant-listed}
-use Rattle.steer_invariant.proofs.StepInvariant.PollerLemmas.{kept_deliver, kept_enter, kept_leave, kept_look}
+use Rattle.steer_invariant.proofs.StepInvariant.PollerLemmas.{kept_deliver, kept_enter, kept_leave}
+use Rattle.steer_invariant.proofs.StepInvariant.PollerLemmas.{kept_look}
 use Rattle.steer_invariant.proofs.StepInvariant.PollerLemmas.{kept_pull, kept_retire, kept_take}
 use Rattle.steer_invariant.proofs.StepInvariant.PutLemmas.{kept_ask, kept_asking, kept_put}
 use Rattle.steer_invariant.proofs.StepInvariant.RecordLemmas.{kept_visited, kept_wrote}
-use Rattle.steer_invariant.proofs.StepInvariant.ReplyLemmas.{kept_send, kept_tdeliver, kept_tenter, kept_tleave}
-use Rattle.steer_invariant.proofs.StepInvariant.ReplyLemmas.{kept_tpull, kept_tput, kept_tretire, kept_tweigh}
+use Rattle.steer_invariant.proofs.StepInvariant.ReplyLemmas.{kept_send, kept_tdeliver, kept_tenter}
+use Rattle.steer_invariant.proofs.StepInvariant.ReplyLemmas.{kept_tleave}
+use Rattle.steer_invariant.proofs.StepInvariant.ReplyLemmas.{kept_tpull, kept_tput, kept_tretire}
+use Rattle.steer_invariant.proofs.StepInvariant.ReplyLemmas.{kept_tweigh}
 use Rattle.steer_invariant.proofs.StepInvariant.WeighLemmas.{kept_weigh}
-use Rattle.steer_invariant.proofs.Ranges.RangeLemmas.{last_below, ranged-ask, ranged-asking, ranged-noted}
+use Rattle.steer_invariant.proofs.Ranges.RangeLemmas.{last_below, ranged-ask, ranged-asking}
+use Rattle.steer_invariant.proofs.Ranges.RangeLemmas.{ranged-noted}
 use Rattle.steer_invariant.proofs.Recorded.ArrivalLemmas.{recorded-arrives}
 use Rattle.steer_invariant.proofs.Recorded.CommandLemmas.{recorded-listed, text-answer}
-use Rattle.steer_invariant.proofs.Recorded.RowLemmas.{recorded-choices, recorded-deliver, recorded-outs}
+use Rattle.steer_invariant.proofs.Recorded.RowLemmas.{recorded-choices, recorded-deliver}
+use Rattle.steer_invariant.proofs.Recorded.RowLemmas.{recorded-outs}
 use Rattle.steer_invariant.proofs.Recorded.RowLemmas.{recorded-sends, recorded-tweigh}
 
 -- an event of the receive hop that delivers nothing, and one of the transmit hop that weighs
@@ -326,5 +332,6 @@ held_listed m c a text h =
     }
 
 -- with the answer that some machine gives to it
-pub held_answered : (m n : Machine) (c : Command) → Invariant n → Invariant (listed n c (answer_to m c))
+pub held_answered : (m n : Machine) (c : Command) → Invariant n → Invariant
+    (listed n c (answer_to m c))
 held_answered m n c h = held_listed n c (answer_to m c) (text-answer m c) h

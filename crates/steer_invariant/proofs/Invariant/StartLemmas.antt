@@ -38,7 +38,8 @@ use Rattle.steer_model.proofs.Origins.TableWriteLemmas.{no-filters}
 use Rattle.steer_invariant.specs.Invariant.{Invariant}
 use Rattle.steer_invariant.specs.InvariantLaws.{MayStart}
 use Rattle.steer_invariant.specs.StepInvariant.{StepInvariant}
-use Rattle.steer_invariant.specs.HopInvariants.{BySettings, IsNoted, RxInvariant, TxInvariant, Manned}
+use Rattle.steer_invariant.specs.HopInvariants.{BySettings, IsNoted, RxInvariant, TxInvariant}
+use Rattle.steer_invariant.specs.HopInvariants.{Manned}
 use Rattle.steer_invariant.specs.ListInvariants.{ListSizes, Routes, SettingSizes}
 use Rattle.steer_invariant.specs.Ranges.{IsRanged}
 use Rattle.steer_invariant.specs.RecordedLists.{IsRecorded}

@@ -27,7 +27,8 @@ use Rattle.steer_invariant.proofs.NamedLiftLemmas.{after-keeps, step-keeps}
 use Rattle.steer_invariant.proofs.Ranges.StepLemmas.{ranged-simple}
 use Rattle.steer_invariant.proofs.Recorded.StepLemmas.{recorded-simple}
 
-pub held-simple : (m : Machine) (s : Step) → IsNamed m.setup s → Invariant m → Invariant (simple m s).0
+pub held-simple : (m : Machine) (s : Step) → IsNamed m.setup s → Invariant m → Invariant
+    (simple m s).0
 held-simple m s named h =
     record {
       kept = (goes-simple m h.kept s named).kept;

@@ -158,7 +158,8 @@ read-or [] i = refl
 read-or (c ∷ cs) zero = refl
 read-or (c ∷ cs) (suc i) = read-or cs i
 
-pub last_below : (m : Machine) (q : ℕ) → StepInvariant m → (last_of m.rx q).choice.lane < m.setup.cpus
+pub last_below : (m : Machine) (q : ℕ) → StepInvariant m
+    → (last_of m.rx q).choice.lane < m.setup.cpus
 last_below m q k =
     let cs : List Chosen = choices_of m.rx q in
     let at : ℕ = length cs - 1 in

@@ -21,7 +21,8 @@ use Rattle.steer_invariant.specs.StepInvariant.{IsNamed, StepInvariant}
 use Rattle.steer_invariant.specs.Ranges.{IsRanged}
 use Rattle.steer_invariant.proofs.EitherLemmas.{either}
 use Rattle.steer_invariant.proofs.StepInvariant.PutLemmas.{kept_put}
-use Rattle.steer_invariant.proofs.Ranges.RangeLemmas.{last_below, ranged-ask, ranged-asking, ranged-noted}
+use Rattle.steer_invariant.proofs.Ranges.RangeLemmas.{last_below, ranged-ask, ranged-asking}
+use Rattle.steer_invariant.proofs.Ranges.RangeLemmas.{ranged-noted}
 use Rattle.steer_invariant.proofs.Ranges.RangeLemmas.{ranged-set}
 
 -- an outcome with a machine in which the ranges are kept

@@ -40,7 +40,8 @@ sent-arrived m a j d k r lt =
     (is_in-prefix x ids (out_at m.rx.bare a) (k.replied.first a)
     (ap (λ y. is_in y ids) (sym is) ∙ in-index ids j (omega (arith, lt, long))))
 
-queues-stay : (m : Machine) (a : Arrival) → a.id ≡ length m.arrivals → StepInvariant m → IsRecorded m
+queues-stay : (m : Machine) (a : Arrival) → a.id ≡ length m.arrivals → StepInvariant m
+    → IsRecorded m
     → KeepQueues (m.arrivals ++ a ∷ []) (list_at m.sent)
 queues-stay m a is k r b j d lt =
     let x : ℕ = (get_or (list_at m.sent b) j d).id in

@@ -18,7 +18,8 @@ use Rattle.hop_core.specs.Emptied.{emptied_of}
 use Rattle.hop_core.specs.Events.{run}
 use Rattle.hop_core.specs.Hop.{HopState}
 use Rattle.history.specs.Regular.{has_text}
-use Rattle.steer_model.specs.Steps.Commands.{affects, answer_to, by_gate, gate_answer, given, is_done}
+use Rattle.steer_model.specs.Steps.Commands.{affects, answer_to, by_gate, gate_answer, given}
+use Rattle.steer_model.specs.Steps.Commands.{is_done}
 use Rattle.steer_model.specs.Steps.Commands.{listed, refused_answer, refused_or, set_by}
 use Rattle.steer_model.specs.State.Machine.{Machine}
 use Rattle.steer_invariant.specs.RecordedLists.{IsRecorded}

@@ -30,13 +30,16 @@ use Rattle.hop_core.proofs.Leaves.{each_leaves}
 use Rattle.history.specs.Lists.{app_at, arrival_of, packet_at}
 use Rattle.history.specs.declared.sent.Sent.{Sent}
 use Rattle.steer_model.specs.Steps.Applications.{deliver, everyone, in_lane, in_reply, next_in}
-use Rattle.steer_model.specs.Steps.Applications.{nothing_sent, pick_for, record_by, record_flow, reply_to}
-use Rattle.steer_model.specs.Steps.Applications.{send, send_by, sending, sends, sent_of, tput, tweigh}
+use Rattle.steer_model.specs.Steps.Applications.{nothing_sent, pick_for, record_by, record_flow}
+use Rattle.steer_model.specs.Steps.Applications.{reply_to}
+use Rattle.steer_model.specs.Steps.Applications.{send, send_by, sending, sends, sent_of, tput}
+use Rattle.steer_model.specs.Steps.Applications.{tweigh}
 use Rattle.steer_model.specs.Steps.Applications.{visited, wrote}
 use Rattle.steer_model.specs.State.Machine.{Machine, last_of, note_of}
 use Rattle.steer_model.specs.State.Notes.{is_asking, is_nothing}
 use Rattle.steer_model.specs.Steps.Outcomes.{Outcome, by_rx, by_tx, idles}
-use Rattle.steer_model.specs.Steps.Pollers.{ask, ask_by, leave, look, look_by, position_of, put, put_by}
+use Rattle.steer_model.specs.Steps.Pollers.{ask, ask_by, leave, look, look_by, position_of, put}
+use Rattle.steer_model.specs.Steps.Pollers.{put_by}
 use Rattle.steer_model.specs.Steps.Pollers.{putting, take, weigh, weigh_by, weighing}
 use Rattle.steer_model.specs.State.Setup.{app_for, flow_hash, flow_of, hash_of}
 use Rattle.steer_model.specs.declared.note.Note.{Note}
@@ -252,7 +255,8 @@ by_entry-want k want desired tail head online (Some c) =
     ]
 
 -- the reply that is weighed next is to the packet that the transmit hop weighs next
-pub in_reply-is : (m : Machine) (a : ℕ) → length (choices_of m.tx a) < taken_of m.tx a → StepInvariant m
+pub in_reply-is : (m : Machine) (a : ℕ) → length (choices_of m.tx a) < taken_of m.tx a
+    → StepInvariant m
     → next_of m.tx a ≡ (in_reply m a).id
 in_reply-is m a more k =
     let n : ℕ = length (choices_of m.tx a) in
@@ -278,7 +282,8 @@ recorded-chose m a class pick is r =
       all-pushed (λ _ e. IsSome e.choice.want) m.tx.choices a d (ap is_some want) r.weighed.want,
     )
 
-pub recorded-tweigh : (m : Machine) (a : ℕ) → StepInvariant m → IsRecorded m → IsRecorded (tweigh m a).0
+pub recorded-tweigh : (m : Machine) (a : ℕ) → StepInvariant m → IsRecorded m → IsRecorded
+    (tweigh m a).0
 recorded-tweigh m a k r =
     let s : Sent = in_reply m a in
     by_cases (λ t. IsRecorded (record m { tx = t })) m.tx (sending m a s) r

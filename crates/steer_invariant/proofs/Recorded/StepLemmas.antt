@@ -10,12 +10,15 @@ use Rattle.steer_invariant.specs.StepInvariant.{StepInvariant}
 use Rattle.steer_invariant.specs.RecordedLists.{IsRecorded}
 use Rattle.steer_invariant.proofs.Recorded.ArrivalLemmas.{recorded-arrive}
 use Rattle.steer_invariant.proofs.Recorded.CommandLemmas.{recorded-give}
-use Rattle.steer_invariant.proofs.Recorded.RowLemmas.{recorded-ask, recorded-deliver, recorded-leave}
+use Rattle.steer_invariant.proofs.Recorded.RowLemmas.{recorded-ask, recorded-deliver}
+use Rattle.steer_invariant.proofs.Recorded.RowLemmas.{recorded-leave}
 use Rattle.steer_invariant.proofs.Recorded.RowLemmas.{recorded-look, recorded-put, recorded-record}
-use Rattle.steer_invariant.proofs.Recorded.RowLemmas.{recorded-rx, recorded-send, recorded-take, recorded-tput}
+use Rattle.steer_invariant.proofs.Recorded.RowLemmas.{recorded-rx, recorded-send, recorded-take}
+use Rattle.steer_invariant.proofs.Recorded.RowLemmas.{recorded-tput}
 use Rattle.steer_invariant.proofs.Recorded.RowLemmas.{recorded-tweigh, recorded-tx, recorded-weigh}
 
-pub recorded-simple : (m : Machine) (s : Step) → StepInvariant m → IsRecorded m → IsRecorded (simple m s).0
+pub recorded-simple : (m : Machine) (s : Step) → StepInvariant m → IsRecorded m → IsRecorded
+    (simple m s).0
 recorded-simple m act.Arrive k r = recorded-arrive m k r
 recorded-simple m (act.Take q) k r = recorded-take m q r
 recorded-simple m (act.Enter q) k r = recorded-rx m (event.Enter q) refl r

@@ -24,7 +24,8 @@ use Rattle.steer_model.specs.Steps.Pollers.{arrival_by, route_by}
 use Rattle.steer_model.specs.State.Setup.{hash_of}
 use Rattle.steer_invariant.specs.StepInvariant.{StepInvariant}
 use Rattle.steer_invariant.specs.ListInvariants.{Came}
-use Rattle.steer_invariant.proofs.StepInvariant.FrameLemmas.{manned-leaves, noted-leaves, replied-inbox}
+use Rattle.steer_invariant.proofs.StepInvariant.FrameLemmas.{manned-leaves, noted-leaves}
+use Rattle.steer_invariant.proofs.StepInvariant.FrameLemmas.{replied-inbox}
 use Rattle.steer_invariant.proofs.StepInvariant.PollerLemmas.{StepInvariant-rx}
 use Rattle.steer_invariant.proofs.StepInvariant.RouteLemmas.{route-below}
 
@@ -140,5 +141,6 @@ kept_arrive m a t which few is k =
     let id : a.id ≡ length m.arrivals = ap (λ (b : Arrival). b.id) which in
     let below : a.queue < length m.setup.homes =
     subst (λ (b : Arrival). b.queue < length m.setup.homes) (sym which) (next_queue m k) in
-    subst (λ (s : HopState). StepInvariant (record m { rx = s; arrivals = m.arrivals ++ a ∷ [] })) (sym is)
+    subst (λ (s : HopState). StepInvariant (record m { rx = s; arrivals = m.arrivals ++ a ∷ [] }))
+    (sym is)
     (kept-arrived m a id below few k)

@@ -22,7 +22,8 @@ use Rattle.steer_model.specs.State.Settings.{Settings, changed, class_at, plain_
 use Rattle.steer_model.specs.State.Setup.{Setup, hash_of}
 use Rattle.steer_invariant.specs.StepInvariant.{IsCommandNamed, StepInvariant}
 use Rattle.steer_invariant.proofs.BelowLemmas.{both-below}
-use Rattle.steer_invariant.proofs.StepInvariant.GateLemmas.{Passed, emptied_by, gate_passed, no_hands}
+use Rattle.steer_invariant.proofs.StepInvariant.GateLemmas.{Passed, emptied_by, gate_passed}
+use Rattle.steer_invariant.proofs.StepInvariant.GateLemmas.{no_hands}
 use Rattle.steer_invariant.proofs.StepInvariant.RouteLemmas.{expired-below}
 
 -- a command that changes neither flow counts nor the processors that are online
@@ -33,7 +34,8 @@ IsPlain (give.Online cpu) = ⊥
 IsPlain _ = Unit {0}
 
 -- a command is listed
-pub StepInvariant-listed : (m : Machine) (c : Command) (a : Answer) → StepInvariant m → StepInvariant (listed m c a)
+pub StepInvariant-listed : (m : Machine) (c : Command) (a : Answer) → StepInvariant m
+    → StepInvariant (listed m c a)
 StepInvariant-listed m c a k =
     assumption
 
@@ -57,7 +59,8 @@ settled-anywhere s p old now asked h passed all same g =
     }) g
 
 kept-mask : (m : Machine) (q : ℕ) (mask : CpuMask)
-    → Passed m.rx (affects m.setup (give.Mask q mask)) → StepInvariant m → StepInvariant (set_by m (give.Mask q mask))
+    → Passed m.rx (affects m.setup (give.Mask q mask)) → StepInvariant m → StepInvariant
+    (set_by m (give.Mask q mask))
 kept-mask m q mask passed k =
     let z = k.rx.sizes in let y = k.sizes in let b = k.by in let w = b.manned in
     assumption (

@@ -28,7 +28,8 @@ use Rattle.steer_model.specs.State.Setup.{Setup, hash_of}
 use Rattle.steer_invariant.specs.StepInvariant.{StepInvariant}
 use Rattle.steer_invariant.specs.HopInvariants.{AreNoted, Manned, RxSizes}
 use Rattle.steer_invariant.specs.ListInvariants.{Came, Replied}
-use Rattle.steer_invariant.proofs.StepInvariant.FrameLemmas.{came-leaves, manned-leaves, noted-leaves, replied-inbox}
+use Rattle.steer_invariant.proofs.StepInvariant.FrameLemmas.{came-leaves, manned-leaves}
+use Rattle.steer_invariant.proofs.StepInvariant.FrameLemmas.{noted-leaves, replied-inbox}
 use Rattle.steer_invariant.proofs.StepInvariant.FrameLemmas.{rx-sizes}
 use Rattle.steer_invariant.proofs.StepInvariant.GateLemmas.{Passed, gate_passed}
 

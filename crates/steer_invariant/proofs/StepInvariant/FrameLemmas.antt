@@ -20,7 +20,8 @@ use Rattle.steer_model.specs.State.Settings.{Settings, class_at, plain_lane}
 use Rattle.steer_model.specs.State.Setup.{Setup}
 use Rattle.steer_model.specs.declared.note.Note.{Note}
 use Rattle.steer_model.specs.declared.note.Note.TheVariants as note
-use Rattle.steer_invariant.specs.HopInvariants.{AllTaken, AreNoted, BySettings, IsNoted, RxInvariant, TxInvariant}
+use Rattle.steer_invariant.specs.HopInvariants.{AllTaken, AreNoted, BySettings, IsNoted}
+use Rattle.steer_invariant.specs.HopInvariants.{RxInvariant, TxInvariant}
 use Rattle.steer_invariant.specs.HopInvariants.{Manned, RxSizes, TxSizes}
 use Rattle.steer_invariant.specs.ListInvariants.{Came, Replied}
 

@@ -26,7 +26,8 @@ use Rattle.steer_model.specs.State.Settings.{Settings, class_at, mask_of, plain_
 use Rattle.steer_model.specs.State.Setup.{hash_of}
 use Rattle.steer_invariant.specs.StepInvariant.{StepInvariant}
 use Rattle.steer_invariant.specs.HopInvariants.{Manned}
-use Rattle.steer_invariant.proofs.StepInvariant.GateLemmas.{emptied_by, gate_passed, no_hands, not-refused}
+use Rattle.steer_invariant.proofs.StepInvariant.GateLemmas.{emptied_by, gate_passed, no_hands}
+use Rattle.steer_invariant.proofs.StepInvariant.GateLemmas.{not-refused}
 
 -- ---- a set with a processor more or less
 
@@ -172,7 +173,8 @@ kept-changed : (m : Machine) (online : CpuMask) (cpu : ℕ)
     (accepted_at m.rx.bare
     (online_or m.settings.online cpu (slice_index m.setup.homes q))) ≤ retired_at m.rx.bare
     (online_or m.settings.online cpu (slice_index m.setup.homes q)))
-    → StepInvariant m → StepInvariant (record m { settings = record m.settings { online = online } })
+    → StepInvariant m → StepInvariant
+    (record m { settings = record m.settings { online = online } })
 kept-changed m online cpu same manned alone dry k =
     let z = k.rx.sizes in let y = k.sizes in let h = k.rx.sound in
     let now : Settings = record m.settings { online = online } in
@@ -183,11 +185,13 @@ kept-changed m online cpu same manned alone dry k =
                 alone q;
             classes = λ q i lt a b. refl;
             lanes = λ q x lt. elim (plain-cases (mask_of
-                m.settings q) (hash_of m.setup x) m.settings.online online (slice_index m.setup.homes q)
+                m.settings q) (hash_of m.setup x) m.settings.online online
+                (slice_index m.setup.homes q)
                 cpu same) [
                   | inl e ↦ inl e
                   | inr e ↦ inr (subst (λ lane. length (accepted_at m.rx.bare
-                      lane) ≤ retired_at m.rx.bare lane) (sym e) (dry q (omega (arith, lt, z.queues))))
+                      lane) ≤ retired_at m.rx.bare lane) (sym e)
+                      (dry q (omega (arith, lt, z.queues))))
                 ];
           })
           k.by.settled,
@@ -195,7 +199,8 @@ kept-changed m online cpu same manned alone dry k =
     )
 
 pub kept_offline : (m : Machine) (cpu : ℕ) → cpu < m.setup.cpus
-    → is_done (answer_to m (give.Offline cpu)) ≡ true → StepInvariant m → StepInvariant (set_by m (give.Offline cpu))
+    → is_done (answer_to m (give.Offline cpu)) ≡ true → StepInvariant m → StepInvariant
+    (set_by m (give.Offline cpu))
 kept_offline m cpu named done k =
     let few = k.given.few_cpus in let w = k.by.manned in
     let c : Command = give.Offline cpu in
@@ -230,7 +235,8 @@ kept_offline m cpu named done k =
     (sym (ap (λ b. cond b cpu (slice_index m.setup.homes q)) fits.0)) here) k
 
 pub kept_online : (m : Machine) (cpu : ℕ) → cpu < m.setup.cpus
-    → is_done (answer_to m (give.Online cpu)) ≡ true → StepInvariant m → StepInvariant (set_by m (give.Online cpu))
+    → is_done (answer_to m (give.Online cpu)) ≡ true → StepInvariant m → StepInvariant
+    (set_by m (give.Online cpu))
 kept_online m cpu named done k =
     let few = k.given.few_cpus in let w = k.by.manned in
     let c : Command = give.Online cpu in

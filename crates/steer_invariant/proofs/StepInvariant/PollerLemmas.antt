@@ -34,7 +34,8 @@ use Rattle.steer_model.specs.declared.note.Note.TheVariants as note
 use Rattle.steer_invariant.specs.StepInvariant.{StepInvariant}
 use Rattle.steer_invariant.specs.HopInvariants.{AreNoted, IsNoted, Manned}
 use Rattle.steer_invariant.specs.ListInvariants.{Came, Replied}
-use Rattle.steer_invariant.proofs.StepInvariant.FrameLemmas.{by-happens, came-leaves, manned-leaves, noted-leaves}
+use Rattle.steer_invariant.proofs.StepInvariant.FrameLemmas.{by-happens, came-leaves, manned-leaves}
+use Rattle.steer_invariant.proofs.StepInvariant.FrameLemmas.{noted-leaves}
 use Rattle.steer_invariant.proofs.StepInvariant.FrameLemmas.{replied-inbox, rx-happens}
 use Rattle.steer_invariant.proofs.PrefixLemmas.{prefix-more}
 
@@ -118,9 +119,11 @@ kept-beside : (m : Machine) (e : HopEvent) (t : HopState) → IsInner e → MayA
     → IsBySettings (class_at m.setup m.settings) (plain_lane m.setup m.settings) m.rx e
     → changes e Field.accepted ≡ false → changes e Field.retired ≡ false
     → changes e Field.choices ≡ false → changes e Field.placed ≡ false
-    → changes e Field.taken ≡ false → t ≡ (happens m.rx e).0 → StepInvariant m → StepInvariant (record m { rx = t })
+    → changes e Field.taken ≡ false → t ≡ (happens m.rx e).0 → StepInvariant m → StepInvariant
+    (record m { rx = t })
 kept-beside m e t inner may allowed a r c d u is k =
-    StepInvariant-inner m e t inner may allowed (manned-leaves m.setup m.settings m.rx e a r c d k.by.manned)
+    StepInvariant-inner m e t inner may allowed
+    (manned-leaves m.setup m.settings m.rx e a r c d k.by.manned)
     (noted-leaves m.notes m.rx e c u d k.noted) is k
 
 -- an actor of the receive gate is a queue, or a guest
@@ -244,13 +247,16 @@ pub kept_deliver : (m : Machine) (c x : ℕ) (e : HopEvent) (t : HopState) → c
 kept_deliver m c x e t named which is k =
     let then' : t ≡ (happens m.rx (event.Deliver c (app_for m.setup x))).0 =
     is ∙ ap (λ (e : HopEvent). (happens m.rx e).0) which in
-    subst (λ (s : HopState). StepInvariant (record m { rx = s })) (sym then') (kept-delivered m c x named k)
+    subst (λ (s : HopState). StepInvariant (record m { rx = s })) (sym then')
+    (kept-delivered m c x named k)
 
 -- ---- notes
 
 -- another note of a poller, where a filter that it asks for names a queue that there is
-pub StepInvariant-noted : (m : Machine) (q : ℕ) (n : Note) → q < length m.setup.homes → IsNoted m.rx q n
-    → ((filter : Filter) → n ≡ note.Asking filter → filter.queue < length m.setup.homes) → StepInvariant m
+pub StepInvariant-noted : (m : Machine) (q : ℕ) (n : Note) → q < length m.setup.homes
+    → IsNoted m.rx q n
+    → ((filter : Filter) → n ≡ note.Asking filter → filter.queue < length m.setup.homes)
+    → StepInvariant m
     → StepInvariant (noted m q n)
 StepInvariant-noted m q n named here below k =
     let l = k.lists in
@@ -302,4 +308,5 @@ weighs_next s q x some =
 pub kept_look : (m : Machine) (q x : ℕ) (want : Option ℕ) → q < length m.setup.homes
     → to_weigh m.rx q ≡ Some x → StepInvariant m → StepInvariant (noted m q (note.Looked want))
 kept_look m q x want named some k =
-    StepInvariant-noted m q (note.Looked want) named (weighs_next m.rx q x some) (λ filter e. absurd (cc)) k
+    StepInvariant-noted m q (note.Looked want) named (weighs_next m.rx q x some)
+    (λ filter e. absurd (cc)) k

@@ -26,7 +26,8 @@ use Rattle.steer_model.specs.declared.note.Note.{Note}
 use Rattle.steer_model.specs.declared.note.Note.TheVariants as note
 use Rattle.steer_invariant.specs.StepInvariant.{StepInvariant}
 use Rattle.steer_invariant.specs.HopInvariants.{AreNoted, IsNoted, Manned}
-use Rattle.steer_invariant.proofs.StepInvariant.PollerLemmas.{StepInvariant-inner, StepInvariant-noted}
+use Rattle.steer_invariant.proofs.StepInvariant.PollerLemmas.{StepInvariant-inner}
+use Rattle.steer_invariant.proofs.StepInvariant.PollerLemmas.{StepInvariant-noted}
 use Rattle.steer_invariant.proofs.StepInvariant.RouteLemmas.{asking-below, with-below}
 
 -- ---- the hop after a packet landed
@@ -108,7 +109,8 @@ note-landed s q r (note.Asking filter) cause bucket in' h k =
 -- ---- a put
 
 pub kept_put : (m : Machine) (q : ℕ) (hash : Option ℕ) (t : HopState) → q < length m.setup.homes
-    → t ≡ (happens m.rx (event.Put q hash)).0 → StepInvariant m → StepInvariant (record m { rx = t })
+    → t ≡ (happens m.rx (event.Put q hash)).0 → StepInvariant m → StepInvariant
+    (record m { rx = t })
 kept_put m q hash t named is k =
     let z = k.rx.sizes in
     let in' : q < length m.rx.arrivals = omega (arith, named, z.queues) in
@@ -152,7 +154,8 @@ pub kept_asking : (m : Machine) (q : ℕ) (hash : Option ℕ) (t : HopState) (po
     (c : Choice)
     → q < length m.setup.homes → t ≡ (happens m.rx (event.Put q hash)).0
     → position_of (happens m.rx (event.Put q hash)).1 ≡ Some position → StepInvariant m
-    → StepInvariant (noted (record m { rx = t }) q (asking (filter_for m.setup.homes filters c position)))
+    → StepInvariant (noted (record m { rx = t }) q
+    (asking (filter_for m.setup.homes filters c position)))
 kept_asking m q hash t position filters c named is went_at k =
     let z = k.rx.sizes in
     let filter : Option Filter = filter_for m.setup.homes filters c position in

@@ -24,7 +24,8 @@ pub kept_visited : (m : Machine) (a : ℕ) (t u : HopState) → a < m.setup.apps
     → StepInvariant (record m { rx = u })
 kept_visited m a t u named is then' k =
     let g : ℕ = length m.setup.homes + a in
-    let first : StepInvariant (record m { rx = t }) = kept_visit-in m g t (guest_below m a named k) is k in
+    let first : StepInvariant (record m { rx = t }) =
+    kept_visit-in m g t (guest_below m a named k) is k in
     kept_visit-out (record m { rx = t }) g u
     (guest_below (record m { rx = t }) a named first) then' first
 

@@ -30,7 +30,8 @@ use Rattle.steer_model.specs.State.Setup.{Setup, flow_of, hash_of}
 use Rattle.steer_invariant.specs.StepInvariant.{StepInvariant}
 use Rattle.steer_invariant.specs.HopInvariants.{AllTaken}
 use Rattle.steer_invariant.specs.ListInvariants.{Replied}
-use Rattle.steer_invariant.proofs.StepInvariant.FrameLemmas.{replied-begun, taken-leaves, tx-happens}
+use Rattle.steer_invariant.proofs.StepInvariant.FrameLemmas.{replied-begun, taken-leaves}
+use Rattle.steer_invariant.proofs.StepInvariant.FrameLemmas.{tx-happens}
 use Rattle.steer_invariant.proofs.PrefixLemmas.{prefix-at, prefix-length, prefix-next}
 
 -- ---- an event of the transmit hop
@@ -61,7 +62,8 @@ kept_tleave m a t named is k =
     kept_tx m (event.Leave a) t refl refl refl refl (omega (arith, named, z.visits)) is k
 
 pub kept_tput : (m : Machine) (a : ℕ) (hash : Option ℕ) (t : HopState) → a < m.setup.apps
-    → t ≡ (happens m.tx (event.Put a hash)).0 → StepInvariant m → StepInvariant (record m { tx = t })
+    → t ≡ (happens m.tx (event.Put a hash)).0 → StepInvariant m → StepInvariant
+    (record m { tx = t })
 kept_tput m a hash t named is k =
     let z = k.tx.sizes in
     kept_tx m (event.Put a hash) t refl refl refl refl (omega (arith, named, z.apps)) is k
@@ -78,7 +80,8 @@ may_tdeliver m x named k =
     let z = k.tx.sizes in record { lane = omega (arith, named, z.txs); out = omega (arith, z.port) }
 
 pub kept_tdeliver : (m : Machine) (x : ℕ) (t : HopState) → x < m.setup.txs
-    → t ≡ (happens m.tx (event.Deliver x 0)).0 → StepInvariant m → StepInvariant (record m { tx = t })
+    → t ≡ (happens m.tx (event.Deliver x 0)).0 → StepInvariant m → StepInvariant
+    (record m { tx = t })
 kept_tdeliver m x t named is k =
     kept_tx m (event.Deliver x 0) t refl refl refl refl (may_tdeliver m x named k) is k
 
@@ -135,7 +138,8 @@ may_tweigh m a r named k =
     }
 
 pub kept_tweigh : (m : Machine) (a : ℕ) (r : Sent) (e : HopEvent) (t : HopState) → a < m.setup.apps
-    → e ≡ sending m a r → t ≡ (happens m.tx e).0 → StepInvariant m → StepInvariant (record m { tx = t })
+    → e ≡ sending m a r → t ≡ (happens m.tx e).0 → StepInvariant m → StepInvariant
+    (record m { tx = t })
 kept_tweigh m a r e t named which is k =
     kept_tx m (sending m a r) t refl refl refl refl (may_tweigh m a r named k)
     (is ∙ ap (λ (e : HopEvent). (happens m.tx e).0) which) k
@@ -150,7 +154,8 @@ read_at (y ∷ ys) zero x h = (omega arith, cc)
 read_at (y ∷ ys) (suc n) x h = let i = read_at ys n x h in let lt = i.0 in (omega (arith, lt), i.1)
 
 -- each application's replies are the first packets of its inbox
-pub sent-long : (m : Machine) (a : ℕ) → StepInvariant m → length (arrivals_of m.tx a) ≡ length (sent_of m a)
+pub sent-long : (m : Machine) (a : ℕ) → StepInvariant m → length (arrivals_of m.tx a) ≡ length
+    (sent_of m a)
 sent-long m a k = ap length (k.replied.came a) ∙ length-map (sent_of m a) (λ s. s.id)
 
 pub begun-at : (m : Machine) (a i : ℕ) → StepInvariant m → i < length (arrivals_of m.tx a)

@@ -17,7 +17,8 @@ use Rattle.hop_core.specs.Hop.{HopState, choices_of, inside_of, next_of, placed_
 use Rattle.hop_core.specs.Reads.{to_weigh}
 use Rattle.history.specs.Lists.{list_at}
 use Rattle.history.specs.declared.arrival.Arrival.{Arrival}
-use Rattle.steer_model.specs.Steps.Applications.{in_lane, in_reply, next_in, record_by, reply_to, send_by}
+use Rattle.steer_model.specs.Steps.Applications.{in_lane, in_reply, next_in, record_by, reply_to}
+use Rattle.steer_model.specs.Steps.Applications.{send_by}
 use Rattle.steer_model.specs.Steps.Applications.{sending, stand_of, visited, write_of, wrote}
 use Rattle.steer_model.specs.Steps.Commands.{answer_to, given, is_done, set_by}
 use Rattle.steer_model.specs.State.Machine.{Machine, last_of, note_of}
@@ -36,12 +37,15 @@ use Rattle.steer_invariant.proofs.StepInvariant.ArrivalLemmas.{kept_arrive, next
 use Rattle.steer_invariant.proofs.StepInvariant.FlowCountLemmas.{kept_flows}
 use Rattle.steer_invariant.proofs.StepInvariant.CommandLemmas.{StepInvariant-listed, kept_set}
 use Rattle.steer_invariant.proofs.StepInvariant.HotplugLemmas.{kept_offline, kept_online}
-use Rattle.steer_invariant.proofs.StepInvariant.PollerLemmas.{kept_deliver, kept_enter, kept_leave, kept_look}
+use Rattle.steer_invariant.proofs.StepInvariant.PollerLemmas.{kept_deliver, kept_enter, kept_leave}
+use Rattle.steer_invariant.proofs.StepInvariant.PollerLemmas.{kept_look}
 use Rattle.steer_invariant.proofs.StepInvariant.PollerLemmas.{kept_pull, kept_retire, kept_take}
 use Rattle.steer_invariant.proofs.StepInvariant.PutLemmas.{kept_ask, kept_asking, kept_put}
 use Rattle.steer_invariant.proofs.StepInvariant.RecordLemmas.{kept_visited, kept_wrote, noted-long}
-use Rattle.steer_invariant.proofs.StepInvariant.ReplyLemmas.{kept_send, kept_tdeliver, kept_tenter, kept_tleave}
-use Rattle.steer_invariant.proofs.StepInvariant.ReplyLemmas.{kept_tpull, kept_tput, kept_tretire, kept_tweigh}
+use Rattle.steer_invariant.proofs.StepInvariant.ReplyLemmas.{kept_send, kept_tdeliver, kept_tenter}
+use Rattle.steer_invariant.proofs.StepInvariant.ReplyLemmas.{kept_tleave}
+use Rattle.steer_invariant.proofs.StepInvariant.ReplyLemmas.{kept_tpull, kept_tput, kept_tretire}
+use Rattle.steer_invariant.proofs.StepInvariant.ReplyLemmas.{kept_tweigh}
 use Rattle.steer_invariant.proofs.StepInvariant.WeighLemmas.{kept_weigh}
 
 -- the packet that was found to be weighed next
@@ -228,8 +232,10 @@ module _ (m : Machine) (k : StepInvariant m) where
       record {
         setup = either (λ (n : Machine). n.setup ≡ m.setup) (is_done (answer_to m c)) (set_by m c) m
             (λ done. setup-done c) (λ refused. refl);
-        kept = StepInvariant-listed (cond (is_done (answer_to m c)) (set_by m c) m) c (answer_to m c)
-            (either StepInvariant (is_done (answer_to m c)) (set_by m c) m (λ done. kept-done c named done)
+        kept = StepInvariant-listed (cond (is_done (answer_to m c)) (set_by m c) m) c
+            (answer_to m c)
+            (either StepInvariant (is_done (answer_to m c)) (set_by m c) m
+            (λ done. kept-done c named done)
             (λ refused. k));
       }
 

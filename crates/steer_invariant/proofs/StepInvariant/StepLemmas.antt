@@ -7,7 +7,8 @@ use Rattle.steer_model.specs.State.Setup.{Setup, flow_of}
 use Rattle.steer_model.specs.Steps.SingleSteps.{simple}
 use Rattle.steer_model.specs.Steps.CompoundSteps.{after, step}
 use Rattle.steer_invariant.specs.StepInvariant.{AreNamed, IsNamed, StepInvariant}
-use Rattle.steer_invariant.specs.StepInvariantLaws.{EventsKeepStepInvariant, GatesAreOpen, StepKeepsStepInvariant, StepsKeepStepInvariant}
+use Rattle.steer_invariant.specs.StepInvariantLaws.{EventsKeepStepInvariant, GatesAreOpen}
+use Rattle.steer_invariant.specs.StepInvariantLaws.{StepKeepsStepInvariant, StepsKeepStepInvariant}
 use Rattle.steer_invariant.specs.StepInvariantLaws.{StepsKeepSetup}
 use Rattle.steer_invariant.proofs.StepInvariant.ReplyLemmas.{flow_below}
 use Rattle.steer_invariant.proofs.StepInvariant.SingleStepLemmas.{goes-simple}
@@ -34,7 +35,8 @@ kept_of-simple p m s named k =
 pub flow_small : (p : Setup) (x : ℕ) → IsGiven p → flow_of p x < 262144
 flow_small p x g = let f = flow_below p x g in let few = g.few_packets in omega (arith, f, few)
 
-kept-step : (m : Machine) (s : Step) → IsNamed m.setup s → StepInvariant m → KeptOf m.setup (step m s).0
+kept-step : (m : Machine) (s : Step) → IsNamed m.setup s → StepInvariant m → KeptOf m.setup
+    (step m s).0
 kept-step m s named k =
     step-keeps m.setup (KeptOf m.setup) (λ n h. h.setup) (λ x. flow_small m.setup x k.given)
     (kept_of-simple m.setup)

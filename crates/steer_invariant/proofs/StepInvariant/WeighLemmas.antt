@@ -27,7 +27,8 @@ use Rattle.steer_model.specs.declared.note.Note.{Note}
 use Rattle.steer_model.specs.declared.note.Note.TheVariants as note
 use Rattle.steer_invariant.specs.StepInvariant.{StepInvariant}
 use Rattle.steer_invariant.specs.HopInvariants.{AreNoted, IsNoted, Manned}
-use Rattle.steer_invariant.proofs.StepInvariant.PollerLemmas.{StepInvariant-inner, StepInvariant-noted}
+use Rattle.steer_invariant.proofs.StepInvariant.PollerLemmas.{StepInvariant-inner}
+use Rattle.steer_invariant.proofs.StepInvariant.PollerLemmas.{StepInvariant-noted}
 
 -- ---- a choice for an online lane is of an online lane
 
@@ -154,7 +155,12 @@ kept-weighed m q want t named quiet is k =
     let e : HopEvent = weighing m q x want in
     let c : Choice = choice_of m.rx q class want lane m.settings.online in
     let may = may_weigh m q want named k in
-    StepInvariant-inner m e t (record { closed = refl; counts = refl; arrivals = refl; outs = refl }) may
+    StepInvariant-inner m e t (record {
+      closed = refl;
+      counts = refl;
+      arrivals = refl;
+      outs = refl;
+    }) may
     (λ more. (
       refl,
       λ none. desired-none class want m.settings.online

@@ -15,13 +15,15 @@ use Rattle.steer_model.specs.Capture.FlowNumbers.{IsFresh, IsNumberOf}
 use Rattle.steer_model.specs.Capture.Packets.{AreNumbered}
 
 -- The map has the number of each packet's flow, and every number below its length is one of these.
-pub record HasNumbers (cmp : Flow → Flow → Ordering) (numbers : BTreeMap Flow ℕ) (packets : List Packet)
+pub record HasNumbers (cmp : Flow → Flow → Ordering) (numbers : BTreeMap Flow ℕ)
+    (packets : List Packet)
     : Type 0 where
   pub has : (y : ℕ) → y < length packets
       → get cmp numbers (packet_at packets y).flow ≡ Some (packet_at packets y).flow_number
   pub from : (flow : Flow) (n : ℕ) → get cmp numbers flow ≡ Some n
       → (y : ℕ) × (y < length packets) × ((packet_at packets y).flow ≡ flow)
-  pub below : (y : ℕ) → y < length packets → (packet_at packets y).flow_number < btree_map_len numbers
+  pub below : (y : ℕ) → y < length packets → (packet_at packets y).flow_number < btree_map_len
+      numbers
   pub every : (n : ℕ) → n < btree_map_len numbers
       → (y : ℕ) × (y < length packets) × ((packet_at packets y).flow_number ≡ n)
   pub few : btree_map_len numbers ≤ length packets
@@ -45,14 +47,19 @@ longer packets x =
       old = λ y lt. get_or_append_left packets (x ∷ []) no_packet y lt;
       last = (
           let at : length packets + 0 ≡ length packets = omega arith in
-          ap (λ n. packet_at (packets ++ x ∷ []) n) (sym at) ∙ get_or-append-add packets (x ∷ []) 0 no_packet);
+          ap (λ n. packet_at (packets ++ x ∷ []) n) (sym at) ∙ get_or-append-add packets
+          (x ∷ []) 0 no_packet);
     }
 
 -- a place of the longer list is one of the other, or the last one
-place-of : {packets more : List Packet} {x : Packet} → IsLonger packets x more → (y : ℕ) → y < length more
+place-of : {packets more : List Packet} {x : Packet} → IsLonger packets x more → (y : ℕ)
+    → y < length more
     → (y < length packets) ⊎ (y ≡ length packets)
 place-of {packets} {more} {x} l y lt =
-    elim (cases_lt y (length packets)) [ inl below ↦ inl below | inr over ↦ inr (omega (arith, l.many)) ]
+    elim (cases_lt y (length packets)) [
+      | inl below ↦ inl below
+      | inr over ↦ inr (omega (arith, l.many))
+    ]
 
 -- one number for each flow, by the map
 same-by : (cmp : Flow → Flow → Ordering) (numbers : BTreeMap Flow ℕ) (packets : List Packet)
@@ -64,7 +71,8 @@ same-by : (cmp : Flow → Flow → Ordering) (numbers : BTreeMap Flow ℕ) (pack
 same-by cmp numbers packets has x y lt within flow =
     let a = has x lt in
     let b = has y within in
-    let c : get cmp numbers (packet_at packets x).flow ≡ get cmp numbers (packet_at packets y).flow =
+    let c : get cmp numbers (packet_at packets x).flow ≡ get cmp numbers
+    (packet_at packets y).flow =
     ap (λ f. get cmp numbers f) flow in
     cc
 
@@ -105,14 +113,16 @@ numbered-more packets x more l numbered same apart_last first_last =
             | inr eb ↦
                 let here = is-last b eb in
                 flow-old a oa
-                ∙ apart_last a oa (sym (number-old a oa) ∙ e ∙ ap (λ (p : Packet). p.flow_number) here)
+                ∙ apart_last a oa (sym (number-old a oa) ∙ e
+                ∙ ap (λ (p : Packet). p.flow_number) here)
                 ∙ sym (ap (λ (p : Packet). p.flow) here)
           ]
           | inr ea ↦ elim (place-of l b lb) [
             | inl ob ↦
                 let here = is-last a ea in
                 ap (λ (p : Packet). p.flow) here
-                ∙ sym (apart_last b ob (sym (number-old b ob) ∙ sym e ∙ ap (λ (p : Packet). p.flow_number) here))
+                ∙ sym (apart_last b ob (sym (number-old b ob) ∙ sym e
+                ∙ ap (λ (p : Packet). p.flow_number) here))
                 ∙ sym (flow-old b ob)
             | inr eb ↦ ap (λ (p : Packet). p.flow) (is-last a ea ∙ sym (is-last b eb))
           ]
@@ -133,7 +143,8 @@ numbered-more packets x more l numbered same apart_last first_last =
         ]
 
 -- a packet of a flow that is known
-known-step : (cmp : Flow → Flow → Ordering) (numbers : BTreeMap Flow ℕ) (packets : List Packet) (x : Packet)
+known-step : (cmp : Flow → Flow → Ordering) (numbers : BTreeMap Flow ℕ) (packets : List Packet)
+    (x : Packet)
     (more : List Packet) → IsLonger packets x more → HasNumbers cmp numbers packets
     → get cmp numbers x.flow ≡ Some x.flow_number → HasNumbers cmp numbers more
 known-step cmp numbers packets x more l h known =
@@ -142,8 +153,12 @@ known-step cmp numbers packets x more l h known =
       from = λ flow n e. (let y = h.from flow n e in
           (y.0, omega (arith, y.1, l.many), ap (λ (p : Packet). p.flow) (l.old y.0 y.1) ∙ y.2));
       below = below;
-      every = λ n lt. (let y = h.every n lt in
-          (y.0, omega (arith, y.1, l.many), ap (λ (p : Packet). p.flow_number) (l.old y.0 y.1) ∙ y.2));
+      every = λ n lt. (let y = h.every n lt in (
+        y.0,
+        omega (arith, y.1, l.many),
+        ap (λ (p : Packet). p.flow_number) (l.old y.0 y.1)
+            ∙ y.2,
+      ));
       few = omega (arith, l.many, h.few);
       numbered = numbered-more packets x more l h.numbered (same-by cmp numbers more has)
           (λ a la e. h.numbered.apart a twin.0 la twin.1 (e ∙ sym number) ∙ twin.2)
@@ -157,7 +172,8 @@ known-step cmp numbers packets x more l h known =
     has y ly =
         elim (place-of l y ly) [
           | inl o ↦
-              subst (λ (p : Packet). get cmp numbers p.flow ≡ Some p.flow_number) (sym (l.old y o)) (h.has y o)
+              subst (λ (p : Packet). get cmp numbers p.flow ≡ Some p.flow_number) (sym (l.old y o))
+              (h.has y o)
           | inr e ↦
               subst (λ (p : Packet). get cmp numbers p.flow ≡ Some p.flow_number)
               (sym (ap (λ n. packet_at more n) e ∙ l.last)) known
@@ -176,7 +192,8 @@ known-step cmp numbers packets x more l h known =
     below : (y : ℕ) → y < length more → (packet_at more y).flow_number < btree_map_len numbers
     below y ly =
         elim (place-of l y ly) [
-          | inl o ↦ subst (λ (p : Packet). p.flow_number < btree_map_len numbers) (sym (l.old y o)) (h.below y o)
+          | inl o ↦ subst (λ (p : Packet). p.flow_number < btree_map_len numbers) (sym (l.old y o))
+              (h.below y o)
           | inr e ↦
               subst (λ (p : Packet). p.flow_number < btree_map_len numbers)
               (sym (ap (λ n. packet_at more n) e ∙ l.last))
@@ -184,7 +201,8 @@ known-step cmp numbers packets x more l h known =
         ]
 
 -- a packet of a new flow
-fresh-step : (cmp : Flow → Flow → Ordering) → IsExact cmp → (old new : BTreeMap Flow ℕ) (packets : List Packet)
+fresh-step : (cmp : Flow → Flow → Ordering) → IsExact cmp → (old new : BTreeMap Flow ℕ)
+    (packets : List Packet)
     (x : Packet) (more : List Packet) → IsLonger packets x more → HasNumbers cmp old packets
     → IsFresh cmp old new x.flow x.flow_number → HasNumbers cmp new more
 fresh-step cmp order old new packets x more l h fresh =
@@ -204,9 +222,11 @@ fresh-step cmp order old new packets x more l h fresh =
         elim (cases_Bool (is_at (cmp x.flow) flow)) [
           | inl t ↦ (
               let same : x.flow ≡ flow = order.exact x.flow flow t in
-              let none : get cmp old flow ≡ None = ap (λ f. get cmp old f) (sym same) ∙ fresh.unknown in
+              let none : get cmp old flow ≡ None = ap (λ f. get cmp old f) (sym same)
+              ∙ fresh.unknown in
               cc)
-          | inr f ↦ fresh.updates.0 flow ∙ ap (λ b. cond b (Some x.flow_number) (get cmp old flow)) f ∙ e
+          | inr f ↦ fresh.updates.0 flow ∙ ap (λ b. cond b (Some x.flow_number) (get cmp old flow))
+              f ∙ e
         ]
 
     own : get cmp new x.flow ≡ Some x.flow_number
@@ -230,11 +250,16 @@ fresh-step cmp order old new packets x more l h fresh =
         → (y : ℕ) × (y < length more) × ((packet_at more y).flow ≡ flow)
     from flow n e =
         elim (cases_Bool (is_at (cmp x.flow) flow)) [
-          | inl t ↦
-              (length packets, omega (arith, l.many), ap (λ (p : Packet). p.flow) l.last ∙ order.exact x.flow flow t)
+          | inl t ↦ (
+            length packets,
+            omega (arith, l.many),
+            ap (λ (p : Packet). p.flow) l.last
+                ∙ order.exact x.flow flow t,
+          )
           | inr f ↦ (
               let before : get cmp old flow ≡ Some n =
-              sym (fresh.updates.0 flow ∙ ap (λ b. cond b (Some x.flow_number) (get cmp old flow)) f) ∙ e in
+              sym (fresh.updates.0 flow ∙ ap (λ b. cond b (Some x.flow_number) (get cmp old flow))
+              f) ∙ e in
               let y = h.from flow n before in
               (y.0, omega (arith, y.1, l.many), ap (λ (p : Packet). p.flow) (l.old y.0 y.1) ∙ y.2))
         ]
@@ -257,11 +282,19 @@ fresh-step cmp order old new packets x more l h fresh =
     every n lt =
         elim (cases_lt n (btree_map_len old)) [
           | inl before ↦ (
-              let y = h.every n before in
-              (y.0, omega (arith, y.1, l.many), ap (λ (p : Packet). p.flow_number) (l.old y.0 y.1) ∙ y.2))
+              let y = h.every n before in (
+                y.0,
+                omega (arith, y.1, l.many),
+                ap (λ (p : Packet). p.flow_number) (l.old y.0 y.1)
+                    ∙ y.2,
+              ))
           | inr over ↦ (
-              let at : x.flow_number ≡ n = omega (arith, fresh.next, fresh.longer) in
-              (length packets, omega (arith, l.many), ap (λ (p : Packet). p.flow_number) l.last ∙ at))
+              let at : x.flow_number ≡ n = omega (arith, fresh.next, fresh.longer) in (
+                length packets,
+                omega (arith, l.many),
+                ap (λ (p : Packet). p.flow_number) l.last
+                    ∙ at,
+              ))
         ]
 
 -- no packets, and an empty map
@@ -271,7 +304,8 @@ has-none cmp numbers empty =
     let many : btree_map_len numbers ≡ 0 = ap length empty in
     record {
       has = λ y lt. absurd (omega arith);
-      from = λ flow n e. absurd (none-some n (sym (ap (λ es. lookup (is_at (cmp flow)) es) empty) ∙ e));
+      from = λ flow n e. absurd (none-some n (sym (ap (λ es. lookup (is_at (cmp flow)) es) empty)
+          ∙ e));
       below = λ y lt. absurd (omega arith);
       every = λ n lt. absurd (omega (arith, many));
       few = omega (arith, many);
@@ -283,7 +317,8 @@ has-none cmp numbers empty =
     }
 
 -- the packets with one more, numbered by the map
-pub has-more : (cmp : Flow → Flow → Ordering) → IsExact cmp → (old new : BTreeMap Flow ℕ) (packets : List Packet)
+pub has-more : (cmp : Flow → Flow → Ordering) → IsExact cmp → (old new : BTreeMap Flow ℕ)
+    (packets : List Packet)
     (x : Packet) → HasNumbers cmp old packets → IsNumberOf cmp old new x.flow x.flow_number
     → HasNumbers cmp new (packets ++ x ∷ [])
 has-more cmp order old new packets x h (inl known) =

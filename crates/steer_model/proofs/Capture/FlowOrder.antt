@@ -22,7 +22,8 @@ pair_order = (pair_ord.ghosts).cmp
 abbrev proto_order : Proto → Proto → Ordering
 proto_order = (proto_ord.ghosts).cmp
 
-both-equal : (o r : Ordering) → is_eq (ordering_then o r) ≡ true → (is_eq o ≡ true) × (is_eq r ≡ true)
+both-equal : (o r : Ordering) → is_eq (ordering_then o r) ≡ true → (is_eq o ≡ true)
+    × (is_eq r ≡ true)
 both-equal Equal r e = (refl, e)
 both-equal Less r e = cc
 both-equal Greater r e = cc

@@ -1,6 +1,8 @@
 -- The table of the hashes of flows, packet by packet.
-use Rattle.std.proofs.Common.{ℕ, ◌+◌, ◌<◌, ◌≡◌, Bool, true, false, List, [], ◌∷◌, ◌++◌, Option, Some, None}
-use Rattle.std.proofs.Common.{suc, zero, length, refl, ap, ◌∙◌, sym, subst, arith, take, get_or, replicate, inl, inr}
+use Rattle.std.proofs.Common.{ℕ, ◌+◌, ◌<◌, ◌≡◌, Bool, true, false, List, [], ◌∷◌, ◌++◌, Option}
+use Rattle.std.proofs.Common.{Some, None}
+use Rattle.std.proofs.Common.{suc, zero, length, refl, ap, ◌∙◌, sym, subst, arith, take, get_or}
+use Rattle.std.proofs.Common.{replicate, inl, inr}
 use Rattle.std.specs.Prelude.{◌==◌, if◌then◌else◌}
 use Rattle.std.specs.Option.{option_map}
 use Rattle.std.proofs.lemmas.Bool.{cases_eq, ne_eqb, eq-eqb}
@@ -33,7 +35,8 @@ hash_of_flow-append : (xs : List Packet) (x : Packet) (flow : ℕ)
     → hash_of_flow (xs ++ x ∷ []) flow ≡ hash_after (hash_of_flow xs flow) (flow == x.flow_number) x
 hash_of_flow-append [] x flow = own-hash (flow == x.flow_number) x
 hash_of_flow-append (y ∷ ys) x flow =
-    later-hash (flow == y.flow_number) (flow == x.flow_number) y x _ _ (hash_of_flow-append ys x flow)
+    later-hash (flow == y.flow_number) (flow == x.flow_number) y x _ _
+    (hash_of_flow-append ys x flow)
 
 hash_after-own : (h : Option (Option ℕ)) (x : Packet) → hash_or h x.hash ≡ hash_after h true x
 hash_after-own (Some hash) x = refl
@@ -64,7 +67,8 @@ hashes-more xs hashes x lt table flow =
           ∙ sym (hash_of_flow-append xs x flow)
     ]
 
-pub hashes-next : (packets : List Packet) (i : ℕ) (d : Packet) (hashes new : List (Option (Option ℕ)))
+pub hashes-next : (packets : List Packet) (i : ℕ) (d : Packet)
+    (hashes new : List (Option (Option ℕ)))
     → i < length packets → length hashes ≡ length packets → AreOfFlows packets
     → AreFlowHashes (take i packets) hashes → new ≡ with_hash hashes (get_or packets i d)
     → AreFlowHashes (take (i + 1) packets) new

@@ -1,5 +1,6 @@
 -- The packets of a capture are determined, and each has a number below their number.
-use Rattle.std.proofs.Common.{ℕ, ◌-◌, ◌<◌, ◌≤◌, ◌≡◌, List, Option, Some, length, refl, ap, ◌∙◌, sym, arith}
+use Rattle.std.proofs.Common.{ℕ, ◌-◌, ◌<◌, ◌≤◌, ◌≡◌, List, Option, Some, length, refl, ap, ◌∙◌, sym}
+use Rattle.std.proofs.Common.{arith}
 use Rattle.std.proofs.Common.{[], ◌∷◌, suc, zero, inl, inr, slice_get}
 use Rattle.std.proofs.lemmas.Bool.{cases_lt}
 use Rattle.std.proofs.lemmas.List.{get_or_default, same_lists}
@@ -12,7 +13,8 @@ use Rattle.steer_model.specs.Capture.Packets.{AreNumbered, ArePackets, IsOfRecor
 use Rattle.toeplitz.specs.Flows.{hash_of_flow}
 
 -- a number is at most the place of its packet, since each smaller one stands before it
-number-below : (packets : List Packet) → AreNumbered packets → (bound x : ℕ) → x < bound → x < length packets
+number-below : (packets : List Packet) → AreNumbered packets → (bound x : ℕ) → x < bound
+    → x < length packets
     → (packet_at packets x).flow_number ≤ x
 number-below packets numbered zero x lt within = omega arith
 number-below packets numbered (suc bound) x lt within =
@@ -36,7 +38,8 @@ SameFlows packets others =
 
 -- no number of one list is over that of the other, where all earlier ones are the same
 number-least : (packets others : List Packet) → length packets ≡ length others
-    → AreNumbered packets → AreNumbered others → SameFlows packets others → (x : ℕ) → x < length packets
+    → AreNumbered packets → AreNumbered others → SameFlows packets others → (x : ℕ)
+    → x < length packets
     → ((y : ℕ) → y < x → (packet_at packets y).flow_number ≡ (packet_at others y).flow_number)
     → (packet_at packets x).flow_number ≤ (packet_at others x).flow_number
 number-least packets others many numbered other flows x within earlier =
@@ -63,9 +66,12 @@ same-numbers : (packets others : List Packet) → length packets ≡ length othe
     → (packet_at packets x).flow_number ≡ (packet_at others x).flow_number
 same-numbers packets others many numbered other flows zero x lt within = omega arith
 same-numbers packets others many numbered other flows (suc bound) x lt within =
-    let earlier : (y : ℕ) → y < x → (packet_at packets y).flow_number ≡ (packet_at others y).flow_number =
-    λ y before. same-numbers packets others many numbered other flows bound y (omega arith) (omega arith) in
-    let later : (y : ℕ) → y < x → (packet_at others y).flow_number ≡ (packet_at packets y).flow_number =
+    let earlier : (y : ℕ) → y < x
+    → (packet_at packets y).flow_number ≡ (packet_at others y).flow_number =
+    λ y before. same-numbers packets others many numbered other flows bound y (omega arith)
+    (omega arith) in
+    let later : (y : ℕ) → y < x
+    → (packet_at others y).flow_number ≡ (packet_at packets y).flow_number =
     λ y before. sym (earlier y before) in
     let le = number-least packets others many numbered other flows x within earlier in
     let ge = number-least others packets (sym many) other numbered
@@ -80,7 +86,12 @@ record-at (from ∷ rest) zero lt = (from, refl)
 record-at (from ∷ rest) (suc x) lt = record-at rest x (omega arith)
 
 abbrev packet_of : Flow → Option ℕ → ℕ → ℕ → Packet
-packet_of flow hash len number = record { flow = flow; hash = hash; len = len; flow_number = number }
+packet_of flow hash len number = record {
+  flow = flow;
+  hash = hash;
+  len = len;
+  flow_number = number;
+}
 
 same-packet : (key kinds : ℕ) (bytes : List ℕ) (from : PcapRecord) (p q : Packet)
     → IsOfRecord key kinds bytes from p → IsOfRecord key kinds bytes from q
@@ -94,7 +105,8 @@ same-packet key kinds bytes from p q a b number =
     ∙ ap (λ n. packet_of q.flow q.hash n p.flow_number) len
     ∙ ap (λ n. packet_of q.flow q.hash q.len n) number
 
-pub packets_are_one : (key kinds : ℕ) (bytes : List ℕ) (records : List PcapRecord) (packets others : List Packet)
+pub packets_are_one : (key kinds : ℕ) (bytes : List ℕ) (records : List PcapRecord)
+    (packets others : List Packet)
     → ArePackets key kinds bytes records packets → ArePackets key kinds bytes records others
     → packets ≡ others
 packets_are_one key kinds bytes records packets others a b =
@@ -106,12 +118,15 @@ packets_are_one key kinds bytes records packets others a b =
     same_lists packets others many
     (λ x d lt. (
     let at = record-at records x (omega (arith, a.many)) in
-    let number = same-numbers packets others many a.numbered b.numbered flows (suc x) x (omega arith) lt in
+    let number = same-numbers packets others many a.numbered b.numbered flows (suc x) x
+    (omega arith) lt in
     let same : packet_at packets x ≡ packet_at others x =
     same-packet key kinds bytes at.0 _ _ (a.each x at.0 at.1) (b.each x at.0 at.1) number in
-    get_or_default packets x d no_packet lt ∙ same ∙ get_or_default others x no_packet d (omega arith)))
+    get_or_default packets x d no_packet lt ∙ same ∙ get_or_default others x no_packet d
+    (omega arith)))
 
-pub packets_are_of_flows : (key kinds : ℕ) (bytes : List ℕ) (records : List PcapRecord) (packets : List Packet)
+pub packets_are_of_flows : (key kinds : ℕ) (bytes : List ℕ) (records : List PcapRecord)
+    (packets : List Packet)
     → ArePackets key kinds bytes records packets → AreOfFlows packets
 packets_are_of_flows key kinds bytes records packets a =
     record {

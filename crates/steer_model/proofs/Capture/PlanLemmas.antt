@@ -1,5 +1,6 @@
 -- The steps of a plan name only what the plan has.
-use Rattle.std.proofs.Common.{ℕ, ◌/◌, ◌%◌, ◌<◌, ◌≡◌, Bool, true, false, List, [], ◌∷◌, Option, Some, None}
+use Rattle.std.proofs.Common.{ℕ, ◌/◌, ◌%◌, ◌<◌, ◌≡◌, Bool, true, false, List, [], ◌∷◌, Option, Some}
+use Rattle.std.proofs.Common.{None}
 use Rattle.std.proofs.Common.{length, refl, ◌∙◌, sym, subst, arith, suc, zero}
 use Rattle.std.specs.Prelude.{◌==◌, if◌then◌else◌, nat_lt}
 use Rattle.std.specs.List.{AllPass, cons_option, filter_map, range_with_len}
@@ -26,7 +27,8 @@ pub record HasSteps (plan : Plan) : Type 0 where
   pub steps : StepsAreWithin (sizes_of plan) plan.steps
 
 pass-cons : (pick : ℕ → Option Step) (test : Step → Bool)
-    → ((i : ℕ) (s : Step) → pick i ≡ Some s → test s ≡ true) → (x : ℕ) (rest : List Step) (o : Option Step)
+    → ((i : ℕ) (s : Step) → pick i ≡ Some s → test s ≡ true) → (x : ℕ) (rest : List Step)
+    (o : Option Step)
     → pick x ≡ o → AllPass test rest → AllPass test (cons_option o rest)
 pass-cons pick test each x rest None is all k d lt = all k d lt
 pass-cons pick test each x rest (Some s) is all zero d lt = each x s is
@@ -69,7 +71,8 @@ seeded-within sizes queues cpus apps tx word =
     (pass-if test (nat_lt k 9) (act.Poll (m % sizes.queues)) _ (below-mod m sizes.queues queues)
     (pass-if test (nat_lt k 12) (act.Drain (m % sizes.cpus)) _ (below-mod m sizes.cpus cpus)
     (pass-if test (nat_lt k 14) (act.Serve (m % sizes.apps)) _ (below-mod m sizes.apps apps)
-    (pass-if test (k == 14) (act.Ship (m % sizes.tx)) (event_of sizes (m % 4) (m / 4)) (below-mod m sizes.tx tx)
+    (pass-if test (k == 14) (act.Ship (m % sizes.tx)) (event_of sizes (m % 4) (m / 4))
+    (below-mod m sizes.tx tx)
     (event-within sizes queues cpus (m % 4) (m / 4))))))
 
 -- a step that is chosen by a test, or another, or none
@@ -87,7 +90,8 @@ nth-within sizes queues cpus apps tx (steps.List list) within i s is =
     let at = same_Some _ _ (sym (slice_get-get_or list i s lt) ∙ is) in
     subst (λ t. step_is_within sizes t ≡ true) at (within.list_within i s lt)
 nth-within sizes queues cpus apps tx (steps.Seed seed count) within i s is =
-    pass-some (step_is_within sizes) (nat_lt i count) (i == count) (seeded_step sizes (word_of seed i)) act.Sweep s
+    pass-some (step_is_within sizes) (nat_lt i count) (i == count)
+    (seeded_step sizes (word_of seed i)) act.Sweep s
     (seeded-within sizes queues cpus apps tx (word_of seed i)) refl is
 
 pub plan_steps_are_within : (plan : Plan) → HasSteps plan

@@ -1,5 +1,6 @@
 -- No step of one event changes the settings, and a command changes them as it says.
-use Rattle.std.proofs.Common.{ℕ, ◌%◌, ◌≡◌, ◌∙◌, sym, ap, refl, Bool, true, false, List, [], ◌∷◌, ◌++◌}
+use Rattle.std.proofs.Common.{ℕ, ◌%◌, ◌≡◌, ◌∙◌, sym, ap, refl, Bool, true, false, List, [], ◌∷◌}
+use Rattle.std.proofs.Common.{◌++◌}
 use Rattle.std.proofs.Common.{Option, Some, None, length}
 use Rattle.std.specs.Prelude.{if◌then◌else◌, nat_lt, not}
 use Rattle.steer_base.specs.declared.command.Answer.TheVariants as says
@@ -34,7 +35,8 @@ record Same (m : Machine) (n : Machine) : Type 0 where
 stays : (m : Machine) → Same m m
 stays m = record { settings = refl; commands = refl }
 
-same-if : (m : Machine) (b : Bool) (x y : Outcome) → Same m x.0 → Same m y.0 → Same m (if b then x else y).0
+same-if : (m : Machine) (b : Bool) (x y : Outcome) → Same m x.0 → Same m y.0
+    → Same m (if b then x else y).0
 same-if m true x y p q = p
 same-if m false x y p q = q
 
@@ -48,7 +50,8 @@ same-weigh m q (note.Looked want) None = stays m
 same-weigh m q note.Nothing x = stays m
 same-weigh m q (note.Asking filter) x = stays m
 
-same-put : (m n : Machine) (q : ℕ) (x : Option ℕ) (a : HopAnswer) → Same m n → Same m (put_by n q x a).0
+same-put : (m n : Machine) (q : ℕ) (x : Option ℕ) (a : HopAnswer) → Same m n
+    → Same m (put_by n q x a).0
 same-put m n q (Some x) a same = record { settings = same.settings; commands = same.commands }
 same-put m n q None a same = same
 
@@ -61,7 +64,11 @@ same-record : (m : Machine) (hash : Option (Option ℕ)) → Same m (record_by m
 same-record m None = stays m
 same-record m (Some None) = stays m
 same-record m (Some (Some hash)) =
-    same-if m (nat_lt 0 (length m.socket)) (wrote (visited m (hash % m.setup.apps)) (hash % m.setup.apps) hash, says.Done)
+    same-if m (nat_lt 0 (length m.socket)) (
+      wrote (visited m (hash % m.setup.apps))
+          (hash % m.setup.apps) hash,
+      says.Done,
+    )
     _ (record { settings = refl; commands = refl }) (stays m)
 
 same-send : (m : Machine) (a : ℕ) (x : Option ℕ) → Same m (send_by m a x).0
@@ -110,12 +117,14 @@ follows-same s m n same f = same.settings ∙ f ∙ ap (settings_after s) (sym s
 
 follows-given : (s : Settings) (m : Machine) (c : Command) → Follows s m → Follows s (given m c).0
 follows-given s m c f =
-    after-set (is_done (answer_to m c)) ∙ ap (λ t. if is_done (answer_to m c) then changed t c else t) f
+    after-set (is_done (answer_to m c))
+    ∙ ap (λ t. if is_done (answer_to m c) then changed t c else t) f
     ∙ sym (settings_after-append m.commands s (record { command = c; answer = answer_to m c }))
     ∙ ap (λ cs. settings_after s (cs ++ record { command = c; answer = answer_to m c } ∷ []))
     (sym (commands-set (is_done (answer_to m c))))
   where
-    after-set : (b : Bool) → (if b then set_by m c else m).settings ≡ (if b then changed m.settings c else m.settings)
+    after-set : (b : Bool) → (if b then set_by m c else m).settings ≡ (if b then changed m.settings
+        c else m.settings)
     after-set true = settings-set_by m c
     after-set false = refl
 
@@ -130,7 +139,8 @@ follows-simple s m act.Arrive =
     (record { settings = refl; commands = refl }) (stays m))
 follows-simple s m (act.Take q) =
     follows-same s m _
-    (same-if m (is_asking (note_of m q)) _ _ (stays m) (record { settings = refl; commands = refl }))
+    (same-if m (is_asking (note_of m q)) _ _ (stays m)
+    (record { settings = refl; commands = refl }))
 follows-simple s m (act.Enter q) = λ f. f
 follows-simple s m (act.Look q) =
     follows-same s m _
@@ -138,7 +148,8 @@ follows-simple s m (act.Look q) =
     (same-if m (is_nothing (note_of m q)) _ _ (same-look m q (to_weigh m.rx q)) (stays m)))
 follows-simple s m (act.Weigh q) =
     follows-same s m _
-    (same-if m (not (inside_of m.rx q)) _ _ (stays m) (same-weigh m q (note_of m q) (to_weigh m.rx q)))
+    (same-if m (not (inside_of m.rx q)) _ _ (stays m) (same-weigh m q (note_of m q)
+    (to_weigh m.rx q)))
 follows-simple s m (act.Put q) =
     follows-same s m _
     (same-put m (by_rx m (putting m q)).0 q _ _ (record { settings = refl; commands = refl }))
@@ -148,14 +159,16 @@ follows-simple s m (act.Ask q) =
 follows-simple s m (act.Leave q) =
     follows-same s m _
     (same-if m (not (inside_of m.rx q)) _ _ (stays m)
-    (same-if m (is_nothing (note_of m q)) _ _ (record { settings = refl; commands = refl }) (stays m)))
+    (same-if m (is_nothing (note_of m q)) _ _ (record { settings = refl; commands = refl })
+    (stays m)))
 follows-simple s m (act.Pull c) = λ f. f
 follows-simple s m (act.Deliver c) = λ f. f
 follows-simple s m (act.Retire c) = λ f. f
 follows-simple s m (act.Record flow) = follows-same s m _ (same-record m (flow_hash m.setup flow))
 follows-simple s m (act.Send a) =
     follows-same s m _
-    (same-if m (nat_lt (placed_of m.tx a) (taken_of m.tx a)) _ _ (stays m) (same-send m a (next_in m a)))
+    (same-if m (nat_lt (placed_of m.tx a) (taken_of m.tx a)) _ _ (stays m)
+    (same-send m a (next_in m a)))
 follows-simple s m (act.TEnter a) = λ f. f
 follows-simple s m (act.TLeave a) = λ f. f
 follows-simple s m (act.TWeigh a) = λ f. f
@@ -171,5 +184,6 @@ follows-simple s m (act.Serve a) = λ f. f
 follows-simple s m (act.Ship t) = λ f. f
 follows-simple s m act.Sweep = λ f. f
 
-pub settings_follow : (s : Settings) (m : Machine) (ss : List Step) → Follows s m → Follows s (after ss m)
+pub settings_follow : (s : Settings) (m : Machine) (ss : List Step) → Follows s m → Follows s
+    (after ss m)
 settings_follow s m ss f = after-keeps (Follows s) (follows-simple s) ss m f

@@ -1,7 +1,9 @@
 -- Values in force are those of the last done commands for them.
-use Rattle.std.proofs.Common.{ℕ, ◌<◌, ◌≡◌, Bool, true, false, List, [], ◌∷◌, Option, Some, None, length}
+use Rattle.std.proofs.Common.{ℕ, ◌<◌, ◌≡◌, Bool, true, false, List, [], ◌∷◌, Option, Some, None}
+use Rattle.std.proofs.Common.{length}
 use Rattle.std.proofs.Common.{refl, ap, ◌∙◌, sym, subst, arith, inl, inr, unwrap_or, suc}
-use Rattle.std.specs.Prelude.{◌==◌, ◌&&◌, ◌||◌, not, nat_lt, if◌then◌else◌, slice_index, slice_index_or, slice_set}
+use Rattle.std.specs.Prelude.{◌==◌, ◌&&◌, ◌||◌, not, nat_lt, if◌then◌else◌, slice_index}
+use Rattle.std.specs.Prelude.{slice_index_or, slice_set}
 use Rattle.std.specs.List.{All, cons_option, filter_map}
 use Rattle.std.proofs.lemmas.Bool.{cases_eq, eq-eqb, lt-ltb, ne_eqb}
 use Rattle.std.proofs.lemmas.List.{get_or-set_same, get_or-set_other, length-set}
@@ -15,8 +17,10 @@ use Rattle.history.specs.declared.commanded.Commanded.{Commanded}
 use Rattle.xps_map.specs.Maps.{no_cpus}
 use Rattle.steer_model.specs.Steps.Commands.{is_done}
 use Rattle.steer_model.specs.Good.Inputs.{settings_after}
-use Rattle.steer_model.specs.Origins.SettingWrites.{AreLastWrites, NamesCpu, count_for, entry_for, if_done, last_write}
-use Rattle.steer_model.specs.Origins.SettingWrites.{mask_for, online_for, sock_for, stand_for, tx_cpus_for, tx_queues_for}
+use Rattle.steer_model.specs.Origins.SettingWrites.{AreLastWrites, NamesCpu, count_for, entry_for}
+use Rattle.steer_model.specs.Origins.SettingWrites.{if_done, last_write}
+use Rattle.steer_model.specs.Origins.SettingWrites.{mask_for, online_for, sock_for, stand_for}
+use Rattle.steer_model.specs.Origins.SettingWrites.{tx_cpus_for, tx_queues_for}
 use Rattle.steer_model.specs.State.Settings.{Settings, changed, mask_of}
 
 last-cons : {X : Type 0} (o : Option X) (d : X) (xs : List X)
@@ -34,7 +38,8 @@ module _ {X : Type 0} (read : Settings → X) (value : Command → Option X) (Ha
   written-once s c true named have = writes s c named have
   written-once s c false named have = refl
 
-  kept-once : (s : Settings) (c : Command) (done : Bool) → Has s → Has (if done then changed s c else s)
+  kept-once : (s : Settings) (c : Command) (done : Bool) → Has s
+      → Has (if done then changed s c else s)
   kept-once s c true have = keeps s c have
   kept-once s c false have = have
 
@@ -94,7 +99,8 @@ joined i cpu b small =
 
 -- ---- the processors of a receive queue
 
-mask-keeps : (i : ℕ) (s : Settings) (c : Command) → i < length s.masks → i < length (changed s c).masks
+mask-keeps : (i : ℕ) (s : Settings) (c : Command) → i < length s.masks → i < length
+    (changed s c).masks
 mask-keeps i s (give.Mask q mask) lt = subst (λ n. i < n) (sym (length-set s.masks q mask)) lt
 mask-keeps i s (give.Flows q count) lt = lt
 mask-keeps i s (give.Sock size) lt = lt
@@ -121,9 +127,11 @@ mask-writes i s give.Expire named lt = refl
 
 -- ---- the flow count of a receive queue
 
-count-keeps : (i : ℕ) (s : Settings) (c : Command) → i < length s.counts → i < length (changed s c).counts
+count-keeps : (i : ℕ) (s : Settings) (c : Command) → i < length s.counts → i < length
+    (changed s c).counts
 count-keeps i s (give.Mask q mask) lt = lt
-count-keeps i s (give.Flows q count) lt = subst (λ n. i < n) (sym (length-set s.counts q (rounded_up count))) lt
+count-keeps i s (give.Flows q count) lt =
+    subst (λ n. i < n) (sym (length-set s.counts q (rounded_up count))) lt
 count-keeps i s (give.Sock size) lt = lt
 count-keeps i s (give.Offline cpu) lt = lt
 count-keeps i s (give.Online cpu) lt = lt
@@ -148,20 +156,23 @@ count-writes i s give.Expire named lt = refl
 
 -- ---- the processors of a transmit queue
 
-tx_cpus-keeps : (i : ℕ) (s : Settings) (c : Command) → i < length s.maps.cpus → i < length (changed s c).maps.cpus
+tx_cpus-keeps : (i : ℕ) (s : Settings) (c : Command) → i < length s.maps.cpus → i < length
+    (changed s c).maps.cpus
 tx_cpus-keeps i s (give.Mask q mask) lt = lt
 tx_cpus-keeps i s (give.Flows q count) lt = lt
 tx_cpus-keeps i s (give.Sock size) lt = lt
 tx_cpus-keeps i s (give.Offline cpu) lt = lt
 tx_cpus-keeps i s (give.Online cpu) lt = lt
-tx_cpus-keeps i s (give.XCpus tx mask) lt = subst (λ n. i < n) (sym (length-set s.maps.cpus tx mask)) lt
+tx_cpus-keeps i s (give.XCpus tx mask) lt =
+    subst (λ n. i < n) (sym (length-set s.maps.cpus tx mask)) lt
 tx_cpus-keeps i s (give.XQueues tx queues) lt = lt
 tx_cpus-keeps i s (give.Reta place q) lt = lt
 tx_cpus-keeps i s (give.Stand app cpu) lt = lt
 tx_cpus-keeps i s give.Expire lt = lt
 
 tx_cpus-writes : (i : ℕ) (s : Settings) (c : Command) → NamesCpu c → i < length s.maps.cpus
-    → slice_index_or (changed s c).maps.cpus i no_cpus ≡ unwrap_or (tx_cpus_for i c) (slice_index_or s.maps.cpus i no_cpus)
+    → slice_index_or (changed s c).maps.cpus i no_cpus ≡ unwrap_or (tx_cpus_for i c)
+    (slice_index_or s.maps.cpus i no_cpus)
 tx_cpus-writes i s (give.Mask q mask) named lt = refl
 tx_cpus-writes i s (give.Flows q count) named lt = refl
 tx_cpus-writes i s (give.Sock size) named lt = refl
@@ -175,20 +186,23 @@ tx_cpus-writes i s give.Expire named lt = refl
 
 -- ---- the receive queues of a transmit queue
 
-tx_queues-keeps : (i : ℕ) (s : Settings) (c : Command) → i < length s.maps.queues → i < length (changed s c).maps.queues
+tx_queues-keeps : (i : ℕ) (s : Settings) (c : Command) → i < length s.maps.queues → i < length
+    (changed s c).maps.queues
 tx_queues-keeps i s (give.Mask q mask) lt = lt
 tx_queues-keeps i s (give.Flows q count) lt = lt
 tx_queues-keeps i s (give.Sock size) lt = lt
 tx_queues-keeps i s (give.Offline cpu) lt = lt
 tx_queues-keeps i s (give.Online cpu) lt = lt
 tx_queues-keeps i s (give.XCpus tx mask) lt = lt
-tx_queues-keeps i s (give.XQueues tx queues) lt = subst (λ n. i < n) (sym (length-set s.maps.queues tx queues)) lt
+tx_queues-keeps i s (give.XQueues tx queues) lt =
+    subst (λ n. i < n) (sym (length-set s.maps.queues tx queues)) lt
 tx_queues-keeps i s (give.Reta place q) lt = lt
 tx_queues-keeps i s (give.Stand app cpu) lt = lt
 tx_queues-keeps i s give.Expire lt = lt
 
 tx_queues-writes : (i : ℕ) (s : Settings) (c : Command) → NamesCpu c → i < length s.maps.queues
-    → slice_index (changed s c).maps.queues i ≡ unwrap_or (tx_queues_for i c) (slice_index s.maps.queues i)
+    → slice_index (changed s c).maps.queues i ≡ unwrap_or (tx_queues_for i c)
+    (slice_index s.maps.queues i)
 tx_queues-writes i s (give.Mask q mask) named lt = refl
 tx_queues-writes i s (give.Flows q count) named lt = refl
 tx_queues-writes i s (give.Sock size) named lt = refl
@@ -202,7 +216,8 @@ tx_queues-writes i s give.Expire named lt = refl
 
 -- ---- an entry of the redirection table
 
-entry-keeps : (i : ℕ) (s : Settings) (c : Command) → i < length s.reta.entries → i < length (changed s c).reta.entries
+entry-keeps : (i : ℕ) (s : Settings) (c : Command) → i < length s.reta.entries → i < length
+    (changed s c).reta.entries
 entry-keeps i s (give.Mask q mask) lt = lt
 entry-keeps i s (give.Flows q count) lt = lt
 entry-keeps i s (give.Sock size) lt = lt
@@ -210,12 +225,14 @@ entry-keeps i s (give.Offline cpu) lt = lt
 entry-keeps i s (give.Online cpu) lt = lt
 entry-keeps i s (give.XCpus tx mask) lt = lt
 entry-keeps i s (give.XQueues tx queues) lt = lt
-entry-keeps i s (give.Reta place q) lt = subst (λ n. i < n) (sym (length-set s.reta.entries place q)) lt
+entry-keeps i s (give.Reta place q) lt =
+    subst (λ n. i < n) (sym (length-set s.reta.entries place q)) lt
 entry-keeps i s (give.Stand app cpu) lt = lt
 entry-keeps i s give.Expire lt = lt
 
 entry-writes : (i : ℕ) (s : Settings) (c : Command) → NamesCpu c → i < length s.reta.entries
-    → slice_index (changed s c).reta.entries i ≡ unwrap_or (entry_for i c) (slice_index s.reta.entries i)
+    → slice_index (changed s c).reta.entries i ≡ unwrap_or (entry_for i c)
+    (slice_index s.reta.entries i)
 entry-writes i s (give.Mask q mask) named lt = refl
 entry-writes i s (give.Flows q count) named lt = refl
 entry-writes i s (give.Sock size) named lt = refl
@@ -229,7 +246,8 @@ entry-writes i s give.Expire named lt = refl
 
 -- ---- where an application stands
 
-stand-keeps : (i : ℕ) (s : Settings) (c : Command) → i < length s.stands → i < length (changed s c).stands
+stand-keeps : (i : ℕ) (s : Settings) (c : Command) → i < length s.stands → i < length
+    (changed s c).stands
 stand-keeps i s (give.Mask q mask) lt = lt
 stand-keeps i s (give.Flows q count) lt = lt
 stand-keeps i s (give.Sock size) lt = lt
@@ -290,12 +308,20 @@ pub values_are_last_writes : (s : Settings) (cs : List Commanded) → All (λ c.
     → AreLastWrites s cs
 values_are_last_writes s cs named =
     record {
-      masks = λ i lt. last-written (λ t. mask_of t i) (mask_for i) (λ t. i < length t.masks) (mask-keeps i) (mask-writes i) s cs named lt;
-      counts = λ i lt. last-written (λ t. slice_index t.counts i) (count_for i) (λ t. i < length t.counts) (count-keeps i) (count-writes i) s cs named lt;
-      sock = last-written (λ t. t.sock) sock_for (λ t. Unit {0}) (λ t c u. u) sock-writes s cs named tt;
-      online = λ i lt. last-written (λ t. has t.online i) (online_for i) (λ t. Unit {0}) (λ t c u. u) (online-writes i lt) s cs named tt;
-      tx_cpus = λ i lt. last-written (λ t. slice_index_or t.maps.cpus i no_cpus) (tx_cpus_for i) (λ t. i < length t.maps.cpus) (tx_cpus-keeps i) (tx_cpus-writes i) s cs named lt;
-      tx_queues = λ i lt. last-written (λ t. slice_index t.maps.queues i) (tx_queues_for i) (λ t. i < length t.maps.queues) (tx_queues-keeps i) (tx_queues-writes i) s cs named lt;
-      entries = λ i lt. last-written (λ t. slice_index t.reta.entries i) (entry_for i) (λ t. i < length t.reta.entries) (entry-keeps i) (entry-writes i) s cs named lt;
-      stands = λ i lt. last-written (λ t. slice_index t.stands i) (stand_for i) (λ t. i < length t.stands) (stand-keeps i) (stand-writes i) s cs named lt;
+      masks = λ i lt. last-written (λ t. mask_of t i) (mask_for i) (λ t. i < length t.masks)
+          (mask-keeps i) (mask-writes i) s cs named lt;
+      counts = λ i lt. last-written (λ t. slice_index t.counts i) (count_for i)
+          (λ t. i < length t.counts) (count-keeps i) (count-writes i) s cs named lt;
+      sock = last-written (λ t. t.sock) sock_for (λ t. Unit {0}) (λ t c u. u) sock-writes s cs named
+          tt;
+      online = λ i lt. last-written (λ t. has t.online i) (online_for i) (λ t. Unit {0})
+          (λ t c u. u) (online-writes i lt) s cs named tt;
+      tx_cpus = λ i lt. last-written (λ t. slice_index_or t.maps.cpus i no_cpus) (tx_cpus_for i)
+          (λ t. i < length t.maps.cpus) (tx_cpus-keeps i) (tx_cpus-writes i) s cs named lt;
+      tx_queues = λ i lt. last-written (λ t. slice_index t.maps.queues i) (tx_queues_for i)
+          (λ t. i < length t.maps.queues) (tx_queues-keeps i) (tx_queues-writes i) s cs named lt;
+      entries = λ i lt. last-written (λ t. slice_index t.reta.entries i) (entry_for i)
+          (λ t. i < length t.reta.entries) (entry-keeps i) (entry-writes i) s cs named lt;
+      stands = λ i lt. last-written (λ t. slice_index t.stands i) (stand_for i)
+          (λ t. i < length t.stands) (stand-keeps i) (stand-writes i) s cs named lt;
     }

@@ -1,7 +1,9 @@
 -- Each entry of the socket flow table that is set is a write of the history.
-use Rattle.std.proofs.Common.{ℕ, ◌%◌, ◌<◌, ◌≡◌, ◌∙◌, sym, ap, refl, Bool, true, false, List, [], ◌∷◌, ◌++◌}
+use Rattle.std.proofs.Common.{ℕ, ◌%◌, ◌<◌, ◌≡◌, ◌∙◌, sym, ap, refl, Bool, true, false, List, []}
+use Rattle.std.proofs.Common.{◌∷◌, ◌++◌}
 use Rattle.std.proofs.Common.{Option, Some, None, length, subst, inl, inr, unwrap_or, slice_get}
-use Rattle.std.specs.Prelude.{if◌then◌else◌, nat_lt, not, ◌==◌, slice_index_or, slice_set, suc, zero}
+use Rattle.std.specs.Prelude.{if◌then◌else◌, nat_lt, not, ◌==◌, slice_index_or, slice_set, suc}
+use Rattle.std.specs.Prelude.{zero}
 use Rattle.std.proofs.lemmas.Bool.{cases_eq, eq-eqb, ltb-true, ne_eqb}
 use Rattle.std.proofs.lemmas.List.{get_or-set_same, get_or-set_other, length-replicate, length-set}
 use Rattle.std.proofs.lemmas.Option.{same_Some}
@@ -21,7 +23,8 @@ use Rattle.hop_core.specs.Hop.{inside_of, placed_of, taken_of}
 use Rattle.hop_core.specs.Reads.{to_weigh}
 use Rattle.plan_reader.specs.declared.plan.Plan.{Plan}
 use Rattle.sock_flow_table.specs.Sockets.{unset}
-use Rattle.steer_model.specs.Steps.Applications.{next_in, record_by, send_by, stand_of, visited, wrote}
+use Rattle.steer_model.specs.Steps.Applications.{next_in, record_by, send_by, stand_of, visited}
+use Rattle.steer_model.specs.Steps.Applications.{wrote}
 use Rattle.steer_model.specs.Steps.Commands.{answer_to, is_done, set_by}
 use Rattle.steer_model.specs.Good.Choices.{WasWritten}
 use Rattle.steer_model.specs.State.Machine.{Machine, history_of, note_of}
@@ -52,13 +55,15 @@ keeps m n same w =
       size = ap (λ s. length s) same.socket ∙ w.size ∙ sym same.sock;
       written = written;
       some_app = subst (λ (p : Setup). 0 < p.apps) (sym same.setup) w.some_app;
-      lists = ap (λ l. length l) same.writes ∙ w.lists ∙ ap (λ (p : Setup). p.apps) (sym same.setup);
+      lists = ap (λ l. length l) same.writes ∙ w.lists ∙ ap (λ (p : Setup). p.apps)
+          (sym same.setup);
     }
   where
     written : (place cpu : ℕ) → socket_at place n ≡ Some cpu
         → WasWritten (history_of n) (record { entry = place; cpu = cpu })
     written place cpu is =
-        let old = w.written place cpu (ap (λ s. slice_index_or s place None) (sym same.socket) ∙ is) in
+        let old = w.written place cpu (ap (λ s. slice_index_or s place None) (sym same.socket)
+        ∙ is) in
         (old.0, old.1, ap (λ l. slice_get (list_at l old.0) old.1) same.writes ∙ old.2)
 
 -- ---- a write more
@@ -86,7 +91,8 @@ list-more ls a b i x y lt is =
           ap (λ k. slice_get (list_at (slice_set ls a (list_at ls a ++ x ∷ [])) k) i) e
           ∙ ap (λ l. slice_get l i) (list-set ls a x lt)
           ∙ get-more (list_at ls a) x y i (ap (λ k. slice_get (list_at ls k) i) (sym e) ∙ is)
-      | inr ne ↦ ap (λ l. slice_get l i) (get_or-set_other ls a b (list_at ls a ++ x ∷ []) [] ne) ∙ is
+      | inr ne ↦ ap (λ l. slice_get l i) (get_or-set_other ls a b (list_at ls a ++ x ∷ []) [] ne)
+          ∙ is
     ]
 
 wrote-once : (m : Machine) (hash : ℕ) → nat_lt 0 (length m.socket) ≡ true → SocketIsWritten m
@@ -116,15 +122,18 @@ wrote-once m hash some w =
 
     is_one : (place other : ℕ)
         → unwrap_or (if place == at then Some (Some cpu) else None) (socket_at place m) ≡ Some other
-        → WasWritten (history_of (wrote (visited m app) app hash)) (record { entry = place; cpu = other })
+        → WasWritten (history_of (wrote (visited m app) app hash))
+        (record { entry = place; cpu = other })
     is_one place other is =
         elim (cases_eq place at) [
           | inl e ↦
               let same : Some cpu ≡ Some other =
-              ap (λ b. unwrap_or (if b then Some (Some cpu) else None) (socket_at place m)) (sym (eq-eqb place at e)) ∙ is in (
+              ap (λ b. unwrap_or (if b then Some (Some cpu) else None) (socket_at place m))
+              (sym (eq-eqb place at e)) ∙ is in (
                 app,
                 length (list_at m.writes app),
-                ap (λ l. slice_get l (length (list_at m.writes app))) (list-set m.writes app new there)
+                ap (λ l. slice_get l (length (list_at m.writes app)))
+                    (list-set m.writes app new there)
                     ∙ get-last (list_at m.writes app) new
                     ∙ ap (λ k. Some (record { entry = k; cpu = cpu })) (sym e)
                     ∙ ap (λ k. Some (record { entry = place; cpu = k })) (same_Some cpu other same),
@@ -132,31 +141,40 @@ wrote-once m hash some w =
           | inr ne ↦
               let old : WasWritten (history_of m) (record { entry = place; cpu = other }) =
               w.written place other
-              (ap (λ b. unwrap_or (if b then Some (Some cpu) else None) (socket_at place m)) (sym (ne_eqb place at ne)) ∙ is) in
-              (old.0, old.1, list-more m.writes app old.0 old.1 new (record { entry = place; cpu = other }) there old.2)
+              (ap (λ b. unwrap_or (if b then Some (Some cpu) else None) (socket_at place m))
+              (sym (ne_eqb place at ne)) ∙ is) in (
+                old.0,
+                old.1,
+                list-more m.writes app old.0 old.1 new
+                    (record { entry = place; cpu = other }) there old.2,
+              )
         ]
 
     written : (place other : ℕ) → socket_at place (wrote (visited m app) app hash) ≡ Some other
-        → WasWritten (history_of (wrote (visited m app) app hash)) (record { entry = place; cpu = other })
+        → WasWritten (history_of (wrote (visited m app) app hash))
+        (record { entry = place; cpu = other })
     written place other is =
         is_one place other (sym (set-in place) ∙ is)
       where
         set-in : (place : ℕ)
             → socket_at place (wrote (visited m app) app hash)
             ≡ unwrap_or (if place == at then Some (Some cpu) else None) (socket_at place m)
-        set-in place = rw some (set-at m.socket at place cpu (mod-lt hash (ltb-true 0 (length m.socket) some)))
+        set-in place =
+            rw some (set-at m.socket at place cpu (mod-lt hash (ltb-true 0 (length m.socket) some)))
 
 written-if : (b : Bool) (x y : Outcome) → (b ≡ true → SocketIsWritten x.0) → SocketIsWritten y.0
     → SocketIsWritten (if b then x else y).0
 written-if true x y p q = p refl
 written-if false x y p q = q
 
-written-record : (m : Machine) (hash : Option (Option ℕ)) → SocketIsWritten m → SocketIsWritten (record_by m hash).0
+written-record : (m : Machine) (hash : Option (Option ℕ)) → SocketIsWritten m → SocketIsWritten
+    (record_by m hash).0
 written-record m None w = w
 written-record m (Some None) w = w
 written-record m (Some (Some hash)) w =
     written-if (nat_lt 0 (length m.socket))
-    (wrote (visited m (hash % m.setup.apps)) (hash % m.setup.apps) hash, says.Done) (m, says.Idle idle.NoTable)
+    (wrote (visited m (hash % m.setup.apps)) (hash % m.setup.apps) hash, says.Done)
+    (m, says.Idle idle.NoTable)
     (λ some. wrote-once m hash some w) w
 
 -- ---- commands
@@ -194,13 +212,15 @@ written-set m (give.Stand app cpu) w =
 written-set m give.Expire w =
     keeps m _ (record { setup = refl; socket = refl; writes = refl; sock = refl }) w
 
-written-given : (m : Machine) (c : Command) (b : Bool) → SocketIsWritten m → SocketIsWritten (if b then set_by m c else m)
+written-given : (m : Machine) (c : Command) (b : Bool) → SocketIsWritten m → SocketIsWritten
+    (if b then set_by m c else m)
 written-given m c true w = written-set m c w
 written-given m c false w = w
 
 -- ---- one event
 
-same-if : (m : Machine) (b : Bool) (x y : Outcome) → Same m x.0 → Same m y.0 → Same m (if b then x else y).0
+same-if : (m : Machine) (b : Bool) (x y : Outcome) → Same m x.0 → Same m y.0
+    → Same m (if b then x else y).0
 same-if m true x y p q = p
 same-if m false x y p q = q
 
@@ -212,12 +232,18 @@ same-look m q (Some x) = record { setup = refl; socket = refl; writes = refl; so
 same-look m q None = stays m
 
 same-weigh : (m : Machine) (q : ℕ) (n : Note) (x : Option ℕ) → Same m (weigh_by m q n x).0
-same-weigh m q (note.Looked want) (Some x) = record { setup = refl; socket = refl; writes = refl; sock = refl }
+same-weigh m q (note.Looked want) (Some x) = record {
+  setup = refl;
+  socket = refl;
+  writes = refl;
+  sock = refl;
+}
 same-weigh m q (note.Looked want) None = stays m
 same-weigh m q note.Nothing x = stays m
 same-weigh m q (note.Asking filter) x = stays m
 
-same-put : (m n : Machine) (q : ℕ) (x : Option ℕ) (a : HopAnswer) → Same m n → Same m (put_by n q x a).0
+same-put : (m n : Machine) (q : ℕ) (x : Option ℕ) (a : HopAnswer) → Same m n
+    → Same m (put_by n q x a).0
 same-put m n q (Some x) a same =
     record { setup = same.setup; socket = same.socket; writes = same.writes; sock = same.sock }
 same-put m n q None a same = same
@@ -225,7 +251,12 @@ same-put m n q None a same = same
 same-ask : (m : Machine) (q : ℕ) (n : Note) → Same m (ask_by m q n).0
 same-ask m q note.Nothing = stays m
 same-ask m q (note.Looked want) = stays m
-same-ask m q (note.Asking filter) = record { setup = refl; socket = refl; writes = refl; sock = refl }
+same-ask m q (note.Asking filter) = record {
+  setup = refl;
+  socket = refl;
+  writes = refl;
+  sock = refl;
+}
 
 same-send : (m : Machine) (a : ℕ) (x : Option ℕ) → Same m (send_by m a x).0
 same-send m a (Some x) = record { setup = refl; socket = refl; writes = refl; sock = refl }
@@ -233,42 +264,116 @@ same-send m a None = stays m
 
 written-simple : (m : Machine) (e : Step) → SocketIsWritten m → SocketIsWritten (simple m e).0
 written-simple m act.Arrive =
-    keeps m _ (same-if m (nat_lt (length m.arrivals) (length m.setup.packets)) _ _ (record { setup = refl; socket = refl; writes = refl; sock = refl }) (stays m))
+    keeps m _ (same-if m (nat_lt (length m.arrivals) (length m.setup.packets)) _ _
+    (record { setup = refl; socket = refl; writes = refl; sock = refl }) (stays m))
 written-simple m (act.Take q) =
-    keeps m _ (same-if m (is_asking (note_of m q)) _ _ (stays m) (record { setup = refl; socket = refl; writes = refl; sock = refl }))
+    keeps m _ (same-if m (is_asking (note_of m q)) _ _ (stays m)
+    (record { setup = refl; socket = refl; writes = refl; sock = refl }))
 written-simple m (act.Look q) =
     keeps m _
     (same-if m (not (inside_of m.rx q)) _ _ (stays m)
     (same-if m (is_nothing (note_of m q)) _ _ (same-look m q (to_weigh m.rx q)) (stays m)))
 written-simple m (act.Weigh q) =
     keeps m _
-    (same-if m (not (inside_of m.rx q)) _ _ (stays m) (same-weigh m q (note_of m q) (to_weigh m.rx q)))
+    (same-if m (not (inside_of m.rx q)) _ _ (stays m) (same-weigh m q (note_of m q)
+    (to_weigh m.rx q)))
 written-simple m (act.Put q) =
-    keeps m _ (same-put m (by_rx m (putting m q)).0 q _ _ (record { setup = refl; socket = refl; writes = refl; sock = refl }))
+    keeps m _ (same-put m (by_rx m (putting m q)).0 q _ _ (record {
+      setup = refl;
+      socket = refl;
+      writes = refl;
+      sock = refl;
+    }))
 written-simple m (act.Ask q) =
     keeps m _ (same-if m (not (inside_of m.rx q)) _ _ (stays m) (same-ask m q (note_of m q)))
 written-simple m (act.Leave q) =
     keeps m _
     (same-if m (not (inside_of m.rx q)) _ _ (stays m)
-    (same-if m (is_nothing (note_of m q)) _ _ (record { setup = refl; socket = refl; writes = refl; sock = refl }) (stays m)))
+    (same-if m (is_nothing (note_of m q)) _ _ (record {
+      setup = refl;
+      socket = refl;
+      writes = refl;
+      sock = refl;
+    }) (stays m)))
 written-simple m (act.Record flow) = written-record m (flow_hash m.setup flow)
 written-simple m (act.Send a) =
     keeps m _
-    (same-if m (nat_lt (placed_of m.tx a) (taken_of m.tx a)) _ _ (stays m) (same-send m a (next_in m a)))
+    (same-if m (nat_lt (placed_of m.tx a) (taken_of m.tx a)) _ _ (stays m)
+    (same-send m a (next_in m a)))
 written-simple m (act.Give c) = λ w.
     let done : Bool = is_done (answer_to m c) in
-    keeps (if done then set_by m c else m) _ (record { setup = refl; socket = refl; writes = refl; sock = refl }) (written-given m c done w)
-written-simple m (act.Enter q) = keeps m _ (record { setup = refl; socket = refl; writes = refl; sock = refl })
-written-simple m (act.Pull c) = keeps m _ (record { setup = refl; socket = refl; writes = refl; sock = refl })
-written-simple m (act.Deliver c) = keeps m _ (record { setup = refl; socket = refl; writes = refl; sock = refl })
-written-simple m (act.Retire c) = keeps m _ (record { setup = refl; socket = refl; writes = refl; sock = refl })
-written-simple m (act.TEnter a) = keeps m _ (record { setup = refl; socket = refl; writes = refl; sock = refl })
-written-simple m (act.TLeave a) = keeps m _ (record { setup = refl; socket = refl; writes = refl; sock = refl })
-written-simple m (act.TWeigh a) = keeps m _ (record { setup = refl; socket = refl; writes = refl; sock = refl })
-written-simple m (act.TPut a) = keeps m _ (record { setup = refl; socket = refl; writes = refl; sock = refl })
-written-simple m (act.TPull t) = keeps m _ (record { setup = refl; socket = refl; writes = refl; sock = refl })
-written-simple m (act.TDeliver t) = keeps m _ (record { setup = refl; socket = refl; writes = refl; sock = refl })
-written-simple m (act.TRetire t) = keeps m _ (record { setup = refl; socket = refl; writes = refl; sock = refl })
+    keeps (if done then set_by m c else m) _ (record {
+      setup = refl;
+      socket = refl;
+      writes = refl;
+      sock = refl;
+    }) (written-given m c done w)
+written-simple m (act.Enter q) = keeps m _ (record {
+  setup = refl;
+  socket = refl;
+  writes = refl;
+  sock = refl;
+})
+written-simple m (act.Pull c) = keeps m _ (record {
+  setup = refl;
+  socket = refl;
+  writes = refl;
+  sock = refl;
+})
+written-simple m (act.Deliver c) = keeps m _ (record {
+  setup = refl;
+  socket = refl;
+  writes = refl;
+  sock = refl;
+})
+written-simple m (act.Retire c) = keeps m _ (record {
+  setup = refl;
+  socket = refl;
+  writes = refl;
+  sock = refl;
+})
+written-simple m (act.TEnter a) = keeps m _ (record {
+  setup = refl;
+  socket = refl;
+  writes = refl;
+  sock = refl;
+})
+written-simple m (act.TLeave a) = keeps m _ (record {
+  setup = refl;
+  socket = refl;
+  writes = refl;
+  sock = refl;
+})
+written-simple m (act.TWeigh a) = keeps m _ (record {
+  setup = refl;
+  socket = refl;
+  writes = refl;
+  sock = refl;
+})
+written-simple m (act.TPut a) = keeps m _ (record {
+  setup = refl;
+  socket = refl;
+  writes = refl;
+  sock = refl;
+})
+written-simple m (act.TPull t) = keeps m _ (record {
+  setup = refl;
+  socket = refl;
+  writes = refl;
+  sock = refl;
+})
+written-simple m (act.TDeliver t) = keeps m _ (record {
+  setup = refl;
+  socket = refl;
+  writes = refl;
+  sock = refl;
+})
+written-simple m (act.TRetire t) = keeps m _ (record {
+  setup = refl;
+  socket = refl;
+  writes = refl;
+  sock = refl;
+})
 written-simple m (act.Poll q) = λ w. w
 written-simple m (act.Drain c) = λ w. w
 written-simple m (act.Reply a) = λ w. w

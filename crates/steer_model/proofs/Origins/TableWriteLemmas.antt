@@ -1,5 +1,7 @@
--- What each event writes to the socket flow table and to the filters, and that the last write stands.
-use Rattle.std.proofs.Common.{ℕ, ◌%◌, ◌<◌, ◌≡◌, ◌∙◌, sym, ap, refl, Bool, true, false, List, [], ◌∷◌, ◌++◌}
+-- What each event writes to the socket flow table and to the filters, and that the last write
+-- stands.
+use Rattle.std.proofs.Common.{ℕ, ◌%◌, ◌<◌, ◌≡◌, ◌∙◌, sym, ap, refl, Bool, true, false, List, []}
+use Rattle.std.proofs.Common.{◌∷◌, ◌++◌}
 use Rattle.std.proofs.Common.{Option, Some, None, length, inl, inr, unwrap_or, suc, zero}
 use Rattle.std.specs.Prelude.{if◌then◌else◌, nat_lt, not, ◌==◌, map, slice_index_or, slice_set}
 use Rattle.std.specs.List.{cons_option}
@@ -30,8 +32,10 @@ use Rattle.steer_model.specs.Steps.Pollers.{ask_by, look_by, put_by, putting, we
 use Rattle.steer_model.specs.State.Setup.{flow_hash, hash_of}
 use Rattle.steer_model.specs.Steps.SingleSteps.{simple}
 use Rattle.steer_model.specs.Origins.TableWrites.{TablesStartUnset}
-use Rattle.steer_model.specs.Origins.TableWrites.{after_events, asked_at, cleared_by, expired_at, filter_at, filter_write}
-use Rattle.steer_model.specs.Origins.TableWrites.{if_at, recorded_at, socket_at, socket_write, writes_of}
+use Rattle.steer_model.specs.Origins.TableWrites.{after_events, asked_at, cleared_by, expired_at}
+use Rattle.steer_model.specs.Origins.TableWrites.{filter_at, filter_write}
+use Rattle.steer_model.specs.Origins.TableWrites.{if_at, recorded_at, socket_at, socket_write}
+use Rattle.steer_model.specs.Origins.TableWrites.{writes_of}
 use Rattle.steer_model.specs.Steps.CompoundSteps.{after}
 use Rattle.steer_model.specs.declared.note.Note.{Note}
 use Rattle.steer_model.specs.declared.note.Note.TheVariants as note
@@ -45,7 +49,8 @@ pub set-at : {A : Type 0} (xs : List (Option A)) (at i : ℕ) (v : A) → at < l
 set-at xs at i v lt =
     elim (cases_eq i at) [
       | inl e ↦ rw (eq-eqb i at e)
-          (ap (λ k. slice_index_or (slice_set xs at (Some v)) k None) e ∙ get_or-set_same xs at (Some v) None lt)
+          (ap (λ k. slice_index_or (slice_set xs at (Some v)) k None) e ∙ get_or-set_same xs at
+          (Some v) None lt)
       | inr ne ↦ rw (ne_eqb i at ne) (get_or-set_other xs at i (Some v) None ne)
     ]
 
@@ -55,7 +60,9 @@ pub row-written : {A : Type 0} (rows : List (Option A)) (hash : Option ℕ) (v :
 row-written rows None v place = refl
 row-written rows (Some hash) v place =
     elim (cases_Bool (nat_lt 0 (length rows))) [
-      | inl some ↦ rw some (set-at rows (hash % length rows) place v (mod-lt hash (ltb-true 0 (length rows) some)))
+      | inl some ↦
+          rw some (set-at rows (hash % length rows) place v
+          (mod-lt hash (ltb-true 0 (length rows) some)))
       | inr none ↦ rw none refl
     ]
 
@@ -69,7 +76,8 @@ no-filters zero place = refl
 no-filters (suc n) zero = refl
 no-filters (suc n) (suc place) = no-filters n place
 
-pub map-at : {A : Type 0} (f : Option A → Option A) → f None ≡ None → (xs : List (Option A)) (place : ℕ)
+pub map-at : {A : Type 0} (f : Option A → Option A) → f None ≡ None → (xs : List (Option A))
+    (place : ℕ)
     → slice_index_or (map f xs) place None ≡ f (slice_index_or xs place None)
 map-at f none [] place = sym none
 map-at f none (x ∷ xs) zero = refl
@@ -77,7 +85,8 @@ map-at f none (x ∷ xs) (suc place) = map-at f none xs place
 
 -- ---- one event
 
-record Written (place : ℕ) (m n : Machine) (entry : Option (Option ℕ)) (filter : Option (Option Filter)) : Type 0 where
+record Written (place : ℕ) (m n : Machine) (entry : Option (Option ℕ))
+    (filter : Option (Option Filter)) : Type 0 where
   at_entry : socket_at place n ≡ unwrap_or entry (socket_at place m)
   at_filter : filter_at place n ≡ unwrap_or filter (filter_at place m)
 
@@ -102,7 +111,8 @@ module _ (place : ℕ) (m : Machine) where
   keeps-weigh q note.Nothing x = keeps
   keeps-weigh q (note.Asking filter) x = keeps
 
-  keeps-put : (n : Machine) (q : ℕ) (x : Option ℕ) (a : HopAnswer) → Keeps n → Keeps (put_by n q x a).0
+  keeps-put : (n : Machine) (q : ℕ) (x : Option ℕ) (a : HopAnswer) → Keeps n
+      → Keeps (put_by n q x a).0
   keeps-put n q (Some x) a kept = record { at_entry = kept.at_entry; at_filter = kept.at_filter }
   keeps-put n q None a kept = kept
 
@@ -123,12 +133,14 @@ module _ (place : ℕ) (m : Machine) where
       asked (Some hash) = row-written m.filters (Some hash) filter place
 
   writes-inside : (b : Bool) (q : ℕ)
-      → Written place m (if not b then (m, says.Idle idle.NotInside) else ask_by m q (note_of m q)).0 None
+      → Written place m (if not b then (m, says.Idle idle.NotInside) else ask_by m q
+      (note_of m q)).0 None
       (if b then asked_at place m q (note_of m q) else None)
   writes-inside true q = writes-ask q (note_of m q)
   writes-inside false q = keeps
 
-  writes-record : (hash : Option (Option ℕ)) → Written place m (record_by m hash).0 (recorded_at place m hash) None
+  writes-record : (hash : Option (Option ℕ)) → Written place m (record_by m hash).0
+      (recorded_at place m hash) None
   writes-record None = keeps
   writes-record (Some None) = keeps
   writes-record (Some (Some hash)) =
@@ -136,7 +148,8 @@ module _ (place : ℕ) (m : Machine) where
         | inl some ↦
             let cpu : ℕ = stand_of m (hash % m.setup.apps) in
             record {
-              at_entry = rw some (set-at m.socket (hash % length m.socket) place cpu (mod-lt hash (ltb-true 0 (length m.socket) some)));
+              at_entry = rw some (set-at m.socket (hash % length m.socket) place cpu
+                  (mod-lt hash (ltb-true 0 (length m.socket) some)));
               at_filter = rw some refl;
             }
         | inr none ↦ record { at_entry = rw none refl; at_filter = rw none refl }
@@ -153,7 +166,10 @@ module _ (place : ℕ) (m : Machine) where
   writes-set : (c : Command) → Written place m (set_by m c) (cleared_by c) (expired_at place m c)
   writes-set (give.Mask q mask) = record { at_entry = refl; at_filter = refl }
   writes-set (give.Flows q count) = record { at_entry = refl; at_filter = refl }
-  writes-set (give.Sock size) = record { at_entry = no-rows (rounded_up size) place; at_filter = refl }
+  writes-set (give.Sock size) = record {
+    at_entry = no-rows (rounded_up size) place;
+    at_filter = refl;
+  }
   writes-set (give.Offline cpu) = record { at_entry = refl; at_filter = refl }
   writes-set (give.Online cpu) = record { at_entry = refl; at_filter = refl }
   writes-set (give.XCpus tx mask) = record { at_entry = refl; at_filter = refl }
@@ -172,7 +188,8 @@ module _ (place : ℕ) (m : Machine) where
   writes-given c true = writes-set c
   writes-given c false = keeps
 
-  writes-simple : (e : Step) → Written place m (simple m e).0 (socket_write place m e) (filter_write place m e)
+  writes-simple : (e : Step) → Written place m (simple m e).0 (socket_write place m e)
+      (filter_write place m e)
   writes-simple act.Arrive =
       keeps-if (nat_lt (length m.arrivals) (length m.setup.packets)) _ _
       (record { at_entry = refl; at_filter = refl }) keeps
@@ -254,7 +271,8 @@ IsReached m n = (es : List Step) × (n ≡ after_events es m)
 one-more : (m n : Machine) (e : Step) → IsReached m n → IsReached m (simple n e).0
 one-more m n e r = (r.0 ++ e ∷ [], ap (λ k. (simple k e).0) r.1 ∙ sym (events-append r.0 m e))
 
-pub steps_are_events : (ss : List Step) (m : Machine) → (es : List Step) × (after ss m ≡ after_events es m)
+pub steps_are_events : (ss : List Step) (m : Machine) → (es : List Step)
+    × (after ss m ≡ after_events es m)
 steps_are_events ss m = after-keeps (IsReached m) (one-more m) ss m ([], refl)
 
 -- ---- the start

@@ -1,5 +1,6 @@
 -- An event that is idle leaves a hop as it was, and a step that is idle the machine.
-use Rattle.std.proofs.Common.{ℕ, ◌%◌, ◌≡◌, ◌∙◌, sym, Bool, true, false, Option, Some, None, refl, ap, length}
+use Rattle.std.proofs.Common.{ℕ, ◌%◌, ◌≡◌, ◌∙◌, sym, Bool, true, false, Option, Some, None, refl}
+use Rattle.std.proofs.Common.{ap, length}
 use Rattle.std.specs.Prelude.{if◌then◌else◌, ◌==◌, nat_lt, not}
 use Rattle.steer_base.specs.declared.cpu_mask.CpuMask.{CpuMask}
 use Rattle.steer_base.specs.Choices.{desired_cpu}
@@ -14,10 +15,12 @@ use Rattle.hop_core.specs.declared.event.HopAnswer.TheVariants as answer
 use Rattle.hop_core.specs.declared.event.HopEvent.{HopEvent}
 use Rattle.hop_core.specs.declared.event.HopEvent.TheVariants as event
 use Rattle.hop_core.specs.Events.{Outcome as HopOutcome, happens}
-use Rattle.hop_core.specs.Hop.{HopState, accepted_at, arrivals_of, choices_of, delivered_at, inside_of, placed_of}
+use Rattle.hop_core.specs.Hop.{HopState, accepted_at, arrivals_of, choices_of, delivered_at}
+use Rattle.hop_core.specs.Hop.{inside_of, placed_of}
 use Rattle.hop_core.specs.Hop.{next_of, pulled_at, retired_at, taken_of}
 use Rattle.hop_core.specs.Reads.{to_weigh}
-use Rattle.steer_model.specs.Steps.Applications.{in_lane, in_reply, next_in, record_by, send_by, sending}
+use Rattle.steer_model.specs.Steps.Applications.{in_lane, in_reply, next_in, record_by, send_by}
+use Rattle.steer_model.specs.Steps.Applications.{sending}
 use Rattle.steer_model.specs.Steps.Applications.{visited, wrote}
 use Rattle.steer_model.specs.State.Machine.{Machine, last_of, note_of}
 use Rattle.steer_model.specs.State.Notes.{is_asking, is_nothing}
@@ -50,28 +53,35 @@ pub happens-idle : (s : HopState) (e : HopEvent) → HopLeaves s (happens s e)
 happens-idle s (event.Arrive p id) = hop-done s _ _ refl
 happens-idle s (event.Take p) =
     hop-if s (nat_lt (placed_of s p) (taken_of s p)) _ _ (hop-idle s _)
-    (hop-if s (nat_lt (taken_of s p) (length (arrivals_of s p))) _ _ (hop-done s _ _ refl) (hop-idle s _))
+    (hop-if s (nat_lt (taken_of s p) (length (arrivals_of s p))) _ _ (hop-done s _ _ refl)
+    (hop-idle s _))
 happens-idle s (event.Enter a) =
     hop-if s (inside_of s a) _ _ (hop-idle s _)
     (hop-if s s.bare.closed _ _ (hop-done s _ _ refl) (hop-done s _ _ refl))
 happens-idle s (event.Leave a) =
     hop-if s (not (inside_of s a)) _ _ (hop-idle s _)
-    (hop-if s (nat_lt (placed_of s a) (length (choices_of s a))) _ _ (hop-idle s _) (hop-done s _ _ refl))
+    (hop-if s (nat_lt (placed_of s a) (length (choices_of s a))) _ _ (hop-idle s _)
+    (hop-done s _ _ refl))
 happens-idle s (event.Weigh p class want desired online) =
     hop-if s (not (inside_of s p)) _ _ (hop-idle s _)
-    (hop-if s (nat_lt (length (choices_of s p)) (taken_of s p)) _ _ (hop-done s _ _ refl) (hop-idle s _))
+    (hop-if s (nat_lt (length (choices_of s p)) (taken_of s p)) _ _ (hop-done s _ _ refl)
+    (hop-idle s _))
 happens-idle s (event.Put p hash) =
     hop-if s (not (inside_of s p)) _ _ (hop-idle s _)
-    (hop-if s (nat_lt (placed_of s p) (length (choices_of s p))) _ _ (hop-done s _ _ refl) (hop-idle s _))
+    (hop-if s (nat_lt (placed_of s p) (length (choices_of s p))) _ _ (hop-done s _ _ refl)
+    (hop-idle s _))
 happens-idle s (event.Pull c) =
     hop-if s (nat_lt (retired_at s.bare c) (pulled_at s.bare c)) _ _ (hop-idle s _)
-    (hop-if s (nat_lt (pulled_at s.bare c) (length (accepted_at s.bare c))) _ _ (hop-done s _ _ refl) (hop-idle s _))
+    (hop-if s (nat_lt (pulled_at s.bare c) (length (accepted_at s.bare c))) _ _
+    (hop-done s _ _ refl) (hop-idle s _))
 happens-idle s (event.Deliver c o) =
     hop-if s (nat_lt (delivered_at s.bare c) (pulled_at s.bare c)) _ _ (hop-done s _ _ refl)
-    (hop-if s (nat_lt (retired_at s.bare c) (delivered_at s.bare c)) _ _ (hop-idle s _) (hop-idle s _))
+    (hop-if s (nat_lt (retired_at s.bare c) (delivered_at s.bare c)) _ _ (hop-idle s _)
+    (hop-idle s _))
 happens-idle s (event.Retire c) =
     hop-if s (nat_lt (retired_at s.bare c) (delivered_at s.bare c)) _ _ (hop-done s _ _ refl)
-    (hop-if s (nat_lt (delivered_at s.bare c) (pulled_at s.bare c)) _ _ (hop-idle s _) (hop-idle s _))
+    (hop-if s (nat_lt (delivered_at s.bare c) (pulled_at s.bare c)) _ _ (hop-idle s _)
+    (hop-idle s _))
 happens-idle s (event.Resize p count) = hop-done s _ _ refl
 happens-idle s event.Close =
     hop-if s (s.bare.inside == 0) _ _ (hop-done s _ _ refl) (hop-done s _ _ refl)
@@ -82,7 +92,8 @@ happens-idle s event.Reopen = hop-done s _ _ refl
 record Leaves (m : Machine) (o : Outcome) : Type 0 where
   same : (why : Idle) → o.1 ≡ says.Idle why → o.0 ≡ m
 
-leaves-if : (m : Machine) (b : Bool) (x y : Outcome) → Leaves m x → Leaves m y → Leaves m (if b then x else y)
+leaves-if : (m : Machine) (b : Bool) (x y : Outcome) → Leaves m x → Leaves m y
+    → Leaves m (if b then x else y)
 leaves-if m true x y p q = p
 leaves-if m false x y p q = q
 
@@ -94,11 +105,17 @@ leaves-done m n = record { same = λ why e. cc }
 
 leaves-rx : (m : Machine) (e : HopEvent)
     → Leaves m (record m { rx = (happens m.rx e).0 }, told (happens m.rx e).1)
-leaves-rx m e = record { same = λ why idle. ap (λ s. record m { rx = s }) ((happens-idle m.rx e).same why idle) }
+leaves-rx m e = record {
+  same = λ why idle. ap (λ s. record m { rx = s })
+      ((happens-idle m.rx e).same why idle);
+}
 
 leaves-tx : (m : Machine) (e : HopEvent)
     → Leaves m (record m { tx = (happens m.tx e).0 }, told (happens m.tx e).1)
-leaves-tx m e = record { same = λ why idle. ap (λ s. record m { tx = s }) ((happens-idle m.tx e).same why idle) }
+leaves-tx m e = record {
+  same = λ why idle. ap (λ s. record m { tx = s })
+      ((happens-idle m.tx e).same why idle);
+}
 
 leaves-look : (m : Machine) (q : ℕ) (x : Option ℕ) → Leaves m (look_by m q x)
 leaves-look m q (Some x) = leaves-done m _
@@ -125,7 +142,11 @@ leaves-record : (m : Machine) (hash : Option (Option ℕ)) → Leaves m (record_
 leaves-record m None = leaves-idle m _
 leaves-record m (Some None) = leaves-idle m _
 leaves-record m (Some (Some hash)) =
-    leaves-if m (nat_lt 0 (length m.socket)) (wrote (visited m (hash % m.setup.apps)) (hash % m.setup.apps) hash, says.Done) _
+    leaves-if m (nat_lt 0 (length m.socket)) (
+      wrote (visited m (hash % m.setup.apps))
+          (hash % m.setup.apps) hash,
+      says.Done,
+    ) _
     (leaves-done m _) (leaves-idle m idle.NoTable)
 
 leaves-send : (m : Machine) (a : ℕ) (x : Option ℕ) → Leaves m (send_by m a x)
@@ -151,7 +172,8 @@ leaves-weigh : (m : Machine) (q x : ℕ) (n : Note) (b : Bool) → inside_of m.r
     → Leaves m (weigh_by m q n (if b then Some x else None))
 leaves-weigh m q x (note.Looked want) true inside taken =
     let class : Option ℕ = class_at m.setup m.settings q x in
-    let desired : ℕ = desired_cpu class want m.settings.online (plain_lane m.setup m.settings q x) in
+    let desired : ℕ = desired_cpu class want m.settings.online
+    (plain_lane m.setup m.settings q x) in
     let done = weighs m.rx q class want desired m.settings.online inside taken in
     record { same = λ why e. absurd (done-idle why (sym done ∙ e)) }
 leaves-weigh m q x (note.Looked want) false inside taken = leaves-idle m _
@@ -160,13 +182,15 @@ leaves-weigh m q x (note.Asking filter) b inside taken = leaves-idle m _
 
 simple-idle : (m : Machine) (s : Step) → is_command s ≡ false → Leaves m (simple m s)
 simple-idle m act.Arrive event_alone =
-    leaves-if m (nat_lt (length m.arrivals) (length m.setup.packets)) _ _ (leaves-done m _) (leaves-idle m _)
+    leaves-if m (nat_lt (length m.arrivals) (length m.setup.packets)) _ _ (leaves-done m _)
+    (leaves-idle m _)
 simple-idle m (act.Take q) event_alone =
     leaves-if m (is_asking (note_of m q)) _ _ (leaves-idle m _) (leaves-rx m (event.Take q))
 simple-idle m (act.Enter q) event_alone = leaves-rx m (event.Enter q)
 simple-idle m (act.Look q) event_alone =
     leaves-if m (not (inside_of m.rx q)) _ _ (leaves-idle m _)
-    (leaves-if m (is_nothing (note_of m q)) _ _ (leaves-look m q (to_weigh m.rx q)) (leaves-idle m _))
+    (leaves-if m (is_nothing (note_of m q)) _ _ (leaves-look m q (to_weigh m.rx q))
+    (leaves-idle m _))
 simple-idle m (act.Weigh q) event_alone =
     leaves-inside m (inside_of m.rx q) _ _
     (λ inside. leaves-weigh m q (next_of m.rx q) (note_of m q) _ inside refl)
@@ -187,7 +211,8 @@ simple-idle m (act.Send a) event_alone =
 simple-idle m (act.TEnter a) event_alone = leaves-tx m (event.Enter a)
 simple-idle m (act.TLeave a) event_alone = leaves-tx m (event.Leave a)
 simple-idle m (act.TWeigh a) event_alone = leaves-tx m (sending m a (in_reply m a))
-simple-idle m (act.TPut a) event_alone = leaves-tx m (event.Put a (hash_of m.setup (last_of m.tx a).id))
+simple-idle m (act.TPut a) event_alone =
+    leaves-tx m (event.Put a (hash_of m.setup (last_of m.tx a).id))
 simple-idle m (act.TPull t) event_alone = leaves-tx m (event.Pull t)
 simple-idle m (act.TDeliver t) event_alone = leaves-tx m (event.Deliver t 0)
 simple-idle m (act.TRetire t) event_alone = leaves-tx m (event.Retire t)

@@ -1,13 +1,16 @@
 -- What every step of one event and every command keeps, all steps keep.
-use Rattle.std.proofs.Common.{ℕ, Bool, true, false, List, [], ◌∷◌, Option, Some, None, length, suc, zero}
+use Rattle.std.proofs.Common.{ℕ, Bool, true, false, List, [], ◌∷◌, Option, Some, None, length, suc}
+use Rattle.std.proofs.Common.{zero}
 use Rattle.std.specs.Prelude.{if◌then◌else◌}
 use Rattle.steer_base.specs.declared.step.Step.{Step}
 use Rattle.steer_base.specs.declared.step.Step.TheVariants as act
 use Rattle.steer_model.specs.State.Machine.{Machine}
 use Rattle.steer_model.specs.State.Setup.{flow_of}
 use Rattle.steer_model.specs.Steps.SingleSteps.{simple}
-use Rattle.steer_model.specs.Steps.CompoundSteps.{Turn, after, again, drain, drain_one, for_each, one_round, poll, recorded}
-use Rattle.steer_model.specs.Steps.CompoundSteps.{reply, replying, rounds, serve, ship, ship_one, step, tried, tries}
+use Rattle.steer_model.specs.Steps.CompoundSteps.{Turn, after, again, drain, drain_one, for_each}
+use Rattle.steer_model.specs.Steps.CompoundSteps.{one_round, poll, recorded}
+use Rattle.steer_model.specs.Steps.CompoundSteps.{reply, replying, rounds, serve, ship, ship_one}
+use Rattle.steer_model.specs.Steps.CompoundSteps.{step, tried, tries}
 
 module _ (P : Machine → Type 0) (keeps : (m : Machine) (s : Step) → P m → P (simple m s).0) where
   tries-keep : (ss : List Step) (t : Turn) → P t.0 → P (tries t ss).0
@@ -34,12 +37,14 @@ module _ (P : Machine → Type 0) (keeps : (m : Machine) (s : Step) → P m → 
       tries-keep (act.TEnter a ∷ act.Send a ∷ act.TWeigh a ∷ act.TPut a ∷ act.TLeave a ∷ []) t p
 
   serve-keeps : (a : ℕ) (t : Turn) → P t.0 → P (serve a t).0
-  serve-keeps a t p = reply-keeps a (recorded (replying t.0 a) t) (recorded-keeps (replying t.0 a) t p)
+  serve-keeps a t p = reply-keeps a (recorded (replying t.0 a) t)
+      (recorded-keeps (replying t.0 a) t p)
 
   poll-keeps : (q : ℕ) (t : Turn) → P t.0 → P (poll q t).0
   poll-keeps q t p =
       tries-keep
-      (act.Enter q ∷ act.Take q ∷ act.Look q ∷ act.Weigh q ∷ act.Put q ∷ act.Ask q ∷ act.Leave q ∷ []) t p
+      (act.Enter q ∷ act.Take q ∷ act.Look q ∷ act.Weigh q ∷ act.Put q ∷ act.Ask q ∷ act.Leave q
+      ∷ []) t p
 
   drain-keeps : (c : ℕ) (t : Turn) → P t.0 → P (drain c t).0
   drain-keeps c t p = again-keeps _ (drain_one c) t p

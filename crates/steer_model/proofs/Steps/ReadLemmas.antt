@@ -21,7 +21,8 @@ pub record AreRead (key kinds : ℕ) (bytes : List ℕ) (records : List PcapReco
       → IsOfRecord key kinds bytes from (packet_at packets x)
   pub numbered : HasNumbers flow_order numbers packets
 
-pub read-more : (key kinds : ℕ) (bytes : List ℕ) (records : List PcapRecord) (n : ℕ) (d : PcapRecord)
+pub read-more : (key kinds : ℕ) (bytes : List ℕ) (records : List PcapRecord) (n : ℕ)
+    (d : PcapRecord)
     (packets more : List Packet) (x : Packet) (old new : BTreeMap Flow ℕ) → n < length records
     → AreRead key kinds bytes records n packets old → more ≡ packets ++ x ∷ []
     → IsOfRecord key kinds bytes (get_or records n d) x
@@ -41,13 +42,15 @@ read-more key kinds bytes records n d packets more x old new lt read is of numbe
         let l : IsLonger packets x (packets ++ x ∷ []) = longer packets x in
         elim (cases_lt y n) [
           | inl before ↦
-              subst (λ p. IsOfRecord key kinds bytes from p) (sym (l.old y (omega (arith, read.many))))
+              subst (λ p. IsOfRecord key kinds bytes from p)
+              (sym (l.old y (omega (arith, read.many))))
               (read.each y from before there)
           | inr over ↦ (
               let at : y ≡ length packets = omega (arith, read.many) in
               let here : y ≡ n = omega arith in
               let same : get_or records n d ≡ from =
-              same_Some _ _ (sym (slice_get-get_or records n d lt) ∙ ap (λ k. slice_get records k) (sym here) ∙ there) in
+              same_Some _ _ (sym (slice_get-get_or records n d lt) ∙ ap (λ k. slice_get records k)
+              (sym here) ∙ there) in
               subst (λ p. IsOfRecord key kinds bytes from p)
               (sym (ap (λ k. packet_at (packets ++ x ∷ []) k) at ∙ l.last))
               (subst (λ r. IsOfRecord key kinds bytes r x) same of))

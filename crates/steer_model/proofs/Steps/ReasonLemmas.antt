@@ -22,8 +22,10 @@ use Rattle.steer_model.specs.State.Machine.{Machine, last_of, note_of}
 use Rattle.steer_model.specs.State.Notes.{is_asking, is_nothing}
 use Rattle.steer_model.specs.Steps.Outcomes.{Outcome, by_rx, told}
 use Rattle.steer_model.specs.Steps.Pollers.{ask_by, look_by, position_of, put_by, putting, weigh_by}
-use Rattle.steer_model.specs.Steps.IdleReasons.{AreStaged, IsStaged, Need, Stage, answer_by, deliver_needs, is_at, needs}
-use Rattle.steer_model.specs.Steps.IdleReasons.{poller_stage, pull_needs, puts_next, retire_needs, sender_stage, weighs_next}
+use Rattle.steer_model.specs.Steps.IdleReasons.{AreStaged, IsStaged, Need, Stage, answer_by}
+use Rattle.steer_model.specs.Steps.IdleReasons.{deliver_needs, is_at, needs}
+use Rattle.steer_model.specs.Steps.IdleReasons.{poller_stage, pull_needs, puts_next, retire_needs}
+use Rattle.steer_model.specs.Steps.IdleReasons.{sender_stage, weighs_next}
 use Rattle.steer_model.specs.Steps.IdleReasons as stage
 use Rattle.steer_model.specs.State.Settings.{class_at, plain_lane}
 use Rattle.steer_model.specs.State.Setup.{app_for, flow_hash, hash_of}
@@ -73,10 +75,12 @@ take-hop : (s : HopState) (p : ℕ)
     ≡ either (nat_lt (placed_of s p) (taken_of s p)) (says.Idle idle.HandFull)
     (either (nat_lt (taken_of s p) (length (arrivals_of s p))) says.Done (says.Idle idle.RingEmpty))
 take-hop s p =
-    two (nat_lt (placed_of s p) (taken_of s p)) (nat_lt (taken_of s p) (length (arrivals_of s p))) _ _ _
+    two (nat_lt (placed_of s p) (taken_of s p)) (nat_lt (taken_of s p) (length (arrivals_of s p))) _
+    _ _
 
 enter-hop : (s : HopState) (a : ℕ)
-    → told (happens s (event.Enter a)).1 ≡ answer_by ((not (inside_of s a), idle.AlreadyInside) ∷ [])
+    → told (happens s (event.Enter a)).1 ≡ answer_by ((not (inside_of s a), idle.AlreadyInside)
+    ∷ [])
 enter-hop s a = two (inside_of s a) s.bare.closed _ _ _ ∙ entered (inside_of s a) s.bare.closed
   where
     entered : (i c : Bool)
@@ -102,7 +106,8 @@ put-hop s p hash = two (not (inside_of s p)) (puts_next s p) _ _ _
 
 pull-row : (f d c : Bool)
     → either (d || f) (says.Idle idle.HandFull) (either c says.Done (says.Idle idle.NothingWaiting))
-    ≡ answer_by ((is_at (stage.lane_stage f d) stage.Empty, idle.HandFull) ∷ (c, idle.NothingWaiting) ∷ [])
+    ≡ answer_by ((is_at (stage.lane_stage f d) stage.Empty, idle.HandFull)
+    ∷ (c, idle.NothingWaiting) ∷ [])
 pull-row true true c = refl
 pull-row true false c = refl
 pull-row false true c = refl
@@ -136,7 +141,8 @@ pull-lane s c st =
     let R : ℕ = retired_at s.bare c in
     let waits : Bool = nat_lt P (length (accepted_at s.bare c)) in
     two (nat_lt R P) waits _ _ _
-    ∙ ap (λ b. either b (says.Idle idle.HandFull) (either waits says.Done (says.Idle idle.NothingWaiting)))
+    ∙ ap (λ b. either b (says.Idle idle.HandFull)
+    (either waits says.Done (says.Idle idle.NothingWaiting)))
     (both-of R D P (st.retired c) (st.delivered c))
     ∙ pull-row (nat_lt D P) (nat_lt R D) waits
 
@@ -186,7 +192,8 @@ take-row (note.Looked want) false false c looked = absurd (false≢true (looked 
 
 look-row : (n : Note) (i t w : Bool) → (w && t) ≡ false
     → either (not i) (says.Idle idle.NotInside)
-    (either (is_nothing n) (either t says.Done (says.Idle idle.WrongStage)) (says.Idle idle.WrongStage))
+    (either (is_nothing n) (either t says.Done (says.Idle idle.WrongStage))
+    (says.Idle idle.WrongStage))
     ≡ at_stage i (poller_stage n t w) stage.Taken
 look-row n false t w e = refl
 look-row note.Nothing true true true e = absurd (false≢true (sym e))
@@ -208,7 +215,8 @@ put-row note.Nothing true false false e looked asking = refl
 put-row (note.Looked want) true true true e looked asking = absurd (false≢true (sym e))
 put-row (note.Looked want) true false true e looked asking = absurd (false≢true (looked want refl))
 put-row (note.Looked want) true t false e looked asking = refl
-put-row (note.Asking filter) true t true e looked asking = absurd (false≢true (sym (asking filter refl)))
+put-row (note.Asking filter) true t true e looked asking =
+    absurd (false≢true (sym (asking filter refl)))
 put-row (note.Asking filter) true t false e looked asking = refl
 
 leave-row : (n : Note) (i t w : Bool)
@@ -278,10 +286,12 @@ weigh-answer m q x note.Nothing t true inside taken looked = refl
 weigh-answer m q x note.Nothing true false inside taken looked = refl
 weigh-answer m q x note.Nothing false false inside taken looked = refl
 weigh-answer m q x (note.Asking filter) t w inside taken looked = refl
-weigh-answer m q x (note.Looked want) false w inside taken looked = absurd (false≢true (looked want refl))
+weigh-answer m q x (note.Looked want) false w inside taken looked =
+    absurd (false≢true (looked want refl))
 weigh-answer m q x (note.Looked want) true w inside taken looked =
     let class : Option ℕ = class_at m.setup m.settings q x in
-    let desired : ℕ = desired_cpu class want m.settings.online (plain_lane m.setup m.settings q x) in
+    let desired : ℕ = desired_cpu class want m.settings.online
+    (plain_lane m.setup m.settings q x) in
     weighs m.rx q class want desired m.settings.online inside taken
 
 inside-if : (m : Machine) (i : Bool) (why : Idle) (y : Outcome) (r : Answer) → (i ≡ true → y.1 ≡ r)
@@ -296,7 +306,8 @@ stage-row true b = refl
 stage-row false b = refl
 
 ask-answer : (m : Machine) (q : ℕ) (n : Note) (t w : Bool)
-    → (ask_by m q n).1 ≡ either (is_at (poller_stage n t w) stage.Asking) says.Done (says.Idle idle.WrongStage)
+    → (ask_by m q n).1 ≡ either (is_at (poller_stage n t w) stage.Asking) says.Done
+    (says.Idle idle.WrongStage)
 ask-answer m q note.Nothing t true = refl
 ask-answer m q note.Nothing true false = refl
 ask-answer m q note.Nothing false false = refl
@@ -316,21 +327,28 @@ recorded-answer : (m : Machine) (hash : Option (Option ℕ))
 recorded-answer m None = refl
 recorded-answer m (Some None) = refl
 recorded-answer m (Some (Some hash)) =
-    one-if (nat_lt 0 (length m.socket)) (wrote (visited m (hash % m.setup.apps)) (hash % m.setup.apps) hash, says.Done) _
+    one-if (nat_lt 0 (length m.socket)) (
+      wrote (visited m (hash % m.setup.apps))
+          (hash % m.setup.apps) hash,
+      says.Done,
+    ) _
 
 -- a producer never has a packet to weigh and one to put, in this order of tests
 one-packet : (s : HopState) (p : ℕ) → IsStaged s → (puts_next s p && weighs_next s p) ≡ false
 one-packet s p st =
-    one-of (placed_of s p) (length (choices_of s p)) (taken_of s p) (st.weighed p) (st.taken p) (st.one p)
+    one-of (placed_of s p) (length (choices_of s p)) (taken_of s p) (st.weighed p) (st.taken p)
+    (st.one p)
 
 -- a hand is full where it has a packet to put or to weigh
 full-hand : (s : HopState) (p : ℕ) → IsStaged s
     → nat_lt (placed_of s p) (taken_of s p) ≡ (puts_next s p || weighs_next s p)
-full-hand s p st = both-of (placed_of s p) (length (choices_of s p)) (taken_of s p) (st.weighed p) (st.taken p)
+full-hand s p st = both-of (placed_of s p) (length (choices_of s p)) (taken_of s p) (st.weighed p)
+    (st.taken p)
 
 looked-weighs : (m : Machine) (q : ℕ) → AreStaged m
     → (want : Option ℕ) → note_of m q ≡ note.Looked want → weighs_next m.rx q ≡ true
-looked-weighs m q st want e = lt-ltb (length (choices_of m.rx q)) (taken_of m.rx q) (st.looked q want e)
+looked-weighs m q st want e = lt-ltb (length (choices_of m.rx q)) (taken_of m.rx q)
+    (st.looked q want e)
 
 asking-put : (m : Machine) (q : ℕ) → AreStaged m
     → (filter : Filter) → note_of m q ≡ note.Asking filter → puts_next m.rx q ≡ false
@@ -356,18 +374,21 @@ idle_for_first_reason m (act.Look q) st alone =
     let n : Note = note_of m q in
     let i : Bool = inside_of m.rx q in
     inside-if m i idle.NotInside _
-    (either (is_nothing n) (either (weighs_next m.rx q) says.Done (says.Idle idle.WrongStage)) (says.Idle idle.WrongStage))
+    (either (is_nothing n) (either (weighs_next m.rx q) says.Done (says.Idle idle.WrongStage))
+    (says.Idle idle.WrongStage))
     (λ e. one-if (is_nothing n) _ _
     ∙ ap (λ r. either (is_nothing n) r (says.Idle idle.WrongStage))
     (look-answer m q (next_of m.rx q) (weighs_next m.rx q)))
     ∙ look-row n i (weighs_next m.rx q) (puts_next m.rx q) (one-packet m.rx q st.rx)
 idle_for_first_reason m (act.Weigh q) st alone =
     inside-if m (inside_of m.rx q) idle.NotInside _ _
-    (λ inside. weigh-answer m q (next_of m.rx q) (note_of m q) (weighs_next m.rx q) (puts_next m.rx q)
+    (λ inside. weigh-answer m q (next_of m.rx q) (note_of m q) (weighs_next m.rx q)
+    (puts_next m.rx q)
     inside refl (looked-weighs m q st))
     ∙ stage-row (inside_of m.rx q) _
 idle_for_first_reason m (act.Put q) st alone =
-    put-answer (by_rx m (putting m q)).0 q (position_of (happens m.rx (putting m q)).1) (happens m.rx (putting m q)).1
+    put-answer (by_rx m (putting m q)).0 q (position_of (happens m.rx (putting m q)).1)
+    (happens m.rx (putting m q)).1
     ∙ put-hop m.rx q (hash_of m.setup (last_of m.rx q).id)
     ∙ put-row (note_of m q) (inside_of m.rx q) (weighs_next m.rx q) (puts_next m.rx q)
     (one-packet m.rx q st.rx) (looked-weighs m q st) (asking-put m q st)
@@ -387,15 +408,18 @@ idle_for_first_reason m (act.Leave q) st alone =
     ∙ ap (λ r. either (is_nothing n) r (says.Idle idle.MidPacket)) (leave-hop m.rx q))
     ∙ leave-row n i (weighs_next m.rx q) (puts_next m.rx q)
 idle_for_first_reason m (act.Pull c) st alone = pull-lane m.rx c st.rx
-idle_for_first_reason m (act.Deliver c) st alone = deliver-lane m.rx c (app_for m.setup (in_lane m.rx c))
+idle_for_first_reason m (act.Deliver c) st alone =
+    deliver-lane m.rx c (app_for m.setup (in_lane m.rx c))
 idle_for_first_reason m (act.Retire c) st alone = retire-lane m.rx c st.rx
 idle_for_first_reason m (act.Record flow) st alone = recorded-answer m (flow_hash m.setup flow)
 idle_for_first_reason m (act.Send a) st alone =
     let some : Bool = is_some (next_in m a) in
-    one-if (nat_lt (placed_of m.tx a) (taken_of m.tx a)) (m, says.Idle idle.HandFull) (send_by m a (next_in m a))
+    one-if (nat_lt (placed_of m.tx a) (taken_of m.tx a)) (m, says.Idle idle.HandFull)
+    (send_by m a (next_in m a))
     ∙ ap (either (nat_lt (placed_of m.tx a) (taken_of m.tx a)) (says.Idle idle.HandFull))
     (send-answer m a (next_in m a))
-    ∙ ap (λ b. either b (says.Idle idle.HandFull) (either some says.Done (says.Idle idle.InboxDone)))
+    ∙ ap (λ b. either b (says.Idle idle.HandFull)
+    (either some says.Done (says.Idle idle.InboxDone)))
     (full-hand m.tx a st.tx)
     ∙ send-row (weighs_next m.tx a) (puts_next m.tx a) some
 idle_for_first_reason m (act.TEnter a) st alone = enter-hop m.tx a
@@ -403,7 +427,8 @@ idle_for_first_reason m (act.TLeave a) st alone =
     leave-hop m.tx a ∙ tleave-row (inside_of m.tx a) (weighs_next m.tx a) (puts_next m.tx a)
 idle_for_first_reason m (act.TWeigh a) st alone =
     two (not (inside_of m.tx a)) (weighs_next m.tx a) _ _ _
-    ∙ tweigh-row (inside_of m.tx a) (weighs_next m.tx a) (puts_next m.tx a) (one-packet m.tx a st.tx)
+    ∙ tweigh-row (inside_of m.tx a) (weighs_next m.tx a) (puts_next m.tx a)
+    (one-packet m.tx a st.tx)
 idle_for_first_reason m (act.TPut a) st alone =
     put-hop m.tx a (hash_of m.setup (last_of m.tx a).id)
     ∙ tput-row (inside_of m.tx a) (weighs_next m.tx a) (puts_next m.tx a)

@@ -1,5 +1,6 @@
 -- After any steps each hand of a machine has at most one packet.
-use Rattle.std.proofs.Common.{ℕ, ◌+◌, ◌%◌, ◌<◌, ◌≤◌, ◌≡◌, ◌⊎◌, Bool, true, false, List, [], ◌∷◌, ◌++◌, Option, Some, None}
+use Rattle.std.proofs.Common.{ℕ, ◌+◌, ◌%◌, ◌<◌, ◌≤◌, ◌≡◌, ◌⊎◌, Bool, true, false, List, [], ◌∷◌}
+use Rattle.std.proofs.Common.{◌++◌, Option, Some, None}
 use Rattle.std.proofs.Common.{length, refl, ap, ◌∙◌, sym, arith, inl, inr, get_or, set, zero, suc}
 use Rattle.std.specs.Prelude.{if◌then◌else◌, nat_lt, not}
 use Rattle.std.proofs.Math.ListN.{length-replicate, length-set}
@@ -31,13 +32,15 @@ use Rattle.hop_core.proofs.Cases.{Answered, by_outcomes}
 use Rattle.hop_core.proofs.Lists.{length-push}
 use Rattle.hop_core.proofs.New.{at_new}
 use Rattle.history.specs.declared.arrival.Arrival.{Arrival}
-use Rattle.steer_model.specs.Steps.Applications.{in_lane, in_reply, next_in, record_by, send_by, sending}
+use Rattle.steer_model.specs.Steps.Applications.{in_lane, in_reply, next_in, record_by, send_by}
+use Rattle.steer_model.specs.Steps.Applications.{sending}
 use Rattle.steer_model.specs.Steps.Applications.{visited, wrote}
 use Rattle.steer_model.specs.Steps.Commands.{answer_to, given, is_done, listed, set_by}
 use Rattle.steer_model.specs.State.Machine.{Machine, last_of, note_of}
 use Rattle.steer_model.specs.State.Notes.{asking, is_asking, is_nothing}
 use Rattle.steer_model.specs.Steps.Outcomes.{Outcome, by_rx, by_tx}
-use Rattle.steer_model.specs.Steps.Pollers.{arrival_by, arrives, ask_by, look_by, route_by, noted, position_of, put_by, putting, weigh_by, weighing}
+use Rattle.steer_model.specs.Steps.Pollers.{arrival_by, arrives, ask_by, look_by, route_by, noted}
+use Rattle.steer_model.specs.Steps.Pollers.{position_of, put_by, putting, weigh_by, weighing}
 use Rattle.steer_model.specs.Steps.IdleReasons.{AreStaged, IsStaged, weighs_next}
 use Rattle.steer_model.specs.State.Setup.{app_for, flow_hash, hash_of}
 use Rattle.steer_model.specs.State.Start.{new_machine}
@@ -64,7 +67,8 @@ set-default [] p d = refl
 set-default (x ∷ xs) zero d = refl
 set-default (x ∷ xs) (suc p) d = set-default xs p d
 
-full-in_range : {X : Type 0} (xs : List (List X)) (p : ℕ) → 0 < length (get_or xs p []) → p < length xs
+full-in_range : {X : Type 0} (xs : List (List X)) (p : ℕ) → 0 < length (get_or xs p [])
+    → p < length xs
 full-in_range [] p h = absurd (omega arith)
 full-in_range (x ∷ xs) zero h = omega arith
 full-in_range (x ∷ xs) (suc p) h = let i = full-in_range xs p h in omega arith
@@ -89,7 +93,8 @@ record Staged (s : HopState) : Type 0 where
 abbrev StagedOutcome : HopOutcome → Type 0
 StagedOutcome o = Staged o.0
 
-producers-take : (taken placed : List ℕ) (choices : List (List Chosen)) (p : ℕ) → get_or taken p 0 ≤ get_or placed p 0
+producers-take : (taken placed : List ℕ) (choices : List (List Chosen)) (p : ℕ)
+    → get_or taken p 0 ≤ get_or placed p 0
     → Producers taken placed choices → Producers (set taken p (get_or taken p 0 + 1)) placed choices
 producers-take taken placed choices p free h =
     record {
@@ -100,21 +105,25 @@ producers-take taken placed choices p free h =
       ]);
       one = λ q. (let old = h.one q in elim (set-cases taken p q (get_or taken p 0 + 1) 0) [
         | inl e ↦ rw e old
-        | inr w ↦ rw w.1 (let t : get_or placed q 0 ≡ get_or placed p 0 = rw w.0 refl in omega arith)
+        | inr w ↦ rw w.1 (let t : get_or placed q 0 ≡ get_or placed p 0 = rw w.0 refl in
+            omega arith)
       ]);
       even = h.even;
     }
 
 producers-weigh : (taken placed : List ℕ) (choices : List (List Chosen)) (p : ℕ) (c : Chosen)
     → length (get_or choices p []) < get_or taken p 0
-    → Producers taken placed choices → Producers taken placed (set choices p (get_or choices p [] ++ c ∷ []))
+    → Producers taken placed choices → Producers taken placed
+    (set choices p (get_or choices p [] ++ c ∷ []))
 producers-weigh taken placed choices p c more h =
     let new : List Chosen = get_or choices p [] ++ c ∷ [] in
-    let long : length new ≡ length (get_or choices p []) + 1 = length-push (get_or choices p []) c in
+    let long : length new ≡ length (get_or choices p []) + 1 =
+    length-push (get_or choices p []) c in
     record {
       put = λ q. (let old = h.put q in elim (set-cases choices p q new []) [
         | inl e ↦ rw e old
-        | inr w ↦ rw w.1 (let t : length (get_or choices q []) ≡ length (get_or choices p []) = rw w.0 refl in omega arith)
+        | inr w ↦ rw w.1 (let t : length (get_or choices q []) ≡ length (get_or choices p []) =
+            rw w.0 refl in omega arith)
       ]);
       chosen = λ q. (let old = h.chosen q in elim (set-cases choices p q new []) [
         | inl e ↦ rw e old
@@ -126,68 +135,92 @@ producers-weigh taken placed choices p c more h =
 
 producers-put : (taken placed : List ℕ) (choices : List (List Chosen)) (p : ℕ)
     → get_or placed p 0 < length (get_or choices p [])
-    → Producers taken placed choices → Producers taken (set placed p (get_or placed p 0 + 1)) choices
+    → Producers taken placed choices → Producers taken (set placed p (get_or placed p 0 + 1))
+    choices
 producers-put taken placed choices p more h =
     record {
       put = λ q. (let old = h.put q in elim (set-cases placed p q (get_or placed p 0 + 1) 0) [
         | inl e ↦ rw e old
-        | inr w ↦ rw w.1 (let t : length (get_or choices q []) ≡ length (get_or choices p []) = rw w.0 refl in omega arith)
+        | inr w ↦ rw w.1 (let t : length (get_or choices q []) ≡ length (get_or choices p []) =
+            rw w.0 refl in omega arith)
       ]);
       chosen = h.chosen;
       one = λ q. (let old = h.one q in elim (set-cases placed p q (get_or placed p 0 + 1) 0) [
         | inl e ↦ rw e old
-        | inr w ↦ rw w.1 (let t : get_or placed q 0 ≡ get_or placed p 0 = rw w.0 refl in omega arith)
+        | inr w ↦ rw w.1 (let t : get_or placed q 0 ≡ get_or placed p 0 = rw w.0 refl in
+            omega arith)
       ]);
       even = length-set placed p (get_or placed p 0 + 1) ∙ h.even;
     }
 
-lanes-landed : (b : Bare) (cause : Option DropCause) (c x : ℕ) (bucket : Option ℕ) → Lanes b.pulled b.delivered b.retired
-    → Lanes (landed cause b c x bucket).pulled (landed cause b c x bucket).delivered (landed cause b c x bucket).retired
+lanes-landed : (b : Bare) (cause : Option DropCause) (c x : ℕ) (bucket : Option ℕ)
+    → Lanes b.pulled b.delivered b.retired
+    → Lanes (landed cause b c x bucket).pulled (landed cause b c x bucket).delivered
+    (landed cause b c x bucket).retired
 lanes-landed b None c x bucket h = h
 lanes-landed b (Some cause) c x bucket h = h
 
 lanes-pull : (pulled delivered retired : List ℕ) (c : ℕ) → get_or pulled c 0 ≤ get_or retired c 0
-    → Lanes pulled delivered retired → Lanes (set pulled c (get_or pulled c 0 + 1)) delivered retired
+    → Lanes pulled delivered retired → Lanes (set pulled c (get_or pulled c 0 + 1)) delivered
+    retired
 lanes-pull pulled delivered retired c free h =
     record {
-      delivered_first = λ d. (let old = h.delivered_first d in elim (set-cases pulled c d (get_or pulled c 0 + 1) 0) [
-        | inl e ↦ rw e old
-        | inr w ↦ rw w.1 (let t : get_or pulled d 0 ≡ get_or pulled c 0 = rw w.0 refl in omega arith)
-      ]);
+      delivered_first =
+          λ d. (let old = h.delivered_first d in
+          elim (set-cases pulled c d (get_or pulled c 0 + 1) 0) [
+            | inl e ↦ rw e old
+            | inr w ↦ rw w.1 (let t : get_or pulled d 0 ≡ get_or pulled c 0 = rw w.0 refl in
+                omega arith)
+          ]);
       retired_first = h.retired_first;
       one = λ d. (let old = h.one d in elim (set-cases pulled c d (get_or pulled c 0 + 1) 0) [
         | inl e ↦ rw e old
-        | inr w ↦ rw w.1 (let t : get_or retired d 0 ≡ get_or retired c 0 = rw w.0 refl in omega arith)
+        | inr w ↦ rw w.1 (let t : get_or retired d 0 ≡ get_or retired c 0 = rw w.0 refl in
+            omega arith)
       ]);
     }
 
-lanes-deliver : (pulled delivered retired : List ℕ) (c : ℕ) → get_or delivered c 0 < get_or pulled c 0
-    → Lanes pulled delivered retired → Lanes pulled (set delivered c (get_or delivered c 0 + 1)) retired
+lanes-deliver : (pulled delivered retired : List ℕ) (c : ℕ)
+    → get_or delivered c 0 < get_or pulled c 0
+    → Lanes pulled delivered retired → Lanes pulled (set delivered c (get_or delivered c 0 + 1))
+    retired
 lanes-deliver pulled delivered retired c more h =
     record {
-      delivered_first = λ d. (let old = h.delivered_first d in elim (set-cases delivered c d (get_or delivered c 0 + 1) 0) [
-        | inl e ↦ rw e old
-        | inr w ↦ rw w.1 (let t : get_or pulled d 0 ≡ get_or pulled c 0 = rw w.0 refl in omega arith)
-      ]);
-      retired_first = λ d. (let old = h.retired_first d in elim (set-cases delivered c d (get_or delivered c 0 + 1) 0) [
-        | inl e ↦ rw e old
-        | inr w ↦ rw w.1 (let t : get_or delivered d 0 ≡ get_or delivered c 0 = rw w.0 refl in omega arith)
-      ]);
+      delivered_first =
+          λ d. (let old = h.delivered_first d in
+          elim (set-cases delivered c d (get_or delivered c 0 + 1) 0) [
+            | inl e ↦ rw e old
+            | inr w ↦ rw w.1 (let t : get_or pulled d 0 ≡ get_or pulled c 0 = rw w.0 refl in
+                omega arith)
+          ]);
+      retired_first =
+          λ d. (let old = h.retired_first d in
+          elim (set-cases delivered c d (get_or delivered c 0 + 1) 0) [
+            | inl e ↦ rw e old
+            | inr w ↦ rw w.1 (let t : get_or delivered d 0 ≡ get_or delivered c 0 = rw w.0 refl in
+                omega arith)
+          ]);
       one = h.one;
     }
 
-lanes-retire : (pulled delivered retired : List ℕ) (c : ℕ) → get_or retired c 0 < get_or delivered c 0
-    → Lanes pulled delivered retired → Lanes pulled delivered (set retired c (get_or retired c 0 + 1))
+lanes-retire : (pulled delivered retired : List ℕ) (c : ℕ)
+    → get_or retired c 0 < get_or delivered c 0
+    → Lanes pulled delivered retired → Lanes pulled delivered
+    (set retired c (get_or retired c 0 + 1))
 lanes-retire pulled delivered retired c more h =
     record {
       delivered_first = h.delivered_first;
-      retired_first = λ d. (let old = h.retired_first d in elim (set-cases retired c d (get_or retired c 0 + 1) 0) [
-        | inl e ↦ rw e old
-        | inr w ↦ rw w.1 (let t : get_or delivered d 0 ≡ get_or delivered c 0 = rw w.0 refl in omega arith)
-      ]);
+      retired_first =
+          λ d. (let old = h.retired_first d in
+          elim (set-cases retired c d (get_or retired c 0 + 1) 0) [
+            | inl e ↦ rw e old
+            | inr w ↦ rw w.1 (let t : get_or delivered d 0 ≡ get_or delivered c 0 = rw w.0 refl in
+                omega arith)
+          ]);
       one = λ d. (let old = h.one d in elim (set-cases retired c d (get_or retired c 0 + 1) 0) [
         | inl e ↦ rw e old
-        | inr w ↦ rw w.1 (let t : get_or retired d 0 ≡ get_or retired c 0 = rw w.0 refl in omega arith)
+        | inr w ↦ rw w.1 (let t : get_or retired d 0 ≡ get_or retired c 0 = rw w.0 refl in
+            omega arith)
       ]);
     }
 
@@ -195,7 +228,10 @@ staged-happens : (s : HopState) (e : HopEvent) → Staged s → Staged (happens 
 staged-happens s (event.Arrive p id) h = record { hands = h.hands; lanes = h.lanes }
 staged-happens s (event.Take p) h =
     by_outcomes StagedOutcome s (event.Take p) (λ why. h)
-    (λ free more. record { hands = producers-take s.taken s.placed s.choices p free h.hands; lanes = h.lanes })
+    (λ free more. record {
+      hands = producers-take s.taken s.placed s.choices p free h.hands;
+      lanes = h.lanes;
+    })
 staged-happens s (event.Enter a) h =
     by_outcomes StagedOutcome s (event.Enter a) (λ why. h)
     ((λ closed. h), (λ outside opened. record { hands = h.hands; lanes = h.lanes }))
@@ -204,7 +240,10 @@ staged-happens s (event.Leave a) h =
     (λ inside put. record { hands = h.hands; lanes = h.lanes })
 staged-happens s (event.Weigh p class want desired online) h =
     by_outcomes StagedOutcome s (event.Weigh p class want desired online) (λ why. h)
-    (λ inside more. record { hands = producers-weigh s.taken s.placed s.choices p _ more h.hands; lanes = h.lanes })
+    (λ inside more. record {
+      hands = producers-weigh s.taken s.placed s.choices p _ more h.hands;
+      lanes = h.lanes;
+    })
 staged-happens s (event.Put p hash) h =
     by_outcomes StagedOutcome s (event.Put p hash) (λ why. h)
     (λ inside more. record {
@@ -235,7 +274,8 @@ staged-happens s event.Close h =
     (h, (λ empty. record { hands = h.hands; lanes = h.lanes }))
 staged-happens s event.Reopen h = record { hands = h.hands; lanes = h.lanes }
 
-staged-fresh : (fixed : Fixed) (counts : List ℕ) (guests lanes outs : ℕ) → Staged (fresh_hop fixed counts guests lanes outs)
+staged-fresh : (fixed : Fixed) (counts : List ℕ) (guests lanes outs : ℕ)
+    → Staged (fresh_hop fixed counts guests lanes outs)
 staged-fresh fixed counts guests lanes outs =
     let n : ℕ = length counts in
     record {
@@ -268,17 +308,22 @@ of-staged : (s : HopState) → IsStaged s → Staged s
 of-staged s h =
     record {
       hands = record { put = h.weighed; chosen = h.taken; one = h.one; even = h.counted };
-      lanes = record { delivered_first = h.delivered; retired_first = h.retired; one = h.one_pulled };
+      lanes = record {
+        delivered_first = h.delivered;
+        retired_first = h.retired;
+        one = h.one_pulled;
+      };
     }
 
 -- ---- the notes of the pollers
 
 -- who looked has a packet to weigh, and who asks has put what it took
-record Noted (notes : List Note) (taken placed : List ℕ) (choices : List (List Chosen)) : Type 0 where
-  looked : (q : ℕ) (want : Option ℕ) → get_or notes q note.Nothing ≡ note.Looked want
-      → length (get_or choices q []) < get_or taken q 0
-  asked : (q : ℕ) (filter : Filter) → get_or notes q note.Nothing ≡ note.Asking filter
-      → get_or taken q 0 ≤ get_or placed q 0
+record Noted (notes : List Note) (taken placed : List ℕ) (choices : List (List Chosen)) : Type 0
+  where
+    looked : (q : ℕ) (want : Option ℕ) → get_or notes q note.Nothing ≡ note.Looked want
+        → length (get_or choices q []) < get_or taken q 0
+    asked : (q : ℕ) (filter : Filter) → get_or notes q note.Nothing ≡ note.Asking filter
+        → get_or taken q 0 ≤ get_or placed q 0
 
 abbrev NotedIn : List Note → HopState → Type 0
 NotedIn notes s = Noted notes s.taken s.placed s.choices
@@ -295,15 +340,18 @@ noted-clear notes taken placed choices p h =
     record {
       looked = λ q want e. elim (set-cases notes p q note.Nothing note.Nothing) [
         | inl same ↦ h.looked q want (sym same ∙ e)
-        | inr w ↦ absurd (looked-nothing (get_or (set notes p note.Nothing) q note.Nothing) want w.1 e)
+        | inr w ↦ absurd (looked-nothing (get_or (set notes p note.Nothing) q note.Nothing) want w.1
+            e)
       ];
       asked = λ q filter e. elim (set-cases notes p q note.Nothing note.Nothing) [
         | inl same ↦ h.asked q filter (sym same ∙ e)
-        | inr w ↦ absurd (asking-nothing (get_or (set notes p note.Nothing) q note.Nothing) filter w.1 e)
+        | inr w ↦ absurd (asking-nothing (get_or (set notes p note.Nothing) q note.Nothing) filter
+            w.1 e)
       ];
     }
 
-noted-look : (notes : List Note) (taken placed : List ℕ) (choices : List (List Chosen)) (p : ℕ) (want : Option ℕ)
+noted-look : (notes : List Note) (taken placed : List ℕ) (choices : List (List Chosen)) (p : ℕ)
+    (want : Option ℕ)
     → length (get_or choices p []) < get_or taken p 0
     → Noted notes taken placed choices → Noted (set notes p (note.Looked want)) taken placed choices
 noted-look notes taken placed choices p want more h =
@@ -321,7 +369,8 @@ noted-look notes taken placed choices p want more h =
     looked-asking : (want : Option ℕ) (filter : Filter) → note.Looked want ≡ note.Asking filter → ⊥
     looked-asking want filter e = cc
 
-noted-ask : (notes : List Note) (taken placed : List ℕ) (choices : List (List Chosen)) (p : ℕ) (ask : Filter)
+noted-ask : (notes : List Note) (taken placed : List ℕ) (choices : List (List Chosen)) (p : ℕ)
+    (ask : Filter)
     → get_or taken p 0 ≤ get_or placed p 0
     → Noted notes taken placed choices → Noted (set notes p (note.Asking ask)) taken placed choices
 noted-ask notes taken placed choices p ask put h =
@@ -341,24 +390,29 @@ noted-ask notes taken placed choices p ask put h =
 
 noted-take : (notes : List Note) (taken placed : List ℕ) (choices : List (List Chosen)) (p : ℕ)
     → is_asking (get_or notes p note.Nothing) ≡ false
-    → Noted notes taken placed choices → Noted notes (set taken p (get_or taken p 0 + 1)) placed choices
+    → Noted notes taken placed choices → Noted notes (set taken p (get_or taken p 0 + 1)) placed
+    choices
 noted-take notes taken placed choices p free h =
     record {
-      looked = λ q want e. (let old = h.looked q want e in elim (set-cases taken p q (get_or taken p 0 + 1) 0) [
-        | inl same ↦ rw same old
-        | inr w ↦ rw w.1 (let t : get_or taken q 0 ≡ get_or taken p 0 = rw w.0 refl in omega arith)
-      ]);
-      asked = λ q filter e. (let old = h.asked q filter e in elim (set-cases taken p q (get_or taken p 0 + 1) 0) [
-        | inl same ↦ rw same old
-        | inr w ↦ absurd (asks-not filter (rw w.0 free) e)
-      ]);
+      looked = λ q want e. (let old = h.looked q want e in
+          elim (set-cases taken p q (get_or taken p 0 + 1) 0) [
+            | inl same ↦ rw same old
+            | inr w ↦ rw w.1 (let t : get_or taken q 0 ≡ get_or taken p 0 = rw w.0 refl in omega arith)
+          ]);
+      asked = λ q filter e. (let old = h.asked q filter e in
+          elim (set-cases taken p q (get_or taken p 0 + 1) 0) [
+            | inl same ↦ rw same old
+            | inr w ↦ absurd (asks-not filter (rw w.0 free) e)
+          ]);
     }
   where
     asks-not : {n : Note} (filter : Filter) → is_asking n ≡ false → n ≡ note.Asking filter → ⊥
     asks-not filter e f = false≢true (sym e ∙ ap is_asking f)
 
-noted-weigh : (notes : List Note) (taken placed : List ℕ) (choices : List (List Chosen)) (p : ℕ) (new : List Chosen)
-    → Noted notes taken placed choices → Noted (set notes p note.Nothing) taken placed (set choices p new)
+noted-weigh : (notes : List Note) (taken placed : List ℕ) (choices : List (List Chosen)) (p : ℕ)
+    (new : List Chosen)
+    → Noted notes taken placed choices → Noted (set notes p note.Nothing) taken placed
+    (set choices p new)
 noted-weigh notes taken placed choices p new h =
     record {
       looked = λ q want e. elim (cases_eq q p) [
@@ -371,19 +425,24 @@ noted-weigh notes taken placed choices p new h =
     }
 
 noted-put : (notes : List Note) (taken placed : List ℕ) (choices : List (List Chosen)) (p : ℕ)
-    → Noted notes taken placed choices → Noted notes taken (set placed p (get_or placed p 0 + 1)) choices
+    → Noted notes taken placed choices → Noted notes taken (set placed p (get_or placed p 0 + 1))
+    choices
 noted-put notes taken placed choices p h =
     record {
       looked = h.looked;
-      asked = λ q filter e. (let old = h.asked q filter e in elim (set-cases placed p q (get_or placed p 0 + 1) 0) [
-        | inl same ↦ rw same old
-        | inr w ↦ rw w.1 (let t : get_or placed q 0 ≡ get_or placed p 0 = rw w.0 refl in omega arith)
-      ]);
+      asked = λ q filter e. (let old = h.asked q filter e in
+          elim (set-cases placed p q (get_or placed p 0 + 1) 0) [
+            | inl same ↦ rw same old
+            | inr w ↦ rw w.1 (let t : get_or placed q 0 ≡ get_or placed p 0 = rw w.0 refl in
+                omega arith)
+          ]);
     }
 
 -- a packet that is put was the one that was taken
-all-put : (taken placed : List ℕ) (choices : List (List Chosen)) (p : ℕ) → get_or placed p 0 < length (get_or choices p [])
-    → Producers taken placed choices → get_or taken p 0 ≤ get_or (set placed p (get_or placed p 0 + 1)) p 0
+all-put : (taken placed : List ℕ) (choices : List (List Chosen)) (p : ℕ)
+    → get_or placed p 0 < length (get_or choices p [])
+    → Producers taken placed choices → get_or taken p 0 ≤ get_or
+    (set placed p (get_or placed p 0 + 1)) p 0
 all-put taken placed choices p more h =
     let within : p < length choices = full-in_range choices p (omega arith) in
     let old = h.one p in
@@ -403,7 +462,8 @@ keeps_hands (event.Weigh p class want desired online) = false
 keeps_hands (event.Put p hash) = false
 keeps_hands _ = true
 
-noted-happens : (notes : List Note) (s : HopState) (e : HopEvent) → keeps_hands e ≡ true → NotedIn notes s
+noted-happens : (notes : List Note) (s : HopState) (e : HopEvent) → keeps_hands e ≡ true
+    → NotedIn notes s
     → NotedIn notes (happens s e).0
 noted-happens notes s e k h = by_outcomes (λ o. NotedIn notes o.0) s e (λ why. h) (kept e k)
   where
@@ -423,16 +483,22 @@ noted-happens notes s e k h = by_outcomes (λ o. NotedIn notes o.0) s e (λ why.
 
 good-rx : (m : Machine) (e : HopEvent) → keeps_hands e ≡ true → Good m → Good (by_rx m e).0
 good-rx m e k h =
-    record { rx = staged-happens m.rx e h.rx; tx = h.tx; notes = noted-happens m.notes m.rx e k h.notes }
+    record {
+      rx = staged-happens m.rx e h.rx;
+      tx = h.tx;
+      notes = noted-happens m.notes m.rx e k h.notes;
+    }
 
 good-tx : (m : Machine) (e : HopEvent) → Good m → Good (by_tx m e).0
 good-tx m e h = record { rx = h.rx; tx = staged-happens m.tx e h.tx; notes = h.notes }
 
-good-if : (b : Bool) (x y : Outcome) → (b ≡ true → Good x.0) → (b ≡ false → Good y.0) → Good (if b then x else y).0
+good-if : (b : Bool) (x y : Outcome) → (b ≡ true → Good x.0) → (b ≡ false → Good y.0)
+    → Good (if b then x else y).0
 good-if true x y p q = p refl
 good-if false x y p q = q refl
 
-good-take : (m : Machine) (q : ℕ) → is_asking (note_of m q) ≡ false → Good m → Good (by_rx m (event.Take q)).0
+good-take : (m : Machine) (q : ℕ) → is_asking (note_of m q) ≡ false → Good m
+    → Good (by_rx m (event.Take q)).0
 good-take m q free h =
     record {
       rx = staged-happens m.rx (event.Take q) h.rx;
@@ -447,7 +513,8 @@ good-look m q x true more h =
     record {
       rx = h.rx;
       tx = h.tx;
-      notes = noted-look m.notes m.rx.taken m.rx.placed m.rx.choices q _ (ltb-true _ _ more) h.notes;
+      notes = noted-look m.notes m.rx.taken m.rx.placed m.rx.choices q _
+          (ltb-true _ _ more) h.notes;
     }
 good-look m q x false more h = h
 
@@ -468,12 +535,23 @@ good-weigh m q (note.Looked want) (Some x) h =
 abbrev PutLeaves : Machine → ℕ → HopOutcome → Type 0
 PutLeaves m q o = Good (put_by (record m { rx = o.0 }) q (position_of o.1) o.1).0
 
-good-asking : (m : Machine) (q : ℕ) (wish : Option Filter) → taken_of m.rx q ≤ placed_of m.rx q → Good m
+good-asking : (m : Machine) (q : ℕ) (wish : Option Filter) → taken_of m.rx q ≤ placed_of m.rx q
+    → Good m
     → Good (noted m q (asking wish))
 good-asking m q None put h =
-    record { rx = h.rx; tx = h.tx; notes = noted-clear m.notes m.rx.taken m.rx.placed m.rx.choices q h.notes }
+    record {
+      rx = h.rx;
+      tx = h.tx;
+      notes = noted-clear m.notes m.rx.taken m.rx.placed m.rx.choices q
+          h.notes;
+    }
 good-asking m q (Some filter) put h =
-    record { rx = h.rx; tx = h.tx; notes = noted-ask m.notes m.rx.taken m.rx.placed m.rx.choices q filter put h.notes }
+    record {
+      rx = h.rx;
+      tx = h.tx;
+      notes = noted-ask m.notes m.rx.taken m.rx.placed m.rx.choices q
+          filter put h.notes;
+    }
 
 good-put : (m : Machine) (q : ℕ) → Good m → PutLeaves m q (happens m.rx (putting m q))
 good-put m q h =
@@ -486,7 +564,12 @@ good-put m q h =
     went-on {n = record m { rx = put_one m.rx q hash }}
     (put_answer (lane_of m.rx.fixed m.rx.bare (in_hand m.rx q).choice.lane) hash)
     (all-put m.rx.taken m.rx.placed m.rx.choices q more h.rx.hands)
-    (record { rx = rx; tx = h.tx; notes = noted-put m.notes m.rx.taken m.rx.placed m.rx.choices q h.notes }))
+    (record {
+      rx = rx;
+      tx = h.tx;
+      notes = noted-put m.notes m.rx.taken m.rx.placed m.rx.choices q
+          h.notes;
+    }))
   where
     went-on : {n : Machine} (w : Put) → taken_of n.rx q ≤ placed_of n.rx q → Good n
         → Good (put_by n q (position_of (answer.Went w)) (answer.Went w)).0
@@ -497,7 +580,12 @@ good-ask : (m : Machine) (q : ℕ) (n : Note) → Good m → Good (ask_by m q n)
 good-ask m q note.Nothing h = h
 good-ask m q (note.Looked want) h = h
 good-ask m q (note.Asking filter) h =
-    record { rx = h.rx; tx = h.tx; notes = noted-clear m.notes m.rx.taken m.rx.placed m.rx.choices q h.notes }
+    record {
+      rx = h.rx;
+      tx = h.tx;
+      notes = noted-clear m.notes m.rx.taken m.rx.placed m.rx.choices q
+          h.notes;
+    }
 
 good-record : (m : Machine) (hash : Option (Option ℕ)) → Good m → Good (record_by m hash).0
 good-record m None h = h
@@ -509,7 +597,8 @@ good-record m (Some (Some hash)) h =
     good-if (nat_lt 0 (length m.socket)) (wrote (visited m a) a hash, says.Done) _ (λ some. record {
       rx = staged-happens inside (event.Leave guest) (staged-happens m.rx (event.Enter guest) h.rx);
       tx = h.tx;
-      notes = noted-happens m.notes inside (event.Leave guest) refl (noted-happens m.notes m.rx (event.Enter guest) refl h.notes);
+      notes = noted-happens m.notes inside (event.Leave guest) refl (noted-happens m.notes m.rx
+          (event.Enter guest) refl h.notes);
     }) (λ none. h)
 
 good-send : (m : Machine) (a : ℕ) (x : Option ℕ) → Good m → Good (send_by m a x).0
@@ -552,9 +641,11 @@ good-given m c h = set-or (is_done (answer_to m c))
 
 good-simple : (m : Machine) (s : Step) → Good m → Good (simple m s).0
 good-simple m act.Arrive h =
-    let a : Arrival = arrival_by (length m.arrivals) (route_by m (hash_of m.setup (length m.arrivals))) in
+    let a : Arrival = arrival_by (length m.arrivals)
+    (route_by m (hash_of m.setup (length m.arrivals))) in
     let e : HopEvent = event.Arrive a.queue a.id in
-    good-if (nat_lt (length m.arrivals) (length m.setup.packets)) (arrives m a, says.Done) (m, says.Idle idle.NothingLeft)
+    good-if (nat_lt (length m.arrivals) (length m.setup.packets)) (arrives m a, says.Done)
+    (m, says.Idle idle.NothingLeft)
     (λ more. record {
       rx = staged-happens m.rx e h.rx;
       tx = h.tx;
@@ -562,7 +653,8 @@ good-simple m act.Arrive h =
     })
     (λ none. h)
 good-simple m (act.Take q) h =
-    good-if (is_asking (note_of m q)) (m, says.Idle idle.HandFull) (by_rx m (event.Take q)) (λ asks. h)
+    good-if (is_asking (note_of m q)) (m, says.Idle idle.HandFull) (by_rx m (event.Take q))
+    (λ asks. h)
     (λ free. good-take m q free h)
 good-simple m (act.Enter q) h = good-rx m (event.Enter q) refl h
 good-simple m (act.Look q) h =
@@ -578,14 +670,17 @@ good-simple m (act.Ask q) h =
     (λ inside. good-ask m q (note_of m q) h)
 good-simple m (act.Leave q) h =
     good-if (not (inside_of m.rx q)) (m, says.Idle idle.NotInside) _ (λ outside. h)
-    (λ inside. good-if (is_nothing (note_of m q)) (by_rx m (event.Leave q)) (m, says.Idle idle.MidPacket)
+    (λ inside. good-if (is_nothing (note_of m q)) (by_rx m (event.Leave q))
+    (m, says.Idle idle.MidPacket)
     (λ nothing. good-rx m (event.Leave q) refl h) (λ some. h))
 good-simple m (act.Pull c) h = good-rx m (event.Pull c) refl h
-good-simple m (act.Deliver c) h = good-rx m (event.Deliver c (app_for m.setup (in_lane m.rx c))) refl h
+good-simple m (act.Deliver c) h = good-rx m (event.Deliver c (app_for m.setup (in_lane m.rx c)))
+    refl h
 good-simple m (act.Retire c) h = good-rx m (event.Retire c) refl h
 good-simple m (act.Record flow) h = good-record m (flow_hash m.setup flow) h
 good-simple m (act.Send a) h =
-    good-if (nat_lt (placed_of m.tx a) (taken_of m.tx a)) (m, says.Idle idle.HandFull) (send_by m a (next_in m a))
+    good-if (nat_lt (placed_of m.tx a) (taken_of m.tx a)) (m, says.Idle idle.HandFull)
+    (send_by m a (next_in m a))
     (λ full. h) (λ free. good-send m a (next_in m a) h)
 good-simple m (act.TEnter a) h = good-tx m (event.Enter a) h
 good-simple m (act.TLeave a) h = good-tx m (event.Leave a) h
@@ -602,15 +697,18 @@ good-simple m (act.Serve a) h = h
 good-simple m (act.Ship t) h = h
 good-simple m act.Sweep h = h
 
-good-new : (plan : Plan) (packets : List Packet) (cut : Option ℕ) → Good (new_machine plan packets cut)
+good-new : (plan : Plan) (packets : List Packet) (cut : Option ℕ)
+    → Good (new_machine plan packets cut)
 good-new plan packets cut =
     let queues : ℕ = length plan.queues in
     record {
       rx = staged-fresh _ _ _ _ _;
       tx = staged-fresh _ _ _ _ 1;
       notes = record {
-        looked = λ q want e. absurd (looked-nothing _ want (at_new {X = Note} queues q note.Nothing) e);
-        asked = λ q filter e. absurd (asking-nothing _ filter (at_new {X = Note} queues q note.Nothing) e);
+        looked = λ q want e. absurd (looked-nothing _ want (at_new {X = Note} queues q note.Nothing)
+            e);
+        asked = λ q filter e. absurd (asking-nothing _ filter
+            (at_new {X = Note} queues q note.Nothing) e);
       };
     }
 
@@ -631,8 +729,11 @@ of-all-staged m h =
       notes = record { looked = h.looked; asked = h.asking };
     }
 
-pub new_is_staged : (plan : Plan) (packets : List Packet) (cut : Option ℕ) → AreStaged (new_machine plan packets cut)
-new_is_staged plan packets cut = are-staged (new_machine plan packets cut) (good-new plan packets cut)
+pub new_is_staged : (plan : Plan) (packets : List Packet) (cut : Option ℕ) → AreStaged
+    (new_machine plan packets cut)
+new_is_staged plan packets cut = are-staged (new_machine plan packets cut)
+    (good-new plan packets cut)
 
 pub steps_keep_staged : (ss : List Step) (m : Machine) → AreStaged m → AreStaged (after ss m)
-steps_keep_staged ss m h = are-staged (after ss m) (after-keeps Good good-simple ss m (of-all-staged m h))
+steps_keep_staged ss m h = are-staged (after ss m) (after-keeps Good good-simple ss m
+    (of-all-staged m h))

@@ -35,7 +35,14 @@ use Rattle.steer_properties.proofs.Histories.HopGrowthLemmas.{Stays}
 head-by : (k : ℕ) (want : Option ℕ) (desired tail current head : ℕ) (same off reached : Bool)
     (seen : ℕ)
     → (cond {A = Choice} same
-    (record { class = Some k; want = want; head = None; tail = Some tail; lane = current; why = Same })
+    (record {
+      class = Some k;
+      want = want;
+      head = None;
+      tail = Some tail;
+      lane = current;
+      why = Same;
+    })
     (cond {A = Choice} off
     (record {
       class = Some k;

@@ -168,7 +168,8 @@ nobody-looks s q h alone in' =
     let some = count_some s.visits q in' in let g = h.gate.inside in
     omega (arith, some, g, alone)
 
-looking-given : (m n : Machine) (c : Command) → Invariant m → Given m c (answer_to m c) n → Looking m
+looking-given : (m n : Machine) (c : Command) → Invariant m → Given m c (answer_to m c) n
+    → Looking m
     → Looking n
 looking-given m n c h d old q want is =
     let w = d.looked q want is in

@@ -30,9 +30,11 @@ use Rattle.steer_model.specs.State.Setup.{Setup, flow_of, hash_of}
 use Rattle.steer_model.specs.State.Start.{settings_of}
 use Rattle.steer_invariant.specs.StepInvariant.{StepInvariant}
 use Rattle.steer_invariant.proofs.Recorded.RowLemmas.{in_reply-is}
-use Rattle.steer_properties.proofs.Histories.ExtendLemmas.{extends-get, extends-length, extends-slice_get}
+use Rattle.steer_properties.proofs.Histories.ExtendLemmas.{extends-get, extends-length}
+use Rattle.steer_properties.proofs.Histories.ExtendLemmas.{extends-slice_get}
 use Rattle.steer_properties.proofs.Histories.LastingLemmas.{Lasts}
-use Rattle.steer_properties.proofs.Histories.MomentLemmas.{settings-all, settings-longer, then-before, then-from, then_at}
+use Rattle.steer_properties.proofs.Histories.MomentLemmas.{settings-all, settings-longer}
+use Rattle.steer_properties.proofs.Histories.MomentLemmas.{then-before, then-from, then_at}
 use Rattle.steer_properties.proofs.Choices.RuleLemmas.{entries-are, entries-stay}
 use Rattle.steer_properties.proofs.Histories.StepKindLemmas.{new_tx_choice, tx_weighed}
 

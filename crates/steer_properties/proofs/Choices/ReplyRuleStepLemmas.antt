@@ -16,9 +16,11 @@ use Rattle.steer_properties.proofs.Histories.ExtendLemmas.{blank-at}
 use Rattle.steer_properties.proofs.Histories.LastingLemmas.{Lasts, SameTurns}
 use Rattle.steer_properties.proofs.Histories.MomentLemmas.{then_at}
 use Rattle.steer_properties.proofs.Choices.RuleStepLemmas.{Follows}
-use Rattle.steer_properties.proofs.Choices.ReplyRuleLemmas.{SameStart, TxRuled, TxRules, tx-ruled-chosen}
+use Rattle.steer_properties.proofs.Choices.ReplyRuleLemmas.{SameStart, TxRuled, TxRules}
+use Rattle.steer_properties.proofs.Choices.ReplyRuleLemmas.{tx-ruled-chosen}
 use Rattle.steer_properties.proofs.Choices.ReplyRuleLemmas.{tx-ruled-stays}
-use Rattle.steer_properties.proofs.Histories.StepKindLemmas.{lasts-noted, new_tx_choice, tx_weighed, walk}
+use Rattle.steer_properties.proofs.Histories.StepKindLemmas.{lasts-noted, new_tx_choice, tx_weighed}
+use Rattle.steer_properties.proofs.Histories.StepKindLemmas.{walk}
 
 -- both hops number from one start as long as they last
 start-lasts : (m n : Machine) → Lasts m n → SameStart m → SameStart n

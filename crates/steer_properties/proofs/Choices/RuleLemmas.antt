@@ -31,8 +31,10 @@ use Rattle.steer_invariant.proofs.LaneLemmas.{lane-is}
 use Rattle.steer_properties.proofs.Histories.ExtendLemmas.{extends-get, extends-length}
 use Rattle.steer_properties.proofs.Histories.LastingLemmas.{Lasts}
 use Rattle.steer_properties.proofs.Choices.LookLemmas.{WantFrom, was-written-lasts}
-use Rattle.steer_properties.proofs.Histories.MomentLemmas.{settings-all, settings-longer, since-agree, since-chosen}
-use Rattle.steer_properties.proofs.Histories.MomentLemmas.{since-longer, then-before, then-from, then_at}
+use Rattle.steer_properties.proofs.Histories.MomentLemmas.{settings-all, settings-longer}
+use Rattle.steer_properties.proofs.Histories.MomentLemmas.{since-agree, since-chosen}
+use Rattle.steer_properties.proofs.Histories.MomentLemmas.{since-longer, then-before, then-from}
+use Rattle.steer_properties.proofs.Histories.MomentLemmas.{then_at}
 use Rattle.steer_properties.proofs.Histories.HopGrowthLemmas.{Stays}
 use Rattle.steer_properties.proofs.Histories.StepKindLemmas.{new_choice, weighed}
 
@@ -40,7 +42,14 @@ use Rattle.steer_properties.proofs.Histories.StepKindLemmas.{new_choice, weighed
 
 want-by : (k : ℕ) (want : Option ℕ) (desired tail current head : ℕ) (same off reached : Bool)
     → (cond {A = Choice} same
-    (record { class = Some k; want = want; head = None; tail = Some tail; lane = current; why = Same })
+    (record {
+      class = Some k;
+      want = want;
+      head = None;
+      tail = Some tail;
+      lane = current;
+      why = Same;
+    })
     (cond {A = Choice} off
     (record {
       class = Some k;
@@ -293,7 +302,8 @@ module _ (i : Input) (m : Machine) (q : ℕ) (want : Option ℕ) (setup : m.setu
   new-want cpu is =
       let x : ℕ = next_of m.rx q in
       let back : newest ≡ chosen_at (choices_of (weighed m q want).rx q) len = sym mine in
-      let e : want ≡ Some cpu = migrate-want (class_at m.setup m.settings q x) want _ _ _ _ cpu is in
+      let e : want ≡ Some cpu = migrate-want (class_at m.setup m.settings q x) want _ _ _ _ cpu
+      is in
       let w = seen cpu e in (
         w.0,
         sym (λ j. class_of (last-settings j).sock (hash_of (setup j) (back j).id)) ∙ w.1,

@@ -62,7 +62,8 @@ follows-simple i m s h named f =
 
 -- ---- the rule
 
-rules-still : (i : Input) (m n : Machine) → Invariant m → Invariant n → Still m n → Rules i m → Rules i n
+rules-still : (i : Input) (m n : Machine) → Invariant m → Invariant n → Still m n → Rules i m
+    → Rules i n
 rules-still i m n h g s old q =
     let k = h.kept in let l = g.kept in
     let at = (old q).0 in let r = (old q).1 in

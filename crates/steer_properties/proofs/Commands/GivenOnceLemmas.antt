@@ -29,9 +29,11 @@ use Rattle.steer_model.specs.Steps.CompoundSteps.{Turn, after, one_round, rounds
 use Rattle.steer_invariant.specs.Invariant.{Invariant}
 use Rattle.steer_invariant.specs.StepInvariant.{AreNamed, IsNamed}
 use Rattle.steer_invariant.proofs.Invariant.StartLemmas.{held-new}
-use Rattle.steer_invariant.proofs.Invariant.StepLemmas.{held-simple, held-step, named-in, plan_steps_within}
+use Rattle.steer_invariant.proofs.Invariant.StepLemmas.{held-simple, held-step, named-in}
+use Rattle.steer_invariant.proofs.Invariant.StepLemmas.{plan_steps_within}
 use Rattle.steer_invariant.proofs.StepInvariant.StepLemmas.{flow_small, step_keeps_setup}
-use Rattle.steer_invariant.proofs.TurnLiftLemmas.{IsTried, drain-keeps, poll-keeps, reply-keeps, round-keeps}
+use Rattle.steer_invariant.proofs.TurnLiftLemmas.{IsTried, drain-keeps, poll-keeps, reply-keeps}
+use Rattle.steer_invariant.proofs.TurnLiftLemmas.{round-keeps}
 use Rattle.steer_invariant.proofs.TurnLiftLemmas.{serve-keeps, ship-keeps}
 use Rattle.steer_properties.specs.Commands.GivenOnce.{ReplaysGiveOnce, RunsGiveOnce}
 use Rattle.steer_properties.proofs.Commands.GivingLemmas.{given-is}

@@ -1,6 +1,7 @@
 -- What a command does that is given.
 use Rattle.std.proofs.Common.{ℕ, ◌<◌, ◌≡◌, ◌⊎◌, Bool, true, false, cond, List, [], ◌∷◌}
-use Rattle.std.proofs.Common.{◌++◌, Option, length, refl, ap, ◌∙◌, sym, arith, inl, inr, get_or, set}
+use Rattle.std.proofs.Common.{◌++◌, Option, length, refl, ap, ◌∙◌, sym, arith, inl, inr, get_or}
+use Rattle.std.proofs.Common.{set}
 use Rattle.std.specs.Prelude.{◌==◌, ◌&&◌}
 use Rattle.std.proofs.lemmas.Bool.{cases_Bool, cases_eq, eq-eqb, ne_eqb}
 use Rattle.std.proofs.lemmas.List.{get_or-set_other, get_or-set_same, length-map}
@@ -14,7 +15,8 @@ use Rattle.hop_core.specs.Events.{happens, run}
 use Rattle.hop_core.specs.Hop.{HopState, choices_of, since_of}
 use Rattle.hop_core.specs.Leaves.{Field}
 use Rattle.hop_core.proofs.Leaves.{each_leaves}
-use Rattle.steer_model.specs.Steps.Commands.{affects, answer_to, by_gate, given, is_done, kept_filter}
+use Rattle.steer_model.specs.Steps.Commands.{affects, answer_to, by_gate, given, is_done}
+use Rattle.steer_model.specs.Steps.Commands.{kept_filter}
 use Rattle.steer_model.specs.Steps.Commands.{listed, set_by}
 use Rattle.steer_model.specs.Good.Inputs.{is_flows}
 use Rattle.steer_model.specs.State.Machine.{Machine}

@@ -17,7 +17,8 @@ use Rattle.steer_properties.specs.Delivery.DeliveryLaws.{DeliversInOrder, Replay
 use Rattle.steer_properties.specs.Delivery.DeliveryLaws.{RunsDeliverInOrder}
 use Rattle.steer_invariant.specs.Invariant.{Invariant}
 use Rattle.steer_invariant.specs.StepInvariant.{IsNamed}
-use Rattle.steer_properties.proofs.Delivery.HistoryLemmas.{Orders, drop-causes, drop-counts, lane_in, orders}
+use Rattle.steer_properties.proofs.Delivery.HistoryLemmas.{Orders, drop-causes, drop-counts}
+use Rattle.steer_properties.proofs.Delivery.HistoryLemmas.{lane_in, orders}
 use Rattle.steer_properties.proofs.Delivery.HistoryLemmas.{tx-places}
 use Rattle.steer_properties.proofs.Delivery.StepLemmas.{delivers-new, delivers-simple}
 use Rattle.steer_invariant.proofs.Invariant.StartLemmas.{held-new}

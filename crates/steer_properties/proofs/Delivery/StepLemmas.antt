@@ -22,7 +22,8 @@ use Rattle.hop_core.proofs.Drops.{fresh_is_explained}
 use Rattle.hop_core.proofs.New.{Ordered-fresh}
 use Rattle.history.proofs.SamePlaces.{some_same}
 use Rattle.plan_reader.specs.declared.plan.Plan.{Plan}
-use Rattle.steer_model.specs.Steps.Applications.{in_lane, in_reply, next_in, record_by, send_by, sending}
+use Rattle.steer_model.specs.Steps.Applications.{in_lane, in_reply, next_in, record_by, send_by}
+use Rattle.steer_model.specs.Steps.Applications.{sending}
 use Rattle.steer_model.specs.Steps.Applications.{visited, wrote}
 use Rattle.steer_model.specs.Steps.Commands.{answer_to, is_done, set_by}
 use Rattle.steer_model.specs.State.Machine.{Machine, last_of, note_of}
@@ -40,8 +41,10 @@ use Rattle.steer_properties.specs.Delivery.HopDelivery.{Delivers}
 use Rattle.steer_invariant.specs.Invariant.{Invariant}
 use Rattle.steer_invariant.specs.StepInvariant.{IsCommandNamed, IsNamed}
 use Rattle.steer_invariant.proofs.BelowLemmas.{both-below}
-use Rattle.steer_properties.proofs.Delivery.EventLemmas.{ArePlain, IsPlain, rx-deliver, rx-plain, rx-put}
-use Rattle.steer_properties.proofs.Delivery.EventLemmas.{rx-run, tx-deliver, tx-plain, tx-put, tx-run}
+use Rattle.steer_properties.proofs.Delivery.EventLemmas.{ArePlain, IsPlain, rx-deliver, rx-plain}
+use Rattle.steer_properties.proofs.Delivery.EventLemmas.{rx-put}
+use Rattle.steer_properties.proofs.Delivery.EventLemmas.{rx-run, tx-deliver, tx-plain, tx-put}
+use Rattle.steer_properties.proofs.Delivery.EventLemmas.{tx-run}
 use Rattle.steer_invariant.proofs.EitherLemmas.{either}
 use Rattle.steer_invariant.proofs.Invariant.EventPremiseLemmas.{asks_rx, asks_tx}
 use Rattle.steer_invariant.proofs.StepInvariant.ArrivalLemmas.{next_arrival}

@@ -35,12 +35,15 @@ use Rattle.steer_invariant.proofs.StepInvariant.ArrivalLemmas.{range-more}
 use Rattle.steer_invariant.proofs.LaneLemmas.{chosen-first}
 use Rattle.steer_properties.proofs.Sweep.SweptHistoryLemmas.{rest_is_swept}
 use Rattle.steer_properties.proofs.Sweep.SweepLemmas.{sweep_ends_at_rest}
-use Rattle.steer_properties.specs.Histories.GoodAtRest.{GoodAtRest, SeededReplaysAreGood, SweptRunsAreGood}
-use Rattle.steer_properties.proofs.Histories.HistoryInvariant.{HistoryInvariant, explained-after, good-so-far, of-its-input}
+use Rattle.steer_properties.specs.Histories.GoodAtRest.{GoodAtRest, SeededReplaysAreGood}
+use Rattle.steer_properties.specs.Histories.GoodAtRest.{SweptRunsAreGood}
+use Rattle.steer_properties.proofs.Histories.HistoryInvariant.{HistoryInvariant, explained-after}
+use Rattle.steer_properties.proofs.Histories.HistoryInvariant.{good-so-far, of-its-input}
 
 -- ---- every packet arrived
 
-has-arrived : (i : Input) (m : Machine) → HistoryInvariant i m → AtRest m → HasArrived i (history_of m)
+has-arrived : (i : Input) (m : Machine) → HistoryInvariant i m → AtRest m → HasArrived i
+    (history_of m)
 has-arrived i m e r =
     let w = of-its-input i m e in let h = e.held in let k = h.kept in
     assumption (k.came.numbered ∙ ap (range_with_len 0) (r.arrived ∙ w.total))

@@ -1,6 +1,7 @@
 -- Lists that begin with another list, as a list does that has grown at its end.
 use Rattle.std.proofs.Common.{ℕ, zero, suc, ◌+◌, ◌≤◌, ◌<◌, ◌≡◌, ◌⊎◌, List, [], ◌∷◌, ◌++◌, Some}
-use Rattle.std.proofs.Common.{length, take, refl, ap, ◌∙◌, sym, arith, get_or, set, replicate, inl, inr}
+use Rattle.std.proofs.Common.{length, take, refl, ap, ◌∙◌, sym, arith, get_or, set, replicate, inl}
+use Rattle.std.proofs.Common.{inr}
 use Rattle.std.specs.Prelude.{slice_get}
 use Rattle.std.proofs.lemmas.List.{append-nil, append_assoc, get_or_append_left, length-append}
 use Rattle.std.proofs.lemmas.List.{take-append-le}

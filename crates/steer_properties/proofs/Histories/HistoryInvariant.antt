@@ -39,13 +39,15 @@ use Rattle.steer_properties.specs.Choices.ByTheRule.{AreChosen, AreReplied}
 use Rattle.steer_properties.specs.Histories.Sizes.{IsOfItsInput}
 use Rattle.steer_properties.proofs.Choices.ClearLemmas.{clear-words}
 use Rattle.steer_properties.proofs.Choices.ClearStepLemmas.{Clear, clear-new_machine, clear-simple}
-use Rattle.steer_properties.proofs.Commands.StepLemmas.{Commanding, commanding-new, commanding-simple}
+use Rattle.steer_properties.proofs.Commands.StepLemmas.{Commanding, commanding-new}
+use Rattle.steer_properties.proofs.Commands.StepLemmas.{commanding-simple}
 use Rattle.steer_properties.proofs.Commands.WordLemmas.{commands-answered}
 use Rattle.steer_properties.proofs.Choices.HeadStepLemmas.{Heads, heads-new, heads-simple}
 use Rattle.steer_properties.proofs.Histories.LastingLemmas.{Lasts}
 use Rattle.steer_properties.proofs.Choices.LookLemmas.{Looking, looking-new, looking-simple}
 use Rattle.steer_properties.proofs.Choices.MoveLemmas.{flows_move, reply-changes}
-use Rattle.steer_properties.proofs.Choices.RuleStepLemmas.{Follows, follows-simple, rules-new, rules-simple}
+use Rattle.steer_properties.proofs.Choices.RuleStepLemmas.{Follows, follows-simple, rules-new}
+use Rattle.steer_properties.proofs.Choices.RuleStepLemmas.{rules-simple}
 use Rattle.steer_properties.proofs.Choices.RuleLemmas.{Rules}
 use Rattle.steer_properties.proofs.Writes.SeenLemmas.{AllSeen, seen-new, seen-simple}
 use Rattle.steer_properties.proofs.Choices.SingleChoiceLemmas.{single}
@@ -292,7 +294,8 @@ commands_always_answered = always-by AreAnswered (λ i m e d. answers-allowed i 
 
 -- ---- all of it
 
-pub good-so-far : (i : Input) (m : Machine) → HistoryInvariant i m → DeliversInOrder i (history_of m)
+pub good-so-far : (i : Input) (m : Machine) → HistoryInvariant i m → DeliversInOrder i
+    (history_of m)
     → GoodSoFar i (history_of m)
 good-so-far i m e d =
     let c = choices-ruled i m e in

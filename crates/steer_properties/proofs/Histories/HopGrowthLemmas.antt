@@ -19,7 +19,8 @@ use Rattle.hop_core.proofs.Choices.{choices_stay, put_positions}
 use Rattle.hop_core.proofs.Lists.{Changed-set}
 use Rattle.hop_core.proofs.PutSteps.{put_as}
 use Rattle.hop_core.proofs.Sizes.{Sizes-happens}
-use Rattle.steer_properties.proofs.Histories.ExtendLemmas.{Extends, extends-get, extends-length, extends-more}
+use Rattle.steer_properties.proofs.Histories.ExtendLemmas.{Extends, extends-get, extends-length}
+use Rattle.steer_properties.proofs.Histories.ExtendLemmas.{extends-more}
 use Rattle.steer_properties.proofs.Histories.ExtendLemmas.{extends-same, extends-self, extends-set}
 
 -- lists that grew, and counts that rose
@@ -137,7 +138,8 @@ positions-landed s q None bucket h more p j lt =
     let new : List (List ℕ) = set s.bare.accepted lane (accepted_at s.bare lane ++ c.id ∷ []) in
     let ch = Changed-set s.bare.accepted lane (accepted_at s.bare lane ++ c.id ∷ []) []
     (h.lanes q (placed_of s q) more) in
-    put_positions s q h more (λ d. get_or new d []) (record { here = ch.here; there = ch.there }) p j
+    put_positions s q h more (λ d. get_or new d []) (record { here = ch.here; there = ch.there }) p
+    j
     (omega (arith, lt))
     (λ e same. (
     let long : length (choices_of s p) ≡ length (choices_of s q) =

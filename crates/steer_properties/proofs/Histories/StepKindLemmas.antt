@@ -1,7 +1,8 @@
 -- A step of one event or a command is one of a few kinds, as far as its history grows: what holds
 -- after each kind holds after the step.
 use Rattle.std.proofs.Common.{ℕ, ◌+◌, ◌<◌, ◌≡◌, true, false, not, cond, List, [], ◌∷◌}
-use Rattle.std.proofs.Common.{Option, Some, None, length, refl, ap, ◌∙◌, sym, subst, arith, get_or, inl, inr}
+use Rattle.std.proofs.Common.{Option, Some, None, length, refl, ap, ◌∙◌, sym, subst, arith, get_or}
+use Rattle.std.proofs.Common.{inl, inr}
 use Rattle.std.specs.Prelude.{◌%◌, nat_lt, slice_set}
 use Rattle.std.proofs.Math.ListN.{get_or-eq_default, length-set}
 use Rattle.std.proofs.lemmas.Bool.{cases_lt, ltb-true, not-false}
@@ -33,8 +34,10 @@ use Rattle.steer_model.specs.Steps.Commands.{answer_to, given}
 use Rattle.steer_model.specs.State.Machine.{Machine, last_of, note_of}
 use Rattle.steer_model.specs.State.Notes.{asking, is_asking, is_nothing}
 use Rattle.steer_model.specs.Steps.Outcomes.{Outcome, by_rx, by_tx, idles}
-use Rattle.steer_model.specs.Steps.Pollers.{arrives, ask_by, filter_for, look_by, noted, position_of}
-use Rattle.steer_model.specs.Steps.Pollers.{put_by, putting, seen_by, weigh_by, weighing, with_filter}
+use Rattle.steer_model.specs.Steps.Pollers.{arrives, ask_by, filter_for, look_by, noted}
+use Rattle.steer_model.specs.Steps.Pollers.{position_of}
+use Rattle.steer_model.specs.Steps.Pollers.{put_by, putting, seen_by, weigh_by, weighing}
+use Rattle.steer_model.specs.Steps.Pollers.{with_filter}
 use Rattle.steer_model.specs.State.Settings.{class_at, plain_lane}
 use Rattle.steer_model.specs.State.Setup.{app_for, flow_hash, flow_of, hash_of}
 use Rattle.steer_model.specs.Steps.SingleSteps.{simple}
@@ -49,8 +52,10 @@ use Rattle.steer_invariant.proofs.StepInvariant.ArrivalLemmas.{next_arrival}
 use Rattle.steer_invariant.proofs.StepInvariant.SingleStepLemmas.{weighs-is}
 use Rattle.steer_properties.proofs.Histories.ExtendLemmas.{extends-push, extends-set}
 use Rattle.steer_properties.proofs.Commands.GivingLemmas.{given-is}
-use Rattle.steer_properties.proofs.Histories.LastingLemmas.{Given, InsideStays, Lasts, MakesNoTurn, Quiet}
-use Rattle.steer_properties.proofs.Histories.LastingLemmas.{Still, lasts-self, still-noted, still-rx, still-self}
+use Rattle.steer_properties.proofs.Histories.LastingLemmas.{Given, InsideStays, Lasts, MakesNoTurn}
+use Rattle.steer_properties.proofs.Histories.LastingLemmas.{Quiet}
+use Rattle.steer_properties.proofs.Histories.LastingLemmas.{Still, lasts-self, still-noted}
+use Rattle.steer_properties.proofs.Histories.LastingLemmas.{still-rx, still-self}
 use Rattle.steer_properties.proofs.Histories.LastingLemmas.{still-tx, turns-happens, turns-run}
 use Rattle.steer_properties.proofs.Histories.HopGrowthLemmas.{Stays, stays-happens, stays-run}
 
@@ -216,7 +221,8 @@ filters-long filters (Some hash) f = row-long (class_of (length filters) (Some h
 
 -- ---- the walk
 
-module _ (m : Machine) (h : Invariant m) (Q : Machine → Type 0) (this : Step) (kinds : Kinds m this Q)
+module _ (m : Machine) (h : Invariant m) (Q : Machine → Type 0) (this : Step)
+    (kinds : Kinds m this Q)
   where
     abbrev Then : Outcome → Type 0
     Then o = Q o.0
@@ -257,7 +263,8 @@ module _ (m : Machine) (h : Invariant m) (Q : Machine → Type 0) (this : Step) 
         let stays = stays-happens m.rx e may k.rx.sound in
         let more = weighs-more m.rx q x is in
         let l = lasts-self m in
-        subst (λ y. Q (record (noted m q note.Nothing) { rx = (happens m.rx (weighing m q y want)).0 }))
+        subst (λ y. Q
+        (record (noted m q note.Nothing) { rx = (happens m.rx (weighing m q y want)).0 }))
         (sym (weighs-is m q x is))
         (by_cases (λ t. Stays m.rx t → Q (record (noted m q note.Nothing) { rx = t })) m.rx e
         (λ same. kinds.quiet (noted m q note.Nothing)

@@ -12,8 +12,10 @@ use Rattle.hop_core.specs.Hop.{inside_of, out_at, placed_of, pulled_at, retired_
 use Rattle.hop_core.specs.Sound.{Sound}
 use Rattle.steer_model.specs.Steps.Applications.{next_in, sent_of}
 use Rattle.steer_model.specs.State.Machine.{Machine, note_of}
-use Rattle.steer_model.specs.Steps.IdleReasons.{AreStaged, IsStaged, Need, Stage, answer_by, is_at, lane_hand}
-use Rattle.steer_model.specs.Steps.IdleReasons.{lane_stage, needs, poller_hand, poller_stage, puts_next}
+use Rattle.steer_model.specs.Steps.IdleReasons.{AreStaged, IsStaged, Need, Stage, answer_by, is_at}
+use Rattle.steer_model.specs.Steps.IdleReasons.{lane_hand}
+use Rattle.steer_model.specs.Steps.IdleReasons.{lane_stage, needs, poller_hand, poller_stage}
+use Rattle.steer_model.specs.Steps.IdleReasons.{puts_next}
 use Rattle.steer_model.specs.Steps.IdleReasons.{sender_hand, sender_stage, weighs_next}
 use Rattle.steer_model.specs.Steps.IdleReasons as stage
 use Rattle.steer_model.specs.Steps.SingleSteps.{is_command, is_idle, simple}
@@ -159,7 +161,8 @@ retired-all s c h all pulled delivered =
     let d = h.counts.pulled_first c in
     omega (arith, all, pulled, delivered, a, b, d)
 
-pub lane-rests : (m : Machine) (c : ℕ) → StepInvariant m → AreIdle m (drain_one c) → IsEmptied m.rx.bare c
+pub lane-rests : (m : Machine) (c : ℕ) → StepInvariant m → AreIdle m (drain_one c)
+    → IsEmptied m.rx.bare c
 lane-rests m c k idle =
     let pull = by-reasons m (act.Pull c) k refl idle.0 in
     let deliver = second-lacks _ _ (by-reasons m (act.Deliver c) k refl idle.1.0) in
@@ -169,7 +172,8 @@ lane-rests m c k idle =
     let none = second-lacks _ _ pull e.2 in
     retired-all m.rx c k.rx.sound (ltb-false _ _ none) (ltb-false _ _ e.0) (ltb-false _ _ e.1)
 
-pub tx-rests : (m : Machine) (t : ℕ) → StepInvariant m → AreIdle m (ship_one t) → IsEmptied m.tx.bare t
+pub tx-rests : (m : Machine) (t : ℕ) → StepInvariant m → AreIdle m (ship_one t)
+    → IsEmptied m.tx.bare t
 tx-rests m t k idle =
     let pull = by-reasons m (act.TPull t) k refl idle.0 in
     let deliver = second-lacks _ _ (by-reasons m (act.TDeliver t) k refl idle.1.0) in

@@ -10,16 +10,21 @@ use Rattle.hop_core.specs.Events.{IsEmptied, happens}
 use Rattle.hop_core.specs.Hop.{HopState, inside_of}
 use Rattle.steer_model.specs.State.Machine.{Machine}
 use Rattle.steer_model.specs.State.Setup.{Setup, flow_of}
-use Rattle.steer_model.specs.Steps.CompoundSteps.{Turn, again, drain, drain_one, for_each, poll, recorded}
-use Rattle.steer_model.specs.Steps.CompoundSteps.{replying, serve, ship, ship_one, tried, tries, unretired}
+use Rattle.steer_model.specs.Steps.CompoundSteps.{Turn, again, drain, drain_one, for_each, poll}
+use Rattle.steer_model.specs.Steps.CompoundSteps.{recorded}
+use Rattle.steer_model.specs.Steps.CompoundSteps.{replying, serve, ship, ship_one, tried, tries}
+use Rattle.steer_model.specs.Steps.CompoundSteps.{unretired}
 use Rattle.steer_invariant.specs.StepInvariant.{IsNamed, StepInvariant}
 use Rattle.steer_properties.specs.Sweep.Rest.{PollerRests, SenderRests}
 use Rattle.steer_properties.specs.Sweep.SweepLaws.{IdleRoundRests}
-use Rattle.steer_properties.proofs.Sweep.StillTurnLemmas.{Quiet, Still, leave-stays, quiet-start, quiet-then}
-use Rattle.steer_properties.proofs.Sweep.StillTurnLemmas.{quiet-tried, still-event, still-same, still-then}
+use Rattle.steer_properties.proofs.Sweep.StillTurnLemmas.{Quiet, Still, leave-stays, quiet-start}
+use Rattle.steer_properties.proofs.Sweep.StillTurnLemmas.{quiet-then}
+use Rattle.steer_properties.proofs.Sweep.StillTurnLemmas.{quiet-tried, still-event, still-same}
+use Rattle.steer_properties.proofs.Sweep.StillTurnLemmas.{still-then}
 use Rattle.steer_properties.proofs.Sweep.IdleTurnLemmas.{idle-tries, tried-before, tried-idle}
 use Rattle.steer_invariant.proofs.StepInvariant.StepLemmas.{flow_small}
-use Rattle.steer_properties.proofs.Sweep.RestLemmas.{lane-rests, poller-rests, sender-rests, tx-rests}
+use Rattle.steer_properties.proofs.Sweep.RestLemmas.{lane-rests, poller-rests, sender-rests}
+use Rattle.steer_properties.proofs.Sweep.RestLemmas.{tx-rests}
 use Rattle.steer_properties.proofs.Sweep.RestLemmas.{wire-rests}
 use Rattle.steer_invariant.proofs.TurnLiftLemmas.{drain-keeps, is_tried, poll-keeps, recorded-keeps}
 use Rattle.steer_invariant.proofs.TurnLiftLemmas.{serve-keeps, ship-keeps}
@@ -184,7 +189,8 @@ module _ (p : Setup) (flows : (x : ℕ) → flow_of p x < 262144) where
 
   each-rests : (n most : ℕ) (f : ℕ → Turn → Turn) (G : ℕ → Machine → Type 0) → n ≤ most
       → ((i : ℕ) (m n : Machine) → Still m n → G i m → G i n)
-      → ((i : ℕ) (t : Turn) → i < most → t.0.setup ≡ p → StepInvariant t.0 → Turned p (G i) t (f i t))
+      → ((i : ℕ) (t : Turn) → i < most → t.0.setup ≡ p → StepInvariant t.0 → Turned p (G i) t
+      (f i t))
       → (t : Turn) → t.0.setup ≡ p → StepInvariant t.0 → Rested n G t (for_each n f t)
   unfolding for_each
   each-rests zero most f G le stays turns t is k =

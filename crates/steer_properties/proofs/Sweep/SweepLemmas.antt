@@ -26,7 +26,8 @@ use Rattle.steer_invariant.proofs.StepInvariant.StepLemmas.{flow_small}
 use Rattle.steer_invariant.proofs.StepInvariant.SingleStepLemmas.{goes-simple}
 use Rattle.steer_properties.proofs.Sweep.RoundLemmas.{idle_round_rests}
 use Rattle.steer_invariant.proofs.TurnLiftLemmas.{IsTried, round-keeps}
-use Rattle.steer_properties.proofs.Sweep.WeightLemmas.{note_weight, rests-there, weight, works-further}
+use Rattle.steer_properties.proofs.Sweep.WeightLemmas.{note_weight, rests-there, weight}
+use Rattle.steer_properties.proofs.Sweep.WeightLemmas.{works-further}
 
 -- ---- a turn adds to the work where it did some
 
@@ -62,7 +63,8 @@ rising-tried p from t s is r =
     let high = r.high in
     record { setup = g.setup ∙ r.setup; kept = g.kept; high = omega (arith, high, rise) }
 
-rising-round : (m : Machine) → StepInvariant m → Rising m.setup (weight m + 1) (one_round (m, false))
+rising-round : (m : Machine) → StepInvariant m → Rising m.setup (weight m + 1)
+    (one_round (m, false))
 rising-round m k =
     round-keeps m.setup (Rising m.setup (weight m + 1)) (λ t r. r.setup)
     (λ x. flow_small m.setup x k.given)

@@ -39,7 +39,8 @@ use Rattle.steer_invariant.proofs.StepInvariant.StepLemmas.{step_keeps_kept}
 use Rattle.steer_invariant.proofs.LaneLemmas.{fallen-is, lane-is, lists-long}
 use Rattle.steer_invariant.proofs.PrefixLemmas.{prefix-all}
 use Rattle.steer_properties.proofs.Sweep.SweepLemmas.{sweep_ends_at_rest}
-use Rattle.steer_properties.proofs.Sweep.ThroughLemmas.{full-below, place-of, ported, rest_is_through}
+use Rattle.steer_properties.proofs.Sweep.ThroughLemmas.{full-below, place-of, ported}
+use Rattle.steer_properties.proofs.Sweep.ThroughLemmas.{rest_is_through}
 
 -- ---- lanes
 

@@ -111,7 +111,8 @@ came-in m x k lt =
     (q, w.0, omega (arith, below, n), ap (λ l. slice_index l w.0) own ∙ w.2 ∙ id)
 
 -- a reply to what is in an inbox is at the port
-pub ported : (m : Machine) (o i x : ℕ) → StepInvariant m → AtRest m → i < length (out_at m.rx.bare o)
+pub ported : (m : Machine) (o i x : ℕ) → StepInvariant m → AtRest m → i < length
+    (out_at m.rx.bare o)
     → slice_index (out_at m.rx.bare o) i ≡ x → Contains (out_at m.tx.bare 0) x
 ported m o i x k r lt at =
     let z = k.rx.sizes in let y = k.tx.sizes in

@@ -26,12 +26,14 @@ use Rattle.hop_core.proofs.AllSteps.{Sound-happens}
 use Rattle.hop_core.proofs.Cases.{by_outcomes}
 use Rattle.hop_core.proofs.Leaves.{each_leaves}
 use Rattle.hop_core.proofs.Work.{work_goes_on, work_stays}
-use Rattle.steer_model.specs.Steps.Applications.{in_lane, in_reply, next_in, record_by, send_by, sending}
+use Rattle.steer_model.specs.Steps.Applications.{in_lane, in_reply, next_in, record_by, send_by}
+use Rattle.steer_model.specs.Steps.Applications.{sending}
 use Rattle.steer_model.specs.Steps.Applications.{visited, wrote}
 use Rattle.steer_model.specs.State.Machine.{Machine, last_of, note_of}
 use Rattle.steer_model.specs.State.Notes.{asking, is_asking, is_nothing}
 use Rattle.steer_model.specs.Steps.Outcomes.{Outcome, by_rx, by_tx, idles, told}
-use Rattle.steer_model.specs.Steps.Pollers.{arrives, ask_by, filter_for, look_by, position_of, put_by}
+use Rattle.steer_model.specs.Steps.Pollers.{arrives, ask_by, filter_for, look_by, position_of}
+use Rattle.steer_model.specs.Steps.Pollers.{put_by}
 use Rattle.steer_model.specs.Steps.Pollers.{putting, seen_by, weigh_by, weighing}
 use Rattle.steer_model.specs.State.Setup.{app_for, flow_hash, hash_of}
 use Rattle.steer_model.specs.Steps.SingleSteps.{is_command, is_idle, is_work, simple}

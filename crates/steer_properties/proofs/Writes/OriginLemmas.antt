@@ -22,7 +22,8 @@ use Rattle.steer_model.specs.Good.Arrivals.{EntryFrom}
 use Rattle.steer_model.specs.Good.Commands.{refused_with}
 use Rattle.steer_model.specs.Good.Writes.{IsSize, StoodAt}
 use Rattle.steer_model.specs.Good.Inputs.{Input, WasDone}
-use Rattle.steer_model.specs.Origins.SettingWrites.{AreLastWrites, entry_for, if_done, last_write, sock_for}
+use Rattle.steer_model.specs.Origins.SettingWrites.{AreLastWrites, entry_for, if_done, last_write}
+use Rattle.steer_model.specs.Origins.SettingWrites.{sock_for}
 use Rattle.steer_model.specs.Origins.SettingWrites.{stand_for}
 use Rattle.steer_model.specs.State.Machine.{Machine, history_of}
 use Rattle.steer_model.specs.State.Settings.{Settings}

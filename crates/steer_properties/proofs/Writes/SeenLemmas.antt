@@ -1,6 +1,7 @@
 -- The queue of each arrival is that of an entry or of a filter that came from the run.
 use Rattle.std.proofs.Common.{ℕ, ◌<◌, ◌≡◌, true, List, Option}
-use Rattle.std.proofs.Common.{Some, None, length, refl, ap, ◌∙◌, sym, subst, arith, inl, inr, get_or}
+use Rattle.std.proofs.Common.{Some, None, length, refl, ap, ◌∙◌, sym, subst, arith, inl, inr}
+use Rattle.std.proofs.Common.{get_or}
 use Rattle.std.specs.Prelude.{slice_index, slice_index_or}
 use Rattle.std.specs.List.{All}
 use Rattle.std.specs.Option.{option_map}
@@ -192,7 +193,8 @@ abbrev pub AllSeen : Input → Machine → Type 0
 AllSeen i m = QueuesAreSeen i (history_of m)
 
 -- nothing arrives
-seen-stay : (i : Input) (m n : Machine) → Invariant m → Invariant n → Lasts m n → n.arrivals ≡ m.arrivals
+seen-stay : (i : Input) (m n : Machine) → Invariant m → Invariant n → Lasts m n
+    → n.arrivals ≡ m.arrivals
     → AllSeen i m → AllSeen i n
 seen-stay i m n h g l same old =
     let k = h.kept in let j = g.kept in
@@ -214,7 +216,8 @@ seen-arrived i m setup rows filters w follows h g l old =
 
 pub seen-simple : (i : Input) (m : Machine) (s : Step) → m.setup ≡ setup_in i
     → length m.filters ≡ i.plan.filters → FiltersAreFrom m → Commanding i m → Follows i m
-    → Invariant m → Invariant (simple m s).0 → IsNamed m.setup s → AllSeen i m → AllSeen i (simple m s).0
+    → Invariant m → Invariant (simple m s).0 → IsNamed m.setup s → AllSeen i m → AllSeen i
+    (simple m s).0
 seen-simple i m s setup rows filters w follows h g named old =
     walk m h (λ n. Invariant n → AllSeen i n) s
     (record {

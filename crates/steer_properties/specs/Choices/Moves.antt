@@ -33,7 +33,8 @@ pub record MovesAsSaid (c : Choice) (desired : ℕ) (online : ℕ → Bool) (bef
   pub moved : has_moved c.why ≡ true → c.lane ≡ desired
   pub kept : has_moved c.why ≡ false → Some c.lane ≡ before.lane
 
--- choice k of queue q, for this class, with these settings and the choices before it from `since` on
+-- choice k of queue q, for this class, with these settings and the choices before it from `since`
+-- on
 abbrev pub MovesClass : Input → History → ℕ → ℕ → Settings → ℕ → ℕ → Type 0
 MovesClass i h q k s since class =
     let c : Chosen = chosen_at (list_at h.choices q) k in

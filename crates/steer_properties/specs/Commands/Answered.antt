@@ -1,5 +1,5 @@
--- What a replay's writes to the socket flow table and its commands are, in every state: the parts of
--- the good history's clauses on them that do not ask that the run is over.
+-- What a replay's writes to the socket flow table and its commands are, in every state: the parts
+-- of the good history's clauses on them that do not ask that the run is over.
 use Rattle.std.specs.Prelude.{ℕ, ◌<◌, ◌≤◌, ◌≡◌, ◌⊎◌, None, Some, List, length, slice_get}
 use Rattle.std.specs.List.{All}
 use Rattle.history.specs.Lists.{list_at}

@@ -39,7 +39,8 @@ SweepEndsAtRest = (m : Machine) → StepInvariant m → AtRest (step m act.Sweep
 -- In a machine at rest each packet of the capture went all its way.
 abbrev pub RestIsThrough : Type 0
 RestIsThrough =
-    (m : Machine) → StepInvariant m → AtRest m → (x : ℕ) → x < length m.setup.packets → IsThrough m x
+    (m : Machine) → StepInvariant m → AtRest m → (x : ℕ) → x < length m.setup.packets
+    → IsThrough m x
 
 abbrev pub SweptIsThrough : Type 0
 SweptIsThrough =

@@ -7,4 +7,5 @@ pub returns-clause-offers : goal.returns-clause-offers
 returns-clause-offers c = λ hash l id h. AreOffers-put hash l id (lane_drop_cause l (hash id)) h
 
 pub returns-clause-drops : goal.returns-clause-drops
-returns-clause-drops c = λ hash l id h all. AllExplained-put hash l id (lane_drop_cause l (hash id)) refl h all
+returns-clause-drops c = λ hash l id h all. AllExplained-put hash l id
+    (lane_drop_cause l (hash id)) refl h all

@@ -5,4 +5,5 @@ use Rattle.board_api.proofs.laws.deliveries_and_places_agree.Goals as goal
 
 pub returns : goal.returns
 returns c =
-    at_closings DeliveriesHavePlaces (λ about order fit lawful. deliveries_have_places about order lawful)
+    at_closings DeliveriesHavePlaces (λ about order fit lawful. deliveries_have_places about order
+    lawful)

@@ -5,4 +5,5 @@ use Rattle.board_api.proofs.laws.emptied_lanes_stand_first.Goals as goal
 
 pub returns : goal.returns
 returns c =
-    at_closings EmptiedLanesStandFirst (λ about order fit lawful. emptied_stand_first about order lawful fit)
+    at_closings EmptiedLanesStandFirst
+    (λ about order fit lawful. emptied_stand_first about order lawful fit)

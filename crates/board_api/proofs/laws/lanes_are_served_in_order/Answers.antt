@@ -5,7 +5,8 @@ use Rattle.board_api.proofs.laws.lanes_are_served_in_order.Goals as goal
 
 pub returns-clause-served : goal.returns-clause-served
 returns-clause-served c =
-    at_closings LanesAreServedByOne (λ about order fit lawful. lanes_are_served_by_one about order lawful)
+    at_closings LanesAreServedByOne (λ about order fit lawful. lanes_are_served_by_one about order
+    lawful)
 
 pub returns-clause-turn : goal.returns-clause-turn
 returns-clause-turn c =

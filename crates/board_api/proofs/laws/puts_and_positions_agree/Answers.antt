@@ -1,6 +1,8 @@
-use Rattle.board_api.specs.Laws.Puts.{AcceptedWerePut, DropsWerePut, PutsKeepOrder, PutsStand, PutsTakeTurns}
+use Rattle.board_api.specs.Laws.Puts.{AcceptedWerePut, DropsWerePut, PutsKeepOrder, PutsStand}
+use Rattle.board_api.specs.Laws.Puts.{PutsTakeTurns}
 use Rattle.board_api.proofs.Endings.{at_closings}
-use Rattle.board_api.proofs.OwnPuts.{accepted_were_put, drops_were_put, puts_keep_order, puts_stand, puts_take_turns}
+use Rattle.board_api.proofs.OwnPuts.{accepted_were_put, drops_were_put, puts_keep_order, puts_stand}
+use Rattle.board_api.proofs.OwnPuts.{puts_take_turns}
 use Rattle.board_api.proofs.laws.puts_and_positions_agree.Goals as goal
 
 pub returns-clause-stand : goal.returns-clause-stand

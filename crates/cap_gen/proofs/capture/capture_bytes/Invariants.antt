@@ -5,4 +5,5 @@ use Rattle.cap_gen.proofs.Words.{generator_at}
 use Rattle.cap_gen.proofs.capture.capture_bytes.Given as goal
 
 abbrev pub invariant-loop-i : goal.invariant-loop-i
-invariant-loop-i l = (l.words ≡ generator_at l.seed l.i) × (l.bytes.items ≡ capture_bytes (packets_of l.seed l.flows l.i))
+invariant-loop-i l = (l.words ≡ generator_at l.seed l.i)
+    × (l.bytes.items ≡ capture_bytes (packets_of l.seed l.flows l.i))

@@ -6,5 +6,6 @@ returns c packets apps h steered delivered told = record {
   lanes = steered.once;
   inboxes = inboxes-apart packets apps h delivered;
   delivered = λ a x inbox.
-      let accepted = delivered.accepted a x inbox in (accepted.0, told a accepted.0 x inbox accepted.1);
+      let accepted = delivered.accepted a x inbox in
+      (accepted.0, told a accepted.0 x inbox accepted.1);
 }

@@ -5,4 +5,6 @@ use Rattle.history_check.proofs.polling.are_of_first.Given as goal
 
 abbrev pub invariant-loop-arrival : goal.invariant-loop-arrival
 invariant-loop-arrival l =
-    begins (drop l.met (map (λ c. c.id) l.choices)) (arrivals_at (drop l.arrival-index l.arrivals) l.queue) ≡ begins (map (λ c. c.id) l.choices) (arrivals_at l.arrivals l.queue)
+    begins (drop l.met (map (λ c. c.id) l.choices))
+    (arrivals_at (drop l.arrival-index l.arrivals) l.queue) ≡ begins (map (λ c. c.id) l.choices)
+    (arrivals_at l.arrivals l.queue)

@@ -13,4 +13,5 @@ loop-n-preserved c =
     c.push.ensures
     ∙ (ap (λ j. grown j x) c.loop-n.invariant
     ∙ ap (λ ys. journal ys c.args.packets.room)
-    (ap (λ y. take n xs ++ y ∷ []) (sym (get_or_from_slice_get xs n x x at)) ∙ sym (take_more xs n x (slice_get_within xs n x at))))
+    (ap (λ y. take n xs ++ y ∷ []) (sym (get_or_from_slice_get xs n x x at))
+    ∙ sym (take_more xs n x (slice_get_within xs n x at))))

@@ -1,4 +1,5 @@
-use Rattle.std.proofs.Common.{◌≡◌, ◌+◌, ◌-◌, ℕ, [], ◌∷◌, ◌++◌, None, length, slice_index_or, sym, ap, ◌∙◌, subst, arith}
+use Rattle.std.proofs.Common.{◌≡◌, ◌+◌, ◌-◌, ℕ, [], ◌∷◌, ◌++◌, None, length, slice_index_or, sym}
+use Rattle.std.proofs.Common.{ap, ◌∙◌, subst, arith}
 use Rattle.std.specs.Option.{option_to_list}
 use Rattle.std.specs.Slots.{slots_counts, slots_filled, slots_items, slots_len}
 use Rattle.std.specs.Vec.{vec_len}
@@ -15,9 +16,12 @@ middle_list-requires-clause-lane c =
     let items = slots_items c.args.closed.now.slots in
     let less = c.loop-lane-test.true in
     let n : about.lanes - lane ≡ about.lanes - (lane + 1) + 1 = omega arith in
-    let found = found_is items (slots_items c.loop-lane.closed.slots) lane c.take-found.result inv.same c.take-found.ensures.value in
-    let taken = c.pop.ensures.items ∙ ap (λ r. c.pop.new.self.items ++ option_to_list r) c.in-Some-Some.is-0 in
-    let spare = popped_is c.loop-lane.accepted.items c.pop.new.self.items c.in-Some-Some.packets (about.lanes - (lane + 1)) about.room taken
+    let found = found_is items (slots_items c.loop-lane.closed.slots) lane c.take-found.result
+    inv.same c.take-found.ensures.value in
+    let taken = c.pop.ensures.items ∙ ap (λ r. c.pop.new.self.items
+    ++ option_to_list r) c.in-Some-Some.is-0 in
+    let spare = popped_is c.loop-lane.accepted.items c.pop.new.self.items c.in-Some-Some.packets
+    (about.lanes - (lane + 1)) about.room taken
     (subst (λ (k : ℕ). AreSpare k about.room c.loop-lane.accepted.items) n inv.accepted) in
     subst (λ (k : ℕ). IsMiddleOf k c.take-found.result) (sym (ap (λ j. j.room) spare))
     (middle_found about items lane c.take-found.result c.requires.lie less found)
@@ -28,9 +32,13 @@ middle_list-requires-clause-packets c =
     let lane = c.loop-lane.lane in
     let less = c.loop-lane-test.true in
     let n : about.lanes - lane ≡ about.lanes - (lane + 1) + 1 = omega arith in
-    let taken = c.pop.ensures.items ∙ ap (λ r. c.pop.new.self.items ++ option_to_list r) c.in-Some-Some.is-0 in
-    ap (λ j. j.items) (popped_is c.loop-lane.accepted.items c.pop.new.self.items c.in-Some-Some.packets (about.lanes - (lane + 1)) about.room taken
-    (subst (λ (k : ℕ). AreSpare k about.room c.loop-lane.accepted.items) n c.loop-lane.invariant.accepted))
+    let taken = c.pop.ensures.items ∙ ap (λ r. c.pop.new.self.items
+    ++ option_to_list r) c.in-Some-Some.is-0 in
+    ap (λ j. j.items)
+    (popped_is c.loop-lane.accepted.items c.pop.new.self.items c.in-Some-Some.packets
+    (about.lanes - (lane + 1)) about.room taken
+    (subst (λ (k : ℕ). AreSpare k about.room c.loop-lane.accepted.items) n
+    c.loop-lane.invariant.accepted))
 
 pub middle_list-requires-clause-fallen : goal.middle_list-requires-clause-fallen
 middle_list-requires-clause-fallen c =
@@ -38,9 +46,12 @@ middle_list-requires-clause-fallen c =
     let lane = c.loop-lane.lane in
     let less = c.loop-lane-test.true in
     let n : about.lanes - lane ≡ about.lanes - (lane + 1) + 1 = omega arith in
-    let taken = c.pop-in-loop-lane.ensures.items ∙ ap (λ r. c.pop-in-loop-lane.new.self.items ++ option_to_list r) c.in-Some-Some.is-1 in
-    ap (λ j. j.items) (popped_is c.loop-lane.drops.items c.pop-in-loop-lane.new.self.items c.in-Some-Some.fallen (about.lanes - (lane + 1)) about.room taken
-    (subst (λ (k : ℕ). AreSpare k about.room c.loop-lane.drops.items) n c.loop-lane.invariant.drops))
+    let taken = c.pop-in-loop-lane.ensures.items ∙ ap (λ r. c.pop-in-loop-lane.new.self.items
+    ++ option_to_list r) c.in-Some-Some.is-1 in
+    ap (λ j. j.items) (popped_is c.loop-lane.drops.items c.pop-in-loop-lane.new.self.items
+    c.in-Some-Some.fallen (about.lanes - (lane + 1)) about.room taken
+    (subst (λ (k : ℕ). AreSpare k about.room c.loop-lane.drops.items) n
+    c.loop-lane.invariant.drops))
 
 pub middle_list-requires-clause-room : goal.middle_list-requires-clause-room
 middle_list-requires-clause-room c =
@@ -48,12 +59,19 @@ middle_list-requires-clause-room c =
     let lane = c.loop-lane.lane in
     let less = c.loop-lane-test.true in
     let n : about.lanes - lane ≡ about.lanes - (lane + 1) + 1 = omega arith in
-    let taken = c.pop.ensures.items ∙ ap (λ r. c.pop.new.self.items ++ option_to_list r) c.in-Some-Some.is-0 in
-    let other = c.pop-in-loop-lane.ensures.items ∙ ap (λ r. c.pop-in-loop-lane.new.self.items ++ option_to_list r) c.in-Some-Some.is-1 in
-    ap (λ j. j.room) (popped_is c.loop-lane.drops.items c.pop-in-loop-lane.new.self.items c.in-Some-Some.fallen (about.lanes - (lane + 1)) about.room other
-    (subst (λ (k : ℕ). AreSpare k about.room c.loop-lane.drops.items) n c.loop-lane.invariant.drops))
-    ∙ sym (ap (λ j. j.room) (popped_is c.loop-lane.accepted.items c.pop.new.self.items c.in-Some-Some.packets (about.lanes - (lane + 1)) about.room taken
-    (subst (λ (k : ℕ). AreSpare k about.room c.loop-lane.accepted.items) n c.loop-lane.invariant.accepted)))
+    let taken = c.pop.ensures.items ∙ ap (λ r. c.pop.new.self.items
+    ++ option_to_list r) c.in-Some-Some.is-0 in
+    let other = c.pop-in-loop-lane.ensures.items ∙ ap (λ r. c.pop-in-loop-lane.new.self.items
+    ++ option_to_list r) c.in-Some-Some.is-1 in
+    ap (λ j. j.room) (popped_is c.loop-lane.drops.items c.pop-in-loop-lane.new.self.items
+    c.in-Some-Some.fallen (about.lanes - (lane + 1)) about.room other
+    (subst (λ (k : ℕ). AreSpare k about.room c.loop-lane.drops.items) n
+    c.loop-lane.invariant.drops))
+    ∙ sym (ap (λ j. j.room)
+    (popped_is c.loop-lane.accepted.items c.pop.new.self.items c.in-Some-Some.packets
+    (about.lanes - (lane + 1)) about.room taken
+    (subst (λ (k : ℕ). AreSpare k about.room c.loop-lane.accepted.items) n
+    c.loop-lane.invariant.accepted)))
 
 pub push_reserved-requires : goal.push_reserved-requires
 push_reserved-requires c =
@@ -64,7 +82,8 @@ push_reserved-requires c =
     let long : vec_len c.loop-lane.lists ≡ c.loop-lane.lane =
     c.loop-lane.lists.ok.0
     ∙ (ap (λ l. length l) inv.lists
-    ∙ length-map-range_with_len (λ l. middle_left (slice_index_or items l None)) 0 c.loop-lane.lane) in
+    ∙ length-map-range_with_len (λ l. middle_left (slice_index_or items l None)) 0 c.loop-lane.lane)
+    in
     omega arith
 
 pub loop-lane-preserved : goal.loop-lane-preserved
@@ -75,9 +94,12 @@ loop-lane-preserved c =
     let items = slots_items c.args.closed.now.slots in
     let less = c.loop-lane-test.true in
     let n : about.lanes - lane ≡ about.lanes - (lane + 1) + 1 = omega arith in
-    let found = found_is items (slots_items c.loop-lane.closed.slots) lane c.take-found.result inv.same c.take-found.ensures.value in
-    let taken = c.pop.ensures.items ∙ ap (λ r. c.pop.new.self.items ++ option_to_list r) c.in-Some-Some.is-0 in
-    let other = c.pop-in-loop-lane.ensures.items ∙ ap (λ r. c.pop-in-loop-lane.new.self.items ++ option_to_list r) c.in-Some-Some.is-1 in
+    let found = found_is items (slots_items c.loop-lane.closed.slots) lane c.take-found.result
+    inv.same c.take-found.ensures.value in
+    let taken = c.pop.ensures.items ∙ ap (λ r. c.pop.new.self.items
+    ++ option_to_list r) c.in-Some-Some.is-0 in
+    let other = c.pop-in-loop-lane.ensures.items ∙ ap (λ r. c.pop-in-loop-lane.new.self.items
+    ++ option_to_list r) c.in-Some-Some.is-1 in
     let others = c.take-found.ensures.others in
     let capacity = c.push_reserved.ensures.capacity in
     let room = inv.room in
@@ -86,15 +108,20 @@ loop-lane-preserved c =
     record {
       lists = c.push_reserved.ensures.items
           ∙ ((λ i. inv.lists i ++ (c.middle_list.ensures ∙ ap middle_left (sym found)) i ∷ [])
-          ∙ sym (map-range_with_len_more (λ l. middle_left (slice_index_or items l None)) 0 lane lane (omega arith)));
+          ∙ sym (map-range_with_len_more (λ l. middle_left (slice_index_or items l None)) 0 lane
+          lane (omega arith)));
       room = omega arith;
       same = others.0 ∙ inv.same;
       count = others.2 ∙ inv.count;
-      taken = subst (λ (k : ℕ). AreTakenTo (lane + 1) k (slots_filled c.take-found.new.self.slots)) (sym others.2)
-          (taken_to (slots_filled c.loop-lane.closed.slots) (slots_filled c.take-found.new.self.slots) (slots_len c.loop-lane.closed.slots)
+      taken = subst (λ (k : ℕ). AreTakenTo (lane + 1) k (slots_filled c.take-found.new.self.slots))
+          (sym others.2)
+          (taken_to (slots_filled c.loop-lane.closed.slots)
+          (slots_filled c.take-found.new.self.slots) (slots_len c.loop-lane.closed.slots)
           lane (sym (slots_counts c.loop-lane.closed.slots).1) (omega arith) others.1 inv.taken);
-      accepted = popped_left c.loop-lane.accepted.items c.pop.new.self.items c.in-Some-Some.packets (about.lanes - (lane + 1)) about.room taken
+      accepted = popped_left c.loop-lane.accepted.items c.pop.new.self.items c.in-Some-Some.packets
+          (about.lanes - (lane + 1)) about.room taken
           (subst (λ (k : ℕ). AreSpare k about.room c.loop-lane.accepted.items) n inv.accepted);
-      drops = popped_left c.loop-lane.drops.items c.pop-in-loop-lane.new.self.items c.in-Some-Some.fallen (about.lanes - (lane + 1)) about.room other
+      drops = popped_left c.loop-lane.drops.items c.pop-in-loop-lane.new.self.items
+          c.in-Some-Some.fallen (about.lanes - (lane + 1)) about.room other
           (subst (λ (k : ℕ). AreSpare k about.room c.loop-lane.drops.items) n inv.drops);
     }

@@ -1,4 +1,5 @@
-use Rattle.std.proofs.Common.{◌≡◌, ◌+◌, ℕ, [], ◌∷◌, ◌++◌, None, length, slice_index_or, refl, sym, ap, ◌∙◌, subst, arith}
+use Rattle.std.proofs.Common.{◌≡◌, ◌+◌, ℕ, [], ◌∷◌, ◌++◌, None, length, slice_index_or, refl, sym}
+use Rattle.std.proofs.Common.{ap, ◌∙◌, subst, arith}
 use Rattle.std.specs.Slots.{slots_counts, slots_filled, slots_items, slots_len}
 use Rattle.std.specs.Vec.{vec_len}
 use Rattle.std.proofs.lemmas.List.FromFn.{length-map-range_with_len, map-range_with_len_more}
@@ -14,7 +15,8 @@ out_list-requires c =
     let items = slots_items c.args.closed.now.slots in
     let less = c.loop-out-test.true in
     out_found about items out c.take-found.result c.requires.lie less
-    (found_is items (slots_items c.loop-out.closed.slots) (about.lanes + out) c.take-found.result c.loop-out.invariant.same c.take-found.ensures.value)
+    (found_is items (slots_items c.loop-out.closed.slots) (about.lanes + out) c.take-found.result
+    c.loop-out.invariant.same c.take-found.ensures.value)
 
 pub push_reserved-requires : goal.push_reserved-requires
 push_reserved-requires c =
@@ -26,7 +28,8 @@ push_reserved-requires c =
     let long : vec_len c.loop-out.lists ≡ c.loop-out.out =
     c.loop-out.lists.ok.0
     ∙ (ap (λ l. length l) inv.lists
-    ∙ length-map-range_with_len (λ o. out_left (slice_index_or items (out_slot about o) None)) 0 c.loop-out.out) in
+    ∙ length-map-range_with_len (λ o. out_left (slice_index_or items (out_slot about o) None)) 0
+    c.loop-out.out) in
     omega arith
 
 pub loop-out-preserved : goal.loop-out-preserved
@@ -36,7 +39,8 @@ loop-out-preserved c =
     let out = c.loop-out.out in
     let items = slots_items c.args.closed.now.slots in
     let less = c.loop-out-test.true in
-    let found = found_is items (slots_items c.loop-out.closed.slots) (about.lanes + out) c.take-found.result inv.same c.take-found.ensures.value in
+    let found = found_is items (slots_items c.loop-out.closed.slots)
+    (about.lanes + out) c.take-found.result inv.same c.take-found.ensures.value in
     let others = c.take-found.ensures.others in
     let capacity = c.push_reserved.ensures.capacity in
     let room = inv.room in
@@ -50,12 +54,15 @@ loop-out-preserved c =
     record {
       lists = c.push_reserved.ensures.items
           ∙ ((λ i. inv.lists i ++ (c.out_list.ensures ∙ ap out_left (sym found)) i ∷ [])
-          ∙ sym (map-range_with_len_more (λ o. out_left (slice_index_or items (out_slot about o) None)) 0 out out (omega arith)));
+          ∙ sym (map-range_with_len_more
+          (λ o. out_left (slice_index_or items (out_slot about o) None)) 0 out out
+          (omega arith)));
       room = omega arith;
       same = others.0 ∙ inv.same;
       count = others.2 ∙ inv.count;
       left = subst (λ (k : ℕ × ℕ). AreFullFrom k.0 k.1 new) (λ i. (next i, sym others.2 i))
-          (full_from old new many (about.lanes + out) long (omega arith) others.1 (about.lanes + out) refl inv.left);
+          (full_from old new many (about.lanes + out) long (omega arith) others.1
+          (about.lanes + out) refl inv.left);
       taken = taken_from old new many (about.lanes + out) long (omega arith) others.1
           (slots_filled c.args.closed.now.slots) about.lanes out refl inv.taken;
     }

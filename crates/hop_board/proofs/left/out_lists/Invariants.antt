@@ -9,6 +9,8 @@ invariant-loop-out l = record {
   room : l.sizes.outs ≤ vec_capacity l.lists;
   same : slots_items l.closed.slots ≡ slots_items l.initial.closed.slots;
   count : slots_len l.closed.slots ≡ slots_len l.initial.closed.slots;
-  left : AreFullFrom (l.sizes.lanes + l.out) (slots_len l.closed.slots) (slots_filled l.closed.slots);
-  taken : AreTakenFrom l.sizes.lanes l.out (slots_filled l.initial.closed.slots) (slots_filled l.closed.slots);
+  left : AreFullFrom (l.sizes.lanes + l.out) (slots_len l.closed.slots)
+      (slots_filled l.closed.slots);
+  taken : AreTakenFrom l.sizes.lanes l.out (slots_filled l.initial.closed.slots)
+      (slots_filled l.closed.slots);
 }

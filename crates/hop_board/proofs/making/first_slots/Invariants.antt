@@ -6,4 +6,5 @@ use Rattle.hop_board.proofs.making.first_slots.Given as goal
 
 abbrev pub invariant-loop : goal.invariant-loop
 invariant-loop l =
-    l.slots.items ≡ new_middles l.sizes ++ replicate l.counter (Some (Out (out_list [] l.sizes.room)))
+    l.slots.items ≡ new_middles l.sizes ++ replicate l.counter
+    (Some (Out (out_list [] l.sizes.room)))

@@ -9,4 +9,5 @@ pub returns-clause-sound : goal.returns-clause-sound
 returns-clause-sound c = λ s h. HasPlaces-from s h
 
 pub returns-clause-all : goal.returns-clause-all
-returns-clause-all c = λ shape es is may. HasPlaces-from (run es (new_hop shape)) (Sound-run es (new_hop shape) may (Sound-new shape is))
+returns-clause-all c = λ shape es is may. HasPlaces-from (run es (new_hop shape))
+    (Sound-run es (new_hop shape) may (Sound-new shape is))

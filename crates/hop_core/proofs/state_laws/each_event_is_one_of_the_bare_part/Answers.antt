@@ -1,4 +1,5 @@
-use Rattle.hop_core.proofs.BareEvents.{bare_keeps_lanes, each_is_bare, each_lane_is_its_own, sound_has_lanes}
+use Rattle.hop_core.proofs.BareEvents.{bare_keeps_lanes, each_is_bare, each_lane_is_its_own}
+use Rattle.hop_core.proofs.BareEvents.{sound_has_lanes}
 use Rattle.hop_core.proofs.state_laws.each_event_is_one_of_the_bare_part.Goals as goal
 
 pub returns-clause-each : goal.returns-clause-each

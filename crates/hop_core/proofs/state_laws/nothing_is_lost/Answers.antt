@@ -1,4 +1,5 @@
-use Rattle.hop_core.proofs.NothingLost.{each_loses_nothing, each_put_is_once, loses_nothing, fresh_loses_nothing}
+use Rattle.hop_core.proofs.NothingLost.{each_loses_nothing, each_put_is_once, loses_nothing}
+use Rattle.hop_core.proofs.NothingLost.{fresh_loses_nothing}
 use Rattle.hop_core.proofs.state_laws.nothing_is_lost.Goals as goal
 
 pub returns-clause-fresh : goal.returns-clause-fresh

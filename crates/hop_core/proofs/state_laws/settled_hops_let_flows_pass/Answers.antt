@@ -1,4 +1,5 @@
-use Rattle.hop_core.proofs.Settled.{each_keeps_settled, fresh_is_settled, reset_settles, resize_settles, settled_allows_puts}
+use Rattle.hop_core.proofs.Settled.{each_keeps_settled, fresh_is_settled, reset_settles}
+use Rattle.hop_core.proofs.Settled.{resize_settles, settled_allows_puts}
 use Rattle.hop_core.proofs.state_laws.settled_hops_let_flows_pass.Goals as goal
 
 pub returns-clause-fresh : goal.returns-clause-fresh

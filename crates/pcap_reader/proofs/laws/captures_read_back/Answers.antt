@@ -1,4 +1,5 @@
-use Rattle.pcap_reader.proofs.Written.{begins_with_header, grows_by_packet, reads_back, keeps_frames}
+use Rattle.pcap_reader.proofs.Written.{begins_with_header, grows_by_packet, reads_back}
+use Rattle.pcap_reader.proofs.Written.{keeps_frames}
 use Rattle.pcap_reader.proofs.laws.captures_read_back.Goals as goal
 
 pub returns-clause-header : goal.returns-clause-header

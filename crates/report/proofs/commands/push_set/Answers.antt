@@ -21,14 +21,22 @@ loop-n-preserved c =
       | then-is_member w ↦
           let is : test n ≡ true = sym c.is_member.ensures ∙ w.if-is_member.true in
           record {
-            text = w.buf-is ∙ member_more n test c.args.buf.now c.loop-n.buf w.push_member.new.buf c.loop-n.first is c.loop-n.invariant.empty c.loop-n.invariant.text w.push_member.ensures.text;
+            text = w.buf-is ∙ member_more n test c.args.buf.now c.loop-n.buf w.push_member.new.buf
+                c.loop-n.first is c.loop-n.invariant.empty c.loop-n.invariant.text
+                w.push_member.ensures.text;
             empty = w.first-is ∙ some_member n test is;
-            size = omega (arith, ap length w.buf-is, w.push_member.ensures.grows, c.loop-n.invariant.size);
+            size = omega (
+              arith,
+              ap length w.buf-is,
+              w.push_member.ensures.grows,
+              c.loop-n.invariant.size,
+            );
           }
       | else-is_member w ↦
           let isnt : test n ≡ false = sym c.is_member.ensures ∙ w.if-is_member.false in
           record {
-            text = w.buf-is ∙ c.loop-n.invariant.text ∙ ap (λ ns. c.args.buf.now ++ members_text ns) (no_member n test isnt);
+            text = w.buf-is ∙ c.loop-n.invariant.text ∙ ap (λ ns. c.args.buf.now ++ members_text ns)
+                (no_member n test isnt);
             empty = w.first-is ∙ c.loop-n.invariant.empty ∙ ap is_empty (no_member n test isnt);
             size = omega (arith, ap length w.buf-is, c.loop-n.invariant.size);
           }

@@ -10,8 +10,13 @@ returns c =
     let front = front_fields line in
     let choice = choice_fields line.choice in
     let at = codes "at" ∷ [] in
-    let chosen = joined (codes "p") front choice c.push_front.new.buf c.push_choice.new.buf c.push_front.ensures.text c.push_choice.ensures.text in
-    let before = joined (codes "p") (front ++ choice) at c.push_choice.new.buf c.push.new.self chosen c.push.ensures in
-    let put = joined (codes "p") (front ++ choice ++ at) (put_fields line.put) c.push.new.self c.push_put.new.buf before c.push_put.ensures.text in
-    let last = joined (codes "p") (front ++ choice ++ at ++ put_fields line.put) (last_fields line) c.push_put.new.buf c.push_last.new.buf put c.push_last.ensures.text in
-    row_done (codes "p") (front ++ choice ++ at ++ put_fields line.put ++ last_fields line) c.push_last.new.buf c.push-2.new.self last c.push-2.ensures
+    let chosen = joined (codes "p") front choice c.push_front.new.buf c.push_choice.new.buf
+    c.push_front.ensures.text c.push_choice.ensures.text in
+    let before = joined (codes "p") (front ++ choice) at c.push_choice.new.buf c.push.new.self
+    chosen c.push.ensures in
+    let put = joined (codes "p") (front ++ choice ++ at) (put_fields line.put) c.push.new.self
+    c.push_put.new.buf before c.push_put.ensures.text in
+    let last = joined (codes "p") (front ++ choice ++ at ++ put_fields line.put)
+    (last_fields line) c.push_put.new.buf c.push_last.new.buf put c.push_last.ensures.text in
+    row_done (codes "p") (front ++ choice ++ at ++ put_fields line.put
+    ++ last_fields line) c.push_last.new.buf c.push-2.new.self last c.push-2.ensures

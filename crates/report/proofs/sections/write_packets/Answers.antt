@@ -7,11 +7,15 @@ use Rattle.report.proofs.sections.write_packets.Goals as goal
 
 pub returns-in_err-put_line-clause-part : goal.returns-in_err-put_line-clause-part
 returns-in_err-put_line-clause-part g c =
-    let next = map-next packet_row c.loop-id.id c.args.lines.now.packets c.packet.result c.packet_line.new.buf (omega arith) c.packet.ensures c.packet_line.ensures in
-    let found = Goes-stop (text_of (map packet_row (drop (c.loop-id.id + 1) c.args.lines.now.packets))) c.loop-id.invariant next c.in_err-put_line.ensures.part in
+    let next = map-next packet_row c.loop-id.id c.args.lines.now.packets c.packet.result
+    c.packet_line.new.buf (omega arith) c.packet.ensures c.packet_line.ensures in
+    let found = Goes-stop
+    (text_of (map packet_row (drop (c.loop-id.id + 1) c.args.lines.now.packets)))
+    c.loop-id.invariant next c.in_err-put_line.ensures.part in
     search (rules, found)
 
 pub loop-id-preserved : goal.loop-id-preserved
 loop-id-preserved g c =
-    let next = map-next packet_row c.loop-id.id c.args.lines.now.packets c.packet.result c.packet_line.new.buf (omega arith) c.packet.ensures c.packet_line.ensures in
+    let next = map-next packet_row c.loop-id.id c.args.lines.now.packets c.packet.result
+    c.packet_line.new.buf (omega arith) c.packet.ensures c.packet_line.ensures in
     Goes-next c.loop-id.invariant next c.in_ok-put_line.ensures.whole

@@ -9,5 +9,8 @@ use Rattle.report.proofs.sections.write_queues.Given as goal
 -- the rows of the queues from this one on are left
 abbrev pub invariant-loop-queue : goal.invariant-loop-queue
 invariant-loop-queue g l =
-    Goes (g.K.Sink.written l.initial.out) (g.K.Sink.written l.out) (g.K.Sink.faults l.initial.out) (g.K.Sink.faults l.out)
-    (text_of (queue_rows l.lines.arrived l.taken)) (text_of (numbered (λ queue count. queue_row queue (slice_index l.lines.arrived queue) count) l.queue (drop l.queue l.taken)))
+    Goes (g.K.Sink.written l.initial.out) (g.K.Sink.written l.out) (g.K.Sink.faults l.initial.out)
+    (g.K.Sink.faults l.out)
+    (text_of (queue_rows l.lines.arrived l.taken))
+    (text_of (numbered (λ queue count. queue_row queue (slice_index l.lines.arrived queue)
+    count) l.queue (drop l.queue l.taken)))

@@ -12,7 +12,8 @@ returns-in_err-write_reply-clause-part g c =
     let below : c.loop-id.id < length xs = omega arith in
     let at = c.reply.ensures ∙ get_or_default xs c.loop-id.id None c.reply.result below in
     let next = replies-next c.loop-id.id c.args.lines.now.replies c.reply.result below at in
-    let found = Goes-stop (text_of (reply_rows (drop (c.loop-id.id + 1) c.args.lines.now.replies))) c.loop-id.invariant next c.in_err-write_reply.ensures.part in
+    let found = Goes-stop (text_of (reply_rows (drop (c.loop-id.id + 1) c.args.lines.now.replies)))
+    c.loop-id.invariant next c.in_err-write_reply.ensures.part in
     search (rules, found)
 
 pub loop-id-preserved : goal.loop-id-preserved

@@ -7,5 +7,6 @@ use Rattle.report.proofs.sections.write_replies.Given as goal
 -- the rows of the replies from this one on are left
 abbrev pub invariant-loop-id : goal.invariant-loop-id
 invariant-loop-id g l =
-    Goes (g.K.Sink.written l.initial.out) (g.K.Sink.written l.out) (g.K.Sink.faults l.initial.out) (g.K.Sink.faults l.out)
+    Goes (g.K.Sink.written l.initial.out) (g.K.Sink.written l.out) (g.K.Sink.faults l.initial.out)
+    (g.K.Sink.faults l.out)
     (text_of (reply_rows l.lines.replies)) (text_of (reply_rows (drop l.id l.lines.replies)))

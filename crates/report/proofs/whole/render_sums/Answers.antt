@@ -10,10 +10,12 @@ write_queues-requires g c = arrived-made c.args.lines.now c.args.h.now c.require
 
 pub returns-in_err-write_cpus-clause-part : goal.returns-in_err-write_cpus-clause-part
 returns-in_err-write_cpus-clause-part g c =
-    let found = Stopped-then c.in_ok-write_queues.ensures.whole (Stopped-more (text_of (tx_rows c.args.h.now.tx_lanes)) c.in_err-write_cpus.ensures.part) in
+    let found = Stopped-then c.in_ok-write_queues.ensures.whole
+    (Stopped-more (text_of (tx_rows c.args.h.now.tx_lanes)) c.in_err-write_cpus.ensures.part) in
     search (rules, found)
 
 pub returns-in_err-write_txs-clause-part : goal.returns-in_err-write_txs-clause-part
 returns-in_err-write_txs-clause-part g c =
-    let found = Stopped-then c.in_ok-write_queues.ensures.whole (Stopped-then c.in_ok-write_cpus.ensures.whole c.in_err-write_txs.ensures.part) in
+    let found = Stopped-then c.in_ok-write_queues.ensures.whole
+    (Stopped-then c.in_ok-write_cpus.ensures.whole c.in_err-write_txs.ensures.part) in
     search (rules, found)

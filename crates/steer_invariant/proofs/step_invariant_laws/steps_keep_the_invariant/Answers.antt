@@ -1,4 +1,5 @@
-use Rattle.steer_invariant.proofs.StepInvariant.StepLemmas.{events_keep_kept, step_keeps_kept, steps_keep_kept}
+use Rattle.steer_invariant.proofs.StepInvariant.StepLemmas.{events_keep_kept, step_keeps_kept}
+use Rattle.steer_invariant.proofs.StepInvariant.StepLemmas.{steps_keep_kept}
 use Rattle.steer_invariant.proofs.StepInvariant.StepLemmas.{steps_keep_setup}
 use Rattle.steer_invariant.proofs.step_invariant_laws.steps_keep_the_invariant.Goals as goal
 

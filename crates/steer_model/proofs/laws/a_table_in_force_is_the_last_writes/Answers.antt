@@ -1,6 +1,7 @@
 use Rattle.steer_model.proofs.Origins.FilterOriginLemmas.{filters_are_from_choices}
 use Rattle.steer_model.proofs.Origins.SocketOriginLemmas.{entries_are_written}
-use Rattle.steer_model.proofs.Origins.TableWriteLemmas.{entries_are_last_writes, filters_are_last_writes, steps_are_events}
+use Rattle.steer_model.proofs.Origins.TableWriteLemmas.{entries_are_last_writes}
+use Rattle.steer_model.proofs.Origins.TableWriteLemmas.{filters_are_last_writes, steps_are_events}
 use Rattle.steer_model.proofs.Origins.TableWriteLemmas.{tables_start_unset}
 use Rattle.steer_model.proofs.laws.a_table_in_force_is_the_last_writes.Goals as goal
 

@@ -10,7 +10,8 @@ loop-from-preserved c =
     let hash =
     c.hash.ensures
     ∙ ap (λ key. hash_of_flow key c.dissect-flow.result c.args.kinds.0) c.in_ok-key.ensures in
-    read-more c.args.key.now c.args.kinds.0 c.args.bytes.now c.as_slice-records.result.now c.loop-from.from-index _
+    read-more c.args.key.now c.args.kinds.0 c.args.bytes.now c.as_slice-records.result.now
+    c.loop-from.from-index _
     c.loop-from.packets.items c.push.new.self.items _ c.loop-from.numbers c.number_of.new.numbers
     c.loop-from-test.true c.loop-from.invariant c.in_ok-push.ensures.items
     (record { flow = c.dissect-flow.ensures.flow; hash = hash; len = refl })
@@ -20,9 +21,11 @@ pub returns : goal.returns
 returns c =
     let all : c.loop-from.from-index ≡ length c.as_slice-records.result.now = omega arith in
     let list =
-    subst (λ rs. ArePackets c.args.key.now c.args.kinds.0 c.args.bytes.now rs c.loop-from.packets.items)
+    subst (λ rs. ArePackets c.args.key.now c.args.kinds.0 c.args.bytes.now rs
+    c.loop-from.packets.items)
     c.as_slice-records.ensures
     (read-all _ _ _ _ _ _
-    (subst (λ n. AreRead c.args.key.now c.args.kinds.0 c.args.bytes.now c.as_slice-records.result.now n
+    (subst (λ n. AreRead c.args.key.now c.args.kinds.0 c.args.bytes.now
+    c.as_slice-records.result.now n
     c.loop-from.packets.items c.loop-from.numbers) all c.loop-from.invariant)) in
     record { list = list; flows = packets_are_of_flows _ _ _ _ _ list }

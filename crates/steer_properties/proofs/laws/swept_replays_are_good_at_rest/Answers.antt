@@ -1,4 +1,5 @@
-use Rattle.steer_properties.proofs.Histories.AtRestLemmas.{seeded_replays_are_good, swept_runs_are_good}
+use Rattle.steer_properties.proofs.Histories.AtRestLemmas.{seeded_replays_are_good}
+use Rattle.steer_properties.proofs.Histories.AtRestLemmas.{swept_runs_are_good}
 use Rattle.steer_properties.proofs.laws.swept_replays_are_good_at_rest.Goals as goal
 
 pub returns : goal.returns

@@ -1,4 +1,5 @@
-use Rattle.steer_properties.proofs.Sweep.SweptHistoryLemmas.{rest_is_swept, seeded_replays_are_swept, sweep_sweeps}
+use Rattle.steer_properties.proofs.Sweep.SweptHistoryLemmas.{rest_is_swept}
+use Rattle.steer_properties.proofs.Sweep.SweptHistoryLemmas.{seeded_replays_are_swept, sweep_sweeps}
 use Rattle.steer_properties.proofs.Sweep.SweptHistoryLemmas.{swept_runs_are_swept}
 use Rattle.steer_properties.proofs.sweep_laws.swept_machines_have_swept_histories.Goals as goal
 

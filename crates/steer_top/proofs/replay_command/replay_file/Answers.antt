@@ -29,7 +29,8 @@ returns-in-Err-clause-ends g c =
     let (capture, told) = told_bytes (held words.capture) in
     ends_at (Replay words) course (files_of at.bytes capture) []
     (role.Capture ∷ []) role.Plan words.plan c.in-Err.ending
-    (replay_gave words held at.bytes capture at.gave told) refl refl tt (Keeps-refl written) at.stops
+    (replay_gave words held at.bytes capture at.gave told) refl refl tt
+    (Keeps-refl written) at.stops
 
 pub returns-in-Err-take_capture-clause-ends : goal.returns-in-Err-take_capture-clause-ends
 returns-in-Err-take_capture-clause-ends g c =

@@ -13,5 +13,6 @@ loop-cpu-init c =
 pub loop-cpu-preserved : goal.loop-cpu-preserved
 loop-cpu-preserved c =
     let row = λ (cpu : ℕ). depth_row cpu (slice_index_or c.args.depths.now cpu None) in
-    rows_moved c.loop-cpu.text.items c.push_depth.new.text.items (each_cpu row) c.loop-cpu.cpu 256 row c.loop-cpu-test.true
+    rows_moved c.loop-cpu.text.items c.push_depth.new.text.items
+    (each_cpu row) c.loop-cpu.cpu 256 row c.loop-cpu-test.true
     c.in_ok-push_depth.ensures c.loop-cpu.invariant

@@ -13,5 +13,6 @@ loop-cpu-init c =
 pub loop-cpu-preserved : goal.loop-cpu-preserved
 loop-cpu-preserved c =
     let row = λ (cpu : ℕ). cpu_row cpu (slice_index c.args.counts.now cpu) in
-    rows_moved c.loop-cpu.text.items c.push_cpu.new.text.items (each_cpu row) c.loop-cpu.cpu 256 row c.loop-cpu-test.true
+    rows_moved c.loop-cpu.text.items c.push_cpu.new.text.items (each_cpu row) c.loop-cpu.cpu 256 row
+    c.loop-cpu-test.true
     c.in_ok-push_cpu.ensures c.loop-cpu.invariant

@@ -7,6 +7,7 @@ pub returns : goal.returns
 returns c =
     let key = c.args.key.now in
     let place = c.args.place in
-    let bytes : AreBytes key = All-from_get_or IsByte key 0 (λ i h. omega (arith, c.type_inv.key i)) in
+    let bytes : AreBytes key = All-from_get_or IsByte key 0
+    (λ i h. omega (arith, c.type_inv.key i)) in
     let five : (place + 5) - place ≡ 5 = omega arith in
     rw (c.number.ensures, five) (number_of_part key place bytes c.requires.whole c.requires.within)

@@ -6,7 +6,8 @@ use Rattle.backlog.proofs.offers.Offers.note.Goals as goal
 
 pub invariant_of-self : goal.invariant_of-self
 invariant_of-self c =
-    rw (c.push_reserved.ensures, c.in_err-bucket.was) (c.self.invariant ∙ sym (window-plain c.self.inside.buckets.items))
+    rw (c.push_reserved.ensures, c.in_err-bucket.was) (c.self.invariant
+    ∙ sym (window-plain c.self.inside.buckets.items))
 
 pub invariant_of-self-2 : goal.invariant_of-self-2
 invariant_of-self-2 c =

@@ -1,4 +1,5 @@
-use Rattle.std.proofs.Common.{◌≡◌, ◌<◌, ℕ, Some, arith, ap, sym, subst, ◌∙◌, take, set, length, slice_index_or}
+use Rattle.std.proofs.Common.{◌≡◌, ◌<◌, ℕ, Some, arith, ap, sym, subst, ◌∙◌, take, set, length}
+use Rattle.std.proofs.Common.{slice_index_or}
 use Rattle.std.proofs.Math.Seq.{take-set-lt}
 use Rattle.std.proofs.lemmas.List.{length-take-le, get_or-take, get_or_default}
 use Rattle.steer_base.specs.declared.choice.Entry.{Entry}
@@ -6,13 +7,25 @@ use Rattle.dev_flow_table.specs.Tables.{Table, IsClassOf, entry_after, unset, we
 use Rattle.dev_flow_table.proofs.table.DevTable.weigh.Goals as goal
 
 pub returns-clause-table : goal.returns-clause-table
-returns-clause-table c = let t = c.self.inside in let rows = t.rows.items in let n : ℕ = t.size in let k : ℕ = c.in-Some.class in let inv = c.self.invariant in let counted = t.rows.ok.0 in
-    let choice = c.choose-choice.result in let first = unset t.start in let e : Entry = c.index-entry.result.now in let after : Entry = c.entry_after.result in
+returns-clause-table c = let t = c.self.inside in let rows = t.rows.items in let n : ℕ = t.size in
+    let k : ℕ = c.in-Some.class in let inv = c.self.invariant in let counted = t.rows.ok.0 in
+    let choice = c.choose-choice.result in let first = unset t.start in let e : Entry =
+    c.index-entry.result.now in let after : Entry = c.entry_after.result in
     let short : length (take n rows) ≡ n = length-take-le n rows (omega arith) in
-    let same : length (take n rows) ≡ length c.args.self.now.rows = ap (λ (x : Table). length x.rows) c.self.view_is in
-    let asked : k < length c.args.self.now.rows = subst (λ class. IsClassOf c.args.self.now class) c.in-Some.is c.requires.class in
+    let same : length (take n rows) ≡ length c.args.self.now.rows =
+    ap (λ (x : Table). length x.rows) c.self.view_is in
+    let asked : k < length c.args.self.now.rows =
+    subst (λ class. IsClassOf c.args.self.now class) c.in-Some.is c.requires.class in
     let within : k < n = omega arith in
-    let found : e ≡ slice_index_or (take n rows) k first = c.index-entry.ensures ∙ (get_or_default rows k e first (omega arith) ∙ sym (get_or-take n rows k first within)) in
+    let found : e ≡ slice_index_or (take n rows) k first = c.index-entry.ensures
+    ∙ (get_or_default rows k e first (omega arith) ∙ sym (get_or-take n rows k first within)) in
     (λ i. record { rows = take-set-lt n rows k after within i; start = t.start; exact = t.exact })
-    ∙ ((λ i. record { rows = set (take n rows) k ((c.entry_after.ensures ∙ ap (λ x. entry_after t.start x choice) found) i); start = t.start; exact = t.exact })
-    ∙ (ap (λ (x : Table). weighed x (Some k) choice) c.self.view_is ∙ ap (λ class. weighed c.args.self.now class choice) (sym c.in-Some.is)))
+    ∙ ((λ i. record {
+      rows = set (take n rows) k
+          ((c.entry_after.ensures ∙ ap (λ x. entry_after t.start x choice) found) i);
+      start =
+          t.start;
+      exact = t.exact;
+    })
+    ∙ (ap (λ (x : Table). weighed x (Some k) choice) c.self.view_is
+    ∙ ap (λ class. weighed c.args.self.now class choice) (sym c.in-Some.is)))

@@ -2,4 +2,6 @@ use Rattle.hint_words.proofs.Sources.{loads_are_stored}
 use Rattle.hint_words.proofs.hints.Hints.close_hints.Goals as goal
 
 pub returns-clause-stored : goal.returns-clause-stored
-returns-clause-stored c = let e = c.close.ensures.ends in loads_are_stored c.args.seats.items e.order e.lawfully.lawful e.parts
+returns-clause-stored c =
+    let e = c.close.ensures.ends in loads_are_stored c.args.seats.items e.order e.lawfully.lawful
+    e.parts

@@ -4,9 +4,14 @@ use Rattle.hint_words.proofs.Keeps.{loads}
 use Rattle.hint_words.proofs.hints.Hints.load_as.Goals as goal
 
 pub load-requires : goal.load-requires
-load-requires g c = let shared = c.self.inside.table.shared in let sized = c.self.invariant.0 in let inside = c.requires.inside in
-    let words : shared.key.words ≡ c.args.self.now.words = ap (λ (h : HintsView). h.words) c.self.view_is in (
-      ap (λ s. s.table) c.seat.view_is ∙ (c.requires.table ∙ sym (ap (λ (h : HintsView). h.table) c.self.view_is)),
+load-requires g c = let shared = c.self.inside.table.shared in let sized = c.self.invariant.0 in
+    let inside = c.requires.inside in
+    let words : shared.key.words ≡ c.args.self.now.words =
+    ap (λ (h : HintsView). h.words) c.self.view_is in (
+      ap (λ s. s.table) c.seat.view_is
+          ∙ (c.requires.table ∙ sym (ap (λ (h : HintsView). h.table) c.self.view_is)),
       omega arith,
-      loads shared.key g.J.Counted.seats shared.table_id.slots c.seat.inside.seat.id c.seat.inside.seat.me c.args.i (c.requires.counted ∙ sym (ap (λ (h : HintsView). h.seats) c.self.view_is)) (omega arith) c.seat.invariant,
+      loads shared.key g.J.Counted.seats shared.table_id.slots c.seat.inside.seat.id
+          c.seat.inside.seat.me c.args.i (c.requires.counted
+          ∙ sym (ap (λ (h : HintsView). h.seats) c.self.view_is)) (omega arith) c.seat.invariant,
     )

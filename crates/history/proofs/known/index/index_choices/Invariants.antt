@@ -5,4 +5,5 @@ use Rattle.history.specs.Lines.{choice_in}
 use Rattle.history.proofs.known.index.index_choices.Given as goal
 
 abbrev pub invariant-loop-list : goal.invariant-loop-list
-invariant-loop-list l = IsIndex l.count l.index (λ x. first_some (choice_in x) (take l.list-index l.lists))
+invariant-loop-list l = IsIndex l.count l.index (λ x. first_some (choice_in x)
+    (take l.list-index l.lists))

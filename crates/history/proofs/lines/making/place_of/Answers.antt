@@ -8,5 +8,6 @@ returns c =
     let accepted = known.accepted.slot c.args.id c.requires.arrived in
     let drops = known.drops.slot c.args.id c.requires.arrived in
     let inboxes = known.inboxes.slot c.args.id c.requires.arrived in
-    let place = place-known c.args.packets.now c.args.apps c.args.h.now c.requires.regular c.args.id in
+    let place = place-known c.args.packets.now c.args.apps c.args.h.now c.requires.regular
+    c.args.id in
     cc

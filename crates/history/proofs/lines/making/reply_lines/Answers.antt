@@ -9,4 +9,5 @@ loop-x-preserved c =
     let x = c.loop-x.x in
     let line = reply_line c.args.packets.now c.args.apps c.args.h.now in
     c.in_ok-push.ensures.items ∙ ap (λ lines. lines ++ c.reply_line.result ∷ []) c.loop-x.invariant
-    ∙ ap (λ l. map line (range_with_len 0 x) ++ l ∷ []) c.reply_line.ensures ∙ sym (map-range_with_len_more line 0 x x (omega arith))
+    ∙ ap (λ l. map line (range_with_len 0 x) ++ l ∷ []) c.reply_line.ensures
+    ∙ sym (map-range_with_len_more line 0 x x (omega arith))

@@ -10,5 +10,7 @@ returns-then-at-len c =
     let x = c.args.sent.now.id in
     let here : x < length h.arrivals = grind arith in
     let arrival : c.get.result.now ≡ arrival_of h.arrivals x =
-    c.get.ensures ∙ ap (λ s. get_or h.arrivals s.id c.get.result.now) c.sent.view_is ∙ get_or_default h.arrivals x c.get.result.now no_arrival here ∙ sym (arrival-at x h.arrivals c.args.self.now.are_numbered here) in
+    c.get.ensures ∙ ap (λ s. get_or h.arrivals s.id c.get.result.now) c.sent.view_is
+    ∙ get_or_default h.arrivals x c.get.result.now no_arrival here
+    ∙ sym (arrival-at x h.arrivals c.args.self.now.are_numbered here) in
     grind arith

@@ -1,4 +1,5 @@
-use Rattle.std.proofs.Common.{◌≡◌, ◌+◌, ◌<◌, [], ◌∷◌, true, ap, sym, ◌∙◌, subst, arith, List, length, slice_index, length-append}
+use Rattle.std.proofs.Common.{◌≡◌, ◌+◌, ◌<◌, [], ◌∷◌, true, ap, sym, ◌∙◌, subst, arith, List}
+use Rattle.std.proofs.Common.{length, slice_index, length-append}
 use Rattle.hop_rule.specs.declared.step.BoardStep.{BoardStep}
 use Rattle.hop_rule.specs.declared.step.BoardStep.TheVariants.{Lane, LaneIn}
 use Rattle.hop_rule.specs.declared.step.LaneStep.TheVariants as step
@@ -58,15 +59,20 @@ returns c =
     let lanes = fits.lanes in
     let within = c.requires.within in
     let asked = c.requires.pulled in
-    let noted = c.seat.invariant.in_hand lane asked.0 (omega arith) (ap (λ ds. phase lane (lane_steps ds)) steps ∙ asked.1) in
+    let noted = c.seat.invariant.in_hand lane asked.0 (omega arith)
+    (ap (λ ds. phase lane (lane_steps ds)) steps ∙ asked.1) in
     let longer = length-append found.items (packet ∷ []) in
     let long = c.len-place.ensures ∙ ap (λ (y : OutList). length y.items) c.push.ensures in
     let place_is : place ≡ length found.items + 1 = omega arith in
-    subst (λ (h : HeldLane). DeliverTells about h lane c.args.seat.now (board_seat c.give.new.seat c.seat.inside.has_emptied) place) (sym c.in-Out.is) (
+    subst (λ (h : HeldLane). DeliverTells about h lane c.args.seat.now
+    (board_seat c.give.new.seat c.seat.inside.has_emptied) place) (sym c.in-Out.is) (
       packet,
       asked.1 ∙ ap has_pulled (sym noted),
       place_is,
       ap (λ s. board_seat s c.seat.inside.has_emptied) c.give.ensures.step
-          ∙ ap (λ (b : BoardSeatView). record b { steps = Lane (step.Given out lane packet place) ∷ LaneIn (out_slot about out) ∷ b.steps })
+          ∙ ap (λ (b : BoardSeatView). record b {
+            steps = Lane (step.Given out lane packet place)
+                ∷ LaneIn (out_slot about out) ∷ b.steps;
+          })
           c.seat.view_is,
     )

@@ -1,4 +1,5 @@
-use Rattle.std.proofs.Common.{◌≡◌, ◌+◌, ◌-◌, ◌%◌, ◌^◌, [], ◌∷◌, true, false, Some, None, sym, refl, ap, ◌∙◌, subst, arith}
+use Rattle.std.proofs.Common.{◌≡◌, ◌+◌, ◌-◌, ◌%◌, ◌^◌, [], ◌∷◌, true, false, Some, None, sym, refl}
+use Rattle.std.proofs.Common.{ap, ◌∙◌, subst, arith}
 use Rattle.atomic_table.specs.Table.{rest}
 use Rattle.linearization.specs.Views.{one, number_in, steps_in}
 use Rattle.linearization.specs.Seats.{SeatView, seat_view}
@@ -22,12 +23,17 @@ load-requires g c =
     let lane = lane_in c.args.release in
     let sizes : c.self.inside.sizes ≡ about = ap (λ (h : BoardView). h.sizes) c.self.view_is in
     let inside = slot_inside about lane c.requires.within in
-    let here : c.slot_of-slot.result ≡ slot_of about lane = c.slot_of-slot.ensures ∙ ap (slot_of about) c.lane.ensures in
+    let here : c.slot_of-slot.result ≡ slot_of about lane = c.slot_of-slot.ensures
+    ∙ ap (slot_of about) c.lane.ensures in
     let words : shared.table_id.words ≡ width about = board.words ∙ ap width sizes in (
-      ap (λ s. s.table) c.seat.view_is ∙ (c.requires.table ∙ sym (ap (λ (h : BoardView). h.table) c.self.view_is)),
+      ap (λ s. s.table) c.seat.view_is
+          ∙ (c.requires.table ∙ sym (ap (λ (h : BoardView). h.table) c.self.view_is)),
       omega arith,
-      fills_in about shared.key (board.told_is ∙ sizes) (subst FitSizes sizes board.fit) c.args.seat.now seat.table_id shared.table_id.slots seat.id seat.me
-          c.seat.view_is c.slot_of-slot.result lane c.requires.within here (board.slots ∙ ap slots sizes)
+      fills_in about shared.key (board.told_is ∙ sizes)
+          (subst FitSizes sizes board.fit) c.args.seat.now seat.table_id shared.table_id.slots
+          seat.id seat.me
+          c.seat.view_is c.slot_of-slot.result lane c.requires.within here
+          (board.slots ∙ ap slots sizes)
           c.seat.invariant c.requires.empty,
     )
 
@@ -39,7 +45,8 @@ fetch_add-requires g c =
     let lane = lane_in c.args.release in
     let sizes : c.self.inside.sizes ≡ about = ap (λ (h : BoardView). h.sizes) c.self.view_is in
     let inside = slot_inside about lane c.requires.within in
-    let here : c.slot_of-slot.result ≡ slot_of about lane = c.slot_of-slot.ensures ∙ ap (slot_of about) c.lane.ensures in
+    let here : c.slot_of-slot.result ≡ slot_of about lane = c.slot_of-slot.ensures
+    ∙ ap (slot_of about) c.lane.ensures in
     let words : shared.table_id.words ≡ width about = board.words ∙ ap width sizes in
     let e = c.load.ensures in
     let x = c.exchange.ensures in
@@ -48,18 +55,26 @@ fetch_add-requires g c =
     let p = number_in c.seat.inside.seat.me.0 in
     let ds = steps_in c.seat.inside.seat.me.0 in
     let me_is : seat.me.0 ≡ one p (LaneIn (slot_of about lane) ∷ ds) =
-    ap (λ m. m.0) x.3 ∙ (e.2.adds ∙ ap (λ d. one p (d ∷ ds)) (e.2.as_told.0 ∙ ap (λ k. LaneIn k) here)) in
+    ap (λ m. m.0) x.3 ∙ (e.2.adds ∙ ap (λ d. one p (d ∷ ds)) (e.2.as_told.0
+    ∙ ap (λ k. LaneIn k) here)) in
     let carried : seat.me.1 ≡ (slot_of about lane, Some c.args.lane) ∷ [] =
-    ap (λ m. m.1) x.3 ∙ (λ j. (here j, Some c.args.lane) ∷ rest ((e.2.as_told.1 ∙ ap (λ cs. (c.slot_of-slot.result, None) ∷ cs) (ap (λ m. m.1) c.seat.invariant)) j)) in
+    ap (λ m. m.1) x.3 ∙ (λ j. (here j, Some c.args.lane)
+    ∷ rest ((e.2.as_told.1 ∙ ap (λ cs. (c.slot_of-slot.result, None) ∷ cs)
+    (ap (λ m. m.1) c.seat.invariant)) j)) in
     let rises : rises_in c.args.release ≡ true = sym c.rises.ensures ∙ c.if-rises.true in (
-      x.0 ∙ (e.0 ∙ (ap (λ s. s.table) c.seat.view_is ∙ (c.requires.table ∙ sym (ap (λ (h : BoardView). h.table) c.self.view_is)))),
+      x.0 ∙ (e.0 ∙ (ap (λ s. s.table) c.seat.view_is
+          ∙ (c.requires.table ∙ sym (ap (λ (h : BoardView). h.table) c.self.view_is)))),
       omega arith,
       gives_in about shared.key (board.told_is ∙ sizes) (subst FitSizes sizes board.fit)
-          (seat_view z (number_in seat.me.0) (steps_in seat.me.0)) z shared.table_id.slots seat.id seat.me refl
+          (seat_view z (number_in seat.me.0) (steps_in seat.me.0)) z shared.table_id.slots seat.id
+          seat.me refl
           c.slot_of-slot.result lane c.requires.within here (board.slots ∙ ap slots sizes)
-          (rises_in c.args.release) c.args.lane g.J.Given.step g.J.Given.says ds (λ n. (n + 1) % 2 ^ 64) 1 p (ap released_word (sym rises))
+          (rises_in c.args.release) c.args.lane g.J.Given.step g.J.Given.says ds
+          (λ n. (n + 1) % 2 ^ 64) 1 p (ap released_word (sym rises))
           me_is carried
-          (subst (λ (v : SeatView BoardStep). MayGive about v lane (rises_in c.args.release) c.args.lane g.J.Given.step g.J.Given.says) (sym c.seat.view_is) c.requires.give),
+          (subst (λ (v : SeatView BoardStep). MayGive about v lane
+          (rises_in c.args.release) c.args.lane g.J.Given.step g.J.Given.says)
+          (sym c.seat.view_is) c.requires.give),
     )
 
 pub fetch_sub-requires : goal.fetch_sub-requires
@@ -70,7 +85,8 @@ fetch_sub-requires g c =
     let lane = lane_in c.args.release in
     let sizes : c.self.inside.sizes ≡ about = ap (λ (h : BoardView). h.sizes) c.self.view_is in
     let inside = slot_inside about lane c.requires.within in
-    let here : c.slot_of-slot.result ≡ slot_of about lane = c.slot_of-slot.ensures ∙ ap (slot_of about) c.lane.ensures in
+    let here : c.slot_of-slot.result ≡ slot_of about lane = c.slot_of-slot.ensures
+    ∙ ap (slot_of about) c.lane.ensures in
     let words : shared.table_id.words ≡ width about = board.words ∙ ap width sizes in
     let e = c.load.ensures in
     let x = c.exchange.ensures in
@@ -79,16 +95,24 @@ fetch_sub-requires g c =
     let p = number_in c.seat.inside.seat.me.0 in
     let ds = steps_in c.seat.inside.seat.me.0 in
     let me_is : seat.me.0 ≡ one p (LaneIn (slot_of about lane) ∷ ds) =
-    ap (λ m. m.0) x.3 ∙ (e.2.adds ∙ ap (λ d. one p (d ∷ ds)) (e.2.as_told.0 ∙ ap (λ k. LaneIn k) here)) in
+    ap (λ m. m.0) x.3 ∙ (e.2.adds ∙ ap (λ d. one p (d ∷ ds)) (e.2.as_told.0
+    ∙ ap (λ k. LaneIn k) here)) in
     let carried : seat.me.1 ≡ (slot_of about lane, Some c.args.lane) ∷ [] =
-    ap (λ m. m.1) x.3 ∙ (λ j. (here j, Some c.args.lane) ∷ rest ((e.2.as_told.1 ∙ ap (λ cs. (c.slot_of-slot.result, None) ∷ cs) (ap (λ m. m.1) c.seat.invariant)) j)) in
+    ap (λ m. m.1) x.3 ∙ (λ j. (here j, Some c.args.lane)
+    ∷ rest ((e.2.as_told.1 ∙ ap (λ cs. (c.slot_of-slot.result, None) ∷ cs)
+    (ap (λ m. m.1) c.seat.invariant)) j)) in
     let rises : rises_in c.args.release ≡ false = sym c.rises.ensures ∙ c.if-rises.false in (
-      x.0 ∙ (e.0 ∙ (ap (λ s. s.table) c.seat.view_is ∙ (c.requires.table ∙ sym (ap (λ (h : BoardView). h.table) c.self.view_is)))),
+      x.0 ∙ (e.0 ∙ (ap (λ s. s.table) c.seat.view_is
+          ∙ (c.requires.table ∙ sym (ap (λ (h : BoardView). h.table) c.self.view_is)))),
       omega arith,
       gives_in about shared.key (board.told_is ∙ sizes) (subst FitSizes sizes board.fit)
-          (seat_view z (number_in seat.me.0) (steps_in seat.me.0)) z shared.table_id.slots seat.id seat.me refl
+          (seat_view z (number_in seat.me.0) (steps_in seat.me.0)) z shared.table_id.slots seat.id
+          seat.me refl
           c.slot_of-slot.result lane c.requires.within here (board.slots ∙ ap slots sizes)
-          (rises_in c.args.release) c.args.lane g.J.Given.step g.J.Given.says ds (λ n. (n + (2 ^ 64 - 1)) % 2 ^ 64) 1 p (ap released_word (sym rises))
+          (rises_in c.args.release) c.args.lane g.J.Given.step g.J.Given.says ds
+          (λ n. (n + (2 ^ 64 - 1)) % 2 ^ 64) 1 p (ap released_word (sym rises))
           me_is carried
-          (subst (λ (v : SeatView BoardStep). MayGive about v lane (rises_in c.args.release) c.args.lane g.J.Given.step g.J.Given.says) (sym c.seat.view_is) c.requires.give),
+          (subst (λ (v : SeatView BoardStep). MayGive about v lane
+          (rises_in c.args.release) c.args.lane g.J.Given.step g.J.Given.says)
+          (sym c.seat.view_is) c.requires.give),
     )

@@ -18,6 +18,7 @@ give-requires-clause-give c =
     let seat = c.seat.inside.seat in
     let holds = subst (λ (ds : List BoardStep). Holds about ds c.args.held)
     (sym (ap (λ (s : BoardSeatView). s.steps) c.seat.view_is)) c.requires.held in
-    subst (λ (k : LaneId × Slot). MayGive about seat k.0 false k.1 (step_in (Unchanged k.0)) (is_told about (Unchanged k.0) k.1))
+    subst (λ (k : LaneId × Slot). MayGive about seat k.0 false k.1 (step_in (Unchanged k.0))
+    (is_told about (Unchanged k.0) k.1))
     (λ j. (sym parts.lane j, sym parts.content j))
     (may_return about seat c.args.held holds)

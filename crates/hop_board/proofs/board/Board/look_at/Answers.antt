@@ -11,6 +11,9 @@ returns c = (
   c.head.ensures,
   c.tail.ensures,
   c.load-tail.ensures
-      ∙ ap (λ (s : SeatView BoardStep). record s { steps = Counted c.args.lane c.load-tail.result ∷ s.steps })
+      ∙ ap (λ (s : SeatView BoardStep). record s {
+        steps = Counted c.args.lane c.load-tail.result
+            ∷ s.steps;
+      })
       c.load-head.ensures,
 )

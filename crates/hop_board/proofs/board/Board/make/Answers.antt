@@ -32,8 +32,10 @@ invariant_of-result c =
     let most = c.requires.seats in
     record {
       told_is = made.5;
-      words = made.0 ∙ (ap (λ xs. length xs) (c.deref.ensures.value ∙ c.in_ok-words.ensures) ∙ words_long about);
-      slots = made.1 ∙ (ap (λ (xs : List InSlot). length xs) c.in_ok-slots.ensures ∙ slots_long about);
+      words = made.0 ∙ (ap (λ xs. length xs) (c.deref.ensures.value ∙ c.in_ok-words.ensures)
+          ∙ words_long about);
+      slots = made.1 ∙ (ap (λ (xs : List InSlot). length xs) c.in_ok-slots.ensures
+          ∙ slots_long about);
       fit = record {
         room = omega arith;
         start = c.in_ok-sizes.ensures.start;
@@ -46,6 +48,8 @@ invariant_of-result c =
 
 pub returns-clause-table : goal.returns-clause-table
 returns-clause-table c =
-    subst (λ (xs : List BoardSeatView). All (λ (s : BoardSeatView). s.table ≡ c.in-Ok.made.0.shared.table_id) xs)
+    subst (λ (xs : List BoardSeatView). All
+    (λ (s : BoardSeatView). s.table ≡ c.in-Ok.made.0.shared.table_id) xs)
     (sym c.in_ok-seats.ensures)
-    (tables_at_board c.in-Ok.made.0.shared.table_id c.in_ok-given.given.items c.in_ok-given.ensures.table)
+    (tables_at_board c.in-Ok.made.0.shared.table_id c.in_ok-given.given.items
+    c.in_ok-given.ensures.table)

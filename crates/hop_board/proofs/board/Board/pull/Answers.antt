@@ -27,8 +27,10 @@ give-requires-clause-give c =
     let mine = subst (PullsFrom about c.args.seat.now.number) c.in-Middle.is c.requires.mine in
     let none = subst (HasNoneOf c.args.seat.now.steps) c.in-Middle.is c.requires.idle in
     let waits = sym c.take.ensures.packet ∙ c.in-Some.is in
-    subst (λ (y : LaneLists). MayGive about c.seat.inside.seat (id.Middle lane) false (slot.Middle y)
-    (step_in (Pulled lane packet)) (packet < about.room)) (sym (c.take.ensures.lists ∙ taken_is found packet waits))
+    subst (λ (y : LaneLists). MayGive about c.seat.inside.seat (id.Middle lane) false
+    (slot.Middle y)
+    (step_in (Pulled lane packet)) (packet < about.room))
+    (sym (c.take.ensures.lists ∙ taken_is found packet waits))
     (may_pull about c.seat.inside.seat lane packet found holds (mine ∙ sym number)
     (ap (λ ds. phase lane (lane_steps ds)) steps ∙ none) waits)
 
@@ -41,6 +43,8 @@ give-requires-in-None-clause-give c =
     let holds = subst (λ (ds : List BoardStep). IsMiddle about ds lane found) (sym steps)
     (subst (HoldsMiddle about c.args.seat.now.steps) c.in-Middle.is c.requires.held) in
     let waits = sym c.take.ensures.packet ∙ c.in-None.is in
-    subst (λ (y : LaneLists). MayGive about c.seat.inside.seat (id.Middle lane) false (slot.Middle y)
-    (step_in (Unchanged (id.Middle lane))) (Unit {0})) (sym (c.take.ensures.lists ∙ none_taken found waits))
+    subst (λ (y : LaneLists). MayGive about c.seat.inside.seat (id.Middle lane) false
+    (slot.Middle y)
+    (step_in (Unchanged (id.Middle lane))) (Unit {0}))
+    (sym (c.take.ensures.lists ∙ none_taken found waits))
     (may_return about c.seat.inside.seat (held.Middle lane found) holds)

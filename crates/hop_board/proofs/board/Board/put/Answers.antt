@@ -24,7 +24,10 @@ give-requires-clause-give c =
     let held = subst (λ (ds : List BoardStep). IsMiddle about ds lane found) (sym steps)
     (subst (HoldsMiddle about c.args.seat.now.steps) c.in-Middle.is c.requires.held) in
     let room = subst (λ (h : HeldLane). 0 < room_in h) c.in-Middle.is c.requires.room in
-    subst (λ (y : LaneLists). MayGive about c.seat.inside.seat (id.Middle lane) (rises_by answer) (slot.Middle y)
-    (step_in (Offered lane c.args.id c.args.hash answer)) (Unit {0})) (sym c.put-answer.ensures.lists)
+    subst (λ (y : LaneLists). MayGive about c.seat.inside.seat (id.Middle lane) (rises_by answer)
+    (slot.Middle y)
+    (step_in (Offered lane c.args.id c.args.hash answer)) (Unit {0}))
+    (sym c.put-answer.ensures.lists)
     (may_put about c.seat.inside.seat lane c.args.id found c.args.hash answer held
-    (ap (λ ds. visit (gate_steps ds)) steps ∙ c.requires.inside) c.requires.id (omega arith) c.put-answer.ensures.answer)
+    (ap (λ ds. visit (gate_steps ds)) steps ∙ c.requires.inside) c.requires.id
+    (omega arith) c.put-answer.ensures.answer)

@@ -22,10 +22,14 @@ fetch_or-word-requires g c =
     let inside = slot_inside about c.args.lane c.requires.within in
     let here = c.slot_of-slot.ensures in
     let words : shared.table_id.words ≡ width about = board.words ∙ ap width sizes in (
-      ap (λ s. s.table) c.seat.view_is ∙ (c.requires.table ∙ sym (ap (λ (h : BoardView). h.table) c.self.view_is)),
+      ap (λ s. s.table) c.seat.view_is
+          ∙ (c.requires.table ∙ sym (ap (λ (h : BoardView). h.table) c.self.view_is)),
       omega arith,
-      holds_in about shared.key (board.told_is ∙ sizes) (subst FitSizes sizes board.fit) c.args.seat.now seat.table_id shared.table_id.slots seat.id seat.me
-          c.seat.view_is c.slot_of-slot.result c.args.lane c.requires.within here (board.slots ∙ ap slots sizes)
+      holds_in about shared.key (board.told_is ∙ sizes)
+          (subst FitSizes sizes board.fit) c.args.seat.now seat.table_id shared.table_id.slots
+          seat.id seat.me
+          c.seat.view_is c.slot_of-slot.result c.args.lane c.requires.within here
+          (board.slots ∙ ap slots sizes)
           g.J.Taken.lane c.requires.lane c.seat.invariant,
     )
 
@@ -33,10 +37,16 @@ pub exchange-found-requires : goal.exchange-found-requires
 exchange-found-requires g c =
     let e = c.fetch_or-word.ensures in
     let odd = c.if-word-eq1.false in
-    let even : is_odd c.fetch_or-word.result ≡ false = even_is c.self.inside.sizes c.fetch_or-word.result (omega arith) in
+    let even : is_odd c.fetch_or-word.result ≡ false =
+    even_is c.self.inside.sizes c.fetch_or-word.result (omega arith) in
     let t = e.2.as_told.0 even in (
-      e.0 ∙ (ap (λ s. s.table) c.seat.view_is ∙ (c.requires.table ∙ sym (ap (λ (h : BoardView). h.table) c.self.view_is))),
-      (Some t.found, t.carries ∙ ap (λ cs. (c.slot_of-slot.result, Some t.found) ∷ rest cs) (sym t.carries)),
+      e.0 ∙ (ap (λ s. s.table) c.seat.view_is
+          ∙ (c.requires.table ∙ sym (ap (λ (h : BoardView). h.table) c.self.view_is))),
+      (
+        Some t.found,
+        t.carries ∙ ap (λ cs. (c.slot_of-slot.result, Some t.found) ∷ rest cs)
+            (sym t.carries),
+      ),
     )
 
 pub load-requires : goal.load-requires
@@ -50,7 +60,8 @@ load-requires g c =
     let words : shared.table_id.words ≡ width about = board.words ∙ ap width sizes in
     let e = c.fetch_or-word.ensures in
     let odd = c.if-word-eq1.false in
-    let even : is_odd c.fetch_or-word.result ≡ false = even_is about c.fetch_or-word.result (omega arith) in
+    let even : is_odd c.fetch_or-word.result ≡ false = even_is about c.fetch_or-word.result
+    (omega arith) in
     let t = e.2.as_told.0 even in
     let x = c.exchange-found.ensures in
     let seat = c.exchange-found.new.seat in
@@ -59,12 +70,17 @@ load-requires g c =
     let me_is : seat.me.0 ≡ one p (e.2.added ∷ ds) = ap (λ m. m.0) x.3 ∙ e.2.adds in
     let carried : seat.me.1 ≡ (slot_of about c.args.lane, None) ∷ [] =
     ap (λ m. m.1) x.3 ∙ (λ j. (here j, None) ∷ rest (t.carries j)) in (
-      x.0 ∙ (e.0 ∙ (ap (λ s. s.table) c.seat.view_is ∙ (c.requires.table ∙ sym (ap (λ (h : BoardView). h.table) c.self.view_is)))),
+      x.0 ∙ (e.0 ∙ (ap (λ s. s.table) c.seat.view_is
+          ∙ (c.requires.table ∙ sym (ap (λ (h : BoardView). h.table) c.self.view_is)))),
       omega arith,
-      empties_in about shared.key (board.told_is ∙ sizes) (subst FitSizes sizes board.fit) (seat_view seat.table_id (number_in seat.me.0) (steps_in seat.me.0)) seat.table_id shared.table_id.slots seat.id seat.me
+      empties_in about shared.key (board.told_is ∙ sizes) (subst FitSizes sizes board.fit)
+          (seat_view seat.table_id (number_in seat.me.0) (steps_in seat.me.0)) seat.table_id
+          shared.table_id.slots seat.id seat.me
           refl
           c.slot_of-slot.result c.args.lane c.requires.within here (board.slots ∙ ap slots sizes)
           (me_is ∙ sym (λ j. one (number_in (me_is j)) (steps_in (me_is j)))) carried
           (ap (λ v. own_state about (slot_of about c.args.lane) (steps_in v)) me_is
-          ∙ held_state about c.args.lane c.fetch_or-word.result t.found e.2.added ds (subst (λ y. HeldAt y c.fetch_or-word.result t.found e.2.added) c.requires.lane t.held)),
+          ∙ held_state about c.args.lane c.fetch_or-word.result t.found e.2.added ds
+          (subst (λ y. HeldAt y c.fetch_or-word.result t.found e.2.added) c.requires.lane
+          t.held)),
     )

@@ -7,4 +7,8 @@ use Rattle.hop_board.proofs.board.Board.unmark.Given as goal
 
 abbrev pub ghosts-add_as : goal.ghosts-add_as
 ghosts-add_as a =
-    record { makes = λ n. Gate Opened; says = λ n. openings (gate_steps a.seat.now.steps) < 1000000000 }
+    record {
+      makes = λ n. Gate Opened;
+      says = λ n. openings
+          (gate_steps a.seat.now.steps) < 1000000000;
+    }

@@ -9,4 +9,5 @@ push-requires-clause-room c =
 pub invariant_of-self : goal.invariant_of-self
 invariant_of-self c =
     let asked = rw (← c.self.view_is) at c.requires in
-    rw c.push.ensures (whole-arrive _ c.args.p c.args.id asked.producer asked.below asked.fresh c.self.invariant)
+    rw c.push.ensures (whole-arrive _ c.args.p c.args.id asked.producer asked.below asked.fresh
+    c.self.invariant)

@@ -6,7 +6,8 @@ pub loop-lane-preserved : goal.loop-lane-preserved
 loop-lane-preserved c =
     let s = c.args.self.now in
     let sound = rw c.self.view_is at c.self.invariant.sound in
-    let quiet = rw (c.has.ensures, c.head-head.ensures, c.tail-tail.ensures) at c.else-not-has.either in
+    let quiet = rw (c.has.ensures, c.head-head.ensures, c.tail-tail.ensures) at
+    c.else-not-has.either in
     below_more _ _ c.loop-lane.invariant (λ off. elim quiet [
       | inl a ↦ head_is_tail s c.loop-lane.lane sound a.1
       | inr b ↦ absurd (let f : true ≡ false = sym b ∙ off in cc)

@@ -19,7 +19,8 @@ invariant_of-result c =
       few_outs = asked.few_outs;
       counts = asked.counts;
       classes = asked.classes;
-      start = let e = ap (λ t. t.start) (c.lanes.view_is ∙ c.in_ok-lanes.ensures) in let r = c.lanes.ranges in omega (arith, e, r);
+      start = let e = ap (λ t. t.start) (c.lanes.view_is ∙ c.in_ok-lanes.ensures) in
+          let r = c.lanes.ranges in omega (arith, e, r);
     } in
     (whole-made c.args.shape is _
     (are_new c.args.shape _ _ _ _ _ _ _ _ _ _ _ _ _ _
@@ -30,7 +31,8 @@ invariant_of-result c =
     c.in_ok-rings.ensures.since
     c.in_ok-gate.ensures.visits
     (c.in_ok-counts.ensures ∙ ap (map (classes_for c.args.shape.exact)) c.deref-2.ensures.value)
-    (c.in_ok-tables.ensures ∙ ap (λ counts. new_tables counts c.args.shape.start c.args.shape.exact) c.deref.ensures.value)
+    (c.in_ok-tables.ensures ∙ ap (λ counts. new_tables counts c.args.shape.start c.args.shape.exact)
+    c.deref.ensures.value)
     c.in_ok-lanes.ensures
     c.in_ok-hands.ensures.delivered
     c.in_ok-hands.ensures.retired
@@ -53,7 +55,8 @@ returns c =
       few_outs = asked.few_outs;
       counts = asked.counts;
       classes = asked.classes;
-      start = let e = ap (λ t. t.start) (c.lanes.view_is ∙ c.in_ok-lanes.ensures) in let r = c.lanes.ranges in omega (arith, e, r);
+      start = let e = ap (λ t. t.start) (c.lanes.view_is ∙ c.in_ok-lanes.ensures) in
+          let r = c.lanes.ranges in omega (arith, e, r);
     } in
     (whole-made c.args.shape is _
     (are_new c.args.shape _ _ _ _ _ _ _ _ _ _ _ _ _ _
@@ -64,7 +67,8 @@ returns c =
     c.in_ok-rings.ensures.since
     c.in_ok-gate.ensures.visits
     (c.in_ok-counts.ensures ∙ ap (map (classes_for c.args.shape.exact)) c.deref-2.ensures.value)
-    (c.in_ok-tables.ensures ∙ ap (λ counts. new_tables counts c.args.shape.start c.args.shape.exact) c.deref.ensures.value)
+    (c.in_ok-tables.ensures ∙ ap (λ counts. new_tables counts c.args.shape.start c.args.shape.exact)
+    c.deref.ensures.value)
     c.in_ok-lanes.ensures
     c.in_ok-hands.ensures.delivered
     c.in_ok-hands.ensures.retired

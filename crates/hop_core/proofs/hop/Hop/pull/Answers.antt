@@ -13,7 +13,8 @@ use Rattle.hop_core.proofs.hop.Hop.pull.Goals.{in-Some, in-None}
 took : (s : HopState) (c x : ℕ) → pulled_at s.bare c ≤ retired_at s.bare c
     → slice_get (accepted_at s.bare c) (pulled_at s.bare c) ≡ Some x → (pull s c).1 ≡ answer.Took x
 took s c x free is =
-    let lt : pulled_at s.bare c < length (accepted_at s.bare c) = slice_get_within (accepted_at s.bare c) (pulled_at s.bare c) x is in
+    let lt : pulled_at s.bare c < length (accepted_at s.bare c) =
+    slice_get_within (accepted_at s.bare c) (pulled_at s.bare c) x is in
     rw (
       le-ltb (retired_at s.bare c) (pulled_at s.bare c) free,
       lt-ltb (pulled_at s.bare c) (length (accepted_at s.bare c)) lt,
@@ -21,11 +22,16 @@ took s c x free is =
     ) refl
 
 found_none : (s : HopState) (c : ℕ) → pulled_at s.bare c ≤ retired_at s.bare c
-    → slice_get (accepted_at s.bare c) (pulled_at s.bare c) ≡ None → (pull s c).1 ≡ answer.Idle idle.NothingWaiting
+    → slice_get (accepted_at s.bare c) (pulled_at s.bare c) ≡ None
+    → (pull s c).1 ≡ answer.Idle idle.NothingWaiting
 found_none s c free is =
     elim (slice_get_cases (accepted_at s.bare c) (pulled_at s.bare c)).1 [
       | inl found ↦ absurd (let e = sym found.2 ∙ is in cc)
-      | inr past ↦ rw (le-ltb (retired_at s.bare c) (pulled_at s.bare c) free, le-ltb (pulled_at s.bare c) (length (accepted_at s.bare c)) past.0) refl
+      | inr past ↦ rw (
+        le-ltb (retired_at s.bare c) (pulled_at s.bare c) free,
+        le-ltb
+            (pulled_at s.bare c) (length (accepted_at s.bare c)) past.0,
+      ) refl
     ]
 
 pub invariant_of-self : goal.invariant_of-self
@@ -43,6 +49,7 @@ returns-clause-answer c =
     let retired = read-retired _ c.args.lane c.index.result.now w lane c.index.ensures in
     let free = rw (retired, c.pulled.ensures) at c.if-index-pulled.false in
     rw (← c.self.view_is) (elim c.match-take.branch [
-      | in-Some w ↦ w.result-is ∙ sym (took _ c.args.lane w.in-Some.id free (sym w.in-Some.ensures.packet))
+      | in-Some w ↦ w.result-is ∙ sym (took _ c.args.lane w.in-Some.id free
+          (sym w.in-Some.ensures.packet))
       | in-None w ↦ w.result-is ∙ sym (found_none _ c.args.lane free (sym w.in-None.ensures.packet))
     ])

@@ -8,5 +8,6 @@ join_seat-requires g c = let key = c.args.shared.now.key in (
   ap (λ s. s.table) c.next.view_is ∙ c.requires.next,
   ap (λ m. m.1) c.next.invariant,
   c.requires.words,
-  joins (g.R.StepRule.seats key) (g.R.StepRule.lawful key) c.self.inside.seat.id c.next.inside.seat.id c.self.inside.seat.me.0 c.next.inside.seat.me.0,
+  joins (g.R.StepRule.seats key) (g.R.StepRule.lawful key) c.self.inside.seat.id
+      c.next.inside.seat.id c.self.inside.seat.me.0 c.next.inside.seat.me.0,
 )

@@ -9,7 +9,8 @@ returns-then-len-behind g c =
     let number = g.T.ByteOrder.number_of in
     let rest = c.args.rest.now in
     let told : c.read_u32-len.result ≡ frame_len number (take 16 rest) =
-    c.read_u32-len.ensures ∙ ap (number 4) (take_rest c.split_at.result.0.now 8 ∙ ap (drop 8) c.split_at.ensures.front) in
+    c.read_u32-len.ensures ∙ ap (number 4) (take_rest c.split_at.result.0.now 8
+    ∙ ap (drop 8) c.split_at.ensures.front) in
     let behind = ap length c.split_at.ensures.back in
     record {
       some = c.requires.some;
@@ -28,7 +29,8 @@ returns g c =
     let behind = ap length c.split_at.ensures.back in (
       omega (arith, behind, length-drop 16 rest),
       record {
-        whole = whole_here number rest c.read_u32-len.result (omega arith) told (omega arith) (omega (arith, behind));
+        whole = whole_here number rest c.read_u32-len.result (omega arith) told (omega arith)
+            (omega (arith, behind));
         seconds = c.read_u32.ensures ∙ ap (number 4) front;
         fraction = c.read_u32-2.ensures ∙ ap (number 4) (take_rest header 4 ∙ ap (drop 4) front);
         length_told = told;

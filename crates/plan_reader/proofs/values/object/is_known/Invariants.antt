@@ -4,4 +4,5 @@ use Rattle.plan_reader.proofs.values.object.is_known.Given as goal
 
 abbrev pub invariant-loop-known : goal.invariant-loop-known
 invariant-loop-known l =
-    list_any (bytes_eq l.key) (map (λ known. known.now) (drop l.known-index l.keys)) ≡ list_any (bytes_eq l.key) (map (λ known. known.now) l.keys)
+    list_any (bytes_eq l.key) (map (λ known. known.now) (drop l.known-index l.keys)) ≡ list_any
+    (bytes_eq l.key) (map (λ known. known.now) l.keys)

@@ -8,5 +8,7 @@ abbrev pub invariant-loop-key : goal.invariant-loop-key
 invariant-loop-key l =
     (goal.iterator-loop-key).can_next l.key-iterator ×
     (goal.iterator-loop-key).is_finite l.key-iterator ×
-    (first_unknown (λ key. list_any (bytes_eq key) (map (λ known. known.now) l.keys)) (members_view l.key-iterator)
-    ≡ first_unknown (λ key. list_any (bytes_eq key) (map (λ known. known.now) l.keys)) (members_view l.object.entries))
+    (first_unknown (λ key. list_any (bytes_eq key) (map (λ known. known.now) l.keys))
+    (members_view l.key-iterator)
+    ≡ first_unknown (λ key. list_any (bytes_eq key) (map (λ known. known.now) l.keys))
+    (members_view l.object.entries))

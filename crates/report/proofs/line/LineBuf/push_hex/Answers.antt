@@ -1,4 +1,5 @@
-use Rattle.std.proofs.Common.{◌≡◌, ◌-◌, ◌+◌, ◌*◌, ◌/◌, ◌%◌, ◌^◌, ◌∷◌, [], ◌++◌, ◌∙◌, ap, arith, refl, sym, take}
+use Rattle.std.proofs.Common.{◌≡◌, ◌-◌, ◌+◌, ◌*◌, ◌/◌, ◌%◌, ◌^◌, ◌∷◌, [], ◌++◌, ◌∙◌, ap, arith}
+use Rattle.std.proofs.Common.{refl, sym, take}
 use Rattle.std.proofs.lemmas.List.{length-set, take_more_set}
 use Rattle.report.specs.Numbers.{hex_digit, hex_digits}
 use Rattle.report.proofs.NumbersLemmas.{hex_digits-moved, hex_digits-none}
@@ -17,10 +18,13 @@ loop-place-preserved c =
     let digit = c.hex_digit.result in
     let left : digits - (place + 1) ≡ digits - place - 1 = omega arith in
     let shift : 4 * (digits - place - 1) ≡ 4 * (digits - 1 - place) = omega arith in
-    let is : digit ≡ hex_digit (c.args.number / 2 ^ (4 * (digits - place - 1)) % 16) = rw shift c.hex_digit.ensures in
-    let more = take_more_set text place digit (omega (arith, c.loop-place.invariant.size, c.requires.few, c.loop-place-test.true)) in
+    let is : digit ≡ hex_digit (c.args.number / 2 ^ (4 * (digits - place - 1)) % 16) =
+    rw shift c.hex_digit.ensures in
+    let more = take_more_set text place digit
+    (omega (arith, c.loop-place.invariant.size, c.requires.few, c.loop-place-test.true)) in
     record {
-      text = rw left (hex_digits-moved (take place text) _ (digits - place) c.args.number (omega (arith, c.loop-place-test.true))
+      text = rw left (hex_digits-moved (take place text) _ (digits - place) c.args.number
+          (omega (arith, c.loop-place-test.true))
           (more ∙ ap (λ d. take place text ++ d ∷ []) is)) ∙ c.loop-place.invariant.text;
       size = length-set text place digit ∙ c.loop-place.invariant.size;
     }
@@ -28,6 +32,8 @@ loop-place-preserved c =
 pub returns-clause-value : goal.returns-clause-value
 returns-clause-value c =
     let end : c.loop-place.place ≡ c.args.digits = omega arith in
-    let none = hex_digits-none (take c.loop-place.place c.loop-place.text) (c.args.digits - c.loop-place.place) c.args.number (omega (arith, end)) in
+    let none = hex_digits-none (take c.loop-place.place c.loop-place.text)
+    (c.args.digits - c.loop-place.place) c.args.number (omega (arith, end)) in
     let old = c.args.self.now in
-    c.push.ensures ∙ ap (λ k. old ++ take k c.loop-place.text) (sym end) ∙ ap (λ t. old ++ t) (sym none ∙ c.loop-place.invariant.text)
+    c.push.ensures ∙ ap (λ k. old ++ take k c.loop-place.text) (sym end) ∙ ap (λ t. old ++ t)
+    (sym none ∙ c.loop-place.invariant.text)

@@ -9,4 +9,5 @@ returns-then-left-eq0-clause-value c =
     let cpu = c.loop-cpu.cpu in
     let passes : has mask cpu ≡ true = cc in
     let place : length (those_below cpu (has mask)) ≡ c.args.index = omega arith in
-    sym (slice_index-those_below 32 (has mask) cpu (omega arith) passes) ∙ ap (slice_index (members mask)) place
+    sym (slice_index-those_below 32 (has mask) cpu (omega arith) passes)
+    ∙ ap (slice_index (members mask)) place

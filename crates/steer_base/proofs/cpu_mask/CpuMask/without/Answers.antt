@@ -4,4 +4,5 @@ use Rattle.steer_base.proofs.cpu_mask.CpuMask.without.Goals as goal
 
 pub returns-then-cpu-lt32-clause-members : goal.returns-then-cpu-lt32-clause-members
 returns-then-cpu-lt32-clause-members c = λ other.
-    rw (← c.cpu.view_is, one_shl c.cpu.inside.0 32 c.if-cpu-lt32.true) (has-without_cpu c.args.self c.cpu.inside.0 other c.if-cpu-lt32.true)
+    rw (← c.cpu.view_is, one_shl c.cpu.inside.0 32 c.if-cpu-lt32.true)
+    (has-without_cpu c.args.self c.cpu.inside.0 other c.if-cpu-lt32.true)

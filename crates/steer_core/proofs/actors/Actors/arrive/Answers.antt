@@ -8,8 +8,10 @@ step-requires c =
     let next = c.len-next.ensures.len in
     let many = c.packet_count.ensures.value in
     let more = c.if-next-packet_count.false in
-    let few : length c.self.inside.arrivals.items < length c.self.inside.given.packets = omega arith in
-    may_come _ c.arriving-arrival.result _ _ (rw (← c.self.view_is, next) at c.arriving-arrival.ensures)
+    let few : length c.self.inside.arrivals.items < length c.self.inside.given.packets =
+    omega arith in
+    may_come _ c.arriving-arrival.result _ _
+    (rw (← c.self.view_is, next) at c.arriving-arrival.ensures)
     (ap (λ (a : Arrival). a.queue) c.arrival.view_is) next few c.self.invariant.0
 
 pub push-requires : goal.push-requires
@@ -25,10 +27,13 @@ invariant_of-self c =
     let next = c.len-next.ensures.len in
     let many = c.packet_count.ensures.value in
     let more = c.if-next-packet_count.false in
-    let few : length c.self.inside.arrivals.items < length c.self.inside.given.packets = omega arith in
+    let few : length c.self.inside.arrivals.items < length c.self.inside.given.packets =
+    omega arith in
     rw c.push.ensures (
-      held_come _ c.arriving-arrival.result _ _ (rw (← c.self.view_is, next) at c.arriving-arrival.ensures)
-          (ap (λ (a : Arrival). a.queue) c.arrival.view_is) next few c.self.invariant.0 c.step.new.self
+      held_come _ c.arriving-arrival.result _ _
+          (rw (← c.self.view_is, next) at c.arriving-arrival.ensures)
+          (ap (λ (a : Arrival). a.queue) c.arrival.view_is) next few c.self.invariant.0
+          c.step.new.self
           c.step.ensures.state,
       c.self.invariant.1,
     )

@@ -11,7 +11,8 @@ step-requires c =
     let P : HopEvent → Type 0 = MayAsk c.self.inside.rx in
     let e = rw (← c.self.view_is) at c.delivering-event.ensures in
     subst P (sym e)
-    (may_deliver _ c.args.c (in_lane c.self.inside.rx c.args.c) (rw (← c.self.view_is) at c.requires) c.self.invariant.0.kept)
+    (may_deliver _ c.args.c (in_lane c.self.inside.rx c.args.c)
+    (rw (← c.self.view_is) at c.requires) c.self.invariant.0.kept)
 
 pub invariant_of-self : goal.invariant_of-self
 invariant_of-self c =

@@ -4,5 +4,6 @@ use Rattle.steer_core.proofs.actors.Actors.drain.Given as goal
 
 abbrev pub invariant-loop : goal.invariant-loop
 invariant-loop l =
-    (◌≡◌ {A = Turn} (l.self.machine, l.done) (again l.counter (drain_one l.c) (l.fn.self.machine, l.fn.worked)))
+    (◌≡◌ {A = Turn} (l.self.machine, l.done) (again l.counter (drain_one l.c)
+    (l.fn.self.machine, l.fn.worked)))
     × (l.self.machine.setup ≡ l.fn.self.machine.setup) × (l.self.rooms ≡ l.fn.self.rooms)

@@ -11,7 +11,10 @@ loop-c-preserved c =
     let done = c.drain-done.ensures in
     let before = c.loop-c.invariant in (
       each-then c.loop-c.c drain (c.args.self.now.machine, c.args.worked)
-          (c.loop-c.self.machine, c.loop-c.done) (c.drain-done.new.self.machine, c.drain-done.result)
+          (c.loop-c.self.machine, c.loop-c.done) (
+            c.drain-done.new.self.machine,
+            c.drain-done.result,
+          )
           before.0 done.turn,
       done.setup ∙ before.1,
       done.rooms ∙ before.2,

@@ -8,10 +8,12 @@ pub returns-in-Some : goal.returns-in-Some
 returns-in-Some c =
     rw (← c.self.view_is, ← c.id.view_is)
     (sym (ap (λ a. (unwrap_or a no_arrival).queue)
-    (found_numbered _ c.id.inside.0 c.self.invariant.0.kept.came.numbered ∙ sym c.get.ensures ∙ c.in-Some.is)))
+    (found_numbered _ c.id.inside.0 c.self.invariant.0.kept.came.numbered ∙ sym c.get.ensures
+    ∙ c.in-Some.is)))
 
 pub returns-in-None : goal.returns-in-None
 returns-in-None c =
     rw (← c.self.view_is, ← c.id.view_is)
     (sym (ap (λ a. (unwrap_or a no_arrival).queue)
-    (found_numbered _ c.id.inside.0 c.self.invariant.0.kept.came.numbered ∙ sym c.get.ensures ∙ c.in-None.is)))
+    (found_numbered _ c.id.inside.0 c.self.invariant.0.kept.came.numbered ∙ sym c.get.ensures
+    ∙ c.in-None.is)))

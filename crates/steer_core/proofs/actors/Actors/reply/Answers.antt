@@ -8,4 +8,5 @@ returns-clause-turn c =
     c.attempt.ensures.turn ∙ ap (λ (t : Turn). tried t (act.TLeave c.args.a))
     (c.attempt-worked-4.ensures.turn ∙ ap (λ (t : Turn). tried t (act.TPut c.args.a))
     (c.attempt-worked-3.ensures.turn ∙ ap (λ (t : Turn). tried t (act.TWeigh c.args.a))
-    (c.attempt-worked-2.ensures.turn ∙ ap (λ (t : Turn). tried t (act.Send c.args.a)) c.attempt-worked.ensures.turn)))
+    (c.attempt-worked-2.ensures.turn ∙ ap (λ (t : Turn). tried t (act.Send c.args.a))
+    c.attempt-worked.ensures.turn)))

@@ -5,13 +5,16 @@ use Rattle.steer_core.proofs.actors.Actors.round.Goals as goal
 
 pub serve_all-worked-requires : goal.serve_all-worked-requires
 serve_all-worked-requires c =
-    let one = c.attempt-worked.ensures in let two = c.poll_all-worked.ensures in let three = c.drain_all-worked.ensures in
-    spare_at _ _ c.args.self.now.machine c.drain_all-worked.new.self.machine c.drain_all-worked.new.self.machine refl
+    let one = c.attempt-worked.ensures in let two = c.poll_all-worked.ensures in
+    let three = c.drain_all-worked.ensures in
+    spare_at _ _ c.args.self.now.machine c.drain_all-worked.new.self.machine
+    c.drain_all-worked.new.self.machine refl
     (three.rooms ∙ two.rooms ∙ one.rooms)
     (before_serves _ _ _ _ false _ _ _ _ _ one.turn two.turn three.turn) c.requires
 
 pub returns-clause-spare : goal.returns-clause-spare
 returns-clause-spare c =
     let served = c.serve_all-worked.ensures in
-    spare_at _ _ c.serve_all-worked.new.self.machine c.ship_all.new.self.machine c.ship_all.new.self.machine refl
+    spare_at _ _ c.serve_all-worked.new.self.machine c.ship_all.new.self.machine
+    c.ship_all.new.self.machine refl
     c.ship_all.ensures.rooms (ships_paced _ _ _ _ _ c.ship_all.ensures.turn) served.spare

@@ -15,4 +15,5 @@ returns c =
     rw (← c.self.view_is) (c.gate_answer.ensures
     ∙ ap (gate_answer s) (set_is_asked s c.affected-lanes.result (affects p c.args.command.now)
     (λ d lt. let below : d < 32 = omega arith in
-    rw (c.homes.ensures.homes, c.cpus.ensures.value, c.txs.ensures.value) at (c.affected-lanes.ensures.lanes d below))))
+    rw (c.homes.ensures.homes, c.cpus.ensures.value, c.txs.ensures.value) at
+    (c.affected-lanes.ensures.lanes d below))))

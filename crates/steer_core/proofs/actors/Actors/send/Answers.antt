@@ -18,12 +18,14 @@ push-requires-clause-room c =
 pub invariant_of-self : goal.invariant_of-self
 invariant_of-self c =
     let free : taken_of c.self.inside.tx c.args.a ≤ placed_of c.self.inside.tx c.args.a =
-    (let p = c.placed.ensures in let t = c.taken.ensures in let f = c.if-placed-taken.false in omega arith) in
+    (let p = c.placed.ensures in let t = c.taken.ensures in let f = c.if-placed-taken.false in
+    omega arith) in
     rw c.push.ensures (
       held_send _ c.args.a c.in-Some.id c.reply_to-reply.result c.step.new.self c.step-2.new.self
           (rw (← c.self.view_is) at c.requires) free
           (rw (← c.self.view_is) at (sym c.next_in.ensures ∙ c.in-Some.is))
-          (rw (← c.self.view_is) at c.reply_to-reply.ensures) c.step.ensures.state c.step-2.ensures.state
+          (rw (← c.self.view_is) at c.reply_to-reply.ensures) c.step.ensures.state
+          c.step-2.ensures.state
           c.self.invariant.0,
       c.self.invariant.1,
     )

@@ -10,12 +10,15 @@ step-requires-2 c =
     let done = rw (← c.self.view_is) at c.requires.done in
     let b = both-below c.args.q _ c.args.count 32769 named in
     let few : c.args.count ≤ 32768 = (let lt = b.1 in omega (arith, lt)) in
-    rw c.step.ensures.state ((may_flows _ c.args.q c.args.count b.0 few done c.self.invariant.0.kept).1.0)
+    rw c.step.ensures.state
+    ((may_flows _ c.args.q c.args.count b.0 few done c.self.invariant.0.kept).1.0)
 
 pub invariant_of-self : goal.invariant_of-self
 invariant_of-self c = (
-  held_flows _ c.args.q c.args.count c.change.new.self c.step.new.self c.step-2.new.self c.step-3.new.self
-      (rw (← c.self.view_is) at c.requires.named) (rw (← c.self.view_is) at c.requires.done) c.change.ensures
+  held_flows _ c.args.q c.args.count c.change.new.self c.step.new.self c.step-2.new.self
+      c.step-3.new.self
+      (rw (← c.self.view_is) at c.requires.named) (rw (← c.self.view_is) at c.requires.done)
+      c.change.ensures
       c.step.ensures.state c.step-2.ensures.state c.step-3.ensures.state c.self.invariant.0,
   c.self.invariant.1,
 )

@@ -10,7 +10,10 @@ pub loop-preserved : goal.loop-preserved
 loop-preserved c =
     let done = c.ship_one-done.ensures in (
       again-then c.loop.counter (ship_one c.args.t) (c.args.self.now.machine, c.args.worked)
-          (c.loop.self.machine, c.loop.done) (c.ship_one-done.new.self.machine, c.ship_one-done.result)
+          (c.loop.self.machine, c.loop.done) (
+            c.ship_one-done.new.self.machine,
+            c.ship_one-done.result,
+          )
           c.loop.invariant.0 done.turn,
       done.setup ∙ c.loop.invariant.1,
       done.rooms ∙ c.loop.invariant.2,

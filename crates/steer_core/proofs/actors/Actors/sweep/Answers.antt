@@ -6,7 +6,12 @@ use Rattle.steer_core.proofs.TurnLemmas.{rounds-end, rounds-off, rounds-on, roun
 use Rattle.steer_core.proofs.actors.Actors.sweep.Goals as goal
 
 pub loop-init : goal.loop-init
-loop-init c = (rounds-start c.most_rounds-end.result (c.args.self.now.machine, false), refl, refl, c.requires)
+loop-init c = (
+  rounds-start c.most_rounds-end.result (c.args.self.now.machine, false),
+  refl,
+  refl,
+  c.requires,
+)
 
 pub round-requires : goal.round-requires
 round-requires c = c.loop.invariant.3
@@ -17,7 +22,8 @@ returns-then-not-round-clause-turn c =
     let most : c.most_rounds-end.result ≡ most_rounds (length m.setup.packets) =
     c.most_rounds-end.ensures ∙ ap most_rounds (c.packet_count.ensures.value
     ∙ ap (λ (r : Running). length r.machine.setup.packets) c.self.view_is) in
-    rounds-off c.most_rounds-end.result c.loop.counter c.loop.self.machine c.round.new.self.machine c.loop.worked
+    rounds-off c.most_rounds-end.result c.loop.counter c.loop.self.machine c.round.new.self.machine
+    c.loop.worked
     c.round.result _ c.loop-test.true c.round.ensures.turn c.if-not-round.true c.loop.invariant.0
     ∙ ap (λ k. rounds k (m, false)) most
 
@@ -30,7 +36,8 @@ returns-then-not-round-clause-rooms c = c.round.ensures.rooms ∙ c.loop.invaria
 pub loop-preserved : goal.loop-preserved
 loop-preserved c =
     let once = c.round.ensures in (
-      rounds-on c.most_rounds-end.result c.loop.counter c.loop.self.machine c.round.new.self.machine c.loop.worked
+      rounds-on c.most_rounds-end.result c.loop.counter c.loop.self.machine c.round.new.self.machine
+          c.loop.worked
           c.round.result _ c.loop-test.true once.turn c.if-not-round.false c.loop.invariant.0,
       once.setup ∙ c.loop.invariant.1,
       once.rooms ∙ c.loop.invariant.2,
@@ -43,6 +50,7 @@ returns-clause-turn c =
     let most : c.most_rounds-end.result ≡ most_rounds (length m.setup.packets) =
     c.most_rounds-end.ensures ∙ ap most_rounds (c.packet_count.ensures.value
     ∙ ap (λ (r : Running). length r.machine.setup.packets) c.self.view_is) in
-    rounds-end c.most_rounds-end.result c.loop.counter (c.loop.self.machine, c.loop.worked) _ c.loop-test.false
+    rounds-end c.most_rounds-end.result c.loop.counter (c.loop.self.machine, c.loop.worked) _
+    c.loop-test.false
     c.loop.invariant.0
     ∙ ap (λ k. rounds k (m, false)) most

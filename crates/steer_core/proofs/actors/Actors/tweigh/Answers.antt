@@ -10,12 +10,14 @@ pub step-requires : goal.step-requires
 step-requires c =
     let P : HopEvent → Type 0 = MayAsk c.self.inside.tx in
     let e = rw (← c.self.view_is) at c.next_sending-event.ensures in
-    subst P (sym e) (may_tweigh _ c.args.a _ (rw (← c.self.view_is) at c.requires) c.self.invariant.0.kept)
+    subst P (sym e) (may_tweigh _ c.args.a _ (rw (← c.self.view_is) at c.requires)
+    c.self.invariant.0.kept)
 
 pub invariant_of-self : goal.invariant_of-self
 invariant_of-self c =
     let e = rw (← c.self.view_is) at c.next_sending-event.ensures in (
-      held_tweigh _ c.args.a c.next_sending-event.result c.step.new.self (rw (← c.self.view_is) at c.requires) e
+      held_tweigh _ c.args.a c.next_sending-event.result c.step.new.self
+          (rw (← c.self.view_is) at c.requires) e
           c.step.ensures.state c.self.invariant.0,
       c.self.invariant.1,
     )
@@ -23,4 +25,5 @@ invariant_of-self c =
 pub returns-clause-state : goal.returns-clause-state
 returns-clause-state c =
     let e = rw (← c.self.view_is) at c.next_sending-event.ensures in
-    rw (← c.self.view_is) (by_tx-is _ c.next_sending-event.result _ c.step.new.self e c.step.ensures.state)
+    rw (← c.self.view_is)
+    (by_tx-is _ c.next_sending-event.result _ c.step.new.self e c.step.ensures.state)

@@ -10,7 +10,8 @@ step-requires c =
     let P : HopEvent → Type 0 = MayAsk c.self.inside.rx in
     let e = rw (← c.self.view_is) at c.weighing-event.ensures in
     subst P (sym e)
-    (may_weigh _ c.args.q c.in-Looked.want (rw (← c.self.view_is) at c.requires) c.self.invariant.0.kept)
+    (may_weigh _ c.args.q c.in-Looked.want (rw (← c.self.view_is) at c.requires)
+    c.self.invariant.0.kept)
 
 pub invariant_of-self : goal.invariant_of-self
 invariant_of-self c =

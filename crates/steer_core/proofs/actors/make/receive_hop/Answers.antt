@@ -8,7 +8,8 @@ use Rattle.steer_core.proofs.actors.make.receive_hop.Goals as goal
 
 pub returns : goal.returns
 returns c =
-    let counts = c.in_ok-counts.ensures ∙ ap (map (λ (queue : QueuePlan). queue.flows)) c.as_slice.ensures in
+    let counts = c.in_ok-counts.ensures ∙ ap (map (λ (queue : QueuePlan). queue.flows))
+    c.as_slice.ensures in
     ok-same c.make.result _ _
     (rx-is c.args.plan.now c.args.packets.now c.in_ok-counts.counts.items c.len-apps.result _ counts
     c.len-apps.ensures refl)
@@ -17,11 +18,13 @@ returns c =
 pub make-requires : goal.make-requires
 make-requires c =
     let w = c.args.plan.now.within in
-    let counts : c.in_ok-counts.counts.items ≡ map (λ (queue : QueuePlan). queue.flows) c.args.plan.now.queues =
+    let counts : c.in_ok-counts.counts.items ≡ map (λ (queue : QueuePlan). queue.flows)
+    c.args.plan.now.queues =
     c.in_ok-counts.ensures ∙ ap (map (λ (queue : QueuePlan). queue.flows)) c.as_slice.ensures in
     let long : length c.in_ok-counts.counts.items ≡ length c.args.plan.now.queues =
     ap length counts ∙ length-map c.args.plan.now.queues (λ (queue : QueuePlan). queue.flows) in
-    let queues = w.queues_length in let apps = w.apps_length in let q = c.len.ensures in let a = c.len-apps.ensures in
+    let queues = w.queues_length in let apps = w.apps_length in let q = c.len.ensures in
+    let a = c.len-apps.ensures in
     record {
       limit = w.some_backlog;
       room = c.requires;

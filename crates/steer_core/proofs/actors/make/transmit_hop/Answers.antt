@@ -1,4 +1,5 @@
-use Rattle.std.proofs.Common.{◌≤◌, ◌<◌, ◌≡◌, List, ℕ, length, max, replicate, ap, refl, subst, sym, ◌∙◌, arith}
+use Rattle.std.proofs.Common.{◌≤◌, ◌<◌, ◌≡◌, List, ℕ, length, max, replicate, ap, refl, subst, sym}
+use Rattle.std.proofs.Common.{◌∙◌, arith}
 use Rattle.std.specs.List.{All}
 use Rattle.std.proofs.Math.ListN.{length-replicate}
 use Rattle.std.proofs.lemmas.List.Elements.{All-replicate}
@@ -7,17 +8,20 @@ use Rattle.steer_core.proofs.actors.make.transmit_hop.Goals as goal
 
 pub returns : goal.returns
 returns c =
-    let most : c.max.result ≡ max 1 (length c.args.packets.now) = let m = c.max.ensures in omega (arith, m) in
+    let most : c.max.result ≡ max 1 (length c.args.packets.now) =
+    let m = c.max.ensures in omega (arith, m) in
     let counts = c.in_ok-counts.ensures ∙ ap (λ n. replicate n c.max.result) c.len-apps.ensures
     ∙ ap (λ n. replicate (length c.args.plan.now.apps) n) most in
     ok-same c.make.result _ _
-    (tx-is c.args.plan.now c.args.packets.now c.in_ok-counts.counts.items c.len.result _ counts c.len.ensures refl)
+    (tx-is c.args.plan.now c.args.packets.now c.in_ok-counts.counts.items c.len.result _ counts
+    c.len.ensures refl)
     c.make.ensures
 
 pub make-requires : goal.make-requires
 make-requires c =
     let w = c.args.plan.now.within in
-    let tx = w.tx_length in let apps = w.apps_length in let t = c.len.ensures in let a = c.len-apps.ensures in
+    let tx = w.tx_length in let apps = w.apps_length in let t = c.len.ensures in
+    let a = c.len-apps.ensures in
     let few = c.requires in
     let most : c.max.result ≤ 262144 = let m = c.max.ensures in omega (arith, m, few) in
     let long : length c.in_ok-counts.counts.items ≡ c.len-apps.result =

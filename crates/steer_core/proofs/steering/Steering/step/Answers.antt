@@ -7,19 +7,22 @@ use Rattle.steer_core.proofs.steering.Steering.step.Goals as goal
 
 pub step-answer-requires-clause-room : goal.step-answer-requires-clause-room
 step-answer-requires-clause-room c =
-    room_for c.self.inside.actors c.self.inside.made c.self.inside.steps (rw (← c.self.view_is) at c.requires.left)
+    room_for c.self.inside.actors c.self.inside.made c.self.inside.steps
+    (rw (← c.self.view_is) at c.requires.left)
     c.self.invariant c.args.step.now
 
 pub invariant_of-self : goal.invariant_of-self
 invariant_of-self c =
     counted_step c.self.inside.actors c.self.inside.made c.self.inside.steps
-    (rw (← c.self.view_is) at c.requires.left) c.self.invariant c.step-answer.new.self c.args.step.now
+    (rw (← c.self.view_is) at c.requires.left) c.self.invariant c.step-answer.new.self
+    c.args.step.now
     (rw (← c.self.view_is) at c.requires.within) c.sound.ensures c.step-answer.ensures.state
     c.step-answer.ensures.rooms
 
 pub returns-clause-setup : goal.returns-clause-setup
 returns-clause-setup c =
     ap (λ (m : Machine). m.setup) c.step-answer.ensures.state
-    ∙ (step-paced c.self.inside.actors.machine c.args.step.now (rw (← c.self.view_is) at c.requires.within)
+    ∙ (step-paced c.self.inside.actors.machine c.args.step.now
+    (rw (← c.self.view_is) at c.requires.within)
     c.sound.ensures).setup
     ∙ ap (λ (r : Run). r.machine.setup) c.self.view_is

@@ -5,4 +5,5 @@ use Rattle.taps.proofs.FlowsLemmas.{rows_of_flows}
 use Rattle.taps.proofs.per_flow.PerFlow.make.Goals as goal
 
 pub returns : goal.returns
-returns c = λ lines. ap (λ counts. rows_of_counts (counts_after counts (flows_of lines))) c.new.ensures.empty ∙ rows_of_flows (flows_of lines)
+returns c = λ lines. ap (λ counts. rows_of_counts (counts_after counts (flows_of lines)))
+    c.new.ensures.empty ∙ rows_of_flows (flows_of lines)

@@ -4,4 +4,5 @@ use Rattle.taps.proofs.per_flow.PerFlowTap.finish.Given as goal
 
 -- the lines so far and those of the counts left are all lines
 abbrev pub invariant-loop-flow : goal.invariant-loop-flow
-invariant-loop-flow l = l.bytes.items ++ rows_of_counts l.flow-iterator ≡ rows_of_counts l.fn.self.counts.entries
+invariant-loop-flow l = l.bytes.items ++ rows_of_counts l.flow-iterator ≡ rows_of_counts
+    l.fn.self.counts.entries

@@ -23,5 +23,6 @@ returns-in-WithPorts g c =
     (to_be_bytes w16 w.dport) c.after_addresses-place.ensures.value refl
     c.hash_addresses-in-WithPorts.ensures
     (c.hash_bytes.ensures ∙ ap (xor_of_bytes key place) c.to_be_bytes.ensures)
-    (c.hash_bytes-in-WithPorts.ensures ∙ ap (xor_of_bytes key (place + 2)) c.to_be_bytes-in-WithPorts.ensures)
+    (c.hash_bytes-in-WithPorts.ensures
+    ∙ ap (xor_of_bytes key (place + 2)) c.to_be_bytes-in-WithPorts.ensures)
     ∙ ap (λ p. hash_of key (bytes_of p)) (sym w.is)

@@ -7,5 +7,10 @@ use Rattle.xps_map.proofs.maps.XpsMaps.make.Goals as goal
 pub returns : goal.returns
 returns c =
     let count = c.args.queues in
-    let maps : List CpuMask → List ℕ → Maps = λ cpus queues. record { count = count; cpus = cpus; queues = queues } in
-    ap₂ maps (take-replicate count 32 no_cpus c.requires.few) (take-replicate count 32 0 c.requires.few)
+    let maps : List CpuMask → List ℕ → Maps = λ cpus queues. record {
+      count = count;
+      cpus = cpus;
+      queues = queues;
+    } in
+    ap₂ maps (take-replicate count 32 no_cpus c.requires.few)
+    (take-replicate count 32 0 c.requires.few)

@@ -9,4 +9,5 @@ returns c =
     let test = λ (tx : ℕ). serves_queue maps tx c.args.rxq in
     let same : c.self.inside.count ≡ maps.count = ap (λ (m : Maps). m.count) c.self.view_is in
     let all : c.loop-tx.tx ≡ maps.count = omega arith in
-    members-passing c.loop-tx.set maps.count test (omega (arith, c.self.invariant)) (rw (← all) c.loop-tx.invariant)
+    members-passing c.loop-tx.set maps.count test (omega (arith, c.self.invariant))
+    (rw (← all) c.loop-tx.invariant)
