@@ -17,7 +17,7 @@ use Rattle.hop_rule.specs.declared.step.LaneStep.TheVariants.{Held, OutHeld}
 use Rattle.board_api.specs.Calls.HeldLanes.{FitsLane, IsMiddle, IsOut}
 use Rattle.board_api.specs.Laws.OwnSteps.{QuietStepsStay, TakenLanesAreHeld}
 use Rattle.board_api.specs.Seats.{BoardSeatView}
-use Rattle.board_api.specs.Calls.Answers.{TookMiddle, TookOut}
+use Rattle.board_api.specs.Calls.Results.{TookMiddle, TookOut}
 use Rattle.board_api.specs.declared.held_lane.HeldLane.TheVariants as held
 use Rattle.board_api.specs.declared.held_lane.LaneId.TheVariants as id
 

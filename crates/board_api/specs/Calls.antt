@@ -1,3 +1,3 @@
 pub mod HeldLanes
 pub mod Rights
-pub mod Answers
+pub mod Results

@@ -11,10 +11,10 @@ ghost use Rattle.board_api.specs.Calls.Rights.{HasClosed, HasDelivered, HasOpen,
 ghost use Rattle.board_api.specs.Calls.Rights.{IsCloser};
 ghost use Rattle.board_api.specs.Calls.Rights.{IsInside, IsOutside, MayRead, Pulls};
 ghost use Rattle.board_api.specs.Seats.{Adds};
-ghost use Rattle.board_api.specs.Calls.Answers.{BackTells, CloseTells, DeliverTells, EmptiedTells};
-ghost use Rattle.board_api.specs.Calls.Answers.{EnterTells, HoldTells, OpenTells, PullTells};
-ghost use Rattle.board_api.specs.Calls.Answers.{PutTells};
-ghost use Rattle.board_api.specs.Calls.Answers.{ReadTells, RetireTells, WeighTells};
+ghost use Rattle.board_api.specs.Calls.Results.{BackTells, CloseTells, DeliverTells, EmptiedTells};
+ghost use Rattle.board_api.specs.Calls.Results.{EnterTells, HoldTells, OpenTells, PullTells};
+ghost use Rattle.board_api.specs.Calls.Results.{PutTells};
+ghost use Rattle.board_api.specs.Calls.Results.{ReadTells, RetireTells, WeighTells};
 ghost use Rattle.board_api.specs.Views.{BoardView};
 
 use crate::answers::{CloseAnswer, Emptied, EnterAnswer, Hold, Pull};

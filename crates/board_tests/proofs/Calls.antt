@@ -23,11 +23,11 @@ use Rattle.steer_base.specs.Lanes.{LaneLists}
 use Rattle.steer_base.specs.declared.cpu_mask.CpuMask.{CpuMask}
 use Rattle.steer_base.specs.declared.put.Put.{Put}
 use Rattle.hop_rule.specs.OutLanes.{OutList}
-use Rattle.board_api.specs.Calls.Answers.{TookMiddle, TookOut, released, BackTells, CloseTells}
-use Rattle.board_api.specs.Calls.Answers.{DeliverTells}
-use Rattle.board_api.specs.Calls.Answers.{EmptiedTells, EnterTells, Looked, MissedAt, OpenTells}
-use Rattle.board_api.specs.Calls.Answers.{PullTells}
-use Rattle.board_api.specs.Calls.Answers.{PutTells, RetireTells, Took, WeighTells, looking}
+use Rattle.board_api.specs.Calls.Results.{TookMiddle, TookOut, released, BackTells, CloseTells}
+use Rattle.board_api.specs.Calls.Results.{DeliverTells}
+use Rattle.board_api.specs.Calls.Results.{EmptiedTells, EnterTells, Looked, MissedAt, OpenTells}
+use Rattle.board_api.specs.Calls.Results.{PullTells}
+use Rattle.board_api.specs.Calls.Results.{PutTells, RetireTells, Took, WeighTells, looking}
 use Rattle.board_api.specs.Views.{BoardView}
 use Rattle.board_api.specs.declared.answers.CloseAnswer.TheVariants as close
 use Rattle.board_api.specs.declared.answers.Emptied.{Emptied}

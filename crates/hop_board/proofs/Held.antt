@@ -27,7 +27,7 @@ use Rattle.hop_rule.specs.Sizes.{puller}
 use Rattle.hop_rule.proofs.Lists.{get-inside, none-some}
 use Rattle.hop_rule.proofs.Owns.{lane_room}
 use Rattle.board_api.specs.Calls.HeldLanes.{FitsLane, IsMiddle, IsOut, Holds}
-use Rattle.board_api.specs.Calls.Answers.{HoldTells, Took}
+use Rattle.board_api.specs.Calls.Results.{HoldTells, Took}
 use Rattle.board_api.specs.declared.answers.Hold.TheVariants as hold
 use Rattle.board_api.specs.declared.held_lane.HeldLane.{HeldLane}
 use Rattle.board_api.specs.declared.held_lane.HeldLane.TheVariants as held

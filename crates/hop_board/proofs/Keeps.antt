@@ -33,7 +33,7 @@ use Rattle.hop_rule.specs.Sizes.{FitSizes}
 use Rattle.hop_rule.proofs.Slots.{agrees, out_agrees, is_out}
 use Rattle.board_api.specs.Calls.HeldLanes.{FitsLane}
 use Rattle.board_api.specs.StepWords.{is_odd}
-use Rattle.board_api.specs.Calls.Answers.{MissedAt}
+use Rattle.board_api.specs.Calls.Results.{MissedAt}
 use Rattle.board_api.specs.declared.held_lane.LaneId.{LaneId}
 use Rattle.board_api.specs.declared.held_lane.LaneId.TheVariants as id
 use Rattle.hop_board.specs.declared.places.Word.{Word}

@@ -19,7 +19,7 @@ use Rattle.hop_rule.specs.declared.step.Slot.TheVariants as slot
 use Rattle.hop_rule.specs.Boards.{lane_steps}
 use Rattle.hop_rule.specs.Lanes.{Phase, gave, has_pulled, idle, phase}
 use Rattle.board_api.specs.Seats.{BoardSeatView, KeepsSteps}
-use Rattle.board_api.specs.Calls.Answers.{EmptiedTells, Looked, MissedAt, looking}
+use Rattle.board_api.specs.Calls.Results.{EmptiedTells, Looked, MissedAt, looking}
 use Rattle.board_api.specs.declared.answers.Emptied.{Emptied}
 use Rattle.board_api.specs.declared.answers.Emptied.TheVariants as emptied
 use Rattle.board_api.specs.declared.held_lane.LaneId.{LaneId}

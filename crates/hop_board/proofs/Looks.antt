@@ -10,7 +10,7 @@ use Rattle.linearization.specs.Seats.{SeatView}
 use Rattle.hop_rule.specs.declared.sizes.BoardSizes.{BoardSizes}
 use Rattle.hop_rule.specs.declared.step.BoardStep.{BoardStep}
 use Rattle.board_api.specs.StepWords.{low_half, tail_in}
-use Rattle.board_api.specs.Calls.Answers.{EmptiedTells, IsEmpty, Looked, looking}
+use Rattle.board_api.specs.Calls.Results.{EmptiedTells, IsEmpty, Looked, looking}
 use Rattle.board_api.specs.declared.answers.Emptied.TheVariants as emptied
 use Rattle.hop_board.specs.Emptying.{LooksBelow, emptied_after}
 use Rattle.hop_board.specs.Named.{board_seat}

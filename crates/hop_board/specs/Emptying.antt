@@ -4,7 +4,7 @@ use Rattle.steer_base.specs.Sets.{has, those_below}
 use Rattle.steer_base.specs.declared.cpu_mask.CpuMask.{CpuMask}
 use Rattle.linearization.specs.Seats.{SeatView}
 use Rattle.hop_rule.specs.declared.step.BoardStep.{BoardStep}
-use Rattle.board_api.specs.Calls.Answers.{IsEmpty, Looked, looking}
+use Rattle.board_api.specs.Calls.Results.{IsEmpty, Looked, looking}
 use Rattle.board_api.specs.declared.answers.Emptied.{Emptied}
 use Rattle.board_api.specs.declared.answers.Emptied.TheVariants as emptied
 

@@ -12,7 +12,7 @@ use Rattle.hop_rule.specs.declared.step.Slot.{Slot}
 use Rattle.linearization.specs.Seats.{SeatView}
 use Rattle.board_api.specs.Calls.Rights.{MayRead}
 use Rattle.board_api.specs.StepWords.{is_odd, is_marked, low_half}
-use Rattle.board_api.specs.Calls.Answers.{MissedAt}
+use Rattle.board_api.specs.Calls.Results.{MissedAt}
 use Rattle.board_api.specs.declared.held_lane.LaneId.{LaneId}
 use Rattle.board_api.specs.declared.held_lane.LaneId.TheVariants as id
 use Rattle.hop_board.specs.declared.places.Word.{Word}

@@ -10,7 +10,7 @@ use Rattle.hop_rule.specs.declared.step.LaneStep.TheVariants.{Held, OutHeld}
 use Rattle.hop_rule.specs.declared.step.Slot.{Slot}
 use Rattle.hop_rule.specs.declared.step.Slot.TheVariants as slot
 use Rattle.board_api.specs.StepWords.{is_odd}
-use Rattle.board_api.specs.Calls.Answers.{MissedAt}
+use Rattle.board_api.specs.Calls.Results.{MissedAt}
 use Rattle.board_api.specs.declared.held_lane.LaneId.{LaneId}
 use Rattle.board_api.specs.declared.held_lane.LaneId.TheVariants as id
 use Rattle.hop_board.specs.Tables.{InSlot}

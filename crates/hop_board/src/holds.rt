@@ -1,7 +1,7 @@
 //! Lanes that seats take into their hands and give back as they were.
 ghost use Rattle.std.specs.Prelude.{◌≡◌};
 ghost use Rattle.board_api.specs.Calls.HeldLanes.{FitsLane, Holds, HoldsOut};
-ghost use Rattle.board_api.specs.Calls.Answers.{BackTells, HoldTells, ReadTells};
+ghost use Rattle.board_api.specs.Calls.Results.{BackTells, HoldTells, ReadTells};
 ghost use Rattle.hop_board.specs.Named.{content_of, held_by, lane_of};
 
 use crate::board::Board;

@@ -3,7 +3,7 @@ ghost use Rattle.std.specs.Prelude.{◌≡◌, ◌<◌, ◌∷◌};
 ghost use Rattle.board_api.specs.Calls.HeldLanes.{HasNoneOf, HoldsMiddle, HoldsOut, PullsFrom};
 ghost use Rattle.board_api.specs.Calls.HeldLanes.{room_in};
 ghost use Rattle.board_api.specs.Calls.Rights.{HasDelivered, HasPulled, IsInside, Pulls};
-ghost use Rattle.board_api.specs.Calls.Answers.{DeliverTells, PullTells, PutTells, RetireTells};
+ghost use Rattle.board_api.specs.Calls.Results.{DeliverTells, PullTells, PutTells, RetireTells};
 
 use crate::board::{Board, WordSeat};
 use crate::places::Word;

@@ -4,7 +4,7 @@ ghost use Rattle.hop_rule.specs.Boards.{gate_steps};
 ghost use Rattle.hop_rule.specs.Gates.{outside, visit};
 ghost use Rattle.board_api.specs.Calls.Rights.{HasOpen, IsInside, IsOutside, MayRead};
 ghost use Rattle.board_api.specs.Seats.{Adds};
-ghost use Rattle.board_api.specs.Calls.Answers.{EnterTells, WeighTells};
+ghost use Rattle.board_api.specs.Calls.Results.{EnterTells, WeighTells};
 ghost use Rattle.hop_board.specs.Makings.{entering};
 
 use crate::board::{Board, WordSeat};

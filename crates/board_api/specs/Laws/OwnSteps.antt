@@ -7,7 +7,7 @@ use Rattle.hop_rule.specs.declared.sizes.BoardSizes.{BoardSizes}
 use Rattle.hop_rule.specs.declared.step.BoardStep.{BoardStep}
 use Rattle.board_api.specs.Calls.HeldLanes.{FitsLane, HoldsKind}
 use Rattle.board_api.specs.Seats.{BoardSeatView}
-use Rattle.board_api.specs.Calls.Answers.{Took}
+use Rattle.board_api.specs.Calls.Results.{Took}
 use Rattle.board_api.specs.declared.held_lane.HeldLane.{HeldLane}
 use Rattle.board_api.specs.declared.held_lane.LaneId.{LaneId}
 

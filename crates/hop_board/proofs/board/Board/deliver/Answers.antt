@@ -9,7 +9,7 @@ use Rattle.hop_rule.specs.Lanes.{has_pulled, phase}
 use Rattle.hop_rule.specs.OutLanes.{OutList}
 use Rattle.board_api.specs.Calls.HeldLanes.{HoldsOut, IsOut, room_in}
 use Rattle.board_api.specs.Seats.{BoardSeatView}
-use Rattle.board_api.specs.Calls.Answers.{DeliverTells}
+use Rattle.board_api.specs.Calls.Results.{DeliverTells}
 use Rattle.board_api.specs.declared.held_lane.HeldLane.{HeldLane}
 use Rattle.board_api.specs.declared.held_lane.LaneId.TheVariants as id
 use Rattle.hop_board.specs.Named.{board_seat}
