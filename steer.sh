@@ -1,11 +1,12 @@
 #!/bin/sh
-# Runs the program with these words in this folder: the one of release/ where the sources are those that it
-# was built from, and else one that is built here, with its proofs, where its sources have changed. With
-# STEER_BUILD set to anything it is built here in any case.
+# Runs the program with these words in this folder: the released one if the sources are those that it was
+# built from, and otherwise one that is built here, with its proofs, whenever its sources have changed.
+# With STEER_BUILD set to anything it is built here in any case. The words --help and --version are
+# answered here: the program itself has no options.
 # A build shows on standard error a line for each crate that it proves, with how many come after it; all
-# that the tools say goes to out/steer.log in the crate. A failed build shows the end of that log and has
+# output of the tools goes to out/steer.log in the crate. A failed build shows the end of that log and has
 # status 1.
-root=$(cd "$(dirname "$0")" && pwd) || exit 1
+root=$(cd "$(dirname "$(readlink -f "$0")")" && pwd) || exit 1
 crate=$root/crates/steer
 release=$root/release
 stamp=$crate/out/steer.built
@@ -71,8 +72,32 @@ build() {
     fi
 }
 
-if [ -z "${STEER_BUILD-}" ] && ! is_built && is_released; then
-    exec "$release/steer" "$@"
-fi
-is_built || build || exit 1
-exec "$crate/out/steer" "$@"
+# The program to run is left in `program`.
+choose() {
+    if [ -z "${STEER_BUILD-}" ] && ! is_built && is_released; then
+        program=$release/steer
+    else
+        is_built || build || return 1
+        program=$crate/out/steer
+    fi
+}
+
+# The man page as plain text.
+help() {
+    awk -f "$root/man/plain.awk" "$root/man/steer.1" | cat -s
+}
+
+# The version of the formats, the kit, and the program's own SHA-256.
+version() {
+    choose || return 1
+    echo "steer 1"
+    echo "kit $(released kit)"
+    echo "sha256 $(sha256sum <"$program" | cut -d ' ' -f 1)"
+}
+
+case $#${1-} in
+1--help) help; exit ;;
+1--version) version; exit ;;
+esac
+choose || exit 1
+exec "$program" "$@"

@@ -1,9 +1,10 @@
 #!/bin/sh
-# With the word crates: the crates of which the program is built, each behind those that it stands on.
-# With the word hash: one SHA-256 over the sources of these crates. What is hashed is a list of lines: for
-# each crate, in that order, its line of crates.txt without the comment and with single spaces; then, by
-# their names in the order of their bytes, HANDLES and all files of the crates' src, specs and proofs, each
-# as sha256sum prints it.
+# With the word crates: the crates of which the program is built, each after those that it depends on.
+# With the word hash: one SHA-256 over what the program is built from. That is, for each of these crates in
+# that order, its line of crates.txt without the comment and with single spaces; HANDLES; and by their
+# names in the order of their bytes all files of the crates' src/, without blank lines, lines that are
+# comments and lines that begin with `ghost use`, which no code is made from. Specifications and proofs are
+# not in it: they decide whether a program is built, and not which.
 cd "$(dirname "$0")/.." || exit 1
 
 crates() {
@@ -27,12 +28,14 @@ crates() {
 }
 
 files() {
-    echo HANDLES
     for name in $(crates names); do
-        for folder in src specs proofs; do
-            [ ! -d "crates/$name/$folder" ] || find "crates/$name/$folder" -type f
-        done
+        find "crates/$name/src" -type f
     done
+}
+
+# The lines of a source file that code can be made from.
+code() {
+    sed -e '/^[[:space:]]*$/d' -e '/^[[:space:]]*\/\//d' -e '/^[[:space:]]*ghost use /d' "$1"
 }
 
 case ${1-} in
@@ -40,7 +43,11 @@ crates) crates names ;;
 hash)
     {
         crates lines
-        files | LC_ALL=C sort | tr '\n' '\0' | xargs -0 sha256sum
+        cat HANDLES
+        files | LC_ALL=C sort | while read -r file; do
+            echo "file $file"
+            code "$file"
+        done
     } | sha256sum | cut -d ' ' -f 1
     ;;
 *)
