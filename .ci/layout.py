@@ -1,0 +1,64 @@
+#!/usr/bin/env python3
+"""Lists what of the tracked sources is laid out otherwise than docs/develop.md says: lines over 100
+columns, files over 800 lines (answers of a proof 150), and functions over 40 lines outside tests, their
+contract included. The status is 1 if there is any."""
+import os
+import re
+import subprocess
+import sys
+
+COLUMNS, FILE_LINES, ANSWER_LINES, FUNCTION_LINES = 100, 800, 150, 40
+FUNCTION = re.compile(r"(\s*)(?:pub )?(?:const )?(?:unsafe )?fn (\w+)")
+
+
+def function_end(lines, start, indent):
+    """The last line of the function that begins at this line, of an indentation."""
+    has_body = False
+    for end in range(start, len(lines)):
+        line = lines[end].rstrip()
+        has_body = has_body or line == indent + "{" or line.endswith("{")
+        if line.startswith(indent + "}") or line == indent + "{}":
+            return end
+        if end == start and line.endswith("}"):
+            return end
+        if not has_body and line.endswith((";", "{}")) and len(line) - len(line.lstrip()) <= len(indent) + 8:
+            return end
+    return len(lines) - 1
+
+
+def long_functions(path, lines):
+    at = 0
+    while at < len(lines):
+        found = FUNCTION.match(lines[at])
+        if found:
+            end = function_end(lines, at, found.group(1))
+            if end - at + 1 > FUNCTION_LINES:
+                yield f"{path}:{at + 1}: the function {found.group(2)} has {end - at + 1} lines"
+            at = end
+        at += 1
+
+
+def faults(path):
+    with open(path, encoding="utf8") as file:
+        lines = file.read().split("\n")
+    most = ANSWER_LINES if path.endswith("Answers.antt") else FILE_LINES
+    if len(lines) - 1 > most:
+        yield f"{path}: {len(lines) - 1} lines"
+    for number, line in enumerate(lines, 1):
+        if len(line) > COLUMNS:
+            yield f"{path}:{number}: {len(line)} columns"
+    if path.endswith(".rt") and not path.split("/")[1].endswith("_tests"):
+        yield from long_functions(path, lines)
+
+
+def main():
+    os.chdir(os.path.dirname(os.path.dirname(os.path.abspath(__file__))))
+    listed = subprocess.run(["git", "ls-files", "crates/*.rt", "crates/*.antt"],
+                            stdout=subprocess.PIPE, check=True, universal_newlines=True)
+    found = [fault for path in listed.stdout.split() if os.path.exists(path) for fault in faults(path)]
+    print("\n".join(found), end="\n" if found else "")
+    sys.exit(1 if found else 0)
+
+
+if __name__ == "__main__":
+    main()
