@@ -6,32 +6,33 @@ use Rattle.outside_io.specs.declared.failures.Failures.{Failures}
 use Rattle.outside_io.specs.declared.memory_desk.MemoryDesk.{MemoryDesk}
 
 -- the bytes of a name, where it is held
-abbrev pub held_by : MemoryDesk → List ℕ → Option (List ℕ)
-held_by desk = held_in desk.folder
+abbrev pub memory_desk_held : MemoryDesk → List ℕ → Option (List ℕ)
+memory_desk_held desk = held_in desk.folder
 
 -- the bytes left of the file that was begun, and none where nothing is begun
-abbrev pub left_on : MemoryDesk → List ℕ
-left_on desk = left_in desk.folder
+abbrev pub memory_desk_left : MemoryDesk → List ℕ
+memory_desk_left desk = left_in desk.folder
 
 -- the name of the file that was begun, and none where nothing is begun
 abbrev pub asked_on : MemoryDesk → Option (List ℕ)
 asked_on desk = asked_in desk.folder
 
 -- its calls, and those that are to fail
-abbrev pub failures_of : MemoryDesk → Failures
-failures_of desk = desk.failures
+abbrev pub memory_desk_failures : MemoryDesk → Failures
+memory_desk_failures desk = desk.failures
 
 -- how many of them failed
-abbrev pub faults_of : MemoryDesk → ℕ
-faults_of desk = desk.failures.faults
+abbrev pub memory_desk_faults : MemoryDesk → ℕ
+memory_desk_faults desk = desk.failures.faults
 
 -- a `begin` fails where its number is listed or the name is not held
 abbrev pub begin_fails : MemoryDesk → List ℕ → Bool
-begin_fails desk name = next_fails (failures_of desk) || is_none (held_by desk name)
+begin_fails desk name = next_fails (memory_desk_failures desk) || is_none
+    (memory_desk_held desk name)
 
 -- a `read` fails where its number is listed
 abbrev pub read_fails : MemoryDesk → Bool
-read_fails desk = next_fails (failures_of desk)
+read_fails desk = next_fails (memory_desk_failures desk)
 
 -- how many reads were made
 abbrev pub reads_of : MemoryDesk → ℕ

@@ -15,12 +15,12 @@ abbrev pub room_of : MemorySink → ℕ
 room_of sink = sink.room
 
 -- its writes, and those that are to fail
-abbrev pub failures_of : MemorySink → Failures
-failures_of sink = sink.failures
+abbrev pub memory_sink_failures : MemorySink → Failures
+memory_sink_failures sink = sink.failures
 
 -- how many of them failed
-abbrev pub faults_of : MemorySink → ℕ
-faults_of sink = sink.failures.faults
+abbrev pub memory_sink_faults : MemorySink → ℕ
+memory_sink_faults sink = sink.failures.faults
 
 -- the bytes that it still takes
 abbrev pub room_left : MemorySink → ℕ
@@ -28,7 +28,7 @@ room_left sink = room_of sink - length (written_to sink)
 
 -- a `write` of so many bytes fails where its number is listed or the room left is less
 abbrev pub write_fails : MemorySink → ℕ → Bool
-write_fails sink size = next_fails (failures_of sink) || nat_lt (room_left sink) size
+write_fails sink size = next_fails (memory_sink_failures sink) || nat_lt (room_left sink) size
 
 -- every other `write` takes its whole piece
 abbrev pub write_answer : MemorySink → ℕ → Took

@@ -22,13 +22,13 @@ pub struct MemorySink {
 }
 
 impl MemorySink {
-    ghost use Rattle.outside_io.specs.MemorySink.{failures_of, room_of, written_to};
+    ghost use Rattle.outside_io.specs.MemorySink.{memory_sink_failures, room_of, written_to};
 
     /// A sink with room for so many bytes, all of it reserved here.
     pub fn make(alloc: Global, room: usize, failing: Vec<u64>) -> Result<Self, OutOfMemory>
         ensures empty { IfOk result (λ sink. written_to sink ≡ []) }
         ensures room { IfOk result (λ sink. room_of sink ≡ room) }
-        ensures fresh { IfOk result (λ sink. IsFresh (failures_of sink) failing.items) }
+        ensures fresh { IfOk result (λ sink. IsFresh (memory_sink_failures sink) failing.items) }
     {
         Ok(MemorySink {
             bytes: Vec::with_capacity(alloc, room)?,
@@ -46,22 +46,24 @@ impl MemorySink {
 }
 
 impl Sink for MemorySink {
-    ghost use Rattle.outside_io.specs.MemorySink.{failures_of, faults_of, room_of, written_to};
+    ghost use Rattle.outside_io.specs.MemorySink.{memory_sink_failures, memory_sink_faults};
+    ghost use Rattle.outside_io.specs.MemorySink.{room_of, written_to};
     ghost use Rattle.outside_io.specs.MemorySink.{write_answer, write_fails};
 
     ghost written = { λ sink. Some (written_to sink) };
 
-    ghost faults = { λ sink. faults_of sink };
+    ghost faults = { λ sink. memory_sink_faults sink };
 
     fn write(&mut self, bytes: &[u8]) -> Took
         requires { 0 < length bytes.now }
         ensures written { Takes result bytes.now (Some (written_to self.old))
             (Some (written_to self.new)) }
-        ensures later { faults_of self.old ≤ faults_of self.new }
-        ensures failed { result ≡ Took.Failed → Rose (faults_of self.old) (faults_of self.new) }
+        ensures later { memory_sink_faults self.old ≤ memory_sink_faults self.new }
+        ensures failed { result ≡ Took.Failed → Rose (memory_sink_faults self.old)
+            (memory_sink_faults self.new) }
 
         ensures exact { result ≡ write_answer self.old (length bytes.now) }
-        ensures counted { Counts (failures_of self.old) (failures_of self.new)
+        ensures counted { Counts (memory_sink_failures self.old) (memory_sink_failures self.new)
             (write_fails self.old (length bytes.now)) }
         ensures room { room_of self.new ≡ room_of self.old }
     {

@@ -13,13 +13,13 @@ pub struct SureDesk {
 }
 
 impl SureDesk {
-    ghost use Rattle.outside_io.specs.SureDesk.{held_by, left_on};
+    ghost use Rattle.outside_io.specs.SureDesk.{sure_desk_held, sure_desk_left};
 
     /// A desk with these files, names with their bytes, of which the first of a name counts.
     pub fn make(files: Vec<(String, Vec<u8>)>) -> Self
         ensures held { (name : List ℕ) →
-            held_by result name ≡ Some (unwrap_or (bytes_of files.items name) []) }
-        ensures left { left_on result ≡ [] }
+            sure_desk_held result name ≡ Some (unwrap_or (bytes_of files.items name) []) }
+        ensures left { sure_desk_left result ≡ [] }
     {
         SureDesk {
             folder: Folder::make(files),
@@ -28,11 +28,11 @@ impl SureDesk {
 }
 
 impl Desk for SureDesk {
-    ghost use Rattle.outside_io.specs.SureDesk.{held_by, left_on};
+    ghost use Rattle.outside_io.specs.SureDesk.{sure_desk_held, sure_desk_left};
 
-    ghost held = { held_by };
+    ghost held = { sure_desk_held };
 
-    ghost left = { λ desk. Some (left_on desk) };
+    ghost left = { λ desk. Some (sure_desk_left desk) };
 
     ghost taken = { λ _. last_count };
 

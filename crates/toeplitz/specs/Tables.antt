@@ -3,7 +3,7 @@ use Rattle.std.specs.Prelude.{◌≡◌, ℕ, zero, suc, ◌+◌, ◌*◌, ◌-�
 use Rattle.std.specs.Prelude.{slice_index}
 use Rattle.std.specs.Prelude.{bit_xor, if◌then◌else◌, ◌==◌}
 use Rattle.std.specs.Int.{bit_at}
-use Rattle.toeplitz.specs.Toeplitz.{window}
+use Rattle.toeplitz.specs.Toeplitz.{key_window}
 
 -- the XOR of the windows of those of the first n bits of a byte at this place of the input that are
 -- 1
@@ -11,7 +11,7 @@ unfoldable pub xor_of_byte : ℕ → ℕ → ℕ → ℕ → ℕ
 xor_of_byte key place byte zero = 0
 xor_of_byte key place byte (suc k) =
     if bit_at byte (7 - k) == 1 then bit_xor (xor_of_byte key place byte k)
-    (window key (8 * place + k))
+    (key_window key (8 * place + k))
     else xor_of_byte key place byte k
 
 -- what a byte at this place of the input adds to the hash
