@@ -108,7 +108,7 @@ def unknown():
         for folder, _, files in os.walk(os.path.join(ROOT, "crates", crate, "src")):
             for file in files:
                 if file.endswith(".rt"):
-                    functions |= set(re.findall(r"\bfn (\w+)", read(os.path.join(folder, file))))
+                    functions |= {(crate, f) for f in re.findall(r"\bfn (\w+)", read(os.path.join(folder, file)))}
     for page in sorted(f for f in os.listdir(HERE) if re.match(r"\d.*\.md$", f)):
         text = read(os.path.join(HERE, page))
         if len(text.encode()) > 8192:
@@ -116,9 +116,9 @@ def unknown():
         for link in re.findall(r"\]\(([^)#:]+)(?:#[^)]*)?\)", text):
             if not os.path.exists(os.path.join(HERE, link)):
                 yield f"{page}: no file {link}"
-        for law in re.findall(r"^\| `(\w+)`(?: \(`\w+`\))? \|", text, re.M):
-            if law not in functions:
-                yield f"{page}: no function {law}"
+        for law, crate in re.findall(r"^\| `(\w+)` \(`(\w+)`\) \|", text, re.M):
+            if (crate, law) not in functions:
+                yield f"{page}: no function {law} in {crate}"
         for line in text.split("\n"):
             module = None
             for path, name in re.findall(r"`(\w+/specs/[\w/]+(?=[.`]))?\.?([^`]*)`", line):
