@@ -4,55 +4,60 @@ use Rattle.std.proofs.Common.{◌++◌, length, get_or, set, replicate, slice_ge
 use Rattle.std.proofs.Common.{◌∙◌, subst, length-append, append-nil, append_assoc}
 use Rattle.std.proofs.lemmas.List.{nil_from_length, length-set, length-replicate}
 use Rattle.circular_buffer.proofs.Places.{slice_get-append_left, slice_get-append_right}
-use Rattle.backlog.specs.Paged.{Holds, IsPaged, joined}
+use Rattle.backlog.specs.Paged.{PagesHold, IsPaged, joined}
 
-pub Holds-empty : (X : Type 0) (k : ℕ) → Holds {X = X} 0 (replicate k [])
+pub Holds-empty : (X : Type 0) (k : ℕ) → PagesHold {X = X} 0 (replicate k [])
 Holds-empty X zero = refl
 Holds-empty X (suc k) = (refl, Holds-empty X k)
 
 module _ {X : Type 0} where
-  pub length-joined : (n : ℕ) (pages : List (List X)) → Holds n pages → length (joined pages) ≡ n
+  pub length-joined : (n : ℕ) (pages : List (List X)) → PagesHold n pages
+      → length (joined pages) ≡ n
   length-joined n [] h = sym h
   length-joined n (page ∷ pages) h =
       let rest : length (joined pages) ≡ n - 4096 = length-joined (n - 4096) pages h.1 in
       let here = h.0 in
       omega (arith, length-append page (joined pages))
 
-  pub joined-none : (pages : List (List X)) → Holds 0 pages → joined pages ≡ []
+  pub joined-none : (pages : List (List X)) → PagesHold 0 pages → joined pages ≡ []
   joined-none pages h = nil_from_length (joined pages) (length-joined 0 pages h)
 
   -- an item more in the page that the number of items falls into
-  Holds-more : (k n : ℕ) (x : X) (last : List X) (pages : List (List X)) → Holds n pages
+  Holds-more : (k n : ℕ) (x : X) (last : List X) (pages : List (List X)) → PagesHold n pages
       → 4096 * k ≤ n → n < 4096 * k + 4096
-      → k < length pages → last ≡ get_or pages k last → Holds (n + 1) (set pages k (last ++ x ∷ []))
+      → k < length pages → last ≡ get_or pages k last → PagesHold (n + 1)
+      (set pages k (last ++ x ∷ []))
   Holds-more k n x last [] h low high in' e = absurd (omega arith)
   Holds-more zero n x last (page ∷ pages) h low high in' e =
       let here = h.0 in
-      let same : n - 4096 ≡ n + 1 - 4096 = omega arith in
-      (omega (arith, length-append last (x ∷ []), ap length e), subst (λ m. Holds m pages) same h.1)
+      let same : n - 4096 ≡ n + 1 - 4096 = omega arith in (
+        omega (arith, length-append last (x ∷ []), ap length e),
+        subst
+            (λ m. PagesHold m pages) same h.1,
+      )
   Holds-more (suc k) n x last (page ∷ pages) h low high in' e =
       let here = h.0 in
       let same : n - 4096 + 1 ≡ n + 1 - 4096 = omega arith in (
         omega arith,
-        subst (λ m. Holds m (set pages k (last ++ x ∷ []))) same
+        subst (λ m. PagesHold m (set pages k (last ++ x ∷ []))) same
             (Holds-more k (n - 4096) x last pages h.1 (omega arith) (omega arith) (omega arith) e),
       )
 
-  joined-more : (k n : ℕ) (x : X) (last : List X) (pages : List (List X)) → Holds n pages
+  joined-more : (k n : ℕ) (x : X) (last : List X) (pages : List (List X)) → PagesHold n pages
       → 4096 * k ≤ n → n < 4096 * k + 4096
       → k < length pages → last ≡ get_or pages k last
       → joined (set pages k (last ++ x ∷ [])) ≡ joined pages ++ x ∷ []
   joined-more k n x last [] h low high in' e = absurd (omega arith)
   joined-more zero n x last (page ∷ pages) h low high in' e =
       let none : n - 4096 ≡ 0 = omega arith in
-      rw (joined-none pages (subst (λ m. Holds m pages) none h.1), ← e)
+      rw (joined-none pages (subst (λ m. PagesHold m pages) none h.1), ← e)
       (append-nil (last ++ x ∷ []) ∙ ap (λ l. l ++ x ∷ []) (sym (append-nil last)))
   joined-more (suc k) n x last (page ∷ pages) h low high in' e =
       ap (λ l. page ++ l) (joined-more k (n - 4096) x last pages h.1 (omega arith) (omega arith)
       (omega arith) e)
       ∙ sym (append_assoc page (joined pages) (x ∷ []))
 
-  slice_get-joined : (k n i : ℕ) (here : List X) (pages : List (List X)) → Holds n pages → i < n
+  slice_get-joined : (k n i : ℕ) (here : List X) (pages : List (List X)) → PagesHold n pages → i < n
       → 4096 * k ≤ i → i < 4096 * k + 4096
       → here ≡ get_or pages k here → slice_get (joined pages) i ≡ slice_get here (i - 4096 * k)
   slice_get-joined k n i here [] h in' low high e = absurd (omega arith)
@@ -70,7 +75,7 @@ module _ {X : Type 0} where
       ∙ ap (slice_get here) same
 
   -- the page that the next item falls into has room for it
-  has_room : (k n : ℕ) (last : List X) (pages : List (List X)) → Holds n pages → 4096 * k ≤ n
+  has_room : (k n : ℕ) (last : List X) (pages : List (List X)) → PagesHold n pages → 4096 * k ≤ n
       → n < 4096 * k + 4096
       → k < length pages → last ≡ get_or pages k last → length last < 4096
   has_room k n last [] h low high in' e = absurd (omega arith)

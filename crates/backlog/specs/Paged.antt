@@ -7,13 +7,13 @@ abbrev pub joined : {X : Type 0} → List (List X) → List X
 joined pages = flat_map (λ page. page) pages
 
 -- Pages of 4,096 hold n items: each page is full before the next one has any.
-abbrev pub Holds : {X : Type 0} → ℕ → List (List X) → Type 0
-Holds n [] = n ≡ 0
-Holds n (page ∷ pages) = (length page ≡ min n 4096) × Holds (n - 4096) pages
+abbrev pub PagesHold : {X : Type 0} → ℕ → List (List X) → Type 0
+PagesHold n [] = n ≡ 0
+PagesHold n (page ∷ pages) = (length page ≡ min n 4096) × PagesHold (n - 4096) pages
 
 -- Pages that hold n items, no more than their room, and have a place for each item of that room.
 pub record IsPaged {X : Type 0} (n room : ℕ) (pages : List (List X)) : Type 0 where
-  pub holds : Holds n pages
+  pub holds : PagesHold n pages
   pub within : n ≤ room
   pub reserved : room ≤ 4096 * length pages
   pub small : room ≤ 262144

@@ -2,7 +2,7 @@
 ghost use Rattle.std.specs.Prelude.{ℕ, ◌≡◌, ◌<◌, ◌*◌, ◌≤◌, List, [], ◌∷◌, ◌++◌, length, IfOk};
 ghost use Rattle.std.specs.Prelude.{replicate, slice_get, vec_capacity};
 ghost use Rattle.steer_base.specs.Journals.{grown, journal};
-ghost use Rattle.backlog.specs.Paged.{Holds, joined};
+ghost use Rattle.backlog.specs.Paged.{PagesHold, joined};
 
 use std::alloc::Global;
 use std::marker::Model;

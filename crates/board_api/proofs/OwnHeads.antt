@@ -5,7 +5,7 @@ use Rattle.std.proofs.lemmas.Bool.{cases_eq}
 use Rattle.linearization.specs.Orders.{StepBy}
 use Rattle.history.specs.declared.lane_list.LaneList.{LaneList}
 use Rattle.hop_rule.specs.Boards.{IsLawful, gate_steps, lanes_of, retired}
-use Rattle.hop_rule.specs.Deliveries.{Delivery, given}
+use Rattle.hop_rule.specs.Deliveries.{Delivery, delivered_from}
 use Rattle.hop_rule.specs.Emptied.{WasEmptied}
 use Rattle.hop_rule.specs.Gates.{visit_number}
 use Rattle.hop_rule.specs.Lanes as lanes
@@ -85,7 +85,7 @@ module _ (about : BoardSizes) (order : List (StepBy BoardStep))
       let b = t.1 in
       (t.0, omega arith)
 
-  gifts : (l : ℕ) → given l (lanes_of order) ≡ delivered_by l (own order (puller about l))
+  gifts : (l : ℕ) → delivered_from l (lanes_of order) ≡ delivered_by l (own order (puller about l))
   gifts l = given_own about l order lawful
 
   pub heads_are_passed : HeadsArePassed about (own order) lists

@@ -8,7 +8,7 @@ use Rattle.linearization.specs.Orders.{StepBy}
 use Rattle.history.specs.Lists.{list_at}
 use Rattle.history.specs.declared.lane_list.LaneList.{LaneList}
 use Rattle.hop_rule.specs.Boards.{IsLawful, lane_at, lanes_of, out}
-use Rattle.hop_rule.specs.Deliveries.{given}
+use Rattle.hop_rule.specs.Deliveries.{delivered_from}
 use Rattle.hop_rule.specs.Fronts.{Front}
 use Rattle.hop_rule.specs.Lanes as lanes
 use Rattle.hop_rule.specs.Moments.{nth_step, past}
@@ -105,7 +105,7 @@ module _ (about : BoardSizes) (order : List (StepBy BoardStep))
     abbrev mine : List BoardStep
     mine = own order (puller about l)
 
-    gifts : given l (lanes_of order) ≡ delivered_by l mine
+    gifts : delivered_from l (lanes_of order) ≡ delivered_by l mine
     gifts = given_own about l order lawful
 
     pulled : all_of (pulled_in l) order ≡ pulled_by l mine
@@ -215,4 +215,4 @@ module _ (about : BoardSizes) (order : List (StepBy BoardStep))
 
   pub deliveries_have_places : DeliveriesHavePlaces about (own order) lists
   deliveries_have_places =
-      record { stand = gives_place; given = was_given; apart = places_apart }
+      record { stand = gives_place; delivered_from = was_given; apart = places_apart }

@@ -51,7 +51,7 @@ put_shape about l id hash x (Some cause) t =
     record { limit = t.limit; room = t.room; start = t.start; limited = t.limited }
 
 change_shape : (about : BoardSizes) (l : ℕ) (c : Change) (x : LaneLists) → Shape about l x
-    → Shape about l (lanes.changed c x)
+    → Shape about l (lanes.lane_changed c x)
 change_shape about l Nothing x t = t
 change_shape about l (Offered id hash answer) x t =
     put_shape about l id hash x (lane_drop_cause x hash) t

@@ -13,8 +13,8 @@ use Rattle.linearization.specs.Orders.{StepBy, step_by}
 use Rattle.linearization.proofs.ListLemmas.{if_same, if_other}
 use Rattle.linearization.proofs.ViewLemmas.{steps_of_own, steps_of_other}
 use Rattle.hop_rule.specs.Boards.{IsLawful, MayCome, lane_at, lanes_of, retired}
-use Rattle.hop_rule.specs.Deliveries.{delivery, given}
-use Rattle.hop_rule.specs.Lanes.{changed}
+use Rattle.hop_rule.specs.Deliveries.{delivery, delivered_from}
+use Rattle.hop_rule.specs.Lanes.{lane_changed}
 use Rattle.hop_rule.specs.Moments.{nth_step}
 use Rattle.hop_rule.specs.Owns.{own_of}
 use Rattle.hop_rule.specs.Sizes.{puller}
@@ -59,17 +59,19 @@ module _ (about : BoardSizes) (l : ℕ) where
   -- ---- deliveries
 
   given_adds : (q : ℕ) (d : BoardStep) (es : Order) → MayCome about q es d
-      → given l (lanes_of (step_by q d ∷ es))
-      ≡ cons_option (delivered_in l d) (given l (lanes_of es))
+      → delivered_from l (lanes_of (step_by q d ∷ es))
+      ≡ cons_option (delivered_in l d) (delivered_from l (lanes_of es))
   given_adds q (Lane (Given o from id place)) es may =
-      pick from l (delivery o id place ∷ given l (lanes_of es)) (given l (lanes_of es))
+      pick from l (delivery o id place ∷ delivered_from l (lanes_of es))
+      (delivered_from l (lanes_of es))
       (λ gs. gs ≡ cons_option (delivered_in l (Lane (Given o from id place)))
-      (given l (lanes_of es)))
+      (delivered_from l (lanes_of es)))
       (λ e. pick from l (Some (delivery o id place)) None
-      (λ z. delivery o id place ∷ given l (lanes_of es) ≡ cons_option z (given l (lanes_of es)))
+      (λ z. delivery o id place ∷ delivered_from l (lanes_of es) ≡ cons_option z
+      (delivered_from l (lanes_of es)))
       (λ _. refl) (λ ne. absurd (ne e)))
       (λ ne. pick from l (Some (delivery o id place)) None
-      (λ z. given l (lanes_of es) ≡ cons_option z (given l (lanes_of es)))
+      (λ z. delivered_from l (lanes_of es) ≡ cons_option z (delivered_from l (lanes_of es)))
       (λ e. absurd (ne e)) (λ _. refl))
   given_adds q d es may = refl
 
@@ -81,8 +83,9 @@ module _ (about : BoardSizes) (l : ℕ) where
   given_alone q d es may other = refl
 
   pub given_own : (es : Order) → IsLawful about es
-      → given l (lanes_of es) ≡ delivered_by l (own_of es P)
-  given_own = is_own (delivered_in l) (λ es. given l (lanes_of es)) refl given_adds given_alone
+      → delivered_from l (lanes_of es) ≡ delivered_by l (own_of es P)
+  given_own = is_own (delivered_in l) (λ es. delivered_from l (lanes_of es)) refl given_adds
+      given_alone
 
 -- ---- steps of one kind, by the whole order
 
@@ -183,14 +186,14 @@ module _ (about : BoardSizes) (l : ℕ) where
       subst (λ (z : List ℕ × LaneLists). Pulls z.0 z.1)
       (λ k. (
         cons_option (sym (if_same i l (Some id) None e) k) ids,
-        sym (if_same i l (changed (Pulled id) x) x e) k,
+        sym (if_same i l (lane_changed (Pulled id) x) x e) k,
       ))
       (omega arith, (ap (slice_get x.accepted) (sym t.0) ∙ next, t.1)))
       (λ ne.
       subst (λ (z : List ℕ × LaneLists). Pulls z.0 z.1)
       (λ k. (
         cons_option (sym (if_other i l (Some id) None ne) k) ids,
-        sym (if_other i l (changed (Pulled id) x) x ne) k,
+        sym (if_other i l (lane_changed (Pulled id) x) x ne) k,
       )) t)
   pulls_step q d es lawful may t = t
 

@@ -122,7 +122,7 @@ module _ (about : BoardSizes) (l : ℕ) where
       (kind (Lane (Freed i (Offered id hash (answer_by cause x))))) + read x)
       (other : (i id : ℕ) (hash : Option ℕ) (answer : Put) → i ≢ l
       → gained (kind (Lane (Freed i (Offered id hash answer)))) ≡ 0)
-      (pulls : (x : LaneLists) (id : ℕ) → read (lanes.changed (Pulled id) x) ≡ read x)
+      (pulls : (x : LaneLists) (id : ℕ) → read (lanes.lane_changed (Pulled id) x) ≡ read x)
       (calm : (d : BoardStep) → is_put d ≡ 0 → gained (kind d) ≡ 0) where
     reads : (q : ℕ) (d : BoardStep) (es : Order) → IsLawful about es → MayCome about q es d
         → read (lane_at about (step_by q d ∷ es) l) ≡ gained (kind d) + read (lane_at about es l)
@@ -148,7 +148,7 @@ module _ (about : BoardSizes) (l : ℕ) where
     reads q (Lane (Freed i (Pulled id))) es lawful may =
         let x : LaneLists = lane_at about es l in
         let none = calm (Lane (Freed i (Pulled id))) refl in
-        pick i l (lanes.changed (Pulled id) x) x (λ (y : LaneLists). read y ≡ gained
+        pick i l (lanes.lane_changed (Pulled id) x) x (λ (y : LaneLists). read y ≡ gained
         (kind (Lane (Freed i (Pulled id)))) + read x)
         (λ _. let same = pulls x id in omega arith) (λ _. omega arith)
     reads q d es lawful may = let none = calm d refl in omega arith

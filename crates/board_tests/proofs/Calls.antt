@@ -38,7 +38,7 @@ use Rattle.board_api.specs.declared.held_lane.HeldLane.{HeldLane}
 use Rattle.board_api.specs.declared.held_lane.HeldLane.TheVariants as held
 use Rattle.board_api.specs.declared.held_lane.LaneId.{LaneId}
 use Rattle.board_api.specs.declared.held_lane.LaneId.TheVariants as id
-use Rattle.board_tests.specs.Stands.{IsIn, IsOut, Stands, hand_of, no_hand, opened_by}
+use Rattle.board_tests.specs.Stands.{IsIn, SeatIsOutside, SeatIs, hand_of, no_hand, opened_by}
 
 abbrev Seat : Type 0
 Seat = BoardSeatView
@@ -128,16 +128,16 @@ out_at about o i x old mid e t = subst (λ (z : ℕ). TookOut about z x old mid)
 
 module _ (board : BoardView) (number : ℕ) where
   At : Visit → ℕ → (ℕ → Phase) → Seat → Type 0
-  At place gate hand seat = Stands board number place gate hand seat
+  At place gate hand seat = SeatIs board number place gate hand seat
 
   -- steps at the gate, and loads, leave lanes and hands as they were
   at_gate : (from place : Visit) (before gate : ℕ) (hand : ℕ → Phase) (old new : Seat)
-      (steps : List BoardStep) (found : Bool) → Stands board number from before hand old
+      (steps : List BoardStep) (found : Bool) → SeatIs board number from before hand old
       → new ≡ record old { steps = steps; has_emptied = found }
       → lane_steps steps ≡ lane_steps old.steps → visit (gate_steps steps) ≡ place
-      → closed (gate_steps steps) ≡ gate → Stands board number place gate hand new
+      → closed (gate_steps steps) ≡ gate → SeatIs board number place gate hand new
   at_gate from place before gate hand old new steps found s e same v c =
-      subst (Stands board number place gate hand) (sym e)
+      subst (SeatIs board number place gate hand) (sym e)
       record {
         table = s.table;
         number_is = s.number_is;
@@ -149,51 +149,51 @@ module _ (board : BoardView) (number : ℕ) where
       }
 
   module _ (hand : ℕ → Phase) (old new : Seat) where
-    pub entered : Stands board number outside 0 hand old → EnterTells old new enter.Ok
-        → Stands board number inside 0 hand new
+    pub entered : SeatIs board number outside 0 hand old → EnterTells old new enter.Ok
+        → SeatIs board number inside 0 hand new
     entered s t =
         at_gate outside inside 0 0 hand old new (Gate (Entered t.0) ∷ old.steps) old.has_emptied s
         t.2 refl refl s.gate_is
 
-    pub refused : (word : ℕ) → Stands board number outside 0 hand old
-        → EnterTells old new (enter.Closed word) → Stands board number outside 0 hand new
+    pub refused : (word : ℕ) → SeatIs board number outside 0 hand old
+        → EnterTells old new (enter.Closed word) → SeatIs board number outside 0 hand new
     refused word s t =
         at_gate outside outside 0 0 hand old new (Gate Left ∷ Gate (Turned word) ∷ old.steps)
         old.has_emptied s t.1 refl refl s.gate_is
 
-    pub has_read : (place : Visit) (gate i value : ℕ) → Stands board number place gate hand old
-        → Adds (Gate (Read i value) ∷ []) old new → Stands board number place gate hand new
+    pub has_read : (place : Visit) (gate i value : ℕ) → SeatIs board number place gate hand old
+        → Adds (Gate (Read i value) ∷ []) old new → SeatIs board number place gate hand new
     has_read place gate i value s t =
         at_gate place place gate gate hand old new (Gate (Read i value) ∷ old.steps)
         old.has_emptied s t refl s.place_is s.gate_is
 
-    pub weighed : (place : Visit) (gate lane head : ℕ) → Stands board number place gate hand old
-        → WeighTells lane old new head → Stands board number place gate hand new
+    pub weighed : (place : Visit) (gate lane head : ℕ) → SeatIs board number place gate hand old
+        → WeighTells lane old new head → SeatIs board number place gate hand new
     weighed place gate lane head s t =
         at_gate place place gate gate hand old new (Weighed lane t.0 ∷ old.steps) old.has_emptied s
         t.2 refl s.place_is s.gate_is
 
-    pub has_left : Stands board number inside 0 hand old → Adds (Gate Left ∷ []) old new
-        → Stands board number outside 0 hand new
+    pub has_left : SeatIs board number inside 0 hand old → Adds (Gate Left ∷ []) old new
+        → SeatIs board number outside 0 hand new
     has_left s t =
         at_gate inside outside 0 0 hand old new (Gate Left ∷ old.steps) old.has_emptied s t refl
         refl s.gate_is
 
-    pub has_shut : Stands board number outside 0 hand old
-        → CloseTells board.sizes old new close.Ok → Stands board number outside 1 hand new
+    pub has_shut : SeatIs board number outside 0 hand old
+        → CloseTells board.sizes old new close.Ok → SeatIs board number outside 1 hand new
     has_shut s t =
         at_gate outside outside 0 1 hand old new
         (Gate (Shut (openings (gate_steps old.steps) * 2 ^ 32)) ∷ old.steps) false s t refl
         s.place_is refl
 
-    pub has_not_shut : (n : ℕ) → Stands board number outside 0 hand old
-        → CloseTells board.sizes old new (close.Inside n) → Stands board number outside 0 hand new
+    pub has_not_shut : (n : ℕ) → SeatIs board number outside 0 hand old
+        → CloseTells board.sizes old new (close.Inside n) → SeatIs board number outside 0 hand new
     has_not_shut n s t =
         at_gate outside outside 0 0 hand old new (Gate (NotShut t.0) ∷ old.steps) old.has_emptied
         s t.4 refl s.place_is s.gate_is
 
-    pub has_looked : (mask : CpuMask) (e : Emptied) → Stands board number outside 1 hand old
-        → EmptiedTells board.sizes mask old new e → Stands board number outside 1 hand new
+    pub has_looked : (mask : CpuMask) (e : Emptied) → SeatIs board number outside 1 hand old
+        → EmptiedTells board.sizes mask old new e → SeatIs board number outside 1 hand new
     has_looked mask emptied.Ok s t =
         at_gate outside outside 1 1 hand old new (looking t.looked old.steps) true s t.step
         (lanes-looking t.looked old.steps)
@@ -206,23 +206,23 @@ module _ (board : BoardView) (number : ℕ) where
         (ap visit (gates-looking looked old.steps) ∙ s.place_is)
         (ap closed (gates-looking looked old.steps) ∙ s.gate_is)
 
-    pub has_set : (i value : ℕ) → Stands board number outside 1 hand old
-        → Adds (Gate (Set i value) ∷ []) old new → Stands board number outside 1 hand new
+    pub has_set : (i value : ℕ) → SeatIs board number outside 1 hand old
+        → Adds (Gate (Set i value) ∷ []) old new → SeatIs board number outside 1 hand new
     has_set i value s t =
         at_gate outside outside 1 1 hand old new (Gate (Set i value) ∷ old.steps) old.has_emptied
         s t refl s.place_is s.gate_is
 
-    pub has_opened : Stands board number outside 1 hand old → OpenTells old new
-        → Stands board number outside 0 hand new
+    pub has_opened : SeatIs board number outside 1 hand old → OpenTells old new
+        → SeatIs board number outside 0 hand new
     has_opened s t =
         at_gate outside outside 1 0 hand old new (Gate Opened ∷ old.steps) false s t refl
         s.place_is refl
 
     -- a lane that another seat holds
-    pub missed : (place : Visit) (lane : LaneId) (word : ℕ) → Stands board number place 0 hand old
-        → Adds (MissedAt lane word ∷ []) old new → Stands board number place 0 hand new
+    pub missed : (place : Visit) (lane : LaneId) (word : ℕ) → SeatIs board number place 0 hand old
+        → Adds (MissedAt lane word ∷ []) old new → SeatIs board number place 0 hand new
     missed place (id.Middle l) word s t =
-        subst (Stands board number place 0 hand) (sym t)
+        subst (SeatIs board number place 0 hand) (sym t)
         record {
           table = s.table;
           number_is = s.number_is;
@@ -233,7 +233,7 @@ module _ (board : BoardView) (number : ℕ) where
           outs = s.outs;
         }
     missed place (id.Out o) word s t =
-        subst (Stands board number place 0 hand) (sym t)
+        subst (SeatIs board number place 0 hand) (sym t)
         record {
           table = s.table;
           number_is = s.number_is;
@@ -249,15 +249,15 @@ module _ (board : BoardView) (number : ℕ) where
   module _ (place : Visit) (old mid new : Seat) where
     -- a middle lane, with a change
     freed : (hand after : ℕ → Phase) (i : ℕ) (x : LaneLists) (change : Change)
-        → Stands board number place 0 hand old → TookMiddle i x old mid
+        → SeatIs board number place 0 hand old → TookMiddle i x old mid
         → Adds (released i change) mid new
         → ((l : ℕ) → freed_phase l i change (phase l (lane_steps old.steps)) ≡ after l)
-        → Stands board number place 0 after new
+        → SeatIs board number place 0 after new
     freed hand after i x change s t e hands =
-        subst (Stands board number place 0 after) (sym e)
+        subst (SeatIs board number place 0 after) (sym e)
         (subst
         (λ (m : Seat).
-        Stands board number place 0 after (record m { steps = released i change ++ m.steps }))
+        SeatIs board number place 0 after (record m { steps = released i change ++ m.steps }))
         (sym t.step)
         record {
           table = s.table;
@@ -271,13 +271,13 @@ module _ (board : BoardView) (number : ℕ) where
 
     -- an out lane, as it was
     out_freed : (hand : ℕ → Phase) (o k : ℕ) (x : OutList) (about : BoardSizes)
-        → Stands board number place 0 hand old → TookOut about o x old mid
-        → Adds (Lane (OutFreed o) ∷ LaneIn k ∷ []) mid new → Stands board number place 0 hand new
+        → SeatIs board number place 0 hand old → TookOut about o x old mid
+        → Adds (Lane (OutFreed o) ∷ LaneIn k ∷ []) mid new → SeatIs board number place 0 hand new
     out_freed hand o k x about s t e =
-        subst (Stands board number place 0 hand) (sym e)
+        subst (SeatIs board number place 0 hand) (sym e)
         (subst
         (λ (m : Seat).
-        Stands board number place 0 hand
+        SeatIs board number place 0 hand
         (record m { steps = Lane (OutFreed o) ∷ LaneIn k ∷ m.steps }))
         (sym t.step)
         record {
@@ -292,14 +292,14 @@ module _ (board : BoardView) (number : ℕ) where
 
     -- an out lane, with one packet more
     out_given : (o k from packet count : ℕ) (p : Phase) (x : OutList) (about : BoardSizes)
-        → Stands board number place 0 (hand_of from p) old → TookOut about o x old mid
+        → SeatIs board number place 0 (hand_of from p) old → TookOut about o x old mid
         → Adds (Lane (Given o from packet count) ∷ LaneIn k ∷ []) mid new
-        → Stands board number place 0 (hand_of from gave) new
+        → SeatIs board number place 0 (hand_of from gave) new
     out_given o k from packet count p x about s t e =
-        subst (Stands board number place 0 (hand_of from gave)) (sym e)
+        subst (SeatIs board number place 0 (hand_of from gave)) (sym e)
         (subst
         (λ (m : Seat).
-        Stands board number place 0 (hand_of from gave)
+        SeatIs board number place 0 (hand_of from gave)
         (record m { steps = Lane (Given o from packet count) ∷ LaneIn k ∷ m.steps }))
         (sym t.step)
         record {
@@ -313,8 +313,8 @@ module _ (board : BoardView) (number : ℕ) where
         })
 
     pub given_back : (hand : ℕ → Phase) (lane : LaneId) (h : HeldLane)
-        → Stands board number place 0 hand old → Took board.sizes lane old mid h
-        → BackTells board.sizes h mid new → Stands board number place 0 hand new
+        → SeatIs board number place 0 hand old → Took board.sizes lane old mid h
+        → BackTells board.sizes h mid new → SeatIs board number place 0 hand new
     given_back hand (id.Middle l) (held.Middle i x) s t e =
         freed hand hand i x Nothing s (middle_at l i x old mid t.0 t.1) e s.hands
     given_back hand (id.Out o) (held.Out i x) s t e =
@@ -324,36 +324,36 @@ module _ (board : BoardView) (number : ℕ) where
     given_back hand (id.Out o) (held.Middle i x) s t e = absurd t
 
     pub has_put : (hand : ℕ → Phase) (l packet : ℕ) (hash : Option ℕ) (answer : Put)
-        (h : HeldLane) → Stands board number place 0 hand old
+        (h : HeldLane) → SeatIs board number place 0 hand old
         → Took board.sizes (id.Middle l) old mid h → PutTells h packet hash mid new answer
-        → Stands board number place 0 hand new
+        → SeatIs board number place 0 hand new
     has_put hand l packet hash answer (held.Middle i x) s t e =
         freed hand hand i x (Offered packet hash answer) s
         (middle_at l i x old mid t.0 t.1) e.1 s.hands
     has_put hand l packet hash answer (held.Out i x) s t e = absurd t
 
-    pub pulled_none : (l : ℕ) (h : HeldLane) → Stands board number place 0 no_hand old
+    pub pulled_none : (l : ℕ) (h : HeldLane) → SeatIs board number place 0 no_hand old
         → Took board.sizes (id.Middle l) old mid h → PullTells board.sizes h mid new pull.Empty
-        → Stands board number place 0 no_hand new
+        → SeatIs board number place 0 no_hand new
     pulled_none l (held.Middle i x) s t e =
         freed no_hand no_hand i x Nothing s (middle_at l i x old mid t.0 t.1) e.1 s.hands
     pulled_none l (held.Out i x) s t e = absurd t
 
-    pub pulled_one : (l packet : ℕ) (h : HeldLane) → Stands board number place 0 no_hand old
+    pub pulled_one : (l packet : ℕ) (h : HeldLane) → SeatIs board number place 0 no_hand old
         → Took board.sizes (id.Middle l) old mid h
         → PullTells board.sizes h mid new (pull.Took packet)
-        → Stands board number place 0 (hand_of l (has_pulled packet)) new
+        → SeatIs board number place 0 (hand_of l (has_pulled packet)) new
     pulled_one l packet (held.Middle i x) s t e =
-        subst (λ (z : ℕ). Stands board number place 0 (hand_of z (has_pulled packet)) new) t.0
+        subst (λ (z : ℕ). SeatIs board number place 0 (hand_of z (has_pulled packet)) new) t.0
         (freed no_hand (hand_of i (has_pulled packet)) i x (Pulled packet) s
         (middle_at l i x old mid t.0 t.1) e.2
         (λ z. ap (λ o. if i == z then has_pulled packet else o) (s.hands z)))
     pulled_one l packet (held.Out i x) s t e = absurd t
 
     pub delivered : (from o count : ℕ) (p : Phase) (h : HeldLane)
-        → Stands board number place 0 (hand_of from p) old → Took board.sizes (id.Out o) old mid h
+        → SeatIs board number place 0 (hand_of from p) old → Took board.sizes (id.Out o) old mid h
         → DeliverTells board.sizes h from mid new count
-        → Stands board number place 0 (hand_of from gave) new
+        → SeatIs board number place 0 (hand_of from gave) new
     delivered from o count p (held.Out i x) s t e =
         out_given i (board.sizes.lanes + i) from e.0 count p x board.sizes s
         (out_at board.sizes o i x old mid t.0 t.1) e.3
@@ -361,10 +361,10 @@ module _ (board : BoardView) (number : ℕ) where
 
   -- the packet was retired
   pub raised : (place : Visit) (lane : ℕ) (p : Phase) (old new : Seat)
-      → Stands board number place 0 (hand_of lane p) old → RetireTells lane old new
-      → Stands board number place 0 no_hand new
+      → SeatIs board number place 0 (hand_of lane p) old → RetireTells lane old new
+      → SeatIs board number place 0 no_hand new
   raised place lane p old new s t =
-      subst (Stands board number place 0 no_hand) (sym t.1)
+      subst (SeatIs board number place 0 no_hand) (sym t.1)
       record {
         table = s.table;
         number_is = s.number_is;
@@ -377,8 +377,8 @@ module _ (board : BoardView) (number : ℕ) where
 
 -- the same seat by an equal number
 pub by_number : (board : BoardView) (m n : ℕ) (place : Visit) (gate : ℕ) (hand : ℕ → Phase)
-    (seat : Seat) → m ≡ n → Stands board m place gate hand seat
-    → Stands board n place gate hand seat
+    (seat : Seat) → m ≡ n → SeatIs board m place gate hand seat
+    → SeatIs board n place gate hand seat
 by_number board m n place gate hand seat e s =
     record {
       table = s.table;
@@ -392,7 +392,7 @@ by_number board m n place gate hand seat e s =
 
 -- a visit up to its second load
 pub has_seen : (board : BoardView) (old in_visit read new : Seat) (value lane head : ℕ)
-    → IsOut board old.number old → EnterTells old in_visit enter.Ok
+    → SeatIsOutside board old.number old → EnterTells old in_visit enter.Ok
     → Adds (Gate (Read 0 value) ∷ []) in_visit read → WeighTells lane read new head
     → IsIn board old.number new
 has_seen board old in_visit read new value lane head s enters reads weighs =
@@ -403,13 +403,13 @@ has_seen board old in_visit read new value lane head s enters reads weighs =
 
 -- the packet that a seat has pulled
 pub pulled_here : (board : BoardView) (number : ℕ) (place : Visit) (lane packet : ℕ)
-    (old mid : Seat) → Stands board number place 0 (hand_of lane (has_pulled packet)) old
+    (old mid : Seat) → SeatIs board number place 0 (hand_of lane (has_pulled packet)) old
     → Keeps old mid → HasPulled mid.steps lane
 pulled_here board number place lane packet old mid s k =
     (packet, k.hands lane ∙ (s.hands lane ∙ if_same lane lane (has_pulled packet) idle refl))
 
 -- a seat outside, with nothing in hand, is at rest
-pub rests : (board : BoardView) (number : ℕ) (seat : Seat) → IsOut board number seat
+pub rests : (board : BoardView) (number : ℕ) (seat : Seat) → SeatIsOutside board number seat
     → IsAtRest board.sizes seat.steps
 rests board number seat s =
     record {

@@ -11,7 +11,7 @@ use Rattle.board_api.specs.Views.{BoardView}
 use Rattle.hop_board.specs.Made.{new_board_seats}
 use Rattle.hop_board.specs.Named.{board_seat}
 use Rattle.board_tests.proofs.Calls.{rests}
-use Rattle.board_tests.specs.Stands.{IsDone, IsOut}
+use Rattle.board_tests.specs.Stands.{IsDone, SeatIsOutside}
 
 abbrev pub Seat : Type 0
 Seat = BoardSeatView
@@ -51,9 +51,9 @@ front_is z (suc k) some =
     ∙ (front-from z 0 k ∙ ap (new_board_seats z) (sym e))
 
 pub fresh_out : (board : BoardView) (number : ℕ) (seat : Seat)
-    → seat ≡ new_seat board.table number → IsOut board number seat
+    → seat ≡ new_seat board.table number → SeatIsOutside board number seat
 fresh_out board number seat e =
-    subst (IsOut board number) (sym e)
+    subst (SeatIsOutside board number) (sym e)
     record {
       table = refl;
       number_is = refl;

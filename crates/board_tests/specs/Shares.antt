@@ -3,7 +3,7 @@ use Rattle.std.specs.Prelude.{◌≡◌, ℕ, ◌+◌, ◌<◌, ◌≤◌, lengt
 use Rattle.hop_rule.specs.declared.sizes.BoardSizes.{BoardSizes}
 use Rattle.board_api.specs.Seats.{BoardSeatView}
 use Rattle.board_api.specs.Views.{BoardView}
-use Rattle.board_tests.specs.Stands.{IsOut}
+use Rattle.board_tests.specs.Stands.{SeatIsOutside}
 
 -- a board of four lanes and two out lanes for these workers and one seat more, with a setting
 pub record IsWide (about : BoardSizes) (workers : ℕ) : Type 0 where
@@ -19,7 +19,7 @@ pub record IsWide (about : BoardSizes) (workers : ℕ) : Type 0 where
 pub record IsReady (board : BoardView) (number workers : ℕ) (seat : BoardSeatView)
     : Type 0 where
   pub within : number < workers
-  pub stands : IsOut board number seat
+  pub stands : SeatIsOutside board number seat
 
 -- the same at a wide board
 pub record MayWork (board : BoardView) (number workers : ℕ) (seat : BoardSeatView)

@@ -16,7 +16,7 @@ hand_of l p i = if l == i then p else idle
 
 -- The seat with this number, at this board: by its own steps it stands here, has closed the gate or
 -- not, holds no lane, and has these packets in hand.
-pub record Stands (board : BoardView) (number : ℕ) (place : Visit) (gate : ℕ) (hand : ℕ → Phase)
+pub record SeatIs (board : BoardView) (number : ℕ) (place : Visit) (gate : ℕ) (hand : ℕ → Phase)
     (seat : BoardSeatView) : Type 0 where
   pub table : seat.table ≡ board.table
   pub number_is : seat.number ≡ number
@@ -27,31 +27,31 @@ pub record Stands (board : BoardView) (number : ℕ) (place : Visit) (gate : ℕ
   pub outs : (o : ℕ) → out_holding o (lane_steps seat.steps) ≡ None
 
 -- outside, with nothing in hand
-abbrev pub IsOut : BoardView → ℕ → BoardSeatView → Type 0
-IsOut board number seat = Stands board number outside 0 no_hand seat
+abbrev pub SeatIsOutside : BoardView → ℕ → BoardSeatView → Type 0
+SeatIsOutside board number seat = SeatIs board number outside 0 no_hand seat
 
 -- the same by its own number
 abbrev pub IsDone : BoardView → BoardSeatView → Type 0
-IsDone board seat = IsOut board seat.number seat
+IsDone board seat = SeatIsOutside board seat.number seat
 
 -- inside
 abbrev pub IsIn : BoardView → ℕ → BoardSeatView → Type 0
-IsIn board number seat = Stands board number inside 0 no_hand seat
+IsIn board number seat = SeatIs board number inside 0 no_hand seat
 
 -- behind the gate that it has closed
 abbrev pub IsBehind : BoardView → ℕ → BoardSeatView → Type 0
-IsBehind board number seat = Stands board number outside 1 no_hand seat
+IsBehind board number seat = SeatIs board number outside 1 no_hand seat
 
 -- with a packet of the lane that it has pulled, if it has pulled one
 abbrev pub HasTaken : BoardView → ℕ → ℕ → Option ℕ → BoardSeatView → Type 0
 HasTaken board number lane (Some id) seat =
-    Stands board number outside 0 (hand_of lane (has_pulled id)) seat
-HasTaken board number lane None seat = IsOut board number seat
+    SeatIs board number outside 0 (hand_of lane (has_pulled id)) seat
+HasTaken board number lane None seat = SeatIsOutside board number seat
 
 -- with a packet of the lane that it has delivered, if it found the out lane free
 abbrev pub HasGiven : BoardView → ℕ → ℕ → ℕ → Option ℕ → BoardSeatView → Type 0
 HasGiven board number lane id (Some place) seat =
-    Stands board number outside 0 (hand_of lane gave) seat
+    SeatIs board number outside 0 (hand_of lane gave) seat
 HasGiven board number lane id None seat = HasTaken board number lane (Some id) seat
 
 -- how often the seat has opened the gate

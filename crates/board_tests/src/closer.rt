@@ -1,7 +1,7 @@
 //! What the thread of the gate does.
 ghost use Rattle.std.specs.Prelude.{◌≡◌, ◌<◌, ◌≤◌, ◌+◌, length, false, true};
 ghost use Rattle.board_api.specs.Calls.Rights.{IsCloser};
-ghost use Rattle.board_tests.specs.Stands.{IsBehind, IsOut, opened_by};
+ghost use Rattle.board_tests.specs.Stands.{IsBehind, SeatIsOutside, opened_by};
 
 use board_api::{Board, BoardSeat, CloseAnswer, Emptied};
 use steer_base::CpuMask;
@@ -14,8 +14,8 @@ pub fn change_often<B: Board>(board: &B, seat: &mut BoardSeat) -> u64
     requires closer { IsCloser (B.view board.now).sizes seat.old.number }
     requires setting { 0 < length (B.view board.now).sizes.settings }
     requires few { opened_by seat.old ≡ 0 }
-    requires stands { IsOut (B.view board.now) seat.old.number seat.old }
-    ensures { IsOut (B.view board.now) seat.old.number seat.new }
+    requires stands { SeatIsOutside (B.view board.now) seat.old.number seat.old }
+    ensures { SeatIsOutside (B.view board.now) seat.old.number seat.new }
 {
     let mut last = 0;
     for round in 0..ROUNDS {
@@ -37,8 +37,8 @@ pub fn change<B: Board>(board: &B, seat: &mut BoardSeat, lanes: CpuMask, value: 
     requires closer { IsCloser (B.view board.now).sizes seat.old.number }
     requires setting { 0 < length (B.view board.now).sizes.settings }
     requires few { opened_by seat.old < 1000000000 }
-    requires stands { IsOut (B.view board.now) seat.old.number seat.old }
-    ensures stands { IsOut (B.view board.now) seat.old.number seat.new }
+    requires stands { SeatIsOutside (B.view board.now) seat.old.number seat.old }
+    ensures stands { SeatIsOutside (B.view board.now) seat.old.number seat.new }
     ensures few { opened_by seat.new ≤ opened_by seat.old + 1 }
 {
     if !close(board, seat) {
@@ -53,9 +53,9 @@ pub fn change<B: Board>(board: &B, seat: &mut BoardSeat, lanes: CpuMask, value: 
 fn close<B: Board>(board: &B, seat: &mut BoardSeat) -> bool
     requires closer { IsCloser (B.view board.now).sizes seat.old.number }
     requires few { opened_by seat.old < 1000000000 }
-    requires stands { IsOut (B.view board.now) seat.old.number seat.old }
+    requires stands { SeatIsOutside (B.view board.now) seat.old.number seat.old }
     ensures closed { result ≡ true → IsBehind (B.view board.now) seat.old.number seat.new }
-    ensures open { result ≡ false → IsOut (B.view board.now) seat.old.number seat.new }
+    ensures open { result ≡ false → SeatIsOutside (B.view board.now) seat.old.number seat.new }
     ensures few { opened_by seat.new ≡ opened_by seat.old }
 {
     match board.try_close(seat) {

@@ -3,7 +3,7 @@ ghost use Rattle.std.specs.Prelude.{◌≡◌, ◌+◌, ◌-◌, ◌<◌, All, I
 ghost use Rattle.std.specs.Vec.{vec_len};
 ghost use Rattle.hop_board.specs.Made.{new_board_seats};
 ghost use Rattle.board_tests.specs.Shares.{IsReady};
-ghost use Rattle.board_tests.specs.Stands.{IsDone, IsOut, opened_by};
+ghost use Rattle.board_tests.specs.Stands.{IsDone, SeatIsOutside, opened_by};
 
 use crate::notes::Notes;
 use crate::rounds::Stuck;
@@ -42,7 +42,7 @@ pub fn last_seat(board: &Board, seats: &mut Vec<BoardSeat>, count: u32) -> Optio
     requires some { 0 < count }
     requires seats { seats.old.items ≡ new_board_seats board.now.table count }
     requires all { vec_len seats.old ≡ count }
-    ensures stands { IfSome result (λ s. IsOut board.now (count - 1) s) }
+    ensures stands { IfSome result (λ s. SeatIsOutside board.now (count - 1) s) }
     ensures opened { IfSome result (λ s. opened_by s ≡ 0) }
     ensures seats { seats.new.items ≡ new_board_seats board.now.table (count - 1) }
     ensures all { vec_len seats.new ≡ count - 1 }

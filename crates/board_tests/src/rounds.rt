@@ -3,7 +3,8 @@ ghost use Rattle.std.specs.Prelude.{◌≡◌, ◌<◌, IfOk, length, Some};
 ghost use Rattle.hop_rule.specs.Gates.{outside};
 ghost use Rattle.hop_rule.specs.Lanes.{gave};
 ghost use Rattle.board_api.specs.Calls.Rights.{Pulls};
-ghost use Rattle.board_tests.specs.Stands.{HasGiven, HasTaken, IsIn, IsOut, Stands, hand_of};
+ghost use Rattle.board_tests.specs.Stands.{HasGiven, HasTaken, IsIn, SeatIsOutside, SeatIs};
+ghost use Rattle.board_tests.specs.Stands.{hand_of};
 
 use board_api::{Board, BoardSeat, EnterAnswer, Hold, LaneId, Pull};
 use steer_base::{OutOfMemory, PacketId, Put};
@@ -34,8 +35,8 @@ pub fn visit<B: Board>(board: &B, seat: &mut BoardSeat, lane: u8, id: PacketId) 
     requires lane { lane < (B.view board.now).sizes.lanes }
     requires id { id < (B.view board.now).sizes.room }
     requires setting { 0 < length (B.view board.now).sizes.settings }
-    requires stands { IsOut (B.view board.now) seat.old.number seat.old }
-    ensures { IsOut (B.view board.now) seat.old.number seat.new }
+    requires stands { SeatIsOutside (B.view board.now) seat.old.number seat.old }
+    ensures { SeatIsOutside (B.view board.now) seat.old.number seat.new }
 {
     match board.enter(seat) {
         EnterAnswer::Ok => {}
@@ -81,8 +82,8 @@ pub fn serve<B: Board>(
     requires lane { lane < (B.view board.now).sizes.lanes }
     requires out { out < (B.view board.now).sizes.outs }
     requires mine { Pulls (B.view board.now).sizes seat.old.number lane }
-    requires stands { IsOut (B.view board.now) seat.old.number seat.old }
-    ensures { IfOk result (λ _. IsOut (B.view board.now) seat.old.number seat.new) }
+    requires stands { SeatIsOutside (B.view board.now) seat.old.number seat.old }
+    ensures { IfOk result (λ _. SeatIsOutside (B.view board.now) seat.old.number seat.new) }
 {
     let Some(id) = take(board, seat, lane) else {
         return Ok(None);
@@ -98,7 +99,7 @@ pub fn serve<B: Board>(
 fn take<B: Board>(board: &B, seat: &mut BoardSeat, lane: u8) -> Option<PacketId>
     requires lane { lane < (B.view board.now).sizes.lanes }
     requires mine { Pulls (B.view board.now).sizes seat.old.number lane }
-    requires stands { IsOut (B.view board.now) seat.old.number seat.old }
+    requires stands { SeatIsOutside (B.view board.now) seat.old.number seat.old }
     ensures { HasTaken (B.view board.now) seat.old.number lane result seat.new }
 {
     let held = match board.try_hold(seat, LaneId::Middle(lane)) {
@@ -156,9 +157,9 @@ fn give<B: Board>(board: &B, seat: &mut BoardSeat, lane: u8, id: PacketId, out: 
 fn raise<B: Board>(board: &B, seat: &mut BoardSeat, lane: u8)
     requires lane { lane < (B.view board.now).sizes.lanes }
     requires mine { Pulls (B.view board.now).sizes seat.old.number lane }
-    requires stands { Stands (B.view board.now) seat.old.number outside 0 (hand_of lane gave)
+    requires stands { SeatIs (B.view board.now) seat.old.number outside 0 (hand_of lane gave)
         seat.old }
-    ensures { IsOut (B.view board.now) seat.old.number seat.new }
+    ensures { SeatIsOutside (B.view board.now) seat.old.number seat.new }
 {
     board.retire(seat, lane);
 }
@@ -166,8 +167,8 @@ fn raise<B: Board>(board: &B, seat: &mut BoardSeat, lane: u8)
 /// How many packets more fit a lane, where it is free.
 pub fn room_of<B: Board>(board: &B, seat: &mut BoardSeat, lane: u8) -> Option<u32>
     requires lane { lane < (B.view board.now).sizes.lanes }
-    requires stands { IsOut (B.view board.now) seat.old.number seat.old }
-    ensures { IsOut (B.view board.now) seat.old.number seat.new }
+    requires stands { SeatIsOutside (B.view board.now) seat.old.number seat.old }
+    ensures { SeatIsOutside (B.view board.now) seat.old.number seat.new }
 {
     let held = match board.try_hold(seat, LaneId::Middle(lane)) {
         Hold::Ok(held) => held,
@@ -181,8 +182,8 @@ pub fn room_of<B: Board>(board: &B, seat: &mut BoardSeat, lane: u8) -> Option<u3
 /// The packet at an index of an out lane, where the lane is free and has it.
 pub fn read<B: Board>(board: &B, seat: &mut BoardSeat, out: u8, n: u32) -> Option<PacketId>
     requires out { out < (B.view board.now).sizes.outs }
-    requires stands { IsOut (B.view board.now) seat.old.number seat.old }
-    ensures { IsOut (B.view board.now) seat.old.number seat.new }
+    requires stands { SeatIsOutside (B.view board.now) seat.old.number seat.old }
+    ensures { SeatIsOutside (B.view board.now) seat.old.number seat.new }
 {
     let held = match board.try_hold(seat, LaneId::Out(out)) {
         Hold::Ok(held) => held,

@@ -5,7 +5,7 @@ ghost use Rattle.std.specs.Thread.{IsSync};
 ghost use Rattle.std.specs.Vec.{vec_len};
 ghost use Rattle.board_api.specs.Calls.Rights.{IsCloser};
 ghost use Rattle.board_tests.specs.Shares.{MayWork};
-ghost use Rattle.board_tests.specs.Stands.{IsDone, IsOut, opened_by};
+ghost use Rattle.board_tests.specs.Stands.{IsDone, SeatIsOutside, opened_by};
 
 use crate::closer::change_often;
 use crate::crew::{add_seat, last_seat, last_worker, lists_of, wide_shape};
@@ -27,7 +27,7 @@ fn keep_gate(board: &Board, mut seat: BoardSeat) -> (BoardSeat, u64)
     requires closer { IsCloser board.now.sizes seat.number }
     requires setting { 0 < length board.now.sizes.settings }
     requires opened { opened_by seat ≡ 0 }
-    requires stands { IsOut board.now seat.number seat }
+    requires stands { SeatIsOutside board.now seat.number seat }
     ensures { IsDone board.now result.0 }
 {
     let last = change_often(board, &mut seat);

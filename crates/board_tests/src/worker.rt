@@ -1,7 +1,7 @@
 //! A thread that puts packets to all lanes, and serves its own.
 ghost use Rattle.std.specs.Prelude.{◌≡◌, ◌<◌, ◌≤◌, IfOk, IfSome, length};
 ghost use Rattle.board_api.specs.Calls.Rights.{Pulls};
-ghost use Rattle.board_tests.specs.Stands.{IsDone, IsOut};
+ghost use Rattle.board_tests.specs.Stands.{IsDone, SeatIsOutside};
 ghost use Rattle.board_tests.specs.Shares.{IsReady, IsWide};
 
 use crate::notes::{Gift, Notes, Offer, Reading};
@@ -71,8 +71,8 @@ fn offer_soon<B: Board>(
     requires lane { lane < (B.view board.now).sizes.lanes }
     requires id { id < (B.view board.now).sizes.room }
     requires setting { 0 < length (B.view board.now).sizes.settings }
-    requires stands { IsOut (B.view board.now) seat.old.number seat.old }
-    ensures { IfOk result (λ _. IsOut (B.view board.now) seat.old.number seat.new) }
+    requires stands { SeatIsOutside (B.view board.now) seat.old.number seat.old }
+    ensures { IfOk result (λ _. SeatIsOutside (B.view board.now) seat.old.number seat.new) }
 {
     for _ in 0..OFFERS {
         if offer_once(board, seat, lane, id, notes)? {
@@ -93,8 +93,8 @@ fn offer_once<B: Board>(
     requires lane { lane < (B.view board.now).sizes.lanes }
     requires id { id < (B.view board.now).sizes.room }
     requires setting { 0 < length (B.view board.now).sizes.settings }
-    requires stands { IsOut (B.view board.now) seat.old.number seat.old }
-    ensures { IfOk result (λ _. IsOut (B.view board.now) seat.old.number seat.new) }
+    requires stands { SeatIsOutside (B.view board.now) seat.old.number seat.old }
+    ensures { IfOk result (λ _. SeatIsOutside (B.view board.now) seat.old.number seat.new) }
 {
     let Some(seen) = visit(board, seat, lane, id) else {
         return Ok(false);
@@ -122,8 +122,8 @@ fn serve_all<B: Board>(
 ) -> Result<(), Stuck>
     requires wide { IsWide (B.view board.now).sizes workers }
     requires out { out < 2 }
-    requires stands { IsOut (B.view board.now) number seat.old }
-    ensures { IfOk result (λ _. IsOut (B.view board.now) number seat.new) }
+    requires stands { SeatIsOutside (B.view board.now) number seat.old }
+    ensures { IfOk result (λ _. SeatIsOutside (B.view board.now) number seat.new) }
 {
     for turn in 0..2 * LANES {
         let lane = turn % LANES;
@@ -145,8 +145,8 @@ fn serve_one<B: Board>(
     requires lane { lane < (B.view board.now).sizes.lanes }
     requires out { out < (B.view board.now).sizes.outs }
     requires mine { Pulls (B.view board.now).sizes seat.old.number lane }
-    requires stands { IsOut (B.view board.now) seat.old.number seat.old }
-    ensures { IfOk result (λ _. IsOut (B.view board.now) seat.old.number seat.new) }
+    requires stands { SeatIsOutside (B.view board.now) seat.old.number seat.old }
+    ensures { IfOk result (λ _. SeatIsOutside (B.view board.now) seat.old.number seat.new) }
 {
     if let Some((id, place)) = serve(board, seat, lane, out)? {
         notes.given(Gift {

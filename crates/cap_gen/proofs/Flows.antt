@@ -5,11 +5,12 @@ use Rattle.flow_dissector.specs.Ethernet.{after_tags, packet_in}
 use Rattle.flow_dissector.specs.Frame.{ip_flow, flow_of}
 use Rattle.flow_dissector.specs.Ipv4.{is_ipv4, ipv4_payload, ipv4_flow}
 use Rattle.flow_dissector.specs.Ports.{flow_with_ports, flow_between}
-use Rattle.cap_gen.specs.Packets.{source_of, port_of, tcp_header, frame_of}
+use Rattle.cap_gen.specs.Packets.{source_of, port_of, tcp_header, generated_frame}
 use Rattle.cap_gen.specs.Flows.{FrameIsOfFlow}
 
 pub its_flow : (k : ℕ) → k < 65536 → FrameIsOfFlow k
-unfolding frame_of flow_of packet_in after_tags ip_flow ipv4_flow is_ipv4 ipv4_payload flow_between
+unfolding generated_frame flow_of packet_in after_tags ip_flow ipv4_flow is_ipv4 ipv4_payload
+    flow_between
     flow_with_ports
 its_flow k few =
     let source_fits : source_of k < 256 ^ 4 = omega (arith, few) in

@@ -10,7 +10,7 @@ use Rattle.plan_reader.specs.declared.settings.sizes.Sizes.{Sizes}
 use Rattle.plan_reader.specs.Causes.{in_range}
 use Rattle.plan_reader.specs.PlanTexts.{receive_of, tables_of, sends_of, settings_in, named}
 use Rattle.plan_reader.specs.PlanTexts.{plan_of}
-use Rattle.plan_reader.specs.Readings.{queue_of, tx_of, seed_of, steps_of}
+use Rattle.plan_reader.specs.Readings.{queue_plan, tx_of, seed_of, read_steps}
 use Rattle.cap_gen.specs.PlanValues.{steps_value, plan_value}
 use Rattle.cap_gen.specs.Plans.{plan_for}
 
@@ -25,14 +25,14 @@ seed_of-steps_value : (seed count : ℕ) → count ≤ 999999 → seed_of (steps
 unfolding seed_of
 seed_of-steps_value seed count few = rw (count_in_range count few) refl
 
-steps_of-steps_value : (sizes : Sizes) (seed count : ℕ) → count ≤ 999999 → steps_of sizes
+steps_of-steps_value : (sizes : Sizes) (seed count : ℕ) → count ≤ 999999 → read_steps sizes
     (steps_value seed count) ≡ Ok (Seed seed count)
-unfolding steps_of
+unfolding read_steps
 steps_of-steps_value sizes seed count few = seed_of-steps_value seed count few
 
 settings_in-plan_value : (seed count : ℕ) → count ≤ 999999 → settings_in
     (plan_value seed count) ≡ Ok (plan_for seed count)
-unfolding settings_in receive_of tables_of sends_of queue_of tx_of
+unfolding settings_in receive_of tables_of sends_of queue_plan tx_of
 settings_in-plan_value seed count few = rw (steps_of-steps_value _ seed count few) refl
 
 -- a text with that value

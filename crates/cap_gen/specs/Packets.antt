@@ -31,12 +31,17 @@ tcp_header flow =
     ++ (0 ∷ 80 ∷ 0 ∷ 0 ∷ 0 ∷ 0 ∷ 0 ∷ 0 ∷ 0 ∷ 0 ∷ 0x50 ∷ 0 ∷ 0 ∷ 0 ∷ 0 ∷ 0 ∷ 0 ∷ 0 ∷ [])
 
 -- the frame of each packet of a flow
-unfoldable pub frame_of : ℕ → List ℕ
-frame_of flow = ethernet ++ (ip_header flow ++ tcp_header flow)
+unfoldable pub generated_frame : ℕ → List ℕ
+generated_frame flow = ethernet ++ (ip_header flow ++ tcp_header flow)
 
 -- Packet i of a seed: its flow is word i modulo the number of flows, and its time is second i.
 abbrev pub packet_of : ℕ → ℕ → ℕ → Packet
-packet_of seed flows i = record { sec = i; frac = 0; frame = frame_of (word_of seed i % flows) }
+packet_of seed flows i = record {
+  sec = i;
+  frac = 0;
+  frame = generated_frame
+      (word_of seed i % flows);
+}
 
 -- the first n packets of a seed, one word of the generator for each
 abbrev pub packets_of : ℕ → ℕ → ℕ → List Packet

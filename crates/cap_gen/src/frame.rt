@@ -1,6 +1,6 @@
 //! The frames of generated packets.
 ghost use Rattle.std.specs.Prelude.{◌≡◌, ◌<◌};
-ghost use Rattle.cap_gen.specs.Packets.{frame_of};
+ghost use Rattle.cap_gen.specs.Packets.{generated_frame};
 
 use byteorder::{BigEndian, ByteOrder};
 
@@ -16,10 +16,10 @@ const FRAME: [u8; 54] = [
 const FIRST_SOURCE: u32 = 0x0a00_0000;
 
 /// The frame of each packet of a flow.
-#[tactic(auto, unfolding(crate::specs::Packets::frame_of))]
+#[tactic(auto, unfolding(crate::specs::Packets::generated_frame))]
 pub fn frame_of(flow: u32) -> [u8; 54]
     requires { flow < 65536 }
-    ensures { result ≡ frame_of flow }
+    ensures { result ≡ generated_frame flow }
 {
     let mut frame = FRAME;
     BigEndian::write_u32(&mut frame[26..], FIRST_SOURCE + flow);

@@ -5,7 +5,7 @@ ghost use Rattle.pcap_reader.specs.Writing.{capture_bytes, capture_of};
 ghost use Rattle.plan_reader.specs.PlanTexts.{plan_of};
 ghost use Rattle.serde_json.specs.Written.{compact_text};
 ghost use Rattle.cap_gen.specs.Packets.{packets_of};
-ghost use Rattle.cap_gen.specs.PlanValues.{plan_value, step_count};
+ghost use Rattle.cap_gen.specs.PlanValues.{plan_value, generated_step_count};
 ghost use Rattle.cap_gen.specs.Plans.{plan_for};
 
 use crate::capture::capture_bytes;
@@ -53,9 +53,9 @@ pub fn generate(
 
     // The text is the compact JSON of the plan's value, and is read as the plan.
     ensures plan_text { IfOk result
-        (λ made. made.plan.items ≡ compact_text (plan_value seed (step_count packets))) }
+        (λ made. made.plan.items ≡ compact_text (plan_value seed (generated_step_count packets))) }
     ensures plan { IfOk result (λ made. plan_of made.plan.items ≡ Ok
-        (plan_for seed (step_count packets))) }
+        (plan_for seed (generated_step_count packets))) }
 {
     captures_read_back();
     let capture = capture_bytes(alloc, seed, packets, flows)?;

@@ -19,8 +19,9 @@ use Rattle.steer_base.specs.declared.put.Put.{Put}
 use Rattle.steer_base.specs.declared.put.Put.TheVariants.{At, Dropped}
 use Rattle.steer_base.proofs.EntriesLemmas.{current_lane-push, of_class-no, of_class-yes}
 use Rattle.steer_base.proofs.EntriesLemmas.{recorded_count-accept, recorded_count-push}
-use Rattle.dev_flow_table.specs.Folds.{Agrees, IsPutAt, TableIsEntries, Turn, after_turn, told}
-use Rattle.dev_flow_table.specs.Folds.{told_of}
+use Rattle.dev_flow_table.specs.Folds.{Agrees, IsPutAt, TableIsEntries, Placement, after_turn}
+use Rattle.dev_flow_table.specs.Folds.{table_after_put}
+use Rattle.dev_flow_table.specs.Folds.{table_after}
 use Rattle.dev_flow_table.specs.Tables.{Table, cleared, entries, entry_after, unset, weighed}
 
 -- ---- one entry
@@ -74,7 +75,7 @@ twice false f g e = refl
 
 -- a table with one row changed
 told-row : (t : Table) (class k : ℕ) (choice : Choice) (put : Option Put) → k < length t.rows
-    → entries (told (weighed t (Some class) choice) class put) k
+    → entries (table_after_put (weighed t (Some class) choice) class put) k
     ≡ cond (k == class) (put_in put (entry_after t.start (entries t k) choice)) (entries t k)
 told-row t class k choice None in' = row t.rows class k (unset t.start)
     (λ e. entry_after t.start e choice) in'
@@ -93,31 +94,32 @@ told-row t class k choice (Some (At position)) in' =
 
 turn-row : (t : Table) (class : Option ℕ) (k : ℕ) (choice : Choice) (put : Option Put)
     → k < length t.rows
-    → entries (told_of (weighed t class choice) class put) k
+    → entries (table_after (weighed t class choice) class put) k
     ≡ cond (is_class k class) (put_in put (entry_after t.start (entries t k) choice)) (entries t k)
 turn-row t None k choice put in' = refl
 turn-row t (Some class) k choice put in' = told-row t class k choice put in'
 
 -- ---- what no turn changes
 
-told-start : (t : Table) (class : ℕ) (put : Option Put) → (told t class put).start ≡ t.start
+told-start : (t : Table) (class : ℕ) (put : Option Put)
+    → (table_after_put t class put).start ≡ t.start
 told-start t class None = refl
 told-start t class (Some (At position)) = refl
 told-start t class (Some (Dropped number' accepted pulled cause)) = refl
 
 told-long : (t : Table) (class : ℕ) (put : Option Put)
-    → length (told t class put).rows ≡ length t.rows
+    → length (table_after_put t class put).rows ≡ length t.rows
 told-long t class None = refl
 told-long t class (Some (At position)) = length-set _ _ _
 told-long t class (Some (Dropped number' accepted pulled cause)) = refl
 
 turn-start : (t : Table) (class : Option ℕ) (choice : Choice) (put : Option Put)
-    → (told_of (weighed t class choice) class put).start ≡ t.start
+    → (table_after (weighed t class choice) class put).start ≡ t.start
 turn-start t None choice put = refl
 turn-start t (Some class) choice put = told-start (weighed t (Some class) choice) class put
 
 turn-long : (t : Table) (class : Option ℕ) (choice : Choice) (put : Option Put)
-    → length (told_of (weighed t class choice) class put).rows ≡ length t.rows
+    → length (table_after (weighed t class choice) class put).rows ≡ length t.rows
 turn-long t None choice put = refl
 turn-long t (Some class) choice put = told-long (weighed t (Some class) choice) class put
     ∙ length-set _ _ _
@@ -125,7 +127,7 @@ turn-long t (Some class) choice put = told-long (weighed t (Some class) choice) 
 -- ---- all turns
 
 module _ (start k : ℕ) (accepted : ℕ → List ℕ) where
-  next : (t : Table) (cs : List Chosen) (turn : Turn) → t.start ≡ start → k < length t.rows
+  next : (t : Table) (cs : List Chosen) (turn : Placement) → t.start ≡ start → k < length t.rows
       → entries t k ≡ entry start accepted cs k
       → Agrees start accepted turn → entries (after_turn t turn) k ≡ entry start accepted
       (cs ++ turn.chosen ∷ []) k
@@ -154,7 +156,8 @@ module _ (start k : ℕ) (accepted : ℕ → List ℕ) where
             ∙ sym (ap (left_by start accepted) (of_class-no k cs c other)))
       ]
 
-  all : (t : Table) (cs : List Chosen) (turns : List Turn) → t.start ≡ start → k < length t.rows
+  all : (t : Table) (cs : List Chosen) (turns : List Placement) → t.start ≡ start
+      → k < length t.rows
       → entries t k ≡ entry start accepted cs k
       → All (Agrees start accepted) turns
       → entries (fold after_turn t turns) k ≡ entry start accepted

@@ -17,7 +17,7 @@ use Rattle.steer_base.proofs.EntriesLemmas.{current_lane-push, of_class-no, of_c
 use Rattle.steer_base.proofs.EntriesLemmas.{recorded_count-accept, recorded_count-le}
 use Rattle.steer_base.proofs.EntriesLemmas.{recorded_count-push}
 use Rattle.steer_base.proofs.RuleLemmas.{by_entry-ways}
-use Rattle.dev_flow_table.specs.Walks.{IsWalk, SinceIsLastChange, WalkKeepsOrder, since_of}
+use Rattle.dev_flow_table.specs.Walks.{IsWalk, SinceIsLastChange, WalkKeepsOrder, since_resize}
 
 -- ---- one choice
 
@@ -167,8 +167,8 @@ walk_keeps_order start accepted retired cs h i j k n d lt in' is is' at =
 
 -- ---- where a table was cleared
 
-since-le : (size : ℕ → ℕ) (j : ℕ) → since_of size j ≤ j
-unfolding since_of
+since-le : (size : ℕ → ℕ) (j : ℕ) → since_resize size j ≤ j
+unfolding since_resize
 since-le size zero = omega arith
 since-le size (suc j) =
     elim (cases_Bool (size j == size (suc j))) [
@@ -176,15 +176,15 @@ since-le size (suc j) =
       | inr e ↦ rw e (omega arith)
     ]
 
-since-inside : (size : ℕ → ℕ) (j k : ℕ) → since_of size j ≤ k → k ≤ j → size k ≡ size j
-unfolding since_of
+since-inside : (size : ℕ → ℕ) (j k : ℕ) → since_resize size j ≤ k → k ≤ j → size k ≡ size j
+unfolding since_resize
 since-inside size zero k from to = let e : k ≡ 0 = omega arith in ap size e
 since-inside size (suc j) k from to =
     elim (cases_eq k (suc j)) [
       | inl e ↦ ap size e
       | inr ne ↦ elim (cases_Bool (size j == size (suc j))) [
         | inl e ↦ (
-            let below : since_of size j ≤ k = rw e at from in
+            let below : since_resize size j ≤ k = rw e at from in
             since-inside size j k below (omega arith) ∙ eqb-true (size j) (size (suc j)) e)
         | inr e ↦ (
             let below : suc j ≤ k = rw e at from in
@@ -192,14 +192,14 @@ since-inside size (suc j) k from to =
       ]
     ]
 
-since-cut : (size : ℕ → ℕ) (j i : ℕ) → i < since_of size j → (k : ℕ) × (i ≤ k) × (k < j)
+since-cut : (size : ℕ → ℕ) (j i : ℕ) → i < since_resize size j → (k : ℕ) × (i ≤ k) × (k < j)
     × (size k ≢ size (suc k))
-unfolding since_of
+unfolding since_resize
 since-cut size zero i l = absurd (omega arith)
 since-cut size (suc j) i l =
     elim (cases_Bool (size j == size (suc j))) [
       | inl e ↦ (
-          let l' : i < since_of size j = rw e at l in
+          let l' : i < since_resize size j = rw e at l in
           let t = since-cut size j i l' in
           let le = t.2 in
           (t.0, t.1, omega arith, t.3))

@@ -9,26 +9,26 @@ use Rattle.steer_base.specs.declared.put.Put.TheVariants.{At, Dropped}
 use Rattle.dev_flow_table.specs.Tables.{Table, cleared, entries, recorded, weighed}
 
 -- a packet with its choice, and its put, if it was put
-pub record Turn : Type 0 where
+pub record Placement : Type 0 where
   pub chosen : Chosen
   pub put : Option Put
 
 -- the table after the put of a packet of a class: an accepted one leaves its position as the
 -- recorded tail
-abbrev pub told : Table → ℕ → Option Put → Table
-told table class None = table
-told table class (Some (At position)) = recorded table class position
-told table class (Some (Dropped number accepted pulled cause)) = table
+abbrev pub table_after_put : Table → ℕ → Option Put → Table
+table_after_put table class None = table
+table_after_put table class (Some (At position)) = recorded table class position
+table_after_put table class (Some (Dropped number accepted pulled cause)) = table
 
 -- the same where the packet may have no class
-abbrev pub told_of : Table → Option ℕ → Option Put → Table
-told_of table None put = table
-told_of table (Some class) put = told table class put
+abbrev pub table_after : Table → Option ℕ → Option Put → Table
+table_after table None put = table
+table_after table (Some class) put = table_after_put table class put
 
 -- the table after a turn: the choice is recorded, and then the put
-abbrev pub after_turn : Table → Turn → Table
+abbrev pub after_turn : Table → Placement → Table
 after_turn table t =
-    told_of (weighed table t.chosen.choice.class t.chosen.choice) t.chosen.choice.class t.put
+    table_after (weighed table t.chosen.choice.class t.chosen.choice) t.chosen.choice.class t.put
 
 -- A put is as the accepted lists have it: at the number of the packet's place there, or in none of
 -- them.
@@ -37,14 +37,14 @@ IsPutAt start place None = place ≡ None
 IsPutAt start place (Some (At shown)) = (n : ℕ) × (place ≡ Some n) × (number start n ≡ shown)
 IsPutAt start place (Some (Dropped number accepted pulled cause)) = place ≡ None
 
-abbrev pub Agrees : ℕ → (ℕ → List ℕ) → Turn → Type 0
+abbrev pub Agrees : ℕ → (ℕ → List ℕ) → Placement → Type 0
 Agrees start accepted t = IsPutAt start (position accepted t.chosen) t.put
 
 -- A table that begins without entries and is told of each choice and each put has the entries of
 -- the lists.
 abbrev pub TableIsEntries : Type 0
 TableIsEntries =
-    (start count : ℕ) (exact : Bool) (accepted : ℕ → List ℕ) (turns : List Turn) (class : ℕ)
+    (start count : ℕ) (exact : Bool) (accepted : ℕ → List ℕ) (turns : List Placement) (class : ℕ)
     → All (Agrees start accepted) turns → class < count
     → entries (fold after_turn (cleared count start exact) turns) class
     ≡ entry start accepted (map (λ t. t.chosen) turns) class

@@ -69,14 +69,14 @@ WalksMove =
 -- ---- where a table was cleared
 
 -- the first choice since the last change of a size, where choice i was made at size i
-unfoldable pub since_of : (ℕ → ℕ) → ℕ → ℕ
-since_of size zero = 0
-since_of size (suc i) = if size i == size (suc i) then since_of size i else suc i
+unfoldable pub since_resize : (ℕ → ℕ) → ℕ → ℕ
+since_resize size zero = 0
+since_resize size (suc i) = if size i == size (suc i) then since_resize size i else suc i
 
 -- Since then the size was one, and whatever choice is before it has a change of the size behind it.
 abbrev pub SinceIsLastChange : Type 0
 SinceIsLastChange =
     (size : ℕ → ℕ) (j : ℕ)
-    → (since_of size j ≤ j)
-    × ((k : ℕ) → since_of size j ≤ k → k ≤ j → size k ≡ size j)
-    × ((i : ℕ) → i < since_of size j → (k : ℕ) × (i ≤ k) × (k < j) × (size k ≢ size (suc k)))
+    → (since_resize size j ≤ j)
+    × ((k : ℕ) → since_resize size j ≤ k → k ≤ j → size k ≡ size j)
+    × ((i : ℕ) → i < since_resize size j → (k : ℕ) × (i ≤ k) × (k < j) × (size k ≢ size (suc k)))

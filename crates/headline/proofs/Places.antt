@@ -25,7 +25,7 @@ use Rattle.history.proofs.FindingLemmas.{is_in-among}
 use Rattle.history.proofs.OwnLemmas.{own-position, not-true}
 use Rattle.history.proofs.RegularLemmas.{lane-accepted, lane-dropped}
 use Rattle.history.proofs.SamePlaces.{place-index}
-use Rattle.headline.specs.Places.{IsInNoInbox, StandsAt, StandsAtOnePlace, WasNotPut}
+use Rattle.headline.specs.Places.{IsInNoInbox, IsAtPlace, IsAtOnePlace, WasNotPut}
 use Rattle.headline.specs.Places.{is_in_inbox, was_accepted, was_dropped_by, was_pulled}
 
 -- ---- the one item that passes
@@ -186,7 +186,7 @@ module _ (packets : List Packet) (apps : ℕ) (h : History) (regular : Regular p
       (λ s. let f : true ≡ false = sym (pulled-accepted c s) ∙ (none c).0 in cc)))
       (accepted-none (λ c. (none c).0)) is
 
-  place-from : (place : Place) → StandsAt h x place → place_of h x ≡ place
+  place-from : (place : Place) → IsAtPlace h x place → place_of h x ≡ place
   place-from Ring (is, none) = unplaced false is none
   place-from Poller (is, none) = unplaced true is none
   place-from (Backlog c) (is, waits, none) =
@@ -223,7 +223,7 @@ module _ (packets : List Packet) (apps : ℕ) (h : History) (regular : Regular p
   )
 
   stands-by : (d i p a : Option ℕ) (t : Bool) → dropped ≡ d → inbox ≡ i → pulled ≡ p
-      → accepted ≡ a → was_taken h x ≡ t → StandsAt h x (place_by d i p a t)
+      → accepted ≡ a → was_taken h x ≡ t → IsAtPlace h x (place_by d i p a t)
   stands-by (Some c) i p a t ed ei ep ea et =
       at-first (λ lane. is_in x (drop_ids lane)) no_lane refl h.lanes one-dropped c ed
   stands-by None (Some a) p b t ed ei ep ea et =
@@ -240,9 +240,9 @@ module _ (packets : List Packet) (apps : ℕ) (h : History) (regular : Regular p
   stands-by None None None None true ed ei ep ea et = (et, not-put ed ea)
   stands-by None None None None false ed ei ep ea et = (et, not-put ed ea)
 
-  pub stands-at_one : StandsAtOnePlace h x
+  pub stands-at_one : IsAtOnePlace h x
   stands-at_one place = (
     place-from place,
-    λ is. subst (StandsAt h x) is
+    λ is. subst (IsAtPlace h x) is
         (stands-by dropped inbox pulled accepted (was_taken h x) refl refl refl refl refl),
   )

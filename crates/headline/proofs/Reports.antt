@@ -3,7 +3,7 @@ use Rattle.std.proofs.Common.{ℕ, ◌≡◌, List, Result, Ok, length, refl, ap
 use Rattle.history.specs.declared.history.History.{History}
 use Rattle.pcap_reader.specs.declared.capture.Capture.{Capture}
 use Rattle.plan_reader.specs.PlanTexts.{settings_of}
-use Rattle.plan_reader.specs.Settings.{Settings}
+use Rattle.plan_reader.specs.Settings.{PlanSettings}
 use Rattle.report.specs.Laws.{HasOneHistory, IsReportOf}
 use Rattle.report.specs.Report.{report}
 use Rattle.steer_properties.specs.Histories.Always.{Always}
@@ -19,7 +19,7 @@ use Rattle.headline.specs.Laws.{ReportsHaveTheHeadline}
 
 -- ---- one plan and one list of packets
 
-same_ok : {E : Type 0} (s t : Settings) → ◌≡◌ {A = Result Settings E} (Ok s) (Ok t) → s ≡ t
+same_ok : {E : Type 0} (s t : PlanSettings) → ◌≡◌ {A = Result PlanSettings E} (Ok s) (Ok t) → s ≡ t
 same_ok s t e = cc
 
 module _ (plan_bytes capture_bytes : List ℕ) (capture : Capture) (i j : Input)
@@ -31,8 +31,8 @@ module _ (plan_bytes capture_bytes : List ℕ) (capture : Capture) (i j : Input)
   same-packets : j.packets ≡ i.packets
   same-packets =
       let key : number_of j.plan.key ≡ number_of i.plan.key =
-      ap (λ (s : Settings). number_of s.key) plans in
-      let kinds : j.plan.kinds ≡ i.plan.kinds = ap (λ (s : Settings). s.kinds) plans in
+      ap (λ (s : PlanSettings). number_of s.key) plans in
+      let kinds : j.plan.kinds ≡ i.plan.kinds = ap (λ (s : PlanSettings). s.kinds) plans in
       let by_kinds =
       subst (λ k. ArePackets (number_of j.plan.key) k capture_bytes capture.records j.packets) kinds
       says.packets in
@@ -45,8 +45,8 @@ module _ (plan_bytes capture_bytes : List ℕ) (capture : Capture) (i j : Input)
   reports-same : (h : History) (text : List ℕ) → Reports j h text → Reports i h text
   reports-same h text (taps, is) =
       let apps : length j.plan.apps ≡ length i.plan.apps =
-      ap (λ (s : Settings). length s.apps) plans in
-      let start : j.plan.start ≡ i.plan.start = ap (λ (s : Settings). s.start) plans in
+      ap (λ (s : PlanSettings). length s.apps) plans in
+      let start : j.plan.start ≡ i.plan.start = ap (λ (s : PlanSettings). s.start) plans in
       let first = subst (λ ps. IsReportOf ps (length j.plan.apps) j.plan.start h taps text)
       same-packets is in
       let second = subst (λ n. IsReportOf i.packets n j.plan.start h taps text) apps first in

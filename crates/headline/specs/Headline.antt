@@ -14,7 +14,7 @@ use Rattle.toeplitz.specs.Toeplitz.{number_of}
 use Rattle.headline.specs.Drops.{IsDroppedFor}
 use Rattle.headline.specs.Orders.{AreInOrder}
 use Rattle.headline.specs.Outstanding.{IsLeftClear}
-use Rattle.headline.specs.Places.{StandsAtOnePlace}
+use Rattle.headline.specs.Places.{IsAtOnePlace}
 use Rattle.headline.specs.Processors.{ProcessorsAreChosen}
 use Rattle.headline.specs.Replies.{QueuesArePicked}
 
@@ -26,7 +26,7 @@ use Rattle.headline.specs.Replies.{QueuesArePicked}
 -- recorded tail. Where it did so, what was accepted of it before is retired.
 pub record IsRight (i : Input) (h : History) : Type 0 where
   pub once : AreInOnePlace h
-  pub places : (x : ℕ) → has_arrived h x ≡ true → StandsAtOnePlace h x
+  pub places : (x : ℕ) → has_arrived h x ≡ true → IsAtOnePlace h x
   pub drops : (c j : ℕ) (d : LaneDrop) → slice_get (lane_at h.lanes c).drops j ≡ Some d
       → IsDroppedFor i h c j d
   pub inboxes : (q x : ℕ) → x < length i.packets

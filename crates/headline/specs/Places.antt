@@ -30,15 +30,15 @@ abbrev pub IsInNoInbox : History → ℕ → Type 0
 IsInNoInbox h x = (a : ℕ) → is_in_inbox h a x ≡ false
 
 -- A packet that arrived stands here, by the lists of the history alone.
-abbrev pub StandsAt : History → ℕ → Place → Type 0
-StandsAt h x Ring = (was_taken h x ≡ false) × WasNotPut h x
-StandsAt h x Poller = (was_taken h x ≡ true) × WasNotPut h x
-StandsAt h x (Backlog c) =
+abbrev pub IsAtPlace : History → ℕ → Place → Type 0
+IsAtPlace h x Ring = (was_taken h x ≡ false) × WasNotPut h x
+IsAtPlace h x Poller = (was_taken h x ≡ true) × WasNotPut h x
+IsAtPlace h x (Backlog c) =
     (was_accepted h c x ≡ true) × (was_pulled h c x ≡ false) × IsInNoInbox h x
-StandsAt h x (Hand c) = (was_pulled h c x ≡ true) × IsInNoInbox h x
-StandsAt h x (Inbox a) = is_in_inbox h a x ≡ true
-StandsAt h x (Dropped c) = was_dropped_by h c x ≡ true
+IsAtPlace h x (Hand c) = (was_pulled h c x ≡ true) × IsInNoInbox h x
+IsAtPlace h x (Inbox a) = is_in_inbox h a x ≡ true
+IsAtPlace h x (Dropped c) = was_dropped_by h c x ≡ true
 
 -- It stands at the place that its line in the report shows, and at no other.
-abbrev pub StandsAtOnePlace : History → ℕ → Type 0
-StandsAtOnePlace h x = (place : Place) → StandsAt h x place ↔ (place_of h x ≡ place)
+abbrev pub IsAtOnePlace : History → ℕ → Type 0
+IsAtOnePlace h x = (place : Place) → IsAtPlace h x place ↔ (place_of h x ≡ place)

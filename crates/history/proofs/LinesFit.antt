@@ -12,7 +12,7 @@ use Rattle.steer_base.specs.declared.put.LaneDrop.{LaneDrop}
 use Rattle.steer_base.specs.declared.put.Put.TheVariants.{At}
 use Rattle.history.specs.Finding.{found, first_some}
 use Rattle.history.specs.Lines.{choice_in, accepted_place, position_of, dropped_as, drop_in, put_of}
-use Rattle.history.specs.Lines.{inbox_place_of, sent_of, line_of_sent}
+use Rattle.history.specs.Lines.{inbox_place_of, first_reply_to, line_of_sent}
 use Rattle.history.specs.Lists.{list_at, lane_at, no_lane, no_arrival, drop_ids}
 use Rattle.history.specs.Ranges.{FitsIn, ArrivalFits, ChoiceFits, ChosenFits, DropFits, SentFits}
 use Rattle.history.specs.Ranges.{HistoryFits, PutFits, ReplyFits, HaveLinesThatFit}
@@ -108,7 +108,7 @@ inbox-fits packets apps h small r x =
     first_some-fits (place_in x) [] (λ n. n < 2 ^ 32) h.inboxes
     (λ a l. place-fits x (list_at h.inboxes a) ((short-lists packets apps h r small).inboxes a))
 
-sent-fits : (h : History) → HistoryFits h → (x : ℕ) → IfSome (sent_of h x) SentFits
+sent-fits : (h : History) → HistoryFits h → (x : ℕ) → IfSome (first_reply_to h x) SentFits
 sent-fits h f x = first_some-fits (found (λ s. s.id) x) [] SentFits h.sent
     (λ a l. found-fits SentFits (λ s. s.id) x (list_at h.sent a) (f.sent a [] l))
 
@@ -121,7 +121,7 @@ lines_fit packets apps h small r f x = (
     put = put-fits packets apps h small r f x;
     inbox = inbox-fits packets apps h small r x;
   },
-  map-fits (line_of_sent packets apps h x) SentFits ReplyFits (sent_of h x) (sent-fits h f x)
+  map-fits (line_of_sent packets apps h x) SentFits ReplyFits (first_reply_to h x) (sent-fits h f x)
       (λ s g. record {
         rxq = g.rxq;
         cpu = g.cpu;

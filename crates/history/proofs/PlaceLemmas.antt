@@ -12,7 +12,7 @@ use Rattle.steer_base.specs.Entries.{place_in}
 use Rattle.steer_base.specs.declared.packet.Packet.{Packet}
 use Rattle.steer_base.specs.declared.put.LaneDrop.{LaneDrop}
 use Rattle.history.specs.Finding.{is_in, is_among, found, first_some}
-use Rattle.history.specs.Known.{pulled_by}
+use Rattle.history.specs.Known.{pulled_lane}
 use Rattle.history.specs.Lines.{accepted_place, choice_of, drop_in, dropped_as, inbox_place_of}
 use Rattle.history.specs.Lists.{app_at, drop_ids, lane_at, list_at, no_lane}
 use Rattle.history.specs.Places.{IsInReach, place_by, place_of, was_taken}
@@ -87,13 +87,13 @@ among-place x (suc n) (y ∷ ys) =
     ]
 
 by-place : (lanes : List LaneList) (c : ℕ) (place : Option ℕ) → c < length lanes
-    → pulled_by lanes (Some c) place ≡ (if within (lane_at lanes c).pulled place then Some c else
+    → pulled_lane lanes (Some c) place ≡ (if within (lane_at lanes c).pulled place then Some c else
     None)
 by-place lanes c None l = refl
 by-place lanes c (Some n) l = let t : nat_lt c (length lanes) ≡ true = grind arith in rw t refl
 
 by-own : (lanes : List LaneList) (x : ℕ) (o : Option ℕ)
-    → pulled_by lanes o (option_and_then (λ c. place_in x (lane_at lanes c).accepted) o)
+    → pulled_lane lanes o (option_and_then (λ c. place_in x (lane_at lanes c).accepted) o)
     ≡ option_and_then (λ c. if is_among (lane_at lanes c).pulled x
     (lane_at lanes c).accepted then Some c else None) o
 by-own lanes x None = refl
@@ -126,10 +126,10 @@ module _ (packets : List Packet) (apps : ℕ) (h : History) (regular : Regular p
       (λ lane. refl) refl h.lanes lane_of
       (λ c s. lane-accepted packets apps h regular c x s)
 
-  pub pulled-at : pulled_by h.lanes lane_of (accepted_place h.lanes x) ≡ position
+  pub pulled-at : pulled_lane h.lanes lane_of (accepted_place h.lanes x) ≡ position
       (λ lane. is_among lane.pulled x lane.accepted) h.lanes
   pulled-at =
-      ap (pulled_by h.lanes lane_of) (own-first (λ lane. place_in x lane.accepted) no_lane h.lanes
+      ap (pulled_lane h.lanes lane_of) (own-first (λ lane. place_in x lane.accepted) no_lane h.lanes
       lane_of refl (λ c s. lane-accepted packets apps h regular c x s))
       ∙ by-own h.lanes x lane_of
       ∙ sym (own-position (λ lane. is_among lane.pulled x lane.accepted) no_lane h.lanes lane_of
@@ -145,7 +145,7 @@ module _ (packets : List Packet) (apps : ℕ) (h : History) (regular : Regular p
   pub place-known :
       place_by (option_and (first_some (drop_in x) h.lanes) lane_of)
       (option_and (inbox_place_of h x) (Some (app_at packets apps x)))
-      (pulled_by h.lanes lane_of (accepted_place h.lanes x))
+      (pulled_lane h.lanes lane_of (accepted_place h.lanes x))
       (option_and (accepted_place h.lanes x) lane_of) (was_taken h x)
       ≡ place_of h x
   place-known = rw (dropped-at, inbox-at, pulled-at, accepted-at) refl

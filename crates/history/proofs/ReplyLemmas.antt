@@ -9,7 +9,7 @@ use Rattle.std.proofs.lemmas.Bool.{cases_lt}
 use Rattle.std.proofs.lemmas.List.FromFn.{get_or-map-range_with_len, length-map-range_with_len}
 use Rattle.steer_base.specs.declared.packet.Packet.{Packet}
 use Rattle.history.specs.Finding.{found, first_some, is_in}
-use Rattle.history.specs.Lines.{is_replied, line_of_sent, reply_line, sent_of}
+use Rattle.history.specs.Lines.{is_replied, line_of_sent, reply_line, first_reply_to}
 use Rattle.history.specs.Lists.{app_at, list_at}
 use Rattle.history.specs.Regular.{Regular}
 use Rattle.history.specs.declared.history.History.{History}
@@ -27,12 +27,12 @@ module _ (packets : List Packet) (apps : ℕ) (h : History) (regular : Regular p
       (arrived-inbox packets apps h regular a x inbox, regular.delivered.own a x inbox)
 
   -- the reply to a packet is in the list of its application
-  pub sent-own : (x : ℕ) → sent_of h x ≡ found (λ s. s.id) x
+  pub sent-own : (x : ℕ) → first_reply_to h x ≡ found (λ s. s.id) x
       (list_at h.sent (app_at packets apps x))
   sent-own x = own-first (found (λ s. s.id) x) [] h.sent (Some (app_at packets apps x)) refl
       (λ a s. ap (λ n. Some n) (sent-app a x s).1)
 
-  not-sent : (x : ℕ) → length h.arrivals ≤ x → sent_of h x ≡ None
+  not-sent : (x : ℕ) → length h.arrivals ≤ x → first_reply_to h x ≡ None
   not-sent x late = first-none (found (λ s. s.id) x) [] h.sent
       (λ a l. not-true (is_some (found (λ s. s.id) x (list_at h.sent a))) (λ s.
       let k = (sent-app a x s).0 in omega (arith, k)))
@@ -76,5 +76,5 @@ is_some-line f (Some a) = refl
 
 pub is_some-reply : (packets : List Packet) (apps : ℕ) (h : History) (x : ℕ)
     → is_some (reply_line packets apps h x) ≡ is_replied h x
-is_some-reply packets apps h x = is_some-line (line_of_sent packets apps h x) (sent_of h x)
+is_some-reply packets apps h x = is_some-line (line_of_sent packets apps h x) (first_reply_to h x)
     ∙ is_some-sent x h.sent

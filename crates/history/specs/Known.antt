@@ -4,7 +4,7 @@ use Rattle.std.specs.Prelude.{if◌then◌else◌}
 use Rattle.steer_base.specs.Entries.{place_in}
 use Rattle.history.specs.Finding.{first_some}
 use Rattle.history.specs.Index.{IsIndex}
-use Rattle.history.specs.Lines.{accepted_place, choice_of, drop_in, inbox_place_of, sent_of}
+use Rattle.history.specs.Lines.{accepted_place, choice_of, drop_in, inbox_place_of, first_reply_to}
 use Rattle.history.specs.Lines.{tx_choice_of}
 use Rattle.history.specs.Lists.{list_at, lane_at}
 use Rattle.history.specs.declared.history.History.{History}
@@ -25,15 +25,15 @@ pub record IsKnown (h : History) (k : Known) : Type 0 where
   pub accepted : IsIndex (length h.arrivals) k.accepted (accepted_place h.lanes)
   pub drops : IsIndex (length h.arrivals) k.drops (λ x. first_some (drop_in x) h.lanes)
   pub inboxes : IsIndex (length h.arrivals) k.inboxes (inbox_place_of h)
-  pub sent : IsIndex (length h.arrivals) k.sent (sent_of h)
+  pub sent : IsIndex (length h.arrivals) k.sent (first_reply_to h)
   pub tx_choices : IsIndex (length h.arrivals) k.tx_choices (tx_choice_of h)
   pub tx_accepted : IsIndex (length h.arrivals) k.tx_accepted (accepted_place h.tx_lanes)
   pub port : IsIndex (length h.arrivals) k.port (λ x. place_in x h.port)
 
 -- the lane of a packet, where its place among the accepted ones there is among those that were
 -- pulled
-abbrev pub pulled_by : List LaneList → Option ℕ → Option ℕ → Option ℕ
-pulled_by lanes (Some c) (Some n) =
+abbrev pub pulled_lane : List LaneList → Option ℕ → Option ℕ → Option ℕ
+pulled_lane lanes (Some c) (Some n) =
     if nat_lt c (length lanes) && nat_le n (lane_at lanes c).pulled then Some c else None
-pulled_by lanes (Some c) None = None
-pulled_by lanes None place = None
+pulled_lane lanes (Some c) None = None
+pulled_lane lanes None place = None

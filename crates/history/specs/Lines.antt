@@ -66,8 +66,8 @@ abbrev pub inbox_place_of : History → ℕ → Option ℕ
 inbox_place_of h x = first_some (place_in x) h.inboxes
 
 -- the reply to it, where one was begun
-abbrev pub sent_of : History → ℕ → Option Sent
-sent_of h x = first_some (found (λ s. s.id) x) h.sent
+abbrev pub first_reply_to : History → ℕ → Option Sent
+first_reply_to h x = first_some (found (λ s. s.id) x) h.sent
 
 -- whether a reply to it was begun
 abbrev pub is_replied : History → ℕ → Bool
@@ -104,7 +104,7 @@ line_of_sent packets apps h x sent =
 
 -- The line of the reply to a packet: none where no reply was begun.
 abbrev pub reply_line : List Packet → ℕ → History → ℕ → Option ReplyLine
-reply_line packets apps h x = option_map (line_of_sent packets apps h x) (sent_of h x)
+reply_line packets apps h x = option_map (line_of_sent packets apps h x) (first_reply_to h x)
 
 -- The lines of all packets that arrived, the lines of their replies, and the number of arrivals of
 -- each queue.

@@ -14,7 +14,7 @@ use Rattle.hop_rule.specs.declared.sizes.BoardSizes.{BoardSizes}
 use Rattle.hop_rule.specs.declared.step.BoardStep.{BoardStep}
 use Rattle.hop_rule.specs.declared.step.LaneStep.{LaneStep}
 use Rattle.hop_rule.specs.Boards.{IsLawful, lane_at, lanes_of, out, retired}
-use Rattle.hop_rule.specs.Deliveries.{given}
+use Rattle.hop_rule.specs.Deliveries.{delivered_from}
 use Rattle.hop_rule.specs.Lanes as lanes
 use Rattle.hop_rule.specs.Sizes.{FitSizes, puller}
 use Rattle.hop_rule.proofs.Boards.{parts}
@@ -138,11 +138,11 @@ module _ (about : BoardSizes) where
         let hand : lanes.phase l (steps_of p ls) ≡ lanes.idle =
         ap (lanes.phase l) (lanes_own p order) ∙ (at_rest p).hands l less in
         let k : ℕ = (lane_at about order l).pulled in
-        let pulled_ : k ≡ length (given l ls) + waiting about lanes.idle =
-        f.0 ∙ ap (λ o. length (given l ls) + waiting about o) hand in
-        let given_ : length (given l ls) ≡ retired about order l + gone about lanes.idle =
+        let pulled_ : k ≡ length (delivered_from l ls) + waiting about lanes.idle =
+        f.0 ∙ ap (λ o. length (delivered_from l ls) + waiting about o) hand in
+        let given_ : length (delivered_from l ls) ≡ retired about order l + gone about lanes.idle =
         f.1 ∙ ap (λ o. retired about order l + gone about o) hand in
-        let delivered_is : k ≡ length (given l ls) = omega arith in
+        let delivered_is : k ≡ length (delivered_from l ls) = omega arith in
         let retired_is : k ≡ retired about order l = omega arith in
         ap middle_left (item (id.Middle l) less)
         ∙ (λ i. record {

@@ -35,7 +35,7 @@ use Rattle.board_api.specs.declared.held_lane.LaneId.{LaneId}
 use Rattle.board_api.specs.declared.held_lane.LaneId.TheVariants as id
 use Rattle.board_api.proofs.AddedSteps.{taken_lanes_are_held}
 use Rattle.hop_board.specs.Makings.{TookSlot}
-use Rattle.hop_board.specs.Named.{board_seat, held_by, lane_of, content_of}
+use Rattle.hop_board.specs.Named.{board_seat, held_by, held_lane_id, content_of}
 use Rattle.hop_board.specs.Releases.{is_told, step_in, rises_by}
 use Rattle.hop_board.specs.Steps.{MayGive}
 use Rattle.hop_board.specs.Tables.{slot_of}
@@ -105,18 +105,19 @@ module _ (about : BoardSizes) where
   -- ---- what a seat that holds a lane may do
 
   pub held_within : (steps : List BoardStep) (h : HeldLane) → Holds about steps h
-      → FitsLane about (lane_of h)
+      → FitsLane about (held_lane_id h)
   held_within steps (held.Middle l y) h = h.within
   held_within steps (held.Out o y) h = h.within
 
   pub held_empty : (steps : List BoardStep) (h : HeldLane) → Holds about steps h
-      → own_state about (slot_of about (lane_of h)) steps ≡ empty
+      → own_state about (slot_of about (held_lane_id h)) steps ≡ empty
   held_empty steps (held.Middle l y) h = h.slot
   held_empty steps (held.Out o y) h = h.slot
 
   pub may_return : (seat : SeatView BoardStep) (h : HeldLane) → Holds about seat.steps h
-      → MayGive about seat (lane_of h) false (content_of h) (step_in (Unchanged (lane_of h)))
-      (is_told about (Unchanged (lane_of h)) (content_of h))
+      → MayGive about seat (held_lane_id h) false (content_of h)
+      (step_in (Unchanged (held_lane_id h)))
+      (is_told about (Unchanged (held_lane_id h)) (content_of h))
   may_return seat (held.Middle l y) h =
       gives_middle about seat l y change.Nothing false (Unit {0}) h.within h.holds
       (λ order lawful is. (tt, tt, tt)) refl

@@ -65,7 +65,7 @@ module _ (about : BoardSizes) where
         → value about (step_by p (Lane (Freed l c)) ∷ order) v ≡ value about order v
     middle_else (kind.Lane (id.Middle j)) ne =
         let apart : l ≢ j = λ e. ne (ap (λ z. kind.Lane (id.Middle z)) (sym e)) in
-        λ i. 2 * (about.start + length (if_other l j (lanes.changed c (lanes.lane about j ls))
+        λ i. 2 * (about.start + length (if_other l j (lanes.lane_changed c (lanes.lane about j ls))
         (lanes.lane about j ls) apart i).accepted)
         + lanes.bit (if_other l j 0 (lanes.holder j ls) apart i)
     middle_else (kind.Lane (id.Out j)) ne = refl
@@ -78,7 +78,7 @@ module _ (about : BoardSizes) where
     middle_homes inside (id.Middle j) fits ne =
         let apart : l ≢ j = λ e. ne (ap (λ z. id.Middle z) (sym e)) in
         λ i. home_by about (if_other l j full (slot_state about j order) apart i)
-        (slot.Middle (if_other l j (lanes.changed c (lanes.lane about j ls))
+        (slot.Middle (if_other l j (lanes.lane_changed c (lanes.lane about j ls))
         (lanes.lane about j ls) apart i))
     middle_homes inside (id.Out j) fits ne =
         ap (λ s. home_by about s (content about ls (id.Out j)))
@@ -88,8 +88,8 @@ module _ (about : BoardSizes) where
   pub gives_middle : (seat : SeatView BoardStep) (l : ℕ) (y : LaneLists) (c : Change) (rises : Bool)
       (says : Type 0) → l < about.lanes → lanes.holding l (lane_steps seat.steps) ≡ Some y
       → MayChange seat l y c says
-      → length (lanes.changed c y).accepted ≡ risen rises (length y.accepted)
-      → MayGive about seat (id.Middle l) rises (slot.Middle (lanes.changed c y))
+      → length (lanes.lane_changed c y).accepted ≡ risen rises (length y.accepted)
+      → MayGive about seat (id.Middle l) rises (slot.Middle (lanes.lane_changed c y))
       (Lane (Freed l c)) says
   gives_middle seat l y c rises says inside held may goes fit order few_ own lawful wide =
       let p : ℕ = seat.number in
@@ -107,12 +107,12 @@ module _ (about : BoardSizes) where
       let n : ℕ = value about order (kind.Lane (id.Middle l)) in
       let n_is : n ≡ 2 * t + 1 = λ i. 2 * (about.start + length (found.1 i).accepted) + lanes.bit
       (found.0 i) in
-      let m : ℕ = about.start + length (lanes.changed c y).accepted in
+      let m : ℕ = about.start + length (lanes.lane_changed c y).accepted in
       let m_is : m ≡ risen rises t = rise_from rises about.start (length y.accepted)
-      (length (lanes.changed c y).accepted) goes in
-      let now : lanes.lane about l (step_by p (Freed l c) ∷ ls) ≡ lanes.changed c y =
-      if_same l l (lanes.changed c (lanes.lane about l ls)) (lanes.lane about l ls) refl
-      ∙ ap (lanes.changed c) found.1 in (
+      (length (lanes.lane_changed c y).accepted) goes in
+      let now : lanes.lane about l (step_by p (Freed l c) ∷ ls) ≡ lanes.lane_changed c y =
+      if_same l l (lanes.lane_changed c (lanes.lane about l ls)) (lanes.lane about l ls) refl
+      ∙ ap (lanes.lane_changed c) found.1 in (
         record {
           may = (
             (
@@ -151,7 +151,7 @@ module _ (about : BoardSizes) where
     pub out : lanes.out_after o d xs ≡ after
     pub same : (j : ℕ) → o ≢ j → (ys : List ℕ) → lanes.out_after j d ys ≡ ys
     pub holder : (p h j : ℕ) → lanes.out_holder_after j p d h ≡ (if o == j then 0 else h)
-    pub lane : (l : ℕ) (x : LaneLists) → lanes.lane_after l d x ≡ x
+    pub lane : (l : ℕ) (x : LaneLists) → lanes.lane_after_step l d x ≡ x
     pub held : (p l h : ℕ) → lanes.holder_after l p d h ≡ h
     pub head : (l k : ℕ) → lanes.retired_after l d k ≡ k
     pub state : (k : ℕ) (s : Rattle.hop_rule.specs.Boards.SlotState)

@@ -14,7 +14,7 @@ use Rattle.hop_rule.specs.declared.step.Slot.TheVariants as slot
 use Rattle.board_api.specs.declared.held_lane.LaneId.TheVariants as id
 use Rattle.hop_board.specs.Left.{AllLie, AreFullFrom, AreSpare, AreTakenFrom, AreTakenTo}
 use Rattle.hop_board.specs.Left.{IsMiddleOf}
-use Rattle.hop_board.specs.Left.{IsOut, LiesIn}
+use Rattle.hop_board.specs.Left.{IsOutLane, LiesIn}
 use Rattle.hop_board.specs.Tables.{InSlot, slot_of}
 
 pub at_or : {A : Type 0} (xs : List A) (i : ℕ) (a d : A) → get_elem? xs i ≡ some a
@@ -37,7 +37,7 @@ module _ (about : BoardSizes) where
   middle_lies l (Some (slot.Out y)) lies = lies
   middle_lies l None lies = lies
 
-  out_lies : (o : ℕ) (found : InSlot) → LiesIn about (id.Out o) found → IsOut found
+  out_lies : (o : ℕ) (found : InSlot) → LiesIn about (id.Out o) found → IsOutLane found
   out_lies o (Some (slot.Middle y)) lies = lies
   out_lies o (Some (slot.Out y)) lies = lies
   out_lies o None lies = lies
@@ -50,7 +50,7 @@ module _ (about : BoardSizes) where
 
   pub out_found : (items : List InSlot) (o : ℕ) (found : InSlot) → AllLie about items
       → o < about.outs
-      → slice_index_or items (slot_of about (id.Out o)) None ≡ found → IsOut found
+      → slice_index_or items (slot_of about (id.Out o)) None ≡ found → IsOutLane found
   out_found items o found all inside is =
       out_lies o found (subst (LiesIn about (id.Out o)) is (all (id.Out o) inside))
 

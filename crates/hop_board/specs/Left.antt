@@ -75,10 +75,10 @@ IsMiddleOf room (Some (slot.Out y)) = ⊥
 IsMiddleOf room None = ⊥
 
 -- what lies in a slot is an out lane
-abbrev pub IsOut : InSlot → Type 0
-IsOut (Some (slot.Middle y)) = ⊥
-IsOut (Some (slot.Out y)) = Unit {0}
-IsOut None = ⊥
+abbrev pub IsOutLane : InSlot → Type 0
+IsOutLane (Some (slot.Middle y)) = ⊥
+IsOutLane (Some (slot.Out y)) = Unit {0}
+IsOutLane None = ⊥
 
 -- ---- slots whose values were taken one by one
 

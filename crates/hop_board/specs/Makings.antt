@@ -39,9 +39,9 @@ raised (kind.Head l) word = Lane (Retired l word)
 raised _ word = Gate Left
 
 -- a setting is made
-abbrev pub changed : Word → ℕ → BoardStep
-changed (kind.Setting i) value = Gate (Set i value)
-changed _ value = Gate Left
+abbrev pub setting_step : Word → ℕ → BoardStep
+setting_step (kind.Setting i) value = Gate (Set i value)
+setting_step _ value = Gate Left
 
 -- the step of a load
 abbrev pub loaded : Word → ℕ → BoardStep

@@ -15,17 +15,17 @@ abbrev pub held_as : ℕ → Slot → HeldLane
 held_as number (slot.Middle y) = held.Middle number y
 held_as number (slot.Out y) = held.Out number y
 
-abbrev pub number_of : LaneId → ℕ
-number_of (id.Middle l) = l
-number_of (id.Out o) = o
+abbrev pub lane_number : LaneId → ℕ
+lane_number (id.Middle l) = l
+lane_number (id.Out o) = o
 
 abbrev pub held_by : LaneId → Slot → HeldLane
-held_by x found = held_as (number_of x) found
+held_by x found = held_as (lane_number x) found
 
 -- the name of a lane in hand, and what was found in it
-abbrev pub lane_of : HeldLane → LaneId
-lane_of (held.Middle l y) = id.Middle l
-lane_of (held.Out o y) = id.Out o
+abbrev pub held_lane_id : HeldLane → LaneId
+held_lane_id (held.Middle l y) = id.Middle l
+held_lane_id (held.Out o y) = id.Out o
 
 abbrev pub content_of : HeldLane → Slot
 content_of (held.Middle l y) = slot.Middle y

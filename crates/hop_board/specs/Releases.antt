@@ -15,11 +15,11 @@ use Rattle.hop_board.specs.declared.release.Release.{Release}
 use Rattle.hop_board.specs.declared.release.Release.TheVariants.{Unchanged, Offered, Pulled, Given}
 
 -- the lane that is given back
-abbrev pub lane_in : Release → LaneId
-lane_in (Unchanged x) = x
-lane_in (Offered l packet hash answer) = id.Middle l
-lane_in (Pulled l packet) = id.Middle l
-lane_in (Given o from packet place) = id.Out o
+abbrev pub released_lane : Release → LaneId
+released_lane (Unchanged x) = x
+released_lane (Offered l packet hash answer) = id.Middle l
+released_lane (Pulled l packet) = id.Middle l
+released_lane (Given o from packet place) = id.Out o
 
 -- whether its tail rises
 abbrev pub rises_by : Put → Bool

@@ -2,7 +2,7 @@
 ghost use Rattle.std.specs.Prelude.{◌≡◌};
 ghost use Rattle.board_api.specs.Calls.HeldLanes.{FitsLane, Holds, HoldsOut};
 ghost use Rattle.board_api.specs.Calls.Results.{BackTells, HoldTells, ReadTells};
-ghost use Rattle.hop_board.specs.Named.{content_of, held_by, lane_of};
+ghost use Rattle.hop_board.specs.Named.{content_of, held_by, held_lane_id};
 
 use crate::board::Board;
 use crate::release::Release;
@@ -69,7 +69,7 @@ fn held_by(lane: LaneId, found: Slot) -> HeldLane
 
 // The name of a lane in a hand, and what was found in it.
 fn parts(held: HeldLane) -> (LaneId, Slot)
-    ensures lane { result.0 ≡ lane_of held }
+    ensures lane { result.0 ≡ held_lane_id held }
     ensures content { result.1 ≡ content_of held }
 {
     match held {

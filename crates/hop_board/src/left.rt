@@ -6,7 +6,7 @@ ghost use Rattle.std.specs.Slots.{IsFull, slots_filled, slots_items, slots_len};
 ghost use Rattle.backlog.specs.Puts.{put_count};
 ghost use Rattle.hop_board.specs.Closed.{HasRoom};
 ghost use Rattle.hop_board.specs.Left.{AllLie, AreFullFrom, AreSpare, AreTakenFrom};
-ghost use Rattle.hop_board.specs.Left.{AreTakenTo, IsMiddleOf, IsOut};
+ghost use Rattle.hop_board.specs.Left.{AreTakenTo, IsMiddleOf, IsOutLane};
 ghost use Rattle.hop_board.specs.Left.{left_of, lists_left, middle_left, middles_left, out_left};
 ghost use Rattle.hop_board.specs.Left.{outs_left};
 ghost use Rattle.hop_board.specs.Tables.{slots};
@@ -163,7 +163,7 @@ fn out_lists(
 }
 
 fn out_list(found: Option<Slot>) -> List<PacketId>
-    requires { IsOut found }
+    requires { IsOutLane found }
     ensures { result ≡ out_left found }
 {
     let Some(Slot::Out(lane)) = found else {

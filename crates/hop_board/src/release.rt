@@ -1,6 +1,6 @@
 //! How a lane is given back.
 ghost use Rattle.std.specs.Prelude.{◌≡◌};
-ghost use Rattle.hop_board.specs.Releases.{lane_in, rises_in};
+ghost use Rattle.hop_board.specs.Releases.{released_lane, rises_in};
 
 use board_api::LaneId;
 use steer_base::{PacketId, Put};
@@ -34,7 +34,7 @@ pub enum Release {
 impl Release {
     // The lane that is given back.
     pub fn lane(&self) -> LaneId
-        ensures { result ≡ lane_in self.now }
+        ensures { result ≡ released_lane self.now }
     {
         match self {
             Release::Unchanged(lane) => *lane,

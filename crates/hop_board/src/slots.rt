@@ -3,7 +3,7 @@ ghost use Rattle.std.specs.Prelude.{◌≡◌, true, ◌∷◌, MatchResult};
 ghost use Rattle.hop_rule.specs.Boards.{own_state, empty};
 ghost use Rattle.board_api.specs.Calls.HeldLanes.{FitsLane};
 ghost use Rattle.hop_board.specs.Makings.{TookSlot, MissedSlot};
-ghost use Rattle.hop_board.specs.Releases.{lane_in, rises_in, step_in, is_told};
+ghost use Rattle.hop_board.specs.Releases.{released_lane, rises_in, step_in, is_told};
 ghost use Rattle.hop_board.specs.Steps.{MayGive};
 ghost use Rattle.hop_board.specs.Tables.{slot_of};
 
@@ -47,14 +47,15 @@ impl Board {
     // Moves a lane into its slot and releases it.
     pub(crate) fn give(&self, seat: &mut WordSeat, release: Release, lane: Slot)
         requires table { seat.old.table ≡ self.now.table }
-        requires within { FitsLane self.now.sizes (lane_in release) }
-        requires empty { own_state self.now.sizes (slot_of self.now.sizes (lane_in release))
+        requires within { FitsLane self.now.sizes (released_lane release) }
+        requires empty { own_state self.now.sizes (slot_of self.now.sizes (released_lane release))
             seat.old.steps ≡ empty }
-        requires give { MayGive self.now.sizes seat.old (lane_in release) (rises_in release) lane
+        requires give { MayGive self.now.sizes seat.old (released_lane release)
+            (rises_in release) lane
             (step_in release) (is_told self.now.sizes release lane) }
         ensures step { seat.new ≡ record seat.old {
           steps = step_in release
-              ∷ BoardStep.LaneIn (slot_of self.now.sizes (lane_in release)) ∷ seat.old.steps;
+              ∷ BoardStep.LaneIn (slot_of self.now.sizes (released_lane release)) ∷ seat.old.steps;
         } }
         ensures told { is_told self.now.sizes release lane }
     {
@@ -64,14 +65,15 @@ impl Board {
     // The lane's word is one up where its tail rises, and else one down.
     fn give_as<J: Given>(&self, seat: &mut WordSeat, release: Release, lane: Slot)
         requires table { seat.old.table ≡ self.now.table }
-        requires within { FitsLane self.now.sizes (lane_in release) }
-        requires empty { own_state self.now.sizes (slot_of self.now.sizes (lane_in release))
+        requires within { FitsLane self.now.sizes (released_lane release) }
+        requires empty { own_state self.now.sizes (slot_of self.now.sizes (released_lane release))
             seat.old.steps ≡ empty }
-        requires give { MayGive self.now.sizes seat.old (lane_in release) (rises_in release) lane
+        requires give { MayGive self.now.sizes seat.old (released_lane release)
+            (rises_in release) lane
             J.step J.says }
         ensures step { seat.new ≡ record seat.old {
           steps = J.step
-              ∷ BoardStep.LaneIn (slot_of self.now.sizes (lane_in release)) ∷ seat.old.steps;
+              ∷ BoardStep.LaneIn (slot_of self.now.sizes (released_lane release)) ∷ seat.old.steps;
         } }
         ensures says { J.says }
     {

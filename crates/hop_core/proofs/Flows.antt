@@ -13,7 +13,7 @@ use Rattle.hop_core.specs.Hop.{chosen_at, placed_of, recent, in_hand, next_out, 
 use Rattle.hop_core.specs.Events.{happens, MayAsk}
 use Rattle.hop_core.specs.Sound.{Sound}
 use Rattle.hop_core.specs.Order.{IsInOrder, OnlyAt, Tight}
-use Rattle.hop_core.specs.Flows.{ArrivesAt, FlowOrdered, FlowAllowed, came_by}
+use Rattle.hop_core.specs.Flows.{ArrivesAt, FlowOrdered, FlowAllowed, arrived_by}
 use Rattle.steer_base.specs.Drops.{bucket_of, lane_drop_cause}
 use Rattle.steer_base.specs.declared.put.DropCause.{DropCause}
 use Rattle.hop_core.proofs.Lists.{Changed-set, chosen-push_last, length-push}
@@ -184,9 +184,9 @@ came-arrived (y ∷ ys) x h =
     ]
 
 pub FlowInOrder-from : (test : ℕ → Bool) (p o : ℕ) (s : HopState) → Sound s → FlowOrdered test p o s
-    → IsInOrder (came_by test p s) p o s
+    → IsInOrder (arrived_by test p s) p o s
 FlowInOrder-from test p o s h all =
-    InOrder-from (came_by test p s) p o s (all (came_by test p s)
+    InOrder-from (arrived_by test p s) p o s (all (arrived_by test p s)
     (λ x m. (and_parts (list_any (λ y. y == x) (arrivals_of s p)) (test x) m).1)
     (λ q i iq m.
     let at = came-arrived (arrivals_of s p) (slice_index (arrivals_of s q) i) (and_parts _ _ m).0 in

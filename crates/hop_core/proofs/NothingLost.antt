@@ -16,7 +16,7 @@ use Rattle.hop_core.specs.Events.{AllMayAsk, MayAsk, happens, run}
 use Rattle.hop_core.specs.Hop.{HopState, accepted_at, choices_of, chosen_at, choice_of, deliver_at}
 use Rattle.hop_core.specs.Hop.{delivered_at, drops_at, fell_at, in_hand, lane_of, next_of, next_out}
 use Rattle.hop_core.specs.Hop.{nobody, out_at, placed_of, pulled_at}
-use Rattle.hop_core.specs.NothingLost.{EachLosesNothing, EachPutIsOnce, IsOnceIn, IsOut}
+use Rattle.hop_core.specs.NothingLost.{EachLosesNothing, EachPutIsOnce, IsOnceIn, IsInOutLane}
 use Rattle.hop_core.specs.NothingLost.{LosesNothing, FreshLosesNothing, NothingLost, WasLeft}
 use Rattle.hop_core.specs.Shape.{classes_for, fixed_of, fresh_hop, new_hop}
 use Rattle.hop_core.specs.Sound.{Sound}
@@ -161,11 +161,11 @@ left-weigh accepted fell choices later placed p c ch within h q i lt =
 out-deliver : (accepted : ℕ → List ℕ) (delivered later : ℕ → ℕ) (old new : ℕ → List ℕ) (c o : ℕ)
     → Changed delivered later c (delivered c + 1) → Added old new o (slice_index (accepted c)
     (delivered c))
-    → ((d i : ℕ) → i < delivered d → IsOut old (slice_index (accepted d) i))
-    → (d i : ℕ) → i < later d → IsOut new (slice_index (accepted d) i)
+    → ((d i : ℕ) → i < delivered d → IsInOutLane old (slice_index (accepted d) i))
+    → (d i : ℕ) → i < later d → IsInOutLane new (slice_index (accepted d) i)
 out-deliver accepted delivered later old new c o ch added h d i lt =
     let x : ℕ = slice_index (accepted c) (delivered c) in
-    let still : (y : ℕ) → IsOut old y → IsOut new y =
+    let still : (y : ℕ) → IsInOutLane old y → IsInOutLane new y =
     λ y w. (w.0, still_in old new o x added w.0 y w.1) in
     elim (cases_eq d c) [
       | inl e ↦ (

@@ -7,7 +7,7 @@ use Rattle.hop_core.specs.declared.event.HopEvent.{HopEvent}
 use Rattle.hop_core.specs.declared.event.HopEvent.TheVariants as event
 use Rattle.hop_core.specs.Hop.{HopState, in_hand, lane_of}
 use Rattle.hop_core.specs.Others.{EachLeavesLanes, EachLeavesProducers, SameLane, SameProducer}
-use Rattle.hop_core.specs.Others.{lane_in, producer_of}
+use Rattle.hop_core.specs.Others.{changed_lane, producer_of}
 use Rattle.hop_core.proofs.Cases.{Enabled, by_cases}
 use Rattle.hop_core.proofs.PutSteps.{put_as}
 
@@ -176,13 +176,15 @@ lane-landed s p (Some cause) bucket d ne =
       offers = get_or-set_other s.bare.offers
           (in_hand s p).choice.lane d _ [] (λ e. ne (ap Some (sym e)));
       drops =
-          get_or-set_other s.bare.drops (in_hand s p).choice.lane d _ [] (λ e. ne (ap Some (sym e)));
+          get_or-set_other s.bare.drops (in_hand s p).choice.lane d _ []
+          (λ e. ne (ap Some (sym e)));
       pulled = refl;
       delivered = refl;
       retired = refl;
     }
 
-lanes : (s : HopState) (e : HopEvent) (d : ℕ) → lane_in s e ≢ Some d → Enabled (SameLane d s) s e
+lanes : (s : HopState) (e : HopEvent) (d : ℕ) → changed_lane s e ≢ Some d
+    → Enabled (SameLane d s) s e
 lanes s (event.Arrive p x) d ne = record {
   accepted = refl;
   offers = refl;

@@ -16,7 +16,8 @@ use Rattle.hop_core.specs.Hop.{HopState, accepted_at, arrivals_of, choices_of, i
 use Rattle.hop_core.specs.Hop.{lane_of, choice_of}
 use Rattle.hop_core.specs.Events.{Outcome, MayAsk}
 use Rattle.hop_core.specs.Sound.{Distinct, Sound}
-use Rattle.hop_core.specs.Work.{total, sum_of, work, is_work, WorkGoesOn, WorkStays, WorkIsBounded}
+use Rattle.hop_core.specs.Work.{total, sum_of, work, event_is_work, WorkGoesOn, WorkStays}
+use Rattle.hop_core.specs.Work.{WorkIsBounded}
 use Rattle.hop_core.proofs.Lists.{length-push}
 use Rattle.hop_core.proofs.Cases.{Answered, Enabled, by_outcomes, by_cases}
 use Rattle.hop_core.proofs.PutSteps.{put_as}
@@ -46,7 +47,7 @@ landed-work : (s : HopState) (p : ℕ) (cause : Option DropCause) (bucket : Opti
 landed-work s p None bucket in' = let b = sum-bump s.placed p in' in omega arith
 landed-work s p (Some cause) bucket in' = let b = sum-bump s.placed p in' in omega arith
 
-worked : (s : HopState) (e : HopEvent) → MayAsk s e → Sound s → is_work e ≡ true
+worked : (s : HopState) (e : HopEvent) → MayAsk s e → Sound s → event_is_work e ≡ true
     → Answered (Worked s) s e
 worked s (event.Arrive p id) m h w =
     record { on = inl (let b = total-push s.arrivals p id m.producer in omega arith) }
@@ -95,7 +96,7 @@ work_goes_on s e m h w = (by_outcomes (Worked s) s e (λ why. record { on = inr 
 record SameWork (s t : HopState) : Type 0 where
   same : work t ≡ work s
 
-rests : (s : HopState) (e : HopEvent) → is_work e ≡ false → Enabled (SameWork s) s e
+rests : (s : HopState) (e : HopEvent) → event_is_work e ≡ false → Enabled (SameWork s) s e
 rests s (event.Arrive p id) w = absurd cc
 rests s (event.Take p) w = absurd cc
 rests s (event.Enter a) w = λ _ _. record { same = refl }

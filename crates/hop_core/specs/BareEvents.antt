@@ -82,8 +82,8 @@ pub record HasLanes (b : Bare) : Type 0 where
   pub pulled_long : length b.pulled ≡ length b.accepted
 
 -- Along the drops of each lane neither count falls, and none is over the lane's count.
-abbrev pub DropsRise : HopState → Type 0
-DropsRise s = (c : ℕ) → AreRising (lane_of s.fixed s.bare c)
+abbrev pub LaneDropsRise : HopState → Type 0
+LaneDropsRise s = (c : ℕ) → AreRising (lane_of s.fixed s.bare c)
 
 -- ---- laws
 
@@ -113,8 +113,9 @@ BareKeepsLanes = (f : Fixed) (b : Bare) (e : BareEvent) → HasLanes b → HasLa
 abbrev pub FreshDropsRise : Type 0
 FreshDropsRise =
     (fixed : Fixed) (counts : List ℕ) (guests lanes outs : ℕ)
-    → DropsRise (fresh_hop fixed counts guests lanes outs)
+    → LaneDropsRise (fresh_hop fixed counts guests lanes outs)
 
 abbrev pub EachKeepsDropsRising : Type 0
 EachKeepsDropsRising =
-    (s : HopState) (e : HopEvent) → MayAsk s e → Sound s → DropsRise s → DropsRise (happens s e).0
+    (s : HopState) (e : HopEvent) → MayAsk s e → Sound s → LaneDropsRise s → LaneDropsRise
+    (happens s e).0

@@ -49,5 +49,5 @@ FlowAllowed test p o s event.Close = Unit {0}
 FlowAllowed test p o s event.Reopen = Unit {0}
 
 -- the packets of the flow that came by the producer
-abbrev pub came_by : (ℕ → Bool) → ℕ → HopState → ℕ → Bool
-came_by test p s x = list_any (λ y. y == x) (arrivals_of s p) && test x
+abbrev pub arrived_by : (ℕ → Bool) → ℕ → HopState → ℕ → Bool
+arrived_by test p s x = list_any (λ y. y == x) (arrivals_of s p) && test x

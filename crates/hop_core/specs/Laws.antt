@@ -20,7 +20,7 @@ use Rattle.hop_core.specs.Events.{happens, MayAsk, AllMayAsk, run}
 use Rattle.hop_core.specs.Shape.{IsShape, fresh_hop, new_hop}
 use Rattle.hop_core.specs.Sound.{Sound, Places, Puts}
 use Rattle.hop_core.specs.Order.{is_kept, IsInOrder, Tight, AllTight, Ordered}
-use Rattle.hop_core.specs.Flows.{FlowOrdered, FlowAllowed, came_by}
+use Rattle.hop_core.specs.Flows.{FlowOrdered, FlowAllowed, arrived_by}
 use Rattle.hop_core.specs.Pairs.{Pairwise}
 
 -- ---- what holds after any events
@@ -124,7 +124,7 @@ EachKeepsFlows =
 abbrev pub FlowIsInOrder : Type 0
 FlowIsInOrder =
     (test : ℕ → Bool) (p o : ℕ) (s : HopState) → Sound s → FlowOrdered test p o s
-    → IsInOrder (came_by test p s) p o s
+    → IsInOrder (arrived_by test p s) p o s
 
 -- From end to end, where a second hop gets what was sent on of an out lane of the first, and drops
 -- nothing: what left the second is a prefix of what arrived at the first, without what the first

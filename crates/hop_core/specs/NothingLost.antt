@@ -17,14 +17,14 @@ WasLeft accepted fell c =
     Contains (accepted c.choice.lane) c.id ⊎ Contains (fell c.choice.lane) c.id
 
 -- A packet is in one of the out lanes.
-abbrev pub IsOut : (ℕ → List ℕ) → ℕ → Type 0
-IsOut out x = (o : ℕ) × Contains (out o) x
+abbrev pub IsInOutLane : (ℕ → List ℕ) → ℕ → Type 0
+IsInOutLane out x = (o : ℕ) × Contains (out o) x
 
 pub record NothingLost (s : HopState) : Type 0 where
   pub put : (p i : ℕ) → i < placed_of s p
       → WasLeft (accepted_at s.bare) (fell_at s.bare) (chosen_at (choices_of s p) i)
   pub delivered : (c i : ℕ) → i < delivered_at s.bare c
-      → IsOut (out_at s.bare) (slice_index (accepted_at s.bare c) i)
+      → IsInOutLane (out_at s.bare) (slice_index (accepted_at s.bare c) i)
 
 -- A packet is in the list of this lane, at one place, and in no other of these lists and of the
 -- others.

@@ -18,12 +18,12 @@ producer_of (event.Resize p count) = Some p
 producer_of _ = None
 
 -- the lane whose lists an event may change
-abbrev pub lane_in : HopState → HopEvent → Option ℕ
-lane_in s (event.Put p hash) = Some (in_hand s p).choice.lane
-lane_in s (event.Pull c) = Some c
-lane_in s (event.Deliver c o) = Some c
-lane_in s (event.Retire c) = Some c
-lane_in s _ = None
+abbrev pub changed_lane : HopState → HopEvent → Option ℕ
+changed_lane s (event.Put p hash) = Some (in_hand s p).choice.lane
+changed_lane s (event.Pull c) = Some c
+changed_lane s (event.Deliver c o) = Some c
+changed_lane s (event.Retire c) = Some c
+changed_lane s _ = None
 
 -- A producer has the same in two states.
 pub record SameProducer (q : ℕ) (s t : HopState) : Type 0 where
@@ -50,4 +50,4 @@ EachLeavesProducers =
 
 abbrev pub EachLeavesLanes : Type 0
 EachLeavesLanes =
-    (s : HopState) (e : HopEvent) (d : ℕ) → lane_in s e ≢ Some d → SameLane d s (happens s e).0
+    (s : HopState) (e : HopEvent) (d : ℕ) → changed_lane s e ≢ Some d → SameLane d s (happens s e).0

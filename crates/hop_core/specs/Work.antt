@@ -24,19 +24,19 @@ work s =
     + sum_of s.bare.pulled + sum_of s.bare.delivered + sum_of s.bare.retired
 
 -- the events that get a packet on
-abbrev pub is_work : HopEvent → Bool
-is_work (event.Arrive p id) = true
-is_work (event.Take p) = true
-is_work (event.Enter a) = false
-is_work (event.Leave a) = false
-is_work (event.Weigh p class want desired online) = true
-is_work (event.Put p hash) = true
-is_work (event.Pull c) = true
-is_work (event.Deliver c to) = true
-is_work (event.Retire c) = true
-is_work (event.Resize p count) = false
-is_work event.Close = false
-is_work event.Reopen = false
+abbrev pub event_is_work : HopEvent → Bool
+event_is_work (event.Arrive p id) = true
+event_is_work (event.Take p) = true
+event_is_work (event.Enter a) = false
+event_is_work (event.Leave a) = false
+event_is_work (event.Weigh p class want desired online) = true
+event_is_work (event.Put p hash) = true
+event_is_work (event.Pull c) = true
+event_is_work (event.Deliver c to) = true
+event_is_work (event.Retire c) = true
+event_is_work (event.Resize p count) = false
+event_is_work event.Close = false
+event_is_work event.Reopen = false
 
 -- the event was idle, and the state is as it was
 abbrev pub WasIdle : HopState → HopEvent → Type 0
@@ -46,11 +46,11 @@ WasIdle s e = (why : Idle) × ((happens s e).1 ≡ answer.Idle why) × ((happens
 -- There is no more work than seven steps for each packet.
 abbrev pub WorkGoesOn : Type 0
 WorkGoesOn =
-    (s : HopState) (e : HopEvent) → MayAsk s e → Sound s → is_work e ≡ true
+    (s : HopState) (e : HopEvent) → MayAsk s e → Sound s → event_is_work e ≡ true
     → (work (happens s e).0 ≡ work s + 1) ⊎ WasIdle s e
 
 abbrev pub WorkStays : Type 0
-WorkStays = (s : HopState) (e : HopEvent) → is_work e ≡ false → work (happens s e).0 ≡ work s
+WorkStays = (s : HopState) (e : HopEvent) → event_is_work e ≡ false → work (happens s e).0 ≡ work s
 
 abbrev pub WorkIsBounded : Type 0
 WorkIsBounded = (s : HopState) → Sound s → work s ≤ 7 * s.fixed.room

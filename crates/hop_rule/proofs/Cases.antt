@@ -9,8 +9,8 @@ use native.Mathlib.Decide.{ℕ_discrete}
 use Rattle.steer_base.specs.Lanes.{LaneLists}
 use Rattle.linearization.specs.Orders.{StepBy, step_by}
 use Rattle.linearization.proofs.ListLemmas.{if_same, if_other}
-use Rattle.hop_rule.specs.Boards.{lane_in, gate_in}
-use Rattle.hop_rule.specs.Lanes.{changed, lane_after, out_after, retired_after}
+use Rattle.hop_rule.specs.Boards.{lane_step_in, gate_in}
+use Rattle.hop_rule.specs.Lanes.{lane_changed, lane_after_step, out_after, retired_after}
 use Rattle.hop_rule.specs.declared.step.BoardStep.{BoardStep}
 use Rattle.hop_rule.specs.declared.step.BoardStep.TheVariants.{Lane, Gate, Weighed, Counted}
 use Rattle.hop_rule.specs.declared.step.BoardStep.TheVariants.{LaneOut, LaneIn}
@@ -27,8 +27,8 @@ pick p q a b F same other = dite (ℕ_discrete p q) (λ e. subst F (sym (if_same
     (λ ne. subst F (sym (if_other p q a b ne)) (other ne))
 
 pub lane_case : (P : LaneLists → Type 0) (l : ℕ) (d : LaneStep) (x : LaneLists)
-    → ((c : Change) → d ≡ Freed l c → P (changed c x)) → P x → P (lane_after l d x)
-lane_case P l (Freed i c) x some same = pick i l (changed c x) x P
+    → ((c : Change) → d ≡ Freed l c → P (lane_changed c x)) → P x → P (lane_after_step l d x)
+lane_case P l (Freed i c) x some same = pick i l (lane_changed c x) x P
     (λ e. some c (ap (λ (z : ℕ). Freed z c) e)) (λ _. same)
 lane_case P l (Held i w y) x some same = same
 lane_case P l (Missed i w) x some same = same
@@ -65,7 +65,7 @@ retired_case P l (Given i from id place) n more same = same
 -- ---- the parts of an order
 
 abbrev pub lane_part : ℕ → BoardStep → List (StepBy LaneStep) → List (StepBy LaneStep)
-lane_part p d es = cons_option (option_map (step_by p) (lane_in d)) es
+lane_part p d es = cons_option (option_map (step_by p) (lane_step_in d)) es
 
 abbrev pub gate_part : ℕ → BoardStep → List (StepBy GateStep) → List (StepBy GateStep)
 gate_part p d es = cons_option (option_map (step_by p) (gate_in d)) es

@@ -16,7 +16,7 @@ use Rattle.hop_rule.specs.declared.step.GateStep.TheVariants.{Opened, Set, Read}
 use Rattle.hop_rule.specs.Sizes.{closer}
 use Rattle.hop_rule.specs.Gates as gates
 use Rattle.hop_rule.specs.OutLanes.{OutList, out_list}
-use Rattle.hop_rule.specs.Lanes.{changed, holder, holding, holding_after, lane, out, out_after}
+use Rattle.hop_rule.specs.Lanes.{lane_changed, holder, holding, holding_after, lane, out, out_after}
 use Rattle.hop_rule.specs.Lanes.{out_content, out_holder, out_holder_after, out_holding}
 use Rattle.hop_rule.specs.Lanes.{out_holding_after, MayCome, AreLawful}
 use Rattle.hop_rule.proofs.Cases.{pick}
@@ -45,7 +45,7 @@ module _ (about : BoardSizes) where
       (λ e. let z : 0 ≡ suc p = sym (if_same i l 0 (holder l es) e) ∙ h in absurd (omega arith))
       (λ ne. passes q (Freed i c) es l p (if_other i l None (holding l (steps_of p es)) ne)
       ∙ (before l p (sym (if_other i l 0 (holder l es) ne) ∙ h)
-      ∙ ap Some (sym (if_other i l (changed c (lane about l es)) (lane about l es) ne))))
+      ∙ ap Some (sym (if_other i l (lane_changed c (lane about l es)) (lane about l es) ne))))
   held_step q (Missed i w) es may before l p h = passes q (Missed i w) es l p refl ∙ before l p h
   held_step q (OutHeld i w x) es may before l p h = passes q (OutHeld i w x) es l p refl
       ∙ before l p h

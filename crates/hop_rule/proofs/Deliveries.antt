@@ -19,10 +19,11 @@ use Rattle.hop_rule.specs.declared.step.LaneStep.{LaneStep}
 use Rattle.hop_rule.specs.declared.step.LaneStep.TheVariants.{Held, Missed, Freed, OutHeld}
 use Rattle.hop_rule.specs.declared.step.LaneStep.TheVariants.{OutMissed, OutFreed, Given, Retired}
 use Rattle.hop_rule.specs.Sizes.{puller}
-use Rattle.hop_rule.specs.Lanes.{changed, lane_after, out_after, retired, retired_after, out, Phase}
+use Rattle.hop_rule.specs.Lanes.{lane_changed, lane_after_step, out_after, retired, retired_after}
+use Rattle.hop_rule.specs.Lanes.{out, Phase}
 use Rattle.hop_rule.specs.Lanes.{idle, has_pulled, gave, phase_after, phase, lane, MayCome}
 use Rattle.hop_rule.specs.Lanes.{AreLawful}
-use Rattle.hop_rule.specs.Deliveries.{Delivery, delivery, given_after, given}
+use Rattle.hop_rule.specs.Deliveries.{Delivery, delivery, given_after, delivered_from}
 use Rattle.hop_rule.specs.Moments.{nth_step}
 use Rattle.hop_rule.proofs.Moments.{nth-inside, nth-old, nth-some}
 use Rattle.hop_rule.proofs.Cases.{pick}
@@ -54,7 +55,7 @@ module _ (about : BoardSizes) where
       by_cause (Some cause) = ([], sym (Rattle.std.proofs.lemmas.List.append-nil x.accepted))
 
   changed_grows : (c : Change) (x : LaneLists) → (more : List ℕ)
-      × ((changed c x).accepted ≡ x.accepted ++ more)
+      × ((lane_changed c x).accepted ≡ x.accepted ++ more)
   changed_grows Nothing x = ([], sym (Rattle.std.proofs.lemmas.List.append-nil x.accepted))
   changed_grows (Offered id hash answer) x = put_grows x id hash
   changed_grows (Pulled id) x = ([], sym (Rattle.std.proofs.lemmas.List.append-nil x.accepted))
@@ -71,12 +72,13 @@ module _ (about : BoardSizes) where
   keeps-more xs ys more e = let n = ap length e in let m = length-append xs more in
       (omega arith, λ i x at. ap (λ l. slice_get l i) e ∙ get-more xs more i x at)
 
-  lane_keeps : (l : ℕ) (d : LaneStep) (x : LaneLists) → Keeps x.accepted (lane_after l d x).accepted
+  lane_keeps : (l : ℕ) (d : LaneStep) (x : LaneLists) → Keeps x.accepted
+      (lane_after_step l d x).accepted
   lane_keeps l (Held i w y) x = keeps-refl x.accepted
   lane_keeps l (Missed i w) x = keeps-refl x.accepted
-  lane_keeps l (Freed i c) x = pick i l (changed c x) x
+  lane_keeps l (Freed i c) x = pick i l (lane_changed c x) x
       (λ (y : LaneLists). Keeps x.accepted y.accepted)
-      (λ _. let g = changed_grows c x in keeps-more x.accepted (changed c x).accepted g.0 g.1)
+      (λ _. let g = changed_grows c x in keeps-more x.accepted (lane_changed c x).accepted g.0 g.1)
       (λ _. keeps-refl x.accepted)
   lane_keeps l (OutHeld i w y) x = keeps-refl x.accepted
   lane_keeps l (OutMissed i w) x = keeps-refl x.accepted
@@ -139,38 +141,39 @@ module _ (about : BoardSizes) where
   stands_more : (e : StepBy LaneStep) (es : Order) (g : Delivery) → Stands es g → Stands (e ∷ es) g
   stands_more e es g t = (t.0, (out_keeps g.to e.step (out g.to es)).1 (g.place - 1) g.id t.1)
 
-  pub stands : (es : Order) → AreLawful about es → (l : ℕ) → Each (Stands es) (given l es)
+  pub stands : (es : Order) → AreLawful about es → (l : ℕ) → Each (Stands es) (delivered_from l es)
   stands [] lawful l = tt
   stands (e ∷ es) lawful l = by_step e.by e.step lawful.0 (stands es lawful.1 l)
     where
-      by_step : (p : ℕ) (d : LaneStep) → MayCome about p es d → Each (Stands es) (given l es)
-          → Each (Stands (step_by p d ∷ es)) (given_after l d (given l es))
+      by_step : (p : ℕ) (d : LaneStep) → MayCome about p es d → Each (Stands es)
+          (delivered_from l es)
+          → Each (Stands (step_by p d ∷ es)) (given_after l d (delivered_from l es))
       by_step p (Held i w x) may t = each-weaker (Stands es) (Stands (step_by p (Held i w x) ∷ es))
-          (stands_more (step_by p (Held i w x)) es) (given l es) t
+          (stands_more (step_by p (Held i w x)) es) (delivered_from l es) t
       by_step p (Missed i w) may t = each-weaker (Stands es) (Stands (step_by p (Missed i w) ∷ es))
-          (stands_more (step_by p (Missed i w)) es) (given l es) t
+          (stands_more (step_by p (Missed i w)) es) (delivered_from l es) t
       by_step p (Freed i c) may t = each-weaker (Stands es) (Stands (step_by p (Freed i c) ∷ es))
-          (stands_more (step_by p (Freed i c)) es) (given l es) t
+          (stands_more (step_by p (Freed i c)) es) (delivered_from l es) t
       by_step p (OutHeld i w x) may t = each-weaker (Stands es)
           (Stands (step_by p (OutHeld i w x) ∷ es)) (stands_more (step_by p (OutHeld i w x)) es)
-          (given l es) t
+          (delivered_from l es) t
       by_step p (OutMissed i w) may t = each-weaker (Stands es)
           (Stands (step_by p (OutMissed i w) ∷ es)) (stands_more (step_by p (OutMissed i w)) es)
-          (given l es) t
+          (delivered_from l es) t
       by_step p (OutFreed i) may t = each-weaker (Stands es) (Stands (step_by p (OutFreed i) ∷ es))
-          (stands_more (step_by p (OutFreed i)) es) (given l es) t
+          (stands_more (step_by p (OutFreed i)) es) (delivered_from l es) t
       by_step p (Retired i f) may t = each-weaker (Stands es)
           (Stands (step_by p (Retired i f) ∷ es)) (stands_more (step_by p (Retired i f)) es)
-          (given l es) t
+          (delivered_from l es) t
       by_step p (Given o from id place) may t =
           let rest = each-weaker (Stands es) (Stands (step_by p (Given o from id place) ∷ es))
-          (stands_more (step_by p (Given o from id place)) es) (given l es) t in
+          (stands_more (step_by p (Given o from id place)) es) (delivered_from l es) t in
           let at = given_place p o from id place es lawful.1 may in
           let index : place - 1 ≡ length (out o es) = omega arith in
           let here : slice_get (out o (step_by p (Given o from id place) ∷ es)) (place - 1) ≡ Some
           id = (λ k. slice_get (if_same o o (out o es ++ id ∷ []) (out o es) refl k) (index k))
           ∙ get-last (out o es) id in
-          pick from l (delivery o id place ∷ given l es) (given l es)
+          pick from l (delivery o id place ∷ delivered_from l es) (delivered_from l es)
           (Each (Stands (step_by p (Given o from id place) ∷ es)))
           (λ _. ((omega arith, here), rest)) (λ _. rest)
 
@@ -200,7 +203,7 @@ module _ (about : BoardSizes) where
       × Waits gs o x.accepted
 
   abbrev pub Facts : ℕ → Order → Type 0
-  Facts l es = Ok (given l es) (phase l (steps_of (puller about l) es)) (retired l es)
+  Facts l es = Ok (delivered_from l es) (phase l (steps_of (puller about l) es)) (retired l es)
       (lane about l es)
 
   ids_more : (gs : List Delivery) (xs ys : List ℕ) → Keeps xs ys → IdsAre gs xs → IdsAre gs ys
@@ -222,17 +225,18 @@ module _ (about : BoardSizes) where
 
   -- a step that neither pulls from, delivers from nor retires at the lane l
   quiet : (l q : ℕ) (d : LaneStep) (es : Order) → ((o : Phase) → phase_after l d o ≡ o)
-      → given_after l d (given l es) ≡ given l es → retired_after l d (retired l es) ≡ retired l es
-      → (lane_after l d (lane about l es)).pulled ≡ (lane about l es).pulled → Facts l es
+      → given_after l d (delivered_from l es) ≡ delivered_from l es → retired_after l d
+      (retired l es) ≡ retired l es
+      → (lane_after_step l d (lane about l es)).pulled ≡ (lane about l es).pulled → Facts l es
       → Facts l (step_by q d ∷ es)
   quiet l q d es a b c same t =
-      let y : LaneLists = lane_after l d (lane about l es) in
+      let y : LaneLists = lane_after_step l d (lane about l es) in
       let k = lane_keeps l d (lane about l es) in
-      let now : Ok (given l es) (phase l (steps_of (puller about l) es)) (retired l es) y = (
+      let now : Ok (delivered_from l es) (phase l (steps_of (puller about l) es)) (retired l es) y = (
         same ∙ t.0,
         t.1,
-        ids_more (given l es) (lane about l es).accepted y.accepted k t.2,
-        waits_more (given l es) (phase l (steps_of (puller about l) es))
+        ids_more (delivered_from l es) (lane about l es).accepted y.accepted k t.2,
+        waits_more (delivered_from l es) (phase l (steps_of (puller about l) es))
             (lane about l es).accepted y.accepted k t.3,
       ) in
       subst (λ (z : Phase × (List Delivery × ℕ)). Ok z.1.0 z.0 z.1.1 y)
@@ -263,19 +267,22 @@ module _ (about : BoardSizes) where
       let now : phase l (steps_of (puller about l) (step_by q (Freed i (Pulled id)) ∷ es)) ≡
       has_pulled id = ap (phase l) (steps_of_own (puller about l) q (Freed i (Pulled id)) es by)
       ∙ if_same i l (has_pulled id) (phase l (steps_of (puller about l) es)) e in
-      let a : x.pulled ≡ length (given l es) + 0 = t.0 ∙ ap (λ o. length (given l es) + waiting o)
+      let a : x.pulled ≡ length (delivered_from l es) + 0 =
+      t.0 ∙ ap (λ o. length (delivered_from l es) + waiting o)
       was in
-      let b : length (given l es) ≡ retired l es + 0 = t.1 ∙ ap (λ o. retired l es + gone o) was in
+      let b : length (delivered_from l es) ≡ retired l es + 0 =
+      t.1 ∙ ap (λ o. retired l es + gone o) was in
       let there : slice_get x.accepted x.pulled ≡ Some id =
       subst (λ (z : LaneLists). slice_get z.accepted z.pulled ≡ Some id) (sym same) may.1.2.1 in
-      let n : length (given l es) ≡ x.pulled = omega arith in
-      let here : slice_get x.accepted (length (given l es)) ≡ Some id = ap (slice_get x.accepted) n
+      let n : length (delivered_from l es) ≡ x.pulled = omega arith in
+      let here : slice_get x.accepted (length (delivered_from l es)) ≡ Some id =
+      ap (slice_get x.accepted) n
       ∙ there in
-      subst (λ (z : Phase × LaneLists). Ok (given l es) z.0 (retired l es) z.1)
-      (λ k. (sym now k, sym (if_same i l (changed (Pulled id) x) x e) k))
+      subst (λ (z : Phase × LaneLists). Ok (delivered_from l es) z.0 (retired l es) z.1)
+      (λ k. (sym now k, sym (if_same i l (lane_changed (Pulled id) x) x e) k))
       (omega arith, omega arith, t.2, here))
       (λ ne. quiet l q (Freed i (Pulled id)) es (λ o. if_other i l (has_pulled id) o ne) refl refl
-      (ap (λ (x : LaneLists). x.pulled) (if_other i l (changed (Pulled id) (lane about l es))
+      (ap (λ (x : LaneLists). x.pulled) (if_other i l (lane_changed (Pulled id) (lane about l es))
       (lane about l es) ne)) t)
   facts_step l q (OutHeld i w x) es may lawful t = quiet l q (OutHeld i w x) es (λ _. refl) refl
       refl refl t
@@ -292,16 +299,19 @@ module _ (about : BoardSizes) where
       let now : phase l (steps_of (puller about l) (step_by q (Given i from id place) ∷ es)) ≡
       gave = ap (phase l) (steps_of_own (puller about l) q (Given i from id place) es by)
       ∙ if_same from l gave (phase l (steps_of (puller about l) es)) e in
-      let a : x.pulled ≡ length (given l es) + 1 = t.0 ∙ ap (λ o. length (given l es) + waiting o)
+      let a : x.pulled ≡ length (delivered_from l es) + 1 =
+      t.0 ∙ ap (λ o. length (delivered_from l es) + waiting o)
       was in
-      let b : length (given l es) ≡ retired l es + 0 = t.1 ∙ ap (λ o. retired l es + gone o) was in
-      let w : slice_get x.accepted (length (given l es)) ≡ Some id =
-      subst (λ (o : Phase). Waits (given l es) o x.accepted) was t.3 in
+      let b : length (delivered_from l es) ≡ retired l es + 0 =
+      t.1 ∙ ap (λ o. retired l es + gone o) was in
+      let w : slice_get x.accepted (length (delivered_from l es)) ≡ Some id =
+      subst (λ (o : Phase). Waits (delivered_from l es) o x.accepted) was t.3 in
       subst (λ (z : Phase × List Delivery). Ok z.1 z.0 (retired l es) x)
-      (λ k. (sym now k, sym (if_same from l (g ∷ given l es) (given l es) e) k))
+      (λ k. (sym now k, sym (if_same from l (g ∷ delivered_from l es) (delivered_from l es) e) k))
       (omega arith, omega arith, (w, t.2), tt))
       (λ ne. quiet l q (Given i from id place) es (λ o. if_other from l gave o ne)
-      (if_other from l (delivery i id place ∷ given l es) (given l es) ne) refl refl t)
+      (if_other from l (delivery i id place ∷ delivered_from l es) (delivered_from l es) ne) refl
+      refl t)
   facts_step l q (Retired i f) es may lawful t = dite (ℕ_discrete i l)
       (λ e.
       let x : LaneLists = lane about l es in
@@ -311,10 +321,12 @@ module _ (about : BoardSizes) where
       let now : phase l (steps_of (puller about l) (step_by q (Retired i f) ∷ es)) ≡ idle =
       ap (phase l) (steps_of_own (puller about l) q (Retired i f) es by) ∙ if_same i l idle
       (phase l (steps_of (puller about l) es)) e in
-      let a : x.pulled ≡ length (given l es) + 0 = t.0 ∙ ap (λ o. length (given l es) + waiting o)
+      let a : x.pulled ≡ length (delivered_from l es) + 0 =
+      t.0 ∙ ap (λ o. length (delivered_from l es) + waiting o)
       was in
-      let b : length (given l es) ≡ retired l es + 1 = t.1 ∙ ap (λ o. retired l es + gone o) was in
-      subst (λ (z : Phase × ℕ). Ok (given l es) z.0 z.1 x)
+      let b : length (delivered_from l es) ≡ retired l es + 1 =
+      t.1 ∙ ap (λ o. retired l es + gone o) was in
+      subst (λ (z : Phase × ℕ). Ok (delivered_from l es) z.0 z.1 x)
       (λ k. (sym now k, sym (if_same i l (retired l es + 1) (retired l es) e) k))
       (omega arith, omega arith, t.2, tt))
       (λ ne. quiet l q (Retired i f) es (λ o. if_other i l idle o ne) refl
@@ -330,7 +342,8 @@ module _ (about : BoardSizes) where
   Above old g = length (out g.to old) < g.place
 
   abbrev Later : Order → Order → ℕ → Type 0
-  Later new old l = (more : List Delivery) × (given l (new ++ old) ≡ more ++ given l old)
+  Later new old l = (more : List Delivery) × (delivered_from l (new ++ old) ≡ more
+      ++ delivered_from l old)
       × Each (Above old) more
 
   pub later : (new old : Order) → AreLawful about (new ++ old) → (l : ℕ) → Later new old l
@@ -338,7 +351,8 @@ module _ (about : BoardSizes) where
   later (e ∷ es) old lawful l = by_step e.by e.step lawful.0 (later es old lawful.1 l)
     where
       by_step : (p : ℕ) (d : LaneStep) → MayCome about p (es ++ old) d → Later es old l
-          → (more : List Delivery) × (given_after l d (given l (es ++ old)) ≡ more ++ given l old)
+          → (more : List Delivery) × (given_after l d (delivered_from l (es ++ old)) ≡ more
+          ++ delivered_from l old)
           × Each (Above old) more
       by_step p (Held i w x) may t = t
       by_step p (Missed i w) may t = t
@@ -352,14 +366,14 @@ module _ (about : BoardSizes) where
           let at = given_place p o from id place (es ++ old) lawful.1 may in let more =
           (outs_grow es old o).0 in (
             g ∷ t.0,
-            if_same from l (g ∷ given l (es ++ old)) (given l (es ++ old)) same
+            if_same from l (g ∷ delivered_from l (es ++ old)) (delivered_from l (es ++ old)) same
                 ∙ ap (λ gs. g ∷ gs) t.1,
             (omega arith, t.2),
           ))
           (λ other. (
             t.0,
-            if_other from l (delivery o id place ∷ given l (es ++ old))
-                (given l (es ++ old)) other ∙ t.1,
+            if_other from l (delivery o id place ∷ delivered_from l (es ++ old))
+                (delivered_from l (es ++ old)) other ∙ t.1,
             t.2,
           ))
 
@@ -397,28 +411,29 @@ module _ (about : BoardSizes) where
   -- there then has in its out lane a higher place than the packet j of a, which was delivered.
   pub passing : (new old : List (StepBy LaneStep)) → AreLawful about (new ++ old)
       → (a b k j : ℕ) (g : Delivery)
-      → count about b old ≤ k → nth_step (given b (new ++ old)) k ≡ Some g → j < retired a old
-      → (g' : Delivery) × (nth_step (given a (new ++ old)) j ≡ Some g')
+      → count about b old ≤ k → nth_step (delivered_from b (new ++ old)) k ≡ Some g
+      → j < retired a old
+      → (g' : Delivery) × (nth_step (delivered_from a (new ++ old)) j ≡ Some g')
       × (g'.to ≡ g.to → g'.place < g.place)
   passing new old lawful a b k j g since at gone_j =
       let before = lawful_before about new old lawful in
       let more_a = later about new old lawful a in let more_b = later about new old lawful b in
       let fb = facts about old before b in let fa = facts about old before a in let cb =
       counted about old before b in
-      let pulled_b = fb.0 in let within_b = cb.1 in let old_b : length (given b old) ≤ k =
+      let pulled_b = fb.0 in let within_b = cb.1 in let old_b : length (delivered_from b old) ≤ k =
       omega arith in
       let high = nth-new about (λ (d : Delivery). length (out d.to old) < d.place) more_b.0
-      (given b old) more_b.2 k g (ap (λ l. nth_step l k) (sym more_b.1) ∙ at) old_b in
-      let gone_a = fa.1 in let old_a : j < length (given a old) = omega arith in
-      let one = nth-some (given a old) j old_a in
+      (delivered_from b old) more_b.2 k g (ap (λ l. nth_step l k) (sym more_b.1) ∙ at) old_b in
+      let gone_a = fa.1 in let old_a : j < length (delivered_from a old) = omega arith in
+      let one = nth-some (delivered_from a old) j old_a in
       let g' : Delivery = one.0 in
       let stood = nth-each about
       (λ (d : Delivery). (0 < d.place) × (slice_get (out d.to old) (d.place - 1) ≡ Some d.id))
-      (given a old) (stands about old before a) j g' one.1 in
+      (delivered_from a old) (stands about old before a) j g' one.1 in
       let low = (get-inside (out g'.to old) (g'.place - 1) g'.id stood.1).0 in
       let pos = stood.0 in (
         g',
-        ap (λ l. nth_step l j) more_a.1 ∙ (nth-old more_a.0 (given a old) j old_a ∙ one.1),
+        ap (λ l. nth_step l j) more_a.1 ∙ (nth-old more_a.0 (delivered_from a old) j old_a ∙ one.1),
         λ same. let high' : length (out g'.to old) < g.place =
             subst (λ (o : ℕ). length (out o old) < g.place) (sym same) high in omega arith,
       )
@@ -431,12 +446,13 @@ module _ (about : BoardSizes) where
   Rises [] = Unit {0}
   Rises (g ∷ gs) = Each about (Below g) gs × Rises gs
 
-  pub rises : (es : List (StepBy LaneStep)) → AreLawful about es → (l : ℕ) → Rises (given l es)
+  pub rises : (es : List (StepBy LaneStep)) → AreLawful about es → (l : ℕ)
+      → Rises (delivered_from l es)
   rises [] lawful l = tt
   rises (e ∷ es) lawful l = by_step e.by e.step lawful.0 (rises es lawful.1 l)
     where
-      by_step : (p : ℕ) (d : LaneStep) → MayCome about p es d → Rises (given l es)
-          → Rises (given_after l d (given l es))
+      by_step : (p : ℕ) (d : LaneStep) → MayCome about p es d → Rises (delivered_from l es)
+          → Rises (given_after l d (delivered_from l es))
       by_step p (Held i w x) may t = t
       by_step p (Missed i w) may t = t
       by_step p (Freed i c) may t = t
@@ -446,7 +462,7 @@ module _ (about : BoardSizes) where
       by_step p (Retired i f) may t = t
       by_step p (Given o from id place) may t = let g : Delivery = delivery o id place in
           let at = given_place about p o from id place es lawful.1 may in
-          pick from l (g ∷ given l es) (given l es) Rises
+          pick from l (g ∷ delivered_from l es) (delivered_from l es) Rises
           (λ _. (
             each-weaker about (λ (d : Delivery). (0 < d.place)
                 × (slice_get (out d.to es) (d.place - 1) ≡ Some d.id)) (Below g)
@@ -454,7 +470,7 @@ module _ (about : BoardSizes) where
                 (get-inside (out d.to es) (d.place - 1) d.id stood.1).0 in let pos = stood.0 in
                 let low' : d.place - 1 < length (out o es) =
                 subst (λ (z : ℕ). d.place - 1 < length (out z es)) same low in omega arith)
-                (given l es) (stands about es lawful.1 l),
+                (delivered_from l es) (stands about es lawful.1 l),
             t,
           ))
           (λ _. t)

@@ -30,7 +30,7 @@ use Rattle.hop_rule.proofs.Puts.{by_steps}
 
 -- a pull of the next packet that waits is a take
 pulled_is_take : (x : LaneLists) (id : ℕ) → next_waiting x ≡ Some id
-    → lanes.changed (Pulled id) x ≡ after_take x
+    → lanes.lane_changed (Pulled id) x ≡ after_take x
 pulled_is_take x id waits =
     let l = (get-inside x.accepted x.pulled id waits).0 in
     ap (λ b. if b then record x { pulled = x.pulled + 1 } else x)
@@ -48,7 +48,7 @@ module _ (about : BoardSizes) (order : List (StepBy BoardStep)) (lawful : IsLawf
     keeps Q l put take new = by_steps about order lawful Q l by_change new
       where
         by_change : (k p : ℕ) (c : Change) → IsStep order k p (Lane (Freed l c))
-            → Q (lane_then about order k l) → Q (lanes.changed c (lane_then about order k l))
+            → Q (lane_then about order k l) → Q (lanes.lane_changed c (lane_then about order k l))
         by_change k p Nothing is here = here
         by_change k p (Offered id hash answer) is here = put k p id hash answer is here
         by_change k p (Pulled id) is here =

@@ -30,7 +30,7 @@ use Rattle.hop_rule.specs.declared.step.GateStep.TheVariants.{Opened, Set, Read}
 use Rattle.hop_core.specs.Hop.{Bare, accepted_at, pulled_at}
 use Rattle.hop_core.specs.Hop.{delivered_at, retired_at, next_out, lane_of, landed}
 use Rattle.hop_core.specs.BareEvents.{MayBe, bare_after}
-use Rattle.hop_rule.specs.Deliveries.{Delivery, delivery, given}
+use Rattle.hop_rule.specs.Deliveries.{Delivery, delivery, delivered_from}
 use Rattle.hop_rule.specs.Sizes.{puller}
 use Rattle.hop_rule.specs.Lanes as lanes
 use Rattle.hop_rule.specs.Gates as gates
@@ -107,13 +107,13 @@ module _ (about : BoardSizes) where
   put_shape x id bucket None = (refl, refl, refl, refl)
   put_shape x id bucket (Some cause) = (refl, refl, refl, refl)
 
-  changed_shape : (c : Change) (x : LaneLists) → Shape (lanes.changed c x) x
+  changed_shape : (c : Change) (x : LaneLists) → Shape (lanes.lane_changed c x) x
   changed_shape Nothing x = (refl, refl, refl, refl)
   changed_shape (Offered id hash answer) x = put_shape x id (bucket_of hash)
       (lane_drop_cause x hash)
   changed_shape (Pulled id) x = (refl, refl, refl, refl)
 
-  step_shape : (l : ℕ) (d : LaneStep) (x : LaneLists) → Shape (lanes.lane_after l d x) x
+  step_shape : (l : ℕ) (d : LaneStep) (x : LaneLists) → Shape (lanes.lane_after_step l d x) x
   step_shape l d x = lane_case (λ y. Shape y x) l d x (λ c _. changed_shape c x)
       (refl, refl, refl, refl)
 
@@ -240,20 +240,20 @@ module _ (about : BoardSizes) where
       in
       (λ i. record (Bares es) {
         accepted = tab-same (λ l. (L ls l).accepted) (λ k. (L ls' k).accepted) 0 about.lanes
-            (λ j le. pick l j (lanes.changed (Pulled id) (L ls j)) (L ls j)
+            (λ j le. pick l j (lanes.lane_changed (Pulled id) (L ls j)) (L ls j)
             (λ (y : LaneLists). y.accepted ≡ (L ls j).accepted) (λ _. refl) (λ _. refl)) i;
         offers = tab-same (λ l. (L ls l).offers) (λ k. (L ls' k).offers) 0 about.lanes
-            (λ j le. pick l j (lanes.changed (Pulled id) (L ls j)) (L ls j)
+            (λ j le. pick l j (lanes.lane_changed (Pulled id) (L ls j)) (L ls j)
             (λ (y : LaneLists). y.offers ≡ (L ls j).offers) (λ _. refl) (λ _. refl)) i;
         drops = tab-same (λ l. (L ls l).drops) (λ k. (L ls' k).drops) 0 about.lanes
-            (λ j le. pick l j (lanes.changed (Pulled id) (L ls j)) (L ls j)
+            (λ j le. pick l j (lanes.lane_changed (Pulled id) (L ls j)) (L ls j)
             (λ (y : LaneLists). y.drops ≡ (L ls j).drops) (λ _. refl) (λ _. refl)) i;
         pulled = (tab-at (λ l. (L ls l).pulled) (λ k. (L ls' k).pulled) about.lanes l
             ((L ls l).pulled + 1) may.0
             (ap (λ (x : LaneLists). x.pulled)
-            (if_same l l (lanes.changed (Pulled id) (L ls l)) (L ls l) refl))
+            (if_same l l (lanes.lane_changed (Pulled id) (L ls l)) (L ls l) refl))
             (λ j ne. ap (λ (x : LaneLists). x.pulled)
-            (if_other l j (lanes.changed (Pulled id) (L ls j)) (L ls j) ne))
+            (if_other l j (lanes.lane_changed (Pulled id) (L ls j)) (L ls j) ne))
             ∙ ap (λ n. set (Bares es).pulled l (n + 1))
             (sym (tab-is (λ l. (L ls l).pulled) 0 about.lanes l may.0))) i;
       })
@@ -278,22 +278,26 @@ module _ (about : BoardSizes) where
       let fa = facts about ls lawful from in
       let was : lanes.phase from (steps_of (puller about from) ls) ≡ lanes.has_pulled id =
       ap (λ z. lanes.phase from (steps_of z ls)) may.2.4 ∙ may.2.5 in
-      let waits : slice_get (L ls from).accepted (length (given from ls)) ≡ Some id =
-      subst (λ (z : lanes.Phase). Waits about (given from ls) z (L ls from).accepted) was fa.3
+      let waits : slice_get (L ls from).accepted (length (delivered_from from ls)) ≡ Some id =
+      subst (λ (z : lanes.Phase). Waits about (delivered_from from ls) z (L ls from).accepted) was
+      fa.3
       in
       let next : next_out (Bares es) from ≡ id =
       (λ i. slice_index (tab-is (λ l. (L ls l).accepted) [] about.lanes from may.1 i)
-      (tab-is (λ l. length (given l ls)) 0 about.lanes from may.1 i))
-      ∙ (get-inside (L ls from).accepted (length (given from ls)) id waits).1 in
+      (tab-is (λ l. length (delivered_from l ls)) 0 about.lanes from may.1 i))
+      ∙ (get-inside (L ls from).accepted (length (delivered_from from ls)) id waits).1 in
       let g : Delivery = delivery o id place in
-      let longer : length (g ∷ given from ls) ≡ length (given from ls) + 1 = omega arith in
+      let longer : length (g ∷ delivered_from from ls) ≡ length (delivered_from from ls) + 1 =
+      omega arith in
       (λ i. record (Bares es) {
-        delivered = (tab-at (λ l. length (given l ls)) (λ k. length (given k ls')) about.lanes from
-            (length (given from ls) + 1) may.1
-            (ap length (if_same from from (g ∷ given from ls) (given from ls) refl) ∙ longer)
-            (λ j ne. ap length (if_other from j (g ∷ given j ls) (given j ls) ne))
+        delivered = (tab-at (λ l. length (delivered_from l ls)) (λ k. length (delivered_from k ls'))
+            about.lanes from
+            (length (delivered_from from ls) + 1) may.1
+            (ap length (if_same from from (g ∷ delivered_from from ls)
+            (delivered_from from ls) refl) ∙ longer)
+            (λ j ne. ap length (if_other from j (g ∷ delivered_from j ls) (delivered_from j ls) ne))
             ∙ ap (λ n. set (Bares es).delivered from (n + 1))
-            (sym (tab-is (λ l. length (given l ls)) 0 about.lanes from may.1))) i;
+            (sym (tab-is (λ l. length (delivered_from l ls)) 0 about.lanes from may.1))) i;
         outs = (tab-at (λ o. lanes.out o ls) (λ k. lanes.out k ls') about.outs o
             (lanes.out o ls ++ id ∷ []) may.0
             (if_same o o (lanes.out o ls ++ id ∷ []) (lanes.out o ls) refl)
@@ -396,8 +400,9 @@ module _ (about : BoardSizes) where
     retired_is : (l : ℕ) → l < about.lanes → retired_at (Bares es) l ≡ lanes.retired l ls
     retired_is l less = tab-is (λ l. lanes.retired l ls) 0 about.lanes l less
 
-    delivered_is : (l : ℕ) → l < about.lanes → delivered_at (Bares es) l ≡ length (given l ls)
-    delivered_is l less = tab-is (λ l. length (given l ls)) 0 about.lanes l less
+    delivered_is : (l : ℕ) → l < about.lanes → delivered_at (Bares es) l ≡ length
+        (delivered_from l ls)
+    delivered_is l less = tab-is (λ l. length (delivered_from l ls)) 0 about.lanes l less
 
     accepted_is : (l : ℕ) → l < about.lanes → accepted_at (Bares es) l ≡ (L ls l).accepted
     accepted_is l less = tab-is (λ l. (L ls l).accepted) [] about.lanes l less
@@ -423,15 +428,17 @@ module _ (about : BoardSizes) where
         (is_lane l may.0, omega arith, omega arith)
     may_lane p (Given o from id place) may =
         let at = phase_is p from (lanes.has_pulled id) may.2.4 may.2.5 in
-        let c : (L ls from).pulled ≡ length (given from ls) + 1 =
-        (facts about ls legal_lanes from).0 ∙ ap (λ z. length (given from ls) + waiting about z)
+        let c : (L ls from).pulled ≡ length (delivered_from from ls) + 1 =
+        (facts about ls legal_lanes from).0
+        ∙ ap (λ z. length (delivered_from from ls) + waiting about z)
         at in
         let a = pulled_is from may.1 in let b = delivered_is from may.1 in
         let n = tab-length (λ o. lanes.out o ls) 0 about.outs in
         (is_lane from may.1, omega arith, omega arith)
     may_lane p (Retired l w) may =
         let at = phase_is p l lanes.gave may.2 may.3 in
-        let c : length (given l ls) ≡ lanes.retired l ls + 1 = (facts about ls legal_lanes l).1
+        let c : length (delivered_from l ls) ≡ lanes.retired l ls + 1 =
+        (facts about ls legal_lanes l).1
         ∙ ap (λ z. lanes.retired l ls + gone about z) at in
         let a = retired_is l may.0 in let b = delivered_is l may.0 in
         (is_lane l may.0, omega arith)

@@ -84,7 +84,7 @@ put_later x id hash = by_cause (lane_drop_cause x hash)
       pulled = omega arith;
     }
 
-change_later : (c : Change) (x : LaneLists) → IsEarlier x (lanes.changed c x)
+change_later : (c : Change) (x : LaneLists) → IsEarlier x (lanes.lane_changed c x)
 change_later Nothing x = earlier-same x
 change_later (Offered id hash answer) x = put_later x id hash
 change_later (Pulled id) x = record {
@@ -100,7 +100,8 @@ module _ (about : BoardSizes) where
       (lanes.lane about l (new ++ old))
   lanes_later [] old l = earlier-same (lanes.lane about l old)
   lanes_later (e ∷ es) old l = let x : LaneLists = lanes.lane about l (es ++ old) in
-      earlier-more (lanes.lane about l old) x (lanes.lane_after l e.step x) (lanes_later es old l)
+      earlier-more (lanes.lane about l old) x (lanes.lane_after_step l e.step x)
+      (lanes_later es old l)
       (lane_case (IsEarlier x) l e.step x (λ c _. change_later c x) (earlier-same x))
 
   outs_later : (new old : List (StepBy LaneStep)) (o : ℕ) → Front (lanes.out o old)

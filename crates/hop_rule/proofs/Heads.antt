@@ -4,7 +4,7 @@ use Rattle.std.proofs.Common.{subst, arith}
 use Rattle.backlog.specs.Puts.{put_count}
 use Rattle.linearization.specs.Orders.{StepBy, steps_of}
 use Rattle.hop_rule.specs.Boards.{IsLawful, lane_at, lanes_of, retired}
-use Rattle.hop_rule.specs.Deliveries.{Delivery, given}
+use Rattle.hop_rule.specs.Deliveries.{Delivery, delivered_from}
 use Rattle.hop_rule.specs.LaneLaws.{AreInTurn, HeadsFollowDeliveries, EachRetireFollows}
 use Rattle.hop_rule.specs.Lanes as lanes
 use Rattle.hop_rule.specs.Moments.{past, nth_step}
@@ -32,8 +32,10 @@ in_turn about es lawful l =
     c.2 in
     by_phase (lanes.phase l (steps_of (puller about l) ls)) a b d e g
   where
-    by_phase : (o : lanes.Phase) → (lane_at about es l).pulled ≡ length (given l (lanes_of es)) +
-        Rattle.hop_rule.proofs.Deliveries.waiting about o → length (given l (lanes_of es)) ≡ retired
+    by_phase : (o : lanes.Phase) → (lane_at about es l).pulled ≡ length
+        (delivered_from l (lanes_of es)) +
+        Rattle.hop_rule.proofs.Deliveries.waiting about o
+        → length (delivered_from l (lanes_of es)) ≡ retired
         about es l + gone about o
         → (lane_at about es l).pulled ≡ retired about es l +
         Rattle.hop_rule.proofs.Lanes.out_of_hand about o → (lane_at about es l).pulled ≤ length
@@ -77,7 +79,7 @@ each_retire_follows about order lawful n q l w is =
     let f = (facts about ls (lanes_past about order n lawful) l).1 in
     let was : lanes.phase l (steps_of (puller about l) ls) ≡ lanes.gave =
     ap (λ z. lanes.phase l (steps_of z ls)) may.2 ∙ may.3 in
-    let one : length (given l ls) ≡ retired about (past n order) l + 1 = f
+    let one : length (delivered_from l ls) ≡ retired about (past n order) l + 1 = f
     ∙ ap (λ o. retired about (past n order) l + gone about o) was in
     record { by_puller = sym may.2; word = may.1; delivered = omega arith }
 
@@ -85,12 +87,12 @@ each_retire_follows about order lawful n q l w is =
 
 pub delivered_as_accepted : DeliveredAsAccepted
 delivered_as_accepted about order lawful l k g at =
-    ids_at about (given l (lanes_of order)) (lane_at about order l).accepted
+    ids_at about (delivered_from l (lanes_of order)) (lane_at about order l).accepted
     (facts about (lanes_of order) (parts about order lawful).0 l).2 k g at
 
 pub delivered_in_order : DeliveredInOrder
 delivered_in_order about order lawful l j k g h less at at' to =
-    let t = same_lane about (given l (lanes_of order))
+    let t = same_lane about (delivered_from l (lanes_of order))
     (rises about (lanes_of order) (parts about order lawful).0 l) j k h less at' in
     let same : t.0 ≡ g = some-is t.0 g (sym t.1 ∙ at) in
     subst (λ (z : Delivery). z.place < h.place) same (t.2 (ap (λ (z : Delivery). z.to) same ∙ to))
@@ -110,8 +112,8 @@ loaded_heads_are_retires about order lawful n q l w is =
 pub passed_since : (about : BoardSizes) (order : List (StepBy BoardStep)) → IsLawful about order
     → (n l i : ℕ) → n ≤ length order → i < retired about (past n order) l
     → (to j : ℕ) (h : Delivery) → length (lane_then about order n to).accepted ≤ j
-    → nth_step (given to (lanes_of order)) j ≡ Some h
-    → (g : Delivery) × (nth_step (given l (lanes_of order)) i ≡ Some g)
+    → nth_step (delivered_from to (lanes_of order)) j ≡ Some h
+    → (g : Delivery) × (nth_step (delivered_from l (lanes_of order)) i ≡ Some g)
     × (g.to ≡ h.to → g.place < h.place)
 passed_since about order lawful n l i le gone_ to j h since at =
     let t = lanes_more order n (length order) le in
@@ -119,8 +121,8 @@ passed_since about order lawful n l i le gone_ to j h since at =
     (sym (past-all order (length order) (omega arith))) ∙ t.1 in
     let p = passing about t.0 (lanes_of (past n order))
     (subst (lanes.AreLawful about) top (parts about order lawful).0) l to j i h since
-    (ap (λ ls. nth_step (given to ls) j) (sym top) ∙ at) gone_ in
-    (p.0, ap (λ ls. nth_step (given l ls) i) top ∙ p.1, p.2)
+    (ap (λ ls. nth_step (delivered_from to ls) j) (sym top) ∙ at) gone_ in
+    (p.0, ap (λ ls. nth_step (delivered_from l ls) i) top ∙ p.1, p.2)
 
 pub loaded_heads_are_passed : LoadedHeadsArePassed
 loaded_heads_are_passed about order lawful n q l w k i is word less =
@@ -128,7 +130,7 @@ loaded_heads_are_passed about order lawful n q l w k i is word less =
     loads.1 in
     let inside = step-inside order n q (Weighed l w) is in
     let end = in_turn about order lawful l in let c = end.of_delivered in
-    let one = Rattle.hop_rule.proofs.Moments.nth-some (given l (lanes_of order)) i
+    let one = Rattle.hop_rule.proofs.Moments.nth-some (delivered_from l (lanes_of order)) i
     (omega arith) in (
       one.0,
       one.1,

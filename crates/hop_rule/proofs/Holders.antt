@@ -8,7 +8,7 @@ use Rattle.linearization.specs.Orders.{StepBy}
 use Rattle.linearization.proofs.ListLemmas.{if_same, if_other}
 use Rattle.hop_rule.specs.Boards.{MayCome, IsLawful, full, taken, empty, SlotState, lane_at}
 use Rattle.hop_rule.specs.Boards.{lane_steps, lanes_of, out, out_slot, own_state, slot_state}
-use Rattle.hop_rule.specs.LaneLaws.{Holds, OutHolds, IsHeldByOne, IsOutHeldByOne}
+use Rattle.hop_rule.specs.LaneLaws.{HoldsByOwnSteps, OutHolds, IsHeldByOne, IsOutHeldByOne}
 use Rattle.hop_rule.specs.LaneLaws.{MiddleLanesAreHeldByOne, OutLanesAreHeldByOne}
 use Rattle.hop_rule.specs.Lanes as lanes
 use Rattle.hop_rule.specs.OutLanes.{OutList}
@@ -138,12 +138,13 @@ module _ (about : BoardSizes) (order : List (StepBy BoardStep)) (lawful : IsLawf
     not_full s on e = let z : is_out s ≡ 0 = ap is_out e in absurd (omega arith)
 
     module _ (l : ℕ) (inside : l < about.lanes) where
-      held_by : (q : ℕ) (x : LaneLists) → Holds order l q x → (lanes.holder l ls ≡ suc q)
+      held_by : (q : ℕ) (x : LaneLists) → HoldsByOwnSteps order l q x → (lanes.holder l ls ≡ suc q)
           × (lane_at about order l ≡ x)
       held_by q x at = holds about ls (parts about order lawful).0 l q x
           (ap (lanes.holding l) (lanes_own q order) ∙ at)
 
-      holder_is : (n : ℕ) → lanes.holder l ls ≡ suc n → Holds order l n (lane_at about order l)
+      holder_is : (n : ℕ) → lanes.holder l ls ≡ suc n → HoldsByOwnSteps order l n
+          (lane_at about order l)
       holder_is n h = ap (lanes.holding l) (sym (lanes_own n order)) ∙ held_is about ls
           (parts about order lawful).0 l n h
 
@@ -175,7 +176,7 @@ module _ (about : BoardSizes) (order : List (StepBy BoardStep)) (lawful : IsLawf
       }
         where
           by_holder : lanes.lane_word about l ls % 2 ≡ 1 → (n : ℕ) → lanes.holder l ls ≡ n → (q : ℕ)
-              × (x : LaneLists) × Holds order l q x
+              × (x : LaneLists) × HoldsByOwnSteps order l q x
           by_holder odd zero e = let w : lanes.lane_word about l ls ≡ Word 0 = ap Word e in
               absurd (omega arith)
           by_holder odd (suc n) e = (n, lane_at about order l, holder_is n e)

@@ -20,7 +20,8 @@ use Rattle.hop_rule.specs.declared.step.LaneStep.{LaneStep}
 use Rattle.hop_rule.specs.declared.step.LaneStep.TheVariants.{Held, Missed, Freed, OutHeld}
 use Rattle.hop_rule.specs.declared.step.LaneStep.TheVariants.{OutMissed, OutFreed, Given, Retired}
 use Rattle.hop_rule.specs.Sizes.{puller}
-use Rattle.hop_rule.specs.Lanes.{changed, lane_after, out_after, holder_after, out_holder_after}
+use Rattle.hop_rule.specs.Lanes.{lane_changed, lane_after_step, out_after, holder_after}
+use Rattle.hop_rule.specs.Lanes.{out_holder_after}
 use Rattle.hop_rule.specs.Lanes.{holder, out_holder, retired, out, holding_after, holding}
 use Rattle.hop_rule.specs.Lanes.{out_holding_after, out_holding, Phase, idle, has_pulled, gave}
 use Rattle.hop_rule.specs.Lanes.{phase_after, phase, lane, out_content, FitsChange, MayCome}
@@ -38,7 +39,8 @@ module _ (about : BoardSizes) where
 
   passes : (q : ℕ) (d : LaneStep) (es : Order)
       → ((l : ℕ) (o : Option LaneLists) → holding_after l d o ≡ o)
-      → ((l h : ℕ) → holder_after l q d h ≡ h) → ((l : ℕ) (x : LaneLists) → lane_after l d x ≡ x)
+      → ((l h : ℕ) → holder_after l q d h ≡ h) → ((l : ℕ) (x : LaneLists)
+      → lane_after_step l d x ≡ x)
       → Holds es → Holds (step_by q d ∷ es)
   passes q d es a b c before l p x at =
       let was : holding l (steps_of p es) ≡ Some x = dite (ℕ_discrete q p)
@@ -75,7 +77,7 @@ module _ (about : BoardSizes) where
       (λ isnt. let t = before l p x (sym (if_other i l None (holding l (steps_of p es)) isnt)
       ∙ here) in (
         if_other i l 0 (holder l es) isnt ∙ t.0,
-        if_other i l (changed c (lane about l es))
+        if_other i l (lane_changed c (lane about l es))
             (lane about l es) isnt ∙ t.1,
       )))
       (λ other. let t = before l p x (sym (ap (holding l) (steps_of_other p q (Freed i c) es other))
@@ -85,7 +87,7 @@ module _ (about : BoardSizes) where
       absurd (other (omega arith)))
       (λ isnt. (
         if_other i l 0 (holder l es) isnt ∙ t.0,
-        if_other i l (changed c (lane about l es))
+        if_other i l (lane_changed c (lane about l es))
             (lane about l es) isnt ∙ t.1,
       )))
   holds_step q (OutHeld i w y) es may before l p x at = passes q (OutHeld i w y) es (λ _ _. refl)
@@ -223,7 +225,7 @@ module _ (about : BoardSizes) where
 
   -- a step that leaves the phase, the lane and the head
   quiet : (l q : ℕ) (d : LaneStep) (es : Order) → ((o : Phase) → phase_after l d o ≡ o)
-      → lane_after l d (lane about l es) ≡ lane about l es
+      → lane_after_step l d (lane about l es) ≡ lane about l es
       → Rattle.hop_rule.specs.Lanes.retired_after l d (retired l es) ≡ retired l es → Counted l es
       → Counted l (step_by q d ∷ es)
   quiet l q d es a b c t = subst (λ (z : Phase × (LaneLists × ℕ)). CountsOf z.1.1 z.0 z.1.0)
@@ -264,10 +266,10 @@ module _ (about : BoardSizes) where
       let none_out : x.pulled ≡ retired l es + 0 = t.0 ∙ ap (λ o. retired l es + out_of_hand o)
       was in let few = t.2 in
       subst (λ (z : Phase × LaneLists). CountsOf (retired l es) z.0 z.1)
-      (λ k. (sym now k, sym (if_same i l (changed (Pulled id) x) x e) k))
+      (λ k. (sym now k, sym (if_same i l (lane_changed (Pulled id) x) x e) k))
       (omega arith, omega arith, few))
       (λ ne. quiet l q (Freed i (Pulled id)) es (λ o. if_other i l (has_pulled id) o ne)
-      (if_other i l (changed (Pulled id) (lane about l es)) (lane about l es) ne) refl t)
+      (if_other i l (lane_changed (Pulled id) (lane about l es)) (lane about l es) ne) refl t)
   counted_step l q (OutHeld i w x) es may lawful t = quiet l q (OutHeld i w x) es (λ _. refl) refl
       refl t
   counted_step l q (OutMissed i w) es may lawful t = quiet l q (OutMissed i w) es (λ _. refl) refl

@@ -14,7 +14,7 @@ use Rattle.hop_rule.specs.declared.step.LaneStep.TheVariants.{OutMissed, OutFree
 use Rattle.hop_rule.specs.Lanes as lanes
 use Rattle.hop_rule.specs.OutLanes.{OutList}
 use Rattle.hop_rule.specs.Boards.{lanes_of}
-use Rattle.hop_rule.specs.Deliveries.{Delivery, delivery, given_after, given}
+use Rattle.hop_rule.specs.Deliveries.{Delivery, delivery, given_after, delivered_from}
 use Rattle.hop_rule.specs.Moments.{nth_step}
 use Rattle.hop_rule.specs.Moments.{IsStep}
 use Rattle.hop_rule.proofs.Cases.{pick, lane_part}
@@ -26,7 +26,7 @@ use Rattle.hop_rule.proofs.Moments.{step-more, step-last, nth-inside, nth-old}
 -- what holds of each delivery step of a lane holds of its deliveries
 pub each_given : (about : BoardSizes) (l : ℕ) (P : Delivery → Type 0) (es : List (StepBy BoardStep))
     → ((n q o id place : ℕ) → IsStep es n q (Lane (Given o l id place)) → P (delivery o id place))
-    → Each about P (given l (lanes_of es))
+    → Each about P (delivered_from l (lanes_of es))
 each_given about l P [] all = tt
 each_given about l P (e ∷ es) all = by_step e.by e.step (λ n q o id place is. all n q o id place is)
     (each_given about l P es
@@ -34,10 +34,11 @@ each_given about l P (e ∷ es) all = by_step e.by e.step (λ n q o id place is.
   where
     by_lane : (p : ℕ) (d : LaneStep)
         → ((n q o id place : ℕ) → IsStep (step_by p (Lane d) ∷ es) n q (Lane (Given o l id place))
-        → P (delivery o id place)) → Each about P (given l (lanes_of es))
-        → Each about P (given_after l d (given l (lanes_of es)))
+        → P (delivery o id place)) → Each about P (delivered_from l (lanes_of es))
+        → Each about P (given_after l d (delivered_from l (lanes_of es)))
     by_lane p (Given o from id place) all' t = pick from l
-        (delivery o id place ∷ given l (lanes_of es)) (given l (lanes_of es)) (Each about P)
+        (delivery o id place ∷ delivered_from l (lanes_of es)) (delivered_from l (lanes_of es))
+        (Each about P)
         (λ e. (
           all' (length es) p o id place
               (subst (λ (z : ℕ). IsStep (step_by p (Lane (Given o from id place)) ∷ es)
@@ -56,8 +57,8 @@ each_given about l P (e ∷ es) all = by_step e.by e.step (λ n q o id place is.
 
     by_step : (p : ℕ) (d : BoardStep)
         → ((n q o id place : ℕ) → IsStep (step_by p d ∷ es) n q (Lane (Given o l id place))
-        → P (delivery o id place)) → Each about P (given l (lanes_of es))
-        → Each about P (given l (lane_part p d (lanes_of es)))
+        → P (delivery o id place)) → Each about P (delivered_from l (lanes_of es))
+        → Each about P (delivered_from l (lane_part p d (lanes_of es)))
     by_step p (Lane d) all' t = by_lane p d all' t
     by_step p (Gate d) all' t = t
     by_step p (Weighed i w) all' t = t
@@ -71,7 +72,7 @@ module _ (about : BoardSizes) (o k x : ℕ) where
     pub lane : ℕ
     pub index : ℕ
     pub inside : lane < about.lanes
-    pub at : nth_step (given lane es) index ≡ Some (delivery o x (suc k))
+    pub at : nth_step (delivered_from lane es) index ≡ Some (delivery o x (suc k))
 
   nth-more : (l : ℕ) (d : LaneStep) (gs : List Delivery) (j : ℕ) (g : Delivery)
       → nth_step gs j ≡ Some g → nth_step (given_after l d gs) j ≡ Some g
@@ -93,7 +94,7 @@ module _ (about : BoardSizes) (o k x : ℕ) where
     index = t.index;
     inside = t.inside;
     at =
-        nth-more t.lane d (given t.lane es) t.index (delivery o x (suc k)) t.at;
+        nth-more t.lane d (delivered_from t.lane es) t.index (delivery o x (suc k)) t.at;
   }
 
   get-end : (xs : List ℕ) (y j : ℕ) → slice_get (xs ++ y ∷ []) j ≡ Some x
@@ -125,7 +126,7 @@ module _ (about : BoardSizes) (o k x : ℕ) where
           (λ same a. elim (get-end (lanes.out o es) id k a) [
             | inl old ↦ given-more p (Given i from id place) es (t old)
             | inr new ↦ (
-                let gs : List Delivery = given from es in
+                let gs : List Delivery = delivered_from from es in
                 let g : Delivery = delivery i id place in
                 let found = (out_holds about es lawful.1 i p may.2.0 may.2.1).1 in
                 let place_is : place ≡ suc k = may.2.3

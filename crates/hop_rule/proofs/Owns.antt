@@ -17,7 +17,7 @@ use Rattle.hop_rule.specs.declared.step.Change.TheVariants.{Nothing, Offered, Pu
 use Rattle.hop_rule.specs.declared.step.LaneStep.{LaneStep}
 use Rattle.hop_rule.specs.declared.step.LaneStep.TheVariants.{Held, Missed, Freed, OutHeld}
 use Rattle.hop_rule.specs.declared.step.LaneStep.TheVariants.{OutMissed, OutFreed, Given, Retired}
-use Rattle.hop_rule.specs.Lanes.{changed, lane_after, lane}
+use Rattle.hop_rule.specs.Lanes.{lane_changed, lane_after_step, lane}
 use Rattle.hop_rule.specs.Boards.{lanes_of, gates_of, lane_steps, gate_steps}
 use Rattle.hop_rule.proofs.Cases.{pick, lane_part, gate_part}
 
@@ -86,13 +86,13 @@ module _ (about : BoardSizes) where
       by_cause None = refl
       by_cause (Some cause) = refl
 
-  changed_room : (c : Change) (x : LaneLists) → (changed c x).room ≡ x.room
+  changed_room : (c : Change) (x : LaneLists) → (lane_changed c x).room ≡ x.room
   changed_room Nothing x = refl
   changed_room (Offered id hash answer) x = put_room x id hash
   changed_room (Pulled id) x = refl
 
-  step_room : (l : ℕ) (d : LaneStep) (x : LaneLists) → (lane_after l d x).room ≡ x.room
-  step_room l (Freed i c) x = pick i l (changed c x) x (λ (y : LaneLists). y.room ≡ x.room)
+  step_room : (l : ℕ) (d : LaneStep) (x : LaneLists) → (lane_after_step l d x).room ≡ x.room
+  step_room l (Freed i c) x = pick i l (lane_changed c x) x (λ (y : LaneLists). y.room ≡ x.room)
       (λ _. changed_room c x) (λ _. refl)
   step_room l (Held i w y) x = refl
   step_room l (Missed i w) x = refl

@@ -12,7 +12,7 @@ use Rattle.backlog.specs.Puts.{after_put, put_by}
 use Rattle.linearization.specs.Orders.{StepBy, step_by, steps_of}
 use Rattle.linearization.proofs.ListLemmas.{if_same}
 use Rattle.hop_rule.specs.Boards.{lane_at, lanes_of, IsLawful, out}
-use Rattle.hop_rule.specs.Deliveries.{given}
+use Rattle.hop_rule.specs.Deliveries.{delivered_from}
 use Rattle.hop_rule.specs.Fronts.{Front}
 use Rattle.hop_rule.specs.Lanes as lanes
 use Rattle.hop_rule.specs.Moments.{past, IsStep}
@@ -60,7 +60,7 @@ module _ (about : BoardSizes) (order : List (StepBy BoardStep)) (lawful : IsLawf
     -- what a lane shows came with a step of the order
     pub by_steps : (Q : LaneLists → Type 0) (l : ℕ)
         → ((k p : ℕ) (c : Change) → IsStep order k p (Lane (Freed l c))
-        → Q (lane_then about order k l) → Q (lanes.changed c (lane_then about order k l)))
+        → Q (lane_then about order k l) → Q (lanes.lane_changed c (lane_then about order k l)))
         → Q (lanes.lane about l []) → Q (lane_at about order l)
     by_steps Q l step none = subst (λ (z : Order). Q (lane_at about z l)) top
         (along (λ es. Q (lane_at about es l)) order 0 (length order) (omega arith)
@@ -98,7 +98,8 @@ module _ (about : BoardSizes) (order : List (StepBy BoardStep)) (lawful : IsLawf
           ]
 
       change_shows : (k p : ℕ) (c : Change) → IsStep order k p (Lane (Freed l c))
-          → Shows (lane_then about order k l) → Shows (lanes.changed c (lane_then about order k l))
+          → Shows (lane_then about order k l)
+          → Shows (lanes.lane_changed c (lane_then about order k l))
       change_shows k p Nothing is here = here
       change_shows k p (Pulled x) is here = here
       change_shows k p (Offered x hash answer) is here = put_shows k p x hash answer is here
@@ -147,7 +148,7 @@ module _ (about : BoardSizes) (order : List (StepBy BoardStep)) (lawful : IsLawf
 
       change_drops : (k p : ℕ) (c : Change) → IsStep order k p (Lane (Freed l c))
           → ShowsDrop (lane_then about order k l)
-          → ShowsDrop (lanes.changed c (lane_then about order k l))
+          → ShowsDrop (lanes.lane_changed c (lane_then about order k l))
       change_drops k p Nothing is here = here
       change_drops k p (Pulled x) is here = here
       change_drops k p (Offered x hash answer) is here = put_drops k p x hash answer is here
@@ -291,16 +292,18 @@ module _ (about : BoardSizes) (order : List (StepBy BoardStep)) (lawful : IsLawf
           let index : place - 1 ≡ length (out about (past n order) o) = omega arith in
           let was : lanes.phase from (steps_of (Rattle.hop_rule.specs.Sizes.puller about from) ls) ≡
           lanes.has_pulled id = ap (λ z. lanes.phase from (steps_of z ls)) may.2.4 ∙ may.2.5 in
-          let waits : slice_get (lane_then about order n from).accepted (length (given from ls)) ≡
+          let waits : slice_get (lane_then about order n from).accepted
+          (length (delivered_from from ls)) ≡
           Some id =
-          subst (λ (z : lanes.Phase). Waits about (given from ls) z
+          subst (λ (z : lanes.Phase). Waits about (delivered_from from ls) z
           (lane_then about order n from).accepted) was
           (facts about ls (lanes_past about order n lawful) from).3 in
           record {
             by_puller = sym may.2.4;
             next = subst (λ (z : Order). slice_get (lane_at about z from).accepted
-                (length (given from ls)) ≡ Some id) top
-                (accepted_later about order n (length order) from (length (given from ls)) id
+                (length (delivered_from from ls)) ≡ Some id) top
+                (accepted_later about order n (length order) from
+                (length (delivered_from from ls)) id
                 (omega arith) waits);
             place_from_one = omega arith;
             stands = ap (slice_get (out about order o)) index

@@ -4,7 +4,7 @@ use Rattle.std.proofs.Common.{◌∙◌, arith}
 use Rattle.backlog.specs.Puts.{next_waiting}
 use Rattle.linearization.specs.Orders.{StepBy, steps_of}
 use Rattle.hop_rule.specs.Boards.{gates_of, lanes_of, retired}
-use Rattle.hop_rule.specs.Deliveries.{given}
+use Rattle.hop_rule.specs.Deliveries.{delivered_from}
 use Rattle.hop_rule.specs.Gates as gates
 use Rattle.hop_rule.specs.Lanes as lanes
 use Rattle.hop_rule.specs.Sizes.{closer, puller}
@@ -35,7 +35,7 @@ retires_before_delivery about order p l w all lawful =
     let ls : List (StepBy LaneStep) = lanes_of order in
     let was : lanes.phase l (steps_of (puller about l) ls) ≡ lanes.gave =
     ap (λ z. lanes.phase l (steps_of z ls)) may.2 ∙ may.3 in
-    let one : length (given l ls) ≡ retired about order l + 1 =
+    let one : length (delivered_from l ls) ≡ retired about order l + 1 =
     (facts about ls (parts about order lawful.2).0 l).1
     ∙ ap (λ o. retired about order l + gone about o) was in
     absurd (omega arith)

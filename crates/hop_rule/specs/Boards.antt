@@ -21,22 +21,22 @@ use Rattle.hop_rule.specs.Gates as gates
 -- ---- the two parts of an order and of a seat's own steps
 
 -- the step at a lane that a step is, if it is one, and the step at the gate
-abbrev pub lane_in : BoardStep → Option LaneStep
-lane_in (Lane d) = Some d
-lane_in _ = None
+abbrev pub lane_step_in : BoardStep → Option LaneStep
+lane_step_in (Lane d) = Some d
+lane_step_in _ = None
 
 abbrev pub gate_in : BoardStep → Option GateStep
 gate_in (Gate d) = Some d
 gate_in _ = None
 
 abbrev pub lanes_of : List (StepBy BoardStep) → List (StepBy LaneStep)
-lanes_of es = filter_map (λ e. option_map (step_by e.by) (lane_in e.step)) es
+lanes_of es = filter_map (λ e. option_map (step_by e.by) (lane_step_in e.step)) es
 
 abbrev pub gates_of : List (StepBy BoardStep) → List (StepBy GateStep)
 gates_of es = filter_map (λ e. option_map (step_by e.by) (gate_in e.step)) es
 
 abbrev pub lane_steps : List BoardStep → List LaneStep
-lane_steps ds = filter_map lane_in ds
+lane_steps ds = filter_map lane_step_in ds
 
 abbrev pub gate_steps : List BoardStep → List GateStep
 gate_steps ds = filter_map gate_in ds

@@ -19,6 +19,6 @@ given_after l (Given o from id place) gs =
 given_after l _ gs = gs
 
 -- the deliveries from the lane l, the newest first
-abbrev pub given : ℕ → List (StepBy LaneStep) → List Delivery
-given l [] = []
-given l (e ∷ es) = given_after l e.step (given l es)
+abbrev pub delivered_from : ℕ → List (StepBy LaneStep) → List Delivery
+delivered_from l [] = []
+delivered_from l (e ∷ es) = given_after l e.step (delivered_from l es)

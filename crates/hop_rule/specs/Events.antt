@@ -7,7 +7,7 @@ use Rattle.hop_core.specs.BareEvents.{opens, offers, pulls, delivers, retires}
 use Rattle.hop_core.specs.Hop.{Fixed, Bare}
 use Rattle.hop_core.specs.Shape.{fresh_hop}
 use Rattle.hop_rule.specs.Boards.{lanes_of, gates_of, lane_at, IsLawful, visit_of}
-use Rattle.hop_rule.specs.Deliveries.{given}
+use Rattle.hop_rule.specs.Deliveries.{delivered_from}
 use Rattle.hop_rule.specs.Gates as gates
 use Rattle.hop_rule.specs.Lanes as lanes
 use Rattle.hop_rule.specs.declared.sizes.BoardSizes.{BoardSizes}
@@ -58,7 +58,7 @@ module _ (about : BoardSizes) where
         offers = of_lanes (λ l. (lane_at about es l).offers);
         drops = of_lanes (λ l. (lane_at about es l).drops);
         pulled = of_lanes (λ l. (lane_at about es l).pulled);
-        delivered = of_lanes (λ l. length (given l (lanes_of es)));
+        delivered = of_lanes (λ l. length (delivered_from l (lanes_of es)));
         retired = of_lanes (λ l. lanes.retired l (lanes_of es));
         outs = map (λ o. lanes.out o (lanes_of es)) (range_with_len 0 about.outs);
         inside = inside_count es;

@@ -4,7 +4,7 @@ use Rattle.steer_base.specs.Lanes.{LaneLists}
 use Rattle.linearization.specs.Orders.{StepBy}
 use Rattle.hop_rule.specs.Boards.{IsLawful, full, lane_at, lane_steps, lanes_of, out, out_slot}
 use Rattle.hop_rule.specs.Boards.{own_state, retired, slot_state}
-use Rattle.hop_rule.specs.Deliveries.{given}
+use Rattle.hop_rule.specs.Deliveries.{delivered_from}
 use Rattle.hop_rule.specs.Lanes.{holding, lane_word, out_holding, out_word, head_word}
 use Rattle.hop_rule.specs.Moments.{IsStep, past}
 use Rattle.hop_rule.specs.OutLanes.{OutList}
@@ -18,8 +18,8 @@ use Rattle.hop_rule.specs.declared.step.LaneStep.TheVariants.{Retired}
 -- ---- who holds a lane
 
 -- The seat q holds a middle lane by its own steps, in which it found x there.
-abbrev pub Holds : List (StepBy BoardStep) → ℕ → ℕ → LaneLists → Type 0
-Holds order l q x = holding l (lane_steps (own_of order q)) ≡ Some x
+abbrev pub HoldsByOwnSteps : List (StepBy BoardStep) → ℕ → ℕ → LaneLists → Type 0
+HoldsByOwnSteps order l q x = holding l (lane_steps (own_of order q)) ≡ Some x
 
 -- the same of an out lane
 abbrev pub OutHolds : List (StepBy BoardStep) → ℕ → ℕ → OutList → Type 0
@@ -30,12 +30,13 @@ OutHolds order o q x = out_holding o (lane_steps (own_of order q)) ≡ Some x
 -- does, its word is not marked and the lane is in its slot.
 pub record IsHeldByOne (about : BoardSizes) (order : List (StepBy BoardStep)) (l : ℕ)
     : Type 0 where
-  pub one : (p q : ℕ) (x y : LaneLists) → Holds order l p x → Holds order l q y → p ≡ q
-  pub found : (q : ℕ) (x : LaneLists) → Holds order l q x → lane_at about order l ≡ x
-  pub marked : (q : ℕ) (x : LaneLists) → Holds order l q x
+  pub one : (p q : ℕ) (x y : LaneLists) → HoldsByOwnSteps order l p x → HoldsByOwnSteps order l q y
+      → p ≡ q
+  pub found : (q : ℕ) (x : LaneLists) → HoldsByOwnSteps order l q x → lane_at about order l ≡ x
+  pub marked : (q : ℕ) (x : LaneLists) → HoldsByOwnSteps order l q x
       → lane_word about l (lanes_of order)
       ≡ 2 * (about.start + length (lane_at about order l).accepted) + 1
-  pub out : (q : ℕ) (x : LaneLists) → Holds order l q x
+  pub out : (q : ℕ) (x : LaneLists) → HoldsByOwnSteps order l q x
       → (slot_state about l order ≢ full)
       × (slot_state about l order ≡ own_state about l (own_of order q))
   pub unmarked : ((q : ℕ) → holding l (lane_steps (own_of order q)) ≡ None)
@@ -44,7 +45,7 @@ pub record IsHeldByOne (about : BoardSizes) (order : List (StepBy BoardStep)) (l
   pub home : ((q : ℕ) → holding l (lane_steps (own_of order q)) ≡ None)
       → slot_state about l order ≡ full
   pub some_holder : lane_word about l (lanes_of order) % 2 ≡ 1
-      → (q : ℕ) × (x : LaneLists) × Holds order l q x
+      → (q : ℕ) × (x : LaneLists) × HoldsByOwnSteps order l q x
 
 abbrev pub MiddleLanesAreHeldByOne : Type 0
 MiddleLanesAreHeldByOne =
@@ -80,8 +81,8 @@ OutLanesAreHeldByOne =
 -- retired; at most one is on its way from a pull to its retire. All puts fit the room.
 pub record AreInTurn (about : BoardSizes) (order : List (StepBy BoardStep)) (l : ℕ)
     : Type 0 where
-  pub of_delivered : retired about order l ≤ length (given l (lanes_of order))
-  pub of_pulled : length (given l (lanes_of order)) ≤ (lane_at about order l).pulled
+  pub of_delivered : retired about order l ≤ length (delivered_from l (lanes_of order))
+  pub of_pulled : length (delivered_from l (lanes_of order)) ≤ (lane_at about order l).pulled
   pub one_at_most : (lane_at about order l).pulled ≤ retired about order l + 1
   pub of_accepted : (lane_at about order l).pulled ≤ length (lane_at about order l).accepted
   pub fits : length (lane_at about order l).accepted + length (lane_at about order l).drops
@@ -99,7 +100,8 @@ pub record RetiresOne (about : BoardSizes) (order : List (StepBy BoardStep)) (n 
     : Type 0 where
   pub by_puller : q ≡ puller about l
   pub word : w ≡ head_word about l (lanes_of (past n order))
-  pub delivered : retired about (past n order) l < length (given l (lanes_of (past n order)))
+  pub delivered : retired about (past n order) l < length
+      (delivered_from l (lanes_of (past n order)))
 
 abbrev pub EachRetireFollows : Type 0
 EachRetireFollows =

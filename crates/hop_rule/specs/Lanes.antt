@@ -19,15 +19,15 @@ use Rattle.hop_rule.specs.declared.step.LaneStep.TheVariants.{OutMissed, OutFree
 -- ---- what an order leaves
 
 -- a middle lane after a release
-abbrev pub changed : Change → LaneLists → LaneLists
-changed Nothing x = x
-changed (Offered id hash answer) x = after_put x id hash
-changed (Pulled id) x = record x { pulled = x.pulled + 1 }
+abbrev pub lane_changed : Change → LaneLists → LaneLists
+lane_changed Nothing x = x
+lane_changed (Offered id hash answer) x = after_put x id hash
+lane_changed (Pulled id) x = record x { pulled = x.pulled + 1 }
 
 -- the middle lane l after a step
-abbrev pub lane_after : ℕ → LaneStep → LaneLists → LaneLists
-lane_after l (Freed i c) x = if i == l then changed c x else x
-lane_after l _ x = x
+abbrev pub lane_after_step : ℕ → LaneStep → LaneLists → LaneLists
+lane_after_step l (Freed i c) x = if i == l then lane_changed c x else x
+lane_after_step l _ x = x
 
 -- the packets in the out lane o after a step
 abbrev pub out_after : ℕ → LaneStep → List ℕ → List ℕ
@@ -123,7 +123,7 @@ module _ (about : BoardSizes) where
   -- the middle lane l, and the out lane o
   abbrev pub lane : ℕ → List (StepBy LaneStep) → LaneLists
   lane l [] = new_lane about.limit about.room about.start (has about.limited l)
-  lane l (e ∷ es) = lane_after l e.step (lane l es)
+  lane l (e ∷ es) = lane_after_step l e.step (lane l es)
 
   abbrev pub out_content : ℕ → List (StepBy LaneStep) → OutList
   out_content o es = out_list (out o es) about.room

@@ -11,10 +11,10 @@ use Rattle.backlog.specs.Puts.{after_put, put_answer, put_count}
 use Rattle.backlog.specs.Rising.{AreRising}
 use Rattle.linearization.specs.Orders.{StepBy}
 use Rattle.hop_rule.specs.Boards.{IsLawful, lane_at, lanes_of, out, retired, visit_of}
-use Rattle.hop_rule.specs.Deliveries.{Delivery, given}
+use Rattle.hop_rule.specs.Deliveries.{Delivery, delivered_from}
 use Rattle.hop_rule.specs.Fronts.{IsEarlier}
 use Rattle.hop_rule.specs.Gates.{inside}
-use Rattle.hop_rule.specs.LaneLaws.{Holds}
+use Rattle.hop_rule.specs.LaneLaws.{HoldsByOwnSteps}
 use Rattle.hop_rule.specs.Moments.{IsStep, nth_step, past}
 use Rattle.hop_rule.specs.Sizes.{puller}
 use Rattle.hop_rule.specs.declared.sizes.BoardSizes.{BoardSizes}
@@ -37,7 +37,7 @@ module _ (about : BoardSizes) (order : List (StepBy BoardStep)) where
   -- the answer is the lane's own, and the lane goes on from what the put made of it.
   pub record PutsRight (n q l id : ℕ) (hash : Option ℕ) (answer : Put) : Type 0 where
     pub inside : visit_of about q (past n order) ≡ inside
-    pub holds : Holds (past n order) l q (lane_then n l)
+    pub holds : HoldsByOwnSteps (past n order) l q (lane_then n l)
     pub id_fits : id < about.room
     pub room : put_count (lane_then n l) < about.room
     pub answers : answer ≡ put_answer (lane_then n l) hash
@@ -76,7 +76,7 @@ module _ (about : BoardSizes) (order : List (StepBy BoardStep)) where
   pub record GivesRight (n q o from id place : ℕ) : Type 0 where
     pub by_puller : q ≡ puller about from
     pub next : slice_get (lane_at about order from).accepted
-        (length (given from (lanes_of (past n order)))) ≡ Some id
+        (length (delivered_from from (lanes_of (past n order)))) ≡ Some id
     pub place_from_one : 0 < place
     pub stands : slice_get (out about order o) (place - 1) ≡ Some id
 
@@ -172,14 +172,14 @@ DropsAreExplained =
 abbrev pub DeliveredAsAccepted : Type 0
 DeliveredAsAccepted =
     (about : BoardSizes) (order : List (StepBy BoardStep)) → IsLawful about order
-    → (l k : ℕ) (g : Delivery) → nth_step (given l (lanes_of order)) k ≡ Some g
+    → (l k : ℕ) (g : Delivery) → nth_step (delivered_from l (lanes_of order)) k ≡ Some g
     → slice_get (lane_at about order l).accepted k ≡ Some g.id
 
 abbrev pub DeliveredInOrder : Type 0
 DeliveredInOrder =
     (about : BoardSizes) (order : List (StepBy BoardStep)) → IsLawful about order
-    → (l j k : ℕ) (g h : Delivery) → j < k → nth_step (given l (lanes_of order)) j ≡ Some g
-    → nth_step (given l (lanes_of order)) k ≡ Some h → g.to ≡ h.to → g.place < h.place
+    → (l j k : ℕ) (g h : Delivery) → j < k → nth_step (delivered_from l (lanes_of order)) j ≡ Some g
+    → nth_step (delivered_from l (lanes_of order)) k ≡ Some h → g.to ≡ h.to → g.place < h.place
 
 -- ---- what the load of a head tells
 
@@ -199,8 +199,8 @@ abbrev pub LoadedHeadsArePassed : Type 0
 LoadedHeadsArePassed =
     (about : BoardSizes) (order : List (StepBy BoardStep)) → IsLawful about order
     → (n q l w k i : ℕ) → IsStep order n q (Weighed l w) → w ≡ about.start + k → i < k
-    → (g : Delivery) × (nth_step (given l (lanes_of order)) i ≡ Some g)
+    → (g : Delivery) × (nth_step (delivered_from l (lanes_of order)) i ≡ Some g)
     × ((m p to id j : ℕ) (hash : Option ℕ) (answer : Put) (h : Delivery) → n < m
     → IsPut about order m p to id hash answer
     → length (lane_then about order m to).accepted ≡ j
-    → nth_step (given to (lanes_of order)) j ≡ Some h → g.to ≡ h.to → g.place < h.place)
+    → nth_step (delivered_from to (lanes_of order)) j ≡ Some h → g.to ≡ h.to → g.place < h.place)

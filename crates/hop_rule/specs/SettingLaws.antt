@@ -3,7 +3,7 @@ use Rattle.std.specs.Prelude.{◌≡◌, ◌≢◌, ◌↔◌, ℕ, ◌+◌, ◌
 use Rattle.linearization.specs.Orders.{StepBy}
 use Rattle.hop_rule.specs.Boards.{IsLawful, gate_steps, gates_of, lane_at, lanes_of}
 use Rattle.hop_rule.specs.Boards.{settings}
-use Rattle.hop_rule.specs.Deliveries.{Delivery, given}
+use Rattle.hop_rule.specs.Deliveries.{Delivery, delivered_from}
 use Rattle.hop_rule.specs.Emptied.{WasEmptied}
 use Rattle.hop_rule.specs.Events.{sum_below}
 use Rattle.hop_rule.specs.Gates.{closed, gate_word, inside, is_open, opened, openings, outside}
@@ -111,11 +111,11 @@ pub record EarlyStandsFirst (about : BoardSizes) (order : List (StepBy BoardStep
     : Type 0 where
   pub early : (j id : ℕ) (u : WasPut about order l j id)
       → (j < h) ↔ (put_visit about order u.moment u.seat ≤ k)
-  pub delivered : h ≤ length (given l (lanes_of order))
+  pub delivered : h ≤ length (delivered_from l (lanes_of order))
   pub first : (i to j id : ℕ) (g late : Delivery) (u : WasPut about order to j id) → i < h
-      → nth_step (given l (lanes_of order)) i ≡ Some g
+      → nth_step (delivered_from l (lanes_of order)) i ≡ Some g
       → k < put_visit about order u.moment u.seat
-      → nth_step (given to (lanes_of order)) j ≡ Some late → g.to ≡ late.to
+      → nth_step (delivered_from to (lanes_of order)) j ≡ Some late → g.to ≡ late.to
       → g.place < late.place
 
 abbrev pub EmptiedLanesStandFirst : Type 0

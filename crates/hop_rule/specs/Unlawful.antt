@@ -5,9 +5,9 @@ use Rattle.steer_base.specs.declared.put.Put.{Put}
 use Rattle.backlog.specs.Puts.{next_waiting}
 use Rattle.linearization.specs.Orders.{StepBy, step_by}
 use Rattle.hop_rule.specs.Boards.{IsLawful, lane_steps, lanes_of, retired}
-use Rattle.hop_rule.specs.Deliveries.{given}
+use Rattle.hop_rule.specs.Deliveries.{delivered_from}
 use Rattle.hop_rule.specs.Gates.{closed}
-use Rattle.hop_rule.specs.LaneLaws.{Holds}
+use Rattle.hop_rule.specs.LaneLaws.{HoldsByOwnSteps}
 use Rattle.hop_rule.specs.Lanes.{holding}
 use Rattle.hop_rule.specs.Moments.{IsStep}
 use Rattle.hop_rule.specs.Owns.{own_of}
@@ -30,14 +30,14 @@ PutsElsewhere =
 abbrev pub PullsTheNewest : Type 0
 PullsTheNewest =
     (about : BoardSizes) (order : List (StepBy BoardStep)) (p l x id : ℕ) (found : LaneLists)
-    → Holds order l p found → next_waiting found ≡ Some x → id ≢ x
+    → HoldsByOwnSteps order l p found → next_waiting found ≡ Some x → id ≢ x
     → IsLawful about (step_by p (Lane (Freed l (Pulled id))) ∷ order) → ⊥
 
 -- a head that is raised where all that was delivered is retired
 abbrev pub RetiresBeforeDelivery : Type 0
 RetiresBeforeDelivery =
     (about : BoardSizes) (order : List (StepBy BoardStep)) (p l w : ℕ)
-    → retired about order l ≡ length (given l (lanes_of order))
+    → retired about order l ≡ length (delivered_from l (lanes_of order))
     → IsLawful about (step_by p (Lane (Retired l w)) ∷ order) → ⊥
 
 -- a setting that is made while the closer has not closed the gate

@@ -18,7 +18,8 @@ use Rattle.ntuple_rules.specs.declared.rule.Rule.{Rule}
 use Rattle.ntuple_rules.specs.declared.fields.Fields.{Fields}
 use Rattle.ntuple_rules.specs.declared.group.Group.{Group}
 use Rattle.ntuple_rules.specs.Groups.{Adds, AddsAt, Finds, FindsAsBefore, IsNew, lesser, found_in}
-use Rattle.ntuple_rules.specs.Groups.{found_among, key_of, looked_at, masked, same_fields, shape_of}
+use Rattle.ntuple_rules.specs.Groups.{found_among, significant_bits, looked_at, masked, same_fields}
+use Rattle.ntuple_rules.specs.Groups.{shape_of}
 use Rattle.ntuple_rules.specs.Matches.{first_match, matches}
 use Rattle.ntuple_rules.proofs.Matched.{first_match-below, first_match-push, has_key}
 use Rattle.ntuple_rules.proofs.Matched.{matches-has_key}
@@ -87,7 +88,7 @@ module _ (flow : Flow) where
 
   -- a group with one rule more finds it too
   found_in-adds : (old new : Group) (rule : Rule) (number : ℕ) → old.shape ≡ shape_of rule
-      → Adds old new (key_of rule) number
+      → Adds old new (significant_bits rule) number
       → found_in new flow ≡ option_or (found_in old flow)
       (cond (matches rule flow) (Some number) None)
   found_in-adds old new rule number shaped adds =
@@ -124,7 +125,7 @@ module _ (flow : Flow) where
 pub adds_at : (old groups : List Group) (place : ℕ) (group d : Group) (rule : Rule) (number : ℕ)
     → place < length groups
     → FindsAsBefore old groups → (get_or groups place d).shape ≡ shape_of rule
-    → Adds (get_or groups place d) group (key_of rule) number
+    → Adds (get_or groups place d) group (significant_bits rule) number
     → AddsAt old (set groups place group) number rule
 adds_at old groups place group d rule number within same shaped adds rules finds is flow =
     let more = found_in-adds flow (get_or groups place d) group rule (length rules) shaped
@@ -186,7 +187,7 @@ on_ok (Err e) P Q f p = tt
 pub adds_here : (old groups : List Group) (place : ℕ) (here group : Group) (rule : Rule)
     (number : ℕ) → here ≡ get_or groups place here
     → FindsAsBefore old groups → IsAt groups place (shape_of rule)
-    → Adds here group (key_of rule) number
+    → Adds here group (significant_bits rule) number
     → AddsAt old (set groups place group) number rule
 adds_here old groups place here group rule number is same at adds =
     let shaped : (get_or groups place here).shape ≡ shape_of rule =
@@ -194,7 +195,7 @@ adds_here old groups place here group rule number is same at adds =
     ∙ at.shaped in
     adds_at old groups place group here rule number
     (slice_get_within groups place at.group at.stands) same shaped
-    (subst (λ g. Adds g group (key_of rule) number) is adds)
+    (subst (λ g. Adds g group (significant_bits rule) number) is adds)
 
 -- a new group stands at the end
 pub at_end : (groups : List Group) (group : Group) (place : ℕ) (shape : Shape)

@@ -24,7 +24,7 @@ use Rattle.ntuple_rules.specs.declared.rule.RuleKind.TheVariants.{Tcp4, Udp4, Tc
 use Rattle.ntuple_rules.specs.declared.rule.Rule.{Rule}
 use Rattle.ntuple_rules.specs.declared.fields.Fields.{Fields}
 use Rattle.ntuple_rules.specs.Folds.{fold_of, swapped}
-use Rattle.ntuple_rules.specs.Groups.{fields_with, has_ports, key_of, looked_at, masked}
+use Rattle.ntuple_rules.specs.Groups.{fields_with, has_ports, significant_bits, looked_at, masked}
 use Rattle.ntuple_rules.specs.Groups.{same_fields, shape_of}
 use Rattle.ntuple_rules.specs.Laws.{FindsTheFirst, FindsNoneOfNone, FoldsAlike}
 use Rattle.ntuple_rules.specs.Matches.{addresses_agree, first_match, fits_proto, fits_version}
@@ -116,7 +116,8 @@ first_match-push rules rule flow =
 -- a flow has the key of a rule among what the rule's kind looks at
 abbrev pub has_key : Rule → Option Fields → Bool
 has_key rule looked =
-    option_map_or (λ fields. same_fields (key_of rule) (masked (shape_of rule).mask fields)) looked
+    option_map_or (λ fields. same_fields (significant_bits rule)
+    (masked (shape_of rule).mask fields)) looked
     false
 
 no_ports : (kind : RuleKind) (pair : Pair) → fits_version kind pair ≡ true → has_ports kind ≡ false

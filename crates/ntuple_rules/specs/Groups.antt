@@ -61,8 +61,8 @@ shape_of rule = record {
 }
 
 -- the bits of a rule's fields that count
-abbrev pub key_of : Rule → Fields
-key_of rule =
+abbrev pub significant_bits : Rule → Fields
+significant_bits rule =
     masked (shape_of rule).mask
     (record { src = rule.src; dst = rule.dst; sport = rule.sport; dport = rule.dport })
 

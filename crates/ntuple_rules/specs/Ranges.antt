@@ -3,7 +3,7 @@ use Rattle.std.specs.Prelude.{◌<◌, ◌≤◌, ℕ, All, length}
 use Rattle.ntuple_rules.specs.declared.rules.Rules.{Rules}
 
 -- 1 to 16 queues, kinds of six bits, at most 4096 rules, and the queue of each is one of the queues
-pub record IsWithin (rules : Rules) : Type 0 where
+pub record RulesAreWithin (rules : Rules) : Type 0 where
   pub some : 1 ≤ rules.queues
   pub few : rules.queues ≤ 16
   pub kinds : rules.kinds ≤ 63

@@ -13,7 +13,8 @@ use Rattle.plan_reader.specs.declared.plan_fault.PlanFault.{PlanFault}
 use Rattle.plan_reader.specs.Causes.{◌>>=◌, kind}
 use Rattle.plan_reader.specs.Faults.{here}
 use Rattle.plan_reader.specs.PlanTexts.{json_of, named, value_of}
-use Rattle.plan_reader.specs.Readings.{an_object, list_of, number, number_below, only, optional}
+use Rattle.plan_reader.specs.Readings.{an_object, list_of, number_between, number_below, only}
+use Rattle.plan_reader.specs.Readings.{optional}
 use Rattle.plan_reader.specs.Readings.{required}
 use Rattle.ntuple_rules.specs.declared.rule.RuleKind.{RuleKind}
 use Rattle.ntuple_rules.specs.declared.rule.RuleKind.TheVariants.{Tcp4, Udp4, Tcp6, Udp6, Ip4, Ip6}
@@ -64,7 +65,7 @@ address_at ipv4 key d = optional key (λ v. here (address_of ipv4 v)) 0 d
 
 -- a port or a mask at a key, 0 where it is not there
 abbrev pub port_at : List ℕ → Data → Result ℕ Fault
-port_at key d = optional key (λ v. here (number 0 65535 v)) 0 d
+port_at key d = optional key (λ v. here (number_between 0 65535 v)) 0 d
 
 -- every key of a rule, in the order in which it is looked at
 abbrev pub rule_keys : List (List ℕ)
@@ -115,8 +116,8 @@ rules_keys =
 unfoldable pub rules_in : Data → Result Rules Fault
 rules_in d = do
   is ← an_object d
-  queues ← required (codes "queues") (λ v. here (number 1 16 v)) d
-  kinds ← optional (codes "kinds") (λ v. here (number 0 63 v)) 63 d
+  queues ← required (codes "queues") (λ v. here (number_between 1 16 v)) d
+  kinds ← optional (codes "kinds") (λ v. here (number_between 0 63 v)) 63 d
   symmetric ← optional (codes "symmetric") (λ v. here (truth v)) false d
   inner ← optional (codes "inner") (λ v. here (truth v)) false d
   rules ← required (codes "rules") (list_of (rule_of queues) 0 4096) d

@@ -1,6 +1,7 @@
 //! The fields of flows and rules, and their masks.
 ghost use Rattle.std.specs.Prelude.{◌≡◌};
-ghost use Rattle.ntuple_rules.specs.Groups.{fields_with, key_of, looked_at, masked, shape_of};
+ghost use Rattle.ntuple_rules.specs.Groups.{fields_with, significant_bits, looked_at, masked};
+ghost use Rattle.ntuple_rules.specs.Groups.{shape_of};
 ghost use Rattle.ntuple_rules.specs.Matches.{fits_proto, fits_version};
 
 use crate::rule::{Rule, RuleKind};
@@ -121,7 +122,7 @@ pub fn shape_of(rule: &Rule) -> Shape
 
 /// The bits of a rule's fields that count.
 pub fn key_of(rule: &Rule) -> Fields
-    ensures { result ≡ key_of rule.now }
+    ensures { result ≡ significant_bits rule.now }
 {
     let fields = Fields {
         src: rule.src,

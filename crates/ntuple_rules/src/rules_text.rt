@@ -3,7 +3,7 @@ ghost use Rattle.std.specs.Prelude.{◌≡◌, ◌≢◌, IfOk, IfErr, Ok, Err};
 ghost use Rattle.serde_json.specs.View.{view};
 ghost use Rattle.plan_reader.specs.Faults.{Gives};
 ghost use Rattle.ntuple_rules.specs.Readings.{rules_in, rules_of, rules_of_bytes};
-ghost use Rattle.ntuple_rules.specs.Ranges.{IsWithin};
+ghost use Rattle.ntuple_rules.specs.Ranges.{RulesAreWithin};
 
 use crate::reading::truth_or_false;
 use crate::rules::Rules;
@@ -19,7 +19,7 @@ use std::alloc::Global;
 #[tactic(auto, unfolding(crate::specs::Readings::rules_in))]
 fn rules_in(alloc: Global, value: &Value) -> Result<Rules, Refusal>
     ensures gives { Gives result (rules_in (view value.now)) }
-    ensures within { IfOk result IsWithin }
+    ensures within { IfOk result RulesAreWithin }
 {
     an_object(alloc, value)?;
     let queues = required_number(alloc, value, "queues", 1, 16)? as u8;
@@ -50,7 +50,7 @@ fn rules_in(alloc: Global, value: &Value) -> Result<Rules, Refusal>
 /// The rules of bytes. Their JSON value is given up at the end.
 fn rules_of_bytes(alloc: Global, bytes: &[u8]) -> Result<Rules, Refusal>
     ensures gives { Gives result (rules_of_bytes bytes.now) }
-    ensures within { IfOk result IsWithin }
+    ensures within { IfOk result RulesAreWithin }
 {
     let value = bounded_value(alloc, bytes)?;
     rules_in(alloc, &value)
@@ -65,7 +65,7 @@ pub fn read_rules(alloc: Global, bytes: &[u8]) -> Result<Rules, PlanFault>
     ensures rules { IfOk result (λ rules. rules_of bytes.now ≡ Ok rules) }
     ensures fault { IfErr result
         (λ fault. fault ≢ PlanFault.OutOfMemory → rules_of bytes.now ≡ Err fault) }
-    ensures within { IfOk result IsWithin }
+    ensures within { IfOk result RulesAreWithin }
 {
     match rules_of_bytes(alloc, bytes) {
         Ok(rules) => Ok(rules),

@@ -28,10 +28,10 @@ Reads got.End buf old new = IsAtEnd old × Keeps old new
 Reads got.Failed buf old new = Keeps old new
 
 -- the number of bytes that a read returned
-abbrev pub count_of : Got → ℕ
-count_of (got.Bytes n) = n
-count_of got.End = 0
-count_of got.Failed = 0
+abbrev pub read_count : Got → ℕ
+read_count (got.Bytes n) = n
+read_count got.End = 0
+read_count got.Failed = 0
 
 -- whether a `begin` failed
 abbrev pub has_failed : Begin → Bool
@@ -39,7 +39,7 @@ has_failed begin.Ok = false
 has_failed begin.Failed = true
 
 -- whether a read failed
-abbrev pub is_failed : Got → Bool
-is_failed (got.Bytes n) = false
-is_failed got.End = false
-is_failed got.Failed = true
+abbrev pub read_failed : Got → Bool
+read_failed (got.Bytes n) = false
+read_failed got.End = false
+read_failed got.Failed = true

@@ -7,5 +7,5 @@ abbrev pub file_of : {R F D : Type 0} → FileDesk R F D → Option F
 file_of desk = desk.file
 
 -- the number of failed calls of a file desk
-abbrev pub faults_of : {R F D : Type 0} → FileDesk R F D → ℕ
-faults_of desk = desk.faults
+abbrev pub file_desk_faults : {R F D : Type 0} → FileDesk R F D → ℕ
+file_desk_faults desk = desk.faults

@@ -19,12 +19,12 @@ abbrev pub room_of : MemorySink → ℕ
 room_of sink = sink.room
 
 -- the writes to a sink in memory, and which of them fail
-abbrev pub failures_of : MemorySink → Failures
-failures_of sink = sink.failures
+abbrev pub memory_sink_failures : MemorySink → Failures
+memory_sink_failures sink = sink.failures
 
 -- the number of failed writes to a sink in memory
-abbrev pub faults_of : MemorySink → ℕ
-faults_of sink = sink.failures.faults
+abbrev pub memory_sink_faults : MemorySink → ℕ
+memory_sink_faults sink = sink.failures.faults
 
 -- the number of bytes that a sink in memory still takes
 abbrev pub room_left : MemorySink → ℕ
@@ -32,7 +32,7 @@ room_left sink = room_of sink - length (written_to sink)
 
 -- a `write` of this many bytes fails if its number is listed or less room is left
 abbrev pub write_fails : MemorySink → ℕ → Bool
-write_fails sink size = next_fails (failures_of sink) || nat_lt (room_left sink) size
+write_fails sink size = next_fails (memory_sink_failures sink) || nat_lt (room_left sink) size
 
 -- the answer to a `write` of this many bytes, which takes its whole piece unless it fails
 abbrev pub write_answer : MemorySink → ℕ → Took

@@ -10,9 +10,9 @@ Takes (took.Bytes n) piece old new = (0 < n) × (n ≤ length piece) × Appends 
 Takes took.Failed piece old new = Keeps old new
 
 -- whether a write failed
-abbrev pub is_failed : Took → Bool
-is_failed (took.Bytes n) = false
-is_failed took.Failed = true
+abbrev pub write_failed : Took → Bool
+write_failed (took.Bytes n) = false
+write_failed took.Failed = true
 
 -- a prefix of these bytes was added, which may be empty or all
 abbrev pub AppendsSome : Option (List ℕ) → Option (List ℕ) → List ℕ → Type 0

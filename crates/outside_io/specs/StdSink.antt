@@ -7,5 +7,5 @@ abbrev pub writer_of : {W : Type 0} → StdSink W → W
 writer_of sink = sink.writer
 
 -- the number of failed writes and flushes of a sink over an output stream
-abbrev pub faults_of : {W : Type 0} → StdSink W → ℕ
-faults_of sink = sink.faults
+abbrev pub std_sink_faults : {W : Type 0} → StdSink W → ℕ
+std_sink_faults sink = sink.faults

@@ -3,5 +3,5 @@ use Rattle.std.specs.Prelude.{ℕ}
 use Rattle.outside_io.specs.declared.sure_sink.SureSink.{SureSink}
 
 -- the number of bytes written to a sink that never fails
-abbrev pub count_of : SureSink → ℕ
-count_of sink = sink.count
+abbrev pub sure_sink_count : SureSink → ℕ
+sure_sink_count sink = sink.count

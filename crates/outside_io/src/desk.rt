@@ -1,7 +1,7 @@
 //! A desk: a source of named files, of which one at a time is read from the beginning.
 ghost use Rattle.std.specs.Prelude.{◌≡◌, ◌<◌, ◌≤◌, List, ℕ, Option, IfSome, None, length};
 ghost use Rattle.outside_io.specs.Counts.{Rose, raised};
-ghost use Rattle.outside_io.specs.Desk.{Begins, GoesOnTelling, Reads, count_of};
+ghost use Rattle.outside_io.specs.Desk.{Begins, GoesOnTelling, Reads, read_count};
 
 /// The result of beginning a file.
 #[derive(Clone, Copy, Debug, PartialEq, Eq)]
@@ -65,7 +65,7 @@ pub trait Desk {
         ensures left { Reads result buf.new (left self.old) (left self.new) }
         ensures asked { asked self.new ≡ asked self.old }
 
-        ensures taken { taken self.new ≡ raised (count_of result) (taken self.old) }
+        ensures taken { taken self.new ≡ raised (read_count result) (taken self.old) }
         ensures reads { reads self.new ≡ raised 1 (reads self.old) }
 
         ensures later { faults self.old ≤ faults self.new }

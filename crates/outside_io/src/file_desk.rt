@@ -1,9 +1,9 @@
 //! A desk over the files of the operating system.
 ghost use Rattle.std.specs.Prelude.{◌≡◌, ◌<◌, ◌≤◌, None, IsSome, length, option_and_then};
 ghost use Rattle.outside_io.specs.Counts.{Rose, counted, last_count, raised};
-ghost use Rattle.outside_io.specs.Desk.{Begins, GoesOnTelling, Reads, count_of};
-ghost use Rattle.outside_io.specs.Desk.{has_failed, is_failed, untold};
-ghost use Rattle.outside_io.specs.FileDesk.{faults_of, file_of};
+ghost use Rattle.outside_io.specs.Desk.{Begins, GoesOnTelling, Reads, read_count};
+ghost use Rattle.outside_io.specs.Desk.{has_failed, read_failed, untold};
+ghost use Rattle.outside_io.specs.FileDesk.{file_desk_faults, file_of};
 
 use crate::{Begin, Desk, Got};
 use std::fs;
@@ -11,8 +11,8 @@ use std::io::Read;
 use std::rt::Files;
 
 /// The files of the operating system, by path. Its contracts say nothing about the bytes of a file,
-/// and it counts neither bytes nor reads. A name that cannot be opened fails at `begin`; a folder or
-/// a bad disk fails at `read`.
+/// and it counts neither bytes nor reads. A name that cannot be opened fails at `begin`; a folder
+/// or a bad disk fails at `read`.
 #[derive(Drop)]
 pub struct FileDesk<R: Files + Drop> {
     rt: R,
@@ -24,7 +24,7 @@ impl<R: Files + Drop> FileDesk<R> {
     /// A desk on which no file is begun and no call has failed.
     pub fn make(rt: R) -> Self
         ensures begun { file_of result ≡ None }
-        ensures faults { faults_of result ≡ 0 }
+        ensures faults { file_desk_faults result ≡ 0 }
     {
         FileDesk {
             rt,
@@ -43,7 +43,7 @@ impl<R: Files + Drop> Desk for FileDesk<R> {
 
     ghost reads = { λ _. last_count };
 
-    ghost faults = { λ desk. faults_of desk };
+    ghost faults = { λ desk. file_desk_faults desk };
 
     fn begin(&mut self, name: &str) -> Begin
         ensures held { untold ≡ untold }
@@ -51,12 +51,14 @@ impl<R: Files + Drop> Desk for FileDesk<R> {
         ensures told { GoesOnTelling None None }
         ensures taken { last_count ≡ last_count }
         ensures reads { last_count ≡ last_count }
-        ensures later { faults_of self.old ≤ faults_of self.new }
-        ensures failed { result ≡ Begin.Failed → Rose (faults_of self.old) (faults_of self.new) }
+        ensures later { file_desk_faults self.old ≤ file_desk_faults self.new }
+        ensures failed { result ≡ Begin.Failed → Rose (file_desk_faults self.old)
+            (file_desk_faults self.new) }
 
         ensures begun { result ≡ Begin.Ok → IsSome (file_of self.new) }
         ensures stopped { result ≡ Begin.Failed → file_of self.new ≡ None }
-        ensures counted { faults_of self.new ≡ counted (has_failed result) (faults_of self.old) }
+        ensures counted { file_desk_faults self.new ≡ counted (has_failed result)
+            (file_desk_faults self.old) }
     {
         self.file = None;
         let Ok(file) = fs::open(&self.rt, name) else {
@@ -71,15 +73,17 @@ impl<R: Files + Drop> Desk for FileDesk<R> {
         requires { 0 < length buf.old }
         ensures held { untold ≡ untold }
         ensures left { Reads result buf.new None None }
-        ensures taken { last_count ≡ raised (count_of result) last_count }
+        ensures taken { last_count ≡ raised (read_count result) last_count }
         ensures reads { last_count ≡ raised 1 last_count }
-        ensures later { faults_of self.old ≤ faults_of self.new }
-        ensures failed { result ≡ Got.Failed → Rose (faults_of self.old) (faults_of self.new) }
+        ensures later { file_desk_faults self.old ≤ file_desk_faults self.new }
+        ensures failed { result ≡ Got.Failed → Rose (file_desk_faults self.old)
+            (file_desk_faults self.new) }
 
         ensures nothing_begun { file_of self.old ≡ None → result ≡ Got.End }
         ensures passed { Reads result buf.new (option_and_then R.File.remaining (file_of self.old))
             (option_and_then R.File.remaining (file_of self.new)) }
-        ensures counted { faults_of self.new ≡ counted (is_failed result) (faults_of self.old) }
+        ensures counted { file_desk_faults self.new ≡ counted (read_failed result)
+            (file_desk_faults self.old) }
     {
         let Some(file) = &mut self.file else {
             return Got::End;

@@ -26,14 +26,15 @@ pub struct MemorySink {
 }
 
 impl MemorySink {
-    ghost use Rattle.outside_io.specs.MemorySink.{failures_of, room_of, unsent_by, written_to};
+    ghost use Rattle.outside_io.specs.MemorySink.{memory_sink_failures, room_of, unsent_by};
+    ghost use Rattle.outside_io.specs.MemorySink.{written_to};
 
     /// An empty sink with room for this many bytes, all reserved here.
     pub fn make(alloc: Global, room: usize, failing: Vec<u64>) -> Result<Self, OutOfMemory>
         ensures empty { IfOk result (λ sink. written_to sink ≡ []) }
         ensures unsent { IfOk result (λ sink. unsent_by sink ≡ []) }
         ensures room { IfOk result (λ sink. room_of sink ≡ room) }
-        ensures fresh { IfOk result (λ sink. IsFresh (failures_of sink) failing.items) }
+        ensures fresh { IfOk result (λ sink. IsFresh (memory_sink_failures sink) failing.items) }
     {
         Ok(MemorySink {
             bytes: Vec::with_capacity(alloc, room)?,
@@ -59,14 +60,15 @@ impl MemorySink {
 }
 
 impl Sink for MemorySink {
-    ghost use Rattle.outside_io.specs.MemorySink.{failures_of, faults_of, room_of, unsent_by};
+    ghost use Rattle.outside_io.specs.MemorySink.{memory_sink_failures, memory_sink_faults};
+    ghost use Rattle.outside_io.specs.MemorySink.{room_of, unsent_by};
     ghost use Rattle.outside_io.specs.MemorySink.{write_answer, write_fails, written_to};
 
     ghost written = { λ sink. Some (written_to sink) };
 
     ghost unsent = { λ sink. Some (unsent_by sink) };
 
-    ghost faults = { λ sink. faults_of sink };
+    ghost faults = { λ sink. memory_sink_faults sink };
 
     fn write(&mut self, bytes: &[u8]) -> Took
         requires { 0 < length bytes.now }
@@ -74,11 +76,12 @@ impl Sink for MemorySink {
             (Some (written_to self.new)) }
         ensures unsent { Takes result bytes.now (Some (unsent_by self.old))
             (Some (unsent_by self.new)) }
-        ensures later { faults_of self.old ≤ faults_of self.new }
-        ensures failed { result ≡ Took.Failed → Rose (faults_of self.old) (faults_of self.new) }
+        ensures later { memory_sink_faults self.old ≤ memory_sink_faults self.new }
+        ensures failed { result ≡ Took.Failed → Rose (memory_sink_faults self.old)
+            (memory_sink_faults self.new) }
 
         ensures exact { result ≡ write_answer self.old (length bytes.now) }
-        ensures counted { Counts (failures_of self.old) (failures_of self.new)
+        ensures counted { Counts (memory_sink_failures self.old) (memory_sink_failures self.new)
             (write_fails self.old (length bytes.now)) }
         ensures room { room_of self.new ≡ room_of self.old }
     {
@@ -95,11 +98,12 @@ impl Sink for MemorySink {
     fn flush(&mut self) -> Result<(), WriteFault>
         ensures kept { Keeps (Some (written_to self.old)) (Some (written_to self.new)) }
         ensures sent { OnOk result (IsAtEnd (Some (unsent_by self.new))) }
-        ensures later { faults_of self.old ≤ faults_of self.new }
-        ensures failed { OnErr result (Rose (faults_of self.old) (faults_of self.new)) }
+        ensures later { memory_sink_faults self.old ≤ memory_sink_faults self.new }
+        ensures failed { OnErr result (Rose (memory_sink_faults self.old)
+            (memory_sink_faults self.new)) }
 
         ensures exact { IsOk result }
-        ensures same { failures_of self.new ≡ failures_of self.old }
+        ensures same { memory_sink_failures self.new ≡ memory_sink_failures self.old }
         ensures room { room_of self.new ≡ room_of self.old }
     {
         self.sent = self.bytes.len();

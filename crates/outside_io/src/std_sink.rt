@@ -2,14 +2,14 @@
 ghost use Rattle.std.specs.Prelude.{◌≡◌, ◌<◌, ◌≤◌, None, OnErr, OnOk, is_err, length};
 ghost use Rattle.std.specs.Io.KnownBytes.{IsAtEnd, Keeps};
 ghost use Rattle.outside_io.specs.Counts.{Rose, counted};
-ghost use Rattle.outside_io.specs.Sink.{Takes, is_failed};
-ghost use Rattle.outside_io.specs.StdSink.{faults_of, writer_of};
+ghost use Rattle.outside_io.specs.Sink.{Takes, write_failed};
+ghost use Rattle.outside_io.specs.StdSink.{std_sink_faults, writer_of};
 
 use crate::{Sink, Took, WriteFault};
 use std::io::Write;
 
-/// Writes to any `Write`, such as standard output, standard error or a `BufWriter` over one of them.
-/// Its contracts say nothing of the bytes written and unsent.
+/// Writes to any `Write`, such as standard output, standard error or a `BufWriter` over one of
+/// them. Its contracts say nothing of the bytes written and unsent.
 #[derive(Drop)]
 pub struct StdSink<W: Write + Drop> {
     writer: W,
@@ -20,7 +20,7 @@ impl<W: Write + Drop> StdSink<W> {
     /// A sink on which no call has failed.
     pub fn make(writer: W) -> Self
         ensures writer { writer_of result ≡ writer }
-        ensures faults { faults_of result ≡ 0 }
+        ensures faults { std_sink_faults result ≡ 0 }
     {
         StdSink { writer, faults: 0 }
     }
@@ -29,19 +29,21 @@ impl<W: Write + Drop> StdSink<W> {
 impl<W: Write + Drop> Sink for StdSink<W> {
     ghost written = { λ _. None };
 
-    ghost faults = { λ sink. faults_of sink };
+    ghost faults = { λ sink. std_sink_faults sink };
 
     // `Ok(0)` counts as a failure too, since a piece is never empty.
     fn write(&mut self, bytes: &[u8]) -> Took
         requires { 0 < length bytes.now }
         ensures written { Takes result bytes.now None None }
         ensures unsent { Takes result bytes.now None None }
-        ensures later { faults_of self.old ≤ faults_of self.new }
-        ensures failed { result ≡ Took.Failed → Rose (faults_of self.old) (faults_of self.new) }
+        ensures later { std_sink_faults self.old ≤ std_sink_faults self.new }
+        ensures failed { result ≡ Took.Failed → Rose (std_sink_faults self.old)
+            (std_sink_faults self.new) }
 
         ensures passed { Takes result bytes.now (W.contents (writer_of self.old))
             (W.contents (writer_of self.new)) }
-        ensures counted { faults_of self.new ≡ counted (is_failed result) (faults_of self.old) }
+        ensures counted { std_sink_faults self.new ≡ counted (write_failed result)
+            (std_sink_faults self.old) }
     {
         match self.writer.write(bytes) {
             Ok(count) if count > 0 => Took::Bytes(count),
@@ -55,11 +57,12 @@ impl<W: Write + Drop> Sink for StdSink<W> {
     fn flush(&mut self) -> Result<(), WriteFault>
         ensures kept { Keeps None None }
         ensures sent { OnOk result (IsAtEnd None) }
-        ensures later { faults_of self.old ≤ faults_of self.new }
-        ensures failed { OnErr result (Rose (faults_of self.old) (faults_of self.new)) }
+        ensures later { std_sink_faults self.old ≤ std_sink_faults self.new }
+        ensures failed { OnErr result (Rose (std_sink_faults self.old) (std_sink_faults self.new)) }
 
         ensures passed { Keeps (W.contents (writer_of self.old)) (W.contents (writer_of self.new)) }
-        ensures counted { faults_of self.new ≡ counted (is_err result) (faults_of self.old) }
+        ensures counted { std_sink_faults self.new ≡ counted (is_err result)
+            (std_sink_faults self.old) }
     {
         match self.writer.flush() {
             Ok(()) => Ok(()),

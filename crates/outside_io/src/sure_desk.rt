@@ -13,14 +13,14 @@ pub struct SureDesk {
 }
 
 impl SureDesk {
-    ghost use Rattle.outside_io.specs.SureDesk.{held_by, left_on};
+    ghost use Rattle.outside_io.specs.SureDesk.{sure_desk_held, sure_desk_left};
 
-    /// A desk with these files, each a name and its bytes. If a name occurs more than once, its first
-    /// file counts.
+    /// A desk with these files, each a name and its bytes. If a name occurs more than once, its
+    /// first file counts.
     pub fn make(files: Vec<(String, Vec<u8>)>) -> Self
         ensures held { (name : List ℕ) →
-            held_by result name ≡ Some (unwrap_or (bytes_of files.items name) []) }
-        ensures left { left_on result ≡ [] }
+            sure_desk_held result name ≡ Some (unwrap_or (bytes_of files.items name) []) }
+        ensures left { sure_desk_left result ≡ [] }
     {
         SureDesk {
             folder: Folder::make(files),
@@ -29,11 +29,11 @@ impl SureDesk {
 }
 
 impl Desk for SureDesk {
-    ghost use Rattle.outside_io.specs.SureDesk.{held_by, left_on};
+    ghost use Rattle.outside_io.specs.SureDesk.{sure_desk_held, sure_desk_left};
 
-    ghost held = { held_by };
+    ghost held = { sure_desk_held };
 
-    ghost left = { λ desk. Some (left_on desk) };
+    ghost left = { λ desk. Some (sure_desk_left desk) };
 
     ghost taken = { λ _. last_count };
 

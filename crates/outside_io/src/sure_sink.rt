@@ -12,25 +12,25 @@ pub struct SureSink {
 }
 
 impl SureSink {
-    ghost use Rattle.outside_io.specs.SureSink.{count_of};
+    ghost use Rattle.outside_io.specs.SureSink.{sure_sink_count};
 
     /// A sink to which nothing was written.
     pub fn make() -> Self
-        ensures { count_of result ≡ 0 }
+        ensures { sure_sink_count result ≡ 0 }
     {
         SureSink { count: 0 }
     }
 
     /// The number of bytes written, up to `u64::MAX`.
     pub fn count(&self) -> u64
-        ensures { result ≡ count_of self.now }
+        ensures { result ≡ sure_sink_count self.now }
     {
         self.count
     }
 }
 
 impl Sink for SureSink {
-    ghost use Rattle.outside_io.specs.SureSink.{count_of};
+    ghost use Rattle.outside_io.specs.SureSink.{sure_sink_count};
 
     ghost written = { λ _. None };
 
@@ -44,7 +44,8 @@ impl Sink for SureSink {
         ensures failed { result ≡ Took.Failed → Rose 0 0 }
 
         ensures whole { result ≡ Took.Bytes (length bytes.now) }
-        ensures count { count_of self.new ≡ raised (length bytes.now) (count_of self.old) }
+        ensures count { sure_sink_count self.new ≡ raised (length bytes.now)
+            (sure_sink_count self.old) }
     {
         self.count = self.count.saturating_add(bytes.len() as u64);
         Took::Bytes(bytes.len())

@@ -3,7 +3,7 @@ use Rattle.std.proofs.Common.{◌≡◌, ◌≤◌, ℕ, ◌+◌, List, [], ◌�
 use Rattle.std.proofs.Common.{ap, subst, ◌∙◌, arith, All, Result, Ok, Err, IfOk}
 use Rattle.std.proofs.lemmas.List.Elements.{All-nil, All-cons}
 use Rattle.pcap_reader.specs.declared.record.PcapRecord.{PcapRecord}
-use Rattle.pcap_reader.specs.Captures.{IsRecord, Joins, HasCapture, IsWithin}
+use Rattle.pcap_reader.specs.Captures.{IsRecord, Joins, HasCapture, FrameIsWithin}
 use Rattle.pcap_reader.specs.Numbers.{number_of}
 use Rattle.pcap_reader.specs.declared.capture.Capture.{Capture}
 use Rattle.pcap_reader.specs.declared.fault.CaptureFault.{CaptureFault}
@@ -56,7 +56,7 @@ ends_within number at end bytes (x ∷ xs) rest (h, f, m, e, first, joined) plac
 
 -- each frame of a capture lies within its bytes
 pub within_result : (bytes : List ℕ) (result : Result Capture CaptureFault) → IfOk result
-    (HasCapture bytes) → IfOk result (λ capture. All (IsWithin bytes) capture.records)
+    (HasCapture bytes) → IfOk result (λ capture. All (FrameIsWithin bytes) capture.records)
 within_result bytes (Ok capture) h =
     let size : 24 + length h.body ≡ length bytes =
     omega (arith, ap length h.opens.joined, length-append h.header h.body, h.opens.whole) in

@@ -60,9 +60,10 @@ pub record IsCut (number : ℕ → List ℕ → ℕ) (rest : List ℕ) : Type 0 
   pub small : 16 ≤ length rest → frame_len number (take 16 rest) ≤ 262144
 
 -- what stands behind so many records: nothing, or a cut record of so many bytes
-abbrev pub Ends : (ℕ → List ℕ → ℕ) → ℕ → List ℕ → Option ℕ → Type 0
-Ends number count rest None = rest ≡ []
-Ends number count rest (Some cut) = IsCut number rest × (cut ≡ length rest) × (count < 262144)
+abbrev pub EndsAfterRecords : (ℕ → List ℕ → ℕ) → ℕ → List ℕ → Option ℕ → Type 0
+EndsAfterRecords number count rest None = rest ≡ []
+EndsAfterRecords number count rest (Some cut) = IsCut number rest × (cut ≡ length rest)
+    × (count < 262144)
 
 -- the bytes behind the 24 of the header are these records, and then nothing or a cut record
 pub record HasRecords (number : ℕ → List ℕ → ℕ) (body : List ℕ) (records : List PcapRecord)
@@ -70,7 +71,7 @@ pub record HasRecords (number : ℕ → List ℕ → ℕ) (body : List ℕ) (rec
   pub rest : List ℕ
   pub joined : Joins number 24 body records rest
   pub few : length records ≤ 262144
-  pub end : Ends number (length records) rest cut
+  pub end : EndsAfterRecords number (length records) rest cut
 
 -- a file's bytes are a header of 24 bytes, whose magic number tells the byte order and the unit of
 -- time, and a body
@@ -92,5 +93,5 @@ abbrev pub frame_of : List ℕ → PcapRecord → List ℕ
 frame_of bytes r = take r.len (drop r.start bytes)
 
 -- the frame of this record lies within the bytes of its file
-abbrev pub IsWithin : List ℕ → PcapRecord → Type 0
-IsWithin bytes r = r.start + r.len ≤ length bytes
+abbrev pub FrameIsWithin : List ℕ → PcapRecord → Type 0
+FrameIsWithin bytes r = r.start + r.len ≤ length bytes

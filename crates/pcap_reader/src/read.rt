@@ -5,7 +5,7 @@ ghost use Rattle.pcap_reader.specs.declared.capture.Capture.{Capture as ACapture
 ghost use Rattle.pcap_reader.specs.declared.fault.CaptureFault.{CaptureFault as AFault};
 ghost use Rattle.pcap_reader.specs.declared.fault.CaptureFault.TheVariants.{OutOfMemory as NoMemory};
 ghost use Rattle.pcap_reader.specs.Numbers.{number_of, HasMagic};
-ghost use Rattle.pcap_reader.specs.Captures.{IsEthernet, HasRecords, HasCapture, IsWithin};
+ghost use Rattle.pcap_reader.specs.Captures.{IsEthernet, HasRecords, HasCapture, FrameIsWithin};
 ghost use Rattle.pcap_reader.specs.Faults.{HeaderHasFault, RecordsHaveFault, PartsHaveFault};
 ghost use Rattle.pcap_reader.specs.Faults.{HasFault};
 
@@ -47,7 +47,7 @@ pub fn read_capture(alloc: Global, bytes: &[u8]) -> Result<Capture, CaptureFault
         → IsErrAnd result (λ e. (e ≡ fault) ⊎ (e ≡ NoMemory)) }
 
     ensures few { IfOk result (λ capture. length capture.records ≤ 262144) }
-    ensures within { IfOk result (λ capture. All (IsWithin bytes.now) capture.records) }
+    ensures within { IfOk result (λ capture. All (FrameIsWithin bytes.now) capture.records) }
 {
     read_file(alloc, bytes)
 }

@@ -9,10 +9,10 @@ use Rattle.pcapng_reader.specs.declared.fault.NgFault.{NgFault}
 use Rattle.pcapng_reader.specs.declared.fault.NgFault.TheVariants as fault
 use Rattle.pcapng_reader.specs.Captures.{no_section, file_start, End, Reads, BeginsNg, packets_of}
 use Rattle.pcapng_reader.specs.Captures.{first_order, HasNgCapture, HasNgFault}
-use Rattle.pcapng_reader.specs.Laws.{HasOneCapture, HasOneFault, HasNotBoth, HasOneOfBoth}
+use Rattle.pcapng_reader.specs.Laws.{HasOneNgCapture, HasOneNgFault, HasNotBothNg, HasOneOfBothNg}
 use Rattle.pcapng_reader.proofs.Walk.{reads_once, reads_some}
 
-pub one_capture : HasOneCapture
+pub one_capture : HasOneNgCapture
 one_capture bytes a b of_a of_b =
     let one = reads_once no_section file_start bytes of_a.blocks of_b.blocks (Ok a.cut)
     (Ok b.cut) of_a.read of_b.read in
@@ -27,14 +27,14 @@ one_capture bytes a b of_a of_b =
     rw (big, nano, records, cut) refl in
     same
 
-pub one_fault : HasOneFault
+pub one_fault : HasOneNgFault
 one_fault bytes a b of_a of_b =
     let one = reads_once no_section file_start bytes of_a.blocks of_b.blocks (Err a)
     (Err b) of_a.read of_b.read in
     let ends = one.1 in
     cc
 
-pub not_both : HasNotBoth
+pub not_both : HasNotBothNg
 not_both bytes capture e of_capture of_fault =
     let one = reads_once no_section file_start bytes of_capture.blocks of_fault.blocks
     (Ok capture.cut) (Err e) of_capture.read of_fault.read in
@@ -59,7 +59,7 @@ either bytes blocks (Ok cut) begins reads =
 either bytes blocks (Err e) begins reads =
     inr (e, record { begins = begins; blocks = blocks; read = reads })
 
-pub one_of_both : HasOneOfBoth
+pub one_of_both : HasOneOfBothNg
 one_of_both bytes begins =
     let (blocks, end, reads) = reads_some (length bytes) no_section file_start bytes
     (omega arith) in

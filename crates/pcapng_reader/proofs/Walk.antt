@@ -14,7 +14,7 @@ use Rattle.pcapng_reader.specs.declared.content.Content.{Content}
 use Rattle.pcapng_reader.specs.declared.fault.NgFault.{NgFault}
 use Rattle.pcapng_reader.specs.Blocks.{block_at}
 use Rattle.pcapng_reader.specs.declared.content.Content.TheVariants as content
-use Rattle.pcap_reader.specs.Captures.{IsWithin}
+use Rattle.pcap_reader.specs.Captures.{FrameIsWithin}
 use Rattle.pcapng_reader.specs.Captures.{no_section, file_start, packets_in, section_behind}
 use Rattle.pcapng_reader.specs.Captures.{place_behind, End, EndsWith, Reads, BeginsNg, packets_of}
 use Rattle.pcapng_reader.specs.Captures.{order_in, first_order, HasNgCapture, HasNgFault}
@@ -103,7 +103,7 @@ pub record Walked (bytes : List ℕ) (section : Section) (place : Place) (record
   pub few : place.packets ≤ 262144
   pub inside : place.start + length rest ≡ length bytes
   pub narrow : place.block ≤ place.start
-  pub within : All (IsWithin bytes) records
+  pub within : All (FrameIsWithin bytes) records
 
 pub walked_start : (bytes : List ℕ) → Walked bytes no_section file_start [] false bytes
 walked_start bytes = record {
@@ -116,7 +116,7 @@ walked_start bytes = record {
   few = omega arith;
   inside = omega arith;
   narrow = omega arith;
-  within = All-nil (IsWithin bytes);
+  within = All-nil (FrameIsWithin bytes);
 }
 
 -- the order of the first block, with one block more
@@ -143,13 +143,13 @@ few_more place len (content.Packet r) few fits = omega (arith, fits.0)
 few_more place len content.Other few fits = omega arith
 
 within_more : (bytes : List ℕ) (place : Place) (len : ℕ) (c : Content) (records : List PcapRecord)
-    → All (IsWithin bytes) records → place.start + len ≤ length bytes
-    → PacketFits place len c → All (IsWithin bytes) (records ++ packets_in c)
+    → All (FrameIsWithin bytes) records → place.start + len ≤ length bytes
+    → PacketFits place len c → All (FrameIsWithin bytes) (records ++ packets_in c)
 within_more bytes place len (content.Section big) records all inside fits = rw append-nil all
 within_more bytes place len (content.Interface i) records all inside fits = rw append-nil all
 within_more bytes place len (content.Packet r) records all inside fits =
-    All-append (IsWithin bytes) records (r ∷ []) all (All-cons (IsWithin bytes) r []
-    (omega (arith, fits.1, inside)) (All-nil (IsWithin bytes)))
+    All-append (FrameIsWithin bytes) records (r ∷ []) all (All-cons (FrameIsWithin bytes) r []
+    (omega (arith, fits.1, inside)) (All-nil (FrameIsWithin bytes)))
 within_more bytes place len content.Other records all inside fits = rw append-nil all
 
 -- one block more

@@ -22,8 +22,8 @@ use Rattle.pcapng_reader.specs.Contents.{is_len, padded, ethernet_of, framed, en
 use Rattle.pcapng_reader.specs.Blocks.{kind_of, order_of, block_in, block_at}
 use Rattle.pcapng_reader.specs.Captures.{no_section, file_start, place_behind, Reads, packets_of}
 use Rattle.pcapng_reader.specs.Writing.{section_bytes, enhanced_len, enhanced_header, enhanced_tail}
-use Rattle.pcapng_reader.specs.Writing.{enhanced_bytes, records_from}
-use Rattle.pcapng_reader.specs.Laws.{ReadsBack, KeepsFrames}
+use Rattle.pcapng_reader.specs.Writing.{enhanced_bytes, ng_records_from}
+use Rattle.pcapng_reader.specs.Laws.{ReadsNgBack, KeepsNgFrames}
 
 -- the section and the interface that are written
 abbrev written_section : Section
@@ -232,7 +232,7 @@ reads_frames place (f ∷ fs) fit few =
     )
 
 packets-blocks_from : (start : ℕ) (frames : List (List ℕ)) → packets_of
-    (blocks_from start frames) ≡ records_from start frames
+    (blocks_from start frames) ≡ ng_records_from start frames
 unfolding blocks_from
 packets-blocks_from start [] = refl
 packets-blocks_from start (f ∷ fs) = ap (λ l. record_at start (length f) ∷ l)
@@ -278,7 +278,7 @@ some_bytes : (more : List ℕ) → 0 < length (section_bytes ++ more)
 unfolding section_bytes
 some_bytes more = omega (arith, length-append section_bytes more)
 
-pub reads_back : ReadsBack
+pub reads_back : ReadsNgBack
 reads_back frames fit few =
     let more = flat_map enhanced_bytes frames in
     let start : Place = record { block = 2; packets = 0; start = 48 } in
@@ -308,7 +308,8 @@ reads_back frames fit few =
 
 -- the frames behind the bytes that went before
 frames_behind : (front : List ℕ) (place : ℕ) (frames : List (List ℕ)) → length front ≡ place
-    → map (frame_of (front ++ flat_map enhanced_bytes frames)) (records_from place frames) ≡ frames
+    → map (frame_of (front ++ flat_map enhanced_bytes frames))
+    (ng_records_from place frames) ≡ frames
 frames_behind front place [] at = refl
 frames_behind front place (f ∷ fs) at =
     let len = length f in
@@ -317,7 +318,8 @@ frames_behind front place (f ∷ fs) at =
     let more = flat_map enhanced_bytes fs in
     let bytes = front ++ (enhanced_bytes f ++ more) in
     let behind = place + enhanced_len len in
-    let next : map (frame_of ((front ++ enhanced_bytes f) ++ more)) (records_from behind fs) ≡ fs =
+    let next : map (frame_of ((front ++ enhanced_bytes f) ++ more))
+    (ng_records_from behind fs) ≡ fs =
     frames_behind (front ++ enhanced_bytes f) behind fs
     (omega (arith, at, length-append front (enhanced_bytes f), length-block f)) in
     let same : (front ++ enhanced_bytes f) ++ more ≡ bytes =
@@ -332,10 +334,10 @@ frames_behind front place (f ∷ fs) at =
     ap (λ l. take len (drop (place + 28) l)) pieces
     ∙ ap (take len) (drop_at (front ++ header) (f ++ (tail ++ more)) (place + 28) before)
     ∙ take_at f (tail ++ more) len refl in
-    let rest : map (frame_of bytes) (records_from behind fs) ≡ fs =
-    ap (λ l. map (frame_of l) (records_from behind fs)) (sym same) ∙ next in
-    ap (λ x. x ∷ map (frame_of bytes) (records_from behind fs)) first ∙ ap (λ xs. f ∷ xs) rest
+    let rest : map (frame_of bytes) (ng_records_from behind fs) ≡ fs =
+    ap (λ l. map (frame_of l) (ng_records_from behind fs)) (sym same) ∙ next in
+    ap (λ x. x ∷ map (frame_of bytes) (ng_records_from behind fs)) first ∙ ap (λ xs. f ∷ xs) rest
 
-pub keeps_frames : KeepsFrames
+pub keeps_frames : KeepsNgFrames
 unfolding section_bytes
 keeps_frames frames = frames_behind section_bytes 48 frames refl

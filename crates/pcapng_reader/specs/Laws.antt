@@ -14,23 +14,23 @@ use Rattle.pcapng_reader.specs.Captures.{BeginsNg, HasNgCapture, HasNgFault}
 use Rattle.pcapng_reader.specs.Writing.{section_bytes, enhanced_bytes, ng_bytes, ng_capture}
 
 -- bytes have one capture at most
-abbrev pub HasOneCapture : Type 0
-HasOneCapture =
+abbrev pub HasOneNgCapture : Type 0
+HasOneNgCapture =
     (bytes : List ℕ) (a b : Capture) → HasNgCapture bytes a → HasNgCapture bytes b → a ≡ b
 
 -- bytes have one fault at most
-abbrev pub HasOneFault : Type 0
-HasOneFault = (bytes : List ℕ) (a b : NgFault) → HasNgFault bytes a → HasNgFault bytes b → a ≡ b
+abbrev pub HasOneNgFault : Type 0
+HasOneNgFault = (bytes : List ℕ) (a b : NgFault) → HasNgFault bytes a → HasNgFault bytes b → a ≡ b
 
 -- bytes with a capture have no fault
-abbrev pub HasNotBoth : Type 0
-HasNotBoth =
+abbrev pub HasNotBothNg : Type 0
+HasNotBothNg =
     (bytes : List ℕ) (capture : Capture) (e : NgFault)
     → HasNgCapture bytes capture → HasNgFault bytes e → ⊥
 
 -- all bytes that begin as a pcapng file does have a capture or a fault
-abbrev pub HasOneOfBoth : Type 0
-HasOneOfBoth =
+abbrev pub HasOneOfBothNg : Type 0
+HasOneOfBothNg =
     (bytes : List ℕ) → BeginsNg bytes
     → ((capture : Capture) × HasNgCapture bytes capture) ⊎ ((e : NgFault) × HasNgFault bytes e)
 
@@ -68,14 +68,14 @@ GrowsByFrame =
     → ng_bytes (frames ++ f ∷ []) ≡ ng_bytes frames ++ enhanced_bytes f
 
 -- at most 262144 frames that were written have this capture, with no cut
-abbrev pub ReadsBack : Type 0
-ReadsBack =
+abbrev pub ReadsNgBack : Type 0
+ReadsNgBack =
     (frames : List (List ℕ)) → All (λ f. length f ≤ 262144) frames → length frames ≤ 262144
     → HasNgCapture (ng_bytes frames) (ng_capture frames)
 
 -- the records of that capture have just the frames that were written
-abbrev pub KeepsFrames : Type 0
-KeepsFrames =
+abbrev pub KeepsNgFrames : Type 0
+KeepsNgFrames =
     (frames : List (List ℕ))
     → map (frame_of (ng_bytes frames)) (ng_capture frames).records ≡ frames
 

@@ -13,6 +13,6 @@ pub record TakesIn (old : Reader) (b : Block) (new : Reader) : Type 0 where
   pub order : new.big ≡ (if old.place.block == 0 then order_in b.content else old.big)
 
 -- what was read, as the capture of a file that ends so
-abbrev pub capture_of : Reader → Option ℕ → Capture
-capture_of reader cut =
+abbrev pub ng_capture_of : Reader → Option ℕ → Capture
+ng_capture_of reader cut =
     record { big = reader.big; nano = false; records = reader.records; cut = cut }

@@ -37,13 +37,13 @@ abbrev pub ng_bytes : List (List ℕ) → List ℕ
 ng_bytes frames = section_bytes ++ flat_map enhanced_bytes frames
 
 -- the records of frames whose blocks begin at this place of the file
-abbrev pub records_from : ℕ → List (List ℕ) → List PcapRecord
-records_from place [] = []
-records_from place (f ∷ fs) =
+abbrev pub ng_records_from : ℕ → List (List ℕ) → List PcapRecord
+ng_records_from place [] = []
+ng_records_from place (f ∷ fs) =
     record { sec = 0; frac = 0; start = place + 28; len = length f; orig = length f }
-    ∷ records_from (place + enhanced_len (length f)) fs
+    ∷ ng_records_from (place + enhanced_len (length f)) fs
 
 -- the capture of frames, which ends behind the last of them
 abbrev pub ng_capture : List (List ℕ) → Capture
 ng_capture frames =
-    record { big = false; nano = false; records = records_from 48 frames; cut = None }
+    record { big = false; nano = false; records = ng_records_from 48 frames; cut = None }

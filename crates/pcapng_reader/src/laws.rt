@@ -1,15 +1,16 @@
 //! Laws of captures, as functions that do nothing: their contracts are the laws.
-ghost use Rattle.pcapng_reader.specs.Laws.{HasOneCapture, HasOneFault, HasNotBoth, HasOneOfBoth};
+ghost use Rattle.pcapng_reader.specs.Laws.{HasOneNgCapture, HasOneNgFault, HasNotBothNg};
+ghost use Rattle.pcapng_reader.specs.Laws.{HasOneOfBothNg};
 ghost use Rattle.pcapng_reader.specs.Laws.{IsNoWant, HasFourPieces, BeginsWithSection};
-ghost use Rattle.pcapng_reader.specs.Laws.{GrowsByFrame, ReadsBack, KeepsFrames};
+ghost use Rattle.pcapng_reader.specs.Laws.{GrowsByFrame, ReadsNgBack, KeepsNgFrames};
 
 /// A file's bytes have one capture or one fault, and never two of these. Want of memory is no fault
 /// of bytes.
 pub fn one_capture_or_fault()
-    ensures one_capture { HasOneCapture }
-    ensures one_fault { HasOneFault }
-    ensures not_both { HasNotBoth }
-    ensures either { HasOneOfBoth }
+    ensures one_capture { HasOneNgCapture }
+    ensures one_fault { HasOneNgFault }
+    ensures not_both { HasNotBothNg }
+    ensures either { HasOneOfBothNg }
     ensures memory { IsNoWant }
 {}
 
@@ -24,6 +25,6 @@ pub fn a_block_is_four_pieces()
 pub fn frames_are_read_back()
     ensures section { BeginsWithSection }
     ensures frame { GrowsByFrame }
-    ensures reads_back { ReadsBack }
-    ensures frames { KeepsFrames }
+    ensures reads_back { ReadsNgBack }
+    ensures frames { KeepsNgFrames }
 {}

@@ -2,7 +2,7 @@
 ghost use Rattle.std.specs.Prelude.{◌≡◌, ◌≢◌, ◌≤◌, ◌⊎◌, ◌↔◌, length, All, IsTrue, IfOk, IfErr};
 ghost use Rattle.std.specs.Prelude.{IsErrAnd, MatchResult};
 ghost use Rattle.pcap_reader.specs.declared.capture.Capture.{Capture as ACapture};
-ghost use Rattle.pcap_reader.specs.Captures.{IsWithin};
+ghost use Rattle.pcap_reader.specs.Captures.{FrameIsWithin};
 ghost use Rattle.pcapng_reader.specs.declared.fault.NgFault.{NgFault as AFault};
 ghost use Rattle.pcapng_reader.specs.declared.fault.NgFault.TheVariants.{OutOfMemory as NoMemory};
 ghost use Rattle.pcapng_reader.specs.Captures.{BeginsNg, HasNgCapture, HasNgFault};
@@ -39,7 +39,7 @@ pub fn read_ng(alloc: Global, bytes: &[u8]) -> Result<Capture, NgFault>
         → IsErrAnd result (λ e. (e ≡ fault) ⊎ (e ≡ NoMemory)) }
 
     ensures few { IfOk result (λ capture. length capture.records ≤ 262144) }
-    ensures within { IfOk result (λ capture. All (IsWithin bytes.now) capture.records) }
+    ensures within { IfOk result (λ capture. All (FrameIsWithin bytes.now) capture.records) }
 {
     read_file(alloc, bytes)
 }
@@ -50,7 +50,7 @@ fn read_file(alloc: Global, bytes: &[u8]) -> Result<Capture, NgFault>
     ensures found { IfOk result (λ capture. HasNgCapture bytes.now capture) }
     ensures fault { IfErr result (λ e. e ≢ NoMemory → HasNgFault bytes.now e) }
     ensures few { IfOk result (λ capture. length capture.records ≤ 262144) }
-    ensures within { IfOk result (λ capture. All (IsWithin bytes.now) capture.records) }
+    ensures within { IfOk result (λ capture. All (FrameIsWithin bytes.now) capture.records) }
 {
     let mut reader = Reader::new(alloc);
     let mut rest = bytes;

@@ -2,7 +2,7 @@
 ghost use Rattle.std.specs.Prelude.{◌≡◌, ◌+◌, ◌<◌, ◌^◌, [], length, OnOk, false};
 ghost use Rattle.pcapng_reader.specs.Captures.{no_section, file_start, packets_in, section_behind};
 ghost use Rattle.pcapng_reader.specs.Captures.{place_behind, order_in};
-ghost use Rattle.pcapng_reader.specs.Readers.{TakesIn, capture_of};
+ghost use Rattle.pcapng_reader.specs.Readers.{TakesIn, ng_capture_of};
 
 use crate::block::Block;
 use crate::content::Content;
@@ -77,7 +77,7 @@ impl Reader {
 
     /// What was read, as a capture whose last block is cut after so many bytes, where one is.
     pub fn ends(self, cut: Option<u32>) -> Capture
-        ensures { result ≡ capture_of self cut }
+        ensures { result ≡ ng_capture_of self cut }
     {
         let Reader { records, big, .. } = self;
         Capture {

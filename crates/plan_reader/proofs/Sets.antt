@@ -13,7 +13,8 @@ use Rattle.std.proofs.lemmas.Bool.{ltb-true, ltb-false, lt-ltb, le-ltb}
 use Rattle.std.proofs.lemmas.Nat.{or_lt}
 use Rattle.plan_reader.specs.declared.faults.cause.Cause.{Cause}
 use Rattle.plan_reader.specs.declared.faults.cause.Cause.TheVariants.{Range}
-use Rattle.plan_reader.specs.Texts.{number_of, numbers_of, merged_from, parts, before, after}
+use Rattle.plan_reader.specs.Texts.{plain_number, numbers_of, merged_from, parts, before}
+use Rattle.plan_reader.specs.Texts.{after_byte}
 
 -- the numbers that follow the first comma
 abbrev pub numbers_after : Option (List ℕ) → Option (List ℕ)
@@ -36,24 +37,24 @@ parts_by token false e =
     (omega arith))
     ∙ ap (λ (x : List ℕ). x ∷ []) (sym (take_all _ token past))
 
-parts-cut : (token : List ℕ) → parts token ≡ parts_of_cut (before 44 token) (after 44 token)
+parts-cut : (token : List ℕ) → parts token ≡ parts_of_cut (before 44 token) (after_byte 44 token)
 parts-cut token = parts_by token (ltb (position_or_len (λ x. eqb x 44) token) (length token)) refl
 
-of_cut-None : (first : List ℕ) (rest : Option (List ℕ)) → number_of first ≡ None → numbers_of
+of_cut-None : (first : List ℕ) (rest : Option (List ℕ)) → plain_number first ≡ None → numbers_of
     (parts_of_cut first rest) ≡ None
 of_cut-None first None e = rw e refl
 of_cut-None first (Some rest) e = rw e refl
 
-of_cut-Some : (first : List ℕ) (rest : Option (List ℕ)) (n : ℕ) → number_of first ≡ Some n
+of_cut-Some : (first : List ℕ) (rest : Option (List ℕ)) (n : ℕ) → plain_number first ≡ Some n
     → numbers_of (parts_of_cut first rest) ≡ option_map (λ ns. n ∷ ns) (numbers_after rest)
 of_cut-Some first None n e = rw e refl
 of_cut-Some first (Some rest) n e = rw e refl
 
 -- no numbers where the first part is none
-pub numbers-None : (token first : List ℕ) → first ≡ before 44 token → number_of first ≡ None
+pub numbers-None : (token first : List ℕ) → first ≡ before 44 token → plain_number first ≡ None
     → numbers_of (parts token) ≡ None
 numbers-None token first is none = ap numbers_of (parts-cut token) ∙ of_cut-None _ _
-    (ap number_of (sym is) ∙ none)
+    (ap plain_number (sym is) ∙ none)
 
 none_is : (o : Option ℕ) → is_some o ≡ false → o ≡ None
 none_is None e = refl
@@ -61,28 +62,29 @@ none_is (Some n) e = cc
 
 -- the same, by a test
 pub none-first : (token first : List ℕ) → first ≡ before 44 token
-    → is_some (number_of first) ≡ false → numbers_of (parts token) ≡ None
+    → is_some (plain_number first) ≡ false → numbers_of (parts token) ≡ None
 none-first token first is e = numbers-None token first is (none_is _ e)
 
-first_of : (token first : List ℕ) (n : ℕ) → first ≡ before 44 token → number_of first ≡ Some n
-    → numbers_of (parts token) ≡ option_map (λ ns. n ∷ ns) (numbers_after (after 44 token))
+first_of : (token first : List ℕ) (n : ℕ) → first ≡ before 44 token → plain_number first ≡ Some n
+    → numbers_of (parts token) ≡ option_map (λ ns. n ∷ ns) (numbers_after (after_byte 44 token))
 first_of token first n is some = ap numbers_of (parts-cut token) ∙ of_cut-Some _ _ n
-    (ap number_of (sym is) ∙ some)
+    (ap plain_number (sym is) ∙ some)
 
 -- the first number, and those that follow
 pub numbers-first : (token first : List ℕ) (rest : Option (List ℕ)) (n : ℕ)
-    → first ≡ before 44 token → number_of first ≡ Some n → rest ≡ after 44 token
+    → first ≡ before 44 token → plain_number first ≡ Some n → rest ≡ after_byte 44 token
     → numbers_of (parts token) ≡ option_map (λ ns. n ∷ ns) (numbers_after rest)
 numbers-first token first rest n is some e =
     first_of token first n is some ∙ ap (λ (o : Option (List ℕ)). option_map (λ (ns : List ℕ). n
     ∷ ns) (numbers_after o)) (sym e)
 
-some-first : (token first : List ℕ) (o : Option ℕ) → first ≡ before 44 token → number_of first ≡ o
+some-first : (token first : List ℕ) (o : Option ℕ) → first ≡ before 44 token
+    → plain_number first ≡ o
     → is_some o ≡ true
-    → is_some (numbers_of (parts token)) ≡ is_some (numbers_after (after 44 token))
+    → is_some (numbers_of (parts token)) ≡ is_some (numbers_after (after_byte 44 token))
 some-first token first None is e h = absurd cc
 some-first token first (Some n) is e h = ap is_some (first_of token first n is e)
-    ∙ still (numbers_after (after 44 token))
+    ∙ still (numbers_after (after_byte 44 token))
   where
     still : (o : Option (List ℕ)) → is_some (option_map (λ (ns : List ℕ). n ∷ ns) o) ≡ is_some o
     still None = refl
@@ -90,10 +92,10 @@ some-first token first (Some n) is e h = ap is_some (first_of token first n is e
 
 -- a token is numbers where the part is a number and what follows is numbers
 pub is_some-first : (token first : List ℕ) (rest : Option (List ℕ)) → first ≡ before 44 token
-    → is_some (number_of first) ≡ true → rest ≡ after 44 token
+    → is_some (plain_number first) ≡ true → rest ≡ after_byte 44 token
     → is_some (numbers_after rest) ≡ is_some (numbers_of (parts token))
 is_some-first token first rest is one e = ap (λ (o : Option (List ℕ)). is_some (numbers_after o)) e
-    ∙ sym (some-first token first (number_of first) is refl one)
+    ∙ sym (some-first token first (plain_number first) is refl one)
 
 -- ---- the set
 

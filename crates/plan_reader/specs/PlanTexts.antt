@@ -19,31 +19,32 @@ use Rattle.plan_reader.specs.declared.plan.Plan.{Plan}
 use Rattle.plan_reader.specs.declared.plan_fault.PlanFault.{PlanFault}
 use Rattle.plan_reader.specs.declared.plan_fault.PlanFault.TheVariants as fault
 use Rattle.plan_reader.specs.declared.settings.sizes.Sizes.{Sizes}
-use Rattle.plan_reader.specs.Settings.{Settings}
+use Rattle.plan_reader.specs.Settings.{PlanSettings}
 use Rattle.plan_reader.specs.Causes.{◌>>=◌}
 use Rattle.plan_reader.specs.Faults.{here}
-use Rattle.plan_reader.specs.Readings.{number, number_below, set, list_of, required, optional}
-use Rattle.plan_reader.specs.Readings.{an_object, only, queue_of, tx_of, detach_of, key_of}
-use Rattle.plan_reader.specs.Readings.{steps_of}
+use Rattle.plan_reader.specs.Readings.{number_between, number_below, set, list_of, required}
+use Rattle.plan_reader.specs.Readings.{optional}
+use Rattle.plan_reader.specs.Readings.{an_object, only, queue_plan, tx_of, detach_of, key_of}
+use Rattle.plan_reader.specs.Readings.{read_steps}
 
 -- ---- the fields, in their order
 
 unfoldable pub receive_of : Data → Result Receive Fault
 receive_of d = do
-  cpus ← required (codes "cpus") (λ v. here (number 1 32 v)) d
-  queues ← required (codes "queues") (list_of (queue_of cpus) 1 16) d
+  cpus ← required (codes "cpus") (λ v. here (number_between 1 32 v)) d
+  queues ← required (codes "queues") (list_of (queue_plan cpus) 1 16) d
   key ← optional (codes "key") (λ v. here (key_of v)) VERIFICATION_KEY d
-  kinds ← optional (codes "kinds") (λ v. here (number 0 63 v)) 63 d
+  kinds ← optional (codes "kinds") (λ v. here (number_between 0 63 v)) 63 d
   reta ← optional (codes "reta") (list_of (λ v. here (number_below (length queues) v)) 128 128)
       (even_entries (length queues)) d
   Ok (record { cpus = cpus; queues = queues; key = key; kinds = kinds; reta = reta })
 
 unfoldable pub tables_of : ℕ → Data → Result Tables Fault
 tables_of cpus d = do
-  sock ← required (codes "sock") (λ v. here (number 0 65536 v)) d
-  filters ← optional (codes "filters") (λ v. here (number 0 4096 v)) 0 d
-  backlog ← optional (codes "backlog") (λ v. here (number 1 65536 v)) 1000 d
-  start ← optional (codes "start") (λ v. here (number 0 4294967295 v)) 0 d
+  sock ← required (codes "sock") (λ v. here (number_between 0 65536 v)) d
+  filters ← optional (codes "filters") (λ v. here (number_between 0 4096 v)) 0 d
+  backlog ← optional (codes "backlog") (λ v. here (number_between 1 65536 v)) 1000 d
+  start ← optional (codes "start") (λ v. here (number_between 0 4294967295 v)) 0 d
   limited ← optional (codes "limited") (set 32 cpus) 0 d
   Ok (record {
     sock = sock;
@@ -57,8 +58,8 @@ unfoldable pub sends_of : ℕ → ℕ → Data → Result Sends Fault
 sends_of cpus queues d = do
   apps ← required (codes "apps") (list_of (λ v. here (number_below cpus v)) 1 32) d
   tx ← required (codes "tx") (list_of (tx_of cpus queues) 1 32) d
-  workers ← optional (codes "workers") (λ v. here (number 1 32 v)) 1 d
-  tries ← optional (codes "tries") (λ v. here (number 1 64 v)) 1 d
+  workers ← optional (codes "workers") (λ v. here (number_between 1 32 v)) 1 d
+  tries ← optional (codes "tries") (λ v. here (number_between 1 64 v)) 1 d
   detach ← optional (codes "detach") (list_of detach_of 0 32) [] d
   Ok (record { apps = apps; tx = tx; workers = workers; tries = tries; detach = detach })
 
@@ -69,7 +70,7 @@ plan_keys =
     ∷ codes "filters" ∷ codes "backlog" ∷ codes "start" ∷ codes "limited" ∷ codes "apps"
     ∷ codes "tx" ∷ codes "workers" ∷ codes "tries" ∷ codes "detach" ∷ codes "steps" ∷ []
 
-abbrev pub joined : Parts → Settings
+abbrev pub joined : Parts → PlanSettings
 joined parts = record {
   cpus = parts.receive.cpus;
   queues = parts.receive.queues;
@@ -100,13 +101,13 @@ sizes_with receive sends =
     }
 
 -- the plan of a value, or the first that is wrong with it
-unfoldable pub settings_in : Data → Result Settings Fault
+unfoldable pub settings_in : Data → Result PlanSettings Fault
 settings_in d = do
   is ← an_object d
   receive ← receive_of d
   tables ← tables_of receive.cpus d
   sends ← sends_of receive.cpus (length receive.queues) d
-  steps ← required (codes "steps") (steps_of (sizes_with receive sends)) d
+  steps ← required (codes "steps") (read_steps (sizes_with receive sends)) d
   none ← only plan_keys d
   Ok (joined (record { receive = receive; tables = tables; sends = sends; steps = steps }))
 
@@ -121,7 +122,7 @@ abbrev pub json_of : Option Data → Result Data Fault
 json_of None = here (Err cause.NotJson)
 json_of (Some d) = Ok d
 
-abbrev pub settings_of_bytes : List ℕ → Result Settings Fault
+abbrev pub settings_of_bytes : List ℕ → Result PlanSettings Fault
 settings_of_bytes bytes = do
   d ← json_of (value_of bytes)
   settings_in d
@@ -141,16 +142,16 @@ named (Ok read) = Ok read
 named (Err found) = Err (named_as found.cause (drop 1 found.path))
 
 -- the plan of bytes, or their fault
-unfoldable pub plan_of : List ℕ → Result Settings PlanFault
+unfoldable pub plan_of : List ℕ → Result PlanSettings PlanFault
 plan_of bytes = named (settings_of_bytes bytes)
 
 -- what a refusal is called outside
-abbrev pub IsNamed : Refusal → PlanFault → Type 0
-IsNamed refusal.Memory named = named ≡ fault.OutOfMemory
-IsNamed (refusal.Fault found) named = named ≡ named_as found.cause (drop 1 found.path)
+abbrev pub IsNamedOutside : Refusal → PlanFault → Type 0
+IsNamedOutside refusal.Memory named = named ≡ fault.OutOfMemory
+IsNamedOutside (refusal.Fault found) named = named ≡ named_as found.cause (drop 1 found.path)
 
 -- what a plan says
-abbrev pub settings_of : Plan → Settings
+abbrev pub settings_of : Plan → PlanSettings
 settings_of plan = record {
   cpus = plan.cpus;
   queues = plan.queues;

@@ -78,9 +78,9 @@ step_is_within sizes step.Sweep = true
 step_is_within sizes (step.Give command) = command_is_within sizes command
 
 -- the steps of a list, none of a seed
-abbrev pub listed : Steps → List Step
-listed (steps.List list) = list
-listed (steps.Seed seed count) = []
+abbrev pub steps_in_list : Steps → List Step
+steps_in_list (steps.List list) = list
+steps_in_list (steps.Seed seed count) = []
 
 -- the command that a step gives
 abbrev pub command_in : Step → Option Command
@@ -89,7 +89,7 @@ command_in _ = None
 
 -- the commands of a list, in their order, and none of a seed
 abbrev pub commands_of : Steps → List Command
-commands_of steps = filter_map command_in (listed steps)
+commands_of steps = filter_map command_in (steps_in_list steps)
 
 -- the count of a seed, 0 of a list
 abbrev pub seeded_count : Steps → ℕ
@@ -97,6 +97,6 @@ seeded_count (steps.List list) = 0
 seeded_count (steps.Seed seed count) = count
 
 pub record StepsAreWithin (sizes : Sizes) (steps : Steps) : Type 0 where
-  pub list_length : length (listed steps) ≤ 1000000
-  pub list_within : AllPass (step_is_within sizes) (listed steps)
+  pub list_length : length (steps_in_list steps) ≤ 1000000
+  pub list_within : AllPass (step_is_within sizes) (steps_in_list steps)
   pub count : seeded_count steps ≤ 999999

@@ -31,8 +31,8 @@ abbrev pub whole : Data → Result ℕ Cause
 whole d = kind (option_and_then as_u64 (as_number d))
 
 -- a number from low to high
-abbrev pub number : ℕ → ℕ → Data → Result ℕ Cause
-number low high d = do
+abbrev pub number_between : ℕ → ℕ → Data → Result ℕ Cause
+number_between low high d = do
   n ← whole d
   in_range low high n
 
@@ -86,13 +86,13 @@ found read (Some d) = read d
 abbrev pub required : {A : Type 0} → List ℕ → (Data → Result A Fault) → Data → Result A Fault
 required key read d = under key (found read (get key d))
 
-abbrev pub given : {A : Type 0} → (Data → Result A Fault) → A → Option Data → Result A Fault
-given read default None = Ok default
-given read default (Some d) = read d
+abbrev pub or_default : {A : Type 0} → (Data → Result A Fault) → A → Option Data → Result A Fault
+or_default read default None = Ok default
+or_default read default (Some d) = read d
 
 -- the value at a key, or the default where it is not there
 abbrev pub optional : {A : Type 0} → List ℕ → (Data → Result A Fault) → A → Data → Result A Fault
-optional key read default d = under key (given read default (get key d))
+optional key read default d = under key (or_default read default (get key d))
 
 -- an object
 abbrev pub an_object : Data → Result ⊤ Fault
@@ -115,12 +115,12 @@ only keys d =
 -- ---- the parts of a plan
 
 -- a receive queue
-unfoldable pub queue_of : ℕ → Data → Result QueuePlan Fault
-queue_of cpus d = do
+unfoldable pub queue_plan : ℕ → Data → Result QueuePlan Fault
+queue_plan cpus d = do
   is ← an_object d
   home ← required (codes "home") (λ v. here (number_below cpus v)) d
   mask ← required (codes "mask") (set 32 cpus) d
-  flows ← required (codes "flows") (λ v. here (number 0 32768 v)) d
+  flows ← required (codes "flows") (λ v. here (number_between 0 32768 v)) d
   none ← only (codes "home" ∷ codes "mask" ∷ codes "flows" ∷ []) d
   Ok (record { home = home; mask = record { 0 = mask }; flows = flows })
 
@@ -137,8 +137,8 @@ tx_of cpus queues d = do
 unfoldable pub detach_of : Data → Result Detach Fault
 detach_of d = do
   is ← an_object d
-  tap ← required (codes "tap") (λ v. here (number 0 31 v)) d
-  after ← required (codes "after") (λ v. here (number 0 262144 v)) d
+  tap ← required (codes "tap") (λ v. here (number_between 0 31 v)) d
+  after ← required (codes "after") (λ v. here (number_between 0 262144 v)) d
   none ← only (codes "tap" ∷ codes "after" ∷ []) d
   Ok (record { tap = tap; after = after })
 
@@ -159,7 +159,7 @@ unfoldable pub seed_of : Data → Result Steps Fault
 seed_of d = do
   is ← an_object d
   seed ← required (codes "seed") (λ v. here (whole v)) d
-  count ← required (codes "count") (λ v. here (number 0 999999 v)) d
+  count ← required (codes "count") (λ v. here (number_between 0 999999 v)) d
   none ← only (codes "seed" ∷ codes "count" ∷ []) d
   Ok (steps.Seed seed count)
 
@@ -175,5 +175,5 @@ listed_or_seeded sizes (Some ds) d = listed_steps sizes ds
 listed_or_seeded sizes None d = seed_of d
 
 -- the steps: a list of texts, or an object with a seed and a count
-unfoldable pub steps_of : Sizes → Data → Result Steps Fault
-steps_of sizes d = listed_or_seeded sizes (as_array d) d
+unfoldable pub read_steps : Sizes → Data → Result Steps Fault
+read_steps sizes d = listed_or_seeded sizes (as_array d) d

@@ -9,7 +9,7 @@ use Rattle.plan_reader.specs.Ranges.{HasLength, QueueIsWithin, TxIsWithin, Detac
 use Rattle.plan_reader.specs.Ranges.{StepsAreWithin}
 
 -- what a plan says, field by field
-pub record Settings : Type 0 where
+pub record PlanSettings : Type 0 where
   pub cpus : ℕ
   pub queues : List QueuePlan
   pub key : List ℕ
@@ -28,7 +28,7 @@ pub record Settings : Type 0 where
   pub steps : Steps
 
 -- each field is within its range
-pub record IsWithin (plan : Settings) : Type 0 where
+pub record IsWithin (plan : PlanSettings) : Type 0 where
   pub some_cpu : 1 ≤ plan.cpus
   pub cpus_within : plan.cpus ≤ 32
   pub queues_length : HasLength 1 16 plan.queues

@@ -10,7 +10,7 @@ use Rattle.plan_reader.specs.declared.faults.cause.Cause.{Cause}
 use Rattle.plan_reader.specs.declared.faults.cause.Cause.TheVariants.{WrongKind}
 use Rattle.plan_reader.specs.declared.settings.sizes.Sizes.{Sizes}
 use Rattle.plan_reader.specs.Causes.{◌>>=◌, kind, below}
-use Rattle.plan_reader.specs.Texts.{number_of, set_of, merged, before, after}
+use Rattle.plan_reader.specs.Texts.{plain_number, set_of, merged, before, after_byte}
 use Rattle.plan_reader.specs.Words.{bare_step, queue_step, cpu_step, app_step, tx_step}
 
 -- a step about a number below a limit
@@ -73,26 +73,26 @@ takes_set word =
 abbrev pub two_arguments : Sizes → List ℕ → List ℕ → List ℕ → Result Step Cause
 two_arguments sizes word first second =
     if takes_set word then (do
-      number ← kind (number_of first)
+      number ← kind (plain_number first)
       members ← kind (set_of second)
       set_step sizes word number members)
     else (do
-      number ← kind (number_of first)
-      other ← kind (number_of second)
+      number ← kind (plain_number first)
+      other ← kind (plain_number second)
       pair_step sizes word number other)
 
 -- a word and one argument, or two where something follows the space behind the first
 abbrev pub some_arguments : Sizes → List ℕ → List ℕ → Option (List ℕ) → Result Step Cause
 some_arguments sizes word first None = do
-  number ← kind (number_of first)
+  number ← kind (plain_number first)
   number_step sizes word number
 some_arguments sizes word first (Some second) = two_arguments sizes word first second
 
 -- a word, and its arguments where something follows the space behind it
 abbrev pub arguments : Sizes → List ℕ → Option (List ℕ) → Result Step Cause
 arguments sizes word None = bare_step word
-arguments sizes word (Some rest) = some_arguments sizes word (before 32 rest) (after 32 rest)
+arguments sizes word (Some rest) = some_arguments sizes word (before 32 rest) (after_byte 32 rest)
 
 -- the step of a text: words with one space between them
 unfoldable pub step_of : Sizes → List ℕ → Result Step Cause
-step_of sizes text = arguments sizes (before 32 text) (after 32 text)
+step_of sizes text = arguments sizes (before 32 text) (after_byte 32 text)

@@ -8,14 +8,14 @@ use Rattle.plan_reader.specs.declared.faults.cause.Cause.{Cause}
 use Rattle.plan_reader.specs.Causes.{◌>>=◌, below}
 
 -- one to ten decimal digits without a sign
-abbrev pub number_of : List ℕ → Option ℕ
-number_of token = decimal_number 10 token
+abbrev pub plain_number : List ℕ → Option ℕ
+plain_number token = decimal_number 10 token
 
 -- every one of these tokens as a number
 abbrev pub numbers_of : List (List ℕ) → Option (List ℕ)
 numbers_of [] = Some []
 numbers_of (token ∷ tokens) =
-    option_and_then (λ n. option_map (λ ns. n ∷ ns) (numbers_of tokens)) (number_of token)
+    option_and_then (λ n. option_map (λ ns. n ∷ ns) (numbers_of tokens)) (plain_number token)
 
 -- the parts between commas
 abbrev pub parts : List ℕ → List (List ℕ)
@@ -42,7 +42,7 @@ abbrev pub before : ℕ → List ℕ → List ℕ
 before byte text = before_first (λ b. b == byte) text
 
 -- what follows the first such byte, where there is one
-abbrev pub after : ℕ → List ℕ → Option (List ℕ)
-after byte text =
+abbrev pub after_byte : ℕ → List ℕ → Option (List ℕ)
+after_byte byte text =
     if nat_lt (position_or_len (λ b. b == byte) text) (length text)
     then Some (after_first (λ b. b == byte) text) else None

@@ -2,7 +2,7 @@
 ghost use Rattle.std.specs.Prelude.{◌≡◌, ◌==◌, count_by, drop, nat_lt, Err};
 ghost use Rattle.serde_json.specs.View.{view};
 ghost use Rattle.plan_reader.specs.Faults.{GivesAs};
-ghost use Rattle.plan_reader.specs.PlanTexts.{IsNamed, json_of, value_of};
+ghost use Rattle.plan_reader.specs.PlanTexts.{IsNamedOutside, json_of, value_of};
 
 use crate::faults::cause::Cause;
 use crate::faults::fault::Refusal;
@@ -62,7 +62,7 @@ fn without_slash(path: List<u8>) -> List<u8>
 
 /// A refusal by its name.
 pub fn named(refusal: Refusal) -> PlanFault
-    ensures { IsNamed refusal result }
+    ensures { IsNamedOutside refusal result }
 {
     let fault = match refusal {
         Refusal::Memory => return PlanFault::OutOfMemory,

@@ -3,11 +3,11 @@ use Rattle.std.specs.Prelude.{ℕ, List}
 use Rattle.headline.specs.Headline.{Headline}
 use Rattle.pcap_reader.specs.declared.capture.Capture.{Capture}
 use Rattle.replay.specs.Meanings.{Meaning}
-use Rattle.replay.specs.Reports.{IsReportOf}
+use Rattle.replay.specs.Reports.{IsReportOfPlan}
 
 -- It has the headline, whatever the taps mean.
 abbrev pub EveryReportHasTheHeadline : Type 0
 EveryReportHasTheHeadline =
     (plan_bytes capture_bytes : List ℕ) (capture : Capture) (taps : List Meaning) (text : List ℕ)
-    → IsReportOf plan_bytes capture_bytes capture taps text
+    → IsReportOfPlan plan_bytes capture_bytes capture taps text
     → Headline plan_bytes capture_bytes capture text

@@ -30,7 +30,8 @@ pub record IsReplayOf (plan : Plan) (bytes : List ℕ) (capture : Capture) (taps
 
 -- A text is the report of the history that the steps of the plan give on the packets of the
 -- capture, with the texts of the taps.
-pub record IsReportOf (plan_bytes capture_bytes : List ℕ) (capture : Capture) (taps : List Meaning)
+pub record IsReportOfPlan (plan_bytes capture_bytes : List ℕ) (capture : Capture)
+    (taps : List Meaning)
     (text : List ℕ) : Type 0 where
   pub plan : Plan
   pub has_plan : HasPlan plan_bytes plan

@@ -1,7 +1,7 @@
 -- The replay of generated input in two lines.
 use Rattle.std.specs.Prelude.{◌≡◌, ℕ, List, ◌++◌, codes, decimal}
 use Rattle.cap_gen.specs.Packets.{packets_of}
-use Rattle.cap_gen.specs.PlanValues.{plan_value, step_count}
+use Rattle.cap_gen.specs.PlanValues.{plan_value, generated_step_count}
 use Rattle.pcap_reader.specs.Captures.{HasCapture}
 use Rattle.pcap_reader.specs.Writing.{capture_bytes}
 use Rattle.pcap_reader.specs.declared.capture.Capture.{Capture}
@@ -20,7 +20,7 @@ abbrev pub generated_capture : ℕ → ℕ → ℕ → List ℕ
 generated_capture seed packets flows = capture_bytes (packets_of seed flows packets)
 
 abbrev pub generated_plan : ℕ → ℕ → List ℕ
-generated_plan seed packets = compact_text (plan_value seed (step_count packets))
+generated_plan seed packets = compact_text (plan_value seed (generated_step_count packets))
 
 -- A summary is that of the history which the steps of the generated plan give on the packets of the
 -- generated capture.

@@ -1,6 +1,6 @@
 //! The packets of a capture by a plan.
 ghost use Rattle.std.specs.Prelude.{◌≤◌, All, IfOk, length};
-ghost use Rattle.pcap_reader.specs.Captures.{IsWithin};
+ghost use Rattle.pcap_reader.specs.Captures.{FrameIsWithin};
 ghost use Rattle.steer_model.specs.State.Ranges.{AreOfFlows};
 ghost use Rattle.replay.specs.Reports.{ArePacketsBy};
 
@@ -20,7 +20,7 @@ pub fn packets_by(
     bytes: &[u8],
 ) -> Result<Vec<Packet>, OutOfMemory>
     requires few { length capture.now.records ≤ 262144 }
-    requires within { All (IsWithin bytes.now) capture.now.records }
+    requires within { All (FrameIsWithin bytes.now) capture.now.records }
     ensures list { IfOk result
         (λ packets. ArePacketsBy plan.now bytes.now capture.now packets.items) }
     ensures flows { IfOk result (λ packets. AreOfFlows packets.items) }

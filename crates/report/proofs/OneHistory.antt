@@ -7,7 +7,7 @@ use Rattle.std.specs.Option.{option_map, IfSome}
 use Rattle.std.proofs.lemmas.Fmt.{decimal_injective}
 use Rattle.std.proofs.lemmas.List.Elements.{All-head, All-tail}
 use Rattle.steer_base.specs.declared.packet.Packet.{Packet}
-use Rattle.history.specs.Lines.{packet_line, reply_line, line_of_sent, sent_of, lines_of}
+use Rattle.history.specs.Lines.{packet_line, reply_line, line_of_sent, first_reply_to, lines_of}
 use Rattle.history.specs.Ranges.{FitsIn, LaneFits, WriteFits, CommandedFits, ReplyFits}
 use Rattle.history.specs.Ranges.{HaveLinesThatFit}
 use Rattle.history.specs.Regular.{has_text}
@@ -131,7 +131,7 @@ shown_by packets apps h x b None e = absurd (cc)
 shown_by packets apps h x b (Some s) e = sym (ap (λ o. shown (row_or (Tap 0 []) o)) e)
 
 shows_number : (packets : List Packet) (apps : ℕ) (h : History) → Shows (reply_line packets apps h)
-shows_number packets apps h x b e = shown_by packets apps h x b (sent_of h x) e
+shows_number packets apps h x b e = shown_by packets apps h x b (first_reply_to h x) e
 
 -- equal rows are of lines that show the same
 reply_of : (packets : List Packet) (apps : ℕ) (h k : History) (x : ℕ) (o p : Option Sent)
@@ -308,7 +308,7 @@ same_shown fit packets apps start h k texts more bytes small few a b s =
           0 n (omega (arith, small, a.regular.arrived.of_the_capture)) r x l in
           let e = subst (λ y. row_at (reply_line packets apps h) y ≡ row_at
           (reply_line packets apps k) y) z all in
-          reply_of packets apps h k x (sent_of h x) (sent_of k x)
+          reply_of packets apps h k x (first_reply_to h x) (first_reply_to k x)
           (fit packets apps h small a.regular a.numbers x).1
           (fit packets apps k small b.regular b.numbers x).1 e;
       taken = same_values (λ n. n < 2 ^ 32)

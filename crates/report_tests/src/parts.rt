@@ -1,7 +1,7 @@
 //! The packets of a capture, what a plan and they give, and the settings that commands change.
 ghost use Rattle.std.specs.Prelude.{◌≡◌};
-ghost use Rattle.steer_model.specs.State.Settings.{MayChange, changed};
-ghost use Rattle.steer_model.specs.State.Start.{settings_of};
+ghost use Rattle.steer_model.specs.State.Settings.{IsInRange, changed};
+ghost use Rattle.steer_model.specs.State.Start.{initial_settings};
 
 use crate::equal::{same, same_items};
 use pcap_reader::{put_header, put_packet, read_capture};
@@ -124,8 +124,8 @@ const SETTINGS: &[u8] = br#"{"cpus":3,"queues":[{"home":0,"mask":[0],"flows":1},
 
 // The plan's settings after one command.
 fn after(rt: &impl Abort, alloc: Global, plan: &Plan, command: Command) -> InForce
-    requires { MayChange (settings_of plan.now) command }
-    ensures { result ≡ changed (settings_of plan.now) command }
+    requires { IsInRange (initial_settings plan.now) command }
+    ensures { result ≡ changed (initial_settings plan.now) command }
 {
     let mut settings = InForce::of_plan(alloc, plan).expect(rt, "memory");
     settings.change(&command);

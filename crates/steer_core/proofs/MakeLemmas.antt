@@ -20,12 +20,12 @@ use Rattle.plan_reader.specs.declared.plan.Plan.{Plan}
 use Rattle.plan_reader.specs.declared.plan.QueuePlan.{QueuePlan}
 use Rattle.steer_model.specs.State.Settings.{Settings}
 use Rattle.steer_model.specs.State.Setup.{Setup}
-use Rattle.steer_model.specs.State.Start.{fresh_rx, fresh_tx, settings_of, setup_of}
+use Rattle.steer_model.specs.State.Start.{fresh_rx, fresh_tx, initial_settings, setup_of}
 use Rattle.steer_model.specs.declared.note.Note.{Note}
 use Rattle.steer_model.specs.declared.note.Note.TheVariants as note
 use Rattle.steer_invariant.specs.InvariantLaws.{MayStart}
 use Rattle.steer_invariant.proofs.Invariant.StartLemmas.{held-new}
-use Rattle.steer_core.specs.Running.{IsRunning, Parts, parts_of, running}
+use Rattle.steer_core.specs.Running.{IsRunning, Parts, running_parts, running}
 use Rattle.steer_core.specs.Starting.{started}
 
 -- a result that is one value is any that is equal to it
@@ -82,7 +82,8 @@ tx-is plan packets counts txs room c t r =
 -- its parts, as they are made
 abbrev new_parts : Plan → List Packet → Option ℕ → Parts
 new_parts plan packets cut =
-    parts_of (setup_of plan packets cut) (settings_of plan) (sockets.unset (settings_of plan).sock)
+    running_parts (setup_of plan packets cut) (initial_settings plan)
+    (sockets.unset (initial_settings plan).sock)
     (table.unset plan.filters) (replicate (length plan.queues) note.Nothing) (fresh_rx plan packets)
     (fresh_tx plan packets) (journal [] (length packets)) (new_journals (length plan.apps)
     (length packets))
@@ -95,15 +96,16 @@ pub are_new : (plan : Plan) (packets : List Packet) (cut : Option ℕ) (given : 
     (rx tx : HopState)
     (arrivals : Journal Arrival) (sent : Journals Sent) (writes : Journals SockWrite)
     (commands : Journal Commanded)
-    → given ≡ setup_of plan packets cut → settings ≡ settings_of plan → socket ≡ sockets.unset
-    (settings_of plan).sock
+    → given ≡ setup_of plan packets cut → settings ≡ initial_settings plan → socket ≡ sockets.unset
+    (initial_settings plan).sock
     → filters ≡ table.unset plan.filters → notes ≡ replicate (length plan.queues) note.Nothing
     → rx ≡ fresh_rx plan packets → tx ≡ fresh_tx plan packets → arrivals ≡ journal []
     (length packets)
     → sent ≡ new_journals (length plan.apps) (length packets)
     → writes ≡ new_journals (length plan.apps) (step_count plan + length packets)
     → commands ≡ journal [] (step_count plan)
-    → parts_of given settings socket filters notes rx tx arrivals sent writes commands ≡ new_parts
+    → running_parts given settings socket filters notes rx tx arrivals sent writes
+    commands ≡ new_parts
     plan packets cut
 are_new plan packets cut given settings socket filters notes rx tx arrivals sent writes commands a b
     c d e f g h i j k =

@@ -15,9 +15,9 @@ use Rattle.history.specs.Lists.{list_at}
 use Rattle.history.specs.declared.commanded.Commanded.{Commanded}
 use Rattle.steer_model.specs.Steps.Commands.{answer_to, given, is_done, listed, set_by}
 use Rattle.steer_model.specs.State.Machine.{Machine}
-use Rattle.steer_model.specs.State.Setup.{Setup, flow_hash, flow_of}
+use Rattle.steer_model.specs.State.Setup.{Setup, flow_hash, flow_number_of}
 use Rattle.steer_model.specs.Steps.SingleSteps.{simple}
-use Rattle.steer_model.specs.Steps.CompoundSteps.{Turn, drain, for_each, most_rounds, one_round}
+use Rattle.steer_model.specs.Steps.CompoundSteps.{Progress, drain, for_each, most_rounds, one_round}
 use Rattle.steer_model.specs.Steps.CompoundSteps.{poll, rounds, serve, ship, step, tried}
 use Rattle.steer_invariant.specs.Invariant.{Invariant}
 use Rattle.steer_invariant.specs.StepInvariant.{IsNamed}
@@ -36,15 +36,15 @@ use Rattle.steer_core.proofs.RecordLemmas.{record-paced}
 use Rattle.steer_core.proofs.ServeLemmas.{serve-paced}
 
 -- a machine of this setup that is held
-record Stands (p : Setup) (t : Turn) : Type 0 where
+record Stands (p : Setup) (t : Progress) : Type 0 where
   setup : t.0.setup ≡ p
   held : Invariant t.0
 
 module _ (m : Machine) (h : Invariant m) where
-  flows : (x : ℕ) → flow_of m.setup x < 262144
+  flows : (x : ℕ) → flow_number_of m.setup x < 262144
   flows x = flow_small m.setup x h.kept.given
 
-  stands-tried : (t : Turn) (s : Step) → IsTried m.setup s → Stands m.setup t → Stands m.setup
+  stands-tried : (t : Progress) (s : Step) → IsTried m.setup s → Stands m.setup t → Stands m.setup
       (tried t s)
   stands-tried t s is k =
       let named : IsNamed t.0.setup s = subst (λ (q : Setup). IsNamed q s) (sym k.setup) is.named in
@@ -56,15 +56,15 @@ module _ (m : Machine) (h : Invariant m) where
 
   -- ---- turns of applications
 
-  record Going (t : Turn) : Type 0 where
+  record Going (t : Progress) : Type 0 where
     stands : Stands m.setup t
     paced : Paced 0 0 m t.0
 
-  serves : (n : ℕ) (t : Turn) → n ≤ m.setup.apps → Going t → Going (for_each n serve t)
+  serves : (n : ℕ) (t : Progress) → n ≤ m.setup.apps → Going t → Going (for_each n serve t)
   unfolding for_each
   serves zero t few g = g
   serves (suc n) t few g =
-      let u : Turn = for_each n serve t in
+      let u : Progress = for_each n serve t in
       let before : Going u = serves n t (omega (arith, few)) g in
       let s = before.stands in
       let named : n < u.0.setup.apps = subst (λ (q : Setup). n < q.apps) (sym s.setup)
@@ -85,10 +85,10 @@ module _ (m : Machine) (h : Invariant m) where
 
   round-goes : (w : Bool) → Going (one_round (m, w))
   round-goes w =
-      let arrived : Turn = tried (m, w) act.Arrive in
-      let polled : Turn = for_each (length m.setup.homes) poll arrived in
-      let drained : Turn = for_each m.setup.cpus drain polled in
-      let served : Turn = for_each m.setup.apps serve drained in
+      let arrived : Progress = tried (m, w) act.Arrive in
+      let polled : Progress = for_each (length m.setup.homes) poll arrived in
+      let drained : Progress = for_each m.setup.cpus drain polled in
+      let served : Progress = for_each m.setup.apps serve drained in
       let sa = arrive-keeps m.setup (Stands m.setup) (λ t k. k.setup) flows stands-tried (m, w)
       (start w).stands in
       let sp = polls-keep m.setup (Stands m.setup) (λ t k. k.setup) flows stands-tried
@@ -110,14 +110,14 @@ module _ (m : Machine) (h : Invariant m) where
             (quiet-each m.setup.txs ship quiet-ship served));
       }
 
-rounds-paced : (k : ℕ) (t : Turn) → Invariant t.0 → Paced 0 0 t.0 (rounds k t).0
+rounds-paced : (k : ℕ) (t : Progress) → Invariant t.0 → Paced 0 0 t.0 (rounds k t).0
 unfolding rounds
 rounds-paced zero t h = paced-refl t.0
 rounds-paced (suc k) t h =
-    let u : Turn = one_round (t.0, false) in
+    let u : Progress = one_round (t.0, false) in
     let g = round-goes t.0 h false in
     let s = g.stands in
-    either (λ (v : Turn). Paced 0 0 t.0 v.0) u.1 (rounds k (u.0, true)) (u.0, t.1)
+    either (λ (v : Progress). Paced 0 0 t.0 v.0) u.1 (rounds k (u.0, true)) (u.0, t.1)
     (λ more. paced-trans t.0 u.0 (rounds k (u.0, true)).0 g.paced
     (rounds-paced k (u.0, true) s.held))
     (λ none. g.paced)

@@ -20,13 +20,13 @@ use Rattle.hop_core.specs.Reads.{to_weigh}
 use Rattle.hop_core.proofs.Cases.{by_cases}
 use Rattle.hop_core.proofs.Leaves.{each_leaves}
 use Rattle.steer_model.specs.Steps.Applications.{in_reply, next_in, send_by, sending}
-use Rattle.steer_model.specs.State.Machine.{Machine, last_of, note_of}
+use Rattle.steer_model.specs.State.Machine.{Machine, last_chosen, note_of}
 use Rattle.steer_model.specs.State.Notes.{is_asking, is_nothing}
-use Rattle.steer_model.specs.Steps.Outcomes.{Outcome, by_rx, idles}
-use Rattle.steer_model.specs.Steps.Pollers.{arrival_by, arrives, ask_by, look_by, position_of}
-use Rattle.steer_model.specs.Steps.Pollers.{put_by, putting}
+use Rattle.steer_model.specs.Steps.Outcomes.{StepOutcome, by_rx, idle_step}
+use Rattle.steer_model.specs.Steps.Pollers.{arrival_by, arrives, ask_by, look_by, put_position}
+use Rattle.steer_model.specs.Steps.Pollers.{poller_after_put, putting}
 use Rattle.steer_model.specs.Steps.Pollers.{route_by, weigh_by}
-use Rattle.steer_model.specs.State.Setup.{hash_of}
+use Rattle.steer_model.specs.State.Setup.{packet_hash}
 use Rattle.steer_model.specs.Steps.SingleSteps.{simple}
 use Rattle.steer_model.specs.declared.note.Note.{Note}
 use Rattle.steer_model.specs.declared.note.Note.TheVariants as note
@@ -86,7 +86,7 @@ pub record Quiet (m n : Machine) : Type 0 where
   pub commands : n.commands ≡ m.commands
   pub placed : (a : ℕ) → placed_of m.tx a ≤ placed_of n.tx a
 
-abbrev Stays : Machine → Outcome → Type 0
+abbrev Stays : Machine → StepOutcome → Type 0
 Stays m o = Quiet m o.0
 
 pub quiet-refl : (m : Machine) → Quiet m m
@@ -115,7 +115,7 @@ module _ (m : Machine) where
             ap (λ (s : HopState). placed_of s a) t in omega (arith, e);
       }
 
-  idle-stays : (o : Outcome) → o.0 ≡ m → Stays m o
+  idle-stays : (o : StepOutcome) → o.0 ≡ m → Stays m o
   idle-stays o e =
       beside o.0 (ap (λ (n : Machine). n.setup) e) (ap (λ (n : Machine). n.writes) e)
       (ap (λ (n : Machine). n.commands) e) (ap (λ (n : Machine). n.tx) e)
@@ -135,10 +135,12 @@ module _ (m : Machine) where
       beside (weigh_by m q (note.Looked want) (Some x)).0 refl refl refl refl
 
   quiet-put : (q : ℕ) (position : Option ℕ)
-      → Stays m (put_by (by_rx m (putting m q)).0 q position (happens m.rx (putting m q)).1)
+      → Stays m (poller_after_put (by_rx m (putting m q)).0 q position
+      (happens m.rx (putting m q)).1)
   quiet-put q None = beside (by_rx m (putting m q)).0 refl refl refl refl
   quiet-put q (Some position) =
-      beside (put_by (by_rx m (putting m q)).0 q (Some position) (happens m.rx (putting m q)).1).0
+      beside (poller_after_put (by_rx m (putting m q)).0 q (Some position)
+      (happens m.rx (putting m q)).1).0
       refl refl refl refl
 
   quiet-ask : (q : ℕ) (n : Note) → Stays m (ask_by m q n)
@@ -161,10 +163,10 @@ module _ (m : Machine) where
       }
 
   -- the poller is outside, or a further test decides
-  outside-or : (q : ℕ) (o : Outcome) → Stays m o → Stays m (cond (not (inside_of m.rx q))
-      (idles m idle.NotInside) o)
+  outside-or : (q : ℕ) (o : StepOutcome) → Stays m o → Stays m (cond (not (inside_of m.rx q))
+      (idle_step m idle.NotInside) o)
   outside-or q o s =
-      either (Stays m) (not (inside_of m.rx q)) (idles m idle.NotInside) o (λ out. quiet-refl m)
+      either (Stays m) (not (inside_of m.rx q)) (idle_step m idle.NotInside) o (λ out. quiet-refl m)
       (λ in'. s)
 
 -- whether a step is one event, and no record
@@ -176,39 +178,41 @@ is_quiet _ = true
 pub quiet-simple : (m : Machine) (s : Step) → is_quiet s ≡ true → Quiet m (simple m s).0
 quiet-simple m act.Arrive is =
     either (Stays m) (nat_lt (length m.arrivals) (length m.setup.packets)) (
-      arrives m (arrival_by (length m.arrivals) (route_by m (hash_of m.setup (length m.arrivals)))),
+      arrives m (arrival_by (length m.arrivals)
+          (route_by m (packet_hash m.setup (length m.arrivals)))),
       says.Done,
     )
-    (idles m idle.NothingLeft)
+    (idle_step m idle.NothingLeft)
     (λ some. beside m _ refl refl refl refl) (λ none. quiet-refl m)
 quiet-simple m (act.Take q) is =
-    either (Stays m) (is_asking (note_of m q)) (idles m idle.HandFull) (by_rx m (event.Take q))
+    either (Stays m) (is_asking (note_of m q)) (idle_step m idle.HandFull) (by_rx m (event.Take q))
     (λ asks. quiet-refl m) (λ quiet. beside m _ refl refl refl refl)
 quiet-simple m (act.Enter q) is = beside m _ refl refl refl refl
 quiet-simple m (act.Look q) is =
     outside-or m q _
     (either (Stays m) (is_nothing (note_of m q)) (look_by m q (to_weigh m.rx q))
-    (idles m idle.WrongStage)
+    (idle_step m idle.WrongStage)
     (λ free. quiet-look m q (to_weigh m.rx q)) (λ busy. quiet-refl m))
 quiet-simple m (act.Weigh q) is = outside-or m q _ (quiet-weigh m q (note_of m q) (to_weigh m.rx q))
-quiet-simple m (act.Put q) is = quiet-put m q (position_of (happens m.rx (putting m q)).1)
+quiet-simple m (act.Put q) is = quiet-put m q (put_position (happens m.rx (putting m q)).1)
 quiet-simple m (act.Ask q) is = outside-or m q _ (quiet-ask m q (note_of m q))
 quiet-simple m (act.Leave q) is =
     outside-or m q _
-    (either (Stays m) (is_nothing (note_of m q)) (by_rx m (event.Leave q)) (idles m idle.MidPacket)
+    (either (Stays m) (is_nothing (note_of m q)) (by_rx m (event.Leave q))
+    (idle_step m idle.MidPacket)
     (λ free. beside m _ refl refl refl refl) (λ busy. quiet-refl m))
 quiet-simple m (act.Pull c) is = beside m _ refl refl refl refl
 quiet-simple m (act.Deliver c) is = beside m _ refl refl refl refl
 quiet-simple m (act.Retire c) is = beside m _ refl refl refl refl
 quiet-simple m (act.Record flow) is = absurd (cc)
 quiet-simple m (act.Send a) is =
-    either (Stays m) (nat_lt (placed_of m.tx a) (taken_of m.tx a)) (idles m idle.HandFull)
+    either (Stays m) (nat_lt (placed_of m.tx a) (taken_of m.tx a)) (idle_step m idle.HandFull)
     (send_by m a (next_in m a))
     (λ full. quiet-refl m) (λ free. quiet-send m a (next_in m a))
 quiet-simple m (act.TEnter a) is = by-tx m (event.Enter a)
 quiet-simple m (act.TLeave a) is = by-tx m (event.Leave a)
 quiet-simple m (act.TWeigh a) is = by-tx m (sending m a (in_reply m a))
-quiet-simple m (act.TPut a) is = by-tx m (event.Put a (hash_of m.setup (last_of m.tx a).id))
+quiet-simple m (act.TPut a) is = by-tx m (event.Put a (packet_hash m.setup (last_chosen m.tx a).id))
 quiet-simple m (act.TPull t) is = by-tx m (event.Pull t)
 quiet-simple m (act.TDeliver t) is = by-tx m (event.Deliver t 0)
 quiet-simple m (act.TRetire t) is = by-tx m (event.Retire t)

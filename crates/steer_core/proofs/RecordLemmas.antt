@@ -23,8 +23,8 @@ use Rattle.history.proofs.FindingLemmas.{found-here, found-past}
 use Rattle.steer_model.specs.Steps.Applications.{record_by, record_hash, visited, write_of, wrote}
 use Rattle.steer_model.specs.State.Ranges.{AreOfFlows}
 use Rattle.steer_model.specs.State.Machine.{Machine}
-use Rattle.steer_model.specs.Steps.Outcomes.{Outcome, idles}
-use Rattle.steer_model.specs.State.Setup.{Setup, flow_hash, flow_of, hash_of}
+use Rattle.steer_model.specs.Steps.Outcomes.{StepOutcome, idle_step}
+use Rattle.steer_model.specs.State.Setup.{Setup, flow_hash, flow_number_of, packet_hash}
 use Rattle.steer_invariant.proofs.EitherLemmas.{either}
 use Rattle.steer_core.proofs.Paced.{Paced}
 
@@ -66,9 +66,9 @@ first-found (x ∷ xs) (suc i) n lt is =
 
 -- the hash of the flow of a packet is that of the packet
 pub flow-hash : (p : Setup) (x : ℕ) → AreOfFlows p.packets → x < length p.packets
-    → flow_hash p (flow_of p x) ≡ Some (hash_of p x)
+    → flow_hash p (flow_number_of p x) ≡ Some (packet_hash p x)
 flow-hash p x flows lt =
-    let r = first-found p.packets x (flow_of p x) lt refl in
+    let r = first-found p.packets x (flow_number_of p x) lt refl in
     ap (option_map (λ (q : Packet). q.hash)) r.2 ∙ ap Some (flows.one_hash r.0 x r.1 lt r.3)
 
 -- ---- what is written
@@ -123,8 +123,8 @@ wrote-hash : (m : Machine) (hash : ℕ) → Wrote m (record_hash m hash).0 (hash
 wrote-hash m hash =
     let b : ℕ = hash % m.setup.apps in
     let n : Machine = wrote (visited m b) b hash in
-    either (λ (o : Outcome). Wrote m o.0 b) (nat_lt 0 (length m.socket)) (n, says.Done)
-    (idles m idle.NoTable)
+    either (λ (o : StepOutcome). Wrote m o.0 b) (nat_lt 0 (length m.socket)) (n, says.Done)
+    (idle_step m idle.NoTable)
     (λ some. record {
       setup = refl;
       commands = refl;

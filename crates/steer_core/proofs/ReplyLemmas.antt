@@ -18,11 +18,11 @@ use Rattle.hop_core.proofs.Lists.{length-push}
 use Rattle.history.specs.declared.sent.Sent.{Sent}
 use Rattle.steer_model.specs.Steps.Applications.{everyone, in_reply, next_in, pick_for, send_by}
 use Rattle.steer_model.specs.Steps.Applications.{sending}
-use Rattle.steer_model.specs.State.Machine.{Machine, last_of}
-use Rattle.steer_model.specs.Steps.Outcomes.{Outcome, idles}
-use Rattle.steer_model.specs.State.Setup.{flow_of, hash_of}
+use Rattle.steer_model.specs.State.Machine.{Machine, last_chosen}
+use Rattle.steer_model.specs.Steps.Outcomes.{StepOutcome, idle_step}
+use Rattle.steer_model.specs.State.Setup.{flow_number_of, packet_hash}
 use Rattle.steer_model.specs.Steps.SingleSteps.{simple}
-use Rattle.steer_model.specs.Steps.CompoundSteps.{Turn, reply, replying}
+use Rattle.steer_model.specs.Steps.CompoundSteps.{Progress, reply, replying}
 use Rattle.steer_invariant.specs.StepInvariant.{StepInvariant}
 use Rattle.steer_invariant.proofs.EitherLemmas.{either}
 use Rattle.steer_core.proofs.ReplyHops.{enters, puts, takes, weighs}
@@ -61,8 +61,8 @@ sent-fills : (m : Machine) (a x : ℕ) → a < length m.tx.arrivals → a < leng
     → replying m a ≡ Some x
     → Filled m.tx (simple m (act.Send a)).0.tx a
 sent-fills m a x named long whole upto is =
-    let Q : Outcome → Type 0 = λ o. Filled m.tx o.0.tx a in
-    either Q (nat_lt (placed_of m.tx a) (taken_of m.tx a)) (idles m idle.HandFull)
+    let Q : StepOutcome → Type 0 = λ o. Filled m.tx o.0.tx a in
+    either Q (nat_lt (placed_of m.tx a) (taken_of m.tx a)) (idle_step m idle.HandFull)
     (send_by m a (next_in m a))
     (λ full. record { choices = refl; placed = refl; visits = refl; full = ltb-true _ _ full })
     (λ free. (
@@ -124,7 +124,7 @@ reply-puts m a x w named k is =
     let e : HopEvent = sending two a reply2 in
     let three : Machine = (simple two (act.TWeigh a)).0 in
     let more3 : placed_of two.tx a < length (choices_of three.tx a) =
-    weighs two.tx a (Some (flow_of two.setup reply2.id)) (Some (pick_for two reply2))
+    weighs two.tx a (Some (flow_number_of two.setup reply2.id)) (Some (pick_for two reply2))
     (pick_for two reply2) everyone
     (omega (arith, named, z.apps, wide.choices, h2)) inside2 (omega (arith, p2, p1, put, c2, c1'))
     (omega (arith, p2, full)) in
@@ -135,7 +135,7 @@ reply-puts m a x w named k is =
     let p3 : placed_of three.tx a ≡ placed_of two.tx a =
     ap (λ (l : List ℕ). slice_index l a) placed3 in
     let q3 : length three.tx.placed ≡ length two.tx.placed = ap length placed3 in
-    let hash : Option ℕ = hash_of three.setup (last_of three.tx a).id in
+    let hash : Option ℕ = packet_hash three.setup (last_chosen three.tx a).id in
     let four : Machine = (simple three (act.TPut a)).0 in
     let p4 : placed_of four.tx a ≡ placed_of three.tx a + 1 =
     puts three.tx a hash (omega (arith, named, z.apps, wide.placed, q2, q3)) inside3

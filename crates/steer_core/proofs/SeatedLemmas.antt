@@ -7,14 +7,14 @@ use Rattle.steer_base.specs.declared.filter.Filter.{Filter}
 use Rattle.steer_model.specs.State.Machine.{Machine}
 use Rattle.steer_invariant.specs.Invariant.{Invariant}
 use Rattle.steer_invariant.proofs.Invariant.EventPremiseLemmas.{held_is_seated}
-use Rattle.steer_core.specs.OldFilters.{IsSeated}
+use Rattle.steer_core.specs.OldFilters.{FilterIsSeated}
 
 seated-if : (m : Machine) (i : ℕ) (o : Option Filter) → slice_index_or m.filters i None ≡ o
     → Invariant m
-    → IsSeated m.rx m.settings o
+    → FilterIsSeated m.rx m.settings o
 seated-if m i None is h = tt
 seated-if m i (Some filter) is h =
     let s = held_is_seated m h i filter is in (s.processor, s.queue, s.flows)
 
-pub seated : (m : Machine) → Invariant m → All (IsSeated m.rx m.settings) m.filters
+pub seated : (m : Machine) → Invariant m → All (FilterIsSeated m.rx m.settings) m.filters
 seated m h i d lt = seated-if m i _ (get_or_default m.filters i None d lt) h

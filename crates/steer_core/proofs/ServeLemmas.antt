@@ -14,9 +14,10 @@ use Rattle.history.specs.Lists.{app_at, list_at}
 use Rattle.history.specs.declared.sent.Sent.{Sent}
 use Rattle.steer_model.specs.Steps.Applications.{next_in, nothing_sent, record_by, sent_of}
 use Rattle.steer_model.specs.State.Machine.{Machine}
-use Rattle.steer_model.specs.State.Setup.{flow_hash, flow_of, hash_of}
+use Rattle.steer_model.specs.State.Setup.{flow_hash, flow_number_of, packet_hash}
 use Rattle.steer_model.specs.Steps.SingleSteps.{simple}
-use Rattle.steer_model.specs.Steps.CompoundSteps.{Turn, recorded, reply, replying, serve, tried}
+use Rattle.steer_model.specs.Steps.CompoundSteps.{Progress, with_record, reply, replying, serve}
+use Rattle.steer_model.specs.Steps.CompoundSteps.{tried}
 use Rattle.steer_invariant.specs.Invariant.{Invariant}
 use Rattle.steer_invariant.specs.StepInvariant.{StepInvariant}
 use Rattle.steer_invariant.proofs.EitherLemmas.{either}
@@ -86,14 +87,14 @@ hash-of-app hash o apps a e is = sym (ap (λ (h : Option ℕ). app_of h apps) e)
 
 -- the hash of its flow leads to the application itself
 own-app : (m : Machine) (a x hash : ℕ) → Invariant m → InInbox m a x
-    → flow_hash m.setup (flow_of m.setup x) ≡ Some (Some hash) → hash % m.setup.apps ≡ a
+    → flow_hash m.setup (flow_number_of m.setup x) ≡ Some (Some hash) → hash % m.setup.apps ≡ a
 own-app m a x hash h in' is =
     let k = h.kept in
     let own : app_at m.setup.packets m.setup.apps x ≡ a =
     subst (λ y. app_at m.setup.packets m.setup.apps y ≡ a) in'.2 (h.recorded.own a in'.0 0 in'.1) in
-    let same : Some (hash_of m.setup x) ≡ Some (Some hash) =
+    let same : Some (packet_hash m.setup x) ≡ Some (Some hash) =
     sym (flow-hash m.setup x k.given.flows (inbox-below m a x k in')) ∙ is in
-    hash-of-app hash (hash_of m.setup x) m.setup.apps a
+    hash-of-app hash (packet_hash m.setup x) m.setup.apps a
     (ap (λ (o : Option (Option ℕ)). inner o) same) own
   where
     inner : Option (Option ℕ) → Option ℕ
@@ -104,12 +105,12 @@ own-app m a x hash h in' is =
 
 served : (m : Machine) (a : ℕ) (w : Bool) (o : Option ℕ) → replying m a ≡ o → a < m.setup.apps
     → Invariant m
-    → Paced 0 0 m (reply a (recorded o (m, w))).0
+    → Paced 0 0 m (reply a (with_record o (m, w))).0
 served m a w None is named h = quiet-paced m _ (quiet-reply a (m, w))
 served m a w (Some x) is named h =
     let k = h.kept in
-    let flow : ℕ = flow_of m.setup x in
-    let t : Turn = tried (m, w) (act.Record flow) in
+    let flow : ℕ = flow_number_of m.setup x in
+    let t : Progress = tried (m, w) (act.Record flow) in
     let n : Machine = t.0 in
     let in' = replied-in m a x k is in
     let wrote : Wrote m n a =
@@ -149,6 +150,6 @@ served m a w (Some x) is named h =
           omega (arith, c, d));
     }
 
-pub serve-paced : (a : ℕ) (t : Turn) → a < t.0.setup.apps → Invariant t.0 → Paced 0 0 t.0
+pub serve-paced : (a : ℕ) (t : Progress) → a < t.0.setup.apps → Invariant t.0 → Paced 0 0 t.0
     (serve a t).0
 serve-paced a t named h = served t.0 a t.1 (replying t.0 a) refl named h

@@ -3,65 +3,68 @@ use Rattle.std.proofs.Common.{ℕ, ◌+◌, ◌-◌, ◌<◌, ◌≤◌, ◌≡�
 use Rattle.std.proofs.Common.{refl, ap, ◌∙◌, sym, add-one, arith}
 use Rattle.steer_base.specs.declared.step.Step.{Step}
 use Rattle.steer_model.specs.State.Machine.{Machine}
-use Rattle.steer_model.specs.Steps.CompoundSteps.{Turn, again, for_each, one_round, rounds, tries}
+use Rattle.steer_model.specs.Steps.CompoundSteps.{Progress, again, for_each, one_round, rounds}
+use Rattle.steer_model.specs.Steps.CompoundSteps.{tries}
 
-again-none : (ss : List Step) (t : Turn) → again 0 ss t ≡ t
+again-none : (ss : List Step) (t : Progress) → again 0 ss t ≡ t
 unfolding again
 again-none ss t = refl
 
-again-last : (n : ℕ) (ss : List Step) (t : Turn) → again (suc n) ss t ≡ tries (again n ss t) ss
+again-last : (n : ℕ) (ss : List Step) (t : Progress) → again (suc n) ss t ≡ tries (again n ss t) ss
 unfolding again
 again-last zero ss t = refl
 again-last (suc n) ss t = again-last n ss (tries t ss)
 
-again-more : (n : ℕ) (ss : List Step) (t : Turn) → again (n + 1) ss t ≡ tries (again n ss t) ss
+again-more : (n : ℕ) (ss : List Step) (t : Progress) → again (n + 1) ss t ≡ tries (again n ss t) ss
 again-more n ss t = ap (λ k. again k ss t) (add-one n) ∙ again-last n ss t
 
 -- a loop of the same steps starts, and goes once more
-pub again-start : (ss : List Step) (t : Turn) → t ≡ again 0 ss t
+pub again-start : (ss : List Step) (t : Progress) → t ≡ again 0 ss t
 again-start ss t = sym (again-none ss t)
 
-pub again-then : (n : ℕ) (ss : List Step) (t u v : Turn) → u ≡ again n ss t → v ≡ tries u ss
+pub again-then : (n : ℕ) (ss : List Step) (t u v : Progress) → u ≡ again n ss t → v ≡ tries u ss
     → v ≡ again (n + 1) ss t
-again-then n ss t u v before step = step ∙ ap (λ (t : Turn). tries t ss) before
+again-then n ss t u v before step = step ∙ ap (λ (t : Progress). tries t ss) before
     ∙ sym (again-more n ss t)
 
 -- a loop over actors starts, and comes to the next one
-pub each-start : (f : ℕ → Turn → Turn) (t : Turn) → t ≡ for_each 0 f t
+pub each-start : (f : ℕ → Progress → Progress) (t : Progress) → t ≡ for_each 0 f t
 unfolding for_each
 each-start f t = refl
 
-each-more : (n : ℕ) (f : ℕ → Turn → Turn) (t : Turn) → for_each (suc n) f t ≡ f n (for_each n f t)
+each-more : (n : ℕ) (f : ℕ → Progress → Progress) (t : Progress) → for_each (suc n) f t ≡ f n
+    (for_each n f t)
 unfolding for_each
 each-more n f t = refl
 
-pub each-then : (n : ℕ) (f : ℕ → Turn → Turn) (t u v : Turn) → u ≡ for_each n f t → v ≡ f n u
+pub each-then : (n : ℕ) (f : ℕ → Progress → Progress) (t u v : Progress) → u ≡ for_each n f t
+    → v ≡ f n u
     → v ≡ for_each (n + 1) f t
 each-then n f t u v before step =
     step ∙ ap (f n) before ∙ sym (ap (λ k. for_each k f t) (add-one n) ∙ each-more n f t)
 
 -- ---- rounds
 
-rounds-done : (t : Turn) → rounds 0 t ≡ t
+rounds-done : (t : Progress) → rounds 0 t ≡ t
 unfolding rounds
 rounds-done t = refl
 
-by-round : (k : ℕ) (m n : Machine) (w b : Bool) → ◌≡◌ {A = Turn} (n, b) (one_round (m, false))
+by-round : (k : ℕ) (m n : Machine) (w b : Bool) → ◌≡◌ {A = Progress} (n, b) (one_round (m, false))
     → rounds (suc k) (m, w) ≡ cond b (rounds k (n, true)) (n, w)
 unfolding rounds
 by-round k m n w b is =
-    sym (ap (λ (t : Turn). cond t.1 (rounds k (t.0, true)) (t.0, w)) is)
+    sym (ap (λ (t : Progress). cond t.1 (rounds k (t.0, true)) (t.0, w)) is)
 
 left-suc : (most i : ℕ) → i < most → most - i ≡ suc (most - (i + 1))
 left-suc most i lt = omega (arith, lt)
 
 -- a loop of rounds starts
-pub rounds-start : (most : ℕ) (t : Turn) → rounds (most - 0) t ≡ rounds most t
+pub rounds-start : (most : ℕ) (t : Progress) → rounds (most - 0) t ≡ rounds most t
 rounds-start most t = ap (λ k. rounds k t) (omega arith)
 
 -- a round with work is one round less to go
-pub rounds-on : (most i : ℕ) (m n : Machine) (w b : Bool) (goal : Turn) → i < most
-    → ◌≡◌ {A = Turn} (n, b) (one_round (m, false)) → b ≡ true → rounds (most - i) (m, w) ≡ goal
+pub rounds-on : (most i : ℕ) (m n : Machine) (w b : Bool) (goal : Progress) → i < most
+    → ◌≡◌ {A = Progress} (n, b) (one_round (m, false)) → b ≡ true → rounds (most - i) (m, w) ≡ goal
     → rounds (most - (i + 1)) (n, true) ≡ goal
 rounds-on most i m n w b goal lt is more before =
     let k : ℕ = most - (i + 1) in
@@ -69,16 +72,16 @@ rounds-on most i m n w b goal lt is more before =
     ∙ sym (ap (λ j. rounds j (m, w)) (left-suc most i lt)) ∙ before
 
 -- one without is the last
-pub rounds-off : (most i : ℕ) (m n : Machine) (w b : Bool) (goal : Turn) → i < most
-    → ◌≡◌ {A = Turn} (n, b) (one_round (m, false)) → b ≡ false → rounds (most - i) (m, w) ≡ goal
-    → ◌≡◌ {A = Turn} (n, w) goal
+pub rounds-off : (most i : ℕ) (m n : Machine) (w b : Bool) (goal : Progress) → i < most
+    → ◌≡◌ {A = Progress} (n, b) (one_round (m, false)) → b ≡ false → rounds (most - i) (m, w) ≡ goal
+    → ◌≡◌ {A = Progress} (n, w) goal
 rounds-off most i m n w b goal lt is none before =
     let k : ℕ = most - (i + 1) in
     sym (ap (λ c. cond c (rounds k (n, true)) (n, w)) none) ∙ sym (by-round k m n w b is)
     ∙ sym (ap (λ j. rounds j (m, w)) (left-suc most i lt)) ∙ before
 
 -- and there are no more
-pub rounds-end : (most i : ℕ) (t goal : Turn) → most ≤ i → rounds (most - i) t ≡ goal → t ≡ goal
+pub rounds-end : (most i : ℕ) (t goal : Progress) → most ≤ i → rounds (most - i) t ≡ goal → t ≡ goal
 rounds-end most i t goal past before =
     sym (rounds-done t) ∙ sym (ap (λ k. rounds k t) (none-left most i past)) ∙ before
   where

@@ -18,8 +18,8 @@ abbrev pub kept_of : HopState → Settings → Option Filter → Option Filter
 kept_of rx now filter = if is_old rx now filter then None else filter
 
 -- a filter names a processor and a queue that there are, with a flow count in its range
-abbrev pub IsSeated : HopState → Settings → Option Filter → Type 0
-IsSeated rx now None = Unit {0}
-IsSeated rx now (Some filter) =
+abbrev pub FilterIsSeated : HopState → Settings → Option Filter → Type 0
+FilterIsSeated rx now None = Unit {0}
+FilterIsSeated rx now (Some filter) =
     (filter.cpu < length rx.bare.accepted) × (filter.queue < length now.counts)
     × (slice_index now.counts filter.queue ≤ 32768)

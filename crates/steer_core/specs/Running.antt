@@ -36,10 +36,10 @@ pub record Parts : Type 0 where
   pub writes : Journals SockWrite
   pub commands : Journal Commanded
 
-abbrev pub parts_of : Setup → Settings → List (Option ℕ) → List (Option Filter) → List Note
+abbrev pub running_parts : Setup → Settings → List (Option ℕ) → List (Option Filter) → List Note
     → HopState → HopState → Journal Arrival → Journals Sent → Journals SockWrite
     → Journal Commanded → Parts
-parts_of given settings socket filters notes rx tx arrivals sent writes commands =
+running_parts given settings socket filters notes rx tx arrivals sent writes commands =
     record {
       given = given;
       settings = settings;

@@ -29,7 +29,7 @@ stepped r s = record r { machine = (step r.machine s).0; made = r.made + 1 }
 -- The lists of commands and of writes are no longer than the steps that were made allow: a step
 -- gives one command at most, and each write is that of a step or goes before a reply. So what was
 -- reserved is enough.
-pub record IsCounted (running : Running) (made steps : ℕ) : Type 0 where
+pub record HaveRoomForSteps (running : Running) (made steps : ℕ) : Type 0 where
   pub within : made ≤ steps
   pub room_for_commands : running.rooms.commands ≡ steps
   pub room_for_writes : running.rooms.writes ≡ steps + length running.machine.setup.packets

@@ -49,14 +49,15 @@ pub struct Actors {
 }
 
 impl Model for Actors {
-    ghost use Rattle.steer_core.specs.Running.{IsRunning, Running, parts_of, running};
+    ghost use Rattle.steer_core.specs.Running.{IsRunning, Running, running_parts, running};
 
     ghost Value = { Running };
 
-    ghost view = { λ m. running (parts_of m.given m.settings m.socket m.filters m.notes.items m.rx
+    ghost view = { λ m. running (running_parts m.given m.settings m.socket m.filters m.notes.items
+        m.rx
         m.tx m.arrivals m.sent m.writes m.commands) };
 
-    ghost invariant = { λ m. IsRunning (parts_of m.given m.settings m.socket m.filters
+    ghost invariant = { λ m. IsRunning (running_parts m.given m.settings m.socket m.filters
         m.notes.items m.rx m.tx m.arrivals m.sent m.writes m.commands) };
 }
 

@@ -24,7 +24,7 @@ pub struct Steering {
 }
 
 impl Model for Steering {
-    ghost use Rattle.steer_core.specs.Runs.{IsCounted, Run};
+    ghost use Rattle.steer_core.specs.Runs.{HaveRoomForSteps, Run};
 
     ghost Value = { Run };
 
@@ -34,7 +34,7 @@ impl Model for Steering {
       steps = s.steps;
     } };
 
-    ghost invariant = { λ s. IsCounted s.actors s.made s.steps };
+    ghost invariant = { λ s. HaveRoomForSteps s.actors s.made s.steps };
 }
 
 impl Steering {

@@ -19,7 +19,7 @@ use Rattle.history.specs.Lists.{accepted_lists, drop_ids, dropped_lists, lane_at
 use Rattle.history.specs.Regular.{HasChoice}
 use Rattle.history.proofs.BoundLemmas.{in-index}
 use Rattle.history.proofs.SamePlaces.{place-index, same_lists}
-use Rattle.steer_model.specs.State.Machine.{lane_list, lane_lists}
+use Rattle.steer_model.specs.State.Machine.{lane_list, history_lanes}
 use Rattle.steer_invariant.proofs.ListedLemmas.{found-at, is_among-at, prefix-by_items}
 
 module _ (s : HopState) (h : Sound s) where
@@ -40,29 +40,29 @@ module _ (s : HopState) (h : Sound s) where
       get_or-eq_default s.bare.retired 0 (omega (arith, l, w.retired)) in
       rw (a, d, p, e, r) refl
 
-  pub lists-long : length (lane_lists s.bare) ≡ length s.bare.accepted
+  pub lists-long : length (history_lanes s.bare) ≡ length s.bare.accepted
   lists-long = length-map-range_with_len (lane_list s.bare) 0 (length s.bare.accepted)
 
-  pub lane-is : (c : ℕ) → lane_at (lane_lists s.bare) c ≡ lane_list s.bare c
+  pub lane-is : (c : ℕ) → lane_at (history_lanes s.bare) c ≡ lane_list s.bare c
   lane-is c =
       elim (cases_lt c (length s.bare.accepted)) [
         | inl l ↦
             get_or-map-range_with_len (lane_list s.bare) 0 (length s.bare.accepted) c c no_lane l
             (omega arith)
         | inr l ↦
-            get_or-eq_default (lane_lists s.bare) no_lane (omega (arith, l, lists-long))
+            get_or-eq_default (history_lanes s.bare) no_lane (omega (arith, l, lists-long))
             ∙ sym (lane-beyond c l)
       ]
 
-  accepted-is : (c : ℕ) → (lane_at (lane_lists s.bare) c).accepted ≡ accepted_at s.bare c
+  accepted-is : (c : ℕ) → (lane_at (history_lanes s.bare) c).accepted ≡ accepted_at s.bare c
   accepted-is c = ap (λ lane. lane.accepted) (lane-is c)
 
-  pub fallen-is : (c : ℕ) → drop_ids (lane_at (lane_lists s.bare) c) ≡ fell_at s.bare c
+  pub fallen-is : (c : ℕ) → drop_ids (lane_at (history_lanes s.bare) c) ≡ fell_at s.bare c
   fallen-is c = ap drop_ids (lane-is c)
 
-  all-accepted : accepted_lists (lane_lists s.bare) ≡ s.bare.accepted
+  all-accepted : accepted_lists (history_lanes s.bare) ≡ s.bare.accepted
   all-accepted =
-      let lanes = lane_lists s.bare in
+      let lanes = history_lanes s.bare in
       let long : length (accepted_lists lanes) ≡ length s.bare.accepted =
       length-map lanes (λ lane. lane.accepted) ∙ lists-long in
       same_lists [] (accepted_lists lanes) s.bare.accepted long
@@ -70,10 +70,10 @@ module _ (s : HopState) (h : Sound s) where
       (omega (arith, l, long, lists-long))
       ∙ accepted-is i)
 
-  all-fallen : dropped_lists (lane_lists s.bare) ≡ fallen s.bare
+  all-fallen : dropped_lists (history_lanes s.bare) ≡ fallen s.bare
   all-fallen =
       let w = h.wide in
-      let lanes = lane_lists s.bare in
+      let lanes = history_lanes s.bare in
       let left : length (dropped_lists lanes) ≡ length s.bare.accepted =
       length-map lanes drop_ids ∙ lists-long in
       let right : length (fallen s.bare) ≡ length s.bare.accepted =
@@ -124,23 +124,24 @@ module _ (s : HopState) (h : Sound s) where
       let found = ap (λ y. choice_in y (choices_of s w.0)) (sym id) ∙ chosen-once w.0 w.1 l in
       (w.0, (chosen_at (choices_of s w.0) w.1).choice, found, w.4)
 
-  pub accepted-choice : (c x : ℕ) → is_in x (lane_at (lane_lists s.bare) c).accepted ≡ true
+  pub accepted-choice : (c x : ℕ) → is_in x (lane_at (history_lanes s.bare) c).accepted ≡ true
       → HasChoice s.choices x c
   accepted-choice c x is =
       put-choice (accepted_at s.bare) c x h.puts (sym (ap (is_in x) (accepted-is c)) ∙ is)
 
-  pub fallen-choice : (c x : ℕ) → is_in x (drop_ids (lane_at (lane_lists s.bare) c)) ≡ true
+  pub fallen-choice : (c x : ℕ) → is_in x (drop_ids (lane_at (history_lanes s.bare) c)) ≡ true
       → HasChoice s.choices x c
   fallen-choice c x is =
       put-choice (fell_at s.bare) c x h.falls (sym (ap (is_in x) (fallen-is c)) ∙ is)
 
   -- ---- places
 
-  pub all-apart : Apart (accepted_lists (lane_lists s.bare) ++ dropped_lists (lane_lists s.bare))
+  pub all-apart : Apart (accepted_lists (history_lanes s.bare) ++ dropped_lists
+      (history_lanes s.bare))
   all-apart =
       subst Apart (λ i. sym all-accepted i ++ sym all-fallen i) (HasPlaces-from s h).lanes
 
-  pub accepted-apart : Apart (accepted_lists (lane_lists s.bare))
+  pub accepted-apart : Apart (accepted_lists (history_lanes s.bare))
   accepted-apart =
       subst Apart (sym all-accepted) (λ p q i j pl ql ip jq e. h.places.once p q i j ip jq e)
 
@@ -150,8 +151,8 @@ module _ (s : HopState) (h : Sound s) where
   -- what is in an out lane was delivered by a lane
   pub delivered-by : (o x : ℕ) → is_in x (out_at s.bare o) ≡ true
       → (c : ℕ)
-      × (is_among (lane_at (lane_lists s.bare) c).delivered x
-      (lane_at (lane_lists s.bare) c).accepted ≡ true)
+      × (is_among (lane_at (history_lanes s.bare) c).delivered x
+      (lane_at (history_lanes s.bare) c).accepted ≡ true)
   delivered-by o x is =
       let at = place-index x (out_at s.bare o) is in
       let w = h.places.from o at.0 at.1 in
@@ -165,7 +166,7 @@ module _ (s : HopState) (h : Sound s) where
       (w.0, rw (lane-is w.0) (same ∙ among))
 
   pub accepted-by : (o x : ℕ) → is_in x (out_at s.bare o) ≡ true
-      → (c : ℕ) × (is_in x (lane_at (lane_lists s.bare) c).accepted ≡ true)
+      → (c : ℕ) × (is_in x (lane_at (history_lanes s.bare) c).accepted ≡ true)
   accepted-by o x is =
       let at = place-index x (out_at s.bare o) is in
       let w = h.places.from o at.0 at.1 in
@@ -178,9 +179,9 @@ module _ (s : HopState) (h : Sound s) where
 
   -- of a packet in an out lane, the lane that accepted it is the one that delivered it
   pub delivered-at : (o c x : ℕ) → is_in x (out_at s.bare o) ≡ true
-      → is_in x (lane_at (lane_lists s.bare) c).accepted ≡ true
-      → is_among (lane_at (lane_lists s.bare) c).delivered x
-      (lane_at (lane_lists s.bare) c).accepted ≡ true
+      → is_in x (lane_at (history_lanes s.bare) c).accepted ≡ true
+      → is_among (lane_at (history_lanes s.bare) c).delivered x
+      (lane_at (history_lanes s.bare) c).accepted ≡ true
   delivered-at o c x is in' =
       let at = place-index x (out_at s.bare o) is in
       let w = h.places.from o at.0 at.1 in
@@ -195,6 +196,6 @@ module _ (s : HopState) (h : Sound s) where
       (omega (arith, w.2, a, b)) in
       let same = ap (λ y. is_among (delivered_at s.bare w.0) y (accepted_at s.bare w.0))
       (sym (w.3 ∙ at.2)) in
-      subst (λ d. is_among (lane_at (lane_lists s.bare) d).delivered x
-      (lane_at (lane_lists s.bare) d).accepted ≡ true) one.0
+      subst (λ d. is_among (lane_at (history_lanes s.bare) d).delivered x
+      (lane_at (history_lanes s.bare) d).accepted ≡ true) one.0
       (rw (lane-is w.0) (same ∙ among))

@@ -5,24 +5,24 @@ use Rattle.std.proofs.lemmas.Bool.{ltb-true}
 use Rattle.steer_base.specs.declared.step.Step.{Step}
 use Rattle.steer_base.specs.declared.step.Step.TheVariants as act
 use Rattle.steer_model.specs.State.Machine.{Machine}
-use Rattle.steer_model.specs.State.Setup.{Setup, flow_of}
+use Rattle.steer_model.specs.State.Setup.{Setup, flow_number_of}
 use Rattle.steer_model.specs.Steps.SingleSteps.{simple}
-use Rattle.steer_model.specs.Steps.CompoundSteps.{Turn, after, one_round, rounds, step}
+use Rattle.steer_model.specs.Steps.CompoundSteps.{Progress, after, one_round, rounds, step}
 use Rattle.steer_invariant.specs.StepInvariant.{AreNamed, IsNamed}
 use Rattle.steer_invariant.proofs.TurnLiftLemmas.{drain-keeps, poll-keeps, reply-keeps, round-keeps}
 use Rattle.steer_invariant.proofs.TurnLiftLemmas.{serve-keeps, ship-keeps}
 
 module _ (p : Setup) (P : Machine → Type 0) (same : (m : Machine) → P m → m.setup ≡ p)
-    (flows : (x : ℕ) → flow_of p x < 262144)
+    (flows : (x : ℕ) → flow_number_of p x < 262144)
     (keeps : (m : Machine) (s : Step) → IsNamed p s → P m → P (simple m s).0) where
-  abbrev At : Turn → Type 0
+  abbrev At : Progress → Type 0
   At t = P t.0
 
-  turn-if : (b : Bool) (x y : Turn) → P x.0 → P y.0 → P (if b then x else y).0
+  turn-if : (b : Bool) (x y : Progress) → P x.0 → P y.0 → P (if b then x else y).0
   turn-if true x y h g = h
   turn-if false x y h g = g
 
-  rounds-keep : (n : ℕ) (t : Turn) → P t.0 → P (rounds n t).0
+  rounds-keep : (n : ℕ) (t : Progress) → P t.0 → P (rounds n t).0
   unfolding rounds
   rounds-keep zero t h = h
   rounds-keep (suc n) t h =

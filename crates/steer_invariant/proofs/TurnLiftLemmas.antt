@@ -4,11 +4,12 @@ use Rattle.std.proofs.Common.{subst, arith, ap, suc, zero, sym}
 use Rattle.std.proofs.lemmas.Bool.{lt-ltb}
 use Rattle.steer_base.specs.declared.step.Step.{Step}
 use Rattle.steer_base.specs.declared.step.Step.TheVariants as act
-use Rattle.steer_model.specs.State.Setup.{Setup, flow_of}
+use Rattle.steer_model.specs.State.Setup.{Setup, flow_number_of}
 use Rattle.steer_model.specs.Steps.SingleSteps.{is_command}
-use Rattle.steer_model.specs.Steps.CompoundSteps.{Turn, again, drain, drain_one, for_each}
+use Rattle.steer_model.specs.Steps.CompoundSteps.{Progress, again, drain, drain_one, for_each}
 use Rattle.steer_model.specs.Steps.CompoundSteps.{one_round, poll}
-use Rattle.steer_model.specs.Steps.CompoundSteps.{recorded, reply, replying, serve, ship, ship_one}
+use Rattle.steer_model.specs.Steps.CompoundSteps.{with_record, reply, replying, serve, ship}
+use Rattle.steer_model.specs.Steps.CompoundSteps.{ship_one}
 use Rattle.steer_model.specs.Steps.CompoundSteps.{tried, tries}
 use Rattle.steer_invariant.specs.StepInvariant.{IsNamed}
 
@@ -78,83 +79,83 @@ module _ (p : Setup) where
         ),
       )
 
-module _ (p : Setup) (P : Turn → Type 0) (same : (t : Turn) → P t → t.0.setup ≡ p)
-    (flows : (x : ℕ) → flow_of p x < 262144)
-    (keeps : (t : Turn) (s : Step) → IsTried p s → P t → P (tried t s)) where
-  pub tries-keep : (ss : List Step) (t : Turn) → AreTried p ss → P t → P (tries t ss)
+module _ (p : Setup) (P : Progress → Type 0) (same : (t : Progress) → P t → t.0.setup ≡ p)
+    (flows : (x : ℕ) → flow_number_of p x < 262144)
+    (keeps : (t : Progress) (s : Step) → IsTried p s → P t → P (tried t s)) where
+  pub tries-keep : (ss : List Step) (t : Progress) → AreTried p ss → P t → P (tries t ss)
   tries-keep [] t all h = h
   tries-keep (s ∷ ss) t all h =
       tries-keep ss (tried t s) all.1 (keeps t s all.0 h)
 
-  pub again-keeps : (n : ℕ) (ss : List Step) (t : Turn) → AreTried p ss → P t → P (again n ss t)
+  pub again-keeps : (n : ℕ) (ss : List Step) (t : Progress) → AreTried p ss → P t → P (again n ss t)
   unfolding again
   again-keeps zero ss t all h = h
   again-keeps (suc n) ss t all h = again-keeps n ss (tries t ss) all (tries-keep ss t all h)
 
-  pub for_each-keeps : (n : ℕ) (f : ℕ → Turn → Turn) (t : Turn)
-      → ((i : ℕ) (u : Turn) → i < n → P u → P (f i u)) → P t → P (for_each n f t)
+  pub for_each-keeps : (n : ℕ) (f : ℕ → Progress → Progress) (t : Progress)
+      → ((i : ℕ) (u : Progress) → i < n → P u → P (f i u)) → P t → P (for_each n f t)
   unfolding for_each
   for_each-keeps zero f t one h = h
   for_each-keeps (suc n) f t one h =
       one n (for_each n f t) (omega arith)
       (for_each-keeps n f t (λ i u lt. one i u (omega (arith, lt))) h)
 
-  pub poll-keeps : (q : ℕ) (t : Turn) → q < length p.homes → P t → P (poll q t)
+  pub poll-keeps : (q : ℕ) (t : Progress) → q < length p.homes → P t → P (poll q t)
   poll-keeps q t lt h =
       tries-keep
       (act.Enter q ∷ act.Take q ∷ act.Look q ∷ act.Weigh q ∷ act.Put q ∷ act.Ask q ∷ act.Leave
       q ∷ []) t
       (poll-tried p q lt) h
 
-  pub drain-keeps : (c : ℕ) (t : Turn) → c < p.cpus → P t → P (drain c t)
+  pub drain-keeps : (c : ℕ) (t : Progress) → c < p.cpus → P t → P (drain c t)
   drain-keeps c t lt h = again-keeps _ (drain_one c) t (drain-tried p c lt) h
 
-  pub ship-keeps : (x : ℕ) (t : Turn) → x < p.txs → P t → P (ship x t)
+  pub ship-keeps : (x : ℕ) (t : Progress) → x < p.txs → P t → P (ship x t)
   ship-keeps x t lt h = again-keeps _ (ship_one x) t (ship-tried p x lt) h
 
-  pub reply-keeps : (a : ℕ) (t : Turn) → a < p.apps → P t → P (reply a t)
+  pub reply-keeps : (a : ℕ) (t : Progress) → a < p.apps → P t → P (reply a t)
   reply-keeps a t lt h =
       tries-keep (act.TEnter a ∷ act.Send a ∷ act.TWeigh a ∷ act.TPut a ∷ act.TLeave a ∷ []) t
       (reply-tried p a lt) h
 
-  pub recorded-keeps : (x : Option ℕ) (t : Turn) → P t → P (recorded x t)
+  pub recorded-keeps : (x : Option ℕ) (t : Progress) → P t → P (with_record x t)
   recorded-keeps None t h = h
   recorded-keeps (Some x) t h =
-      let lt : flow_of t.0.setup x < 262144 =
-      subst (λ (q : Setup). flow_of q x < 262144) (sym (same t h)) (flows x) in
-      keeps t (act.Record (flow_of t.0.setup x))
-      (record { event = refl; named = lt-ltb (flow_of t.0.setup x) 262144 lt }) h
+      let lt : flow_number_of t.0.setup x < 262144 =
+      subst (λ (q : Setup). flow_number_of q x < 262144) (sym (same t h)) (flows x) in
+      keeps t (act.Record (flow_number_of t.0.setup x))
+      (record { event = refl; named = lt-ltb (flow_number_of t.0.setup x) 262144 lt }) h
 
-  pub serve-keeps : (a : ℕ) (t : Turn) → a < p.apps → P t → P (serve a t)
+  pub serve-keeps : (a : ℕ) (t : Progress) → a < p.apps → P t → P (serve a t)
   serve-keeps a t lt h =
-      reply-keeps a (recorded (replying t.0 a) t) lt (recorded-keeps (replying t.0 a) t h)
+      reply-keeps a (with_record (replying t.0 a) t) lt (recorded-keeps (replying t.0 a) t h)
 
-  pub arrive-keeps : (t : Turn) → P t → P (tried t act.Arrive)
+  pub arrive-keeps : (t : Progress) → P t → P (tried t act.Arrive)
   arrive-keeps t h = keeps t act.Arrive (record { event = refl; named = refl }) h
 
   -- the parts of a round, each after the ones before it
-  pub polls-keep : (n : ℕ) (t : Turn) → n ≡ length p.homes → P t → P (for_each n poll t)
+  pub polls-keep : (n : ℕ) (t : Progress) → n ≡ length p.homes → P t → P (for_each n poll t)
   polls-keep n t is h =
       for_each-keeps n poll t (λ q u lt k. poll-keeps q u (omega (arith, lt, is)) k) h
 
-  pub drains-keep : (n : ℕ) (t : Turn) → n ≡ p.cpus → P t → P (for_each n drain t)
+  pub drains-keep : (n : ℕ) (t : Progress) → n ≡ p.cpus → P t → P (for_each n drain t)
   drains-keep n t is h =
       for_each-keeps n drain t (λ c u lt k. drain-keeps c u (omega (arith, lt, is)) k) h
 
-  pub serves-keep : (n : ℕ) (t : Turn) → n ≡ p.apps → P t → P (for_each n serve t)
+  pub serves-keep : (n : ℕ) (t : Progress) → n ≡ p.apps → P t → P (for_each n serve t)
   serves-keep n t is h =
       for_each-keeps n serve t (λ a u lt k. serve-keeps a u (omega (arith, lt, is)) k) h
 
-  pub ships-keep : (n : ℕ) (t : Turn) → n ≡ p.txs → P t → P (for_each n ship t)
+  pub ships-keep : (n : ℕ) (t : Progress) → n ≡ p.txs → P t → P (for_each n ship t)
   ships-keep n t is h =
       for_each-keeps n ship t (λ x u lt k. ship-keeps x u (omega (arith, lt, is)) k) h
 
-  pub round-keeps : (t : Turn) → P t → P (one_round t)
+  pub round-keeps : (t : Progress) → P t → P (one_round t)
   round-keeps t h =
       let is : t.0.setup ≡ p = same t h in
-      let polled : Turn = for_each (length t.0.setup.homes) poll (tried t act.Arrive) in
-      let drained : Turn = for_each t.0.setup.cpus drain polled in
-      let served : Turn = for_each t.0.setup.apps serve drained in
+      let polled : Progress = for_each (length t.0.setup.homes) poll (tried t act.Arrive) in
+      let drained : Progress = for_each t.0.setup.cpus drain polled in
+      let served : Progress = for_each t.0.setup.apps serve drained in
       ships-keep t.0.setup.txs served (ap (λ (q : Setup). q.txs) is)
       (serves-keep t.0.setup.apps drained (ap (λ (q : Setup). q.apps) is)
       (drains-keep t.0.setup.cpus polled (ap (λ (q : Setup). q.cpus) is)

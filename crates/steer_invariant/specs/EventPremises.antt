@@ -12,14 +12,15 @@ use Rattle.steer_model.specs.Steps.Applications.{next_in, sending}
 use Rattle.steer_model.specs.Steps.Commands.{answer_to, is_done}
 use Rattle.steer_model.specs.State.Machine.{Machine}
 use Rattle.steer_model.specs.Steps.Pollers.{route_by, weighing}
-use Rattle.steer_model.specs.State.Setup.{app_for, hash_of}
+use Rattle.steer_model.specs.State.Setup.{app_for, packet_hash}
 
 -- Of the receive hop: the arrival of the next packet, the events of a poller and of a processor,
 -- the visit of an application, and another flow count.
 pub record AsksRx (m : Machine) : Type 0 where
   pub arrive : length m.arrivals < length m.setup.packets
       → MayAsk m.rx
-      (event.Arrive (route_by m (hash_of m.setup (length m.arrivals))).queue (length m.arrivals))
+      (event.Arrive (route_by m (packet_hash m.setup (length m.arrivals))).queue
+      (length m.arrivals))
   pub take : (q : ℕ) → q < length m.setup.homes → MayAsk m.rx (event.Take q)
   pub enter : (q : ℕ) → q < length m.setup.homes → MayAsk m.rx (event.Enter q)
   pub weigh : (q : ℕ) (want : Option ℕ) → q < length m.setup.homes

@@ -1,8 +1,8 @@
 //! What the machine reads from the answers and the choices of a hop.
 ghost use Rattle.std.specs.Prelude.{◌≡◌, ◌<◌, length};
-ghost use Rattle.steer_model.specs.State.Machine.{last_of as last_choice_of};
+ghost use Rattle.steer_model.specs.State.Machine.{last_chosen as last_choice_of};
 ghost use Rattle.steer_model.specs.Steps.Outcomes.{told as told_by};
-ghost use Rattle.steer_model.specs.Steps.Pollers.{position_of as position_in};
+ghost use Rattle.steer_model.specs.Steps.Pollers.{put_position as position_in};
 
 use hop_core::{Hop, HopAnswer};
 use steer_base::{Answer, Choice, Chosen, PacketId, Put, Why};

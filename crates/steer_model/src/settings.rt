@@ -4,9 +4,9 @@ ghost use Rattle.std.specs.List.{All};
 ghost use Rattle.rss_table.specs.Redirection.{is_in_range, queue_of, with_entry};
 ghost use Rattle.steer_base.specs.Counters.{rounded_up};
 ghost use Rattle.steer_base.specs.Sets.{with_cpu, without_cpu};
-ghost use Rattle.steer_model.specs.State.Settings.{changed, class_at, MayChange};
+ghost use Rattle.steer_model.specs.State.Settings.{changed, class_at, IsInRange};
 ghost use Rattle.steer_model.specs.State.Settings.{plain_lane as plain_cpu};
-ghost use Rattle.steer_model.specs.State.Start.{maps_of as maps_of_plan, settings_of};
+ghost use Rattle.steer_model.specs.State.Start.{maps_of as maps_of_plan, initial_settings};
 ghost use Rattle.xps_map.specs.Maps.{picked};
 
 use crate::setup::Given;
@@ -49,7 +49,7 @@ impl Model for InForce {
 impl InForce {
     /// The settings that a plan begins with, with all its processors online.
     pub fn of_plan(alloc: Global, plan: &Plan) -> Result<InForce, OutOfMemory>
-        ensures { IfOk result (λ settings. settings ≡ settings_of plan.now) }
+        ensures { IfOk result (λ settings. settings ≡ initial_settings plan.now) }
     {
         let queues = plan.queues.as_slice();
         Ok(InForce {
@@ -65,7 +65,7 @@ impl InForce {
 
     /// Changes what a command changes that is done; `expire` changes no setting.
     pub fn change(&mut self, command: &Command)
-        requires { MayChange self.old command.now }
+        requires { IsInRange self.old command.now }
         ensures { self.new ≡ changed self.old command.now }
     {
         match command {

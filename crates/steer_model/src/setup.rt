@@ -1,7 +1,7 @@
 //! What the plan and the capture fix.
 ghost use Rattle.std.specs.Prelude.{◌≡◌, ◌<◌, ◌≤◌, IfOk, length, slice_index};
 ghost use Rattle.steer_model.specs.State.Ranges.{AreFlowHashes, AreOfFlows, IsGiven};
-ghost use Rattle.steer_model.specs.State.Setup.{app_for, flow_hash, flow_of, hash_of};
+ghost use Rattle.steer_model.specs.State.Setup.{app_for, flow_hash, flow_number_of, packet_hash};
 ghost use Rattle.steer_model.specs.State.Start.{setup_of};
 
 use crate::flow_hashes::flow_hashes;
@@ -97,7 +97,7 @@ impl Given {
 
     /// The hash of a packet, if it has one. There is none beyond the capture.
     pub fn hash_of(&self, id: PacketId) -> Option<u32>
-        ensures { result ≡ hash_of self.now id }
+        ensures { result ≡ packet_hash self.now id }
     {
         match self.packets.get(id.0 as usize) {
             Some(packet) => packet.hash,
@@ -107,7 +107,7 @@ impl Given {
 
     /// The number of a packet's flow; 0 beyond the capture.
     pub fn flow_of(&self, id: PacketId) -> u32
-        ensures { result ≡ flow_of self.now id }
+        ensures { result ≡ flow_number_of self.now id }
     {
         match self.packets.get(id.0 as usize) {
             Some(packet) => packet.flow_number,

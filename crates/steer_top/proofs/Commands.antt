@@ -9,7 +9,7 @@ use Rattle.outside_io.specs.Counts.{Rose}
 use Rattle.outside_io.specs.Sink.{AppendsSome}
 use Rattle.replay.specs.Meanings.{Meaning}
 use Rattle.steer_top.specs.Files.{Accepted, Files, IsBad, IsNot, Refused, limit_of}
-use Rattle.steer_top.specs.Outcomes.{Writes, name_of, roles_of, told_of}
+use Rattle.steer_top.specs.Outcomes.{Writes, name_of, roles_of, file_bytes}
 use Rattle.steer_top.specs.Words.{GenWords, HashWords, PlaceWords, ReplayWords, CommandWords}
 use Rattle.steer_top.specs.Words.CommandWords.{Gen, Hash, Place, Replay}
 use Rattle.steer_top.specs.Endings.{Course, Gave, NothingOut, EndsAs, EndsAt, EndsBy, EndsCommand}
@@ -128,7 +128,7 @@ last_is (Some last) name named is h = is ∙ ap Some (sym h)
 -- are accepted
 pub ends_at : (command : CommandWords) (course : Course) (files : Files) (earlier later : List Role)
     (r : Role) (name : List ℕ) (e : Ending)
-    → Gave (told_of course.held command) files → roles_of command ≡ earlier ++ r ∷ later
+    → Gave (file_bytes course.held command) files → roles_of command ≡ earlier ++ r ∷ later
     → name_of command r ≡ Some name
     → Accepted earlier files → NothingOut course
     → StopsAt e r name (files r) course.desk_before course.desk_after course.asked
@@ -170,7 +170,7 @@ ends_at command course files earlier later r name ending.WriteFault gave roles i
 -- a command that writes this text of accepted files
 pub ends_written : (command : CommandWords) (course : Course) (files : Files) (text : List ℕ)
     (e : Ending)
-    → Gave (told_of course.held command) files → Accepted (roles_of command) files
+    → Gave (file_bytes course.held command) files → Accepted (roles_of command) files
     → Writes course.taps command files text
     → EndsWriting e text course.out_before course.out_after course.written_before
     course.written_after → EndsCommand e command course
@@ -192,7 +192,7 @@ files_of first capture role.Capture = capture
 -- the one file of the command `hash`
 pub hash_gave : (words : HashWords) (held : List ℕ → Option (List ℕ)) (rules capture : List ℕ)
     → Keeps (held words.capture) (Some capture)
-    → Gave (told_of held (Hash words)) (files_of rules capture)
+    → Gave (file_bytes held (Hash words)) (files_of rules capture)
 hash_gave words held rules capture told role.Plan = tt
 hash_gave words held rules capture told role.Rules = tt
 hash_gave words held rules capture told role.Capture = told
@@ -201,7 +201,7 @@ hash_gave words held rules capture told role.Capture = told
 pub place_gave : (words : PlaceWords) (held : List ℕ → Option (List ℕ)) (rules capture : List ℕ)
     → Keeps (held words.rules) (Some rules)
     → Keeps (held words.capture) (Some capture)
-    → Gave (told_of held (Place words)) (files_of rules capture)
+    → Gave (file_bytes held (Place words)) (files_of rules capture)
 place_gave words held rules capture first second role.Plan = tt
 place_gave words held rules capture first second role.Rules = first
 place_gave words held rules capture first second role.Capture = second
@@ -210,14 +210,14 @@ place_gave words held rules capture first second role.Capture = second
 pub replay_gave : (words : ReplayWords) (held : List ℕ → Option (List ℕ)) (plan capture : List ℕ)
     → Keeps (held words.plan) (Some plan)
     → Keeps (held words.capture) (Some capture)
-    → Gave (told_of held (Replay words)) (files_of plan capture)
+    → Gave (file_bytes held (Replay words)) (files_of plan capture)
 replay_gave words held plan capture first second role.Plan = first
 replay_gave words held plan capture first second role.Rules = tt
 replay_gave words held plan capture first second role.Capture = second
 
 -- the command `gen` has no file
 pub gen_gave : (words : GenWords) (held : List ℕ → Option (List ℕ))
-    → Gave (told_of held (Gen words)) (files_of [] [])
+    → Gave (file_bytes held (Gen words)) (files_of [] [])
 gen_gave words held role.Plan = tt
 gen_gave words held role.Rules = tt
 gen_gave words held role.Capture = tt

@@ -9,7 +9,7 @@ use Rattle.pcap_reader.specs.Laws as pcap
 use Rattle.pcapng_reader.specs.Laws as pcapng
 use Rattle.pcapng_reader.specs.Captures.{BeginsNg}
 use Rattle.plan_reader.specs.PlanTexts.{plan_of}
-use Rattle.plan_reader.specs.Settings.{Settings}
+use Rattle.plan_reader.specs.Settings.{PlanSettings}
 use Rattle.plan_reader.specs.declared.plan_fault.PlanFault.{PlanFault}
 use Rattle.ntuple_rules.specs.Readings.{rules_of}
 use Rattle.ntuple_rules.specs.declared.rules.Rules.{Rules}
@@ -34,16 +34,16 @@ pub record OneCapture : Type 0 where
   pub one : pcap.HasOneFault
   pub apart : pcap.HasNotBoth
   pub either : pcap.HasOneOfBoth
-  pub ng_one : pcapng.HasOneFault
-  pub ng_apart : pcapng.HasNotBoth
-  pub ng_either : pcapng.HasOneOfBoth
+  pub ng_one : pcapng.HasOneNgFault
+  pub ng_apart : pcapng.HasNotBothNg
+  pub ng_either : pcapng.HasOneOfBothNg
 
 module _ (law : OneCapture) where
   is_either : (r : Role) (bytes : List ℕ)
       → IsRead r bytes ⊎ ((reason : Refusal) × IsNot r bytes reason)
   is_either role.Plan bytes = by (plan_of bytes) refl
     where
-      by : (read : Result Settings PlanFault) → plan_of bytes ≡ read
+      by : (read : Result PlanSettings PlanFault) → plan_of bytes ≡ read
           → IsRead role.Plan bytes ⊎ ((reason : Refusal) × IsNot role.Plan bytes reason)
       by (Ok plan) is = inl (plan, is)
       by (Err fault) is = inr (refusal.Plan fault, is)

@@ -11,7 +11,7 @@ use Rattle.steer_base.specs.declared.packet.Packet.{Packet}
 use Rattle.steer_top.specs.Endings.{Course, EndsCommand, status_of}
 use Rattle.steer_top.specs.Files.{Files, IsNotBoth, IsRefusedOnce}
 use Rattle.steer_top.specs.Headlines.{TookHeadline}
-use Rattle.steer_top.specs.Outcomes.{AreTold, roles_of, told_of}
+use Rattle.steer_top.specs.Outcomes.{FilesAreKnown, roles_of, file_bytes}
 use Rattle.steer_top.specs.Words.{ReplayWords}
 use Rattle.steer_top.specs.Words.CommandWords.{Replay}
 use Rattle.steer_top.specs.declared.ending.Ending.{Ending}
@@ -32,7 +32,8 @@ replay_is plan bytes capture taps packets (Err e) are few is fits = tt
 -- a replay with status 0 wrote a text with the headline
 pub headline_of : IsRefusedOnce → IsNotBoth → EveryReportHasTheHeadline → (words : ReplayWords)
     (told : Files) (course : Course)
-    → AreTold (told_of course.held (Replay words)) (roles_of (Replay words)) told → (e : Ending)
+    → FilesAreKnown (file_bytes course.held (Replay words)) (roles_of (Replay words)) told
+    → (e : Ending)
     → EndsCommand e (Replay words) course → status_of e ≡ 0
     → TookHeadline told course.written_before course.written_after
 headline_of once apart law words told course tells e ends done =

@@ -10,8 +10,8 @@ use Rattle.steer_top.specs.HashText.{capture_text}
 use Rattle.steer_top.specs.PlaceText.{place_text}
 use Rattle.ntuple_rules.specs.Readings.{rules_of}
 use Rattle.replay.specs.Meanings.{Meaning}
-use Rattle.replay.specs.Reports.{IsReportOf}
-use Rattle.steer_top.specs.Outcomes.{AreTold, Writes, roles_of, told_of}
+use Rattle.replay.specs.Reports.{IsReportOfPlan}
+use Rattle.steer_top.specs.Outcomes.{FilesAreKnown, Writes, roles_of, file_bytes}
 use Rattle.steer_top.specs.Words.{CommandWords}
 use Rattle.steer_top.specs.Words.CommandWords.{Gen, Hash, Place, Replay}
 use Rattle.steer_top.specs.Endings.{Course, DeskFailed, OutFailed, Gave, EndsCommand, IsRefusal}
@@ -57,7 +57,7 @@ Same [] given told = ⊤
 Same (r ∷ roles) given told = (given r ≡ told r) × Same roles given told
 
 same_files : (tells : Role → Option (List ℕ)) (told given : Files) (roles : List Role)
-    → AreTold tells roles told → Gave tells given → Same roles given told
+    → FilesAreKnown tells roles told → Gave tells given → Same roles given told
 same_files tells told given [] all gave = tt
 same_files tells told given (r ∷ roles) (is, all) gave =
     (given_is (tells r) (told r) (given r) is (gave r), same_files tells told given roles all gave)
@@ -93,8 +93,8 @@ same_writes taps (Hash words) given told text (same, rest) (capture, has, is) = 
 same_writes taps (Replay words) given told text (first, (second, rest)) (capture, has, report) = (
   capture,
   subst (λ bytes. HasAnyCapture bytes capture) second has,
-  subst (λ bytes. IsReportOf bytes (told role.Capture) capture taps text) first
-      (subst (λ bytes. IsReportOf (given role.Plan) bytes capture taps text) second report),
+  subst (λ bytes. IsReportOfPlan bytes (told role.Capture) capture taps text) first
+      (subst (λ bytes. IsReportOfPlan (given role.Plan) bytes capture taps text) second report),
 )
 same_writes taps (Gen words) given told text same writes = writes
 same_writes taps (Place words) given told text (first, (second, rest))
@@ -109,10 +109,10 @@ same_writes taps (Place words) given told text (first, (second, rest))
 -- what is true of a command whose files are told
 module _ (once : IsRefusedOnce) (apart : IsNotBoth) (command : CommandWords) (told : Files)
     (course : Course)
-    (tells : AreTold (told_of course.held command) (roles_of command) told) where
-  same : (files : Files) → Gave (told_of course.held command) files
+    (tells : FilesAreKnown (file_bytes course.held command) (roles_of command) told) where
+  same : (files : Files) → Gave (file_bytes course.held command) files
       → Same (roles_of command) files told
-  same files gave = same_files (told_of course.held command) told files
+  same files gave = same_files (file_bytes course.held command) told files
       (roles_of command) tells gave
 
   pub refuses_of : (e : Ending) → EndsCommand e command course → IsRefusal (status_of e)

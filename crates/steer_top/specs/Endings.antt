@@ -14,7 +14,7 @@ use Rattle.plan_reader.specs.declared.plan_fault.PlanFault.{PlanFault}
 use Rattle.plan_reader.specs.declared.plan_fault.PlanFault.TheVariants as plan
 use Rattle.replay.specs.Meanings.{Meaning}
 use Rattle.steer_top.specs.Files.{Files, Accepted, IsBad, IsNot, Refused, limit_of}
-use Rattle.steer_top.specs.Outcomes.{Writes, name_of, roles_of, told_of}
+use Rattle.steer_top.specs.Outcomes.{Writes, name_of, roles_of, file_bytes}
 use Rattle.steer_top.specs.Words.{CommandWords}
 use Rattle.steer_top.specs.declared.ending.Role.{Role}
 use Rattle.steer_top.specs.declared.ending.Role.TheVariants as role
@@ -190,7 +190,7 @@ EndsBy command files ending.OutOfMemory course = NothingOut course
 -- a command ended so, with files that the desk gave
 abbrev pub EndsCommand : Ending → CommandWords → Course → Type 0
 EndsCommand e command course =
-    (files : Files) × Gave (told_of course.held command) files × EndsBy command files e course
+    (files : Files) × Gave (file_bytes course.held command) files × EndsBy command files e course
 
 -- the same of all words: those that are no command end with the usage line
 abbrev pub Ends : Ending → Option CommandWords → Course → Type 0

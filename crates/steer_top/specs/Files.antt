@@ -4,7 +4,7 @@ use Rattle.pcap_reader.specs.Faults.{HasFault}
 use Rattle.pcap_reader.specs.declared.capture.Capture.{Capture}
 use Rattle.pcapng_reader.specs.Captures.{BeginsNg, HasNgFault}
 use Rattle.plan_reader.specs.PlanTexts.{plan_of}
-use Rattle.plan_reader.specs.Settings.{Settings}
+use Rattle.plan_reader.specs.Settings.{PlanSettings}
 use Rattle.ntuple_rules.specs.Readings.{rules_of}
 use Rattle.ntuple_rules.specs.declared.rules.Rules.{Rules}
 use Rattle.steer_top.specs.Captures.{HasAnyCapture}
@@ -21,7 +21,7 @@ limit_of role.Capture = 268435456
 
 -- the bytes are what they are read as
 abbrev pub IsRead : Role → List ℕ → Type 0
-IsRead role.Plan bytes = (plan : Settings) × (plan_of bytes ≡ Ok plan)
+IsRead role.Plan bytes = (plan : PlanSettings) × (plan_of bytes ≡ Ok plan)
 IsRead role.Rules bytes = (rules : Rules) × (rules_of bytes ≡ Ok rules)
 IsRead role.Capture bytes = (capture : Capture) × HasAnyCapture bytes capture
 

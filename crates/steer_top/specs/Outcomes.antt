@@ -6,7 +6,7 @@ use Rattle.ntuple_rules.specs.Readings.{rules_of}
 use Rattle.ntuple_rules.specs.declared.rules.Rules.{Rules}
 use Rattle.pcap_reader.specs.declared.capture.Capture.{Capture}
 use Rattle.replay.specs.Meanings.{Meaning}
-use Rattle.replay.specs.Reports.{IsReportOf}
+use Rattle.replay.specs.Reports.{IsReportOfPlan}
 use Rattle.replay.specs.Summaries.{IsSummaryOf, summary_text}
 use Rattle.replay.specs.declared.summary.Summary.{Summary}
 use Rattle.steer_top.specs.Captures.{HasAnyCapture}
@@ -41,7 +41,7 @@ Writes taps (Hash words) files text =
     × (text ≡ capture_text words.queues words.kinds (files role.Capture) capture)
 Writes taps (Replay words) files text =
     (capture : Capture) × HasAnyCapture (files role.Capture) capture
-    × IsReportOf (files role.Plan) (files role.Capture) capture taps text
+    × IsReportOfPlan (files role.Plan) (files role.Capture) capture taps text
 Writes taps (Gen words) files text =
     (summary : Summary) × IsSummaryOf words.seed words.packets words.flows summary
     × (text ≡ summary_text summary)
@@ -51,16 +51,16 @@ Writes taps (Place words) files text =
     × (text ≡ place_text rules (files role.Capture) capture)
 
 -- the bytes of a command's file of a role, where the names' bytes are told
-abbrev pub told_of : (List ℕ → Option (List ℕ)) → CommandWords → Role → Option (List ℕ)
-told_of held command r = option_and_then held (name_of command r)
+abbrev pub file_bytes : (List ℕ → Option (List ℕ)) → CommandWords → Role → Option (List ℕ)
+file_bytes held command r = option_and_then held (name_of command r)
 
 -- these bytes of the files of these roles are told
-abbrev pub AreTold : (Role → Option (List ℕ)) → List Role → Files → Type 0
-AreTold told [] files = ⊤
-AreTold told (r ∷ roles) files = (told r ≡ Some (files r)) × AreTold told roles files
+abbrev pub FilesAreKnown : (Role → Option (List ℕ)) → List Role → Files → Type 0
+FilesAreKnown told [] files = ⊤
+FilesAreKnown told (r ∷ roles) files = (told r ≡ Some (files r)) × FilesAreKnown told roles files
 
 -- the words are this command, and these bytes of all its files are told
 pub record Asks (held : List ℕ → Option (List ℕ)) (words : List (String Global))
     (command : CommandWords) (files : Files) : Type 0 where
   pub is : command_of words ≡ Some command
-  pub told : AreTold (told_of held command) (roles_of command) files
+  pub told : FilesAreKnown (file_bytes held command) (roles_of command) files

@@ -3,10 +3,10 @@ use Rattle.std.specs.Prelude.{◌≡◌, ◌≤◌, ℕ, List, All, length, Opti
 use Rattle.std.specs.Io.KnownBytes.{Keeps}
 use Rattle.plan_reader.specs.declared.plan.Plan.{Plan}
 use Rattle.replay.specs.Reports.{HasPlan}
-use Rattle.ntuple_rules.specs.Ranges.{IsWithin as AreWithin}
+use Rattle.ntuple_rules.specs.Ranges.{RulesAreWithin as AreWithin}
 use Rattle.ntuple_rules.specs.Readings.{rules_of}
 use Rattle.ntuple_rules.specs.declared.rules.Rules.{Rules}
-use Rattle.pcap_reader.specs.Captures.{IsWithin}
+use Rattle.pcap_reader.specs.Captures.{FrameIsWithin}
 use Rattle.steer_top.specs.Captures.{HasAnyCapture}
 use Rattle.steer_top.specs.Files.{limit_of}
 use Rattle.steer_top.specs.declared.ending.Role.TheVariants as role
@@ -18,7 +18,7 @@ pub record IsCaptureOf (held : Option (List ℕ)) (file : CaptureFile) : Type 0 
   pub few : length file.bytes.items ≤ limit_of role.Capture
   pub has : HasAnyCapture file.bytes.items file.capture
   pub few_records : length file.capture.records ≤ 262144
-  pub within : All (IsWithin file.bytes.items) file.capture.records
+  pub within : All (FrameIsWithin file.bytes.items) file.capture.records
 
 -- the plan is that of some bytes that the file may have, within the limit
 pub record IsPlanOf (held : Option (List ℕ)) (plan : Plan) : Type 0 where

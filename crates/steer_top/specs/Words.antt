@@ -12,8 +12,8 @@ is_name [] = false
 is_name (first ∷ rest) = not (first == 45)
 
 -- the number of one to twenty decimal digits
-abbrev pub number_of : List ℕ → Option ℕ
-number_of word = decimal_number 20 word
+abbrev pub word_number : List ℕ → Option ℕ
+word_number word = decimal_number 20 word
 
 -- the number, where there is one from `low` to `high`
 abbrev pub if_within : ℕ → ℕ → Option ℕ → Option ℕ
@@ -21,7 +21,7 @@ if_within low high None = None
 if_within low high (Some n) = if nat_le low n && nat_le n high then Some n else None
 
 abbrev pub number_within : ℕ → ℕ → List ℕ → Option ℕ
-number_within low high word = if_within low high (number_of word)
+number_within low high word = if_within low high (word_number word)
 
 -- the command `hash`: the name of a capture, the number of receive queues, and the hash kinds
 pub record HashWords : Type 0 where

@@ -1,6 +1,6 @@
 //! The capture of a file, by the format that its first four bytes choose.
 ghost use Rattle.std.specs.Prelude.{◌≤◌, All, IfOk, IfErr, length};
-ghost use Rattle.pcap_reader.specs.Captures.{IsWithin};
+ghost use Rattle.pcap_reader.specs.Captures.{FrameIsWithin};
 ghost use Rattle.steer_top.specs.Captures.{HasAnyCapture};
 ghost use Rattle.steer_top.specs.Endings.{EndsUnfit};
 
@@ -15,7 +15,7 @@ pub fn read_any(alloc: Global, bytes: &[u8]) -> Result<Capture, Ending>
     ensures found { IfOk result (λ capture. HasAnyCapture bytes.now capture) }
     ensures unfit { IfErr result (λ ending. EndsUnfit ending Role.Capture bytes.now) }
     ensures few { IfOk result (λ capture. length capture.records ≤ 262144) }
-    ensures within { IfOk result (λ capture. All (IsWithin bytes.now) capture.records) }
+    ensures within { IfOk result (λ capture. All (FrameIsWithin bytes.now) capture.records) }
 {
     if is_pcapng(bytes) {
         match read_ng(alloc, bytes) {

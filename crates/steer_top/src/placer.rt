@@ -1,6 +1,6 @@
 //! What the command `place` works out of a frame.
 ghost use Rattle.std.specs.Prelude.{◌≡◌, ◌≤◌, ◌+◌, ◌++◌, [], length, IfOk};
-ghost use Rattle.ntuple_rules.specs.Ranges.{IsWithin};
+ghost use Rattle.ntuple_rules.specs.Ranges.{RulesAreWithin};
 ghost use Rattle.rss_table.specs.Redirection.{even_table};
 ghost use Rattle.steer_top.specs.PlaceText.{hash_for, place_line, placed_flow, queue_by, rule_text};
 ghost use Rattle.toeplitz.specs.Toeplitz.{verification_key};
@@ -31,7 +31,7 @@ pub struct Placer {
 impl Placer {
     /// Takes memory for the groups of the rules and for the table of the key.
     pub fn make(alloc: Global, rules: Rules) -> Result<Placer, OutOfMemory>
-        requires { IsWithin rules }
+        requires { RulesAreWithin rules }
         ensures { IfOk result (λ placer. placer.rules ≡ rules) }
     {
         let classifier = Classifier::make(alloc, &rules)?;

@@ -2,7 +2,7 @@
 //! steps goes out.
 ghost use Rattle.std.specs.Prelude.{◌≡◌, ◌≤◌, ℕ, List, All, IfOk, length, map};
 ghost use Rattle.outside_io.specs.Desk.{GoesOnTelling};
-ghost use Rattle.pcap_reader.specs.Captures.{IsWithin};
+ghost use Rattle.pcap_reader.specs.Captures.{FrameIsWithin};
 ghost use Rattle.replay.specs.Replays.{replay_text};
 ghost use Rattle.replay.specs.Reports.{ArePacketsBy, IsReplayOf};
 ghost use Rattle.steer_model.specs.State.Ranges.{AreOfFlows};
@@ -68,7 +68,7 @@ fn replay_of(
     taps: Vec<Box<dyn Tap>>,
 ) -> Result<Replay, OutOfMemory>
     requires few { length file.capture.records ≤ 262144 }
-    requires within { All (IsWithin file.bytes.items) file.capture.records }
+    requires within { All (FrameIsWithin file.bytes.items) file.capture.records }
     ensures { IfOk result (IsReplayOf plan.now file.bytes.items file.capture
         (map (λ tap lines. text tap lines) taps.items)) }
 {
@@ -80,7 +80,7 @@ fn replay_of(
 // The packets of a file.
 fn packets_of(alloc: Global, plan: &Plan, file: CaptureFile) -> Result<Vec<Packet>, OutOfMemory>
     requires few { length file.capture.records ≤ 262144 }
-    requires within { All (IsWithin file.bytes.items) file.capture.records }
+    requires within { All (FrameIsWithin file.bytes.items) file.capture.records }
     ensures list { IfOk result
         (λ packets. ArePacketsBy plan.now file.bytes.items file.capture packets.items) }
     ensures flows { IfOk result (λ packets. AreOfFlows packets.items) }

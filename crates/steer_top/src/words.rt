@@ -11,7 +11,7 @@ ghost use Rattle.steer_top.specs.Words.{hash_arguments as the_hash_arguments};
 ghost use Rattle.steer_top.specs.Words.{place_arguments as the_place_arguments};
 ghost use Rattle.steer_top.specs.Words.{replay_arguments as the_replay_arguments};
 ghost use Rattle.steer_top.specs.Words.{is_name as names_a_file};
-ghost use Rattle.steer_top.specs.Words.{number_of, number_within as the_number_within};
+ghost use Rattle.steer_top.specs.Words.{word_number, number_within as the_number_within};
 
 use crate::command::{Command, GenCommand, HashCommand, PlaceCommand, ReplayCommand};
 use steer_base::decimal_number;
@@ -34,7 +34,7 @@ fn is_name(word: &str) -> bool
 
 // The number that the word is, where it has one to twenty digits and nothing else.
 fn number(word: &str) -> Option<u128>
-    ensures { result ≡ number_of word.now }
+    ensures { result ≡ word_number word.now }
 {
     decimal_number(word.as_bytes(), MAX_DIGITS)
 }

@@ -3,7 +3,7 @@ ghost use Rattle.std.specs.Prelude.{◌≡◌, ◌≤◌, [], ℕ, List, length,
 ghost use Rattle.std.specs.Io.KnownBytes.{Appends};
 ghost use Rattle.outside_io.specs.Counts.{Rose};
 ghost use Rattle.outside_io.specs.Sink.{AppendsSome};
-ghost use Rattle.pcap_reader.specs.Captures.{IsWithin};
+ghost use Rattle.pcap_reader.specs.Captures.{FrameIsWithin};
 ghost use Rattle.steer_top.specs.Endings.{EndsWriting};
 ghost use Rattle.steer_top.specs.HashText.{all_lines, packet_lines};
 
@@ -33,7 +33,7 @@ pub fn write_lines<P: PacketLine, K: Sink>(
     file: &CaptureFile,
     out: &mut K,
 ) -> Ending
-    requires within { All (IsWithin file.now.bytes.items) file.now.capture.records }
+    requires within { All (FrameIsWithin file.now.bytes.items) file.now.capture.records }
     ensures ends { EndsWriting result
         (all_lines (P.text packets.now) file.now.bytes.items file.now.capture)
         (K.faults out.old) (K.faults out.new) (K.written out.old) (K.written out.new) }
@@ -56,7 +56,7 @@ fn write_text<P: PacketLine, K: Sink>(
     line: &mut LineBuf,
     out: &mut K,
 ) -> Result<(), WriteFault>
-    requires within { All (IsWithin file.now.bytes.items) file.now.capture.records }
+    requires within { All (FrameIsWithin file.now.bytes.items) file.now.capture.records }
     requires empty { line.old ≡ [] }
     ensures whole { OnOk result (Appends (K.written out.old) (K.written out.new)
         (all_lines (P.text packets.now) file.now.bytes.items file.now.capture)) }
@@ -79,7 +79,7 @@ fn write_packets<P: PacketLine, K: Sink>(
     line: &mut LineBuf,
     out: &mut K,
 ) -> Result<(), WriteFault>
-    requires within { All (IsWithin bytes.now) records.now }
+    requires within { All (FrameIsWithin bytes.now) records.now }
     requires empty { line.old ≡ [] }
     ensures empty { line.new ≡ [] }
     ensures whole { OnOk result (Appends (K.written out.old) (K.written out.new)

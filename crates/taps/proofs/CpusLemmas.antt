@@ -3,7 +3,7 @@ use Rattle.std.proofs.Common.{◌≡◌, ℕ, zero, suc, ◌+◌, ◌-◌, ◌<�
 use Rattle.std.proofs.Common.{replicate, None, refl, sym, ap, ◌∙◌, arith, append_assoc}
 use Rattle.std.proofs.lemmas.List.Sums.{sum_by-cons}
 use Rattle.history.specs.declared.packet_line.PacketLine.{PacketLine}
-use Rattle.taps.specs.Cpus.{chosen_for, cpu_row, is_of, per_cpu_text}
+use Rattle.taps.specs.Cpus.{chosen_for, cpu_count_line, is_of, per_cpu_text}
 use Rattle.taps.specs.Positions.{depth_after, depth_row, depth_text, positions_at}
 use Rattle.taps.specs.Rows.{each_cpu, rows_of_cpus}
 
@@ -50,15 +50,15 @@ chosen_for-cons cpu line lines = sum_by-cons (λ l. cond (is_of cpu l.choice) 1 
 -- the counts with the line are those before and one for its choice
 pub same_counts : (before after : List ℕ) (line : PacketLine) (lines : List PacketLine)
     → ((cpu : ℕ) → get_or after cpu 0 ≡ get_or before cpu 0 + cond (is_of cpu line.choice) 1 0)
-    → each_cpu (λ cpu. cpu_row cpu (get_or after cpu 0 + chosen_for cpu lines))
-    ≡ each_cpu (λ cpu. cpu_row cpu (get_or before cpu 0 + chosen_for cpu (line ∷ lines)))
+    → each_cpu (λ cpu. cpu_count_line cpu (get_or after cpu 0 + chosen_for cpu lines))
+    ≡ each_cpu (λ cpu. cpu_count_line cpu (get_or before cpu 0 + chosen_for cpu (line ∷ lines)))
 same_counts before after line lines e =
-    same_cpus (λ cpu. cpu_row cpu (get_or after cpu 0 + chosen_for cpu lines))
-    (λ cpu. cpu_row cpu (get_or before cpu 0 + chosen_for cpu (line ∷ lines)))
+    same_cpus (λ cpu. cpu_count_line cpu (get_or after cpu 0 + chosen_for cpu lines))
+    (λ cpu. cpu_count_line cpu (get_or before cpu 0 + chosen_for cpu (line ∷ lines)))
     (λ cpu. let sum : get_or after cpu 0 + chosen_for cpu lines ≡ get_or before cpu 0 + chosen_for
     cpu (line ∷ lines)
     = omega (arith, e cpu, chosen_for-cons cpu line lines) in
-    ap (λ n. cpu_row cpu n) sum)
+    ap (λ n. cpu_count_line cpu n) sum)
 
 get_or-replicate_same : {A : Type 0} (n i : ℕ) (a : A) → get_or (replicate n a) i a ≡ a
 get_or-replicate_same zero i a = refl
@@ -67,14 +67,14 @@ get_or-replicate_same (suc n) (suc i) a = get_or-replicate_same n i a
 
 -- nothing is counted yet
 pub new_counts : (n : ℕ) (lines : List PacketLine)
-    → each_cpu (λ cpu. cpu_row cpu (get_or (replicate n 0) cpu 0 + chosen_for cpu lines))
+    → each_cpu (λ cpu. cpu_count_line cpu (get_or (replicate n 0) cpu 0 + chosen_for cpu lines))
     ≡ per_cpu_text lines
 new_counts n lines =
-    same_cpus (λ cpu. cpu_row cpu (get_or (replicate n 0) cpu 0 + chosen_for cpu lines))
-    (λ cpu. cpu_row cpu (chosen_for cpu lines))
+    same_cpus (λ cpu. cpu_count_line cpu (get_or (replicate n 0) cpu 0 + chosen_for cpu lines))
+    (λ cpu. cpu_count_line cpu (chosen_for cpu lines))
     (λ cpu. let sum : get_or (replicate n 0) cpu 0 + chosen_for cpu lines ≡ chosen_for cpu lines =
     omega (arith, get_or-replicate_same {A = ℕ} n cpu 0) in
-    ap (λ m. cpu_row cpu m) sum)
+    ap (λ m. cpu_count_line cpu m) sum)
 
 -- no position was shown yet
 pub new_depths : (n : ℕ) (lines : List PacketLine)

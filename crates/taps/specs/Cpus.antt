@@ -15,10 +15,11 @@ abbrev pub chosen_for : ℕ → List PacketLine → ℕ
 chosen_for cpu lines = count_by (λ line. is_of cpu line.choice) lines
 
 -- the line of a processor with `count` packets, and none without packets
-abbrev pub cpu_row : ℕ → ℕ → List ℕ
-cpu_row cpu count = if count == 0 then [] else row (codes "cpu ") cpu (codes " packets ") count
+abbrev pub cpu_count_line : ℕ → ℕ → List ℕ
+cpu_count_line cpu count = if count == 0 then [] else row (codes "cpu ") cpu
+    (codes " packets ") count
 
 -- For each processor, ascending, with at least one line that has a choice of it: how many there
 -- are.
 abbrev pub per_cpu_text : List PacketLine → List ℕ
-per_cpu_text lines = each_cpu (λ cpu. cpu_row cpu (chosen_for cpu lines))
+per_cpu_text lines = each_cpu (λ cpu. cpu_count_line cpu (chosen_for cpu lines))

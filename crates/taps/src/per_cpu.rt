@@ -2,7 +2,7 @@
 ghost use Rattle.std.specs.Prelude.{◌≡◌, ◌==◌, ◌+◌, ◌++◌, ℕ, List, slice_index, IfOk, OnOk, OnErr};
 ghost use Rattle.std.specs.Prelude.{if◌then◌else◌};
 ghost use Rattle.history.specs.declared.packet_line.PacketLine.{PacketLine};
-ghost use Rattle.taps.specs.Cpus.{per_cpu_text, cpu_row};
+ghost use Rattle.taps.specs.Cpus.{per_cpu_text, cpu_count_line};
 ghost use Rattle.taps.specs.Rows.{each_cpu};
 
 use crate::tap::{Tap, TapText};
@@ -67,7 +67,7 @@ fn count_at(counts: &mut [u64; 256], lane: u8) -> Result<(), OutOfMemory>
 // The lines of all processors with a count.
 fn rows(alloc: Global, counts: &[u64; 256]) -> Result<Vec<u8>, OutOfMemory>
     ensures { IfOk result
-        (λ text. text.items ≡ each_cpu (λ cpu. cpu_row cpu (slice_index counts.now cpu))) }
+        (λ text. text.items ≡ each_cpu (λ cpu. cpu_count_line cpu (slice_index counts.now cpu))) }
 {
     let mut text = Vec::new(alloc);
     for cpu in 0..256u32 {
@@ -77,7 +77,7 @@ fn rows(alloc: Global, counts: &[u64; 256]) -> Result<Vec<u8>, OutOfMemory>
 }
 
 fn push_cpu(text: &mut Vec<u8>, cpu: u32, count: u64) -> Result<(), OutOfMemory>
-    ensures { OnOk result (text.new.items ≡ text.old.items ++ cpu_row cpu count) }
+    ensures { OnOk result (text.new.items ≡ text.old.items ++ cpu_count_line cpu count) }
 {
     if count == 0 {
         return Ok(());

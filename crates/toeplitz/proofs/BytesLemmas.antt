@@ -8,7 +8,7 @@ use Rattle.std.proofs.Common.{◌<◌, [], ◌∷◌, ◌++◌, length, take, le
 use Rattle.std.proofs.Common.{◌∙◌}
 use Rattle.std.proofs.lemmas.List.{take_more, length-take-le}
 use Rattle.std.proofs.Math.Seq.{take-length}
-use Rattle.toeplitz.specs.Toeplitz.{window, xor_of_bits, hash_of}
+use Rattle.toeplitz.specs.Toeplitz.{key_window, xor_of_bits, hash_of}
 use Rattle.toeplitz.specs.Tables.{xor_of_byte, xor_of_bytes, word_of}
 
 xor_in_either : (b : Bool) (x y w : ℕ)
@@ -36,7 +36,7 @@ xor_of_bits-add key input place (suc k) h =
     xor_of_bits-add key input place k (omega (arith, h)) in
     rw (more, byte, bit, before) (xor_in_either (bit_at (slice_index input place) (7 - k) == 1)
     (xor_of_bits key input (8 * place)) (xor_of_byte key place (slice_index input place) k)
-    (window key (8 * place + k)))
+    (key_window key (8 * place + k)))
 
 -- one byte more
 pub xor_of_bits-more : (key : ℕ) (input : List ℕ) (place : ℕ)

@@ -6,7 +6,7 @@ use Rattle.std.proofs.lemmas.Nat.{field_of, shr-shr}
 use Rattle.std.proofs.lemmas.Nat.Bits.{shr_and_one}
 use Rattle.std.proofs.lemmas.Bool.Decides.{nat_tests}
 use Rattle.std.proofs.Math.Pow.{mod-mod-pow}
-use Rattle.toeplitz.specs.Toeplitz.{window}
+use Rattle.toeplitz.specs.Toeplitz.{key_window}
 use Rattle.toeplitz.specs.Tables.{xor_of_byte}
 
 -- the lowest 32 of the bits from i on, of m low bits that hold them all
@@ -16,7 +16,7 @@ middle_of n m k i e =
     rw cut (mod-mod-pow (n / 2 ^ i) k 32)
 
 pub window_is : (key place k : ℕ) → place < 36 → k < 8
-    → key / 2 ^ (8 * (35 - place)) % 2 ^ 40 / 2 ^ (8 - k) % 2 ^ 32 ≡ window key (8 * place + k)
+    → key / 2 ^ (8 * (35 - place)) % 2 ^ 40 / 2 ^ (8 - k) % 2 ^ 32 ≡ key_window key (8 * place + k)
 window_is key place k within small =
     let sums : 40 ≡ (k + 32) + (8 - k) = omega arith in
     let shift : 8 * (35 - place) + (8 - k) ≡ 288 - (8 * place + k) = omega arith in
@@ -28,7 +28,8 @@ window_is key place k within small =
 
 -- one bit more of the byte, that is 1 or not
 pub word_of_one : (key place byte k word : ℕ) → bit_and (byte / 2 ^ (7 - k)) 1 ≡ 1
-    → word ≡ window key (8 * place + k) → bit_xor (xor_of_byte key place byte k) word ≡ xor_of_byte
+    → word ≡ key_window key (8 * place + k)
+    → bit_xor (xor_of_byte key place byte k) word ≡ xor_of_byte
     key place byte (k + 1)
 unfolding xor_of_byte
 word_of_one key place byte k word one e =

@@ -17,15 +17,15 @@ bit_from_left bytes j = bit_at (slice_index bytes (j / 8)) (7 - j % 8)
 
 -- the 32 bits of the key that begin at its bit j from the left: what input bit j adds to the hash
 -- if it is 1
-abbrev pub window : ℕ → ℕ → ℕ
-window key j = key / 2 ^ (288 - j) % 2 ^ 32
+abbrev pub key_window : ℕ → ℕ → ℕ
+key_window key j = key / 2 ^ (288 - j) % 2 ^ 32
 
 -- the XOR of the key's windows at those of the first n input bits that are 1
 unfoldable pub xor_of_bits : ℕ → List ℕ → ℕ → ℕ
 xor_of_bits key input zero = 0
 xor_of_bits key input (suc j) =
     if bit_from_left input j == 1 then bit_xor (xor_of_bits key input j)
-    (window key j) else xor_of_bits key input j
+    (key_window key j) else xor_of_bits key input j
 
 -- the Toeplitz hash of an input of at most 36 bytes, so that every bit has its window in the key
 abbrev pub hash_of : ℕ → List ℕ → ℕ

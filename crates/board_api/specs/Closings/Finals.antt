@@ -4,7 +4,7 @@ use Rattle.std.specs.List.{range_with_len}
 use Rattle.linearization.specs.Orders.{StepBy}
 use Rattle.history.specs.declared.lane_list.LaneList.{LaneList}
 use Rattle.hop_rule.specs.Boards.{lane_at, lanes_of, out, retired}
-use Rattle.hop_rule.specs.Deliveries.{given}
+use Rattle.hop_rule.specs.Deliveries.{delivered_from}
 use Rattle.hop_rule.specs.declared.sizes.BoardSizes.{BoardSizes}
 use Rattle.hop_rule.specs.declared.step.BoardStep.{BoardStep}
 use Rattle.board_api.specs.declared.lists.BoardLists.{BoardLists}
@@ -16,7 +16,7 @@ lane_list about order l =
       accepted = (lane_at about order l).accepted;
       drops = (lane_at about order l).drops;
       pulled = (lane_at about order l).pulled;
-      delivered = length (given l (lanes_of order));
+      delivered = length (delivered_from l (lanes_of order));
       retired = retired about order l;
     }
 

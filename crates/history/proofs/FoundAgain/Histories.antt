@@ -9,7 +9,8 @@ use Rattle.steer_base.specs.Orders.{Apart}
 use Rattle.steer_base.specs.declared.choice.Choice.{Choice}
 use Rattle.steer_base.specs.declared.packet.Packet.{Packet}
 use Rattle.history.specs.Finding.{found, Once}
-use Rattle.history.specs.Lines.{choice_in, tx_choice_of, accepted_place, tx_position_of, sent_of}
+use Rattle.history.specs.Lines.{choice_in, tx_choice_of, accepted_place, tx_position_of}
+use Rattle.history.specs.Lines.{first_reply_to}
 use Rattle.history.specs.Lines.{line_of_sent}
 use Rattle.history.specs.Lists.{app_at, packet_at, list_at, lane_at, no_lane, accepted_lists}
 use Rattle.history.specs.Regular.{Regular}
@@ -34,7 +35,7 @@ use Rattle.history.proofs.FoundAgain.Traces.{tx_accepted-replied, port-replied}
 
 -- a reply that was begun is of an arrived packet, and names it
 sent-arrived : (packets : List Packet) (apps : ℕ) (h : History) (x : ℕ) (s : Sent)
-    → Regular packets apps h → sent_of h x ≡ Some s
+    → Regular packets apps h → first_reply_to h x ≡ Some s
     → (x < length h.arrivals) × (s.id ≡ x)
 sent-arrived packets apps h x s r e =
     let a = app_at packets apps x in
@@ -99,21 +100,22 @@ replied_by packets apps h k x (Some s) (Some t) a b e = record {
 
 replied : (packets : List Packet) (apps : ℕ) (h k : History) → Both packets apps h k → (x : ℕ)
     → x < length h.arrivals
-    → Replied h k x (sent_of h x) (sent_of k x)
+    → Replied h k x (first_reply_to h x) (first_reply_to k x)
 replied packets apps h k b x l =
-    replied_by packets apps h k x (sent_of h x) (sent_of k x)
+    replied_by packets apps h k x (first_reply_to h x) (first_reply_to k x)
     (λ s e. (sent-arrived packets apps h x s b.left e).1)
     (λ s e. (sent-arrived packets apps k x s b.right e).1) (b.shown.reply x l)
 
 -- The sent lists.
 same_sent_of : (packets : List Packet) (apps : ℕ) (h k : History) → Both packets apps h k → (x : ℕ)
-    → sent_of h x ≡ sent_of k x
+    → first_reply_to h x ≡ first_reply_to k x
 same_sent_of packets apps h k b x = elim (cases_lt x (length h.arrivals)) [
   | inl l ↦ (replied packets apps h k b x l).sent
   | inr l ↦
-      no_value (sent_of h x) (λ s e. let f = (sent-arrived packets apps h x s b.left e).0 in
+      no_value (first_reply_to h x) (λ s e. let f = (sent-arrived packets apps h x s b.left e).0 in
       omega (arith, f, l))
-      ∙ sym (no_value (sent_of k x) (λ s e. let f = (sent-arrived packets apps k x s b.right e).0 in
+      ∙ sym (no_value (first_reply_to k x) (λ s e.
+      let f = (sent-arrived packets apps k x s b.right e).0 in
       omega (arith, f, l, b.shown.arrived)))
 ]
 
@@ -165,10 +167,10 @@ same_class (Some c) (Some d) n a b e =
 
 -- without a reply there is no choice for it
 unreplied : (packets : List Packet) (apps : ℕ) (h : History) (x : ℕ) → Regular packets apps h
-    → sent_of h x ≡ None → tx_choice_of h x ≡ None
+    → first_reply_to h x ≡ None → tx_choice_of h x ≡ None
 unreplied packets apps h x r e = no_value (tx_choice_of h x) (λ c f.
-    let s : is_some (sent_of h x) ≡ true = tx_choice-replied packets apps h r x c f in
-    let n : is_some (sent_of h x) ≡ false = ap is_some e in cc)
+    let s : is_some (first_reply_to h x) ≡ true = tx_choice-replied packets apps h r x c f in
+    let n : is_some (first_reply_to h x) ≡ false = ap is_some e in cc)
 
 sent_or_not : (o : Option Sent) → ((s : Sent) × (o ≡ Some s)) ⊎ (o ≡ None)
 sent_or_not None = inr refl
@@ -176,7 +178,7 @@ sent_or_not (Some s) = inl (s, refl)
 
 same_tx_choice : (packets : List Packet) (apps : ℕ) (h k : History) → Both packets apps h k
     → (x : ℕ) → tx_choice_of h x ≡ tx_choice_of k x
-same_tx_choice packets apps h k b x = elim (sent_or_not (sent_of h x)) [
+same_tx_choice packets apps h k b x = elim (sent_or_not (first_reply_to h x)) [
   | inl s ↦
       let l = (sent-arrived packets apps h x s.0 b.left s.1).0 in
       same_class (tx_choice_of h x) (tx_choice_of k x) (packet_at packets x).flow_number
@@ -241,17 +243,17 @@ tx_accepted-bound packets apps h x n r small e =
 
 -- nor at any, where no reply was begun
 tx_accepted-unreplied : (packets : List Packet) (apps : ℕ) (h : History) (x : ℕ)
-    → Regular packets apps h → sent_of h x ≡ None → accepted_place h.tx_lanes x ≡ None
+    → Regular packets apps h → first_reply_to h x ≡ None → accepted_place h.tx_lanes x ≡ None
 tx_accepted-unreplied packets apps h x r e =
     first_some-none (λ lane. place_in x lane.accepted) no_lane h.tx_lanes (λ t.
     no_value (place_in x (lane_at h.tx_lanes t).accepted) (λ n f.
-    let s : is_some (sent_of h x) ≡ true = tx_accepted-replied packets apps h r t x
+    let s : is_some (first_reply_to h x) ≡ true = tx_accepted-replied packets apps h r t x
     (ap is_some f) in
-    let n : is_some (sent_of h x) ≡ false = ap is_some e in cc))
+    let n : is_some (first_reply_to h x) ≡ false = ap is_some e in cc))
 
 same_tx_place : (packets : List Packet) (apps : ℕ) (h k : History) → Both packets apps h k → (x : ℕ)
     → accepted_place h.tx_lanes x ≡ accepted_place k.tx_lanes x
-same_tx_place packets apps h k b x = elim (sent_or_not (sent_of h x)) [
+same_tx_place packets apps h k b x = elim (sent_or_not (first_reply_to h x)) [
   | inl s ↦
       let l = (sent-arrived packets apps h x s.0 b.left s.1).0 in
       position-place h.start (accepted_place h.tx_lanes x) (accepted_place k.tx_lanes x)
@@ -289,14 +291,14 @@ same_tx_lanes packets apps h k b = same_lists no_lane h.tx_lanes k.tx_lanes
 
 -- The port.
 port-unreplied : (packets : List Packet) (apps : ℕ) (h : History) (x : ℕ) → Regular packets apps h
-    → sent_of h x ≡ None → place_in x h.port ≡ None
+    → first_reply_to h x ≡ None → place_in x h.port ≡ None
 port-unreplied packets apps h x r e = no_value (place_in x h.port) (λ n f.
-    let s : is_some (sent_of h x) ≡ true = port-replied packets apps h r x (ap is_some f) in
-    let n : is_some (sent_of h x) ≡ false = ap is_some e in cc)
+    let s : is_some (first_reply_to h x) ≡ true = port-replied packets apps h r x (ap is_some f) in
+    let n : is_some (first_reply_to h x) ≡ false = ap is_some e in cc)
 
 same_port_place : (packets : List Packet) (apps : ℕ) (h k : History) → Both packets apps h k
     → (x : ℕ) → place_in x h.port ≡ place_in x k.port
-same_port_place packets apps h k b x = elim (sent_or_not (sent_of h x)) [
+same_port_place packets apps h k b x = elim (sent_or_not (first_reply_to h x)) [
   | inl s ↦ (replied packets apps h k b x (sent-arrived packets apps h x s.0 b.left s.1).0).port s.0
       s.1
   | inr e ↦ port-unreplied packets apps h x b.left e ∙ sym (port-unreplied packets apps k x b.right

@@ -10,7 +10,7 @@ use Rattle.steer_base.specs.Orders.{Apart}
 use Rattle.steer_base.specs.declared.choice.Choice.{Choice}
 use Rattle.steer_base.specs.declared.packet.Packet.{Packet}
 use Rattle.history.specs.Finding.{is_in, found}
-use Rattle.history.specs.Lines.{choice_in, choice_of, tx_choice_of, sent_of}
+use Rattle.history.specs.Lines.{choice_in, choice_of, tx_choice_of, first_reply_to}
 use Rattle.history.specs.Lists.{app_at, list_at, lane_at, no_lane, drop_ids, accepted_lists}
 use Rattle.history.specs.Lists.{dropped_lists, arrival_of}
 use Rattle.history.specs.Regular.{Regular}
@@ -77,7 +77,7 @@ module _ (packets : List Packet) (apps : ℕ) (h : History) (regular : Regular p
 
   -- what has a transmit choice was replied to
   pub chosen-replied : (a x : ℕ) → is_some (choice_in x (list_at h.tx_choices a)) ≡ true
-      → is_some (sent_of h x) ≡ true
+      → is_some (first_reply_to h x) ≡ true
   chosen-replied a x s =
       let sent : is_some (found (λ t. t.id) x (list_at h.sent a)) ≡ true =
       is_some-found (λ t. t.id) x (list_at h.sent a)
@@ -87,7 +87,7 @@ module _ (packets : List Packet) (apps : ℕ) (h : History) (regular : Regular p
       (tx_choice-app packets apps h regular a x s)) ∙ sent
 
   pub tx_choice-replied : (x : ℕ) (c : Choice) → tx_choice_of h x ≡ Some c
-      → is_some (sent_of h x) ≡ true
+      → is_some (first_reply_to h x) ≡ true
   tx_choice-replied x c e = chosen-replied (app_at packets apps x) x
       (ap is_some (sym (tx_choice-own packets apps h regular x) ∙ e))
 
@@ -98,11 +98,11 @@ module _ (packets : List Packet) (apps : ℕ) (h : History) (regular : Regular p
       (tx_lane-accepted packets apps h regular t x s)
 
   pub tx_accepted-replied : (t x : ℕ) → is_in x (lane_at h.tx_lanes t).accepted ≡ true
-      → is_some (sent_of h x) ≡ true
+      → is_some (first_reply_to h x) ≡ true
   tx_accepted-replied t x s = let w = regular.shipped.accepted t x s in chosen-replied w.0 x
       (ap is_some w.2)
 
-  pub port-replied : (x : ℕ) → is_in x h.port ≡ true → is_some (sent_of h x) ≡ true
+  pub port-replied : (x : ℕ) → is_in x h.port ≡ true → is_some (first_reply_to h x) ≡ true
   port-replied x s = let w = regular.shipped.port x s in tx_accepted-replied w.0 x w.1
 
 -- what a processor accepted, it did not drop

@@ -5,7 +5,7 @@ ghost use Rattle.std.specs.Option.{option_and, option_map, option_or};
 ghost use Rattle.steer_base.specs.declared.limits.TheConstants.{MAX_PACKETS};
 ghost use Rattle.steer_base.specs.Counters.{number};
 ghost use Rattle.steer_base.specs.declared.put.Put.TheVariants.{At as at_position};
-ghost use Rattle.history.specs.Known.{IsKnown, pulled_by};
+ghost use Rattle.history.specs.Known.{IsKnown, pulled_lane};
 ghost use Rattle.history.specs.Lines.{packet_line as line_of_packet, reply_line as line_of_reply};
 ghost use Rattle.history.specs.Lines.{via_of as via_of_arrival};
 ghost use Rattle.history.specs.Places.{place_by as first_place, place_of as place_of_packet};
@@ -192,7 +192,7 @@ fn lane_of(choice: Option<Choice>) -> Option<u8>
 // The processor of a packet, where its place among the accepted ones there is among those that were
 // pulled.
 fn pulled_at(lanes: &List<LaneList>, cpu: Option<u8>, accepted: Option<u32>) -> Option<u8>
-    ensures { result ≡ pulled_by lanes.now cpu accepted }
+    ensures { result ≡ pulled_lane lanes.now cpu accepted }
 {
     let (Some(cpu), Some(place)) = (cpu, accepted) else {
         return None;

@@ -9,7 +9,7 @@ use Rattle.steer_base.specs.Entries.{entry, of_class, current_lane}
 use Rattle.steer_base.specs.Sets.{has}
 use Rattle.steer_base.specs.declared.choice.Chosen.{Chosen}
 use Rattle.steer_base.specs.declared.cpu_mask.CpuMask.{CpuMask}
-use Rattle.dev_flow_table.specs.Walks.{since_of}
+use Rattle.dev_flow_table.specs.Walks.{since_resize}
 use Rattle.hop_rule.specs.Moments.{nth_step}
 use Rattle.hop_rule.specs.declared.sizes.BoardSizes.{BoardSizes}
 use Rattle.hop_rule.specs.declared.step.BoardStep.{BoardStep}
@@ -28,8 +28,9 @@ use Rattle.hop_delivery.specs.Closings.TurnReads.{HasSeen, IsBySeen, RulesAreByR
 use Rattle.hop_delivery.specs.Closings.TurnReads.{TurnsReadSettings}
 
 -- the last resize before a choice, by the shapes up to it
-since-same : (f g : ℕ → ℕ) (i : ℕ) → ((j : ℕ) → j ≤ i → f j ≡ g j) → since_of f i ≡ since_of g i
-unfolding since_of
+since-same : (f g : ℕ → ℕ) (i : ℕ) → ((j : ℕ) → j ≤ i → f j ≡ g j)
+    → since_resize f i ≡ since_resize g i
+unfolding since_resize
 since-same f g zero same = refl
 since-same f g (suc i) same =
     let here = same i (omega arith) in
@@ -110,8 +111,8 @@ module _ (about : BoardSizes) (own : ℕ → List BoardStep) (lists : BoardLists
           let onlines = word_same i (online_word q) u at h.online in
           let f : ℕ = steering.flow u.chosen.id in
           let want : Option ℕ = u.chosen.choice.want in
-          let since : since_of (λ j. steering.shape (seen j) p) i
-          ≡ since_of (λ j. steering.shape (visits_at j) p) i =
+          let since : since_resize (λ j. steering.shape (seen j) p) i
+          ≡ since_resize (λ j. steering.shape (visits_at j) p) i =
           since-same (λ j. steering.shape (seen j) p) (λ j. steering.shape (visits_at j) p) i
           shapes in
           let class : steering.class (steering.shape (seen i) p) f

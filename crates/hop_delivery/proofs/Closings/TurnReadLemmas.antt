@@ -26,7 +26,7 @@ use Rattle.board_api.specs.OwnSteps.{Has}
 use Rattle.board_api.specs.declared.lists.BoardLists.{BoardLists}
 use Rattle.board_api.proofs.AddedSteps.{quiet_steps_stay}
 use Rattle.hop_delivery.specs.Orders.Runs.{Story, settings_of_visit, turns_of}
-use Rattle.hop_delivery.specs.Orders.Turns.{Turn, Explained, put_step, visit_with}
+use Rattle.hop_delivery.specs.Orders.Turns.{Turn, Explained, turn_put, visit_with}
 use Rattle.hop_delivery.specs.Closings.TurnReads.{HasRead, TurnsReadSettings}
 
 -- ---- a member splits its list
@@ -83,7 +83,7 @@ module _ (about : BoardSizes) (own : ℕ → List BoardStep) (lists : BoardLists
       let begun : List BoardStep = Gate (Entered u.word) ∷ older in
       let back : List BoardStep = t.1 ++ begun in
       let front : List BoardStep =
-      newer ++ Gate Left ∷ (late ++ (put_step u ∷ t.0)) in
+      newer ++ Gate Left ∷ (late ++ (turn_put u ∷ t.0)) in
       let whole : own q ≡ front ++ reading ∷ back = list ∙ joined t.0 t.1 t.2 in
       let k : ℕ = length back in
       let does : Has (own q) k reading =
@@ -98,16 +98,16 @@ module _ (about : BoardSizes) (own : ℕ → List BoardStep) (lists : BoardLists
     where
       joined : (a b : List BoardStep) → u.early ≡ a ++ reading ∷ b
           → newer ++ visit_with u late older
-          ≡ (newer ++ Gate Left ∷ (late ++ (put_step u ∷ a)))
+          ≡ (newer ++ Gate Left ∷ (late ++ (turn_put u ∷ a)))
           ++ reading ∷ (b ++ Gate (Entered u.word) ∷ older)
       joined a b e =
           let begun : List BoardStep = Gate (Entered u.word) ∷ older in
           let rest : List BoardStep = reading ∷ (b ++ begun) in
-          let late_part : List BoardStep = late ++ (put_step u ∷ a) in
-          ap (λ z. newer ++ Gate Left ∷ (late ++ (put_step u ∷ z)))
+          let late_part : List BoardStep = late ++ (turn_put u ∷ a) in
+          ap (λ z. newer ++ Gate Left ∷ (late ++ (turn_put u ∷ z)))
           (ap (λ z. z ++ begun) e ∙ append_assoc a (reading ∷ b) begun)
           ∙ sym (append_assoc newer (Gate Left ∷ late_part) rest
-          ∙ ap (λ z. newer ++ Gate Left ∷ z) (append_assoc late (put_step u ∷ a) rest))
+          ∙ ap (λ z. newer ++ Gate Left ∷ z) (append_assoc late (turn_put u ∷ a) rest))
 
   -- what comes before a turn's visit is at the end of the list
   visit-split : (u : Turn) (late older : List BoardStep)
@@ -115,8 +115,8 @@ module _ (about : BoardSizes) (own : ℕ → List BoardStep) (lists : BoardLists
   visit-split u late older =
       let entry : BoardStep = Gate (Entered u.word) in
       ap (λ z. Gate Left ∷ z)
-      (ap (λ z. late ++ (put_step u ∷ z)) (sym (append_assoc u.early (entry ∷ []) older))
-      ∙ sym (append_assoc late (put_step u ∷ (u.early ++ entry ∷ [])) older))
+      (ap (λ z. late ++ (turn_put u ∷ z)) (sym (append_assoc u.early (entry ∷ []) older))
+      ∙ sym (append_assoc late (turn_put u ∷ (u.early ++ entry ∷ [])) older))
 
   -- the same for any turn of a producer among those that explain a part of the list
   turn_among : (front ds : List BoardStep) (ts : List (StepBy Turn)) → own q ≡ front ++ ds

@@ -7,7 +7,7 @@ use Rattle.steer_base.specs.Choices.{migrate}
 use Rattle.steer_base.specs.Entries.{entry, of_class, current_lane, position}
 use Rattle.steer_base.specs.declared.choice.Chosen.{Chosen}
 use Rattle.steer_base.specs.declared.put.Put.{Put}
-use Rattle.dev_flow_table.specs.Walks.{since_of}
+use Rattle.dev_flow_table.specs.Walks.{since_resize}
 use Rattle.hop_core.specs.Hop.{chosen_at}
 use Rattle.linearization.specs.Orders.{StepBy}
 use Rattle.hop_rule.specs.Boards.{accepted, retired, settings}
@@ -56,7 +56,7 @@ module _ (about : BoardSizes) (order : List (StepBy BoardStep)) (a : Account) (r
       (chosen a p i).choice.want
 
   abbrev pub before : ℕ → ℕ → List Chosen
-  before p i = drop (since_of (shape_at p) i) (take i (a.choices p))
+  before p i = drop (since_resize (shape_at p) i) (take i (a.choices p))
 
   -- the count at which the packet of a choice was accepted by its lane
   abbrev pub At : ℕ → ℕ → ℕ → Type 0

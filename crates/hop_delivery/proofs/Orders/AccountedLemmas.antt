@@ -12,7 +12,7 @@ use Rattle.steer_base.specs.Choices.{migrate}
 use Rattle.steer_base.specs.Entries.{entry, of_class, current_lane}
 use Rattle.steer_base.specs.declared.choice.Chosen.{Chosen}
 use Rattle.steer_base.specs.declared.put.Put.{Put}
-use Rattle.dev_flow_table.specs.Walks.{since_of}
+use Rattle.dev_flow_table.specs.Walks.{since_resize}
 use Rattle.hop_core.specs.Hop.{nobody}
 use Rattle.linearization.specs.Orders.{StepBy, step_by, steps_of}
 use Rattle.linearization.proofs.ListLemmas.{if_same, if_other}
@@ -45,15 +45,16 @@ use Rattle.hop_delivery.specs.Orders.Premises.{AllFindEmpty}
 use Rattle.hop_delivery.specs.Orders.Premises.{GoesRight}
 use Rattle.hop_delivery.specs.Orders.Runs as stories
 use Rattle.hop_delivery.specs.Orders.Runs.{Story, Steering, turns_of, word_of}
-use Rattle.hop_delivery.specs.Orders.Turns.{Turn, put_step}
+use Rattle.hop_delivery.specs.Orders.Turns.{Turn, turn_put}
 use Rattle.hop_delivery.proofs.Orders.AccountLemmas.{Account, IsAccount, IsRuled, HasVisit}
 use Rattle.hop_delivery.proofs.Orders.AccountLemmas.{WasLoaded, chosen}
 use Rattle.hop_delivery.proofs.Orders.TurnLemmas.{Places, VisitAt, turns_have_places, nth-split}
 use Rattle.hop_delivery.proofs.Orders.TurnLemmas.{nth-first}
 
 -- the last change of a size, by the sizes up to a choice
-since-same : (f g : ℕ → ℕ) (i : ℕ) → ((j : ℕ) → j ≤ i → f j ≡ g j) → since_of f i ≡ since_of g i
-unfolding since_of
+since-same : (f g : ℕ → ℕ) (i : ℕ) → ((j : ℕ) → j ≤ i → f j ≡ g j)
+    → since_resize f i ≡ since_resize g i
+unfolding since_resize
 since-same f g zero same = refl
 since-same f g (suc i) same =
     let here = same i (omega arith) in let next = same (suc i) (omega arith) in
@@ -333,9 +334,9 @@ module _ (about : BoardSizes) (order : List (StepBy BoardStep)) (t : Story) (r :
     enters_at = at_moment q order (places.entered (turn_at p i)) (Gate (Entered u.word))
         visit.enters
 
-    puts_at : IsStep order (put_at p i) q (put_step u)
+    puts_at : IsStep order (put_at p i) q (turn_put u)
     unfolding put_at
-    puts_at = at_moment q order (places.put (turn_at p i)) (put_step u) visit.puts
+    puts_at = at_moment q order (places.put (turn_at p i)) (turn_put u) visit.puts
 
     has_visit : HasVisit about order account r p i
     unfolding entered_at put_at
@@ -347,9 +348,9 @@ module _ (about : BoardSizes) (order : List (StepBy BoardStep)) (t : Story) (r :
       puts = subst (λ (c : Chosen). IsPut about order (put_at p i) q c.choice.lane c.id u.hash
           u.answer) (sym chosen_is) puts_at;
       after = rise about order q (places.entered (turn_at p i)) (places.put (turn_at p i))
-          (put_step u) visit.after visit.puts;
+          (turn_put u) visit.after visit.puts;
       stays = λ m from to is. none_between about order q (places.entered (turn_at p i))
-          (places.put (turn_at p i)) m (Gate (Entered u.word)) (put_step u) (Gate Left) visit.enters
+          (places.put (turn_at p i)) m (Gate (Entered u.word)) (turn_put u) (Gate Left) visit.enters
           visit.puts visit.stays from to is;
     }
 
@@ -368,7 +369,7 @@ module _ (about : BoardSizes) (order : List (StepBy BoardStep)) (t : Story) (r :
         record {
           moment = moment_of q order e.0;
           word = w;
-          before = rise about order q e.0 (places.put (turn_at p i)) (put_step u) e.2 visit.puts;
+          before = rise about order q e.0 (places.put (turn_at p i)) (turn_put u) e.2 visit.puts;
           weighs = at_moment q order e.0 (Weighed l w) e.3;
           shows = shows;
         }
@@ -382,7 +383,7 @@ module _ (about : BoardSizes) (order : List (StepBy BoardStep)) (t : Story) (r :
       let u = turn_of p i l in
       let b = good.by_rule p i u.0 u.1 in
       let s = settings_is p i u.0 u.1 in
-      let since : since_of (stories.shape_at about own acc t r p) i ≡ since_of
+      let since : since_resize (stories.shape_at about own acc t r p) i ≡ since_resize
       (λ j. r.shape (settings about (past (entered_at p j) order)) p) i =
       since-same (stories.shape_at about own acc t r p)
       (λ j. r.shape (settings about (past (entered_at p j) order)) p) i
@@ -394,7 +395,7 @@ module _ (about : BoardSizes) (order : List (StepBy BoardStep)) (t : Story) (r :
       by_paths : (u : Turn) → nth_step (turns_of t p) i ≡ Some u
           → (b : stories.IsByRule about own acc t r p i u) → stories.settings_at about own acc t r p
           i ≡ settings about (past (entered_at p i) order)
-          → since_of (stories.shape_at about own acc t r p) i ≡ since_of
+          → since_resize (stories.shape_at about own acc t r p) i ≡ since_resize
           (λ j. r.shape (settings about (past (entered_at p j) order)) p) i
           → u.chosen ≡ chosen account p i → IsRuled about order account r p i
       by_paths u at b s n c = record {

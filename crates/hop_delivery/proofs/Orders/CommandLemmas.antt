@@ -13,7 +13,8 @@ use Rattle.steer_base.specs.declared.command.Command.TheVariants.{Online, XCpus,
 use Rattle.steer_base.specs.declared.command.Command.TheVariants.{Stand, Expire}
 use Rattle.steer_base.specs.declared.cpu_mask.CpuMask.{CpuMask}
 use Rattle.steer_base.proofs.MasksLemmas.{has-with_cpu, has-without_cpu}
-use Rattle.hop_delivery.specs.Orders.Commands.{Made, made, received_sets, sent_sets, NamesCpu}
+use Rattle.hop_delivery.specs.Orders.Commands.{SettingChange, made, received_sets, sent_sets}
+use Rattle.hop_delivery.specs.Orders.Commands.{NamesCpu}
 use Rattle.hop_delivery.specs.Orders.Commands.{AreAffected}
 use Rattle.hop_delivery.specs.Orders.Commands.{ReceivedCommandsEmpty, SentCommandsEmpty}
 use Rattle.hop_delivery.specs.Orders.ReceiveSettings.{Queues, came_on, empty_for_mask}
@@ -22,7 +23,8 @@ use Rattle.hop_delivery.specs.Orders.ReceiveSettings.{online_word, receive_steer
 use Rattle.hop_delivery.specs.Orders.TransmitSettings.{transmit_steering}
 
 -- of one setting
-one : (P : Made → Type 0) (m : Made) → P m → Rattle.std.specs.Prelude.All P (m ∷ [])
+one : (P : SettingChange → Type 0) (m : SettingChange) → P m → Rattle.std.specs.Prelude.All P
+    (m ∷ [])
 one P m h = All-cons P m [] h (All-nil P)
 
 either : (a b : Bool) → (a || b) ≡ true → (a ≡ true) ⊎ (b ≡ true)
@@ -91,7 +93,7 @@ module _ (q : Queues) (s : ℕ → ℕ) (cpu l : ℕ) (small : cpu < 32) where
       stays_on false b e = refl
 
 module _ (q : Queues) (s : ℕ → ℕ) (cpus txs l : ℕ) (less : l < cpus) where
-  abbrev Received : Command → Made → Type 0
+  abbrev Received : Command → SettingChange → Type 0
   Received c m = must_be_empty q s m.word m.value l ≡ true → is_affected c q.homes cpus txs l ≡ true
 
   all : nat_lt l cpus ≡ true
@@ -121,7 +123,7 @@ pub received_commands_empty : ReceivedCommandsEmpty
 received_commands_empty q s c cpus txs l names less = received q s cpus txs l less c names
 
 module _ (flow s : ℕ → ℕ) (homes : List ℕ) (count cpus l : ℕ) where
-  abbrev Sent : Command → Made → Type 0
+  abbrev Sent : Command → SettingChange → Type 0
   Sent c m = (transmit_steering flow).affects s m.word m.value l ≡ true
       → is_affected c homes cpus count l ≡ true
 

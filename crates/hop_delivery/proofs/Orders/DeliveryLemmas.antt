@@ -15,7 +15,7 @@ use Rattle.steer_base.specs.declared.put.Put.{Put}
 use Rattle.backlog.specs.Puts.{after_put, put_by}
 use Rattle.linearization.specs.Orders.{StepBy}
 use Rattle.hop_rule.specs.Boards.{IsLawful, accepted, drops, drops_at, lanes_of, out}
-use Rattle.hop_rule.specs.Deliveries.{Delivery, delivery, given}
+use Rattle.hop_rule.specs.Deliveries.{Delivery, delivery, delivered_from}
 use Rattle.hop_rule.specs.Lanes as lanes
 use Rattle.hop_rule.specs.Moments.{nth_step}
 use Rattle.hop_rule.specs.PutLaws.{IsPut, lane_then}
@@ -92,7 +92,8 @@ module _ (about : BoardSizes) (order : List (StepBy BoardStep)) (fit : FitSizes 
     same : (chosen a q index).id ≡ x
     count : ℕ
     at : At about order a r q index (suc count)
-    nth_is : nth_step (given (lane_chosen a q index) ls) count ≡ Some (delivery (r.to f) x (suc k))
+    nth_is : nth_step (delivered_from (lane_chosen a q index) ls) count ≡ Some
+        (delivery (r.to f) x (suc k))
 
   of_producer : (q i j x : ℕ) → j < a.placed q → slice_get arrived i ≡ Some x
       → (chosen a q j).id ≡ x → (p ≡ q) × (i ≡ j)
@@ -102,7 +103,7 @@ module _ (about : BoardSizes) (order : List (StepBy BoardStep)) (fit : FitSizes 
       → Delivered p k x
   delivered k x at came_ =
       let g = out_given about (r.to f) k x ls lawful_lanes at in
-      let id = ids_at about (given g.lane ls) (accepted about order g.lane)
+      let id = ids_at about (delivered_from g.lane ls) (accepted about order g.lane)
       (facts about ls lawful_lanes g.lane).2 g.index (delivery (r.to f) x (suc k)) g.at in
       let w = was_put about order lawful g.lane g.index x id in
       let u = put_is about order lawful a r good w.moment w.seat g.lane x w.hash w.answer w.is in
@@ -127,7 +128,7 @@ module _ (about : BoardSizes) (order : List (StepBy BoardStep)) (fit : FitSizes 
         same = u.same_id;
         count = g.index;
         at = subst (λ (z : ℕ). At about order a r u.producer u.index (suc z)) found there;
-        nth_is = ap (λ z. nth_step (given z ls) g.index) u.same_lane ∙ g.at;
+        nth_is = ap (λ z. nth_step (delivered_from z ls) g.index) u.same_lane ∙ g.at;
       } in
       subst (λ (q : ℕ). Delivered q k x) (sym mine.0) whole
 
@@ -217,28 +218,31 @@ module _ (about : BoardSizes) (order : List (StepBy BoardStep)) (fit : FitSizes 
 
   -- ---- pairs
 
-  given_to : (l : ℕ) → Each about (λ (g : Delivery). g.to ≡ r.to (r.flow g.id)) (given l ls)
+  given_to : (l : ℕ) → Each about (λ (g : Delivery). g.to ≡ r.to (r.flow g.id))
+      (delivered_from l ls)
   given_to l = each_given about l (λ (g : Delivery). g.to ≡ r.to (r.flow g.id)) order
       (λ n q o id place is. good.given n q o l id place is)
 
   -- the delivery of an accepted packet of the flow stands in the flow's out lane
   in_out_lane : (i n k : ℕ) (g : Delivery) → IsAt i (suc n) → r.flow (c i).id ≡ f
-      → nth_step (given (lane_chosen a p i) ls) n ≡ Some g → (g.to ≡ r.to f → g.place < suc k)
+      → nth_step (delivered_from (lane_chosen a p i) ls) n ≡ Some g
+      → (g.to ≡ r.to f → g.place < suc k)
       → (l : ℕ) × (l < k) × (slice_get (out about order (r.to f)) l ≡ Some (c i).id)
   in_out_lane i n k g at flow there low =
       let l : ℕ = lane_chosen a p i in
-      let id = ids_at about (given l ls) (accepted about order l) (facts about ls lawful_lanes l).2
+      let id = ids_at about (delivered_from l ls) (accepted about order l)
+      (facts about ls lawful_lanes l).2
       n g there in
       let mine : slice_get (accepted about order l) n ≡ Some (c i).id =
       (let k : n ≡ suc n - 1 = omega arith in ap (slice_get (accepted about order l)) k
       ∙ place-get (c i).id (suc n) (accepted about order l) at) in
       let id_is : g.id ≡ (c i).id = some-is g.id (c i).id (sym id ∙ mine) in
       let to_is : g.to ≡ r.to f = nth-each about (λ (d : Delivery). d.to ≡ r.to (r.flow d.id))
-      (given l ls) (given_to l) n g there ∙ ap r.to (ap r.flow id_is ∙ flow) in
+      (delivered_from l ls) (given_to l) n g there ∙ ap r.to (ap r.flow id_is ∙ flow) in
       let lower = low to_is in
       let s = nth-each about
       (λ (d : Delivery). (0 < d.place)
-      × (slice_get (lanes.out d.to ls) (d.place - 1) ≡ Some d.id)) (given l ls)
+      × (slice_get (lanes.out d.to ls) (d.place - 1) ≡ Some d.id)) (delivered_from l ls)
       (stands about ls lawful_lanes l) n g there in
       let pos = s.0 in (
         g.place - 1,
@@ -250,7 +254,8 @@ module _ (about : BoardSizes) (order : List (StepBy BoardStep)) (fit : FitSizes 
   -- an earlier packet of the flow that was accepted stands in the out lane before a later one
   pair : (i j n m k : ℕ) → i < j → j < a.placed p → IsAt i (suc n) → IsAt j (suc m)
       → r.flow (c i).id ≡ f → r.flow (c j).id ≡ f
-      → nth_step (given (lane_chosen a p j) ls) m ≡ Some (delivery (r.to f) (c j).id (suc k))
+      → nth_step (delivered_from (lane_chosen a p j) ls) m ≡ Some (delivery (r.to f) (c j).id
+      (suc k))
       → (l : ℕ) × (l < k) × (slice_get (out about order (r.to f)) l ≡ Some (c i).id)
   pair i j n m k less jp at at' flow flow' there =
       let g : Delivery = delivery (r.to f) (c j).id (suc k) in
@@ -266,9 +271,10 @@ module _ (about : BoardSizes) (order : List (StepBy BoardStep)) (fit : FitSizes 
         | inr same ↦ (
             let lt = places_rise about order lawful a r good p i j (suc n) (suc m) less jp same at
             at' in
-            let s = same_lane about (given (lane_chosen a p j) ls)
+            let s = same_lane about (delivered_from (lane_chosen a p j) ls)
             (rises about ls lawful_lanes (lane_chosen a p j)) n m g (omega arith) there in
-            in_out_lane i n k s.0 at flow (ap (λ z. nth_step (given z ls) n) same ∙ s.1) s.2)
+            in_out_lane i n k s.0 at flow (ap (λ z. nth_step (delivered_from z ls) n) same
+            ∙ s.1) s.2)
       ]
 
   -- ---- the law
@@ -297,7 +303,8 @@ module _ (about : BoardSizes) (order : List (StepBy BoardStep)) (fit : FitSizes 
       (sym u.at ∙ (ap (λ z. position (accepted about order) (c z)) same ∙ v.at)) in
       let n : u.count ≡ v.count = omega arith in
       let d : delivery (r.to f) x (suc k) ≡ delivery (r.to f) x (suc l) = some-is _ _
-      (sym u.nth_is ∙ ((λ j. nth_step (given (lane_chosen a p (same j)) ls) (n j)) ∙ v.nth_is))
+      (sym u.nth_is ∙ ((λ j. nth_step (delivered_from (lane_chosen a p (same j)) ls) (n j))
+      ∙ v.nth_is))
       in
       let pl : suc k ≡ suc l = ap (λ (g : Delivery). g.place) d in omega arith)
       (λ k x at came_.

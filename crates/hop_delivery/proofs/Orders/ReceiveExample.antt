@@ -7,7 +7,7 @@ use Rattle.std.specs.List.{Contains, range_with_len}
 use Rattle.std.proofs.lemmas.List.Elements.{All-nil}
 use Rattle.steer_base.specs.Entries.{current_lane, of_class}
 use Rattle.steer_base.specs.Sets.{those_below}
-use Rattle.dev_flow_table.specs.Walks.{since_of}
+use Rattle.dev_flow_table.specs.Walks.{since_resize}
 use Rattle.linearization.specs.Orders.{StepBy}
 use Rattle.hop_rule.specs.Boards.{accepted}
 use Rattle.hop_rule.specs.Moments.{nth_step, past}
@@ -156,7 +156,7 @@ ByRule p i u = IsByRule receive_board own (accepted receive_board receive_order)
     u
 
 rule_0 : ByRule 0 0 ((turn receive_order first_chosen 0 0 2 (Some 0) (At 4294967295)).step)
-unfolding since_of those_below
+unfolding since_resize those_below
 rule_0 = record {
   head = 0;
   rule = refl;
@@ -166,7 +166,7 @@ rule_0 = record {
 }
 
 rule_1 : ByRule 0 1 ((turn receive_order kept_chosen 0 4 7 (Some 0) (Dropped 1 1 0 Full)).step)
-unfolding since_of those_below
+unfolding since_resize those_below
 rule_1 = record {
   head = 4294967294;
   rule = refl;
@@ -179,7 +179,7 @@ rule_1 = record {
 }
 
 rule_2 : ByRule 0 2 ((turn receive_order moved_chosen 0 14 17 (Some 0) (At 4294967295)).step)
-unfolding since_of those_below
+unfolding since_resize those_below
 rule_2 = record {
   head = 4294967295;
   rule = refl;
@@ -193,7 +193,7 @@ rule_2 = record {
 }
 
 rule_3 : ByRule 0 3 ((turn receive_order other_chosen 0 24 26 (Some 1) (At 0)).step)
-unfolding since_of those_below
+unfolding since_resize those_below
 rule_3 = record {
   head = 0;
   rule = refl;
@@ -203,7 +203,7 @@ rule_3 = record {
 }
 
 rule_4 : ByRule 0 4 ((turn receive_order again_chosen (2 ^ 32) 33 35 (Some 0) (At 0)).step)
-unfolding since_of those_below
+unfolding since_resize those_below
 rule_4 = record {
   head = 0;
   rule = refl;
@@ -267,7 +267,7 @@ receive_meets = record {
     chosen (suc p) i u at = no_turn p i u at
 
 pub receive_example : ReceiveExample
-unfolding since_of
+unfolding since_resize
 receive_example = record {
   all = record {
     fits = record {

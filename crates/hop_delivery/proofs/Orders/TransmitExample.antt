@@ -7,7 +7,7 @@ use Rattle.std.specs.List.{Contains, range_with_len}
 use Rattle.std.proofs.lemmas.List.Elements.{All-nil}
 use Rattle.steer_base.specs.Entries.{current_lane, of_class}
 use Rattle.steer_base.specs.Sets.{those_below}
-use Rattle.dev_flow_table.specs.Walks.{since_of}
+use Rattle.dev_flow_table.specs.Walks.{since_resize}
 use Rattle.linearization.specs.Orders.{StepBy}
 use Rattle.hop_rule.specs.Boards.{accepted}
 use Rattle.hop_rule.specs.Moments.{nth_step, past}
@@ -92,7 +92,7 @@ ByRule p i u = IsByRule transmit_board own (accepted transmit_board transmit_ord
     p i u
 
 rule_0 : ByRule 0 0 ((turn transmit_order first_reply 0 0 2 (None) (At 1)).step)
-unfolding since_of those_below
+unfolding since_resize those_below
 rule_0 = record {
   head = 0;
   rule = refl;
@@ -102,7 +102,7 @@ rule_0 = record {
 }
 
 rule_1 : ByRule 0 1 ((turn transmit_order kept_reply 0 4 7 (None) (At 2)).step)
-unfolding since_of those_below
+unfolding since_resize those_below
 rule_1 = record {
   head = 0;
   rule = refl;
@@ -116,7 +116,7 @@ rule_1 = record {
 }
 
 rule_2 : ByRule 0 2 ((turn transmit_order moved_reply 0 19 22 (None) (At 1)).step)
-unfolding since_of those_below
+unfolding since_resize those_below
 rule_2 = record {
   head = 2;
   rule = refl;

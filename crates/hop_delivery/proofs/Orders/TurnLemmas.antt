@@ -18,7 +18,7 @@ use Rattle.hop_rule.specs.declared.step.GateStep.TheVariants.{Entered, Left}
 use Rattle.hop_rule.specs.declared.step.LaneStep.TheVariants.{Freed}
 use Rattle.hop_rule.proofs.Lists.{some-is, none-some}
 use Rattle.hop_rule.proofs.Moments.{nth-inside, nth-last, nth-old}
-use Rattle.hop_delivery.specs.Orders.Turns.{Turn, put_step, AreQuiet, Explained, visit_with}
+use Rattle.hop_delivery.specs.Orders.Turns.{Turn, turn_put, AreQuiet, Explained, visit_with}
 
 -- ---- steps of a list in parts
 
@@ -71,7 +71,7 @@ module _ {A : Type 0} where
 -- the step numbers of a turn's entry and of its put, which is made in the visit
 pub record VisitAt (ds : List BoardStep) (t : Turn) (e u : ℕ) : Type 0 where
   pub enters : nth_step ds e ≡ Some (Gate (Entered t.word))
-  pub puts : nth_step ds u ≡ Some (put_step t)
+  pub puts : nth_step ds u ≡ Some (turn_put t)
   pub after : e < u
   pub stays : (k : ℕ) → e < k → k < u → nth_step ds k ≡ Some (Gate Left) → ⊥
   pub early : (j : ℕ) (d : BoardStep) → nth_step t.early j ≡ Some d → (k : ℕ) × (e < k) × (k < u)
@@ -118,7 +118,7 @@ module _ (t : StepBy Turn) (ts : List (StepBy Turn)) (newer late older : List Bo
   to_put = early ++ from_entry
 
   abbrev from_put : List BoardStep
-  from_put = put_step turn ∷ to_put
+  from_put = turn_put turn ∷ to_put
 
   abbrev to_leave : List BoardStep
   to_leave = late ++ from_put
@@ -140,7 +140,7 @@ module _ (t : StepBy Turn) (ts : List (StepBy Turn)) (newer late older : List Bo
       (λ e. absurd (omega arith)) ∙ nth-old late from_put k l)
 
   in_early : (k : ℕ) → k < length to_put → nth_step whole k ≡ nth_step to_put k
-  in_early k l = in_put k (omega arith) ∙ if_other (length to_put) k (Some (put_step turn))
+  in_early k l = in_put k (omega arith) ∙ if_other (length to_put) k (Some (turn_put turn))
       (nth_step to_put k) (λ e. absurd (omega arith))
 
   in_entry : (k : ℕ) → k < length from_entry → nth_step whole k ≡ nth_step from_entry k
@@ -171,7 +171,7 @@ module _ (t : StepBy Turn) (ts : List (StepBy Turn)) (newer late older : List Bo
   this : VisitAt whole turn (length older) (length to_put)
   this = let s = sizes in let s0 = s.0 in record {
     enters = in_entry (length older) (omega arith) ∙ nth-last (Gate (Entered turn.word)) older;
-    puts = in_put (length to_put) (omega arith) ∙ nth-last (put_step turn) to_put;
+    puts = in_put (length to_put) (omega arith) ∙ nth-last (turn_put turn) to_put;
     after = omega arith;
     stays = λ k from to at.
         elim (nth-split early from_entry k (Gate Left) (sym (in_early k to) ∙ at)) [
@@ -245,7 +245,7 @@ module _ (t : StepBy Turn) (ts : List (StepBy Turn)) (newer late older : List Bo
           | inr b ↦ (let z = ap is_lane b.0 in absurd (omega arith))
           | inl b ↦ elim (nth-split late from_put k d b) [
             | inr c ↦ puts_has late c.0 l id hash answer q_late.puts c.1
-            | inl c ↦ elim (nth-first (put_step turn) to_put k d c) [
+            | inl c ↦ elim (nth-first (turn_put turn) to_put k d c) [
               | inr e ↦ (
                 length ts,
                 omega arith,

@@ -14,7 +14,7 @@ use Rattle.steer_base.specs.declared.choice.Choice.{Choice}
 use Rattle.steer_base.specs.declared.choice.Chosen.{Chosen}
 use Rattle.steer_base.specs.declared.choice.Entry.{Entry}
 use Rattle.steer_base.proofs.RuleLemmas.{by_entry-class, by_entry-online}
-use Rattle.dev_flow_table.specs.Walks.{IsRuled as IsRuledAt, IsWalk, since_of}
+use Rattle.dev_flow_table.specs.Walks.{IsRuled as IsRuledAt, IsWalk, since_resize}
 use Rattle.dev_flow_table.proofs.WalksLemmas.{since_is_last_change, walk_keeps_order}
 use Rattle.hop_core.specs.Hop.{nobody}
 use Rattle.linearization.specs.Orders.{StepBy}
@@ -59,16 +59,16 @@ lesser-rise (suc n) (suc i) (suc j) le = let t = lesser-rise n i j (omega arith)
 
 -- ---- where a size was changed last
 
-since-again : (size : ℕ → ℕ) (j k : ℕ) → since_of size j ≤ k → k ≤ j
-    → since_of size k ≡ since_of size j
-unfolding since_of
-since-again size zero k from to = let e : k ≡ 0 = omega arith in ap (since_of size) e
+since-again : (size : ℕ → ℕ) (j k : ℕ) → since_resize size j ≤ k → k ≤ j
+    → since_resize size k ≡ since_resize size j
+unfolding since_resize
+since-again size zero k from to = let e : k ≡ 0 = omega arith in ap (since_resize size) e
 since-again size (suc j) k from to =
     elim (cases_eq k (suc j)) [
-      | inl e ↦ ap (since_of size) e
+      | inl e ↦ ap (since_resize size) e
       | inr ne ↦ elim (cases_Bool (size j == size (suc j))) [
         | inl e ↦ (
-            let below : since_of size j ≤ k = rw e at from in
+            let below : since_resize size j ≤ k = rw e at from in
             let t = since-again size j k below (omega arith) in
             rw e t)
         | inr e ↦ (
@@ -193,7 +193,7 @@ module _ (about : BoardSizes) (order : List (StepBy BoardStep)) (fit : FitSizes 
       → n ≤ gone i (slice_index_or (before about order a r p i) m d).choice.lane
   drained_at i l m n d inside off at =
       let f = few_choices i l in
-      let s : ℕ = since_of size i in
+      let s : ℕ = since_resize size i in
       let le = (since_is_last_change size i).0 in
       let long : length (before about order a r p i) ≡ i - s = length-drop s (take i (a.choices p))
       ∙ ap (λ n. n - s) (length-take-le i (a.choices p) (omega arith)) in
@@ -234,7 +234,7 @@ module _ (about : BoardSizes) (order : List (StepBy BoardStep)) (fit : FitSizes 
 
   module _ (j : ℕ) (placed : j < a.placed p) where
     s : ℕ
-    s = since_of size j
+    s = since_resize size j
 
     since : s ≤ j
     unfolding s
@@ -353,7 +353,7 @@ module _ (about : BoardSizes) (order : List (StepBy BoardStep)) (fit : FitSizes 
               ∙ (same ∙ ap (λ (z : Chosen). z.choice.lane) y))
         ]
 
-    walked_since : (i k n : ℕ) → since_of size j ≤ i → i < j → IsAt i n → class i ≡ Some k
+    walked_since : (i k n : ℕ) → since_resize size j ≤ i → i < j → IsAt i n → class i ≡ Some k
         → class j ≡ Some k → (n ≤ gone j (lane i)) ⊎ (lane i ≡ lane j)
     unfolding s
     walked_since i k n from less at is is' = walked i k n from less at is is'
@@ -364,7 +364,7 @@ module _ (about : BoardSizes) (order : List (StepBy BoardStep)) (fit : FitSizes 
   Passed i j n = (n ≤ gone j (lane i)) ⊎ (lane i ≡ lane j)
 
   by_class : (i j n : ℕ) → i < j → (l : j < a.placed p) → IsAt i n
-      → flow_at about order a r p i ≡ flow_at about order a r p j → since_of size j ≤ i
+      → flow_at about order a r p i ≡ flow_at about order a r p j → since_resize size j ≤ i
       → (x : Option ℕ) → class i ≡ x → class j ≡ x → Passed i j n
   by_class i j n lt l at flow since_ (Some k) is is' = walked_since j l i k n since_ lt at is is'
   by_class i j n lt l at flow since_ None is is' =
@@ -392,7 +392,7 @@ module _ (about : BoardSizes) (order : List (StepBy BoardStep)) (fit : FitSizes 
       → flow_at about order a r p i ≡ flow_at about order a r p j → Passed i j n
   passed i j n lt l at flow =
       let last = since_is_last_change size j in
-      elim (cases_lt i (since_of size j)) [
+      elim (cases_lt i (since_resize size j)) [
         | inr since_ ↦ by_class i j n lt l at flow since_ (class i) refl
             (ap (λ z. r.class z (flow_at about order a r p j)) (sym (last.1 i since_ (omega arith)))
             ∙ ap (r.class (size i)) (sym flow))

@@ -4,7 +4,7 @@ use Rattle.std.specs.List.{Contains}
 use Rattle.steer_base.specs.Choices.{migrate}
 use Rattle.steer_base.specs.Entries.{entry, of_class, current_lane}
 use Rattle.steer_base.specs.declared.choice.Chosen.{Chosen}
-use Rattle.dev_flow_table.specs.Walks.{since_of}
+use Rattle.dev_flow_table.specs.Walks.{since_resize}
 use Rattle.hop_rule.specs.Moments.{nth_step}
 use Rattle.hop_rule.specs.declared.sizes.BoardSizes.{BoardSizes}
 use Rattle.hop_rule.specs.declared.step.BoardStep.{BoardStep}
@@ -49,7 +49,7 @@ module _ (about : BoardSizes) (accepted : ℕ → List ℕ) (t : Story) (r : Ste
   -- the choices of the producer before the i-th, since the last that saw another shape than the one
   -- before it
   abbrev pub before_seen : ℕ → ℕ → List Chosen
-  before_seen p i = drop (since_of (shape_seen p) i) (take i (t.choices p))
+  before_seen p i = drop (since_resize (shape_seen p) i) (take i (t.choices p))
 
   abbrev pub goal_seen : ℕ → ℕ → Turn → ℕ
   goal_seen p i u =

@@ -13,11 +13,11 @@ use Rattle.hop_delivery.specs.Orders.Runs.{Steering}
 use Rattle.hop_delivery.specs.Orders.TransmitSettings.{transmit_steering}
 
 -- a setting that is made: its word and its new value
-pub record Made : Type 0 where
+pub record SettingChange : Type 0 where
   pub word : ℕ
   pub value : ℕ
 
-abbrev pub made : ℕ → ℕ → Made
+abbrev pub made : ℕ → ℕ → SettingChange
 made word value = record { word = word; value = value }
 
 -- a rounded flow count with the next generation
@@ -25,7 +25,7 @@ abbrev pub next_flows : ℕ → ℕ → ℕ
 next_flows old count = rounded_up count + 2 ^ 32 * (old / 2 ^ 32 + 1)
 
 -- What a done command sets on the receive board.
-abbrev pub received_sets : Queues → (ℕ → ℕ) → Command → List Made
+abbrev pub received_sets : Queues → (ℕ → ℕ) → Command → List SettingChange
 received_sets q s (Mask queue cpus) = made (mask_word q queue) cpus.0 ∷ []
 received_sets q s (Flows queue count) =
     made (flows_word q queue) (next_flows (s (flows_word q queue)) count) ∷ []
@@ -39,7 +39,7 @@ received_sets q s (Stand app cpu) = []
 received_sets q s Expire = []
 
 -- What a done command sets on the transmit board with so many queues.
-abbrev pub sent_sets : ℕ → Command → List Made
+abbrev pub sent_sets : ℕ → Command → List SettingChange
 sent_sets count (XCpus tx cpus) = made tx cpus.0 ∷ []
 sent_sets count (XQueues tx queues) = made (count + tx) queues ∷ []
 sent_sets count _ = []
@@ -52,7 +52,8 @@ NamesCpu _ = Unit {0}
 
 -- Of each setting that a command makes, the lanes that have to be empty are among those that the
 -- command affects.
-abbrev pub AreAffected : Steering → (ℕ → ℕ) → Command → List ℕ → ℕ → ℕ → ℕ → List Made → Type 0
+abbrev pub AreAffected : Steering → (ℕ → ℕ) → Command → List ℕ → ℕ → ℕ → ℕ → List SettingChange
+    → Type 0
 AreAffected r s c homes cpus txs l sets =
     All (λ m. r.affects s m.word m.value l ≡ true → is_affected c homes cpus txs l ≡ true) sets
 

@@ -41,8 +41,8 @@ of_first x y zero = x
 of_first x y (suc p) = y
 
 -- a packet with its choice
-abbrev pub chose : ℕ → ℕ → Option ℕ → Option ℕ → ℕ → ℕ → Why → Chosen
-chose id class want head tail lane why =
+abbrev pub choice_for : ℕ → ℕ → Option ℕ → Option ℕ → ℕ → ℕ → Why → Chosen
+choice_for id class want head tail lane why =
     record {
       id = id;
       choice = record {
@@ -137,19 +137,19 @@ abbrev pub receive_order : List (StepBy BoardStep)
 receive_order = plays_rows receive_rows []
 
 abbrev pub first_chosen : Chosen
-first_chosen = chose 0 0 None None 4294967294 0 Unset
+first_chosen = choice_for 0 0 None None 4294967294 0 Unset
 
 abbrev pub kept_chosen : Chosen
-kept_chosen = chose 1 0 (Some 1) (Some 4294967294) 4294967295 0 Kept
+kept_chosen = choice_for 1 0 (Some 1) (Some 4294967294) 4294967295 0 Kept
 
 abbrev pub moved_chosen : Chosen
-moved_chosen = chose 2 0 (Some 1) (Some 4294967295) 4294967295 1 Passed
+moved_chosen = choice_for 2 0 (Some 1) (Some 4294967295) 4294967295 1 Passed
 
 abbrev pub other_chosen : Chosen
-other_chosen = chose 3 1 None None 4294967294 1 Unset
+other_chosen = choice_for 3 1 None None 4294967294 1 Unset
 
 abbrev pub again_chosen : Chosen
-again_chosen = chose 4 0 None None 4294967294 0 Unset
+again_chosen = choice_for 4 0 None None 4294967294 0 Unset
 
 -- what seat 0 did between its own steps e and u
 abbrev pub between : List (StepBy BoardStep) → ℕ → ℕ → List BoardStep
@@ -233,13 +233,13 @@ abbrev pub transmit_order : List (StepBy BoardStep)
 transmit_order = plays_rows transmit_rows []
 
 abbrev pub first_reply : Chosen
-first_reply = chose 0 0 (Some 0) None 0 0 Unset
+first_reply = choice_for 0 0 (Some 0) None 0 0 Unset
 
 abbrev pub kept_reply : Chosen
-kept_reply = chose 1 0 (Some 1) (Some 0) 1 0 Kept
+kept_reply = choice_for 1 0 (Some 1) (Some 0) 1 0 Kept
 
 abbrev pub moved_reply : Chosen
-moved_reply = chose 2 0 (Some 1) (Some 2) 2 1 Passed
+moved_reply = choice_for 2 0 (Some 1) (Some 2) 2 1 Passed
 
 abbrev pub transmit_turns : List (StepBy Turn)
 transmit_turns =

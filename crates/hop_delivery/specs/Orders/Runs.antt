@@ -8,7 +8,7 @@ use Rattle.steer_base.specs.Choices.{migrate}
 use Rattle.steer_base.specs.Entries.{entry, of_class, current_lane}
 use Rattle.steer_base.specs.declared.choice.Chosen.{Chosen}
 use Rattle.linearization.specs.Orders.{StepBy, steps_of}
-use Rattle.dev_flow_table.specs.Walks.{since_of}
+use Rattle.dev_flow_table.specs.Walks.{since_resize}
 use Rattle.hop_rule.specs.Boards.{gate_steps}
 use Rattle.hop_rule.specs.Gates.{opened, own_settings, with_setting}
 use Rattle.hop_rule.specs.Moments.{nth_step}
@@ -85,7 +85,7 @@ module _ (about : BoardSizes) (own : ℕ → List BoardStep) where
 
     -- the choices of the producer before the i-th, since its last resize
     abbrev pub before : ℕ → ℕ → List Chosen
-    before p i = drop (since_of (shape_at p) i) (take i (t.choices p))
+    before p i = drop (since_resize (shape_at p) i) (take i (t.choices p))
 
     abbrev pub goal_at : ℕ → ℕ → Turn → ℕ
     goal_at p i u =

@@ -23,8 +23,8 @@ pub record Turn : Type 0 where
   pub answer : Put
 
 -- the put of a turn
-abbrev pub put_step : Turn → BoardStep
-put_step t = Lane (Freed t.chosen.choice.lane (Offered t.chosen.id t.hash t.answer))
+abbrev pub turn_put : Turn → BoardStep
+turn_put t = Lane (Freed t.chosen.choice.lane (Offered t.chosen.id t.hash t.answer))
 
 -- neither puts nor steps at the gate, but looks at settings
 pub record AreQuiet (ds : List BoardStep) : Type 0 where
@@ -34,7 +34,7 @@ pub record AreQuiet (ds : List BoardStep) : Type 0 where
 -- A visit with its put: the entry, what the turn did early, the put, what came late, and the leave.
 abbrev pub visit_with : Turn → List BoardStep → List BoardStep → List BoardStep
 visit_with t late older = Gate Left ∷
-    (late ++ (put_step t ∷ (t.early ++ (Gate (Entered t.word) ∷ older))))
+    (late ++ (turn_put t ∷ (t.early ++ (Gate (Entered t.word) ∷ older))))
 
 -- A seat's own list has the turns' visits in their order, and no put besides. Each turn is with the
 -- number of its producer. (That a visit has one entry, one leave and one put would not say that the

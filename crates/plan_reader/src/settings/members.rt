@@ -13,9 +13,9 @@ use steer_base::{Cpu, Detach, RxQueue, Step};
 
 impl Member for QueuePlan {
     ghost use Rattle.plan_reader.specs.Ranges.{QueueIsWithin};
-    ghost use Rattle.plan_reader.specs.Readings.{queue_of};
+    ghost use Rattle.plan_reader.specs.Readings.{queue_plan};
 
-    ghost reading = { λ sizes d. queue_of sizes.cpus d };
+    ghost reading = { λ sizes d. queue_plan sizes.cpus d };
 
     ghost IsWithin = { λ sizes queue. QueueIsWithin sizes.cpus queue };
 

@@ -168,7 +168,7 @@ impl Parts {
     ghost use Rattle.plan_reader.specs.Parts.{ReceiveIsWithin, SendsAreWithin, PartsAreWithin};
     ghost use Rattle.plan_reader.specs.PlanTexts.{joined, plan_keys, settings_in, sizes_with};
     ghost use Rattle.plan_reader.specs.Ranges.{StepsAreWithin};
-    ghost use Rattle.plan_reader.specs.Readings.{only, required, steps_of};
+    ghost use Rattle.plan_reader.specs.Readings.{only, required, read_steps};
 
     /// The steps of a plan with these queues and applications.
     fn steps(
@@ -180,7 +180,7 @@ impl Parts {
         requires receive { ReceiveIsWithin receive.now }
         requires sends { SendsAreWithin receive.now.cpus (length receive.now.queues) sends.now }
         ensures gives { Gives result (required (codes "steps")
-            (steps_of (sizes_with receive.now sends.now)) (view value.now)) }
+            (read_steps (sizes_with receive.now sends.now)) (view value.now)) }
         ensures within { IfOk result (StepsAreWithin (sizes_with receive.now sends.now)) }
     {
         let sizes = Sizes {

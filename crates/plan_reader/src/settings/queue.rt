@@ -3,7 +3,7 @@ ghost use Rattle.std.specs.Prelude.{◌≡◌, ◌≤◌, IfOk};
 ghost use Rattle.serde_json.specs.View.{view};
 ghost use Rattle.plan_reader.specs.Faults.{Gives};
 ghost use Rattle.plan_reader.specs.Ranges.{QueueIsWithin, TxIsWithin, DetachIsWithin};
-ghost use Rattle.plan_reader.specs.Readings.{queue_of, tx_of, detach_of};
+ghost use Rattle.plan_reader.specs.Readings.{queue_plan, tx_of, detach_of};
 
 use crate::faults::fault::Refusal;
 use crate::plan::{QueuePlan, TxPlan};
@@ -14,10 +14,10 @@ use std::alloc::Global;
 use steer_base::{Cpu, CpuMask, Detach};
 
 /// A receive queue.
-#[tactic(auto, unfolding(crate::specs::Readings::queue_of))]
+#[tactic(auto, unfolding(crate::specs::Readings::queue_plan))]
 pub fn queue_of(alloc: Global, cpus: u8, value: &Value) -> Result<QueuePlan, Refusal>
     requires { cpus ≤ 32 }
-    ensures gives { Gives result (queue_of cpus (view value.now)) }
+    ensures gives { Gives result (queue_plan cpus (view value.now)) }
     ensures within { IfOk result (QueueIsWithin cpus) }
 {
     an_object(alloc, value)?;

@@ -1,7 +1,7 @@
 //! The commands of a plan.
 ghost use Rattle.std.specs.Prelude.{◌≡◌, IfOk};
 ghost use Rattle.std.specs.List.{filter_map};
-ghost use Rattle.plan_reader.specs.Ranges.{command_in, commands_of, listed};
+ghost use Rattle.plan_reader.specs.Ranges.{command_in, commands_of, steps_in_list};
 
 use crate::plan::Steps;
 use std::alloc::{AllocError, Global};
@@ -19,7 +19,7 @@ fn command_in(step: Step) -> Option<Command>
 
 /// The steps of a list, none of a seed.
 fn listed(steps: &Steps) -> &[Step]
-    ensures { result.now ≡ listed steps.now }
+    ensures { result.now ≡ steps_in_list steps.now }
 {
     match steps {
         Steps::List(list) => list.as_slice(),

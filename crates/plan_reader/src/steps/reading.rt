@@ -3,7 +3,8 @@ ghost use Rattle.std.specs.Prelude.{◌≡◌, ◌≤◌, IfOk, codes, true};
 ghost use Rattle.serde_json.specs.View.{view, items_view};
 ghost use Rattle.plan_reader.specs.Faults.{Gives};
 ghost use Rattle.plan_reader.specs.Ranges.{StepsAreWithin, step_is_within};
-ghost use Rattle.plan_reader.specs.Readings.{listed_steps, required, seed_of, step_value, steps_of};
+ghost use Rattle.plan_reader.specs.Readings.{listed_steps, required, seed_of, step_value};
+ghost use Rattle.plan_reader.specs.Readings.{read_steps};
 
 use crate::faults::cause::Cause;
 use crate::faults::fault::Refusal;
@@ -64,11 +65,11 @@ fn listed_steps(alloc: Global, sizes: Sizes, items: &Vec<Value>) -> Result<Steps
 }
 
 /// The steps: a list of texts, or an object with a seed and a count.
-#[tactic(auto, unfolding(crate::specs::Readings::steps_of))]
+#[tactic(auto, unfolding(crate::specs::Readings::read_steps))]
 fn steps_of(alloc: Global, sizes: Sizes, value: &Value) -> Result<Steps, Refusal>
     requires cpus { sizes.cpus ≤ 32 }
     requires queues { sizes.queues ≤ 16 }
-    ensures gives { Gives result (steps_of sizes (view value.now)) }
+    ensures gives { Gives result (read_steps sizes (view value.now)) }
     ensures within { IfOk result (StepsAreWithin sizes) }
 {
     match value.as_array() {
@@ -82,7 +83,7 @@ fn steps_of(alloc: Global, sizes: Sizes, value: &Value) -> Result<Steps, Refusal
 pub fn required_steps(alloc: Global, sizes: Sizes, object: &Value) -> Result<Steps, Refusal>
     requires cpus { sizes.cpus ≤ 32 }
     requires queues { sizes.queues ≤ 16 }
-    ensures gives { Gives result (required (codes "steps") (steps_of sizes) (view object.now)) }
+    ensures gives { Gives result (required (codes "steps") (read_steps sizes) (view object.now)) }
     ensures within { IfOk result (StepsAreWithin sizes) }
 {
     match object.get("steps") {

@@ -3,7 +3,7 @@ ghost use Rattle.std.specs.Prelude.{◌≡◌, ◌≤◌, true, IsSome, IfSome, 
 ghost use Rattle.plan_reader.specs.Ranges.{step_is_within};
 ghost use Rattle.plan_reader.specs.StepTexts.{number_step, pair_step, takes_set, set_step};
 ghost use Rattle.plan_reader.specs.StepTexts.{two_arguments, some_arguments, step_of};
-ghost use Rattle.plan_reader.specs.Texts.{set_of, before, after};
+ghost use Rattle.plan_reader.specs.Texts.{set_of, before, after_byte};
 
 use crate::faults::cause::Cause;
 use crate::settings::sizes::Sizes;
@@ -124,7 +124,8 @@ fn two_arguments(sizes: Sizes, word: &[u8], first: &[u8], second: &[u8]) -> Resu
 fn some_arguments(sizes: Sizes, word: &[u8], rest: &[u8]) -> Result<Step, Cause>
     requires cpus { sizes.cpus ≤ 32 }
     requires queues { sizes.queues ≤ 16 }
-    ensures step { result ≡ some_arguments sizes word.now (before 32 rest.now) (after 32 rest.now) }
+    ensures step { result ≡ some_arguments sizes word.now (before 32 rest.now)
+        (after_byte 32 rest.now) }
     ensures within { IfOk result (λ step. step_is_within sizes step ≡ true) }
 {
     let (first, second) = cut(rest, b' ');

@@ -2,7 +2,8 @@
 ghost use Rattle.std.specs.Prelude.{◌≡◌, ◌≤◌, ◌<◌, ◌^◌, All, Err, IfOk};
 ghost use Rattle.serde_json.specs.View.{view};
 ghost use Rattle.plan_reader.specs.Faults.{Gives, here, under};
-ghost use Rattle.plan_reader.specs.Readings.{list_of, number, number_below, optional, required};
+ghost use Rattle.plan_reader.specs.Readings.{list_of, number_between, number_below, optional};
+ghost use Rattle.plan_reader.specs.Readings.{required};
 ghost use Rattle.plan_reader.specs.Readings.{set, whole};
 ghost use Rattle.plan_reader.specs.Ranges.{HasLength};
 
@@ -27,7 +28,7 @@ pub fn required_number(
     high: u64,
 ) -> Result<u64, Refusal>
     ensures gives { Gives result
-        (required key.now (λ v. here (number low high v)) (view object.now)) }
+        (required key.now (λ v. here (number_between low high v)) (view object.now)) }
     ensures within { IfOk result (λ n. (low ≤ n) × (n ≤ high)) }
 {
     match object.get(key) {
@@ -49,7 +50,7 @@ pub fn number_or(
     requires above { low ≤ default }
     requires beneath { default ≤ high }
     ensures gives { Gives result
-        (optional key.now (λ v. here (number low high v)) default (view object.now)) }
+        (optional key.now (λ v. here (number_between low high v)) default (view object.now)) }
     ensures within { IfOk result (λ n. (low ≤ n) × (n ≤ high)) }
 {
     match object.get(key) {

@@ -2,8 +2,8 @@
 ghost use Rattle.std.specs.Prelude.{◌≡◌, ◌<◌, ◌≤◌, IfOk};
 ghost use Rattle.serde_json.specs.View.{view};
 ghost use Rattle.plan_reader.specs.Causes.{below, in_range};
-ghost use Rattle.plan_reader.specs.Readings.{whole, number, number_below};
-ghost use Rattle.plan_reader.specs.Texts.{number_of};
+ghost use Rattle.plan_reader.specs.Readings.{whole, number_between, number_below};
+ghost use Rattle.plan_reader.specs.Texts.{plain_number};
 
 use crate::faults::cause::Cause;
 use serde_json::Value;
@@ -11,44 +11,44 @@ use steer_base::decimal_number;
 
 /// One to ten decimal digits without a sign.
 pub fn number_of(token: &[u8]) -> Option<u64>
-    ensures { result ≡ number_of token.now }
+    ensures { result ≡ plain_number token.now }
 {
     Some(decimal_number(token, 10)? as u64)
 }
 
 /// A number from `low` to `high`.
-pub fn in_range(low: u64, high: u64, number: u64) -> Result<u64, Cause>
-    ensures gives { result ≡ in_range low high number }
+pub fn in_range(low: u64, high: u64, number_between: u64) -> Result<u64, Cause>
+    ensures gives { result ≡ in_range low high number_between }
     ensures within { IfOk result (λ n. (low ≤ n) × (n ≤ high)) }
 {
-    if low <= number && number <= high {
-        Ok(number)
+    if low <= number_between && number_between <= high {
+        Ok(number_between)
     } else {
-        Err(Cause::Range(number))
+        Err(Cause::Range(number_between))
     }
 }
 
 /// A number below a size.
-pub fn index_below(size: u8, number: u64) -> Result<u8, Cause>
-    ensures gives { result ≡ below size number }
+pub fn index_below(size: u8, number_between: u64) -> Result<u8, Cause>
+    ensures gives { result ≡ below size number_between }
     ensures within { IfOk result (λ n. n < size) }
 {
-    if number < u64::from(size) {
-        Ok(number as u8)
+    if number_between < u64::from(size) {
+        Ok(number_between as u8)
     } else {
-        Err(Cause::Range(number))
+        Err(Cause::Range(number_between))
     }
 }
 
 /// A number below a limit.
-pub fn count_below(limit: u32, number: u64) -> Result<u32, Cause>
-    ensures gives { result ≡ below limit number }
+pub fn count_below(limit: u32, number_between: u64) -> Result<u32, Cause>
+    ensures gives { result ≡ below limit number_between }
     ensures within { IfOk result (λ n. n < limit) }
 {
-    if number < u64::from(limit) {
-        Ok(number as u32)
+    if number_between < u64::from(limit) {
+        Ok(number_between as u32)
     } else {
-        Err(Cause::Range(number))
+        Err(Cause::Range(number_between))
     }
 }
 
@@ -61,7 +61,7 @@ pub fn whole(value: &Value) -> Result<u64, Cause>
 
 /// A whole number from `low` to `high`.
 pub fn number(value: &Value, low: u64, high: u64) -> Result<u64, Cause>
-    ensures gives { result ≡ number low high (view value.now) }
+    ensures gives { result ≡ number_between low high (view value.now) }
     ensures within { IfOk result (λ n. (low ≤ n) × (n ≤ high)) }
 {
     in_range(low, high, whole(value)?)

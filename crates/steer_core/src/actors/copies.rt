@@ -2,7 +2,7 @@
 ghost use Rattle.std.specs.Prelude.{◌≡◌, ◌<◌, ◌^◌, IfOk, length};
 ghost use Rattle.hop_core.specs.Hop.{accepted_at};
 ghost use Rattle.steer_model.specs.State.Machine.{history_of, lane_list as list_of_lane};
-ghost use Rattle.steer_model.specs.State.Machine.{lane_lists as lists_of_lanes};
+ghost use Rattle.steer_model.specs.State.Machine.{history_lanes as lists_of_lanes};
 
 use crate::actors::Actors;
 use history::{History, LaneList};

@@ -6,7 +6,7 @@ ghost use Rattle.sock_flow_table.specs.Sockets as sockets;
 ghost use Rattle.steer_base.specs.Journals.{journal, new_journals};
 ghost use Rattle.steer_core.specs.Starting.{started};
 ghost use Rattle.steer_model.specs.State.Ranges.{AreOfFlows};
-ghost use Rattle.steer_model.specs.State.Start.{fresh_rx, fresh_tx, settings_of};
+ghost use Rattle.steer_model.specs.State.Start.{fresh_rx, fresh_tx, initial_settings};
 
 use crate::actors::Actors;
 use accel_filter::FilterTable;
@@ -78,7 +78,7 @@ impl Tables {
     // All of them unset.
     fn make(alloc: Global, plan: &Plan) -> Result<Tables, OutOfMemory>
         ensures socket { IfOk result (λ tables. tables.socket
-            ≡ sockets.unset (settings_of plan.now).sock) }
+            ≡ sockets.unset (initial_settings plan.now).sock) }
         ensures filters { IfOk result (λ tables. tables.filters ≡ table.unset plan.now.filters) }
         ensures notes { IfOk result (λ tables. tables.notes.items
             ≡ replicate (length plan.now.queues) Note.Nothing) }

@@ -1,7 +1,7 @@
 //! Filters that may go: how many there are, and that they are cleared.
 ghost use Rattle.std.specs.Prelude.{◌≡◌, ◌<◌, None, length, map, slice_index_or, slice_set};
 ghost use Rattle.std.specs.List.{All, filter};
-ghost use Rattle.steer_core.specs.OldFilters.{IsSeated, is_old as may_go, kept_of};
+ghost use Rattle.steer_core.specs.OldFilters.{FilterIsSeated, is_old as may_go, kept_of};
 
 use accel_filter::{FilterTable, may_expire};
 use hop_core::Hop;
@@ -10,7 +10,7 @@ use steer_model::InForce;
 
 /// How many filters may go.
 pub fn count_old(filters: &FilterTable, rx: &Hop, settings: &InForce) -> u32
-    requires { All (IsSeated rx.now settings.now) filters.now }
+    requires { All (FilterIsSeated rx.now settings.now) filters.now }
     ensures { result ≡ length (filter (may_go rx.now settings.now) filters.now) }
 {
     let mut count = 0;
@@ -24,7 +24,7 @@ pub fn count_old(filters: &FilterTable, rx: &Hop, settings: &InForce) -> u32
 
 /// Clears the filters that may go.
 pub fn clear_old(filters: &mut FilterTable, rx: &Hop, settings: &InForce)
-    requires { All (IsSeated rx.now settings.now) filters.old }
+    requires { All (FilterIsSeated rx.now settings.now) filters.old }
     ensures { filters.new ≡ map (kept_of rx.now settings.now) filters.old }
 {
     for i in 0..filters.count() {
@@ -35,7 +35,7 @@ pub fn clear_old(filters: &mut FilterTable, rx: &Hop, settings: &InForce)
 // Clears a filter if it may go.
 fn clear_if_old(filters: &mut FilterTable, i: u32, rx: &Hop, settings: &InForce)
     requires place { i < length filters.old }
-    requires seated { IsSeated rx.now settings.now (slice_index_or filters.old i None) }
+    requires seated { FilterIsSeated rx.now settings.now (slice_index_or filters.old i None) }
     ensures { filters.new ≡ slice_set filters.old i
         (kept_of rx.now settings.now (slice_index_or filters.old i None)) }
 {
@@ -47,7 +47,7 @@ fn clear_if_old(filters: &mut FilterTable, i: u32, rx: &Hop, settings: &InForce)
 
 // Whether a filter is set and may go, by the head of its processor and the flow count of its queue.
 fn is_old(filter: Option<Filter>, rx: &Hop, settings: &InForce) -> bool
-    requires { IsSeated rx.now settings.now filter }
+    requires { FilterIsSeated rx.now settings.now filter }
     ensures { result ≡ may_go rx.now settings.now filter }
 {
     match filter {

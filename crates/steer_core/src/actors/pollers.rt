@@ -4,7 +4,8 @@ ghost use Rattle.hop_core.specs.declared.event.HopEvent.TheVariants as event;
 ghost use Rattle.hop_core.specs.Hop.{next_of};
 ghost use Rattle.steer_model.specs.State.Machine.{note_of};
 ghost use Rattle.steer_model.specs.Steps.Outcomes.{by_rx};
-ghost use Rattle.steer_model.specs.Steps.Pollers.{ask, leave, look, put, seen_by, take, weigh};
+ghost use Rattle.steer_model.specs.Steps.Pollers.{ask, poller_leaves, look, poller_puts, seen_by};
+ghost use Rattle.steer_model.specs.Steps.Pollers.{poller_takes, poller_weighs};
 ghost use Rattle.steer_model.specs.Steps.Pollers.{weighing};
 ghost use Rattle.steer_model.specs.Steps.Pollers.{with_filter};
 
@@ -19,8 +20,8 @@ impl Actors {
     /// full.
     pub(super) fn take(&mut self, q: u8) -> Answer
         requires { q < length self.old.machine.setup.homes }
-        ensures state { self.new.machine ≡ (take self.old.machine q).0 }
-        ensures answer { result ≡ (take self.old.machine q).1 }
+        ensures state { self.new.machine ≡ (poller_takes self.old.machine q).0 }
+        ensures answer { result ≡ (poller_takes self.old.machine q).1 }
         ensures rooms { self.new.rooms ≡ self.old.rooms }
     {
         if self.notes[q as usize].is_asking() {
@@ -73,8 +74,8 @@ impl Actors {
     /// The packet in hand gets a processor by the migration rule, with what was seen.
     pub(super) fn weigh(&mut self, q: u8) -> Answer
         requires { q < length self.old.machine.setup.homes }
-        ensures state { self.new.machine ≡ (weigh self.old.machine q).0 }
-        ensures answer { result ≡ (weigh self.old.machine q).1 }
+        ensures state { self.new.machine ≡ (poller_weighs self.old.machine q).0 }
+        ensures answer { result ≡ (poller_weighs self.old.machine q).1 }
         ensures rooms { self.new.rooms ≡ self.old.rooms }
     {
         if !self.rx.is_inside(q) {
@@ -113,8 +114,8 @@ impl Actors {
     /// The packet in hand is put to its processor, and a filter is asked for where one is due.
     pub(super) fn put(&mut self, q: u8) -> Answer
         requires { q < length self.old.machine.setup.homes }
-        ensures state { self.new.machine ≡ (put self.old.machine q).0 }
-        ensures answer { result ≡ (put self.old.machine q).1 }
+        ensures state { self.new.machine ≡ (poller_puts self.old.machine q).0 }
+        ensures answer { result ≡ (poller_puts self.old.machine q).1 }
         ensures rooms { self.new.rooms ≡ self.old.rooms }
     {
         let id = last_of(&self.rx, q).id;
@@ -151,8 +152,8 @@ impl Actors {
     /// The poller goes outside, but not between its look and the end of its put or its filter.
     pub(super) fn leave(&mut self, q: u8) -> Answer
         requires { q < length self.old.machine.setup.homes }
-        ensures state { self.new.machine ≡ (leave self.old.machine q).0 }
-        ensures answer { result ≡ (leave self.old.machine q).1 }
+        ensures state { self.new.machine ≡ (poller_leaves self.old.machine q).0 }
+        ensures answer { result ≡ (poller_leaves self.old.machine q).1 }
         ensures rooms { self.new.rooms ≡ self.old.rooms }
     {
         if !self.rx.is_inside(q) {

@@ -1,7 +1,7 @@
 //! The steps of a processor, from its backlog to the inboxes.
 ghost use Rattle.std.specs.Prelude.{◌≡◌, ◌<◌};
 ghost use Rattle.hop_core.specs.declared.event.HopEvent.TheVariants as event;
-ghost use Rattle.steer_model.specs.Steps.Applications.{deliver, in_lane};
+ghost use Rattle.steer_model.specs.Steps.Applications.{cpu_delivers, in_lane};
 ghost use Rattle.steer_model.specs.Steps.Outcomes.{by_rx};
 ghost use Rattle.steer_model.specs.State.Setup.{app_for};
 
@@ -24,8 +24,8 @@ impl Actors {
     /// The packet in hand goes to the inbox of its application.
     pub(super) fn deliver(&mut self, c: u8) -> Answer
         requires { c < self.old.machine.setup.cpus }
-        ensures state { self.new.machine ≡ (deliver self.old.machine c).0 }
-        ensures answer { result ≡ (deliver self.old.machine c).1 }
+        ensures state { self.new.machine ≡ (cpu_delivers self.old.machine c).0 }
+        ensures answer { result ≡ (cpu_delivers self.old.machine c).1 }
         ensures rooms { self.new.rooms ≡ self.old.rooms }
     {
         let event = self.delivering(c);

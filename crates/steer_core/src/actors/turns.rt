@@ -4,7 +4,7 @@ ghost use Rattle.plan_reader.specs.Ranges.{step_is_within};
 ghost use Rattle.steer_core.specs.Rooms.{HasRoomFor, HasSpare};
 ghost use Rattle.steer_invariant.specs.StepInvariant.{sizes_in};
 ghost use Rattle.steer_model.specs.Steps.SingleSteps.{simple};
-ghost use Rattle.steer_model.specs.Steps.CompoundSteps.{drain, drain_one, poll, recorded, reply};
+ghost use Rattle.steer_model.specs.Steps.CompoundSteps.{drain, drain_one, poll, with_record, reply};
 ghost use Rattle.steer_model.specs.Steps.CompoundSteps.{replying, serve};
 ghost use Rattle.steer_model.specs.Steps.CompoundSteps.{ship, ship_one, tried, tries};
 
@@ -139,7 +139,7 @@ impl Actors {
         requires app { a < self.old.machine.setup.apps }
         requires room { HasSpare self.old.rooms self.old.machine }
         ensures turn { (self.new.machine, result)
-            ≡ recorded (replying self.old.machine a) (self.old.machine, worked) }
+            ≡ with_record (replying self.old.machine a) (self.old.machine, worked) }
         ensures setup { self.new.machine.setup ≡ self.old.machine.setup }
         ensures rooms { self.new.rooms ≡ self.old.rooms }
     {

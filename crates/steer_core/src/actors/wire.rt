@@ -1,7 +1,7 @@
 //! The step of the wire: a packet of the capture arrives.
 ghost use Rattle.std.specs.Prelude.{◌≡◌, ◌<◌, length};
 ghost use Rattle.steer_model.specs.Steps.Pollers.{arrival_by, arrive, route_by};
-ghost use Rattle.steer_model.specs.State.Setup.{hash_of};
+ghost use Rattle.steer_model.specs.State.Setup.{packet_hash};
 
 use crate::actors::Actors;
 use history::Arrival;
@@ -30,7 +30,7 @@ impl Actors {
     // The queue that a packet goes to now, and the value that leads there.
     fn arriving(&self, id: PacketId) -> Arrival
         ensures { result
-            ≡ arrival_by id (route_by self.now.machine (hash_of self.now.machine.setup id)) }
+            ≡ arrival_by id (route_by self.now.machine (packet_hash self.now.machine.setup id)) }
     {
         let Some(hash) = self.given.hash_of(id) else {
             return Arrival {

@@ -21,9 +21,10 @@ use Rattle.history.specs.declared.sock_write.SockWrite.{SockWrite}
 use Rattle.steer_model.specs.Steps.Applications.{in_lane, in_reply, next_in, reply_to, sending}
 use Rattle.steer_model.specs.Steps.Applications.{sent_of}
 use Rattle.steer_model.specs.Steps.Commands.{answer_to, listed}
-use Rattle.steer_model.specs.State.Machine.{Machine, last_of, note_of}
+use Rattle.steer_model.specs.State.Machine.{Machine, last_chosen, note_of}
 use Rattle.steer_model.specs.State.Notes.{asking, is_asking}
-use Rattle.steer_model.specs.Steps.Pollers.{filter_for, noted, position_of, weighing, with_filter}
+use Rattle.steer_model.specs.Steps.Pollers.{filter_for, with_note, put_position, weighing}
+use Rattle.steer_model.specs.Steps.Pollers.{with_filter}
 use Rattle.steer_model.specs.State.Setup.{app_for}
 use Rattle.steer_model.specs.declared.note.Note.TheVariants as note
 use Rattle.steer_invariant.specs.Invariant.{Invariant}
@@ -104,7 +105,7 @@ held_enter m q t named is h =
     }
 
 pub held_look : (m : Machine) (q x : ℕ) (want : Option ℕ) → q < length m.setup.homes
-    → to_weigh m.rx q ≡ Some x → Invariant m → Invariant (noted m q (note.Looked want))
+    → to_weigh m.rx q ≡ Some x → Invariant m → Invariant (with_note m q (note.Looked want))
 held_look m q x want named some h =
     record {
       kept = kept_look m q x want named some h.kept;
@@ -115,7 +116,7 @@ held_look m q x want named some h =
 -- the code knows the event by its value
 pub held_weigh : (m : Machine) (q : ℕ) (want : Option ℕ) (e : HopEvent) (t : HopState)
     → q < length m.setup.homes → e ≡ weighing m q (next_of m.rx q) want → t ≡ (happens m.rx e).0
-    → Invariant m → Invariant (record (noted m q note.Nothing) { rx = t })
+    → Invariant m → Invariant (record (with_note m q note.Nothing) { rx = t })
 held_weigh m q want e t named which is h =
     let w : HopEvent = weighing m q (next_of m.rx q) want in
     let then' : t ≡ (happens m.rx w).0 = is ∙ ap (λ (f : HopEvent). (happens m.rx f).0) which in
@@ -137,10 +138,10 @@ held_put m q hash t named is h =
 -- a put that was accepted, and the filter that is asked for by the choice
 pub held_asking : (m : Machine) (q : ℕ) (hash : Option ℕ) (t : HopState) (position filters : ℕ)
     (c : Choice) → q < length m.setup.homes → t ≡ (happens m.rx (event.Put q hash)).0
-    → position_of (happens m.rx (event.Put q hash)).1 ≡ Some position
-    → c ≡ (last_of t q).choice → Invariant m
+    → put_position (happens m.rx (event.Put q hash)).1 ≡ Some position
+    → c ≡ (last_chosen t q).choice → Invariant m
     → Invariant
-    (noted (record m { rx = t }) q (asking (filter_for m.setup.homes filters c position)))
+    (with_note (record m { rx = t }) q (asking (filter_for m.setup.homes filters c position)))
 held_asking m q hash t position filters c named is went last h =
     let n : Machine = record m { rx = t } in
     let below : c.lane < m.setup.cpus =
@@ -155,13 +156,13 @@ held_asking m q hash t position filters c named is went last h =
 pub held_ask : (m : Machine) (q : ℕ) (filter : Filter) (hash : Option ℕ)
     (filters : List (Option Filter)) → q < length m.setup.homes
     → note_of m q ≡ note.Asking filter → filters ≡ with_filter m.filters hash filter
-    → Invariant m → Invariant (record (noted m q note.Nothing) { filters = filters })
+    → Invariant m → Invariant (record (with_note m q note.Nothing) { filters = filters })
 held_ask m q filter hash filters named asked is h =
     record {
       kept = kept_ask m q filter hash filters named asked is h.kept;
       ranged = subst
           (λ (fs : List (Option Filter)).
-          IsRanged (record (noted m q note.Nothing) { filters = fs }))
+          IsRanged (record (with_note m q note.Nothing) { filters = fs }))
           (sym is) (ranged-ask m q filter hash asked h.ranged);
       recorded = h.recorded;
     }

@@ -31,7 +31,8 @@ use Rattle.plan_reader.specs.declared.plan.Plan.{Plan}
 use Rattle.steer_model.specs.State.Ranges.{IsGiven}
 use Rattle.steer_model.specs.State.Settings.{Settings, class_at, plain_lane}
 use Rattle.steer_model.specs.State.Setup.{Setup}
-use Rattle.steer_model.specs.State.Start.{fresh_rx, fresh_tx, new_machine, settings_of, setup_of}
+use Rattle.steer_model.specs.State.Start.{fresh_rx, fresh_tx, new_machine, initial_settings}
+use Rattle.steer_model.specs.State.Start.{setup_of}
 use Rattle.steer_model.specs.declared.note.Note.{Note}
 use Rattle.steer_model.specs.declared.note.Note.TheVariants as note
 use Rattle.steer_model.proofs.Origins.TableWriteLemmas.{no-filters}
@@ -62,7 +63,7 @@ module _ (plan : Plan) (packets : List Packet) (cut : Option ℕ) (may : MayStar
   setup = setup_of plan packets cut
 
   abbrev now : Settings
-  now = settings_of plan
+  now = initial_settings plan
 
   queues-many : length now.counts ≡ length setup.homes
   queues-many =
@@ -298,8 +299,8 @@ module _ (plan : Plan) (packets : List Packet) (cut : Option ℕ) (may : MayStar
       (filters : List (Option Filter)) (notes : List Note) (s t : HopState)
       (arrivals : List Arrival) (sent : List (List Sent)) (writes : List (List SockWrite))
       (commands : List Commanded)
-      → given ≡ setup_of plan packets cut → settings ≡ settings_of plan
-      → socket ≡ sockets.unset (settings_of plan).sock → filters ≡ table.unset plan.filters
+      → given ≡ setup_of plan packets cut → settings ≡ initial_settings plan
+      → socket ≡ sockets.unset (initial_settings plan).sock → filters ≡ table.unset plan.filters
       → notes ≡ replicate (length plan.queues) note.Nothing → s ≡ fresh_rx plan packets
       → t ≡ fresh_tx plan packets → arrivals ≡ [] → sent ≡ replicate (length plan.apps) []
       → writes ≡ replicate (length plan.apps) [] → commands ≡ []

@@ -10,7 +10,7 @@ use Rattle.plan_reader.specs.declared.settings.sizes.Sizes.{Sizes}
 use Rattle.std.specs.List.{AllPass}
 use Rattle.plan_reader.specs.Ranges.{step_is_within}
 use Rattle.steer_model.specs.State.Machine.{Machine, history_of}
-use Rattle.steer_model.specs.State.Setup.{Setup, flow_of}
+use Rattle.steer_model.specs.State.Setup.{Setup, flow_number_of}
 use Rattle.steer_model.specs.State.Start.{new_machine, setup_of, steps_of}
 use Rattle.steer_model.specs.Steps.SingleSteps.{simple}
 use Rattle.steer_model.specs.Steps.CompoundSteps.{after, step}
@@ -49,7 +49,7 @@ standing-simple p m s named h =
     record { setup = (goes-simple m k.kept s here).setup ∙ h.setup; held = held-simple m s here k }
 
 module _ (m : Machine) (h : Invariant m) where
-  flows : (x : ℕ) → flow_of m.setup x < 262144
+  flows : (x : ℕ) → flow_number_of m.setup x < 262144
   flows x = let k = h.kept in flow_small m.setup x k.given
 
   stands : Standing m.setup m

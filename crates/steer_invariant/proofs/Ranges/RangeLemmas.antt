@@ -22,9 +22,9 @@ use Rattle.steer_base.specs.declared.filter.Filter.{Filter}
 use Rattle.hop_core.specs.Hop.{choices_of, chosen_at, nobody}
 use Rattle.history.proofs.SamePlaces.{map_some}
 use Rattle.steer_model.specs.Steps.Commands.{kept_filter, may_go, set_by}
-use Rattle.steer_model.specs.State.Machine.{Machine, last_of, note_of}
+use Rattle.steer_model.specs.State.Machine.{Machine, last_chosen, note_of}
 use Rattle.steer_model.specs.State.Notes.{asking}
-use Rattle.steer_model.specs.Steps.Pollers.{filter_for, noted, with_filter}
+use Rattle.steer_model.specs.Steps.Pollers.{filter_for, with_note, with_filter}
 use Rattle.steer_model.specs.declared.note.Note.{Note}
 use Rattle.steer_model.specs.declared.note.Note.TheVariants as note
 use Rattle.steer_invariant.specs.StepInvariant.{IsCommandNamed, StepInvariant}
@@ -159,12 +159,12 @@ read-or (c ∷ cs) zero = refl
 read-or (c ∷ cs) (suc i) = read-or cs i
 
 pub last_below : (m : Machine) (q : ℕ) → StepInvariant m
-    → (last_of m.rx q).choice.lane < m.setup.cpus
+    → (last_chosen m.rx q).choice.lane < m.setup.cpus
 last_below m q k =
     let cs : List Chosen = choices_of m.rx q in
     let at : ℕ = length cs - 1 in
     let s = k.rx.sound in let z = k.rx.sizes in let g = k.given in
-    let is : last_of m.rx q ≡ chosen_at cs at = read-or cs at in
+    let is : last_chosen m.rx q ≡ chosen_at cs at = read-or cs at in
     elim (cases_lt at (length cs)) [
       | inl lt ↦
           let lane = s.lanes q at lt in
@@ -178,7 +178,7 @@ last_below m q k =
 
 pub ranged-noted : (m : Machine) (q : ℕ) (n : Note)
     → ((f : Filter) → n ≡ note.Asking f → f.cpu < m.setup.cpus) → IsRanged m
-    → IsRanged (noted m q n)
+    → IsRanged (with_note m q n)
 ranged-noted m q n new r =
     record {
       flows = r.flows;
@@ -191,7 +191,7 @@ ranged-noted m q n new r =
 
 pub ranged-asking : (m : Machine) (q filters position : ℕ) (c : Choice)
     → c.lane < m.setup.cpus → IsRanged m
-    → IsRanged (noted m q (asking (filter_for m.setup.homes filters c position)))
+    → IsRanged (with_note m q (asking (filter_for m.setup.homes filters c position)))
 ranged-asking m q filters position c lt r =
     let filter : Option Filter = filter_for m.setup.homes filters c position in
     ranged-noted m q (asking filter)
@@ -202,7 +202,7 @@ ranged-asking m q filters position c lt r =
 pub ranged-ask : (m : Machine) (q : ℕ) (filter : Filter) (hash : Option ℕ)
     → note_of m q ≡ note.Asking filter → IsRanged m
     → IsRanged
-    (record (noted m q note.Nothing) { filters = with_filter m.filters hash filter })
+    (record (with_note m q note.Nothing) { filters = with_filter m.filters hash filter })
 ranged-ask m q filter hash asked r =
     let quiet = ranged-noted m q note.Nothing (λ f e. absurd (cc)) r in
     assumption (filter-below m.setup.cpus m.filters hash filter (r.asked q filter asked) r.set)

@@ -9,11 +9,11 @@ use Rattle.hop_core.specs.Hop.{inside_of, placed_of, taken_of}
 use Rattle.hop_core.specs.Reads.{to_weigh}
 use Rattle.steer_model.specs.Steps.Applications.{next_in, record_by, send_by}
 use Rattle.steer_model.specs.Steps.Commands.{answer_to, is_done, set_by}
-use Rattle.steer_model.specs.State.Machine.{Machine, last_of, note_of}
+use Rattle.steer_model.specs.State.Machine.{Machine, last_chosen, note_of}
 use Rattle.steer_model.specs.State.Notes.{is_asking, is_nothing}
-use Rattle.steer_model.specs.Steps.Outcomes.{Outcome, by_rx}
-use Rattle.steer_model.specs.Steps.Pollers.{ask_by, look_by, put_by, putting, weigh_by}
-use Rattle.steer_model.specs.State.Setup.{flow_hash, hash_of}
+use Rattle.steer_model.specs.Steps.Outcomes.{StepOutcome, by_rx}
+use Rattle.steer_model.specs.Steps.Pollers.{ask_by, look_by, poller_after_put, putting, weigh_by}
+use Rattle.steer_model.specs.State.Setup.{flow_hash, packet_hash}
 use Rattle.steer_model.specs.Steps.SingleSteps.{simple}
 use Rattle.steer_model.specs.declared.note.Note.{Note}
 use Rattle.steer_model.specs.declared.note.Note.TheVariants as note
@@ -26,7 +26,7 @@ use Rattle.steer_invariant.proofs.Ranges.RangeLemmas.{ranged-noted}
 use Rattle.steer_invariant.proofs.Ranges.RangeLemmas.{ranged-set}
 
 -- an outcome with a machine in which the ranges are kept
-abbrev Then : Outcome → Type 0
+abbrev Then : StepOutcome → Type 0
 Then o = IsRanged o.0
 
 module _ (m : Machine) (r : IsRanged m) where
@@ -42,19 +42,19 @@ module _ (m : Machine) (r : IsRanged m) where
   ranged-weigh q (note.Asking filter) x = r
 
   ranged-put : (q : ℕ) (position : Option ℕ) → q < length m.setup.homes → StepInvariant m
-      → Then (put_by (by_rx m (putting m q)).0 q position (happens m.rx (putting m q)).1)
+      → Then (poller_after_put (by_rx m (putting m q)).0 q position (happens m.rx (putting m q)).1)
   ranged-put q None named k = r
   ranged-put q (Some position) named k =
       let n : Machine = (by_rx m (putting m q)).0 in
-      let hash : Option ℕ = hash_of m.setup (last_of m.rx q).id in
-      ranged-asking n q (length m.filters) position (last_of n.rx q).choice
+      let hash : Option ℕ = packet_hash m.setup (last_chosen m.rx q).id in
+      ranged-asking n q (length m.filters) position (last_chosen n.rx q).choice
       (last_below n q (kept_put m q hash n.rx named refl k)) r
 
   ranged-ask-by : (q : ℕ) (n : Note) → note_of m q ≡ n → Then (ask_by m q n)
   ranged-ask-by q note.Nothing is = r
   ranged-ask-by q (note.Looked want) is = r
   ranged-ask-by q (note.Asking filter) is =
-      ranged-ask m q filter (hash_of m.setup (last_of m.rx q).id) is r
+      ranged-ask m q filter (packet_hash m.setup (last_chosen m.rx q).id) is r
 
   ranged-record : (hash : Option (Option ℕ)) → Then (record_by m hash)
   ranged-record None = r

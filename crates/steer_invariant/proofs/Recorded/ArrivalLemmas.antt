@@ -19,9 +19,9 @@ use Rattle.history.specs.declared.sent.Sent.{Sent}
 use Rattle.history.proofs.BoundLemmas.{in-index}
 use Rattle.history.proofs.RegularLemmas.{arrived-inbox, is_in-prefix}
 use Rattle.steer_model.specs.State.Machine.{Machine, history_of}
-use Rattle.steer_model.specs.Steps.Outcomes.{idles}
+use Rattle.steer_model.specs.Steps.Outcomes.{idle_step}
 use Rattle.steer_model.specs.Steps.Pollers.{arrive, arrives, filter_seen}
-use Rattle.steer_model.specs.State.Setup.{hash_of}
+use Rattle.steer_model.specs.State.Setup.{packet_hash}
 use Rattle.steer_invariant.specs.StepInvariant.{StepInvariant}
 use Rattle.steer_invariant.specs.RecordedLists.{IsRecorded, KeepQueues}
 use Rattle.steer_invariant.proofs.EitherLemmas.{either}
@@ -52,7 +52,7 @@ queues-stay m a is k r b j d lt =
 pub recorded-arrives : (m : Machine) → StepInvariant m → IsRecorded m
     → IsRecorded (arrives m (next_arrival m))
 recorded-arrives m k r =
-    let hash : Option ℕ = hash_of m.setup (length m.arrivals) in
+    let hash : Option ℕ = packet_hash m.setup (length m.arrivals) in
     let packets : List Packet = m.setup.packets in
     let entry : ℕ = queue_of m.settings.reta hash in
     assumption (
@@ -64,5 +64,5 @@ recorded-arrives m k r =
 pub recorded-arrive : (m : Machine) → StepInvariant m → IsRecorded m → IsRecorded (arrive m).0
 recorded-arrive m k r =
     either (λ o. IsRecorded o.0) (nat_lt (length m.arrivals) (length m.setup.packets))
-    (arrives m (next_arrival m), says.Done) (idles m idle.NothingLeft)
+    (arrives m (next_arrival m), says.Done) (idle_step m idle.NothingLeft)
     (λ _. recorded-arrives m k r) (λ _. r)

@@ -29,19 +29,21 @@ use Rattle.hop_core.proofs.Cases.{by_cases}
 use Rattle.hop_core.proofs.Leaves.{each_leaves}
 use Rattle.history.specs.Lists.{app_at, arrival_of, packet_at}
 use Rattle.history.specs.declared.sent.Sent.{Sent}
-use Rattle.steer_model.specs.Steps.Applications.{deliver, everyone, in_lane, in_reply, next_in}
+use Rattle.steer_model.specs.Steps.Applications.{cpu_delivers, everyone, in_lane, in_reply, next_in}
 use Rattle.steer_model.specs.Steps.Applications.{nothing_sent, pick_for, record_by, record_flow}
 use Rattle.steer_model.specs.Steps.Applications.{reply_to}
 use Rattle.steer_model.specs.Steps.Applications.{send, send_by, sending, sends, sent_of, tput}
 use Rattle.steer_model.specs.Steps.Applications.{tweigh}
 use Rattle.steer_model.specs.Steps.Applications.{visited, wrote}
-use Rattle.steer_model.specs.State.Machine.{Machine, last_of, note_of}
+use Rattle.steer_model.specs.State.Machine.{Machine, last_chosen, note_of}
 use Rattle.steer_model.specs.State.Notes.{is_asking, is_nothing}
-use Rattle.steer_model.specs.Steps.Outcomes.{Outcome, by_rx, by_tx, idles}
-use Rattle.steer_model.specs.Steps.Pollers.{ask, ask_by, leave, look, look_by, position_of, put}
-use Rattle.steer_model.specs.Steps.Pollers.{put_by}
-use Rattle.steer_model.specs.Steps.Pollers.{putting, take, weigh, weigh_by, weighing}
-use Rattle.steer_model.specs.State.Setup.{app_for, flow_hash, flow_of, hash_of}
+use Rattle.steer_model.specs.Steps.Outcomes.{StepOutcome, by_rx, by_tx, idle_step}
+use Rattle.steer_model.specs.Steps.Pollers.{ask, ask_by, poller_leaves, look, look_by, put_position}
+use Rattle.steer_model.specs.Steps.Pollers.{poller_puts}
+use Rattle.steer_model.specs.Steps.Pollers.{poller_after_put}
+use Rattle.steer_model.specs.Steps.Pollers.{putting, poller_takes, poller_weighs, weigh_by}
+use Rattle.steer_model.specs.Steps.Pollers.{weighing}
+use Rattle.steer_model.specs.State.Setup.{app_for, flow_hash, flow_number_of, packet_hash}
 use Rattle.steer_model.specs.declared.note.Note.{Note}
 use Rattle.steer_model.specs.declared.note.Note.TheVariants as note
 use Rattle.steer_invariant.specs.StepInvariant.{StepInvariant}
@@ -110,12 +112,12 @@ outs-run (e ∷ es) s off =
 -- ---- a poller, and a processor but for its delivery
 
 -- an outcome with a machine whose lists are as before
-abbrev Then : Outcome → Type 0
+abbrev Then : StepOutcome → Type 0
 Then o = IsRecorded o.0
 
-pub recorded-take : (m : Machine) (q : ℕ) → IsRecorded m → IsRecorded (take m q).0
+pub recorded-take : (m : Machine) (q : ℕ) → IsRecorded m → IsRecorded (poller_takes m q).0
 recorded-take m q r =
-    either Then (is_asking (note_of m q)) (idles m idle.HandFull) (by_rx m (event.Take q))
+    either Then (is_asking (note_of m q)) (idle_step m idle.HandFull) (by_rx m (event.Take q))
     (λ _. r) (λ _. recorded-rx m (event.Take q) refl r)
 
 look-by : (m : Machine) (q : ℕ) (x : Option ℕ) → IsRecorded m → IsRecorded (look_by m q x).0
@@ -124,9 +126,9 @@ look-by m q (Some x) r = r
 
 pub recorded-look : (m : Machine) (q : ℕ) → IsRecorded m → IsRecorded (look m q).0
 recorded-look m q r =
-    let seen : Outcome = look_by m q (to_weigh m.rx q) in
-    let early : Outcome = idles m idle.WrongStage in
-    either Then (not (inside_of m.rx q)) (idles m idle.NotInside)
+    let seen : StepOutcome = look_by m q (to_weigh m.rx q) in
+    let early : StepOutcome = idle_step m idle.WrongStage in
+    either Then (not (inside_of m.rx q)) (idle_step m idle.NotInside)
     (cond (is_nothing (note_of m q)) seen early) (λ _. r)
     (λ _. either Then (is_nothing (note_of m q)) seen early
     (λ _. look-by m q (to_weigh m.rx q) r) (λ _. r))
@@ -138,20 +140,20 @@ weigh-by m q (note.Looked want) None r = r
 weigh-by m q (note.Looked want) (Some x) r = recorded-rx m (weighing m q x want) refl r
 weigh-by m q (note.Asking filter) x r = r
 
-pub recorded-weigh : (m : Machine) (q : ℕ) → IsRecorded m → IsRecorded (weigh m q).0
+pub recorded-weigh : (m : Machine) (q : ℕ) → IsRecorded m → IsRecorded (poller_weighs m q).0
 recorded-weigh m q r =
-    either Then (not (inside_of m.rx q)) (idles m idle.NotInside)
+    either Then (not (inside_of m.rx q)) (idle_step m idle.NotInside)
     (weigh_by m q (note_of m q) (to_weigh m.rx q)) (λ _. r)
     (λ _. weigh-by m q (note_of m q) (to_weigh m.rx q) r)
 
 put-by : (m : Machine) (q : ℕ) (position : Option ℕ) (a : HopAnswer) → IsRecorded m
-    → IsRecorded (put_by m q position a).0
+    → IsRecorded (poller_after_put m q position a).0
 put-by m q None a r = r
 put-by m q (Some position) a r = r
 
-pub recorded-put : (m : Machine) (q : ℕ) → IsRecorded m → IsRecorded (put m q).0
+pub recorded-put : (m : Machine) (q : ℕ) → IsRecorded m → IsRecorded (poller_puts m q).0
 recorded-put m q r =
-    put-by (by_rx m (putting m q)).0 q (position_of (happens m.rx (putting m q)).1)
+    put-by (by_rx m (putting m q)).0 q (put_position (happens m.rx (putting m q)).1)
     (happens m.rx (putting m q)).1 (recorded-rx m (putting m q) refl r)
 
 ask-by : (m : Machine) (q : ℕ) (n : Note) → IsRecorded m → IsRecorded (ask_by m q n).0
@@ -161,14 +163,14 @@ ask-by m q (note.Asking filter) r = r
 
 pub recorded-ask : (m : Machine) (q : ℕ) → IsRecorded m → IsRecorded (ask m q).0
 recorded-ask m q r =
-    either Then (not (inside_of m.rx q)) (idles m idle.NotInside) (ask_by m q (note_of m q))
+    either Then (not (inside_of m.rx q)) (idle_step m idle.NotInside) (ask_by m q (note_of m q))
     (λ _. r) (λ _. ask-by m q (note_of m q) r)
 
-pub recorded-leave : (m : Machine) (q : ℕ) → IsRecorded m → IsRecorded (leave m q).0
+pub recorded-leave : (m : Machine) (q : ℕ) → IsRecorded m → IsRecorded (poller_leaves m q).0
 recorded-leave m q r =
-    let gone : Outcome = by_rx m (event.Leave q) in
-    let early : Outcome = idles m idle.MidPacket in
-    either Then (not (inside_of m.rx q)) (idles m idle.NotInside)
+    let gone : StepOutcome = by_rx m (event.Leave q) in
+    let early : StepOutcome = idle_step m idle.MidPacket in
+    either Then (not (inside_of m.rx q)) (idle_step m idle.NotInside)
     (cond (is_nothing (note_of m q)) gone early) (λ _. r)
     (λ _. either Then (is_nothing (note_of m q)) gone early
     (λ _. recorded-rx m (event.Leave q) refl r) (λ _. r))
@@ -182,7 +184,7 @@ deliver-to m c o is r =
     all-pushed (λ a x. app_at m.setup.packets m.setup.apps x ≡ a) m.rx.bare.outs o (next_out
     m.rx.bare c) is r.own)
 
-pub recorded-deliver : (m : Machine) (c : ℕ) → IsRecorded m → IsRecorded (deliver m c).0
+pub recorded-deliver : (m : Machine) (c : ℕ) → IsRecorded m → IsRecorded (cpu_delivers m c).0
 recorded-deliver m c r =
     let o : ℕ = app_for m.setup (in_lane m.rx c) in
     by_cases (λ s. IsRecorded (record m { rx = s })) m.rx (event.Deliver c o) r
@@ -203,7 +205,7 @@ record-by m (Some (Some hash)) r =
     let g : ℕ = length m.setup.homes + a in
     let es : List HopEvent = event.Enter g ∷ event.Leave g ∷ [] in
     either Then (nat_lt 0 (length m.socket)) (wrote (visited m a) a hash, says.Done)
-    (idles m idle.NoTable)
+    (idle_step m idle.NoTable)
     (λ _. recorded-outs m (run es m.rx) (outs-run es m.rx (refl, (refl, tt))) r) (λ _. r)
 
 pub recorded-record : (m : Machine) (flow : ℕ) → IsRecorded m → IsRecorded (record_flow m flow).0
@@ -234,7 +236,7 @@ send-by m a (Some x) r =
 
 pub recorded-send : (m : Machine) (a : ℕ) → IsRecorded m → IsRecorded (send m a).0
 recorded-send m a r =
-    either Then (nat_lt (placed_of m.tx a) (taken_of m.tx a)) (idles m idle.HandFull)
+    either Then (nat_lt (placed_of m.tx a) (taken_of m.tx a)) (idle_step m idle.HandFull)
     (send_by m a (next_in m a)) (λ _. r) (λ _. send-by m a (next_in m a) r)
 
 -- ---- a transmit choice
@@ -268,7 +270,7 @@ in_reply-is m a more k =
     ∙ get_or-map (λ s. s.id) (sent_of m a) n nothing_sent 0 (omega (arith, more, upto, long))
 
 recorded-chose : (m : Machine) (a class pick : ℕ)
-    → class ≡ flow_of m.setup (next_of m.tx a) → IsRecorded m
+    → class ≡ flow_number_of m.setup (next_of m.tx a) → IsRecorded m
     → IsRecorded
     (record m { tx = chose m.tx a (choice_of m.tx a (Some class) (Some pick) pick everyone) })
 recorded-chose m a class pick is r =
@@ -287,8 +289,9 @@ pub recorded-tweigh : (m : Machine) (a : ℕ) → StepInvariant m → IsRecorded
 recorded-tweigh m a k r =
     let s : Sent = in_reply m a in
     by_cases (λ t. IsRecorded (record m { tx = t })) m.tx (sending m a s) r
-    (λ _ more. recorded-chose m a (flow_of m.setup s.id) (pick_for m s)
-    (ap (flow_of m.setup) (sym (in_reply-is m a more k))) r)
+    (λ _ more. recorded-chose m a (flow_number_of m.setup s.id) (pick_for m s)
+    (ap (flow_number_of m.setup) (sym (in_reply-is m a more k))) r)
 
 pub recorded-tput : (m : Machine) (a : ℕ) → IsRecorded m → IsRecorded (tput m a).0
-recorded-tput m a r = recorded-tx m (event.Put a (hash_of m.setup (last_of m.tx a).id)) refl r
+recorded-tput m a r = recorded-tx m (event.Put a (packet_hash m.setup (last_chosen m.tx a).id)) refl
+    r

@@ -21,7 +21,7 @@ use Rattle.history.proofs.FindingLemmas.{map-same}
 use Rattle.history.proofs.RegularLemmas.{AreNumbered, arrival-at, queue-of}
 use Rattle.steer_model.specs.State.Machine.{Machine}
 use Rattle.steer_model.specs.Steps.Pollers.{arrival_by, route_by}
-use Rattle.steer_model.specs.State.Setup.{hash_of}
+use Rattle.steer_model.specs.State.Setup.{packet_hash}
 use Rattle.steer_invariant.specs.StepInvariant.{StepInvariant}
 use Rattle.steer_invariant.specs.ListInvariants.{Came}
 use Rattle.steer_invariant.proofs.StepInvariant.FrameLemmas.{manned-leaves, noted-leaves}
@@ -106,10 +106,11 @@ may_arrive m q named few k =
 
 -- the next packet, on its way
 abbrev pub next_arrival : Machine → Arrival
-next_arrival m = arrival_by (length m.arrivals) (route_by m (hash_of m.setup (length m.arrivals)))
+next_arrival m = arrival_by (length m.arrivals)
+    (route_by m (packet_hash m.setup (length m.arrivals)))
 
 pub next_queue : (m : Machine) → StepInvariant m → (next_arrival m).queue < length m.setup.homes
-next_queue m k = route-below m (hash_of m.setup (length m.arrivals)) k.routes
+next_queue m k = route-below m (packet_hash m.setup (length m.arrivals)) k.routes
 
 kept-arrived : (m : Machine) (a : Arrival) → a.id ≡ length m.arrivals
     → a.queue < length m.setup.homes → length m.arrivals < length m.setup.packets → StepInvariant m

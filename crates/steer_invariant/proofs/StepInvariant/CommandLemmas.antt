@@ -19,7 +19,7 @@ use Rattle.xps_map.specs.Maps.{Maps}
 use Rattle.steer_model.specs.Steps.Commands.{affects, answer_to, is_done, listed, set_by}
 use Rattle.steer_model.specs.State.Machine.{Machine}
 use Rattle.steer_model.specs.State.Settings.{Settings, changed, class_at, plain_lane}
-use Rattle.steer_model.specs.State.Setup.{Setup, hash_of}
+use Rattle.steer_model.specs.State.Setup.{Setup, packet_hash}
 use Rattle.steer_invariant.specs.StepInvariant.{IsCommandNamed, StepInvariant}
 use Rattle.steer_invariant.proofs.BelowLemmas.{both-below}
 use Rattle.steer_invariant.proofs.StepInvariant.GateLemmas.{Passed, emptied_by, gate_passed}
@@ -52,7 +52,7 @@ settled-anywhere s p old now asked h passed all same g =
       hands = λ q lt. no_hands s h passed.alone q;
       classes = λ q i lt a b.
           ap (λ (counts : List ℕ). class_of (slice_index counts q)
-          (hash_of p (chosen_at (choices_of s q) i).id)) same;
+          (packet_hash p (chosen_at (choices_of s q) i).id)) same;
       lanes = λ q x lt.
           inr (emptied_by s (plain_lane p old q x)
           (λ there. passed.empty (plain_lane p old q x) there (all (plain_lane p old q x) there)));

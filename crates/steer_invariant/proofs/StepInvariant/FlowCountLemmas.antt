@@ -24,7 +24,7 @@ use Rattle.history.specs.Lists.{list_at}
 use Rattle.steer_model.specs.Steps.Commands.{affects, answer_to, is_done, set_by}
 use Rattle.steer_model.specs.State.Machine.{Machine}
 use Rattle.steer_model.specs.State.Settings.{Settings, changed, class_at, plain_lane}
-use Rattle.steer_model.specs.State.Setup.{Setup, hash_of}
+use Rattle.steer_model.specs.State.Setup.{Setup, packet_hash}
 use Rattle.steer_invariant.specs.StepInvariant.{StepInvariant}
 use Rattle.steer_invariant.specs.HopInvariants.{AreNoted, Manned, RxSizes}
 use Rattle.steer_invariant.specs.ListInvariants.{Came, Replied}
@@ -83,7 +83,7 @@ calm-reopen m now s may c =
 other-class : (p : Setup) (now : Settings) (q count r x : ℕ) → r ≢ q
     → class_at p (changed now (give.Flows q count)) r x ≡ class_at p now r x
 other-class p now q count r x ne =
-    ap (λ n. class_of n (hash_of p x)) (get_or-set_other now.counts q r (rounded_up count) 0 ne)
+    ap (λ n. class_of n (packet_hash p x)) (get_or-set_other now.counts q r (rounded_up count) 0 ne)
 
 calm-resize : (m : Machine) (s : HopState) (q count : ℕ) → MayAsk s (event.Resize q count)
     → Calm m m.settings s

@@ -23,7 +23,7 @@ use Rattle.hop_core.proofs.Settled.{reset_settles}
 use Rattle.steer_model.specs.Steps.Commands.{affects, answer_to, by_gate, is_done, set_by}
 use Rattle.steer_model.specs.State.Machine.{Machine}
 use Rattle.steer_model.specs.State.Settings.{Settings, class_at, mask_of, plain_lane}
-use Rattle.steer_model.specs.State.Setup.{hash_of}
+use Rattle.steer_model.specs.State.Setup.{packet_hash}
 use Rattle.steer_invariant.specs.StepInvariant.{StepInvariant}
 use Rattle.steer_invariant.specs.HopInvariants.{Manned}
 use Rattle.steer_invariant.proofs.StepInvariant.GateLemmas.{emptied_by, gate_passed, no_hands}
@@ -185,7 +185,7 @@ kept-changed m online cpu same manned alone dry k =
                 alone q;
             classes = λ q i lt a b. refl;
             lanes = λ q x lt. elim (plain-cases (mask_of
-                m.settings q) (hash_of m.setup x) m.settings.online online
+                m.settings q) (packet_hash m.setup x) m.settings.online online
                 (slice_index m.setup.homes q)
                 cpu same) [
                   | inl e ↦ inl e

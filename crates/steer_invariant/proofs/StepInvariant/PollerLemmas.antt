@@ -26,9 +26,9 @@ use Rattle.history.specs.declared.arrival.Arrival.{Arrival}
 use Rattle.history.specs.declared.sent.Sent.{Sent}
 use Rattle.steer_model.specs.State.Machine.{Machine, note_of}
 use Rattle.steer_model.specs.State.Notes.{is_asking}
-use Rattle.steer_model.specs.Steps.Pollers.{noted}
+use Rattle.steer_model.specs.Steps.Pollers.{with_note}
 use Rattle.steer_model.specs.State.Settings.{Settings, class_at, plain_lane}
-use Rattle.steer_model.specs.State.Setup.{Setup, app_for, hash_of}
+use Rattle.steer_model.specs.State.Setup.{Setup, app_for, packet_hash}
 use Rattle.steer_model.specs.declared.note.Note.{Note}
 use Rattle.steer_model.specs.declared.note.Note.TheVariants as note
 use Rattle.steer_invariant.specs.StepInvariant.{StepInvariant}
@@ -49,11 +49,11 @@ pub StepInvariant-rx : (m : Machine) (e : HopEvent) (arrivals : List Arrival) �
     → Came m.setup.packets arrivals (arrivals_of (happens m.rx e).0)
     → Replied (list_at m.sent) (out_at (happens m.rx e).0.bare) (arrivals_of m.tx)
     → StepInvariant m → StepInvariant (record m { rx = (happens m.rx e).0; arrivals = arrivals })
-StepInvariant-rx m e arrivals may still counts allowed manned noted came replied k =
+StepInvariant-rx m e arrivals may still counts allowed manned with_note came replied k =
     assumption (
       rx-happens m.setup m.rx e may still k.rx,
       by-happens m.setup m.settings m.rx e may counts k.rx allowed manned k.by,
-      noted,
+      with_note,
       came,
       replied,
     )
@@ -69,9 +69,9 @@ pub StepInvariant-inner : (m : Machine) (e : HopEvent) (t : HopState) → IsInne
     → IsBySettings (class_at m.setup m.settings) (plain_lane m.setup m.settings) m.rx e
     → Manned m.setup m.settings (happens m.rx e).0 → AreNoted m.notes (happens m.rx e).0
     → t ≡ (happens m.rx e).0 → StepInvariant m → StepInvariant (record m { rx = t })
-StepInvariant-inner m e t inner may allowed manned noted is k =
+StepInvariant-inner m e t inner may allowed manned with_note is k =
     subst (λ (s : HopState). StepInvariant (record m { rx = s })) (sym is)
-    (StepInvariant-rx m e m.arrivals may inner.closed inner.counts allowed manned noted
+    (StepInvariant-rx m e m.arrivals may inner.closed inner.counts allowed manned with_note
     (came-leaves m.setup.packets m.arrivals m.rx e inner.arrivals k.came)
     (replied-inbox (list_at m.sent) (arrivals_of m.tx) m.rx e inner.outs k.replied) k)
 
@@ -203,7 +203,7 @@ pub may_deliver : (m : Machine) (c x : ℕ) → c < m.setup.cpus → StepInvaria
     → MayAsk m.rx (event.Deliver c (app_for m.setup x))
 may_deliver m c x named k =
     let z = k.rx.sizes in let some = k.given.some_app in
-    let below = app_below (hash_of m.setup x) m.setup.apps some in
+    let below = app_below (packet_hash m.setup x) m.setup.apps some in
     record { lane = omega (arith, named, z.cpus); out = omega (arith, below, z.apps) }
 
 replied-pushed : (sent : ℕ → List Sent) (old new begun : ℕ → List ℕ) (o x : ℕ)
@@ -257,7 +257,7 @@ pub StepInvariant-noted : (m : Machine) (q : ℕ) (n : Note) → q < length m.se
     → IsNoted m.rx q n
     → ((filter : Filter) → n ≡ note.Asking filter → filter.queue < length m.setup.homes)
     → StepInvariant m
-    → StepInvariant (noted m q n)
+    → StepInvariant (with_note m q n)
 StepInvariant-noted m q n named here below k =
     let l = k.lists in
     let ch = Changed-set m.notes q n note.Nothing (omega (arith, named, l.notes_long)) in
@@ -267,9 +267,9 @@ StepInvariant-noted m q n named here below k =
       tx = k.tx;
       taken = k.taken;
       by = k.by;
-      noted = λ r. elim (cases_eq r q) [
-        | inl e ↦ (let f : note_of (noted m q n) r ≡ n = rw e ch.here in rw (f, e) here)
-        | inr ne ↦ (let f : note_of (noted m q n) r ≡ note_of m r = ch.there r ne in
+      with_note = λ r. elim (cases_eq r q) [
+        | inl e ↦ (let f : note_of (with_note m q n) r ≡ n = rw e ch.here in rw (f, e) here)
+        | inr ne ↦ (let f : note_of (with_note m q n) r ≡ note_of m r = ch.there r ne in
             rw f (k.noted r))
       ];
       lists = assumption (length-set m.notes q n ∙ l.notes_long);
@@ -279,9 +279,9 @@ StepInvariant-noted m q n named here below k =
         queues = k.routes.queues;
         set = k.routes.set;
         asked = λ r filter is. elim (cases_eq r q) [
-          | inl e ↦ (let f : note_of (noted m q n) r ≡ n = rw e ch.here in
+          | inl e ↦ (let f : note_of (with_note m q n) r ≡ n = rw e ch.here in
               below filter (sym f ∙ is))
-          | inr ne ↦ (let f : note_of (noted m q n) r ≡ note_of m r = ch.there r ne in
+          | inr ne ↦ (let f : note_of (with_note m q n) r ≡ note_of m r = ch.there r ne in
               k.routes.asked r filter (sym f ∙ is))
         ];
       };
@@ -306,7 +306,7 @@ weighs_next s q x some =
     ]
 
 pub kept_look : (m : Machine) (q x : ℕ) (want : Option ℕ) → q < length m.setup.homes
-    → to_weigh m.rx q ≡ Some x → StepInvariant m → StepInvariant (noted m q (note.Looked want))
+    → to_weigh m.rx q ≡ Some x → StepInvariant m → StepInvariant (with_note m q (note.Looked want))
 kept_look m q x want named some k =
     StepInvariant-noted m q (note.Looked want) named (weighs_next m.rx q x some)
     (λ filter e. absurd (cc)) k

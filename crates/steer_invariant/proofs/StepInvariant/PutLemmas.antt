@@ -19,7 +19,7 @@ use Rattle.hop_core.proofs.Lists.{Changed-set}
 use Rattle.hop_core.proofs.PutSteps.{put_as}
 use Rattle.steer_model.specs.State.Machine.{Machine, note_of}
 use Rattle.steer_model.specs.State.Notes.{asking}
-use Rattle.steer_model.specs.Steps.Pollers.{filter_for, noted, position_of, with_filter}
+use Rattle.steer_model.specs.Steps.Pollers.{filter_for, with_note, put_position, with_filter}
 use Rattle.steer_model.specs.State.Settings.{Settings}
 use Rattle.steer_model.specs.State.Setup.{Setup}
 use Rattle.steer_model.specs.declared.note.Note.{Note}
@@ -128,7 +128,7 @@ kept_put m q hash t named is k =
 
 -- a poller whose packet was accepted has put what it took
 abbrev Accepted : ℕ → Outcome → Type 0
-Accepted q o = (n : ℕ) → position_of o.1 ≡ Some n → taken_of o.0 q ≤ placed_of o.0 q
+Accepted q o = (n : ℕ) → put_position o.1 ≡ Some n → taken_of o.0 q ≤ placed_of o.0 q
 
 accepted_stage : (s : HopState) (q : ℕ) (hash : Option ℕ) → q < length s.arrivals → Sound s
     → Accepted q (happens s (event.Put q hash))
@@ -153,8 +153,8 @@ note-asking s q (Some filter) h = h
 pub kept_asking : (m : Machine) (q : ℕ) (hash : Option ℕ) (t : HopState) (position filters : ℕ)
     (c : Choice)
     → q < length m.setup.homes → t ≡ (happens m.rx (event.Put q hash)).0
-    → position_of (happens m.rx (event.Put q hash)).1 ≡ Some position → StepInvariant m
-    → StepInvariant (noted (record m { rx = t }) q
+    → put_position (happens m.rx (event.Put q hash)).1 ≡ Some position → StepInvariant m
+    → StepInvariant (with_note (record m { rx = t }) q
     (asking (filter_for m.setup.homes filters c position)))
 kept_asking m q hash t position filters c named is went_at k =
     let z = k.rx.sizes in
@@ -172,9 +172,9 @@ pub kept_ask : (m : Machine) (q : ℕ) (filter : Filter) (hash : Option ℕ)
     (filters : List (Option Filter))
     → q < length m.setup.homes → note_of m q ≡ note.Asking filter
     → filters ≡ with_filter m.filters hash filter → StepInvariant m
-    → StepInvariant (record (noted m q note.Nothing) { filters = filters })
+    → StepInvariant (record (with_note m q note.Nothing) { filters = filters })
 kept_ask m q filter hash filters named asked is k =
-    let n : StepInvariant (noted m q note.Nothing) =
+    let n : StepInvariant (with_note m q note.Nothing) =
     StepInvariant-noted m q note.Nothing named tt (λ f e. absurd (cc)) k in
     record {
       given = n.given;
@@ -182,7 +182,7 @@ kept_ask m q filter hash filters named asked is k =
       tx = n.tx;
       taken = n.taken;
       by = n.by;
-      noted = n.noted;
+      with_note = n.noted;
       lists = n.lists;
       sizes = n.sizes;
       routes = record {

@@ -26,7 +26,7 @@ use Rattle.xps_map.proofs.CandidatesLemmas.{within}
 use Rattle.steer_model.specs.Steps.Applications.{everyone, next_in, pick_for, sending, sent_of}
 use Rattle.steer_model.specs.State.Ranges.{IsGiven}
 use Rattle.steer_model.specs.State.Machine.{Machine}
-use Rattle.steer_model.specs.State.Setup.{Setup, flow_of, hash_of}
+use Rattle.steer_model.specs.State.Setup.{Setup, flow_number_of, packet_hash}
 use Rattle.steer_invariant.specs.StepInvariant.{StepInvariant}
 use Rattle.steer_invariant.specs.HopInvariants.{AllTaken}
 use Rattle.steer_invariant.specs.ListInvariants.{Replied}
@@ -98,12 +98,12 @@ everyone-has : (c : ℕ) → c < 32 → has everyone c ≡ true
 everyone-has c lt = let bit = bit_at_ones 32 c lt in rw (lt-ltb c 32 lt, bit) refl
 
 -- the flow of every packet has a class, also of one that the capture has not
-pub flow_below : (p : Setup) (x : ℕ) → IsGiven p → flow_of p x < max 1 (length p.packets)
+pub flow_below : (p : Setup) (x : ℕ) → IsGiven p → flow_number_of p x < max 1 (length p.packets)
 flow_below p x g =
     elim (cases_lt x (length p.packets)) [
       | inl lt ↦ (let f = g.flows.below x lt in omega (arith, f))
       | inr le ↦ (
-          let e : flow_of p x ≡ 0 =
+          let e : flow_number_of p x ≡ 0 =
           ap (λ (y : Packet). y.flow_number) (get_or-eq_default p.packets no_packet le) in
           omega (arith, e))
     ]
@@ -115,7 +115,7 @@ pick_below m r k =
     let pick : pick_for m r < m.settings.maps.count =
     within m.settings.maps.count (serves_queue m.settings.maps)
     (serves_cpu m.settings.maps) r.rxq r.cpu
-    (hash_of m.setup r.id) (omega (arith, maps, some)) in
+    (packet_hash m.setup r.id) (omega (arith, maps, some)) in
     omega (arith, pick, maps)
 
 -- any reply may be weighed

@@ -21,12 +21,13 @@ use Rattle.steer_model.specs.Steps.Applications.{in_lane, in_reply, next_in, rec
 use Rattle.steer_model.specs.Steps.Applications.{send_by}
 use Rattle.steer_model.specs.Steps.Applications.{sending, stand_of, visited, write_of, wrote}
 use Rattle.steer_model.specs.Steps.Commands.{answer_to, given, is_done, set_by}
-use Rattle.steer_model.specs.State.Machine.{Machine, last_of, note_of}
+use Rattle.steer_model.specs.State.Machine.{Machine, last_chosen, note_of}
 use Rattle.steer_model.specs.State.Notes.{is_asking, is_nothing}
-use Rattle.steer_model.specs.Steps.Outcomes.{Outcome, by_rx, idles}
-use Rattle.steer_model.specs.Steps.Pollers.{arrives, ask_by, look_by, position_of, put_by, putting}
+use Rattle.steer_model.specs.Steps.Outcomes.{StepOutcome, by_rx, idle_step}
+use Rattle.steer_model.specs.Steps.Pollers.{arrives, ask_by, look_by, put_position}
+use Rattle.steer_model.specs.Steps.Pollers.{poller_after_put, putting}
 use Rattle.steer_model.specs.Steps.Pollers.{seen_by, weigh_by, weighing, with_filter}
-use Rattle.steer_model.specs.State.Setup.{app_for, flow_hash, hash_of}
+use Rattle.steer_model.specs.State.Setup.{app_for, flow_hash, packet_hash}
 use Rattle.steer_model.specs.Steps.SingleSteps.{simple}
 use Rattle.steer_model.specs.declared.note.Note.{Note}
 use Rattle.steer_model.specs.declared.note.Note.TheVariants as note
@@ -61,12 +62,12 @@ weighs-is m q x =
     some_or (Some y) d = y
 
 -- the machine after a step has the same setup, and the invariant
-pub record Goes (m : Machine) (o : Outcome) : Type 0 where
+pub record Goes (m : Machine) (o : StepOutcome) : Type 0 where
   pub setup : o.0.setup ≡ m.setup
   pub kept : StepInvariant o.0
 
 module _ (m : Machine) (k : StepInvariant m) where
-  stays : (o : Outcome) → o.0 ≡ m → Goes m o
+  stays : (o : StepOutcome) → o.0 ≡ m → Goes m o
   stays o e =
       record {
         setup = ap (λ (n : Machine). n.setup) e;
@@ -80,18 +81,18 @@ module _ (m : Machine) (k : StepInvariant m) where
   goes-arrive =
       let a : Arrival = next_arrival m in
       either (Goes m) (nat_lt (length m.arrivals) (length m.setup.packets)) (arrives m a, says.Done)
-      (idles m idle.NothingLeft)
+      (idle_step m idle.NothingLeft)
       (λ few. record {
         setup = refl;
         kept = kept_arrive m a (happens m.rx (event.Arrive a.queue a.id)).0 refl
             (ltb-true _ _ few) refl k;
       })
-      (λ none. stays (idles m idle.NothingLeft) refl)
+      (λ none. stays (idle_step m idle.NothingLeft) refl)
 
   goes-take : (q : ℕ) → q < length m.setup.homes → Goes m (simple m (act.Take q))
   goes-take q named =
-      either (Goes m) (is_asking (note_of m q)) (idles m idle.HandFull) (by_rx m (event.Take q))
-      (λ asks. stays (idles m idle.HandFull) refl)
+      either (Goes m) (is_asking (note_of m q)) (idle_step m idle.HandFull) (by_rx m (event.Take q))
+      (λ asks. stays (idle_step m idle.HandFull) refl)
       (λ quiet. record {
         setup = refl;
         kept = kept_take m q
@@ -116,21 +117,23 @@ module _ (m : Machine) (k : StepInvariant m) where
             (ap (λ y. (happens m.rx (weighing m q y want)).0) (weighs-is m q x is)) k;
       }
 
-  goes-put : (q : ℕ) (position : Option ℕ) → position_of (happens m.rx (putting m q)).1 ≡ position
+  goes-put : (q : ℕ) (position : Option ℕ) → put_position (happens m.rx (putting m q)).1 ≡ position
       → q < length m.setup.homes
-      → Goes m (put_by (by_rx m (putting m q)).0 q position (happens m.rx (putting m q)).1)
+      → Goes m (poller_after_put (by_rx m (putting m q)).0 q position
+      (happens m.rx (putting m q)).1)
   goes-put q None is named =
       record {
         setup = refl;
-        kept = kept_put m q (hash_of m.setup (last_of m.rx q).id)
+        kept = kept_put m q (packet_hash m.setup (last_chosen m.rx q).id)
             (happens m.rx (putting m q)).0 named refl k;
       }
   goes-put q (Some position) is named =
       let t : HopState = (happens m.rx (putting m q)).0 in
       record {
         setup = refl;
-        kept = kept_asking m q (hash_of m.setup (last_of m.rx q).id) t position (length m.filters)
-            (last_of t q).choice
+        kept = kept_asking m q (packet_hash m.setup (last_chosen m.rx q).id) t position
+            (length m.filters)
+            (last_chosen t q).choice
             named refl is k;
       }
 
@@ -138,7 +141,7 @@ module _ (m : Machine) (k : StepInvariant m) where
   goes-ask q note.Nothing is named = stays (ask_by m q note.Nothing) refl
   goes-ask q (note.Looked want) is named = stays (ask_by m q (note.Looked want)) refl
   goes-ask q (note.Asking filter) is named =
-      let hash : Option ℕ = hash_of m.setup (last_of m.rx q).id in
+      let hash : Option ℕ = packet_hash m.setup (last_chosen m.rx q).id in
       record {
         setup = refl;
         kept = kept_ask m q filter hash
@@ -147,18 +150,18 @@ module _ (m : Machine) (k : StepInvariant m) where
 
   goes-leave : (q : ℕ) → q < length m.setup.homes → Goes m (simple m (act.Leave q))
   goes-leave q named =
-      let rest : Outcome =
-      cond (is_nothing (note_of m q)) (by_rx m (event.Leave q)) (idles m idle.MidPacket) in
-      either (Goes m) (not (inside_of m.rx q)) (idles m idle.NotInside) rest
-      (λ out'. stays (idles m idle.NotInside) refl)
+      let rest : StepOutcome =
+      cond (is_nothing (note_of m q)) (by_rx m (event.Leave q)) (idle_step m idle.MidPacket) in
+      either (Goes m) (not (inside_of m.rx q)) (idle_step m idle.NotInside) rest
+      (λ out'. stays (idle_step m idle.NotInside) refl)
       (λ in'. either (Goes m) (is_nothing (note_of m q)) (by_rx m (event.Leave q))
-      (idles m idle.MidPacket)
+      (idle_step m idle.MidPacket)
       (λ quiet. record {
         setup = refl;
         kept = kept_leave m q
             (happens m.rx (event.Leave q)).0 named refl k;
       })
-      (λ busy. stays (idles m idle.MidPacket) refl))
+      (λ busy. stays (idle_step m idle.MidPacket) refl))
 
   -- ---- applications
 
@@ -172,7 +175,7 @@ module _ (m : Machine) (k : StepInvariant m) where
       let t : HopState = (happens m.rx (event.Enter g)).0 in
       let n : Machine = visited m a in
       either (Goes m) (nat_lt 0 (length m.socket)) (wrote n a hash, says.Done)
-      (idles m idle.NoTable)
+      (idle_step m idle.NoTable)
       (λ full. record {
         setup = refl;
         kept = kept_wrote n (wrote n a hash).socket a (list_at n.writes a ++ write_of n a hash ∷ [])
@@ -180,7 +183,7 @@ module _ (m : Machine) (k : StepInvariant m) where
             (kept_visited m a t (happens t (event.Leave g)).0
             (mod_below hash m.setup.apps some) refl refl k);
       })
-      (λ empty. stays (idles m idle.NoTable) refl)
+      (λ empty. stays (idle_step m idle.NoTable) refl)
 
   goes-send : (a : ℕ) (x : Option ℕ) → next_in m a ≡ x → a < m.setup.apps
       → taken_of m.tx a ≤ placed_of m.tx a → Goes m (send_by m a x)
@@ -251,24 +254,26 @@ module _ (m : Machine) (k : StepInvariant m) where
             (ltb-true _ _ named) refl k;
       }
   goes-simple (act.Look q) named =
-      let rest : Outcome =
-      cond (is_nothing (note_of m q)) (look_by m q (to_weigh m.rx q)) (idles m idle.WrongStage) in
-      either (Goes m) (not (inside_of m.rx q)) (idles m idle.NotInside) rest
-      (λ out'. stays (idles m idle.NotInside) refl)
+      let rest : StepOutcome =
+      cond (is_nothing (note_of m q)) (look_by m q (to_weigh m.rx q))
+      (idle_step m idle.WrongStage) in
+      either (Goes m) (not (inside_of m.rx q)) (idle_step m idle.NotInside) rest
+      (λ out'. stays (idle_step m idle.NotInside) refl)
       (λ in'. either (Goes m) (is_nothing (note_of m q)) (look_by m q (to_weigh m.rx q))
-      (idles m idle.WrongStage)
+      (idle_step m idle.WrongStage)
       (λ quiet. goes-look q (to_weigh m.rx q) refl (ltb-true _ _ named))
-      (λ busy. stays (idles m idle.WrongStage) refl))
+      (λ busy. stays (idle_step m idle.WrongStage) refl))
   goes-simple (act.Weigh q) named =
-      either (Goes m) (not (inside_of m.rx q)) (idles m idle.NotInside)
+      either (Goes m) (not (inside_of m.rx q)) (idle_step m idle.NotInside)
       (weigh_by m q (note_of m q) (to_weigh m.rx q))
-      (λ out'. stays (idles m idle.NotInside) refl)
+      (λ out'. stays (idle_step m idle.NotInside) refl)
       (λ in'. goes-weigh q (note_of m q) (to_weigh m.rx q) refl (ltb-true _ _ named))
   goes-simple (act.Put q) named =
-      goes-put q (position_of (happens m.rx (putting m q)).1) refl (ltb-true _ _ named)
+      goes-put q (put_position (happens m.rx (putting m q)).1) refl (ltb-true _ _ named)
   goes-simple (act.Ask q) named =
-      either (Goes m) (not (inside_of m.rx q)) (idles m idle.NotInside) (ask_by m q (note_of m q))
-      (λ out'. stays (idles m idle.NotInside) refl)
+      either (Goes m) (not (inside_of m.rx q)) (idle_step m idle.NotInside)
+      (ask_by m q (note_of m q))
+      (λ out'. stays (idle_step m idle.NotInside) refl)
       (λ in'. goes-ask q (note_of m q) refl (ltb-true _ _ named))
   goes-simple (act.Leave q) named = goes-leave q (ltb-true _ _ named)
   goes-simple (act.Pull c) named =
@@ -292,9 +297,9 @@ module _ (m : Machine) (k : StepInvariant m) where
       }
   goes-simple (act.Record flow) named = goes-record (flow_hash m.setup flow)
   goes-simple (act.Send a) named =
-      either (Goes m) (nat_lt (placed_of m.tx a) (taken_of m.tx a)) (idles m idle.HandFull)
+      either (Goes m) (nat_lt (placed_of m.tx a) (taken_of m.tx a)) (idle_step m idle.HandFull)
       (send_by m a (next_in m a))
-      (λ full. stays (idles m idle.HandFull) refl)
+      (λ full. stays (idle_step m idle.HandFull) refl)
       (λ free. goes-send a (next_in m a) refl (ltb-true _ _ named) (ltb-false _ _ free))
   goes-simple (act.TEnter a) named =
       record {
@@ -316,7 +321,7 @@ module _ (m : Machine) (k : StepInvariant m) where
             (ltb-true _ _ named) refl refl k;
       }
   goes-simple (act.TPut a) named =
-      let hash : Option ℕ = hash_of m.setup (last_of m.tx a).id in
+      let hash : Option ℕ = packet_hash m.setup (last_chosen m.tx a).id in
       record {
         setup = refl;
         kept = kept_tput m a hash (happens m.tx (event.Put a hash)).0

@@ -3,7 +3,7 @@ use Rattle.std.proofs.Common.{ℕ, ◌<◌, ◌≡◌, List, refl, ◌∙◌, ar
 use Rattle.steer_base.specs.declared.step.Step.{Step}
 use Rattle.steer_model.specs.State.Ranges.{IsGiven}
 use Rattle.steer_model.specs.State.Machine.{Machine}
-use Rattle.steer_model.specs.State.Setup.{Setup, flow_of}
+use Rattle.steer_model.specs.State.Setup.{Setup, flow_number_of}
 use Rattle.steer_model.specs.Steps.SingleSteps.{simple}
 use Rattle.steer_model.specs.Steps.CompoundSteps.{after, step}
 use Rattle.steer_invariant.specs.StepInvariant.{AreNamed, IsNamed, StepInvariant}
@@ -32,7 +32,7 @@ kept_of-simple p m s named k =
     record { setup = g.setup ∙ k.setup; kept = g.kept }
 
 -- flow numbers are below those that a step may name
-pub flow_small : (p : Setup) (x : ℕ) → IsGiven p → flow_of p x < 262144
+pub flow_small : (p : Setup) (x : ℕ) → IsGiven p → flow_number_of p x < 262144
 flow_small p x g = let f = flow_below p x g in let few = g.few_packets in omega (arith, f, few)
 
 kept-step : (m : Machine) (s : Step) → IsNamed m.setup s → StepInvariant m → KeptOf m.setup

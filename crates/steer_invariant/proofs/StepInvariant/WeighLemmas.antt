@@ -20,9 +20,9 @@ use Rattle.hop_core.specs.Sound.{Sound}
 use Rattle.hop_core.proofs.Cases.{by_cases}
 use Rattle.hop_core.proofs.Lists.{Changed-set, chosen-push_last}
 use Rattle.steer_model.specs.State.Machine.{Machine, note_of}
-use Rattle.steer_model.specs.Steps.Pollers.{noted, weighing}
+use Rattle.steer_model.specs.Steps.Pollers.{with_note, weighing}
 use Rattle.steer_model.specs.State.Settings.{Settings, class_at, mask_of, plain_lane}
-use Rattle.steer_model.specs.State.Setup.{Setup, hash_of}
+use Rattle.steer_model.specs.State.Setup.{Setup, packet_hash}
 use Rattle.steer_model.specs.declared.note.Note.{Note}
 use Rattle.steer_model.specs.declared.note.Note.TheVariants as note
 use Rattle.steer_invariant.specs.StepInvariant.{StepInvariant}
@@ -82,7 +82,7 @@ may_weigh m q want named k =
     let z = k.rx.sizes in let manned = k.by.manned in
     let class : Option ℕ = class_at m.setup m.settings q x in
     let plain : has m.settings.online (plain_lane m.setup m.settings q x) ≡ true =
-    rps-online (mask_of m.settings q) (hash_of m.setup x) m.settings.online
+    rps-online (mask_of m.settings q) (packet_hash m.setup x) m.settings.online
     (slice_index m.setup.homes q)
     (manned.homes q named) in
     let lane : ℕ = desired_cpu class want m.settings.online (plain_lane m.setup m.settings q x) in
@@ -95,7 +95,7 @@ may_weigh m q want named k =
       producer = omega (arith, named, z.queues);
       lane = omega (arith, below, z.cpus);
       in_range = subst (λ n. IsClassBelow n class) e
-          (class_below (slice_index m.settings.counts q) (hash_of m.setup x));
+          (class_below (slice_index m.settings.counts q) (packet_hash m.setup x));
       is_online = desired;
       drained = manned.empty;
     }
@@ -178,10 +178,10 @@ kept-weighed m q want t named quiet is k =
 -- a poller forgets what it saw, and its packet is weighed
 pub kept_weigh : (m : Machine) (q : ℕ) (want : Option ℕ) (t : HopState) → q < length m.setup.homes
     → t ≡ (happens m.rx (weighing m q (next_of m.rx q) want)).0 → StepInvariant m
-    → StepInvariant (record (noted m q note.Nothing) { rx = t })
+    → StepInvariant (record (with_note m q note.Nothing) { rx = t })
 kept_weigh m q want t named is k =
     let l = k.lists in
-    let quiet : note_of (noted m q note.Nothing) q ≡ note.Nothing =
+    let quiet : note_of (with_note m q note.Nothing) q ≡ note.Nothing =
     (Changed-set m.notes q note.Nothing note.Nothing (omega (arith, named, l.notes_long))).here in
-    kept-weighed (noted m q note.Nothing) q want t named quiet is
+    kept-weighed (with_note m q note.Nothing) q want t named quiet is
     (StepInvariant-noted m q note.Nothing named tt (λ filter e. absurd (cc)) k)

@@ -10,7 +10,7 @@ use Rattle.std.proofs.lemmas.List.{get_or-set_same, get_or-set_other, get_or_def
 use Rattle.history.specs.Lists.{no_packet}
 use Rattle.steer_base.specs.declared.packet.Packet.{Packet}
 use Rattle.steer_model.specs.State.Ranges.{AreFlowHashes, AreOfFlows, hash_or, with_hash}
-use Rattle.steer_model.specs.State.Setup.{hash_of_flow}
+use Rattle.steer_model.specs.State.Setup.{hash_of_flow_number}
 
 -- the hash of a flow after a packet more, where the packet is of the flow or not
 abbrev hash_after : Option (Option ℕ) → Bool → Packet → Option (Option ℕ)
@@ -32,7 +32,8 @@ later-hash true own y x rest more same = refl
 later-hash false own y x rest more same = same
 
 hash_of_flow-append : (xs : List Packet) (x : Packet) (flow : ℕ)
-    → hash_of_flow (xs ++ x ∷ []) flow ≡ hash_after (hash_of_flow xs flow) (flow == x.flow_number) x
+    → hash_of_flow_number (xs ++ x ∷ []) flow ≡ hash_after (hash_of_flow_number xs flow)
+    (flow == x.flow_number) x
 hash_of_flow-append [] x flow = own-hash (flow == x.flow_number) x
 hash_of_flow-append (y ∷ ys) x flow =
     later-hash (flow == y.flow_number) (flow == x.flow_number) y x _ _
@@ -57,13 +58,13 @@ hashes-more xs hashes x lt table flow =
       | inl e ↦
           rw e
           (get_or-set_same hashes n v None lt ∙ ap (λ h. hash_or h x.hash) (table n)
-          ∙ hash_after-own (hash_of_flow xs n) x
-          ∙ ap (λ b. hash_after (hash_of_flow xs n) b x) (sym (eq-eqb n n refl))
+          ∙ hash_after-own (hash_of_flow_number xs n) x
+          ∙ ap (λ b. hash_after (hash_of_flow_number xs n) b x) (sym (eq-eqb n n refl))
           ∙ sym (hash_of_flow-append xs x n))
       | inr ne ↦
           get_or-set_other hashes n flow v None ne ∙ table flow
-          ∙ hash_after-other (hash_of_flow xs flow) x
-          ∙ ap (λ b. hash_after (hash_of_flow xs flow) b x) (sym (ne_eqb flow n ne))
+          ∙ hash_after-other (hash_of_flow_number xs flow) x
+          ∙ ap (λ b. hash_after (hash_of_flow_number xs flow) b x) (sym (ne_eqb flow n ne))
           ∙ sym (hash_of_flow-append xs x flow)
     ]
 

@@ -11,8 +11,8 @@ use Rattle.steer_model.specs.Good.Choices.{ChoicesAreByRule, IsByRule, WantsAreW
 use Rattle.steer_model.specs.Good.Replies.{IsReplyByRule, RepliesAreByRule}
 use Rattle.steer_model.specs.Good.Inputs.{Input, Prefixes, settings_after, settings_at, setup_in}
 use Rattle.steer_model.specs.Good.Inputs.{since_at}
-use Rattle.steer_model.specs.State.Setup.{hash_of}
-use Rattle.steer_model.specs.State.Start.{settings_of}
+use Rattle.steer_model.specs.State.Setup.{packet_hash}
+use Rattle.steer_model.specs.State.Start.{initial_settings}
 
 take_nil : (n : ℕ) → take {A = Commanded} n [] ≡ []
 take_nil zero = refl
@@ -31,10 +31,10 @@ since_is : (h : History) → h.commands ≡ [] → (q : ℕ) (at : ℕ → ℕ) 
 since_is h none q at k = ap (λ cs. since_at cs q at k) none ∙ since_none q at k
 
 settings_is : (i : Input) (h : History) → h.commands ≡ [] → (n : ℕ)
-    → settings_at i h n ≡ settings_of i.plan
+    → settings_at i h n ≡ initial_settings i.plan
 settings_is i h none n =
-    ap (λ cs. settings_after (settings_of i.plan) (take n cs)) none
-    ∙ ap (settings_after (settings_of i.plan)) (take_nil n)
+    ap (λ cs. settings_after (initial_settings i.plan) (take n cs)) none
+    ∙ ap (settings_after (initial_settings i.plan)) (take_nil n)
 
 no_prefixes : (many count : ℕ) → Prefixes many count (λ k. 0)
 no_prefixes many count = record { within = λ k lt. omega arith; grow = λ k lt. omega arith }
@@ -65,7 +65,7 @@ wants_alone i h at none g q k want lt is =
     ∙ sym (settings_is i h none 0) in (
       w.0,
       subst (λ s. class_of s.sock
-          (hash_of (setup_in i) (chosen_at (list_at h.choices q) k).id) ≡ Some w.0) e w.1,
+          (packet_hash (setup_in i) (chosen_at (list_at h.choices q) k).id) ≡ Some w.0) e w.1,
       w.2,
     )
 

@@ -38,14 +38,15 @@ use Rattle.steer_model.specs.Steps.Applications.{wrote}
 use Rattle.steer_model.specs.Steps.Commands.{answer_to, is_done, kept_filter, may_go, set_by}
 use Rattle.steer_model.specs.Origins.FilterOrigins.{FilterIsFrom, FiltersAreFrom}
 use Rattle.steer_model.specs.Origins.FilterOrigins.{FiltersAreFromChoices, WasAccepted}
-use Rattle.steer_model.specs.State.Machine.{Machine, last_of, note_of}
+use Rattle.steer_model.specs.State.Machine.{Machine, last_chosen, note_of}
 use Rattle.steer_model.specs.State.Notes.{asking, is_asking, is_nothing}
-use Rattle.steer_model.specs.Steps.Outcomes.{Outcome, by_rx}
+use Rattle.steer_model.specs.Steps.Outcomes.{StepOutcome, by_rx}
 use Rattle.steer_model.specs.Steps.Pollers.{arrival_by, arrives, route_by}
-use Rattle.steer_model.specs.Steps.Pollers.{ask_by, filter_for, look_by, put_by, putting, weigh_by}
+use Rattle.steer_model.specs.Steps.Pollers.{ask_by, filter_for, look_by, poller_after_put, putting}
+use Rattle.steer_model.specs.Steps.Pollers.{weigh_by}
 use Rattle.steer_model.specs.Steps.Pollers.{weighing, with_filter}
-use Rattle.steer_model.specs.State.Setup.{Setup, app_for, flow_hash, hash_of}
-use Rattle.steer_model.specs.State.Start.{new_machine, settings_of}
+use Rattle.steer_model.specs.State.Setup.{Setup, app_for, flow_hash, packet_hash}
+use Rattle.steer_model.specs.State.Start.{new_machine, initial_settings}
 use Rattle.steer_model.specs.Steps.SingleSteps.{simple}
 use Rattle.steer_model.specs.Origins.TableWrites.{filter_at, if_at}
 use Rattle.steer_model.specs.declared.note.Note.{Note}
@@ -119,8 +120,9 @@ grown m n place f g from =
           from.position) g.setup
           ∙ from.written;
       there =
-          ap (λ k. class_of k (hash_of n.setup from.choice.id)) g.rows
-          ∙ ap (λ p. class_of (length m.filters) (hash_of p from.choice.id)) g.setup ∙ from.there;
+          ap (λ k. class_of k (packet_hash n.setup from.choice.id)) g.rows
+          ∙ ap (λ p. class_of (length m.filters) (packet_hash p from.choice.id)) g.setup
+          ∙ from.there;
     }
 
 record Same (m n : Machine) : Type 0 where
@@ -141,8 +143,8 @@ same-grows m n same =
 abbrev Asked : Machine → ℕ → Filter → Type 0
 Asked m q f =
     (position : ℕ)
-    × (filter_for m.setup.homes (length m.filters) (last_of m.rx q).choice position ≡ Some f)
-    × WasAccepted m.rx (last_of m.rx q)
+    × (filter_for m.setup.homes (length m.filters) (last_chosen m.rx q).choice position ≡ Some f)
+    × WasAccepted m.rx (last_chosen m.rx q)
 
 -- the last choice of a list
 abbrev last_in : List Chosen → Chosen
@@ -153,11 +155,13 @@ asked-same : (m n : Machine) (q : ℕ) (f : Filter) → n.setup ≡ m.setup
     → choices_of n.rx q ≡ choices_of m.rx q → HopGrows m.rx n.rx → Asked m q f → Asked n q f
 asked-same m n q f setup rows choices hop asked = (
   asked.0,
-  ap (λ (p : Setup). filter_for p.homes (length n.filters) (last_of n.rx q).choice asked.0) setup
-      ∙ ap (λ k. filter_for m.setup.homes k (last_of n.rx q).choice asked.0) rows
+  ap (λ (p : Setup). filter_for p.homes (length n.filters) (last_chosen n.rx q).choice asked.0)
+      setup
+      ∙ ap (λ k. filter_for m.setup.homes k (last_chosen n.rx q).choice asked.0) rows
       ∙ ap (λ cs. filter_for m.setup.homes (length m.filters) (last_in cs).choice asked.0) choices
       ∙ asked.1,
-  subst (λ cs. WasAccepted n.rx (last_in cs)) (sym choices) (hop.accepted (last_of m.rx q) asked.2),
+  subst (λ cs. WasAccepted n.rx (last_in cs)) (sym choices)
+      (hop.accepted (last_chosen m.rx q) asked.2),
 )
 
 -- where each note that asks did so before
@@ -238,7 +242,7 @@ weighed s q class want desired online =
 
 -- ---- one event
 
-from-if : (b : Bool) (x y : Outcome) → FiltersAreFrom x.0 → FiltersAreFrom y.0 → FiltersAreFrom
+from-if : (b : Bool) (x y : StepOutcome) → FiltersAreFrom x.0 → FiltersAreFrom y.0 → FiltersAreFrom
     (if b then x else y).0
 from-if true x y p q = p
 from-if false x y p q = q
@@ -302,30 +306,34 @@ is-asked (Some g) f is = cc
 is-asked None f is = cc
 
 from-put : (m : Machine) (q : ℕ) (x : Option ℕ) (a : HopAnswer)
-    → ((position : ℕ) → x ≡ Some position → WasAccepted m.rx (last_of m.rx q)) → FiltersAreFrom m
-    → FiltersAreFrom (put_by m q x a).0
+    → ((position : ℕ) → x ≡ Some position → WasAccepted m.rx (last_chosen m.rx q))
+    → FiltersAreFrom m
+    → FiltersAreFrom (poller_after_put m q x a).0
 from-put m q None a was w = w
 from-put m q (Some position) a was w =
     record {
-      filters = λ place f is. grown m (put_by m q (Some position) a).0 place f
+      filters = λ place f is. grown m (poller_after_put m q (Some position) a).0 place f
           (record { setup = refl; rows = refl; choices = λ p k c is. is; accepted = λ c is. is })
           (w.filters place f is);
       asking = asking-now;
       hands = w.hands;
     }
   where
-    asking-now : (p : ℕ) (f : Filter) → note_of (put_by m q (Some position) a).0 p ≡ note.Asking f
-        → Asked (put_by m q (Some position) a).0 p f
+    asking-now : (p : ℕ) (f : Filter) → note_of (poller_after_put m q (Some position) a).0
+        p ≡ note.Asking f
+        → Asked (poller_after_put m q (Some position) a).0 p f
     asking-now p f is =
         elim (note-in m.notes q
-        (asking (filter_for m.setup.homes (length m.filters) (last_of m.rx q).choice position)) p f
+        (asking (filter_for m.setup.homes (length m.filters) (last_chosen m.rx q).choice position))
+        p f
         is) [
           | inl new ↦ (
             position,
-            ap (λ k. filter_for m.setup.homes (length m.filters) (last_of m.rx k).choice position)
+            ap (λ k. filter_for m.setup.homes (length m.filters)
+                (last_chosen m.rx k).choice position)
                 new.0
                 ∙ is-asked _ f new.1,
-            subst (λ k. WasAccepted m.rx (last_of m.rx k)) (sym new.0) (was position refl),
+            subst (λ k. WasAccepted m.rx (last_chosen m.rx k)) (sym new.0) (was position refl),
           )
           | inr old ↦ w.asking p f old.1
         ]
@@ -378,7 +386,7 @@ from-ask m q (note.Asking filter) here w =
     record { filters = filters-now; asking = asking-still; hands = w.hands }
   where
     hash : Option ℕ
-    hash = hash_of m.setup (last_of m.rx q).id
+    hash = packet_hash m.setup (last_chosen m.rx q).id
 
     rows : length (with_filter m.filters hash filter) ≡ length m.filters
     rows = length-with m.filters hash filter
@@ -397,7 +405,7 @@ from-ask m q (note.Asking filter) here w =
         asked.1 in
         record {
           queue = q;
-          choice = last_of m.rx q;
+          choice = last_chosen m.rx q;
           position = asked.0;
           chosen = (length (choices_of m.rx q) - 1, last.0);
           accepted = asked.2;
@@ -575,7 +583,7 @@ from-simple : (m : Machine) (e : Step) → FiltersAreFrom m → FiltersAreFrom (
 from-simple m act.Arrive w =
     let next : ℕ = length m.arrivals in
     from-if (nat_lt next (length m.setup.packets)) _ _
-    (from-arrive m (arrival_by next (route_by m (hash_of m.setup next))) w) w
+    (from-arrive m (arrival_by next (route_by m (packet_hash m.setup next))) w) w
 from-simple m (act.Take q) w =
     from-if (is_asking (note_of m q)) _ _ w (by-event m (event.Take q) refl w)
 from-simple m (act.Look q) w =
@@ -585,7 +593,7 @@ from-simple m (act.Weigh q) w =
     from-if (not (inside_of m.rx q)) _ _ w (from-weigh m q (note_of m q) (to_weigh m.rx q) w)
 from-simple m (act.Put q) w =
     from-put (by_rx m (putting m q)).0 q _ _
-    (put-accepts m.rx q (hash_of m.setup (last_of m.rx q).id) w.hands)
+    (put-accepts m.rx q (packet_hash m.setup (last_chosen m.rx q).id) w.hands)
     (by-event m (putting m q) refl w)
 from-simple m (act.Ask q) w =
     from-if (not (inside_of m.rx q)) _ _ w (from-ask m q (note_of m q) refl w)
@@ -673,7 +681,7 @@ from-new plan packets cut =
     }
   where
     many : ℕ
-    many = length (settings_of plan).counts
+    many = length (initial_settings plan).counts
 
     none : List Chosen
     none = []

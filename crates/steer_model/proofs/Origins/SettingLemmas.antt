@@ -17,8 +17,8 @@ use Rattle.steer_model.specs.Steps.Commands.{answer_to, given, is_done, set_by}
 use Rattle.steer_model.specs.Good.Inputs.{settings_after}
 use Rattle.steer_model.specs.State.Machine.{Machine, note_of}
 use Rattle.steer_model.specs.State.Notes.{is_asking, is_nothing}
-use Rattle.steer_model.specs.Steps.Outcomes.{Outcome, by_rx}
-use Rattle.steer_model.specs.Steps.Pollers.{ask_by, look_by, put_by, putting, weigh_by}
+use Rattle.steer_model.specs.Steps.Outcomes.{StepOutcome, by_rx}
+use Rattle.steer_model.specs.Steps.Pollers.{ask_by, look_by, poller_after_put, putting, weigh_by}
 use Rattle.steer_model.specs.State.Settings.{Settings, changed}
 use Rattle.steer_model.specs.State.Setup.{flow_hash}
 use Rattle.steer_model.specs.Steps.SingleSteps.{simple}
@@ -35,7 +35,7 @@ record Same (m : Machine) (n : Machine) : Type 0 where
 stays : (m : Machine) → Same m m
 stays m = record { settings = refl; commands = refl }
 
-same-if : (m : Machine) (b : Bool) (x y : Outcome) → Same m x.0 → Same m y.0
+same-if : (m : Machine) (b : Bool) (x y : StepOutcome) → Same m x.0 → Same m y.0
     → Same m (if b then x else y).0
 same-if m true x y p q = p
 same-if m false x y p q = q
@@ -51,7 +51,7 @@ same-weigh m q note.Nothing x = stays m
 same-weigh m q (note.Asking filter) x = stays m
 
 same-put : (m n : Machine) (q : ℕ) (x : Option ℕ) (a : HopAnswer) → Same m n
-    → Same m (put_by n q x a).0
+    → Same m (poller_after_put n q x a).0
 same-put m n q (Some x) a same = record { settings = same.settings; commands = same.commands }
 same-put m n q None a same = same
 

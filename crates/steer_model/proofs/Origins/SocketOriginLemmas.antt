@@ -29,8 +29,8 @@ use Rattle.steer_model.specs.Steps.Commands.{answer_to, is_done, set_by}
 use Rattle.steer_model.specs.Good.Choices.{WasWritten}
 use Rattle.steer_model.specs.State.Machine.{Machine, history_of, note_of}
 use Rattle.steer_model.specs.State.Notes.{is_asking, is_nothing}
-use Rattle.steer_model.specs.Steps.Outcomes.{Outcome, by_rx}
-use Rattle.steer_model.specs.Steps.Pollers.{ask_by, look_by, put_by, putting, weigh_by}
+use Rattle.steer_model.specs.Steps.Outcomes.{StepOutcome, by_rx}
+use Rattle.steer_model.specs.Steps.Pollers.{ask_by, look_by, poller_after_put, putting, weigh_by}
 use Rattle.steer_model.specs.State.Setup.{Setup, flow_hash}
 use Rattle.steer_model.specs.State.Start.{new_machine}
 use Rattle.steer_model.specs.Steps.SingleSteps.{simple}
@@ -162,7 +162,7 @@ wrote-once m hash some w =
         set-in place =
             rw some (set-at m.socket at place cpu (mod-lt hash (ltb-true 0 (length m.socket) some)))
 
-written-if : (b : Bool) (x y : Outcome) → (b ≡ true → SocketIsWritten x.0) → SocketIsWritten y.0
+written-if : (b : Bool) (x y : StepOutcome) → (b ≡ true → SocketIsWritten x.0) → SocketIsWritten y.0
     → SocketIsWritten (if b then x else y).0
 written-if true x y p q = p refl
 written-if false x y p q = q
@@ -219,7 +219,7 @@ written-given m c false w = w
 
 -- ---- one event
 
-same-if : (m : Machine) (b : Bool) (x y : Outcome) → Same m x.0 → Same m y.0
+same-if : (m : Machine) (b : Bool) (x y : StepOutcome) → Same m x.0 → Same m y.0
     → Same m (if b then x else y).0
 same-if m true x y p q = p
 same-if m false x y p q = q
@@ -243,7 +243,7 @@ same-weigh m q note.Nothing x = stays m
 same-weigh m q (note.Asking filter) x = stays m
 
 same-put : (m n : Machine) (q : ℕ) (x : Option ℕ) (a : HopAnswer) → Same m n
-    → Same m (put_by n q x a).0
+    → Same m (poller_after_put n q x a).0
 same-put m n q (Some x) a same =
     record { setup = same.setup; socket = same.socket; writes = same.writes; sock = same.sock }
 same-put m n q None a same = same

@@ -25,11 +25,12 @@ use Rattle.accel_filter.specs.Table.{unset as no_filter}
 use Rattle.sock_flow_table.specs.Sockets.{unset}
 use Rattle.steer_model.specs.Steps.Applications.{next_in, record_by, send_by, stand_of}
 use Rattle.steer_model.specs.Steps.Commands.{answer_to, is_done, kept_filter, may_go, set_by}
-use Rattle.steer_model.specs.State.Machine.{Machine, last_of, note_of}
+use Rattle.steer_model.specs.State.Machine.{Machine, last_chosen, note_of}
 use Rattle.steer_model.specs.State.Notes.{is_asking, is_nothing}
-use Rattle.steer_model.specs.Steps.Outcomes.{Outcome, by_rx}
-use Rattle.steer_model.specs.Steps.Pollers.{ask_by, look_by, put_by, putting, weigh_by, with_filter}
-use Rattle.steer_model.specs.State.Setup.{flow_hash, hash_of}
+use Rattle.steer_model.specs.Steps.Outcomes.{StepOutcome, by_rx}
+use Rattle.steer_model.specs.Steps.Pollers.{ask_by, look_by, poller_after_put, putting, weigh_by}
+use Rattle.steer_model.specs.Steps.Pollers.{with_filter}
+use Rattle.steer_model.specs.State.Setup.{flow_hash, packet_hash}
 use Rattle.steer_model.specs.Steps.SingleSteps.{simple}
 use Rattle.steer_model.specs.Origins.TableWrites.{TablesStartUnset}
 use Rattle.steer_model.specs.Origins.TableWrites.{after_events, asked_at, cleared_by, expired_at}
@@ -97,7 +98,7 @@ module _ (place : ℕ) (m : Machine) where
   keeps : Keeps m
   keeps = record { at_entry = refl; at_filter = refl }
 
-  keeps-if : (b : Bool) (x y : Outcome) → Keeps x.0 → Keeps y.0 → Keeps (if b then x else y).0
+  keeps-if : (b : Bool) (x y : StepOutcome) → Keeps x.0 → Keeps y.0 → Keeps (if b then x else y).0
   keeps-if true x y p q = p
   keeps-if false x y p q = q
 
@@ -112,7 +113,7 @@ module _ (place : ℕ) (m : Machine) where
   keeps-weigh q (note.Asking filter) x = keeps
 
   keeps-put : (n : Machine) (q : ℕ) (x : Option ℕ) (a : HopAnswer) → Keeps n
-      → Keeps (put_by n q x a).0
+      → Keeps (poller_after_put n q x a).0
   keeps-put n q (Some x) a kept = record { at_entry = kept.at_entry; at_filter = kept.at_filter }
   keeps-put n q None a kept = kept
 
@@ -124,7 +125,7 @@ module _ (place : ℕ) (m : Machine) where
   writes-ask q note.Nothing = keeps
   writes-ask q (note.Looked want) = keeps
   writes-ask q (note.Asking filter) =
-      record { at_entry = refl; at_filter = asked (hash_of m.setup (last_of m.rx q).id) }
+      record { at_entry = refl; at_filter = asked (packet_hash m.setup (last_chosen m.rx q).id) }
     where
       asked : (hash : Option ℕ)
           → slice_index_or (with_filter m.filters hash filter) place None

@@ -29,8 +29,8 @@ use Rattle.hop_core.specs.Hop.{taken_of, took}
 use Rattle.hop_core.specs.Leaves.{Field, changes}
 use Rattle.history.proofs.RegularLemmas.{is_in-append}
 use Rattle.steer_model.specs.Origins.FilterOrigins.{HoldOne, WasAccepted}
-use Rattle.steer_model.specs.State.Machine.{last_of}
-use Rattle.steer_model.specs.Steps.Pollers.{position_of}
+use Rattle.steer_model.specs.State.Machine.{last_chosen}
+use Rattle.steer_model.specs.Steps.Pollers.{put_position}
 
 -- ---- lists
 
@@ -237,8 +237,8 @@ hop-grows s (event.Put p hash) =
 
 -- where a put answers a position, the last choice of its producer was accepted
 abbrev pub PutAccepts : HopState → ℕ → Outcome → Type 0
-PutAccepts s p o = (position : ℕ) → position_of o.1 ≡ Some position → WasAccepted o.0
-    (last_of o.0 p)
+PutAccepts s p o = (position : ℕ) → put_position o.1 ≡ Some position → WasAccepted o.0
+    (last_chosen o.0 p)
 
 accepts-if : (s : HopState) (p : ℕ) (b : Bool) (x y : Outcome) → (b ≡ true → PutAccepts s p x)
     → PutAccepts s p y
@@ -247,7 +247,7 @@ accepts-if s p true x y f g = f refl
 accepts-if s p false x y f g = g
 
 no-cause : (cause : Option DropCause) (s : HopState) (c position : ℕ)
-    → position_of (answer.Went (answer_by cause (lane_of s.fixed s.bare c))) ≡ Some position
+    → put_position (answer.Went (answer_by cause (lane_of s.fixed s.bare c))) ≡ Some position
     → cause ≡ None
 no-cause None s c position is = refl
 no-cause (Some cause) s c position is = cc
@@ -263,15 +263,15 @@ put-accepts s p hash one =
 
     done : nat_lt (placed_of s p) (length (choices_of s p)) ≡ true
         → (position : ℕ)
-        → position_of (answer.Went (answer_by (lane_drop_cause (lane_of s.fixed s.bare lane) hash)
+        → put_position (answer.Went (answer_by (lane_drop_cause (lane_of s.fixed s.bare lane) hash)
         (lane_of s.fixed s.bare lane))) ≡ Some position
-        → WasAccepted (put_one s p hash) (last_of (put_one s p hash) p)
+        → WasAccepted (put_one s p hash) (last_chosen (put_one s p hash) p)
     done more position at =
         let held = one p in
         let lt = ltb-true (placed_of s p) (length (choices_of s p)) more in
         let here : placed_of s p ≡ length (choices_of s p) - 1 =
         omega (arith, held.0, held.1, lt) in
-        let last : in_hand s p ≡ last_of s p =
+        let last : in_hand s p ≡ last_chosen s p =
         ap (λ k. slice_index_or (choices_of s p) k nobody) here
         ∙ sym (unwrap_or-slice_get (choices_of s p) (length (choices_of s p) - 1) nobody) in
         subst (λ c. WasAccepted (put_one s p hash) c) last

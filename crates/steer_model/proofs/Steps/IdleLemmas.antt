@@ -22,12 +22,13 @@ use Rattle.hop_core.specs.Reads.{to_weigh}
 use Rattle.steer_model.specs.Steps.Applications.{in_lane, in_reply, next_in, record_by, send_by}
 use Rattle.steer_model.specs.Steps.Applications.{sending}
 use Rattle.steer_model.specs.Steps.Applications.{visited, wrote}
-use Rattle.steer_model.specs.State.Machine.{Machine, last_of, note_of}
+use Rattle.steer_model.specs.State.Machine.{Machine, last_chosen, note_of}
 use Rattle.steer_model.specs.State.Notes.{is_asking, is_nothing}
-use Rattle.steer_model.specs.Steps.Outcomes.{Outcome, told}
-use Rattle.steer_model.specs.Steps.Pollers.{ask_by, look_by, position_of, put_by, putting, weigh_by}
+use Rattle.steer_model.specs.Steps.Outcomes.{StepOutcome, told}
+use Rattle.steer_model.specs.Steps.Pollers.{ask_by, look_by, put_position, poller_after_put}
+use Rattle.steer_model.specs.Steps.Pollers.{putting, weigh_by}
 use Rattle.steer_model.specs.State.Settings.{class_at, plain_lane}
-use Rattle.steer_model.specs.State.Setup.{app_for, flow_hash, hash_of}
+use Rattle.steer_model.specs.State.Setup.{app_for, flow_hash, packet_hash}
 use Rattle.steer_model.specs.Steps.SingleSteps.{is_command, simple}
 use Rattle.steer_model.specs.declared.note.Note.{Note}
 use Rattle.steer_model.specs.declared.note.Note.TheVariants as note
@@ -89,10 +90,10 @@ happens-idle s event.Reopen = hop-done s _ _ refl
 
 -- ---- the machine
 
-record Leaves (m : Machine) (o : Outcome) : Type 0 where
+record Leaves (m : Machine) (o : StepOutcome) : Type 0 where
   same : (why : Idle) → o.1 ≡ says.Idle why → o.0 ≡ m
 
-leaves-if : (m : Machine) (b : Bool) (x y : Outcome) → Leaves m x → Leaves m y
+leaves-if : (m : Machine) (b : Bool) (x y : StepOutcome) → Leaves m x → Leaves m y
     → Leaves m (if b then x else y)
 leaves-if m true x y p q = p
 leaves-if m false x y p q = q
@@ -122,7 +123,7 @@ leaves-look m q (Some x) = leaves-done m _
 leaves-look m q None = leaves-idle m _
 
 leaves-put : (m n : Machine) (q : ℕ) (a : HopAnswer) → Leaves m (n, told a)
-    → Leaves m (put_by n q (position_of a) a)
+    → Leaves m (poller_after_put n q (put_position a) a)
 leaves-put m n q (answer.Went (went.At position)) same = leaves-done m _
 leaves-put m n q (answer.Went (went.Dropped number accepted pulled cause)) same = same
 leaves-put m n q answer.Done same = same
@@ -153,7 +154,7 @@ leaves-send : (m : Machine) (a : ℕ) (x : Option ℕ) → Leaves m (send_by m a
 leaves-send m a (Some x) = leaves-done m _
 leaves-send m a None = leaves-idle m _
 
-leaves-inside : (m : Machine) (b : Bool) (why : Idle) (y : Outcome) → (b ≡ true → Leaves m y)
+leaves-inside : (m : Machine) (b : Bool) (why : Idle) (y : StepOutcome) → (b ≡ true → Leaves m y)
     → Leaves m (if not b then (m, says.Idle why) else y)
 leaves-inside m true why y p = p refl
 leaves-inside m false why y p = leaves-idle m why
@@ -212,7 +213,7 @@ simple-idle m (act.TEnter a) event_alone = leaves-tx m (event.Enter a)
 simple-idle m (act.TLeave a) event_alone = leaves-tx m (event.Leave a)
 simple-idle m (act.TWeigh a) event_alone = leaves-tx m (sending m a (in_reply m a))
 simple-idle m (act.TPut a) event_alone =
-    leaves-tx m (event.Put a (hash_of m.setup (last_of m.tx a).id))
+    leaves-tx m (event.Put a (packet_hash m.setup (last_chosen m.tx a).id))
 simple-idle m (act.TPull t) event_alone = leaves-tx m (event.Pull t)
 simple-idle m (act.TDeliver t) event_alone = leaves-tx m (event.Deliver t 0)
 simple-idle m (act.TRetire t) event_alone = leaves-tx m (event.Retire t)

@@ -18,17 +18,18 @@ use Rattle.hop_core.specs.Hop.{HopState, accepted_at, arrivals_of, choices_of, d
 use Rattle.hop_core.specs.Hop.{inside_of, next_of, placed_of, pulled_at, retired_at, taken_of}
 use Rattle.steer_model.specs.Steps.Applications.{in_lane, next_in, record_by, send_by}
 use Rattle.steer_model.specs.Steps.Applications.{visited, wrote}
-use Rattle.steer_model.specs.State.Machine.{Machine, last_of, note_of}
+use Rattle.steer_model.specs.State.Machine.{Machine, last_chosen, note_of}
 use Rattle.steer_model.specs.State.Notes.{is_asking, is_nothing}
-use Rattle.steer_model.specs.Steps.Outcomes.{Outcome, by_rx, told}
-use Rattle.steer_model.specs.Steps.Pollers.{ask_by, look_by, position_of, put_by, putting, weigh_by}
-use Rattle.steer_model.specs.Steps.IdleReasons.{AreStaged, IsStaged, Need, Stage, answer_by}
+use Rattle.steer_model.specs.Steps.Outcomes.{StepOutcome, by_rx, told}
+use Rattle.steer_model.specs.Steps.Pollers.{ask_by, look_by, put_position, poller_after_put}
+use Rattle.steer_model.specs.Steps.Pollers.{putting, weigh_by}
+use Rattle.steer_model.specs.Steps.IdleReasons.{AreStaged, IsStaged, Need, Stage, answer_by_needs}
 use Rattle.steer_model.specs.Steps.IdleReasons.{deliver_needs, is_at, needs}
 use Rattle.steer_model.specs.Steps.IdleReasons.{poller_stage, pull_needs, puts_next, retire_needs}
 use Rattle.steer_model.specs.Steps.IdleReasons.{sender_stage, weighs_next}
 use Rattle.steer_model.specs.Steps.IdleReasons as stage
 use Rattle.steer_model.specs.State.Settings.{class_at, plain_lane}
-use Rattle.steer_model.specs.State.Setup.{app_for, flow_hash, hash_of}
+use Rattle.steer_model.specs.State.Setup.{app_for, flow_hash, packet_hash}
 use Rattle.steer_model.specs.Steps.SingleSteps.{is_command, simple}
 use Rattle.steer_model.specs.declared.note.Note.{Note}
 use Rattle.steer_model.specs.declared.note.Note.TheVariants as note
@@ -66,7 +67,7 @@ two true c x y z = refl
 two false true x y z = refl
 two false false x y z = refl
 
-one-if : (b : Bool) (x y : Outcome) → (if b then x else y).1 ≡ either b x.1 y.1
+one-if : (b : Bool) (x y : StepOutcome) → (if b then x else y).1 ≡ either b x.1 y.1
 one-if true x y = refl
 one-if false x y = refl
 
@@ -79,13 +80,14 @@ take-hop s p =
     _ _
 
 enter-hop : (s : HopState) (a : ℕ)
-    → told (happens s (event.Enter a)).1 ≡ answer_by ((not (inside_of s a), idle.AlreadyInside)
+    → told (happens s (event.Enter a)).1 ≡ answer_by_needs
+    ((not (inside_of s a), idle.AlreadyInside)
     ∷ [])
 enter-hop s a = two (inside_of s a) s.bare.closed _ _ _ ∙ entered (inside_of s a) s.bare.closed
   where
     entered : (i c : Bool)
         → either i (says.Idle idle.AlreadyInside) (either c says.Done says.Done)
-        ≡ answer_by ((not i, idle.AlreadyInside) ∷ [])
+        ≡ answer_by_needs ((not i, idle.AlreadyInside) ∷ [])
     entered true c = refl
     entered false true = refl
     entered false false = refl
@@ -106,7 +108,7 @@ put-hop s p hash = two (not (inside_of s p)) (puts_next s p) _ _ _
 
 pull-row : (f d c : Bool)
     → either (d || f) (says.Idle idle.HandFull) (either c says.Done (says.Idle idle.NothingWaiting))
-    ≡ answer_by ((is_at (stage.lane_stage f d) stage.Empty, idle.HandFull)
+    ≡ answer_by_needs ((is_at (stage.lane_stage f d) stage.Empty, idle.HandFull)
     ∷ (c, idle.NothingWaiting) ∷ [])
 pull-row true true c = refl
 pull-row true false c = refl
@@ -116,7 +118,7 @@ pull-row false false false = refl
 
 deliver-row : (f d : Bool)
     → either f says.Done (either d (says.Idle idle.AlreadyDelivered) (says.Idle idle.HandEmpty))
-    ≡ answer_by
+    ≡ answer_by_needs
     ((not (is_at (stage.lane_stage f d) stage.Empty), idle.HandEmpty)
     ∷ (is_at (stage.lane_stage f d) stage.Full, idle.AlreadyDelivered) ∷ [])
 deliver-row true d = refl
@@ -125,7 +127,7 @@ deliver-row false false = refl
 
 retire-row : (f d : Bool) → (d && f) ≡ false
     → either d says.Done (either f (says.Idle idle.NotDelivered) (says.Idle idle.HandEmpty))
-    ≡ answer_by
+    ≡ answer_by_needs
     ((not (is_at (stage.lane_stage f d) stage.Empty), idle.HandEmpty)
     ∷ (is_at (stage.lane_stage f d) stage.Delivered, idle.NotDelivered) ∷ [])
 retire-row true true e = absurd (false≢true (sym e))
@@ -134,7 +136,7 @@ retire-row false true e = refl
 retire-row false false e = refl
 
 pull-lane : (s : HopState) (c : ℕ) → IsStaged s
-    → told (happens s (event.Pull c)).1 ≡ answer_by (pull_needs s.bare c)
+    → told (happens s (event.Pull c)).1 ≡ answer_by_needs (pull_needs s.bare c)
 pull-lane s c st =
     let P : ℕ = pulled_at s.bare c in
     let D : ℕ = delivered_at s.bare c in
@@ -147,14 +149,14 @@ pull-lane s c st =
     ∙ pull-row (nat_lt D P) (nat_lt R D) waits
 
 deliver-lane : (s : HopState) (c o : ℕ)
-    → told (happens s (event.Deliver c o)).1 ≡ answer_by (deliver_needs s.bare c)
+    → told (happens s (event.Deliver c o)).1 ≡ answer_by_needs (deliver_needs s.bare c)
 deliver-lane s c o =
     let full : Bool = nat_lt (delivered_at s.bare c) (pulled_at s.bare c) in
     let delivered : Bool = nat_lt (retired_at s.bare c) (delivered_at s.bare c) in
     two full delivered _ _ _ ∙ deliver-row full delivered
 
 retire-lane : (s : HopState) (c : ℕ) → IsStaged s
-    → told (happens s (event.Retire c)).1 ≡ answer_by (retire_needs s.bare c)
+    → told (happens s (event.Retire c)).1 ≡ answer_by_needs (retire_needs s.bare c)
 retire-lane s c st =
     let full : Bool = nat_lt (delivered_at s.bare c) (pulled_at s.bare c) in
     let delivered : Bool = nat_lt (retired_at s.bare c) (delivered_at s.bare c) in
@@ -168,18 +170,18 @@ retire-lane s c st =
 -- inside the gate with the hand at a stage
 abbrev at_stage : Bool → Stage → Stage → Answer
 at_stage i hand wanted =
-    answer_by ((i, idle.NotInside) ∷ (is_at hand wanted, idle.WrongStage) ∷ [])
+    answer_by_needs ((i, idle.NotInside) ∷ (is_at hand wanted, idle.WrongStage) ∷ [])
 
 abbrev may_leave : Bool → Stage → Stage → Answer
 may_leave i hand other =
-    answer_by
+    answer_by_needs
     ((i, idle.NotInside)
     ∷ (is_at hand stage.Empty || is_at hand other, idle.MidPacket) ∷ [])
 
 take-row : (n : Note) (t w c : Bool) → ((want : Option ℕ) → n ≡ note.Looked want → t ≡ true)
     → either (is_asking n) (says.Idle idle.HandFull)
     (either (w || t) (says.Idle idle.HandFull) (either c says.Done (says.Idle idle.RingEmpty)))
-    ≡ answer_by
+    ≡ answer_by_needs
     ((is_at (poller_stage n t w) stage.Empty, idle.HandFull) ∷ (c, idle.RingEmpty) ∷ [])
 take-row note.Nothing t true c looked = refl
 take-row note.Nothing true false c looked = refl
@@ -259,7 +261,7 @@ tput-row true false false = refl
 
 send-row : (t w some : Bool)
     → either (w || t) (says.Idle idle.HandFull) (either some says.Done (says.Idle idle.InboxDone))
-    ≡ answer_by
+    ≡ answer_by_needs
     ((is_at (sender_stage t w) stage.Empty, idle.HandFull) ∷ (some, idle.InboxDone) ∷ [])
 send-row t true some = refl
 send-row true false some = refl
@@ -274,7 +276,7 @@ look-answer m q x true = refl
 look-answer m q x false = refl
 
 put-answer : (m : Machine) (q : ℕ) (position : Option ℕ) (a : HopAnswer)
-    → (put_by m q position a).1 ≡ told a
+    → (poller_after_put m q position a).1 ≡ told a
 put-answer m q (Some position) a = refl
 put-answer m q None a = refl
 
@@ -294,14 +296,15 @@ weigh-answer m q x (note.Looked want) true w inside taken looked =
     (plain_lane m.setup m.settings q x) in
     weighs m.rx q class want desired m.settings.online inside taken
 
-inside-if : (m : Machine) (i : Bool) (why : Idle) (y : Outcome) (r : Answer) → (i ≡ true → y.1 ≡ r)
+inside-if : (m : Machine) (i : Bool) (why : Idle) (y : StepOutcome) (r : Answer)
+    → (i ≡ true → y.1 ≡ r)
     → (if not i then (m, says.Idle why) else y).1 ≡ either (not i) (says.Idle why) r
 inside-if m true why y r e = e refl
 inside-if m false why y r e = refl
 
 stage-row : (i b : Bool)
     → either (not i) (says.Idle idle.NotInside) (either b says.Done (says.Idle idle.WrongStage))
-    ≡ answer_by ((i, idle.NotInside) ∷ (b, idle.WrongStage) ∷ [])
+    ≡ answer_by_needs ((i, idle.NotInside) ∷ (b, idle.WrongStage) ∷ [])
 stage-row true b = refl
 stage-row false b = refl
 
@@ -321,7 +324,7 @@ send-answer m a None = refl
 
 recorded-answer : (m : Machine) (hash : Option (Option ℕ))
     → (record_by m hash).1
-    ≡ answer_by
+    ≡ answer_by_needs
     ((is_some hash, idle.NoFlow) ∷ (is_some (unwrap_or hash None), idle.NoHash)
     ∷ (nat_lt 0 (length m.socket), idle.NoTable) ∷ [])
 recorded-answer m None = refl
@@ -357,7 +360,7 @@ asking-put m q st filter e =
     (omega (arith, st.asking q filter e, st.rx.taken q))
 
 pub idle_for_first_reason : (m : Machine) (s : Step) → AreStaged m → is_command s ≡ false
-    → (simple m s).1 ≡ answer_by (needs m s)
+    → (simple m s).1 ≡ answer_by_needs (needs m s)
 idle_for_first_reason m act.Arrive st alone =
     one-if (nat_lt (length m.arrivals) (length m.setup.packets)) _ _
 idle_for_first_reason m (act.Take q) st alone =
@@ -387,9 +390,9 @@ idle_for_first_reason m (act.Weigh q) st alone =
     inside refl (looked-weighs m q st))
     ∙ stage-row (inside_of m.rx q) _
 idle_for_first_reason m (act.Put q) st alone =
-    put-answer (by_rx m (putting m q)).0 q (position_of (happens m.rx (putting m q)).1)
+    put-answer (by_rx m (putting m q)).0 q (put_position (happens m.rx (putting m q)).1)
     (happens m.rx (putting m q)).1
-    ∙ put-hop m.rx q (hash_of m.setup (last_of m.rx q).id)
+    ∙ put-hop m.rx q (packet_hash m.setup (last_chosen m.rx q).id)
     ∙ put-row (note_of m q) (inside_of m.rx q) (weighs_next m.rx q) (puts_next m.rx q)
     (one-packet m.rx q st.rx) (looked-weighs m q st) (asking-put m q st)
 idle_for_first_reason m (act.Ask q) st alone =
@@ -430,7 +433,7 @@ idle_for_first_reason m (act.TWeigh a) st alone =
     ∙ tweigh-row (inside_of m.tx a) (weighs_next m.tx a) (puts_next m.tx a)
     (one-packet m.tx a st.tx)
 idle_for_first_reason m (act.TPut a) st alone =
-    put-hop m.tx a (hash_of m.setup (last_of m.tx a).id)
+    put-hop m.tx a (packet_hash m.setup (last_chosen m.tx a).id)
     ∙ tput-row (inside_of m.tx a) (weighs_next m.tx a) (puts_next m.tx a)
 idle_for_first_reason m (act.TPull t) st alone = pull-lane m.tx t st.tx
 idle_for_first_reason m (act.TDeliver t) st alone = deliver-lane m.tx t 0

@@ -36,13 +36,15 @@ use Rattle.steer_model.specs.Steps.Applications.{in_lane, in_reply, next_in, rec
 use Rattle.steer_model.specs.Steps.Applications.{sending}
 use Rattle.steer_model.specs.Steps.Applications.{visited, wrote}
 use Rattle.steer_model.specs.Steps.Commands.{answer_to, given, is_done, listed, set_by}
-use Rattle.steer_model.specs.State.Machine.{Machine, last_of, note_of}
+use Rattle.steer_model.specs.State.Machine.{Machine, last_chosen, note_of}
 use Rattle.steer_model.specs.State.Notes.{asking, is_asking, is_nothing}
-use Rattle.steer_model.specs.Steps.Outcomes.{Outcome, by_rx, by_tx}
-use Rattle.steer_model.specs.Steps.Pollers.{arrival_by, arrives, ask_by, look_by, route_by, noted}
-use Rattle.steer_model.specs.Steps.Pollers.{position_of, put_by, putting, weigh_by, weighing}
+use Rattle.steer_model.specs.Steps.Outcomes.{StepOutcome, by_rx, by_tx}
+use Rattle.steer_model.specs.Steps.Pollers.{arrival_by, arrives, ask_by, look_by, route_by}
+use Rattle.steer_model.specs.Steps.Pollers.{with_note}
+use Rattle.steer_model.specs.Steps.Pollers.{put_position, poller_after_put, putting, weigh_by}
+use Rattle.steer_model.specs.Steps.Pollers.{weighing}
 use Rattle.steer_model.specs.Steps.IdleReasons.{AreStaged, IsStaged, weighs_next}
-use Rattle.steer_model.specs.State.Setup.{app_for, flow_hash, hash_of}
+use Rattle.steer_model.specs.State.Setup.{app_for, flow_hash, packet_hash}
 use Rattle.steer_model.specs.State.Start.{new_machine}
 use Rattle.steer_model.specs.Steps.SingleSteps.{simple}
 use Rattle.steer_model.specs.Steps.CompoundSteps.{after}
@@ -397,7 +399,8 @@ noted-take notes taken placed choices p free h =
       looked = λ q want e. (let old = h.looked q want e in
           elim (set-cases taken p q (get_or taken p 0 + 1) 0) [
             | inl same ↦ rw same old
-            | inr w ↦ rw w.1 (let t : get_or taken q 0 ≡ get_or taken p 0 = rw w.0 refl in omega arith)
+            | inr w ↦ rw w.1 (let t : get_or taken q 0 ≡ get_or taken p 0 = rw w.0 refl in
+                omega arith)
           ]);
       asked = λ q filter e. (let old = h.asked q filter e in
           elim (set-cases taken p q (get_or taken p 0 + 1) 0) [
@@ -492,7 +495,7 @@ good-rx m e k h =
 good-tx : (m : Machine) (e : HopEvent) → Good m → Good (by_tx m e).0
 good-tx m e h = record { rx = h.rx; tx = staged-happens m.tx e h.tx; notes = h.notes }
 
-good-if : (b : Bool) (x y : Outcome) → (b ≡ true → Good x.0) → (b ≡ false → Good y.0)
+good-if : (b : Bool) (x y : StepOutcome) → (b ≡ true → Good x.0) → (b ≡ false → Good y.0)
     → Good (if b then x else y).0
 good-if true x y p q = p refl
 good-if false x y p q = q refl
@@ -533,11 +536,11 @@ good-weigh m q (note.Looked want) (Some x) h =
 
 -- what a put leaves of the machine, by what happens at the hop
 abbrev PutLeaves : Machine → ℕ → HopOutcome → Type 0
-PutLeaves m q o = Good (put_by (record m { rx = o.0 }) q (position_of o.1) o.1).0
+PutLeaves m q o = Good (poller_after_put (record m { rx = o.0 }) q (put_position o.1) o.1).0
 
 good-asking : (m : Machine) (q : ℕ) (wish : Option Filter) → taken_of m.rx q ≤ placed_of m.rx q
     → Good m
-    → Good (noted m q (asking wish))
+    → Good (with_note m q (asking wish))
 good-asking m q None put h =
     record {
       rx = h.rx;
@@ -555,7 +558,7 @@ good-asking m q (Some filter) put h =
 
 good-put : (m : Machine) (q : ℕ) → Good m → PutLeaves m q (happens m.rx (putting m q))
 good-put m q h =
-    let hash : Option ℕ = hash_of m.setup (last_of m.rx q).id in
+    let hash : Option ℕ = packet_hash m.setup (last_chosen m.rx q).id in
     by_outcomes (PutLeaves m q) m.rx (putting m q) (λ why. h) (λ inside more.
     let rx : Staged (put_one m.rx q hash) = record {
       hands = producers-put m.rx.taken m.rx.placed m.rx.choices q more h.rx.hands;
@@ -572,7 +575,7 @@ good-put m q h =
     }))
   where
     went-on : {n : Machine} (w : Put) → taken_of n.rx q ≤ placed_of n.rx q → Good n
-        → Good (put_by n q (position_of (answer.Went w)) (answer.Went w)).0
+        → Good (poller_after_put n q (put_position (answer.Went w)) (answer.Went w)).0
     went-on {n} (went.At position) put good = good-asking n q _ put good
     went-on (went.Dropped number accepted pulled cause) put good = good
 
@@ -642,7 +645,7 @@ good-given m c h = set-or (is_done (answer_to m c))
 good-simple : (m : Machine) (s : Step) → Good m → Good (simple m s).0
 good-simple m act.Arrive h =
     let a : Arrival = arrival_by (length m.arrivals)
-    (route_by m (hash_of m.setup (length m.arrivals))) in
+    (route_by m (packet_hash m.setup (length m.arrivals))) in
     let e : HopEvent = event.Arrive a.queue a.id in
     good-if (nat_lt (length m.arrivals) (length m.setup.packets)) (arrives m a, says.Done)
     (m, says.Idle idle.NothingLeft)
@@ -685,7 +688,8 @@ good-simple m (act.Send a) h =
 good-simple m (act.TEnter a) h = good-tx m (event.Enter a) h
 good-simple m (act.TLeave a) h = good-tx m (event.Leave a) h
 good-simple m (act.TWeigh a) h = good-tx m (sending m a (in_reply m a)) h
-good-simple m (act.TPut a) h = good-tx m (event.Put a (hash_of m.setup (last_of m.tx a).id)) h
+good-simple m (act.TPut a) h = good-tx m (event.Put a (packet_hash m.setup (last_chosen m.tx a).id))
+    h
 good-simple m (act.TPull t) h = good-tx m (event.Pull t) h
 good-simple m (act.TDeliver t) h = good-tx m (event.Deliver t 0) h
 good-simple m (act.TRetire t) h = good-tx m (event.Retire t) h

@@ -10,7 +10,7 @@ abbrev pub flow_order : Flow → Flow → Ordering
 flow_order = (flow_ord.ghosts).cmp
 
 -- a flow that is known keeps its number
-pub record IsKnown (cmp : Flow → Flow → Ordering) (old new : BTreeMap Flow ℕ) (flow : Flow)
+pub record KeepsItsNumber (cmp : Flow → Flow → Ordering) (old new : BTreeMap Flow ℕ) (flow : Flow)
     (number : ℕ) : Type 0 where
   pub number_is : get cmp old flow ≡ Some number
   pub same : new ≡ old
@@ -26,4 +26,4 @@ pub record IsFresh (cmp : Flow → Flow → Ordering) (old new : BTreeMap Flow �
 abbrev pub IsNumberOf : (Flow → Flow → Ordering) → BTreeMap Flow ℕ → BTreeMap Flow ℕ → Flow → ℕ
     → Type 0
 IsNumberOf cmp old new flow number =
-    IsKnown cmp old new flow number ⊎ IsFresh cmp old new flow number
+    KeepsItsNumber cmp old new flow number ⊎ IsFresh cmp old new flow number

@@ -14,7 +14,7 @@ use Rattle.history.specs.Regular.{route_of}
 use Rattle.history.specs.declared.arrival.Arrival.{Arrival}
 use Rattle.history.specs.declared.history.History.{History}
 use Rattle.steer_model.specs.Good.Inputs.{Input, WasDone, setup_in}
-use Rattle.steer_model.specs.State.Setup.{hash_of}
+use Rattle.steer_model.specs.State.Setup.{packet_hash}
 
 -- ---- clause 1
 
@@ -46,7 +46,7 @@ pub record FilterFrom (i : Input) (h : History) (hash f : ℕ) : Type 0 where
   pub home : home_queue (setup_in i).homes choice.choice.lane ≡ Some f
   pub accepted : is_in choice.id (lane_at h.lanes choice.choice.lane).accepted ≡ true
   pub place : ℕ
-  pub there : filter_place i.plan.filters (hash_of (setup_in i) choice.id) ≡ Some place
+  pub there : filter_place i.plan.filters (packet_hash (setup_in i) choice.id) ≡ Some place
   pub here : filter_place i.plan.filters (Some hash) ≡ Some place
 
 -- an arrival with this hash is at queue 0 without one, else at the queue of an entry or of a filter
@@ -58,4 +58,4 @@ SeenBy i h (Some hash) a =
 
 -- Each arrival is at the queue of the values that it keeps, and these come from the run.
 abbrev pub QueuesAreSeen : Input → History → Type 0
-QueuesAreSeen i h = All (λ a. SeenBy i h (hash_of (setup_in i) a.id) a) h.arrivals
+QueuesAreSeen i h = All (λ a. SeenBy i h (packet_hash (setup_in i) a.id) a) h.arrivals

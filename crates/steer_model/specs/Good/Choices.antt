@@ -14,7 +14,7 @@ use Rattle.history.specs.declared.lane_list.LaneList.{LaneList}
 use Rattle.history.specs.declared.sock_write.SockWrite.{SockWrite}
 use Rattle.steer_model.specs.Good.Inputs.{Input, Prefixes, settings_at, setup_in, since_at}
 use Rattle.steer_model.specs.State.Settings.{Settings, class_at, plain_lane}
-use Rattle.steer_model.specs.State.Setup.{Setup, hash_of}
+use Rattle.steer_model.specs.State.Setup.{Setup, packet_hash}
 
 -- ---- clause 3
 
@@ -62,7 +62,7 @@ WantsAreWritten i h at =
     → (chosen_at (list_at h.choices q) k).choice.want ≡ Some want
     → (place : ℕ)
     × (class_of (settings_at i h (at q k)).sock
-    (hash_of (setup_in i) (chosen_at (list_at h.choices q) k).id) ≡ Some place)
+    (packet_hash (setup_in i) (chosen_at (list_at h.choices q) k).id) ≡ Some place)
     × WasWritten h (record { entry = place; cpu = want })
 
 -- ---- clause 5

@@ -9,14 +9,15 @@ use Rattle.history.specs.Regular.{Regular}
 use Rattle.history.specs.declared.history.History.{History}
 use Rattle.history.specs.declared.lane_list.LaneList.{LaneList}
 use Rattle.steer_model.specs.Good.Inputs.{Input, setup_in}
-use Rattle.steer_model.specs.State.Setup.{app_for, flow_of}
+use Rattle.steer_model.specs.State.Setup.{app_for, flow_number_of}
 
 -- ---- clause 7
 
 -- a packet that came by this queue and has the flow of packet x
 abbrev pub of_flow : Input → History → ℕ → ℕ → ℕ → Bool
 of_flow i h q x y =
-    is_in y (arrivals_at h.arrivals q) && flow_of (setup_in i) y == flow_of (setup_in i) x
+    is_in y (arrivals_at h.arrivals q) && flow_number_of (setup_in i) y == flow_number_of
+    (setup_in i) x
 
 -- The packets of each flow from each receive queue stand in the inbox in the order of their
 -- arrivals, without the dropped ones.

@@ -10,7 +10,7 @@ use Rattle.history.specs.Lists.{lane_at}
 use Rattle.history.specs.declared.history.History.{History}
 use Rattle.history.specs.declared.lane_list.LaneList.{LaneList}
 use Rattle.steer_model.specs.Good.Inputs.{Input, setup_in}
-use Rattle.steer_model.specs.State.Setup.{hash_of}
+use Rattle.steer_model.specs.State.Setup.{packet_hash}
 
 -- ---- clause 6
 
@@ -38,5 +38,5 @@ pub record DropsRise (l : LaneList) : Type 0 where
 
 -- Each drop has the cause that its counts give with the offers before it.
 pub record DropsAreExplained (i : Input) (h : History) : Type 0 where
-  pub causes : (c : ℕ) → AllExplained (hash_of (setup_in i)) (as_lane i h c)
+  pub causes : (c : ℕ) → AllExplained (packet_hash (setup_in i)) (as_lane i h c)
   pub counts : All DropsRise h.lanes

@@ -13,7 +13,7 @@ use Rattle.plan_reader.specs.declared.plan.Plan.{Plan}
 use Rattle.steer_model.specs.Steps.Commands.{is_done}
 use Rattle.steer_model.specs.State.Settings.{Settings, changed}
 use Rattle.steer_model.specs.State.Setup.{Setup}
-use Rattle.steer_model.specs.State.Start.{setup_of, settings_of}
+use Rattle.steer_model.specs.State.Start.{setup_of, initial_settings}
 
 -- a plan, the packets of a capture, and the length of its cut record
 pub record Input : Type 0 where
@@ -32,7 +32,7 @@ settings_after s (c ∷ cs) =
 
 -- the plan's settings after the done ones of the first n commands of a history
 abbrev pub settings_at : Input → History → ℕ → Settings
-settings_at i h n = settings_after (settings_of i.plan) (take n h.commands)
+settings_at i h n = settings_after (initial_settings i.plan) (take n h.commands)
 
 -- For each choice of a list how many commands it was made after: never more than there are, and
 -- never fewer than for the choice before it.

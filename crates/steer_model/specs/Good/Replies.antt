@@ -20,7 +20,7 @@ use Rattle.steer_model.specs.Good.Deliveries.{of_flow}
 use Rattle.steer_model.specs.Good.Writes.{StoodAt}
 use Rattle.steer_model.specs.Good.Inputs.{Input, Prefixes, settings_at, setup_in}
 use Rattle.steer_model.specs.State.Settings.{Settings}
-use Rattle.steer_model.specs.State.Setup.{flow_of, hash_of}
+use Rattle.steer_model.specs.State.Setup.{flow_number_of, packet_hash}
 
 -- ---- clause 11
 
@@ -30,8 +30,8 @@ abbrev pub IsReplyByRule : Input → History → ℕ → ℕ → Settings → Ty
 IsReplyByRule i h a k s =
     let c : Chosen = chosen_at (list_at h.tx_choices a) k in
     (r : Sent) × (slice_get (list_at h.sent a) k ≡ Some r) × (c.id ≡ r.id)
-    × (let pick : ℕ = picked s.maps r.rxq r.cpu (hash_of (setup_in i) r.id) in
-    c.choice ≡ migrate (Some (flow_of (setup_in i) r.id)) (Some pick) pick
+    × (let pick : ℕ = picked s.maps r.rxq r.cpu (packet_hash (setup_in i) r.id) in
+    c.choice ≡ migrate (Some (flow_number_of (setup_in i) r.id)) (Some pick) pick
     (entry h.start (accepted_in h.tx_lanes) (take k (list_at h.tx_choices a)))
     (λ lane. unwrap_or c.choice.head 0) (has everyone))
 
@@ -42,7 +42,7 @@ replies_of h a = map (λ s. s.id) (list_at h.sent a)
 -- a reply of this application to the flow of packet x
 abbrev pub of_reply : Input → History → ℕ → ℕ → ℕ → Bool
 of_reply i h a x y =
-    is_in y (replies_of h a) && flow_of (setup_in i) y == flow_of (setup_in i) x
+    is_in y (replies_of h a) && flow_number_of (setup_in i) y == flow_number_of (setup_in i) x
 
 -- Each reply keeps the queue of its packet and a processor where its application stood.
 pub record AreSent (i : Input) (h : History) (a : ℕ) : Type 0 where

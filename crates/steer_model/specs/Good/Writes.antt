@@ -7,7 +7,7 @@ use Rattle.history.specs.Lists.{list_at}
 use Rattle.history.specs.declared.history.History.{History}
 use Rattle.history.specs.declared.sock_write.SockWrite.{SockWrite}
 use Rattle.steer_model.specs.Good.Inputs.{Input, WasDone, setup_in}
-use Rattle.steer_model.specs.State.Setup.{hash_of}
+use Rattle.steer_model.specs.State.Setup.{packet_hash}
 
 -- ---- clause 9
 
@@ -33,11 +33,11 @@ pub record IsWrite (i : Input) (h : History) (a hash : ℕ) (w : SockWrite) : Ty
 abbrev pub AreWrites : Input → History → ℕ → List ℕ → List SockWrite → Type 0
 AreWrites i h a [] ws = ws ≡ []
 AreWrites i h a (x ∷ xs) ws =
-    ((hash_of (setup_in i) x ≡ None) × AreWrites i h a xs ws)
+    ((packet_hash (setup_in i) x ≡ None) × AreWrites i h a xs ws)
     ⊎ ((hash : ℕ) × (w : SockWrite) × (rest : List SockWrite)
-    × (hash_of (setup_in i) x ≡ Some hash) × (ws ≡ w ∷ rest)
+    × (packet_hash (setup_in i) x ≡ Some hash) × (ws ≡ w ∷ rest)
     × IsWrite i h a hash w × AreWrites i h a xs rest)
-    ⊎ ((hash : ℕ) × (hash_of (setup_in i) x ≡ Some hash) × IsSize i h 0 × AreWrites i h a xs ws)
+    ⊎ ((hash : ℕ) × (packet_hash (setup_in i) x ≡ Some hash) × IsSize i h 0 × AreWrites i h a xs ws)
 
 -- The writes of each application are those of its inbox.
 abbrev pub WritesAreRight : Input → History → Type 0

@@ -9,9 +9,9 @@ use Rattle.steer_base.specs.declared.step.Step.{Step}
 use Rattle.history.specs.Finding.{is_in}
 use Rattle.hop_core.specs.Hop.{HopState, accepted_at, choices_of, placed_of, taken_of}
 use Rattle.plan_reader.specs.declared.plan.Plan.{Plan}
-use Rattle.steer_model.specs.State.Machine.{Machine, last_of, note_of}
+use Rattle.steer_model.specs.State.Machine.{Machine, last_chosen, note_of}
 use Rattle.steer_model.specs.Steps.Pollers.{filter_for}
-use Rattle.steer_model.specs.State.Setup.{hash_of}
+use Rattle.steer_model.specs.State.Setup.{packet_hash}
 use Rattle.steer_model.specs.State.Start.{new_machine}
 use Rattle.steer_model.specs.Origins.TableWrites.{filter_at}
 use Rattle.steer_model.specs.Steps.CompoundSteps.{after}
@@ -37,7 +37,7 @@ pub record FilterIsFrom (m : Machine) (place : ℕ) (f : Filter) : Type 0 where
   pub chosen : (k : ℕ) × (slice_get (choices_of m.rx queue) k ≡ Some choice)
   pub written : filter_written m.setup.homes choice.choice.why choice.choice.lane position ≡ Some f
   pub accepted : WasAccepted m.rx choice
-  pub there : place_in_rows m.filters (hash_of m.setup choice.id) ≡ Some place
+  pub there : place_in_rows m.filters (packet_hash m.setup choice.id) ≡ Some place
 
 -- Each filter that is set is from a choice, and each that a poller asks for is that of its last
 -- choice, whose packet was accepted.
@@ -45,8 +45,8 @@ pub record FiltersAreFrom (m : Machine) : Type 0 where
   pub filters : (place : ℕ) (f : Filter) → filter_at place m ≡ Some f → FilterIsFrom m place f
   pub asking : (q : ℕ) (f : Filter) → note_of m q ≡ note.Asking f
       → (position : ℕ)
-      × (filter_for m.setup.homes (length m.filters) (last_of m.rx q).choice position ≡ Some f)
-      × WasAccepted m.rx (last_of m.rx q)
+      × (filter_for m.setup.homes (length m.filters) (last_chosen m.rx q).choice position ≡ Some f)
+      × WasAccepted m.rx (last_chosen m.rx q)
   pub hands : HoldOne m.rx
 
 -- It is so in the machine that a plan starts, and after any steps from there.

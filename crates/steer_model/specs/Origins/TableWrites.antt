@@ -16,8 +16,8 @@ use Rattle.hop_core.specs.Hop.{inside_of}
 use Rattle.plan_reader.specs.declared.plan.Plan.{Plan}
 use Rattle.steer_model.specs.Steps.Applications.{stand_of}
 use Rattle.steer_model.specs.Steps.Commands.{answer_to, is_done, may_go}
-use Rattle.steer_model.specs.State.Machine.{Machine, last_of, note_of}
-use Rattle.steer_model.specs.State.Setup.{flow_hash, hash_of}
+use Rattle.steer_model.specs.State.Machine.{Machine, last_chosen, note_of}
+use Rattle.steer_model.specs.State.Setup.{flow_hash, packet_hash}
 use Rattle.steer_model.specs.State.Start.{new_machine}
 use Rattle.steer_model.specs.Steps.SingleSteps.{simple}
 use Rattle.steer_model.specs.Steps.CompoundSteps.{after}
@@ -66,7 +66,7 @@ filter_at place m = slice_index_or m.filters place None
 -- a poller's filter, for the hash of the packet that it put last
 abbrev pub asked_at : ℕ → Machine → ℕ → Note → Option (Option Filter)
 asked_at place m q (note.Asking filter) =
-    if_at place m.filters (hash_of m.setup (last_of m.rx q).id) (Some filter)
+    if_at place m.filters (packet_hash m.setup (last_chosen m.rx q).id) (Some filter)
 asked_at place m q note.Nothing = None
 asked_at place m q (note.Looked want) = None
 

@@ -34,8 +34,8 @@ abbrev pub note_of : Machine → ℕ → Note
 note_of m q = slice_index_or m.notes q note.Nothing
 
 -- the choice of a producer that was made last
-abbrev pub last_of : HopState → ℕ → Chosen
-last_of s q = unwrap_or (last_choice s q) nobody
+abbrev pub last_chosen : HopState → ℕ → Chosen
+last_chosen s q = unwrap_or (last_choice s q) nobody
 
 -- ---- the history of a machine
 
@@ -49,8 +49,8 @@ lane_list b c =
       retired = retired_at b c;
     }
 
-abbrev pub lane_lists : Bare → List LaneList
-lane_lists b = map (lane_list b) (range_with_len 0 (length b.accepted))
+abbrev pub history_lanes : Bare → List LaneList
+history_lanes b = map (lane_list b) (range_with_len 0 (length b.accepted))
 
 abbrev pub history_of : Machine → History
 history_of m =
@@ -60,11 +60,11 @@ history_of m =
       arrivals = m.arrivals;
       taken = m.rx.taken;
       choices = m.rx.choices;
-      lanes = lane_lists m.rx.bare;
+      lanes = history_lanes m.rx.bare;
       inboxes = m.rx.bare.outs;
       sent = m.sent;
       tx_choices = m.tx.choices;
-      tx_lanes = lane_lists m.tx.bare;
+      tx_lanes = history_lanes m.tx.bare;
       port = out_at m.tx.bare 0;
       writes = m.writes;
       commands = m.commands;

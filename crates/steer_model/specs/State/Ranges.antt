@@ -4,7 +4,7 @@ use Rattle.std.specs.Prelude.{slice_index_or, slice_set}
 use Rattle.std.specs.List.{All}
 use Rattle.steer_base.specs.declared.packet.Packet.{Packet}
 use Rattle.history.specs.Lists.{packet_at}
-use Rattle.steer_model.specs.State.Setup.{Setup, hash_of_flow}
+use Rattle.steer_model.specs.State.Setup.{Setup, hash_of_flow_number}
 
 -- Each packet is of a flow whose number is below the number of packets, and all packets of a flow
 -- have one hash.
@@ -31,7 +31,7 @@ pub record IsGiven (p : Setup) : Type 0 where
 -- a table has the hash of each flow of these packets, and nothing for other numbers
 abbrev pub AreFlowHashes : List Packet → List (Option (Option ℕ)) → Type 0
 AreFlowHashes packets hashes =
-    (flow : ℕ) → slice_index_or hashes flow None ≡ hash_of_flow packets flow
+    (flow : ℕ) → slice_index_or hashes flow None ≡ hash_of_flow_number packets flow
 
 -- a hash, unless there is one already
 abbrev pub hash_or : Option (Option ℕ) → Option ℕ → Option (Option ℕ)

@@ -9,7 +9,7 @@ use Rattle.steer_base.specs.declared.command.Command.TheVariants as give
 use Rattle.steer_base.specs.declared.cpu_mask.CpuMask.{CpuMask}
 use Rattle.rss_table.specs.Redirection.{Redirection, is_in_range, with_entry}
 use Rattle.xps_map.specs.Maps.{Maps}
-use Rattle.steer_model.specs.State.Setup.{Setup, hash_of}
+use Rattle.steer_model.specs.State.Setup.{Setup, packet_hash}
 
 -- Of each receive queue its processors and its flow count in force; the size in force of the
 -- socket flow table; the processors that are online; the maps of the transmit queues; the
@@ -29,12 +29,12 @@ mask_of s q = slice_index_or s.masks q (record { 0 = 0 })
 
 -- the class of a packet at a receive queue
 abbrev pub class_at : Setup → Settings → ℕ → ℕ → Option ℕ
-class_at p s q x = class_of (slice_index s.counts q) (hash_of p x)
+class_at p s q x = class_of (slice_index s.counts q) (packet_hash p x)
 
 -- the RPS choice for a packet at a receive queue: the processor that it goes to without a class
 abbrev pub plain_lane : Setup → Settings → ℕ → ℕ → ℕ
 plain_lane p s q x =
-    rps_choice_of (mask_of s q) (hash_of p x) s.online (slice_index p.homes q)
+    rps_choice_of (mask_of s q) (packet_hash p x) s.online (slice_index p.homes q)
 
 -- The settings after a command that was done. Flow counts and the size of the socket flow table
 -- are rounded up to a power of two.
@@ -53,14 +53,14 @@ changed s (give.Stand app cpu) = record s { stands = slice_set s.stands app cpu 
 changed s give.Expire = s
 
 -- a command names what these settings have, with numbers in its range
-abbrev pub MayChange : Settings → Command → Type 0
-MayChange s (give.Mask q mask) = q < length s.masks
-MayChange s (give.Flows q count) = (q < length s.counts) × (count ≤ 32768)
-MayChange s (give.Sock size) = size ≤ 65536
-MayChange s (give.Offline cpu) = cpu < 32
-MayChange s (give.Online cpu) = cpu < 32
-MayChange s (give.XCpus tx mask) = tx < s.maps.count
-MayChange s (give.XQueues tx queues) = tx < s.maps.count
-MayChange s (give.Reta place q) = is_in_range s.reta place q ≡ true
-MayChange s (give.Stand app cpu) = app < length s.stands
-MayChange s give.Expire = Unit {0}
+abbrev pub IsInRange : Settings → Command → Type 0
+IsInRange s (give.Mask q mask) = q < length s.masks
+IsInRange s (give.Flows q count) = (q < length s.counts) × (count ≤ 32768)
+IsInRange s (give.Sock size) = size ≤ 65536
+IsInRange s (give.Offline cpu) = cpu < 32
+IsInRange s (give.Online cpu) = cpu < 32
+IsInRange s (give.XCpus tx mask) = tx < s.maps.count
+IsInRange s (give.XQueues tx queues) = tx < s.maps.count
+IsInRange s (give.Reta place q) = is_in_range s.reta place q ≡ true
+IsInRange s (give.Stand app cpu) = app < length s.stands
+IsInRange s give.Expire = Unit {0}

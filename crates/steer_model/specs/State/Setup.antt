@@ -16,19 +16,19 @@ pub record Setup : Type 0 where
   pub cut : Option ℕ
 
 -- of a packet its hash, the number of its flow, and its application
-abbrev pub hash_of : Setup → ℕ → Option ℕ
-hash_of p x = (packet_at p.packets x).hash
+abbrev pub packet_hash : Setup → ℕ → Option ℕ
+packet_hash p x = (packet_at p.packets x).hash
 
-abbrev pub flow_of : Setup → ℕ → ℕ
-flow_of p x = (packet_at p.packets x).flow_number
+abbrev pub flow_number_of : Setup → ℕ → ℕ
+flow_number_of p x = (packet_at p.packets x).flow_number
 
 abbrev pub app_for : Setup → ℕ → ℕ
 app_for p x = app_at p.packets p.apps x
 
 -- the hash of a flow, which is that of its first packet; none where there is no such flow
-abbrev pub hash_of_flow : List Packet → ℕ → Option (Option ℕ)
-hash_of_flow packets flow =
+abbrev pub hash_of_flow_number : List Packet → ℕ → Option (Option ℕ)
+hash_of_flow_number packets flow =
     option_map (λ packet. packet.hash) (found (λ packet. packet.flow_number) flow packets)
 
 abbrev pub flow_hash : Setup → ℕ → Option (Option ℕ)
-flow_hash p flow = hash_of_flow p.packets flow
+flow_hash p flow = hash_of_flow_number p.packets flow

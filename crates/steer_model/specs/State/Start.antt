@@ -41,8 +41,8 @@ maps_of tx =
     }
 
 -- the plan's settings, with all its processors online
-abbrev pub settings_of : Plan → Settings
-settings_of plan =
+abbrev pub initial_settings : Plan → Settings
+initial_settings plan =
     record {
       masks = map (λ queue. queue.mask) plan.queues;
       counts = map (λ queue. rounded_up queue.flows) plan.queues;
@@ -65,7 +65,7 @@ fresh_rx plan packets =
       exact = false;
       limited = plan.limited;
     })
-    (settings_of plan).counts (length plan.apps + 1) plan.cpus (length plan.apps)
+    (initial_settings plan).counts (length plan.apps + 1) plan.cpus (length plan.apps)
 
 -- The transmit hop: a class for each flow number and one at least, and lanes that are never full.
 abbrev pub fresh_tx : Plan → List Packet → HopState
@@ -85,8 +85,8 @@ abbrev pub new_machine : Plan → List Packet → Option ℕ → Machine
 new_machine plan packets cut =
     record {
       setup = setup_of plan packets cut;
-      settings = settings_of plan;
-      socket = sockets.unset (settings_of plan).sock;
+      settings = initial_settings plan;
+      socket = sockets.unset (initial_settings plan).sock;
       filters = filters.unset plan.filters;
       notes = replicate (length plan.queues) note.Nothing;
       rx = fresh_rx plan packets;

@@ -16,9 +16,9 @@ use Rattle.xps_map.specs.Maps.{picked}
 use Rattle.history.specs.Lists.{arrival_of, list_at}
 use Rattle.history.specs.declared.sent.Sent.{Sent}
 use Rattle.history.specs.declared.sock_write.SockWrite.{SockWrite}
-use Rattle.steer_model.specs.State.Machine.{Machine, last_of}
-use Rattle.steer_model.specs.Steps.Outcomes.{Outcome, by_rx, by_tx, idles}
-use Rattle.steer_model.specs.State.Setup.{app_for, flow_hash, flow_of, hash_of}
+use Rattle.steer_model.specs.State.Machine.{Machine, last_chosen}
+use Rattle.steer_model.specs.Steps.Outcomes.{StepOutcome, by_rx, by_tx, idle_step}
+use Rattle.steer_model.specs.State.Setup.{app_for, flow_hash, flow_number_of, packet_hash}
 
 -- ---- a processor
 
@@ -27,8 +27,8 @@ abbrev pub in_lane : HopState → ℕ → ℕ
 in_lane s c = unwrap_or (to_deliver s.bare c) 0
 
 -- The packet in hand goes to the inbox of its application.
-abbrev pub deliver : Machine → ℕ → Outcome
-deliver m c = by_rx m (event.Deliver c (app_for m.setup (in_lane m.rx c)))
+abbrev pub cpu_delivers : Machine → ℕ → StepOutcome
+cpu_delivers m c = by_rx m (event.Deliver c (app_for m.setup (in_lane m.rx c)))
 
 -- ---- a socket
 
@@ -54,19 +54,19 @@ wrote m a hash =
       writes = slice_set m.writes a (list_at m.writes a ++ write_of m a hash ∷ []);
     }
 
-abbrev pub record_hash : Machine → ℕ → Outcome
+abbrev pub record_hash : Machine → ℕ → StepOutcome
 record_hash m hash =
     if nat_lt 0 (length m.socket)
     then (wrote (visited m (hash % m.setup.apps)) (hash % m.setup.apps) hash, says.Done)
-    else idles m idle.NoTable
+    else idle_step m idle.NoTable
 
-abbrev pub record_by : Machine → Option (Option ℕ) → Outcome
-record_by m None = idles m idle.NoFlow
-record_by m (Some None) = idles m idle.NoHash
+abbrev pub record_by : Machine → Option (Option ℕ) → StepOutcome
+record_by m None = idle_step m idle.NoFlow
+record_by m (Some None) = idle_step m idle.NoHash
 record_by m (Some (Some hash)) = record_hash m hash
 
 -- The socket of a flow records the processor of its application.
-abbrev pub record_flow : Machine → ℕ → Outcome
+abbrev pub record_flow : Machine → ℕ → StepOutcome
 record_flow m flow = record_by m (flow_hash m.setup flow)
 
 -- ---- an application
@@ -90,14 +90,14 @@ sends m a x =
       sent = slice_set m.sent a (sent_of m a ++ reply_to m a x ∷ []);
     }
 
-abbrev pub send_by : Machine → ℕ → Option ℕ → Outcome
+abbrev pub send_by : Machine → ℕ → Option ℕ → StepOutcome
 send_by m a (Some x) = (sends m a x, says.Done)
-send_by m a None = idles m idle.InboxDone
+send_by m a None = idle_step m idle.InboxDone
 
 -- The next packet of the inbox is in hand, to be replied to.
-abbrev pub send : Machine → ℕ → Outcome
+abbrev pub send : Machine → ℕ → StepOutcome
 send m a =
-    if nat_lt (placed_of m.tx a) (taken_of m.tx a) then idles m idle.HandFull else
+    if nat_lt (placed_of m.tx a) (taken_of m.tx a) then idle_step m idle.HandFull else
     send_by m a (next_in m a)
 
 -- stands for a reply where there is none
@@ -110,7 +110,7 @@ in_reply m a = slice_index_or (sent_of m a) (length (choices_of m.tx a)) nothing
 
 -- the transmit queue that the maps pick for a reply
 abbrev pub pick_for : Machine → Sent → ℕ
-pick_for m r = picked m.settings.maps r.rxq r.cpu (hash_of m.setup r.id)
+pick_for m r = picked m.settings.maps r.rxq r.cpu (packet_hash m.setup r.id)
 
 -- all transmit queues are online
 abbrev pub everyone : CpuMask
@@ -119,12 +119,12 @@ everyone = record { 0 = 4294967295 }
 -- what a reply is weighed with: its flow number as class, and the pick as want and as desired queue
 abbrev pub sending : Machine → ℕ → Sent → HopEvent
 sending m a r =
-    event.Weigh a (Some (flow_of m.setup r.id)) (Some (pick_for m r)) (pick_for m r) everyone
+    event.Weigh a (Some (flow_number_of m.setup r.id)) (Some (pick_for m r)) (pick_for m r) everyone
 
 -- The reply in hand gets a transmit queue by the migration rule.
-abbrev pub tweigh : Machine → ℕ → Outcome
+abbrev pub tweigh : Machine → ℕ → StepOutcome
 tweigh m a = by_tx m (sending m a (in_reply m a))
 
 -- The reply in hand is put to its transmit queue.
-abbrev pub tput : Machine → ℕ → Outcome
-tput m a = by_tx m (event.Put a (hash_of m.setup (last_of m.tx a).id))
+abbrev pub tput : Machine → ℕ → StepOutcome
+tput m a = by_tx m (event.Put a (packet_hash m.setup (last_chosen m.tx a).id))

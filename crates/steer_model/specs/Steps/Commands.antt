@@ -20,7 +20,7 @@ use Rattle.hop_core.specs.Events.{run}
 use Rattle.hop_core.specs.Emptied.{emptied_of}
 use Rattle.sock_flow_table.specs.Sockets as sockets
 use Rattle.steer_model.specs.State.Machine.{Machine}
-use Rattle.steer_model.specs.Steps.Outcomes.{Outcome}
+use Rattle.steer_model.specs.Steps.Outcomes.{StepOutcome}
 use Rattle.steer_model.specs.State.Settings.{changed}
 use Rattle.steer_model.specs.State.Setup.{Setup}
 
@@ -124,6 +124,6 @@ abbrev pub listed : Machine → Command → Answer → Machine
 listed m c a = record m { commands = m.commands ++ record { command = c; answer = a } ∷ [] }
 
 -- A command is listed with its answer, and changes nothing else where it is not done.
-abbrev pub given : Machine → Command → Outcome
+abbrev pub given : Machine → Command → StepOutcome
 given m c =
     (listed (if is_done (answer_to m c) then set_by m c else m) c (answer_to m c), answer_to m c)

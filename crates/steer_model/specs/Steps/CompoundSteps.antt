@@ -10,34 +10,34 @@ use Rattle.steer_base.specs.declared.step.Step.TheVariants as act
 use Rattle.hop_core.specs.Hop.{Bare, accepted_at, retired_at, taken_of, placed_of}
 use Rattle.steer_model.specs.Steps.Applications.{next_in, nothing_sent, sent_of}
 use Rattle.steer_model.specs.State.Machine.{Machine}
-use Rattle.steer_model.specs.Steps.Outcomes.{Outcome}
-use Rattle.steer_model.specs.State.Setup.{flow_of}
+use Rattle.steer_model.specs.Steps.Outcomes.{StepOutcome}
+use Rattle.steer_model.specs.State.Setup.{flow_number_of}
 use Rattle.steer_model.specs.Steps.SingleSteps.{is_idle, is_work, simple}
 
 -- a machine, and whether work was done on the way to it
-abbrev pub Turn : Type 0
-Turn = Machine × Bool
+abbrev pub Progress : Type 0
+Progress = Machine × Bool
 
 -- a step is tried: where it is not enabled, nothing happens
-abbrev pub tried : Turn → Step → Turn
+abbrev pub tried : Progress → Step → Progress
 tried t s = ((simple t.0 s).0, t.1 || (is_work s && not (is_idle (simple t.0 s).1)))
 
-abbrev pub tries : Turn → List Step → Turn
+abbrev pub tries : Progress → List Step → Progress
 tries t [] = t
 tries t (s ∷ ss) = tries (tried t s) ss
 
 -- the same steps n times in a row
-unfoldable pub again : ℕ → List Step → Turn → Turn
+unfoldable pub again : ℕ → List Step → Progress → Progress
 again zero ss t = t
 again (suc n) ss t = again n ss (tries t ss)
 
 -- the same for each number below n, ascending
-unfoldable pub for_each : ℕ → (ℕ → Turn → Turn) → Turn → Turn
+unfoldable pub for_each : ℕ → (ℕ → Progress → Progress) → Progress → Progress
 for_each zero f t = t
 for_each (suc n) f t = f n (for_each n f t)
 
 -- all events of a poller in order
-abbrev pub poll : ℕ → Turn → Turn
+abbrev pub poll : ℕ → Progress → Progress
 poll q t =
     tries t
     (act.Enter q ∷ act.Take q ∷ act.Look q ∷ act.Weigh q ∷ act.Put q ∷ act.Ask q ∷ act.Leave q ∷ [])
@@ -55,14 +55,14 @@ ship_one x = act.TPull x ∷ act.TDeliver x ∷ act.TRetire x ∷ []
 
 -- The events of a processor, and those of a transmit queue, until its hand is empty and nothing
 -- waits: each time around one packet is retired.
-abbrev pub drain : ℕ → Turn → Turn
+abbrev pub drain : ℕ → Progress → Progress
 drain c t = again (unretired t.0.rx.bare c) (drain_one c) t
 
-abbrev pub ship : ℕ → Turn → Turn
+abbrev pub ship : ℕ → Progress → Progress
 ship x t = again (unretired t.0.tx.bare x) (ship_one x) t
 
 -- all events of an application in order
-abbrev pub reply : ℕ → Turn → Turn
+abbrev pub reply : ℕ → Progress → Progress
 reply a t = tries t (act.TEnter a ∷ act.Send a ∷ act.TWeigh a ∷ act.TPut a ∷ act.TLeave a ∷ [])
 
 -- the packet that an application has in hand, else the next one of its inbox
@@ -72,16 +72,16 @@ replying m a =
     then Some (slice_index_or (sent_of m a) (placed_of m.tx a) nothing_sent).id
     else next_in m a
 
-abbrev pub recorded : Option ℕ → Turn → Turn
-recorded None t = t
-recorded (Some x) t = tried t (act.Record (flow_of t.0.setup x))
+abbrev pub with_record : Option ℕ → Progress → Progress
+with_record None t = t
+with_record (Some x) t = tried t (act.Record (flow_number_of t.0.setup x))
 
 -- the flow of that packet is recorded, and then all events of the application
-abbrev pub serve : ℕ → Turn → Turn
-serve a t = reply a (recorded (replying t.0 a) t)
+abbrev pub serve : ℕ → Progress → Progress
+serve a t = reply a (with_record (replying t.0 a) t)
 
 -- one arrival, and one turn of every poller, processor, application and transmit queue
-abbrev pub one_round : Turn → Turn
+abbrev pub one_round : Progress → Progress
 one_round t =
     for_each t.0.setup.txs ship
     (for_each t.0.setup.apps serve
@@ -89,7 +89,7 @@ one_round t =
     (for_each (length t.0.setup.homes) poll (tried t act.Arrive))))
 
 -- rounds until one in which no work was done, at most n
-unfoldable pub rounds : ℕ → Turn → Turn
+unfoldable pub rounds : ℕ → Progress → Progress
 rounds zero t = t
 rounds (suc n) t =
     if (one_round (t.0, false)).1
@@ -100,17 +100,17 @@ rounds (suc n) t =
 abbrev pub most_rounds : ℕ → ℕ
 most_rounds packets = 16 * packets + 32
 
-abbrev pub sweep : Turn → Turn
+abbrev pub sweep : Progress → Progress
 sweep t = rounds (most_rounds (length t.0.setup.packets)) t
 
 -- a step of many events is done where work was done
-abbrev pub ended : Turn → Outcome
+abbrev pub ended : Progress → StepOutcome
 ended t = (t.0, if t.1 then says.Done else says.Idle idle.Nothing)
 
 -- ---- a step, and steps in a row
 
 -- A step of many events, else one of one event or a command.
-abbrev pub step : Machine → Step → Outcome
+abbrev pub step : Machine → Step → StepOutcome
 step m (act.Poll q) = ended (poll q (m, false))
 step m (act.Drain c) = ended (drain c (m, false))
 step m (act.Reply a) = ended (reply a (m, false))

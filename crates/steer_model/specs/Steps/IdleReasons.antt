@@ -93,9 +93,9 @@ abbrev pub Need : Type 0
 Need = Bool × Idle
 
 -- done where all needs hold, else idle for the first that does not
-abbrev pub answer_by : List Need → Answer
-answer_by [] = says.Done
-answer_by (need ∷ needs) = if need.0 then answer_by needs else says.Idle need.1
+abbrev pub answer_by_needs : List Need → Answer
+answer_by_needs [] = says.Done
+answer_by_needs (need ∷ needs) = if need.0 then answer_by_needs needs else says.Idle need.1
 
 abbrev pub pull_needs : Bare → ℕ → List Need
 pull_needs b c =
@@ -191,4 +191,4 @@ StepsKeepStaged = (ss : List Step) (m : Machine) → AreStaged m → AreStaged (
 abbrev pub IdleForFirstReason : Type 0
 IdleForFirstReason =
     (m : Machine) (s : Step) → AreStaged m → is_command s ≡ false
-    → (simple m s).1 ≡ answer_by (needs m s)
+    → (simple m s).1 ≡ answer_by_needs (needs m s)

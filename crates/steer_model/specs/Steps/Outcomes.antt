@@ -9,12 +9,12 @@ use Rattle.hop_core.specs.Events.{happens}
 use Rattle.steer_model.specs.State.Machine.{Machine}
 
 -- the machine after a step, and its answer
-abbrev pub Outcome : Type 0
-Outcome = Machine × Answer
+abbrev pub StepOutcome : Type 0
+StepOutcome = Machine × Answer
 
 -- a step that is not enabled, for this reason
-abbrev pub idles : Machine → Idle → Outcome
-idles m why = (m, says.Idle why)
+abbrev pub idle_step : Machine → Idle → StepOutcome
+idle_step m why = (m, says.Idle why)
 
 -- the answer of a hop, as the machine gives it
 abbrev pub told : HopAnswer → Answer
@@ -22,8 +22,8 @@ told (answer.Idle why) = says.Idle why
 told _ = says.Done
 
 -- an event of the receive hop alone, and one of the transmit hop alone
-abbrev pub by_rx : Machine → HopEvent → Outcome
+abbrev pub by_rx : Machine → HopEvent → StepOutcome
 by_rx m e = (record m { rx = (happens m.rx e).0 }, told (happens m.rx e).1)
 
-abbrev pub by_tx : Machine → HopEvent → Outcome
+abbrev pub by_tx : Machine → HopEvent → StepOutcome
 by_tx m e = (record m { tx = (happens m.tx e).0 }, told (happens m.tx e).1)

@@ -24,11 +24,11 @@ use Rattle.sock_flow_table.specs.Sockets.{wanted}
 use Rattle.accel_filter.specs.Table.{filter_of, steered}
 use Rattle.rss_table.specs.Redirection.{queue_of}
 use Rattle.history.specs.declared.arrival.Arrival.{Arrival}
-use Rattle.steer_model.specs.State.Machine.{Machine, note_of, last_of}
+use Rattle.steer_model.specs.State.Machine.{Machine, note_of, last_chosen}
 use Rattle.steer_model.specs.State.Notes.{asking, is_asking, is_nothing}
-use Rattle.steer_model.specs.Steps.Outcomes.{Outcome, by_rx, idles, told}
+use Rattle.steer_model.specs.Steps.Outcomes.{StepOutcome, by_rx, idle_step, told}
 use Rattle.steer_model.specs.State.Settings.{class_at, plain_lane}
-use Rattle.steer_model.specs.State.Setup.{hash_of}
+use Rattle.steer_model.specs.State.Setup.{packet_hash}
 use Rattle.steer_model.specs.declared.note.Note.{Note}
 use Rattle.steer_model.specs.declared.note.Note.TheVariants as note
 
@@ -54,21 +54,22 @@ arrives m a =
     }
 
 -- The next packet of the capture enters the ring of its queue.
-abbrev pub arrive : Machine → Outcome
+abbrev pub arrive : Machine → StepOutcome
 arrive m =
     let next = length m.arrivals in
     if nat_lt next (length m.setup.packets)
-    then (arrives m (arrival_by next (route_by m (hash_of m.setup next))), says.Done)
-    else idles m idle.NothingLeft
+    then (arrives m (arrival_by next (route_by m (packet_hash m.setup next))), says.Done)
+    else idle_step m idle.NothingLeft
 
 -- ---- a poller
 
-abbrev pub noted : Machine → ℕ → Note → Machine
-noted m q n = record m { notes = slice_set m.notes q n }
+abbrev pub with_note : Machine → ℕ → Note → Machine
+with_note m q n = record m { notes = slice_set m.notes q n }
 
 -- The first packet of the ring is in hand. The hand of a poller that asks for a filter is full.
-abbrev pub take : Machine → ℕ → Outcome
-take m q = if is_asking (note_of m q) then idles m idle.HandFull else by_rx m (event.Take q)
+abbrev pub poller_takes : Machine → ℕ → StepOutcome
+poller_takes m q = if is_asking (note_of m q) then idle_step m idle.HandFull else by_rx m
+    (event.Take q)
 
 -- the processor that a packet with this class and hash finds in the socket flow table
 abbrev pub socket_seen : List (Option ℕ) → Option ℕ → Option ℕ → Option ℕ
@@ -77,18 +78,18 @@ socket_seen socket (Some class) None = None
 socket_seen socket None hash = None
 
 abbrev pub seen_by : Machine → ℕ → ℕ → Option ℕ
-seen_by m q x = socket_seen m.socket (class_at m.setup m.settings q x) (hash_of m.setup x)
+seen_by m q x = socket_seen m.socket (class_at m.setup m.settings q x) (packet_hash m.setup x)
 
-abbrev pub look_by : Machine → ℕ → Option ℕ → Outcome
-look_by m q (Some x) = (noted m q (note.Looked (seen_by m q x)), says.Done)
-look_by m q None = idles m idle.WrongStage
+abbrev pub look_by : Machine → ℕ → Option ℕ → StepOutcome
+look_by m q (Some x) = (with_note m q (note.Looked (seen_by m q x)), says.Done)
+look_by m q None = idle_step m idle.WrongStage
 
 -- The poller keeps what it sees in the socket flow table for the packet in hand.
-abbrev pub look : Machine → ℕ → Outcome
+abbrev pub look : Machine → ℕ → StepOutcome
 look m q =
-    if not (inside_of m.rx q) then idles m idle.NotInside else
+    if not (inside_of m.rx q) then idle_step m idle.NotInside else
     if is_nothing (note_of m q) then look_by m q (to_weigh m.rx q) else
-    idles m idle.WrongStage
+    idle_step m idle.WrongStage
 
 -- what a packet is weighed with, where this was seen in the socket flow table
 abbrev pub weighing : Machine → ℕ → ℕ → Option ℕ → HopEvent
@@ -98,16 +99,16 @@ weighing m q x want =
     (plain_lane m.setup m.settings q x))
     m.settings.online
 
-abbrev pub weigh_by : Machine → ℕ → Note → Option ℕ → Outcome
-weigh_by m q (note.Looked want) (Some x) = by_rx (noted m q note.Nothing) (weighing m q x want)
-weigh_by m q (note.Looked want) None = idles m idle.WrongStage
-weigh_by m q note.Nothing in_hand = idles m idle.WrongStage
-weigh_by m q (note.Asking filter) in_hand = idles m idle.WrongStage
+abbrev pub weigh_by : Machine → ℕ → Note → Option ℕ → StepOutcome
+weigh_by m q (note.Looked want) (Some x) = by_rx (with_note m q note.Nothing) (weighing m q x want)
+weigh_by m q (note.Looked want) None = idle_step m idle.WrongStage
+weigh_by m q note.Nothing in_hand = idle_step m idle.WrongStage
+weigh_by m q (note.Asking filter) in_hand = idle_step m idle.WrongStage
 
 -- The packet in hand gets a processor by the migration rule, with what was seen.
-abbrev pub weigh : Machine → ℕ → Outcome
-weigh m q =
-    if not (inside_of m.rx q) then idles m idle.NotInside else
+abbrev pub poller_weighs : Machine → ℕ → StepOutcome
+poller_weighs m q =
+    if not (inside_of m.rx q) then idle_step m idle.NotInside else
     weigh_by m q (note_of m q) (to_weigh m.rx q)
 
 -- the filter that is asked for after a packet was accepted at a position by this choice, where
@@ -117,50 +118,50 @@ filter_for homes filters c position =
     if nat_lt 0 filters then filter_written homes c.why c.lane position else None
 
 -- the position at which a put was accepted, where it was
-abbrev pub position_of : HopAnswer → Option ℕ
-position_of (answer.Went (went.At position)) = Some position
-position_of _ = None
+abbrev pub put_position : HopAnswer → Option ℕ
+put_position (answer.Went (went.At position)) = Some position
+put_position _ = None
 
 -- what a poller does after its put
-abbrev pub put_by : Machine → ℕ → Option ℕ → HopAnswer → Outcome
-put_by m q (Some position) a = (
-  noted m q
-      (asking (filter_for m.setup.homes (length m.filters) (last_of m.rx q).choice position)),
+abbrev pub poller_after_put : Machine → ℕ → Option ℕ → HopAnswer → StepOutcome
+poller_after_put m q (Some position) a = (
+  with_note m q
+      (asking (filter_for m.setup.homes (length m.filters) (last_chosen m.rx q).choice position)),
   told a,
 )
-put_by m q None a = (m, told a)
+poller_after_put m q None a = (m, told a)
 
 abbrev pub putting : Machine → ℕ → HopEvent
-putting m q = event.Put q (hash_of m.setup (last_of m.rx q).id)
+putting m q = event.Put q (packet_hash m.setup (last_chosen m.rx q).id)
 
 -- The packet in hand is put to its processor, and a filter is asked for where one is due.
-abbrev pub put : Machine → ℕ → Outcome
-put m q =
-    put_by (by_rx m (putting m q)).0 q (position_of (happens m.rx (putting m q)).1)
+abbrev pub poller_puts : Machine → ℕ → StepOutcome
+poller_puts m q =
+    poller_after_put (by_rx m (putting m q)).0 q (put_position (happens m.rx (putting m q)).1)
     (happens m.rx (putting m q)).1
 
 abbrev pub with_filter : List (Option Filter) → Option ℕ → Filter → List (Option Filter)
 with_filter filters None filter = filters
 with_filter filters (Some hash) filter = steered filters hash filter
 
-abbrev pub ask_by : Machine → ℕ → Note → Outcome
+abbrev pub ask_by : Machine → ℕ → Note → StepOutcome
 ask_by m q (note.Asking filter) = (
-  record (noted m q note.Nothing) {
-    filters = with_filter m.filters (hash_of m.setup (last_of m.rx q).id) filter;
+  record (with_note m q note.Nothing) {
+    filters = with_filter m.filters (packet_hash m.setup (last_chosen m.rx q).id) filter;
   },
   says.Done,
 )
-ask_by m q note.Nothing = idles m idle.WrongStage
-ask_by m q (note.Looked want) = idles m idle.WrongStage
+ask_by m q note.Nothing = idle_step m idle.WrongStage
+ask_by m q (note.Looked want) = idle_step m idle.WrongStage
 
 -- The filter that is asked for is written.
-abbrev pub ask : Machine → ℕ → Outcome
+abbrev pub ask : Machine → ℕ → StepOutcome
 ask m q =
-    if not (inside_of m.rx q) then idles m idle.NotInside else ask_by m q (note_of m q)
+    if not (inside_of m.rx q) then idle_step m idle.NotInside else ask_by m q (note_of m q)
 
 -- The poller leaves, but not between its look and the end of its put or its filter.
-abbrev pub leave : Machine → ℕ → Outcome
-leave m q =
-    if not (inside_of m.rx q) then idles m idle.NotInside else
+abbrev pub poller_leaves : Machine → ℕ → StepOutcome
+poller_leaves m q =
+    if not (inside_of m.rx q) then idle_step m idle.NotInside else
     if is_nothing (note_of m q) then by_rx m (event.Leave q) else
-    idles m idle.MidPacket
+    idle_step m idle.MidPacket

@@ -6,24 +6,25 @@ use Rattle.steer_base.specs.declared.idle.Idle.TheVariants as idle
 use Rattle.steer_base.specs.declared.step.Step.{Step}
 use Rattle.steer_base.specs.declared.step.Step.TheVariants as act
 use Rattle.hop_core.specs.declared.event.HopEvent.TheVariants as event
-use Rattle.steer_model.specs.Steps.Applications.{deliver, record_flow, send, tput, tweigh}
+use Rattle.steer_model.specs.Steps.Applications.{cpu_delivers, record_flow, send, tput, tweigh}
 use Rattle.steer_model.specs.Steps.Commands.{given}
 use Rattle.steer_model.specs.State.Machine.{Machine}
-use Rattle.steer_model.specs.Steps.Outcomes.{Outcome, by_rx, by_tx, idles}
-use Rattle.steer_model.specs.Steps.Pollers.{arrive, ask, leave, look, put, take, weigh}
+use Rattle.steer_model.specs.Steps.Outcomes.{StepOutcome, by_rx, by_tx, idle_step}
+use Rattle.steer_model.specs.Steps.Pollers.{arrive, ask, poller_leaves, look, poller_puts}
+use Rattle.steer_model.specs.Steps.Pollers.{poller_takes, poller_weighs}
 
 -- A step of one event, or a command. A step of many events does nothing here.
-abbrev pub simple : Machine → Step → Outcome
+abbrev pub simple : Machine → Step → StepOutcome
 simple m act.Arrive = arrive m
-simple m (act.Take q) = take m q
+simple m (act.Take q) = poller_takes m q
 simple m (act.Enter q) = by_rx m (event.Enter q)
 simple m (act.Look q) = look m q
-simple m (act.Weigh q) = weigh m q
-simple m (act.Put q) = put m q
+simple m (act.Weigh q) = poller_weighs m q
+simple m (act.Put q) = poller_puts m q
 simple m (act.Ask q) = ask m q
-simple m (act.Leave q) = leave m q
+simple m (act.Leave q) = poller_leaves m q
 simple m (act.Pull c) = by_rx m (event.Pull c)
-simple m (act.Deliver c) = deliver m c
+simple m (act.Deliver c) = cpu_delivers m c
 simple m (act.Retire c) = by_rx m (event.Retire c)
 simple m (act.Record flow) = record_flow m flow
 simple m (act.Send a) = send m a
@@ -35,12 +36,12 @@ simple m (act.TPull t) = by_tx m (event.Pull t)
 simple m (act.TDeliver t) = by_tx m (event.Deliver t 0)
 simple m (act.TRetire t) = by_tx m (event.Retire t)
 simple m (act.Give c) = given m c
-simple m (act.Poll q) = idles m idle.Nothing
-simple m (act.Drain c) = idles m idle.Nothing
-simple m (act.Reply a) = idles m idle.Nothing
-simple m (act.Serve a) = idles m idle.Nothing
-simple m (act.Ship t) = idles m idle.Nothing
-simple m act.Sweep = idles m idle.Nothing
+simple m (act.Poll q) = idle_step m idle.Nothing
+simple m (act.Drain c) = idle_step m idle.Nothing
+simple m (act.Reply a) = idle_step m idle.Nothing
+simple m (act.Serve a) = idle_step m idle.Nothing
+simple m (act.Ship t) = idle_step m idle.Nothing
+simple m act.Sweep = idle_step m idle.Nothing
 
 -- whether a step is a command
 abbrev pub is_command : Step → Bool

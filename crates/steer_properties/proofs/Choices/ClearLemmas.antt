@@ -29,7 +29,7 @@ use Rattle.steer_base.specs.declared.choice.Entry.{Entry}
 use Rattle.steer_base.specs.declared.cpu_mask.CpuMask.{CpuMask}
 use Rattle.steer_base.proofs.CountersLemmas.{has_reached-counts}
 use Rattle.steer_base.proofs.EntriesLemmas.{place_in-le, recorded_count-le}
-use Rattle.steer_model.specs.State.Machine.{lane_lists}
+use Rattle.steer_model.specs.State.Machine.{history_lanes}
 use Rattle.steer_invariant.proofs.LaneLemmas.{lane-is}
 use Rattle.steer_properties.specs.Choices.Clear.{MovesAreClear}
 use Rattle.steer_properties.proofs.Choices.HeadLemmas.{retired-small}
@@ -256,7 +256,7 @@ module _ (s : HopState) (q : ℕ) (of want : Option ℕ) (desired : ℕ) (online
 -- ---- in the words of a history
 
 pub clear-words : (s : HopState) → Sound s → ClearIn s → (p : ℕ)
-    → MovesAreClear (lane_lists s.bare) (choices_of s p)
+    → MovesAreClear (history_lanes s.bare) (choices_of s p)
 clear-words s h old p j k class n less lt moved is own at =
     let c : Chosen = chosen_at (choices_of s p) j in
     let here : position (accepted_at s.bare) c ≡ Some n =

@@ -9,8 +9,8 @@ use Rattle.steer_model.specs.Steps.Applications.{everyone, in_reply, pick_for}
 use Rattle.steer_model.specs.Good.Inputs.{Input}
 use Rattle.steer_model.specs.State.Machine.{Machine}
 use Rattle.steer_model.specs.State.Settings.{class_at, plain_lane}
-use Rattle.steer_model.specs.State.Setup.{flow_of}
-use Rattle.steer_model.specs.State.Start.{fresh_rx, fresh_tx, new_machine, settings_of}
+use Rattle.steer_model.specs.State.Setup.{flow_number_of}
+use Rattle.steer_model.specs.State.Start.{fresh_rx, fresh_tx, new_machine, initial_settings}
 use Rattle.steer_model.specs.Steps.SingleSteps.{simple}
 use Rattle.steer_invariant.specs.Invariant.{Invariant}
 use Rattle.steer_invariant.specs.StepInvariant.{IsNamed}
@@ -59,7 +59,7 @@ clear-simple m s h named old =
           let may = (asks_tx m k).weigh a r in' in
           record {
             rx = old.rx;
-            tx = clear-chose m.tx a (Some (flow_of m.setup r.id)) (Some (pick_for m r))
+            tx = clear-chose m.tx a (Some (flow_number_of m.setup r.id)) (Some (pick_for m r))
                 (pick_for m r) everyone k.tx.sound may.drained
                 (omega (arith, in', z.apps, w.choices)) old.tx;
           });
@@ -82,7 +82,7 @@ clear-fresh fixed counts guests lanes outs p j k class n less lt =
 pub clear-new_machine : (i : Input) → Clear (new_machine i.plan i.packets i.cut)
 clear-new_machine i =
     record {
-      rx = clear-fresh (fresh_rx i.plan i.packets).fixed (settings_of i.plan).counts
+      rx = clear-fresh (fresh_rx i.plan i.packets).fixed (initial_settings i.plan).counts
           (length i.plan.apps + 1) i.plan.cpus (length i.plan.apps);
       tx = clear-fresh (fresh_tx i.plan i.packets).fixed
           (replicate (length i.plan.apps) (max 1 (length i.packets))) 0 (length i.plan.tx) 1;

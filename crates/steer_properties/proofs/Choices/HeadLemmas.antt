@@ -25,7 +25,7 @@ use Rattle.hop_core.proofs.Lists.{Changed-set, chosen-push_front, chosen-push_la
 use Rattle.history.specs.Lists.{lane_at}
 use Rattle.history.specs.declared.lane_list.LaneList.{LaneList}
 use Rattle.steer_model.specs.Good.Choices.{HeadsRise, lane_of_class, lane_seen}
-use Rattle.steer_model.specs.State.Machine.{lane_lists}
+use Rattle.steer_model.specs.State.Machine.{history_lanes}
 use Rattle.steer_invariant.proofs.LaneLemmas.{lane-is}
 use Rattle.steer_properties.proofs.Histories.HopGrowthLemmas.{Stays}
 
@@ -211,7 +211,7 @@ module _ (start : ℕ) (lanes : List LaneList) (cs : List Chosen) (c : Chosen) w
 -- ---- a hop
 
 retired-is : (s : HopState) → Sound s → (c : ℕ)
-    → (lane_at (lane_lists s.bare) c).retired ≡ retired_at s.bare c
+    → (lane_at (history_lanes s.bare) c).retired ≡ retired_at s.bare c
 retired-is s h c = ap (λ lane. lane.retired) (lane-is s h c)
 
 pub retired-small : (s : HopState) → Sound s → (c : ℕ) → retired_at s.bare c ≤ 262144
@@ -226,7 +226,7 @@ pub distance-is : (start count : ℕ) → start < 2 ^ 32 → count ≤ 262144
 distance-is start count s c = omega arith
 
 abbrev pub HeadsIn : HopState → Type 0
-HeadsIn s = (p : ℕ) → HeadsRise s.fixed.start (lane_lists s.bare) (choices_of s p)
+HeadsIn s = (p : ℕ) → HeadsRise s.fixed.start (history_lanes s.bare) (choices_of s p)
 
 -- a hop that stays, and makes no choice
 pub heads-stay : (s t : HopState) → Sound s → Sound t → Stays s t → t.choices ≡ s.choices
@@ -235,8 +235,8 @@ heads-stay s t h g stays same old p =
     let start : t.fixed.start ≡ s.fixed.start = ap (λ f. f.start) stays.fixed in
     let cs : choices_of t p ≡ choices_of s p = ap (λ l. slice_index_or l p []) same in
     let o = old p in
-    subst (λ (l : List Chosen). HeadsRise t.fixed.start (lane_lists t.bare) l) (sym cs)
-    (subst (λ n. HeadsRise n (lane_lists t.bare) (choices_of s p)) (sym start)
+    subst (λ (l : List Chosen). HeadsRise t.fixed.start (history_lanes t.bare) l) (sym cs)
+    (subst (λ n. HeadsRise n (history_lanes t.bare) (choices_of s p)) (sym start)
     (record {
       within = λ k seen lane lt is at. (
           let a = o.within k seen lane lt is at in
@@ -260,8 +260,8 @@ heads-chose s q class want desired online h in' old p =
       | inl e ↦ (
           let is : choices_of t p ≡ choices_of s q ++ new ∷ [] =
           ap (choices_of t) e ∙ ch.here in
-          subst (λ (l : List Chosen). HeadsRise start (lane_lists s.bare) l) (sym is)
-          (heads-pushed start (lane_lists s.bare) (choices_of s q) new (old q)
+          subst (λ (l : List Chosen). HeadsRise start (history_lanes s.bare) l) (sym is)
+          (heads-pushed start (history_lanes s.bare) (choices_of s q) new (old q)
           (λ seen lane kept at. (
           let f : seen ≡ head_at start s.bare lane =
           saw-head class want desired start (since_of s q) (accepted_at s.bare) (choices_of s q)
@@ -270,6 +270,7 @@ heads-chose s q class want desired online h in' old p =
           ∙ distance-is start (retired_at s.bare lane) h.small.start (retired-small s h lane)
           ∙ sym (retired-is s h lane)))))
       | inr ne ↦
-          subst (λ (l : List Chosen). HeadsRise start (lane_lists s.bare) l) (sym (ch.there p ne))
+          subst (λ (l : List Chosen). HeadsRise start (history_lanes s.bare) l)
+          (sym (ch.there p ne))
           (old p)
     ]

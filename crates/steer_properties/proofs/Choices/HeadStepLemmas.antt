@@ -8,9 +8,9 @@ use Rattle.steer_base.specs.declared.step.Step.{Step}
 use Rattle.steer_model.specs.Steps.Applications.{everyone, in_reply, pick_for}
 use Rattle.steer_model.specs.Good.Choices.{HeadsRise}
 use Rattle.steer_model.specs.Good.Inputs.{Input}
-use Rattle.steer_model.specs.State.Machine.{Machine, lane_lists}
-use Rattle.steer_model.specs.State.Setup.{flow_of}
-use Rattle.steer_model.specs.State.Start.{fresh_rx, fresh_tx, new_machine, settings_of}
+use Rattle.steer_model.specs.State.Machine.{Machine, history_lanes}
+use Rattle.steer_model.specs.State.Setup.{flow_number_of}
+use Rattle.steer_model.specs.State.Start.{fresh_rx, fresh_tx, new_machine, initial_settings}
 use Rattle.steer_model.specs.Steps.SingleSteps.{simple}
 use Rattle.steer_invariant.specs.Invariant.{Invariant}
 use Rattle.steer_invariant.specs.StepInvariant.{IsNamed}
@@ -53,7 +53,7 @@ heads-simple m s h g named old =
           let r = in_reply m a in
           record {
             rx = old.rx;
-            tx = heads-chose m.tx a (Some (flow_of m.setup r.id)) (Some (pick_for m r))
+            tx = heads-chose m.tx a (Some (flow_number_of m.setup r.id)) (Some (pick_for m r))
                 (pick_for m r) everyone k.tx.sound (omega (arith, in', z.apps, w.choices)) old.tx;
           });
       give = λ c is in' d g. (
@@ -72,7 +72,7 @@ heads-fresh : (fixed : Fixed) (counts : List ℕ) (guests lanes outs : ℕ)
 heads-fresh fixed counts guests lanes outs p =
     let s : HopState = fresh_hop fixed counts guests lanes outs in
     let none : choices_of s p ≡ [] = blank-at (length counts) p [] in
-    subst (λ (cs : List Chosen). HeadsRise fixed.start (lane_lists s.bare) cs) (sym none)
+    subst (λ (cs : List Chosen). HeadsRise fixed.start (history_lanes s.bare) cs) (sym none)
     (record {
       within = λ k seen lane lt. absurd (omega (arith, lt));
       rise = λ j k earlier seen lane less lt. absurd (omega (arith, lt));
@@ -81,7 +81,7 @@ heads-fresh fixed counts guests lanes outs p =
 pub heads-new : (i : Input) → Heads (new_machine i.plan i.packets i.cut)
 heads-new i =
     record {
-      rx = heads-fresh (fresh_rx i.plan i.packets).fixed (settings_of i.plan).counts
+      rx = heads-fresh (fresh_rx i.plan i.packets).fixed (initial_settings i.plan).counts
           (length i.plan.apps + 1) i.plan.cpus (length i.plan.apps);
       tx = heads-fresh (fresh_tx i.plan i.packets).fixed
           (replicate (length i.plan.apps) (max 1 (length i.packets))) 0 (length i.plan.tx) 1;

@@ -20,9 +20,9 @@ use Rattle.steer_model.specs.Good.Inputs.{Input}
 use Rattle.steer_model.specs.State.Start.{new_machine}
 use Rattle.steer_model.specs.Good.Choices.{WasWritten}
 use Rattle.steer_model.specs.State.Machine.{Machine, history_of, note_of}
-use Rattle.steer_model.specs.Steps.Pollers.{noted, seen_by, socket_seen}
+use Rattle.steer_model.specs.Steps.Pollers.{with_note, seen_by, socket_seen}
 use Rattle.steer_model.specs.State.Settings.{Settings, class_at}
-use Rattle.steer_model.specs.State.Setup.{hash_of}
+use Rattle.steer_model.specs.State.Setup.{packet_hash}
 use Rattle.steer_model.specs.Steps.SingleSteps.{simple}
 use Rattle.steer_model.specs.Origins.SocketOrigins.{SocketIsWritten}
 use Rattle.steer_model.specs.declared.note.Note.TheVariants as note
@@ -38,7 +38,7 @@ use Rattle.steer_properties.proofs.Histories.StepKindLemmas.{lasts-noted, new_ch
 -- this processor was written at the entry of a packet's hash, by the size in force
 abbrev pub WantFrom : Machine → ℕ → ℕ → Type 0
 WantFrom m x cpu =
-    (place : ℕ) × (class_of m.settings.sock (hash_of m.setup x) ≡ Some place)
+    (place : ℕ) × (class_of m.settings.sock (packet_hash m.setup x) ≡ Some place)
     × WasWritten (history_of m) (record { entry = place; cpu = cpu })
 
 pub was-written-lasts : (m n : Machine) (w : SockWrite) → Lasts m n → WasWritten (history_of m) w
@@ -68,9 +68,9 @@ seen-from socket None hash cpu is = absurd (cc)
 want-seen : (m : Machine) (q x cpu : ℕ) → SocketIsWritten m → seen_by m q x ≡ Some cpu
     → WantFrom m x cpu
 want-seen m q x cpu w is =
-    let s = seen-from m.socket (class_at m.setup m.settings q x) (hash_of m.setup x) cpu is in (
+    let s = seen-from m.socket (class_at m.setup m.settings q x) (packet_hash m.setup x) cpu is in (
       s.0,
-      ap (λ n. class_of n (hash_of m.setup x)) (sym w.size) ∙ s.1,
+      ap (λ n. class_of n (packet_hash m.setup x)) (sym w.size) ∙ s.1,
       w.written s.0 cpu s.2,
     )
 
@@ -110,7 +110,7 @@ looks-stay m n q want h l same sock is inside old =
         let w = old.from cpu e in
         let next = next-stays m n q want h l same is in (
           w.0,
-          (λ i. class_of (sock i) (hash_of (l.setup i) (next i))) ∙ w.1,
+          (λ i. class_of (sock i) (packet_hash (l.setup i) (next i))) ∙ w.1,
           was-written-lasts m n (record { entry = w.0; cpu = cpu }) l w.2,
         )
 
@@ -122,10 +122,10 @@ looking-still m n h s old q want is =
     (ap (λ (t : Settings). t.sock) s.settings) w.0 (w.1 o.inside) o
 
 looking-looked : (m : Machine) (q : ℕ) → Invariant m → SocketIsWritten m → inside_of m.rx q ≡ true
-    → Looking m → Looking (noted m q (note.Looked (seen_by m q (next_of m.rx q))))
+    → Looking m → Looking (with_note m q (note.Looked (seen_by m q (next_of m.rx q))))
 looking-looked m q h w inside old p want is =
     let x : Option ℕ = seen_by m q (next_of m.rx q) in
-    let n : Machine = noted m q (note.Looked x) in
+    let n : Machine = with_note m q (note.Looked x) in
     elim (looked-in m.notes q (note.Looked x) p want is) [
       | inl new ↦
           let same : x ≡ want = (let f : note.Looked x ≡ note.Looked want = new.1 in cc) in

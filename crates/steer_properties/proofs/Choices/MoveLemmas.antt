@@ -27,9 +27,9 @@ use Rattle.steer_model.specs.Steps.Applications.{everyone}
 use Rattle.steer_model.specs.Good.Choices.{AreByRule, accepted_in}
 use Rattle.steer_model.specs.Good.Replies.{IsReplyByRule}
 use Rattle.steer_model.specs.Good.Inputs.{Input, settings_at, setup_in, since_at}
-use Rattle.steer_model.specs.State.Machine.{Machine, history_of, lane_lists}
+use Rattle.steer_model.specs.State.Machine.{Machine, history_of, history_lanes}
 use Rattle.steer_model.specs.State.Settings.{Settings, class_at, plain_lane}
-use Rattle.steer_model.specs.State.Setup.{flow_of, hash_of}
+use Rattle.steer_model.specs.State.Setup.{flow_number_of, packet_hash}
 use Rattle.steer_invariant.specs.StepInvariant.{StepInvariant}
 use Rattle.xps_map.specs.Maps.{picked}
 use Rattle.steer_properties.specs.Choices.Moves.{ChangesFlow, FlowsMoveAsSaid, MayChange}
@@ -137,18 +137,19 @@ tx-online m kept a k flow tx lt is =
 reply-by : (i : Input) (m : Machine) (a k : ℕ) (s : Settings) (r : Sent) → StepInvariant m
     → k < length (choices_of m.tx a)
     → (chosen_at (choices_of m.tx a) k).choice
-    ≡ migrate (Some (flow_of (setup_in i) r.id))
-    (Some (picked s.maps r.rxq r.cpu (hash_of (setup_in i) r.id)))
-    (picked s.maps r.rxq r.cpu (hash_of (setup_in i) r.id))
-    (entry m.rx.fixed.start (accepted_in (lane_lists m.tx.bare)) (take k (choices_of m.tx a)))
+    ≡ migrate (Some (flow_number_of (setup_in i) r.id))
+    (Some (picked s.maps r.rxq r.cpu (packet_hash (setup_in i) r.id)))
+    (picked s.maps r.rxq r.cpu (packet_hash (setup_in i) r.id))
+    (entry m.rx.fixed.start (accepted_in (history_lanes m.tx.bare)) (take k (choices_of m.tx a)))
     (λ lane. unwrap_or (chosen_at (choices_of m.tx a) k).choice.head 0) (has everyone)
     → ChangesFlow i (history_of m) a k s r
 reply-by i m a k s r kept lt is =
     let c : Choice = (chosen_at (choices_of m.tx a) k).choice in
-    let flow : ℕ = flow_of (setup_in i) r.id in
-    let pick : ℕ = picked s.maps r.rxq r.cpu (hash_of (setup_in i) r.id) in
+    let flow : ℕ = flow_number_of (setup_in i) r.id in
+    let pick : ℕ = picked s.maps r.rxq r.cpu (packet_hash (setup_in i) r.id) in
     let e : Entry =
-    entry m.rx.fixed.start (accepted_in (lane_lists m.tx.bare)) (take k (choices_of m.tx a)) flow in
+    entry m.rx.fixed.start (accepted_in (history_lanes m.tx.bare))
+    (take k (choices_of m.tx a)) flow in
     let w = moves-of c flow (Some pick) pick e.tail (λ lane. unwrap_or c.head 0) (has everyone)
     e.lane is in
     let same = may-change pick e.tail c.head e.lane

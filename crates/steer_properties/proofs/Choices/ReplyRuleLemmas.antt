@@ -24,10 +24,10 @@ use Rattle.steer_model.specs.Steps.Applications.{everyone, in_reply, nothing_sen
 use Rattle.steer_model.specs.Good.Choices.{accepted_in}
 use Rattle.steer_model.specs.Good.Replies.{IsReplyByRule}
 use Rattle.steer_model.specs.Good.Inputs.{Input, Prefixes, settings_after, settings_at, setup_in}
-use Rattle.steer_model.specs.State.Machine.{Machine, history_of, lane_lists}
+use Rattle.steer_model.specs.State.Machine.{Machine, history_of, history_lanes}
 use Rattle.steer_model.specs.State.Settings.{Settings}
-use Rattle.steer_model.specs.State.Setup.{Setup, flow_of, hash_of}
-use Rattle.steer_model.specs.State.Start.{settings_of}
+use Rattle.steer_model.specs.State.Setup.{Setup, flow_number_of, packet_hash}
+use Rattle.steer_model.specs.State.Start.{initial_settings}
 use Rattle.steer_invariant.specs.StepInvariant.{StepInvariant}
 use Rattle.steer_invariant.proofs.Recorded.RowLemmas.{in_reply-is}
 use Rattle.steer_properties.proofs.Histories.ExtendLemmas.{extends-get, extends-length}
@@ -41,8 +41,8 @@ use Rattle.steer_properties.proofs.Histories.StepKindLemmas.{new_tx_choice, tx_w
 -- the rule for the choice of a reply, over these entries
 abbrev tx_ruled : Setup → Settings → Sent → Choice → (ℕ → Entry) → Choice
 tx_ruled p s r c entries =
-    let pick = picked s.maps r.rxq r.cpu (hash_of p r.id) in
-    migrate (Some (flow_of p r.id)) (Some pick) pick entries (λ lane. unwrap_or c.head 0)
+    let pick = picked s.maps r.rxq r.cpu (packet_hash p r.id) in
+    migrate (Some (flow_number_of p r.id)) (Some pick) pick entries (λ lane. unwrap_or c.head 0)
     (has everyone)
 
 -- both hops number from one start
@@ -66,15 +66,15 @@ pub record TxRules (i : Input) (m : Machine) : Type 0 where
 module _ (i : Input) (m n : Machine) (h : Sound m.tx) (g : Sound n.tx) (l : Lasts m n)
     (start : SameStart m) (start' : SameStart n) (a : ℕ) where
   tx-entries-stay : (k : ℕ) → k < length (choices_of m.tx a)
-      → entry n.rx.fixed.start (accepted_in (lane_lists n.tx.bare)) (take k (choices_of n.tx a))
-      ≡ entry m.rx.fixed.start (accepted_in (lane_lists m.tx.bare)) (take k (choices_of m.tx a))
+      → entry n.rx.fixed.start (accepted_in (history_lanes n.tx.bare)) (take k (choices_of n.tx a))
+      ≡ entry m.rx.fixed.start (accepted_in (history_lanes m.tx.bare)) (take k (choices_of m.tx a))
   tx-entries-stay k lt =
       ap
-      (λ z. entry z (accepted_in (lane_lists n.tx.bare)) (take k (choices_of n.tx a)))
+      (λ z. entry z (accepted_in (history_lanes n.tx.bare)) (take k (choices_of n.tx a)))
       (sym start')
       ∙ entries-stay m.tx n.tx h g l.tx a 0 k lt
       ∙ ap
-      (λ z. entry z (accepted_in (lane_lists m.tx.bare)) (take k (choices_of m.tx a))) start
+      (λ z. entry z (accepted_in (history_lanes m.tx.bare)) (take k (choices_of m.tx a))) start
 
   reply-stays : (k : ℕ) (st : Settings) → k < length (choices_of m.tx a)
       → IsReplyByRule i (history_of m) a k st → IsReplyByRule i (history_of n) a k st
@@ -95,7 +95,7 @@ module _ (i : Input) (m n : Machine) (h : Sound m.tx) (g : Sound n.tx) (l : Last
       → IsReplyByRule i (history_of n) a k (settings_at i (history_of n) (at k))
   tx-each-stays at r k lt =
       let settings : settings_at i (history_of m) (at k) ≡ settings_at i (history_of n) (at k) =
-      sym (settings-longer (settings_of i.plan) m.commands n.commands (at k) l.commands
+      sym (settings-longer (initial_settings i.plan) m.commands n.commands (at k) l.commands
       (r.prefixes.within k lt)) in
       subst (λ st. IsReplyByRule i (history_of n) a k st) settings
       (reply-stays k (settings_at i (history_of m) (at k)) lt (r.each k lt))
@@ -118,7 +118,8 @@ module _ (i : Input) (m n : Machine) (h : Sound m.tx) (g : Sound n.tx) (l : Last
 -- ---- a new choice
 
 module _ (i : Input) (m : Machine) (a : ℕ) (setup : m.setup ≡ setup_in i)
-    (follows : m.settings ≡ settings_after (settings_of i.plan) m.commands) (k : StepInvariant m)
+    (follows : m.settings ≡ settings_after (initial_settings i.plan) m.commands)
+    (k : StepInvariant m)
     (g : Sound (tx_weighed m a).tx) (in' : a < length m.tx.choices)
     (more : length (choices_of m.tx a) < taken_of m.tx a) (l : Lasts m (tx_weighed m a))
     (start : SameStart m) (unsized : since_of m.tx a ≡ 0) (at : ℕ → ℕ) (r : TxRuled i m a at)
@@ -168,17 +169,17 @@ module _ (i : Input) (m : Machine) (a : ℕ) (setup : m.setup ≡ setup_in i)
         let front : take len (choices_of t a) ≡ choices_of s a =
         ap (take len) grown ∙ take-append_seam (choices_of s a) (newest ∷ []) in
         let same : entries
-        ≡ entry m.rx.fixed.start (accepted_in (lane_lists t.bare)) (take len (choices_of t a)) =
+        ≡ entry m.rx.fixed.start (accepted_in (history_lanes t.bare)) (take len (choices_of t a)) =
         ap (λ from. entry s.fixed.start (accepted_at s.bare) (drop from (choices_of s a))) unsized
         ∙ sym
         (ap
-        (λ z. entry z (accepted_in (lane_lists t.bare)) (take len (choices_of t a))) (sym start)
+        (λ z. entry z (accepted_in (history_lanes t.bare)) (take len (choices_of t a))) (sym start)
         ∙ entries-are t g a 0 len
         ∙ ap (λ cs. entry s.fixed.start (accepted_at s.bare) cs) front) in
         let by_rule : newest.choice ≡ tx_ruled m.setup m.settings reply newest.choice entries =
-        kept_head_decides (Some (flow_of m.setup reply.id))
-        (Some (picked m.settings.maps reply.rxq reply.cpu (hash_of m.setup reply.id)))
-        (picked m.settings.maps reply.rxq reply.cpu (hash_of m.setup reply.id)) entries
+        kept_head_decides (Some (flow_number_of m.setup reply.id))
+        (Some (picked m.settings.maps reply.rxq reply.cpu (packet_hash m.setup reply.id)))
+        (picked m.settings.maps reply.rxq reply.cpu (packet_hash m.setup reply.id)) entries
         (head_at s.fixed.start s.bare) (has everyone) newest.choice refl in (
           reply,
           slice_get-get_or (sent_of m a) len nothing_sent sent-more,
@@ -229,8 +230,9 @@ module _ (i : Input) (m : Machine) (a : ℕ) (setup : m.setup ≡ setup_in i)
                   let e : len ≡ j = omega (arith, lt, late, long) in
                   let last : bt len ≡ now = then-from len now at len (omega arith) in
                   let settings : m.settings ≡ settings_at i (history_of then') (bt len) =
-                  follows ∙ sym (settings-all (settings_of i.plan) m.commands)
-                  ∙ ap (λ n. settings_after (settings_of i.plan) (take n m.commands)) (sym last) in
+                  follows ∙ sym (settings-all (initial_settings i.plan) m.commands)
+                  ∙ ap (λ n. settings_after (initial_settings i.plan) (take n m.commands))
+                  (sym last) in
                   subst
                   (λ n. IsReplyByRule i (history_of then') a n
                   (settings_at i (history_of then') (bt n))) e

@@ -23,10 +23,10 @@ use Rattle.hop_core.proofs.Lists.{Changed-set, chosen-push_last, length-push}
 use Rattle.steer_model.specs.Good.Choices.{IsByRule, WasWritten, accepted_in}
 use Rattle.steer_model.specs.Good.Inputs.{Input, Prefixes, settings_after, settings_at, setup_in}
 use Rattle.steer_model.specs.Good.Inputs.{since_at}
-use Rattle.steer_model.specs.State.Machine.{Machine, history_of, lane_lists}
+use Rattle.steer_model.specs.State.Machine.{Machine, history_of, history_lanes}
 use Rattle.steer_model.specs.State.Settings.{Settings, class_at, plain_lane}
-use Rattle.steer_model.specs.State.Setup.{Setup, hash_of}
-use Rattle.steer_model.specs.State.Start.{settings_of}
+use Rattle.steer_model.specs.State.Setup.{Setup, packet_hash}
+use Rattle.steer_model.specs.State.Start.{initial_settings}
 use Rattle.steer_invariant.proofs.LaneLemmas.{lane-is}
 use Rattle.steer_properties.proofs.Histories.ExtendLemmas.{extends-get, extends-length}
 use Rattle.steer_properties.proofs.Histories.LastingLemmas.{Lasts}
@@ -125,7 +125,7 @@ ruled p s q c entries =
 -- ---- the entries of a history
 
 pub entries-are : (s : HopState) → Sound s → (p from k : ℕ)
-    → entry s.fixed.start (accepted_in (lane_lists s.bare)) (drop from (take k (choices_of s p)))
+    → entry s.fixed.start (accepted_in (history_lanes s.bare)) (drop from (take k (choices_of s p)))
     ≡ entries_before s p from k
 entries-are s h p from k =
     λ i. entry s.fixed.start (λ c. (lane-is s h c i).accepted)
@@ -134,8 +134,8 @@ entries-are s h p from k =
 -- they stay those before a choice
 pub entries-stay : (s t : HopState) → Sound s → Sound t → Stays s t → (p from k : ℕ)
     → k < length (choices_of s p)
-    → entry t.fixed.start (accepted_in (lane_lists t.bare)) (drop from (take k (choices_of t p)))
-    ≡ entry s.fixed.start (accepted_in (lane_lists s.bare)) (drop from (take k (choices_of s p)))
+    → entry t.fixed.start (accepted_in (history_lanes t.bare)) (drop from (take k (choices_of t p)))
+    ≡ entry s.fixed.start (accepted_in (history_lanes s.bare)) (drop from (take k (choices_of s p)))
 entries-stay s t h g stays p from k lt =
     entries-are t g p from k ∙ (λ i c. stays.entries p k from c lt i)
     ∙ sym (entries-are s h p from k)
@@ -157,7 +157,7 @@ abbrev pub WantOf : Input → Machine → ℕ → ℕ → ℕ → ℕ → Type 0
 WantOf i m q k n want =
     (place : ℕ)
     × (class_of (settings_at i (history_of m) n).sock
-    (hash_of (setup_in i) (chosen_at (choices_of m.rx q) k).id) ≡ Some place)
+    (packet_hash (setup_in i) (chosen_at (choices_of m.rx q) k).id) ≡ Some place)
     × WasWritten (history_of m) (record { entry = place; cpu = want })
 
 -- Of a queue, for each of its choices the number of commands that it was made after; each choice is
@@ -188,7 +188,7 @@ module _ (i : Input) (m n : Machine) (h : Sound m.rx) (g : Sound n.rx) (l : Last
       (since_at n.commands q at k)
   each-stays k lt =
       let settings : settings_at i (history_of m) (at k) ≡ settings_at i (history_of n) (at k) =
-      sym (settings-longer (settings_of i.plan) m.commands n.commands (at k) l.commands
+      sym (settings-longer (initial_settings i.plan) m.commands n.commands (at k) l.commands
       (within k k lt (omega arith))) in
       let since : since_at m.commands q at k ≡ since_at n.commands q at k =
       sym (since-longer m.commands n.commands q at k l.commands (λ j le. within k j lt le)) in
@@ -204,11 +204,11 @@ module _ (i : Input) (m n : Machine) (h : Sound m.rx) (g : Sound n.rx) (l : Last
       let here : chosen_at (choices_of n.rx q) k ≡ chosen_at (choices_of m.rx q) k =
       extends-get (choices_of m.rx q) (choices_of n.rx q) k nobody (l.rx.choices q) lt in
       let settings : settings_at i (history_of n) (at k) ≡ settings_at i (history_of m) (at k) =
-      settings-longer (settings_of i.plan) m.commands n.commands (at k) l.commands
+      settings-longer (initial_settings i.plan) m.commands n.commands (at k) l.commands
       (within k k lt (omega arith)) in
       let w = r.wants k want lt (ap (λ c. c.choice.want) (sym here) ∙ is) in (
         w.0,
-        (λ j. class_of (settings j).sock (hash_of (setup_in i) (here j).id)) ∙ w.1,
+        (λ j. class_of (settings j).sock (packet_hash (setup_in i) (here j).id)) ∙ w.1,
         was-written-lasts m n (record { entry = w.0; cpu = want }) l w.2,
       )
 
@@ -236,7 +236,7 @@ module _ (i : Input) (m n : Machine) (h : Sound m.rx) (g : Sound n.rx) (l : Last
 -- ---- a new choice
 
 module _ (i : Input) (m : Machine) (q : ℕ) (want : Option ℕ) (setup : m.setup ≡ setup_in i)
-    (follows : m.settings ≡ settings_after (settings_of i.plan) m.commands) (h : Sound m.rx)
+    (follows : m.settings ≡ settings_after (initial_settings i.plan) m.commands) (h : Sound m.rx)
     (g : Sound (weighed m q want).rx) (in' : q < length m.rx.choices)
     (seen : (cpu : ℕ) → want ≡ Some cpu → WantFrom m (next_of m.rx q) cpu) (at : ℕ → ℕ)
     (l : Lasts m (weighed m q want)) (r : Ruled i m q at) where
@@ -277,7 +277,7 @@ module _ (i : Input) (m : Machine) (q : ℕ) (want : Option ℕ) (setup : m.setu
       let front : take len (choices_of t q) ≡ choices_of s q =
       ap (take len) grown ∙ take-append_seam (choices_of s q) (newest ∷ []) in
       let same : entries
-      ≡ entry t.fixed.start (accepted_in (lane_lists t.bare))
+      ≡ entry t.fixed.start (accepted_in (history_lanes t.bare))
       (drop from (take len (choices_of t q))) =
       sym (entries-are t g q from len
       ∙ ap (λ cs. entry s.fixed.start (accepted_at s.bare) (drop from cs)) front) in
@@ -293,8 +293,8 @@ module _ (i : Input) (m : Machine) (q : ℕ) (want : Option ℕ) (setup : m.setu
   -- the settings in force are those after all commands
   last-settings : m.settings ≡ settings_at i (history_of (weighed m q want)) (bt len)
   last-settings =
-      follows ∙ sym (settings-all (settings_of i.plan) m.commands)
-      ∙ ap (λ n. settings_after (settings_of i.plan) (take n m.commands)) (sym last-at)
+      follows ∙ sym (settings-all (initial_settings i.plan) m.commands)
+      ∙ ap (λ n. settings_after (initial_settings i.plan) (take n m.commands)) (sym last-at)
 
   -- and its want was written
   new-want : (cpu : ℕ) → newest.choice.want ≡ Some cpu
@@ -306,7 +306,7 @@ module _ (i : Input) (m : Machine) (q : ℕ) (want : Option ℕ) (setup : m.setu
       is in
       let w = seen cpu e in (
         w.0,
-        sym (λ j. class_of (last-settings j).sock (hash_of (setup j) (back j).id)) ∙ w.1,
+        sym (λ j. class_of (last-settings j).sock (packet_hash (setup j) (back j).id)) ∙ w.1,
         was-written-lasts m (weighed m q want) (record { entry = w.0; cpu = cpu }) l w.2,
       )
 

@@ -14,7 +14,7 @@ use Rattle.steer_model.specs.Steps.Commands.{answer_to, given, is_done}
 use Rattle.steer_model.specs.Good.Inputs.{Input, is_resize, settings_after, setup_in, since_at}
 use Rattle.steer_model.specs.State.Machine.{Machine}
 use Rattle.steer_model.specs.State.Settings.{Settings, changed}
-use Rattle.steer_model.specs.State.Start.{new_machine, settings_of}
+use Rattle.steer_model.specs.State.Start.{new_machine, initial_settings}
 use Rattle.steer_model.specs.Steps.SingleSteps.{simple}
 use Rattle.steer_model.specs.declared.note.Note.{Note}
 use Rattle.steer_invariant.specs.Invariant.{Invariant}
@@ -29,16 +29,16 @@ use Rattle.steer_properties.proofs.Histories.StepKindLemmas.{new_choice, walk, w
 -- ---- the settings in force are those after all commands
 
 abbrev pub Follows : Input → Machine → Type 0
-Follows i m = m.settings ≡ settings_after (settings_of i.plan) m.commands
+Follows i m = m.settings ≡ settings_after (initial_settings i.plan) m.commands
 
 follows-still : (i : Input) (m n : Machine) → Still m n → Follows i m → Follows i n
 follows-still i m n s f =
-    s.settings ∙ f ∙ ap (settings_after (settings_of i.plan)) (sym s.commands)
+    s.settings ∙ f ∙ ap (settings_after (initial_settings i.plan)) (sym s.commands)
 
 follows-given : (i : Input) (m n : Machine) (c : Command)
     → Given m c (answer_to m c) n → Follows i m → Follows i n
 follows-given i m n c g f =
-    let s : Settings = settings_of i.plan in
+    let s : Settings = initial_settings i.plan in
     let x : Commanded = record { command = c; answer = answer_to m c } in
     g.settings
     ∙ ap (λ t. cond (is_done (answer_to m c)) (changed t c) t) f
@@ -150,7 +150,7 @@ rules-simple i m s setup follows looks h g named old =
 pub rules-new : (i : Input) → Rules i (new_machine i.plan i.packets i.cut)
 rules-new i q =
     let m : Machine = new_machine i.plan i.packets i.cut in
-    let many : ℕ = length (settings_of i.plan).counts in
+    let many : ℕ = length (initial_settings i.plan).counts in
     let none : choices_of m.rx q ≡ [] = blank-at many q [] in
     let long : length (choices_of m.rx q) ≡ 0 = ap length none in (
       λ k. 0,

@@ -22,10 +22,10 @@ use Rattle.steer_base.specs.declared.step.Step.TheVariants as act
 use Rattle.steer_model.specs.Steps.Commands.{answer_to, given}
 use Rattle.steer_model.specs.Good.Commands.{AreGiven}
 use Rattle.steer_model.specs.State.Machine.{Machine}
-use Rattle.steer_model.specs.State.Setup.{Setup, flow_of}
+use Rattle.steer_model.specs.State.Setup.{Setup, flow_number_of}
 use Rattle.steer_model.specs.State.Start.{new_machine, steps_of}
 use Rattle.steer_model.specs.Steps.SingleSteps.{is_command, simple}
-use Rattle.steer_model.specs.Steps.CompoundSteps.{Turn, after, one_round, rounds, step, tried}
+use Rattle.steer_model.specs.Steps.CompoundSteps.{Progress, after, one_round, rounds, step, tried}
 use Rattle.steer_invariant.specs.Invariant.{Invariant}
 use Rattle.steer_invariant.specs.StepInvariant.{AreNamed, IsNamed}
 use Rattle.steer_invariant.proofs.Invariant.StartLemmas.{held-new}
@@ -58,12 +58,12 @@ commands-event m s h named event =
     }) named
 
 -- a machine of this setup that is held and has these commands
-record Has (p : Setup) (cs : List Commanded) (t : Turn) : Type 0 where
+record Has (p : Setup) (cs : List Commanded) (t : Progress) : Type 0 where
   setup : t.0.setup ≡ p
   held : Invariant t.0
   commands : t.0.commands ≡ cs
 
-has-tried : (p : Setup) (cs : List Commanded) (t : Turn) (s : Step) → IsTried p s → Has p cs t
+has-tried : (p : Setup) (cs : List Commanded) (t : Progress) (s : Step) → IsTried p s → Has p cs t
     → Has p cs (tried t s)
 has-tried p cs t s is h =
     let here : IsNamed t.0.setup s = subst (λ (q : Setup). IsNamed q s) (sym h.setup) is.named in
@@ -75,30 +75,30 @@ has-tried p cs t s is h =
     }
 
 module _ (m : Machine) (h : Invariant m) where
-  abbrev P : Turn → Type 0
+  abbrev P : Progress → Type 0
   P = Has m.setup m.commands
 
-  flows : (x : ℕ) → flow_of m.setup x < 262144
+  flows : (x : ℕ) → flow_number_of m.setup x < 262144
   flows x = let k = h.kept in flow_small m.setup x k.given
 
   starts : P (m, false)
   starts = record { setup = refl; held = h; commands = refl }
 
-  keeps : (t : Turn) (s : Step) → IsTried m.setup s → P t → P (tried t s)
+  keeps : (t : Progress) (s : Step) → IsTried m.setup s → P t → P (tried t s)
   keeps t s is k = has-tried m.setup m.commands t s is k
 
-  same : (t : Turn) → P t → t.0.setup ≡ m.setup
+  same : (t : Progress) → P t → t.0.setup ≡ m.setup
   same t k = k.setup
 
-  has-if : (b : Bool) (x y : Turn) → P x → P y → P (if b then x else y)
+  has-if : (b : Bool) (x y : Progress) → P x → P y → P (if b then x else y)
   has-if true x y k l = k
   has-if false x y k l = l
 
   -- whether work was done does not matter
-  anyway : (t : Turn) (b : Bool) → P t → P (t.0, b)
+  anyway : (t : Progress) (b : Bool) → P t → P (t.0, b)
   anyway t b k = record { setup = k.setup; held = k.held; commands = k.commands }
 
-  rounds-have : (n : ℕ) (t : Turn) → P t → P (rounds n t)
+  rounds-have : (n : ℕ) (t : Progress) → P t → P (rounds n t)
   unfolding rounds
   rounds-have zero t k = k
   rounds-have (suc n) t k =
@@ -111,7 +111,7 @@ module _ (m : Machine) (h : Invariant m) where
       (anyway (one_round (t.0, false)) t.1 next)
 
   -- a step of many events gives none
-  whole : (t : Turn) → P t → t.0.commands ≡ m.commands
+  whole : (t : Progress) → P t → t.0.commands ≡ m.commands
   whole t k = k.commands
 
   abbrev ids : Machine → List Command

@@ -17,7 +17,7 @@ use Rattle.steer_model.specs.Origins.SettingWrites.{NamesCpu}
 use Rattle.steer_model.specs.State.Machine.{Machine}
 use Rattle.steer_model.specs.State.Settings.{Settings}
 use Rattle.steer_model.specs.State.Setup.{Setup}
-use Rattle.steer_model.specs.State.Start.{new_machine, settings_of}
+use Rattle.steer_model.specs.State.Start.{new_machine, initial_settings}
 use Rattle.steer_model.specs.Steps.SingleSteps.{simple}
 use Rattle.steer_invariant.specs.Invariant.{Invariant}
 use Rattle.steer_invariant.specs.StepInvariant.{IsCommandNamed, IsNamed}
@@ -30,7 +30,7 @@ use Rattle.steer_properties.proofs.Histories.StepKindLemmas.{lasts-noted, walk}
 
 -- the settings after the first k commands
 abbrev pub settings_by : Input → Machine → ℕ → Settings
-settings_by i m k = settings_after (settings_of i.plan) (take k m.commands)
+settings_by i m k = settings_after (initial_settings i.plan) (take k m.commands)
 
 -- Each command is answered by the settings after those before it, and names a processor that there
 -- can be.
@@ -47,7 +47,7 @@ answered-old : (i : Input) (m n : Machine) (k : ℕ) (x : Commanded) → Lasts m
 answered-old i m n k x l is old =
     let lt = slice_get_within m.commands k x is in
     let same : settings_by i m k ≡ settings_by i n k =
-    sym (settings-longer (settings_of i.plan) m.commands n.commands k l.commands
+    sym (settings-longer (initial_settings i.plan) m.commands n.commands k l.commands
     (omega (arith, lt))) in
     subst (λ (s : Settings). AnswersBy n x.command (refused_with i s x.command) x.answer) same
     (answers-last m n x.command (refused_with i (settings_by i m k) x.command) x.answer l old)
@@ -93,8 +93,8 @@ commanding-given i m n c setup follows h named d old =
     -- before it the settings in force are those after all commands
     settings : m.settings ≡ settings_by i n (length m.commands)
     settings =
-        follows ∙ sym (settings-all (settings_of i.plan) m.commands)
-        ∙ sym (settings-longer (settings_of i.plan) m.commands n.commands (length m.commands)
+        follows ∙ sym (settings-all (initial_settings i.plan) m.commands)
+        ∙ sym (settings-longer (initial_settings i.plan) m.commands n.commands (length m.commands)
         d.lasts.commands (omega arith))
 
     answered : (k : ℕ) (x : Commanded) → slice_get n.commands k ≡ Some x

@@ -18,7 +18,7 @@ use Rattle.steer_base.specs.declared.command.Refused.{Refused}
 use Rattle.steer_model.specs.Steps.Commands.{affects}
 use Rattle.steer_model.specs.Good.Commands.{IsAnswer, IsEnd, MayBeBusy, gate_lanes, refused_with}
 use Rattle.steer_model.specs.Good.Inputs.{Input, settings_at, setup_in}
-use Rattle.steer_model.specs.State.Machine.{Machine, history_of, lane_lists}
+use Rattle.steer_model.specs.State.Machine.{Machine, history_of, history_lanes}
 use Rattle.steer_model.specs.State.Settings.{Settings}
 use Rattle.steer_model.specs.State.Setup.{Setup}
 use Rattle.steer_invariant.specs.StepInvariant.{StepInvariant}
@@ -34,7 +34,7 @@ module _ (i : Input) (m : Machine) (setup : m.setup ≡ setup_in i) (start : Sam
   -- a lane that had to be empty was not
   busy-lane : (c : Command) (s : HopState) (lane head tail : ℕ) → Sound s
       → s.fixed.start ≡ m.rx.fixed.start → Waits m.setup c s lane head tail
-      → MayBeBusy i (history_of m) (lane_lists s.bare) c (busy.NotEmpty lane head tail)
+      → MayBeBusy i (history_of m) (history_lanes s.bare) c (busy.NotEmpty lane head tail)
   busy-lane c s lane head tail h same w =
       let first = m.rx.fixed.start in
       let few = (fits_room s h).puts lane in let room = h.small.room in
@@ -50,9 +50,9 @@ module _ (i : Input) (m : Machine) (setup : m.setup ≡ setup_in i) (start : Sam
       ap (λ x. distance x first) w.tail_is ∙ ap (distance (number s.fixed.start t)) (sym same)
       ∙ distance-is s.fixed.start t z (omega (arith, here, few, room)) in
       let long = lists-long s h in
-      let retired : (lane_at (lane_lists s.bare) lane).retired ≡ retired_at s.bare lane =
+      let retired : (lane_at (history_lanes s.bare) lane).retired ≡ retired_at s.bare lane =
       ap (λ (l : LaneList). l.retired) (lane-is s h lane) in
-      let accepted : length (lane_at (lane_lists s.bare) lane).accepted
+      let accepted : length (lane_at (history_lanes s.bare) lane).accepted
       ≡ length (accepted_at s.bare lane) =
       ap (λ (l : LaneList). length l.accepted) (lane-is s h lane) in (
         omega (arith, in', long),
@@ -74,14 +74,14 @@ module _ (i : Input) (m : Machine) (setup : m.setup ≡ setup_in i) (start : Sam
 
   busy-allowed : (c : Command) (s : HopState) (a : Answer) (why : Busy) → Sound s
       → s.fixed.start ≡ m.rx.fixed.start
-      → gate_lanes (history_of m) c ≡ Some (lane_lists s.bare) → a ≡ says.Busy why
+      → gate_lanes (history_of m) c ≡ Some (history_lanes s.bare) → a ≡ says.Busy why
       → IsBusyAt m.setup c s why → Allowed c a
   busy-allowed c s a (busy.Inside number) h same gate is some =
-      inr (number, is, some, lane_lists s.bare, gate)
+      inr (number, is, some, history_lanes s.bare, gate)
   busy-allowed c s a (busy.NotEmpty lane head tail) h same gate is w =
       inl
       (inr (
-        lane_lists s.bare,
+        history_lanes s.bare,
         busy.NotEmpty lane head tail,
         gate,
         is,
@@ -90,7 +90,7 @@ module _ (i : Input) (m : Machine) (setup : m.setup ≡ setup_in i) (start : Sam
 
   gated-allowed : (c : Command) (s : HopState) (a : Answer) → Sound s
       → s.fixed.start ≡ m.rx.fixed.start
-      → gate_lanes (history_of m) c ≡ Some (lane_lists s.bare)
+      → gate_lanes (history_of m) c ≡ Some (history_lanes s.bare)
       → (a ≡ says.Done → IsEnd i c a) → IsGated m.setup c s a → Allowed c a
   gated-allowed c s a h same gate end (inl done) = inl (inl (end done))
   gated-allowed c s a h same gate end (inr b) = busy-allowed c s a b.0 h same gate b.1 b.2

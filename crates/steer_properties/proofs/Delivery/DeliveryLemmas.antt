@@ -7,8 +7,8 @@ use Rattle.history.specs.Lists.{lane_at}
 use Rattle.history.specs.Regular.{Regular}
 use Rattle.history.specs.declared.history.History.{History}
 use Rattle.steer_model.specs.Good.Inputs.{Input, setup_in}
-use Rattle.steer_model.specs.State.Machine.{Machine, history_of, lane_lists}
-use Rattle.steer_model.specs.State.Setup.{Setup, hash_of}
+use Rattle.steer_model.specs.State.Machine.{Machine, history_of, history_lanes}
+use Rattle.steer_model.specs.State.Setup.{Setup, packet_hash}
 use Rattle.steer_model.specs.State.Start.{fresh_rx, new_machine, steps_of}
 use Rattle.steer_model.specs.Steps.SingleSteps.{simple}
 use Rattle.steer_model.specs.Steps.CompoundSteps.{after}
@@ -68,8 +68,8 @@ history-is i m d =
       drops = record {
         causes = λ c.
             subst
-            (λ (q : Setup). AllExplained (hash_of q)
-            (lane_in f start c (lane_at (lane_lists m.rx.bare) c)))
+            (λ (q : Setup). AllExplained (packet_hash q)
+            (lane_in f start c (lane_at (history_lanes m.rx.bare) c)))
             d.setup (drop-causes f m h d.delivers start c);
         counts = drop-counts f m h d.delivers;
       };

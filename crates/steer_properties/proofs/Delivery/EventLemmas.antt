@@ -25,24 +25,24 @@ use Rattle.hop_core.proofs.Settled.{settled_allows_puts}
 use Rattle.hop_core.proofs.Sizes.{Sizes-happens}
 use Rattle.steer_model.specs.Steps.Applications.{in_lane}
 use Rattle.steer_model.specs.State.Ranges.{IsGiven}
-use Rattle.steer_model.specs.State.Machine.{last_of}
+use Rattle.steer_model.specs.State.Machine.{last_chosen}
 use Rattle.steer_model.specs.State.Settings.{Settings, class_at, mask_of, plain_lane}
-use Rattle.steer_model.specs.State.Setup.{Setup, app_for, flow_of, hash_of}
+use Rattle.steer_model.specs.State.Setup.{Setup, app_for, flow_number_of, packet_hash}
 use Rattle.steer_properties.specs.Delivery.HopDelivery.{DeliversRx, DeliversTx, is_of}
 use Rattle.steer_invariant.specs.RecordedLists.{AreWeighed}
 
 -- ---- packets of one flow
 
-flow-same : (p : Setup) (x y : ℕ) → is_of p x y ≡ true → flow_of p y ≡ flow_of p x
+flow-same : (p : Setup) (x y : ℕ) → is_of p x y ≡ true → flow_number_of p y ≡ flow_number_of p x
 flow-same p x y e =
-    let w = and_parts (nat_lt y (length p.packets)) (flow_of p y == flow_of p x) e in
-    eqb-true (flow_of p y) (flow_of p x) w.1
+    let w = and_parts (nat_lt y (length p.packets)) (flow_number_of p y == flow_number_of p x) e in
+    eqb-true (flow_number_of p y) (flow_number_of p x) w.1
 
 -- they have one hash, and so one application
 pub hash-same : (p : Setup) (x y : ℕ) → IsGiven p → x < length p.packets → is_of p x y ≡ true
-    → hash_of p y ≡ hash_of p x
+    → packet_hash p y ≡ packet_hash p x
 hash-same p x y given lt e =
-    let w = and_parts (nat_lt y (length p.packets)) (flow_of p y == flow_of p x) e in
+    let w = and_parts (nat_lt y (length p.packets)) (flow_number_of p y == flow_number_of p x) e in
     given.flows.one_hash y x (ltb-true y (length p.packets) w.0) lt (flow-same p x y e)
 
 pub app-same : (p : Setup) (x y : ℕ) → IsGiven p → x < length p.packets → is_of p x y ≡ true
@@ -54,7 +54,7 @@ app-same p x y given lt e =
 alike : (p : Setup) (now : Settings) (q x : ℕ) → IsGiven p → x < length p.packets
     → AreAlike (class_at p now) (plain_lane p now) (is_of p x) q
 alike p now q x given lt y z ey ez =
-    let same : hash_of p y ≡ hash_of p z =
+    let same : packet_hash p y ≡ packet_hash p z =
     hash-same p x y given lt ey ∙ sym (hash-same p x z given lt ez) in (
       ap (class_of (slice_index now.counts q)) same,
       ap (λ (hash : Option ℕ). rps_choice_of (mask_of now q) hash now.online
@@ -65,14 +65,14 @@ alike p now q x given lt y z ey ez =
 
 pub rx-event : (p : Setup) (f : Fixed) (s : HopState) (e : HopEvent) → MayAsk s e → Sound s
     → ((q x : ℕ) → x < length p.packets → FlowAllowed (is_of p x) q (app_for p x) s e)
-    → IsHashed (hash_of p) s e → DeliversRx p f s → DeliversRx p f (happens s e).0
+    → IsHashed (packet_hash p) s e → DeliversRx p f s → DeliversRx p f (happens s e).0
 rx-event p f s e may h allowed hashed d =
     record {
       fixed = (Sizes-happens s e).fixed ∙ d.fixed;
       order = λ q x lt.
           FlowOrdered-happens (is_of p x) q (app_for p x) s e may h (allowed q x lt)
           (d.order q x lt);
-      causes = each_explains_drops (hash_of p) s e hashed h d.causes;
+      causes = each_explains_drops (packet_hash p) s e hashed h d.causes;
       counts = each_keeps_drops_rising s e may h d.counts;
     }
 
@@ -123,7 +123,7 @@ pub rx-plain : (p : Setup) (f : Fixed) (s : HopState) (e : HopEvent) → IsPlain
     → Sound s → DeliversRx p f s → DeliversRx p f (happens s e).0
 rx-plain p f s e plain may h d =
     rx-event p f s e may h (λ q x lt. plain-allowed (is_of p x) q (app_for p x) s e plain)
-    (plain-hashed (hash_of p) s e plain) d
+    (plain-hashed (packet_hash p) s e plain) d
 
 pub tx-plain : (p : Setup) (s : HopState) (e : HopEvent) → IsPlain e → MayAsk s e → Sound s
     → DeliversTx p s → DeliversTx p (happens s e).0
@@ -152,7 +152,7 @@ tx-run p (e ∷ es) s plain may h d =
 
 -- the last choice is the one in hand, where one is
 last-hand : (s : HopState) (q : ℕ) → Sound s → placed_of s q < length (choices_of s q)
-    → last_of s q ≡ in_hand s q
+    → last_chosen s q ≡ in_hand s q
 last-hand s q h more =
     let cs : List Chosen = choices_of s q in
     let chosen = h.hands.chosen q in let one = h.hands.one q in
@@ -160,15 +160,15 @@ last-hand s q h more =
     unwrap_or-slice_get cs (length cs - 1) nobody ∙ ap (chosen_at cs) at
 
 pub rx-put : (p : Setup) (now : Settings) (f : Fixed) (s : HopState) (q : ℕ) → IsGiven p
-    → MayAsk s (event.Put q (hash_of p (last_of s q).id)) → Sound s
+    → MayAsk s (event.Put q (packet_hash p (last_chosen s q).id)) → Sound s
     → SettledIn (class_at p now) (plain_lane p now) s → DeliversRx p f s
-    → DeliversRx p f (happens s (event.Put q (hash_of p (last_of s q).id))).0
+    → DeliversRx p f (happens s (event.Put q (packet_hash p (last_chosen s q).id))).0
 rx-put p now f s q given may h settled d =
-    let hash : Option ℕ = hash_of p (last_of s q).id in
+    let hash : Option ℕ = packet_hash p (last_chosen s q).id in
     rx-event p f s (event.Put q hash) may h
     (λ r x lt. settled_allows_puts (class_at p now) (plain_lane p now) (is_of p x) r (app_for p x)
     q hash s (alike p now r x given lt) h settled)
-    (λ more. ap (λ (c : Chosen). hash_of p c.id) (last-hand s q h more)) d
+    (λ more. ap (λ (c : Chosen). packet_hash p c.id) (last-hand s q h more)) d
 
 -- ---- a delivery of the receive hop
 
@@ -190,10 +190,10 @@ pub tx-put : (p : Setup) (s : HopState) (a : ℕ) (hash : Option ℕ) → MayAsk
 tx-put p s a hash may h weighed d =
     tx-event p s (event.Put a hash) may h
     (λ b x lt own more e. inl (
-      flow_of p x,
+      flow_number_of p x,
       λ i c in' of. (
           let class =
-          All-drop (λ (k : Chosen). k.choice.class ≡ Some (flow_of p k.id)) (since_of s b)
+          All-drop (λ (k : Chosen). k.choice.class ≡ Some (flow_number_of p k.id)) (since_of s b)
           (choices_of s b) (weighed.class b) i c in' in
           class ∙ ap (λ n. Some n) (flow-same p x _ of)),
     )) d

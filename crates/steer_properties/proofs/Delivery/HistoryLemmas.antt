@@ -14,7 +14,7 @@ use Rattle.steer_base.specs.Sets.{has}
 use Rattle.steer_base.specs.declared.packet.Packet.{Packet}
 use Rattle.steer_base.specs.declared.put.LaneDrop.{LaneDrop}
 use Rattle.backlog.specs.Offers.{AllExplained}
-use Rattle.hop_core.specs.Flows.{came_by}
+use Rattle.hop_core.specs.Flows.{arrived_by}
 use Rattle.hop_core.specs.Hop.{Fixed, HopState, arrivals_of, drops_at, lane_of, out_at}
 use Rattle.hop_core.specs.Order.{IsInOrder}
 use Rattle.hop_core.specs.Sound.{Sound}
@@ -29,8 +29,8 @@ use Rattle.history.proofs.FindingLemmas.{is_in-here, is_in-past}
 use Rattle.history.proofs.SamePlaces.{place-index, same_lists}
 use Rattle.steer_model.specs.Good.Drops as good
 use Rattle.steer_model.specs.Good.Replies.{AreInOneTxPlace, replies_of}
-use Rattle.steer_model.specs.State.Machine.{Machine, history_of, lane_list, lane_lists}
-use Rattle.steer_model.specs.State.Setup.{Setup, app_for, flow_of, hash_of}
+use Rattle.steer_model.specs.State.Machine.{Machine, history_of, lane_list, history_lanes}
+use Rattle.steer_model.specs.State.Setup.{Setup, app_for, flow_number_of, packet_hash}
 use Rattle.steer_properties.specs.Delivery.HopDelivery.{Delivers, is_of}
 use Rattle.steer_invariant.specs.Invariant.{Invariant}
 use Rattle.steer_properties.proofs.Delivery.EventLemmas.{app-same}
@@ -38,10 +38,11 @@ use Rattle.steer_invariant.proofs.LaneLemmas.{accepted-apart, delivered-by, lane
 use Rattle.steer_invariant.proofs.PrefixLemmas.{prefix-at, prefix-length}
 
 -- the drops of the lanes of a history are those of the hop
-drops-same : (s : HopState) → Sound s → map (λ lane. lane.drops) (lane_lists s.bare) ≡ s.bare.drops
+drops-same : (s : HopState) → Sound s → map (λ lane. lane.drops)
+    (history_lanes s.bare) ≡ s.bare.drops
 drops-same s h =
     let w = h.wide in
-    let lanes : List LaneList = lane_lists s.bare in
+    let lanes : List LaneList = history_lanes s.bare in
     let many : length lanes ≡ length s.bare.accepted = lists-long s h in
     let long : length (map (λ (lane : LaneList). lane.drops) lanes) ≡ length s.bare.drops =
     length-map lanes (λ (lane : LaneList). lane.drops) ∙ many ∙ sym w.drops in
@@ -63,7 +64,7 @@ any-is (x ∷ xs) y =
 
 -- the packets of a list that have the flow of a packet
 abbrev pub has_flow : Setup → List ℕ → ℕ → ℕ → Bool
-has_flow p came x y = is_in y came && flow_of p y == flow_of p x
+has_flow p came x y = is_in y came && flow_number_of p y == flow_number_of p x
 
 -- where the capture has all of the list
 flow-test : (p : Setup) (came : List ℕ) (x y : ℕ) → (is_in y came ≡ true → y < length p.packets)
@@ -86,21 +87,21 @@ came-below s packets q y h room is =
 -- the order of a flow of a hop, in the words of a history
 in_order : (p : Setup) (s : HopState) (q x : ℕ) (came out : List ℕ) → Sound s
     → s.fixed.room ≡ length p.packets → arrivals_of s q ≡ came
-    → InOrder (came_by (is_of p x) q s) (arrivals_of s q) s.bare.drops out
-    → InOrder (has_flow p came x) came (map (λ lane. lane.drops) (lane_lists s.bare)) out
+    → InOrder (arrived_by (is_of p x) q s) (arrivals_of s q) s.bare.drops out
+    → InOrder (has_flow p came x) came (map (λ lane. lane.drops) (history_lanes s.bare)) out
 in_order p s q x came out h room same order =
-    let test : came_by (is_of p x) q s ≡ has_flow p (arrivals_of s q) x =
+    let test : arrived_by (is_of p x) q s ≡ has_flow p (arrivals_of s q) x =
     λ i y. flow-test p (arrivals_of s q) x y (came-below s p.packets q y h room) i in
     let by_flow : InOrder (has_flow p (arrivals_of s q) x) (arrivals_of s q) s.bare.drops out =
     subst (λ (set : ℕ → Bool). InOrder set (arrivals_of s q) s.bare.drops out) test order in
     let by_lanes : InOrder (has_flow p (arrivals_of s q) x) (arrivals_of s q)
-    (map (λ lane. lane.drops) (lane_lists s.bare)) out =
+    (map (λ lane. lane.drops) (history_lanes s.bare)) out =
     subst
     (λ (drops : List (List LaneDrop)). InOrder (has_flow p (arrivals_of s q) x) (arrivals_of s q)
     drops out)
     (sym (drops-same s h)) by_flow in
     subst
-    (λ (xs : List ℕ). InOrder (has_flow p xs x) xs (map (λ lane. lane.drops) (lane_lists s.bare))
+    (λ (xs : List ℕ). InOrder (has_flow p xs x) xs (map (λ lane. lane.drops) (history_lanes s.bare))
     out)
     same by_lanes
 
@@ -133,7 +134,7 @@ pub record Orders (p : Setup) (h : History) : Type 0 where
 
 module _ (f : Fixed) (m : Machine) (h : Invariant m) (d : Delivers f m) where
   rx-order : (q x : ℕ) → x < length m.setup.packets
-      → IsInOrder (came_by (is_of m.setup x) q m.rx) q (app_for m.setup x) m.rx
+      → IsInOrder (arrived_by (is_of m.setup x) q m.rx) q (app_for m.setup x) m.rx
   rx-order q x lt =
       let k = h.kept in
       FlowInOrder-from (is_of m.setup x) q (app_for m.setup x) m.rx k.rx.sound (d.rx.order q x lt)
@@ -152,10 +153,10 @@ module _ (f : Fixed) (m : Machine) (h : Invariant m) (d : Delivers f m) where
       (r.own a i 0 (omega (arith, lt, far)))
 
   tx-order : (q x : ℕ) → x < length m.setup.packets
-      → IsInOrder (came_by (is_of m.setup x) q m.rx) (app_for m.setup x) 0 m.tx
+      → IsInOrder (arrived_by (is_of m.setup x) q m.rx) (app_for m.setup x) 0 m.tx
   tx-order q x lt =
       let k = h.kept in
-      let set : ℕ → Bool = came_by (is_of m.setup x) q m.rx in
+      let set : ℕ → Bool = arrived_by (is_of m.setup x) q m.rx in
       let within : (y : ℕ) → set y ≡ true → is_of m.setup x y ≡ true =
       λ y in'. (and_parts (list_any (λ z. z == y) (arrivals_of m.rx q)) (is_of m.setup x y) in').1
       in
@@ -180,7 +181,7 @@ module _ (f : Fixed) (m : Machine) (h : Invariant m) (d : Delivers f m) where
         through = λ q x lt.
             in_order p m.rx q x (arrivals_at m.arrivals q) (out_at m.tx.bare 0) k.rx.sound
             k.rx.sizes.room (k.came.own q)
-            (end_to_end (came_by (is_of p x) q m.rx) m.rx m.tx q (app_for p x) 0
+            (end_to_end (arrived_by (is_of p x) q m.rx) m.rx m.tx q (app_for p x) 0
             (replies_of (history_of m) (app_for p x)) (rx-order q x lt)
             (k.replied.first (app_for p x)) (k.replied.came (app_for p x)) k.tx.ample.none
             (tx-order q x lt));
@@ -224,18 +225,18 @@ module _ (f : Fixed) (m : Machine) (h : Invariant m) (d : Delivers f m) where
   pub drop-counts : All good.DropsRise (history_of m).lanes
   drop-counts c o lt =
       let k = h.kept in let s = k.rx.sound in
-      let lanes : List LaneList = lane_lists m.rx.bare in
+      let lanes : List LaneList = history_lanes m.rx.bare in
       let is : get_or lanes c o ≡ lane_list m.rx.bare c =
       get_or-map-range_with_len (lane_list m.rx.bare) 0 (length m.rx.bare.accepted) c c o
       (omega (arith, lt, lists-long m.rx s)) (omega arith) in
       subst good.DropsRise (sym is) (counts-of c)
 
   pub drop-causes : (start c : ℕ)
-      → AllExplained (hash_of m.setup) (lane_in f start c (lane_at (lane_lists m.rx.bare) c))
+      → AllExplained (packet_hash m.setup) (lane_in f start c (lane_at (history_lanes m.rx.bare) c))
   drop-causes start c =
       let k = h.kept in
-      let here : AllExplained (hash_of m.setup) (lane_of f m.rx.bare c) =
-      subst (λ (g : Fixed). AllExplained (hash_of m.setup) (lane_of g m.rx.bare c)) d.rx.fixed
+      let here : AllExplained (packet_hash m.setup) (lane_of f m.rx.bare c) =
+      subst (λ (g : Fixed). AllExplained (packet_hash m.setup) (lane_of g m.rx.bare c)) d.rx.fixed
       (d.rx.causes.causes c) in
-      subst (λ (l : LaneList). AllExplained (hash_of m.setup) (lane_in f start c l))
+      subst (λ (l : LaneList). AllExplained (packet_hash m.setup) (lane_in f start c l))
       (sym (lane-is m.rx k.rx.sound c)) here

@@ -26,13 +26,14 @@ use Rattle.steer_model.specs.Steps.Applications.{in_lane, in_reply, next_in, rec
 use Rattle.steer_model.specs.Steps.Applications.{sending}
 use Rattle.steer_model.specs.Steps.Applications.{visited, wrote}
 use Rattle.steer_model.specs.Steps.Commands.{answer_to, is_done, set_by}
-use Rattle.steer_model.specs.State.Machine.{Machine, last_of, note_of}
+use Rattle.steer_model.specs.State.Machine.{Machine, last_chosen, note_of}
 use Rattle.steer_model.specs.State.Notes.{is_asking, is_nothing}
-use Rattle.steer_model.specs.Steps.Outcomes.{Outcome, by_rx, by_tx, idles}
-use Rattle.steer_model.specs.Steps.Pollers.{arrives, ask_by, look_by, position_of, put_by, putting}
+use Rattle.steer_model.specs.Steps.Outcomes.{StepOutcome, by_rx, by_tx, idle_step}
+use Rattle.steer_model.specs.Steps.Pollers.{arrives, ask_by, look_by, put_position}
+use Rattle.steer_model.specs.Steps.Pollers.{poller_after_put, putting}
 use Rattle.steer_model.specs.Steps.Pollers.{weigh_by, weighing}
-use Rattle.steer_model.specs.State.Setup.{app_for, flow_hash, hash_of}
-use Rattle.steer_model.specs.State.Start.{fresh_rx, fresh_tx, new_machine, settings_of}
+use Rattle.steer_model.specs.State.Setup.{app_for, flow_hash, packet_hash}
+use Rattle.steer_model.specs.State.Start.{fresh_rx, fresh_tx, new_machine, initial_settings}
 use Rattle.steer_model.specs.Steps.SingleSteps.{simple}
 use Rattle.steer_model.specs.declared.note.Note.{Note}
 use Rattle.steer_model.specs.declared.note.Note.TheVariants as note
@@ -56,7 +57,7 @@ weighs-next s q x =
     (Some (next_of s q)) None (λ _ e. sym (some_same (next_of s q) x e)) (λ _ e. absurd (cc))
 
 module _ (f : Fixed) (m : Machine) (h : Invariant m) (d : Delivers f m) where
-  abbrev Then : Outcome → Type 0
+  abbrev Then : StepOutcome → Type 0
   Then o = Delivers f o.0
 
   asks : AsksRx m
@@ -89,7 +90,7 @@ module _ (f : Fixed) (m : Machine) (h : Invariant m) (d : Delivers f m) where
   at-arrive : Then (simple m act.Arrive)
   at-arrive =
       either Then (nat_lt (length m.arrivals) (length m.setup.packets))
-      (arrives m (next_arrival m), says.Done) (idles m idle.NothingLeft)
+      (arrives m (next_arrival m), says.Done) (idle_step m idle.NothingLeft)
       (λ few. (
       let n = plain-rx (event.Arrive (next_arrival m).queue (length m.arrivals)) tt
       (asks.arrive (ltb-true _ _ few)) in
@@ -117,12 +118,13 @@ module _ (f : Fixed) (m : Machine) (h : Invariant m) (d : Delivers f m) where
       let k = h.kept in
       record {
         rx = rx-put m.setup m.settings f m.rx q k.given
-            (asks.put q (hash_of m.setup (last_of m.rx q).id) named) k.rx.sound k.by.settled d.rx;
+            (asks.put q (packet_hash m.setup (last_chosen m.rx q).id) named) k.rx.sound k.by.settled
+            d.rx;
         tx = d.tx;
       }
 
   at-put : (q : ℕ) (position : Option ℕ) → q < length m.setup.homes
-      → Then (put_by (by_rx m (putting m q)).0 q position (happens m.rx (putting m q)).1)
+      → Then (poller_after_put (by_rx m (putting m q)).0 q position (happens m.rx (putting m q)).1)
   at-put q None named = put-rx q named
   at-put q (Some position) named = let n = put-rx q named in record { rx = n.rx; tx = n.tx }
 
@@ -149,7 +151,7 @@ module _ (f : Fixed) (m : Machine) (h : Invariant m) (d : Delivers f m) where
       let k = h.kept in
       let below : a < m.setup.apps = mod_below hash m.setup.apps k.given.some_app in
       either Then (nat_lt 0 (length m.socket)) (wrote (visited m a) a hash, says.Done)
-      (idles m idle.NoTable)
+      (idle_step m idle.NoTable)
       (λ _. (
       let n = run-rx (event.Enter g ∷ event.Leave g ∷ []) (tt, (tt, tt)) (asks.visit a below) in
       record { rx = n.rx; tx = n.tx }))
@@ -168,7 +170,7 @@ module _ (f : Fixed) (m : Machine) (h : Invariant m) (d : Delivers f m) where
   at-tput : (a : ℕ) → a < m.setup.apps → Then (simple m (act.TPut a))
   at-tput a named =
       let k = h.kept in let r = h.recorded in
-      let hash : Option ℕ = hash_of m.setup (last_of m.tx a).id in
+      let hash : Option ℕ = packet_hash m.setup (last_chosen m.tx a).id in
       record {
         rx = d.rx;
         tx = tx-put m.setup m.tx a hash (tx_asks.put a hash named) k.tx.sound r.weighed d.tx;
@@ -203,30 +205,30 @@ module _ (f : Fixed) (m : Machine) (h : Invariant m) (d : Delivers f m) where
   pub delivers-simple : (s : Step) → IsNamed m.setup s → Delivers f (simple m s).0
   delivers-simple act.Arrive named = at-arrive
   delivers-simple (act.Take q) named =
-      either Then (is_asking (note_of m q)) (idles m idle.HandFull) (by_rx m (event.Take q))
+      either Then (is_asking (note_of m q)) (idle_step m idle.HandFull) (by_rx m (event.Take q))
       (λ _. d) (λ _. plain-rx (event.Take q) tt (asks.take q (ltb-true _ _ named)))
   delivers-simple (act.Enter q) named =
       plain-rx (event.Enter q) tt (asks.enter q (ltb-true _ _ named))
   delivers-simple (act.Look q) named =
-      let seen : Outcome = look_by m q (to_weigh m.rx q) in
-      let early : Outcome = idles m idle.WrongStage in
-      either Then (not (inside_of m.rx q)) (idles m idle.NotInside)
+      let seen : StepOutcome = look_by m q (to_weigh m.rx q) in
+      let early : StepOutcome = idle_step m idle.WrongStage in
+      either Then (not (inside_of m.rx q)) (idle_step m idle.NotInside)
       (cond (is_nothing (note_of m q)) seen early) (λ _. d)
       (λ _. either Then (is_nothing (note_of m q)) seen early
       (λ _. at-look q (to_weigh m.rx q)) (λ _. d))
   delivers-simple (act.Weigh q) named =
-      either Then (not (inside_of m.rx q)) (idles m idle.NotInside)
+      either Then (not (inside_of m.rx q)) (idle_step m idle.NotInside)
       (weigh_by m q (note_of m q) (to_weigh m.rx q)) (λ _. d)
       (λ _. at-weigh q (note_of m q) (to_weigh m.rx q) refl (ltb-true _ _ named))
   delivers-simple (act.Put q) named =
-      at-put q (position_of (happens m.rx (putting m q)).1) (ltb-true _ _ named)
+      at-put q (put_position (happens m.rx (putting m q)).1) (ltb-true _ _ named)
   delivers-simple (act.Ask q) named =
-      either Then (not (inside_of m.rx q)) (idles m idle.NotInside) (ask_by m q (note_of m q))
+      either Then (not (inside_of m.rx q)) (idle_step m idle.NotInside) (ask_by m q (note_of m q))
       (λ _. d) (λ _. at-ask q (note_of m q))
   delivers-simple (act.Leave q) named =
-      let gone : Outcome = by_rx m (event.Leave q) in
-      let early : Outcome = idles m idle.MidPacket in
-      either Then (not (inside_of m.rx q)) (idles m idle.NotInside)
+      let gone : StepOutcome = by_rx m (event.Leave q) in
+      let early : StepOutcome = idle_step m idle.MidPacket in
+      either Then (not (inside_of m.rx q)) (idle_step m idle.NotInside)
       (cond (is_nothing (note_of m q)) gone early) (λ _. d)
       (λ _. either Then (is_nothing (note_of m q)) gone early
       (λ _. plain-rx (event.Leave q) tt (asks.leave q (ltb-true _ _ named))) (λ _. d))
@@ -237,7 +239,7 @@ module _ (f : Fixed) (m : Machine) (h : Invariant m) (d : Delivers f m) where
       plain-rx (event.Retire c) tt (asks.retire c (ltb-true _ _ named))
   delivers-simple (act.Record flow) named = at-record (flow_hash m.setup flow)
   delivers-simple (act.Send a) named =
-      either Then (nat_lt (placed_of m.tx a) (taken_of m.tx a)) (idles m idle.HandFull)
+      either Then (nat_lt (placed_of m.tx a) (taken_of m.tx a)) (idle_step m idle.HandFull)
       (send_by m a (next_in m a)) (λ _. d)
       (λ _. at-send a (next_in m a) refl (ltb-true _ _ named))
   delivers-simple (act.TEnter a) named =
@@ -271,7 +273,7 @@ pub delivers-new : (plan : Plan) (packets : List Packet) (cut : Option ℕ)
 delivers-new plan packets cut =
     let s : HopState = fresh_rx plan packets in
     let t : HopState = fresh_tx plan packets in
-    let counts : List ℕ = (settings_of plan).counts in
+    let counts : List ℕ = (initial_settings plan).counts in
     let apps : ℕ = length plan.apps in
     let classes : List ℕ = replicate apps (max 1 (length packets)) in
     let m : Machine = new_machine plan packets cut in
@@ -280,7 +282,7 @@ delivers-new plan packets cut =
         fixed = refl;
         order = λ q x lt set within mine.
             Ordered-fresh s.fixed counts (apps + 1) plan.cpus apps set q (app_for m.setup x);
-        causes = fresh_is_explained (hash_of m.setup) s.fixed counts (apps + 1) plan.cpus apps;
+        causes = fresh_is_explained (packet_hash m.setup) s.fixed counts (apps + 1) plan.cpus apps;
         counts = fresh_drops_rise s.fixed counts (apps + 1) plan.cpus apps;
       };
       tx = λ a x lt set within mine.

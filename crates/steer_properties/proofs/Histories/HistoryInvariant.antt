@@ -13,7 +13,7 @@ use Rattle.steer_model.specs.Origins.FilterOrigins.{FiltersAreFrom}
 use Rattle.steer_model.specs.Good.Arrivals.{QueuesAreSeen}
 use Rattle.steer_model.specs.Good.Choices.{AreByRule, HeadsAreRising, HeadsRise}
 use Rattle.steer_model.specs.Good.Inputs.{Input, settings_at, setup_in}
-use Rattle.steer_model.specs.State.Machine.{Machine, history_of, lane_lists}
+use Rattle.steer_model.specs.State.Machine.{Machine, history_of, history_lanes}
 use Rattle.steer_model.specs.State.Setup.{Setup}
 use Rattle.steer_model.specs.State.Start.{fresh_rx, fresh_tx, new_machine, steps_of}
 use Rattle.steer_model.specs.Steps.SingleSteps.{simple}
@@ -204,7 +204,8 @@ heads-rise i m e =
     let start = same-start i m e.based in
     record {
       rx = h.rx;
-      tx = λ a. subst (λ n. HeadsRise n (lane_lists m.tx.bare) (choices_of m.tx a)) start (h.tx a);
+      tx = λ a. subst (λ n. HeadsRise n (history_lanes m.tx.bare) (choices_of m.tx a)) start
+          (h.tx a);
     }
 
 pub heads_always_rise : Always (λ i h. HeadsAreRising h)

@@ -31,15 +31,15 @@ use Rattle.steer_model.specs.Steps.Applications.{everyone, in_lane, in_reply, ne
 use Rattle.steer_model.specs.Steps.Applications.{record_by, reply_to, send_by, sending, sends}
 use Rattle.steer_model.specs.Steps.Applications.{visited, write_of, wrote}
 use Rattle.steer_model.specs.Steps.Commands.{answer_to, given}
-use Rattle.steer_model.specs.State.Machine.{Machine, last_of, note_of}
+use Rattle.steer_model.specs.State.Machine.{Machine, last_chosen, note_of}
 use Rattle.steer_model.specs.State.Notes.{asking, is_asking, is_nothing}
-use Rattle.steer_model.specs.Steps.Outcomes.{Outcome, by_rx, by_tx, idles}
-use Rattle.steer_model.specs.Steps.Pollers.{arrives, ask_by, filter_for, look_by, noted}
-use Rattle.steer_model.specs.Steps.Pollers.{position_of}
-use Rattle.steer_model.specs.Steps.Pollers.{put_by, putting, seen_by, weigh_by, weighing}
+use Rattle.steer_model.specs.Steps.Outcomes.{StepOutcome, by_rx, by_tx, idle_step}
+use Rattle.steer_model.specs.Steps.Pollers.{arrives, ask_by, filter_for, look_by, with_note}
+use Rattle.steer_model.specs.Steps.Pollers.{put_position}
+use Rattle.steer_model.specs.Steps.Pollers.{poller_after_put, putting, seen_by, weigh_by, weighing}
 use Rattle.steer_model.specs.Steps.Pollers.{with_filter}
 use Rattle.steer_model.specs.State.Settings.{class_at, plain_lane}
-use Rattle.steer_model.specs.State.Setup.{app_for, flow_hash, flow_of, hash_of}
+use Rattle.steer_model.specs.State.Setup.{app_for, flow_hash, flow_number_of, packet_hash}
 use Rattle.steer_model.specs.Steps.SingleSteps.{simple}
 use Rattle.steer_model.specs.declared.note.Note.{Note}
 use Rattle.steer_model.specs.declared.note.Note.TheVariants as note
@@ -73,13 +73,14 @@ new_choice m q want =
 -- the machine after it
 abbrev pub weighed : Machine → ℕ → Option ℕ → Machine
 weighed m q want =
-    record (noted m q note.Nothing) { rx = chose m.rx q (new_choice m q want) }
+    record (with_note m q note.Nothing) { rx = chose m.rx q (new_choice m q want) }
 
 -- the choice for the next reply of an application, and the machine after it
 abbrev pub new_tx_choice : Machine → ℕ → Choice
 new_tx_choice m a =
     let r = in_reply m a in
-    choice_of m.tx a (Some (flow_of m.setup r.id)) (Some (pick_for m r)) (pick_for m r) everyone
+    choice_of m.tx a (Some (flow_number_of m.setup r.id)) (Some (pick_for m r))
+    (pick_for m r) everyone
 
 abbrev pub tx_weighed : Machine → ℕ → Machine
 tx_weighed m a = record m { tx = chose m.tx a (new_tx_choice m a) }
@@ -92,7 +93,7 @@ pub record Kinds (m : Machine) (s : Step) (Q : Machine → Type 0) : Type 0 wher
       → Q (arrives m (next_arrival m))
   pub look : (q : ℕ) → q < length m.setup.homes → inside_of m.rx q ≡ true
       → length (choices_of m.rx q) < taken_of m.rx q
-      → Q (noted m q (note.Looked (seen_by m q (next_of m.rx q))))
+      → Q (with_note m q (note.Looked (seen_by m q (next_of m.rx q))))
   pub weigh : (q : ℕ) (want : Option ℕ) → q < length m.setup.homes
       → note_of m q ≡ note.Looked want → length (choices_of m.rx q) < taken_of m.rx q
       → Lasts m (weighed m q want) → Q (weighed m q want)
@@ -224,7 +225,7 @@ filters-long filters (Some hash) f = row-long (class_of (length filters) (Some h
 module _ (m : Machine) (h : Invariant m) (Q : Machine → Type 0) (this : Step)
     (kinds : Kinds m this Q)
   where
-    abbrev Then : Outcome → Type 0
+    abbrev Then : StepOutcome → Type 0
     Then o = Q o.0
 
     self : Q m
@@ -234,7 +235,7 @@ module _ (m : Machine) (h : Invariant m) (Q : Machine → Type 0) (this : Step)
     at-arrive =
         let a = next_arrival m in
         either Then (nat_lt (length m.arrivals) (length m.setup.packets))
-        (arrives m a, says.Done) (idles m idle.NothingLeft)
+        (arrives m a, says.Done) (idle_step m idle.NothingLeft)
         (λ few. (
         let lt = ltb-true (length m.arrivals) (length m.setup.packets) few in
         let s = event-rx m h (event.Arrive a.queue a.id) (refl, refl)
@@ -248,7 +249,7 @@ module _ (m : Machine) (h : Invariant m) (Q : Machine → Type 0) (this : Step)
         → inside_of m.rx q ≡ true → Then (look_by m q x)
     at-look q None is named inside = self
     at-look q (Some x) is named inside =
-        subst (λ y. Q (noted m q (note.Looked (seen_by m q y)))) (sym (weighs-is m q x is))
+        subst (λ y. Q (with_note m q (note.Looked (seen_by m q y)))) (sym (weighs-is m q x is))
         (kinds.look q named inside (weighs-more m.rx q x is))
 
     at-weigh : (q : ℕ) (n : Note) (x : Option ℕ) → note_of m q ≡ n → to_weigh m.rx q ≡ x
@@ -264,37 +265,39 @@ module _ (m : Machine) (h : Invariant m) (Q : Machine → Type 0) (this : Step)
         let more = weighs-more m.rx q x is in
         let l = lasts-self m in
         subst (λ y. Q
-        (record (noted m q note.Nothing) { rx = (happens m.rx (weighing m q y want)).0 }))
+        (record (with_note m q note.Nothing) { rx = (happens m.rx (weighing m q y want)).0 }))
         (sym (weighs-is m q x is))
-        (by_cases (λ t. Stays m.rx t → Q (record (noted m q note.Nothing) { rx = t })) m.rx e
-        (λ same. kinds.quiet (noted m q note.Nothing)
+        (by_cases (λ t. Stays m.rx t → Q (record (with_note m q note.Nothing) { rx = t })) m.rx e
+        (λ same. kinds.quiet (with_note m q note.Nothing)
         (quiet-noted m h m q note.Nothing m.filters (quiet-self m h) (λ w f. cc) refl))
         (λ inside enough stay. kinds.weigh q want named noted-is more
         (assumption (stay)))
         stays)
 
     at-put : (q : ℕ) (position : Option ℕ) → q < length m.setup.homes
-        → Then (put_by (by_rx m (putting m q)).0 q position (happens m.rx (putting m q)).1)
+        → Then (poller_after_put (by_rx m (putting m q)).0 q position
+        (happens m.rx (putting m q)).1)
     at-put q position named =
         put-rest position
         (beside-rx m h (putting m q) (refl, refl) refl
-        ((asks m h).put q (hash_of m.setup (last_of m.rx q).id) named))
+        ((asks m h).put q (packet_hash m.setup (last_chosen m.rx q).id) named))
       where
         put-rest : (position : Option ℕ) → Quiet m (by_rx m (putting m q)).0
-            → Then (put_by (by_rx m (putting m q)).0 q position (happens m.rx (putting m q)).1)
+            → Then (poller_after_put (by_rx m (putting m q)).0 q position
+            (happens m.rx (putting m q)).1)
         put-rest None k = kinds.quiet (by_rx m (putting m q)).0 k
         put-rest (Some position) k =
             let n : Machine = (by_rx m (putting m q)).0 in
             let asked : Option Filter =
-            filter_for n.setup.homes (length n.filters) (last_of n.rx q).choice position in
-            kinds.quiet (noted n q (asking asked))
+            filter_for n.setup.homes (length n.filters) (last_chosen n.rx q).choice position in
+            kinds.quiet (with_note n q (asking asked))
             (quiet-noted m h n q (asking asked) n.filters k (asking-other asked) refl)
 
     at-ask : (q : ℕ) (n : Note) → Then (ask_by m q n)
     at-ask q note.Nothing = self
     at-ask q (note.Looked want) = self
     at-ask q (note.Asking filter) =
-        let hash = hash_of m.setup (last_of m.rx q).id in
+        let hash = packet_hash m.setup (last_chosen m.rx q).id in
         kinds.quiet (ask_by m q (note.Asking filter)).0
         (quiet-noted m h m q note.Nothing (with_filter m.filters hash filter) (quiet-self m h)
         (λ w f. cc) (filters-long m.filters hash filter))
@@ -317,7 +320,7 @@ module _ (m : Machine) (h : Invariant m) (Q : Machine → Type 0) (this : Step)
         (enter-inside m.rx g q in')) in
         let l = s.lasts in
         either Then (nat_lt 0 (length m.socket)) (wrote (visited m a) a hash, says.Done)
-        (idles m idle.NoTable)
+        (idle_step m idle.NoTable)
         (λ some. kinds.write flow hash is (ltb-true 0 (length m.socket) some) (record {
           lasts = record {
             setup = refl;
@@ -388,32 +391,32 @@ module _ (m : Machine) (h : Invariant m) (Q : Machine → Type 0) (this : Step)
     walk-by : (s : Step) → this ≡ s → IsNamed m.setup s → Q (simple m s).0
     walk-by act.Arrive is named = at-arrive
     walk-by (act.Take q) is named =
-        either Then (is_asking (note_of m q)) (idles m idle.HandFull) (by_rx m (event.Take q))
+        either Then (is_asking (note_of m q)) (idle_step m idle.HandFull) (by_rx m (event.Take q))
         (λ _. self)
         (λ _. beside (event.Take q) (refl, refl) refl ((asks m h).take q (ltb-true _ _ named)))
     walk-by (act.Enter q) is named =
         kinds.quiet (by_rx m (event.Enter q)).0 (quiet-enter m h q (ltb-true _ _ named))
     walk-by (act.Look q) is named =
-        let seen : Outcome = look_by m q (to_weigh m.rx q) in
-        let early : Outcome = idles m idle.WrongStage in
-        either Then (not (inside_of m.rx q)) (idles m idle.NotInside)
+        let seen : StepOutcome = look_by m q (to_weigh m.rx q) in
+        let early : StepOutcome = idle_step m idle.WrongStage in
+        either Then (not (inside_of m.rx q)) (idle_step m idle.NotInside)
         (cond (is_nothing (note_of m q)) seen early) (λ _. self)
         (λ inside. either Then (is_nothing (note_of m q)) seen early
         (λ _. at-look q (to_weigh m.rx q) refl (ltb-true _ _ named) (not-false _ inside))
         (λ _. self))
     walk-by (act.Weigh q) is named =
-        either Then (not (inside_of m.rx q)) (idles m idle.NotInside)
+        either Then (not (inside_of m.rx q)) (idle_step m idle.NotInside)
         (weigh_by m q (note_of m q) (to_weigh m.rx q)) (λ _. self)
         (λ _. at-weigh q (note_of m q) (to_weigh m.rx q) refl refl (ltb-true _ _ named))
     walk-by (act.Put q) is named =
-        at-put q (position_of (happens m.rx (putting m q)).1) (ltb-true _ _ named)
+        at-put q (put_position (happens m.rx (putting m q)).1) (ltb-true _ _ named)
     walk-by (act.Ask q) is named =
-        either Then (not (inside_of m.rx q)) (idles m idle.NotInside) (ask_by m q (note_of m q))
+        either Then (not (inside_of m.rx q)) (idle_step m idle.NotInside) (ask_by m q (note_of m q))
         (λ _. self) (λ _. at-ask q (note_of m q))
     walk-by (act.Leave q) is named =
-        let gone : Outcome = by_rx m (event.Leave q) in
-        let early : Outcome = idles m idle.MidPacket in
-        either Then (not (inside_of m.rx q)) (idles m idle.NotInside)
+        let gone : StepOutcome = by_rx m (event.Leave q) in
+        let early : StepOutcome = idle_step m idle.MidPacket in
+        either Then (not (inside_of m.rx q)) (idle_step m idle.NotInside)
         (cond (is_nothing (note_of m q)) gone early) (λ _. self)
         (λ _. either Then (is_nothing (note_of m q)) gone early
         (λ nothing. kinds.quiet gone.0 (quiet-leave m h q (ltb-true _ _ named) nothing))
@@ -427,7 +430,7 @@ module _ (m : Machine) (h : Invariant m) (Q : Machine → Type 0) (this : Step)
         beside (event.Retire c) (refl, refl) refl ((asks m h).retire c (ltb-true _ _ named))
     walk-by (act.Record flow) is named = at-write flow (flow_hash m.setup flow) refl
     walk-by (act.Send a) is named =
-        either Then (nat_lt (placed_of m.tx a) (taken_of m.tx a)) (idles m idle.HandFull)
+        either Then (nat_lt (placed_of m.tx a) (taken_of m.tx a)) (idle_step m idle.HandFull)
         (send_by m a (next_in m a)) (λ _. self)
         (λ _. at-send a (next_in m a) refl (ltb-true _ _ named))
     walk-by (act.TEnter a) is named =
@@ -436,7 +439,7 @@ module _ (m : Machine) (h : Invariant m) (Q : Machine → Type 0) (this : Step)
         by-tx (event.Leave a) (refl, refl) ((tx_asks m h).leave a (ltb-true _ _ named))
     walk-by (act.TWeigh a) is named = at-tx_weigh a (ltb-true _ _ named)
     walk-by (act.TPut a) is named =
-        let hash = hash_of m.setup (last_of m.tx a).id in
+        let hash = packet_hash m.setup (last_chosen m.tx a).id in
         by-tx (event.Put a hash) (refl, refl) ((tx_asks m h).put a hash (ltb-true _ _ named))
     walk-by (act.TPull t) is named =
         by-tx (event.Pull t) (refl, refl) ((tx_asks m h).pull t (ltb-true _ _ named))
@@ -458,7 +461,7 @@ walk m h Q s kinds named = walk-by m h Q s kinds s refl named
 
 -- ---- what lasts through every step
 
-pub lasts-noted : (m : Machine) (q : ℕ) (x : Note) → Lasts m (noted m q x)
+pub lasts-noted : (m : Machine) (q : ℕ) (x : Note) → Lasts m (with_note m q x)
 lasts-noted m q x =
     let l = lasts-self m in
     assumption

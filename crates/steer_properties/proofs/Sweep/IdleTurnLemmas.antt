@@ -8,7 +8,7 @@ use Rattle.steer_base.specs.declared.idle.Idle.{Idle}
 use Rattle.steer_base.specs.declared.step.Step.{Step}
 use Rattle.steer_model.specs.State.Machine.{Machine}
 use Rattle.steer_model.specs.Steps.SingleSteps.{is_command, is_idle, is_work, simple}
-use Rattle.steer_model.specs.Steps.CompoundSteps.{Turn, tried, tries}
+use Rattle.steer_model.specs.Steps.CompoundSteps.{Progress, tried, tries}
 use Rattle.steer_model.proofs.Steps.IdleLemmas.{idle_leaves_all}
 
 -- ---- tests
@@ -52,22 +52,22 @@ abbrev pub AreIdle : Machine → List Step → Type 0
 AreIdle m [] = Unit {0}
 AreIdle m (s ∷ ss) = (is_idle (simple m s).1 ≡ true) × AreIdle m ss
 
-pub record WereIdle (t u : Turn) (ss : List Step) : Type 0 where
+pub record WereIdle (t u : Progress) (ss : List Step) : Type 0 where
   pub before : t.1 ≡ false
   pub same : u.0 ≡ t.0
   pub idle : AreIdle t.0 ss
 
 -- what was tried last was no work, if none was done
-pub tried-before : (t : Turn) (s : Step) → (tried t s).1 ≡ false → t.1 ≡ false
+pub tried-before : (t : Progress) (s : Step) → (tried t s).1 ≡ false → t.1 ≡ false
 tried-before t s none = or-first t.1 (is_work s && not (is_idle (simple t.0 s).1)) none
 
-pub tried-idle : (t : Turn) (s : Step) → is_work s ≡ true → (tried t s).1 ≡ false
+pub tried-idle : (t : Progress) (s : Step) → is_work s ≡ true → (tried t s).1 ≡ false
     → is_idle (simple t.0 s).1 ≡ true
 tried-idle t s work none =
     idle-by (is_work s) (is_idle (simple t.0 s).1)
     (or-second t.1 (is_work s && not (is_idle (simple t.0 s).1)) none) work
 
-pub idle-tries : (ss : List Step) (t : Turn) → AreWork ss → (tries t ss).1 ≡ false
+pub idle-tries : (ss : List Step) (t : Progress) → AreWork ss → (tries t ss).1 ≡ false
     → WereIdle t (tries t ss) ss
 idle-tries [] t work none = record { before = none; same = refl; idle = tt }
 idle-tries (s ∷ ss) t work none =

@@ -12,7 +12,8 @@ use Rattle.hop_core.specs.Hop.{inside_of, out_at, placed_of, pulled_at, retired_
 use Rattle.hop_core.specs.Sound.{Sound}
 use Rattle.steer_model.specs.Steps.Applications.{next_in, sent_of}
 use Rattle.steer_model.specs.State.Machine.{Machine, note_of}
-use Rattle.steer_model.specs.Steps.IdleReasons.{AreStaged, IsStaged, Need, Stage, answer_by, is_at}
+use Rattle.steer_model.specs.Steps.IdleReasons.{AreStaged, IsStaged, Need, Stage, answer_by_needs}
+use Rattle.steer_model.specs.Steps.IdleReasons.{is_at}
 use Rattle.steer_model.specs.Steps.IdleReasons.{lane_hand}
 use Rattle.steer_model.specs.Steps.IdleReasons.{lane_stage, needs, poller_hand, poller_stage}
 use Rattle.steer_model.specs.Steps.IdleReasons.{puts_next}
@@ -47,24 +48,26 @@ staged m k =
 
 -- ---- what an idle step lacked
 
-one-lacks : (need : Need) → is_idle (answer_by (need ∷ [])) ≡ true → need.0 ≡ false
+one-lacks : (need : Need) → is_idle (answer_by_needs (need ∷ [])) ≡ true → need.0 ≡ false
 one-lacks need idle =
     elim (cases_Bool need.0) [
-      | inl e ↦ absurd (let f : is_idle (answer_by (need ∷ [])) ≡ false = rw e refl in
+      | inl e ↦ absurd (let f : is_idle (answer_by_needs (need ∷ [])) ≡ false = rw e refl in
           let g : true ≡ false = sym idle ∙ f in cc)
       | inr e ↦ e
     ]
 
-second-lacks : (need next : Need) → is_idle (answer_by (need ∷ next ∷ [])) ≡ true → need.0 ≡ true
+second-lacks : (need next : Need) → is_idle (answer_by_needs (need ∷ next ∷ [])) ≡ true
+    → need.0 ≡ true
     → next.0 ≡ false
 second-lacks need next idle e =
     one-lacks next
-    (let f : is_idle (answer_by (need ∷ next ∷ [])) ≡ is_idle (answer_by (next ∷ [])) = rw e refl in
+    (let f : is_idle (answer_by_needs (need ∷ next ∷ [])) ≡ is_idle (answer_by_needs (next ∷ [])) =
+    rw e refl in
     sym f ∙ idle)
 
 -- the answer by the reasons
 by-reasons : (m : Machine) (s : Step) → StepInvariant m → is_command s ≡ false
-    → is_idle (simple m s).1 ≡ true → is_idle (answer_by (needs m s)) ≡ true
+    → is_idle (simple m s).1 ≡ true → is_idle (answer_by_needs (needs m s)) ≡ true
 by-reasons m s k event idle =
     ap is_idle (sym (idle_for_first_reason m s (staged m k) event)) ∙ idle
 

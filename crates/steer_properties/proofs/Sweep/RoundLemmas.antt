@@ -9,9 +9,9 @@ use Rattle.hop_core.specs.declared.event.HopEvent.TheVariants as event
 use Rattle.hop_core.specs.Events.{IsEmptied, happens}
 use Rattle.hop_core.specs.Hop.{HopState, inside_of}
 use Rattle.steer_model.specs.State.Machine.{Machine}
-use Rattle.steer_model.specs.State.Setup.{Setup, flow_of}
-use Rattle.steer_model.specs.Steps.CompoundSteps.{Turn, again, drain, drain_one, for_each, poll}
-use Rattle.steer_model.specs.Steps.CompoundSteps.{recorded}
+use Rattle.steer_model.specs.State.Setup.{Setup, flow_number_of}
+use Rattle.steer_model.specs.Steps.CompoundSteps.{Progress, again, drain, drain_one, for_each, poll}
+use Rattle.steer_model.specs.Steps.CompoundSteps.{with_record}
 use Rattle.steer_model.specs.Steps.CompoundSteps.{replying, serve, ship, ship_one, tried, tries}
 use Rattle.steer_model.specs.Steps.CompoundSteps.{unretired}
 use Rattle.steer_invariant.specs.StepInvariant.{IsNamed, StepInvariant}
@@ -49,7 +49,7 @@ tx-stays t m n s r = let a = s.tx in rw (a.accepted, a.retired) r
 
 -- ---- the turn of one actor
 
-record Turned (p : Setup) (G : Machine → Type 0) (t u : Turn) : Type 0 where
+record Turned (p : Setup) (G : Machine → Type 0) (t u : Progress) : Type 0 where
   quiet : Quiet p t u
   rests : u.1 ≡ false → G u.0
 
@@ -62,24 +62,24 @@ entered s a open' in' =
       | inr out' ↦ rw (out', open') (get_or-set_same s.visits a true false in')
     ]
 
-tries-before : (ss : List Step) (t : Turn) → (tries t ss).1 ≡ false → t.1 ≡ false
+tries-before : (ss : List Step) (t : Progress) → (tries t ss).1 ≡ false → t.1 ≡ false
 tries-before [] t none = none
 tries-before (s ∷ ss) t none = tried-before t s (tries-before ss (tried t s) none)
 
-again-before : (n : ℕ) (ss : List Step) (t : Turn) → (again n ss t).1 ≡ false → t.1 ≡ false
+again-before : (n : ℕ) (ss : List Step) (t : Progress) → (again n ss t).1 ≡ false → t.1 ≡ false
 unfolding again
 again-before zero ss t none = none
 again-before (suc n) ss t none = tries-before ss t (again-before n ss (tries t ss) none)
 
-module _ (p : Setup) (flows : (x : ℕ) → flow_of p x < 262144) where
-  turned-poll : (q : ℕ) (t : Turn) → q < length p.homes → t.0.setup ≡ p → StepInvariant t.0
+module _ (p : Setup) (flows : (x : ℕ) → flow_number_of p x < 262144) where
+  turned-poll : (q : ℕ) (t : Progress) → q < length p.homes → t.0.setup ≡ p → StepInvariant t.0
       → Turned p (PollerRests q) t (poll q t)
   turned-poll q t lt is k =
       let start = quiet-start p t is k in
       let named : IsNamed p (act.Enter q) = lt-ltb q (length p.homes) lt in
-      let in' : Turn = tried t (act.Enter q) in
+      let in' : Progress = tried t (act.Enter q) in
       let five : List Step = act.Take q ∷ act.Look q ∷ act.Weigh q ∷ act.Put q ∷ act.Ask q ∷ [] in
-      let done : Turn = tries in' five in
+      let done : Progress = tries in' five in
       let first = quiet-tried p t t (act.Enter q) (is_tried p (act.Enter q) refl named) start in
       let z = k.rx.sizes in
       let below : q < length t.0.rx.visits =
@@ -99,7 +99,7 @@ module _ (p : Setup) (flows : (x : ℕ) → flow_of p x < 262144) where
       }
 
   -- with nothing to retire the lane is empty, and else the first time around was idle
-  drained : (n c : ℕ) (t : Turn) → unretired t.0.rx.bare c ≡ n → StepInvariant t.0
+  drained : (n c : ℕ) (t : Progress) → unretired t.0.rx.bare c ≡ n → StepInvariant t.0
       → (again n (drain_one c) t).1 ≡ false → IsEmptied t.0.rx.bare c
   unfolding again
   drained zero c t is k none =
@@ -111,7 +111,7 @@ module _ (p : Setup) (flows : (x : ℕ) → flow_of p x < 262144) where
       lane-rests t.0 c k
       (idle-tries (drain_one c) t (refl, refl, (refl, refl, (refl, refl, tt))) once).idle
 
-  turned-drain : (c : ℕ) (t : Turn) → c < p.cpus → t.0.setup ≡ p → StepInvariant t.0
+  turned-drain : (c : ℕ) (t : Progress) → c < p.cpus → t.0.setup ≡ p → StepInvariant t.0
       → Turned p (λ m. IsEmptied m.rx.bare c) t (drain c t)
   turned-drain c t lt is k =
       let quiet =
@@ -125,7 +125,7 @@ module _ (p : Setup) (flows : (x : ℕ) → flow_of p x < 262144) where
             (drained (unretired t.0.rx.bare c) c t refl k none);
       }
 
-  shipped : (n x : ℕ) (t : Turn) → unretired t.0.tx.bare x ≡ n → StepInvariant t.0
+  shipped : (n x : ℕ) (t : Progress) → unretired t.0.tx.bare x ≡ n → StepInvariant t.0
       → (again n (ship_one x) t).1 ≡ false → IsEmptied t.0.tx.bare x
   unfolding again
   shipped zero x t is k none =
@@ -137,7 +137,7 @@ module _ (p : Setup) (flows : (x : ℕ) → flow_of p x < 262144) where
       tx-rests t.0 x k
       (idle-tries (ship_one x) t (refl, refl, (refl, refl, (refl, refl, tt))) once).idle
 
-  turned-ship : (x : ℕ) (t : Turn) → x < p.txs → t.0.setup ≡ p → StepInvariant t.0
+  turned-ship : (x : ℕ) (t : Progress) → x < p.txs → t.0.setup ≡ p → StepInvariant t.0
       → Turned p (λ m. IsEmptied m.tx.bare x) t (ship x t)
   turned-ship x t lt is k =
       let quiet =
@@ -151,19 +151,19 @@ module _ (p : Setup) (flows : (x : ℕ) → flow_of p x < 262144) where
             (shipped (unretired t.0.tx.bare x) x t refl k none);
       }
 
-  turned-serve : (a : ℕ) (t : Turn) → a < p.apps → t.0.setup ≡ p → StepInvariant t.0
+  turned-serve : (a : ℕ) (t : Progress) → a < p.apps → t.0.setup ≡ p → StepInvariant t.0
       → Turned p (SenderRests a) t (serve a t)
   turned-serve a t lt is k =
       let start = quiet-start p t is k in
-      let w : Turn = recorded (replying t.0 a) t in
+      let w : Progress = with_record (replying t.0 a) t in
       let noted =
       recorded-keeps p (Quiet p t) (λ u h. h.setup) flows
       (λ u s tried h. quiet-tried p t u s tried h)
       (replying t.0 a) t start in
       let named : IsNamed p (act.TEnter a) = lt-ltb a p.apps lt in
-      let in' : Turn = tried w (act.TEnter a) in
+      let in' : Progress = tried w (act.TEnter a) in
       let three : List Step = act.Send a ∷ act.TWeigh a ∷ act.TPut a ∷ [] in
-      let done : Turn = tries in' three in
+      let done : Progress = tries in' three in
       let first = quiet-tried p t w (act.TEnter a) (is_tried p (act.TEnter a) refl named) noted in
       let z = noted.kept.tx.sizes in
       let below : a < length w.0.tx.visits =
@@ -183,21 +183,21 @@ module _ (p : Setup) (flows : (x : ℕ) → flow_of p x < 262144) where
 
   -- ---- the turns of all actors of a kind
 
-  record Rested (n : ℕ) (G : ℕ → Machine → Type 0) (t u : Turn) : Type 0 where
+  record Rested (n : ℕ) (G : ℕ → Machine → Type 0) (t u : Progress) : Type 0 where
     quiet : Quiet p t u
     rests : u.1 ≡ false → (i : ℕ) → i < n → G i u.0
 
-  each-rests : (n most : ℕ) (f : ℕ → Turn → Turn) (G : ℕ → Machine → Type 0) → n ≤ most
+  each-rests : (n most : ℕ) (f : ℕ → Progress → Progress) (G : ℕ → Machine → Type 0) → n ≤ most
       → ((i : ℕ) (m n : Machine) → Still m n → G i m → G i n)
-      → ((i : ℕ) (t : Turn) → i < most → t.0.setup ≡ p → StepInvariant t.0 → Turned p (G i) t
+      → ((i : ℕ) (t : Progress) → i < most → t.0.setup ≡ p → StepInvariant t.0 → Turned p (G i) t
       (f i t))
-      → (t : Turn) → t.0.setup ≡ p → StepInvariant t.0 → Rested n G t (for_each n f t)
+      → (t : Progress) → t.0.setup ≡ p → StepInvariant t.0 → Rested n G t (for_each n f t)
   unfolding for_each
   each-rests zero most f G le stays turns t is k =
       record { quiet = quiet-start p t is k; rests = λ none i lt. absurd (omega (arith, lt)) }
   each-rests (suc n) most f G le stays turns t is k =
       let r = each-rests n most f G (omega (arith, le)) stays turns t is k in
-      let u : Turn = for_each n f t in
+      let u : Progress = for_each n f t in
       let one = turns n u (omega (arith, le)) r.quiet.setup r.quiet.kept in
       record {
         quiet = quiet-then p t u (f n u) r.quiet one.quiet;
@@ -214,13 +214,13 @@ module _ (p : Setup) (flows : (x : ℕ) → flow_of p x < 262144) where
 pub idle_round_rests : IdleRoundRests
 idle_round_rests m k none =
     let p : Setup = m.setup in
-    let flows : (x : ℕ) → flow_of p x < 262144 = λ x. flow_small p x k.given in
-    let t : Turn = (m, false) in
-    let a : Turn = tried t act.Arrive in
-    let b : Turn = for_each (length p.homes) poll a in
-    let c : Turn = for_each p.cpus drain b in
-    let d : Turn = for_each p.apps serve c in
-    let e : Turn = for_each p.txs ship d in
+    let flows : (x : ℕ) → flow_number_of p x < 262144 = λ x. flow_small p x k.given in
+    let t : Progress = (m, false) in
+    let a : Progress = tried t act.Arrive in
+    let b : Progress = for_each (length p.homes) poll a in
+    let c : Progress = for_each p.cpus drain b in
+    let d : Progress = for_each p.apps serve c in
+    let e : Progress = for_each p.txs ship d in
     let came =
     quiet-tried p t t act.Arrive (is_tried p act.Arrive refl refl) (quiet-start p t refl k) in
     let polled = each-rests p flows (length p.homes) (length p.homes) poll PollerRests (omega arith)

@@ -16,10 +16,10 @@ use Rattle.hop_core.proofs.Leaves.{each_leaves}
 use Rattle.steer_model.specs.Steps.Applications.{record_by, visited, wrote}
 use Rattle.steer_model.specs.State.Machine.{Machine, note_of}
 use Rattle.steer_model.specs.State.Notes.{is_nothing}
-use Rattle.steer_model.specs.Steps.Outcomes.{Outcome, by_rx, idles}
+use Rattle.steer_model.specs.Steps.Outcomes.{StepOutcome, by_rx, idle_step}
 use Rattle.steer_model.specs.State.Setup.{Setup, flow_hash}
 use Rattle.steer_model.specs.Steps.SingleSteps.{is_work, simple}
-use Rattle.steer_model.specs.Steps.CompoundSteps.{Turn, tried}
+use Rattle.steer_model.specs.Steps.CompoundSteps.{Progress, tried}
 use Rattle.steer_invariant.specs.StepInvariant.{IsNamed, StepInvariant}
 use Rattle.steer_invariant.proofs.EitherLemmas.{either}
 use Rattle.steer_properties.proofs.Sweep.IdleTurnLemmas.{idle-leaves, tried-before, tried-idle}
@@ -121,8 +121,9 @@ record-stays m (Some (Some hash)) =
     let t : HopState = (happens m.rx (event.Enter g)).0 in
     let u : HopState = (happens t (event.Leave g)).0 in
     let n : Machine = visited m a in
-    either (λ (o : Outcome). Still m o.0) (nat_lt 0 (length m.socket)) (wrote n a hash, says.Done)
-    (idles m idle.NoTable)
+    either (λ (o : StepOutcome). Still m o.0) (nat_lt 0 (length m.socket))
+    (wrote n a hash, says.Done)
+    (idle_step m idle.NoTable)
     (λ full. record {
       setup = refl;
       arrivals = refl;
@@ -135,12 +136,13 @@ record-stays m (Some (Some hash)) =
 
 pub leave-stays : (m : Machine) (q : ℕ) → Still m (simple m (act.Leave q)).0
 leave-stays m q =
-    let out' : Outcome = by_rx m (event.Leave q) in
-    let rest : Outcome = cond (is_nothing (note_of m q)) out' (idles m idle.MidPacket) in
-    either (λ (o : Outcome). Still m o.0) (not (inside_of m.rx q)) (idles m idle.NotInside) rest
+    let out' : StepOutcome = by_rx m (event.Leave q) in
+    let rest : StepOutcome = cond (is_nothing (note_of m q)) out' (idle_step m idle.MidPacket) in
+    either (λ (o : StepOutcome). Still m o.0) (not (inside_of m.rx q))
+    (idle_step m idle.NotInside) rest
     (λ e. still m)
-    (λ e. either (λ (o : Outcome). Still m o.0) (is_nothing (note_of m q)) out'
-    (idles m idle.MidPacket)
+    (λ e. either (λ (o : StepOutcome). Still m o.0) (is_nothing (note_of m q)) out'
+    (idle_step m idle.MidPacket)
     (λ f. still-rx m (happens m.rx (event.Leave q)).0 (hop-left m.rx q)) (λ f. still m))
 
 -- what is no work and no command leaves all but who is inside, and the socket flow table
@@ -155,15 +157,15 @@ still-event m _ e = absurd (cc)
 -- ---- a turn in which no work was done
 
 -- from a turn on: the invariant, and if no work was done until then all stands still
-pub record Quiet (p : Setup) (t u : Turn) : Type 0 where
+pub record Quiet (p : Setup) (t u : Progress) : Type 0 where
   pub setup : u.0.setup ≡ p
   pub kept : StepInvariant u.0
   pub still : u.1 ≡ false → (t.1 ≡ false) × Still t.0 u.0
 
-pub quiet-start : (p : Setup) (t : Turn) → t.0.setup ≡ p → StepInvariant t.0 → Quiet p t t
+pub quiet-start : (p : Setup) (t : Progress) → t.0.setup ≡ p → StepInvariant t.0 → Quiet p t t
 quiet-start p t is k = record { setup = is; kept = k; still = λ none. (none, still t.0) }
 
-pub quiet-tried : (p : Setup) (t u : Turn) (s : Step) → IsTried p s → Quiet p t u
+pub quiet-tried : (p : Setup) (t u : Progress) (s : Step) → IsTried p s → Quiet p t u
     → Quiet p t (tried u s)
 quiet-tried p t u s is q =
     let g = goes-simple u.0 q.kept s (subst (λ (r : Setup). IsNamed r s) (sym q.setup) is.named) in
@@ -183,7 +185,7 @@ quiet-tried p t u s is q =
           ));
     }
 
-pub quiet-then : (p : Setup) (t u v : Turn) → Quiet p t u → Quiet p u v → Quiet p t v
+pub quiet-then : (p : Setup) (t u v : Progress) → Quiet p t u → Quiet p u v → Quiet p t v
 quiet-then p t u v a b =
     record {
       setup = b.setup;

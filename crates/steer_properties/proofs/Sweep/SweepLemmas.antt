@@ -14,7 +14,7 @@ use Rattle.hop_core.proofs.Work.{room-lists, work_is_bounded}
 use Rattle.steer_model.specs.State.Machine.{Machine, note_of}
 use Rattle.steer_model.specs.State.Setup.{Setup}
 use Rattle.steer_model.specs.Steps.SingleSteps.{is_idle, is_work, simple}
-use Rattle.steer_model.specs.Steps.CompoundSteps.{Turn, most_rounds, one_round, rounds, tried}
+use Rattle.steer_model.specs.Steps.CompoundSteps.{Progress, most_rounds, one_round, rounds, tried}
 use Rattle.steer_model.specs.declared.note.Note.{Note}
 use Rattle.steer_model.specs.declared.note.Note.TheVariants as note
 use Rattle.steer_invariant.specs.StepInvariant.{IsNamed, StepInvariant}
@@ -32,7 +32,7 @@ use Rattle.steer_properties.proofs.Sweep.WeightLemmas.{works-further}
 -- ---- a turn adds to the work where it did some
 
 -- the work, and one more as long as none was done
-abbrev height : Turn → ℕ
+abbrev height : Progress → ℕ
 height t = weight t.0 + cond t.1 0 1
 
 rises-by : (done work idle : Bool) (w v : ℕ) → (work ≡ true → idle ≡ false → w + 1 ≤ v)
@@ -45,12 +45,12 @@ rises-by false true true w v on same off = let e = same refl in omega (arith, e)
 rises-by false true false w v on same off = let e = on refl refl in omega (arith, e)
 rises-by false false idle w v on same off = let e = off refl in omega (arith, e)
 
-record Rising (p : Setup) (from : ℕ) (t : Turn) : Type 0 where
+record Rising (p : Setup) (from : ℕ) (t : Progress) : Type 0 where
   setup : t.0.setup ≡ p
   kept : StepInvariant t.0
   high : from ≤ height t
 
-rising-tried : (p : Setup) (from : ℕ) (t : Turn) (s : Step) → IsTried p s → Rising p from t
+rising-tried : (p : Setup) (from : ℕ) (t : Progress) (s : Step) → IsTried p s → Rising p from t
     → Rising p from (tried t s)
 rising-tried p from t s is r =
     let named : IsNamed t.0.setup s = subst (λ (q : Setup). IsNamed q s) (sym r.setup) is.named in
@@ -125,13 +125,13 @@ bounded m k =
 
 -- ---- rounds
 
-record Ended (p : Setup) (t u : Turn) : Type 0 where
+record Ended (p : Setup) (t u : Progress) : Type 0 where
   last : Machine
   kept : StepInvariant last
   idle : IsIdleRound last
   ends : u.0 ≡ (one_round (last, false)).0
 
-ends-idle : (p : Setup) (n : ℕ) (t : Turn) → t.0.setup ≡ p → StepInvariant t.0
+ends-idle : (p : Setup) (n : ℕ) (t : Progress) → t.0.setup ≡ p → StepInvariant t.0
     → 16 * length p.packets + 16 < weight t.0 + n → Ended p t (rounds n t)
 unfolding rounds
 ends-idle p zero t is k more =
@@ -139,7 +139,7 @@ ends-idle p zero t is k more =
     let b = bounded t.0 k in
     let e = ap (λ (q : Setup). length q.packets) is in omega (arith, b, more, e))
 ends-idle p (suc n) t is k more =
-    let next : Turn = one_round (t.0, false) in
+    let next : Progress = one_round (t.0, false) in
     let r = rising-round t.0 k in
     elim (cases_Bool next.1) [
       | inl work ↦ (

@@ -25,7 +25,7 @@ use Rattle.plan_reader.specs.declared.plan.Steps.TheVariants as steps
 use Rattle.plan_reader.specs.declared.settings.sizes.Sizes.{Sizes}
 use Rattle.steer_model.specs.Steps.Applications.{sent_of}
 use Rattle.steer_model.specs.Good.Deliveries.{IsDone, IsSwept}
-use Rattle.steer_model.specs.State.Machine.{Machine, history_of, lane_list, lane_lists}
+use Rattle.steer_model.specs.State.Machine.{Machine, history_of, lane_list, history_lanes}
 use Rattle.steer_model.specs.State.Start.{new_machine, steps_of}
 use Rattle.steer_model.specs.Steps.CompoundSteps.{after, step}
 use Rattle.steer_invariant.specs.InvariantLaws.{MayStart}
@@ -57,10 +57,10 @@ lane-done s c h dry =
     }
 
 lanes-done : (s : HopState) → Sound s → ((c : ℕ) → c < length s.bare.accepted → IsEmptied s.bare c)
-    → All IsDone (lane_lists s.bare)
+    → All IsDone (history_lanes s.bare)
 lanes-done s h empty c d lt =
     let below : c < length s.bare.accepted = (let n = lists-long s h in omega (arith, lt, n)) in
-    subst IsDone (sym (get_or_default (lane_lists s.bare) c d no_lane lt ∙ lane-is s h c))
+    subst IsDone (sym (get_or_default (history_lanes s.bare) c d no_lane lt ∙ lane-is s h c))
     (lane-done s c h (empty c below))
 
 -- ---- what is in a list

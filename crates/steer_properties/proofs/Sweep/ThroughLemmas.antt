@@ -9,7 +9,7 @@ use Rattle.std.proofs.lemmas.List.{get_or_default}
 use Rattle.hop_core.specs.Events.{IsEmptied}
 use Rattle.hop_core.specs.Hop.{HopState, accepted_at, arrivals_of, choices_of, chosen_at, fell_at}
 use Rattle.hop_core.specs.Hop.{out_at, placed_of}
-use Rattle.hop_core.specs.NothingLost.{IsOut, NothingLost}
+use Rattle.hop_core.specs.NothingLost.{IsInOutLane, NothingLost}
 use Rattle.hop_core.specs.Sound.{Sound}
 use Rattle.history.specs.Lists.{arrivals_at, no_arrival}
 use Rattle.history.specs.declared.arrival.Arrival.{Arrival}
@@ -77,7 +77,7 @@ through : (s : HopState) (p i x : ℕ) → Sound s → NothingLost s
     → placed_of s p ≡ length (arrivals_of s p)
     → ((c : ℕ) → c < length s.bare.accepted → IsEmptied s.bare c) → i < length (arrivals_of s p)
     → slice_index (arrivals_of s p) i ≡ x
-    → ((c : ℕ) × Contains (fell_at s.bare c) x) ⊎ IsOut (out_at s.bare) x
+    → ((c : ℕ) × Contains (fell_at s.bare c) x) ⊎ IsInOutLane (out_at s.bare) x
 through s p i x h n put empty lt at =
     let le = h.hands.put p in
     let id : (chosen_at (choices_of s p) i).id ≡ x =
@@ -89,7 +89,7 @@ through s p i x h n put empty lt at =
           let below = w.1 in
           let dry = empty lane (full-below s.bare.accepted lane w.0 below) in
           let first = h.counts.retired_first lane in
-          inr (subst (IsOut (out_at s.bare)) (w.2
+          inr (subst (IsInOutLane (out_at s.bare)) (w.2
           ∙ id) (n.delivered lane w.0 (omega (arith, below, dry, first)))))
       | inr fell ↦ inl (lane, subst (Contains (fell_at s.bare lane)) id fell)
     ]

@@ -29,13 +29,13 @@ use Rattle.hop_core.proofs.Work.{work_goes_on, work_stays}
 use Rattle.steer_model.specs.Steps.Applications.{in_lane, in_reply, next_in, record_by, send_by}
 use Rattle.steer_model.specs.Steps.Applications.{sending}
 use Rattle.steer_model.specs.Steps.Applications.{visited, wrote}
-use Rattle.steer_model.specs.State.Machine.{Machine, last_of, note_of}
+use Rattle.steer_model.specs.State.Machine.{Machine, last_chosen, note_of}
 use Rattle.steer_model.specs.State.Notes.{asking, is_asking, is_nothing}
-use Rattle.steer_model.specs.Steps.Outcomes.{Outcome, by_rx, by_tx, idles, told}
-use Rattle.steer_model.specs.Steps.Pollers.{arrives, ask_by, filter_for, look_by, position_of}
-use Rattle.steer_model.specs.Steps.Pollers.{put_by}
+use Rattle.steer_model.specs.Steps.Outcomes.{StepOutcome, by_rx, by_tx, idle_step, told}
+use Rattle.steer_model.specs.Steps.Pollers.{arrives, ask_by, filter_for, look_by, put_position}
+use Rattle.steer_model.specs.Steps.Pollers.{poller_after_put}
 use Rattle.steer_model.specs.Steps.Pollers.{putting, seen_by, weigh_by, weighing}
-use Rattle.steer_model.specs.State.Setup.{app_for, flow_hash, hash_of}
+use Rattle.steer_model.specs.State.Setup.{app_for, flow_hash, packet_hash}
 use Rattle.steer_model.specs.Steps.SingleSteps.{is_command, is_idle, is_work, simple}
 use Rattle.steer_model.specs.declared.note.Note.{Note}
 use Rattle.steer_model.specs.declared.note.Note.TheVariants as note
@@ -59,12 +59,12 @@ weight m =
     work m.rx + work m.tx + (total m.rx.choices + sum_of m.rx.placed) + sum_by note_weight m.notes
 
 -- work was done: the machine is further on
-abbrev Further : Machine → Outcome → Type 0
+abbrev Further : Machine → StepOutcome → Type 0
 Further m o = is_idle o.1 ≡ false → weight m + 1 ≤ weight o.0
 
 -- ---- an event of a hop
 
-hop-worked : (s : HopState) (e : HopEvent) → MayAsk s e → hop.is_work e ≡ true → Sound s
+hop-worked : (s : HopState) (e : HopEvent) → MayAsk s e → hop.event_is_work e ≡ true → Sound s
     → is_idle (told (happens s e).1) ≡ false → work (happens s e).0 ≡ work s + 1
 hop-worked s e may on h busy =
     elim (work_goes_on s e may h on) [
@@ -76,7 +76,7 @@ hop-worked s e may on h busy =
     ]
 
 -- an event of the receive hop that leaves choices and puts
-rx-further : (m : Machine) (e : HopEvent) → MayAsk m.rx e → hop.is_work e ≡ true → Sound m.rx
+rx-further : (m : Machine) (e : HopEvent) → MayAsk m.rx e → hop.event_is_work e ≡ true → Sound m.rx
     → changes e Field.choices ≡ false → changes e Field.placed ≡ false → Further m (by_rx m e)
 rx-further m e may on h c p busy =
     let more = hop-worked m.rx e may on h busy in
@@ -84,12 +84,12 @@ rx-further m e may on h c p busy =
     let placed = ap (λ (l : List ℕ). sum_of l) (each_leaves m.rx e Field.placed p) in
     omega (arith, more, choices, placed)
 
-tx-further : (m : Machine) (e : HopEvent) → MayAsk m.tx e → hop.is_work e ≡ true → Sound m.tx
+tx-further : (m : Machine) (e : HopEvent) → MayAsk m.tx e → hop.event_is_work e ≡ true → Sound m.tx
     → Further m (by_tx m e)
 tx-further m e may on h busy = let more = hop-worked m.tx e may on h busy in omega (arith, more)
 
 -- idle outcomes
-idle-further : (m : Machine) (o : Outcome) → is_idle o.1 ≡ true → Further m o
+idle-further : (m : Machine) (o : StepOutcome) → is_idle o.1 ≡ true → Further m o
 idle-further m o is busy = absurd (let f : true ≡ false = sym is ∙ busy in cc)
 
 -- the parts of a hop's work but its choices and its puts
@@ -143,19 +143,20 @@ module _ (m : Machine) (k : StepInvariant m) where
       let e : HopEvent = event.Arrive (next_arrival m).queue (length m.arrivals) in
       either (Further m) (nat_lt (length m.arrivals) (length m.setup.packets))
       (arrives m (next_arrival m), says.Done)
-      (idles m idle.NothingLeft)
+      (idle_step m idle.NothingLeft)
       (λ few busy. (
       let more = hop-worked m.rx e ((asks_rx m k).arrive (ltb-true _ _ few)) refl k.rx.sound refl in
       let choices =
       ap (λ (l : List (List Chosen)). total l) (each_leaves m.rx e Field.choices refl) in
       let placed = ap (λ (l : List ℕ). sum_of l) (each_leaves m.rx e Field.placed refl) in
       omega (arith, more, choices, placed)))
-      (λ none. idle-further m (idles m idle.NothingLeft) refl)
+      (λ none. idle-further m (idle_step m idle.NothingLeft) refl)
 
   take-further : (q : ℕ) → q < length m.setup.homes → Further m (simple m (act.Take q))
   take-further q lt =
-      either (Further m) (is_asking (note_of m q)) (idles m idle.HandFull) (by_rx m (event.Take q))
-      (λ asks. idle-further m (idles m idle.HandFull) refl)
+      either (Further m) (is_asking (note_of m q)) (idle_step m idle.HandFull)
+      (by_rx m (event.Take q))
+      (λ asks. idle-further m (idle_step m idle.HandFull) refl)
       (λ quiet. rx-further m (event.Take q) ((asks_rx m k).take q lt) refl k.rx.sound refl refl)
 
   look-further : (q : ℕ) (x : Option ℕ) → q < length m.setup.homes → is_nothing (note_of m q) ≡ true
@@ -205,18 +206,19 @@ module _ (m : Machine) (k : StepInvariant m) where
       m.rx (event.Put q hash) (λ why busy. absurd (cc)) (λ inside more busy. more)
 
   put-further : (q : ℕ) (position : Option ℕ) → q < length m.setup.homes
-      → Further m (put_by (by_rx m (putting m q)).0 q position (happens m.rx (putting m q)).1)
+      → Further m (poller_after_put (by_rx m (putting m q)).0 q position
+      (happens m.rx (putting m q)).1)
   put-further q None lt busy =
       let e : HopEvent = putting m q in
-      let hash : Option ℕ = hash_of m.setup (last_of m.rx q).id in
+      let hash : Option ℕ = packet_hash m.setup (last_chosen m.rx q).id in
       let more = hop-worked m.rx e ((asks_rx m k).put q hash lt) refl k.rx.sound busy in
       let both =
       added-there m.rx (happens m.rx e).0 (parts-same m.rx e refl refl refl refl refl) more in
       omega (arith, more, both)
   put-further q (Some position) lt busy =
       let e : HopEvent = putting m q in
-      let hash : Option ℕ = hash_of m.setup (last_of m.rx q).id in
-      let choice : Choice = (last_of (by_rx m e).0.rx q).choice in
+      let hash : Option ℕ = packet_hash m.setup (last_chosen m.rx q).id in
+      let choice : Choice = (last_chosen (by_rx m e).0.rx q).choice in
       let new : Note = asking (filter_for m.setup.homes (length m.filters) choice position) in
       let more = hop-worked m.rx e ((asks_rx m k).put q hash lt) refl k.rx.sound busy in
       let both =
@@ -265,25 +267,26 @@ module _ (m : Machine) (k : StepInvariant m) where
   works-further act.Arrive named on alone = arrive-further
   works-further (act.Take q) named on alone = take-further q (ltb-true _ _ named)
   works-further (act.Look q) named on alone =
-      let rest : Outcome =
-      cond (is_nothing (note_of m q)) (look_by m q (to_weigh m.rx q)) (idles m idle.WrongStage) in
-      either (Further m) (not (inside_of m.rx q)) (idles m idle.NotInside) rest
-      (λ e. idle-further m (idles m idle.NotInside) refl)
+      let rest : StepOutcome =
+      cond (is_nothing (note_of m q)) (look_by m q (to_weigh m.rx q))
+      (idle_step m idle.WrongStage) in
+      either (Further m) (not (inside_of m.rx q)) (idle_step m idle.NotInside) rest
+      (λ e. idle-further m (idle_step m idle.NotInside) refl)
       (λ e. either (Further m) (is_nothing (note_of m q)) (look_by m q (to_weigh m.rx q))
-      (idles m idle.WrongStage)
+      (idle_step m idle.WrongStage)
       (λ quiet. look-further q (to_weigh m.rx q) (ltb-true _ _ named) quiet)
-      (λ f. idle-further m (idles m idle.WrongStage) refl))
+      (λ f. idle-further m (idle_step m idle.WrongStage) refl))
   works-further (act.Weigh q) named on alone =
-      either (Further m) (not (inside_of m.rx q)) (idles m idle.NotInside)
+      either (Further m) (not (inside_of m.rx q)) (idle_step m idle.NotInside)
       (weigh_by m q (note_of m q) (to_weigh m.rx q))
-      (λ e. idle-further m (idles m idle.NotInside) refl)
+      (λ e. idle-further m (idle_step m idle.NotInside) refl)
       (λ e. weigh-further q (note_of m q) (to_weigh m.rx q) (ltb-true _ _ named) refl refl)
   works-further (act.Put q) named on alone =
-      put-further q (position_of (happens m.rx (putting m q)).1) (ltb-true _ _ named)
+      put-further q (put_position (happens m.rx (putting m q)).1) (ltb-true _ _ named)
   works-further (act.Ask q) named on alone =
-      either (Further m) (not (inside_of m.rx q)) (idles m idle.NotInside)
+      either (Further m) (not (inside_of m.rx q)) (idle_step m idle.NotInside)
       (ask_by m q (note_of m q))
-      (λ e. idle-further m (idles m idle.NotInside) refl)
+      (λ e. idle-further m (idle_step m idle.NotInside) refl)
       (λ e. ask-further q (note_of m q) (ltb-true _ _ named) refl)
   works-further (act.Pull c) named on alone =
       rx-further m (event.Pull c)
@@ -295,16 +298,16 @@ module _ (m : Machine) (k : StepInvariant m) where
       rx-further m (event.Retire c)
       ((asks_rx m k).retire c (ltb-true _ _ named)) refl k.rx.sound refl refl
   works-further (act.Send a) named on alone =
-      either (Further m) (nat_lt (placed_of m.tx a) (taken_of m.tx a)) (idles m idle.HandFull)
+      either (Further m) (nat_lt (placed_of m.tx a) (taken_of m.tx a)) (idle_step m idle.HandFull)
       (send_by m a (next_in m a))
-      (λ e. idle-further m (idles m idle.HandFull) refl)
+      (λ e. idle-further m (idle_step m idle.HandFull) refl)
       (λ e. send-further a (next_in m a) refl (ltb-true _ _ named))
   works-further (act.TWeigh a) named on alone =
       tx-further m (sending m a (in_reply m a))
       ((asks_tx m k).weigh a (in_reply m a) (ltb-true _ _ named)) refl k.tx.sound
   works-further (act.TPut a) named on alone =
-      tx-further m (event.Put a (hash_of m.setup (last_of m.tx a).id))
-      ((asks_tx m k).put a (hash_of m.setup (last_of m.tx a).id)
+      tx-further m (event.Put a (packet_hash m.setup (last_chosen m.tx a).id))
+      ((asks_tx m k).put a (packet_hash m.setup (last_chosen m.tx a).id)
       (ltb-true _ _ named)) refl k.tx.sound
   works-further (act.TPull t) named on alone =
       tx-further m (event.Pull t) ((asks_tx m k).pull t (ltb-true _ _ named)) refl k.tx.sound
@@ -332,7 +335,8 @@ module _ (m : Machine) where
   abbrev AsFar : Machine → Type 0
   AsFar n = weight n ≡ weight m
 
-  rx-rests : (n : Machine) (e : HopEvent) → hop.is_work e ≡ false → changes e Field.choices ≡ false
+  rx-rests : (n : Machine) (e : HopEvent) → hop.event_is_work e ≡ false
+      → changes e Field.choices ≡ false
       → changes e Field.placed ≡ false → weight (by_rx n e).0 ≡ weight n
   rx-rests n e off c p =
       let same = work_stays n.rx e off in
@@ -349,21 +353,22 @@ module _ (m : Machine) where
       let n : Machine = (by_rx m (event.Enter g)).0 in
       let first = rx-rests m (event.Enter g) refl refl refl in
       let second = rx-rests n (event.Leave g) refl refl refl in
-      either (λ (o : Outcome). AsFar o.0) (nat_lt 0 (length m.socket))
+      either (λ (o : StepOutcome). AsFar o.0) (nat_lt 0 (length m.socket))
       (wrote (visited m a) a hash, says.Done)
-      (idles m idle.NoTable) (λ full. second ∙ first) (λ empty. refl)
+      (idle_step m idle.NoTable) (λ full. second ∙ first) (λ empty. refl)
 
   leave-rests : (q : ℕ) → AsFar (simple m (act.Leave q)).0
   leave-rests q =
-      let out' : Outcome = by_rx m (event.Leave q) in
-      let rest : Outcome = cond (is_nothing (note_of m q)) out' (idles m idle.MidPacket) in
-      either (λ (o : Outcome). AsFar o.0) (not (inside_of m.rx q)) (idles m idle.NotInside) rest
+      let out' : StepOutcome = by_rx m (event.Leave q) in
+      let rest : StepOutcome = cond (is_nothing (note_of m q)) out' (idle_step m idle.MidPacket) in
+      either (λ (o : StepOutcome). AsFar o.0) (not (inside_of m.rx q))
+      (idle_step m idle.NotInside) rest
       (λ e. refl)
-      (λ e. either (λ (o : Outcome). AsFar o.0) (is_nothing (note_of m q)) out'
-      (idles m idle.MidPacket)
+      (λ e. either (λ (o : StepOutcome). AsFar o.0) (is_nothing (note_of m q)) out'
+      (idle_step m idle.MidPacket)
       (λ f. rx-rests m (event.Leave q) refl refl refl) (λ f. refl))
 
-  tx-rests : (e : HopEvent) → hop.is_work e ≡ false → AsFar (by_tx m e).0
+  tx-rests : (e : HopEvent) → hop.event_is_work e ≡ false → AsFar (by_tx m e).0
   tx-rests e off = let same = work_stays m.tx e off in omega (arith, same)
 
   pub rests-there : (s : Step) → is_work s ≡ false → AsFar (simple m s).0

@@ -27,7 +27,7 @@ use Rattle.steer_model.specs.Origins.SettingWrites.{sock_for}
 use Rattle.steer_model.specs.Origins.SettingWrites.{stand_for}
 use Rattle.steer_model.specs.State.Machine.{Machine, history_of}
 use Rattle.steer_model.specs.State.Settings.{Settings}
-use Rattle.steer_model.specs.State.Start.{settings_of}
+use Rattle.steer_model.specs.State.Start.{initial_settings}
 use Rattle.steer_model.proofs.Origins.SettingWriteLemmas.{values_are_last_writes}
 use Rattle.steer_properties.proofs.Commands.AnswerLemmas.{AnswersBy, Ends}
 use Rattle.steer_properties.proofs.Commands.StepLemmas.{Commanding, settings_by}
@@ -166,7 +166,7 @@ module _ (i : Input) (m : Machine) (w : Commanding i m) where
       (j, f.2 ∙ (λ k. Some (record { command = same k; answer = answer k })))
 
   abbrev first : Settings
-  first = settings_of i.plan
+  first = initial_settings i.plan
 
   last : AreLastWrites first m.commands
   last = values_are_last_writes first m.commands w.named

@@ -10,7 +10,7 @@ use Rattle.steer_model.specs.Steps.Applications.{reply_to, sends}
 use Rattle.steer_model.specs.Good.Writes.{StoodAt}
 use Rattle.steer_model.specs.Good.Inputs.{Input, setup_in}
 use Rattle.steer_model.specs.State.Machine.{Machine, history_of}
-use Rattle.steer_model.specs.Steps.Pollers.{noted, seen_by}
+use Rattle.steer_model.specs.Steps.Pollers.{with_note, seen_by}
 use Rattle.steer_model.specs.State.Setup.{Setup}
 use Rattle.steer_model.specs.State.Start.{new_machine}
 use Rattle.steer_model.specs.Steps.SingleSteps.{simple}
@@ -61,7 +61,7 @@ stood-simple i m s setup follows w h named old =
       arrive = λ few k. all-stay i m _ k.lasts refl old;
       look = λ q in' inside more. (
           let x : Note = note.Looked (seen_by m q (next_of m.rx q)) in
-          all-stay i m (noted m q x) (lasts-noted m q x) refl old);
+          all-stay i m (with_note m q x) (lasts-noted m q x) refl old);
       weigh = λ q want in' is more l. all-stay i m _ l refl old;
       write = λ flow hash is some k. all-stay i m _ k.lasts refl old;
       send = λ a x in' is k. all-sent i m a x setup follows w in' k.lasts old;

@@ -31,8 +31,8 @@ use Rattle.steer_model.specs.Origins.FilterOrigins.{FilterIsFrom, FiltersAreFrom
 use Rattle.steer_model.specs.Good.Arrivals.{FilterFrom, QueuesAreSeen, SeenBy}
 use Rattle.steer_model.specs.Good.Inputs.{Input, setup_in}
 use Rattle.steer_model.specs.State.Machine.{Machine, history_of}
-use Rattle.steer_model.specs.Steps.Pollers.{arrival_by, arrives, noted, route_by, seen_by}
-use Rattle.steer_model.specs.State.Setup.{Setup, hash_of}
+use Rattle.steer_model.specs.Steps.Pollers.{arrival_by, arrives, with_note, route_by, seen_by}
+use Rattle.steer_model.specs.State.Setup.{Setup, packet_hash}
 use Rattle.steer_model.specs.State.Start.{new_machine}
 use Rattle.steer_model.specs.Steps.SingleSteps.{simple}
 use Rattle.steer_model.specs.Origins.TableWrites.{filter_at}
@@ -92,11 +92,11 @@ module _ (i : Input) (m n : Machine) (h : Sound m.rx) (g : Sound n.rx) (l : Last
   seen-lasts (Some hash) a (inr w) = inr (w.0, w.1, filter-lasts hash w.0 w.2)
 
   queues-last : (list : List Arrival)
-      → All (λ a. SeenBy i (history_of m) (hash_of (setup_in i) a.id) a) list
-      → All (λ a. SeenBy i (history_of n) (hash_of (setup_in i) a.id) a) list
+      → All (λ a. SeenBy i (history_of m) (packet_hash (setup_in i) a.id) a) list
+      → All (λ a. SeenBy i (history_of n) (packet_hash (setup_in i) a.id) a) list
   queues-last list old k d lt =
       let a : Arrival = get_or list k d in
-      seen-lasts (hash_of (setup_in i) a.id) a (old k d lt)
+      seen-lasts (packet_hash (setup_in i) a.id) a (old k d lt)
 
 -- ---- a new arrival
 
@@ -152,7 +152,7 @@ module _ (i : Input) (m : Machine) (setup : m.setup ≡ setup_in i)
         accepted = ap (λ (l : LaneList). is_in c.id l.accepted) (lane-is m.rx h c.choice.lane)
             ∙ from.accepted lane;
         place = place;
-        there = sym (λ j. class_of (rows j) (hash_of (setup j) c.id)) ∙ from.there;
+        there = sym (λ j. class_of (rows j) (packet_hash (setup j) c.id)) ∙ from.there;
         here = ap (λ n. class_of n (Some hash)) (sym rows) ∙ here;
       }
 
@@ -181,11 +181,12 @@ module _ (i : Input) (m : Machine) (setup : m.setup ≡ setup_in i)
   seen-route x None = refl
   seen-route x (Some hash) = seen-filter x hash (filter_of m.filters hash) refl
 
-  seen-next : SeenBy i (history_of m) (hash_of (setup_in i) (length m.arrivals)) (next_arrival m)
+  seen-next : SeenBy i (history_of m) (packet_hash (setup_in i) (length m.arrivals))
+      (next_arrival m)
   seen-next =
       subst
-      (λ (p : Setup). SeenBy i (history_of m) (hash_of p (length m.arrivals)) (next_arrival m))
-      setup (seen-route (length m.arrivals) (hash_of m.setup (length m.arrivals)))
+      (λ (p : Setup). SeenBy i (history_of m) (packet_hash p (length m.arrivals)) (next_arrival m))
+      setup (seen-route (length m.arrivals) (packet_hash m.setup (length m.arrivals)))
 
 -- ---- every step
 
@@ -198,7 +199,8 @@ seen-stay : (i : Input) (m n : Machine) → Invariant m → Invariant n → Last
     → AllSeen i m → AllSeen i n
 seen-stay i m n h g l same old =
     let k = h.kept in let j = g.kept in
-    subst (All (λ (a : Arrival). SeenBy i (history_of n) (hash_of (setup_in i) a.id) a)) (sym same)
+    subst (All (λ (a : Arrival). SeenBy i (history_of n) (packet_hash (setup_in i) a.id) a))
+    (sym same)
     (queues-last i m n k.rx.sound j.rx.sound l m.arrivals old)
 
 seen-arrived : (i : Input) (m : Machine) → m.setup ≡ setup_in i
@@ -209,9 +211,10 @@ seen-arrived i m setup rows filters w follows h g l old =
     let k = h.kept in let j = g.kept in
     let a : Arrival = next_arrival m in
     let n : Machine = arrives m a in
-    All-push (λ (b : Arrival). SeenBy i (history_of n) (hash_of (setup_in i) b.id) b) m.arrivals a
+    All-push (λ (b : Arrival). SeenBy i (history_of n) (packet_hash (setup_in i) b.id) b) m.arrivals
+    a
     (queues-last i m n k.rx.sound j.rx.sound l m.arrivals old)
-    (seen-lasts i m n k.rx.sound j.rx.sound l (hash_of (setup_in i) (length m.arrivals)) a
+    (seen-lasts i m n k.rx.sound j.rx.sound l (packet_hash (setup_in i) (length m.arrivals)) a
     (seen-next i m setup rows k.rx.sound filters w follows))
 
 pub seen-simple : (i : Input) (m : Machine) (s : Step) → m.setup ≡ setup_in i
@@ -225,7 +228,7 @@ seen-simple i m s setup rows filters w follows h g named old =
       arrive = λ few k g. seen-arrived i m setup rows filters w follows h g k.lasts old;
       look = λ q in' inside more g. (
           let x : Note = note.Looked (seen_by m q (next_of m.rx q)) in
-          seen-stay i m (noted m q x) h g (lasts-noted m q x) refl old);
+          seen-stay i m (with_note m q x) h g (lasts-noted m q x) refl old);
       weigh = λ q want in' is more l g. seen-stay i m (weighed m q want) h g l refl old;
       write = λ flow hash is some k g. seen-stay i m _ h g k.lasts refl old;
       send = λ a x in' is k g. seen-stay i m (sends m a x) h g k.lasts refl old;
@@ -236,4 +239,4 @@ seen-simple i m s setup rows filters w follows h g named old =
 pub seen-new : (i : Input) → AllSeen i (new_machine i.plan i.packets i.cut)
 seen-new i =
     let m : Machine = new_machine i.plan i.packets i.cut in
-    All-nil (λ (a : Arrival). SeenBy i (history_of m) (hash_of (setup_in i) a.id) a)
+    All-nil (λ (a : Arrival). SeenBy i (history_of m) (packet_hash (setup_in i) a.id) a)

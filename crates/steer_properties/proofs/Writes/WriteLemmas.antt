@@ -21,8 +21,8 @@ use Rattle.steer_model.specs.Steps.Applications.{sends, visited, write_of, wrote
 use Rattle.steer_model.specs.Steps.Commands.{given}
 use Rattle.steer_model.specs.Good.Inputs.{Input, setup_in}
 use Rattle.steer_model.specs.State.Machine.{Machine, history_of}
-use Rattle.steer_model.specs.Steps.Pollers.{noted, seen_by}
-use Rattle.steer_model.specs.State.Setup.{Setup, flow_hash, hash_of}
+use Rattle.steer_model.specs.Steps.Pollers.{with_note, seen_by}
+use Rattle.steer_model.specs.State.Setup.{Setup, flow_hash, packet_hash}
 use Rattle.steer_model.specs.State.Start.{new_machine}
 use Rattle.steer_model.specs.Steps.SingleSteps.{simple}
 use Rattle.steer_model.specs.declared.note.Note.{Note}
@@ -63,7 +63,7 @@ hash-found packets hash (Some p) of is =
 
 -- a packet of the capture has the hash that a flow has
 flow-packet : (p : Setup) (flow hash : ℕ) → flow_hash p flow ≡ Some (Some hash)
-    → (x : ℕ) × (x < length p.packets) × (hash_of p x ≡ Some hash)
+    → (x : ℕ) × (x < length p.packets) × (packet_hash p x ≡ Some hash)
 flow-packet p flow hash is =
     hash-found p.packets hash (found (λ (q : Packet). q.flow_number) flow p.packets)
     (λ q f. found-all (IsOf p.packets) (λ (r : Packet). r.flow_number) flow p.packets q
@@ -124,8 +124,8 @@ module _ (i : Input) (m : Machine) (setup : m.setup ≡ setup_in i) (follows : F
       let x = flow-packet m.setup flow hash is in
       let class : class_of (length m.socket) (Some hash) ≡ Some (hash % length m.socket) =
       rw (lt-ltb 0 (length m.socket) some) refl in
-      let here : hash_of (setup_in i) x.0 ≡ Some hash =
-      ap (λ (p : Setup). hash_of p x.0) (sym setup) ∙ x.2 in
+      let here : packet_hash (setup_in i) x.0 ≡ Some hash =
+      ap (λ (p : Setup). packet_hash p x.0) (sym setup) ∙ x.2 in
       record {
         packet = x.0;
         of_the_capture = (
@@ -160,7 +160,7 @@ written-simple i m s setup follows w h named old =
       arrive = λ few k. writes-stay i m _ k.lasts refl old;
       look = λ q in' inside more. (
           let x : Note = note.Looked (seen_by m q (next_of m.rx q)) in
-          writes-stay i m (noted m q x) (lasts-noted m q x) refl old);
+          writes-stay i m (with_note m q x) (lasts-noted m q x) refl old);
       weigh = λ q want in' is more l. writes-stay i m (weighed m q want) l refl old;
       write = λ flow hash is some k.
           written-more i m setup follows w h flow hash is some k.lasts old;

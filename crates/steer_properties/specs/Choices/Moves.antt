@@ -18,7 +18,7 @@ use Rattle.steer_model.specs.Good.Choices.{accepted_in}
 use Rattle.steer_model.specs.Good.Inputs.{Input, setup_in, settings_at, since_at}
 use Rattle.steer_model.specs.State.Settings.{Settings, plain_lane}
 use Rattle.xps_map.specs.Maps.{picked}
-use Rattle.steer_model.specs.State.Setup.{flow_of, hash_of}
+use Rattle.steer_model.specs.State.Setup.{flow_number_of, packet_hash}
 
 -- ---- the receive side
 
@@ -73,9 +73,9 @@ pub record ChangesAsSaid (c : Choice) (pick : ℕ) (before : Entry) : Type 0 whe
 abbrev pub ChangesFlow : Input → History → ℕ → ℕ → Settings → Sent → Type 0
 ChangesFlow i h a k s r =
     ChangesAsSaid (chosen_at (list_at h.tx_choices a) k).choice
-    (picked s.maps r.rxq r.cpu (hash_of (setup_in i) r.id))
+    (picked s.maps r.rxq r.cpu (packet_hash (setup_in i) r.id))
     (entry h.start (accepted_in h.tx_lanes) (take k (list_at h.tx_choices a))
-    (flow_of (setup_in i) r.id))
+    (flow_number_of (setup_in i) r.id))
 
 abbrev pub FlowsChangeAsSaid : Input → History → (ℕ → ℕ → ℕ) → Type 0
 FlowsChangeAsSaid i h at =

@@ -13,7 +13,7 @@ use Rattle.steer_model.specs.Good.Commands.{IsAnswer, gate_lanes, refused_with}
 use Rattle.steer_model.specs.Good.Writes.{IsWrite}
 use Rattle.steer_model.specs.Good.Inputs.{Input, setup_in, settings_at}
 use Rattle.steer_model.specs.State.Settings.{Settings}
-use Rattle.steer_model.specs.State.Setup.{app_for, hash_of}
+use Rattle.steer_model.specs.State.Setup.{app_for, packet_hash}
 
 -- The write of an application for a packet of the capture that is its own and has a hash.
 pub record IsWriteFor (i : Input) (h : History) (a : ℕ) (w : SockWrite) : Type 0 where
@@ -21,7 +21,7 @@ pub record IsWriteFor (i : Input) (h : History) (a : ℕ) (w : SockWrite) : Type
   pub of_the_capture : packet < length i.packets
   pub own : app_for (setup_in i) packet ≡ a
   pub hash : ℕ
-  pub hash_is : hash_of (setup_in i) packet ≡ Some hash
+  pub hash_is : packet_hash (setup_in i) packet ≡ Some hash
   pub write : IsWrite i h a hash w
 
 abbrev pub WritesAreMade : Input → History → Type 0

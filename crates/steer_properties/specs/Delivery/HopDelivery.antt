@@ -1,16 +1,16 @@
 -- That the machine delivers each flow in order and drops for a cause, as each event of its hops has
 -- to keep it.
 use Rattle.std.specs.Prelude.{ℕ, ◌<◌, ◌≡◌, Bool, ◌&&◌, ◌==◌, nat_lt, length}
-use Rattle.hop_core.specs.BareEvents.{DropsRise}
+use Rattle.hop_core.specs.BareEvents.{LaneDropsRise}
 use Rattle.hop_core.specs.Flows.{FlowOrdered}
 use Rattle.hop_core.specs.Hop.{Fixed, HopState}
 use Rattle.hop_core.specs.Laws.{DropsExplained}
 use Rattle.steer_model.specs.State.Machine.{Machine}
-use Rattle.steer_model.specs.State.Setup.{Setup, app_for, flow_of, hash_of}
+use Rattle.steer_model.specs.State.Setup.{Setup, app_for, flow_number_of, packet_hash}
 
 -- whether a packet of the capture has the flow of another
 abbrev pub is_of : Setup → ℕ → ℕ → Bool
-is_of p x y = nat_lt y (length p.packets) && flow_of p y == flow_of p x
+is_of p x y = nat_lt y (length p.packets) && flow_number_of p y == flow_number_of p x
 
 -- The receive hop keeps the order of each flow from each queue to the inbox of its application;
 -- each of its drops has the cause that the offers before it give, and along the drops of a lane the
@@ -18,8 +18,8 @@ is_of p x y = nat_lt y (length p.packets) && flow_of p y == flow_of p x
 pub record DeliversRx (p : Setup) (f : Fixed) (s : HopState) : Type 0 where
   pub fixed : s.fixed ≡ f
   pub order : (q x : ℕ) → x < length p.packets → FlowOrdered (is_of p x) q (app_for p x) s
-  pub causes : DropsExplained (hash_of p) s
-  pub counts : DropsRise s
+  pub causes : DropsExplained (packet_hash p) s
+  pub counts : LaneDropsRise s
 
 -- The transmit hop keeps the order of each flow from each application to the port.
 abbrev pub DeliversTx : Setup → HopState → Type 0

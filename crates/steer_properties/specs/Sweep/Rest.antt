@@ -3,7 +3,7 @@ use Rattle.std.specs.Prelude.{ℕ, ◌<◌, ◌≡◌, ◌⊎◌, length}
 use Rattle.std.specs.List.{Contains}
 use Rattle.hop_core.specs.Events.{IsEmptied}
 use Rattle.hop_core.specs.Hop.{arrivals_of, fell_at, out_at, placed_of}
-use Rattle.hop_core.specs.NothingLost.{IsOut}
+use Rattle.hop_core.specs.NothingLost.{IsInOutLane}
 use Rattle.steer_model.specs.Steps.Applications.{sent_of}
 use Rattle.steer_model.specs.State.Machine.{Machine, note_of}
 use Rattle.steer_model.specs.declared.note.Note.TheVariants as note
@@ -31,4 +31,4 @@ pub record AtRest (m : Machine) : Type 0 where
 abbrev pub IsThrough : Machine → ℕ → Type 0
 IsThrough m x =
     ((c : ℕ) × Contains (fell_at m.rx.bare c) x)
-    ⊎ (IsOut (out_at m.rx.bare) x × Contains (out_at m.tx.bare 0) x)
+    ⊎ (IsInOutLane (out_at m.rx.bare) x × Contains (out_at m.tx.bare 0) x)

@@ -1,7 +1,7 @@
 use Rattle.std.proofs.Common.{◌≡◌, ◌-◌, IfSome, Option, slice_index_or, take, vec_len, sym, ap, ◌∙◌}
 use Rattle.std.proofs.Common.{subst, arith}
 use Rattle.board_tests.proofs.Crews.{Seat, fresh_out, front_is, last_is, new_seat}
-use Rattle.board_tests.specs.Stands.{IsOut, opened_by}
+use Rattle.board_tests.specs.Stands.{SeatIsOutside, opened_by}
 use Rattle.board_tests.proofs.crew.last_seat.Goals as goal
 
 pub returns-clause-stands : goal.returns-clause-stands
@@ -10,7 +10,7 @@ returns-clause-stands c =
     let d = new_seat z 0 in
     let all = c.requires.all in
     let some = c.requires.some in
-    subst (λ (r : Option Seat). IfSome r (λ s. IsOut c.args.board.now (c.args.count - 1) s))
+    subst (λ (r : Option Seat). IfSome r (λ s. SeatIsOutside c.args.board.now (c.args.count - 1) s))
     (sym (c.pop.ensures.value d (omega arith)))
     (fresh_out c.args.board.now (c.args.count - 1)
     (slice_index_or c.args.seats.now.items (vec_len c.args.seats.now - 1) d)

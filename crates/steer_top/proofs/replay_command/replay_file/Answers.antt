@@ -1,7 +1,7 @@
 use Rattle.std.proofs.Common.{[], ◌∷◌, ap, map, refl, subst}
 use Rattle.plan_reader.specs.PlanTexts.{settings_of}
 use Rattle.replay.specs.Replays.{IsWithinTypes, replay_text}
-use Rattle.replay.specs.Reports.{IsReportOf}
+use Rattle.replay.specs.Reports.{IsReportOfPlan}
 use Rattle.std.proofs.KnownBytes.{Keeps-refl}
 use Rattle.steer_top.specs.Commands.{replay_words_of}
 use Rattle.steer_top.specs.Endings.{Course}
@@ -79,7 +79,7 @@ returns-in-Ok-replay_of-clause-ends g c =
     let is = c.in-Ok-take_capture.ensures.taken in
     let replay = c.in-Ok-replay_of.replay in
     let made = c.in-Ok-replay_of.ensures in
-    let report : IsReportOf taken.bytes bytes file.capture taps (replay_text replay) = record {
+    let report : IsReportOfPlan taken.bytes bytes file.capture taps (replay_text replay) = record {
       plan = plan;
       has_plan = taken.has;
       packets = made.packets;

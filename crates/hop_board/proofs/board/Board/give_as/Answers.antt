@@ -7,7 +7,7 @@ use Rattle.hop_rule.specs.declared.step.BoardStep.{BoardStep}
 use Rattle.hop_rule.specs.declared.step.BoardStep.TheVariants.{LaneIn}
 use Rattle.hop_rule.specs.Sizes.{FitSizes}
 use Rattle.board_api.specs.Views.{BoardView}
-use Rattle.hop_board.specs.Releases.{lane_in, rises_in}
+use Rattle.hop_board.specs.Releases.{released_lane, rises_in}
 use Rattle.hop_board.specs.Steps.{MayGive, released_word}
 use Rattle.hop_board.specs.Tables.{slots, slot_of, width}
 use Rattle.hop_board.proofs.Apart.{slot_inside}
@@ -20,7 +20,7 @@ load-requires g c =
     let board = c.self.invariant in
     let seat = c.seat.inside.seat in
     let about = c.args.self.now.sizes in
-    let lane = lane_in c.args.release in
+    let lane = released_lane c.args.release in
     let sizes : c.self.inside.sizes ≡ about = ap (λ (h : BoardView). h.sizes) c.self.view_is in
     let inside = slot_inside about lane c.requires.within in
     let here : c.slot_of-slot.result ≡ slot_of about lane = c.slot_of-slot.ensures
@@ -42,7 +42,7 @@ fetch_add-requires g c =
     let shared = c.self.inside.table.shared in
     let board = c.self.invariant in
     let about = c.args.self.now.sizes in
-    let lane = lane_in c.args.release in
+    let lane = released_lane c.args.release in
     let sizes : c.self.inside.sizes ≡ about = ap (λ (h : BoardView). h.sizes) c.self.view_is in
     let inside = slot_inside about lane c.requires.within in
     let here : c.slot_of-slot.result ≡ slot_of about lane = c.slot_of-slot.ensures
@@ -82,7 +82,7 @@ fetch_sub-requires g c =
     let shared = c.self.inside.table.shared in
     let board = c.self.invariant in
     let about = c.args.self.now.sizes in
-    let lane = lane_in c.args.release in
+    let lane = released_lane c.args.release in
     let sizes : c.self.inside.sizes ≡ about = ap (λ (h : BoardView). h.sizes) c.self.view_is in
     let inside = slot_inside about lane c.requires.within in
     let here : c.slot_of-slot.result ≡ slot_of about lane = c.slot_of-slot.ensures

@@ -1,8 +1,9 @@
 use Rattle.std.proofs.Common.{◌≡◌}
-use Rattle.steer_model.specs.Steps.CompoundSteps.{Turn, for_each, drain}
+use Rattle.steer_model.specs.Steps.CompoundSteps.{Progress, for_each, drain}
 use Rattle.steer_core.proofs.actors.Actors.drain_all.Given as goal
 
 abbrev pub invariant-loop-c : goal.invariant-loop-c
 invariant-loop-c l =
-    (◌≡◌ {A = Turn} (l.self.machine, l.done) (for_each l.c drain (l.fn.self.machine, l.fn.worked)))
+    (◌≡◌ {A = Progress} (l.self.machine, l.done)
+    (for_each l.c drain (l.fn.self.machine, l.fn.worked)))
     × (l.self.machine.setup ≡ l.fn.self.machine.setup) × (l.self.rooms ≡ l.fn.self.rooms)

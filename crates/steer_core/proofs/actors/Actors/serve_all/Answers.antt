@@ -4,7 +4,7 @@ use Rattle.steer_core.proofs.TurnLemmas.{each-start, each-then}
 use Rattle.std.proofs.Common.{◌≡◌, ◌≤◌, ap, arith, subst, sym}
 use Rattle.steer_invariant.specs.Invariant.{Invariant}
 use Rattle.steer_model.specs.State.Machine.{Machine}
-use Rattle.steer_model.specs.Steps.CompoundSteps.{Turn, for_each}
+use Rattle.steer_model.specs.Steps.CompoundSteps.{Progress, for_each}
 use Rattle.steer_core.specs.Running.{Running}
 use Rattle.steer_core.proofs.Paced.{spare_at}
 use Rattle.steer_core.proofs.PacedSteps.{serves-paced}
@@ -24,7 +24,8 @@ serve-done-requires-clause-room c =
     let is = ap (λ (r : Running). r.machine.setup.apps) c.self.view_is in omega arith) in
     let before = c.loop-a.invariant in
     spare_at _ _ m c.loop-a.self.machine (for_each c.loop-a.a serve (m, c.args.worked)).0
-    (ap (λ (t : Turn). t.0) before.0) before.2 (serves-paced m held c.loop-a.a c.args.worked below)
+    (ap (λ (t : Progress). t.0) before.0) before.2
+    (serves-paced m held c.loop-a.a c.args.worked below)
     c.requires
 
 pub loop-a-preserved : goal.loop-a-preserved
@@ -52,5 +53,6 @@ returns-clause-spare c =
     let is = ap (λ (r : Running). r.machine.setup.apps) c.self.view_is in omega arith) in
     let before = c.loop-a.invariant in
     spare_at _ _ m c.loop-a.self.machine (for_each c.loop-a.a serve (m, c.args.worked)).0
-    (ap (λ (t : Turn). t.0) before.0) before.2 (serves-paced m held c.loop-a.a c.args.worked below)
+    (ap (λ (t : Progress). t.0) before.0) before.2
+    (serves-paced m held c.loop-a.a c.args.worked below)
     c.requires
