@@ -5,4 +5,4 @@ use Rattle.hop_delivery.specs.Orders.Examples.{receive_board, receive_order, rec
 use Rattle.hop_delivery.proofs.Orders.PlayLemmas.{rows_lawfully}
 
 pub receive_lawful : IsLawful receive_board receive_order
-receive_lawful = rows_lawfully receive_board receive_rows [] assumption tt
+receive_lawful = rows_lawfully receive_board receive_rows [] (assumption) tt

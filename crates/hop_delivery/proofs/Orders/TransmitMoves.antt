@@ -5,4 +5,4 @@ use Rattle.hop_delivery.specs.Orders.Examples.{transmit_board, transmit_order, t
 use Rattle.hop_delivery.proofs.Orders.PlayLemmas.{rows_lawfully}
 
 pub transmit_lawful : IsLawful transmit_board transmit_order
-transmit_lawful = rows_lawfully transmit_board transmit_rows [] assumption tt
+transmit_lawful = rows_lawfully transmit_board transmit_rows [] (assumption) tt
