@@ -1,12 +1,12 @@
-//! The headline, as contracts of functions that do nothing.
+//! The promises of a replay, as contracts of lemmas: functions with empty bodies.
 ghost use Rattle.headline.specs.Laws.{ReplaysAreRight, ReportsHaveTheHeadline};
 
 use report::a_report_has_one_history;
-use steer_invariant::{every_replay_can_be_reported, every_replay_delivers_in_order};
+use steer_invariant::every_replay_can_be_reported;
 use steer_model::a_capture_has_one_list_of_packets;
 use steer_properties::{
     a_flow_moves_only_where_nothing_of_it_is_outstanding, every_choice_is_by_the_rule,
-    every_history_is_of_its_input, every_reply_is_by_the_rule,
+    every_history_is_of_its_input, every_replay_delivers_in_order, every_reply_is_by_the_rule,
 };
 
 /// In every state of every replay each packet that arrived stands at exactly one place, every drop
