@@ -6,7 +6,9 @@ use Rattle.plan_reader.specs.PlanTexts.{settings_of}
 use Rattle.plan_reader.specs.Settings.{PlanSettings}
 use Rattle.report.specs.Laws.{HasOneHistory, IsReportOf}
 use Rattle.report.specs.Report.{report}
+use Rattle.steer_properties.specs.Commands.GivenOnce.{ReplaysGiveOnce}
 use Rattle.steer_properties.specs.Histories.Always.{Always}
+use Rattle.steer_properties.specs.Histories.GoodSoFar.{GoodSoFar}
 use Rattle.steer_properties.specs.Histories.Sizes.{IsOfItsInput}
 use Rattle.steer_invariant.specs.InvariantLaws.{ReplaysAreReportable}
 use Rattle.steer_model.specs.Good.Inputs.{Input}
@@ -15,7 +17,7 @@ use Rattle.steer_model.specs.Capture.Packets.{ArePackets}
 use Rattle.steer_model.specs.State.Start.{replayed}
 use Rattle.toeplitz.specs.Toeplitz.{number_of}
 use Rattle.headline.specs.Headline.{IsRight, Reports, Says}
-use Rattle.headline.specs.Laws.{ReportsHaveTheHeadline}
+use Rattle.headline.specs.Laws.{ReplaysAreOfTheirRuns, ReportsHaveTheHeadline}
 
 -- ---- one plan and one list of packets
 
@@ -52,22 +54,34 @@ module _ (plan_bytes capture_bytes : List ℕ) (capture : Capture) (i j : Input)
       let second = subst (λ n. IsReportOf i.packets n j.plan.start h taps text) apps first in
       (taps, subst (λ n. IsReportOf i.packets (length i.plan.apps) n h taps text) start second)
 
+-- ---- the run
+
+pub of-their-runs : Always IsOfItsInput → Always GoodSoFar → ReplaysGiveOnce
+    → ReplaysAreOfTheirRuns
+of-their-runs of good once i may =
+    record {
+      made = refl;
+      of_input = of.replays i may;
+      good = good.replays i may;
+      given = once i may;
+    }
+
 -- ---- the headline
 
-pub headline-of : Always IsRight → ReplaysAreReportable → Always IsOfItsInput → HasOneHistory
+pub headline-of : Always IsRight → ReplaysAreReportable → ReplaysAreOfTheirRuns → HasOneHistory
     → PacketsAreOne → ReportsHaveTheHeadline
 headline-of right reportable of one_history one plan_bytes capture_bytes capture i taps said may
     numbers fit =
     let h : History = replayed i.plan i.packets i.cut in
     let text : List ℕ = report i.packets (length i.plan.apps) h taps in
     let can = reportable i.plan i.packets i.cut may in
-    let size = of.replays i may in
+    let run = of i may in
     let is : IsReportOf i.packets (length i.plan.apps) i.plan.start h taps text = record {
       regular = can.regular;
       queued = can.queued;
       numbers = numbers;
       taps = fit;
-      starts = size.start;
+      starts = run.of_input.start;
       text = refl;
     } in
     let few = can.few_apps in
@@ -80,5 +94,6 @@ headline-of right reportable of one_history one plan_bytes capture_bytes capture
           let same = reports-same plan_bytes capture_bytes capture i j said says one k text other in
           (one_history i.packets (length i.plan.apps) i.plan.start k h same.0 taps text may.few
           (omega (arith, few)) same.1 is).0);
+      run = run;
       right = right.replays i may;
     }

@@ -3,6 +3,5 @@ pub mod Orders
 pub mod Drops
 pub mod Processors
 pub mod Replies
-pub mod Outstanding
 pub mod Headline
 pub mod Laws

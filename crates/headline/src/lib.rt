@@ -4,4 +4,4 @@
 
 mod laws;
 
-pub use laws::{a_report_has_the_headline, every_replay_is_right};
+pub use laws::{a_report_has_the_headline, every_replay_is_of_its_run, every_replay_is_right};
