@@ -4,4 +4,5 @@ pub mod Drops
 pub mod Processors
 pub mod Replies
 pub mod Headline
+pub mod Forged
 pub mod Laws

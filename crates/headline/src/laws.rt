@@ -1,4 +1,8 @@
 //! The promises of a replay, as contracts of lemmas: functions with empty bodies.
+ghost use Rattle.headline.specs.Forged.{AnotherCommandIsForged, AnotherQueueIsForged};
+ghost use Rattle.headline.specs.Forged.{AnotherWriteIsForged, EmptyIsForged, ExamplesAreWithin};
+ghost use Rattle.headline.specs.Forged.{HeadlinesAreOfTheRun, MovingAtOnceIsForged};
+ghost use Rattle.headline.specs.Forged.{NeverMovingIsForged, NoWantIsForged};
 ghost use Rattle.headline.specs.Laws.{ReplaysAreOfTheirRuns, ReplaysAreRight};
 ghost use Rattle.headline.specs.Laws.{ReportsHaveTheHeadline};
 
@@ -46,5 +50,29 @@ pub fn a_report_has_the_headline()
     every_replay_is_of_its_run();
     every_replay_can_be_reported();
     a_report_has_one_history();
+    a_capture_has_one_list_of_packets();
+}
+
+/// Lemma: forged reports are refused, on an example of two packets of one flow. Each of these is no
+/// history of the run: one of no packets; one in which the flow never moves, or moves while its
+/// first packet is outstanding; one with a packet in a queue that no entry names; one in which the
+/// second packet finds no want; and ones with a write or a command that the plan does not give.
+pub fn forged_histories_are_not_of_the_run()
+    ensures examples { ExamplesAreWithin }
+    ensures empty { EmptyIsForged }
+    ensures never_moving { NeverMovingIsForged }
+    ensures moving_at_once { MovingAtOnceIsForged }
+    ensures another_queue { AnotherQueueIsForged }
+    ensures no_want { NoWantIsForged }
+    ensures another_write { AnotherWriteIsForged }
+    ensures another_command { AnotherCommandIsForged }
+{}
+
+/// Lemma: a text with the headline is the report of no other history than the one of the run, so
+/// that a report of a forged history has no headline.
+pub fn a_headline_is_of_the_run()
+    ensures { HeadlinesAreOfTheRun }
+{
+    every_replay_is_of_its_run();
     a_capture_has_one_list_of_packets();
 }
