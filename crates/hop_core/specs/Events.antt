@@ -7,6 +7,7 @@ use Rattle.steer_base.specs.Sets.{has}
 use Rattle.steer_base.specs.declared.cpu_mask.CpuMask.{CpuMask}
 use Rattle.steer_base.specs.declared.idle.Idle.{Idle}
 use Rattle.steer_base.specs.declared.idle.Idle.TheVariants as idle
+use Rattle.steer_base.specs.declared.limits.TheConstants.{MAX_FLOW_COUNT}
 use Rattle.backlog.specs.Puts.{put_answer}
 use Rattle.hop_core.specs.declared.event.HopEvent.{HopEvent}
 use Rattle.hop_core.specs.declared.event.HopEvent.TheVariants as event
@@ -150,7 +151,7 @@ pub record MayDeliver (s : HopState) (c o : ℕ) : Type 0 where
 -- The number of classes changes in a closed gate with all lanes empty, where it is rounded up.
 pub record MayResize (s : HopState) (p count : ℕ) : Type 0 where
   pub producer : p < length s.arrivals
-  pub within : count ≤ 32768
+  pub within : count ≤ MAX_FLOW_COUNT
   pub rounded : s.fixed.exact ≡ false
   pub closed : s.bare.closed ≡ true
   pub drained : (c : ℕ) → c < length s.bare.accepted → IsEmptied s.bare c

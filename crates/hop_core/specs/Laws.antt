@@ -9,6 +9,7 @@ use Rattle.steer_base.specs.declared.choice.Choice.{Choice}
 use Rattle.steer_base.specs.declared.choice.Entry.{Entry}
 use Rattle.steer_base.specs.declared.cpu_mask.CpuMask.{CpuMask}
 use Rattle.backlog.specs.Offers.{AreOffers, AllExplained}
+use Rattle.hop_core.specs.declared.shape.TheConstants.{MAX_HOP_ROOM}
 use Rattle.hop_core.specs.declared.event.HopEvent.{HopEvent}
 use Rattle.hop_core.specs.declared.event.HopEvent.TheVariants as event
 use Rattle.hop_core.specs.declared.event.HopAnswer.TheVariants as answer
@@ -32,7 +33,7 @@ NewIsSound = (shape : HopShape) → IsShape shape → Sound (new_hop shape)
 -- The same of a hop that is given by plain lists.
 abbrev pub FreshIsSound : Type 0
 FreshIsSound =
-    (fixed : Fixed) (counts : List ℕ) (guests lanes outs : ℕ) → fixed.room ≤ 262144
+    (fixed : Fixed) (counts : List ℕ) (guests lanes outs : ℕ) → fixed.room ≤ MAX_HOP_ROOM
     → fixed.start < 2 ^ 32
     → Sound (fresh_hop fixed counts guests lanes outs)
 

@@ -3,19 +3,22 @@ use Rattle.std.specs.Prelude.{ℕ, ◌+◌, ◌<◌, ◌≤◌, ◌≡◌, ◌^�
 use Rattle.std.specs.Prelude.{length, map, replicate, if◌then◌else◌}
 use Rattle.std.specs.List.{All}
 use Rattle.steer_base.specs.Counters.{rounded_up}
+use Rattle.steer_base.specs.declared.limits.TheConstants.{MAX_FLOW_COUNT}
+use Rattle.dev_flow_table.specs.declared.table.TheConstants.{MAX_EXACT_CLASSES}
 use Rattle.hop_core.specs.declared.shape.HopShape.{HopShape}
+use Rattle.hop_core.specs.declared.shape.TheConstants.{MAX_HOP_ROOM}
 use Rattle.hop_core.specs.Hop.{Fixed, HopState}
 
 -- the most classes of a producer
 abbrev pub most_classes : Bool → ℕ
-most_classes exact = if exact then 262144 else 32768
+most_classes exact = if exact then MAX_EXACT_CLASSES else MAX_FLOW_COUNT
 
 -- What a shape has to meet: at least one packet may wait in a lane, the room is for no more packets
 -- than a capture has, and there are 1 to 32 producers, lanes and out lanes, at most 64 guests, and
 -- one number of classes for each producer.
 pub record IsShape (shape : HopShape) : Type 0 where
   pub limit : 1 ≤ shape.limit
-  pub room : shape.room ≤ 262144
+  pub room : shape.room ≤ MAX_HOP_ROOM
   pub producers : 1 ≤ shape.producers
   pub few_producers : shape.producers ≤ 32
   pub guests : shape.guests ≤ 64

@@ -3,6 +3,7 @@ use Rattle.std.specs.Prelude.{ℕ, ◌+◌, ◌≤◌, ◌<◌, ◌≡◌, ◌�
 use Rattle.std.specs.Prelude.{count_by, slice_index}
 use Rattle.steer_base.specs.Entries.{of_class, position}
 use Rattle.steer_base.specs.declared.choice.Chosen.{Chosen}
+use Rattle.hop_core.specs.declared.shape.TheConstants.{MAX_HOP_ROOM}
 use Rattle.hop_core.specs.Hop.{HopState, accepted_at, fell_at, out_at, pulled_at, delivered_at}
 use Rattle.hop_core.specs.Hop.{retired_at, arrivals_of, choices_of, chosen_at, taken_of, placed_of}
 use Rattle.hop_core.specs.Hop.{since_of, inside_of}
@@ -92,7 +93,7 @@ pub record Gate (s : HopState) : Type 0 where
 pub record Small (s : HopState) : Type 0 where
   pub below : (p i : ℕ) → i < length (arrivals_of s p)
       → slice_index (arrivals_of s p) i < s.fixed.room
-  pub room : s.fixed.room ≤ 262144
+  pub room : s.fixed.room ≤ MAX_HOP_ROOM
   pub start : s.fixed.start < 2 ^ 32
 
 pub record Sound (s : HopState) : Type 0 where
