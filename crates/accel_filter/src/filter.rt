@@ -7,8 +7,8 @@ use steer_base::{Cpu, Filter, RxQueue, Why, reached};
 
 /// The filter that is written for a packet which processor `cpu` accepted at position `accepted`, a
 /// wrapping counter number. There is one if the choice `why` moved the packet's class and `cpu` is
-/// the home of a receive queue (kernel scaling chapter, section accelerated RFS); it names the lowest
-/// such queue. `homes` has the home processor of each receive queue, in order.
+/// the home of a receive queue (kernel scaling chapter, section accelerated RFS); it names the
+/// lowest such queue. `homes` has the home processor of each receive queue, in order.
 pub fn filter_written(homes: &[Cpu], why: Why, cpu: Cpu, accepted: u32) -> Option<Filter>
     requires { length homes.now ≤ 32 }
     ensures { result ≡ filter_written homes.now why cpu accepted }

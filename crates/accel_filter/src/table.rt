@@ -38,8 +38,8 @@ impl Model for FilterTable {
 }
 
 impl FilterTable {
-    /// A table of `count` unset filters, at most 4,096; 0 means that the card has none. Allocates its
-    /// memory here, and none later.
+    /// A table of `count` unset filters, at most 4,096; 0 means that the card has none. Allocates
+    /// its memory here, and none later.
     pub fn make(alloc: Global, count: u32) -> Result<FilterTable, OutOfMemory>
         requires { count ≤ MAX_FILTERS }
         ensures { IfOk result (λ table. table ≡ unset count) }
@@ -75,8 +75,8 @@ impl FilterTable {
         self.filters[place]
     }
 
-    /// Clears filter `i` if it is set and may expire. `head` is the head of its processor, `entries`
-    /// the flow count of its queue. Returns whether it was cleared.
+    /// Clears filter `i` if it is set and may expire. `head` is the head of its processor,
+    /// `entries` the flow count of its queue. Returns whether it was cleared.
     pub fn expire(&mut self, i: u32, head: u32, entries: u32) -> bool
         requires place { i < length self.old }
         requires few { entries ≤ MAX_FLOW_COUNT }

@@ -59,8 +59,8 @@ after_take l = if nat_lt l.pulled (length l.accepted) then record l { pulled = l
 abbrev pub next_waiting : LaneLists → Option ℕ
 next_waiting l = slice_get l.accepted l.pulled
 
--- The invariant of a lane: only accepted packets are pulled, no more wait than the limit, each offer
--- was accepted or dropped, and all offers fit the room.
+-- The invariant of a lane: only accepted packets are pulled, no more wait than the limit, each
+-- offer was accepted or dropped, and all offers fit the room.
 pub record IsLane (l : LaneLists) : Type 0 where
   pub pulled : l.pulled ≤ length l.accepted
   pub waiting : length l.accepted ≤ l.pulled + l.limit

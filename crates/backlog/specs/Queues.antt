@@ -4,7 +4,8 @@ use Rattle.circular_buffer.specs.Buffer.{Buffer}
 use Rattle.steer_base.specs.Journals.{Journal}
 use Rattle.backlog.specs.declared.limits.TheConstants.{MAX_LANE_ROOM}
 
--- a lane's accepted packets, how many were pulled, the limit on those that wait, and the room for all
+-- a lane's accepted packets, how many were pulled, the limit on those that wait, and the room for
+-- all
 pub record QueueLists : Type 0 where
   pub accepted : List ℕ
   pub pulled : ℕ

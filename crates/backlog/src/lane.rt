@@ -41,9 +41,9 @@ impl Model for Lane {
 }
 
 impl Lane {
-    /// An empty lane with memory for `room` packets, accepted and dropped together, of which at most
-    /// `limit` wait at once. Its counter begins at the number `start`. `limited` says whether the
-    /// flow limit applies.
+    /// An empty lane with memory for `room` packets, accepted and dropped together, of which at
+    /// most `limit` wait at once. Its counter begins at the number `start`. `limited` says whether
+    /// the flow limit applies.
     pub fn make(
         alloc: Global,
         limit: u32,
@@ -69,9 +69,9 @@ impl Lane {
         })
     }
 
-    /// Offers a packet with this hash to the lane. It is dropped if as many packets wait as the limit
-    /// allows, or if the flow limit applies and says so; otherwise it is accepted. Returns its
-    /// position, or the drop with its number, counts and cause.
+    /// Offers a packet with this hash to the lane. It is dropped if as many packets wait as the
+    /// limit allows, or if the flow limit applies and says so; otherwise it is accepted. Returns
+    /// its position, or the drop with its number, counts and cause.
     pub fn put(&mut self, id: PacketId, hash: Option<u32>) -> Put
         requires { put_count self.old < self.old.room }
         ensures lists { self.new ≡ after_put self.old id hash }

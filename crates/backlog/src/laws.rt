@@ -14,9 +14,9 @@ pub fn a_new_lane_is_explained()
         → AllExplained hash (new_lane limit room start limited) }
 {}
 
-/// Lemma: a put preserves two facts. The offers are the buckets of the accepted and dropped packets in
-/// the order of their puts; and each drop has the cause that its two counts and the offers before it
-/// give.
+/// Lemma: a put preserves two facts. The offers are the buckets of the accepted and dropped packets
+/// in the order of their puts; and each drop has the cause that its two counts and the offers
+/// before it give.
 pub fn a_put_is_explained()
     ensures offers { (hash : ℕ → Option ℕ) (l : LaneLists) (id : ℕ) → AreOffers hash l
         → AreOffers hash (after_put l id (hash id)) }

@@ -1,4 +1,4 @@
-//! A lane of packets: the backlog of a processor, or a transmit queue, with its limits and its drops.
+//! A lane of packets with its limits and drops: the backlog of a processor, or a transmit queue.
 #![tactic(auto)]
 
 mod bucket;

@@ -43,8 +43,8 @@ impl Offers {
         Ok(Offers { buckets, window })
     }
 
-    /// Adds an offer, and returns how many of the last 256 offers with a hash have its bucket, itself
-    /// included. Returns none for an offer without a hash.
+    /// Adds an offer, and returns how many of the last 256 offers with a hash have its bucket,
+    /// itself included. Returns none for an offer without a hash.
     pub fn note(&mut self, bucket: Option<u16>) -> Option<u32>
         requires room { length self.old.items < self.old.room }
         requires bucket { ForSome bucket (λ b. b < FLOW_LIMIT_BUCKETS) }

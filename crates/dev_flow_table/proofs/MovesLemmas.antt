@@ -1,6 +1,6 @@
 -- What a choice by the rule does with a class of a table.
-use Rattle.std.proofs.Common.{ℕ, ◌≡◌, ◌<◌, Bool, true, false, Option, Some, None, refl, ap, ◌∙◌, inl}
-use Rattle.std.proofs.Common.{inr, sym, subst, length, get_or}
+use Rattle.std.proofs.Common.{ℕ, Bool, Option, Some, None, refl, ap, inl}
+use Rattle.std.proofs.Common.{inr, sym, subst}
 use Rattle.std.specs.Prelude.{◌==◌}
 use Rattle.std.proofs.lemmas.Bool.{cases_Bool}
 use Rattle.std.proofs.lemmas.List.{get_or-set_same}

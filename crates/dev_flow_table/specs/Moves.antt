@@ -25,8 +25,8 @@ ClassMovesByThree =
     (choice : Choice) → choice ≡ migrate (Some class) want desired (entries table) head online
     → MovesInTable table (Some class) choice desired head online
 
--- The reason that a choice gives for a move is true of the entry: it had no lane, an offline one, or
--- one whose head has reached the recorded tail.
+-- The reason that a choice gives for a move is true of the entry: it had no lane, an offline one,
+-- or one whose head has reached the recorded tail.
 pub record ReasonHolds (entry : Entry) (head : ℕ → ℕ) (online : ℕ → Bool) (why : Why) : Type 0 where
   pub unset : why ≡ Unset → entry.lane ≡ None
   pub offline : why ≡ Offline → IsSomeAnd entry.lane (λ lane. online lane ≡ false)

@@ -7,8 +7,8 @@ use Rattle.steer_base.specs.Counters.{number}
 use Rattle.steer_base.specs.declared.choice.Choice.{Choice}
 use Rattle.steer_base.specs.declared.choice.Entry.{Entry}
 
--- a flow table: a row for each class, the number at which the lanes' counters begin, and whether the
--- number of rows is fixed
+-- a flow table: a row for each class, the number at which the lanes' counters begin, and whether
+-- the number of rows is fixed
 pub record Table : Type 0 where
   pub rows : List Entry
   pub start : ℕ

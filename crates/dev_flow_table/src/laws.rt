@@ -8,8 +8,8 @@ ghost use Rattle.dev_flow_table.specs.Moves.{MoveHasItsReason};
 /// Lemma: a choice by the rule moves its class if and only if one of the three conditions of the
 /// kernel's scaling chapter holds: the class has no lane, or another one than the desired that is
 /// offline or whose head has reached the recorded tail. A move is to the desired lane, and without
-/// one the class keeps its lane. The reason that the choice gives is true, and the table then has the
-/// chosen lane.
+/// one the class keeps its lane. The reason that the choice gives is true, and the table then has
+/// the chosen lane.
 pub fn a_class_moves_by_three_conditions()
     ensures moves { ClassMovesByThree }
     ensures reason { MoveHasItsReason }

@@ -1,5 +1,4 @@
-//! The flow table of a receive queue or an application: the lane and the tail recorded for each class
-//! of packets, and the rule by which a class moves to another lane.
+//! The flow table of a receive queue or application, and the rule by which a flow changes lane.
 #![tactic(auto)]
 
 mod laws;

@@ -15,8 +15,8 @@ pub struct Wish {
     pub desired: u8,
 }
 
-// The choice of the lane for a class with this entry. `head` is the head of its current lane, if the
-// rule looks at it.
+// The choice of the lane for a class with this entry. `head` is the head of its current lane, if
+// the rule looks at it.
 pub fn choose(wish: Wish, entry: Entry, head: Option<u32>, online: CpuMask) -> Choice
     requires { is_some head ≡ looks_from entry.lane wish.desired (has online) }
     ensures { result ≡ by_entry wish.class wish.want wish.desired entry.tail

@@ -23,8 +23,8 @@ use steer_base::{
 /// The most classes of a table whose size is fixed: one for each flow of a capture.
 pub const MAX_EXACT_CLASSES: u32 = 262_144;
 
-/// For each class of a queue, its current lane and its recorded tail, as in the device flow tables of
-/// the kernel's scaling chapter. Recorded tails are wrapping 32-bit counter numbers.
+/// For each class of a queue, its current lane and its recorded tail, as in the device flow tables
+/// of the kernel's scaling chapter. Recorded tails are wrapping 32-bit counter numbers.
 #[derive(Drop)]
 pub struct DevTable {
     // As many as the table ever has, without spare capacity. The first `size` are in use.
@@ -56,9 +56,9 @@ impl Model for DevTable {
 }
 
 impl DevTable {
-    /// A resizable table of `count` unset entries, rounded up to a power of two. The counters of the
-    /// lanes begin at the number `start`. Allocates the memory of the largest such table here, and
-    /// none later.
+    /// A resizable table of `count` unset entries, rounded up to a power of two. The counters of
+    /// the lanes begin at the number `start`. Allocates the memory of the largest such table here,
+    /// and none later.
     pub fn make(alloc: Global, count: u32, start: u32) -> Result<DevTable, OutOfMemory>
         requires { count ≤ MAX_FLOW_COUNT }
         ensures { IfOk result (λ table. table ≡ cleared (rounded_up count) start false) }
@@ -71,8 +71,8 @@ impl DevTable {
         })
     }
 
-    /// A table of exactly `count` unset entries, whose size is fixed. Allocates its memory here, and
-    /// none later.
+    /// A table of exactly `count` unset entries, whose size is fixed. Allocates its memory here,
+    /// and none later.
     pub fn make_exact(alloc: Global, count: u32, start: u32) -> Result<DevTable, OutOfMemory>
         requires { count ≤ MAX_EXACT_CLASSES }
         ensures { IfOk result (λ table. table ≡ cleared count start true) }
@@ -109,8 +109,9 @@ impl DevTable {
         self.rows[class as usize].tail
     }
 
-    /// Chooses the lane of a packet by the entry of its class, and records the choice in that entry.
-    /// `head` is the head of the class's current lane, given if and only if the rule looks at it.
+    /// Chooses the lane of a packet by the entry of its class, and records the choice in that
+    /// entry. `head` is the head of the class's current lane, given if and only if the rule looks
+    /// at it.
     pub fn weigh(
         &mut self,
         class: Option<u32>,

@@ -1,5 +1,5 @@
 -- The rule over the head that a producer's table is given is the rule over the heads of all lanes.
-use Rattle.std.proofs.Common.{ℕ, ◌≡◌, Bool, true, false, Option, Some, None, refl, inl, inr}
+use Rattle.std.proofs.Common.{ℕ, ◌≡◌, Bool, Option, Some, None, refl, inl, inr}
 use Rattle.std.specs.Prelude.{◌==◌}
 use Rattle.std.specs.Option.{unwrap_or}
 use Rattle.std.proofs.lemmas.Bool.{cases_Bool}

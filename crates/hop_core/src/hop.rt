@@ -123,8 +123,8 @@ impl Hop {
     }
 }
 
-// For each producer: its ring and how many packets of it were taken, its choices and how many of them
-// were put, and how many there were at the last resize.
+// For each producer: its ring and how many packets of it were taken, its choices and how many of
+// them were put, and how many there were at the last resize.
 #[derive(Drop)]
 struct Rings {
     arrivals: Journals<PacketId>,

@@ -43,8 +43,8 @@ impl Model for Lanes {
 }
 
 impl Lanes {
-    /// `count` empty lanes. Their counters begin at the number `start`; the flow limit applies to the
-    /// lanes in `limited`.
+    /// `count` empty lanes. Their counters begin at the number `start`; the flow limit applies to
+    /// the lanes in `limited`.
     pub fn make(
         alloc: Global,
         count: u8,

@@ -21,8 +21,8 @@ pub struct HopShape {
     pub room: u32,
     /// The number of classes of each producer: at most 32,768, or 262,144 where the shape is exact.
     pub counts: Vec<u32>,
-    /// Whether the numbers of classes are taken as they are; otherwise they are rounded up to powers
-    /// of two.
+    /// Whether the numbers of classes are taken as they are; otherwise they are rounded up to
+    /// powers of two.
     pub exact: bool,
     /// The number at which the lanes' counters begin.
     pub start: u32,

@@ -41,8 +41,8 @@ impl Model for Tables {
 }
 
 impl Tables {
-    /// A table of unset entries for each of these numbers of classes, which are rounded up to powers
-    /// of two unless `exact`.
+    /// A table of unset entries for each of these numbers of classes, which are rounded up to
+    /// powers of two unless `exact`.
     pub fn make(
         alloc: Global,
         counts: &[u32],
@@ -79,8 +79,8 @@ impl Tables {
         table.class(hash)
     }
 
-    /// Chooses the lane of a producer's packet, and records the choice in its table. `retired` has the
-    /// count of each lane's head.
+    /// Chooses the lane of a producer's packet, and records the choice in its table. `retired` has
+    /// the count of each lane's head.
     pub fn choose(
         &mut self,
         retired: &[u32],

@@ -1,4 +1,4 @@
-//! The redirection table, which maps the hash of a packet to a receive queue (receive side scaling).
+//! The redirection table of RSS, which maps the hash of a packet to a receive queue.
 #![tactic(auto)]
 
 mod reta;

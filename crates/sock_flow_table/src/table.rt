@@ -33,8 +33,8 @@ impl Model for SockTable {
 }
 
 impl SockTable {
-    /// An empty table of `entries` entries, at most 65,536, rounded up to a power of two; 0 stays 0.
-    /// It allocates the memory of the largest table here, and none later.
+    /// An empty table of `entries` entries, at most 65,536, rounded up to a power of two; 0 stays
+    /// 0. It allocates the memory of the largest table here, and none later.
     pub fn make(alloc: Global, entries: u32) -> Result<SockTable, OutOfMemory>
         requires { entries ≤ MAX_SOCKET_SIZE }
         ensures { IfOk result (λ table. table ≡ unset (rounded_up entries)) }
@@ -49,8 +49,8 @@ impl SockTable {
         })
     }
 
-    /// Writes the processor to entry `hash mod size`. If the table has no entries, returns false and
-    /// writes nothing.
+    /// Writes the processor to entry `hash mod size`. If the table has no entries, returns false
+    /// and writes nothing.
     pub fn note(&mut self, hash: u32, cpu: Cpu) -> bool
         ensures answer { result ≡ nat_lt 0 (length self.old) }
         ensures table { self.new ≡ noted self.old hash cpu }

@@ -9,8 +9,8 @@ use crate::hop::Hop;
 use steer_base::{CpuMask, MAX_FLOW_COUNT, PacketId};
 
 impl Hop {
-    /// Whether `step` may be asked for an event now. For an arrival this takes time in the number of
-    /// packets that arrived, for other events in the number of lanes.
+    /// Whether `step` may be asked for an event now. For an arrival this takes time in the number
+    /// of packets that arrived, for other events in the number of lanes.
     pub fn may_ask(&self, e: HopEvent) -> bool
         ensures may { IsTrue result → MayAsk self.now e }
         ensures must { MayAsk self.now e → IsTrue result }
