@@ -215,4 +215,4 @@ module _ (about : BoardSizes) (order : List (StepBy BoardStep))
 
   pub deliveries_have_places : DeliveriesHavePlaces about (own order) lists
   deliveries_have_places =
-      record { stand = gives_place; delivered_from = was_given; apart = places_apart }
+      record { stand = gives_place; given = was_given; apart = places_apart }

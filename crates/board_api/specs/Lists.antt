@@ -1,4 +1,4 @@
--- Lanes as they were found before, beside the lists that are left of them.
+-- Lanes as they were found, compared with the lists that are left of them.
 use Rattle.std.specs.Prelude.{◌≡◌, ℕ, ◌<◌, ◌≤◌, []}
 use Rattle.steer_base.specs.Lanes.{LaneLists}
 use Rattle.steer_base.specs.Sets.{has}
@@ -8,13 +8,13 @@ use Rattle.hop_rule.specs.Fronts.{Front}
 use Rattle.hop_rule.specs.declared.sizes.BoardSizes.{BoardSizes}
 use Rattle.board_api.specs.declared.lists.BoardLists.{BoardLists}
 
--- x is the lane y as it was before: its lists are fronts of those of y
+-- The lane x is an earlier state of the lane y: its lists are fronts of those of y.
 pub record IsFrontOf (x : LaneLists) (y : LaneList) : Type 0 where
   pub accepted : Front x.accepted y.accepted
   pub drops : Front x.drops y.drops
   pub pulled : x.pulled ≤ y.pulled
 
--- x is the middle lane l of a board at some time: it has the board's limits
+-- x is the middle lane l of a board at some time: it has the board's limits.
 pub record IsLaneOf (about : BoardSizes) (l : ℕ) (x : LaneLists) : Type 0 where
   pub within : l < about.lanes
   pub limit : x.limit ≡ about.limit
@@ -22,7 +22,7 @@ pub record IsLaneOf (about : BoardSizes) (l : ℕ) (x : LaneLists) : Type 0 wher
   pub start : x.start ≡ about.start
   pub limited : x.limited ≡ has about.limited l
 
--- what is left of the middle lane l as a lane with the board's limits, without its offers
+-- What is left of the middle lane l, as a lane with the board's limits and without its offers.
 abbrev pub as_lane : BoardSizes → BoardLists → ℕ → LaneLists
 as_lane about lists l =
     record {

@@ -1,4 +1,4 @@
--- What a seat's own list tells by itself. Lists of steps have the newest first.
+-- What follows from a seat's own list. Lists of steps have the newest first.
 use Rattle.std.specs.Prelude.{◌≡◌, ℕ, ◌==◌, List, Option, Some, None, if◌then◌else◌}
 use Rattle.std.specs.List.{filter_map}
 use Rattle.steer_base.specs.Lanes.{LaneLists}
@@ -14,62 +14,67 @@ use Rattle.hop_rule.specs.declared.step.BoardStep.TheVariants.{Lane}
 use Rattle.hop_rule.specs.declared.step.Change.TheVariants.{Offered, Pulled}
 use Rattle.hop_rule.specs.declared.step.LaneStep.TheVariants.{Freed, Given, Retired}
 
--- the step of this number, from 0 at the oldest, is this one
+-- The step with this number, from 0 at the oldest, is this one.
 abbrev pub Has : List BoardStep → ℕ → BoardStep → Type 0
 Has own k d = nth_step own k ≡ Some d
 
--- a put of a packet with its hash to the lane l, with its answer
+-- The put of a packet with its hash to the lane l, with its answer.
 abbrev pub put_step : ℕ → ℕ → Option ℕ → Put → BoardStep
 put_step l id hash answer = Lane (Freed l (Offered id hash answer))
 
--- what the seat had found of the middle lane l, where it held the lane before its step k
+-- What the seat found of the middle lane l, if it held the lane before its step k.
 abbrev pub held_before : List BoardStep → ℕ → ℕ → Option LaneLists
 held_before own k l = holding l (lane_steps (past k own))
 
--- the number of the last visit that the seat had begun before its step k
+-- The number of the last visit that the seat began before its step k.
 abbrev pub visit_before : List BoardStep → ℕ → ℕ
 visit_before own k = visit_number (gate_steps (past k own))
 
 -- ---- of one middle lane
 
--- the packet of a put to the lane that was accepted, and of one that was dropped
+-- The packet that a step put to the lane and that was accepted, if it is such a step.
 abbrev pub accepted_in : ℕ → BoardStep → Option ℕ
 accepted_in l (Lane (Freed i (Offered id hash (At n)))) = if i == l then Some id else None
 accepted_in l _ = None
 
+-- The packet that a step put to the lane and that was dropped, if it is such a step.
 abbrev pub dropped_in : ℕ → BoardStep → Option ℕ
 dropped_in l (Lane (Freed i (Offered id hash (Dropped number accepted pulled cause)))) =
     if i == l then Some id else None
 dropped_in l _ = None
 
--- the packet of a pull from the lane
+-- The packet that a step pulled from the lane, if it is such a step.
 abbrev pub pulled_in : ℕ → BoardStep → Option ℕ
 pulled_in l (Lane (Freed i (Pulled id))) = if i == l then Some id else None
 pulled_in l _ = None
 
--- a delivery from the lane
+-- The delivery from the lane that a step is, if it is one.
 abbrev pub delivered_in : ℕ → BoardStep → Option Delivery
 delivered_in l (Lane (Given o from id place)) =
     if from == l then Some (delivery o id place) else None
 delivered_in l _ = None
 
--- the word of the lane's head before it was raised
+-- The word that a raise of the lane's head found, if the step is one.
 abbrev pub retired_in : ℕ → BoardStep → Option ℕ
 retired_in l (Lane (Retired i word)) = if i == l then Some word else None
 retired_in l _ = None
 
--- all of these in a seat's own list
+-- The packets that a seat put to the lane and that were accepted.
 abbrev pub accepted_by : ℕ → List BoardStep → List ℕ
 accepted_by l own = filter_map (accepted_in l) own
 
+-- The packets that a seat put to the lane and that were dropped.
 abbrev pub dropped_by : ℕ → List BoardStep → List ℕ
 dropped_by l own = filter_map (dropped_in l) own
 
+-- The packets that a seat pulled from the lane.
 abbrev pub pulled_by : ℕ → List BoardStep → List ℕ
 pulled_by l own = filter_map (pulled_in l) own
 
+-- The deliveries of a seat from the lane.
 abbrev pub delivered_by : ℕ → List BoardStep → List Delivery
 delivered_by l own = filter_map (delivered_in l) own
 
+-- The words that a seat found when it raised the lane's head.
 abbrev pub retired_by : ℕ → List BoardStep → List ℕ
 retired_by l own = filter_map (retired_in l) own

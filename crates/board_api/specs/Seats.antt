@@ -1,4 +1,4 @@
--- What contracts see of a seat at a board.
+-- A seat at a board as contracts see it.
 use Rattle.std.specs.Prelude.{◌≡◌, ℕ, ◌<◌, Bool, List, ◌++◌, slice_index}
 use Rattle.atomic_table.specs.Seated.{TableId}
 use Rattle.linearization.specs.Seats.{SeatView, seat_view}
@@ -7,25 +7,25 @@ use Rattle.hop_rule.specs.Gates.{openings}
 use Rattle.hop_rule.specs.Lanes.{phase, has_pulled}
 use Rattle.hop_rule.specs.declared.step.BoardStep.{BoardStep}
 
--- a seat's table, its number there, its own steps, the newest first, and whether it has found lanes
--- empty since it last closed the gate
+-- A seat at a board as contracts see it: its table, its number there, its own steps, the newest
+-- first, and whether it has found lanes empty since it last closed the gate.
 pub record BoardSeatView : Type 0 where
   pub table : TableId
   pub number : ℕ
   pub steps : List BoardStep
   pub has_emptied : Bool
 
--- what the order of all steps sees of a seat
+-- The same seat as a seat of the order of all steps.
 abbrev pub ordered_seat : BoardSeatView → SeatView BoardStep
 ordered_seat s = seat_view s.table s.number s.steps
 
--- What a seat keeps follows from its steps: of each lane the packet that it has pulled and not
--- delivered, and how often it has opened the gate.
+-- The fields that a seat keeps follow from its steps: of each lane the packet that it pulled and
+-- has not delivered, and the number of its openings.
 pub record KeepsSteps (steps : List BoardStep) (pulled : List ℕ) (opened : ℕ) : Type 0 where
   pub in_hand : (lane id : ℕ) → lane < 32 → phase lane (lane_steps steps) ≡ has_pulled id
       → slice_index pulled lane ≡ id
   pub opens : opened ≡ openings (gate_steps steps)
 
--- The call added these steps to its seat's own list, and changed nothing else of what is seen.
+-- The call added these steps to its seat's own list and changed nothing else that contracts see.
 abbrev pub Adds : List BoardStep → BoardSeatView → BoardSeatView → Type 0
 Adds added old new = new ≡ record old { steps = added ++ old.steps }

@@ -1,4 +1,4 @@
-//! What the calls of a board answer.
+//! The results of the calls of a board.
 use crate::held_lane::HeldLane;
 use steer_base::PacketId;
 
@@ -7,9 +7,9 @@ use steer_base::PacketId;
 pub enum EnterAnswer {
     /// The seat is inside.
     Ok,
-    /// The gate was closed, and the visitor has stepped back.
+    /// The gate was closed, and the visitor has backed out.
     Closed {
-        /// The gate's word that it met.
+        /// The gate's word that was found.
         word: u64,
     },
 }
@@ -26,12 +26,12 @@ pub enum Hold {
     },
 }
 
-/// What came out of a middle lane.
+/// The result of a pull from a middle lane.
 #[derive(Clone, Copy, Debug, PartialEq, Eq, Drop)]
 pub enum Pull {
-    /// The next packet that waited.
+    /// The packet that waited longest.
     Took(PacketId),
-    /// Nothing waited.
+    /// No packet waited.
     Empty,
 }
 
@@ -40,9 +40,9 @@ pub enum Pull {
 pub enum CloseAnswer {
     /// It is closed.
     Ok,
-    /// Somebody was inside, or on the way back from a closed gate.
+    /// A seat was inside, or backing out of a closed gate.
     Inside {
-        /// How many visits were open.
+        /// The number of open visits.
         n: u64,
     },
 }
@@ -50,15 +50,15 @@ pub enum CloseAnswer {
 /// Whether lanes were found empty.
 #[derive(Clone, Copy, Debug, PartialEq, Eq, Drop)]
 pub enum Emptied {
-    /// Each had its head at its tail.
+    /// Each lane had its head at its tail.
     Ok,
-    /// A lane had not; those before it had.
+    /// A lane was not empty; those before it in the set were.
     NotEmpty {
         /// The first such lane.
         lane: u8,
-        /// Its head, a counter number that wraps.
+        /// Its head, a counter number.
         head: u32,
-        /// Its tail, a counter number that wraps.
+        /// Its tail, a counter number.
         tail: u32,
     },
 }

@@ -1,4 +1,4 @@
-//! The calls of a board.
+//! The calls of a board, as a trait.
 ghost use Rattle.std.specs.Prelude.{◌≡◌, ◌<◌, ◌∷◌, [], length, true, All};
 ghost use Rattle.std.specs.Vec.{vec_len};
 ghost use Rattle.hop_rule.specs.Boards.{gate_steps};
@@ -25,14 +25,13 @@ use hop_rule::{BoardStep, GateStep};
 use steer_base::{CpuMask, PacketId, Put};
 
 /// Lanes, heads, a gate and settings that threads share without a lock. Each thread has a seat. A
-/// call adds its own steps to its seat's list and tells nothing of the other seats; it takes no
-/// memory and waits for nobody. What the lists of all seats tell of each other is known at the
-/// closing.
+/// call adds its own steps to its seat's list and shows nothing of the other seats; it allocates
+/// nothing and does not wait. How the lists of all seats agree is known at the closing.
 pub trait Board {
     // The table of its words, and its sizes.
     ghost view: { Self → BoardView };
 
-    /// Begins a visit at an open gate. At a closed one the visitor steps back in the same call.
+    /// Begins a visit if the gate is open. If it is closed the visitor backs out in the same call.
     fn enter(&self, seat: &mut BoardSeat) -> EnterAnswer
         requires table { seat.old.table ≡ (view self.now).table }
         requires outside { IsOutside seat.old.steps }
@@ -45,21 +44,21 @@ pub trait Board {
         requires inside { IsInside seat.old.steps }
         ensures { Adds (BoardStep.Gate GateStep.Left ∷ []) seat.old seat.new };
 
-    /// Reads a setting.
+    /// Reads a setting, by its number from 0.
     fn setting(&self, seat: &mut BoardSeat, i: u32) -> u64
         requires table { seat.old.table ≡ (view self.now).table }
         requires inside { MayRead seat.old.steps }
         requires within { i < length (view self.now).sizes.settings }
         ensures { Adds (BoardStep.Gate (GateStep.Read i result) ∷ []) seat.old seat.new };
 
-    /// Reads the head of a middle lane, a counter number that wraps.
+    /// Reads the head of a middle lane, a counter number.
     fn weigh(&self, seat: &mut BoardSeat, lane: u8) -> u32
         requires table { seat.old.table ≡ (view self.now).table }
         requires inside { MayRead seat.old.steps }
         requires within { lane < (view self.now).sizes.lanes }
         ensures { WeighTells lane seat.old seat.new result };
 
-    /// Takes a lane, unless a seat holds it.
+    /// Takes a lane if no seat holds it.
     fn try_hold(&self, seat: &mut BoardSeat, lane: LaneId) -> Hold
         requires table { seat.old.table ≡ (view self.now).table }
         requires within { FitsLane (view self.now).sizes lane }
@@ -71,7 +70,7 @@ pub trait Board {
         requires held { Holds (view self.now).sizes seat.old.steps held }
         ensures { BackTells (view self.now).sizes held seat.old seat.new };
 
-    /// Offers a packet with its hash to a middle lane, which is given back.
+    /// Offers a packet with its hash to a middle lane, and gives the lane back.
     fn put(&self, seat: &mut BoardSeat, held: HeldLane, id: PacketId, hash: Option<u32>) -> Put
         requires table { seat.old.table ≡ (view self.now).table }
         requires inside { IsInside seat.old.steps }
@@ -80,8 +79,8 @@ pub trait Board {
         requires id { id < (view self.now).sizes.room }
         ensures { PutTells held id hash seat.old seat.new result };
 
-    /// Pulls the next packet that waits in a middle lane, which is given back. The seat has no
-    /// packet of this lane in hand, also none that was delivered and not retired.
+    /// Pulls the packet that waits longest in a middle lane, and gives the lane back. The seat has
+    /// no packet of this lane in hand, including one that was delivered and not retired.
     fn pull(&self, seat: &mut BoardSeat, held: HeldLane) -> Pull
         requires table { seat.old.table ≡ (view self.now).table }
         requires held { HoldsMiddle (view self.now).sizes seat.old.steps held }
@@ -89,8 +88,8 @@ pub trait Board {
         requires idle { HasNoneOf seat.old.steps held }
         ensures { PullTells (view self.now).sizes held seat.old seat.new result };
 
-    /// Delivers the packet that this seat pulled from the middle lane `lane` to an out lane, which
-    /// is given back, and answers its place there, from 1.
+    /// Delivers the packet that this seat pulled from the middle lane `lane` to an out lane, gives
+    /// the out lane back, and returns the place of the packet there, from 1.
     fn deliver(&self, seat: &mut BoardSeat, held: HeldLane, lane: u8) -> u32
         requires table { seat.old.table ≡ (view self.now).table }
         requires held { HoldsOut (view self.now).sizes seat.old.steps held }
@@ -100,15 +99,15 @@ pub trait Board {
         requires pulled { HasPulled seat.old.steps lane }
         ensures { DeliverTells (view self.now).sizes held lane seat.old seat.new result };
 
-    /// The packet at index `n` of an out lane, from 0, if it has more than `n`. The lane is given
-    /// back as it was.
+    /// The packet at index `n` of an out lane, from 0, if it has more than `n` packets. The lane is
+    /// given back as it was.
     fn read_out(&self, seat: &mut BoardSeat, held: HeldLane, n: u32) -> Option<PacketId>
         requires table { seat.old.table ≡ (view self.now).table }
         requires held { HoldsOut (view self.now).sizes seat.old.steps held }
         ensures step { BackTells (view self.now).sizes held seat.old seat.new }
         ensures packet { ReadTells (view self.now).sizes held n result };
 
-    /// Raises the head of a middle lane, of which this seat has delivered a packet.
+    /// Raises the head of a middle lane by 1, after this seat delivered a packet of it.
     fn retire(&self, seat: &mut BoardSeat, lane: u8)
         requires table { seat.old.table ≡ (view self.now).table }
         requires within { lane < (view self.now).sizes.lanes }
@@ -116,8 +115,8 @@ pub trait Board {
         requires delivered { HasDelivered seat.old.steps lane }
         ensures { RetireTells lane seat.old seat.new };
 
-    /// Closes the gate, if no visit is open, with those that met a closed gate and have not yet
-    /// stepped back.
+    /// Closes the gate if no visit is open, counting those that found a closed gate and have not
+    /// backed out yet.
     fn try_close(&self, seat: &mut BoardSeat) -> CloseAnswer
         requires table { seat.old.table ≡ (view self.now).table }
         requires closer { IsCloser (view self.now).sizes seat.old.number }
@@ -127,14 +126,14 @@ pub trait Board {
         ensures { CloseTells (view self.now).sizes seat.old seat.new result };
 
     /// Looks at the middle lanes of a set, ascending, up to the first that is not empty. Numbers
-    /// that are no lane's are passed over.
+    /// that are not those of a lane are skipped.
     fn emptied(&self, seat: &mut BoardSeat, lanes: CpuMask) -> Emptied
         requires table { seat.old.table ≡ (view self.now).table }
         requires closer { IsCloser (view self.now).sizes seat.old.number }
         requires closed { HasClosed seat.old.steps }
         ensures { EmptiedTells (view self.now).sizes lanes seat.old seat.new result };
 
-    /// Changes a setting, after lanes were found empty since the gate was closed.
+    /// Changes a setting, if lanes were found empty since the gate was closed.
     fn set(&self, seat: &mut BoardSeat, i: u32, v: u64)
         requires table { seat.old.table ≡ (view self.now).table }
         requires closer { IsCloser (view self.now).sizes seat.old.number }
@@ -150,7 +149,8 @@ pub trait Board {
         requires closed { HasClosed seat.old.steps }
         ensures { OpenTells seat.old seat.new };
 
-    /// Ends the board with all of its seats, each outside, with no lane held and no packet in hand.
+    /// Ends the board with all of its seats, each outside, with no lane held and no packet in hand,
+    /// and returns the lists of its lanes.
     fn close_board(self, seats: Vec<BoardSeat>) -> BoardLists
         requires table { All (λ s. s.table ≡ (view self).table) seats.items }
         requires all { vec_len seats ≡ (view self).sizes.seats }

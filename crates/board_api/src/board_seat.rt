@@ -3,18 +3,18 @@ use hop_rule::{BoardStep, Slot};
 use linearization::OrderedSeat;
 use std::marker::Model;
 
-/// One thread's right to make steps on a board. Contracts see its table, its number, its own steps,
-/// and whether it has found lanes empty since it closed the gate. What else it keeps follows from
-/// its steps.
+/// The right of one thread to make steps on a board. Contracts see its table, its number, its own
+/// steps, and whether it has found lanes empty since it closed the gate. Its other fields follow
+/// from its steps.
 #[derive(Drop)]
 pub struct BoardSeat {
     /// The seat of the table of words.
     pub seat: OrderedSeat<Option<Slot>, BoardStep>,
-    /// Of each middle lane the packet that this seat pulled last.
+    /// For each middle lane the packet that this seat pulled last.
     pub pulled: [u32; 32],
-    /// How often it has opened the gate.
+    /// How many times it has opened the gate.
     pub openings: u32,
-    /// Whether it has found lanes empty since it last closed the gate, which it has not opened yet.
+    /// Whether it has found lanes empty since it last closed the gate, and not opened it since.
     pub has_emptied: bool,
 }
 

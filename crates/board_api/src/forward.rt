@@ -1,4 +1,4 @@
-//! A board that hands its calls on.
+//! A board that forwards its calls.
 use crate::answers::{CloseAnswer, Emptied, EnterAnswer, Hold, Pull};
 use crate::board::Board;
 use crate::board_seat::BoardSeat;
@@ -6,8 +6,8 @@ use crate::held_lane::{HeldLane, LaneId};
 use crate::lists::BoardLists;
 use steer_base::{CpuMask, PacketId, Put};
 
-/// Hands each call on to the board in it. It shows that what a call asks and what it tells go
-/// together: a layer that stands on a board can be one.
+/// Forwards each call to the board in it. It shows that the requirements and the results of the
+/// calls are consistent: a layer above a board can itself be a board.
 pub struct Forward<B> {
     /// The board that makes the steps.
     pub inner: B,

@@ -1,11 +1,11 @@
-//! Lanes of a board, and the lane that a seat has in its hand.
+//! The lanes of a board, and lanes that a seat holds.
 ghost use Rattle.std.specs.Prelude.{◌≡◌};
 ghost use Rattle.board_api.specs.Calls.HeldLanes.{room_in};
 
 use backlog::Lane;
 use hop_rule::OutLane;
 
-/// A lane of a board.
+/// A lane of a board, by its number from 0.
 #[derive(Clone, Copy, Debug, PartialEq, Eq, Drop)]
 pub enum LaneId {
     /// A lane to which packets are put, and from which they are pulled.
@@ -14,8 +14,8 @@ pub enum LaneId {
     Out(u8),
 }
 
-/// A lane that a seat holds, with its number. It is handed back by a call of the board. One that is
-/// let go is lost: its seat holds it for ever by its own list, and no board closes with that seat.
+/// A lane that a seat holds, with its number. A call of the board gives it back. A lane that is
+/// dropped is lost: its seat holds it forever by its own list, and no board closes with that seat.
 #[derive(Drop)]
 pub enum HeldLane {
     /// A middle lane.
@@ -25,8 +25,8 @@ pub enum HeldLane {
 }
 
 impl HeldLane {
-    /// How many packets more may be put or delivered: of a middle lane the room less all that were
-    /// accepted or dropped, of an out lane the room less the packets that lie there.
+    /// The number of packets that may still be put or delivered: for a middle lane its room less
+    /// all packets that were accepted or dropped, for an out lane its room less its packets.
     pub fn room(&self) -> u32
         ensures { result ≡ room_in self.now }
     {

@@ -1,5 +1,5 @@
-//! The calls of a board for the threads that steer: what each adds to its seat's own list of
-//! steps, and what all lists tell at the closing.
+//! The calls of a board for the threads that steer, as a trait: the steps that each call adds to
+//! its seat's own list, and lemmas on all lists at the closing.
 #![tactic(auto)]
 
 mod answers;

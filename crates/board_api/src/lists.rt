@@ -1,12 +1,12 @@
-//! What a board leaves.
+//! The lists that a board leaves.
 use history::LaneList;
 use steer_base::{List, PacketId};
 
 /// The lists of all lanes of a board, by number.
 #[derive(Debug, Drop)]
 pub struct BoardLists {
-    /// Of each middle lane what it accepted and dropped, and how far its packets came.
+    /// For each middle lane what it accepted and dropped, and how far its packets came.
     pub lanes: List<LaneList>,
-    /// Of each out lane the packets that were delivered to it, in order.
+    /// For each out lane the packets that were delivered to it, in order.
     pub outs: List<List<PacketId>>,
 }

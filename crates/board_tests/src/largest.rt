@@ -1,5 +1,6 @@
-//! Boards of all sizes are made, and closed before any step.
+//! Boards of several sizes are made, and closed before any step.
 ghost use Rattle.std.specs.Prelude.{◌≡◌, ◌≤◌};
+ghost use Rattle.hop_rule.specs.declared.sizes.TheConstants.{MAX_BOARD_ROOM};
 
 use board_api::BoardLists;
 use hop_board::Board;
@@ -8,7 +9,7 @@ use std::alloc::Global;
 use std::test::Fail;
 use steer_base::{CpuMask, OutOfMemory};
 
-// The shape of a hop with so many lanes of each kind and room for so many packets in each.
+// The shape of a hop with these numbers of lanes and room for this many packets in each.
 fn shape(counts: Vec<u32>, lanes: u8, outs: u8, room: u32) -> HopShape
     ensures lanes { result.lanes ≡ lanes }
     ensures limit { result.limit ≡ 1 }
@@ -28,7 +29,7 @@ fn shape(counts: Vec<u32>, lanes: u8, outs: u8, room: u32) -> HopShape
     }
 }
 
-// What a board leaves that nobody used.
+// What a board leaves on which no step was made.
 fn unused(
     alloc: Global,
     lanes: u8,
@@ -36,7 +37,7 @@ fn unused(
     room: u32,
     seats: u32,
 ) -> Result<BoardLists, OutOfMemory>
-    requires room { room ≤ 262144 }
+    requires room { room ≤ MAX_BOARD_ROOM }
     requires lanes { lanes ≤ 32 }
     requires some_seat { 1 ≤ seats }
     requires seats { seats ≤ 64 }
@@ -46,7 +47,8 @@ fn unused(
     Ok(board.close_board(all))
 }
 
-// How many lanes of each kind are left, and how many packets and counts above 0 they have.
+// The numbers of lanes of each kind that are left, and the largest number of packets or counts
+// above 0 that one of them has.
 fn counts(lists: &BoardLists) -> (usize, usize, usize) {
     let mut found = 0usize;
     for lane in lists.lanes.as_slice() {

@@ -1,5 +1,5 @@
 //! Tests of boards: the words of their steps, the lanes that seats hold, and the calls of seats
-//! that take turns and that run beside each other.
+//! that take turns and that run in threads.
 #![tactic(auto)]
 
 #[cfg(test)]

@@ -6,33 +6,33 @@ use Rattle.linearization.specs.Orders.{StepBy}
 use Rattle.hint_words.specs.declared.step.HintStep.{HintStep}
 use Rattle.hint_words.specs.declared.step.HintStep.TheVariants.{Load, Store, ClearIf}
 
--- what the step writes at the word i, if it does
+-- The value that the step writes at the word i, if it writes there.
 abbrev pub written : ℕ → HintStep → Option ℕ
 written i (Load j n) = None
 written i (Store j n) = if j == i then Some n else None
 written i (ClearIf j n done) = if (j == i) && done then Some 0 else None
 
--- the word i after these steps: what was written there last, or 0 where nothing was
+-- The word i after these steps: the value written there last, or 0 if none was.
 abbrev pub word_after : ℕ → List (StepBy HintStep) → ℕ
 word_after i [] = 0
 word_after i (e ∷ es) = unwrap_or (written i e.step) (word_after i es)
 
--- the step's answer is that of its word after the earlier steps
+-- The step returns what its word is after the earlier steps.
 abbrev pub AnswersAfter : List (StepBy HintStep) → HintStep → Type 0
 AnswersAfter es (Load i n) = n ≡ word_after i es
 AnswersAfter es (Store i n) = Unit {0}
 AnswersAfter es (ClearIf i n done) = done ≡ (word_after i es == n)
 
--- each step answers by its word after the steps before it
+-- Each step returns what its word is after the steps before it.
 abbrev pub IsLawful : List (StepBy HintStep) → Type 0
 IsLawful [] = Unit {0}
 IsLawful (e ∷ es) = AnswersAfter es e.step × IsLawful es
 
--- no step of these writes at the word i
+-- None of these steps writes at the word i.
 abbrev pub NoneWrites : ℕ → List (StepBy HintStep) → Type 0
 NoneWrites i order = All (λ (e : StepBy HintStep). written i e.step ≡ None) order
 
--- one step wrote n at the word i, and no newer one wrote there
+-- One of the steps writes n at the word i, and no newer one writes there.
 pub record IsWrittenLast (i : ℕ) (order : List (StepBy HintStep)) (n : ℕ) : Type 0 where
   pub newer : List (StepBy HintStep)
   pub last : StepBy HintStep

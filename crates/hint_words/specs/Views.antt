@@ -2,6 +2,7 @@
 use Rattle.std.specs.Prelude.{ℕ}
 use Rattle.atomic_table.specs.Seated.{TableId}
 
+-- What contracts see of the hints: their table, and the number of words and seats.
 pub record HintsView : Type 0 where
   pub table : TableId
   pub words : ℕ

@@ -1,4 +1,4 @@
-//! The three calls on a word. Each is one atomic step, takes no memory and waits for nobody.
+//! The three calls on a word. Each is one atomic step, allocates nothing and does not wait.
 ghost use Rattle.std.specs.Prelude.{◌≡◌, ℕ, ◌<◌, ◌==◌, List, ◌∷◌};
 ghost use Rattle.linearization.specs.Orders.{StepBy};
 ghost use Rattle.linearization.specs.Prefixes.{IsPastOf};
@@ -11,8 +11,8 @@ use linearization::{Counted, Makes};
 use std::marker::Brand;
 
 impl Hints {
-    /// Loads the word `i`, counted from 0: what was written there last, or 0 where nothing was.
-    /// The seat is one that came with these hints.
+    /// Loads the word `i`, counted from 0: the value written there last, or 0 if none was. The seat
+    /// is one that came with these hints.
     pub fn load(&self, seat: &mut HintSeat, i: u32) -> u64
         requires table { seat.old.table ≡ self.now.table }
         requires inside { i < self.now.words }
@@ -37,8 +37,8 @@ impl Hints {
             .store::<Makes<Stores>>(&mut seat.seat, i as usize, v);
     }
 
-    /// Stores 0 at the word `i` if it is `v`, and answers whether it was. Where it was not, nothing
-    /// is written.
+    /// Stores 0 at the word `i` if it is `v`, and returns whether it was. If it was not, nothing is
+    /// written.
     pub fn clear_if(&self, seat: &mut HintSeat, i: u32, v: u64) -> bool
         requires table { seat.old.table ≡ self.now.table }
         requires inside { i < self.now.words }

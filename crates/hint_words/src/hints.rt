@@ -1,4 +1,4 @@
-//! The words, and how they are made and closed.
+//! The words, how they are made and how they end.
 ghost use Rattle.std.specs.Prelude.{◌≡◌, ℕ, List, IfOk, All};
 ghost use Rattle.std.specs.Vec.{vec_len};
 ghost use Rattle.linearization.specs.Orders.{StepBy};
@@ -15,10 +15,10 @@ use std::alloc::Global;
 use std::marker::Model;
 use steer_base::OutOfMemory;
 
-/// One thread's right to make steps on the words.
+/// The right of one thread to make steps on the words.
 pub type HintSeat = OrderedSeat<(), HintStep>;
 
-/// Words of 64 bits that any thread with a seat may load, store and clear. Each begins as 0.
+/// 64-bit words that any thread with a seat may load, store and clear. Each begins as 0.
 #[derive(Drop)]
 pub struct Hints {
     pub(crate) table: Table<(), Hands<HintStep>, Sizes, OneOrder<LastWrites>, Global>,
@@ -41,7 +41,8 @@ impl Model for Hints {
 }
 
 impl Hints {
-    /// Makes `words` words, each 0, with all their seats, which are numbered from 0 on.
+    /// Makes `words` words, each 0, and their `seats` seats, numbered from 0. The only error is out
+    /// of memory.
     pub fn make(
         alloc: Global,
         words: u32,
@@ -60,7 +61,7 @@ impl Hints {
         Ok((Hints { table }, given))
     }
 
-    /// Ends the words. It takes all seats that came with them, in any order, and no memory.
+    /// Ends the words. It takes all seats that came with them, in any order, and allocates nothing.
     pub fn close_hints(self, seats: Vec<HintSeat>)
         requires table { All (λ s. s.table ≡ self.table) seats.items }
         requires all { vec_len seats ≡ self.seats }

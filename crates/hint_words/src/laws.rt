@@ -5,8 +5,8 @@ ghost use Rattle.hint_words.specs.Steps.{word_after, NoneWrites, IsWrittenLast};
 
 use crate::step::HintStep;
 
-/// What a word is after an order of steps: the value of the last write there, or 0 where no step
-/// wrote.
+/// Lemma: after an order of steps a word is the value of the last write there, or 0 if no step
+/// wrote there.
 pub fn last_write()
     ensures written { (i n : ℕ) (order : List (StepBy HintStep))
         → IsWrittenLast i order n → word_after i order ≡ n }

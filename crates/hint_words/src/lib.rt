@@ -1,4 +1,4 @@
-//! Words that threads load and store with no lock, each in single atomic steps.
+//! 64-bit words that several threads load, store and clear without a lock, in single atomic steps.
 #![tactic(auto)]
 
 mod calls;

@@ -1,8 +1,9 @@
-//! What the calls add to their seat's list.
+//! The steps that the calls add to their seat's list.
 use crate::step::HintStep;
 use linearization::{Counted, Making};
 use std::marker::PhantomData;
 
+/// A load: its value is what some order of all steps so far leaves at the word.
 pub struct Loads<J> {
     of: PhantomData<J>,
 }
@@ -17,6 +18,7 @@ impl<J: Counted> Making<(), HintStep> for Loads<J> {
     ghost tells = { Found IsLawful word_after J.seats };
 }
 
+/// A clear: whether the word had the value is by some order of all steps so far.
 pub struct Clears<J> {
     of: PhantomData<J>,
 }
@@ -31,6 +33,7 @@ impl<J: Counted> Making<(), HintStep> for Clears<J> {
     ghost tells = { Found IsLawful word_after J.seats };
 }
 
+/// A store, which shows nothing of earlier steps.
 pub struct Stores;
 
 impl Making<(), HintStep> for Stores {

@@ -1,8 +1,10 @@
-//! What a table of words is told when it is made.
+//! The key of a table of words.
 
-/// How many words and seats there are.
+/// The number of words and of seats, fixed when the table is made.
 #[derive(Drop)]
 pub struct Sizes {
+    /// The number of words.
     pub words: u32,
+    /// The number of seats.
     pub seats: u32,
 }

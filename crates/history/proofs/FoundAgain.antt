@@ -2,6 +2,6 @@
 pub mod Arrivals
 pub mod Histories
 mod Looks
-mod SameArrivals
-mod SamePuts
-mod Traces
+pub mod SameArrivals
+pub mod SamePuts
+pub mod Traces

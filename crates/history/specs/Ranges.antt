@@ -11,6 +11,7 @@ use Rattle.steer_base.specs.declared.command.Busy.TheVariants as busy
 use Rattle.steer_base.specs.declared.command.Command.{Command}
 use Rattle.steer_base.specs.declared.command.Command.TheVariants as command
 use Rattle.steer_base.specs.declared.command.User.TheVariants as user
+use Rattle.steer_base.specs.declared.limits.TheConstants.{MAX_PACKETS}
 use Rattle.steer_base.specs.declared.packet.Packet.{Packet}
 use Rattle.steer_base.specs.declared.put.DropCause.{DropCause}
 use Rattle.steer_base.specs.declared.put.DropCause.TheVariants.{Full, Flow}
@@ -142,7 +143,7 @@ pub record ReplyFits (r : ReplyLine) : Type 0 where
 -- The numbers in the lines of a regular history are within the types of the lines' fields.
 abbrev pub HaveLinesThatFit : Type 0
 HaveLinesThatFit =
-    (packets : List Packet) (apps : ℕ) (h : History) → length packets ≤ 262144
+    (packets : List Packet) (apps : ℕ) (h : History) → length packets ≤ MAX_PACKETS
     → Regular packets apps h → HistoryFits h
     → (x : ℕ)
     → PacketFits (packet_line packets apps h x) × IfSome (reply_line packets apps h x) ReplyFits

@@ -2,6 +2,7 @@
 use Rattle.std.specs.Prelude.{ℕ, ◌<◌, ◌≤◌, ◌≡◌, List, Option, None, length, map}
 use Rattle.std.specs.Option.{option_map}
 use Rattle.steer_base.specs.declared.choice.Choice.{Choice}
+use Rattle.steer_base.specs.declared.limits.TheConstants.{MAX_PACKETS}
 use Rattle.steer_base.specs.declared.packet.Packet.{Packet}
 use Rattle.history.specs.Lines.{packet_line, reply_line}
 use Rattle.history.specs.Regular.{Regular, AreQueued}
@@ -58,6 +59,6 @@ pub record SameShown (packets : List Packet) (apps : ℕ) (h k : History) : Type
 -- A regular history is found again in its lines, sums, writes and commands.
 abbrev pub IsFoundAgain : Type 0
 IsFoundAgain =
-    (packets : List Packet) (apps : ℕ) (h k : History) → length packets ≤ 262144
+    (packets : List Packet) (apps : ℕ) (h k : History) → length packets ≤ MAX_PACKETS
     → Regular packets apps h → AreQueued packets h → Regular packets apps k → AreQueued packets k
     → SameShown packets apps h k → h ≡ k

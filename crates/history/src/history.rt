@@ -17,18 +17,18 @@ use crate::sock_write::SockWrite;
 use finding::has_packet;
 use steer_base::{AppId, Chosen, Cpu, List, PacketId, RxQueue};
 
-/// All that happened in a run, as lists in the order in which it happened.
+/// Everything that happened in a run, as lists in the order in which it happened.
 #[derive(Debug, Drop)]
 pub struct History {
-    /// How many packets the capture has.
+    /// The number of packets in the capture.
     pub total: u32,
-    /// The length of a cut record at the end of the capture, if there is one.
+    /// The length of a truncated record at the end of the capture, if there is one.
     pub cut: Option<u32>,
     /// The packets that arrived.
     pub arrivals: List<Arrival>,
-    /// For each receive queue, how many packets its poller took.
+    /// For each receive queue, the number of packets that its poller took.
     pub taken: List<u32>,
-    /// For each receive queue, the choices of a processor.
+    /// For each receive queue, the processor choices of its packets.
     pub choices: List<List<Chosen>>,
     /// For each processor, its backlog.
     pub lanes: List<LaneList>,
@@ -36,17 +36,17 @@ pub struct History {
     pub inboxes: List<List<PacketId>>,
     /// For each application, the replies that it began.
     pub sent: List<List<Sent>>,
-    /// For each application, the choices of a transmit queue.
+    /// For each application, the transmit queue choices of its replies.
     pub tx_choices: List<List<Chosen>>,
-    /// For each transmit queue, its packets.
+    /// For each transmit queue, its replies.
     pub tx_lanes: List<LaneList>,
-    /// The replies that left by the port.
+    /// The replies that left through the port.
     pub port: List<PacketId>,
-    /// For each application, its writes of the socket flow table.
+    /// For each application, its writes to the socket flow table.
     pub writes: List<List<SockWrite>>,
-    /// The commands that were given, each with its answer.
+    /// The commands that were given, with their answers.
     pub commands: List<Commanded>,
-    /// The number that the counters of all lanes show before their first packet.
+    /// The number at which the counters of all lanes start, before their first packet.
     pub start: u32,
 }
 
@@ -63,10 +63,10 @@ impl History {
         false
     }
 
-    /// The place of a packet that arrived: the first that holds of dropped, in an inbox, pulled,
-    /// accepted, and taken from the ring. Where several lanes or inboxes have it, which is never so
-    /// in a regular history, it is at the one with the least number. It takes no memory, and walks
-    /// the lists once.
+    /// The place of a packet that arrived: the first that applies of dropped, in an inbox, pulled,
+    /// accepted, and taken from the ring. If several lanes or inboxes have it, which never happens in
+    /// a regular history, the one with the least number is meant. Allocates nothing and walks each
+    /// list once.
     pub fn place(&self, id: PacketId) -> Place
         requires arrived { IsTrue (has_arrived self.now id) }
         requires in_reach { IsInReach self.now id }

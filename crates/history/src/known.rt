@@ -1,4 +1,4 @@
-//! What the lists of a history tell of each packet.
+//! What the lists of a history say about each packet.
 ghost use Rattle.std.specs.Prelude.{IfOk};
 ghost use Rattle.history.specs.Known.{HasShortLists, IsKnown};
 
@@ -13,8 +13,8 @@ use index::{
 use std::alloc::Global;
 use steer_base::{Choice, OutOfMemory, Put};
 
-/// One slot for each packet that arrived, for each kind of list. Places are counted from 1. Where
-/// several lists, or several places of one, have a packet, the first of them is kept.
+/// One slot for each packet that arrived, for each kind of list. Places are counted from 1. If
+/// several lists, or several places in a list, have a packet, the first of them is kept.
 #[derive(Drop)]
 pub struct Known {
     /// The choice of a processor.
@@ -25,7 +25,7 @@ pub struct Known {
     pub drops: Index<Put>,
     /// The place in an inbox.
     pub inboxes: Index<u32>,
-    /// The reply, where one was begun.
+    /// The reply, if one was begun.
     pub sent: Index<Sent>,
     /// The choice of a transmit queue for the reply.
     pub tx_choices: Index<Choice>,
@@ -36,8 +36,7 @@ pub struct Known {
 }
 
 impl Known {
-    /// What the lists of a history tell, found in one pass over each of them. The history need not
-    /// be regular.
+    /// Looks up every packet, in one pass over each list. The history need not be regular.
     pub fn make(alloc: Global, h: &History) -> Result<Known, OutOfMemory>
         requires { HasShortLists h.now }
         ensures { IfOk result (λ k. IsKnown h.now k) }

@@ -1,4 +1,4 @@
-//! What became of the packets that were put to one lane.
+//! The packets of one lane, and how far they have come.
 ghost use Rattle.std.specs.Prelude.{◌≡◌};
 ghost use Rattle.history.specs.Finding.{is_among, is_in};
 ghost use Rattle.history.specs.Lists.{drop_ids};
@@ -6,19 +6,19 @@ ghost use Rattle.history.specs.Lists.{drop_ids};
 use crate::history::finding::{has_packet, has_packet_among};
 use steer_base::{LaneDrop, List, PacketId};
 
-/// The backlog of a processor, or a transmit queue: its packets in the order of their puts, and how
-/// far they came.
+/// The backlog of a processor, or a transmit queue: its packets in the order in which they were put
+/// there, and how far they have come.
 #[derive(Debug, Drop)]
 pub struct LaneList {
     /// The packets that were accepted, in order: the n-th, from 1, has the position n.
     pub accepted: List<PacketId>,
     /// The packets that were dropped, in the order of their numbers.
     pub drops: List<LaneDrop>,
-    /// How many of the accepted packets were pulled.
+    /// The number of accepted packets that were pulled.
     pub pulled: u32,
-    /// How many of these were delivered.
+    /// The number of pulled packets that were delivered.
     pub delivered: u32,
-    /// How many of these were retired, which is when the head of the lane counts them.
+    /// The number of delivered packets that were retired: the head of the lane counts these.
     pub retired: u32,
 }
 

@@ -1,5 +1,4 @@
-//! The history of a run as lists, the place of each packet, and the lines that a report shows of
-//! it.
+//! The history of a run as lists, the place of each packet, and the lines that a report shows.
 #![tactic(auto)]
 
 mod arrival;

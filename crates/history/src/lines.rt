@@ -1,6 +1,7 @@
 //! The lines of all packets and replies of a history.
 ghost use Rattle.std.specs.Prelude.{◌≡◌, ℕ, ◌<◌, ◌≤◌, None, is_some, length, slice_index};
 ghost use Rattle.std.specs.Prelude.{slice_index_or, IfOk};
+ghost use Rattle.steer_base.specs.declared.limits.TheConstants.{MAX_PACKETS};
 ghost use Rattle.history.specs.Lines.{is_replied, lines_of, packet_line, reply_line};
 ghost use Rattle.history.specs.Lists.{arrivals_at};
 ghost use Rattle.history.specs.declared.packet_line.PacketLine.{PacketLine};
@@ -18,8 +19,8 @@ use std::alloc::Global;
 use std::marker::Model;
 use steer_base::{OutOfMemory, Packet, PacketId};
 
-/// The lines of the packets that arrived and of their replies, and how many packets arrived at each
-/// queue.
+/// The lines of the packets that arrived and of their replies, and the number of packets that
+/// arrived at each queue.
 #[derive(Debug, Drop)]
 pub struct Lines {
     packets: Vec<PacketLine>,
@@ -40,8 +41,8 @@ impl Model for Lines {
 }
 
 impl Lines {
-    /// The lines of a history that is regular for these packets and `apps` applications, in time
-    /// and memory linear in its packets. All memory that they need is taken here.
+    /// Makes the lines of a history that is regular for these packets and `apps` applications, in time
+    /// and memory linear in its packets. All memory is allocated here.
     pub fn make(
         alloc: Global,
         h: &History,
@@ -50,10 +51,10 @@ impl Lines {
     ) -> Result<Lines, OutOfMemory>
         requires regular { Regular packets.now apps h.now }
         requires apps { 1 ≤ apps }
-        requires few { length packets.now ≤ 262144 }
+        requires few { length packets.now ≤ MAX_PACKETS }
         ensures lines { IfOk result (λ l. l ≡ lines_of packets.now apps h.now) }
 
-        // Each line, one by one; a reply has one exactly where it was begun.
+        // Each line by itself; a reply has a line if and only if it was begun.
         ensures packet { IfOk result
             (λ l. (x : ℕ) (d : PacketLine) → x < length h.now.arrivals
             → slice_index_or l.packets x d ≡ packet_line packets.now apps h.now x) }
@@ -76,7 +77,7 @@ impl Lines {
         })
     }
 
-    /// How many packets arrived.
+    /// The number of packets that arrived.
     pub fn len(&self) -> usize
         ensures { result ≡ length self.now.packets }
     {
@@ -91,7 +92,7 @@ impl Lines {
         self.packets[id.0 as usize]
     }
 
-    /// The line of the reply to a packet, where one was begun.
+    /// The line of the reply to a packet, if one was begun.
     pub fn reply(&self, id: PacketId) -> Option<ReplyLine>
         ensures { result ≡ slice_index_or self.now.replies id None }
     {
@@ -103,14 +104,14 @@ impl Lines {
         }
     }
 
-    /// How many receive queues there are.
+    /// The number of receive queues.
     pub fn queues(&self) -> usize
         ensures { result ≡ length self.now.arrived }
     {
         self.arrived.len()
     }
 
-    /// How many packets arrived at a receive queue.
+    /// The number of packets that arrived at a receive queue.
     pub fn arrived_at(&self, queue: usize) -> u32
         requires { queue < length self.now.arrived }
         ensures { result ≡ slice_index self.now.arrived queue }

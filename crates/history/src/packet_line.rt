@@ -1,4 +1,4 @@
-//! What a report tells of a packet on its way in.
+//! The line that a report shows of a packet on its way in.
 use crate::place::Place;
 use steer_base::{AppId, Choice, PacketId, Put, RxQueue};
 
@@ -13,8 +13,8 @@ pub enum Via {
     Unhashed,
 }
 
-/// A packet that arrived: its queue, its choice of a processor, what became of it there, and where
-/// it is.
+/// The line of a packet that arrived: its queue, the choice of its processor, what happened to it
+/// there, and where it is.
 #[derive(Clone, Copy, Debug, PartialEq, Eq)]
 pub struct PacketLine {
     /// The packet.
@@ -23,11 +23,11 @@ pub struct PacketLine {
     pub queue: RxQueue,
     /// What led to that queue.
     pub via: Via,
-    /// The choice of a processor, once it was weighed.
+    /// The choice of a processor, once it was made.
     pub choice: Option<Choice>,
-    /// The position or the drop, once it was put.
+    /// The position in the backlog or the drop, once it was put there.
     pub put: Option<Put>,
-    /// The application of its hash.
+    /// The application that its hash leads to.
     pub app: AppId,
     /// Its place in the inbox of that application, from 1.
     pub inbox: Option<u32>,

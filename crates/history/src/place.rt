@@ -6,7 +6,7 @@ use steer_base::{AppId, Cpu};
 pub enum Place {
     /// In the ring of its receive queue.
     Ring,
-    /// Taken from the ring by the poller of the queue, and put to no processor yet.
+    /// Taken from the ring by the poller of the queue, and not yet put to a processor.
     Poller,
     /// Waiting in the backlog of a processor.
     Backlog(Cpu),

@@ -1,8 +1,8 @@
-//! What a report tells of a reply.
+//! The line that a report shows of a reply.
 use steer_base::{AppId, Choice, Cpu, PacketId, RxQueue};
 
-/// A reply that was begun: what its transmit queue is picked by, the choice of the queue, and how
-/// far it came.
+/// The line of a reply that was begun: what selects its transmit queue, the choice of the queue, and
+/// how far it has come.
 #[derive(Clone, Copy, Debug, PartialEq, Eq)]
 pub struct ReplyLine {
     /// The packet that is replied to.
@@ -11,11 +11,11 @@ pub struct ReplyLine {
     pub app: AppId,
     /// The receive queue of that packet.
     pub rxq: RxQueue,
-    /// The processor on which the application stood.
+    /// The processor that the application ran on.
     pub cpu: Cpu,
-    /// The choice of a transmit queue, once it was weighed.
+    /// The choice of a transmit queue, once it was made.
     pub choice: Option<Choice>,
-    /// The position at that transmit queue, a counter number, once it was put.
+    /// The position at that transmit queue, a counter number, once it was put there.
     pub put: Option<u32>,
     /// Its place on the port, from 1.
     pub port: Option<u32>,

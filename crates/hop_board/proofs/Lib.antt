@@ -9,3 +9,4 @@ pub mod Opening
 pub mod Releases
 pub mod Taking
 pub mod Told
+pub mod WordSteps

@@ -8,6 +8,7 @@ use Rattle.linearization.specs.Orders.{StepBy, step_by, steps_of}
 use Rattle.linearization.specs.Seats.{SeatView}
 use Rattle.linearization.proofs.ListLemmas.{if_same, if_other}
 use Rattle.hop_rule.specs.declared.sizes.BoardSizes.{BoardSizes}
+use Rattle.hop_rule.specs.declared.sizes.TheConstants.{MAX_BOARD_ROOM}
 use Rattle.hop_rule.specs.declared.step.BoardStep.{BoardStep}
 use Rattle.hop_rule.specs.declared.step.BoardStep.TheVariants.{Lane, LaneIn}
 use Rattle.hop_rule.specs.declared.step.Change.{Change}
@@ -198,7 +199,7 @@ module _ (about : BoardSizes) where
       → lanes.out_holding o (lane_steps seat.steps) ≡ Some y
       → ((xs : List ℕ) → xs ≡ y.items → LeavesOut d o xs after)
       → length after ≡ risen rises (length y.items)
-      → (FitSizes about → about.room ≡ y.room → rises ≡ true → length y.items ≤ 262144)
+      → (FitSizes about → about.room ≡ y.room → rises ≡ true → length y.items ≤ MAX_BOARD_ROOM)
       → ((order : Order) → IsLawful about order → steps_of seat.number
       (lanes_of order) ≡ lane_steps seat.steps
       → own_state about (slot_of about (id.Out o)) (steps_of seat.number order) ≡ taken

@@ -1,4 +1,4 @@
--- What a board keeps besides its words and slots.
+-- The fields of a board besides its words and slots.
 use Rattle.std.specs.Prelude.{◌≡◌, ℕ, ◌+◌, ◌≤◌, [], replicate, vec_capacity}
 use Rattle.atomic_table.specs.Seated.{TableId}
 use Rattle.steer_base.specs.Journals.{journal}
@@ -7,7 +7,7 @@ use Rattle.hop_rule.specs.declared.sizes.BoardSizes.{BoardSizes}
 use Rattle.hop_board.specs.Tables.{slots, width}
 use Rattle.hop_board.specs.declared.spare.Spare.{Spare}
 
--- the memory for the lists that a board of these sizes leaves
+-- The spare memory is enough for the lists that a board of these sizes leaves.
 pub record HasRoom (about : BoardSizes) (spare : Spare) : Type 0 where
   pub accepted : spare.accepted.items ≡ replicate about.lanes (journal [] about.room)
   pub drops : spare.drops.items ≡ replicate about.lanes (journal [] about.room)
@@ -16,7 +16,7 @@ pub record HasRoom (about : BoardSizes) (spare : Spare) : Type 0 where
   pub outs : spare.outs.items ≡ []
   pub outs_room : about.outs ≤ vec_capacity spare.outs
 
--- A board of these sizes: its table was told them and has a word and a slot for each.
+-- A board of these sizes: its table was made with them and has a word and a slot for each.
 pub record IsBoard (told : BoardSizes) (table : TableId) (about : BoardSizes) (spare : Spare)
     : Type 0 where
   pub told_is : told ≡ about

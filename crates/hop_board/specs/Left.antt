@@ -17,8 +17,8 @@ use Rattle.board_api.specs.declared.held_lane.LaneId.TheVariants as id
 use Rattle.board_api.specs.declared.lists.BoardLists.{BoardLists}
 use Rattle.hop_board.specs.Tables.{InSlot, slot_of}
 
--- a middle lane of which nobody has a packet in hand: each that was pulled was delivered and
--- retired
+-- What is left of a middle lane of which nobody has a packet in hand: each packet that was pulled
+-- was delivered and retired.
 abbrev pub left_of : LaneLists → LaneList
 left_of y =
     record {
@@ -29,19 +29,20 @@ left_of y =
       retired = y.pulled;
     }
 
--- the same of what lies in a slot
+-- What is left of the middle lane in a slot.
 abbrev pub middle_left : InSlot → LaneList
 middle_left (Some (slot.Middle y)) = left_of y
 middle_left (Some (slot.Out y)) = no_lane
 middle_left None = no_lane
 
+-- What is left of the out lane in a slot.
 abbrev pub out_left : InSlot → List ℕ
 out_left (Some (slot.Middle y)) = []
 out_left (Some (slot.Out y)) = y.items
 out_left None = []
 
 module _ (about : BoardSizes) where
-  -- the lane x lies in its slot, with no more packets than there is room for
+  -- The lane x is in its slot, with no more packets than there is room for.
   abbrev pub LiesIn : LaneId → InSlot → Type 0
   LiesIn (id.Middle l) (Some (slot.Middle y)) = put_count y ≤ about.room
   LiesIn (id.Middle l) (Some (slot.Out y)) = ⊥
@@ -50,31 +51,33 @@ module _ (about : BoardSizes) where
   LiesIn (id.Out o) (Some (slot.Out y)) = Unit {0}
   LiesIn (id.Out o) None = ⊥
 
-  -- each lane lies in its slot
+  -- Each lane is in its slot.
   abbrev pub AllLie : List InSlot → Type 0
   AllLie items =
       (x : LaneId) → FitsLane about x → LiesIn x (slice_index_or items (slot_of about x) None)
 
+  -- What is left of the first n middle lanes.
   abbrev pub middles_left : ℕ → List InSlot → List LaneList
   middles_left n items =
       map (λ l. middle_left (slice_index_or items l None)) (range_with_len 0 n)
 
+  -- What is left of the first n out lanes.
   abbrev pub outs_left : ℕ → List InSlot → List (List ℕ)
   outs_left n items =
       map (λ o. out_left (slice_index_or items (out_slot about o) None)) (range_with_len 0 n)
 
-  -- the lists of all lanes
+  -- The lists of all lanes that the slots of a board leave.
   abbrev pub lists_left : List InSlot → BoardLists
   lists_left items =
       record { lanes = middles_left about.lanes items; outs = outs_left about.outs items }
 
--- what lies in a slot is a middle lane, with no more packets than this room
+-- The slot has a middle lane with no more packets than this room.
 abbrev pub IsMiddleOf : ℕ → InSlot → Type 0
 IsMiddleOf room (Some (slot.Middle y)) = put_count y ≤ room
 IsMiddleOf room (Some (slot.Out y)) = ⊥
 IsMiddleOf room None = ⊥
 
--- what lies in a slot is an out lane
+-- The slot has an out lane.
 abbrev pub IsOutLane : InSlot → Type 0
 IsOutLane (Some (slot.Middle y)) = ⊥
 IsOutLane (Some (slot.Out y)) = Unit {0}
@@ -82,23 +85,22 @@ IsOutLane None = ⊥
 
 -- ---- slots whose values were taken one by one
 
--- so many empty lists with this room
+-- There are this many empty lists with this room.
 pub record AreSpare {X : Type 0} (count room : ℕ) (all : List (Journal X)) : Type 0 where
   pub count_is : length all ≡ count
   pub each : All (λ (j : Journal X). j ≡ journal [] room) all
 
--- of so many slots, those from the n-th on have their values
+-- Of this many slots, those from the n-th have their values.
 abbrev pub AreFullFrom : ℕ → ℕ → List Bool → Type 0
 AreFullFrom n count filled =
     (k : ℕ) → n ≤ k → k < count → slice_index_or filled k false ≡ true
 
--- the values of the slots below n were taken, and the others have theirs
+-- The values of the slots below n were taken, and the others have theirs.
 pub record AreTakenTo (n count : ℕ) (filled : List Bool) : Type 0 where
   pub taken : (k : ℕ) → k < n → slice_index_or filled k false ≡ false
   pub left : AreFullFrom n count filled
 
--- the values of the slots from the n-th on were taken, of the m next ones or of all, and those
--- below are as they were
+-- The values of m slots from the n-th were taken, and the slots below are as they were.
 pub record AreTakenFrom (n m : ℕ) (old filled : List Bool) : Type 0 where
   pub taken : (k : ℕ) → n ≤ k → k < n + m → slice_index_or filled k false ≡ false
   pub below : (k : ℕ) → k < n → slice_index_or filled k false ≡ slice_index_or old k false

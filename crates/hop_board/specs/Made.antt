@@ -13,7 +13,7 @@ use Rattle.board_api.specs.Seats.{BoardSeatView}
 use Rattle.hop_board.specs.Named.{board_seat}
 use Rattle.hop_board.specs.Tables.{InSlot}
 
--- the sizes of a board of this shape, with these settings and so many seats
+-- The sizes of a board of this shape, with these settings and this many seats.
 abbrev pub sizes_of : HopShape → List ℕ → ℕ → BoardSizes
 sizes_of shape settings seats =
     record {
@@ -27,32 +27,37 @@ sizes_of shape settings seats =
       seats = seats;
     }
 
--- all seats of a board, which have made no step
+-- All seats of a board before any step.
 abbrev pub new_board_seats : TableId → ℕ → List BoardSeatView
 new_board_seats table seats = map (λ s. board_seat s false) (new_seats table 0 seats)
 
 module _ (about : BoardSizes) where
-  -- the words: each lane free and without packets, each head at the start, an open gate with nobody
-  -- inside, and the settings
+  -- The words of the lanes before any step: each lane is free and without packets.
   abbrev pub lane_words : List ℕ
   lane_words = replicate (about.lanes + about.outs) (2 * (about.start + 0))
 
+  -- The words of the heads before any step.
   abbrev pub head_words : List ℕ
   head_words = replicate about.lanes about.start
 
+  -- The words of a board before any step: lanes, heads, an open gate with nobody inside, and
+  -- settings.
   abbrev pub new_words : List ℕ
   new_words = ((lane_words ++ head_words) ++ 0 ∷ []) ++ about.settings
 
-  -- the slots: each lane without packets
+  -- The slot of the middle lane l before any step.
   abbrev pub new_middle : ℕ → InSlot
   new_middle l =
       Some (slot.Middle (new_lane about.limit about.room about.start (has about.limited l)))
 
+  -- The slots of the middle lanes before any step.
   abbrev pub new_middles : List InSlot
   new_middles = map new_middle (range_with_len 0 about.lanes)
 
+  -- The slots of the out lanes before any step.
   abbrev pub new_outs : List InSlot
   new_outs = replicate about.outs (Some (slot.Out (out_list [] about.room)))
 
+  -- The slots of a board before any step.
   abbrev pub new_slots : List InSlot
   new_slots = new_middles ++ new_outs

@@ -1,4 +1,4 @@
--- The steps that calls make by the word that they find.
+-- The steps that calls make, by the word that they find.
 use Rattle.std.specs.Prelude.{◌≡◌, ◌≢◌, ℕ, ◌+◌, ◌<◌, ◌≤◌, ◌==◌, true, false, List, ◌∷◌}
 use Rattle.std.specs.Prelude.{if◌then◌else◌}
 use Rattle.hop_rule.specs.declared.sizes.BoardSizes.{BoardSizes}
@@ -20,30 +20,32 @@ use Rattle.hop_board.specs.declared.places.Word.TheVariants as kind
 use Rattle.hop_board.specs.Plays.{HeldAt}
 use Rattle.hop_board.specs.Tables.{slot_of}
 
--- a visit begins, or a visitor meets the closed mark
+-- The step of a seat that adds a visit to the gate: a visit begins, or the visitor finds the closed
+-- mark.
 abbrev pub entering : ℕ → BoardStep
 entering word = if is_marked word then Gate (Turned word) else Gate (Entered word)
 
--- the gate is closed where its word was this one
+-- The step of a close that expected this word of an empty gate.
 abbrev pub closing : ℕ → ℕ → BoardStep
 closing empty word = if word == empty then Gate (Shut word) else Gate (NotShut word)
 
--- what is so of a word that was not that of an empty gate: at most each other seat is on a visit
+-- If the word was not that of an empty gate, at least one and at most each other seat is on a
+-- visit.
 abbrev pub IsBusy : BoardSizes → ℕ → ℕ → Type 0
 IsBusy about empty word =
     word ≢ empty → (0 < low_half word) × (low_half word + 1 ≤ about.seats)
 
--- a head is raised
+-- The step that raises a head.
 abbrev pub raised : Word → ℕ → BoardStep
 raised (kind.Head l) word = Lane (Retired l word)
 raised _ word = Gate Left
 
--- a setting is made
+-- The step that changes a setting.
 abbrev pub setting_step : Word → ℕ → BoardStep
 setting_step (kind.Setting i) value = Gate (Set i value)
 setting_step _ value = Gate Left
 
--- the step of a load
+-- The step of a load.
 abbrev pub loaded : Word → ℕ → BoardStep
 loaded (kind.Lane (id.Middle l)) word = Counted l word
 loaded (kind.Lane (id.Out o)) word = Counted o word
@@ -51,8 +53,8 @@ loaded (kind.Head l) word = Weighed l word
 loaded kind.Gate word = Gate Left
 loaded (kind.Setting i) word = Gate (Read i word)
 
--- The words that are loaded are those of middle lanes and of heads; and settings, by a seat that
--- may read them.
+-- A seat with these steps may load the word: that of a middle lane or of a head, or a setting if it
+-- may read settings.
 abbrev pub MayLoad : List BoardStep → Word → Type 0
 MayLoad steps (kind.Lane (id.Middle l)) = Unit {0}
 MayLoad steps (kind.Lane (id.Out o)) = ⊥
@@ -60,7 +62,7 @@ MayLoad steps (kind.Head l) = Unit {0}
 MayLoad steps kind.Gate = ⊥
 MayLoad steps (kind.Setting i) = MayRead steps
 
--- the lane was taken with an even word and moved out of its slot
+-- The lane was taken with an even word and moved out of its slot.
 pub record TookSlot (about : BoardSizes) (x : LaneId) (old new : SeatView BoardStep) (found : Slot)
     : Type 0 where
   pub word : ℕ
@@ -69,7 +71,7 @@ pub record TookSlot (about : BoardSizes) (x : LaneId) (old new : SeatView BoardS
   pub is_hold : HeldAt x word found held
   pub step : new ≡ record old { steps = LaneOut (slot_of about x) ∷ held ∷ old.steps }
 
--- the word of the lane was odd
+-- The lane was not taken, since its word was odd.
 pub record MissedSlot (x : LaneId) (old new : SeatView BoardStep) (word : ℕ) : Type 0 where
   pub odd : is_odd word ≡ true
   pub step : new ≡ record old { steps = MissedAt x word ∷ old.steps }

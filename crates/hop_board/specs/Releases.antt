@@ -1,4 +1,4 @@
--- How a lane is given back, as a value tells it.
+-- Releases: giving a lane back, as a value.
 use Rattle.std.specs.Prelude.{◌≡◌, ℕ, ◌<◌, Bool, true, false, List, Some, slice_get}
 use Rattle.steer_base.specs.declared.put.Put.{Put}
 use Rattle.steer_base.specs.declared.put.Put.TheVariants.{At, Dropped}
@@ -14,25 +14,26 @@ use Rattle.board_api.specs.declared.held_lane.LaneId.TheVariants as id
 use Rattle.hop_board.specs.declared.release.Release.{Release}
 use Rattle.hop_board.specs.declared.release.Release.TheVariants.{Unchanged, Offered, Pulled, Given}
 
--- the lane that is given back
+-- The lane that is given back.
 abbrev pub released_lane : Release → LaneId
 released_lane (Unchanged x) = x
 released_lane (Offered l packet hash answer) = id.Middle l
 released_lane (Pulled l packet) = id.Middle l
 released_lane (Given o from packet place) = id.Out o
 
--- whether its tail rises
+-- Whether a put with this answer raises the tail of its lane.
 abbrev pub rises_by : Put → Bool
 rises_by (At n) = true
 rises_by (Dropped number accepted pulled cause) = false
 
+-- Whether a release raises the tail of its lane.
 abbrev pub rises_in : Release → Bool
 rises_in (Unchanged x) = false
 rises_in (Offered l packet hash answer) = rises_by answer
 rises_in (Pulled l packet) = false
 rises_in (Given o from packet place) = true
 
--- the step that gives it back
+-- The step of a release.
 abbrev pub step_in : Release → BoardStep
 step_in (Unchanged (id.Middle l)) = Lane (lane.Freed l change.Nothing)
 step_in (Unchanged (id.Out o)) = Lane (lane.OutFreed o)
@@ -40,12 +41,12 @@ step_in (Offered l packet hash answer) = Lane (lane.Freed l (change.Offered pack
 step_in (Pulled l packet) = Lane (lane.Freed l (change.Pulled packet))
 step_in (Given o from packet place) = Lane (lane.Given o from packet place)
 
--- each packet of a list is below the room
+-- Each packet of a list has a number below the room.
 abbrev pub AreBelow : ℕ → List ℕ → Type 0
 AreBelow room items = (n packet : ℕ) → slice_get items n ≡ Some packet → packet < room
 
--- what is told at a release: the packet that was pulled, and those of an out lane that was held,
--- are below the room
+-- What a release shows: the packet that was pulled, and the packets of an out lane that was held,
+-- have numbers below the room.
 abbrev pub is_told : BoardSizes → Release → Slot → Type 0
 is_told about (Unchanged x) (slot.Middle y) = Unit {0}
 is_told about (Unchanged x) (slot.Out y) = AreBelow about.room y.items

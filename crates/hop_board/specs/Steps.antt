@@ -1,4 +1,4 @@
--- What the steps of a seat at the words of a board need, and what they leave.
+-- What a step at the words of a board requires, and what it leaves.
 use Rattle.std.specs.Prelude.{◌≡◌, ◌≢◌, ℕ, ◌+◌, ◌-◌, ◌%◌, ◌^◌, ◌<◌, List, ◌∷◌, Bool, true, false}
 use Rattle.std.specs.Prelude.{Some}
 use mathlib.Core.Option.{some}
@@ -16,17 +16,17 @@ use Rattle.hop_board.specs.declared.places.Word.{Word}
 use Rattle.hop_board.specs.declared.places.Word.TheVariants as kind
 use Rattle.hop_board.specs.Tables.{IsWord, place, slot_of, value, home_after}
 
--- a lane's word after a release: one up where its tail rises, and else one down
+-- The word of a lane after a release: one more if its tail rises, otherwise one less.
 abbrev pub released_word : Bool → ℕ → ℕ
 released_word true n = (n + 1) % 2 ^ 64
 released_word false n = (n + (2 ^ 64 - 1)) % 2 ^ 64
 
 module _ (about : BoardSizes) where
-  -- the word stands at this place of the table
+  -- The word is at this place of the table.
   abbrev pub IsAt : Word → ℕ → Type 0
   IsAt w i = IsWord about w × (i ≡ place about w)
 
-  -- After these steps the seat p may make the step d. It leaves m in the word w, and all other
+  -- After these steps the seat p may make the step d, which leaves m in the word w, and all other
   -- words and all slots as they were.
   pub record IsStepAt (order : List (StepBy BoardStep)) (p : ℕ) (w : Word) (m : ℕ) (d : BoardStep)
       : Type 0 where
@@ -37,8 +37,8 @@ module _ (about : BoardSizes) where
     pub homes : (x : LaneId)
         → home_after about (step_by p d ∷ order) x ≡ home_after about order x
 
-  -- Whatever a seat with these steps finds in the word w, it may make the step that is named for
-  -- it, which leaves f of it there; and what is told of the word is so.
+  -- Whatever a seat with these steps finds in the word w, it may make the step that depends on it,
+  -- which leaves f of it there; and what the step shows of the word holds.
   abbrev pub MayAct : SeatView BoardStep → Word → (ℕ → ℕ) → (ℕ → BoardStep) → (ℕ → Type 0)
       → Type 0
   MayAct seat w f makes says =
@@ -48,7 +48,7 @@ module _ (about : BoardSizes) where
       × says (value about order w)
 
   -- After these steps the seat p, which has taken the slot of the lane x, may give it back with
-  -- this in it by the step d. It leaves m in the word of the lane, and all else as it was.
+  -- this content by the step d, which leaves m in the word of the lane and all else as it was.
   pub record IsRelease (order : List (StepBy BoardStep)) (p : ℕ) (x : LaneId) (m : ℕ)
       (given : Slot) (d : BoardStep) : Type 0 where
     pub may : MayCome about p order d
@@ -60,7 +60,7 @@ module _ (about : BoardSizes) where
         → home_after about (step_by p d ∷ order) y ≡ home_after about order y
 
   -- A seat with these steps that takes the emptied slot of the lane x again may give it back with
-  -- this in it by the step d; and what is told is so.
+  -- this content by the step d; and what the step shows holds.
   abbrev pub MayGive : SeatView BoardStep → LaneId → Bool → Slot → BoardStep → Type 0 → Type 0
   MayGive seat x rises given d says =
       FitSizes about → (order : List (StepBy BoardStep)) → seat.number < about.seats

@@ -20,31 +20,34 @@ use Rattle.board_api.specs.declared.held_lane.LaneId.TheVariants as id
 use Rattle.hop_board.specs.declared.places.Word.{Word}
 use Rattle.hop_board.specs.declared.places.Word.TheVariants as kind
 
--- a slot has a lane, or nothing while a seat holds its lane
+-- What a slot has: a lane, or nothing while a seat holds its lane.
 abbrev pub InSlot : Type 0
 InSlot = prelude.Option Slot
 
 module _ (about : BoardSizes) where
-  -- ---- where the words and the slots are: the lanes, the out lanes, the heads, the gate, the
-  -- settings
+  -- ---- the places of the words and the slots: lanes, out lanes, heads, the gate, settings
 
+  -- The number of a lane's slot, which is also the place of its word.
   abbrev pub slot_of : LaneId → ℕ
   slot_of (id.Middle l) = l
   slot_of (id.Out o) = out_slot about o
 
+  -- The number of slots.
   abbrev pub slots : ℕ
   slots = about.lanes + about.outs
 
+  -- The place of a word in the table.
   abbrev pub place : Word → ℕ
   place (kind.Lane x) = slot_of x
   place (kind.Head l) = about.lanes + about.outs + l
   place kind.Gate = about.lanes + about.outs + about.lanes
   place (kind.Setting i) = about.lanes + about.outs + about.lanes + 1 + i
 
+  -- The number of words.
   abbrev pub width : ℕ
   width = about.lanes + about.outs + about.lanes + 1 + length about.settings
 
-  -- it is a word of this board
+  -- The word is one of this board.
   abbrev pub IsWord : Word → Type 0
   IsWord (kind.Lane x) = FitsLane about x
   IsWord (kind.Head l) = l < about.lanes
@@ -53,46 +56,54 @@ module _ (about : BoardSizes) where
 
   -- ---- what an order leaves
 
+  -- The holder of a lane after an order: 0 for nobody, otherwise the holder's number plus 1.
   abbrev pub holder_of : List (StepBy LaneStep) → LaneId → ℕ
   holder_of ls (id.Middle l) = lanes.holder l ls
   holder_of ls (id.Out o) = lanes.out_holder o ls
 
+  -- The lane after an order, as the content of its slot.
   abbrev pub content : List (StepBy LaneStep) → LaneId → Slot
   content ls (id.Middle l) = slot.Middle (lanes.lane about l ls)
   content ls (id.Out o) = slot.Out (lanes.out_content about o ls)
 
+  -- The word of a lane after an order.
   abbrev pub lane_value : List (StepBy LaneStep) → LaneId → ℕ
   lane_value ls (id.Middle l) = lanes.lane_word about l ls
   lane_value ls (id.Out o) = lanes.out_word about o ls
 
+  -- A word of a board by the steps at lanes and those at the gate.
   abbrev pub value_by : List (StepBy LaneStep) → List (StepBy GateStep) → Word → ℕ
   value_by ls gs (kind.Lane x) = lane_value ls x
   value_by ls gs (kind.Head l) = lanes.head_word about l ls
   value_by ls gs kind.Gate = gates.gate_word gs
   value_by ls gs (kind.Setting i) = gates.settings about gs i
 
-  -- the word after these steps
+  -- A word of a board after an order.
   abbrev pub value : List (StepBy BoardStep) → Word → ℕ
   value es w = value_by (lanes_of es) (gates_of es) w
 
+  -- What is at home in a slot with this state, if its lane is this.
   abbrev pub home_by : SlotState → Slot → Option InSlot
   home_by full x = some (Some x)
   home_by empty x = some None
   home_by taken x = none
 
-  -- what is at home in the slot of a lane after these steps
+  -- What is at home in the slot of a lane after an order.
   abbrev pub home_after : List (StepBy BoardStep) → LaneId → Option InSlot
   home_after es x = home_by (slot_state about (slot_of x) es) (content (lanes_of es) x)
 
   -- ---- the rule
 
+  -- Each word of the table is what the order leaves there.
   abbrev pub WordsAre : List (StepBy BoardStep) → List ℕ → Type 0
   WordsAre order words = (w : Word) → IsWord w → slice_index words (place w) ≡ value order w
 
+  -- Each slot of the table is what the order leaves there.
   abbrev pub HomesAre : List (StepBy BoardStep) → List (Option InSlot) → Type 0
   HomesAre order homes =
       (x : LaneId) → FitsLane about x → get_elem? homes (slot_of x) ≡ some (home_after order x)
 
+  -- The rule of a board: the order is lawful, and each word and each slot is what it leaves there.
   pub record HasBoard (order : List (StepBy BoardStep)) (words : List ℕ)
       (homes : List (Option InSlot)) : Type 0 where
     pub lawful : IsLawful about order

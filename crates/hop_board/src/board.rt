@@ -1,4 +1,4 @@
-//! A board, as contracts see it.
+//! A board of atomic words.
 use crate::rule::BoardRule;
 use crate::spare::Spare;
 use atomic_table::Table;
@@ -10,8 +10,8 @@ use std::marker::Model;
 /// A seat at the words of a board.
 pub(crate) type WordSeat = OrderedSeat<Option<Slot>, BoardStep>;
 
-/// Lanes in their slots, with a word for each lane, for each head, for the gate and for each
-/// setting.
+/// The lanes of a hop in their slots, with an atomic word for each lane, for each head, for the
+/// gate and for each setting.
 #[derive(Drop)]
 pub struct Board {
     pub(crate) table: Table<

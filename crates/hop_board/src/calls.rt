@@ -1,4 +1,4 @@
-//! A board of words is a board for the threads that steer on it.
+//! The board of atomic words implements the trait of `board_api`.
 use crate::board::Board;
 use board_api::{
     Board as Calls, BoardLists, BoardSeat, CloseAnswer, Emptied, EnterAnswer, HeldLane, Hold,

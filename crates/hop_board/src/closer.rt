@@ -1,4 +1,4 @@
-//! What the closer alone does: it closes the gate, looks at lanes, makes settings and opens.
+//! The calls of the closer: it closes the gate, looks at lanes, changes settings and opens it.
 ghost use Rattle.std.specs.Prelude.{◌≡◌, ◌∷◌, ◌<◌, ◌*◌, ◌^◌, [], Bool, true, length};
 ghost use Rattle.hop_rule.specs.Boards.{gate_steps};
 ghost use Rattle.hop_rule.specs.Gates.{openings};
@@ -19,8 +19,8 @@ use std::marker::Brand;
 use steer_base::CpuMask;
 
 impl Board {
-    /// Closes the gate, if no visit is open, with those that met a closed gate and have not yet
-    /// stepped back.
+    /// Closes the gate if no visit is open, counting those that found a closed gate and have not
+    /// backed out yet.
     pub fn try_close(&self, seat: &mut BoardSeat) -> CloseAnswer
         requires table { seat.old.table ≡ self.now.table }
         requires closer { IsCloser self.now.sizes seat.old.number }
@@ -41,7 +41,7 @@ impl Board {
     }
 
     /// Looks at the middle lanes of a set, ascending, up to the first that is not empty. Numbers
-    /// that are no lane's are passed over.
+    /// that are not those of a lane are skipped.
     pub fn emptied(&self, seat: &mut BoardSeat, lanes: CpuMask) -> Emptied
         requires table { seat.old.table ≡ self.now.table }
         requires closer { IsCloser self.now.sizes seat.old.number }
@@ -55,7 +55,7 @@ impl Board {
         answer
     }
 
-    /// Changes a setting, after lanes were found empty since the gate was closed.
+    /// Changes a setting, if lanes were found empty since the gate was closed.
     pub fn set(&self, seat: &mut BoardSeat, i: u32, v: u64)
         requires table { seat.old.table ≡ self.now.table }
         requires closer { IsCloser self.now.sizes seat.old.number }
@@ -79,7 +79,7 @@ impl Board {
         seat.has_emptied = false;
     }
 
-    // Marks the gate's word where it is that of an empty gate, and answers it as it was.
+    // Marks the gate's word if it is that of an empty gate, and returns it as it was.
     fn shut(&self, seat: &mut WordSeat, free: u64) -> u64
         requires table { seat.old.table ≡ self.now.table }
         requires closer { IsCloser self.now.sizes seat.old.number }
@@ -93,7 +93,7 @@ impl Board {
         self.exchange_as::<Brand>(seat, Word::Gate, free, free + (1 << 31))
     }
 
-    // Takes the mark from the gate's word, with one opening more.
+    // Removes the mark from the gate's word and counts one more opening.
     fn unmark(&self, seat: &mut WordSeat)
         requires table { seat.old.table ≡ self.now.table }
         requires closer { IsCloser self.now.sizes seat.old.number }
@@ -136,7 +136,7 @@ impl Board {
         Emptied::Ok
     }
 
-    // The head of a lane and then its tail, as numbers that wrap.
+    // The head of a lane and then its tail, as counter numbers.
     fn look_at(&self, seat: &mut WordSeat, lane: u8) -> (u32, u32)
         requires table { seat.old.table ≡ self.now.table }
         requires within { lane < self.now.sizes.lanes }

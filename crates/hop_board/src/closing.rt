@@ -13,7 +13,8 @@ use hop_rule::{BoardSizes, BoardStep, Slot};
 use linearization::{Gathered, Hands, OneOrder};
 
 impl Board {
-    /// Ends the board with all of its seats, each outside, with no lane held and no packet in hand.
+    /// Ends the board with all of its seats, each outside, with no lane held and no packet in hand,
+    /// and returns the lists of its lanes.
     pub fn close_board(self, seats: Vec<BoardSeat>) -> BoardLists
         requires table { All (λ s. s.table ≡ self.table) seats.items }
         requires all { vec_len seats ≡ self.sizes.seats }

@@ -1,4 +1,4 @@
-//! Lanes that seats take into their hands and give back as they were.
+//! Taking a lane, and giving it back as it was.
 ghost use Rattle.std.specs.Prelude.{◌≡◌};
 ghost use Rattle.board_api.specs.Calls.HeldLanes.{FitsLane, Holds, HoldsOut};
 ghost use Rattle.board_api.specs.Calls.Results.{BackTells, HoldTells, ReadTells};
@@ -11,7 +11,7 @@ use hop_rule::Slot;
 use steer_base::PacketId;
 
 impl Board {
-    /// Takes a lane, unless a seat holds it.
+    /// Takes a lane if no seat holds it.
     pub fn try_hold(&self, seat: &mut BoardSeat, lane: LaneId) -> Hold
         requires table { seat.old.table ≡ self.now.table }
         requires within { FitsLane self.now.sizes lane }
@@ -33,8 +33,8 @@ impl Board {
         self.give(&mut seat.seat, Release::Unchanged(lane), content);
     }
 
-    /// The packet at index `n` of an out lane, from 0, if it has more than `n`. The lane is given
-    /// back as it was.
+    /// The packet at index `n` of an out lane, from 0, if it has more than `n` packets. The lane is
+    /// given back as it was.
     pub fn read_out(&self, seat: &mut BoardSeat, held: HeldLane, n: u32) -> Option<PacketId>
         requires table { seat.old.table ≡ self.now.table }
         requires held { HoldsOut self.now.sizes seat.old.steps held }
@@ -53,7 +53,7 @@ impl Board {
     }
 }
 
-// The lane in a hand, with what was found in its slot.
+// The held lane with what was found in its slot.
 fn held_by(lane: LaneId, found: Slot) -> HeldLane
     ensures { result ≡ held_by lane found }
 {
@@ -67,7 +67,7 @@ fn held_by(lane: LaneId, found: Slot) -> HeldLane
     }
 }
 
-// The name of a lane in a hand, and what was found in it.
+// The identifier of a held lane, and what was found in its slot.
 fn parts(held: HeldLane) -> (LaneId, Slot)
     ensures lane { result.0 ≡ held_lane_id held }
     ensures content { result.1 ≡ content_of held }

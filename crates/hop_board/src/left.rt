@@ -1,4 +1,4 @@
-//! The lists of a closed board's lanes, taken out of their slots.
+//! The lists that the lanes of a closed board leave, taken out of their slots.
 ghost use Rattle.std.specs.Prelude.{◌≡◌, ℕ, ◌+◌, ◌<◌, ◌≤◌, false, true, [], None, length};
 ghost use Rattle.std.specs.Prelude.{slice_index_or};
 ghost use Rattle.std.specs.Prelude.{vec_capacity};
@@ -20,7 +20,7 @@ use hop_rule::{BoardSizes, Slot};
 use std::alloc::Global;
 use steer_base::{Journal, LaneDrop, List, PacketId};
 
-/// The lists of all lanes, which lie in their slots. It leaves no slot with a value.
+/// The lists of all lanes, taken out of their slots; no slot has a value after that.
 pub fn lists_of(
     closed: &mut Closed<Option<Slot>, Global>,
     sizes: &BoardSizes,
@@ -48,7 +48,7 @@ pub fn lists_of(
     }
 }
 
-// A lane of which nobody has a packet in hand, copied into lists with room for it.
+// What is left of a lane of which nobody has a packet in hand, copied into lists with room for it.
 fn left(lane: &Lane, accepted: Journal<PacketId>, drops: Journal<LaneDrop>) -> LaneList
     requires accepted { accepted.items ≡ [] }
     requires accepted_room { length lane.now.accepted ≤ accepted.room }
@@ -137,7 +137,7 @@ fn middle_list(
     left(&lane, packets, fallen)
 }
 
-// Those of the out lanes.
+// The lists of the out lanes.
 fn out_lists(
     closed: &mut Closed<Option<Slot>, Global>,
     sizes: &BoardSizes,

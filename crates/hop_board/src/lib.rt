@@ -1,4 +1,4 @@
-//! A board: lanes, heads, a gate and settings that threads share by atomic words, without a lock.
+//! The board of atomic words: lanes, heads, a gate and settings that threads share without a lock.
 #![tactic(auto)]
 
 mod board;

@@ -1,6 +1,7 @@
-//! How a board is made.
+//! Making a board.
 ghost use Rattle.std.specs.Prelude.{◌≡◌, ◌<◌, ◌≤◌, ◌^◌, false, All, IfOk, map};
 ghost use Rattle.std.specs.Vec.{vec_len};
+ghost use Rattle.hop_rule.specs.declared.sizes.TheConstants.{MAX_BOARD_ROOM};
 ghost use Rattle.hop_board.specs.Made.{new_board_seats, new_middles, new_slots, new_words};
 ghost use Rattle.hop_board.specs.Made.{sizes_of};
 ghost use Rattle.hop_board.specs.Named.{HasNoSteps, board_seat};
@@ -17,8 +18,8 @@ use std::alloc::Global;
 use steer_base::{List, OutOfMemory};
 
 impl Board {
-    /// A board on which no step was made, with the lanes of this shape, these settings and so many
-    /// seats, numbered from 0 on. It has all the memory that it ever takes.
+    /// Makes a board with the lanes of this shape, these settings and this many seats, numbered
+    /// from 0. It allocates all memory that the board ever uses; the only error is out of memory.
     pub fn make(
         alloc: Global,
         shape: &HopShape,
@@ -26,7 +27,7 @@ impl Board {
         seats: u32,
     ) -> Result<(Board, Vec<BoardSeat>), OutOfMemory>
         requires limit { 1 ≤ shape.now.limit }
-        requires room { shape.now.room ≤ 262144 }
+        requires room { shape.now.room ≤ MAX_BOARD_ROOM }
         requires lanes { shape.now.lanes ≤ 32 }
         requires some_seat { 1 ≤ seats }
         requires seats { seats ≤ 64 }
@@ -81,7 +82,7 @@ fn copy_sizes(
     })
 }
 
-// The number itself, which a counter of 32 bits may start at.
+// The same number, with the fact that it is below 2^32.
 fn counter_start(start: u32) -> u32
     ensures same { result ≡ start }
     ensures small { result < 2 ^ 32 }
@@ -106,7 +107,7 @@ fn first_words(alloc: Global, sizes: &BoardSizes) -> Result<Vec<u64>, OutOfMemor
 // The slots before any step.
 fn first_slots(alloc: Global, sizes: &BoardSizes) -> Result<Vec<Option<Slot>>, OutOfMemory>
     requires limit { 1 ≤ sizes.now.limit }
-    requires room { sizes.now.room ≤ 262144 }
+    requires room { sizes.now.room ≤ MAX_BOARD_ROOM }
     requires lanes { sizes.now.lanes ≤ 32 }
     ensures { IfOk result (λ slots. slots.items ≡ new_slots sizes.now) }
 {
@@ -121,7 +122,7 @@ fn first_slots(alloc: Global, sizes: &BoardSizes) -> Result<Vec<Option<Slot>>, O
 // Those of the middle lanes.
 fn middle_slots(alloc: Global, sizes: &BoardSizes) -> Result<Vec<Option<Slot>>, OutOfMemory>
     requires limit { 1 ≤ sizes.now.limit }
-    requires room { sizes.now.room ≤ 262144 }
+    requires room { sizes.now.room ≤ MAX_BOARD_ROOM }
     requires lanes { sizes.now.lanes ≤ 32 }
     ensures { IfOk result (λ slots. slots.items ≡ new_middles sizes.now) }
 {

@@ -1,4 +1,4 @@
-//! Packets that are put to lanes, pulled from them, delivered and retired.
+//! Putting packets to lanes, pulling, delivering and retiring them.
 ghost use Rattle.std.specs.Prelude.{◌≡◌, ◌<◌, ◌∷◌};
 ghost use Rattle.board_api.specs.Calls.HeldLanes.{HasNoneOf, HoldsMiddle, HoldsOut, PullsFrom};
 ghost use Rattle.board_api.specs.Calls.HeldLanes.{room_in};
@@ -14,7 +14,7 @@ use std::marker::Brand;
 use steer_base::{PacketId, Put};
 
 impl Board {
-    /// Offers a packet with its hash to a middle lane, which is given back.
+    /// Offers a packet with its hash to a middle lane, and gives the lane back.
     pub fn put(&self, seat: &mut BoardSeat, held: HeldLane, id: PacketId, hash: Option<u32>) -> Put
         requires table { seat.old.table ≡ self.now.table }
         requires inside { IsInside seat.old.steps }
@@ -39,8 +39,8 @@ impl Board {
         }
     }
 
-    /// Pulls the next packet that waits in a middle lane, which is given back. The seat has no
-    /// packet of this lane in hand, also none that was delivered and not retired.
+    /// Pulls the packet that waits longest in a middle lane, and gives the lane back. The seat has
+    /// no packet of this lane in hand, including one that was delivered and not retired.
     pub fn pull(&self, seat: &mut BoardSeat, held: HeldLane) -> Pull
         requires table { seat.old.table ≡ self.now.table }
         requires held { HoldsMiddle self.now.sizes seat.old.steps held }
@@ -67,8 +67,8 @@ impl Board {
         }
     }
 
-    /// Delivers the packet that this seat pulled from the middle lane `lane` to an out lane, which
-    /// is given back, and answers its place there, from 1.
+    /// Delivers the packet that this seat pulled from the middle lane `lane` to an out lane, gives
+    /// the out lane back, and returns the place of the packet there, from 1.
     pub fn deliver(&self, seat: &mut BoardSeat, held: HeldLane, lane: u8) -> u32
         requires table { seat.old.table ≡ self.now.table }
         requires held { HoldsOut self.now.sizes seat.old.steps held }
@@ -97,7 +97,7 @@ impl Board {
         }
     }
 
-    /// Raises the head of a middle lane, of which this seat has delivered a packet.
+    /// Raises the head of a middle lane by 1, after this seat delivered a packet of it.
     pub fn retire(&self, seat: &mut BoardSeat, lane: u8)
         requires table { seat.old.table ≡ self.now.table }
         requires within { lane < self.now.sizes.lanes }
@@ -108,7 +108,7 @@ impl Board {
         self.raise_head(&mut seat.seat, lane);
     }
 
-    // Adds 1 to the word of a head, and answers it as it was.
+    // Adds 1 to the word of a head, and returns it as it was.
     fn raise_head(&self, seat: &mut WordSeat, lane: u8) -> u64
         requires table { seat.old.table ≡ self.now.table }
         requires within { lane < self.now.sizes.lanes }

@@ -1,4 +1,4 @@
-//! Where the words and slots of a board stand in its table.
+//! The places of the words and slots of a board in its table.
 ghost use Rattle.std.specs.Prelude.{◌≡◌};
 ghost use Rattle.hop_rule.specs.Sizes.{FitSizes};
 ghost use Rattle.hop_board.specs.Tables.{place, slot_of};
@@ -13,21 +13,22 @@ pub enum Word {
     Lane(LaneId),
     /// The head of a middle lane.
     Head(u8),
+    /// The word of the gate.
     Gate,
+    /// A setting, by its number from 0.
     Setting(u32),
 }
 
 impl Board {
-    // What holds of the sizes of each board.
+    // The sizes of each board are within their limits.
     pub(crate) fn fits(&self)
         ensures { FitSizes self.now.sizes }
     {
-        // A read of the board, so that what holds of it is known here.
+        // A read of the board, so that its invariant is known here.
         let _ = &self.sizes;
     }
 
-    // The number of a word in the table: first those of the middle lanes and of the out lanes, then
-    // the heads, the gate and the settings.
+    // The place of a word in the table: middle lanes, out lanes, heads, the gate, settings.
     pub(crate) fn place(&self, word: Word) -> usize
         ensures { result ≡ place self.now.sizes word }
     {
@@ -41,7 +42,7 @@ impl Board {
         }
     }
 
-    // The number of a lane's slot, and of its word.
+    // The number of a lane's slot, which is also the place of its word.
     pub(crate) fn slot_of(&self, lane: LaneId) -> usize
         ensures { result ≡ slot_of self.now.sizes lane }
     {

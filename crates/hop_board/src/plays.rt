@@ -1,4 +1,4 @@
-//! What the steps of seats at a board tell. What is named here is picked at each call.
+//! The kinds of steps of a seat at a board. The ghost members are chosen at each call.
 ghost use Rattle.std.specs.Prelude.{ℕ};
 
 use board_api::LaneId;
@@ -6,13 +6,13 @@ use hop_rule::{BoardStep, Slot};
 use linearization::{Making, Moving};
 use std::marker::{Brand, PhantomData};
 
-/// A step at a word, which leaves the slots as they are.
+/// A step at a word that leaves the slots as they are.
 pub trait Told {
     ghost use Rattle.hop_rule.specs.declared.step.BoardStep.{BoardStep};
 
-    // The step, by the word that was found.
+    // The step that is added, by the word that was found.
     ghost makes: { ℕ → BoardStep };
-    // What is so of the word that was found.
+    // What the step shows of the word that was found.
     ghost says: { ℕ → Type 0 };
 }
 
@@ -25,6 +25,7 @@ impl Told for Brand {
     ghost says = { λ n. Unit {0} };
 }
 
+/// The play of such a step.
 pub struct Adds<J> {
     of: PhantomData<J>,
 }
@@ -35,10 +36,11 @@ impl<J: Told> Making<Option<Slot>, BoardStep> for Adds<J> {
     ghost tells = { λ st n order. J.says n };
 }
 
-/// A lane that is taken, unless a seat holds it.
+/// A hold of a lane, which succeeds if no seat holds it.
 pub trait Taken {
     ghost use Rattle.board_api.specs.declared.held_lane.LaneId.{LaneId};
 
+    // The lane.
     ghost lane: { LaneId };
 }
 
@@ -48,6 +50,7 @@ impl Taken for Brand {
     ghost lane = { Middle 0 };
 }
 
+/// The play of a hold.
 pub struct Holds<J> {
     of: PhantomData<J>,
 }
@@ -58,7 +61,7 @@ impl<J: Taken> Moving<Option<Slot>, BoardStep> for Holds<J> {
     ghost moved = { HoldsThen J.lane };
 }
 
-/// An emptied slot is given back.
+/// The play that gives an emptied slot back.
 pub struct Empties;
 
 impl Moving<Option<Slot>, BoardStep> for Empties {
@@ -67,7 +70,7 @@ impl Moving<Option<Slot>, BoardStep> for Empties {
     ghost moved = { EmptiesThen };
 }
 
-/// An emptied slot is taken again.
+/// The play that takes an emptied slot again.
 pub struct Fills;
 
 impl Moving<Option<Slot>, BoardStep> for Fills {
@@ -76,13 +79,13 @@ impl Moving<Option<Slot>, BoardStep> for Fills {
     ghost moved = { FillsThen };
 }
 
-/// A lane that is given back with its slot.
+/// A release: a lane is given back with its slot.
 pub trait Given {
     ghost use Rattle.hop_rule.specs.declared.step.BoardStep.{BoardStep};
 
     // The step that gives it back.
     ghost step: { BoardStep };
-    // What is so at this step.
+    // What the step shows.
     ghost says: { Type 0 };
 }
 
@@ -95,6 +98,7 @@ impl Given for Brand {
     ghost says = { Unit {0} };
 }
 
+/// The play of a release.
 pub struct Frees<J> {
     of: PhantomData<J>,
 }

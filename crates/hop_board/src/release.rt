@@ -1,11 +1,11 @@
-//! How a lane is given back.
+//! Releases: giving a lane back.
 ghost use Rattle.std.specs.Prelude.{◌≡◌};
 ghost use Rattle.hop_board.specs.Releases.{released_lane, rises_in};
 
 use board_api::LaneId;
 use steer_base::{PacketId, Put};
 
-/// A release of a lane, with what it does to it.
+/// A release of a lane, with its change.
 #[derive(Clone, Copy)]
 pub enum Release {
     /// The lane is as it was found.
@@ -17,12 +17,12 @@ pub enum Release {
         hash: Option<u32>,
         answer: Put,
     },
-    /// The next packet that waits was pulled from a middle lane.
+    /// The packet that waited longest was pulled from a middle lane.
     Pulled {
         lane: u8,
         id: PacketId,
     },
-    /// A packet of a middle lane was delivered to an out lane, at this place there.
+    /// A packet of a middle lane was delivered to an out lane, at this place there, from 1.
     Given {
         out: u8,
         from: u8,

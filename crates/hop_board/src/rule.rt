@@ -1,7 +1,8 @@
-//! The rule of a board's table: words and slots are what one lawful order of steps leaves.
+//! The rule of a board's table: its words and slots are what one lawful order of steps leaves.
 use hop_rule::{BoardSizes, BoardStep, Slot};
 use linearization::StepRule;
 
+/// The step rule of a board.
 pub struct BoardRule;
 
 impl StepRule<Option<Slot>, BoardStep, BoardSizes> for BoardRule {

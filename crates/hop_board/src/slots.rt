@@ -1,4 +1,4 @@
-//! Lanes that seats take out of their slots and put into them.
+//! Taking lanes out of their slots and putting them back.
 ghost use Rattle.std.specs.Prelude.{◌≡◌, true, ◌∷◌, MatchResult};
 ghost use Rattle.hop_rule.specs.Boards.{own_state, empty};
 ghost use Rattle.board_api.specs.Calls.HeldLanes.{FitsLane};
@@ -16,7 +16,7 @@ use linearization::Moves;
 use std::marker::Brand;
 
 impl Board {
-    // Takes a lane and moves it out of its slot, or answers the odd word that was found.
+    // Takes a lane and moves it out of its slot, or returns the odd word that was found.
     pub(crate) fn take(&self, seat: &mut WordSeat, lane: LaneId) -> Result<Slot, u64>
         requires table { seat.old.table ≡ self.now.table }
         requires within { FitsLane self.now.sizes lane }
@@ -62,7 +62,7 @@ impl Board {
         self.give_as::<Brand>(seat, release, lane);
     }
 
-    // The lane's word is one up where its tail rises, and else one down.
+    // The lane's word becomes one more if its tail rises, otherwise one less.
     fn give_as<J: Given>(&self, seat: &mut WordSeat, release: Release, lane: Slot)
         requires table { seat.old.table ≡ self.now.table }
         requires within { FitsLane self.now.sizes (released_lane release) }

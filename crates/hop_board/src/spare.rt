@@ -1,4 +1,4 @@
-//! The memory into which a closed board's lists are copied.
+//! The memory into which the lists of a closed board are copied.
 ghost use Rattle.std.specs.Prelude.{◌≡◌, [], IfOk, replicate};
 ghost use Rattle.steer_base.specs.Journals.{journal};
 ghost use Rattle.hop_board.specs.Closed.{HasRoom};
@@ -8,17 +8,21 @@ use hop_rule::BoardSizes;
 use std::alloc::Global;
 use steer_base::{Journal, LaneDrop, List, OutOfMemory, PacketId};
 
-/// Empty lists: of each middle lane for its packets and its drops, and for the lists of all lanes.
+/// Empty lists with room for what a closed board leaves.
 #[derive(Drop)]
 pub struct Spare {
+    /// For each middle lane, for the packets that it accepted.
     pub accepted: Vec<Journal<PacketId>>,
+    /// For each middle lane, for its drops.
     pub drops: Vec<Journal<LaneDrop>>,
+    /// For the lists of all middle lanes.
     pub lanes: Vec<LaneList>,
+    /// For the lists of all out lanes.
     pub outs: Vec<List<PacketId>>,
 }
 
 impl Spare {
-    /// All lists for a board of these sizes.
+    /// Makes all lists for a board of these sizes. The only error is out of memory.
     pub fn make(alloc: Global, sizes: &BoardSizes) -> Result<Spare, OutOfMemory>
         ensures { IfOk result (λ spare. HasRoom sizes.now spare) }
     {
@@ -35,7 +39,7 @@ impl Spare {
     }
 }
 
-// So many empty lists with this room.
+// `count` empty lists with this room.
 fn journals<T: Drop>(alloc: Global, count: u32, room: u32) -> Result<Vec<Journal<T>>, OutOfMemory>
     ensures { IfOk result (λ all. all.items ≡ replicate count (journal [] room)) }
 {

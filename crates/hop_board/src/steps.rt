@@ -1,4 +1,4 @@
-//! Single steps at the words of a board, which leave the slots as they are.
+//! Single steps at the words of a board that leave the slots as they are.
 ghost use Rattle.std.specs.Prelude.{◌≡◌, ℕ, ◌+◌, ◌-◌, ◌%◌, ◌^◌, ◌==◌, ◌∷◌};
 ghost use prog.Atomic.{either};
 ghost use Rattle.hop_board.specs.Makings.{loaded, MayLoad};
@@ -49,7 +49,7 @@ impl Board {
             .store::<Makes<Adds<J>>>(&mut seat.seat, place, value);
     }
 
-    // Adds to a word, and answers it as it was.
+    // Adds to a word, and returns it as it was.
     pub(crate) fn add_as<J: Told>(&self, seat: &mut WordSeat, word: Word, more: u64) -> u64
         requires table { seat.old.table ≡ self.now.table }
         requires within { IsWord self.now.sizes word }
@@ -64,7 +64,7 @@ impl Board {
             .fetch_add::<Makes<Adds<J>>>(&mut seat.seat, place, more)
     }
 
-    // Takes something from a word, and answers it as it was.
+    // Subtracts from a word, and returns it as it was.
     pub(crate) fn sub_as<J: Told>(&self, seat: &mut WordSeat, word: Word, less: u64) -> u64
         requires table { seat.old.table ≡ self.now.table }
         requires within { IsWord self.now.sizes word }
@@ -79,7 +79,7 @@ impl Board {
             .fetch_sub::<Makes<Adds<J>>>(&mut seat.seat, place, less)
     }
 
-    // Writes `new` where the word is `old`, and answers the word as it was.
+    // Writes `new` if the word is `old`, and returns the word as it was.
     pub(crate) fn exchange_as<J: Told>(
         &self,
         seat: &mut WordSeat,

@@ -1,4 +1,4 @@
-//! Visits, and what is read in them.
+//! Visits, and reads during a visit.
 ghost use Rattle.std.specs.Prelude.{◌≡◌, ◌≢◌, ◌<◌, ◌∷◌, [], length};
 ghost use Rattle.hop_rule.specs.Boards.{gate_steps};
 ghost use Rattle.hop_rule.specs.Gates.{outside, visit};
@@ -14,7 +14,7 @@ use hop_rule::{BoardStep, GateStep};
 use std::marker::Brand;
 
 impl Board {
-    /// Begins a visit at an open gate. At a closed one the visitor steps back in the same call.
+    /// Begins a visit if the gate is open. If it is closed the visitor backs out in the same call.
     pub fn enter(&self, seat: &mut BoardSeat) -> EnterAnswer
         requires table { seat.old.table ≡ self.now.table }
         requires outside { IsOutside seat.old.steps }
@@ -38,7 +38,7 @@ impl Board {
         self.step_out(&mut seat.seat);
     }
 
-    /// Reads a setting.
+    /// Reads a setting, by its number from 0.
     pub fn setting(&self, seat: &mut BoardSeat, i: u32) -> u64
         requires table { seat.old.table ≡ self.now.table }
         requires inside { MayRead seat.old.steps }
@@ -48,7 +48,7 @@ impl Board {
         self.load(&mut seat.seat, Word::Setting(i))
     }
 
-    /// Reads the head of a middle lane, a counter number that wraps.
+    /// Reads the head of a middle lane, a counter number.
     pub fn weigh(&self, seat: &mut BoardSeat, lane: u8) -> u32
         requires table { seat.old.table ≡ self.now.table }
         requires inside { MayRead seat.old.steps }
@@ -58,8 +58,8 @@ impl Board {
         HeadWord(self.load(&mut seat.seat, Word::Head(lane))).head()
     }
 
-    // Adds a visit to the gate's word, and answers it as it was: a marked one is that of a closed
-    // gate.
+    // Adds a visit to the gate's word, and returns it as it was, which is marked if the gate is
+    // closed.
     fn step_in(&self, seat: &mut WordSeat) -> u64
         requires table { seat.old.table ≡ self.now.table }
         requires outside { IsOutside seat.old.steps }
@@ -69,7 +69,7 @@ impl Board {
         self.add_as::<Brand>(seat, Word::Gate, 1)
     }
 
-    // Takes a visit from the gate's word.
+    // Subtracts a visit from the gate's word.
     fn step_out(&self, seat: &mut WordSeat)
         requires table { seat.old.table ≡ self.now.table }
         requires inside { visit (gate_steps seat.old.steps) ≢ outside }

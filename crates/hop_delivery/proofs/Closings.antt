@@ -1,4 +1,4 @@
-pub mod DeliveryLemmas
-pub mod ExampleLemmas
+pub mod FlowLemmas
+pub mod ClosingExampleLemmas
 pub mod RuleLemmas
 pub mod TurnReadLemmas

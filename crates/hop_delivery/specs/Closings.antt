@@ -1,3 +1,3 @@
-pub mod Examples
-pub mod DeliveryLaw
+pub mod ClosingExamples
+pub mod FlowLaw
 pub mod TurnReads

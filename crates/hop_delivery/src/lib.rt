@@ -1,4 +1,4 @@
-//! Delivery in order on a board that threads share: over one order of all steps, and by the seats'
+//! Delivery in order on a board that threads share: over an order of all steps, and from the seats'
 //! own lists once the board is closed.
 #![tactic(auto)]
 

@@ -1,4 +1,4 @@
--- One order of all steps on a board: those at lanes, those at the gate, loads, and moves of a lane
+-- One order of all steps on a board: steps at lanes, steps at the gate, loads, and moves of a lane
 -- out of its slot and into it.
 use Rattle.std.specs.Prelude.{◌≡◌, ℕ, ◌+◌, ◌<◌, List, [], ◌∷◌, ◌==◌, Option, Some, None, map}
 use Rattle.std.specs.Prelude.{if◌then◌else◌}
@@ -20,42 +20,47 @@ use Rattle.hop_rule.specs.Gates as gates
 
 -- ---- the two parts of an order and of a seat's own steps
 
--- the step at a lane that a step is, if it is one, and the step at the gate
+-- The step at a lane that a board step is, if it is one.
 abbrev pub lane_step_in : BoardStep → Option LaneStep
 lane_step_in (Lane d) = Some d
 lane_step_in _ = None
 
+-- The step at the gate or a setting that a board step is, if it is one.
 abbrev pub gate_in : BoardStep → Option GateStep
 gate_in (Gate d) = Some d
 gate_in _ = None
 
+-- The steps at lanes in an order of all steps on a board.
 abbrev pub lanes_of : List (StepBy BoardStep) → List (StepBy LaneStep)
 lanes_of es = filter_map (λ e. option_map (step_by e.by) (lane_step_in e.step)) es
 
+-- The steps at the gate and the settings in an order of all steps on a board.
 abbrev pub gates_of : List (StepBy BoardStep) → List (StepBy GateStep)
 gates_of es = filter_map (λ e. option_map (step_by e.by) (gate_in e.step)) es
 
+-- The steps at lanes in a seat's own list.
 abbrev pub lane_steps : List BoardStep → List LaneStep
 lane_steps ds = filter_map lane_step_in ds
 
+-- The steps at the gate and the settings in a seat's own list.
 abbrev pub gate_steps : List BoardStep → List GateStep
 gate_steps ds = filter_map gate_in ds
 
 -- ---- slots
 
--- What is in a slot: its lane; nothing, since a seat has taken the slot itself; or nothing, and the
--- slot is at home.
+-- What is in a slot: its lane; nothing, since a seat has taken the slot; or nothing, with the slot
+-- itself given back.
 pub data SlotState : Type 0 where
   full : SlotState
   taken : SlotState
   empty : SlotState
 
 module _ (about : BoardSizes) where
-  -- the slots are those of the middle lanes and then those of the out lanes
+  -- The number of the slot of the out lane o: out lanes come after the middle lanes.
   abbrev pub out_slot : ℕ → ℕ
   out_slot o = about.lanes + o
 
-  -- the slot k after a step
+  -- The state of the slot k after a step at a lane.
   abbrev pub state_after_lane : ℕ → LaneStep → SlotState → SlotState
   state_after_lane k (Held l w x) s = if l == k then taken else s
   state_after_lane k (Freed l c) s = if l == k then full else s
@@ -64,42 +69,44 @@ module _ (about : BoardSizes) where
   state_after_lane k (Given o from id place) s = if out_slot o == k then full else s
   state_after_lane k _ s = s
 
+  -- The state of the slot k after a step.
   abbrev pub state_after : ℕ → BoardStep → SlotState → SlotState
   state_after k (Lane d) s = state_after_lane k d s
   state_after k (LaneOut i) s = if i == k then empty else s
   state_after k (LaneIn i) s = if i == k then taken else s
   state_after k _ s = s
 
+  -- The state of the slot k after an order of steps.
   abbrev pub slot_state : ℕ → List (StepBy BoardStep) → SlotState
   slot_state k [] = full
   slot_state k (e ∷ es) = state_after k e.step (slot_state k es)
 
-  -- the same by a seat's own steps
+  -- The state of the slot k by a seat's own steps.
   abbrev pub own_state : ℕ → List BoardStep → SlotState
   own_state k [] = full
   own_state k (d ∷ ds) = state_after k d (own_state k ds)
 
   -- ---- the lawful orders
 
-  -- where the seat p stands
+  -- Where the seat p is with respect to the gate: outside, inside or backing out.
   abbrev pub visit_of : ℕ → List (StepBy BoardStep) → gates.Visit
   visit_of p es = gates.visit (steps_of p (gates_of es))
 
-  -- a put is made in a visit
+  -- If the step is a put, its seat is inside the gate.
   abbrev pub IsInside : gates.Visit → LaneStep → Type 0
   IsInside v (Freed l (Offered id hash answer)) = v ≡ gates.inside
   IsInside v _ = Unit {0}
 
-  -- who gives a lane back has taken its slot, and has its lane at hand
+  -- If the step gives a lane back, the seat has taken the lane's slot and moved the lane in.
   abbrev pub HasSlot : List BoardStep → LaneStep → Type 0
   HasSlot ds (Freed l c) = own_state l ds ≡ taken
   HasSlot ds (OutFreed o) = own_state (out_slot o) ds ≡ taken
   HasSlot ds (Given o from id place) = own_state (out_slot o) ds ≡ taken
   HasSlot ds _ = Unit {0}
 
-  -- The step of the seat p can come after these. A head's or a lane's word that is loaded is the
-  -- word as it stands; a lane is moved out of a slot that the seat has taken, and into one that it
-  -- has emptied.
+  -- The step of the seat p may follow these: it is allowed at its lane or its gate, a loaded word
+  -- is the current word, and a lane is moved out of a slot that the seat has taken and into one
+  -- that it has emptied.
   abbrev pub MayCome : ℕ → List (StepBy BoardStep) → BoardStep → Type 0
   MayCome p es (Lane d) =
       lanes.MayCome about p (lanes_of es) d × IsInside (visit_of p es) d
@@ -112,30 +119,38 @@ module _ (about : BoardSizes) where
   MayCome p es (LaneIn k) =
       (k < about.lanes + about.outs) × (own_state k (steps_of p es) ≡ empty)
 
-  -- the order is lawful, and each of its steps is by one of the seats
+  -- An order of steps on a board is lawful: each step may follow those before it, and is by one of
+  -- the seats.
   abbrev pub IsLawful : List (StepBy BoardStep) → Type 0
   IsLawful [] = Unit {0}
   IsLawful (e ∷ es) = (e.by < about.seats) × MayCome e.by es e.step × IsLawful es
 
   -- ---- what an order leaves
 
+  -- The middle lane l after a lawful order.
   abbrev pub lane_at : List (StepBy BoardStep) → ℕ → LaneLists
   lane_at es l = lanes.lane about l (lanes_of es)
 
+  -- The packets that the middle lane l accepted, in order.
   abbrev pub accepted : List (StepBy BoardStep) → ℕ → List ℕ
   accepted es l = (lane_at es l).accepted
 
+  -- The drops of the middle lane l, in order.
   abbrev pub drops_at : List (StepBy BoardStep) → ℕ → List LaneDrop
   drops_at es l = (lane_at es l).drops
 
+  -- The drops of all middle lanes, by lane.
   abbrev pub drops : List (StepBy BoardStep) → List (List LaneDrop)
   drops es = map (λ l. drops_at es l) (range_with_len 0 about.lanes)
 
+  -- How many packets of the middle lane l were retired.
   abbrev pub retired : List (StepBy BoardStep) → ℕ → ℕ
   retired es l = lanes.retired l (lanes_of es)
 
+  -- The packets delivered to the out lane o, in order.
   abbrev pub out : List (StepBy BoardStep) → ℕ → List ℕ
   out es o = lanes.out o (lanes_of es)
 
+  -- The value of each setting after an order.
   abbrev pub settings : List (StepBy BoardStep) → ℕ → ℕ
   settings es = gates.settings about (gates_of es)

@@ -8,8 +8,9 @@ use Rattle.hop_rule.specs.declared.step.BoardStep.{BoardStep}
 use Rattle.hop_rule.specs.declared.step.BoardStep.TheVariants.{Gate, Weighed, Counted}
 use Rattle.hop_rule.specs.declared.step.GateStep.TheVariants.{Shut, Opened}
 
--- Before the moment n the closer found the lane empty: it had closed the gate and did not open it
--- until n, and in that time it loaded the lane's head and then its tail, which showed one number.
+-- Before the moment n the closer found the lane l empty: it had closed the gate and did not open it
+-- until n, and meanwhile it loaded the lane's head and then its tail, which were one counter
+-- number.
 pub record WasEmptied (about : BoardSizes) (order : List (StepBy BoardStep)) (n l : ℕ)
     : Type 0 where
   pub shut : ℕ

@@ -20,12 +20,12 @@ use Rattle.hop_rule.specs.declared.step.GateStep.TheVariants.{Entered, Left, Shu
 use Rattle.hop_rule.specs.declared.step.LaneStep.{LaneStep}
 use Rattle.hop_rule.specs.declared.step.LaneStep.TheVariants.{Freed, Given, Retired}
 
--- the sum of f over the numbers below n
+-- The sum of f over the numbers below n.
 abbrev pub sum_below : (ℕ → ℕ) → ℕ → ℕ
 sum_below f zero = 0
 sum_below f (suc n) = sum_below f n + f n
 
--- 1 for a visit that met no closed mark
+-- 1 for a seat inside the gate, 0 for one outside or backing out.
 abbrev pub is_in : gates.Visit → ℕ
 is_in gates.outside = 0
 is_in gates.inside = 1
@@ -34,6 +34,7 @@ is_in gates.backing = 0
 -- ---- the bare hop
 
 module _ (about : BoardSizes) where
+  -- The fixed numbers of the bare hop that a board of these sizes shows.
   abbrev pub fixed : Fixed
   fixed =
       record {
@@ -44,13 +45,15 @@ module _ (about : BoardSizes) where
         limited = about.limited;
       }
 
+  -- The list of f over the middle lanes.
   abbrev pub of_lanes : {X : Type 0} → (ℕ → X) → List X
   of_lanes f = map f (range_with_len 0 about.lanes)
 
+  -- The number of seats inside the gate.
   abbrev pub inside_count : List (StepBy BoardStep) → ℕ
   inside_count es = sum_below (λ p. is_in (visit_of about p es)) about.seats
 
-  -- each list of the hop, read from the order
+  -- The bare hop of an order: each of its lists is read from the order.
   abbrev pub bare : List (StepBy BoardStep) → Bare
   bare es =
       record {
@@ -67,22 +70,26 @@ module _ (about : BoardSizes) where
 
 -- ---- the event that a step is
 
+-- The event of the bare hop that a release of the middle lane l is, by its change.
 abbrev pub release_event : ℕ → Change → BareEvent
 release_event l Nothing = nothing
 release_event l (Offered id hash answer) = offers l id hash
 release_event l (Pulled id) = pulls l
 
+-- The event of the bare hop that a step at a lane is.
 abbrev pub lane_event : LaneStep → BareEvent
 lane_event (Freed l c) = release_event l c
 lane_event (Given o from id place) = delivers from o
 lane_event (Retired l w) = retires l
 lane_event _ = nothing
 
--- who leaves from the inside leaves; a visitor that steps back was never in
+-- The event of a step that ends a visit: a leave of a seat that is inside, nothing of one that
+-- backs out.
 abbrev pub leave_event : gates.Visit → BareEvent
 leave_event gates.inside = leaves
 leave_event _ = nothing
 
+-- The event of the bare hop that a step at the gate is, by where its seat is.
 abbrev pub gate_event : gates.Visit → GateStep → BareEvent
 gate_event v (Entered w) = enters
 gate_event v Left = leave_event v
@@ -90,8 +97,8 @@ gate_event v (Shut w) = closes
 gate_event v Opened = opens
 gate_event v _ = nothing
 
--- of a step of a seat that stands so: a put, a pull, a delivery, a retire, an entry, a leave, a
--- close, an opening, or nothing
+-- The event of the bare hop that a step is: a put, a pull, a delivery, a retire, an entry, a leave,
+-- a close, an opening, or nothing.
 abbrev pub step_event : gates.Visit → BoardStep → BareEvent
 step_event v (Lane d) = lane_event d
 step_event v (Gate d) = gate_event v d
@@ -99,14 +106,14 @@ step_event v _ = nothing
 
 -- ---- laws
 
--- Before any step the bare hop is that of a hop in which nothing has happened.
+-- Before any step the bare hop of a board is that of a hop in which nothing has happened.
 abbrev pub BeginsFresh : Type 0
 BeginsFresh =
     (about : BoardSizes) (counts : List ℕ) (guests : ℕ)
     → bare about [] ≡ (fresh_hop (fixed about) counts guests about.lanes about.outs).bare
 
--- Each step of a lawful order is an event that may happen in the bare hop as it stands, and leaves
--- the bare hop as the event does.
+-- Each step of a lawful order is an event that may happen in the bare hop before it, and the bare
+-- hop after it is what the event leaves.
 abbrev pub EachStepIsAnEvent : Type 0
 EachStepIsAnEvent =
     (about : BoardSizes) (p : ℕ) (d : BoardStep) (es : List (StepBy BoardStep))

@@ -17,17 +17,17 @@ use Rattle.hop_rule.specs.declared.step.LaneStep.TheVariants.{Retired}
 
 -- ---- who holds a lane
 
--- The seat q holds a middle lane by its own steps, in which it found x there.
+-- The seat q holds the middle lane l by its own steps, in which it found x there.
 abbrev pub HoldsByOwnSteps : List (StepBy BoardStep) → ℕ → ℕ → LaneLists → Type 0
 HoldsByOwnSteps order l q x = holding l (lane_steps (own_of order q)) ≡ Some x
 
--- the same of an out lane
+-- The seat q holds the out lane o by its own steps, in which it found x there.
 abbrev pub OutHolds : List (StepBy BoardStep) → ℕ → ℕ → OutList → Type 0
 OutHolds order o q x = out_holding o (lane_steps (own_of order q)) ≡ Some x
 
--- Of a middle lane. Two seats that hold it are one. While one holds it, the lane is as that seat
--- found it, its word is marked, and its slot is not full but as that seat's steps say. While none
--- does, its word is not marked and the lane is in its slot.
+-- A middle lane is held by at most one seat. While one holds it, the lane is as that seat found it,
+-- its word is marked, and its slot is not full but as that seat's steps say; while none does, its
+-- word is not marked and the lane is in its slot.
 pub record IsHeldByOne (about : BoardSizes) (order : List (StepBy BoardStep)) (l : ℕ)
     : Type 0 where
   pub one : (p q : ℕ) (x y : LaneLists) → HoldsByOwnSteps order l p x → HoldsByOwnSteps order l q y
@@ -47,12 +47,15 @@ pub record IsHeldByOne (about : BoardSizes) (order : List (StepBy BoardStep)) (l
   pub some_holder : lane_word about l (lanes_of order) % 2 ≡ 1
       → (q : ℕ) × (x : LaneLists) × HoldsByOwnSteps order l q x
 
+-- In each lawful order each middle lane is held by at most one seat, as `IsHeldByOne` says.
 abbrev pub MiddleLanesAreHeldByOne : Type 0
 MiddleLanesAreHeldByOne =
     (about : BoardSizes) (order : List (StepBy BoardStep)) → IsLawful about order
     → (l : ℕ) → l < about.lanes → IsHeldByOne about order l
 
--- The same of an out lane.
+-- An out lane is held by at most one seat. While one holds it, the lane is as that seat found it,
+-- its word is marked, and its slot is not full but as that seat's steps say; while none does, its
+-- word is not marked and the lane is in its slot.
 pub record IsOutHeldByOne (about : BoardSizes) (order : List (StepBy BoardStep)) (o : ℕ)
     : Type 0 where
   pub one : (p q : ℕ) (x y : OutList) → OutHolds order o p x → OutHolds order o q y → p ≡ q
@@ -70,6 +73,7 @@ pub record IsOutHeldByOne (about : BoardSizes) (order : List (StepBy BoardStep))
   pub some_holder : out_word about o (lanes_of order) % 2 ≡ 1
       → (q : ℕ) × (x : OutList) × OutHolds order o q x
 
+-- In each lawful order each out lane is held by at most one seat, as `IsOutHeldByOne` says.
 abbrev pub OutLanesAreHeldByOne : Type 0
 OutLanesAreHeldByOne =
     (about : BoardSizes) (order : List (StepBy BoardStep)) → IsLawful about order
@@ -78,7 +82,7 @@ OutLanesAreHeldByOne =
 -- ---- heads
 
 -- Of the accepted packets of a lane some were pulled, of these some delivered, and of these some
--- retired; at most one is on its way from a pull to its retire. All puts fit the room.
+-- retired; at most one is between its pull and its retire, and all puts fit the room.
 pub record AreInTurn (about : BoardSizes) (order : List (StepBy BoardStep)) (l : ℕ)
     : Type 0 where
   pub of_delivered : retired about order l ≤ length (delivered_from l (lanes_of order))
@@ -88,14 +92,15 @@ pub record AreInTurn (about : BoardSizes) (order : List (StepBy BoardStep)) (l :
   pub fits : length (lane_at about order l).accepted + length (lane_at about order l).drops
       ≤ about.room
 
+-- In each lawful order the packets of each lane are accepted, pulled, delivered and retired in
+-- turn, as `AreInTurn` says.
 abbrev pub HeadsFollowDeliveries : Type 0
 HeadsFollowDeliveries =
     (about : BoardSizes) (order : List (StepBy BoardStep)) → IsLawful about order
     → (l : ℕ) → AreInTurn about order l
 
--- A step that raises the head of a lane is by the seat that pulls there, found the head's word
--- as it
--- stood, and came when one more packet had been delivered than retired.
+-- A step that raises the head of a lane is by the seat that pulls there, found the current word of
+-- the head, and came when one more packet was delivered than retired.
 pub record RetiresOne (about : BoardSizes) (order : List (StepBy BoardStep)) (n q l w : ℕ)
     : Type 0 where
   pub by_puller : q ≡ puller about l
@@ -103,6 +108,7 @@ pub record RetiresOne (about : BoardSizes) (order : List (StepBy BoardStep)) (n 
   pub delivered : retired about (past n order) l < length
       (delivered_from l (lanes_of (past n order)))
 
+-- In each lawful order each step that raises a head follows a delivery, as `RetiresOne` says.
 abbrev pub EachRetireFollows : Type 0
 EachRetireFollows =
     (about : BoardSizes) (order : List (StepBy BoardStep)) → IsLawful about order

@@ -1,5 +1,5 @@
 -- What a lawful order of steps shows of its puts, drops and deliveries. A put, a packet's place and
--- its delivery are known by lane and position: nothing here keeps a packet from being put twice.
+-- its delivery are identified by lane and position: nothing here prevents a second put of a packet.
 use Rattle.std.specs.Prelude.{◌≡◌, ℕ, suc, ◌+◌, ◌-◌, ◌<◌, ◌≤◌, List, [], ◌∷◌, ◌++◌, Option}
 use Rattle.std.specs.Prelude.{Some, None, length, slice_get}
 use Rattle.steer_base.specs.Drops.{bucket_of, lane_drop_cause}
@@ -24,17 +24,18 @@ use Rattle.hop_rule.specs.declared.step.Change.TheVariants.{Offered}
 use Rattle.hop_rule.specs.declared.step.LaneStep.TheVariants.{Freed, Given}
 
 module _ (about : BoardSizes) (order : List (StepBy BoardStep)) where
-  -- the lane as it was at the moment n
+  -- The middle lane l as it was at the moment n.
   abbrev pub lane_then : ℕ → ℕ → LaneLists
   lane_then n l = lane_at about (past n order) l
 
   -- ---- puts
 
+  -- At the moment n the seat q puts this packet to the lane l, with this hash and answer.
   abbrev pub IsPut : ℕ → ℕ → ℕ → ℕ → Option ℕ → Put → Type 0
   IsPut n q l id hash answer = IsStep order n q (Lane (Freed l (Offered id hash answer)))
 
-  -- A put at the moment n: the seat is inside and holds the lane as it stands, the lane has room,
-  -- the answer is the lane's own, and the lane goes on from what the put made of it.
+  -- A put at the moment n: the seat is inside and holds the lane as it is, the lane has room, the
+  -- answer is the lane's own, and what the put made of the lane is an earlier state of it.
   pub record PutsRight (n q l id : ℕ) (hash : Option ℕ) (answer : Put) : Type 0 where
     pub inside : visit_of about q (past n order) ≡ inside
     pub holds : HoldsByOwnSteps (past n order) l q (lane_then n l)
@@ -43,7 +44,7 @@ module _ (about : BoardSizes) (order : List (StepBy BoardStep)) where
     pub answers : answer ≡ put_answer (lane_then n l) hash
     pub stands : IsEarlier (after_put (lane_then n l) id hash) (lane_at about order l)
 
-  -- the accepted packet j of the lane l, from 0, came by this put
+  -- The accepted packet at index j of the lane l, from 0, came by this put.
   pub record WasPut (l j id : ℕ) : Type 0 where
     pub moment : ℕ
     pub seat : ℕ
@@ -53,8 +54,8 @@ module _ (about : BoardSizes) (order : List (StepBy BoardStep)) where
     pub found : length (lane_then moment l).accepted ≡ j
     pub cause : lane_drop_cause (lane_then moment l) hash ≡ None
 
-  -- the drop j of the lane l, from 0, came by this put: it keeps the counts that the put found, and
-  -- the cause that the lane as it was gives
+  -- The drop at index j of the lane l, from 0, came by this put: it keeps the counts that the put
+  -- found, and the cause that the lane at that moment gives.
   pub record WasDropped (l j : ℕ) (d : LaneDrop) : Type 0 where
     pub moment : ℕ
     pub seat : ℕ
@@ -68,11 +69,13 @@ module _ (about : BoardSizes) (order : List (StepBy BoardStep)) where
 
   -- ---- deliveries
 
+  -- At the moment n the seat q delivers this packet from a middle lane to the out lane o, at this
+  -- place.
   abbrev pub IsDelivery : ℕ → ℕ → ℕ → ℕ → ℕ → ℕ → Type 0
   IsDelivery n q o from id place = IsStep order n q (Lane (Given o from id place))
 
   -- A delivery is by the seat that pulls there, of the next packet that the lane accepted, and its
-  -- packet stands at its place of the out lane.
+  -- packet is at its place of the out lane.
   pub record GivesRight (n q o from id place : ℕ) : Type 0 where
     pub by_puller : q ≡ puller about from
     pub next : slice_get (lane_at about order from).accepted
@@ -80,7 +83,7 @@ module _ (about : BoardSizes) (order : List (StepBy BoardStep)) where
     pub place_from_one : 0 < place
     pub stands : slice_get (out about order o) (place - 1) ≡ Some id
 
-  -- the member j of the out lane o, from 0, came by this delivery
+  -- The packet at index j of the out lane o, from 0, came by this delivery.
   pub record WasGiven (o j id : ℕ) : Type 0 where
     pub moment : ℕ
     pub seat : ℕ
@@ -89,18 +92,21 @@ module _ (about : BoardSizes) (order : List (StepBy BoardStep)) where
 
 -- ---- each position is one put, each drop one dropped put, each member of an out lane one delivery
 
+-- In each lawful order each put is right, as `PutsRight` says.
 abbrev pub EachPutIsRight : Type 0
 EachPutIsRight =
     (about : BoardSizes) (order : List (StepBy BoardStep)) → IsLawful about order
     → (n q l id : ℕ) (hash : Option ℕ) (answer : Put) → IsPut about order n q l id hash answer
     → PutsRight about order n q l id hash answer
 
+-- In each lawful order each accepted packet came by a put.
 abbrev pub EachAcceptedWasPut : Type 0
 EachAcceptedWasPut =
     (about : BoardSizes) (order : List (StepBy BoardStep)) → IsLawful about order
     → (l j id : ℕ) → slice_get (lane_at about order l).accepted j ≡ Some id
     → WasPut about order l j id
 
+-- In each lawful order each drop came by a put.
 abbrev pub EachDropWasPut : Type 0
 EachDropWasPut =
     (about : BoardSizes) (order : List (StepBy BoardStep)) → IsLawful about order
@@ -117,12 +123,14 @@ PositionsRise =
     → lane_drop_cause (lane_then about order m l) hash ≡ None
     → length (lane_then about order m l).accepted < length (lane_then about order n l).accepted
 
+-- In each lawful order each delivery is right, as `GivesRight` says.
 abbrev pub EachDeliveryIsRight : Type 0
 EachDeliveryIsRight =
     (about : BoardSizes) (order : List (StepBy BoardStep)) → IsLawful about order
     → (n q o from id place : ℕ) → IsDelivery about order n q o from id place
     → GivesRight about order n q o from id place
 
+-- In each lawful order each packet of an out lane came by a delivery.
 abbrev pub EachMemberWasGiven : Type 0
 EachMemberWasGiven =
     (about : BoardSizes) (order : List (StepBy BoardStep)) → IsLawful about order
@@ -146,15 +154,15 @@ OffersArePuts =
     → (lane_then about order (suc n) l).offers
     ≡ (lane_then about order n l).offers ++ bucket_of hash ∷ []
 
--- Along the drops of a lane neither count falls, and none is over that of the lane.
+-- Along the drops of a lane neither of the two counts falls, and none is above that of the lane.
 abbrev pub DropCountsRise : Type 0
 DropCountsRise =
     (about : BoardSizes) (order : List (StepBy BoardStep)) → IsLawful about order
     → (l : ℕ) → AreRising (lane_at about order l)
 
--- Where each packet is put with its own hash, the offers of each lane are the buckets of its
--- accepted and dropped packets in the order of their puts, and each drop has the cause that its two
--- counts and the offers before it give.
+-- If each packet is put with its own hash, the offers of each lane are the buckets of its accepted
+-- and dropped packets in the order of their puts, and each drop has the cause that its two counts
+-- and the offers before it give.
 abbrev pub DropsAreExplained : Type 0
 DropsAreExplained =
     (about : BoardSizes) (order : List (StepBy BoardStep)) → IsLawful about order
@@ -166,22 +174,21 @@ DropsAreExplained =
 
 -- ---- the order of deliveries
 
--- The n-th delivery of a lane is of its n-th accepted packet. Of two deliveries of a lane to
--- one out
--- lane the later one has the higher place.
+-- The n-th delivery of a lane is of its n-th accepted packet.
 abbrev pub DeliveredAsAccepted : Type 0
 DeliveredAsAccepted =
     (about : BoardSizes) (order : List (StepBy BoardStep)) → IsLawful about order
     → (l k : ℕ) (g : Delivery) → nth_step (delivered_from l (lanes_of order)) k ≡ Some g
     → slice_get (lane_at about order l).accepted k ≡ Some g.id
 
+-- Of two deliveries of a lane to one out lane the later one has the higher place.
 abbrev pub DeliveredInOrder : Type 0
 DeliveredInOrder =
     (about : BoardSizes) (order : List (StepBy BoardStep)) → IsLawful about order
     → (l j k : ℕ) (g h : Delivery) → j < k → nth_step (delivered_from l (lanes_of order)) j ≡ Some g
     → nth_step (delivered_from l (lanes_of order)) k ≡ Some h → g.to ≡ h.to → g.place < h.place
 
--- ---- what the load of a head tells
+-- ---- what a loaded head implies
 
 -- The word of a head that was loaded counts the retires up to then, and there are no fewer at the
 -- end.
@@ -192,9 +199,8 @@ LoadedHeadsAreRetires =
     → (w ≡ about.start + retired about (past n order) l)
     × (retired about (past n order) l ≤ retired about order l)
 
--- Each of the packets that a loaded head counts was delivered, and stands in its out lane
--- below each
--- that was put to whatever lane after the load and went to the same out lane.
+-- Each packet that a loaded head counts was delivered, and is in its out lane below each packet
+-- that was put to any lane after the load and went to the same out lane.
 abbrev pub LoadedHeadsArePassed : Type 0
 LoadedHeadsArePassed =
     (about : BoardSizes) (order : List (StepBy BoardStep)) → IsLawful about order

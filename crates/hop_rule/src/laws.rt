@@ -1,4 +1,4 @@
-//! What every lawful order of steps shows, each the contract of a function that does nothing.
+//! Lemmas on every lawful order of steps. The functions have no code.
 ghost use Rattle.hop_rule.specs.Events.{BeginsFresh, EachStepIsAnEvent};
 ghost use Rattle.hop_rule.specs.LaneLaws.{EachRetireFollows, HeadsFollowDeliveries};
 ghost use Rattle.hop_rule.specs.LaneLaws.{MiddleLanesAreHeldByOne, OutLanesAreHeldByOne};
@@ -14,31 +14,31 @@ ghost use Rattle.hop_rule.specs.SettingLaws.{HeadsAreBelowTails, NoSetWhileInsid
 ghost use Rattle.hop_rule.specs.SettingLaws.{SettingsAreTheClosers, VisitsAreNumbered};
 ghost use Rattle.hop_rule.specs.SettingLaws.{VisitsReadSettings, VisitsShowSettings};
 
-/// Each of a seat's own steps is a step of the order, and these stand in one sequence.
+/// Lemma: each of a seat's own steps is a step of the order, at moments that rise along its list.
 pub fn own_steps_stand_in_the_order()
     ensures { OwnStepsHaveMoments }
 {}
 
-/// The gate's word is the sum of the open visits of all seats, of the closed mark and of the
-/// closer's openings. In a closed gate nobody is inside.
+/// Lemma: the gate's word is the sum of the open visits of all seats, the closed mark and the
+/// closer's openings. While the gate is closed nobody is inside.
 pub fn the_gate_word_counts_visits()
     ensures { GateWordCountsVisits }
 {}
 
-/// A lane is held by one seat at most. While it is held it is as its holder found it, and its word
-/// is marked; else it lies in its slot, and its word is twice its tail.
+/// Lemma: a lane is held by at most one seat. While it is held it is as its holder found it, and
+/// its word is marked; otherwise it is in its slot, and its word is twice its tail.
 pub fn a_held_lane_is_as_its_holder_found_it()
     ensures middle { MiddleLanesAreHeldByOne }
     ensures out { OutLanesAreHeldByOne }
 {}
 
-/// The head of a lane counts retires, and each of these follows a delivery of its own.
+/// Lemma: the head of a lane counts retires, and each of these follows a delivery of its own.
 pub fn heads_follow_deliveries()
     ensures counts { HeadsFollowDeliveries }
     ensures step { EachRetireFollows }
 {}
 
-/// Each accepted position is one put and each drop one dropped put, and the other way round.
+/// Lemma: each accepted position is one put and each drop one dropped put, and conversely.
 pub fn puts_and_positions_are_one_to_one()
     ensures put { EachPutIsRight }
     ensures accepted { EachAcceptedWasPut }
@@ -46,35 +46,36 @@ pub fn puts_and_positions_are_one_to_one()
     ensures rise { PositionsRise }
 {}
 
-/// Each member of an out lane is one delivery, and the other way round.
+/// Lemma: each packet of an out lane is one delivery, and conversely.
 pub fn deliveries_and_places_are_one_to_one()
     ensures delivery { EachDeliveryIsRight }
     ensures member { EachMemberWasGiven }
     ensures rise { PlacesRise }
 {}
 
-/// Each drop has the cause that its two counts and the offers before it give, and along a lane's
-/// drops neither count falls.
+/// Lemma: each drop has the cause that its two counts and the offers before it give, and along the
+/// drops of a lane neither count falls.
 pub fn drops_are_explained()
     ensures offers { OffersArePuts }
     ensures counts { DropCountsRise }
     ensures causes { DropsAreExplained }
 {}
 
-/// A lane's packets are delivered in the order in which it accepted them.
+/// Lemma: the packets of a lane are delivered in the order in which it accepted them.
 pub fn lanes_deliver_in_order()
     ensures packets { DeliveredAsAccepted }
     ensures places { DeliveredInOrder }
 {}
 
-/// What a loaded head counts was delivered, and stands below all that is put after the load.
+/// Lemma: the packets that a loaded head counts were delivered, and are in their out lanes below
+/// all that are put after the load.
 pub fn a_loaded_head_was_passed()
     ensures retires { LoadedHeadsAreRetires }
     ensures passed { LoadedHeadsArePassed }
 {}
 
-/// Settings are the closer's, and none is made while a seat is inside. A visit reads those before
-/// the last opening that its entry counts.
+/// Lemma: settings are made by the closer, and none while a seat is inside. A visit reads those
+/// before the last opening that its entry counts.
 pub fn a_visit_sees_one_list_of_settings()
     ensures closers { SettingsAreTheClosers }
     ensures inside { NoSetWhileInside }
@@ -83,14 +84,14 @@ pub fn a_visit_sees_one_list_of_settings()
     ensures reads { VisitsReadSettings }
 {}
 
-/// What lay in a lane that the closer found empty was put in visits before that close, was
-/// delivered, and stands below all that is put in visits after it.
+/// Lemma: the packets of a lane that the closer found empty were put in visits before that close,
+/// were delivered, and are below all that are put in visits after it.
 pub fn an_emptied_lane_stands_first()
     ensures first { EmptiedLanesStandFirst }
     ensures counts { HeadsAreBelowTails }
 {}
 
-/// Each step is what one event of a hop does to its lanes and its gate, or leaves them as they are.
+/// Lemma: each step is one event of a hop on its lanes and its gate, or leaves them as they are.
 pub fn each_step_is_one_event_or_none()
     ensures begins { BeginsFresh }
     ensures event { EachStepIsAnEvent }

@@ -1,5 +1,5 @@
-//! The rule of a board: lanes, heads, a gate and settings that threads steer by atomic words, and
-//! the one order of all their steps.
+//! The rule of a board of atomic words: the lawful orders of all threads' steps at its lanes,
+//! heads, gate and settings, and what each of them implies.
 #![tactic(auto)]
 
 mod laws;
@@ -16,7 +16,7 @@ pub use laws::{
     puts_and_positions_are_one_to_one, the_gate_word_counts_visits,
 };
 pub use out_lane::OutLane;
-pub use sizes::BoardSizes;
+pub use sizes::{BoardSizes, MAX_BOARD_ROOM};
 pub use step::{BoardStep, Change, GateStep, LaneStep, Slot};
 pub use wrong_orders::{
     a_head_is_raised_after_its_delivery, a_pull_is_of_the_oldest_packet,

@@ -72,8 +72,9 @@ module _ {D : Type 0} (seats : List (SeatView D)) (order : List (StepBy D)) (vie
         place = at.0;
         within = at.1;
         here = number_is seats at.0 0 at.1 ∙ at.2;
-        only = λ k m is. sym (apart k m).1 ∙ (ap (λ (p : ℕ). (r.place p).1) (sym (number_is seats k 0 m)
-            ∙ (is ∙ sym at.2)) ∙ (apart at.0 at.1).1);
+        only = λ k m is. sym (apart k m).1
+            ∙ (ap (λ (p : ℕ). (r.place p).1) (sym (number_is seats k 0 m) ∙ (is ∙ sym at.2))
+            ∙ (apart at.0 at.1).1);
       }
 
   pub numbered : AreNumbered (length seats) seats

@@ -8,22 +8,22 @@ use Rattle.linearization.specs.Orders.{StepBy, AreBySeats}
 use Rattle.linearization.specs.Views.{hand}
 use Rattle.linearization.specs.Seats.{SeatView, seat_view, ArePartsOf, AreNumbered}
 
--- the hands of these seats
+-- The hands of a list of seats.
 abbrev pub hands_of : {D : Type 0} → List (SeatView D) → List (Hand D)
 hands_of {D} seats = map (λ (s : SeatView D). hand s.number s.steps) seats
 
--- the seats of a table that have these hands
+-- The seats of a table that have these hands.
 abbrev pub seats_with : {D : Type 0} → TableId → List (Hand D) → List (SeatView D)
 seats_with {D} table hands = map (λ (h : Hand D). seat_view table h.number h.steps) hands
 
--- the seats of a table that were taken back so far
+-- What contracts see of the seats taken back so far: their table, and the seats.
 pub record GatheredView (D : Type 0) : Type 0 where
   pub table : TableId
   pub seats : List (SeatView D)
 
--- These words and slots are what one order of all the seats' steps lawfully leaves. There are as
--- many seats as the table was made with, each number is that of one seat, and each step is by one
--- of them. A slot that was at home has its value.
+-- How a table with a number of seats ends: its words and slots are what one lawful order of all the
+-- seats' steps leaves, each number from 0 is that of one seat, each step is by one of the seats,
+-- each seat's steps are its part of the order, and a slot that was at home has its value.
 pub record Ends {S D : Type 0} (count : ℕ)
     (lawful : List (StepBy D) → List ℕ → List (Option S) → Type 0)
     (seats : List (SeatView D)) (words : List ℕ) (slots : List S) : Type 0 where

@@ -1,4 +1,4 @@
--- The rule of a table: one order of all steps, of which each hand has the steps of its own seat.
+-- The rule of a table: one order of all steps, and each hand has the steps of its own seat.
 use Rattle.std.specs.Prelude.{◌≡◌, ℕ, ◌<◌, List, ◌∷◌}
 use mathlib.Core.Option.{Option, some}
 use lib.ListN.{get_elem?}
@@ -8,13 +8,13 @@ use Rattle.linearization.specs.declared.hands.Hands.{Hands}
 use Rattle.linearization.specs.Orders.{StepBy, steps_of, AreBySeats}
 use Rattle.linearization.specs.Views.{one, number_in, steps_in}
 
--- the hand at place m of the view j has its seat's steps of the order. No other place has a hand of
--- this number
+-- The hand at place m of view j has its seat's steps of the order, and no other place has a hand of
+-- this number.
 abbrev pub IsPart : {D : Type 0} → ℕ → List (StepBy D) → (ℕ → ℕ × ℕ) → ℕ → ℕ → Hand D → Type 0
 IsPart seats order place j m h =
     (h.number < seats) × (place h.number ≡ (j, m)) × (h.steps ≡ steps_of h.number order)
 
--- of this order each view has the steps of its hands
+-- Each view has the steps of its hands in this order, and each step is by one of so many seats.
 pub record Views {D : Type 0} (seats : ℕ) (order : List (StepBy D)) (views : List (Hands D))
     : Type 0 where
   pub place : ℕ → ℕ × ℕ
@@ -22,8 +22,8 @@ pub record Views {D : Type 0} (seats : ℕ) (order : List (StepBy D)) (views : L
       → (m : ℕ) (h : Hand D) → get_elem? v.hands m ≡ some h → IsPart seats order place j m h
   pub by_seats : AreBySeats seats order
 
--- the words and the values at home are what one order of all steps lawfully leaves, and the views
--- have their parts
+-- The words and the values at home are what one lawful order of all steps leaves, and each view has
+-- its part of it.
 pub record Ordered {S D : Type 0} (seats : ℕ)
     (lawful : List (StepBy D) → List ℕ → List (Option S) → Type 0)
     (s : State S (Hands D)) : Type 0 where
@@ -31,7 +31,8 @@ pub record Ordered {S D : Type 0} (seats : ℕ)
   pub lawfully : lawful order s.words s.homes
   pub views_are : Views seats order s.views
 
--- the seat's steps are these and one more, and the step tells something of the order before it
+-- A step without slots: the seat's list gains this one step, and the word that was found implies
+-- this about the order before it.
 pub record Made {S D : Type 0} (makes : Step S → ℕ → D)
     (tells : Step S → ℕ → List (StepBy D) → Type 0)
     (st : Step S) (m : Me S (Hands D)) (n : ℕ) (m' : Me S (Hands D)) : Type 0 where
@@ -40,8 +41,8 @@ pub record Made {S D : Type 0} (makes : Step S → ℕ → D)
   pub part : steps_in m.0 ≡ steps_of (number_in m.0) order
   pub told : tells st n order
 
--- the seat's steps are these and one more, which goes with the word that was found and the slots
--- that the seat carried before and after
+-- A step that may take or give slots: the seat's list gains one step, which is related to the word
+-- that was found and the slots carried before and after.
 pub record Moved {S D : Type 0} (moved : Step S → ℕ → D → List (ℕ × S) → List (ℕ × S) → Type 0)
     (st : Step S) (m : Me S (Hands D)) (n : ℕ) (m' : Me S (Hands D)) : Type 0 where
   pub added : D

@@ -1,4 +1,4 @@
-//! The end of a table: its seats are taken back one by one, which takes no memory.
+//! The end of a table: its seats are taken back one by one, without an allocation.
 ghost use Rattle.std.specs.Prelude.{◌≡◌, ◌<◌, ◌∷◌, [], length, All};
 ghost use Rattle.std.specs.Vec.{vec_len};
 ghost use Rattle.std.specs.Slots.{slots_items, slots_len, IsFull};
@@ -13,7 +13,7 @@ use atomic_table::{Closed, Shared, Table};
 use std::alloc::Global;
 
 impl<S, D> Gathered<S, D> {
-    /// Begins to take the seats of a table back.
+    /// Begins to take back the seats of a table, with none taken back yet.
     pub fn sit<K, R: StepRule<S, D, K>>(
         shared: &Shared<S, Hands<D>, K, OneOrder<R>>,
     ) -> Gathered<S, D>
@@ -25,7 +25,7 @@ impl<S, D> Gathered<S, D> {
         Gathered { seat }
     }
 
-    /// Takes one seat more back, which comes before those that are there.
+    /// Takes back one more seat, and puts it before those that were taken back earlier.
     pub fn join<K, R: StepRule<S, D, K>>(
         &mut self,
         shared: &Shared<S, Hands<D>, K, OneOrder<R>>,
@@ -39,7 +39,7 @@ impl<S, D> Gathered<S, D> {
         shared.join_seat::<Gathers<D>>(&mut self.seat, next.seat);
     }
 
-    /// Closes the table, of which all seats were taken back: as many as it was made with.
+    /// Closes the table after all seats were taken back, as many as it was made with.
     pub fn finish<K, R: StepRule<S, D, K>>(
         self,
         table: Table<S, Hands<D>, K, OneOrder<R>, Global>,
@@ -57,7 +57,7 @@ impl<S, D> Gathered<S, D> {
     }
 }
 
-/// Takes all these seats of a table back.
+/// Takes back all these seats of a table.
 pub fn gather<S, D, K, R: StepRule<S, D, K>>(
     shared: &Shared<S, Hands<D>, K, OneOrder<R>>,
     mut seats: Vec<OrderedSeat<S, D>>,
@@ -75,7 +75,7 @@ pub fn gather<S, D, K, R: StepRule<S, D, K>>(
     all
 }
 
-/// Closes a table with all of its seats, of which there are as many as it was made with.
+/// Closes a table with all of its seats, as many as it was made with.
 pub fn close<S, D, K, R: StepRule<S, D, K>>(
     table: Table<S, Hands<D>, K, OneOrder<R>, Global>,
     seats: Vec<OrderedSeat<S, D>>,

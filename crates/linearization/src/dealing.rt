@@ -1,4 +1,4 @@
-//! How the first seat's hands go to seats of their own.
+//! Creating the seats of a new table.
 ghost use Rattle.std.specs.Prelude.{◌≡◌, ◌<◌, [], IfOk, All};
 ghost use Rattle.std.specs.Vec.{vec_len};
 ghost use Rattle.linearization.specs.Views.{all_hands};
@@ -11,8 +11,8 @@ use crate::seat::OrderedSeat;
 use atomic_table::{Seat, Shared};
 use std::alloc::{AllocError, Global};
 
-/// Gives all seats of a table that no step was made on, numbered from 0 on. `main` is the seat that
-/// came with the table.
+/// Creates the `seats` seats of a table on which no step was made, numbered from 0. `main` is the
+/// seat that came with the table. The only error is out of memory.
 pub fn deal<S, D, K, R: StepRule<S, D, K>>(
     alloc: Global,
     shared: &Shared<S, Hands<D>, K, OneOrder<R>>,

@@ -1,10 +1,10 @@
-//! The seats of a table that were taken back, as contracts see them.
+//! The seats of a table that were taken back so far.
 use crate::hands::Hands;
 use atomic_table::Seat;
 use std::marker::Model;
 
-/// The seats of a table that were taken back so far, to close it with. It has all their hands, and
-/// carries no slot.
+/// The seats of a table that were taken back so far, with which it is closed. It has all their
+/// hands, and carries no slot.
 #[derive(Drop)]
 pub struct Gathered<S, D> {
     pub(crate) seat: Seat<S, Hands<D>>,

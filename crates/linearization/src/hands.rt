@@ -1,13 +1,16 @@
-//! What a seat at the table knows. No value of these types is made.
+//! What a seat knows of the steps so far. Contracts cite these types; no value of them is made.
 use std::collections::LinkedList;
 
-/// The steps of the seat with this number, the newest first.
+/// The steps made by one seat.
 pub struct Hand<D> {
+    /// The number of the seat, from 0.
     pub number: u64,
+    /// Its steps, the newest first.
     pub steps: LinkedList<D>,
 }
 
-/// A seat that others were joined to has several hands.
+/// The hands of one seat: one hand, or several after other seats were joined to it.
 pub struct Hands<D> {
+    /// The hands, those of the seat joined last first.
     pub hands: LinkedList<Hand<D>>,
 }

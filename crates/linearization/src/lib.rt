@@ -1,5 +1,5 @@
-//! Numbered seats at a table of atomic words, each with the list of its own steps, under one order
-//! of all steps.
+//! A linearization of the steps of several threads: numbered seats at a table of atomic words, each
+//! with the list of its own steps, and one order of all steps.
 #![tactic(auto)]
 
 mod closing;

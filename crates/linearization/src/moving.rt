@@ -1,4 +1,4 @@
-//! What calls that take or give slots add to their seat's list.
+//! The step that a call which takes or gives a slot adds to its seat's list.
 ghost use Rattle.std.specs.Prelude.{ℕ, List};
 ghost use Rattle.atomic_table.specs.Table.{Step};
 
@@ -6,14 +6,14 @@ use crate::hands::Hands;
 use atomic_table::Play;
 use std::marker::PhantomData;
 
-/// What one call that may take or give a slot does.
+/// The step of one call that may take or give a slot.
 pub trait Moving<S, D> {
-    // How these go together: the operands, the word that was found, the step that was added, and
-    // the slots that the seat carried before and after, each with its value.
+    // The relation of the operands, the word that was found, the step that was added, and the slots
+    // that the seat carried before and after, each with its value.
     ghost moved: { Step S → ℕ → D → List (ℕ × S) → List (ℕ × S) → Type 0 };
 }
 
-/// A seat makes a step as M describes it.
+/// The play of a seat that makes a step described by `M`.
 pub struct Moves<M> {
     of: PhantomData<M>,
 }

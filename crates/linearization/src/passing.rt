@@ -1,9 +1,9 @@
-//! How hands go from seat to seat.
+//! How hands pass from seat to seat.
 use crate::hands::Hands;
 use atomic_table::{Join, Play, Split};
 use std::marker::PhantomData;
 
-/// A seat's first hand goes to a new seat.
+/// A split: the first hand of a seat goes to a new seat.
 pub struct Deals<D> {
     of: PhantomData<D>,
 }
@@ -16,7 +16,7 @@ impl<D> Split<Hands<D>> for Deals<D> {
     ghost right = { given_hands };
 }
 
-/// A seat takes all hands of another.
+/// A join: a seat takes all hands of another.
 pub struct Gathers<D> {
     of: PhantomData<D>,
 }
@@ -29,7 +29,7 @@ impl<D> Join<Hands<D>> for Gathers<D> {
     ghost spent = { no_hands };
 }
 
-/// A new seat has no hand.
+/// The play that makes a new seat, which has no hand.
 pub struct Sits<D> {
     of: PhantomData<D>,
 }

@@ -1,4 +1,4 @@
-//! The rule of a table that has one order of all steps.
+//! The rule of a table that has one order of all steps: its linearization.
 ghost use Rattle.std.specs.Prelude.{ℕ, List};
 ghost use mathlib.Core.Option.{Option};
 ghost use Rattle.linearization.specs.Orders.{StepBy};
@@ -7,15 +7,15 @@ use crate::hands::Hands;
 use atomic_table::TableRule;
 use std::marker::PhantomData;
 
-/// What steps of the kind D do to a table with slots of S that was told K.
+/// The effect of steps of type `D` on a table with slots of `S` that was made with the key `K`.
 pub trait StepRule<S, D, K> {
-    // How many seats there are.
+    // The number of seats.
     ghost seats: { K → ℕ };
-    // An order of steps is lawful and leaves these words and these values at home.
+    // Whether an order of steps is lawful and leaves these words and these values at home.
     ghost lawful: { K → List (StepBy D) → List ℕ → List (Option S) → Type 0 };
 }
 
-/// There is one order of all seats' steps, lawful by R.
+/// The table rule that there is one order of all seats' steps, lawful by `R`.
 pub struct OneOrder<R> {
     of: PhantomData<R>,
 }

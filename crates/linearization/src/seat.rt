@@ -1,11 +1,13 @@
-//! A seat as contracts see it.
+//! A seat, the right of one thread to make steps.
 use crate::hands::Hands;
 use atomic_table::Seat;
 use std::marker::Model;
 
-/// One thread's right to make steps. It has a number, knows its own steps, and carries no slot.
+/// The right of one thread to make steps at a table. It has a number, knows its own steps, and
+/// carries no slot between calls.
 #[derive(Drop)]
 pub struct OrderedSeat<S, D> {
+    /// The seat of the table of words.
     pub seat: Seat<S, Hands<D>>,
 }
 

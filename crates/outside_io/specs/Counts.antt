@@ -1,18 +1,18 @@
--- Counts of 64 bits: how they rise. A count stands still at the last value that its type has.
+-- How counts of 64 bits rise: a count saturates at the largest value of its type.
 use Rattle.std.specs.Prelude.{if◌then◌else◌, ◌≤◌, ℕ, ◌+◌, ◌-◌, ◌^◌, min, max, Bool}
 
--- the last value of a count, at which one that is not kept stands always
+-- the largest value of a count, which is also the value of a count that is not kept
 abbrev pub last_count : ℕ
 last_count = 2 ^ 64 - 1
 
--- the count that has risen by n, as far as its type goes
+-- a count after it rose by n, saturating
 abbrev pub raised : ℕ → ℕ → ℕ
 raised n before = max before (min (before + n) last_count)
 
--- the count after a call that failed, or did not
+-- a count of failures after a call that failed or succeeded
 abbrev pub counted : Bool → ℕ → ℕ
 counted failed before = if failed then raised 1 before else before
 
--- the count rose, or stands at its last value
+-- a count rose, or is at its largest value
 abbrev pub Rose : ℕ → ℕ → Type 0
 Rose before now = raised 1 before ≤ now

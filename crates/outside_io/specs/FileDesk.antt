@@ -1,11 +1,11 @@
--- What a desk over the files of the system is made of.
+-- The parts of a desk over the files of the operating system.
 use Rattle.std.specs.Prelude.{ℕ, Option}
 use Rattle.outside_io.specs.declared.file_desk.FileDesk.{FileDesk}
 
--- the file that was begun, if one is
+-- the file that is begun on a file desk, if any
 abbrev pub file_of : {R F D : Type 0} → FileDesk R F D → Option F
 file_of desk = desk.file
 
--- how many of its calls failed
+-- the number of failed calls of a file desk
 abbrev pub file_desk_faults : {R F D : Type 0} → FileDesk R F D → ℕ
 file_desk_faults desk = desk.faults

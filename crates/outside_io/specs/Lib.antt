@@ -5,6 +5,7 @@ pub mod FileDesk
 pub mod Folder
 pub mod MemoryDesk
 pub mod MemorySink
+pub mod Reading
 pub mod Sink
 pub mod StdSink
 pub mod SureDesk

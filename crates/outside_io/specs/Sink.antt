@@ -1,10 +1,10 @@
--- What the calls of a sink add to the bytes written, where it tells them.
+-- What the calls of a sink add to its bytes, if it can observe them.
 use Rattle.std.specs.Prelude.{◌<◌, ◌≤◌, ℕ, List, Bool, true, false, length, take, Option}
 use Rattle.std.specs.Io.KnownBytes.{Keeps, Appends}
 use Rattle.outside_io.specs.declared.sink.Took.{Took}
 use Rattle.outside_io.specs.declared.sink.Took.TheVariants as took
 
--- a write adds the first bytes of its piece, at least one, or it fails and adds none
+-- a write adds the first bytes of its piece, at least one, or fails and adds none
 abbrev pub Takes : Took → List ℕ → Option (List ℕ) → Option (List ℕ) → Type 0
 Takes (took.Bytes n) piece old new = (0 < n) × (n ≤ length piece) × Appends old new (take n piece)
 Takes took.Failed piece old new = Keeps old new

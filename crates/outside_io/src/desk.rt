@@ -1,21 +1,21 @@
-//! A desk: files by name, of which one at a time is read from its front.
+//! A desk: a source of named files, of which one at a time is read from the beginning.
 ghost use Rattle.std.specs.Prelude.{◌≡◌, ◌<◌, ◌≤◌, List, ℕ, Option, IfSome, None, length};
 ghost use Rattle.outside_io.specs.Counts.{Rose, raised};
 ghost use Rattle.outside_io.specs.Desk.{Begins, GoesOnTelling, Reads, read_count};
 
-/// What beginning a file came to.
+/// The result of beginning a file.
 #[derive(Clone, Copy, Debug, PartialEq, Eq)]
 pub enum Begin {
-    /// The file stands at its front.
+    /// The file was begun, at its first byte.
     Ok,
     /// It could not be begun, and a fault was counted.
     Failed,
 }
 
-/// What a read came to.
+/// The result of a read.
 #[derive(Clone, Copy, Debug, PartialEq, Eq)]
 pub enum Got {
-    /// So many bytes, at least one, are at the front of the buffer.
+    /// This many bytes, at least one, are at the front of the buffer.
     Bytes(usize),
     /// No byte is left.
     End,
@@ -23,28 +23,29 @@ pub enum Got {
     Failed,
 }
 
-/// Files by name. What a desk can't tell of its bytes is `None`. A count of bytes or reads that it
-/// doesn't keep is the constant `last_count`, and the clauses on it then say nothing of this desk.
+/// A source of named files. Ghost state that an implementation cannot observe is `None`. If it does
+/// not count bytes or reads, that count is the constant `last_count`, and the clauses about it say
+/// nothing about this desk.
 pub trait Desk {
-    /// The bytes of each name, where the desk tells them.
+    /// The bytes of each named file, if the desk can observe them.
     ghost held: { Self → List ℕ → Option (List ℕ) };
 
-    /// The bytes left of the file that was begun, where the desk tells them.
+    /// The bytes left of the file that was begun, if the desk can observe them.
     ghost left: { Self → Option (List ℕ) };
 
-    /// The name of the file that was begun last, where the desk tells it.
+    /// The name of the file that was begun last, if the desk can observe it.
     ghost asked: { Self → Option (List ℕ) } = { λ _. None };
 
-    /// How many bytes were read.
+    /// The number of bytes read.
     ghost taken: { Self → ℕ };
 
-    /// How many reads were made.
+    /// The number of reads made.
     ghost reads: { Self → ℕ };
 
-    /// How many calls failed.
+    /// The number of failed calls.
     ghost faults: { Self → ℕ };
 
-    /// Begins the file of a name at its front, in place of the one begun before.
+    /// Begins the named file at its first byte, in place of the one begun before.
     fn begin(&mut self, name: &str) -> Begin
         ensures held { held self.new ≡ held self.old }
         ensures left { Begins result (held self.old name.now) (left self.new) }
@@ -57,7 +58,7 @@ pub trait Desk {
         ensures later { faults self.old ≤ faults self.new }
         ensures failed { result ≡ Begin.Failed → Rose (faults self.old) (faults self.new) };
 
-    /// Reads the next bytes of the file that was begun, at least one where any is left.
+    /// Reads the next bytes of the file that was begun, at least one if any is left.
     fn read(&mut self, buf: &mut [u8]) -> Got
         requires { 0 < length buf.old }
         ensures held { held self.new ≡ held self.old }

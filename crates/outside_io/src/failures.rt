@@ -1,8 +1,8 @@
-//! The calls that an object in memory is to fail, and its counts.
+//! Which calls of an in-memory object fail, and its counts.
 ghost use Rattle.std.specs.Prelude.{◌≡◌, List, ℕ};
 ghost use Rattle.outside_io.specs.Counts.{raised};
 
-/// Calls are numbered from 1, and those listed are to fail.
+/// Calls are numbered from 1; the listed ones fail.
 #[derive(Drop)]
 pub struct Failures {
     pub listed: Vec<u64>,
@@ -13,7 +13,7 @@ pub struct Failures {
 impl Failures {
     ghost use Rattle.outside_io.specs.Failures.{IsFresh, next_fails};
 
-    /// No call was made.
+    /// Starts with no call made.
     pub fn make(listed: Vec<u64>) -> Self
         ensures { IsFresh result listed.items }
     {
@@ -24,7 +24,7 @@ impl Failures {
         }
     }
 
-    /// Numbers a call, and says whether it is listed.
+    /// Counts the next call, and returns whether it is listed.
     pub fn next_call(&mut self) -> bool
         ensures listed { result ≡ next_fails self.old }
         ensures list { self.new.listed.items ≡ self.old.listed.items }

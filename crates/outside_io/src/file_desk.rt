@@ -1,4 +1,4 @@
-//! The desk over the files of the system.
+//! A desk over the files of the operating system.
 ghost use Rattle.std.specs.Prelude.{◌≡◌, ◌<◌, ◌≤◌, None, IsSome, length, option_and_then};
 ghost use Rattle.outside_io.specs.Counts.{Rose, counted, last_count, raised};
 ghost use Rattle.outside_io.specs.Desk.{Begins, GoesOnTelling, Reads, read_count};
@@ -10,8 +10,9 @@ use std::fs;
 use std::io::Read;
 use std::rt::Files;
 
-/// The files of the system, by path. It tells no bytes, and counts neither bytes nor reads. A name
-/// that can't be opened fails at `begin`, a folder or a bad disk at `read`.
+/// The files of the operating system, by path. Its contracts say nothing about the bytes of a file,
+/// and it counts neither bytes nor reads. A name that cannot be opened fails at `begin`; a folder
+/// or a bad disk fails at `read`.
 #[derive(Drop)]
 pub struct FileDesk<R: Files + Drop> {
     rt: R,
@@ -20,7 +21,7 @@ pub struct FileDesk<R: Files + Drop> {
 }
 
 impl<R: Files + Drop> FileDesk<R> {
-    /// Nothing is begun, and no call has failed.
+    /// A desk on which no file is begun and no call has failed.
     pub fn make(rt: R) -> Self
         ensures begun { file_of result ≡ None }
         ensures faults { file_desk_faults result ≡ 0 }

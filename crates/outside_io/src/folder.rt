@@ -1,9 +1,9 @@
-//! Files in memory, of which one at a time is read from its front.
+//! Files in memory, of which one at a time is read from the beginning.
 ghost use Rattle.std.specs.Prelude.{◌≡◌, ◌<◌, ◌+◌, ◌^◌, ◌++◌, ℕ, List, Option, [], min, take};
 ghost use Rattle.std.specs.Prelude.{length, is_some, unwrap_or, IfSome, None};
 ghost use Rattle.outside_io.specs.Folder.{bytes_from, bytes_of, place_of};
 
-/// Names with their bytes. The first of a name counts.
+/// Named files with their bytes. If a name occurs more than once, its first file counts.
 #[derive(Drop)]
 pub struct Folder {
     files: Vec<(String, Vec<u8>)>,
@@ -14,7 +14,7 @@ pub struct Folder {
 impl Folder {
     ghost use Rattle.outside_io.specs.Folder.{asked_in, held_in, left_in};
 
-    /// Nothing is begun.
+    /// A folder with no file begun.
     pub fn make(files: Vec<(String, Vec<u8>)>) -> Self
         ensures held { held_in result ≡ bytes_of files.items }
         ensures left { left_in result ≡ [] }
@@ -26,8 +26,7 @@ impl Folder {
         }
     }
 
-    /// Begins the file of a name, and says whether there is one. Where there is none, nothing is
-    /// begun.
+    /// Begins the named file, and returns whether it exists. If it does not, no file is begun.
     pub fn begin(&mut self, name: &str) -> bool
         ensures held { held_in self.new ≡ held_in self.old }
         ensures found { result ≡ is_some (held_in self.old name.now) }
@@ -39,7 +38,7 @@ impl Folder {
         self.begun.is_some()
     }
 
-    /// Puts away the file that was begun.
+    /// Closes the file that was begun.
     pub fn stop(&mut self)
         ensures held { held_in self.new ≡ held_in self.old }
         ensures left { left_in self.new ≡ [] }
@@ -48,7 +47,7 @@ impl Folder {
         self.begun = None;
     }
 
-    /// Moves bytes that are left to the front of the buffer, as many as fit, and says how many.
+    /// Moves as many of the bytes left as fit to the front of the buffer, and returns their number.
     pub fn read(&mut self, buf: &mut [u8]) -> usize
         ensures held { held_in self.new ≡ held_in self.old }
         ensures count { result ≡ min (length buf.old) (length (left_in self.old)) }
@@ -61,14 +60,14 @@ impl Folder {
     }
 }
 
-// The place of the first file of a name.
+// The index of the first file with this name.
 fn find_name(files: &[(String, Vec<u8>)], name: &str) -> Option<usize>
     ensures { result ≡ place_of files.now name.now }
 {
     files.iter().position(|file| file.0.as_str() == name)
 }
 
-// Copies the bytes from an offset on that fit, and says how many.
+// Copies the bytes from an offset on, as many as fit, and returns their number.
 fn copy_rest(files: &[(String, Vec<u8>)], place: Option<usize>, at: usize, buf: &mut [u8]) -> usize
     ensures count { result ≡ min (length buf.old) (length (bytes_from files.now place at)) }
     ensures bytes { take result buf.new ≡ take result (bytes_from files.now place at) }

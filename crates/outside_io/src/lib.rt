@@ -1,4 +1,5 @@
-//! Files that are read by name and streams that are written to, over the system or in memory.
+//! Traits for reading files by name and writing byte streams, with implementations over the operating
+//! system and in memory.
 #![tactic(auto)]
 
 mod desk;
@@ -18,7 +19,7 @@ pub use desk::{Begin, Desk, Got};
 pub use file_desk::FileDesk;
 pub use memory_desk::MemoryDesk;
 pub use memory_sink::MemorySink;
-pub use reading::{ReadWhole, read_whole};
+pub use reading::{MAX_FILE, ReadWhole, read_whole};
 pub use sink::{Sink, Took};
 pub use std_sink::StdSink;
 pub use sure_desk::SureDesk;

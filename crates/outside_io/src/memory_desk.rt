@@ -1,4 +1,4 @@
-//! A desk in memory, which fails at the calls that are listed.
+//! A desk in memory that fails at listed calls.
 ghost use Rattle.std.specs.Prelude.{if◌then◌else◌, ◌≡◌, ◌<◌, ◌≤◌, ℕ, [], Some, List, length};
 ghost use Rattle.std.specs.Prelude.{IfSome};
 ghost use Rattle.outside_io.specs.Counts.{Rose, raised};
@@ -10,9 +10,9 @@ use crate::failures::Failures;
 use crate::folder::Folder;
 use crate::{Begin, Desk, Got};
 
-/// Files in memory. The calls of `begin` and `read` are numbered together from 1, and those listed
-/// fail. So does a `begin` of a name that isn't held. After a failed `begin`, and before any,
-/// nothing is begun. It counts its reads, the failed ones too, and the bytes that they gave.
+/// Files in memory. Calls of `begin` and `read` are numbered together from 1: the listed ones fail,
+/// and so does a `begin` of an unknown name. Before the first `begin`, and after one that failed,
+/// no file is begun. It counts its reads, including failed ones, and the bytes that they returned.
 #[derive(Drop)]
 pub struct MemoryDesk {
     folder: Folder,
@@ -26,7 +26,8 @@ impl MemoryDesk {
     ghost use Rattle.outside_io.specs.MemoryDesk.{memory_desk_left, reads_of};
     ghost use Rattle.outside_io.specs.MemoryDesk.{taken_of};
 
-    /// A desk with these files, names with their bytes, of which the first of a name counts.
+    /// A desk with these files, each a name and its bytes. If a name occurs more than once, its
+    /// first file counts.
     pub fn make(files: Vec<(String, Vec<u8>)>, failing: Vec<u64>) -> Self
         ensures held { memory_desk_held result ≡ bytes_of files.items }
         ensures left { memory_desk_left result ≡ [] }
@@ -42,14 +43,14 @@ impl MemoryDesk {
         }
     }
 
-    /// How many reads were made, up to `u64::MAX`.
+    /// The number of reads made, up to `u64::MAX`.
     pub fn reads(&self) -> u64
         ensures { result ≡ reads_of self.now }
     {
         self.reads
     }
 
-    /// How many bytes the reads gave, up to `u64::MAX`.
+    /// The number of bytes that the reads returned, up to `u64::MAX`.
     pub fn taken(&self) -> u64
         ensures { result ≡ taken_of self.now }
     {

@@ -1,9 +1,11 @@
-//! All the bytes of a name, read through a desk.
+//! Reads a whole file through a desk.
 ghost use Rattle.std.specs.Prelude.{◌≡◌, ◌<◌, ◌≤◌, ◌+◌, ℕ, [], Some, length, IfOk, IfSome, IsErrOf};
 ghost use Rattle.std.specs.Prelude.{vec_len};
 ghost use Rattle.std.specs.Io.KnownBytes.{Keeps};
-ghost use Rattle.outside_io.specs.Counts.{Rose, raised};
+ghost use Rattle.outside_io.specs.Counts.{Rose};
 ghost use Rattle.outside_io.specs.Desk.{GoesOnTelling};
+ghost use Rattle.outside_io.specs.Reading.{TakesUpTo};
+ghost use Rattle.outside_io.specs.declared.reading.TheConstants.{MAX_FILE};
 ghost use Rattle.outside_io.specs.declared.reading.ReadWhole.TheVariants.{OutOfMemory};
 
 use crate::{Begin, Desk, Got};
@@ -12,11 +14,11 @@ use std::alloc::{AllocError, Global};
 /// Why a file was not read whole.
 #[derive(Clone, Copy, Debug, PartialEq, Eq)]
 pub enum ReadWhole {
-    /// The desk failed to begin or to read it.
+    /// The desk failed to begin or to read the file.
     Fault,
-    /// It has more bytes than the limit.
+    /// The file has more bytes than the limit.
     TooLong,
-    /// There was no memory for its bytes.
+    /// There was not enough memory for the bytes of the file.
     OutOfMemory,
 }
 
@@ -28,32 +30,28 @@ impl From<AllocError> for ReadWhole {
     }
 }
 
+/// The largest limit that [`read_whole`] accepts, in bytes (256 MiB).
+pub const MAX_FILE: usize = 268_435_456;
+
 // The most bytes that one read asks for.
 const PIECE: usize = 65_536;
 
-/// All the bytes of a name, of which there may be at most `limit`.
+/// Reads all bytes of the named file, of which there may be at most `limit`.
 ///
-/// After an error some of the file may have been read, and the next `begin` starts anew.
+/// `TooLong` is returned if and only if one byte more than the limit was read; no more than that is
+/// ever read. After an error, part of the file may have been read; the next `begin` starts over.
 pub fn read_whole<D: Desk>(
     alloc: Global,
     desk: &mut D,
     name: &str,
     limit: usize,
 ) -> Result<Vec<u8>, ReadWhole>
-    requires { limit ≤ 268435456 }
+    requires { limit ≤ MAX_FILE }
     ensures whole { IfOk result (λ bytes. Keeps (D.held desk.old name.now) (Some bytes.items)) }
     ensures nothing_left { IfOk result (λ _.
         IfSome (D.held desk.old name.now) (λ _. D.left desk.new ≡ Some [])) }
     ensures within { IfOk result (λ bytes. vec_len bytes ≤ limit) }
-
-    // `TooLong` comes exactly where one byte more than the limit was read. No more ever are.
-    ensures too_long { IsErrOf result ReadWhole.TooLong →
-        D.taken desk.new ≡ raised (limit + 1) (D.taken desk.old) }
-    ensures ok_read { IfOk result (λ bytes.
-        D.taken desk.new ≡ raised (vec_len bytes) (D.taken desk.old)) }
-    ensures fault_read { IsErrOf result ReadWhole.Fault →
-        D.taken desk.new ≤ D.taken desk.old + limit }
-    ensures at_most { D.taken desk.new ≤ D.taken desk.old + (limit + 1) }
+    ensures taken { TakesUpTo result limit (D.taken desk.old) (D.taken desk.new) }
     ensures longer { IsErrOf result ReadWhole.TooLong →
         IfSome (D.held desk.old name.now) (λ bytes. limit < length bytes) }
 

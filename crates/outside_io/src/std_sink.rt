@@ -1,6 +1,6 @@
-//! The sink over a stream of the system.
-ghost use Rattle.std.specs.Prelude.{◌≡◌, ◌<◌, ◌≤◌, None, OnErr, is_err, length};
-ghost use Rattle.std.specs.Io.KnownBytes.{Keeps};
+//! A sink over an output stream of the operating system.
+ghost use Rattle.std.specs.Prelude.{◌≡◌, ◌<◌, ◌≤◌, None, OnErr, OnOk, is_err, length};
+ghost use Rattle.std.specs.Io.KnownBytes.{IsAtEnd, Keeps};
 ghost use Rattle.outside_io.specs.Counts.{Rose, counted};
 ghost use Rattle.outside_io.specs.Sink.{Takes, write_failed};
 ghost use Rattle.outside_io.specs.StdSink.{std_sink_faults, writer_of};
@@ -8,8 +8,8 @@ ghost use Rattle.outside_io.specs.StdSink.{std_sink_faults, writer_of};
 use crate::{Sink, Took, WriteFault};
 use std::io::Write;
 
-/// A writer of the system, as standard output or standard error, or one that holds bytes back until
-/// it is flushed. It tells no bytes.
+/// Writes to any `Write`, such as standard output, standard error or a `BufWriter` over one of
+/// them. Its contracts say nothing of the bytes written and unsent.
 #[derive(Drop)]
 pub struct StdSink<W: Write + Drop> {
     writer: W,
@@ -17,7 +17,7 @@ pub struct StdSink<W: Write + Drop> {
 }
 
 impl<W: Write + Drop> StdSink<W> {
-    /// No write has failed.
+    /// A sink on which no call has failed.
     pub fn make(writer: W) -> Self
         ensures writer { writer_of result ≡ writer }
         ensures faults { std_sink_faults result ≡ 0 }
@@ -31,10 +31,11 @@ impl<W: Write + Drop> Sink for StdSink<W> {
 
     ghost faults = { λ sink. std_sink_faults sink };
 
-    // A writer that takes nothing has failed too, since a piece is never empty.
+    // `Ok(0)` counts as a failure too, since a piece is never empty.
     fn write(&mut self, bytes: &[u8]) -> Took
         requires { 0 < length bytes.now }
         ensures written { Takes result bytes.now None None }
+        ensures unsent { Takes result bytes.now None None }
         ensures later { std_sink_faults self.old ≤ std_sink_faults self.new }
         ensures failed { result ≡ Took.Failed → Rose (std_sink_faults self.old)
             (std_sink_faults self.new) }
@@ -55,6 +56,7 @@ impl<W: Write + Drop> Sink for StdSink<W> {
 
     fn flush(&mut self) -> Result<(), WriteFault>
         ensures kept { Keeps None None }
+        ensures sent { OnOk result (IsAtEnd None) }
         ensures later { std_sink_faults self.old ≤ std_sink_faults self.new }
         ensures failed { OnErr result (Rose (std_sink_faults self.old) (std_sink_faults self.new)) }
 

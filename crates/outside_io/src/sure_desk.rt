@@ -6,7 +6,7 @@ ghost use Rattle.outside_io.specs.Folder.{bytes_of};
 use crate::folder::Folder;
 use crate::{Begin, Desk, Got};
 
-/// Files in memory, where a name that isn't held is an empty file. No call fails.
+/// Files in memory; an unknown name is an empty file. No call fails.
 #[derive(Drop)]
 pub struct SureDesk {
     folder: Folder,
@@ -15,7 +15,8 @@ pub struct SureDesk {
 impl SureDesk {
     ghost use Rattle.outside_io.specs.SureDesk.{sure_desk_held, sure_desk_left};
 
-    /// A desk with these files, names with their bytes, of which the first of a name counts.
+    /// A desk with these files, each a name and its bytes. If a name occurs more than once, its
+    /// first file counts.
     pub fn make(files: Vec<(String, Vec<u8>)>) -> Self
         ensures held { (name : List ℕ) →
             sure_desk_held result name ≡ Some (unwrap_or (bytes_of files.items name) []) }

@@ -3,9 +3,9 @@ ghost use Rattle.std.specs.Prelude.{◌≡◌, ◌<◌, ◌≤◌, ℕ, None, le
 ghost use Rattle.outside_io.specs.Counts.{Rose, raised};
 ghost use Rattle.outside_io.specs.Sink.{Takes};
 
-use crate::{Sink, Took};
+use crate::{Sink, Took, WriteFault};
 
-/// Counts the bytes that it is given, up to `u64::MAX`, and keeps none. No call fails.
+/// Counts the bytes written, up to `u64::MAX`, and keeps none. No call fails.
 #[derive(Drop)]
 pub struct SureSink {
     count: u64,
@@ -14,14 +14,14 @@ pub struct SureSink {
 impl SureSink {
     ghost use Rattle.outside_io.specs.SureSink.{sure_sink_count};
 
-    /// No byte was written.
+    /// A sink to which nothing was written.
     pub fn make() -> Self
         ensures { sure_sink_count result ≡ 0 }
     {
         SureSink { count: 0 }
     }
 
-    /// How many bytes were written.
+    /// The number of bytes written, up to `u64::MAX`.
     pub fn count(&self) -> u64
         ensures { result ≡ sure_sink_count self.now }
     {
@@ -39,6 +39,7 @@ impl Sink for SureSink {
     fn write(&mut self, bytes: &[u8]) -> Took
         requires { 0 < length bytes.now }
         ensures written { Takes result bytes.now None None }
+        ensures unsent { Takes result bytes.now None None }
         ensures later { 0 ≤ 0 }
         ensures failed { result ≡ Took.Failed → Rose 0 0 }
 
@@ -48,5 +49,9 @@ impl Sink for SureSink {
     {
         self.count = self.count.saturating_add(bytes.len() as u64);
         Took::Bytes(bytes.len())
+    }
+
+    fn flush(&mut self) -> Result<(), WriteFault> {
+        Ok(())
     }
 }

@@ -5,7 +5,7 @@ use std::alloc::{AllocError, Global};
 use std::process::Abort;
 use std::test::Fail;
 use steer_base::{AppId, Command, Cpu, CpuMask, RxQueue, Step, TxQueue};
-use toeplitz::VERIFICATION_KEY_BYTES;
+use toeplitz::VERIFICATION_KEY;
 
 /// A plan of four processors and one of all else, but for its further keys and its steps.
 const SETTINGS: &str = "{\"cpus\":4,\"queues\":[{\"home\":0,\"mask\":[1],\"flows\":1}],\
@@ -308,7 +308,7 @@ fn fields_are_read(rt: HostRuntime) -> Result<(), Fail> {
 #[test]
 fn keys_that_are_not_given_have_defaults(rt: HostRuntime) -> Result<(), Fail> {
     let plan = plan_from(rt.alloc(), b"", b"[]")?;
-    same_items(&rt, &plan.key, &VERIFICATION_KEY_BYTES);
+    same_items(&rt, &plan.key, &VERIFICATION_KEY);
     has_default_numbers(&rt, &plan);
     has_default_lists(&rt, &plan);
     Ok(())

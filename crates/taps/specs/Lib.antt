@@ -6,3 +6,4 @@ pub mod PerFlow
 pub mod Positions
 pub mod Rows
 pub mod Shown
+pub mod Standard

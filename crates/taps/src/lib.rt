@@ -5,6 +5,7 @@ mod depth;
 mod feeding;
 mod per_cpu;
 mod per_flow;
+mod standard;
 mod tap;
 mod text;
 
@@ -12,4 +13,5 @@ pub use depth::Depth;
 pub use feeding::feed;
 pub use per_cpu::PerCpu;
 pub use per_flow::PerFlow;
+pub use standard::{StandardTap, standard_taps};
 pub use tap::{Tap, TapText};

@@ -11,16 +11,16 @@ use Rattle.steer_base.specs.declared.flow.Flow.{Flow}
 use Rattle.steer_base.specs.declared.flow.Flow.TheVariants.{Bare, Two, Four}
 use Rattle.toeplitz.specs.Toeplitz.{hash_of}
 
--- whether bit k of the kinds is set
+-- whether the kind of hash with number k is enabled
 abbrev pub is_on : ℕ → ℕ → Bool
 is_on kinds k = bit_at kinds k == 1
 
--- the bit of the kinds under which the addresses alone are hashed
+-- the number of the kind that hashes the two addresses only
 abbrev pub address_kind : Pair → ℕ
 address_kind (V4 src dst) = 0
 address_kind (V6 src dst) = 3
 
--- the bit of the kinds under which the addresses and the ports are hashed
+-- the number of the kind that hashes the addresses and the ports
 abbrev pub port_kind : Pair → Proto → ℕ
 port_kind (V4 src dst) Tcp = 1
 port_kind (V4 src dst) Udp = 2
@@ -36,13 +36,13 @@ addresses (V6 src dst) = to_be_bytes w128 src ++ to_be_bytes w128 dst
 abbrev pub ports : ℕ → ℕ → List ℕ
 ports sport dport = to_be_bytes w16 sport ++ to_be_bytes w16 dport
 
--- the addresses alone, where their kind is on
+-- the two addresses as the input of the hash, if their kind is enabled
 abbrev pub input_of_addresses : Pair → ℕ → Option (List ℕ)
 input_of_addresses pair kinds = if is_on kinds (address_kind pair) then Some
     (addresses pair) else None
 
--- The hashed bytes of a flow: the addresses and the ports where their kind is on, else the
--- addresses alone where theirs is on, else none.
+-- The input of the hash for a flow: addresses and ports if their kind is enabled, else only the
+-- addresses if theirs is, else none.
 abbrev pub input_of : Flow → ℕ → Option (List ℕ)
 input_of Bare kinds = None
 input_of (Two pair) kinds = input_of_addresses pair kinds
@@ -50,11 +50,11 @@ input_of (Four pair proto sport dport) kinds =
     if is_on kinds (port_kind pair proto) then Some (addresses pair ++ ports sport dport) else
     input_of_addresses pair kinds
 
--- the hash of a flow under a key, with the kinds that are on
+-- the hash of a flow under a key with the enabled kinds, if one of them applies
 abbrev pub hash_of_flow : ℕ → Flow → ℕ → Option ℕ
 hash_of_flow key flow kinds = option_map (hash_of key) (input_of flow kinds)
 
--- whether a kind of this flow is on
+-- whether a kind that applies to this flow is enabled
 abbrev pub has_kind : Flow → ℕ → Bool
 has_kind Bare kinds = false
 has_kind (Two pair) kinds = is_on kinds (address_kind pair)

@@ -5,8 +5,8 @@ use Rattle.std.specs.Prelude.{bit_xor, if◌then◌else◌, ◌==◌}
 use Rattle.std.specs.Int.{bit_at}
 use Rattle.toeplitz.specs.Toeplitz.{key_window}
 
--- the XOR of the windows of those of the first n bits of a byte at this place of the input that are
--- 1
+-- the XOR of the key's windows at those of the first n bits of an input byte that are 1; the byte
+-- is at index `place` of the input
 unfoldable pub xor_of_byte : ℕ → ℕ → ℕ → ℕ → ℕ
 xor_of_byte key place byte zero = 0
 xor_of_byte key place byte (suc k) =
@@ -14,18 +14,18 @@ xor_of_byte key place byte (suc k) =
     (key_window key (8 * place + k))
     else xor_of_byte key place byte k
 
--- what a byte at this place of the input adds to the hash
+-- what a byte at an index of the input adds to the hash
 abbrev pub word_of : ℕ → ℕ → ℕ → ℕ
 word_of key place byte = xor_of_byte key place byte 8
 
--- the XOR of what these bytes add to the hash, the first of them at this place of the input
+-- the XOR of what some bytes add to the hash, the first of them at an index of the input
 unfoldable pub xor_of_bytes : ℕ → ℕ → List ℕ → ℕ
 xor_of_bytes key place [] = 0
 xor_of_bytes key place (byte ∷ bytes) =
     bit_xor (word_of key place byte) (xor_of_bytes key (suc place) bytes)
 
--- 36 rows of 256 words, row after row, where row `place` has at `byte` what this byte adds to the
--- hash at this place
+-- The table of a key: 36 rows of 256 words, one row after another. The word at `byte` in row
+-- `place` is what this byte adds to the hash at index `place` of the input.
 pub record IsTable (key : ℕ) (words : List ℕ) : Type 0 where
   pub size : length words ≡ 9216
   pub word : (place byte : ℕ) → place < 36 → byte < 256 → slice_index words

@@ -10,14 +10,15 @@ use crate::words::Words;
 use std::marker::Model;
 use steer_base::Flow;
 
-/// The 40 bytes of the key of Microsoft's verification suite for the RSS hash.
-pub const VERIFICATION_KEY_BYTES: [u8; 40] = [
+/// The 40 bytes of the key of Microsoft's verification suite for the RSS hash. It is the default key
+/// of plans and of the commands `hash` and `place`.
+pub const VERIFICATION_KEY: [u8; 40] = [
     0x6d, 0x5a, 0x56, 0xda, 0x25, 0x5b, 0x0e, 0xc2, 0x41, 0x67, 0x25, 0x3d, 0x43, 0xa3, 0x8f, 0xb0,
     0xd0, 0xca, 0x2b, 0xcb, 0xae, 0x7b, 0x30, 0xb4, 0x77, 0xcb, 0x2d, 0xa3, 0x80, 0x30, 0xf2, 0x0c,
     0x6a, 0x42, 0xb7, 0x3b, 0xbe, 0xac, 0x01, 0xfa,
 ];
 
-// What a window of 32 bits is below.
+// A window of the key has 32 bits: its value is below this.
 const WINDOW: u64 = 1 << 32;
 
 /// A key of 320 bits.
@@ -37,7 +38,7 @@ impl Model for Key {
 }
 
 impl Key {
-    /// The key that these bytes are as one number, the first byte the highest.
+    /// Makes the key of these bytes, the first byte the most significant.
     pub fn make(bytes: [u8; 40]) -> Self
         ensures { result ≡ number_of bytes }
     {
@@ -45,9 +46,9 @@ impl Key {
     }
 
     /// The Toeplitz hash of a flow (Intel 82599 datasheet; Microsoft's description of the RSS
-    /// hash). The source address, the destination address, the source port and the destination port
-    /// are hashed in network order where their kind is on, else the two addresses alone where
-    /// theirs is on. Otherwise there is no hash.
+    /// hash). If their kind is enabled, the source address, destination address, source port and
+    /// destination port are hashed in network order; otherwise only the two addresses, if theirs is
+    /// enabled; otherwise there is no hash.
     pub fn hash(&self, flow: &Flow, kinds: Kinds) -> Option<u32>
         ensures { result ≡ hash_of_flow self.now flow.now kinds.0 }
     {
@@ -57,7 +58,7 @@ impl Key {
         }
     }
 
-    // The same key once more.
+    // A copy of the key.
     pub(crate) fn copied(&self) -> Self
         ensures { result ≡ self.now }
     {
@@ -86,12 +87,12 @@ impl Words for Key {
 /// The key of Microsoft's verification suite for the RSS hash.
 pub fn verification_key() -> Key
     ensures number { result ≡ the_verification_key }
-    ensures bytes { result ≡ number_of VERIFICATION_KEY_BYTES }
+    ensures bytes { result ≡ number_of VERIFICATION_KEY }
 {
-    Key::make(VERIFICATION_KEY_BYTES)
+    Key::make(VERIFICATION_KEY)
 }
 
-// The 40 bits of the key that hold the windows of the bits of the input byte at this place.
+// The 40 bits of the key that hold the windows of the bits of the input byte at this index.
 fn span(key: &[u8], place: usize) -> u64
     requires whole { length key.now ≡ 40 }
     requires within { place < 36 }
@@ -100,7 +101,7 @@ fn span(key: &[u8], place: usize) -> u64
     number(&key[place..place + 5])
 }
 
-// The number that at most 5 bytes are.
+// At most 5 bytes as one number, the first byte the most significant.
 fn number(bytes: &[u8]) -> u64
     requires { length bytes.now ≤ 5 }
     ensures { result ≡ number_of bytes.now }

@@ -9,7 +9,7 @@ mod part;
 mod tabled_key;
 mod words;
 
-pub use key::{Key, VERIFICATION_KEY_BYTES, verification_key};
+pub use key::{Key, VERIFICATION_KEY, verification_key};
 pub use kinds::Kinds;
 pub use laws::a_hash_needs_a_kind;
 pub use tabled_key::TabledKey;

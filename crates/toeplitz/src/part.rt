@@ -1,4 +1,4 @@
-//! What is hashed of a flow.
+//! The part of a flow that is hashed.
 ghost use Rattle.std.specs.Prelude.{◌≡◌, ◌<◌};
 ghost use Rattle.std.specs.Option.{option_map};
 ghost use Rattle.toeplitz.specs.Flows.{input_of, input_of_addresses};
@@ -8,7 +8,7 @@ ghost use Rattle.toeplitz.specs.Parts.{bytes_of};
 use crate::kinds::Kinds;
 use steer_base::{Flow, Pair, Proto};
 
-// What is hashed of a flow, in network order.
+// The part of a flow that is hashed, in network order.
 #[derive(Clone, Copy)]
 pub enum Part {
     // The source address and then the destination address.
@@ -18,7 +18,7 @@ pub enum Part {
 }
 
 impl Part {
-    // What is hashed of a flow under these kinds.
+    // The part of a flow that is hashed with these kinds.
     pub fn of_flow(flow: Flow, kinds: Kinds) -> Option<Self>
         ensures { option_map bytes_of result ≡ input_of flow kinds.0 }
     {

@@ -1,4 +1,4 @@
-//! The key as a table, for many hashes.
+//! A key with a lookup table, for many hashes.
 ghost use Rattle.std.specs.Prelude.{◌≡◌, ◌<◌, ◌≤◌, length, IfOk};
 ghost use Rattle.toeplitz.specs.Tables.{word_of, IsTable};
 ghost use Rattle.toeplitz.specs.Flows.{hash_of_flow};
@@ -11,14 +11,14 @@ use std::alloc::Global;
 use std::marker::Model;
 use steer_base::{Flow, OutOfMemory};
 
-// A row for each place of an input byte.
+// A row for each index of an input byte.
 const ROWS: usize = 36;
 
 // A word for each byte in a row.
 const ROW: usize = 256;
 
-/// A key with a table of 36 rows of 256 words, so that a hash takes one XOR for each byte of its
-/// input.
+/// A key with a lookup table of 36 rows of 256 words (36 KiB), so that a hash takes one XOR for each
+/// byte of its input.
 #[derive(Drop)]
 pub struct TabledKey {
     key: Key,
@@ -37,7 +37,7 @@ impl Model for TabledKey {
 }
 
 impl TabledKey {
-    /// The table of a key.
+    /// Builds the table of a key.
     pub fn make(alloc: Global, key: &Key) -> Result<Self, OutOfMemory>
         ensures { IfOk result (λ tabled. tabled ≡ key.now) }
     {
@@ -48,7 +48,7 @@ impl TabledKey {
         })
     }
 
-    /// The hash that [`Key::hash`] gives.
+    /// The hash of a flow, the same as [`Key::hash`].
     pub fn hash(&self, flow: &Flow, kinds: Kinds) -> Option<u32>
         ensures { result ≡ hash_of_flow self.now flow.now kinds.0 }
     {

@@ -8,11 +8,11 @@ ghost use Rattle.toeplitz.specs.Toeplitz.{hash_of};
 use crate::part::Part;
 use steer_base::Pair;
 
-// A key that tells what each byte at each place of the input adds to the hash.
+// A key that knows what each byte at each index of the input adds to the hash.
 pub trait Words {
     ghost key: { Self → ℕ };
 
-    // What a byte at this place of the input adds to the hash.
+    // What a byte at this index of the input adds to the hash.
     fn word(&self, place: usize, byte: u8) -> u32
         requires { place < 36 }
         ensures { result ≡ word_of (key self.now) place byte };
@@ -46,7 +46,7 @@ pub trait Words {
         }
     }
 
-    // What these bytes add, the first of them at this place.
+    // What these bytes add, the first of them at this index.
     fn hash_bytes(&self, place: usize, bytes: &[u8]) -> u32
         requires { place + length bytes.now ≤ 36 }
         ensures { result ≡ xor_of_bytes (key self.now) place bytes.now }
@@ -59,7 +59,7 @@ pub trait Words {
     }
 }
 
-// How many bytes the addresses have, so at which place the ports begin.
+// The number of bytes of the two addresses, which is the index at which the ports begin.
 fn after_addresses(pair: Pair) -> usize
     ensures value { result ≡ length (addresses pair) }
     ensures within { result ≤ 32 }

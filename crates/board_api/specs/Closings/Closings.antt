@@ -1,4 +1,4 @@
--- How a board closes, and what a law of its closing speaks of.
+-- The closing of a board, and laws of closings.
 use Rattle.std.specs.Prelude.{◌≡◌, ℕ, ◌<◌, ◌==◌, false, List, [], ◌∷◌, None, map, if◌then◌else◌}
 use Rattle.std.specs.List.{range_with_len}
 use Rattle.atomic_table.specs.Seated.{TableId}
@@ -15,15 +15,15 @@ use Rattle.board_api.specs.Calls.Rights.{IsOutside}
 use Rattle.board_api.specs.Seats.{BoardSeatView, ordered_seat}
 use Rattle.board_api.specs.declared.lists.BoardLists.{BoardLists}
 
--- by its own list the seat is outside, holds no lane and has no packet in hand
+-- By its own list the seat is outside, holds no lane and has no packet in hand.
 pub record IsAtRest (about : BoardSizes) (steps : List BoardStep) : Type 0 where
   pub visit : IsOutside steps
   pub lanes : (l : ℕ) → l < about.lanes → holding l (lane_steps steps) ≡ None
   pub hands : (l : ℕ) → l < about.lanes → phase l (lane_steps steps) ≡ idle
   pub outs : (o : ℕ) → o < about.outs → out_holding o (lane_steps steps) ≡ None
 
--- Some lawful order of steps has the seats' own lists as its parts and no other steps, and leaves
--- these lists. All that a closing tells is a law of this.
+-- A board has ended: some lawful order of steps has the seats' own lists as its parts and no other
+-- steps, and leaves these lists.
 pub record HasEnded (about : BoardSizes) (seats : List BoardSeatView) (lists : BoardLists)
     : Type 0 where
   pub order : List (StepBy BoardStep)
@@ -32,15 +32,15 @@ pub record HasEnded (about : BoardSizes) (seats : List BoardSeatView) (lists : B
   pub parts : ArePartsOf order (map ordered_seat seats)
   pub leaves : lists ≡ lists_of about order
 
--- ---- laws of the closing: they speak of the seats' own lists and of the lists that are left, and
--- of no order of all steps
+-- ---- laws of closings: they are about the seats' own lists and the lists that are left, and name
+-- no order of all steps
 
--- the own list of the seat with this number, and an empty one where no seat has it
+-- The own list of the seat with this number, empty if no seat has it.
 abbrev pub own_in : List BoardSeatView → ℕ → List BoardStep
 own_in [] q = []
 own_in (s ∷ seats) q = if s.number == q then s.steps else own_in seats q
 
--- It holds of each closing.
+-- The law holds at each closing of a board, for the seats' own lists and the lists that are left.
 abbrev pub AtEachClosing : (BoardSizes → (ℕ → List BoardStep) → BoardLists → Type 0) → Type 0
 AtEachClosing Holds =
     (about : BoardSizes) (seats : List BoardSeatView) (lists : BoardLists)
@@ -48,7 +48,7 @@ AtEachClosing Holds =
 
 -- ---- each lawful order may be that of a closing
 
--- the seat with this number after all steps of the order
+-- The seat with this number after all steps of an order.
 abbrev pub seat_in : TableId → List (StepBy BoardStep) → ℕ → BoardSeatView
 seat_in table order number =
     record {
@@ -58,12 +58,11 @@ seat_in table order number =
       has_emptied = false;
     }
 
--- all seats of a board, by number
+-- All seats of a board after all steps of an order, by number.
 abbrev pub seats_in : TableId → BoardSizes → List (StepBy BoardStep) → List BoardSeatView
 seats_in table about order = map (seat_in table order) (range_with_len 0 about.seats)
 
--- A closing with the parts of a lawful order and with its lists is one, and the own lists that it
--- speaks of are those parts.
+-- Each lawful order is that of some closing, whose seats have its parts as own lists.
 abbrev pub EachOrderCloses : Type 0
 EachOrderCloses =
     (table : TableId) (about : BoardSizes) (order : List (StepBy BoardStep)) → FitSizes about

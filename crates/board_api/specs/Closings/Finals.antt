@@ -9,7 +9,7 @@ use Rattle.hop_rule.specs.declared.sizes.BoardSizes.{BoardSizes}
 use Rattle.hop_rule.specs.declared.step.BoardStep.{BoardStep}
 use Rattle.board_api.specs.declared.lists.BoardLists.{BoardLists}
 
--- a middle lane as a history has it
+-- The middle lane l after an order, as a history has it.
 abbrev pub lane_list : BoardSizes → List (StepBy BoardStep) → ℕ → LaneList
 lane_list about order l =
     record {
@@ -20,7 +20,7 @@ lane_list about order l =
       retired = retired about order l;
     }
 
--- the lists of all lanes, by number
+-- The lists of all lanes after an order, by number.
 abbrev pub lists_of : BoardSizes → List (StepBy BoardStep) → BoardLists
 lists_of about order =
     record {

@@ -1,4 +1,4 @@
--- What loads of heads and of lanes' words tell, and what the lanes found empty tell of visits.
+-- What follows from loads of heads and of lanes' words, and from lanes that were found empty.
 use Rattle.std.specs.Prelude.{◌≡◌, ◌↔◌, ℕ, ◌+◌, ◌/◌, ◌<◌, ◌≤◌, List, Some, length}
 use Rattle.history.specs.Lists.{lane_at}
 use Rattle.hop_rule.specs.Boards.{gate_steps}
@@ -36,8 +36,8 @@ module _ (about : BoardSizes) (own : ℕ → List BoardStep) (lists : BoardLists
       → (head ≤ tail / 2)
       × (tail / 2 ≤ about.start + length (lane_at lists.lanes l).accepted)
 
-  -- Each of the packets that a loaded head counts was delivered, and stands in its out lane below
-  -- each that the seat put after the load, to whatever lane, and that went to the same out lane.
+  -- Each packet that a loaded head counts was delivered, and is in its out lane below each that the
+  -- seat put to any lane after the load and that went to the same out lane.
   pub record StandsFirst (q k l count : ℕ) : Type 0 where
     pub delivered : count ≤ length (delivered_by l (own (puller about l)))
     pub below : (i to j id : ℕ) (g late : Delivery) (u : WasPut about own lists to j id)
@@ -46,23 +46,22 @@ module _ (about : BoardSizes) (own : ℕ → List BoardStep) (lists : BoardLists
         → nth_step (delivered_by to (own (puller about to))) j ≡ Some late → g.to ≡ late.to
         → g.place < late.place
 
+  -- The packets that a loaded head counts come first, as `StandsFirst` says.
   abbrev pub HeadsArePassed : Type 0
   HeadsArePassed =
       (q k l count : ℕ) → Has (own q) k (Weighed l (about.start + count)) → StandsFirst q k l count
 
   -- ---- visits and settings
 
-  -- The number of a visit, how often the gate had been opened by the word that its entry found,
-  -- never falls along one seat's list, and is at most that of the closer's openings.
+  -- The numbers of one seat's visits never fall, and count at most the closer's openings.
   pub record VisitNumbersRise : Type 0 where
     pub rise : (q j k before word : ℕ) → j < k → Has (own q) j (Gate (Entered before))
         → Has (own q) k (Gate (Entered word)) → openings_in before ≤ openings_in word
     pub made : (q k word : ℕ) → Has (own q) k (Gate (Entered word))
         → openings_in word ≤ openings (gate_steps (own (closer about)))
 
-  -- What a visit reads of the settings is what they are after the closer's own sets before the last
-  -- opening that its number counts; with no opening, what they were at the start. The closer reads
-  -- what its own sets have left.
+  -- A visit reads the settings after the closer's own sets before the last opening that its number
+  -- counts, or those at the start if it counts none; the closer reads what its own sets have left.
   pub record ReadsAreSettings : Type 0 where
     pub in_visit : (q k i v : ℕ) → Has (own q) k (Gate (Read i v))
         → visit (gate_steps (past k (own q))) ≡ inside
@@ -74,7 +73,7 @@ module _ (about : BoardSizes) (own : ℕ → List BoardStep) (lists : BoardLists
   -- ---- lanes that were found empty
 
   -- The closer closed the gate at its step `shut`, and before opening it loaded the head of the
-  -- lane l and then its word, which showed one number.
+  -- lane l and then its word, whose tail is that head.
   pub record FindsEmpty (shut weighed counted l : ℕ) : Type 0 where
     pub word : ℕ
     pub head : ℕ
@@ -89,9 +88,9 @@ module _ (about : BoardSizes) (own : ℕ → List BoardStep) (lists : BoardLists
         → Has (own (closer about)) m (Gate Opened) → ⊥
 
   -- After k openings the lane l was found empty with h packets accepted. These are the packets put
-  -- there in visits with a number of at most k. All were delivered, and each stands in its out lane
-  -- below each packet that was put to whatever lane in a visit with a higher number and went to the
-  -- same out lane.
+  -- there in visits with a number of at most k; all were delivered, and each is in its out lane
+  -- below each packet that was put to any lane in a visit with a higher number and went to the same
+  -- out lane.
   pub record EarlyStandFirst (l k h : ℕ) : Type 0 where
     pub early : (j id : ℕ) (u : WasPut about own lists l j id)
         → (j < h) ↔ (visit_before (own u.seat) u.step ≤ k)
@@ -102,6 +101,7 @@ module _ (about : BoardSizes) (own : ℕ → List BoardStep) (lists : BoardLists
         → nth_step (delivered_by to (own (puller about to))) j ≡ Some late → g.to ≡ late.to
         → g.place < late.place
 
+  -- The packets of a lane that the closer found empty come first, as `EarlyStandFirst` says.
   abbrev pub EmptiedLanesStandFirst : Type 0
   EmptiedLanesStandFirst =
       (shut weighed counted l h : ℕ) (e : FindsEmpty shut weighed counted l)

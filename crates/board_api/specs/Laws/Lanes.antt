@@ -1,5 +1,4 @@
--- What the seats' own holds, pulls, deliveries and retires and the lists at the closing tell of
--- each other.
+-- How the seats' own holds, pulls, deliveries and retires and the lists at the closing agree.
 use Rattle.std.specs.Prelude.{◌≡◌, ℕ, suc, ◌+◌, ◌-◌, ◌*◌, ◌<◌, ◌≤◌, List, Some, length, slice_get}
 use Rattle.steer_base.specs.Lanes.{LaneLists}
 use Rattle.history.specs.Lists.{lane_at, list_at}
@@ -20,20 +19,22 @@ use Rattle.board_api.specs.declared.lists.BoardLists.{BoardLists}
 module _ (about : BoardSizes) (own : ℕ → List BoardStep) (lists : BoardLists) where
   -- ---- holds
 
-  -- What was found of a middle lane is a front of what is left of it, and its word was twice the
-  -- tail, which is not reduced.
+  -- What a hold found of a middle lane is a front of what is left of it, and its word was twice the
+  -- tail, which is not reduced modulo 2^32.
   pub record HoldFinds (l word : ℕ) (found : LaneLists) : Type 0 where
     pub lane : IsLaneOf about l found
     pub front : IsFrontOf found (lane_at lists.lanes l)
     pub tail : word ≡ 2 * (about.start + length found.accepted)
 
-  -- the same of an out lane
+  -- What a hold found of an out lane is a front of what is left of it, and its word was twice the
+  -- tail, which is not reduced modulo 2^32.
   pub record OutHoldFinds (o word : ℕ) (found : OutList) : Type 0 where
     pub within : o < about.outs
     pub room : found.room ≡ about.room
     pub front : Front found.items (list_at lists.outs o)
     pub tail : word ≡ 2 * (about.start + length found.items)
 
+  -- Each own hold found a front of what is left of its lane, as `HoldFinds` and `OutHoldFinds` say.
   pub record HoldsFindFronts : Type 0 where
     pub middle : (q k l word : ℕ) (found : LaneLists)
         → Has (own q) k (Lane (Held l word found)) → HoldFinds l word found
@@ -62,35 +63,39 @@ module _ (about : BoardSizes) (own : ℕ → List BoardStep) (lists : BoardLists
     pub nth_retire : (n word : ℕ) → nth_step (retired_by l (own (puller about l))) n ≡ Some word
         → word ≡ about.start + n
 
+  -- Each lane is served by the one seat that pulls there, as `IsServedByOne` says.
   abbrev pub LanesAreServedByOne : Type 0
   LanesAreServedByOne = (l : ℕ) → l < about.lanes → IsServedByOne l
 
   -- Of the accepted packets of a lane some were pulled, of these some delivered, and of these some
-  -- retired. All puts fit the room.
+  -- retired, and all puts fit the room.
   pub record IsInTurn (lane : LaneList) : Type 0 where
     pub retired : lane.retired ≤ lane.delivered
     pub delivered : lane.delivered ≤ lane.pulled
     pub pulled : lane.pulled ≤ length lane.accepted
     pub room : length lane.accepted + length lane.drops ≤ about.room
 
+  -- The packets of each lane are accepted, pulled, delivered and retired in turn, as `IsInTurn`
+  -- says.
   abbrev pub LanesAreInTurn : Type 0
   LanesAreInTurn = (l : ℕ) → IsInTurn (lane_at lists.lanes l)
 
   -- ---- deliveries and places
 
-  -- A delivery is by the seat that pulls there, and its packet stands at its place of the out lane.
+  -- A delivery is by the seat that pulls there, and its packet is at its place of the out lane.
   pub record GivesPlace (q o from id place : ℕ) : Type 0 where
     pub by_puller : puller about from ≡ q
     pub from_one : 0 < place
     pub stands : slice_get (list_at lists.outs o) (place - 1) ≡ Some id
 
-  -- the packet at index j of the out lane o came by a delivery
+  -- The packet at index j of the out lane o came by an own delivery.
   pub record WasGiven (o j id : ℕ) : Type 0 where
     pub seat : ℕ
     pub step : ℕ
     pub from : ℕ
     pub does : Has (own seat) step (Lane (Given o from id (suc j)))
 
+  -- Each own delivery is one place of an out lane, and each place is one own delivery.
   pub record DeliveriesHavePlaces : Type 0 where
     pub stand : (q k o from id place : ℕ) → Has (own q) k (Lane (Given o from id place))
         → GivesPlace q o from id place

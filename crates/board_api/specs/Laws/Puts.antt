@@ -1,4 +1,4 @@
--- What the seats' own puts and the lists at the closing tell of each other.
+-- How the seats' own puts and the lists at the closing agree.
 use Rattle.std.specs.Prelude.{◌≡◌, ◌⊎◌, ℕ, ◌<◌, List, Option, Some, None, length, slice_get}
 use Rattle.steer_base.specs.Drops.{lane_drop_cause}
 use Rattle.steer_base.specs.Lanes.{LaneLists}
@@ -17,8 +17,8 @@ use Rattle.board_api.specs.OwnSteps.{Has, accepted_by, dropped_by, held_before, 
 use Rattle.board_api.specs.declared.lists.BoardLists.{BoardLists}
 
 module _ (about : BoardSizes) (own : ℕ → List BoardStep) (lists : BoardLists) where
-  -- A put, by what the seat's own hold found: the lane had room and gave the answer, and what it
-  -- then was is a front of what is left of it.
+  -- A put by what its seat's own hold found: the lane had room and gave this answer, and what the
+  -- put made of the lane is a front of what is left of it.
   pub record PutStands (q k l id : ℕ) (hash : Option ℕ) (answer : Put) : Type 0 where
     pub found : LaneLists
     pub finds : held_before (own q) k l ≡ Some found
@@ -28,14 +28,14 @@ module _ (about : BoardSizes) (own : ℕ → List BoardStep) (lists : BoardLists
     pub answers : answer ≡ put_answer found hash
     pub stands : IsFrontOf (after_put found id hash) (lane_at lists.lanes l)
 
-  -- each put stands in its lane
+  -- Each own put is in what is left of its lane, as `PutStands` says.
   abbrev pub PutsStand : Type 0
   PutsStand =
       (q k l id : ℕ) (hash : Option ℕ) (answer : Put) → Has (own q) k (put_step l id hash answer)
       → PutStands q k l id hash answer
 
-  -- Of two puts to one lane, that are not the same one, one found what the other had made of the
-  -- lane, or something later. So none has the other's position or drop number.
+  -- Of two different puts to one lane, one found what the other made of the lane or a later state,
+  -- so neither has the other's position or drop number.
   abbrev pub PutsTakeTurns : Type 0
   PutsTakeTurns =
       (p q j k l x y : ℕ) (hash other : Option ℕ) (answer reply : Put)
@@ -43,8 +43,8 @@ module _ (about : BoardSizes) (own : ℕ → List BoardStep) (lists : BoardLists
       → (a b : LaneLists) → held_before (own p) j l ≡ Some a → held_before (own q) k l ≡ Some b
       → ((p ≡ q) × (j ≡ k)) ⊎ (IsEarlier (after_put a x hash) b ⊎ IsEarlier (after_put b y other) a)
 
-  -- Along one seat's list each put found what the one before it had made of the lane, or something
-  -- later. So its accepted packets stand in the lane in the order of its puts.
+  -- Along one seat's list each put to a lane found what the previous one made of the lane or a
+  -- later state, so its accepted packets are in the lane in the order of its puts.
   abbrev pub PutsKeepOrder : Type 0
   PutsKeepOrder =
       (q j k l x y : ℕ) (hash other : Option ℕ) (answer reply : Put) → j < k
@@ -52,7 +52,7 @@ module _ (about : BoardSizes) (own : ℕ → List BoardStep) (lists : BoardLists
       → (a b : LaneLists) → held_before (own q) j l ≡ Some a → held_before (own q) k l ≡ Some b
       → IsEarlier (after_put a x hash) b
 
-  -- The packet at index j of the accepted ones came by a put: it found as many, and there was no
+  -- The accepted packet at index j of a lane came by a put that found j accepted packets and no
   -- cause to drop it.
   pub record WasPut (l j id : ℕ) : Type 0 where
     pub seat : ℕ
@@ -65,7 +65,7 @@ module _ (about : BoardSizes) (own : ℕ → List BoardStep) (lists : BoardLists
     pub count : length found.accepted ≡ j
     pub accepts : lane_drop_cause found hash ≡ None
 
-  -- The drop at index j came by a put: it found as many drops, and it keeps the counts that it
+  -- The drop at index j of a lane came by a put that found j drops, and keeps the counts that it
   -- found and the cause.
   pub record WasDropped (l j : ℕ) (d : LaneDrop) : Type 0 where
     pub seat : ℕ
@@ -80,27 +80,30 @@ module _ (about : BoardSizes) (own : ℕ → List BoardStep) (lists : BoardLists
     pub pulled : d.pulled ≡ found.pulled
     pub cause : lane_drop_cause found hash ≡ Some d.cause
 
+  -- Each accepted packet that is left came by an own put of a seat.
   abbrev pub AcceptedWerePut : Type 0
   AcceptedWerePut =
       (l j id : ℕ) → slice_get (lane_at lists.lanes l).accepted j ≡ Some id → WasPut l j id
 
+  -- Each drop that is left came by an own put of a seat.
   abbrev pub DropsWerePut : Type 0
   DropsWerePut =
       (l j : ℕ) (d : LaneDrop) → slice_get (lane_at lists.lanes l).drops j ≡ Some d
       → WasDropped l j d
 
-  -- A lane accepted, and dropped, as many packets as all seats' puts to it that were answered so.
+  -- A lane accepted, and dropped, as many packets as all seats' own puts to it had that answer.
   pub record AreSums (l : ℕ) : Type 0 where
     pub accepted : length (lane_at lists.lanes l).accepted
         ≡ sum_below (λ q. length (accepted_by l (own q))) about.seats
     pub dropped : length (lane_at lists.lanes l).drops
         ≡ sum_below (λ q. length (dropped_by l (own q))) about.seats
 
+  -- The counts of each lane are the sums over all seats' own puts, as `AreSums` says.
   abbrev pub CountsAreSums : Type 0
   CountsAreSums = (l : ℕ) → l < about.lanes → AreSums l
 
-  -- Where each packet is put with its own hash, each drop has the cause that its two counts give
-  -- with the offers before it.
+  -- If each packet is put with its own hash, each drop has the cause that its two counts and the
+  -- offers before it give.
   abbrev pub DropsHaveCauses : Type 0
   DropsHaveCauses =
       (hash_of : ℕ → Option ℕ)
@@ -108,6 +111,6 @@ module _ (about : BoardSizes) (own : ℕ → List BoardStep) (lists : BoardLists
       → Has (own q) k (put_step l id hash answer) → hash ≡ hash_of id)
       → (l : ℕ) → AllExplained hash_of (as_lane about lists l)
 
-  -- Along the drops of a lane neither of their counts falls, and none is over that of the lane.
+  -- Along the drops of a lane neither of their counts falls, and none is above that of the lane.
   abbrev pub DropsRise : Type 0
   DropsRise = (l : ℕ) → l < about.lanes → AreRising (as_lane about lists l)

@@ -149,14 +149,14 @@ same_choices packets apps h k b =
     (same_choice packets apps h k b x) q)))
 
 -- The lanes. A packet stands in the lists of no other lane than that of its choice.
-accepted-elsewhere : (packets : List Packet) (apps : ℕ) (h : History) (x c : ℕ)
+pub accepted-elsewhere : (packets : List Packet) (apps : ℕ) (h : History) (x c : ℕ)
     → Regular packets apps h → c ≢ lane_or (choice_of h x)
     → place_in x (lane_at h.lanes c).accepted ≡ None
 accepted-elsewhere packets apps h x c r ne = no_value (place_in x (lane_at h.lanes c).accepted)
     (λ n e.
     ne (accepted-lane packets apps h r c x (ap is_some e)))
 
-drop-elsewhere : (packets : List Packet) (apps : ℕ) (h : History) (x c : ℕ) → Regular packets apps h
+pub drop-elsewhere : (packets : List Packet) (apps : ℕ) (h : History) (x c : ℕ) → Regular packets apps h
     → c ≢ lane_or (choice_of h x)
     → drop_in x (lane_at h.lanes c) ≡ None
 drop-elsewhere packets apps h x c r ne =
@@ -164,27 +164,27 @@ drop-elsewhere packets apps h x c r ne =
     ne (dropped-lane packets apps h r c x (ap is_some e))))
 
 -- and a packet that did not arrive in none
-accepted-unarrived : (packets : List Packet) (apps : ℕ) (h : History) (x : ℕ)
+pub accepted-unarrived : (packets : List Packet) (apps : ℕ) (h : History) (x : ℕ)
     → Regular packets apps h → length h.arrivals ≤ x → accepted_place h.lanes x ≡ None
 accepted-unarrived packets apps h x r l =
     first_some-none (λ lane. place_in x lane.accepted) no_lane h.lanes (λ c.
     no_value (place_in x (lane_at h.lanes c).accepted) (λ n e.
     let f = arrived-accepted packets apps h r c x (ap is_some e) in omega (arith, f, l)))
 
-drop-unarrived : (packets : List Packet) (apps : ℕ) (h : History) (x : ℕ) → Regular packets apps h
+pub drop-unarrived : (packets : List Packet) (apps : ℕ) (h : History) (x : ℕ) → Regular packets apps h
     → length h.arrivals ≤ x → first_some (drop_in x) h.lanes ≡ None
 drop-unarrived packets apps h x r l = first_some-none (drop_in x) no_lane h.lanes (λ c.
     no_drop x (lane_at h.lanes c) (no_value (place_in x (drop_ids (lane_at h.lanes c))) (λ n e.
     let f = arrived-dropped packets apps h r c x (ap is_some e) in omega (arith, f, l))))
 
 -- the place among the accepted packets is that at the lane of the choice
-accepted-at : (packets : List Packet) (apps : ℕ) (h : History) (x : ℕ) → Regular packets apps h
+pub accepted-at : (packets : List Packet) (apps : ℕ) (h : History) (x : ℕ) → Regular packets apps h
     → accepted_place h.lanes x ≡ place_in x (lane_at h.lanes (lane_or (choice_of h x))).accepted
 accepted-at packets apps h x r =
     first_some-only (λ lane. place_in x lane.accepted) no_lane refl h.lanes
     (lane_or (choice_of h x)) (λ c ne. accepted-elsewhere packets apps h x c r ne)
 
-accepted-bound : (packets : List Packet) (apps : ℕ) (h : History) (x n : ℕ) → Regular packets apps h
+pub accepted-bound : (packets : List Packet) (apps : ℕ) (h : History) (x n : ℕ) → Regular packets apps h
     → length packets ≤ 262144
     → accepted_place h.lanes x ≡ Some n → n < 2 ^ 32
 accepted-bound packets apps h x n r small e =
@@ -195,7 +195,7 @@ accepted-bound packets apps h x n r small e =
     omega (arith, p.1, few)
 
 -- an accepted packet has no drop
-accepted-no_drop : (packets : List Packet) (apps : ℕ) (h : History) (x n : ℕ)
+pub accepted-no_drop : (packets : List Packet) (apps : ℕ) (h : History) (x n : ℕ)
     → Regular packets apps h → accepted_place h.lanes x ≡ Some n
     → first_some (drop_in x) h.lanes ≡ None
 accepted-no_drop packets apps h x n r e =
@@ -315,13 +315,13 @@ same_lanes packets apps h k b = same_lists no_lane h.lanes k.lanes
     (sums-at h.lanes k.lanes c b.shown.lanes l))
 
 -- The inboxes. A packet stands in no other inbox than that of its application.
-inbox-elsewhere : (packets : List Packet) (apps : ℕ) (h : History) (x a : ℕ)
+pub inbox-elsewhere : (packets : List Packet) (apps : ℕ) (h : History) (x a : ℕ)
     → Regular packets apps h → a ≢ app_at packets apps x
     → place_in x (list_at h.inboxes a) ≡ None
 inbox-elsewhere packets apps h x a r ne = no_value (place_in x (list_at h.inboxes a)) (λ n e.
     ne (sym (r.delivered.own a x (ap is_some e))))
 
-inbox-unarrived : (packets : List Packet) (apps : ℕ) (h : History) (x : ℕ) → Regular packets apps h
+pub inbox-unarrived : (packets : List Packet) (apps : ℕ) (h : History) (x : ℕ) → Regular packets apps h
     → length h.arrivals ≤ x → inbox_place_of h x ≡ None
 inbox-unarrived packets apps h x r l = first_some-none (place_in x) [] h.inboxes (λ a.
     no_value (place_in x (list_at h.inboxes a)) (λ n e. let f = arrived-inbox packets apps h r a x

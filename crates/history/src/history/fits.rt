@@ -1,4 +1,4 @@
-//! What the types of a history's fields say of its numbers.
+//! The numbers of a history are within the types of its fields.
 ghost use Rattle.std.specs.Prelude.{◌<◌, ◌^◌};
 ghost use Rattle.std.specs.List.{All};
 ghost use Rattle.history.specs.Ranges.{ArrivalFits, ChosenFits, CommandedFits, DropFits, FitsIn};
@@ -12,11 +12,11 @@ use crate::sent::Sent;
 use crate::sock_write::SockWrite;
 use steer_base::{Chosen, LaneDrop, List, PacketId};
 
-// A value whose numbers are within its types.
+// A value whose numbers are bounded by their types.
 trait Typed: Copy {
     ghost fits: { Self → Type 0 };
 
-    // Tells so, and does nothing.
+    // Lemma (no code): the numbers of the value are within their types.
     fn tell(self)
         ensures { fits self };
 }
@@ -75,7 +75,7 @@ impl Typed for Commanded {
     fn tell(self) {}
 }
 
-// So are those of a list.
+// Lemma: the numbers in a list are within their types.
 fn tell_each<T: Typed>(list: &List<T>)
     ensures { All T.fits list.now }
 {
@@ -84,7 +84,7 @@ fn tell_each<T: Typed>(list: &List<T>)
     }
 }
 
-// So are those of lists.
+// Lemma: the numbers in a list of lists are within their types.
 fn tell_lists<T: Typed>(lists: &List<List<T>>)
     ensures { All (All T.fits) lists.now }
 {
@@ -93,7 +93,7 @@ fn tell_lists<T: Typed>(lists: &List<List<T>>)
     }
 }
 
-// So are those of lanes.
+// Lemma: the numbers of a lane are within their types.
 fn tell_lane(lane: &LaneList)
     ensures { LaneFits lane.now }
 {
@@ -113,9 +113,9 @@ fn tell_lanes(lanes: &List<LaneList>)
 }
 
 impl History {
-    /// Tells that the numbers of a history are within the types of its fields, as those of every
-    /// history that a program holds are. It changes nothing and walks the lists once; it need never
-    /// be called.
+    /// Lemma: the numbers of a history are within the types of its fields, as they are in every
+    /// history that a program holds. It changes nothing and walks each list once; code never needs to
+    /// call it.
     pub fn numbers_fit(&self)
         ensures { HistoryFits self.now }
     {

@@ -2,6 +2,7 @@
 ghost use Rattle.std.specs.Prelude.{◌≡◌, ◌<◌, ◌+◌, ◌≤◌, ◌^◌, length, map, nat_lt, slice_index};
 ghost use Rattle.std.specs.Prelude.{slice_set, IfOk};
 ghost use Rattle.std.specs.List.{range_with_len};
+ghost use Rattle.steer_base.specs.declared.limits.TheConstants.{MAX_PACKETS};
 ghost use Rattle.history.specs.Counted.{IsCounted};
 
 use crate::history::History;
@@ -11,18 +12,18 @@ use steer_base::{List, OutOfMemory, RxQueue};
 /// The arrivals of a history, counted by queue.
 #[derive(Drop)]
 pub struct Counted {
-    /// For each receive queue, how many packets arrived there.
+    /// For each receive queue, the number of packets that arrived there.
     pub arrived: Vec<u32>,
     /// For each packet that arrived, whether the poller of its queue took it.
     pub taken: Vec<bool>,
 }
 
 impl Counted {
-    /// Counts the arrivals, which are at most 262,144 and numbered.
+    /// Counts the arrivals. They must be numbered 0, 1, 2 and so on, and be at most `MAX_PACKETS`.
     pub fn make(alloc: Global, h: &History) -> Result<Counted, OutOfMemory>
         requires numbered { map (λ a. a.id) h.now.arrivals
             ≡ range_with_len 0 (length h.now.arrivals) }
-        requires few { length h.now.arrivals ≤ 262144 }
+        requires few { length h.now.arrivals ≤ MAX_PACKETS }
         ensures { IfOk result (λ c. IsCounted h.now c) }
     {
         let mut arrived = Vec::new(alloc);
@@ -35,7 +36,7 @@ impl Counted {
     }
 }
 
-// Counts an arrival at its queue, where there is one, and tells whether it is among those that were
+// Counts an arrival at its queue, if there is one, and returns whether it is among those that were
 // taken there.
 fn note_arrival(arrived: &mut Vec<u32>, taken: &List<u32>, queue: RxQueue) -> bool
     requires queues { length arrived.old.items ≡ length taken.now }

@@ -38,7 +38,7 @@ impl<T: Copy> Index<T> {
         Ok(Index { slots })
     }
 
-    // Notes a value, where the packet has a slot, and none was noted for it.
+    // Notes a value if the packet has an empty slot.
     pub(crate) fn note(&mut self, id: PacketId, value: T)
         ensures { self.new ≡ noted self.old id value }
     {

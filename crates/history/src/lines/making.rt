@@ -2,6 +2,7 @@
 ghost use Rattle.std.specs.Prelude.{◌≡◌, ◌<◌, ◌≤◌, length, map, IfOk};
 ghost use Rattle.std.specs.List.{range_with_len};
 ghost use Rattle.std.specs.Option.{option_and, option_map, option_or};
+ghost use Rattle.steer_base.specs.declared.limits.TheConstants.{MAX_PACKETS};
 ghost use Rattle.steer_base.specs.Counters.{number};
 ghost use Rattle.steer_base.specs.declared.put.Put.TheVariants.{At as at_position};
 ghost use Rattle.history.specs.Known.{IsKnown, pulled_lane};
@@ -19,7 +20,7 @@ use crate::packet_line::{PacketLine, Via};
 use crate::place::Place;
 use crate::reply_line::ReplyLine;
 use std::alloc::Global;
-use steer_base::{AppId, Choice, Cpu, List, OutOfMemory, Packet, PacketId, Put, app_of};
+use steer_base::{AppId, Choice, Cpu, List, OutOfMemory, Packet, PacketId, Put, app_of, number_at};
 
 // The lines of all packets that arrived.
 pub(crate) fn packet_lines(
@@ -33,7 +34,7 @@ pub(crate) fn packet_lines(
     requires regular { Regular packets.now apps h.now }
     requires known { IsKnown h.now known.now }
     requires apps { 1 ≤ apps }
-    requires few { length packets.now ≤ 262144 }
+    requires few { length packets.now ≤ MAX_PACKETS }
     requires taken { taken.now ≡ map (was_taken h.now) (range_with_len 0 (length h.now.arrivals)) }
     ensures { IfOk result
         (λ v. v.items
@@ -59,7 +60,7 @@ pub(crate) fn reply_lines(
     requires known { IsKnown h.now known.now }
     requires apps { 1 ≤ apps }
     requires packets { length h.now.arrivals ≤ length packets.now }
-    requires few { length packets.now ≤ 262144 }
+    requires few { length packets.now ≤ MAX_PACKETS }
     ensures { IfOk result
         (λ v. v.items
         ≡ map (line_of_reply packets.now apps h.now) (range_with_len 0 (length h.now.arrivals))) }
@@ -208,7 +209,7 @@ fn pulled_at(lanes: &List<LaneList>, cpu: Option<u8>, accepted: Option<u32>) -> 
 fn position_of(start: u32, place: Option<u32>) -> Option<u32>
     ensures { result ≡ option_map (number start) place }
 {
-    Some(start.wrapping_add(place?))
+    Some(number_at(start, place?))
 }
 
 // The position of an accepted packet, or else its drop.

@@ -23,7 +23,7 @@ use Rattle.hop_delivery.specs.Orders.Runs.{Story, Steering, IsByRule, goal_of, s
 use Rattle.hop_delivery.specs.Orders.Runs.{turns_of}
 use Rattle.hop_delivery.specs.Orders.Runs.{settings_at, word_of}
 use Rattle.hop_delivery.specs.Orders.Turns.{Turn, Explained}
-use Rattle.hop_delivery.specs.Closings.DeliveryLaw.{accepted_left}
+use Rattle.hop_delivery.specs.Closings.FlowLaw.{accepted_left}
 use Rattle.hop_delivery.specs.Closings.TurnReads.{HasSeen, IsBySeen, RulesAreByReads}
 use Rattle.hop_delivery.specs.Closings.TurnReads.{TurnsReadSettings}
 

@@ -23,6 +23,7 @@ use Rattle.hop_rule.specs.Gates.{with_setting}
 use Rattle.hop_rule.specs.Moments.{past}
 use Rattle.hop_rule.specs.Sizes.{FitSizes}
 use Rattle.hop_rule.specs.declared.sizes.BoardSizes.{BoardSizes}
+use Rattle.hop_rule.specs.declared.sizes.TheConstants.{MAX_BOARD_ROOM}
 use Rattle.hop_rule.specs.declared.step.BoardStep.{BoardStep}
 use Rattle.hop_rule.specs.declared.step.BoardStep.TheVariants.{Weighed}
 use Rattle.hop_rule.proofs.Boards.{few, lawful_past, retired_later, step_lawful}
@@ -113,10 +114,10 @@ module _ (about : BoardSizes) (order : List (StepBy BoardStep)) (fit : FitSizes 
   few_choices : (i : ℕ) → i < a.placed p → i < length (a.choices p)
   few_choices i l = let f = good.few p in omega arith
 
-  accepted_fits : (l : ℕ) → length (acc l) ≤ 262144
+  accepted_fits : (l : ℕ) → length (acc l) ≤ MAX_BOARD_ROOM
   accepted_fits l = let b = (few about order l lawful).1 in let f = fit.room in omega arith
 
-  retired_fits : (n l : ℕ) → retired about (past n order) l ≤ 262144
+  retired_fits : (n l : ℕ) → retired about (past n order) l ≤ MAX_BOARD_ROOM
   retired_fits n l = let b = few about (past n order) l (lawful_past about order n lawful) in
       let b0 = b.0 in let b1 = b.1 in let f = fit.room in omega arith
 

@@ -1,4 +1,4 @@
--- What a turn reads of the settings, and choices by what was read.
+-- The settings that a turn reads, and choices by what was read.
 use Rattle.std.specs.Prelude.{◌≡◌, ℕ, ◌%◌, ◌/◌, ◌^◌, ◌<◌, ◌≤◌, true, List, Option, Some, take, drop}
 use Rattle.std.specs.List.{Contains}
 use Rattle.steer_base.specs.Choices.{migrate}
@@ -16,14 +16,14 @@ use Rattle.hop_delivery.specs.Orders.ReceiveSettings.{flows_word, mask_word, onl
 use Rattle.hop_delivery.specs.Orders.Runs.{Story, Steering, IsByRule, goal_of, settings_of_visit}
 use Rattle.hop_delivery.specs.Orders.Runs.{turns_of}
 use Rattle.hop_delivery.specs.Orders.Turns.{Turn, Explained}
-use Rattle.hop_delivery.specs.Closings.DeliveryLaw.{accepted_left}
+use Rattle.hop_delivery.specs.Closings.FlowLaw.{accepted_left}
 
--- the turn read this value of a setting word, between its entry and its put
+-- The turn read this value of a setting word, between its entry and its put.
 abbrev pub HasRead : Turn → ℕ → ℕ → Type 0
 HasRead u word value = Contains u.early (Gate (Read word value))
 
 module _ (about : BoardSizes) (own : ℕ → List BoardStep) (lists : BoardLists) where
-  -- What a turn reads is what the settings of its visit are.
+  -- The settings that a turn reads are those of its visit.
   abbrev pub TurnsReadSettings : Type 0
   TurnsReadSettings =
       (t : Story) (p i word value : ℕ) (u : Turn)
@@ -40,22 +40,26 @@ pub record HasSeen (q : Queues) (p : ℕ) (u : Turn) (s : ℕ → ℕ) : Type 0 
 
 module _ (about : BoardSizes) (accepted : ℕ → List ℕ) (t : Story) (r : Steering)
     (seen : ℕ → ℕ → ℕ) where
+  -- The shape of a producer by the settings that its i-th turn has seen.
   abbrev pub shape_seen : ℕ → ℕ → ℕ
   shape_seen p i = r.shape (seen i) p
 
+  -- The class of a producer's i-th turn by the settings that it has seen.
   abbrev pub class_seen : ℕ → ℕ → Turn → Option ℕ
   class_seen p i u = r.class (shape_seen p i) (r.flow u.chosen.id)
 
-  -- the choices of the producer before the i-th, since the last that saw another shape than the one
-  -- before it
+  -- The choices of the producer before the i-th, since the last turn that saw another shape than
+  -- the one before it.
   abbrev pub before_seen : ℕ → ℕ → List Chosen
   before_seen p i = drop (since_resize (shape_seen p) i) (take i (t.choices p))
 
+  -- The lane to which the packet of a producer's i-th turn is to go, by the settings that it has
+  -- seen.
   abbrev pub goal_seen : ℕ → ℕ → Turn → ℕ
   goal_seen p i u =
       goal_of r (seen i) p (r.flow u.chosen.id) (class_seen p i u) u.chosen.choice.want
 
-  -- The choice of the i-th turn of a producer is by the migration rule with the settings that the
+  -- The choice of a producer's i-th turn is by the migration rule with the settings that the
   -- producer's turns have seen, the i-th of them `seen i`.
   pub record IsBySeen (p i : ℕ) (u : Turn) : Type 0 where
     pub head : ℕ
@@ -69,7 +73,7 @@ module _ (about : BoardSizes) (accepted : ℕ → List ℕ) (t : Story) (r : Ste
     pub goal_online : r.online (seen i) (goal_seen p i u) ≡ true
 
 module _ (about : BoardSizes) (own : ℕ → List BoardStep) (lists : BoardLists) where
-  -- Where the turns of a queue up to the i-th have seen settings, a choice by these is by the rule
+  -- If the turns of a queue up to the i-th have seen settings, a choice by these is by the rule
   -- that the premises of delivery in order ask for.
   abbrev pub RulesAreByReads : Type 0
   RulesAreByReads =

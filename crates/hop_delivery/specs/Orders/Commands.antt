@@ -12,19 +12,20 @@ use Rattle.hop_delivery.specs.Orders.ReceiveSettings.{online_word, receive_steer
 use Rattle.hop_delivery.specs.Orders.Runs.{Steering}
 use Rattle.hop_delivery.specs.Orders.TransmitSettings.{transmit_steering}
 
--- a setting that is made: its word and its new value
+-- A change of a setting: its word and its new value.
 pub record SettingChange : Type 0 where
   pub word : ℕ
   pub value : ℕ
 
+-- The change of a setting word to a value.
 abbrev pub made : ℕ → ℕ → SettingChange
 made word value = record { word = word; value = value }
 
--- a rounded flow count with the next generation
+-- A rounded flow count with the next generation.
 abbrev pub next_flows : ℕ → ℕ → ℕ
 next_flows old count = rounded_up count + 2 ^ 32 * (old / 2 ^ 32 + 1)
 
--- What a done command sets on the receive board.
+-- The settings that a command changes on the receive board.
 abbrev pub received_sets : Queues → (ℕ → ℕ) → Command → List SettingChange
 received_sets q s (Mask queue cpus) = made (mask_word q queue) cpus.0 ∷ []
 received_sets q s (Flows queue count) =
@@ -38,31 +39,35 @@ received_sets q s (Reta place queue) = []
 received_sets q s (Stand app cpu) = []
 received_sets q s Expire = []
 
--- What a done command sets on the transmit board with so many queues.
+-- The settings that a command changes on the transmit board with this number of queues.
 abbrev pub sent_sets : ℕ → Command → List SettingChange
 sent_sets count (XCpus tx cpus) = made tx cpus.0 ∷ []
 sent_sets count (XQueues tx queues) = made (count + tx) queues ∷ []
 sent_sets count _ = []
 
--- the processor that a command names is one
+-- The processor that a command names has a number below 32.
 abbrev pub NamesCpu : Command → Type 0
 NamesCpu (Offline cpu) = cpu < 32
 NamesCpu (Online cpu) = cpu < 32
 NamesCpu _ = Unit {0}
 
--- Of each setting that a command makes, the lanes that have to be empty are among those that the
--- command affects.
+-- For each change of a setting by a command, the lanes that have to be empty are among those that
+-- the command affects.
 abbrev pub AreAffected : Steering → (ℕ → ℕ) → Command → List ℕ → ℕ → ℕ → ℕ → List SettingChange
     → Type 0
 AreAffected r s c homes cpus txs l sets =
     All (λ m. r.affects s m.word m.value l ≡ true → is_affected c homes cpus txs l ≡ true) sets
 
+-- On a receive board the lanes that have to be empty for the settings of a command are among those
+-- that it affects.
 abbrev pub ReceivedCommandsEmpty : Type 0
 ReceivedCommandsEmpty =
     (q : Queues) (s : ℕ → ℕ) (c : Command) (cpus txs l : ℕ) → NamesCpu c → l < cpus
     → AreAffected (receive_steering q) s c q.homes cpus txs l
     (received_sets q s c)
 
+-- On a transmit board the lanes that have to be empty for the settings of a command are among those
+-- that it affects.
 abbrev pub SentCommandsEmpty : Type 0
 SentCommandsEmpty =
     (flow : ℕ → ℕ) (s : ℕ → ℕ) (c : Command) (homes : List ℕ) (count cpus l : ℕ)

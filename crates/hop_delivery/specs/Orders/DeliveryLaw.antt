@@ -1,4 +1,4 @@
--- The law of a board: delivery in order.
+-- The law of delivery in order, over an order of all steps on a board.
 use Rattle.std.specs.Prelude.{ℕ, Bool, ◌&&◌, ◌==◌, List}
 use Rattle.std.specs.List.{list_any}
 use Rattle.steer_base.specs.Orders.{InOrder}
@@ -11,13 +11,13 @@ use Rattle.hop_rule.specs.declared.step.BoardStep.{BoardStep}
 use Rattle.hop_delivery.specs.Orders.Premises.{MeetsPremises}
 use Rattle.hop_delivery.specs.Orders.Runs.{Story, Steering, IsSteering}
 
--- the packets of the flow f that arrived at the producer p
+-- The packets of the flow f that arrived at the producer p.
 abbrev pub came_by : Story → Steering → ℕ → ℕ → ℕ → Bool
 came_by t r p f x = list_any (λ y. y == x) (t.arrivals p) && (r.flow x == f)
 
--- Where the premises hold of the own lists that a lawful order has as its parts, then of each
--- producer and flow what the order delivered to the flow's out lane is a prefix of what arrived,
--- without what the order dropped.
+-- If the premises hold of the own lists that a lawful order has as its parts, then for each
+-- producer and flow the packets that the order delivered to the flow's out lane are a prefix of
+-- those that arrived, without those that the order dropped.
 abbrev pub DeliversInOrder : Type 0
 DeliversInOrder =
     (about : BoardSizes) (order : List (StepBy BoardStep)) (t : Story) (r : Steering)

@@ -27,7 +27,7 @@ use Rattle.hop_delivery.specs.Orders.Runs.{IsSteering, Steering, Story, shape_at
 use Rattle.hop_delivery.specs.Orders.TransmitSettings.{transmit_steering}
 use Rattle.hop_delivery.specs.Orders.Turns.{Turn}
 
--- all that the law of delivery asks
+-- All that the law of delivery requires.
 pub record MeetsAll (about : BoardSizes) (order : List (StepBy BoardStep)) (t : Story)
     (r : Steering) : Type 0 where
   pub fits : FitSizes about
@@ -35,12 +35,12 @@ pub record MeetsAll (about : BoardSizes) (order : List (StepBy BoardStep)) (t : 
   pub steers : IsSteering about.lanes r
   pub meets : MeetsPremises about (own_of order) (accepted about order) t r
 
--- of the first producer or seat, and of all others
+-- x for the first producer or seat, y for all others.
 abbrev pub of_first : {X : Type 0} → X → X → ℕ → X
 of_first x y zero = x
 of_first x y (suc p) = y
 
--- a packet with its choice
+-- A packet with its choice.
 abbrev pub choice_for : ℕ → ℕ → Option ℕ → Option ℕ → ℕ → ℕ → Why → Chosen
 choice_for id class want head tail lane why =
     record {
@@ -74,8 +74,7 @@ receive_board =
     }
 
 -- Packet 3 is of flow 1, all others are of flow 0. A flow's hash and its application have the
--- flow's
--- number.
+-- flow's number.
 abbrev pub one_queue : Queues
 one_queue =
     record {
@@ -85,31 +84,33 @@ one_queue =
       app = λ f. f;
     }
 
+-- The closer's seat on the receive board.
 abbrev pub the_closer : ℕ
 the_closer = 1
 
--- the flow table gets four entries, in generation 1
+-- The value of the flow table's word after the resize: four entries, in generation 1.
 abbrev pub four_entries : ℕ
 four_entries = 4 + 2 ^ 32
 
 module _ (b : BoardSizes) where
-  -- a packet is pulled, delivered and retired by the worker
+  -- The worker pulls, delivers and retires a packet.
   abbrev pub drains : ℕ → ℕ → ℕ → List Move
   drains l o id =
       play.holds b 0 l ∷ play.pulls b 0 l id ∷ play.out_holds b 0 o ∷ play.gives b 0 o l id
       ∷ play.retires b 0 l ∷ []
 
-  -- a visit of the worker with a put, without and with a look at a head
+  -- A visit of the worker with a put.
   abbrev pub visits : ℕ → ℕ → Option ℕ → List Move
   visits l id hash =
       play.enters b 0 ∷ play.holds b 0 l ∷ play.puts b 0 l id hash ∷ play.leaves b 0 ∷ []
 
+  -- A visit of the worker with a look at a head and a put.
   abbrev pub weighed_visits : ℕ → ℕ → ℕ → Option ℕ → List Move
   weighed_visits seen l id hash =
       play.enters b 0 ∷ play.weighs b 0 seen ∷ play.holds b 0 l ∷ play.puts b 0 l id hash
       ∷ play.leaves b 0 ∷ []
 
-  -- a close, a look at both lanes, one setting, and an opening
+  -- The closer closes the gate, looks at both lanes, changes one setting and opens the gate.
   abbrev pub resizes : ℕ → ℕ → List Move
   resizes word value =
       play.shuts b the_closer ∷ play.weighs b the_closer 0 ∷ play.counts b the_closer 0
@@ -117,7 +118,7 @@ module _ (b : BoardSizes) where
       ∷ play.sets b the_closer word value ∷ play.opens b the_closer ∷ []
 
 -- Packet 0 goes to processor 0. The socket of its flow wants processor 1 from then on: packet 1
--- stays behind packet 0 and finds the backlog full, and packet 2 moves once packet 0 is retired.
+-- stays with packet 0 and finds the backlog full, and packet 2 moves once packet 0 is retired.
 -- Packet 3, of the other flow, goes to processor 1. Then the closer resizes the flow table, and
 -- packet 4 is as the first of its class.
 abbrev pub receive_rows : List (List Move)
@@ -133,30 +134,36 @@ receive_rows =
     ∷ visits receive_board 0 4 (Some 0)
     ∷ drains receive_board 0 0 4 ∷ []
 
+-- The order of all steps on the receive board.
 abbrev pub receive_order : List (StepBy BoardStep)
 receive_order = plays_rows receive_rows []
 
+-- The choice for packet 0.
 abbrev pub first_chosen : Chosen
 first_chosen = choice_for 0 0 None None 4294967294 0 Unset
 
+-- The choice for packet 1, which stays on processor 0.
 abbrev pub kept_chosen : Chosen
 kept_chosen = choice_for 1 0 (Some 1) (Some 4294967294) 4294967295 0 Kept
 
+-- The choice for packet 2, which moves to processor 1.
 abbrev pub moved_chosen : Chosen
 moved_chosen = choice_for 2 0 (Some 1) (Some 4294967295) 4294967295 1 Passed
 
+-- The choice for packet 3, of the other flow.
 abbrev pub other_chosen : Chosen
 other_chosen = choice_for 3 1 None None 4294967294 1 Unset
 
+-- The choice for packet 4, after the resize.
 abbrev pub again_chosen : Chosen
 again_chosen = choice_for 4 0 None None 4294967294 0 Unset
 
--- what seat 0 did between its own steps e and u
+-- The steps of seat 0 between its own steps e and u.
 abbrev pub between : List (StepBy BoardStep) → ℕ → ℕ → List BoardStep
 between order e u = take (u - (e + 1)) (past u (own_of order 0))
 
--- the turn of the first producer whose visit begins and whose put is made at these of the worker's
--- own steps
+-- The turn of the first producer whose visit begins at the worker's own step e and whose put is its
+-- step u.
 abbrev pub turn : List (StepBy BoardStep) → Chosen → ℕ → ℕ → ℕ → Option ℕ → Put → StepBy Turn
 turn order chosen word e u hash answer =
     step_by 0
@@ -168,6 +175,7 @@ turn order chosen word e u hash answer =
       answer = answer;
     })
 
+-- The turns of the receive board.
 abbrev pub receive_turns : List (StepBy Turn)
 receive_turns =
     turn receive_order again_chosen (2 ^ 32) 33 35 (Some 0) (At 0)
@@ -176,6 +184,7 @@ receive_turns =
     ∷ turn receive_order kept_chosen 0 4 7 (Some 0) (Dropped 1 1 0 Full)
     ∷ turn receive_order first_chosen 0 0 2 (Some 0) (At 4294967295) ∷ []
 
+-- The story of the receive board.
 abbrev pub receive_story : Story
 receive_story =
     record {
@@ -186,10 +195,12 @@ receive_story =
       turns = of_first receive_turns [];
     }
 
+-- The drop of packet 1.
 abbrev pub the_drop : LaneDrop
 the_drop = record { id = 1; accepted = 1; pulled = 0; cause = Full }
 
--- what the instance shows: its two flows, its drop, its move, its resize, and what was delivered
+-- The receive board meets the premises with two flows, a drop, a move and a resize, and delivers
+-- these packets.
 pub record ReceiveExample : Type 0 where
   pub all : MeetsAll receive_board receive_order receive_story (receive_steering one_queue)
   pub two_flows : one_queue.flow 0 ≢ one_queue.flow 3
@@ -203,8 +214,8 @@ pub record ReceiveExample : Type 0 where
 
 -- ---- the transmit board
 
--- Two transmit queues and the port; a worker has seat 0, and the closer, which does nothing,
--- seat 1.
+-- Two transmit queues and the port; a worker has seat 0, and the closer, which makes no step, seat
+-- 1.
 abbrev pub transmit_board : BoardSizes
 transmit_board =
     record {
@@ -219,7 +230,7 @@ transmit_board =
     }
 
 -- The first reply of a flow goes to queue 0. Queue 1 is picked from then on: the second reply stays
--- behind the first, and the third moves once both were completed.
+-- with the first, and the third moves once both were completed.
 abbrev pub transmit_rows : List (List Move)
 transmit_rows =
     visits transmit_board 0 0 None
@@ -229,24 +240,30 @@ transmit_rows =
     ∷ weighed_visits transmit_board 0 1 2 None
     ∷ drains transmit_board 1 0 2 ∷ []
 
+-- The order of all steps on the transmit board.
 abbrev pub transmit_order : List (StepBy BoardStep)
 transmit_order = plays_rows transmit_rows []
 
+-- The choice for reply 0.
 abbrev pub first_reply : Chosen
 first_reply = choice_for 0 0 (Some 0) None 0 0 Unset
 
+-- The choice for reply 1, which stays on queue 0.
 abbrev pub kept_reply : Chosen
 kept_reply = choice_for 1 0 (Some 1) (Some 0) 1 0 Kept
 
+-- The choice for reply 2, which moves to queue 1.
 abbrev pub moved_reply : Chosen
 moved_reply = choice_for 2 0 (Some 1) (Some 2) 2 1 Passed
 
+-- The turns of the transmit board.
 abbrev pub transmit_turns : List (StepBy Turn)
 transmit_turns =
     turn transmit_order moved_reply 0 19 22 None (At 1)
     ∷ turn transmit_order kept_reply 0 4 7 None (At 2)
     ∷ turn transmit_order first_reply 0 0 2 None (At 1) ∷ []
 
+-- The story of the transmit board.
 abbrev pub transmit_story : Story
 transmit_story =
     record {
@@ -256,9 +273,11 @@ transmit_story =
       turns = of_first transmit_turns [];
     }
 
+-- All packets are of one flow.
 abbrev pub one_flow : ℕ → ℕ
 one_flow x = 0
 
+-- The transmit board meets the premises with a move, and its port gets the replies in order.
 pub record TransmitExample : Type 0 where
   pub all : MeetsAll transmit_board transmit_order transmit_story (transmit_steering one_flow)
   pub move : (chosen_at (transmit_story.choices 0) 2).choice.why ≡ Passed

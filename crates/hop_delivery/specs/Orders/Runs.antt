@@ -18,15 +18,16 @@ use Rattle.hop_rule.specs.declared.step.BoardStep.{BoardStep}
 use Rattle.hop_rule.specs.declared.step.BoardStep.TheVariants.{Weighed}
 use Rattle.hop_delivery.specs.Orders.Turns.{Turn}
 
--- Of each producer: the packets that arrived and the choices, the oldest first, and the seat that
--- makes its puts. Of each seat: the turns that explain its own list, the newest first.
+-- What producers did: for each producer the packets that arrived and the choices, the oldest first,
+-- and the seat that makes its puts; for each seat the turns that explain its own list, the newest
+-- first.
 pub record Story : Type 0 where
   pub arrivals : ℕ → List ℕ
   pub choices : ℕ → List Chosen
   pub seat : ℕ → ℕ
   pub turns : ℕ → List (StepBy Turn)
 
--- the turns of a producer, the newest first
+-- The turns of a producer, the newest first.
 abbrev pub turns_of : Story → ℕ → List Turn
 turns_of t p = steps_of p (t.turns (t.seat p))
 
@@ -34,16 +35,16 @@ turns_of t p = steps_of p (t.turns (t.seat p))
 pub record Steering : Type 0 where
   pub flow : ℕ → ℕ  -- the flow of a packet
   pub to : ℕ → ℕ  -- the out lane of a flow
-  pub shape : (ℕ → ℕ) → ℕ → ℕ  -- of settings and a producer: what a resize changes
-  pub class : ℕ → ℕ → Option ℕ  -- of such a shape and a flow: the class
-  pub plain : (ℕ → ℕ) → ℕ → ℕ → ℕ  -- of settings, a producer and a flow: the lane without a class
-  pub desired : (ℕ → ℕ) → ℕ → ℕ → Option ℕ → ℕ  -- and of what was wanted: the lane with a class
-  pub online : (ℕ → ℕ) → ℕ → Bool  -- of settings: whether a lane is online
-  -- of settings, a word and its new value: whether a lane has to be empty
+  pub shape : (ℕ → ℕ) → ℕ → ℕ  -- by settings and producer: what a resize changes
+  pub class : ℕ → ℕ → Option ℕ  -- by such a shape and flow: the class
+  pub plain : (ℕ → ℕ) → ℕ → ℕ → ℕ  -- by settings, producer and flow: the lane without a class
+  pub desired : (ℕ → ℕ) → ℕ → ℕ → Option ℕ → ℕ  -- and by what was wanted: the lane with a class
+  pub online : (ℕ → ℕ) → ℕ → Bool  -- by settings: whether a lane is online
+  -- by settings, a word and its new value: whether a lane has to be empty
   pub affects : (ℕ → ℕ) → ℕ → ℕ → ℕ → Bool
 
--- A change of one setting finds each lane empty that it turns off, each that what has no class goes
--- to before the change and not after it, and all lanes where it resizes.
+-- A change of one setting requires to be empty: each lane that it turns off, each lane to which
+-- packets without a class go before the change and not after it, and all lanes if it resizes.
 pub record IsSteering (lanes : ℕ) (r : Steering) : Type 0 where
   pub off : (s : ℕ → ℕ) (w v l : ℕ) → l < lanes → r.online s l ≡ true
       → r.online (with_setting s w v) l ≡ false → r.affects s w v l ≡ true
@@ -52,12 +53,12 @@ pub record IsSteering (lanes : ℕ) (r : Steering) : Type 0 where
   pub resizes : (s : ℕ → ℕ) (w v p l : ℕ) → l < lanes
       → r.shape s p ≢ r.shape (with_setting s w v) p → r.affects s w v l ≡ true
 
--- the lane to which a packet is to go, with or without a class
+-- The lane to which a packet is to go, with or without a class.
 abbrev pub goal_of : Steering → (ℕ → ℕ) → ℕ → ℕ → Option ℕ → Option ℕ → ℕ
 goal_of r s p f None want = r.plain s p f
 goal_of r s p f (Some class) want = r.desired s p f want
 
--- the word that the entry of a turn's visit found
+-- The word that the entry of a turn's visit found.
 abbrev pub word_of : Option Turn → ℕ
 word_of None = 0
 word_of (Some u) = u.word
@@ -70,30 +71,34 @@ module _ (about : BoardSizes) (own : ℕ → List BoardStep) where
       own_settings about (opened (word / 2 ^ 32) (gate_steps (own (closer about))))
 
   module _ (accepted : ℕ → List ℕ) (t : Story) (r : Steering) where
-    -- the settings of the visit of the producer's i-th turn, and its shape by them
+    -- The settings of the visit of the producer's i-th turn.
     abbrev pub settings_at : ℕ → ℕ → ℕ → ℕ
     settings_at p i = settings_of_visit (word_of (nth_step (turns_of t p) i))
 
+    -- The shape of the producer by the settings of its i-th turn.
     abbrev pub shape_at : ℕ → ℕ → ℕ
     shape_at p i = r.shape (settings_at p i) p
 
+    -- The flow of the packet of a turn.
     abbrev pub flow_at : Turn → ℕ
     flow_at u = r.flow u.chosen.id
 
+    -- The class of the producer's i-th turn.
     abbrev pub class_at : ℕ → ℕ → Turn → Option ℕ
     class_at p i u = r.class (shape_at p i) (flow_at u)
 
-    -- the choices of the producer before the i-th, since its last resize
+    -- The choices of the producer before the i-th, since its last resize.
     abbrev pub before : ℕ → ℕ → List Chosen
     before p i = drop (since_resize (shape_at p) i) (take i (t.choices p))
 
+    -- The lane to which the packet of the producer's i-th turn is to go.
     abbrev pub goal_at : ℕ → ℕ → Turn → ℕ
     goal_at p i u =
         goal_of r (settings_at p i) p (flow_at u) (class_at p i u) u.chosen.choice.want
 
-    -- The choice of the i-th turn of a producer is by the migration rule, with the settings of its
+    -- The choice of the producer's i-th turn is by the migration rule, with the settings of its
     -- visit, over the entry of its class. A head that it keeps was loaded in the visit, before the
-    -- put, of the class's current lane. The lane to which the packet is to go is online.
+    -- put, from the class's current lane. The lane to which the packet is to go is online.
     pub record IsByRule (p i : ℕ) (u : Turn) : Type 0 where
       pub head : ℕ
       pub rule : u.chosen.choice

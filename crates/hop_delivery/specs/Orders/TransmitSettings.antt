@@ -1,6 +1,6 @@
 -- How a transmit board steers: each reply is to go to the queue that was picked for it (kernel
 -- scaling chapter, section XPS). The producers are the applications, the lanes are the transmit
--- queues, and the one out lane is the port. A flow is a class of its own, and nothing goes offline.
+-- queues, and the only out lane is the port. Each flow is a class, and nothing goes offline.
 use Rattle.std.specs.Prelude.{ℕ, ◌+◌, true, false, Option, Some}
 use Rattle.std.specs.Option.{unwrap_or}
 use Rattle.steer_base.specs.Sends.{pick_of}
@@ -8,7 +8,8 @@ use Rattle.steer_base.specs.Sets.{has, has_queue}
 use Rattle.hop_delivery.specs.Orders.ReceiveSettings.{mask}
 use Rattle.hop_delivery.specs.Orders.Runs.{Steering}
 
--- by the flow of each packet; what is wanted of a reply is the queue that was picked
+-- How a transmit board steers, by the flow of each packet: what is wanted of a reply is the queue
+-- that was picked.
 abbrev pub transmit_steering : (ℕ → ℕ) → Steering
 transmit_steering flow =
     record {
@@ -22,8 +23,8 @@ transmit_steering flow =
       affects = λ s w v l. false;
     }
 
--- The queue that is picked among so many by settings: the words are the processor masks of the
--- transmit queues, and then their receive-queue masks.
+-- The transmit queue that is picked by settings: the words are the processor masks of the transmit
+-- queues, then their receive-queue masks.
 abbrev pub pick_by : ℕ → (ℕ → ℕ) → ℕ → ℕ → Option ℕ → ℕ
 pick_by count s rxq cpu hash =
     pick_of count (λ tx q. has_queue (s (count + tx)) q) (λ tx c. has (mask (s tx)) c) rxq cpu hash

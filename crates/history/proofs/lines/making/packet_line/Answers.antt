@@ -29,7 +29,7 @@ returns c =
     c.get-3.result) accepted
     ∙ ap (λ o. option_or (option_map (λ n. At n) (option_map (number h.start)
     (accepted_place h.lanes x))) o) drop in
-    let app : c.app_of.result ≡ app_at c.args.packets.now c.args.apps x = c.app_of.ensures
+    let app : c.app_of.result ≡ app_at c.args.packets.now c.args.apps x = c.app_of.ensures.value
     ∙ ap (λ i. app_at c.args.packets.now c.args.apps i) c.id.view_is in
     let inbox : c.get-4.result ≡ inbox_place_of h x = c.get-4.ensures ∙ known.inboxes.slot x here in
     let place : c.args.place ≡ place_of h x = c.requires.place in

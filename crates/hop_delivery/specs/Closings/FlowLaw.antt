@@ -1,4 +1,5 @@
--- Delivery in order on a board, by the seats' own lists and the lists that the board leaves.
+-- The law of delivery in order at a closing, by the seats' own lists and the lists that the board
+-- leaves.
 use Rattle.std.specs.Prelude.{ℕ, List, map}
 use Rattle.steer_base.specs.Orders.{InOrder}
 use Rattle.history.specs.Lists.{lane_at, list_at}
@@ -10,13 +11,13 @@ use Rattle.hop_delivery.specs.Orders.DeliveryLaw.{came_by}
 use Rattle.hop_delivery.specs.Orders.Premises.{MeetsPremises}
 use Rattle.hop_delivery.specs.Orders.Runs.{Story, Steering, IsSteering}
 
--- what is left of each middle lane as accepted
+-- The packets that each middle lane accepted, by the lists that are left.
 abbrev pub accepted_left : BoardLists → ℕ → List ℕ
 accepted_left lists l = (lane_at lists.lanes l).accepted
 
--- Where the six premises hold of the seats' own lists and of what the lanes accepted, then of each
--- producer and flow what lies in the flow's out lane is a prefix of what arrived, without what was
--- dropped.
+-- If the six premises hold of the seats' own lists and of what the lanes accepted, then for each
+-- producer and flow the packets left in the flow's out lane are a prefix of those that arrived,
+-- without those that were dropped.
 abbrev pub FlowsAreInOrder : BoardSizes → (ℕ → List BoardStep) → BoardLists → Type 0
 FlowsAreInOrder about own lists =
     (t : Story) (r : Steering) → IsSteering about.lanes r

@@ -1,4 +1,4 @@
--- Closings that meet the premises of delivery in order.
+-- Examples: closings that meet the premises of delivery in order.
 use Rattle.std.specs.Prelude.{List}
 use Rattle.atomic_table.specs.Seated.{TableId}
 use Rattle.hop_rule.specs.declared.sizes.BoardSizes.{BoardSizes}
@@ -11,9 +11,9 @@ use Rattle.hop_delivery.specs.Orders.Premises.{MeetsPremises}
 use Rattle.hop_delivery.specs.Orders.ReceiveSettings.{receive_steering}
 use Rattle.hop_delivery.specs.Orders.Runs.{Story, Steering, IsSteering}
 use Rattle.hop_delivery.specs.Orders.TransmitSettings.{transmit_steering}
-use Rattle.hop_delivery.specs.Closings.DeliveryLaw.{accepted_left}
+use Rattle.hop_delivery.specs.Closings.FlowLaw.{accepted_left}
 
--- some seats and lists of a closing of this board, of which the story meets all premises
+-- There are seats and lists of a closing of this board for which the story meets all premises.
 pub record CanClose (about : BoardSizes) (t : Story) (r : Steering) : Type 0 where
   pub seats : List BoardSeatView
   pub lists : BoardLists
@@ -21,11 +21,12 @@ pub record CanClose (about : BoardSizes) (t : Story) (r : Steering) : Type 0 whe
   pub steers : IsSteering about.lanes r
   pub meets : MeetsPremises about (own_in seats) (accepted_left lists) t r
 
--- at any table
+-- The receive board of the examples can close, at any table.
 abbrev pub ReceiveClosing : Type 0
 ReceiveClosing =
     (table : TableId) → CanClose receive_board receive_story (receive_steering one_queue)
 
+-- The transmit board of the examples can close, at any table.
 abbrev pub TransmitClosing : Type 0
 TransmitClosing =
     (table : TableId) → CanClose transmit_board transmit_story (transmit_steering one_flow)

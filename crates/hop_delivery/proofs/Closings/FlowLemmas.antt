@@ -28,7 +28,7 @@ use Rattle.hop_delivery.specs.Orders.DeliveryLaw.{came_by}
 use Rattle.hop_delivery.specs.Orders.Premises.{MeetsPremises}
 use Rattle.hop_delivery.specs.Orders.Runs.{Story, Steering, IsSteering}
 use Rattle.hop_delivery.proofs.Orders.DeliveryLemmas.{delivers_in_order}
-use Rattle.hop_delivery.specs.Closings.DeliveryLaw.{FlowsAreInOrder, accepted_left}
+use Rattle.hop_delivery.specs.Closings.FlowLaw.{FlowsAreInOrder, accepted_left}
 
 -- a list without a first member is empty
 none-first : (xs : List ℕ) → ((x : ℕ) → slice_get xs 0 ≡ Some x → ⊥) → xs ≡ []

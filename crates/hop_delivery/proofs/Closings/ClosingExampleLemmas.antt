@@ -19,9 +19,9 @@ use Rattle.hop_delivery.specs.Orders.Runs.{Story, Steering}
 use Rattle.hop_delivery.specs.Orders.TransmitSettings.{transmit_steering}
 use Rattle.hop_delivery.proofs.Orders.ReceiveExample.{receive_example}
 use Rattle.hop_delivery.proofs.Orders.TransmitExample.{transmit_example}
-use Rattle.hop_delivery.specs.Closings.Examples.{CanClose, ReceiveClosing, TransmitClosing}
-use Rattle.hop_delivery.specs.Closings.DeliveryLaw.{accepted_left}
-use Rattle.hop_delivery.proofs.Closings.DeliveryLemmas.{accepted_same}
+use Rattle.hop_delivery.specs.Closings.ClosingExamples.{CanClose, ReceiveClosing, TransmitClosing}
+use Rattle.hop_delivery.specs.Closings.FlowLaw.{accepted_left}
+use Rattle.hop_delivery.proofs.Closings.FlowLemmas.{accepted_same}
 
 can_close : (table : TableId) (about : BoardSizes) (order : List (StepBy BoardStep)) (t : Story)
     (r : Steering) → MeetsAll about order t r → CanClose about t r
