@@ -4,6 +4,7 @@ use Rattle.std.specs.Prelude.{ℕ, ◌+◌, ◌<◌, ◌≤◌, ◌≡◌, true,
 use Rattle.std.specs.Prelude.{slice_index, slice_index_or}
 use Rattle.steer_base.specs.declared.command.Command.TheVariants as give
 use Rattle.steer_base.specs.declared.filter.Filter.{Filter}
+use Rattle.steer_base.specs.declared.limits.TheConstants.{MAX_FLOW_COUNT}
 use Rattle.hop_core.specs.declared.event.HopEvent.TheVariants as event
 use Rattle.hop_core.specs.Events.{AllMayAsk, MayAsk}
 use Rattle.hop_core.specs.Hop.{next_of}
@@ -33,7 +34,7 @@ pub record AsksRx (m : Machine) : Type 0 where
   pub visit : (a : ℕ) → a < m.setup.apps
       → AllMayAsk
       (event.Enter (length m.setup.homes + a) ∷ event.Leave (length m.setup.homes + a) ∷ []) m.rx
-  pub flows : (q count : ℕ) → q < length m.setup.homes → count ≤ 32768
+  pub flows : (q count : ℕ) → q < length m.setup.homes → count ≤ MAX_FLOW_COUNT
       → is_done (answer_to m (give.Flows q count)) ≡ true
       → AllMayAsk (event.Close ∷ event.Resize q count ∷ event.Reopen ∷ []) m.rx
 
@@ -55,7 +56,7 @@ pub record AsksTx (m : Machine) : Type 0 where
 pub record IsSeated (m : Machine) (filter : Filter) : Type 0 where
   pub processor : filter.cpu < length m.rx.bare.accepted
   pub queue : filter.queue < length m.settings.counts
-  pub flows : slice_index m.settings.counts filter.queue ≤ 32768
+  pub flows : slice_index m.settings.counts filter.queue ≤ MAX_FLOW_COUNT
 
 abbrev pub AreSeated : Machine → Type 0
 AreSeated m =

@@ -4,6 +4,7 @@ use Rattle.std.specs.List.{AllPass}
 use Rattle.steer_base.specs.declared.command.Command.{Command}
 use Rattle.steer_base.specs.declared.packet.Packet.{Packet}
 use Rattle.steer_base.specs.declared.step.Step.{Step}
+use Rattle.steer_base.specs.declared.limits.TheConstants.{MAX_PACKETS}
 use Rattle.history.specs.Places.{AreInOnePlace, InboxesAreDelivered, IsInReach}
 use Rattle.history.specs.Regular.{AreQueued, Regular}
 use Rattle.history.specs.declared.history.History.{History}
@@ -30,8 +31,8 @@ pub record IsReportable (packets : List Packet) (apps : ℕ) (h : History) : Typ
   pub in_reach : (x : ℕ) → IsInReach h x
   pub some_app : 1 ≤ apps
   pub few_apps : apps ≤ 32
-  pub few_packets : length packets ≤ 262144
-  pub few_arrivals : length h.arrivals ≤ 262144
+  pub few_packets : length packets ≤ MAX_PACKETS
+  pub few_arrivals : length h.arrivals ≤ MAX_PACKETS
 
 -- In every state of the machine its history is such a one.
 abbrev pub InvariantIsReportable : Type 0
@@ -56,7 +57,7 @@ FiltersAreSeated = (m : Machine) → Invariant m → AreSeated m
 -- a flow with a number below theirs and with one hash.
 pub record MayStart (plan : Plan) (packets : List Packet) : Type 0 where
   pub start : plan.start < 2 ^ 32
-  pub few : length packets ≤ 262144
+  pub few : length packets ≤ MAX_PACKETS
   pub flows : AreOfFlows packets
 
 -- A machine that a plan starts is held.

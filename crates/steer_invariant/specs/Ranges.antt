@@ -3,6 +3,7 @@
 use Rattle.std.specs.Prelude.{ℕ, ◌≡◌, ◌<◌, ◌≤◌, List, Option, None, Some, slice_index_or}
 use Rattle.std.specs.List.{All}
 use Rattle.steer_base.specs.declared.filter.Filter.{Filter}
+use Rattle.steer_base.specs.declared.limits.TheConstants.{MAX_FLOW_COUNT}
 use Rattle.steer_model.specs.State.Machine.{Machine}
 use Rattle.steer_model.specs.State.Setup.{Setup}
 use Rattle.steer_model.specs.declared.note.Note.{Note}
@@ -12,7 +13,7 @@ use Rattle.steer_model.specs.declared.note.Note.TheVariants as note
 -- for, names a processor that there is.
 pub record Ranged (p : Setup) (counts : List ℕ) (filters : List (Option Filter))
     (notes : List Note) : Type 0 where
-  pub flows : All (λ count. count ≤ 32768) counts
+  pub flows : All (λ count. count ≤ MAX_FLOW_COUNT) counts
   pub set : (i : ℕ) (filter : Filter) → slice_index_or filters i None ≡ Some filter
       → filter.cpu < p.cpus
   pub asked : (q : ℕ) (filter : Filter)
