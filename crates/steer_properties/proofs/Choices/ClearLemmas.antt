@@ -163,7 +163,8 @@ module _ (s : HopState) (q : ℕ) (want : Option ℕ) (desired : ℕ) (online : 
       elim (cases_lt j (since_of s q)) [
         | inl early ↦ h.past q j n early at
         | inr late ↦ (
-            let w : MovesByThree c desired e.tail (head_at s.fixed.start s.bare) (has online) e.lane =
+            let w : MovesByThree c desired e.tail (head_at s.fixed.start s.bare) (has online)
+            e.lane =
             moves-of c class want desired e.tail (head_at s.fixed.start s.bare) (has online) e.lane
             refl in
             clear-recent j n late lt own at (w.may.0 moved))

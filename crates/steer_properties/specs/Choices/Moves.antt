@@ -44,9 +44,9 @@ pub record FlowsMoveAsSaid (i : Input) (h : History) (at : ℕ → ℕ → ℕ) 
 
 -- ---- the transmit side
 
--- Transmit choice k of an application changes its flow's queue exactly by the three conditions, with
--- the picked queue as the desired one and all queues online: the flow has no queue, or another than
--- the picked one whose head, as the choice saw it, has reached the recorded tail.
+-- Transmit choice k of an application changes its flow's queue exactly by the three conditions,
+-- with the picked queue as the desired one and all queues online: the flow has no queue, or another
+-- than the picked one whose head, as the choice saw it, has reached the recorded tail.
 abbrev pub ChangesFlow : Input → History → ℕ → ℕ → Settings → Sent → Type 0
 ChangesFlow i h a k s r =
     let c : Chosen = chosen_at (list_at h.tx_choices a) k in
