@@ -56,7 +56,7 @@ FORMS = {
 ROWS = {"p": Packet, "r": Reply, "queue": Queue, "cpu": Cpu, "tx": Tx, "w": Write, "c": Answer,
         "tap": Tap, "end": End}
 
-ORDER = {kind: place for place, kind in enumerate(FORMS)}
+KINDS = [kind for kind in FORMS if kind != "end"]
 
 
 def _pattern(form):
@@ -66,7 +66,7 @@ def _pattern(form):
     return re.compile(text.encode() + rb"\n", re.ASCII)
 
 
-PATTERNS = {kind.encode(): _pattern(form) for kind, form in FORMS.items()}
+PATTERNS = {kind: _pattern(form) for kind, form in FORMS.items()}
 
 
 class Report:
@@ -76,80 +76,83 @@ class Report:
     a cut last record the capture has, or None.
     """
 
-    def __init__(self):
-        self.packets = []
-        self.replies = []
-        self.queues = []
-        self.cpus = []
-        self.tx = []
-        self.writes = []
-        self.answers = []
-        self.taps = []
-        self.end = None
-
-    def of_kind(self, kind):
-        """The rows of a kind: `p`, `r`, `queue`, `cpu`, `tx`, `w`, `c` or `tap`."""
-        return {"p": self.packets, "r": self.replies, "queue": self.queues, "cpu": self.cpus,
-                "tx": self.tx, "w": self.writes, "c": self.answers, "tap": self.taps}[kind]
+    def __init__(self, packets, replies, queues, cpus, tx, writes, answers, taps, end):
+        self.packets = packets
+        self.replies = replies
+        self.queues = queues
+        self.cpus = cpus
+        self.tx = tx
+        self.writes = writes
+        self.answers = answers
+        self.taps = taps
+        self.end = end
 
 
 class _Lines:
-    """The lines of a stream with their numbers, from 1."""
+    """The lines of a stream: `line` is the one that is read next, `number` counts from 1."""
 
     def __init__(self, stream, source):
         self.stream = stream
         self.source = source
         self.number = 0
+        self.advance()
 
-    def next(self):
-        """The next line with its line feed; refuses the end of the file."""
-        line = self.stream.readline(LONGEST_LINE)
-        if not line.endswith(b"\n"):
-            if len(line) == LONGEST_LINE:
-                self.number += 1
-                self.refuse("is no line of a report: %s .." % _shown(line[:40]))
-            raise cli.Refused(self.source, "cut short after line %d (no line `end`)" % self.number)
+    def advance(self):
+        """Goes on to the next line; it lacks its line feed where it is cut or too long."""
+        self.line = self.stream.readline(LONGEST_LINE)
         self.number += 1
-        return line
 
-    def text(self, size):
+    def skip(self, size):
         """The next `size` bytes, which are whole lines or none."""
         text = self.stream.read(size)
+        self.number += text.count(b"\n")
         if len(text) < size:
             raise cli.Refused(self.source, "cut short after line %d (%d of the %d bytes of a tap)"
                               % (self.number, len(text), size))
-        self.number += text.count(b"\n")
         return text
 
     def refuse(self, reason):
         raise cli.Refused(self.source, "line %d %s" % (self.number, reason))
 
-
-def _shown(line):
-    return "`%s`" % line.decode("ascii", "backslashreplace").rstrip("\n")
-
-
-WORDS = {word.encode(): word for word in (
-    "filter reta none plain same unset offline passed kept "
-    "ring poller backlog hand inbox drop").split()}
-
-
-def _value(field):
-    """A field as a number or a word; a dash, and a field that the form left out, is None."""
-    if field is None or field == b"-":
-        return None
-    word = WORDS.get(field)
-    return int(field) if word is None else word
+    def refuse_line(self):
+        """Refuses the line that is next, which is not one of those that may stand there."""
+        if not self.line.endswith(b"\n") and len(self.line) < LONGEST_LINE:
+            raise cli.Refused(self.source, "cut short after line %d (no line `end`)"
+                              % (self.number - 1))
+        shown = self.line[:80].decode("ascii", "backslashreplace").rstrip("\n")
+        self.refuse("may not stand there in a report: `%s`" % shown)
 
 
-def _row(kind, groups):
-    if kind == "c":
-        return Answer(int(groups[0]), groups[1].decode(), groups[2].decode())
-    return ROWS[kind]._make(map(_value, groups))
+class _Values(dict):
+    """Fields as numbers or words; a dash, and a field that the form left out, is None.
+
+    Each is made once, which is faster, and lets rows share their numbers.
+    """
+
+    def __missing__(self, field):
+        if field is None or field == b"-":
+            value = None
+        elif field.isdigit():
+            value = int(field)
+        else:
+            value = field.decode()
+        self[field] = value
+        return value
 
 
-def _check_packet(row, lines):
-    """Refuses a packet whose own fields contradict each other."""
+def _check_number(row, rows, lines):
+    if row[0] != len(rows):
+        lines.refuse("has number %d where %d is due" % (row[0], len(rows)))
+
+
+def _check_reply(row, rows, lines):
+    if rows and row.id <= rows[-1].id:
+        lines.refuse("has number %d behind %d" % (row.id, rows[-1].id))
+
+
+def _check_packet(row, rows, lines):
+    """Refuses a packet out of order, and one whose own fields contradict each other."""
+    _check_number(row, rows, lines)
     if (row.place == "drop") != (row.drop is not None):
         lines.refuse("has place %s and %s drop" % (row.place, "no" if row.drop is None else "a"))
     if (row.place == "inbox") != (row.inbox is not None):
@@ -157,50 +160,42 @@ def _check_packet(row, lines):
                      % (row.place, "no" if row.inbox is None else "a"))
     if (row.cpu is None) != (row.why is None):
         lines.refuse("has a processor without a reason, or a reason without a processor")
-    if (row.at is not None or row.drop is not None) != (row.place not in ("ring", "poller")):
-        lines.refuse("has place %s and %s position" % (row.place, "no" if row.at is None else "a"))
-    if row.at is not None and row.cpu is None:
-        lines.refuse("has a position without a processor")
+    is_put = row.at is not None or row.drop is not None
+    if is_put != (row.place not in ("ring", "poller")) or (is_put and row.cpu is None):
+        lines.refuse("has place %s and processor %s and position %s"
+                     % (row.place, row.cpu, row.at))
 
 
-def _add(report, kind, row, lines):
-    """Puts a row into the report, where its number is the next one."""
-    rows = report.of_kind(kind)
-    if kind == "p":
-        _check_packet(row, lines)
-    if kind == "r":
-        if (rows and row.id <= rows[-1].id) or row.id >= len(report.packets):
-            lines.refuse("has number %d, which is out of order or of no packet" % row.id)
-    elif kind != "w" and row[0] != len(rows):
-        lines.refuse("has number %d where %d is due" % (row[0], len(rows)))
-    rows.append(row)
+CHECKS = {"p": _check_packet, "r": _check_reply, "w": None}
 
 
-def _read_rows(lines):
-    """All rows up to `end`, which is the last line, in the order of the kinds."""
-    report = Report()
-    place = 0
-    while report.end is None:
-        line = lines.next()
-        kind = line[:line.find(b" ")]
-        pattern = PATTERNS.get(kind)
-        found = pattern.fullmatch(line) if pattern else None
+def _read_kind(kind, lines, values):
+    """The rows of a kind, as long as the next line is one of them."""
+    pattern = PATTERNS[kind]
+    make = ROWS[kind]._make
+    check = CHECKS.get(kind, _check_number)
+    rows = []
+    while True:
+        found = pattern.fullmatch(lines.line)
         if found is None:
-            lines.refuse("is no line of a report: %s" % _shown(line))
-        kind = kind.decode()
-        if ORDER[kind] < place:
-            lines.refuse("is out of order: %s" % _shown(line))
-        place = ORDER[kind]
-        row = _row(kind, found.groups())
+            return rows
+        row = make(map(values.__getitem__, found.groups()))
+        if check is not None:
+            check(row, rows, lines)
         if kind == "tap":
-            row = Tap(row.number, lines.text(row.text))
-        if kind == "end":
-            report.end = row
-        else:
-            _add(report, kind, row, lines)
-    if lines.stream.read(1):
-        raise cli.Refused(lines.source, "goes on behind line %d, its line `end`" % lines.number)
-    return report
+            row = Tap(row.number, lines.skip(row.text))
+        rows.append(row)
+        lines.advance()
+
+
+def _read_end(lines, values):
+    found = PATTERNS["end"].fullmatch(lines.line)
+    if found is None:
+        lines.refuse_line()
+    lines.advance()
+    if lines.line:
+        lines.refuse("stands behind the line `end`")
+    return End._make(map(values.__getitem__, found.groups()))
 
 
 def read(stream, source="report"):
@@ -210,10 +205,12 @@ def read(stream, source="report"):
     short, a line has another form, or a sum is not that of its packets.
     """
     lines = _Lines(stream, source)
-    if stream.readline(LONGEST_LINE) != FIRST_LINE:
+    if lines.line != FIRST_LINE:
         raise cli.NotThatFile(source, "is no report: its first line is not `steer 1`")
-    lines.number = 1
-    report = _read_rows(lines)
+    lines.advance()
+    values = _Values()
+    rows = [_read_kind(kind, lines, values) for kind in KINDS]
+    report = Report(*rows, _read_end(lines, values))
     for difference in differences(report):
         raise cli.Refused(source, difference)
     return report
