@@ -7,12 +7,12 @@ or whose lengths contradict each other, raises NotThatFile.
 import struct
 from collections import Counter, namedtuple
 
-from steerlib.cli import NotThatFile, Refused, note
+from . import limits
+from .cli import NotThatFile, Refused, note
 
-MAX_PACKETS = 262144
-MAX_FRAME = 262144
-MAX_FILE = 268435456
-MAX_BLOCK = 1 << 26
+MOST_FRAME = 262144
+MOST_FILE = 268435456
+MOST_BLOCK = 1 << 26
 
 SECTION, INTERFACE, OBSOLETE, SIMPLE, ENHANCED = 0x0A0D0D0A, 1, 2, 3, 6
 SECTION_BYTES = b"\n\r\r\n"
@@ -87,9 +87,9 @@ class Capture:
                 self.cut = len(head)
                 return
             second, fraction, length, wire = unpack(head)
-            if length > MAX_FRAME:
+            if length > MOST_FRAME:
                 raise self._fault("packet %d has %d bytes; at most %d are read", number, length,
-                                  MAX_FRAME)
+                                  MOST_FRAME)
             data = read(length)
             if len(data) < length:
                 self.cut = 16 + len(data)
@@ -124,7 +124,7 @@ class Capture:
         if head[:4] == SECTION_BYTES:
             self._set_order(head[8:])
         kind, length = struct.unpack(self.order + "II", head[:8])
-        if length % 4 or length < LEAST_LENGTH.get(kind, 12) or length > MAX_BLOCK:
+        if length % 4 or length < LEAST_LENGTH.get(kind, 12) or length > MOST_BLOCK:
             raise self._fault("block %d has the length %d", self.block, length)
         rest = head[8:] + self.stream.read(length - 12)
         if len(rest) < length - 8:
@@ -198,9 +198,9 @@ class Capture:
         return self.interfaces[number]
 
     def _check_length(self, length, room):
-        if length > MAX_FRAME:
+        if length > MOST_FRAME:
             raise self._fault("block %d is a packet of %d bytes; at most %d are read", self.block,
-                              length, MAX_FRAME)
+                              length, MOST_FRAME)
         if length > room:
             raise self._fault("block %d is a packet of %d bytes in a block that holds %d",
                               self.block, length, room)
@@ -232,7 +232,7 @@ def to_ethernet(frame):
         data, wire = NO_ADDRESSES + data[:2] + data[20:], wire - 6
     elif link != ETHERNET:
         data, wire = NO_ADDRESSES + _raw_type(frame) + data, wire + 14
-    return Frame(ETHERNET, time, min(max(wire, 0), 0xFFFFFFFF), data[:MAX_FRAME], kind)
+    return Frame(ETHERNET, time, min(max(wire, 0), 0xFFFFFFFF), data[:MOST_FRAME], kind)
 
 
 class Merged:
@@ -282,12 +282,12 @@ class PcapWriter:
 
     def begin(self):
         if not self.size:
-            self.stream.write(struct.pack("<IHHIIII", 0xA1B23C4D, 2, 4, 0, 0, MAX_FRAME, ETHERNET))
+            self.stream.write(struct.pack("<IHHIIII", 0xA1B23C4D, 2, 4, 0, 0, MOST_FRAME, ETHERNET))
             self.size = 24
 
     def has_room(self, frame):
         """Whether the file stays within what steer reads with this frame."""
-        return self.size + 16 + len(frame.data) <= MAX_FILE
+        return self.size + 16 + len(frame.data) <= MOST_FILE
 
     def write(self, frame):
         """Writes a frame; one without a time has the time 0."""
@@ -383,7 +383,7 @@ def other_link(link):
         link, ", ".join("%d (%s)" % known for known in sorted(LINKS.items())))
 
 
-def copy(conversion, writer, first=0, count=MAX_PACKETS):
+def copy(conversion, writer, first=0, count=limits.MOST_PACKETS):
     """Writes `count` frames of a conversion, but not the first so many, to a PcapWriter.
 
     Says whether more follow, which is so too where the file would be longer than steer reads.

@@ -26,3 +26,25 @@ def positive_number(text):
     if not 0 < number < math.inf:
         raise argparse.ArgumentTypeError("%s is not a number above 0" % text)
     return number
+
+
+def own_rate(text):
+    """The type of C=N: a processor, and a rate of its own."""
+    cpu, equals, rate = text.partition("=")
+    if not equals:
+        raise argparse.ArgumentTypeError("%s is not C=N, a processor and its rate" % text)
+    return whole_number(0)(cpu), positive_number(rate)
+
+
+def add_load(parser):
+    """Adds the words that say what the processors do, beside their rate; `load_of` reads them."""
+    parser.add_argument("--cpu", metavar="C=N", action="append", default=[], type=own_rate,
+                        help="processor C serves N packets a second instead; may be repeated")
+    parser.add_argument("--read", dest="reads", action="store_true",
+                        help="the reader of a packet reads it at once when it is delivered, which "
+                             "RFS needs to see where the reader is")
+    parser.add_argument("--reply", dest="replies", action="store_true",
+                        help="the reader replies at once; the replies leave the transmit queues at "
+                             "the end")
+    parser.add_argument("--speed", metavar="X", default=1.0, type=positive_number,
+                        help="the packets come X times as fast as they were recorded")
