@@ -192,21 +192,25 @@ def source_name(name):
     return "standard input" if name == "-" else name
 
 
-def open_bytes(name):
+def open_bytes(name, unpacked=True):
     """A buffered binary stream of the file `name`; `-` is standard input; gz is opened through.
+
+    With `unpacked` false a gz file is given as it is.
 
     Raises NotThatFile where it cannot be opened, and the stream does where it cannot be read.
     """
     source = source_name(name)
     try:
         if name == "-":
+            if sys.stdin is None:
+                raise NotThatFile(source, "it is closed")
             plain = sys.stdin.buffer
         else:
             plain = open(name, "rb")
         start = plain.peek(2)[:2]
     except (OSError, ValueError, AttributeError) as fault:
         raise NotThatFile(source, getattr(fault, "strerror", None) or str(fault)) from None
-    if start == GZIP_MAGIC:
+    if unpacked and start == GZIP_MAGIC:
         plain = gzip.GzipFile(fileobj=plain, mode="rb")
     return io.BufferedReader(_Guarded(plain, source), 1 << 18)
 
