@@ -87,6 +87,11 @@ class Report:
         self.taps = taps
         self.end = end
 
+    def by_kind(self):
+        """The lists of rows by kind: `p`, `r`, `queue`, `cpu`, `tx`, `w`, `c`, `tap`."""
+        return dict(zip(KINDS, (self.packets, self.replies, self.queues, self.cpus, self.tx,
+                                self.writes, self.answers, self.taps)))
+
 
 class _Lines:
     """The lines of a stream: `line` is the one that is read next, `number` counts from 1."""
@@ -276,6 +281,8 @@ def _out_of_range(report):
         if row.cpu is not None and row.cpu >= cpus:
             return "packet %d is of processor %d, and there are %d" % (row.id, row.cpu, cpus)
     for row in report.replies:
+        if row.id >= len(report.packets):
+            return "reply %d is of no packet that arrived" % row.id
         if row.tx is not None and row.tx >= tx:
             return "reply %d is of transmit queue %d, and there are %d" % (row.id, row.tx, tx)
     return None
