@@ -19,9 +19,9 @@ from collections import deque, namedtuple
 
 from . import capture as captures
 from . import cli, limits
+from . import plan as plans
 
 MOST_ROUNDS = 500
-DEFAULT_BACKLOG = 1000
 COMMANDS = ("mask", "flows", "sock", "offline", "online", "xcpus", "xqueues", "reta", "stand",
             "expire")
 
@@ -126,6 +126,7 @@ class _Processors:
         self.waiting = [deque() for _ in range(count)]
         self.served = [None] * count
         self.ends = []
+        self.begun = 0
         self.steps = []
         self.dropped = set()
         self.pull = ["pull %d" % cpu for cpu in range(count)]
@@ -151,12 +152,13 @@ class _Processors:
     def _serve(self, cpu, time):
         self.served[cpu] = self.waiting[cpu].popleft()
         self.steps.append(self.pull[cpu])
-        heapq.heappush(self.ends, (time + self.cost[cpu], cpu))
+        self.begun += 1
+        heapq.heappush(self.ends, (time + self.cost[cpu], self.begun, cpu))
 
     def work(self, until):
-        """All service that ends up to this time, in the order of its ends."""
+        """All service that ends up to this time, in the order of its ends, then of its begins."""
         while self.ends and self.ends[0][0] <= until:
-            time, cpu = heapq.heappop(self.ends)
+            time, _, cpu = heapq.heappop(self.ends)
             packet = self.served[cpu]
             self.served[cpu] = None
             self.steps += self.finish[cpu]
@@ -238,16 +240,20 @@ class Replays:
 
     def __init__(self, plan, capture, shown_capture, folder):
         self.source = cli.source_name(plan)
-        self.settings = read_settings(plan)
+        self.settings = plans.read_plan(plan)
         self.capture = capture
         self.shown_capture = shown_capture
         self.plan = os.path.join(folder, "plan.json")
         self.report = os.path.join(folder, "report")
 
+    def with_steps(self, steps):
+        """The plan with these steps in place of its own."""
+        return dict(self.settings, steps=steps)
+
     def run(self, steps):
         """Replays these steps; a plan that steer refuses is Refused with steer's own message."""
         with open(self.plan, "w", encoding="ascii") as out:
-            out.write(plan_text(self.settings, steps))
+            out.write(json.dumps(self.with_steps(steps)))
         with open(self.report, "wb") as out:
             try:
                 cli.run_steer(["replay", self.plan, self.capture], out)
@@ -260,25 +266,6 @@ class Replays:
         self.run(steps)
         with open(self.report, "rb") as report:
             return places_of(report.read())
-
-
-def plan_text(settings, steps):
-    """The JSON text of a plan with these settings and steps, a line for each arrival."""
-    text = json.dumps(steps, separators=(",", ":")).replace(',"arrive"', ',\n"arrive"')
-    kept = {key: value for key, value in settings.items() if key != "steps"}
-    return json.dumps(kept)[:-1] + (", " if kept else "") + '"steps": ' + text + "}\n"
-
-
-def read_settings(name):
-    """The keys and values of the plan `name`, in their order; Refused where it is no object."""
-    source = cli.source_name(name)
-    try:
-        settings = json.loads(cli.read_text(name))
-    except ValueError as fault:
-        raise cli.Refused(source, "plan: not json: %s" % fault) from None
-    if not isinstance(settings, dict):
-        raise cli.Refused(source, "plan: wrong kind: it is no object")
-    return settings
 
 
 def flow_numbers(capture):
@@ -324,7 +311,7 @@ def service_of(settings, load, flows):
             raise cli.WrongWords("--cpu %d=%g: the plan has the processors 0 to %d"
                                  % (cpu, rate, cpus - 1))
         rates[cpu] = rate
-    return Service(rates, settings.get("backlog", DEFAULT_BACKLOG), flows, load.replies)
+    return Service(rates, settings.get("backlog", plans.DEFAULTS["backlog"]), flows, load.replies)
 
 
 def timed_steps(replays, times, load, say=None):
