@@ -1,6 +1,6 @@
 """What differs between two reports of one capture."""
 
-from itertools import zip_longest
+from itertools import chain, zip_longest
 
 from . import cli
 
@@ -16,73 +16,64 @@ def _capture(end):
     return "%d packets%s" % (end.total, "" if end.cut is None else " cut %d" % end.cut)
 
 
-def _change(old, new):
-    """`1 -> 2 (+1)` of two numbers, `a -> b` of others; what is absent is a dash."""
-    if isinstance(old, int) and isinstance(new, int):
-        return "%d -> %d (%+d)" % (old, new, new - old)
-    return "%s -> %s" % ("-" if old is None else old, "-" if new is None else new)
+def _shown(value):
+    return "-" if value is None else str(value)
 
 
-def _name(field):
-    return {"class_": "class", "inbox": "in", "drop_accepted": "drop accepted",
-            "drop_pulled": "drop pulled", "flow_offers": "flow"}.get(field, field)
+def _sums_changed(before, after):
+    """`name 1 -> 2 (+1)` for each sum that differs, but for those that follow the first one.
+
+    Where all work was done, as many are pulled, delivered and retired as accepted.
+    """
+    first = (before[1], after[1])
+    for place, name in enumerate(before._fields):
+        pair = (before[place], after[place])
+        if pair[0] != pair[1] and (place == 1 or pair != first):
+            yield "%s %d -> %d (%+d)" % ((name,) + pair + (pair[1] - pair[0],))
 
 
-def _rows_by_number(kind, old, new):
-    """A line for each two sums of a kind that differ, with all the fields that do."""
+def _rows_of_sums(kind, old, new):
+    """A line for each two rows of sums that differ."""
     for before, after in zip_longest(old, new):
         if before is None or after is None:
             yield "%s %d is %s" % (kind, (before or after)[0], "gone" if after is None else "new")
-            continue
-        changes = ["%s %s" % (name, _change(getattr(before, name), getattr(after, name)))
-                   for name in before._fields
-                   if getattr(before, name) != getattr(after, name)]
-        if changes:
-            yield "%s %d %s" % (kind, before[0], ", ".join(changes))
+        elif before != after:
+            yield "%s %d %s" % (kind, before[0], ", ".join(_sums_changed(before, after)))
 
 
-PLAIN = ("q", "cpu", "tx", "why", "place")
-"""Fields whose numbers are not amounts, or are words: no difference is shown."""
+ROUTE = ("q", "via", "cpu", "tx", "why", "place")
+"""The fields that say where a packet or a reply went and why; the others are numbers in a row."""
 
 
-def _fields_changed(before, after):
-    """The fields that differ, of which a line shows the plain ones, or else all others."""
-    names = [name for name in before._fields if getattr(before, name) != getattr(after, name)]
-    return [name for name in names if name in PLAIN] or names
-
-
-def _row_line(kind, before, after):
-    shown = []
-    for name in _fields_changed(before, after):
-        old, new = getattr(before, name), getattr(after, name)
-        shown.append("%s %s -> %s" % (_name(name), "-" if old is None else old,
-                                      "-" if new is None else new))
-    return "%s %d %s" % (kind, before.id, ", ".join(shown))
+def _route_changed(before, after):
+    return ["%s %s -> %s" % (name, _shown(getattr(before, name)), _shown(getattr(after, name)))
+            for name in before._fields
+            if name in ROUTE and getattr(before, name) != getattr(after, name)]
 
 
 class Comparison:
     """Two reports of one capture, with counts of what differs; `lines` must be run through first.
 
-    A packet that differs counts once in each of `queue`, `cpu`, `saved` (no longer dropped) and
-    `lost` (newly dropped) that holds; `packets` is how many differ in any field.
+    `packets` and `replies` went another way or for another reason; `numbers` are packets and
+    replies of which only other fields differ. A packet counts once in each of `queue`, `cpu`,
+    `saved` (no longer dropped) and `lost` (newly dropped) that holds; `others` are lines of sums,
+    writes, commands and taps.
     """
 
     def __init__(self, old, new):
         self.old = old
         self.new = new
         self.packets = self.queue = self.cpu = self.saved = self.lost = 0
-        self.replies = self.tx = 0
-        self.others = 0
+        self.replies = self.tx = self.numbers = self.others = 0
 
     def lines(self, quiet):
         """The lines of the comparison; `quiet` leaves out those of packets and replies."""
         for line in self._sums():
             self.others += 1
             yield line
-        for kind, lines in (("p", self._packets()), ("r", self._replies())):
-            for line in lines:
-                if not quiet:
-                    yield line
+        for line in chain(self._packets(), self._replies()):
+            if not quiet:
+                yield line
         for line in self._rest():
             self.others += 1
             yield line
@@ -90,41 +81,49 @@ class Comparison:
 
     def differ(self):
         """Whether anything differs, once `lines` was run through."""
-        return bool(self.packets or self.replies or self.others)
+        return bool(self.packets or self.replies or self.numbers or self.others)
 
     def _sums(self):
-        yield from _rows_by_number("queue", self.old.queues, self.new.queues)
-        yield from _rows_by_number("cpu", self.old.cpus, self.new.cpus)
-        yield from _rows_by_number("tx", self.old.tx, self.new.tx)
+        yield from _rows_of_sums("queue", self.old.queues, self.new.queues)
+        yield from _rows_of_sums("cpu", self.old.cpus, self.new.cpus)
+        yield from _rows_of_sums("tx", self.old.tx, self.new.tx)
+
+    def _changes(self, kind, before, after):
+        """The line of two rows that differ, or None where only their numbers do."""
+        if before is None or after is None:
+            return "%s %d is only in the %s" % (kind, (before or after).id,
+                                                "new" if before is None else "old")
+        changed = _route_changed(before, after)
+        if not changed:
+            self.numbers += 1
+            return None
+        return "%s %d %s" % (kind, before.id, ", ".join(changed))
 
     def _packets(self):
         for before, after in zip_longest(self.old.packets, self.new.packets):
-            if before == after:
+            line = None if before == after else self._changes("p", before, after)
+            if line is None:
                 continue
             self.packets += 1
-            if before is None or after is None:
-                yield "p %d arrived only in the %s" % (
-                    (before or after).id, "new" if before is None else "old")
-                continue
-            self.queue += before.q != after.q
-            self.cpu += before.cpu != after.cpu
-            self.saved += before.place == "drop" != after.place
-            self.lost += before.place != "drop" == after.place
-            yield _row_line("p", before, after)
+            if before is not None and after is not None:
+                self.queue += before.q != after.q
+                self.cpu += before.cpu != after.cpu
+                self.saved += before.place == "drop" != after.place
+                self.lost += before.place != "drop" == after.place
+            yield line
 
     def _replies(self):
         old = {row.id: row for row in self.old.replies}
         new = {row.id: row for row in self.new.replies}
         for number in sorted(old.keys() | new.keys()):
             before, after = old.get(number), new.get(number)
-            if before == after:
+            line = None if before == after else self._changes("r", before, after)
+            if line is None:
                 continue
             self.replies += 1
-            if before is None or after is None:
-                yield "r %d begun only in the %s" % (number, "new" if before is None else "old")
-                continue
-            self.tx += before.tx != after.tx
-            yield _row_line("r", before, after)
+            if before is not None and after is not None:
+                self.tx += before.tx != after.tx
+            yield line
 
     def _rest(self):
         writes = sum(old != new for old, new in zip_longest(self.old.writes, self.new.writes))
@@ -143,8 +142,10 @@ class Comparison:
                 "no longer dropped %d, newly dropped %d; drops %d -> %d"
                 % (self.packets, self.old.end.total, self.queue, self.cpu, self.saved, self.lost,
                    _drops(self.old), _drops(self.new)))
-        if self.replies:
+        if self.old.replies or self.new.replies:
             text += "; %d replies differ: other transmit queue %d" % (self.replies, self.tx)
+        if self.numbers:
+            text += "; %d more lines in other fields only" % self.numbers
         return text
 
 
