@@ -1,7 +1,7 @@
 """Draws a report: packets, drops and moves of each processor over the packet numbers.
 
-The packets are divided into as many cells as the picture has columns; with fewer packets than
-that, each has a cell of its own. Text and SVG show the same cells.
+The packets are divided into cells of one size, the smallest with which the picture has no more
+than so many columns; the last cell may have fewer packets.
 """
 
 from xml.etree import ElementTree
@@ -11,39 +11,42 @@ from . import report
 TEXT_CELLS = 64
 SVG_CELLS = 160
 SHADES = ".:-=+*#%@"
-CELL_WIDTH = 5
+WIDTH = 800
+WIDEST_CELL = 40
 ROW_HEIGHT = 40
 GAP = 8
 LEFT = 64
 RIGHT = 150
 TOP = 46
 PUT_COLOR = "#3366aa"
-LOST_COLOR = "#cc3333"
+DROP_COLOR = "#cc3333"
 MOVE_COLOR = "#222222"
 
 
 class Cells:
     """The counts of a report by cells. Lists have a number for each cell.
 
-    `offered` and `lost` are by processor, of those that some packet was sent to; `moves` are
-    packets whose flow left its processor, and `unsent` have no processor yet.
+    `size` is how many packets a cell has. `offered` and `dropped` are by processor, of those that
+    some packet was sent to; `moves` are packets whose flow left its processor, and `unsent` have
+    no processor yet.
     """
 
     def __init__(self, rep, most):
         self.packets = len(rep.packets)
         self.total = rep.end.total
-        self.count = min(most, self.packets)
+        self.size = max(-(-self.packets // most), 1)
+        self.count = -(-self.packets // self.size)
         self.offered = {}
-        self.lost = {}
+        self.dropped = {}
         self.moves = [0] * self.count
         self.unsent = [0] * self.count
         used = {packet.cpu for packet in rep.packets}
         for row in rep.cpus:
             if row.cpu in used:
                 self.offered[row.cpu] = [0] * self.count
-                self.lost[row.cpu] = [0] * self.count
+                self.dropped[row.cpu] = [0] * self.count
         for packet in rep.packets:
-            self._count_in(packet, packet.id * self.count // self.packets)
+            self._count_in(packet, packet.id // self.size)
         self.largest = max((max(counts) for counts in self.offered.values()), default=0)
 
     def _count_in(self, packet, cell):
@@ -51,13 +54,12 @@ class Cells:
             self.unsent[cell] += 1
             return
         self.offered[packet.cpu][cell] += 1
-        self.lost[packet.cpu][cell] += packet.place == "drop"
+        self.dropped[packet.cpu][cell] += packet.place == "drop"
         self.moves[cell] += packet.why in report.MOVES
 
     def bounds(self, cell):
         """The first and the last packet of a cell."""
-        return (-(-cell * self.packets // self.count),
-                -(-(cell + 1) * self.packets // self.count) - 1)
+        return cell * self.size, min((cell + 1) * self.size, self.packets) - 1
 
 
 def _shade(count, largest):
@@ -65,11 +67,11 @@ def _shade(count, largest):
     return SHADES[(count * len(SHADES) - 1) // largest] if count else " "
 
 
-def _lost_mark(lost, offered):
-    """x where more than half of a cell was lost, ' where fewer were."""
-    if not lost:
+def _drop_mark(dropped, offered):
+    """x if more than half of a cell's packets were dropped, ' if fewer were."""
+    if not dropped:
         return " "
-    return "x" if 2 * lost > offered else "'"
+    return "x" if 2 * dropped > offered else "'"
 
 
 def _text_row(label, marks, count):
@@ -82,19 +84,19 @@ def text(rep):
     for cpu, counts in cells.offered.items():
         yield _text_row("cpu %d" % cpu, [_shade(count, cells.largest) for count in counts],
                         sum(counts))
-    for cpu, counts in cells.lost.items():
+    for cpu, counts in cells.dropped.items():
         if any(counts):
-            marks = [_lost_mark(*pair) for pair in zip(counts, cells.offered[cpu])]
-            yield _text_row("lost %d" % cpu, marks, sum(counts))
+            marks = [_drop_mark(*pair) for pair in zip(counts, cells.offered[cpu])]
+            yield _text_row("drops %d" % cpu, marks, sum(counts))
     for label, mark, counts in (("moves", "^", cells.moves), ("no cpu", "?", cells.unsent)):
         if any(counts):
             yield _text_row(label, [mark if count else " " for count in counts], sum(counts))
     if cells.packets:
         last = str(cells.packets - 1)
         yield "packet   0" + last.rjust(max(cells.count - 1, len(last) + 1))
-        yield "a cell is %s; %s is %s in one, %s fewer, down to %s" % (
-            _amount(cells), SHADES[-1], _packets(cells.largest), SHADES[:-1][::-1], SHADES[0])
-    if cells.packets < cells.total:
+        yield "a column is %s; marks from %s to %s go up to %s on one cpu" % (
+            _packets(cells.size), SHADES[0], SHADES[-1], _packets(cells.largest))
+    if cells.packets < cells.total or not cells.total:
         yield "%d of %d packets arrived" % (cells.packets, cells.total)
 
 
@@ -102,10 +104,13 @@ def _packets(count):
     return "1 packet" if count == 1 else "%d packets" % count
 
 
-def _amount(cells):
-    """How many packets a cell has: `3 packets`, or `2 or 3 packets`."""
-    least, rest = divmod(cells.packets, cells.count)
-    return "%d or %d packets" % (least, least + 1) if rest else _packets(least)
+def _number(value):
+    """A length with two decimals at the most."""
+    return "%g" % round(value, 2)
+
+
+def _cell_width(cells):
+    return min(WIDTH / max(cells.count, 1), WIDEST_CELL)
 
 
 def _add(parent, tag, content=None, **attributes):
@@ -117,51 +122,55 @@ def _add(parent, tag, content=None, **attributes):
 
 
 def _bar(parent, cells, cpu, cell, bottom):
-    """The bar of a cell: accepted packets, and the lost ones on top of them in red."""
-    offered, lost = cells.offered[cpu][cell], cells.lost[cpu][cell]
+    """The bar of a cell: accepted packets, and the dropped ones on top of them in red."""
+    offered, dropped = cells.offered[cpu][cell], cells.dropped[cpu][cell]
     if not offered:
         return
     group = _add(parent, "g")
-    _add(group, "title", "packets %d to %d: %d on processor %d, %d of them lost"
-         % (cells.bounds(cell) + (offered, cpu, lost)))
+    _add(group, "title", "packets %d to %d: %d on cpu %d, %d of them dropped"
+         % (cells.bounds(cell) + (offered, cpu, dropped)))
+    width = _cell_width(cells)
     top = bottom
-    for count, color in ((offered - lost, PUT_COLOR), (lost, LOST_COLOR)):
+    for count, color in ((offered - dropped, PUT_COLOR), (dropped, DROP_COLOR)):
         if count:
             height = round(ROW_HEIGHT * count / cells.largest, 2)
             top = round(top - height, 2)
-            _add(group, "rect", x=LEFT + cell * CELL_WIDTH, y=top, width=CELL_WIDTH,
+            _add(group, "rect", x=_number(LEFT + cell * width), y=top, width=_number(width),
                  height=height, fill=color)
 
 
-def _row(parent, cells, cpu, bottom, width):
-    counts, lost = cells.offered[cpu], sum(cells.lost[cpu])
+def _row(parent, cells, cpu, bottom):
+    counts, dropped = cells.offered[cpu], sum(cells.dropped[cpu])
     _add(parent, "text", "cpu %d" % cpu, x=8, y=bottom - 4)
-    _add(parent, "line", x1=LEFT, y1=bottom, x2=LEFT + width, y2=bottom, stroke="#bbbbbb")
+    _add(parent, "line", x1=LEFT, y1=bottom, x2=LEFT + WIDTH, y2=bottom, stroke="#bbbbbb")
     for cell in range(cells.count):
         _bar(parent, cells, cpu, cell, bottom)
-    _add(parent, "text", _packets(sum(counts)), x=LEFT + width + 8, y=bottom - 18)
-    if lost:
-        _add(parent, "text", "%d lost" % lost, x=LEFT + width + 8, y=bottom - 4, fill=LOST_COLOR)
+    _add(parent, "text", _packets(sum(counts)), x=LEFT + WIDTH + 8, y=bottom - 18)
+    if dropped:
+        _add(parent, "text", "%d dropped" % dropped, x=LEFT + WIDTH + 8, y=bottom - 4,
+             fill=DROP_COLOR)
 
 
-def _moves(parent, cells, bottom, width):
+def _moves(parent, cells, bottom):
     """Marks under the rows for each cell in which some flow left its processor."""
     _add(parent, "text", "moves", x=8, y=bottom)
-    _add(parent, "text", str(sum(cells.moves)), x=LEFT + width + 8, y=bottom)
+    _add(parent, "text", str(sum(cells.moves)), x=LEFT + WIDTH + 8, y=bottom)
+    width = _cell_width(cells)
     for cell, count in enumerate(cells.moves):
         if count:
-            mark = _add(parent, "rect", x=LEFT + cell * CELL_WIDTH, y=bottom - 10,
-                        width=CELL_WIDTH, height=10, fill=MOVE_COLOR)
+            mark = _add(parent, "rect", x=_number(LEFT + cell * width), y=bottom - 10,
+                        width=_number(width), height=10, fill=MOVE_COLOR)
             _add(mark, "title", "packets %d to %d: %d moves" % (cells.bounds(cell) + (count,)))
 
 
-def _axis(parent, cells, bottom, width):
-    """Packet numbers under the picture: the first one, the last one, and quarters between."""
-    for quarter in range(5):
-        at = LEFT + round(width * quarter / 4)
-        number = max(cells.packets - 1, 0) * quarter // 4
+def _axis(parent, cells, bottom):
+    """The number of the first packet of some cells, and of the last cell, under the picture."""
+    width = _cell_width(cells)
+    for cell in sorted({(cells.count - 1) * part // 8 for part in range(9)} if cells.count else ()):
+        at = _number(LEFT + (cell + 0.5) * width)
         _add(parent, "line", x1=at, y1=bottom, x2=at, y2=bottom + 5, stroke="#222222")
-        _add(parent, "text", str(number), x=at, y=bottom + 18, text_anchor="middle")
+        _add(parent, "text", str(cells.bounds(cell)[0]), x=at, y=bottom + 18,
+             text_anchor="middle")
     _add(parent, "text", "packet", x=8, y=bottom + 18)
 
 
@@ -172,29 +181,26 @@ def _heading(root, cells, title):
     _add(root, "title", text_of)
     _add(root, "rect", width="100%", height="100%", fill="#ffffff")
     _add(root, "text", text_of, x=8, y=18, font_weight="bold")
-    for x, color, label in ((LEFT, PUT_COLOR, "accepted"), (LEFT + 100, LOST_COLOR, "lost")):
+    for x, color, label in ((LEFT, PUT_COLOR, "accepted"), (LEFT + 100, DROP_COLOR, "dropped")):
         _add(root, "rect", x=x, y=26, width=10, height=10, fill=color)
         _add(root, "text", label, x=x + 14, y=35)
     if cells.packets:
-        _add(root, "text", "a column is %s; full height is %s" % (_amount(cells),
-                                                                 _packets(cells.largest)),
-             x=LEFT + 180, y=35)
+        _add(root, "text", "a column is %s; full height is %s of it on one cpu"
+             % (_packets(cells.size), _packets(cells.largest)), x=LEFT + 200, y=35)
 
 
 def svg(rep, title):
     """The picture as the text of an SVG document; `title` is any text that XML allows."""
     cells = Cells(rep, SVG_CELLS)
-    width = max(cells.count, 60) * CELL_WIDTH
-    rows = len(cells.offered)
     moved = 24 if any(cells.moves) else 0
-    bottom = TOP + rows * (ROW_HEIGHT + GAP) + moved
+    bottom = TOP + len(cells.offered) * (ROW_HEIGHT + GAP) + moved
     root = ElementTree.Element("svg", {
         "xmlns": "http://www.w3.org/2000/svg", "font-family": "sans-serif", "font-size": "12",
-        "width": str(LEFT + width + RIGHT), "height": str(bottom + 28)})
+        "width": str(LEFT + WIDTH + RIGHT), "height": str(bottom + 28)})
     _heading(root, cells, title)
     for place, cpu in enumerate(cells.offered):
-        _row(root, cells, cpu, TOP + (place + 1) * (ROW_HEIGHT + GAP), width)
+        _row(root, cells, cpu, TOP + (place + 1) * (ROW_HEIGHT + GAP))
     if moved:
-        _moves(root, cells, bottom - 4, width)
-    _axis(root, cells, bottom, cells.count * CELL_WIDTH)
+        _moves(root, cells, bottom - 4)
+    _axis(root, cells, bottom)
     return ElementTree.tostring(root, encoding="unicode") + "\n"
