@@ -1,4 +1,4 @@
-"""What all companion programs share: words, notes, refusals, statuses, input, and the program steer.
+"""What all companion programs share: words, notes, refusals, statuses, input, and steer itself.
 
 Statuses: 0 done, 1 two things differ, 2 wrong words, 3 refused with the value and the reason,
 4 a file that is not of the wanted kind.
@@ -28,12 +28,13 @@ class WrongWords(Exception):
 
 
 class Refused(Exception):
-    """What was read cannot be used: status 3. Refused(source, reason), the value in the reason."""
+    """What was read cannot be used: status 3. Refused(source, reason, ..), with the values."""
 
-    def __init__(self, source, reason):
-        super().__init__(source, reason)
+    def __init__(self, source, reason, *reasons):
+        super().__init__(source, reason, *reasons)
         self.source = source
         self.reason = reason
+        self.reasons = (reason,) + reasons
 
     def __str__(self):
         return "%s: refused: %s" % (self.source, self.reason)
@@ -115,7 +116,8 @@ def _guarded(main):
         say("%s: %s" % (name, fault))
         return WRONG_WORDS
     except Refused as fault:
-        say("%s: %s" % (name, fault))
+        for reason in fault.reasons:
+            say("%s: %s: refused: %s" % (name, fault.source, reason))
         return REFUSED
     except NotThatFile as fault:
         say("%s: %s" % (name, fault))
