@@ -3,6 +3,10 @@
 import argparse
 import math
 
+from . import limits
+
+MOST_SEEDS = 100000
+
 
 def whole_number(least, most=None):
     """The type of a whole number from `least` to `most`, where that is not None."""
@@ -26,6 +30,26 @@ def positive_number(text):
     if not 0 < number < math.inf:
         raise argparse.ArgumentTypeError("%s is not a number above 0" % text)
     return number
+
+
+def number_text(number):
+    """A number as short as can be that reads as the same one, a whole one by its digits."""
+    return "%d" % number if number == int(number) else repr(number)
+
+
+def seeds(text):
+    """The type of N, which is the seeds 1 to N, or A-B, which is the seeds A to B."""
+    least, dash, most = text.partition("-")
+    read = whole_number(0 if dash else 1, limits.MOST_NUMBER)
+    first, last = (read(least), read(most)) if dash else (1, read(least))
+    if not 0 <= last - first < MOST_SEEDS:
+        raise argparse.ArgumentTypeError("%s is not 1 to %d seeds" % (text, MOST_SEEDS))
+    return range(first, last + 1)
+
+
+def rates(text):
+    """The type of A,B,..: positive numbers, each once."""
+    return list(dict.fromkeys(positive_number(part) for part in text.split(",")))
 
 
 def own_rate(text):

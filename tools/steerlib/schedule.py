@@ -16,9 +16,10 @@ import re
 import shutil
 import tempfile
 from collections import deque, namedtuple
+from itertools import accumulate
 
 from . import capture as captures
-from . import cli, limits
+from . import cli, flows, limits
 from . import plan as plans
 
 MOST_ROUNDS = 500
@@ -39,9 +40,6 @@ _PLACE = re.compile(
     rb"^p \d+ q (\d+) via \w+ class \S+ want \S+ head \S+ tail \S+ cpu (\d+) why \w+ "
     rb"at (?:(drop) \d+ \d+ \d+( flow)?[ \d]*|\d+) app (\d+) ", re.MULTILINE)
 
-_FLOW = re.compile(rb"^packet \d+ (.+) hash ", re.MULTILINE)
-
-
 def places_of(report):
     """The Places that the bytes of a report tell, of packets that were all put."""
     queues, cpus, apps = [], [], []
@@ -61,7 +59,7 @@ def places_of(report):
 def times_of(name, source):
     """The time of each packet that steer reads in the capture `name`, in the order of the file.
 
-    Messages name `source`.
+    Messages name `source`; what is odd about the times is noted.
     """
     times = []
     passed_over = 0
@@ -78,6 +76,7 @@ def times_of(name, source):
         cli.note("%d obsolete packet blocks have no step, since steer passes them over; steer-cap "
                  "makes packets of them" % passed_over)
     merged.say()
+    _say_order(times)
     return times
 
 
@@ -94,26 +93,21 @@ def _check(frame, number, source):
                           % limits.MOST_PACKETS)
 
 
-def arrivals_of(times, speed):
-    """The nanoseconds from the first packet to each, divided by `speed`.
-
-    A packet that stands in the file before its time arrives with the one before it.
-    """
-    early = 0
-    arrivals = []
-    last = first = times[0] if times else 0
-    for time in times:
-        if time < last:
-            early += 1
-        else:
-            last = time
-        arrivals.append((last - first) / speed)
+def _say_order(times):
+    early = sum(time < before for time, before in zip(times[1:], accumulate(times, max)))
     if early:
         cli.note("%d packets stand behind one of a later time; the order of the file is kept"
                  % early)
-    if len(arrivals) > 1 and not arrivals[-1]:
-        cli.note("all packets have one time, so all arrive at once")
-    return arrivals
+    if times[1:] and max(times) == times[0]:
+        cli.note("no packet is later than the first, so all arrive at once")
+
+
+def arrivals_of(times, speed):
+    """The nanoseconds from the first packet to each, divided by `speed`.
+
+    A packet that stands in the file behind one of a later time arrives with that one.
+    """
+    return [(latest - times[0]) / speed for latest in accumulate(times, max)]
 
 
 class _Processors:
@@ -234,15 +228,17 @@ def agree(arrivals, guess, service, replay, source, say=None):
 class Replays:
     """Replays of one plan's settings over one capture, with one list of steps after another.
 
-    `plan` and `capture` are names of files that steer can read; messages name `shown_capture`.
-    `folder` is one that may be written into: the report of the last replay is its file `report`.
+    `settings` are the plan as plan.read_plan gives it, `capture` is a file that steer can read;
+    messages name them `source` and `shown_capture`. `folder` is one that may be written into: the
+    report of the last replay is its file `report`.
     """
 
-    def __init__(self, plan, capture, shown_capture, folder):
-        self.source = cli.source_name(plan)
-        self.settings = plans.read_plan(plan)
+    def __init__(self, settings, source, capture, shown_capture, folder):
+        self.settings = settings
+        self.source = source
         self.capture = capture
         self.shown_capture = shown_capture
+        self.folder = folder
         self.plan = os.path.join(folder, "plan.json")
         self.report = os.path.join(folder, "report")
 
@@ -268,11 +264,13 @@ class Replays:
             return places_of(report.read())
 
 
-def flow_numbers(capture):
+def flow_numbers(capture, folder):
     """The flow number of each packet of a capture, as `record` takes it."""
+    name = os.path.join(folder, "hash")
+    with open(name, "wb") as out:
+        cli.run_steer(["hash", capture], out)
     numbers = {}
-    return [numbers.setdefault(flow, len(numbers))
-            for flow in _FLOW.findall(cli.run_steer(["hash", capture]))]
+    return [numbers.setdefault(flow, len(numbers)) for flow in flows.read_file(name)]
 
 
 @contextlib.contextmanager
@@ -317,23 +315,22 @@ def service_of(settings, load, flows):
 def timed_steps(replays, times, load, say=None):
     """The Agreed steps of a plan (its Replays) for packets of these times under a load."""
     guess = replays.places(["sweep"])
-    flows = flow_numbers(replays.capture) if load.reads else None
-    service = service_of(replays.settings, load, flows)
+    numbers = flow_numbers(replays.capture, replays.folder) if load.reads else None
+    service = service_of(replays.settings, load, numbers)
     arrivals = arrivals_of(times, load.speed)
     return agree(arrivals, guess, service, replays.places, replays.shown_capture, say)
 
 
-def say_about(replays, load):
-    """Notes what of a plan does not show in steps by times."""
-    settings = replays.settings
+def say_about(settings, source, load):
+    """Notes what of a plan, which messages name `source`, does not show in steps by times."""
     steps = settings.get("steps")
     if isinstance(steps, list):
         commands = sum(isinstance(step, str) and step.split(" ")[0] in COMMANDS for step in steps)
         if commands:
             cli.note("%s: its steps are replaced, and with them %d commands"
-                     % (replays.source, commands))
+                     % (source, commands))
     elif isinstance(steps, dict):
-        cli.note("%s: its steps of a seed are replaced" % replays.source)
+        cli.note("%s: its steps of a seed are replaced" % source)
     if settings.get("sock") and not load.reads:
         cli.note("%s: it has a table of readers (sock), and without --read no reader is ever seen, "
-                 "so that RFS moves no flow" % replays.source)
+                 "so that RFS moves no flow" % source)
