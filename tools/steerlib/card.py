@@ -101,7 +101,7 @@ def _version_kinds(version, fields, findings):
     return bits
 
 
-def _kinds(snapshot, findings):
+def kinds(snapshot, findings):
     """The hash kinds, or None where 63 is taken."""
     told = {}
     for name in ethtool.KINDS:
@@ -118,15 +118,15 @@ def _kinds(snapshot, findings):
     if not any(told.values()):
         findings.note("the card says that it hashes nothing; kinds 63 taken")
         return None
-    kinds = 0
+    bits = 0
     for version in ("4", "6"):
-        kinds |= _version_kinds(version, {name: fields for name, fields in told.items()
+        bits |= _version_kinds(version, {name: fields for name, fields in told.items()
                                           if name.endswith(version)}, findings)
     for name in ethtool.KINDS:
         if name not in told:
             findings.note("no hash fields of %s in `ethtool -n`; taken as hashed without ports"
                           % name)
-    return kinds
+    return bits
 
 
 def _warn(snapshot, findings):
@@ -163,7 +163,7 @@ def settings(snapshot, queues, nearest, findings):
     _function(said, findings)
     told = {"key": _key(said, findings)}
     table = _table(said, queues, nearest, findings)
-    told["kinds"] = _kinds(snapshot, findings)
+    told["kinds"] = kinds(snapshot, findings)
     told["reta"] = table if table != even(queues) else None
     _warn(snapshot, findings)
     return {name: value for name, value in told.items() if value is not None}, table
