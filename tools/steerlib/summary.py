@@ -66,6 +66,7 @@ def _replies(rep):
              tables.bar(row.accepted, largest)) for row in rep.tx if row.accepted]
     yield ""
     yield from tables.aligned(("tx", "replies", "share", ""), rows)
+    yield from _without("tx", [row.tx for row in rep.tx if not row.accepted])
 
 
 def _flows(rep, names):
