@@ -15,6 +15,8 @@ SAME = ("sum 0 of 3 packets differ: other queue 0, other processor 0, no longer 
 
 def turned(line):
     """A line of a comparison as it is when the reports change places."""
+    if line.startswith("c "):
+        return re.sub(r"^(c \d+) (.*) -> (.*)$", r"\1 \3 -> \2", line)
     line = re.sub(r"(\S+) -> ([^\s,;]+)", r"\2 -> \1", line)
     line = re.sub(r"\(([+-])(\d+)\)",
                   lambda found: "(%s%s)" % ("-" if found[1] == "+" else "+", found[2]), line)
@@ -90,8 +92,7 @@ class Diff(unittest.TestCase):
             write_capture(capture, 200, 40, 3)
             found = []
             for seed in range(PLANS):
-                plan = dict(random_plan(seed), steps={"seed": seed, "count": 400})
-                found.append(report.read_file(folder.replay(plan, capture)))
+                found.append(report.read_file(folder.replay(random_plan(seed), capture)))
         for old, new in zip(found, found[1:]):
             there, back = lines_of(old, new), lines_of(new, old)
             self.assertEqual([turned(line) for line in there], back)
