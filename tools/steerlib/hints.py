@@ -87,8 +87,8 @@ def _of_word(rest, before):
 _LITERALS = {"True": "true", "False": "false", "None": "null"}
 
 
-def of_json(text, offset):
-    """What may have been meant where the JSON goes wrong at `offset`, or the empty text."""
+def of_json(text, offset, reason):
+    """What may have been meant where the JSON goes wrong for this reason, or the empty text."""
     rest, before = text[offset:offset + 200], text[max(0, offset - 200):offset].rstrip()
     line = before.split("\n")[-1] + rest.split("\n")[0]
     if text.startswith("\ufeff"):
@@ -109,7 +109,7 @@ def of_json(text, offset):
     word = _of_word(rest, before)
     if word:
         return word
-    if rest[:1] in ('"', "{", "[") or rest[:1].isdigit():
+    if reason.startswith("neither a comma") and rest[:1] in tuple('"{[0123456789'):
         return "a comma may be missing before it"
     if re.match(r"[A-Za-z_]\w*\s*:", rest):
         return "keys stand in double quotation marks"

@@ -13,7 +13,8 @@ from . import limits
 
 _BLANKS = re.compile(r"[ \t\n\r]*")
 _PLAIN = re.compile(r'"([^"\\\x00-\x1f]*)"')
-_MEMBER = re.compile(r'[ \t\n\r]*("[^"\\\x00-\x1f]*")[ \t\n\r]*,')
+_MEMBER = re.compile(
+    r'[ \t\n\r]*("([^"\\\x00-\x1f]*)"|0|[1-9][0-9]{0,17})[ \t\n\r]*,')
 _RUN = re.compile(r'[^"\\\x00-\x1f]*')
 _NUMERAL = re.compile(r"-?(?:0|[1-9][0-9]*)(\.[0-9]+)?([eE][-+]?[0-9]+)?")
 _HEXADECIMAL = re.compile(r"[0-9a-fA-F]{4}")
@@ -140,7 +141,8 @@ def _list(text, offset, depth):
     while True:
         found = _MEMBER.match(text, offset)
         while found:
-            read.values.append(sys.intern(found.group(1)[1:-1]))
+            words = found.group(2)
+            read.values.append(int(found.group(1)) if words is None else sys.intern(words))
             read.starts.append(found.start(1))
             offset = found.end()
             found = _MEMBER.match(text, offset)

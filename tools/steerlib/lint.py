@@ -184,6 +184,7 @@ class _Judge:
         if len(value.values) > limits.MOST_STEPS:
             self.say(offset, "steps", "%d steps, and a plan has at most %d" % (
                 len(value.values), limits.MOST_STEPS))
+            return
         judged = {}
         for i, text in enumerate(value.values):
             if type(text) is not str:
@@ -236,7 +237,7 @@ def judge(data):
     try:
         value, offset = jsontext.parse(text)
     except jsontext.Fault as fault:
-        hint = hints.of_json(text, fault.offset)
+        hint = hints.of_json(text, fault.offset, fault.reason)
         return text, None, [Fault(fault.offset, None,
                                   fault.reason + ("; " + hint if hint else ""))], []
     walk = _Judge()

@@ -7,9 +7,9 @@ from . import processors
 
 FIRST_LINE = "steer-snap 1"
 _IRQ = re.compile(r"irq ([0-9]{1,9}) (\S+) (\S+) (.*)")
-_QUEUE = re.compile(r"(rx|tx) ([0-9]{1,6}) (rps_cpus|rps_flow_cnt|xps_cpus|xps_rxqs) ?(.*)")
-_FACT = re.compile(r"(cpus|sysctl) ([a-z_]+) ?(.*)")
-_LINE = re.compile(r"(dev|kernel|taken) ?(.*)")
+_QUEUE = re.compile(r"(rx|tx) ([0-9]{1,6}) (rps_cpus|rps_flow_cnt|xps_cpus|xps_rxqs)(?: (.*))?")
+_FACT = re.compile(r"(cpus|sysctl) ([a-z_]+)(?: (.*))?")
+_LINE = re.compile(r"(dev|kernel|taken)(?: (.*))?")
 
 
 class Interrupt:
@@ -79,7 +79,7 @@ def _read_line(snapshot, line, at):
     found = _QUEUE.fullmatch(line)
     if found:
         queue = snapshot.queues[found.group(1)].setdefault(int(found.group(2)), {})
-        queue[found.group(3)] = found.group(4)
+        queue[found.group(3)] = found.group(4) or ""
         return
     found = _IRQ.fullmatch(line)
     if found:
@@ -90,14 +90,14 @@ def _read_line(snapshot, line, at):
         return
     found = _FACT.fullmatch(line)
     if found:
-        snapshot.facts[found.group(1), found.group(2)] = found.group(3)
+        snapshot.facts[found.group(1), found.group(2)] = found.group(3) or ""
         return
     found = _LINE.fullmatch(line)
     if not found:
         raise snapshot.refused("line %d is nothing that steer-snap writes: `%s`"
                                % (at, line[:60]))
     if found.group(1) == "dev":
-        snapshot.device = found.group(2)
+        snapshot.device = found.group(2) or ""
 
 
 def _check_whole(snapshot):

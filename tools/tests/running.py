@@ -1,0 +1,60 @@
+"""What the tests of the companions share: running a program, samples, and steer as the judge."""
+
+import os
+import subprocess
+import sys
+
+TESTS = os.path.dirname(os.path.abspath(__file__))
+TOOLS = os.path.dirname(TESTS)
+TOP = os.path.dirname(TOOLS)
+sys.path.insert(0, TOOLS)
+
+_RELEASED = os.path.join(TOP, "release", "steer")
+# The program in release/ is asked where none is named, since steer.sh takes ten times as long.
+STEER = os.environ.get("STEER") or (
+    _RELEASED if os.access(_RELEASED, os.X_OK) else os.path.join(TOP, "steer.sh"))
+ENVIRONMENT = dict(os.environ, STEER=STEER)
+
+
+def sample(*parts):
+    """The path of a sample."""
+    return os.path.join(TESTS, "samples", *parts)
+
+
+def sample_text(*parts):
+    with open(sample(*parts), encoding="utf-8") as stream:
+        return stream.read()
+
+
+def example(name):
+    return os.path.join(TOP, "examples", name)
+
+
+def run(program, *words, data=None, environment=None):
+    """Status, standard output and standard error of a program of tools/ with these words.
+
+    `data` is its standard input, as text or bytes.
+    """
+    if isinstance(data, str):
+        data = data.encode("utf-8")
+    ended = subprocess.run([os.path.join(TOOLS, program)] + list(words), input=data or b"",
+                           stdout=subprocess.PIPE, stderr=subprocess.PIPE,
+                           env=environment or ENVIRONMENT)
+    return ended.returncode, ended.stdout.decode("utf-8"), ended.stderr.decode("utf-8")
+
+
+def steer(*words):
+    """Status, standard output and standard error of steer, as text."""
+    ended = subprocess.run([STEER] + list(words), stdin=subprocess.DEVNULL,
+                           stdout=subprocess.PIPE, stderr=subprocess.PIPE)
+    return ended.returncode, ended.stdout.decode("utf-8"), ended.stderr.decode("utf-8")
+
+
+def verdict(folder, name, data):
+    """Status and message of `steer replay` for a plan of these bytes, over three packets."""
+    path = os.path.join(folder, name)
+    with open(path, "wb") as stream:
+        stream.write(data)
+    status, _, message = steer("replay", path, example("three.pcap"))
+    os.remove(path)
+    return status, message.strip()
