@@ -56,6 +56,9 @@ def _queues(rep):
     yield ""
     yield from tables.aligned(("queue", "packets", "share", ""), rows)
     yield from _without("queue", [row.queue for row in rep.queues if not row.arrived])
+    filtered = sum(packet.via == "filter" for packet in rep.packets)
+    if filtered:
+        yield "by a filter of accelerated RFS: %d packets" % filtered
 
 
 def _replies(rep):

@@ -5,17 +5,17 @@ import os
 import random
 import struct
 import subprocess
-import sys
 import tempfile
+from collections import namedtuple
 
-TESTS = os.path.dirname(os.path.abspath(__file__))
-TOOLS = os.path.dirname(TESTS)
-EXAMPLES = os.path.join(os.path.dirname(TOOLS), "examples")
+import running
+from running import example
 
-if TOOLS not in sys.path:
-    sys.path.insert(0, TOOLS)
+from steerlib import cli
 
-from steerlib import cli  # noqa: E402
+os.environ.setdefault("STEER", running.STEER)
+
+Ended = namedtuple("Ended", "returncode stdout stderr")
 
 REPLIED = b"""steer 1
 p 0 q 0 via reta class - want - head - tail - cpu 1 why plain at 1 app 0 in 1 place inbox
@@ -38,10 +38,6 @@ depth cpu 1 at 3
 end 3 of 3
 """
 """The report with replies that docs/formats.md shows, where it was worked out."""
-
-
-def example(name):
-    return os.path.join(EXAMPLES, name)
 
 
 def frame(flow):
@@ -148,21 +144,21 @@ class Folder(tempfile.TemporaryDirectory):
         return self.write(name, cli.run_steer(["replay", plan_path, capture]))
 
 
-def run(program, *words, data=b"", **keywords):
-    """Runs a program of tools/; the ended process, with its output and messages as text."""
-    command = [sys.executable, os.path.join(TOOLS, program)] + list(words)
-    ended = subprocess.run(command, input=data, stdout=subprocess.PIPE, stderr=subprocess.PIPE,
-                           timeout=60, **keywords)
-    ended.stdout = ended.stdout.decode()
-    ended.stderr = ended.stderr.decode()
-    return ended
+def run(program, *words, data=b""):
+    """A program of tools/ that has ended: its status, output and messages."""
+    return Ended(*running.run(program, *words, data=data))
+
+
+def replayed(plan, capture):
+    """The report of two of the examples, as bytes."""
+    return cli.run_steer(["replay", example(plan + ".json"), example(capture + ".pcap")])
 
 
 def run_closed(program, *words):
     """The status and the messages of a program whose output nobody reads."""
     reading, writing = os.pipe()
     os.close(reading)
-    command = [sys.executable, os.path.join(TOOLS, program)] + list(words)
+    command = [os.path.join(running.TOOLS, program)] + list(words)
     ended = subprocess.run(command, stdin=subprocess.DEVNULL, stdout=writing,
                            stderr=subprocess.PIPE, timeout=60)
     os.close(writing)

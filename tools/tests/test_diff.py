@@ -4,9 +4,9 @@ import io
 import re
 import unittest
 
-from reporting import REPLIED, Folder, example, random_plan, run, run_closed, write_capture
+from reporting import REPLIED, Folder, random_plan, replayed, run, run_closed, write_capture
 
-from steerlib import cli, comparison, report
+from steerlib import comparison, report
 
 PLANS = 8
 SAME = ("sum 0 of 3 packets differ: other queue 0, other processor 0, no longer dropped 0, "
@@ -36,9 +36,7 @@ class Diff(unittest.TestCase):
     def test_the_examples_of_two_masks(self):
         """The sums are those that grep counts in the two reports."""
         with Folder() as folder:
-            paths = [folder.write(name, cli.run_steer(
-                ["replay", example(name + ".json"), example("web.pcap")]))
-                for name in ("rps", "rps-wide")]
+            paths = [folder.write(name, replayed(name, "web")) for name in ("rps", "rps-wide")]
             ended = run("steer-diff", "-q", *paths)
             with open(paths[0]) as one, open(paths[1]) as two:
                 old = [line.split() for line in one if line.startswith("p ")]

@@ -5,9 +5,9 @@ import io
 import json
 import unittest
 
-from reporting import REPLIED, Folder, example, random_plan, run, run_closed, write_capture
+from reporting import REPLIED, Folder, random_plan, replayed, run, run_closed, write_capture
 
-from steerlib import cli, report, tables
+from steerlib import report, tables
 
 PLANS = 12
 
@@ -43,8 +43,7 @@ class Rows(unittest.TestCase):
 
     def test_a_drop_and_commands(self):
         with Folder() as folder:
-            path = folder.write("report", cli.run_steer(
-                ["replay", example("three.json"), example("three.pcap")]))
+            path = folder.write("report", replayed("three", "three"))
             lines = run("steer-rows", "csv", "p", path).stdout.splitlines()
         self.assertEqual(lines[0], "id,q,via,class,want,head,tail,cpu,why,at,drop,drop_accepted,"
                          "drop_pulled,flow_offers,app,inbox,place")

@@ -2,7 +2,7 @@
 
 import unittest
 
-from reporting import REPLIED, Folder, example, run, run_closed
+from reporting import REPLIED, Folder, example, replayed, run, run_closed
 
 from steerlib import cli, flows, tables
 
@@ -44,10 +44,9 @@ class Top(unittest.TestCase):
         ended = run("steer-top", "-", data=REPLIED)
         self.assertEqual((ended.stdout, ended.stderr, ended.returncode), (REPLIED_SCREEN, "", 0))
         with Folder() as folder:
-            cli_report = folder.write("report", cli.run_steer(
-                ["replay", example("three.json"), example("three.pcap")]))
+            path = folder.write("report", replayed("three", "three"))
             names = folder.write("hash", cli.run_steer(["hash", example("three.pcap")]))
-            ended = run("steer-top", cli_report, names)
+            ended = run("steer-top", path, names)
         self.assertEqual((ended.stdout, ended.stderr, ended.returncode), (THREE_SCREEN, "", 0))
 
     def test_what_is_under_way_and_what_was_not_done(self):
@@ -81,10 +80,13 @@ class Top(unittest.TestCase):
         self.assertEqual(shown.splitlines()[0],
                          "packets 3 of 3   dropped 2 (66.7%), 1 of them by the flow limit")
 
+    def test_packets_by_a_filter_are_counted(self):
+        shown = run("steer-top", "-", data=REPLIED.replace(b"via reta", b"via filter", 2)).stdout
+        self.assertIn("\nby a filter of accelerated RFS: 2 packets\n", shown)
+
     def test_ten_flows_and_the_rest(self):
         with Folder() as folder:
-            path = folder.write("report", cli.run_steer(
-                ["replay", example("rps.json"), example("web.pcap")]))
+            path = folder.write("report", replayed("rps", "web"))
             names = folder.write("hash", cli.run_steer(["hash", example("web.pcap")]))
             lines = run("steer-top", path, names).stdout.splitlines()
             self.check_flow(path, names, lines)
