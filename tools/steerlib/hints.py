@@ -106,13 +106,13 @@ def of_json(text, offset, reason):
         return "a number begins with a digit"
     if re.search(r"(^|[^0-9.])0$", before) and rest[:1].isdigit():
         return "a number has no leading zeros"
+    if re.match(r"[A-Za-z_]\w*\s*:", rest):
+        return "keys stand in double quotation marks"
     word = _of_word(rest, before)
     if word:
         return word
     if reason.startswith("neither a comma") and rest[:1] in tuple('"{[0123456789'):
         return "a comma may be missing before it"
-    if re.match(r"[A-Za-z_]\w*\s*:", rest):
-        return "keys stand in double quotation marks"
     if not text.lstrip().startswith(("{", "[")):
         return "a plan is JSON and begins with `{`"
     return ""

@@ -1,5 +1,6 @@
 """What the tests of the companions share: running a program, samples, and steer as the judge."""
 
+import concurrent.futures
 import os
 import subprocess
 import sys
@@ -40,7 +41,14 @@ def run(program, *words, data=None, environment=None):
     ended = subprocess.run([os.path.join(TOOLS, program)] + list(words), input=data or b"",
                            stdout=subprocess.PIPE, stderr=subprocess.PIPE,
                            env=environment or ENVIRONMENT)
-    return ended.returncode, ended.stdout.decode("utf-8"), ended.stderr.decode("utf-8")
+    return (ended.returncode, ended.stdout.decode("utf-8", "replace"),
+            ended.stderr.decode("utf-8"))
+
+
+def run_all(calls):
+    """The results of run for a list of words, each with its program first, several at once."""
+    with concurrent.futures.ThreadPoolExecutor(os.cpu_count()) as pool:
+        return list(pool.map(lambda words: run(*words), calls))
 
 
 def steer(*words):

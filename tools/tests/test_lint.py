@@ -71,7 +71,7 @@ MEANT = (
     ('{%s, @"kind": 9}', "kind", "unknown key, is it `kinds`?"),
     ('{%s, "key": @"6d:5a"}', "key", "no text of 80 hexadecimal digits; these are 4"),
     ('{%s, "reta": @[0]}', "reta", "1 members, and it has 128"),
-    ('{%s, "queues": [@{"home": 0}]}', "queues/0/mask", "missing"),
+    ('{%s, "queues": [@{"home": 0, "flows": 1}]}', "queues/0/mask", "missing"),
     ('["cpus"@%s', None, "neither a comma nor `]`"),
     ('{%s, "a": @f0}', None, "if `f0` is a mask, that is [4, 5, 6, 7]"),
     ('{%s, "a": 0@xf0}', None, "if `0xf0` is a mask, that is [4, 5, 6, 7]"),
