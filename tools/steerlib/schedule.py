@@ -323,14 +323,10 @@ def timed_steps(replays, times, load, say=None):
 
 def say_about(settings, source, load):
     """Notes what of a plan, which messages name `source`, does not show in steps by times."""
-    steps = settings.get("steps")
-    if isinstance(steps, list):
-        commands = sum(isinstance(step, str) and step.split(" ")[0] in COMMANDS for step in steps)
-        if commands:
-            cli.note("%s: its steps are replaced, and with them %d commands"
-                     % (source, commands))
-    elif isinstance(steps, dict):
-        cli.note("%s: its steps of a seed are replaced" % source)
+    steps = settings["steps"] if isinstance(settings["steps"], list) else []
+    commands = sum(step.split(" ")[0] in COMMANDS for step in steps)
+    if commands:
+        cli.note("%s: its steps are replaced, and with them %d commands" % (source, commands))
     if settings.get("sock") and not load.reads:
         cli.note("%s: it has a table of readers (sock), and without --read no reader is ever seen, "
                  "so that RFS moves no flow" % source)
