@@ -12,6 +12,7 @@ import shutil
 import signal
 import subprocess
 import sys
+import zlib
 
 DONE, DIFFERS, WRONG_WORDS, REFUSED, NOT_THAT_FILE = 0, 1, 2, 3, 4
 
@@ -160,12 +161,13 @@ def run(main):
 
 
 class _Guarded(io.RawIOBase):
-    """A stream whose faults of reading name their source."""
+    """A stream whose faults of reading name their source; closing it closes `plain` too."""
 
-    def __init__(self, stream, source):
+    def __init__(self, stream, source, plain):
         super().__init__()
         self.stream = stream
         self.source = source
+        self.plain = plain
 
     def readable(self):
         return True
@@ -175,17 +177,16 @@ class _Guarded(io.RawIOBase):
             data = self.stream.read(len(buffer))
         except EOFError:
             raise NotThatFile(self.source, "the gz data is cut short") from None
-        except Exception as fault:
-            if isinstance(fault, (OSError, ValueError)) or type(fault).__name__ == "error":
-                reason = getattr(fault, "strerror", None) or str(fault)
-                raise NotThatFile(self.source, reason) from None
-            raise
+        except (OSError, ValueError, zlib.error) as fault:
+            reason = getattr(fault, "strerror", None) or str(fault)
+            raise NotThatFile(self.source, reason) from None
         buffer[:len(data)] = data
         return len(data)
 
     def close(self):
         if not self.closed:
             self.stream.close()
+            self.plain.close()
         super().close()
 
 
@@ -197,9 +198,8 @@ def source_name(name):
 def open_bytes(name, unpacked=True):
     """A buffered binary stream of the file `name`; `-` is standard input; gz is opened through.
 
-    With `unpacked` false a gz file is given as it is.
-
-    Raises NotThatFile where it cannot be opened, and the stream does where it cannot be read.
+    With `unpacked` false a gz file is given as it is. Raises NotThatFile where the file cannot
+    be opened, and the stream does where it cannot be read.
     """
     source = source_name(name)
     try:
@@ -212,9 +212,9 @@ def open_bytes(name, unpacked=True):
         start = plain.peek(2)[:2]
     except (OSError, ValueError, AttributeError) as fault:
         raise NotThatFile(source, getattr(fault, "strerror", None) or str(fault)) from None
-    if unpacked and start == GZIP_MAGIC:
-        plain = gzip.GzipFile(fileobj=plain, mode="rb")
-    return io.BufferedReader(_Guarded(plain, source), 1 << 18)
+    packed = unpacked and start == GZIP_MAGIC
+    stream = gzip.GzipFile(fileobj=plain, mode="rb") if packed else plain
+    return io.BufferedReader(_Guarded(stream, source, plain), 1 << 18)
 
 
 def read_bytes(name):

@@ -33,9 +33,9 @@ STEPS = (r"\u0061rrive", r"poll \u0030", "poll \u0660", r"poll\t0", "poll  0", "
 MEMBERS = (   # whole keys beside or over those of REST
     '"cpus":5', r'"\u0063pus":3', r'"\u0063pus":33', '"":1', '"steps":[]', '"steps":{}',
     '"steps":{"seed":18446744073709551615,"count":999999}', '"steps":{"seed":1,"count":1000000}',
-    '"steps":{"seed":1,"count":1,"more":1}', '"steps":"sweep"', '"steps":[1]', '"steps":[["sweep"]]',
-    '"detach":[{"tap":31,"after":262144}]', '"detach":[{"tap":32,"after":0}]',
-    '"detach":[{"tap":0,"after":262145}]', '"detach":[{"tap":0}]', '"detach":[]',
+    '"steps":{"seed":1,"count":1,"more":1}', '"steps":"sweep"', '"steps":[1]',
+    '"steps":[["sweep"]]', '"detach":[{"tap":31,"after":262144}]',
+    '"detach":[{"tap":32,"after":0}]', '"detach":[{"tap":0,"after":262145}]', '"detach":[{"tap":0}]', '"detach":[]',
     '"detach":[%s]' % ",".join(['{"tap":0,"after":0}'] * 33), '"key":"%s"' % ("aF" * 40),
     '"key":"%s"' % ("aF" * 41), '"key":4', '"limited":%s' % ([0] * 32), '"limited":%s' % ([0] * 33),
     '"limited":[4]', '"apps":[]', '"apps":%s' % ([0] * 32), '"apps":%s' % ([0] * 33), '"tx":[]',
