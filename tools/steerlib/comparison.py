@@ -21,9 +21,9 @@ def _shown(value):
 
 
 def _sums_changed(before, after):
-    """`name 1 -> 2 (+1)` for each sum that differs, but for those that follow the first one.
+    """`name 1 -> 2 (+1)` for each sum that differs, except those that equal the first in both.
 
-    Where all work was done, as many are pulled, delivered and retired as accepted.
+    If all work was done, as many packets are pulled, delivered and retired as were accepted.
     """
     first = (before[1], after[1])
     for place, name in enumerate(before._fields):
@@ -42,7 +42,7 @@ def _rows_of_sums(kind, old, new):
 
 
 ROUTE = ("q", "via", "cpu", "tx", "why", "place")
-"""The fields that say where a packet or a reply went and why; the others are numbers in a row."""
+"""The fields that say where a packet or a reply went and why; the others are positions."""
 
 
 def _route_changed(before, after):
@@ -89,7 +89,7 @@ class Comparison:
         yield from _rows_of_sums("tx", self.old.tx, self.new.tx)
 
     def _changes(self, kind, before, after):
-        """The line of two rows that differ, or None where only their numbers do."""
+        """The line of two rows that differ, or None if only their positions do."""
         if before is None or after is None:
             return "%s %d is only in the %s" % (kind, (before or after).id,
                                                 "new" if before is None else "old")

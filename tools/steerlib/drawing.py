@@ -1,7 +1,7 @@
 """Draws a report: packets, drops and moves of each processor over the packet numbers.
 
-The packets are divided into cells of one size, the smallest with which the picture has no more
-than so many columns; the last cell may have fewer packets.
+The packets are divided into cells of one size, the smallest that keeps the picture within its
+number of columns; the last cell may have fewer packets.
 """
 
 from xml.etree import ElementTree

@@ -16,7 +16,7 @@ LONGEST_LINE = 512
 def read_file(name):
     """The flow of each packet, as text, in the output of `steer hash` or `steer place` in a file.
 
-    Raises NotThatFile for a line of another form, and Refused where the output is cut short.
+    Raises NotThatFile for a line of another form, and Refused if the output is cut short.
     """
     source = cli.source_name(name)
     flows = []
@@ -28,7 +28,7 @@ def read_file(name):
             if found is None:
                 break
             if int(found.group(1)) != len(flows):
-                raise cli.Refused(source, "line %d is of packet %s, and %d is due"
+                raise cli.Refused(source, "line %d is of packet %s, expected %d"
                                   % (len(flows) + 1, found.group(1).decode(), len(flows)))
             flow = found.group(2)
             flows.append(texts.setdefault(flow, flow.decode()))

@@ -103,7 +103,7 @@ class _Lines:
         self.advance()
 
     def advance(self):
-        """Goes on to the next line; it lacks its line feed where it is cut or too long."""
+        """Goes on to the next line; it has no line feed if it is cut or too long."""
         self.line = self.stream.readline(LONGEST_LINE)
         self.number += 1
 
@@ -120,12 +120,12 @@ class _Lines:
         raise cli.Refused(self.source, "line %d %s" % (self.number, reason))
 
     def refuse_line(self):
-        """Refuses the line that is next, which is not one of those that may stand there."""
+        """Refuses the next line, which is none of those that may follow."""
         if not self.line.endswith(b"\n") and len(self.line) < LONGEST_LINE:
             raise cli.Refused(self.source, "cut short after line %d (no line `end`)"
                               % (self.number - 1))
         shown = self.line[:80].decode("ascii", "backslashreplace").rstrip("\n")
-        self.refuse("may not stand there in a report: `%s`" % shown)
+        self.refuse("is unexpected: `%s`" % shown)
 
 
 class _Values(dict):
@@ -147,12 +147,12 @@ class _Values(dict):
 
 def _check_number(row, rows, lines):
     if row[0] != len(rows):
-        lines.refuse("has number %d where %d is due" % (row[0], len(rows)))
+        lines.refuse("has number %d, expected %d" % (row[0], len(rows)))
 
 
 def _check_reply(row, rows, lines):
     if rows and row.id <= rows[-1].id:
-        lines.refuse("has number %d behind %d" % (row.id, rows[-1].id))
+        lines.refuse("has number %d after %d" % (row.id, rows[-1].id))
 
 
 def _check_packet(row, rows, lines):
@@ -175,7 +175,7 @@ CHECKS = {"p": _check_packet, "r": _check_reply, "w": None}
 
 
 def _read_kind(kind, lines, values):
-    """The rows of a kind, as long as the next line is one of them."""
+    """The rows of a kind, up to the first line of another one."""
     pattern = PATTERNS[kind]
     make = ROWS[kind]._make
     check = CHECKS.get(kind, _check_number)
@@ -199,15 +199,15 @@ def _read_end(lines, values):
         lines.refuse_line()
     lines.advance()
     if lines.line:
-        lines.refuse("stands behind the line `end`")
+        lines.refuse("follows the line `end`")
     return End._make(map(values.__getitem__, found.groups()))
 
 
 def read(stream, source="report"):
     """The report that a binary stream has; `source` names it in messages.
 
-    Raises NotThatFile where the first line is not that of a report, and Refused where it is cut
-    short, a line has another form, or a sum is not that of its packets.
+    Raises NotThatFile if the first line is not that of a report, and Refused if it is cut short, a
+    line has another form, or a sum is not that of its packets.
     """
     lines = _Lines(stream, source)
     if lines.line != FIRST_LINE:
@@ -236,7 +236,7 @@ def replay(plan, capture):
 
 
 def _counted_queues(report):
-    """What the packets' lines say of each receive queue."""
+    """The sums of each receive queue over the packets."""
     arrived = [0] * len(report.queues)
     taken = [0] * len(report.queues)
     for packet in report.packets:
@@ -246,7 +246,7 @@ def _counted_queues(report):
 
 
 def _counted_cpus(report):
-    """What the packets' lines say of each processor; `retired` is left None."""
+    """The sums of each processor over the packets; `retired` is None, since no line has it."""
     sums = [[0, 0, 0, 0] for _ in report.cpus]
     for packet in report.packets:
         if packet.cpu is None:
@@ -261,7 +261,7 @@ def _counted_cpus(report):
 
 
 def _counted_tx(report):
-    """What the replies' lines say of each transmit queue; `pulled`, `retired` are left None."""
+    """The sums of each transmit queue over the replies, without `pulled` and `retired`."""
     sums = [[0, 0] for _ in report.tx]
     for reply in report.replies:
         if reply.tx is None:
@@ -273,7 +273,7 @@ def _counted_tx(report):
 
 
 def _out_of_range(report):
-    """The first row that names a queue or processor of which the report has no sums."""
+    """A text for the first row whose queue, processor or packet the report does not have."""
     queues, cpus, tx = len(report.queues), len(report.cpus), len(report.tx)
     for row in report.packets:
         if row.q >= queues:
@@ -297,7 +297,7 @@ def _unlike(kind, said, counted, of):
 
 
 def _work_in_order(kind, rows):
-    """A lane has one packet in hand at the most, and each step of its work follows another."""
+    """A text for each row with more than one packet in hand, or with work done out of order."""
     for row in rows:
         if not (row.retired <= row.delivered <= row.pulled <= row.accepted
                 and row.pulled - row.retired <= 1):
@@ -307,10 +307,10 @@ def _work_in_order(kind, rows):
 
 
 def differences(report):
-    """Where the sums of a report are not those of its packets and replies, a text for each.
+    """A text for each sum of a report that is not the sum over its packets or replies.
 
-    `retired` of a processor, and `pulled` and `retired` of a transmit queue, stand in no packet's
-    line; they are only held against the other sums of their line.
+    `retired` of a processor, and `pulled` and `retired` of a transmit queue, cannot be counted from
+    the lines of packets and replies; they are compared with the other sums of their line only.
     """
     wrong = _out_of_range(report)
     if wrong is not None:

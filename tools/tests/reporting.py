@@ -37,7 +37,7 @@ tap 2 bytes 17
 depth cpu 1 at 3
 end 3 of 3
 """
-"""The report with replies that docs/formats.md shows, where it was worked out."""
+"""The report with replies that docs/formats.md shows."""
 
 
 def frame(flow):
@@ -56,7 +56,7 @@ def frame(flow):
 
 
 def write_capture(path, packets, flows, seed):
-    """A capture of so many packets, most of them of a few of the flows."""
+    """A capture with that many packets, most of them of a few of the flows."""
     chance = random.Random(seed)
     with open(path, "wb") as out:
         out.write(struct.pack("<IHHIIII", 0xa1b2c3d4, 2, 4, 0, 0, 65535, 1))
@@ -74,7 +74,7 @@ def _set(chance, limit):
 
 
 def random_step(chance, cpus, queues, apps, tx):
-    """A step of a plan with so many processors, queues, applications and transmit queues."""
+    """A step of a plan with these numbers of processors, queues, applications, transmit queues."""
     one = chance.randrange
     words = {
         "arrive": "", "sweep": "", "expire": "", "sock": " %d" % one(300),

@@ -65,19 +65,19 @@ class Reading(unittest.TestCase):
 
     def test_faults_are_refused_by_line(self):
         faults = (
-            (b"queue 0 arrived", b"queue 1 arrived", "line 8 has number 1 where 0 is due"),
-            (b"p 1 q", b"p 2 q", "line 3 has number 2 where 1 is due"),
-            (b"r 1 app", b"r 0 app", "line 6 has number 0 behind 0"),
-            (b" via reta", b" via road", "line 2 may not stand there in a report: `p 0 q 0 via ro"),
-            (b"cpu 0 acc", b"w app 0 entry 1 cpu 2\ncpu 0 acc", "line 10 may not stand there"),
-            (b"at 2 app", b"at 02 app", "line 3 may not stand there"),
+            (b"queue 0 arrived", b"queue 1 arrived", "line 8 has number 1, expected 0"),
+            (b"p 1 q", b"p 2 q", "line 3 has number 2, expected 1"),
+            (b"r 1 app", b"r 0 app", "line 6 has number 0 after 0"),
+            (b" via reta", b" via road", "line 2 is unexpected: `p 0 q 0 via ro"),
+            (b"cpu 0 acc", b"w app 0 entry 1 cpu 2\ncpu 0 acc", "line 10 is unexpected"),
+            (b"at 2 app", b"at 02 app", "line 3 is unexpected"),
             (b"in 2 place inbox", b"in 2 place drop", "line 3 has place drop and no drop"),
             (b"in 2 place inbox", b"in - place inbox", "line 3 has place inbox and no place in"),
             (b"in 2 place inbox", b"in - place ring", "line 3 has place ring and processor 1"),
             (b"cpu 1 why plain at 2", b"cpu - why plain at 2", "line 3 has a processor without"),
-            (b"bytes 16", b"bytes 15", "line 15 may not stand there in a report: ``"),
-            (b"end 3 of 3\n", b"end 3 of 3\n\n", "line 20 stands behind the line `end`"),
-            (b"steer 1\n", b"steer 1\n" + b"x" * 600 + b"\n", "line 2 may not stand there"))
+            (b"bytes 16", b"bytes 15", "line 15 is unexpected: ``"),
+            (b"end 3 of 3\n", b"end 3 of 3\n\n", "line 20 follows the line `end`"),
+            (b"steer 1\n", b"steer 1\n" + b"x" * 600 + b"\n", "line 2 is unexpected"))
         for old, new, text in faults:
             with self.assertRaises(cli.Refused, msg=new) as caught:
                 read(REPLIED.replace(old, new, 1))

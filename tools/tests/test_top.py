@@ -114,7 +114,7 @@ class Top(unittest.TestCase):
                 ([path, folder.write("b", b"packet 0 none hash - entry - queue 0\n")], 3,
                  "b: refused: cut short after line 1 (no line `packets`)"),
                 ([path, folder.write("c", b"packet 1 none hash - entry - queue 0\n")], 3,
-                 "c: refused: line 1 is of packet 1, and 0 is due"),
+                 "c: refused: line 1 is of packet 1, expected 0"),
                 ([path, folder.write("d", b"packet 0 none hash - entry - queue 0\npackets 2\n")],
                  3, "d: refused: the last line counts 2 packets, and there are 1"),
                 ([path, path], 4, "report: line 1 is not output of `steer hash`"),
