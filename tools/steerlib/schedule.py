@@ -3,7 +3,8 @@
 Which processor a packet goes to may depend on the steps themselves, by RFS and its filters. So the
 places of all packets are guessed, steps are made of the guess, and the proved replay of these
 steps says where each packet went; that is the next guess, until replay and guess agree. What comes
-before a packet fixes its place, so the first packet that is elsewhere moves forward each round.
+before a packet fixes its place, so the first packet that is elsewhere moves forward: it stays for
+another round only where its queue was right before its processor, or that before its drop.
 
 Times are nanoseconds, rates packets a second.
 """
@@ -39,6 +40,7 @@ Agreed = namedtuple("Agreed", "steps dropped rounds")
 _PLACE = re.compile(
     rb"^p \d+ q (\d+) via \w+ class \S+ want \S+ head \S+ tail \S+ cpu (\d+) why \w+ "
     rb"at (?:(drop) \d+ \d+ \d+( flow)?[ \d]*|\d+) app (\d+) ", re.MULTILINE)
+
 
 def places_of(report):
     """The Places that the bytes of a report tell, of packets that were all put."""
@@ -94,6 +96,7 @@ def _check(frame, number, source):
 
 
 def _say_order(times):
+    """Notes packets of an earlier time than one before them, and times that are all the same."""
     early = sum(time < before for time, before in zip(times[1:], accumulate(times, max)))
     if early:
         cli.note("%d packets stand behind one of a later time; the order of the file is kept"
@@ -196,6 +199,12 @@ def elsewhere(places, dropped, answer):
             or (packet in dropped) != (packet in answer.dropped)]
 
 
+def _check_count(places, arrivals, source):
+    if len(places.queues) != len(arrivals):
+        raise cli.Refused(source, "%d packets have a time, and steer's report has %d that were put"
+                          % (len(arrivals), len(places.queues)))
+
+
 def agree(arrivals, guess, service, replay, source, say=None):
     """The steps that serve these arrivals at these rates, agreed upon with the replay: Agreed.
 
@@ -203,9 +212,7 @@ def agree(arrivals, guess, service, replay, source, say=None):
     steps. `say` is shown a line for each round. Refused(source, ..) where a plan has no room for
     the steps, or after 500 rounds.
     """
-    if len(guess.queues) != len(arrivals):
-        raise cli.Refused(source, "%d packets have a time, and steer reads %d"
-                          % (len(arrivals), len(guess.queues)))
+    _check_count(guess, arrivals, source)
     for number in range(1, MOST_ROUNDS + 1):
         steps, dropped = make_steps(arrivals, guess, service)
         if len(steps) > limits.MOST_STEPS:
@@ -214,6 +221,7 @@ def agree(arrivals, guess, service, replay, source, say=None):
                               "first %d packets fit"
                               % (len(arrivals), len(steps), limits.MOST_STEPS, fits))
         answer = replay(steps)
+        _check_count(answer, arrivals, source)
         wrong = elsewhere(guess, dropped, answer)
         if say is not None:
             say("round %d: %d packets elsewhere than assumed%s"
@@ -314,9 +322,9 @@ def service_of(settings, load, flows):
 
 def timed_steps(replays, times, load, say=None):
     """The Agreed steps of a plan (its Replays) for packets of these times under a load."""
-    guess = replays.places(["sweep"])
     numbers = flow_numbers(replays.capture, replays.folder) if load.reads else None
     service = service_of(replays.settings, load, numbers)
+    guess = replays.places(["sweep"])
     arrivals = arrivals_of(times, load.speed)
     return agree(arrivals, guess, service, replays.places, replays.shown_capture, say)
 

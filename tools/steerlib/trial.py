@@ -21,7 +21,7 @@ SEED, RATE = "seed", "pps"
 STEPS_PER_PACKET = 4
 REPORT, REFUSED = ".report", ".refused"
 
-# plan: the name of its file. settings: those that it has, or why it cannot be read, an exception of cli.
+# plan: the name of its file. settings: what it has, or an exception that says why there are none.
 # kind: SEED or RATE. value: the seed, or the packets a second.
 Trial = namedtuple("Trial", "plan settings kind value")
 

@@ -11,6 +11,7 @@ import subprocess
 import unittest
 
 import running
+from inside import inside
 from reporting import Folder, frame, run_closed
 from running import example
 
@@ -32,9 +33,8 @@ def bytes_of(name):
 
 def cap(*words, data=b""):
     """The status, the output and the lines on standard error of steer-cap."""
-    ended = subprocess.run([os.path.join(running.TOOLS, "steer-cap")] + list(words),
-                           input=data, stdout=subprocess.PIPE, stderr=subprocess.PIPE, timeout=60)
-    return ended.returncode, ended.stdout, ended.stderr.decode().splitlines()
+    status, out, said = inside("steer-cap", *words, data=data)
+    return status, out, said.splitlines()
 
 
 def records(data):
@@ -168,6 +168,15 @@ class Kinds(unittest.TestCase):
             cut = [line for line in said if "cut" in line]
             self.assertEqual(cut, ["note: the last record is cut and left out: %s bytes of it are "
                                    "there" % last.split()[3]] if "cut" in last else [])
+
+    def test_as_a_process_of_its_own(self):
+        """Its bytes come through a pipe as they are within a test."""
+        with open(sample("be-cut.pcap"), "rb") as stream:
+            ended = subprocess.run([os.path.join(running.TOOLS, "steer-cap"), "-"], stdin=stream,
+                                   stdout=subprocess.PIPE, stderr=subprocess.PIPE)
+        status, out, said = cap(sample("be-cut.pcap"))
+        self.assertEqual((ended.returncode, ended.stdout, ended.stderr.decode().splitlines()),
+                         (status, out, said))
 
     def test_packed_and_from_standard_input(self):
         for name in ("ng-first500.pcapng", "be-cut.pcap"):

@@ -1,19 +1,15 @@
 """Tests of steer-steps, and of schedules that the replay agrees with."""
 
-import contextlib
 import gzip
-import importlib.machinery
-import importlib.util
-import io
 import json
-import os
 import re
 import struct
 import unittest
 from unittest import mock
 
+from inside import inside
 from reporting import Folder, frame, random_plan, run, run_closed
-from running import TOOLS, example, sample
+from running import example, sample
 
 from steerlib import cli, limits, report, schedule
 
@@ -54,23 +50,11 @@ def drops_of(plan_text, capture):
         return cli.run_steer(["replay", plan, capture]).count(b" at drop ")
 
 
-def inside(*words):
-    """The output and the messages of steer-steps, run within this program."""
-    out, said = io.StringIO(), io.StringIO()
-    with contextlib.redirect_stdout(out), contextlib.redirect_stderr(said):
-        PROGRAM.main(list(words))
-    return out.getvalue(), said.getvalue()
-
-
-def load_program(name):
-    """A program of tools/ as a module."""
-    loader = importlib.machinery.SourceFileLoader(name.replace("-", "_"), os.path.join(TOOLS, name))
-    module = importlib.util.module_from_spec(importlib.util.spec_from_loader(loader.name, loader))
-    loader.exec_module(module)
-    return module
-
-
-PROGRAM = load_program("steer-steps")
+def timed(*words):
+    """The plan that steer-steps writes, as text, and its messages."""
+    status, out, said = inside("steer-steps", *words)
+    assert status == 0, (words, said)
+    return out.decode(), said
 
 
 class ByHand(unittest.TestCase):
@@ -81,7 +65,7 @@ class ByHand(unittest.TestCase):
     def steps(self, *words, plan=None, times=(0, 1000, 1500, 4000)):
         with Folder() as folder:
             capture = write_capture(folder.path("c.pcap"), [(time, frame(0)) for time in times])
-            text, said = inside(write_plan(folder, plan or ONE), capture, *words)
+            text, said = timed(write_plan(folder, plan or ONE), capture, *words)
             self.assertEqual(drops_of(text, capture), int(RESULT.search(said)[4]))
         return ",".join(json.loads(text)["steps"]), said
 
@@ -142,7 +126,7 @@ class ByHand(unittest.TestCase):
             self.assertEqual(set(queues), {0, 1})
             plan_path = write_plan(folder, dict(plan, backlog=9))
             for slow in (0, 1):
-                text, said = inside(plan_path, capture, "--pps", "1000", "--cpu", "%d=1" % slow)
+                text, said = timed(plan_path, capture, "--pps", "1000", "--cpu", "%d=1" % slow)
                 self.assertEqual(json.loads(text)["steps"][-2], "retire %d" % slow)
                 self.assertIn("1000 packets/s a processor, 1 at cpu %d, 0 dropped" % slow, said)
 
@@ -150,7 +134,7 @@ class ByHand(unittest.TestCase):
 class Agreement(unittest.TestCase):
     def check(self, plan_path, capture, words):
         """Runs the program, and holds what it says against the replay; its drops and rounds."""
-        text, said = inside(plan_path, capture, *words)
+        text, said = timed(plan_path, capture, *words)
         rounds = ROUND.findall(said)
         self.assertEqual([count for count, _ in rounds][-1], "0")
         firsts = [int(first) for _, first in rounds[:-1]]
@@ -192,8 +176,8 @@ class Agreement(unittest.TestCase):
             capture = write_capture(folder.path("c.pcap"), heavy_packets(1500))
             words = ["--pps", "300", "--read"]
             drops, rounds = self.check(write_plan(folder, plan), capture, words)
-            timed, _ = inside(write_plan(folder, plan), capture, *words)
-            found = report.read_file(folder.replay(json.loads(timed), capture))
+            made, _ = timed(write_plan(folder, plan), capture, *words)
+            found = report.read_file(folder.replay(json.loads(made), capture))
         limited = sum(packet.flow_offers is not None for packet in found.packets)
         self.assertGreater(limited, 100)
         self.assertGreaterEqual(drops, limited)
@@ -201,10 +185,10 @@ class Agreement(unittest.TestCase):
 
     def test_fast_processors_lose_nothing_and_slow_ones_all_but_their_backlog(self):
         with Folder() as folder:
-            fast, _ = inside(sample("plan", "ix.json"), OWN, "--pps", "1e9", "--read")
+            fast, _ = timed(sample("plan", "ix.json"), OWN, "--pps", "1e9", "--read")
             found = report.read_file(folder.replay(json.loads(fast), OWN))
             self.assertEqual({packet.place for packet in found.packets}, {"inbox"})
-            slow, _ = inside(sample("plan", "ix.json"), OWN, "--pps", "1", "--read")
+            slow, _ = timed(sample("plan", "ix.json"), OWN, "--pps", "1", "--read")
             found = report.read_file(folder.replay(json.loads(slow), OWN))
         backlog, served = 100, 4
         self.assertEqual(max(cpu.accepted for cpu in found.cpus), backlog + served + 1)
@@ -213,12 +197,12 @@ class Agreement(unittest.TestCase):
         plan = dict(ONE, start=7, detach=[{"tap": 1, "after": 3}], steps={"seed": 3, "count": 9})
         with Folder() as folder:
             capture = write_capture(folder.path("c.pcap"), [(0, frame(0))])
-            text, said = inside(write_plan(folder, plan), capture, "--pps", "5")
+            text, said = timed(write_plan(folder, plan), capture, "--pps", "5")
             self.assertNotIn("replaced", said)
             written = json.loads(text)
             self.assertEqual(dict(written, steps=0), dict(plan, steps=0))
             plan["steps"] = ["arrive", "mask 0 -", "expire", "sweep"]
-            text, said = inside(write_plan(folder, plan), capture, "--pps", "5")
+            text, said = timed(write_plan(folder, plan), capture, "--pps", "5")
             self.assertIn("plan.json: its steps are replaced, and with them 2 commands\n", said)
             self.assertEqual(json.loads(text), written)
 
@@ -244,14 +228,20 @@ class Rounds(unittest.TestCase):
                          "elsewhere than the steps assume")
 
     def test_nothing_is_written_without_agreement(self):
-        out, said = io.StringIO(), io.StringIO()
-        words = [sample("plan", "ix5.json"), OWN, "--pps", "2000", "--read"]
-        with mock.patch.object(schedule, "MOST_ROUNDS", 2), contextlib.redirect_stdout(out), \
-                contextlib.redirect_stderr(said), self.assertRaises(cli.Refused) as caught:
-            PROGRAM.main(words)
-        self.assertEqual(out.getvalue(), "")
-        self.assertIn("after 2 rounds the replay still has", str(caught.exception))
-        self.assertEqual(len(ROUND.findall(said.getvalue())), 2)
+        with mock.patch.object(schedule, "MOST_ROUNDS", 2):
+            status, out, said = inside("steer-steps", sample("plan", "ix5.json"), OWN, "--pps",
+                                       "2000", "--read")
+        self.assertEqual((status, out), (3, b""))
+        self.assertRegex(said, "refused: after 2 rounds the replay still has [0-9]+ packets "
+                         "elsewhere than the steps assume\n$")
+        self.assertEqual(len(ROUND.findall(said)), 2)
+
+    def test_a_report_of_fewer_packets_is_no_agreement(self):
+        with self.assertRaises(cli.Refused) as caught:
+            schedule.agree([0.0], self.places(0), self.SERVICE,
+                           lambda steps: schedule.Places([], [], [], set(), set()), "c.pcap")
+        self.assertEqual(str(caught.exception), "c.pcap: refused: 1 packets have a time, and "
+                         "steer's report has 0 that were put")
 
     def test_a_capture_that_needs_too_many_steps(self):
         """The number that is said to fit does fit, and one more does not."""
@@ -273,91 +263,81 @@ class Rounds(unittest.TestCase):
 
 
 class Words(unittest.TestCase):
-    def refused(self, kind, text, *words):
-        with contextlib.redirect_stdout(io.StringIO()) as out, self.assertRaises(kind) as caught, \
-                contextlib.redirect_stderr(io.StringIO()):
-            PROGRAM.main(list(words))
-        self.assertEqual((str(caught.exception), out.getvalue()), (text, ""), words)
-
-    def test_statuses(self):
-        plan = sample("plan", "ix.json")
-        for status, text, words, data in (
-                (2, "PLAN and CAPTURE cannot both be standard input", ["-", "-", "--pps", "5"], b""),
-                (3, "standard input: refused: packet 0 has link type 276, and steer reads 1 "
-                    "(Ethernet); steer-cap turns others into it", [plan, "-", "--pps", "5"],
-                 COOKED),
-                (4, "none.pcap: No such file or directory", [plan, "none.pcap", "--pps", "5"], b"")):
-            ended = run("steer-steps", *words, data=data)
-            self.assertEqual((ended.returncode, ended.stdout, ended.stderr),
-                             (status, "", "steer-steps: %s\n" % text))
+    def refused(self, status, text, *words, data=b""):
+        ended = inside("steer-steps", *words, "--pps", "5", data=data)
+        self.assertEqual(ended, (status, b"", "steer-steps: %s\n" % text))
 
     def test_wrong_words(self):
-        plan, capture = sample("plan", "ix.json"), example("three.pcap")
         for words, text in (
-                (["--pps", "0"], "argument --pps: 0 is not a number above 0 (--help says more)"),
-                (["--pps", "inf"], "argument --pps: inf is not a number above 0 (--help says "
-                                   "more)"),
-                (["--pps", "5", "--speed", "-2"], "argument --speed: -2 is not a number above 0 "
-                                                  "(--help says more)"),
-                (["--pps", "5", "--cpu", "3"], "argument --cpu: 3 is not C=N, a processor and its "
-                                               "rate (--help says more)"),
-                (["--pps", "5", "--cpu", "x=3"], "argument --cpu: x is not a whole number from 0 "
-                                                 "on (--help says more)"),
-                (["--pps", "5", "--cpu", "16=3"], "--cpu 16=3: the plan has the processors 0 to "
-                                                  "15"),
-                ([], "the following arguments are required: --pps (--help says more)")):
-            self.refused(cli.WrongWords, text, plan, capture, *words)
+                (["--pps", "0"], "argument --pps: 0 is not a number above 0"),
+                (["--pps", "inf"], "argument --pps: inf is not a number above 0"),
+                (["--pps", "x"], "argument --pps: x is not a number above 0"),
+                (["--speed", "-2"], "argument --speed: -2 is not a number above 0"),
+                (["--cpu", "3"], "argument --cpu: 3 is not C=N, a processor and its rate"),
+                (["--cpu", "x=3"], "argument --cpu: x is not a whole number from 0 on"),
+                (["--cpu", "1=0"], "argument --cpu: 0 is not a number above 0")):
+            self.refused(2, text + " (--help says more)", sample("plan", "ix.json"),
+                         example("three.pcap"), *words)
+        status, out, said = inside("steer-steps", sample("plan", "ix.json"), example("three.pcap"),
+                                   "--pps", "5", "--cpu", "16=3")
+        self.assertEqual((status, out, said.splitlines()[-1]), (
+            2, b"", "steer-steps: --cpu 16=3: the plan has the processors 0 to 15"))
+        self.refused(2, "PLAN and CAPTURE cannot both be standard input", "-", "-")
+        status, _, said = inside("steer-steps", sample("plan", "ix.json"), example("three.pcap"))
+        self.assertEqual((status, said), (2, "steer-steps: the following arguments are required: "
+                                             "--pps (--help says more)\n"))
 
     def test_captures_that_are_not_of_use(self):
-        with Folder() as folder:
-            simple = folder.write("simple", SECTION + INTERFACE
-                                  + struct.pack("<III4sI", 3, 20, 4, b"abcd", 20))
-            empty = folder.write("empty", b"")
-            for kind, name, text in (
-                    (cli.Refused, simple, "refused: packet 0 is in a simple packet block, which "
-                                          "has no time"),
-                    (cli.NotThatFile, empty, "no capture: 0 bytes, and a pcap file has a header of "
-                                             "24")):
-                self.refused(kind, name + ": " + text, sample("plan", "ix.json"), name, "--pps", "5")
+        plan = sample("plan", "ix.json")
+        simple = struct.pack("<III4sI", 3, 20, 4, b"abcd", 20)
+        for status, text, data in (
+                (3, "refused: packet 0 has link type 276, and steer reads 1 (Ethernet); steer-cap "
+                    "turns others into it", COOKED),
+                (3, "refused: packet 0 is in a simple packet block, which has no time",
+                 SECTION + INTERFACE + simple),
+                (4, "no capture: 0 bytes, and a pcap file has a header of 24", b"")):
+            self.refused(status, "standard input: " + text, plan, "-", data=data)
+        self.refused(4, "none.pcap: No such file or directory", plan, "none.pcap")
 
     def test_a_plan_that_steer_does_not_take(self):
         with Folder() as folder:
             path = write_plan(folder, dict(ONE, cpus=33))
-            ended = run("steer-steps", path, example("three.pcap"), "--pps", "5")
-        self.assertEqual((ended.returncode, ended.stdout), (3, ""))
-        self.assertRegex(ended.stderr, "^steer-steps: .*plan.json:1:10: refused: cpus: .*33")
+            status, out, said = inside("steer-steps", path, example("three.pcap"), "--pps", "5")
+        self.assertEqual((status, out), (3, b""))
+        self.assertRegex(said, "^steer-steps: .*plan.json:1:10: refused: cpus: .*33")
 
     def test_packed_and_standard_input(self):
         plan = sample("plan", "ix5.json")
-        wanted = run("steer-steps", plan, example("web.pcap"), "--pps", "2000", "--read")
+        words = ["--pps", "2000", "--read"]
+        wanted = inside("steer-steps", plan, example("web.pcap"), *words)
         with open(example("web.pcap"), "rb") as stream:
             packed = gzip.compress(stream.read())
+        self.assertEqual(inside("steer-steps", plan, "-", *words, data=packed), wanted)
         with open(plan, "rb") as stream:
             plan_bytes = stream.read()
-        found = run("steer-steps", plan, "-", "--pps", "2000", "--read", data=packed)
-        self.assertEqual((found.stdout, found.stderr), (wanted.stdout, wanted.stderr))
-        found = run("steer-steps", "-", example("web.pcap"), "--pps", "2000", "--read",
-                    data=plan_bytes)
-        self.assertEqual(found.stdout, wanted.stdout)
+        self.assertEqual(inside("steer-steps", "-", example("web.pcap"), *words, data=plan_bytes),
+                         wanted)
+        ended = run("steer-steps", plan, "-", *words, data=packed)
+        self.assertEqual((ended.returncode, ended.stdout.encode(), ended.stderr), wanted)
 
     def test_what_does_not_show_is_noted(self):
-        _, said = inside(sample("plan", "ix.json"), example("web.pcap"), "--pps", "9")
+        _, said = timed(sample("plan", "ix.json"), example("web.pcap"), "--pps", "9")
         self.assertIn("ix.json: it has a table of readers (sock), and without --read no reader is "
                       "ever seen, so that RFS moves no flow\n", said)
         obsolete = struct.pack("<IIHHIIIII", 2, 32, 0, 0, 0, 1, 0, 0, 32)
         enhanced = struct.pack("<IIIIIIII", 6, 32, 0, 0, 1, 0, 0, 32)
-        said = run("steer-steps", sample("plan", "ix.json"), "-", "--pps", "9", "--read",
-                   data=SECTION + INTERFACE + obsolete + enhanced).stderr
+        said = inside("steer-steps", sample("plan", "ix.json"), "-", "--pps", "9", "--read",
+                      data=SECTION + INTERFACE + obsolete + enhanced)[2]
         self.assertIn("note: 1 obsolete packet blocks have no step, since steer passes them over; "
                       "steer-cap makes packets of them\n", said)
         self.assertIn("note: 1 packets in 0.000 s, 7 steps, ", said)
 
     def test_help_and_a_closed_pipe(self):
-        ended = run("steer-steps", "--help")
-        self.assertEqual(ended.returncode, 0)
+        status, out, _ = inside("steer-steps", "--help")
+        self.assertEqual(status, 0)
         for part in ("--pps N", "--cpu C=N", "--read", "--reply", "--speed X", "example:",
                      cli.APART, cli.STATUSES):
-            self.assertIn(part, ended.stdout)
+            self.assertIn(part, out.decode())
         status, said = run_closed("steer-steps", sample("plan", "ix.json"), OWN, "--pps", "500")
         self.assertEqual((status, "steer-steps:" in said, "Traceback" in said), (0, False, False))
 

@@ -1,7 +1,5 @@
 """Tests of steer-try, and of the trials that it makes."""
 
-import contextlib
-import io
 import json
 import os
 import re
@@ -9,28 +7,27 @@ import shlex
 import shutil
 import statistics
 import subprocess
-import sys
 import unittest
-from unittest import mock
 
+from inside import inside
 from reporting import Folder, run, run_closed
 from running import TOOLS, example, sample
-from test_steps import RESULT, inside, load_program
 
 from steerlib import cli, numbers, trial
 
 WEB = example("web.pcap")
 PLANS = [example(name) for name in ("rps.json", "rps-wide.json", "rfs.json")]
-PROGRAM = load_program("steer-try")
 
 
-def tried(*words):
-    """The status, the lines of the output and those of the messages, run within this program."""
-    out, said = io.StringIO(), io.StringIO()
-    with contextlib.redirect_stdout(out), contextlib.redirect_stderr(said), \
-            mock.patch.object(sys, "argv", [os.path.join(TOOLS, "steer-try")]):
-        status = PROGRAM.main(list(words))
-    return status, out.getvalue().splitlines(), said.getvalue().splitlines()
+def tried(*words, data=b""):
+    """The status, the lines of the output and those of the messages of steer-try."""
+    status, out, said = inside("steer-try", *words, data=data)
+    return status, out.decode().splitlines(), said.splitlines()
+
+
+def drops_of_steps(*words):
+    """The drops that steer-steps says of its schedule."""
+    return re.search(r", (\d+) dropped\n$", inside("steer-steps", *words)[2])[1]
 
 
 def replayed(plan, seed, packets):
@@ -92,7 +89,7 @@ class Rates(unittest.TestCase):
         self.assertEqual(status, 0)
         self.assertEqual(out[0].split(), ["5000", "9000.5", "20000", "drops", "at", "packets/s"])
         for line, plan in zip(out[1:3], (PLANS[0], PLANS[2])):
-            drops = [RESULT.search(inside(plan, WEB, "--pps", rate, *words)[1])[4]
+            drops = [drops_of_steps(plan, WEB, "--pps", rate, *words)
                      for rate in ("5000", "9000.5", "20000")]
             self.assertEqual(line.split(), drops + [os.path.basename(plan)])
         self.assertEqual(len(set(out[1].split())), 4)
@@ -106,17 +103,14 @@ class Rates(unittest.TestCase):
                 bad = folder.write("bad.json", stream.read().replace(b"4,", b"64,", 1))
             no_json = folder.write("worse.json", b"{,")
             words = ["--pps", "500", "--read"]
-            ended = run("steer-try", WEB, *words, bad, PLANS[0], no_json, "none.json")
-            alone = run("steer-try", WEB, *words, PLANS[0])
-        self.assertEqual((ended.returncode, alone.returncode), (3, 0))
-        said = ended.stderr.splitlines()
-        self.assertEqual(len(said), 3, said)
+            status, lines, said = tried(WEB, *words, bad, PLANS[0], no_json, "none.json")
+            alone = tried(WEB, *words, PLANS[0])
+        self.assertEqual((status, alone[0], len(said)), (3, 0, 3), said)
         self.assertRegex(said[0], "^steer-try: .*bad.json:2:11: refused: cpus: ")
         self.assertRegex(said[1], "^steer-try: .*worse.json:1:2: no plan: ")
         self.assertEqual(said[2], "steer-try: none.json: No such file or directory")
-        lines = ended.stdout.splitlines()
         self.assertEqual(lines[1].split(), ["refused", "bad.json"])
-        self.assertEqual(lines[2].split(), alone.stdout.splitlines()[1].split())
+        self.assertEqual(lines[2].split(), alone[1][1].split())
 
     def test_a_trial_that_is_refused(self):
         """A processor that one of the plans has not."""
@@ -175,16 +169,13 @@ class Elsewhere(unittest.TestCase):
 
     def test_folders_that_are_not_of_use(self):
         with Folder() as folder:
-            with self.assertRaises(cli.Refused) as caught:
-                tried("--collect", folder.name)
-            self.assertEqual(str(caught.exception),
-                             "%s: refused: it has no report of a trial" % folder.name)
+            self.assertEqual(tried("--collect", folder.name), (3, [], [
+                "steer-try: %s: refused: it has no report of a trial" % folder.name]))
             tried(WEB, "--seeds", "1", "--reports", folder.name, PLANS[0])
             tried(example("mixed.pcap"), "--seeds", "1", "--reports", folder.name, PLANS[1])
-            with self.assertRaises(cli.Refused) as caught:
-                tried("--collect", folder.name)
-            self.assertEqual(str(caught.exception), "%s: refused: it has reports of captures of 3 "
-                             "and of 177 packets" % folder.name)
+            self.assertEqual(tried("--collect", folder.name), (3, [], [
+                "steer-try: %s: refused: it has reports of captures of 3 and of 177 packets"
+                % folder.name]))
             name = folder.path(trial.report_name(trial.Trial(PLANS[1], None, "seed", 1))
                                + ".report")
             with open(name, "r+b") as stream:
@@ -192,7 +183,9 @@ class Elsewhere(unittest.TestCase):
             status, lines, said = tried("--collect", folder.name)
             self.assertEqual((status, lines[1].split()[:2]), (3, ["0", "refused"]))
             self.assertIn("cut short", said[0])
-        self.assertEqual(run("steer-try", "--collect", folder.name).returncode, 4)
+        ended = run("steer-try", "--collect", folder.name)
+        self.assertEqual((ended.returncode, ended.stdout, ended.stderr),
+                         (4, "", "steer-try: %s: No such file or directory\n" % folder.name))
 
     def test_names_of_reports(self):
         for plan, kind, value in (("a.json", "seed", 7), ("../x y/%2F.json", "pps", 2000.0),
@@ -225,23 +218,18 @@ class Words(unittest.TestCase):
                  "(--help says more)"),
                 (["--jobs", "0", WEB, "p"], "argument --jobs: 0 is not a whole number from 1 to "
                  "1024 (--help says more)")):
-            with self.assertRaises(cli.WrongWords) as caught:
-                tried(*words)
-            self.assertEqual(str(caught.exception), text)
-        ended = run("steer-try")
-        self.assertEqual((ended.returncode, ended.stdout), (2, ""))
+            self.assertEqual(tried(*words), (2, [], ["steer-try: " + text]))
 
     def test_captures(self):
         cooked = sample("cap", "any.pcap")
         for words, text in (([], "capture: bad link 276"),
                             (["--pps", "5"], "packet 0 has link type 276, and steer reads 1 "
                                              "(Ethernet); steer-cap turns others into it")):
-            with self.assertRaises(cli.Refused) as caught:
-                tried(cooked, *words, PLANS[0])
-            self.assertEqual(str(caught.exception), "%s: refused: %s" % (cooked, text))
+            self.assertEqual(tried(cooked, *words, PLANS[0]), (3, [], [
+                "steer-try: %s: refused: %s" % (cooked, text)]))
         with open(WEB, "rb") as stream:
-            ended = run("steer-try", "--seeds", "1", "-", PLANS[0], data=stream.read())
-        self.assertEqual(ended.stdout.splitlines(), tried("--seeds", "1", WEB, PLANS[0])[1])
+            self.assertEqual(tried("--seeds", "1", "-", PLANS[0], data=stream.read()),
+                             tried("--seeds", "1", WEB, PLANS[0]))
 
     def test_numbers(self):
         self.assertEqual([numbers.number_text(value) for value in (3, 2000.0, 0.5, 1e22)],
@@ -251,11 +239,11 @@ class Words(unittest.TestCase):
         self.assertEqual(numbers.rates("5,2,5.0,1e3"), [5, 2, 1000])
 
     def test_help_and_a_closed_pipe(self):
-        ended = run("steer-try", "--help")
-        self.assertEqual(ended.returncode, 0)
+        status, lines, _ = tried("--help")
+        self.assertEqual(status, 0)
         for part in ("--seeds N", "--pps A,B,..", "--jobs N", "--commands", "--collect FOLDER",
                      "example:", "parallel", cli.APART, cli.STATUSES):
-            self.assertIn(part, ended.stdout)
+            self.assertIn(part, "\n".join(lines))
         self.assertEqual(run_closed("steer-try", "--seeds", "1", WEB, PLANS[0]), (0, ""))
 
 
