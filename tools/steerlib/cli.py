@@ -60,6 +60,8 @@ def program_name():
 
 def printable(text):
     """`text` with all that a terminal might act upon, or that UTF-8 lacks, written as \\x.. ."""
+    if text.isprintable():
+        return text
     kept = (c if c.isprintable() or c == "\n" else c.encode("unicode_escape").decode()
             for c in text)
     return "".join(kept)

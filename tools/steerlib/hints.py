@@ -1,6 +1,7 @@
 """What the writer of a wrong plan may have meant."""
 
 import difflib
+import functools
 import re
 
 from . import processors
@@ -18,12 +19,24 @@ CAPTURE_MAGICS = (b"\xd4\xc3\xb2\xa1", b"\xa1\xb2\xc3\xd4", b"\x4d\x3c\xb2\xa1",
                   b"\xa1\xb2\x3c\x4d", b"\x0a\x0d\x0d\x0a")
 
 
+@functools.lru_cache(maxsize=None)
+def _letters(word):
+    return frozenset(word)
+
+
+def near(word, known, least=0.5):
+    """The one of the `known` words that `word` is most like, or None."""
+    letters = set(word.lower())
+    alike = [one for one in known if 2 * len(letters & _letters(one)) >= len(_letters(one))]
+    return (difflib.get_close_matches(word.lower(), alike, 1, least) or [None])[0]
+
+
 def of_key(name, known):
     """A suffix that says which of the `known` keys `name` may be, or nothing."""
     if MACHINE_NAMES.get(name.lower()) in known:
         return ", is it `%s`?" % MACHINE_NAMES[name.lower()]
-    near = difflib.get_close_matches(name.lower(), list(known), 1, 0.5)
-    return ", is it `%s`?" % near[0] if near else ""
+    meant = near(name, known)
+    return ", is it `%s`?" % meant if meant else ""
 
 
 def of_set(value):

@@ -4,7 +4,6 @@ A plan is changed as text, so that all that is not set stays byte for byte, its 
 unknown keys among it.
 """
 
-import difflib
 import json
 import re
 
@@ -146,9 +145,9 @@ class Settings:
             self._kind(word, name.partition("/")[2], text)
         else:
             general = re.sub(r"-(\d+|\*)/", "-N/", name)
-            near = difflib.get_close_matches(general, NAMES, 1, 0.6)
+            near = hints.near(general, NAMES, 0.6)
             raise cli.WrongWords("%s: no such setting%s; they are %s" % (
-                name, ", is it %s?" % near[0] if near else "", ", ".join(NAMES)))
+                name, ", is it %s?" % near if near else "", ", ".join(NAMES)))
 
     def _put(self, path, value):
         self.changed[path] = value

@@ -1,8 +1,8 @@
 """The texts of steps: their grammar, their ranges, and what a wrong one may have meant."""
 
-import difflib
 import re
 
+from . import hints
 from . import limits
 from . import processors
 
@@ -79,8 +79,8 @@ def _argument(word, letter, bounds):
 
 
 def _no_word(word):
-    near = difflib.get_close_matches(word.lower(), list(GRAMMAR), 1, 0.5)
-    return "no such step" + (", is it `%s`?" % near[0] if near else "")
+    meant = hints.near(word, GRAMMAR)
+    return "no such step" + (", is it `%s`?" % meant if meant else "")
 
 
 def fault(text, bounds):
