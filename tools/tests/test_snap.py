@@ -163,17 +163,15 @@ class Snap(unittest.TestCase):
             read = snapshot.read_snapshot(sample("snap", name))
             self.assertTrue(read.device and read.queues["rx"] and read.answers, name)
 
-    def test_a_long_list_of_facts_is_that_of_the_samples(self):
-        """The labels are those of a snapshot that another writer made of a real device."""
+    def test_the_kinds_of_facts_are_those_of_a_real_device(self):
+        """The sample was written by another program."""
         with tempfile.TemporaryDirectory() as folder:
             out = run("steer-snap", DEVICE, environment=machine(folder))[1]
-        labels = [set(" ".join(word for word in line.split(" ! ")[0].split(" ")[:3]
-                               if not word.isdigit())
-                      for line in text.splitlines()
-                      if line.split(" ")[0] in ("cpus", "sysctl", "rx", "tx"))
-                  for text in (out, sample_text("snap", "veth-8q-netns.snap"))]
-        shortened = [set(" ".join(label.split(" ")[:2]) for label in of) for of in labels]
-        self.assertEqual(*shortened)
+        kinds = [set(" ".join([word for word in line.split(" ") if not word.isdigit()][:2])
+                     for line in text.splitlines()
+                     if line.split(" ")[0] in ("cpus", "sysctl", "rx", "tx"))
+                 for text in (out, sample_text("snap", "veth-8q-netns.snap"))]
+        self.assertEqual(*kinds)
 
 
 @unittest.skipUnless(os.path.isdir("/sys/class/net/lo/queues"), "no device lo")
