@@ -75,8 +75,11 @@ class Diff(unittest.TestCase):
         for change, line in changes:
             new = report.Report(**dict(vars(old), **change))
             compared = comparison.Comparison(old, new)
-            self.assertIn(line, list(compared.lines(quiet=False)))
+            lines = list(compared.lines(quiet=False))
+            self.assertIn(line, lines)
             self.assertTrue(compared.differ(), line)
+            if line == "r 0 tx 0 -> 1":
+                self.assertIn("; 1 replies differ: other transmit queue 1", lines[-1])
         new = report.Report(**dict(vars(old), packets=[old.packets[0]._replace(at=9)]
                                    + old.packets[1:]))
         compared = comparison.Comparison(old, new)

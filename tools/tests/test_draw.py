@@ -27,6 +27,12 @@ class Draw(unittest.TestCase):
         ended = run("steer-draw", "-", data=replayed("three", "three"))
         self.assertEqual((ended.stdout, ended.stderr, ended.returncode), (THREE, "", 0))
 
+    def test_moves_from_a_passed_and_from_an_offline_processor(self):
+        data = REPLIED.replace(b"cpu 1 why plain at 1 ", b"cpu 1 why offline at 1 ")
+        data = data.replace(b"cpu 1 why plain at 3 ", b"cpu 1 why passed at 3 ")
+        self.assertIn("moves   |^ ^| 2", list(drawing.text(report.read(io.BytesIO(data)))))
+        self.assertIn("flows moved 2 times", run("steer-top", "-", data=data).stdout)
+
     def test_numbers_are_those_of_the_report(self):
         with Folder() as folder:
             capture = folder.path("made.pcap")

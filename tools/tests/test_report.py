@@ -71,6 +71,7 @@ class Reading(unittest.TestCase):
             (b" via reta", b" via road", "line 2 is unexpected: `p 0 q 0 via ro"),
             (b"cpu 0 acc", b"w app 0 entry 1 cpu 2\ncpu 0 acc", "line 10 is unexpected"),
             (b"at 2 app", b"at 02 app", "line 3 is unexpected"),
+            (b"at 2 app", b"at drop 1 1 0 flow - app", "line 3 is unexpected"),
             (b"in 2 place inbox", b"in 2 place drop", "line 3 has place drop and no drop"),
             (b"in 2 place inbox", b"in - place inbox", "line 3 has place inbox and no place in"),
             (b"in 2 place inbox", b"in - place ring", "line 3 has place ring and processor 1"),
