@@ -109,7 +109,8 @@ def _silence_output():
         pass
 
 
-def _guarded(main):
+def guarded(main):
+    """The status of main(words); a fault is said in a line on standard error."""
     name = program_name()
     try:
         status = main(sys.argv[1:])
@@ -147,7 +148,7 @@ def run(main):
     if hasattr(sys.stdout, "reconfigure"):
         sys.stdout.reconfigure(encoding="utf-8", errors="backslashreplace", newline="\n")
     try:
-        status = _guarded(main)
+        status = guarded(main)
     except KeyboardInterrupt:
         _silence_output()
         signal.signal(signal.SIGINT, signal.SIG_DFL)

@@ -1,14 +1,20 @@
 """What the tests of the companions share: running a program, samples, and steer as the judge."""
 
 import concurrent.futures
+import contextlib
+import io
 import os
+import runpy
 import subprocess
 import sys
+from unittest import mock
 
 TESTS = os.path.dirname(os.path.abspath(__file__))
 TOOLS = os.path.dirname(TESTS)
 TOP = os.path.dirname(TOOLS)
 sys.path.insert(0, TOOLS)
+
+from steerlib import cli  # noqa: E402
 
 _RELEASED = os.path.join(TOP, "release", "steer")
 # The program in release/ is asked where none is named, since steer.sh takes ten times as long.
@@ -49,6 +55,24 @@ def run_all(calls):
     """The results of run for a list of words, each with its program first, several at once."""
     with concurrent.futures.ThreadPoolExecutor(os.cpu_count()) as pool:
         return list(pool.map(lambda words: run(*words), calls))
+
+
+def inside(program, *words):
+    """As run, of a program in Python and within this process, which takes less time.
+
+    An exception that the program does not turn into a status comes out here.
+    """
+    path = os.path.join(TOOLS, program)
+    out, err = io.TextIOWrapper(io.BytesIO(), "utf-8", "backslashreplace"), io.StringIO()
+    with mock.patch.object(sys, "argv", [path] + list(words)), \
+            mock.patch.dict(os.environ, STEER=STEER), \
+            contextlib.redirect_stdout(out), contextlib.redirect_stderr(err):
+        try:
+            status = cli.guarded(runpy.run_path(path, run_name="inside")["main"])
+        except SystemExit as end:
+            status = end.code
+        out.flush()
+    return status, out.buffer.getvalue().decode("utf-8", "replace"), err.getvalue()
 
 
 def steer(*words):
