@@ -149,6 +149,11 @@ class Kinds(unittest.TestCase):
             raw = pcap([(7, 0, len(one) - 14, one[14:]) for one in chosen], link)
             self.assertEqual(records(converted(raw)),
                              [(7 * SECOND, len(one), one) for one in chosen])
+        for link, type_of_it in ((228, b"\x08\x00"), (229, b"\x86\xdd"), (101, b"\x86\xdd"),
+                                 (12, b"\x08\x00")):
+            first = {228: b"\x60", 229: b"\x45", 101: b"\x6f", 12: b"\x50"}[link]
+            out = records(converted(pcap([(0, 0, 1, first)], link)))
+            self.assertEqual(out, [(0, 15, bytes(12) + type_of_it + first)], link)
 
     def test_frames_without_a_whole_header(self):
         """They stay frames without a flow, and their direction is not known."""

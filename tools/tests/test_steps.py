@@ -5,6 +5,7 @@ import json
 import re
 import struct
 import unittest
+from collections import Counter
 from unittest import mock
 
 from inside import inside
@@ -22,6 +23,7 @@ COOKED = struct.pack("<IHHIIII", 0xa1b2c3d4, 2, 4, 0, 0, 99, 276) + bytes(8) + b
     + bytes(20)
 ONE = {"cpus": 1, "queues": [{"home": 0, "mask": [], "flows": 0}], "sock": 0, "backlog": 1,
        "apps": [0], "tx": [{"cpus": [], "queues": []}], "steps": []}
+TWO = dict(ONE, cpus=2, queues=[{"home": cpu, "mask": [], "flows": 0} for cpu in (0, 1)])
 
 
 def write_capture(path, packets):
@@ -48,6 +50,15 @@ def drops_of(plan_text, capture):
     with Folder() as folder:
         plan = folder.write("timed.json", plan_text.encode())
         return cli.run_steer(["replay", plan, capture]).count(b" at drop ")
+
+
+def flows_of_queues(folder):
+    """A frame of queue 0, and one of queue 1, of two queues, by steer's own hash."""
+    frames = [frame(flow) for flow in range(8)]
+    capture = write_capture(folder.path("flows.pcap"), [(0, data) for data in frames])
+    lines = cli.run_steer(["hash", capture, "2"]).decode().splitlines()
+    queues = [int(line.split()[-1]) for line in lines[:-1]]
+    return [frames[queues.index(queue)] for queue in (0, 1)]
 
 
 def timed(*words):
@@ -104,6 +115,16 @@ class ByHand(unittest.TestCase):
         self.assertIn("note: 2 packets stand behind one of a later time; the order of the file is "
                       "kept\n", said)
 
+    def test_a_packet_behind_its_time_for_an_idle_processor(self):
+        """It is served from the latest time before it, so it is done after that one."""
+        plan = dict(TWO, backlog=9)
+        with Folder() as folder:
+            flows = flows_of_queues(folder)
+            capture = write_capture(folder.path("c.pcap"), [(4000, flows[0]), (1500, flows[1])])
+            text, _ = timed(write_plan(folder, plan), capture, "--pps", "1000")
+        self.assertEqual(json.loads(text)["steps"][6:], [
+            "deliver 0", "retire 0", "deliver 1", "retire 1", "sweep"])
+
     def test_all_at_once(self):
         steps, said = self.steps("--pps", "1000", times=(7, 7, 7))
         self.assertTrue(steps.startswith("arrive,poll 0,pull 0,arrive,poll 0,arrive,poll 0,del"))
@@ -116,18 +137,15 @@ class ByHand(unittest.TestCase):
         self.assertIn("note: 0 packets in 0.000 s, 1 steps, ", said)
 
     def test_each_processor_at_its_own_rate(self):
-        """Two queues of one packet each: the one of the slow processor is done last."""
-        plan = dict(ONE, cpus=2, queues=[{"home": cpu, "mask": [], "flows": 0} for cpu in (0, 1)])
+        """The packet of the slow processor is done last."""
         with Folder() as folder:
-            flows = [frame(flow) for flow in (0, 2, 4, 5, 6)]
-            capture = write_capture(folder.path("c.pcap"), [(0, data) for data in flows])
-            lines = cli.run_steer(["hash", capture, "2"]).decode().splitlines()[:-1]
-            queues = [int(line.split()[-1]) for line in lines]
-            self.assertEqual(set(queues), {0, 1})
-            plan_path = write_plan(folder, dict(plan, backlog=9))
+            packets = [(0, data) for data in flows_of_queues(folder)]
+            capture = write_capture(folder.path("c.pcap"), packets)
             for slow in (0, 1):
-                text, said = timed(plan_path, capture, "--pps", "1000", "--cpu", "%d=1" % slow)
-                self.assertEqual(json.loads(text)["steps"][-2], "retire %d" % slow)
+                text, said = timed(write_plan(folder, TWO), capture, "--pps", "1000", "--cpu",
+                                   "%d=1" % slow)
+                self.assertEqual(json.loads(text)["steps"][-3:],
+                                 ["deliver %d" % slow, "retire %d" % slow, "sweep"])
                 self.assertIn("1000 packets/s a processor, 1 at cpu %d, 0 dropped" % slow, said)
 
 
@@ -144,8 +162,19 @@ class Agreement(unittest.TestCase):
         self.assertEqual(drops_of(text, capture), int(drops))
         each = 3 + ("--read" in words) + ("--reply" in words)
         self.assertEqual(int(steps), 2 * int(packets) + each * (int(packets) - int(drops)) + 1)
-        self.assertEqual(int(steps), len(json.loads(text)["steps"]))
+        made = json.loads(text)["steps"]
+        self.assertEqual(int(steps), len(made))
+        if "--reply" in words:
+            self.check_replies(text, made, capture)
         return int(drops), len(rounds)
+
+    def check_replies(self, text, steps, capture):
+        """Each application replies as often as packets come to its inbox."""
+        with Folder() as folder:
+            found = report.read_file(folder.replay(json.loads(text), capture))
+        inboxes = Counter(packet.app for packet in found.packets if packet.place == "inbox")
+        replies = Counter(int(step.split()[1]) for step in steps if step.startswith("reply "))
+        self.assertEqual(replies, inboxes)
 
     def test_drops_are_those_that_another_program_gave(self):
         """A program that was written apart from this one was run once on these samples."""
@@ -212,6 +241,15 @@ class Rounds(unittest.TestCase):
 
     def places(self, cpu):
         return schedule.Places([0], [cpu], [0], set(), set())
+
+    def test_packets_that_are_elsewhere(self):
+        places = schedule.Places([0, 1, 2, 3], [5, 5, 5, 5], [0] * 4, set(), set())
+        for queues, cpus, dropped, wanted in (
+                ([0, 1, 2, 3], [5, 5, 5, 5], {3}, []), ([0, 1, 1, 3], [5, 5, 5, 5], {3}, [2]),
+                ([0, 1, 2, 3], [6, 5, 5, 5], {3}, [0]), ([0, 1, 2, 3], [5, 5, 5, 5], set(), [3]),
+                ([0, 1, 2, 3], [5, 5, 5, 5], {1, 3}, [1]), ([9] * 4, [9] * 4, {0}, [0, 1, 2, 3])):
+            answer = schedule.Places(queues, cpus, [0] * 4, dropped, set())
+            self.assertEqual(schedule.elsewhere(places, {3}, answer), wanted)
 
     def test_without_agreement_after_500_rounds_it_is_refused(self):
         calls = []

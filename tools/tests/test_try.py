@@ -167,6 +167,20 @@ class Elsewhere(unittest.TestCase):
             self.assertEqual([line.split()[:2] for line in lines[:3]],
                              [["5", "500"], ["-", drops], ["refused", "-"]])
 
+    def test_a_later_trial_takes_the_place_of_an_earlier_one(self):
+        with Folder() as folder:
+            plan, out = folder.path("p.json"), folder.path("out")
+            words = [WEB, "--seeds", "1", "--reports", out, plan]
+            for data, status, ending in ((b"{", 3, ".refused"), (None, 0, ".report"),
+                                         (b"{", 3, ".refused")):
+                if data is None:
+                    shutil.copy(PLANS[0], plan)
+                else:
+                    folder.write("p.json", data)
+                self.assertEqual(tried(*words)[0], status)
+                self.assertEqual([os.path.splitext(name)[1] for name in os.listdir(out)],
+                                 [ending])
+
     def test_folders_that_are_not_of_use(self):
         with Folder() as folder:
             self.assertEqual(tried("--collect", folder.name), (3, [], [
