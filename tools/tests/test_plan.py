@@ -244,6 +244,14 @@ class Plan(unittest.TestCase):
             given = snapshot.Interrupt(1, effective, wanted, "eth0")
             self.assertEqual(homes.processor(given), told)
 
+    def test_processors_keep_their_numbers_where_all_are_below_32(self):
+        """Of 33 online the eight that have work are numbered; the highest of them is 7."""
+        for online, cpus in (("0-15", 16), ("0-31", 32), ("0-32", 8), ("0-7,31", 32),
+                             ("0-7,32", 9)):
+            made, found = machine.plan_of(parsed(re.sub(
+                "cpus online .*", "cpus online " + online, BASE.replace("c000", "0000"))))
+            self.assertEqual((made["cpus"], found.refusals), (cpus, []), online)
+
     def test_how_many_members_of_a_mask_a_queue_reaches(self):
         """Counted over 16,384 hashes, which is a multiple of the period for these sizes."""
         draw = random.Random(3)

@@ -152,6 +152,12 @@ class Set(unittest.TestCase):
                          [[0], [0], [1]] + [[0]] * 5)
         self.assertEqual(made["apps"], [2])
 
+    def test_fields_of_a_kind_without_ports_are_the_addresses(self):
+        for kinds, word, wanted in ((2, "tcp4=sd", 1), (2, "udp6=sd", 10), (1, "udp4=sdfn", 5),
+                                    (63, "tcp6=sd", 47)):
+            text = PLAN.replace('"kinds": 27', '"kinds": %d' % kinds)
+            self.assertEqual(json.loads(changed(text, "rx-flow-hash/" + word))["kinds"], wanted)
+
     def test_weights_fill_the_table_as_ethtool_does(self):
         draw = random.Random(11)
         for _ in range(300):
