@@ -41,14 +41,13 @@ class Capture:
     """A capture that is read once, from its beginning, out of a binary stream.
 
     Once frames() has ended, `cut` is the number of bytes of a last record that is not whole, 0
-    where there is none, and `other_blocks` the number of pcapng blocks without a frame.
+    where there is none.
     """
 
     def __init__(self, stream, source):
         self.stream = stream
         self.source = source
         self.cut = 0
-        self.other_blocks = 0
         self.start = stream.read(4)
         self.is_pcapng = self.start == SECTION_BYTES
         if not self.is_pcapng:
@@ -113,8 +112,6 @@ class Capture:
                 self.interfaces.append(self._interface(body))
             elif kind == SECTION:
                 self._begin_section(body)
-            else:
-                self.other_blocks += 1
             self.block += 1
             head = self.stream.read(12)
         self.cut = len(head)
@@ -244,6 +241,7 @@ class Merged:
         self.packets = 0
 
     def show(self, frame):
+        """Counts a frame; the tags of VLANs do not make it longer."""
         self.frames += 1
         if frame.wire <= LONGEST_UNMERGED:
             self.packets += 1
@@ -281,6 +279,7 @@ class PcapWriter:
         self.pack = struct.Struct("<IIII").pack
 
     def begin(self):
+        """Writes what stands before the first frame, once."""
         if not self.size:
             self.stream.write(struct.pack("<IHHIIII", 0xA1B23C4D, 2, 4, 0, 0, MOST_FRAME, ETHERNET))
             self.size = 24
@@ -396,7 +395,7 @@ def copy(conversion, writer, first=0, count=limits.MOST_PACKETS):
             return True
         writer.write(frame)
         merged.show(frame)
-    if conversion.left_out and not writer.frames and not first:
+    if conversion.left_out and not (writer.frames or conversion.cooked or first):
         link = min(conversion.left_out)
         raise Refused(writer.source, "all its frames have %s" % other_link(link))
     writer.begin()

@@ -26,9 +26,9 @@ REPORT, REFUSED = ".report", ".refused"
 Trial = namedtuple("Trial", "plan settings kind value")
 
 # What all trials of a call share. capture: a file that steer reads, shown: what messages name it.
-# times: those of its packets, or None. packets: how many. load: without its rate. folder: where
-# the reports are kept, or None.
-Setting = namedtuple("Setting", "capture shown times packets load folder")
+# times: those of its packets, or None. packets: how many. load: without its rate. work: a folder
+# for what is made underway. folder: where the reports are kept, on the same disk, or None.
+Setting = namedtuple("Setting", "capture shown times packets load work folder")
 
 # What a report says in one line. offered: the packets of each processor, with the dropped ones.
 Outcome = namedtuple("Outcome", "packets drops moves offered")
@@ -96,8 +96,7 @@ def _keep(trial, folder, name, ending):
 
 def attempt(trial, setting):
     """The Outcome of a trial, or the text of why it was refused; its report is kept if asked."""
-    folder = setting.folder
-    with tempfile.TemporaryDirectory(dir=folder, prefix=".trial-") as work:
+    with tempfile.TemporaryDirectory(dir=setting.work) as work:
         try:
             name = _replay(trial, setting, work)
             outcome = outcome_of(name)
@@ -106,8 +105,8 @@ def attempt(trial, setting):
             name = os.path.join(work, "refused")
             with open(name, "w", encoding="utf-8") as out:
                 out.write(outcome + "\n")
-        if folder is not None:
-            _keep(trial, folder, name, REFUSED if isinstance(outcome, str) else REPORT)
+        if setting.folder is not None:
+            _keep(trial, setting.folder, name, REFUSED if isinstance(outcome, str) else REPORT)
     return outcome
 
 
@@ -119,8 +118,9 @@ def outcome_or_text(name):
         return str(fault)
 
 
-def _ignore_interrupt():
-    signal.signal(signal.SIGINT, signal.SIG_IGN)
+def _end_at_interrupt():
+    """Lets an interrupt end this process at once; the one that began it removes its files."""
+    signal.signal(signal.SIGINT, signal.SIG_DFL)
 
 
 def processors_here():
@@ -134,7 +134,7 @@ def at_once(function, jobs, arguments):
     """The results of a function over lists of arguments, in their order, so many at once."""
     if jobs == 1 or len(arguments) < 2:
         return [function(*each) for each in arguments]
-    with ProcessPoolExecutor(min(jobs, len(arguments)), initializer=_ignore_interrupt) as pool:
+    with ProcessPoolExecutor(min(jobs, len(arguments)), initializer=_end_at_interrupt) as pool:
         futures = [pool.submit(function, *each) for each in arguments]
         try:
             return [future.result() for future in futures]

@@ -215,6 +215,15 @@ class Kinds(unittest.TestCase):
                 "steer-cap: standard input: refused: %s link type 105; what is read is %s"
                 % (subject, LISTED)]))
 
+    def test_nothing_but_outgoing_frames(self):
+        blocks = Blocks()
+        sent = b"\x08\0" + bytes(6) + b"\0\1\4\6" + bytes(8) + frame(0)[14:]
+        data = (blocks.section() + blocks.interface(276) + blocks.interface(105)
+                + blocks.enhanced(0, 1, sent) + blocks.enhanced(1, 2, b"wireless"))
+        status, out, said = cap("--in", "-", data=data)
+        self.assertEqual((status, records(out), said[-1]),
+                         (0, [], "note: 0 frames written, 1 outgoing left out"))
+
     def test_in_says_where_there_is_no_direction(self):
         said = cap("--in", sample("lo.pcap"))[2]
         self.assertEqual(said, ["note: --in: no frame tells its direction, as cooked ones do, so "

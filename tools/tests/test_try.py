@@ -201,6 +201,12 @@ class Elsewhere(unittest.TestCase):
         self.assertEqual((ended.returncode, ended.stdout, ended.stderr),
                          (4, "", "steer-try: %s: No such file or directory\n" % folder.name))
 
+    def test_a_trial_that_is_killed(self):
+        with self.assertRaises(cli.Refused) as caught:
+            trial.at_once(os._exit, 2, [(1,), (1,)])
+        self.assertEqual(str(caught.exception), "--jobs 2: refused: a trial ended without a "
+                         "result, as where memory is short; fewer at once may do")
+
     def test_names_of_reports(self):
         for plan, kind, value in (("a.json", "seed", 7), ("../x y/%2F.json", "pps", 2000.0),
                                   ("b.seed-3.report", "pps", 0.25), ("é", "pps", 1e22)):
