@@ -15,6 +15,7 @@ use Rattle.hop_rule.specs.Gates.{Visit, outside, inside, backing}
 use Rattle.hop_rule.specs.Lanes as lanes
 use Rattle.hop_rule.specs.Sizes.{closer, puller}
 use Rattle.hop_rule.specs.declared.sizes.BoardSizes.{BoardSizes}
+use Rattle.hop_rule.specs.declared.sizes.TheConstants.{MAX_OPENINGS}
 use Rattle.hop_rule.specs.declared.step.BoardStep.{BoardStep}
 use Rattle.hop_rule.specs.declared.step.BoardStep.TheVariants.{Lane, Gate, Weighed, Counted}
 use Rattle.hop_rule.specs.declared.step.BoardStep.TheVariants.{LaneOut, LaneIn}
@@ -73,7 +74,7 @@ module _ (about : BoardSizes) where
   TestsGate p es Left = gates.visit (steps_of p es) ≡ inside
   TestsGate p es (Shut w) =
       (p ≡ closer about) × (w ≡ gates.gate_word es) × (gates.visits es ≡ 0)
-      × (gates.closed (steps_of p es) ≡ 0) × Below (gates.openings (steps_of p es)) 1000000000
+      × (gates.closed (steps_of p es) ≡ 0) × Below (gates.openings (steps_of p es)) MAX_OPENINGS
   TestsGate p es (Set i v) =
       (p ≡ closer about) × Below i (length about.settings) × (gates.closed (steps_of p es) ≡ 1)
   TestsGate p es d = gates.MayCome about p es d
