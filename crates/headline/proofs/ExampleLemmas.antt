@@ -1,6 +1,7 @@
 -- The settings of the examples are those of a plan.
-use Rattle.std.proofs.Common.{ℕ, ◌<◌, ◌≤◌, List, [], ◌∷◌, arith, length}
-use Rattle.std.proofs.lemmas.List.Elements.{All-cons, All-nil, All-replicate}
+use Rattle.std.proofs.Common.{ℕ, ◌<◌, ◌≤◌, ◌≡◌, true, List, [], ◌∷◌, arith, length}
+use Rattle.std.proofs.lemmas.List.Elements.{All-cons, All-from_recursion, All-nil}
+use Rattle.std.proofs.lemmas.List.Elements.{All-replicate}
 use Rattle.std.specs.List.{AllPass}
 use Rattle.plan_reader.specs.Ranges.{DetachIsWithin, QueueIsWithin, TxIsWithin, step_is_within}
 use Rattle.plan_reader.specs.Settings.{IsWithin}
@@ -54,6 +55,10 @@ example-within list few named =
 pub examples-within : ExamplesAreWithin
 examples-within =
     record {
-      drained = example-within drained_steps (omega arith) assumption;
-      waiting = example-within waiting_steps (omega arith) assumption;
+      drained =
+          example-within drained_steps (omega arith)
+          (All-from_recursion (λ s. step_is_within sizes s ≡ true) drained_steps assumption);
+      waiting =
+          example-within waiting_steps (omega arith)
+          (All-from_recursion (λ s. step_is_within sizes s ≡ true) waiting_steps assumption);
     }

@@ -13,12 +13,11 @@ use Rattle.history.specs.declared.lane_list.LaneList.{LaneList}
 use Rattle.history.specs.declared.sent.Sent.{Sent}
 use Rattle.hop_core.specs.Hop.{chosen_at, nobody}
 use Rattle.steer_base.specs.Choices.{has_moved}
-use Rattle.steer_base.specs.Moves.{MayLeave}
+use Rattle.steer_base.specs.Moves.{MayLeave, MovesByThree}
 use Rattle.steer_base.specs.declared.choice.Choice.{Choice}
 use Rattle.steer_base.specs.declared.choice.Chosen.{Chosen}
 use Rattle.steer_base.specs.declared.choice.Entry.{Entry}
 use Rattle.steer_base.specs.declared.put.LaneDrop.{LaneDrop}
-use Rattle.steer_properties.specs.Choices.Moves.{ChangesAsSaid, MayChange, MovesAsSaid}
 use Rattle.steer_properties.specs.Choices.ByTheRule.{AreChosen, AreReplied}
 use Rattle.steer_model.specs.Good.Drops.{DropsAreExplained, DropsRise}
 use Rattle.steer_model.specs.Good.Writes.{StoodAt}
@@ -51,7 +50,8 @@ module _ (c : Choice) (goal : ℕ) (before : Option ℕ) (May : Option ℕ → T
   change-to new = moved (moves-if_changed new)
 
 by-three : (c : Choice) (desired : ℕ) (online : ℕ → Bool) (before : Entry)
-    → MovesAsSaid c desired online before → ChangesByThree c desired online before
+    → MovesByThree c desired before.tail (λ lane. unwrap_or c.head 0) online before.lane
+    → ChangesByThree c desired online before
 by-three c desired online before said =
     let May : Option ℕ → Type 0 =
     MayLeave desired before.tail (λ lane. unwrap_or c.head 0) online in
@@ -59,29 +59,6 @@ by-three c desired online before said =
     record {
       just_where = change-just_where c desired before.lane May said.may said.moved said.kept other;
       to = change-to c desired before.lane May said.may said.moved said.kept other;
-    }
-
--- where all queues are online, the head alone lets a flow leave its own
-leaves-by_head : (pick tail : ℕ) (head before : Option ℕ) → MayChange pick tail head before
-    ↔ MayLeave pick tail (λ lane. unwrap_or head 0) (λ queue. true) before
-leaves-by_head pick tail head None = (λ can. can, λ can. can)
-leaves-by_head pick tail head (Some tx) = (
-  λ can. (can.0, inr can.1),
-  λ can. (can.0, elim can.1 [ inl off ↦ absurd (cc) | inr reached ↦ reached ]),
-)
-
-by-the-pick : (c : Choice) (pick : ℕ) (before : Entry) → ChangesAsSaid c pick before
-    → ChangesByThree c pick (λ queue. true) before
-by-the-pick c pick before said =
-    let May : Option ℕ → Type 0 =
-    MayLeave pick before.tail (λ lane. unwrap_or c.head 0) (λ queue. true) in
-    let same = leaves-by_head pick before.tail c.head before.lane in
-    let may : has_moved c.why ≡ true ↔ May before.lane =
-    (λ moved. same.0 (said.may.0 moved), λ can. said.may.1 (same.1 can)) in
-    let other : May (Some pick) → ⊥ = λ can. can.0 refl in
-    record {
-      just_where = change-just_where c pick before.lane May may said.moved said.kept other;
-      to = change-to c pick before.lane May may said.moved said.kept other;
     }
 
 -- ---- choices of processors
@@ -131,7 +108,7 @@ module _ (i : Input) (h : History) (w : AreReplied i h) where
           stood = subst (λ (s : Sent). StoodAt i h a s.cpu) (get_or_from_slice_get sent k r r is)
               here;
           rule = rule;
-          changes = by-the-pick c.choice _ _ (w.changes a k r lt is);
+          changes = by-three c.choice _ _ _ (w.changes a k r lt is);
         },
       )
 

@@ -9,7 +9,7 @@ use Rattle.steer_base.specs.Sets.{has}
 use Rattle.steer_base.specs.declared.put.LaneDrop.{LaneDrop}
 use Rattle.steer_model.specs.Good.Inputs.{Input}
 
--- the packets that were put to a processor before its drop j, in the order of their puts
+-- The packets that were put to a processor before its drop j, in the order of their puts.
 abbrev pub offered_before : LaneList → ℕ → LaneDrop → List ℕ
 offered_before lane j d = offers_of (take d.accepted lane.accepted) (take j lane.drops)
 

@@ -22,7 +22,7 @@ use Rattle.steer_invariant.specs.InvariantLaws.{MayStart}
 use Rattle.steer_model.specs.Good.Inputs.{Input}
 use Rattle.headline.specs.Headline.{Headline, IsOfTheRun, Reports, Says}
 
--- a plan with these settings, which are within their ranges
+-- The plan with these settings, which are within their ranges.
 abbrev pub plan_with : (s : PlanSettings) → IsWithin s → Plan
 plan_with s within =
     record {
@@ -49,16 +49,16 @@ plan_with s within =
 
 -- ---- the example
 
--- the first packet arrives, and is put to its processor
+-- The first packet arrives, is put to its processor, and the application records the flow.
 abbrev pub first_steps : List Step
 first_steps =
     act.Arrive ∷ act.Enter 0 ∷ act.Take 0 ∷ act.Look 0 ∷ act.Weigh 0 ∷ act.Put 0 ∷ act.Record 0 ∷ []
 
--- the second packet arrives, and is weighed
+-- The second packet arrives and is weighed.
 abbrev pub second_steps : List Step
 second_steps = act.Arrive ∷ act.Take 0 ∷ act.Look 0 ∷ act.Weigh 0 ∷ []
 
--- the first packet goes through its processor
+-- The first packet goes through its processor.
 abbrev pub drain_steps : List Step
 drain_steps = act.Pull 1 ∷ act.Deliver 1 ∷ act.Retire 1 ∷ []
 
@@ -87,9 +87,11 @@ example_settings list =
       steps = steps.List list;
     }
 
+-- A packet of the one flow of the examples.
 abbrev pub example_packet : Packet
 example_packet = record { flow = Bare; hash = Some 5; len = 60; flow_number = 0 }
 
+-- The example with these steps: its plan and two packets of the flow.
 abbrev pub example_of : (list : List Step) → IsWithin (example_settings list) → Input
 example_of list within =
     record {
@@ -98,14 +100,16 @@ example_of list within =
       cut = None;
     }
 
--- In one run the first packet is retired before the second one is weighed, in the other it is not.
+-- The steps of the first run, in which the first packet is retired before the second one is
+-- weighed.
 abbrev pub drained_steps : List Step
 drained_steps = first_steps ++ (drain_steps ++ second_steps)
 
+-- The steps of the second run, in which the first packet still waits then.
 abbrev pub waiting_steps : List Step
 waiting_steps = first_steps ++ second_steps
 
--- Both lists of steps are those of a plan.
+-- The settings of both examples are within the ranges of a plan.
 pub record ExamplesAreWithin : Type 0 where
   pub drained : IsWithin (example_settings drained_steps)
   pub waiting : IsWithin (example_settings waiting_steps)
@@ -165,6 +169,7 @@ AnotherCommandIsForged =
 -- same bytes say what was to be done, each history whose report it is is that one.
 abbrev pub HeadlinesAreOfTheRun : Type 0
 HeadlinesAreOfTheRun =
-    (plan_bytes capture_bytes : List ℕ) (capture : Capture) (text : List ℕ) (i : Input) (h : History)
+    (plan_bytes capture_bytes : List ℕ) (capture : Capture) (text : List ℕ) (i : Input)
+    (h : History)
     → Headline plan_bytes capture_bytes capture text → Says plan_bytes capture_bytes capture i
     → MayStart i.plan i.packets → Reports i h text → IsOfTheRun i h

@@ -14,7 +14,7 @@ use Rattle.headline.specs.Headline.{Headline, IsOfTheRun, IsRight, Says}
 abbrev pub ReplaysAreRight : Type 0
 ReplaysAreRight = Always IsRight
 
--- The history of the replay of a plan is that of its run, and all that this says holds of it.
+-- The history of the replay of a plan is that of its run.
 abbrev pub ReplaysAreOfTheirRuns : Type 0
 ReplaysAreOfTheirRuns =
     (i : Input) → MayStart i.plan i.packets → IsOfTheRun i (replayed i.plan i.packets i.cut)

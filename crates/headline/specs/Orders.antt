@@ -6,13 +6,13 @@ use Rattle.history.specs.declared.history.History.{History}
 use Rattle.steer_base.specs.Orders.{InOrder}
 use Rattle.steer_base.specs.declared.packet.Packet.{Packet}
 
--- packet y came by receive queue q, and is of the flow of packet x
+-- Whether packet y came by receive queue q and is of the flow of packet x.
 abbrev pub came_by : List Packet → History → ℕ → ℕ → ℕ → Bool
 came_by packets h q x y =
     is_in y (arrivals_at h.arrivals q)
     && (packet_at packets y).flow_number == (packet_at packets x).flow_number
 
--- Of the packets of that flow which came by queue q, those in this list are a beginning of those
+-- The packets in a list that came by queue q and are of the flow of packet x are a prefix of those
 -- that arrived there, in the order of their arrival, without the ones that a processor dropped.
 abbrev pub AreInOrder : List Packet → History → ℕ → ℕ → List ℕ → Type 0
 AreInOrder packets h q x delivered =

@@ -30,7 +30,7 @@ pub record ChangesByThree (c : Choice) (desired : ℕ) (online : ℕ → Bool) (
       ↔ MayLeave desired before.tail (λ lane. unwrap_or c.head 0) online before.lane
   pub to : Some c.lane ≢ before.lane → c.lane ≡ desired
 
--- the processor that packet x of queue q is to go to, with this class and want
+-- The desired processor of packet x of queue q, with this class and want.
 abbrev pub desired_for : Input → Settings → ℕ → ℕ → Option ℕ → Option ℕ → ℕ
 desired_for i s q x class want =
     desired_cpu class want s.online (plain_lane (setup_in i) s q x)
@@ -49,8 +49,8 @@ pub record IsChosen (i : Input) (h : History) (q k : ℕ) (c : Chosen) (s : Sett
       → (place : ℕ) × (class_of s.sock (packet_at i.packets c.id).hash ≡ Some place)
       × WasWritten h (record { entry = place; cpu = cpu })
 
--- Each choice is made so, with the settings after the commands that were given before it: `at` of
--- them, never fewer than before the choice before it.
+-- Each choice of a processor is by the rule, with the settings after the commands that were given
+-- before it: `at` of them, no fewer than before the choice before it.
 pub record ProcessorsAreChosen (i : Input) (h : History) (at : ℕ → ℕ → ℕ) : Type 0 where
   pub moments : (q : ℕ) → Prefixes (length (list_at h.choices q)) (length h.commands) (at q)
   pub each : (q k : ℕ) (c : Chosen) → slice_get (list_at h.choices q) k ≡ Some c

@@ -12,7 +12,7 @@ use Rattle.steer_model.specs.State.Settings.{Settings}
 use Rattle.xps_map.specs.Maps.{picked}
 use Rattle.headline.specs.Processors.{ChangesByThree, entry_before}
 
--- the transmit queue that these maps pick for a reply
+-- The transmit queue that the maps of the settings pick for a reply.
 abbrev pub pick_by : Input → Settings → Sent → ℕ
 pick_by i s r = picked s.maps r.rxq r.cpu (packet_at i.packets r.id).hash
 
@@ -33,7 +33,8 @@ pub record IsSentBy (i : Input) (h : History) (a k : ℕ) (c : Chosen) (r : Sent
       (entry_before h.start h.tx_lanes (list_at h.tx_choices a) 0 k
       (packet_at i.packets r.id).flow_number)
 
--- Each transmit choice is made so, with the settings after the commands that were given before it.
+-- Each choice of a transmit queue is by the rule, with the settings after the commands that were
+-- given before it.
 pub record QueuesArePicked (i : Input) (h : History) (at : ℕ → ℕ → ℕ) : Type 0 where
   pub moments : (a : ℕ) → Prefixes (length (list_at h.tx_choices a)) (length h.commands) (at a)
   pub each : (a k : ℕ) (c : Chosen) → slice_get (list_at h.tx_choices a) k ≡ Some c

@@ -4,7 +4,7 @@ use Rattle.steer_base.specs.declared.packet.Packet.{Packet}
 use Rattle.history.specs.Lists.{packet_at}
 use Rattle.steer_model.specs.Capture.Packets.{AreNumbered}
 
--- one more than the greatest number of a flow, and 0 without packets
+-- One more than the greatest flow number of these packets, and 0 without packets.
 abbrev pub flow_count : List Packet → ℕ
 flow_count packets =
     fold (λ most count. max most count) 0 (map (λ packet. packet.flow_number + 1) packets)
@@ -16,7 +16,7 @@ pub record HaveFlows (packets : List Packet) (n : ℕ) : Type 0 where
   pub each : (number : ℕ) → number < n
       → (x : ℕ) × (x < length packets) × ((packet_at packets x).flow_number ≡ number)
 
--- Numbered packets have as many flows as is counted.
+-- Packets whose flows are numbered have as many flows as `flow_count` says.
 abbrev pub FlowsAreCounted : Type 0
 FlowsAreCounted = (packets : List Packet) → AreNumbered packets
     → HaveFlows packets (flow_count packets)

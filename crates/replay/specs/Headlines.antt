@@ -5,7 +5,7 @@ use Rattle.pcap_reader.specs.declared.capture.Capture.{Capture}
 use Rattle.replay.specs.Meanings.{Meaning}
 use Rattle.replay.specs.Reports.{IsReportOfPlan}
 
--- It has the headline, whatever the taps mean.
+-- Every report of the bytes of a plan and of a capture has the headline, whatever the taps mean.
 abbrev pub EveryReportHasTheHeadline : Type 0
 EveryReportHasTheHeadline =
     (plan_bytes capture_bytes : List ℕ) (capture : Capture) (taps : List Meaning) (text : List ℕ)

@@ -11,7 +11,7 @@ use Rattle.report.specs.Texts.{text_of}
 use Rattle.steer_model.specs.State.Start.{replayed}
 use Rattle.replay.specs.Meanings.{Meaning, texts_of}
 
--- a history, the lines of its packets, and the texts of the taps
+-- A replay: a history, the lines of its packets, and the texts of the taps.
 pub record ReplayLists : Type 0 where
   pub history : History
   pub lines : LineLists
@@ -24,19 +24,21 @@ pub record IsWithinTypes (plan : Plan) (r : ReplayLists) : Type 0 where
   pub numbers : HistoryFits r.history
   pub texts : TextsFit r.texts
 
+-- A replay of these three lists.
 abbrev pub replay_with : History → LineLists → List (List ℕ) → ReplayLists
 replay_with h lines texts = record { history = h; lines = lines; texts = texts }
 
--- a history with its lines, and the texts of these taps over the lines of the arrived packets
+-- The replay of a history: its lines, and the texts of these taps over the lines of the packets
+-- that arrived.
 abbrev pub shown_with : Plan → List Packet → List Meaning → History → ReplayLists
 shown_with plan packets taps h =
     let lines = lines_of packets (length plan.apps) h in
     replay_with h lines (texts_of taps plan.detach lines.packets)
 
--- the replay of all steps of a plan
+-- The replay of all steps of a plan over the packets of a capture, with taps that mean this.
 unfoldable pub replay_of : Plan → List Packet → Option ℕ → List Meaning → ReplayLists
 replay_of plan packets cut taps = shown_with plan packets taps (replayed plan packets cut)
 
--- the report of its history
+-- The report of a replay.
 unfoldable pub replay_text : ReplayLists → List ℕ
 replay_text r = text_of (rows_of r.lines r.history r.texts)

@@ -10,17 +10,18 @@ use Rattle.steer_model.specs.Capture.Packets.{ArePackets}
 use Rattle.replay.specs.Meanings.{Meaning}
 use Rattle.replay.specs.Replays.{IsWithinTypes, ReplayLists, replay_of, replay_text}
 
--- these bytes are the text of this plan
+-- Bytes are the text of a plan.
 abbrev pub HasPlan : List ℕ → Plan → Type 0
 HasPlan bytes plan = plan_of bytes ≡ Ok (settings_of plan)
 
--- these are the packets of a capture by a plan: those of its records, each with the flow of its
--- frame, and the hash of the flow by the plan's key and kinds
+-- The packets of a capture by a plan: those of its records, each with the flow of its frame, and
+-- the hash of the flow by the plan's key and kinds.
 abbrev pub ArePacketsBy : Plan → List ℕ → Capture → List Packet → Type 0
 ArePacketsBy plan bytes capture packets =
     ArePackets (number_of plan.key) plan.kinds bytes capture.records packets
 
--- A replay is that of all steps of a plan over the packets of a capture, with taps that mean this.
+-- A replay is the one of all steps of a plan over the packets of a capture, with taps that mean
+-- this.
 pub record IsReplayOf (plan : Plan) (bytes : List ℕ) (capture : Capture) (taps : List Meaning)
     (r : ReplayLists) : Type 0 where
   pub packets : List Packet

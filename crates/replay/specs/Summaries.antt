@@ -15,10 +15,11 @@ use Rattle.replay.specs.Reports.{ArePacketsBy, HasPlan}
 use Rattle.replay.specs.declared.counts.Counts.{Counts}
 use Rattle.replay.specs.declared.summary.Summary.{Summary}
 
--- the bytes of the capture and of the plan that are generated
+-- The bytes of the capture that is generated.
 abbrev pub generated_capture : ℕ → ℕ → ℕ → List ℕ
 generated_capture seed packets flows = capture_bytes (packets_of seed flows packets)
 
+-- The bytes of the plan that is generated.
 abbrev pub generated_plan : ℕ → ℕ → List ℕ
 generated_plan seed packets = compact_text (plan_value seed (generated_step_count packets))
 
@@ -38,23 +39,26 @@ pub record IsSummaryOf (seed packets flows : ℕ) (s : Summary) : Type 0 where
     counts = counts_of (replayed plan list capture.cut);
   }
 
--- what was generated
+-- The line of what was generated.
 unfoldable pub input_line : ℕ → ℕ → ℕ → List ℕ
 input_line seed packets flows =
     codes "gen " ++ decimal seed ++ codes " packets " ++ decimal packets
     ++ codes " flows " ++ decimal flows ++ codes "\n"
 
--- what came of it, up to the drops and behind them
+-- The line of the sums, up to the number of drops.
 unfoldable pub up_to_drops : ℕ → ℕ → List ℕ
 up_to_drops delivered dropped =
     codes "delivered " ++ decimal delivered ++ codes " dropped " ++ decimal dropped
 
+-- The line of the sums, after the number of drops.
 unfoldable pub after_drops : ℕ → ℕ → List ℕ
 after_drops moved replies =
     codes " moved " ++ decimal moved ++ codes " replies " ++ decimal replies ++ codes "\n"
 
+-- The line of the sums.
 unfoldable pub counts_line : Counts → List ℕ
 counts_line c = up_to_drops c.delivered c.dropped ++ after_drops c.moved c.replies
 
+-- The two lines of a summary.
 abbrev pub summary_text : Summary → List ℕ
 summary_text s = input_line s.seed s.packets s.flows ++ counts_line s.counts

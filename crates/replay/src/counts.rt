@@ -6,7 +6,7 @@ ghost use Rattle.replay.specs.Counts.{IsCountable, counts_of, delivered_in, drop
 use history::{History, LaneList};
 use steer_base::{Chosen, List, PacketId};
 
-/// How many packets went which way.
+/// The number of packets that went each way.
 #[derive(Clone, Copy, Debug, PartialEq, Eq)]
 pub struct Counts {
     /// The packets that are in an inbox.

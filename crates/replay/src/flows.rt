@@ -4,8 +4,8 @@ ghost use Rattle.replay.specs.FlowCounts.{flow_count};
 
 use steer_base::Packet;
 
-/// How many flows these packets have, whose flows are numbered from 0 without a gap: one more than
-/// the greatest number.
+/// The number of flows of these packets, whose flows are numbered from 0 without a gap: one more
+/// than the greatest number.
 pub fn flow_count(packets: &[Packet]) -> u64
     ensures { result ≡ flow_count packets.now }
 {

@@ -1,4 +1,4 @@
-//! Laws, each the contract of a function that does nothing.
+//! Laws, each the contract of a lemma: a function with an empty body.
 ghost use Rattle.replay.specs.FlowCounts.{FlowsAreCounted};
 ghost use Rattle.replay.specs.Headlines.{EveryReportHasTheHeadline};
 

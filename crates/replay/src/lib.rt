@@ -1,5 +1,5 @@
-//! The replay of a plan over the packets of a capture, from the plan and the packets to the written
-//! report; and the replay of generated input, of which two lines are written.
+//! The replay of a plan over the packets of a capture, up to the written report; and the replay of
+//! generated input, of which two lines of sums are written.
 #![tactic(auto)]
 
 mod counts;

@@ -12,8 +12,8 @@ use steer_base::{OutOfMemory, Packet};
 use steer_model::packets;
 use toeplitz::{Key, Kinds};
 
-/// The packets of a capture, hashed by the key and the kinds of a plan. There are at most 262,144
-/// records, and the frame of each lies within the bytes.
+/// The packets of a capture, hashed by the key and the kinds of a plan. There are at most
+/// `MAX_PACKETS` records, and the frame of each lies within the bytes.
 pub fn packets_by(
     alloc: Global,
     plan: &Plan,

@@ -32,7 +32,7 @@ pub fn play(
     steering.history(alloc)
 }
 
-/// Tells that a machine may start of this plan and these packets. It does nothing.
+/// Lemma: a machine may start with this plan and these packets.
 pub fn tell_start(plan: &Plan, packets: &[Packet])
     requires few { length packets.now ≤ MAX_PACKETS }
     requires flows { AreOfFlows packets.now }
@@ -41,7 +41,7 @@ pub fn tell_start(plan: &Plan, packets: &[Packet])
     let _start = plan.start;
 }
 
-/// Tells that what the history of a plan is counted in is below 2^64. It does nothing.
+/// Lemma: the sums over the history of a plan are below 2^64.
 pub fn tell_countable(plan: &Plan, packets: &[Packet], cut: Option<u32>)
     requires few { length packets.now ≤ MAX_PACKETS }
     requires flows { AreOfFlows packets.now }

@@ -44,10 +44,10 @@ impl Model for Replay {
 
 impl Replay {
     /// Makes all steps of a plan over these packets, and shows the taps the lines of the packets
-    /// that arrived, each up to its detaching by the plan. There are at most 262,144 packets, each
-    /// flow has a number below the number of packets, and all packets of a flow have one hash.
-    /// `cut` is the length of a cut record at the end of the capture. After want of memory all taps
-    /// are dropped.
+    /// that arrived, each up to its detaching by the plan. There are at most
+    /// `MAX_PACKETS` packets, each flow number is below the number of packets, and all packets of a
+    /// flow have one hash. `cut` is the length of a cut record at the end of the capture. If memory
+    /// runs out all taps are dropped.
     pub fn make(
         alloc: Global,
         plan: &Plan,

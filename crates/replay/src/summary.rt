@@ -46,7 +46,7 @@ impl Summary {
             capture: bytes,
             plan: text,
         } = generate(alloc, seed, packets, flows)?;
-        // What is generated has a plan and a capture, so that memory alone can be wanting.
+        // What is generated has a plan and a capture, so only memory can run out.
         let Ok(plan) = read_plan(alloc, &text) else {
             return Err(OutOfMemory);
         };

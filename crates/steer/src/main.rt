@@ -1,5 +1,5 @@
-//! The program `steer`: it replays a capture through packet steering as the kernel's scaling chapter
-//! describes it, and reports what happened to each packet.
+//! The program `steer`: it replays a capture through packet steering, as the kernel's scaling
+//! chapter describes it, and reports what happened to each packet.
 #![tactic(auto)]
 
 use outside_io::{Desk, FileDesk, Sink, StdSink};

@@ -70,7 +70,8 @@ module _ (r : Running) (made steps : ℕ) (left : made < steps) (k : HaveRoomFor
           within = omega (arith, left);
           room_for_commands = ap (λ (x : Rooms). x.commands) rooms ∙ k.room_for_commands;
           room_for_writes = ap (λ (x : Rooms). x.writes) rooms ∙ k.room_for_writes
-              ∙ ap (λ q. steps + length q.packets) (sym (ap (λ (m : Machine). m.setup) is ∙ p.setup));
+              ∙ ap (λ q. steps + length q.packets)
+              (sym (ap (λ (m : Machine). m.setup) is ∙ p.setup));
           commands = omega (arith, many, commands, listed);
           writes = λ a. (
               let old = k.writes a in let new = p.written a in

@@ -1,9 +1,9 @@
--- Which commands change a setting alone.
+-- The commands that change one setting and no table.
 use Rattle.std.specs.Prelude.{Bool, true, false}
 use Rattle.steer_base.specs.declared.command.Command.{Command}
 use Rattle.steer_base.specs.declared.command.Command.TheVariants as give
 
--- whether a command changes its setting and nothing else
+-- Whether a command changes its setting and nothing else.
 abbrev pub stands_alone : Command → Bool
 stands_alone (give.Flows q count) = false
 stands_alone (give.Sock size) = false

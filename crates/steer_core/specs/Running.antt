@@ -13,16 +13,17 @@ use Rattle.steer_model.specs.State.Setup.{Setup}
 use Rattle.steer_model.specs.declared.note.Note.{Note}
 use Rattle.steer_invariant.specs.Invariant.{Invariant}
 
--- how many writes of each application, and how many commands there is memory for
+-- The number of writes of each application, and of commands, for which memory is reserved.
 pub record Rooms : Type 0 where
   pub writes : ℕ
   pub commands : ℕ
 
+-- A machine in memory: the machine of the definition, and the room of its lists.
 pub record Running : Type 0 where
   pub machine : Machine
   pub rooms : Rooms
 
--- the values of the parts that a machine is made of in memory
+-- The values of the parts of a machine in memory.
 pub record Parts : Type 0 where
   pub given : Setup
   pub settings : Settings
@@ -36,6 +37,7 @@ pub record Parts : Type 0 where
   pub writes : Journals SockWrite
   pub commands : Journal Commanded
 
+-- The parts of a machine in memory, from the value of each.
 abbrev pub running_parts : Setup → Settings → List (Option ℕ) → List (Option Filter) → List Note
     → HopState → HopState → Journal Arrival → Journals Sent → Journals SockWrite
     → Journal Commanded → Parts
@@ -54,6 +56,7 @@ running_parts given settings socket filters notes rx tx arrivals sent writes com
       commands = commands;
     }
 
+-- The machine of the definition that parts in memory are.
 abbrev pub machine_of : Parts → Machine
 machine_of p =
     record {
@@ -70,6 +73,7 @@ machine_of p =
       commands = p.commands.items;
     }
 
+-- The machine and the room of parts in memory.
 abbrev pub running : Parts → Running
 running p =
     record {
@@ -82,7 +86,7 @@ pub record HasRoom (packets arrivals sent : ℕ) : Type 0 where
   pub arrivals_room : arrivals ≡ packets
   pub sent_room : sent ≡ packets
 
--- What holds of the parts between steps.
+-- The invariant of the parts of a machine in memory, between steps.
 abbrev pub IsRunning : Parts → Type 0
 IsRunning p =
     Invariant (machine_of p) × HasRoom (length p.given.packets) p.arrivals.room p.sent.room

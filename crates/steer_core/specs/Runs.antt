@@ -11,18 +11,18 @@ use Rattle.steer_model.specs.State.Start.{new_machine}
 use Rattle.steer_model.specs.Steps.CompoundSteps.{step}
 use Rattle.steer_core.specs.Running.{Running}
 
--- a machine, how many steps it made, and the most that it may make
+-- A run of a plan: its machine, the number of steps made, and the number of steps of the plan.
 pub record Run : Type 0 where
   pub machine : Machine
   pub made : ℕ
   pub steps : ℕ
 
--- the run of a plan over the packets of a capture, before its first step
+-- The run of a plan over the packets of a capture, before its first step.
 abbrev pub new_run : Plan → List Packet → Option ℕ → Run
 new_run plan packets cut =
     record { machine = new_machine plan packets cut; made = 0; steps = step_count plan }
 
--- the run after a step
+-- The run after one more step.
 abbrev pub stepped : Run → Step → Run
 stepped r s = record r { machine = (step r.machine s).0; made = r.made + 1 }
 

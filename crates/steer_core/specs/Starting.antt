@@ -6,7 +6,8 @@ use Rattle.plan_reader.specs.declared.plan.Plan.{Plan}
 use Rattle.steer_model.specs.State.Start.{new_machine}
 use Rattle.steer_core.specs.Running.{Running}
 
--- There is room for a command of each step, and for a write of each step and each packet.
+-- The machine of a plan in memory before its first step, with room for a command of each step and
+-- for a write of each step and each packet.
 abbrev pub started : Plan → List Packet → Option ℕ → Running
 started plan packets cut =
     record {

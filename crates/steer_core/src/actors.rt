@@ -62,7 +62,7 @@ impl Model for Actors {
 }
 
 impl Actors {
-    /// A step of many events, else one of one event or a command.
+    /// Carries out any step: one of many events, one of one event, or a command.
     pub fn step(&mut self, step: Step) -> Answer
         requires within { step_is_within (sizes_in self.old.machine.setup) step ≡ true }
         requires room { HasRoomFor self.old.rooms self.old.machine step }
@@ -81,7 +81,7 @@ impl Actors {
         }
     }
 
-    /// Says what holds of the machine between steps.
+    /// Lemma: the invariant of the machine between steps.
     pub fn sound(&self)
         ensures { Invariant self.now.machine }
     {
@@ -90,7 +90,7 @@ impl Actors {
     }
 }
 
-// A step of many events is done where work was done.
+// A step of many events is done if work was done.
 fn ended(worked: bool) -> Answer
     ensures { result ≡ (if worked then says.Done else says.Idle idle.Nothing) }
 {

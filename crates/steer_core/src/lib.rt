@@ -1,5 +1,5 @@
-//! The machine: it is made for a plan and the packets of a capture, carries out the plan's steps one
-//! by one, and gives out its history.
+//! The machine: it is made for a plan and the packets of a capture, carries out the plan's steps
+//! one by one, and gives out its history.
 #![tactic(auto)]
 
 mod actors;

@@ -40,8 +40,8 @@ impl Model for Steering {
 
 impl Steering {
     /// The machine of a plan before its first step, with the memory for all its steps. There are at
-    /// most 262,144 packets, each flow has a number below the number of packets, and all packets of
-    /// a flow have one hash. `cut` is the length of a cut record at the end of the capture.
+    /// most `MAX_PACKETS` packets, each flow number is below the number of packets, and all packets
+    /// of a flow have one hash. `cut` is the length of a cut record at the end of the capture.
     pub fn make(
         alloc: Global,
         plan: &Plan,
@@ -60,10 +60,10 @@ impl Steering {
         })
     }
 
-    /// Makes a step, and answers what came of it: the state and the answer are those of the
-    /// machine's definition. The step names what the plan has, and fewer steps were made than the
-    /// plan has. It takes no memory, and constant time but for `drain`, `ship`, `sweep`, `expire`,
-    /// and the commands that clear a table.
+    /// Carries out one step and returns its answer; the state and the answer are those of the
+    /// machine's definition. The step names only what the plan has, and the plan has a step left.
+    /// It takes no memory, and constant time except for `drain`, `ship`, `sweep`, `expire`, and
+    /// the commands that clear a table.
     pub fn step(&mut self, step: &Step) -> Answer
         requires within { step_is_within (sizes_in self.old.machine.setup) step.now ≡ true }
         requires left { self.old.made < self.old.steps }
@@ -77,28 +77,28 @@ impl Steering {
         answer
     }
 
-    /// How many steps were made.
+    /// The number of steps made.
     pub fn made(&self) -> u32
         ensures { result ≡ self.now.made }
     {
         self.made
     }
 
-    /// How many steps the plan has.
+    /// The number of steps of the plan.
     pub fn steps(&self) -> u32
         ensures { result ≡ self.now.steps }
     {
         self.steps
     }
 
-    /// A copy of the history so far. The run may go on after it.
+    /// A copy of the history so far. The run may go on afterwards.
     pub fn history(&self, alloc: Global) -> Result<History, OutOfMemory>
         ensures { IfOk result (λ history. history ≡ history_of self.now.machine) }
     {
         self.actors.history(alloc)
     }
 
-    /// Says what holds of the machine after any steps.
+    /// Lemma: the invariant of the machine, which holds after any steps.
     pub fn sound(&self)
         ensures { Invariant self.now.machine }
     {

@@ -4,8 +4,8 @@ use Rattle.pcap_reader.specs.Captures.{HasCapture}
 use Rattle.pcap_reader.specs.declared.capture.Capture.{Capture}
 use Rattle.pcapng_reader.specs.Captures.{BeginsNg, HasNgCapture}
 
--- the bytes have this capture: that of a pcapng file where they begin as one, else that of a
--- classic pcap file
+-- The bytes have this capture: that of a pcapng file where they begin as one, else that of a
+-- classic pcap file.
 abbrev pub HasAnyCapture : List ℕ → Capture → Type 0
 HasAnyCapture bytes capture =
     HasNgCapture bytes capture ⊎ ((BeginsNg bytes → ⊥) × HasCapture bytes capture)

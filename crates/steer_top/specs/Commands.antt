@@ -8,23 +8,23 @@ use Rattle.steer_top.specs.declared.command.ReplayCommand.{ReplayCommand}
 use Rattle.steer_top.specs.declared.command.Command.{Command}
 use Rattle.steer_top.specs.declared.command.Command.TheVariants as command
 
--- the words of the command `hash`
+-- The words of the command `hash`.
 abbrev pub hash_words_of : HashCommand → HashWords
 hash_words_of hash = record { capture = hash.capture.now; queues = hash.queues; kinds = hash.kinds }
 
--- the words of the command `replay`
+-- The words of the command `replay`.
 abbrev pub replay_words_of : ReplayCommand → ReplayWords
 replay_words_of replay = record { plan = replay.plan.now; capture = replay.capture.now }
 
--- the words of the command `gen`
+-- The words of the command `gen`.
 abbrev pub gen_words_of : GenCommand → GenWords
 gen_words_of gen = record { seed = gen.seed; packets = gen.packets; flows = gen.flows }
 
--- the words of the command `place`
+-- The words of the command `place`.
 abbrev pub place_words_of : PlaceCommand → PlaceWords
 place_words_of place = record { rules = place.rules.now; capture = place.capture.now }
 
--- the words of a command
+-- The words of a command.
 abbrev pub words_of : Command → CommandWords
 words_of (command.Hash hash) = Hash (hash_words_of hash)
 words_of (command.Replay replay) = Replay (replay_words_of replay)

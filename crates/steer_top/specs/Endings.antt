@@ -23,14 +23,14 @@ use Rattle.steer_top.specs.declared.ending.Refusal.TheVariants as refusal
 use Rattle.steer_top.specs.declared.ending.Ending.{Ending}
 use Rattle.steer_top.specs.declared.ending.Ending.TheVariants as ending
 
--- how a command ends whose file has this fault: refused for this reason, or, where the fault is
--- want of memory, which is none of the bytes, for that
+-- How a command ends whose file has a fault: refused for the reason, or out of memory if the fault
+-- is that, which is no fault of the bytes.
 abbrev pub EndsAs : {F : Type 0} → F → F → Refusal → Ending → Type 0
 EndsAs fault memory reason e =
     ((fault ≡ memory) × (e ≡ ending.OutOfMemory))
     ⊎ ((fault ≢ memory) × (e ≡ ending.Refuses reason))
 
--- the status of a refusal
+-- The status of a refusal.
 abbrev pub status_of_refusal : Refusal → ℕ
 status_of_refusal (refusal.Plan f) = 3
 status_of_refusal (refusal.Rules f) = 3
@@ -38,10 +38,11 @@ status_of_refusal (refusal.Capture f) = 4
 status_of_refusal (refusal.Pcapng f) = 4
 status_of_refusal (refusal.TooLong r) = 8
 
--- it is a status of refusals, and of nothing else
+-- A number is a status of refusals.
 abbrev pub IsRefusal : ℕ → Type 0
 IsRefusal status = (status ≡ 3) ⊎ ((status ≡ 4) ⊎ (status ≡ 8))
 
+-- The status of an ending.
 abbrev pub status_of : Ending → ℕ
 status_of ending.Done = 0
 status_of ending.Usage = 2
@@ -50,12 +51,13 @@ status_of ending.ReadFault = 5
 status_of ending.WriteFault = 6
 status_of ending.OutOfMemory = 7
 
+-- The line for words that are no command.
 abbrev pub usage_line : List ℕ
 usage_line =
-    codes "usage: steer hash CAPTURE [QUEUES [KINDS]] | replay PLAN CAPTURE | run PLAN CAPTURE | gen "
-    ++ codes "SEED PACKETS FLOWS | check PLAN CAPTURE REPORT | place RULES CAPTURE\n"
+    codes "usage: steer hash CAPTURE [QUEUES [KINDS]] | replay PLAN CAPTURE | run PLAN CAPTURE | "
+    ++ codes "gen SEED PACKETS FLOWS | check PLAN CAPTURE REPORT | place RULES CAPTURE\n"
 
--- the line that names a fault of a text in JSON, which begins with what the text is called
+-- The line that names a fault of a text in JSON, which begins with what the text is called.
 abbrev pub line_of_plan_fault : List ℕ → PlanFault → List ℕ
 line_of_plan_fault word plan.NotJson = word ++ codes ": not json\n"
 line_of_plan_fault word (plan.Missing path) = word ++ (codes ": missing " ++ (path ++ codes "\n"))
@@ -69,7 +71,7 @@ line_of_plan_fault word (plan.TooLong steps) =
     word ++ (codes ": too long " ++ (decimal steps ++ codes "\n"))
 line_of_plan_fault word plan.OutOfMemory = codes "out of memory\n"
 
--- the line that names a fault of a capture
+-- The line that names a fault of a capture.
 abbrev pub line_of_fault : CaptureFault → List ℕ
 line_of_fault (fault.ShortHeader len) =
     codes "capture: short header " ++ (decimal len ++ codes "\n")
@@ -83,7 +85,7 @@ line_of_fault (fault.RecordTooLong at len) =
 line_of_fault fault.TooManyPackets = codes "capture: too many packets\n"
 line_of_fault fault.OutOfMemory = codes "out of memory\n"
 
--- the line that names a fault of a pcapng capture
+-- The line that names a fault of a pcapng capture.
 abbrev pub line_of_ng_fault : NgFault → List ℕ
 line_of_ng_fault (ng.BadOrder magic) =
     codes "capture: bad order " ++ (hex8_of magic ++ codes "\n")
@@ -101,13 +103,13 @@ line_of_ng_fault (ng.RecordTooLong at len) =
     codes "capture: packet " ++ (decimal at ++ (codes " too long " ++ (decimal len ++ codes "\n")))
 line_of_ng_fault ng.OutOfMemory = codes "out of memory\n"
 
--- what a file of a role is called
+-- What a file of a role is called.
 abbrev pub name_of_role : Role → List ℕ
 name_of_role role.Plan = codes "plan"
 name_of_role role.Rules = codes "rules"
 name_of_role role.Capture = codes "capture"
 
--- the line that names a refusal
+-- The line that names a refusal.
 abbrev pub line_of_refusal : Refusal → List ℕ
 line_of_refusal (refusal.TooLong r) = name_of_role r ++ codes " too long\n"
 line_of_refusal (refusal.Plan f) = line_of_plan_fault (codes "plan") f
@@ -115,7 +117,7 @@ line_of_refusal (refusal.Rules f) = line_of_plan_fault (codes "rules") f
 line_of_refusal (refusal.Capture f) = line_of_fault f
 line_of_refusal (refusal.Pcapng f) = line_of_ng_fault f
 
--- the line that `err` takes at an ending: none where all is done
+-- The line that `err` takes at an ending: none where all is done.
 abbrev pub line_of : Ending → List ℕ
 line_of ending.Done = []
 line_of ending.Usage = usage_line
@@ -124,7 +126,7 @@ line_of ending.ReadFault = codes "read fault\n"
 line_of ending.WriteFault = codes "write fault\n"
 line_of ending.OutOfMemory = codes "out of memory\n"
 
--- the line of a status that is none of refusals
+-- The line of a status that is none of refusals.
 abbrev pub line_of_status : ℕ → List ℕ
 line_of_status status =
     if status == 0 then [] else
@@ -132,9 +134,9 @@ line_of_status status =
     if status == 5 then codes "read fault\n" else
     if status == 6 then codes "write fault\n" else codes "out of memory\n"
 
--- what a call met: the bytes that the desk held by name, what the taps meant, the name that the
+-- What a call met: the bytes that the desk held by name, what the taps meant, the name that the
 -- desk was asked for last, where it tells it, the counts of faults of the desk and of the sink of
--- the text before and after, and the bytes that this sink had taken before and after
+-- the text before and after, and the bytes that this sink had taken before and after.
 pub record Course : Type 0 where
   pub held : List ℕ → Option (List ℕ)
   pub taps : List Meaning
@@ -146,7 +148,7 @@ pub record Course : Type 0 where
   pub written_before : Option (List ℕ)
   pub written_after : Option (List ℕ)
 
--- the course of a call, by what it met
+-- The course of a call, from each of its parts.
 abbrev pub course_of : (List ℕ → Option (List ℕ)) → List Meaning → Option (List ℕ) → ℕ → ℕ → ℕ → ℕ
     → Option (List ℕ) → Option (List ℕ) → Course
 course_of held taps asked desk desk' out out' written written' = record {
@@ -161,22 +163,24 @@ course_of held taps asked desk desk' out out' written written' = record {
   written_after = written';
 }
 
+-- The desk failed during a call.
 abbrev pub DeskFailed : Course → Type 0
 DeskFailed course = Rose course.desk_before course.desk_after
 
+-- The sink of the text failed during a call.
 abbrev pub OutFailed : Course → Type 0
 OutFailed course = Rose course.out_before course.out_after
 
--- nothing went out
+-- Nothing was written during a call.
 abbrev pub NothingOut : Course → Type 0
 NothingOut course = Keeps course.written_before course.written_after
 
--- what the desk gave for each file of a command is what it tells, where it tells it
+-- What the desk gave for each file of a command is what it tells, where it tells it.
 abbrev pub Gave : (Role → Option (List ℕ)) → Files → Type 0
 Gave told files = (r : Role) → Keeps (told r) (Some (files r))
 
--- a file of the command could not be read: the one that the desk was asked for last, where it tells
--- that, and those before it are accepted
+-- A file of the command could not be read: the one that the desk was asked for last, where it tells
+-- that, and those before it are accepted.
 pub record IsUnread (command : CommandWords) (files : Files) (asked : Option (List ℕ))
     : Type 0 where
   pub earlier : List Role
@@ -186,7 +190,7 @@ pub record IsUnread (command : CommandWords) (files : Files) (asked : Option (Li
   pub accepted : Accepted earlier files
   pub last : IfSome asked (λ name. name_of command r ≡ Some name)
 
--- what is true at an ending, by the files
+-- What is true of a command that ended so, by its files and its course.
 abbrev pub EndsBy : CommandWords → Files → Ending → Course → Type 0
 EndsBy command files ending.Done course =
     Accepted (roles_of command) files
@@ -203,18 +207,18 @@ EndsBy command files ending.WriteFault course =
     × AppendsSome course.written_before course.written_after text
 EndsBy command files ending.OutOfMemory course = NothingOut course
 
--- a command ended so, with files that the desk gave
+-- A command ended so, with files that the desk gave.
 abbrev pub EndsCommand : Ending → CommandWords → Course → Type 0
 EndsCommand e command course =
     (files : Files) × Gave (file_bytes course.held command) files × EndsBy command files e course
 
--- the same of all words: those that are no command end with the usage line
+-- A call ended so: words that are no command end with the usage line.
 abbrev pub Ends : Ending → Option CommandWords → Course → Type 0
 Ends e None course = (e ≡ ending.Usage) × NothingOut course
 Ends e (Some command) course = EndsCommand e command course
 
--- how a command ends that could not read a file of this role and name: the desk failed, and was
--- asked for no other file, or the file is too long where its bytes are told, or memory ran out
+-- How a command ends that could not read a file of this role and name: the desk failed, and was
+-- asked for no other file, or the file is too long where its bytes are told, or memory ran out.
 abbrev pub EndsUnread
     : Ending → Role → List ℕ → Option (List ℕ) → ℕ → ℕ → Option (List ℕ) → Type 0
 EndsUnread ending.ReadFault r name held before after asked =
@@ -224,14 +228,14 @@ EndsUnread (ending.Refuses (refusal.TooLong other)) r name held before after ask
 EndsUnread ending.OutOfMemory r name held before after asked = ⊤
 EndsUnread e r name held before after asked = ⊥
 
--- how a command ends whose file of this role was read, and is not what it is read as: refused for
--- that reason, or memory ran out
+-- How a command ends whose file of this role was read, and is not what it is read as: refused for
+-- that reason, or memory ran out.
 abbrev pub EndsUnfit : Ending → Role → List ℕ → Type 0
 EndsUnfit (ending.Refuses reason) r bytes = IsNot r bytes reason
 EndsUnfit ending.OutOfMemory r bytes = ⊤
 EndsUnfit e r bytes = ⊥
 
--- how a command ends at a file of this role and name, by bytes that the file may have
+-- How a command ends at a file of this role and name, by bytes that the file may have.
 abbrev pub StopsAt : Ending → Role → List ℕ → List ℕ → ℕ → ℕ → Option (List ℕ) → Type 0
 StopsAt ending.ReadFault r name bytes before after asked =
     Rose before after × IfSome asked (λ last. last ≡ name)
@@ -239,14 +243,15 @@ StopsAt (ending.Refuses reason) r name bytes before after asked = IsBad r bytes 
 StopsAt ending.OutOfMemory r name bytes before after asked = ⊤
 StopsAt e r name bytes before after asked = ⊥
 
+-- How a command ends at a file of a role and name, by bytes that the desk may have given for it.
 pub record EndsAt (e : Ending) (r : Role) (name : List ℕ) (held : Option (List ℕ))
     (before after : ℕ) (asked : Option (List ℕ)) : Type 0 where
   pub bytes : List ℕ
   pub gave : Keeps held (Some bytes)
   pub stops : StopsAt e r name bytes before after asked
 
--- how a command ends that writes this text: done, or the sink failed and took a prefix, or memory
--- ran out and nothing went out
+-- How a command ends that writes this text: done, or the sink failed and took a prefix, or memory
+-- ran out and nothing went out.
 abbrev pub EndsWriting
     : Ending → List ℕ → ℕ → ℕ → Option (List ℕ) → Option (List ℕ) → Type 0
 EndsWriting ending.Done text faults faults' written written' = Appends written written' text
@@ -256,8 +261,8 @@ EndsWriting ending.OutOfMemory text faults faults' written written' =
     Keeps written written'
 EndsWriting e text faults faults' written written' = ⊥
 
--- a command that was done is so still, and nothing that the sink took is unsent, or its flush
--- failed; every other ending stays
+-- A command that was done is so still, and nothing that the sink took is unsent, or its flush
+-- failed; every other ending stays.
 pub record Flushes (e e' : Ending) (faults faults' : ℕ) (written written' unsent' : Option (List ℕ))
     : Type 0 where
   pub ends : (e' ≡ e) ⊎ ((e ≡ ending.Done) × (e' ≡ ending.WriteFault) × Rose faults faults')
@@ -265,7 +270,7 @@ pub record Flushes (e e' : Ending) (faults faults' : ℕ) (written written' unse
   pub kept : Keeps written written'
   pub later : faults ≤ faults'
 
--- a sink took the whole line, or its count of faults rose and it took a prefix of the line
+-- A sink took the whole line, or its count of faults rose and it took a prefix of the line.
 pub record Told (faults faults' : ℕ) (written written' : Option (List ℕ)) (line : List ℕ)
     : Type 0 where
   pub later : faults ≤ faults'

@@ -15,19 +15,19 @@ use Rattle.steer_top.specs.declared.ending.Role.TheVariants as role
 use Rattle.steer_top.specs.declared.ending.Refusal.{Refusal}
 use Rattle.steer_top.specs.declared.ending.Refusal.TheVariants as refusal
 
--- the most bytes that a file of a role may have
+-- The most bytes that a file of a role may have.
 abbrev pub limit_of : Role → ℕ
 limit_of role.Plan = MAX_TEXT_FILE
 limit_of role.Rules = MAX_TEXT_FILE
 limit_of role.Capture = MAX_FILE
 
--- the bytes are what they are read as
+-- The bytes are what they are read as.
 abbrev pub IsRead : Role → List ℕ → Type 0
 IsRead role.Plan bytes = (plan : PlanSettings) × (plan_of bytes ≡ Ok plan)
 IsRead role.Rules bytes = (rules : Rules) × (rules_of bytes ≡ Ok rules)
 IsRead role.Capture bytes = (capture : Capture) × HasAnyCapture bytes capture
 
--- the bytes are not what they are read as, for this reason
+-- The bytes are not what they are read as, for this reason.
 abbrev pub IsNot : Role → List ℕ → Refusal → Type 0
 IsNot role.Plan bytes (refusal.Plan fault) = plan_of bytes ≡ Err fault
 IsNot role.Rules bytes (refusal.Rules fault) = rules_of bytes ≡ Err fault
@@ -35,44 +35,44 @@ IsNot role.Capture bytes (refusal.Capture fault) = (BeginsNg bytes → ⊥) × H
 IsNot role.Capture bytes (refusal.Pcapng fault) = HasNgFault bytes fault
 IsNot r bytes reason = ⊥
 
--- a file is good where it is no longer than its limit, and what it is read as
+-- A file is good where it is no longer than its limit, and what it is read as.
 abbrev pub IsGood : Role → List ℕ → Type 0
 IsGood r bytes = (length bytes ≤ limit_of r) × IsRead r bytes
 
--- a file is asked for its length first, and then for what it is read as
+-- A file is asked for its length first, and then for what it is read as.
 abbrev pub IsBad : Role → List ℕ → Refusal → Type 0
 IsBad r bytes reason =
     ((limit_of r < length bytes) × (reason ≡ refusal.TooLong r))
     ⊎ ((length bytes ≤ limit_of r) × IsNot r bytes reason)
 
--- the bytes of each file, by its role
+-- The bytes of each file, by its role.
 abbrev pub Files : Type 0
 Files = Role → List ℕ
 
--- all files of these roles are good
+-- All files of these roles are good.
 abbrev pub Accepted : List Role → Files → Type 0
 Accepted [] files = ⊤
 Accepted (r ∷ roles) files = IsGood r (files r) × Accepted roles files
 
--- the files are asked in this order, and the first that is bad is refused
+-- The files are asked in this order, and the first that is bad is refused.
 abbrev pub Refused : List Role → Files → Refusal → Type 0
 Refused [] files reason = ⊥
 Refused (r ∷ roles) files reason =
     IsBad r (files r) reason ⊎ (IsGood r (files r) × Refused roles files reason)
 
--- files are accepted, or refused for some reason
+-- Files are accepted, or refused for some reason.
 abbrev pub IsDecided : Type 0
 IsDecided =
     (roles : List Role) (files : Files)
     → Accepted roles files ⊎ ((reason : Refusal) × Refused roles files reason)
 
--- files are refused for one reason at most
+-- Files are refused for one reason at most.
 abbrev pub IsRefusedOnce : Type 0
 IsRefusedOnce =
     (roles : List Role) (files : Files) (reason other : Refusal)
     → Refused roles files reason → Refused roles files other → reason ≡ other
 
--- no files are both accepted and refused
+-- No files are both accepted and refused.
 abbrev pub IsNotBoth : Type 0
 IsNotBoth =
     (roles : List Role) (files : Files) (reason : Refusal)

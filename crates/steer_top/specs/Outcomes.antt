@@ -18,14 +18,14 @@ use Rattle.steer_top.specs.Words.CommandWords.{Gen, Hash, Place, Replay}
 use Rattle.steer_top.specs.declared.ending.Role.{Role}
 use Rattle.steer_top.specs.declared.ending.Role.TheVariants as role
 
--- the roles of the files that a command reads, in this order
+-- The roles of the files that a command reads, in this order.
 abbrev pub roles_of : CommandWords → List Role
 roles_of (Hash words) = role.Capture ∷ []
 roles_of (Replay words) = role.Plan ∷ role.Capture ∷ []
 roles_of (Gen words) = []
 roles_of (Place words) = role.Rules ∷ role.Capture ∷ []
 
--- the name of a command's file of a role, where it reads one
+-- The name of a command's file of a role, where it reads one.
 abbrev pub name_of : CommandWords → Role → Option (List ℕ)
 name_of (Hash words) role.Capture = Some words.capture
 name_of (Replay words) role.Plan = Some words.plan
@@ -34,7 +34,7 @@ name_of (Place words) role.Rules = Some words.rules
 name_of (Place words) role.Capture = Some words.capture
 name_of _ _ = None
 
--- a text that a command may write of its files, with taps that mean this
+-- A text that a command may write of its files, with taps that mean this.
 abbrev pub Writes : List Meaning → CommandWords → Files → List ℕ → Type 0
 Writes taps (Hash words) files text =
     (capture : Capture) × HasAnyCapture (files role.Capture) capture
@@ -50,16 +50,16 @@ Writes taps (Place words) files text =
     × HasAnyCapture (files role.Capture) capture
     × (text ≡ place_text rules (files role.Capture) capture)
 
--- the bytes of a command's file of a role, where the names' bytes are told
+-- The bytes of a command's file of a role, where the names' bytes are told.
 abbrev pub file_bytes : (List ℕ → Option (List ℕ)) → CommandWords → Role → Option (List ℕ)
 file_bytes held command r = option_and_then held (name_of command r)
 
--- these bytes of the files of these roles are told
+-- These bytes of the files of these roles are told.
 abbrev pub FilesAreKnown : (Role → Option (List ℕ)) → List Role → Files → Type 0
 FilesAreKnown told [] files = ⊤
 FilesAreKnown told (r ∷ roles) files = (told r ≡ Some (files r)) × FilesAreKnown told roles files
 
--- the words are this command, and these bytes of all its files are told
+-- The words are this command, and these bytes of all its files are told.
 pub record Asks (held : List ℕ → Option (List ℕ)) (words : List (String Global))
     (command : CommandWords) (files : Files) : Type 0 where
   pub is : command_of words ≡ Some command

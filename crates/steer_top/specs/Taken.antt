@@ -13,7 +13,7 @@ use Rattle.steer_top.specs.Files.{limit_of}
 use Rattle.steer_top.specs.declared.ending.Role.TheVariants as role
 use Rattle.steer_top.specs.declared.file.CaptureFile.{CaptureFile}
 
--- the bytes are those of the file, within the limit, and the capture is theirs
+-- The bytes are those of the file, within the limit, and the capture is theirs.
 pub record IsCaptureOf (held : Option (List ℕ)) (file : CaptureFile) : Type 0 where
   pub whole : Keeps held (Some file.bytes.items)
   pub few : length file.bytes.items ≤ limit_of role.Capture
@@ -21,14 +21,14 @@ pub record IsCaptureOf (held : Option (List ℕ)) (file : CaptureFile) : Type 0 
   pub few_records : length file.capture.records ≤ MAX_PACKETS
   pub within : All (FrameIsWithin file.bytes.items) file.capture.records
 
--- the plan is that of some bytes that the file may have, within the limit
+-- The plan is that of some bytes that the file may have, within the limit.
 pub record IsPlanOf (held : Option (List ℕ)) (plan : Plan) : Type 0 where
   pub bytes : List ℕ
   pub whole : Keeps held (Some bytes)
   pub few : length bytes ≤ limit_of role.Plan
   pub has : HasPlan bytes plan
 
--- the rules are those of some bytes that the file may have, within the limit
+-- The rules are those of some bytes that the file may have, within the limit.
 pub record IsRulesOf (held : Option (List ℕ)) (rules : Rules) : Type 0 where
   pub bytes : List ℕ
   pub whole : Keeps held (Some bytes)

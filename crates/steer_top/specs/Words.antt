@@ -7,30 +7,32 @@ use Rattle.std.specs.Option.{option_map}
 use Rattle.steer_base.specs.Decimals.{decimal_number}
 use Rattle.steer_base.specs.declared.limits.TheConstants.{MAX_PACKETS}
 
--- a word that names a file: it is neither empty nor begins with a dash
+-- A word that names a file: it is neither empty nor begins with a dash.
 abbrev pub is_name : List ℕ → Bool
 is_name [] = false
 is_name (first ∷ rest) = not (first == 45)
 
--- the number of one to twenty decimal digits
+-- The number of one to twenty decimal digits.
 abbrev pub word_number : List ℕ → Option ℕ
 word_number word = decimal_number 20 word
 
--- the number, where there is one from `low` to `high`
+-- The number, if there is one from `low` to `high`.
 abbrev pub if_within : ℕ → ℕ → Option ℕ → Option ℕ
 if_within low high None = None
 if_within low high (Some n) = if nat_le low n && nat_le n high then Some n else None
 
+-- The number that a word is, if it is from `low` to `high`.
 abbrev pub number_within : ℕ → ℕ → List ℕ → Option ℕ
 number_within low high word = if_within low high (word_number word)
 
--- the command `hash`: the name of a capture, the number of receive queues, and the hash kinds
+-- The command `hash`: the name of a capture, the number of receive queues, and the hash kinds.
 pub record HashWords : Type 0 where
   pub capture : List ℕ
   pub queues : ℕ
   pub kinds : ℕ
 
--- these two numbers and the name, where the numbers are there and the name is one
+-- The words of `hash` with these numbers and this name, if the numbers are present and the name is
+-- one.
 abbrev pub hash_with : List ℕ → Option ℕ → Option ℕ → Option HashWords
 hash_with capture None kinds = None
 hash_with capture (Some queues) None = None
@@ -39,8 +41,8 @@ hash_with capture (Some queues) (Some kinds) =
     then Some (record { capture = capture; queues = queues; kinds = kinds })
     else None
 
--- what stands behind the word `hash`: CAPTURE [QUEUES [KINDS]], with 4 queues and all kinds where
--- they are not given
+-- The arguments after the word `hash`: CAPTURE [QUEUES [KINDS]], with 4 queues and all kinds where
+-- they are not given.
 unfoldable pub hash_arguments : List (List ℕ) → Option HashWords
 hash_arguments [] = None
 hash_arguments (capture ∷ []) = hash_with capture (Some 4) (Some 63)
@@ -49,12 +51,12 @@ hash_arguments (capture ∷ queues ∷ kinds ∷ []) =
     hash_with capture (number_within 1 16 queues) (number_within 0 63 kinds)
 hash_arguments (capture ∷ queues ∷ kinds ∷ more ∷ rest) = None
 
--- the command `replay`: the names of a plan and of a capture
+-- The command `replay`: the names of a plan and of a capture.
 pub record ReplayWords : Type 0 where
   pub plan : List ℕ
   pub capture : List ℕ
 
--- what stands behind the word `replay`: PLAN CAPTURE
+-- The arguments after the word `replay`: PLAN CAPTURE.
 unfoldable pub replay_arguments : List (List ℕ) → Option ReplayWords
 replay_arguments [] = None
 replay_arguments (plan ∷ []) = None
@@ -64,13 +66,13 @@ replay_arguments (plan ∷ capture ∷ []) =
     else None
 replay_arguments (plan ∷ capture ∷ more ∷ rest) = None
 
--- the command `gen`: a seed, a number of packets, and the most flows that they may have
+-- The command `gen`: a seed, a number of packets, and the most flows that they may have.
 pub record GenWords : Type 0 where
   pub seed : ℕ
   pub packets : ℕ
   pub flows : ℕ
 
--- these three numbers, where all are there
+-- The words of `gen` with these numbers, if all are present.
 abbrev pub gen_with : Option ℕ → Option ℕ → Option ℕ → Option GenWords
 gen_with None packets flows = None
 gen_with (Some seed) None flows = None
@@ -78,7 +80,7 @@ gen_with (Some seed) (Some packets) None = None
 gen_with (Some seed) (Some packets) (Some flows) =
     Some (record { seed = seed; packets = packets; flows = flows })
 
--- what stands behind the word `gen`: SEED PACKETS FLOWS
+-- The arguments after the word `gen`: SEED PACKETS FLOWS.
 unfoldable pub gen_arguments : List (List ℕ) → Option GenWords
 gen_arguments [] = None
 gen_arguments (seed ∷ []) = None
@@ -88,12 +90,12 @@ gen_arguments (seed ∷ packets ∷ flows ∷ []) =
     (number_within 1 65536 flows)
 gen_arguments (seed ∷ packets ∷ flows ∷ more ∷ rest) = None
 
--- the command `place`: the names of the rules and of a capture
+-- The command `place`: the names of the rules and of a capture.
 pub record PlaceWords : Type 0 where
   pub rules : List ℕ
   pub capture : List ℕ
 
--- what stands behind the word `place`: RULES CAPTURE
+-- The arguments after the word `place`: RULES CAPTURE.
 unfoldable pub place_arguments : List (List ℕ) → Option PlaceWords
 place_arguments [] = None
 place_arguments (rules ∷ []) = None
@@ -110,7 +112,7 @@ pub data CommandWords : Type 0 where
   Gen : GenWords → CommandWords
   Place : PlaceWords → CommandWords
 
--- the command of this name with these arguments, if there is one
+-- The command of this name with these arguments, if there is one.
 unfoldable pub command_named : List ℕ → List (List ℕ) → Option CommandWords
 command_named name arguments =
     if bytes_eq name (codes "hash") then option_map Hash (hash_arguments arguments) else
@@ -118,10 +120,11 @@ command_named name arguments =
     if bytes_eq name (codes "gen") then option_map Gen (gen_arguments arguments) else
     if bytes_eq name (codes "place") then option_map Place (place_arguments arguments) else None
 
--- the command that the words are, if they are one
+-- The command that the words are, if they are one.
 abbrev pub command_of_words : List (List ℕ) → Option CommandWords
 command_of_words [] = None
 command_of_words (word ∷ rest) = command_named word rest
 
+-- The command that words of a command line are, if they are one.
 abbrev pub command_of : List (String Global) → Option CommandWords
 command_of words = command_of_words (map (λ word. string_bytes word) words)

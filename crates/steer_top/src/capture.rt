@@ -10,8 +10,8 @@ use pcap_reader::{Capture, read_capture};
 use pcapng_reader::{is_pcapng, read_ng};
 use std::alloc::Global;
 
-/// Reads the capture of a file, a pcapng one where its bytes begin so, else a classic one; or says
-/// how the command ends without it.
+/// Reads the capture of a file: a pcapng one if its bytes begin so, otherwise a classic one. `Err`
+/// says how the command ends without it.
 pub fn read_any(alloc: Global, bytes: &[u8]) -> Result<Capture, Ending>
     ensures found { IfOk result (λ capture. HasAnyCapture bytes.now capture) }
     ensures unfit { IfErr result (λ ending. EndsUnfit ending Role.Capture bytes.now) }

@@ -35,7 +35,7 @@ impl Role {
         }
     }
 
-    /// What such a file is called.
+    /// The name of such a file in messages.
     pub fn name(self) -> &'static [u8]
         ensures { result.now ≡ name_of_role self }
     {

@@ -50,7 +50,7 @@ fn push_proto(line: &mut LineBuf, proto: Proto)
     }
 }
 
-/// Puts the text of a flow behind the line.
+/// Appends the text of a flow to the line.
 #[tactic(auto, unfolding(crate::specs::HashText::flow_text))]
 pub fn push_flow(line: &mut LineBuf, flow: Flow)
     requires { length line.old ≤ 300 }
@@ -76,7 +76,7 @@ pub fn push_flow(line: &mut LineBuf, flow: Flow)
     }
 }
 
-/// Puts the text of a hash and its table entry behind the line.
+/// Appends the text of a hash and its table entry to the line.
 #[tactic(auto, unfolding(crate::specs::HashText::hash_text))]
 pub fn push_hash(line: &mut LineBuf, hash: Option<u32>)
     requires { length line.old ≤ 400 }

@@ -85,7 +85,7 @@ impl Placer {
     }
 }
 
-/// Puts the number of the rule that matched behind the line.
+/// Appends the number of the rule that matched to the line.
 #[tactic(auto, unfolding(crate::specs::PlaceText::rule_text))]
 fn push_rule(line: &mut LineBuf, found: Option<u32>)
     requires { length line.old ≤ 400 }

@@ -25,9 +25,9 @@ use std::alloc::Global;
 use taps::Tap;
 
 /// Carries out the command that `words` are, without the program's name, and returns the exit
-/// status: 0 if all was done, written and sent on; 2 if the words are no command; 3 if a file has no
-/// plan or no rules; 4 if one is no capture; 5 or 6 if the desk or the sink of the text failed; 7 if
-/// memory ran out; and 8 if a file is too long. It always returns.
+/// status: 0 if all was done, written and sent on; 2 if the words are no command; 3 if a file has
+/// no plan or no rules; 4 if one is no capture; 5 or 6 if the desk or the sink of the text failed;
+/// 7 if memory ran out; and 8 if a file is too long. It always returns.
 ///
 /// All memory is taken before the first byte goes to `out`, which is flushed once, after the whole
 /// text. `err` takes one line for every status but 0. A replay shows its packet lines to the taps,

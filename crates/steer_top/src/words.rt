@@ -33,14 +33,14 @@ fn is_name(word: &str) -> bool
     }
 }
 
-// The number that the word is, where it has one to twenty digits and nothing else.
+// The number that the word is, if it has one to twenty digits and nothing else.
 fn number(word: &str) -> Option<u128>
     ensures { result ≡ word_number word.now }
 {
     decimal_number(word.as_bytes(), MAX_DIGITS)
 }
 
-// The number that the word is, where it stands within the two bounds.
+// The number that the word is, if it is within the two bounds.
 fn number_within(word: &str, low: u128, high: u128) -> Option<u128>
     ensures value { result ≡ the_number_within low high word.now }
     ensures bounds { IfSome result (λ n. (low ≤ n) × (n ≤ high)) }
@@ -51,7 +51,7 @@ fn number_within(word: &str, low: u128, high: u128) -> Option<u128>
     }
 }
 
-// The command with these arguments, where both numbers are there and the name is one.
+// The command with these arguments, if both numbers are present and the name is one.
 fn hash_with<'a>(
     capture: &'a str,
     queues: Option<u128>,
@@ -74,7 +74,7 @@ fn hash_with<'a>(
     }
 }
 
-// What stands behind the word `hash`.
+// The arguments after the word `hash`.
 #[tactic(auto, unfolding(crate::specs::Words::hash_arguments))]
 fn hash_arguments(words: &[String]) -> Option<HashCommand<'_>>
     ensures { option_map hash_words_of result ≡
@@ -96,7 +96,7 @@ fn hash_arguments(words: &[String]) -> Option<HashCommand<'_>>
     }
 }
 
-// What stands behind the word `replay`.
+// The arguments after the word `replay`.
 #[tactic(auto, unfolding(crate::specs::Words::replay_arguments))]
 fn replay_arguments(words: &[String]) -> Option<ReplayCommand<'_>>
     ensures { option_map replay_words_of result ≡
@@ -113,7 +113,7 @@ fn replay_arguments(words: &[String]) -> Option<ReplayCommand<'_>>
     }
 }
 
-// The command with these numbers, where all are there.
+// The command with these numbers, if all are present.
 fn gen_with(seed: Option<u128>, packets: Option<u128>, flows: Option<u128>) -> Option<GenCommand>
     requires seed { IfSome seed (λ n. n < 2 ^ 64) }
     requires packets { IfSome packets (λ n. n ≤ MAX_PACKETS) }
@@ -130,7 +130,7 @@ fn gen_with(seed: Option<u128>, packets: Option<u128>, flows: Option<u128>) -> O
     })
 }
 
-// What stands behind the word `gen`.
+// The arguments after the word `gen`.
 #[tactic(auto, unfolding(crate::specs::Words::gen_arguments))]
 fn gen_arguments(words: &[String]) -> Option<GenCommand>
     ensures { option_map gen_words_of result ≡
@@ -146,7 +146,7 @@ fn gen_arguments(words: &[String]) -> Option<GenCommand>
     }
 }
 
-// What stands behind the word `place`.
+// The arguments after the word `place`.
 #[tactic(auto, unfolding(crate::specs::Words::place_arguments))]
 fn place_arguments(words: &[String]) -> Option<PlaceCommand<'_>>
     ensures { option_map place_words_of result ≡

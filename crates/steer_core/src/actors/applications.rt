@@ -17,7 +17,7 @@ use steer_model::{last_of, told};
 // All transmit queues are online.
 const EVERYONE: CpuMask = CpuMask(0xffff_ffff);
 
-// Stands for a reply where there is none.
+// The default where there is no reply.
 const NOTHING_SENT: Sent = Sent {
     id: PacketId(0),
     rxq: RxQueue(0),
@@ -25,7 +25,7 @@ const NOTHING_SENT: Sent = Sent {
 };
 
 impl Actors {
-    /// The next packet of the inbox is in hand, to be replied to.
+    /// Takes the next packet of the inbox in hand, to reply to it.
     pub(super) fn send(&mut self, a: u8) -> Answer
         requires { a < self.old.machine.setup.apps }
         ensures state { self.new.machine ≡ (send self.old.machine a).0 }
@@ -89,7 +89,7 @@ impl Actors {
         }
     }
 
-    /// The application goes inside the transmit gate.
+    /// Lets the application enter the transmit gate.
     pub(super) fn tenter(&mut self, a: u8) -> Answer
         requires { a < self.old.machine.setup.apps }
         ensures state { self.new.machine ≡ (by_tx self.old.machine (event.Enter a)).0 }
@@ -99,7 +99,7 @@ impl Actors {
         told(self.tx.step(HopEvent::Enter { p: a }))
     }
 
-    /// The application goes outside.
+    /// Lets the application leave the transmit gate.
     pub(super) fn tleave(&mut self, a: u8) -> Answer
         requires { a < self.old.machine.setup.apps }
         ensures state { self.new.machine ≡ (by_tx self.old.machine (event.Leave a)).0 }
@@ -109,7 +109,7 @@ impl Actors {
         told(self.tx.step(HopEvent::Leave { p: a }))
     }
 
-    /// The reply in hand gets a transmit queue by the migration rule.
+    /// Chooses the transmit queue of the reply in hand by the migration rule.
     pub(super) fn tweigh(&mut self, a: u8) -> Answer
         requires { a < self.old.machine.setup.apps }
         ensures state { self.new.machine ≡ (tweigh self.old.machine a).0 }
@@ -145,7 +145,7 @@ impl Actors {
         }
     }
 
-    /// The reply in hand is put to its transmit queue.
+    /// Puts the reply in hand into its transmit queue.
     pub(super) fn tput(&mut self, a: u8) -> Answer
         requires { a < self.old.machine.setup.apps }
         ensures state { self.new.machine ≡ (tput self.old.machine a).0 }

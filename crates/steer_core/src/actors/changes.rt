@@ -1,4 +1,4 @@
-//! What a command changes that is done.
+//! The change that a command makes when it is done.
 ghost use Rattle.std.specs.Prelude.{◌≡◌, true};
 ghost use Rattle.steer_core.specs.Changes.{stands_alone};
 ghost use Rattle.steer_invariant.specs.StepInvariant.{IsCommandNamed};
@@ -31,7 +31,7 @@ impl Actors {
         }
     }
 
-    // Changes a setting that stands alone.
+    // Changes a setting on which no table depends.
     fn set(&mut self, command: &Command)
         requires named { IsCommandNamed self.old.machine.setup command.now }
         requires done { is_done (answer_to self.old.machine command.now) ≡ true }

@@ -1,4 +1,4 @@
-//! Commands: how each is answered, and that it is listed.
+//! Commands: how each is answered and listed.
 ghost use Rattle.std.specs.Prelude.{◌≡◌, ◌<◌, length, true};
 ghost use Rattle.history.specs.Regular.{has_text};
 ghost use Rattle.steer_base.specs.Commands.{refusal};
@@ -14,7 +14,7 @@ use steer_base::{Answer, Command, Refused};
 use steer_model::{gate_answer, is_done, refused_answer};
 
 impl Actors {
-    /// A command is listed with its answer, and changes nothing else where it is not done.
+    /// Lists a command with its answer. It changes nothing else if it is not done.
     pub(super) fn give(&mut self, command: Command) -> Answer
         requires named { IsCommandNamed self.old.machine.setup command }
         requires room { length self.old.machine.commands < self.old.rooms.commands }

@@ -12,7 +12,7 @@ ghost use Rattle.steer_model.specs.State.Start.{fresh_rx, fresh_tx, initial_sett
 use crate::actors::Actors;
 use accel_filter::FilterTable;
 use history::{Arrival, Commanded, Sent, SockWrite};
-use hop_core::{Hop, HopShape};
+use hop_core::{Hop, HopShape, MAX_HOP_ROOM};
 use plan_reader::{Plan, QueuePlan};
 use sock_flow_table::SockTable;
 use std::alloc::Global;
@@ -190,7 +190,7 @@ fn transmit_hop(alloc: Global, plan: &Plan, packets: &[Packet]) -> Result<Hop, O
             guests: 0,
             lanes: plan.tx.len() as u8,
             outs: 1,
-            limit: 262_144,
+            limit: MAX_HOP_ROOM,
             room,
             counts,
             exact: true,

@@ -1,4 +1,4 @@
-//! Filters that may go: how many there are, and that they are cleared.
+//! Filters that may be cleared: their number, and clearing them.
 ghost use Rattle.std.specs.Prelude.{◌≡◌, ◌<◌, None, length, map, slice_index_or, slice_set};
 ghost use Rattle.std.specs.List.{All, filter};
 ghost use Rattle.steer_core.specs.OldFilters.{FilterIsSeated, is_old as may_go, kept_of};
@@ -8,7 +8,7 @@ use hop_core::Hop;
 use steer_base::Filter;
 use steer_model::InForce;
 
-/// How many filters may go.
+/// The number of filters that may be cleared.
 pub fn count_old(filters: &FilterTable, rx: &Hop, settings: &InForce) -> u32
     requires { All (FilterIsSeated rx.now settings.now) filters.now }
     ensures { result ≡ length (filter (may_go rx.now settings.now) filters.now) }
@@ -22,7 +22,7 @@ pub fn count_old(filters: &FilterTable, rx: &Hop, settings: &InForce) -> u32
     count
 }
 
-/// Clears the filters that may go.
+/// Clears the filters that may be cleared.
 pub fn clear_old(filters: &mut FilterTable, rx: &Hop, settings: &InForce)
     requires { All (FilterIsSeated rx.now settings.now) filters.old }
     ensures { filters.new ≡ map (kept_of rx.now settings.now) filters.old }

@@ -16,8 +16,8 @@ use steer_base::{Answer, Filter, Idle, PacketId};
 use steer_model::{Note, desired_cpu, filter_for, last_of, position_of, socket_seen, told};
 
 impl Actors {
-    /// The first packet of the ring is in hand. The hand of a poller that asks for a filter is
-    /// full.
+    /// Takes the first packet of the ring in hand. The hand of a poller that asks for a filter
+    /// counts as full.
     pub(super) fn take(&mut self, q: u8) -> Answer
         requires { q < length self.old.machine.setup.homes }
         ensures state { self.new.machine ≡ (poller_takes self.old.machine q).0 }
@@ -30,7 +30,7 @@ impl Actors {
         told(self.rx.step(HopEvent::Take { p: q }))
     }
 
-    /// The poller goes inside the receive gate.
+    /// Lets the poller enter the receive gate.
     pub(super) fn enter(&mut self, q: u8) -> Answer
         requires { q < length self.old.machine.setup.homes }
         ensures state { self.new.machine ≡ (by_rx self.old.machine (event.Enter q)).0 }
@@ -40,7 +40,7 @@ impl Actors {
         told(self.rx.step(HopEvent::Enter { p: q }))
     }
 
-    /// The poller keeps what it sees in the socket flow table for the packet in hand.
+    /// Reads the socket flow table for the packet in hand, and keeps what was read.
     pub(super) fn look(&mut self, q: u8) -> Answer
         requires { q < length self.old.machine.setup.homes }
         ensures state { self.new.machine ≡ (look self.old.machine q).0 }
@@ -71,7 +71,7 @@ impl Actors {
         socket_seen(&self.socket, class, hash)
     }
 
-    /// The packet in hand gets a processor by the migration rule, with what was seen.
+    /// Chooses the processor of the packet in hand by the migration rule, with what was read.
     pub(super) fn weigh(&mut self, q: u8) -> Answer
         requires { q < length self.old.machine.setup.homes }
         ensures state { self.new.machine ≡ (poller_weighs self.old.machine q).0 }
@@ -89,7 +89,7 @@ impl Actors {
         told(self.rx.step(event))
     }
 
-    // What the packet in hand is weighed with, where this was seen in the socket flow table.
+    // What the packet in hand is weighed with, if this was read in the socket flow table.
     fn weighing(&self, q: u8, want: Option<u8>) -> HopEvent
         requires queue { q < length self.now.machine.setup.homes }
         requires looked { note_of self.now.machine q ≡ Note.Looked want }
@@ -111,7 +111,7 @@ impl Actors {
         }
     }
 
-    /// The packet in hand is put to its processor, and a filter is asked for where one is due.
+    /// Puts the packet in hand into the backlog of its processor, and notes a filter if one is due.
     pub(super) fn put(&mut self, q: u8) -> Answer
         requires { q < length self.old.machine.setup.homes }
         ensures state { self.new.machine ≡ (poller_puts self.old.machine q).0 }
@@ -129,7 +129,7 @@ impl Actors {
         told(answer)
     }
 
-    /// The filter that is asked for is written.
+    /// Writes the filter that is noted.
     pub(super) fn ask(&mut self, q: u8) -> Answer
         requires { q < length self.old.machine.setup.homes }
         ensures state { self.new.machine ≡ (ask self.old.machine q).0 }
@@ -149,7 +149,7 @@ impl Actors {
         Answer::Done
     }
 
-    /// The poller goes outside, but not between its look and the end of its put or its filter.
+    /// Lets the poller leave the gate, but not between its look and the end of its put or filter.
     pub(super) fn leave(&mut self, q: u8) -> Answer
         requires { q < length self.old.machine.setup.homes }
         ensures state { self.new.machine ≡ (poller_leaves self.old.machine q).0 }

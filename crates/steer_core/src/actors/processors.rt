@@ -11,7 +11,7 @@ use steer_base::{Answer, PacketId};
 use steer_model::told;
 
 impl Actors {
-    /// The first packet that waits is in hand.
+    /// Takes the first packet of the backlog in hand.
     pub(super) fn pull(&mut self, c: u8) -> Answer
         requires { c < self.old.machine.setup.cpus }
         ensures state { self.new.machine ≡ (by_rx self.old.machine (event.Pull c)).0 }
@@ -21,7 +21,7 @@ impl Actors {
         told(self.rx.step(HopEvent::Pull { lane: c }))
     }
 
-    /// The packet in hand goes to the inbox of its application.
+    /// Delivers the packet in hand to the inbox of its application.
     pub(super) fn deliver(&mut self, c: u8) -> Answer
         requires { c < self.old.machine.setup.cpus }
         ensures state { self.new.machine ≡ (cpu_delivers self.old.machine c).0 }
@@ -48,7 +48,7 @@ impl Actors {
         }
     }
 
-    /// The head of the processor rises past the packet that it delivered.
+    /// Raises the head of the processor past the packet that it delivered.
     pub(super) fn retire(&mut self, c: u8) -> Answer
         requires { c < self.old.machine.setup.cpus }
         ensures state { self.new.machine ≡ (by_rx self.old.machine (event.Retire c)).0 }

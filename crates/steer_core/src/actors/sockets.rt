@@ -9,7 +9,7 @@ use hop_core::HopEvent;
 use steer_base::{Answer, Idle, app_of};
 
 impl Actors {
-    /// The socket of a flow records the processor of its application.
+    /// Records the processor of the application of a flow in the socket flow table.
     pub(super) fn record(&mut self, flow: u32) -> Answer
         requires { HasSpare self.old.rooms self.old.machine }
         ensures state { self.new.machine ≡ (record_flow self.old.machine flow).0 }

@@ -10,7 +10,7 @@ use crate::actors::Actors;
 use steer_base::Step;
 
 impl Actors {
-    /// Rounds until one in which no work was done. The result says whether any work was done.
+    /// Runs rounds until one does no work. The result says whether any work was done.
     pub(super) fn sweep(&mut self) -> bool
         requires { HasSpare self.old.rooms self.old.machine }
         ensures turn { (self.new.machine, result) ≡ sweep (self.old.machine, false) }

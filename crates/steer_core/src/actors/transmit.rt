@@ -9,7 +9,7 @@ use steer_base::Answer;
 use steer_model::told;
 
 impl Actors {
-    /// The first reply that waits is in hand.
+    /// Takes the first reply that waits in hand.
     pub(super) fn tpull(&mut self, t: u8) -> Answer
         requires { t < self.old.machine.setup.txs }
         ensures state { self.new.machine ≡ (by_tx self.old.machine (event.Pull t)).0 }
@@ -19,7 +19,7 @@ impl Actors {
         told(self.tx.step(HopEvent::Pull { lane: t }))
     }
 
-    /// The reply in hand leaves by the port.
+    /// Sends the reply in hand out by the port.
     pub(super) fn tdeliver(&mut self, t: u8) -> Answer
         requires { t < self.old.machine.setup.txs }
         ensures state { self.new.machine ≡ (by_tx self.old.machine (event.Deliver t 0)).0 }
@@ -29,7 +29,7 @@ impl Actors {
         told(self.tx.step(HopEvent::Deliver { lane: t, to: 0 }))
     }
 
-    /// The head of the transmit queue rises past the reply that it delivered.
+    /// Raises the head of the transmit queue past the reply that it delivered.
     pub(super) fn tretire(&mut self, t: u8) -> Answer
         requires { t < self.old.machine.setup.txs }
         ensures state { self.new.machine ≡ (by_tx self.old.machine (event.Retire t)).0 }

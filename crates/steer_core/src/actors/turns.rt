@@ -13,7 +13,7 @@ use steer_base::{Answer, Idle, Step};
 use steer_model::{is_idle, is_work};
 
 impl Actors {
-    /// A step of one event, or a command. A step of many events does nothing here.
+    /// Carries out a step of one event, or a command. A step of many events is idle here.
     pub(super) fn simple(&mut self, step: Step) -> Answer
         requires within { step_is_within (sizes_in self.old.machine.setup) step ≡ true }
         requires room { HasRoomFor self.old.rooms self.old.machine step }
@@ -53,8 +53,8 @@ impl Actors {
         }
     }
 
-    /// A step of one event is tried. `worked` says whether work was done up to it, and the result
-    /// whether work was done up to its end.
+    /// Tries a step of one event. `worked` says whether work was done before it, and the result
+    /// whether work was done by its end.
     pub(super) fn attempt(&mut self, worked: bool, step: Step) -> bool
         requires within { step_is_within (sizes_in self.old.machine.setup) step ≡ true }
         requires room { HasRoomFor self.old.rooms self.old.machine step }
@@ -66,7 +66,7 @@ impl Actors {
         worked || (is_work(&step) && !is_idle(&answer))
     }
 
-    /// All events of a poller in order.
+    /// Tries all events of a poller in order.
     pub(super) fn poll(&mut self, worked: bool, q: u8) -> bool
         requires { q < length self.old.machine.setup.homes }
         ensures turn { (self.new.machine, result) ≡ poll q (self.old.machine, worked) }
@@ -82,7 +82,7 @@ impl Actors {
         self.attempt(worked, Step::Leave(q))
     }
 
-    /// The events of a processor until its hand is empty and nothing waits.
+    /// Repeats the events of a processor until its hand is empty and nothing waits.
     pub(super) fn drain(&mut self, worked: bool, c: u8) -> bool
         requires { c < self.old.machine.setup.cpus }
         ensures turn { (self.new.machine, result) ≡ drain c (self.old.machine, worked) }
@@ -108,7 +108,7 @@ impl Actors {
         self.attempt(worked, Step::Retire(c))
     }
 
-    /// All events of an application in order.
+    /// Tries all events of an application in order.
     pub(super) fn reply(&mut self, worked: bool, a: u8) -> bool
         requires { a < self.old.machine.setup.apps }
         ensures turn { (self.new.machine, result) ≡ reply a (self.old.machine, worked) }
@@ -122,7 +122,7 @@ impl Actors {
         self.attempt(worked, Step::TLeave(a))
     }
 
-    /// The flow of the packet that an application replies to is recorded, and then all its events.
+    /// Records the flow of the packet that an application replies to, then tries all its events.
     pub(super) fn serve(&mut self, worked: bool, a: u8) -> bool
         requires app { a < self.old.machine.setup.apps }
         requires room { HasSpare self.old.rooms self.old.machine }
@@ -152,7 +152,7 @@ impl Actors {
         }
     }
 
-    /// The events of a transmit queue until its hand is empty and nothing waits.
+    /// Repeats the events of a transmit queue until its hand is empty and nothing waits.
     pub(super) fn ship(&mut self, worked: bool, t: u8) -> bool
         requires { t < self.old.machine.setup.txs }
         ensures turn { (self.new.machine, result) ≡ ship t (self.old.machine, worked) }

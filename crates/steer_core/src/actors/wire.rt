@@ -9,7 +9,7 @@ use hop_core::HopEvent;
 use steer_base::{Answer, Idle, PacketId, RxQueue};
 
 impl Actors {
-    /// The next packet of the capture enters the ring of its queue.
+    /// Puts the next packet of the capture in the ring of its receive queue.
     pub(super) fn arrive(&mut self) -> Answer
         ensures state { self.new.machine ≡ (arrive self.old.machine).0 }
         ensures answer { result ≡ (arrive self.old.machine).1 }
