@@ -12,15 +12,15 @@ invariant_of-result c =
     (are_new c.args.plan.now c.args.packets.now c.args.cut _ _ _ _ _ _ _ _ _ _ _
     c.in_ok-given.ensures
     c.in_ok-settings.ensures
-    c.in_ok-tables.ensures.socket
-    c.in_ok-tables.ensures.filters
-    c.in_ok-tables.ensures.notes
-    c.in_ok-hops.ensures.rx
-    c.in_ok-hops.ensures.tx
-    c.in_ok-lists.ensures.arrivals
-    c.in_ok-lists.ensures.sent
-    c.in_ok-lists.ensures.writes
-    c.in_ok-lists.ensures.commands)).0
+    c.in_ok-socket.ensures.socket
+    c.in_ok-socket.ensures.filters
+    c.in_ok-socket.ensures.notes
+    c.in_ok-rx.ensures.rx
+    c.in_ok-rx.ensures.tx
+    c.in_ok-arrivals.ensures.arrivals
+    c.in_ok-arrivals.ensures.sent
+    c.in_ok-arrivals.ensures.writes
+    c.in_ok-arrivals.ensures.commands)).0
 
 pub returns : goal.returns
 returns c =
@@ -30,12 +30,12 @@ returns c =
     (are_new c.args.plan.now c.args.packets.now c.args.cut _ _ _ _ _ _ _ _ _ _ _
     c.in_ok-given.ensures
     c.in_ok-settings.ensures
-    c.in_ok-tables.ensures.socket
-    c.in_ok-tables.ensures.filters
-    c.in_ok-tables.ensures.notes
-    c.in_ok-hops.ensures.rx
-    c.in_ok-hops.ensures.tx
-    c.in_ok-lists.ensures.arrivals
-    c.in_ok-lists.ensures.sent
-    c.in_ok-lists.ensures.writes
-    c.in_ok-lists.ensures.commands)).1
+    c.in_ok-socket.ensures.socket
+    c.in_ok-socket.ensures.filters
+    c.in_ok-socket.ensures.notes
+    c.in_ok-rx.ensures.rx
+    c.in_ok-rx.ensures.tx
+    c.in_ok-arrivals.ensures.arrivals
+    c.in_ok-arrivals.ensures.sent
+    c.in_ok-arrivals.ensures.writes
+    c.in_ok-arrivals.ensures.commands)).1
