@@ -4,6 +4,7 @@ use Rattle.std.specs.Prelude.{ℕ, ◌+◌, ◌<◌, ◌≤◌, ◌≡◌, true,
 use Rattle.std.specs.Prelude.{slice_index, slice_index_or}
 use Rattle.steer_base.specs.declared.command.Command.TheVariants as give
 use Rattle.steer_base.specs.declared.filter.Filter.{Filter}
+use Rattle.steer_base.specs.declared.limits.TheConstants.{MAX_FLOW_COUNT}
 use Rattle.hop_core.specs.declared.event.HopEvent.TheVariants as event
 use Rattle.hop_core.specs.Events.{AllMayAsk, MayAsk}
 use Rattle.hop_core.specs.Hop.{next_of}
@@ -14,8 +15,8 @@ use Rattle.steer_model.specs.State.Machine.{Machine}
 use Rattle.steer_model.specs.Steps.Pollers.{route_by, weighing}
 use Rattle.steer_model.specs.State.Setup.{app_for, packet_hash}
 
--- Of the receive hop: the arrival of the next packet, the events of a poller and of a processor,
--- the visit of an application, and another flow count.
+-- The machine may ask its receive hop for the arrival of the next packet, the events of a poller
+-- and of a processor, the visit of an application, and another flow count.
 pub record AsksRx (m : Machine) : Type 0 where
   pub arrive : length m.arrivals < length m.setup.packets
       → MayAsk m.rx
@@ -33,12 +34,12 @@ pub record AsksRx (m : Machine) : Type 0 where
   pub visit : (a : ℕ) → a < m.setup.apps
       → AllMayAsk
       (event.Enter (length m.setup.homes + a) ∷ event.Leave (length m.setup.homes + a) ∷ []) m.rx
-  pub flows : (q count : ℕ) → q < length m.setup.homes → count ≤ 32768
+  pub flows : (q count : ℕ) → q < length m.setup.homes → count ≤ MAX_FLOW_COUNT
       → is_done (answer_to m (give.Flows q count)) ≡ true
       → AllMayAsk (event.Close ∷ event.Resize q count ∷ event.Reopen ∷ []) m.rx
 
--- Of the transmit hop: the next packet of an inbox, the other events of an application, and those
--- of a transmit queue.
+-- The machine may ask its transmit hop for the next packet of an inbox, the other events of an
+-- application, and those of a transmit queue.
 pub record AsksTx (m : Machine) : Type 0 where
   pub send : (a x : ℕ) → a < m.setup.apps → next_in m a ≡ Some x
       → AllMayAsk (event.Arrive a x ∷ event.Take a ∷ []) m.tx
@@ -50,13 +51,14 @@ pub record AsksTx (m : Machine) : Type 0 where
   pub deliver : (t : ℕ) → t < m.setup.txs → MayAsk m.tx (event.Deliver t 0)
   pub retire : (t : ℕ) → t < m.setup.txs → MayAsk m.tx (event.Retire t)
 
--- Of each filter that is set, as an expiry asks: the head of a processor that there is, and the
--- flow count of a queue that there is, which is at most 32,768.
+-- An expiry can read what it needs for a filter: the head of a processor that exists, and the flow
+-- count of a queue that exists, which is at most MAX_FLOW_COUNT.
 pub record IsSeated (m : Machine) (filter : Filter) : Type 0 where
   pub processor : filter.cpu < length m.rx.bare.accepted
   pub queue : filter.queue < length m.settings.counts
-  pub flows : slice_index m.settings.counts filter.queue ≤ 32768
+  pub flows : slice_index m.settings.counts filter.queue ≤ MAX_FLOW_COUNT
 
+-- An expiry can read what it needs for each filter that is set.
 abbrev pub AreSeated : Machine → Type 0
 AreSeated m =
     (i : ℕ) (filter : Filter) → slice_index_or m.filters i None ≡ Some filter → IsSeated m filter

@@ -15,7 +15,7 @@ use Rattle.steer_model.specs.declared.note.Note.TheVariants as note
 
 -- ---- the receive hop
 
--- It has the queues, the processors and the applications of the plan, the applications and a
+-- The receive hop has the queues, processors and applications of the plan, the applications and a
 -- controller as guests, and room for the packets of the capture.
 pub record RxSizes (p : Setup) (s : HopState) : Type 0 where
   pub queues : length s.arrivals ≡ length p.homes
@@ -25,14 +25,14 @@ pub record RxSizes (p : Setup) (s : HopState) : Type 0 where
   pub room : s.fixed.room ≡ length p.packets
   pub rounded : s.fixed.exact ≡ false
 
--- Between steps it is sound, loses nothing, and its gate is open.
+-- The receive hop between steps: it is sound, loses nothing, and its gate is open.
 pub record RxInvariant (p : Setup) (s : HopState) : Type 0 where
   pub sound : Sound s
   pub lossless : NothingLost s
   pub opened : s.bare.closed ≡ false
   pub sizes : RxSizes p s
 
--- The home processors are online and no processor beyond the plan's is; one that is offline has no
+-- The home processors are online and no processor beyond the plan is; one that is offline has no
 -- packet, and no packet that was weighed goes to one.
 pub record Manned (p : Setup) (now : Settings) (s : HopState) : Type 0 where
   pub homes : (q : ℕ) → q < length p.homes → has now.online (slice_index p.homes q) ≡ true
@@ -41,8 +41,8 @@ pub record Manned (p : Setup) (now : Settings) (s : HopState) : Type 0 where
   pub hand : (q : ℕ) → placed_of s q < length (choices_of s q)
       → has now.online (in_hand s q).choice.lane ≡ true
 
--- It follows the settings in force: it has their flow counts, each choice and each packet that
--- waits agrees with them, and no packet is at a processor that they have offline.
+-- The receive hop follows the settings in force: it has their flow counts, each choice and each
+-- packet that waits agrees with them, and no packet is at a processor that is offline.
 pub record BySettings (p : Setup) (now : Settings) (s : HopState) : Type 0 where
   pub counts : now.counts ≡ s.counts
   pub settled : SettledIn (class_at p now) (plain_lane p now) s
@@ -54,14 +54,14 @@ IsNoted s q note.Nothing = Unit {0}
 IsNoted s q (note.Looked want) = length (choices_of s q) < taken_of s q
 IsNoted s q (note.Asking filter) = taken_of s q ≤ placed_of s q
 
--- the same of each poller
+-- Each poller's note fits its hand.
 abbrev pub AreNoted : List Note → HopState → Type 0
 AreNoted notes s = (q : ℕ) → IsNoted s q (slice_index_or notes q note.Nothing)
 
 -- ---- the transmit hop
 
--- It has the applications and the transmit queues of the plan, one port, room for the packets of
--- the capture, and for each application a class for each flow number and one at least.
+-- The transmit hop has the applications and transmit queues of the plan, one port, room for the
+-- packets of the capture, and for each application a class for each flow number, at least one.
 pub record TxSizes (p : Setup) (s : HopState) : Type 0 where
   pub apps : length s.arrivals ≡ p.apps
   pub visits : length s.visits ≡ p.apps
@@ -70,12 +70,12 @@ pub record TxSizes (p : Setup) (s : HopState) : Type 0 where
   pub room : s.fixed.room ≡ length p.packets
   pub classes : s.counts ≡ replicate p.apps (max 1 (length p.packets))
 
--- Each application took up all its replies that came.
+-- Each application took all replies that it began.
 abbrev pub AllTaken : HopState → Type 0
 AllTaken s = (a : ℕ) → taken_of s a ≡ length (arrivals_of s a)
 
--- Between steps it is sound, loses nothing, has room for all and dropped nothing, and its gate is
--- open.
+-- The transmit hop between steps: it is sound, loses nothing, has room for all, dropped nothing,
+-- and its gate is open.
 pub record TxInvariant (p : Setup) (s : HopState) : Type 0 where
   pub sound : Sound s
   pub lossless : NothingLost s

@@ -30,8 +30,8 @@ pub record SettingSizes (p : Setup) (now : Settings) (socket : List (Option ℕ)
   pub maps : now.maps.count ≡ p.txs
   pub sock : now.sock ≡ length socket
 
--- Arrivals stay within the queues: the redirection table, each filter that is set, and each that a
--- poller asks for name a queue that there is.
+-- Routes lead to queues that exist: those of the redirection table, of each filter that is set, and
+-- of each that a poller asks for.
 pub record Routes (homes : List ℕ) (reta : Redirection) (filters : List (Option Filter))
     (notes : List Note) : Type 0 where
   pub table : IsRedirection reta
@@ -49,7 +49,7 @@ pub record Came (packets : List Packet) (arrivals : List Arrival) (queues : ℕ 
   pub of_the_capture : length arrivals ≤ length packets
   pub own : (q : ℕ) → queues q ≡ arrivals_at arrivals q
 
--- Each application began its replies to the first packets of its inbox, in order, and these came to
+-- Each application began its replies to the first packets of its inbox, in order, and these reached
 -- the transmit hop.
 pub record Replied (sent : ℕ → List Sent) (inbox begun : ℕ → List ℕ) : Type 0 where
   pub first : (a : ℕ) → IsPrefix (map (λ s. s.id) (sent a)) (inbox a)

@@ -13,23 +13,27 @@ pub record IsOpen (m : Machine) : Type 0 where
   pub tx : m.tx.bare.closed ≡ false
   pub no_drops : (t : ℕ) → drops_at m.tx.bare t ≡ []
 
+-- Between steps both gates are open, and no reply was dropped.
 abbrev pub GatesAreOpen : Type 0
 GatesAreOpen = (m : Machine) → StepInvariant m → IsOpen m
 
--- Every step that names what there is keeps the invariant, and what the plan and the capture fix:
--- a step of one event or a command, any step, and steps in a row.
+-- Each step of one event and each command that names what the machine has preserves the step
+-- invariant.
 abbrev pub EventsKeepStepInvariant : Type 0
 EventsKeepStepInvariant = (m : Machine) (s : Step) → IsNamed m.setup s → StepInvariant m
     → StepInvariant (simple m s).0
 
+-- Each step that names what the machine has preserves the step invariant.
 abbrev pub StepKeepsStepInvariant : Type 0
 StepKeepsStepInvariant = (m : Machine) (s : Step) → IsNamed m.setup s → StepInvariant m
     → StepInvariant (step m s).0
 
+-- Each list of steps that name what the machine has preserves the step invariant.
 abbrev pub StepsKeepStepInvariant : Type 0
 StepsKeepStepInvariant = (m : Machine) (ss : List Step) → AreNamed m.setup ss → StepInvariant m
     → StepInvariant (after ss m)
 
+-- Steps that name what the machine has leave what the plan and the capture fix.
 abbrev pub StepsKeepSetup : Type 0
 StepsKeepSetup =
     (m : Machine) (ss : List Step) → AreNamed m.setup ss → StepInvariant m

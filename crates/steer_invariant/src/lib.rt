@@ -1,4 +1,4 @@
-//! The invariant of the machine: what holds after any steps, and that every step keeps it.
+//! The invariant of the machine: what holds after any steps, and that every step preserves it.
 #![tactic(auto)]
 
 mod invariant_laws;

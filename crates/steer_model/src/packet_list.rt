@@ -2,6 +2,7 @@
 ghost use Rattle.std.specs.Prelude.{◌<◌, ◌≤◌, ◌^◌, IfOk, length};
 ghost use Rattle.std.specs.BTreeMap.{btree_map_len};
 ghost use Rattle.std.specs.List.{All};
+ghost use Rattle.steer_base.specs.declared.limits.TheConstants.{MAX_PACKETS};
 ghost use Rattle.pcap_reader.specs.Captures.{FrameIsWithin};
 ghost use Rattle.steer_model.specs.State.Ranges.{AreOfFlows};
 ghost use Rattle.steer_model.specs.Capture.FlowNumbers.{IsNumberOf, flow_order};
@@ -25,7 +26,7 @@ pub fn packets(
     key: &Key,
     kinds: Kinds,
 ) -> Result<Vec<Packet>, OutOfMemory>
-    requires few { length capture.now.records ≤ 262144 }
+    requires few { length capture.now.records ≤ MAX_PACKETS }
     requires within { All (FrameIsWithin bytes.now) capture.now.records }
     ensures list { IfOk result (λ packets.
         ArePackets key.now kinds.0 bytes.now capture.now.records packets.items) }

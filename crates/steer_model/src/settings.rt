@@ -4,6 +4,7 @@ ghost use Rattle.std.specs.List.{All};
 ghost use Rattle.rss_table.specs.Redirection.{is_in_range, queue_of, with_entry};
 ghost use Rattle.steer_base.specs.Counters.{rounded_up};
 ghost use Rattle.steer_base.specs.Sets.{with_cpu, without_cpu};
+ghost use Rattle.steer_base.specs.declared.limits.TheConstants.{MAX_FLOW_COUNT, MAX_SOCKET_SIZE};
 ghost use Rattle.steer_model.specs.State.Settings.{changed, class_at, IsInRange};
 ghost use Rattle.steer_model.specs.State.Settings.{plain_lane as plain_cpu};
 ghost use Rattle.steer_model.specs.State.Start.{maps_of as maps_of_plan, initial_settings};
@@ -93,7 +94,7 @@ impl InForce {
     // Gives a receive queue another flow count, rounded up to a power of two.
     fn set_flows(&mut self, q: RxQueue, count: u32)
         requires queue { q < length self.old.counts }
-        requires within { count ≤ 32768 }
+        requires within { count ≤ MAX_FLOW_COUNT }
         ensures { self.new
             ≡ record self.old { counts = slice_set self.old.counts q (rounded_up count) } }
     {
@@ -102,7 +103,7 @@ impl InForce {
 
     // Gives the socket flow table another size, rounded up to a power of two.
     fn set_sock(&mut self, size: u32)
-        requires { size ≤ 65536 }
+        requires { size ≤ MAX_SOCKET_SIZE }
         ensures { self.new ≡ record self.old { sock = rounded_up size } }
     {
         self.sock = round_up(size);
@@ -266,7 +267,7 @@ fn tx_queues_of(alloc: Global, tx: &[TxPlan]) -> Result<Vec<u16>, OutOfMemory>
 
 // The flow count of each receive queue, rounded up to a power of two.
 fn counts_of(alloc: Global, queues: &[QueuePlan]) -> Result<Vec<u32>, OutOfMemory>
-    requires { All (λ queue. queue.flows ≤ 32768) queues.now }
+    requires { All (λ queue. queue.flows ≤ MAX_FLOW_COUNT) queues.now }
     ensures { IfOk result (λ counts.
         counts.items ≡ map (λ queue. rounded_up queue.flows) queues.now) }
 {

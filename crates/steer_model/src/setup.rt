@@ -1,5 +1,6 @@
 //! What the plan and the capture fix.
 ghost use Rattle.std.specs.Prelude.{◌≡◌, ◌<◌, ◌≤◌, IfOk, length, slice_index};
+ghost use Rattle.steer_base.specs.declared.limits.TheConstants.{MAX_PACKETS};
 ghost use Rattle.steer_model.specs.State.Ranges.{AreFlowHashes, AreOfFlows, IsGiven};
 ghost use Rattle.steer_model.specs.State.Setup.{app_for, flow_hash, flow_number_of, packet_hash};
 ghost use Rattle.steer_model.specs.State.Start.{setup_of};
@@ -57,7 +58,7 @@ impl Given {
         packets: &[Packet],
         cut: Option<u32>,
     ) -> Result<Given, OutOfMemory>
-        requires few { length packets.now ≤ 262144 }
+        requires few { length packets.now ≤ MAX_PACKETS }
         requires flows { AreOfFlows packets.now }
         ensures { IfOk result (λ given. given ≡ setup_of plan.now packets.now cut) }
     {
@@ -83,7 +84,7 @@ impl Given {
     /// The number of packets.
     pub fn packet_count(&self) -> u32
         ensures value { result ≡ length self.now.packets }
-        ensures few { result ≤ 262144 }
+        ensures few { result ≤ MAX_PACKETS }
     {
         self.packets.len() as u32
     }
@@ -117,7 +118,8 @@ impl Given {
 
     /// The application of a packet.
     pub fn app_of(&self, id: PacketId) -> AppId
-        ensures { result ≡ app_for self.now id }
+        ensures value { result ≡ app_for self.now id }
+        ensures within { result < self.now.apps }
     {
         app_of(self.hash_of(id), self.apps)
     }

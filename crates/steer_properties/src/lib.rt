@@ -1,5 +1,4 @@
-//! Properties of the history of every replay: choices by the rule, delivery in order, sweeps that
-//! end.
+//! What the history of every replay says: choices by the rule, delivery in order, sweeps that end.
 #![tactic(auto)]
 
 mod delivery_laws;

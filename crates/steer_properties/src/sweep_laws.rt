@@ -1,4 +1,4 @@
-//! Laws of the sweep: it ends at rest, and what a machine at rest has done.
+//! Lemmas on the sweep: it terminates with the machine at rest, and what such a machine has done.
 ghost use Rattle.steer_properties.specs.Sweep.SweepLaws.{IdleRoundRests, RestIsSwept};
 ghost use Rattle.steer_properties.specs.Sweep.SweepLaws.{RestIsThrough};
 ghost use Rattle.steer_properties.specs.Sweep.SweepLaws.{SeededReplaysAreSwept, SweepEndsAtRest};
@@ -6,22 +6,22 @@ ghost use Rattle.steer_properties.specs.Sweep.SweepLaws.{SweepEndsIdle, SweepSwe
 ghost use Rattle.steer_properties.specs.Sweep.SweepLaws.{SweptIsThrough};
 ghost use Rattle.steer_properties.specs.Sweep.SweepLaws.{SweptRunsAreSwept};
 
-/// A sweep ends since there is nothing left to do, and then the machine is at rest.
+/// Lemma: a sweep ends because there is nothing left to do, and then the machine is at rest.
 pub fn a_sweep_ends_at_rest()
     ensures idle { SweepEndsIdle }
     ensures round { IdleRoundRests }
     ensures rest { SweepEndsAtRest }
 {}
 
-/// In a machine at rest, and so after a sweep, each packet of the capture was dropped by a
+/// Lemma: in a machine at rest, and so after a sweep, each packet of the capture was dropped by a
 /// processor, or it is in an inbox and its reply is at the port.
 pub fn packets_go_all_their_way_at_rest()
     ensures rest { RestIsThrough }
     ensures swept { SweptIsThrough }
 {}
 
-/// The history of a machine at rest is swept, and so is that of one after a sweep: of each plan
-/// after any of its steps and a sweep, and of each seeded plan.
+/// Lemma: the history of a machine at rest is swept, and so is that of every plan after any of its
+/// steps and a sweep, and that of every seeded plan.
 pub fn swept_machines_have_swept_histories()
     ensures rest { RestIsSwept }
     ensures swept { SweepSweeps }

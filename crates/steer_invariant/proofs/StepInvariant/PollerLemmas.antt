@@ -267,7 +267,7 @@ StepInvariant-noted m q n named here below k =
       tx = k.tx;
       taken = k.taken;
       by = k.by;
-      with_note = λ r. elim (cases_eq r q) [
+      noted = λ r. elim (cases_eq r q) [
         | inl e ↦ (let f : note_of (with_note m q n) r ≡ n = rw e ch.here in rw (f, e) here)
         | inr ne ↦ (let f : note_of (with_note m q n) r ≡ note_of m r = ch.there r ne in
             rw f (k.noted r))

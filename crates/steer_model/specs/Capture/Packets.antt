@@ -19,8 +19,8 @@ pub record IsOfRecord (key kinds : ℕ) (bytes : List ℕ) (from : PcapRecord) (
   pub hash : packet.hash ≡ hash_of_flow key packet.flow kinds
   pub len : packet.len ≡ from.len
 
--- Flows are numbered from 0 in order of first appearance: one number for each flow, and each
--- smaller number stands before.
+-- Flows are numbered from 0 in order of first appearance: one number for each flow, each after all
+-- smaller ones.
 pub record AreNumbered (packets : List Packet) : Type 0 where
   pub same : (x y : ℕ) → x < length packets → y < length packets
       → (packet_at packets x).flow ≡ (packet_at packets y).flow
@@ -31,7 +31,7 @@ pub record AreNumbered (packets : List Packet) : Type 0 where
   pub first : (x n : ℕ) → x < length packets → n < (packet_at packets x).flow_number
       → (y : ℕ) × (y < x) × ((packet_at packets y).flow_number ≡ n)
 
--- The packets of these records: one for each, in their order.
+-- These are the packets of these records: one for each, in their order.
 pub record ArePackets (key kinds : ℕ) (bytes : List ℕ) (records : List PcapRecord)
     (packets : List Packet) : Type 0 where
   pub many : length packets ≡ length records

@@ -49,13 +49,14 @@ pub record FilterFrom (i : Input) (h : History) (hash f : ℕ) : Type 0 where
   pub there : filter_place i.plan.filters (packet_hash (setup_in i) choice.id) ≡ Some place
   pub here : filter_place i.plan.filters (Some hash) ≡ Some place
 
--- an arrival with this hash is at queue 0 without one, else at the queue of an entry or of a filter
+-- an arrival without a hash is at queue 0, and one with this hash at the queue of an entry or of a
+-- filter
 abbrev pub SeenBy : Input → History → Option ℕ → Arrival → Type 0
 SeenBy i h None a = route_of a ≡ route None None 0
 SeenBy i h (Some hash) a =
     ((q : ℕ) × (route_of a ≡ route (Some hash) None q) × EntryFrom i h (table_place hash) q)
     ⊎ ((f : ℕ) × (route_of a ≡ route (Some hash) (Some f) 0) × FilterFrom i h hash f)
 
--- Each arrival is at the queue of the values that it keeps, and these come from the run.
+-- Each arrival is at the queue of the values that it kept, and these are values of the run.
 abbrev pub QueuesAreSeen : Input → History → Type 0
 QueuesAreSeen i h = All (λ a. SeenBy i h (packet_hash (setup_in i) a.id) a) h.arrivals

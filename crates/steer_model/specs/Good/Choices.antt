@@ -34,8 +34,8 @@ IsByRule i h q k s since =
     (entry h.start (accepted_in h.lanes) (drop since (take k (list_at h.choices q))))
     (λ lane. unwrap_or c.choice.head 0) (has s.online)
 
--- Each choice is by the rule with the settings after its commands. This holds in every state of a
--- run.
+-- Each choice of each receive queue is by the rule, with the settings after its commands; this
+-- holds in every state of a run.
 pub record AreByRule (i : Input) (h : History) (at : ℕ → ℕ → ℕ) : Type 0 where
   pub prefixes : (q : ℕ) → Prefixes (length (list_at h.choices q)) (length h.commands) (at q)
   pub each : (q k : ℕ) → k < length (list_at h.choices q)
@@ -50,7 +50,7 @@ pub record ChoicesAreByRule (i : Input) (h : History) (at : ℕ → ℕ → ℕ)
 
 -- ---- clause 4
 
--- some application made this write to the socket flow table
+-- An application made this write to the socket flow table.
 abbrev pub WasWritten : History → SockWrite → Type 0
 WasWritten h w = (a j : ℕ) × (slice_get (list_at h.writes a) j ≡ Some w)
 
@@ -67,12 +67,12 @@ WantsAreWritten i h at =
 
 -- ---- clause 5
 
+-- the current lane of a class after these choices
 abbrev pub lane_of_class : Option ℕ → List Chosen → Option ℕ
 lane_of_class None cs = None
 lane_of_class (Some class) cs = current_lane (of_class class cs)
 
--- The lane whose head choice k saw, if it saw one: the current lane of its class. Where the head
--- was looked at, the class has a choice since the last resize, so its last choice of all tells it.
+-- The lane whose head choice k saw, if it saw one: the current lane of its class.
 abbrev pub lane_seen : List Chosen → ℕ → Option ℕ
 lane_seen cs k = lane_of_class (chosen_at cs k).choice.class (take k cs)
 
@@ -87,6 +87,8 @@ pub record HeadsRise (start : ℕ) (lanes : List LaneList) (cs : List Chosen) : 
       → (chosen_at cs k).choice.head ≡ Some head → lane_seen cs k ≡ Some lane
       → distance before start ≤ distance head start
 
+-- Along the choices of each receive queue and of each application the heads seen at one lane never
+-- fall, and none is over what the lane retired in the end.
 pub record HeadsAreRising (h : History) : Type 0 where
   pub rx : (q : ℕ) → HeadsRise h.start h.lanes (list_at h.choices q)
   pub tx : (a : ℕ) → HeadsRise h.start h.tx_lanes (list_at h.tx_choices a)

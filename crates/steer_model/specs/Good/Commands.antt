@@ -22,11 +22,13 @@ use Rattle.steer_model.specs.State.Settings.{Settings}
 
 -- ---- clause 10
 
+-- whether an answer is busy
 abbrev pub is_busy : Answer → Bool
 is_busy (says.Busy why) = true
 is_busy _ = false
 
--- The tries of one command: each but the last is busy, and the last one too where all are used up.
+-- the tries of one command: each but the last is busy, and the last one too if all tries are used
+-- up
 pub record AreTries (tries : ℕ) (c : Command) (block : List Commanded) : Type 0 where
   pub some : 1 ≤ length block
   pub few : length block ≤ tries
@@ -56,8 +58,8 @@ gate_lanes h (give.Reta place q) = None
 gate_lanes h (give.Stand app cpu) = None
 gate_lanes h give.Expire = None
 
--- Some of the workers were inside, or a lane that had to be empty had a head below its tail,
--- neither beyond what the lane has in the end.
+-- A command may be answered busy: some workers were inside, or a lane that had to be empty had a
+-- head below its tail, neither beyond what the lane has in the end.
 abbrev pub MayBeBusy : Input → History → List LaneList → Command → Busy → Type 0
 MayBeBusy i h lanes c (busy.Inside n) = (1 ≤ n) × (n ≤ i.plan.workers)
 MayBeBusy i h lanes c (busy.NotEmpty lane head tail) =
@@ -66,12 +68,12 @@ MayBeBusy i h lanes c (busy.NotEmpty lane head tail) =
     × (distance head h.start ≤ (lane_at lanes lane).retired)
     × (distance tail h.start ≤ length (lane_at lanes lane).accepted)
 
--- the answer of a command that may be given and is not busy
+-- the answer of a command that is not refused and not busy
 abbrev pub IsEnd : Input → Command → Answer → Type 0
 IsEnd i give.Expire a = (n : ℕ) × (a ≡ says.Expired n) × (n ≤ i.plan.filters)
 IsEnd i c a = a ≡ says.Done
 
--- an answer is why the command may not be given, else its end or that its gate is busy
+-- the answer to a command: the reason to refuse it, otherwise its end or that its gate is busy
 abbrev pub IsAnswer : Input → History → Command → Option Refused → Answer → Type 0
 IsAnswer i h c (Some why) a = a ≡ refused_answer why
 IsAnswer i h c None a =
@@ -79,7 +81,7 @@ IsAnswer i h c None a =
     ⊎ ((lanes : List LaneList) × (why : Busy) × (gate_lanes h c ≡ Some lanes)
     × (a ≡ says.Busy why) × MayBeBusy i h lanes c why)
 
--- why a command may not be given with these settings
+-- the reason to refuse a command with these settings, if there is one
 abbrev pub refused_with : Input → Settings → Command → Option Refused
 refused_with i s c = refusal s.online c (setup_in i).homes s.stands
 

@@ -13,20 +13,21 @@ use Rattle.steer_model.specs.State.Setup.{app_for, flow_number_of}
 
 -- ---- clause 7
 
--- a packet that came by this queue and has the flow of packet x
+-- whether a packet arrived at this queue and has the flow of packet x
 abbrev pub of_flow : Input → History → ℕ → ℕ → ℕ → Bool
 of_flow i h q x y =
     is_in y (arrivals_at h.arrivals q) && flow_number_of (setup_in i) y == flow_number_of
     (setup_in i) x
 
--- The packets of each flow from each receive queue stand in the inbox in the order of their
--- arrivals, without the dropped ones.
+-- The packets of each flow from each receive queue are in the inbox in the order of their arrivals,
+-- without the dropped ones.
 abbrev pub IsDeliveredInOrder : Input → History → Type 0
 IsDeliveredInOrder i h =
     (q x : ℕ) → x < length i.packets
     → InOrder (of_flow i h q x) (arrivals_at h.arrivals q) (map (λ lane. lane.drops) h.lanes)
     (list_at h.inboxes (app_for (setup_in i) x))
 
+-- Each packet is in one place, and each inbox is in order.
 pub record IsSteered (i : Input) (h : History) : Type 0 where
   pub regular : Regular i.packets (length i.plan.apps) h
   pub places : AreInOnePlace h
@@ -34,7 +35,7 @@ pub record IsSteered (i : Input) (h : History) : Type 0 where
 
 -- ---- clause 8
 
--- all that a lane accepted was pulled, delivered and retired
+-- A lane has pulled, delivered and retired all that it accepted.
 pub record IsDone (l : LaneList) : Type 0 where
   pub pulled : l.pulled ≡ length l.accepted
   pub delivered : l.delivered ≡ length l.accepted

@@ -28,7 +28,7 @@ as_lane i h c =
       limited = has i.plan.limited c;
     }
 
--- Along the drops of a lane both counts never fall, and they are at most the final ones.
+-- Along the drops of a lane neither of their counts falls, and none is over the final one.
 pub record DropsRise (l : LaneList) : Type 0 where
   pub accepted : All (λ d. d.accepted ≤ length l.accepted) l.drops
   pub pulled : All (λ d. d.pulled ≤ l.pulled) l.drops
@@ -36,7 +36,7 @@ pub record DropsRise (l : LaneList) : Type 0 where
       → slice_get l.drops k ≡ Some d → slice_get l.drops (k + 1) ≡ Some e
       → (d.accepted ≤ e.accepted) × (d.pulled ≤ e.pulled)
 
--- Each drop has the cause that its counts give with the offers before it.
+-- Each drop of a lane has the cause that its counts and the offers before it give.
 pub record DropsAreExplained (i : Input) (h : History) : Type 0 where
   pub causes : (c : ℕ) → AllExplained (packet_hash (setup_in i)) (as_lane i h c)
   pub counts : All DropsRise h.lanes

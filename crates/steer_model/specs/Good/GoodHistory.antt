@@ -12,6 +12,7 @@ use Rattle.steer_model.specs.Good.Replies.{RepliesAreByRule}
 use Rattle.steer_model.specs.Good.Writes.{WritesAreRight}
 use Rattle.steer_model.specs.Good.Inputs.{Input}
 
+-- A history is good: the eleven clauses of what a run over this input may be.
 pub record Good (i : Input) (h : History) : Type 0 where
   pub at : ℕ → ℕ → ℕ
   pub tx_at : ℕ → ℕ → ℕ
@@ -29,10 +30,11 @@ pub record Good (i : Input) (h : History) : Type 0 where
 
 -- ---- without commands every prefix is empty, and each clause can be asked by its number
 
+-- the counts of commands before each choice, if there are no commands
 abbrev pub never : ℕ → ℕ → ℕ
 never list k = 0
 
--- the clause of this number, where no command was given
+-- the clause of a good history with this number, if no command was given
 pub record Clause (n : ℕ) (i : Input) (h : History) : Type 0 where
   pub arrived : n ≡ 1 → HasArrived i h
   pub queues : n ≡ 2 → QueuesAreSeen i h
@@ -46,7 +48,7 @@ pub record Clause (n : ℕ) (i : Input) (h : History) : Type 0 where
   pub commands : n ≡ 10 → CommandsAreGiven i h
   pub replies : n ≡ 11 → RepliesAreByRule i h never
 
--- The history fails the clause of this number, and none before it.
+-- A history fails the clause of this number, and none before it.
 pub record FirstFault (n : ℕ) (i : Input) (h : History) : Type 0 where
   pub within : (1 ≤ n) × (n ≤ 11)
   pub before : (k : ℕ) → 1 ≤ k → k < n → Clause k i h

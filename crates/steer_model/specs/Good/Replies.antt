@@ -35,11 +35,11 @@ IsReplyByRule i h a k s =
     (entry h.start (accepted_in h.tx_lanes) (take k (list_at h.tx_choices a)))
     (λ lane. unwrap_or c.choice.head 0) (has everyone))
 
--- what an application sent, by its packets
+-- the packets to which an application replied
 abbrev pub replies_of : History → ℕ → List ℕ
 replies_of h a = map (λ s. s.id) (list_at h.sent a)
 
--- a reply of this application to the flow of packet x
+-- whether a packet has the flow of packet x and this application replied to it
 abbrev pub of_reply : Input → History → ℕ → ℕ → ℕ → Bool
 of_reply i h a x y =
     is_in y (replies_of h a) && flow_number_of (setup_in i) y == flow_number_of (setup_in i) x
@@ -69,6 +69,8 @@ pub record LeaveInOrder (i : Input) (h : History) : Type 0 where
       → InOrder (of_flow i h q x) (arrivals_at h.arrivals q) (map (λ lane. lane.drops) h.lanes)
       h.port
 
+-- The replies of each application are those of its inbox, their choices are by the rule, each is in
+-- one place, and they leave in order.
 pub record RepliesAreByRule (i : Input) (h : History) (at : ℕ → ℕ → ℕ) : Type 0 where
   pub sent : (a : ℕ) → AreSent i h a
   pub prefixes : (a : ℕ) → Prefixes (length (list_at h.tx_choices a)) (length h.commands) (at a)

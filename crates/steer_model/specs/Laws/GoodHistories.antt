@@ -4,7 +4,7 @@ use Rattle.history.specs.declared.history.History.{History}
 use Rattle.steer_model.specs.Good.GoodHistory.{Clause, Good}
 use Rattle.steer_model.specs.Good.Inputs.{Input}
 
--- Where no command was given, a history is good exactly where each clause holds by itself.
+-- Without commands a history is good if and only if each clause holds by itself.
 abbrev pub GoodByClauses : Type 0
 GoodByClauses =
     (i : Input) (h : History) → h.commands ≡ []

@@ -12,7 +12,8 @@ PacketsAreOne =
     → ArePackets key kinds bytes records packets → ArePackets key kinds bytes records others
     → packets ≡ others
 
--- Each has a flow number below their number, and all packets of one number have one hash.
+-- Each packet of a capture has a flow number below the number of packets, and all packets of one
+-- number have one hash.
 abbrev pub PacketsAreOfFlows : Type 0
 PacketsAreOfFlows =
     (key kinds : ℕ) (bytes : List ℕ) (records : List PcapRecord) (packets : List Packet)

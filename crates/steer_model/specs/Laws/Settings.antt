@@ -6,8 +6,7 @@ use Rattle.steer_model.specs.State.Machine.{Machine}
 use Rattle.steer_model.specs.State.Settings.{Settings}
 use Rattle.steer_model.specs.Steps.CompoundSteps.{after}
 
--- After any steps the settings are those that the done ones of all commands leave of the first
--- ones.
+-- After any steps the settings are the first ones changed by the done commands.
 abbrev pub SettingsFollow : Type 0
 SettingsFollow =
     (s : Settings) (m : Machine) (ss : List Step) → m.settings ≡ settings_after s m.commands

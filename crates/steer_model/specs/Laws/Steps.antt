@@ -8,8 +8,8 @@ use Rattle.steer_model.specs.Steps.Commands.{answer_to, given, is_done, listed}
 use Rattle.steer_model.specs.State.Machine.{Machine}
 use Rattle.steer_model.specs.Steps.SingleSteps.{is_command, simple}
 
--- A step of one event that is idle leaves the machine as it was. A command is none of these: one
--- that brings a processor online which is online is idle, and still joins the list.
+-- A step of one event that is idle leaves the machine as it was; a command is none of these, since
+-- it is listed even if it is idle.
 abbrev pub IdleLeavesAll : Type 0
 IdleLeavesAll =
     (m : Machine) (s : Step) (why : Idle) → is_command s ≡ false

@@ -17,12 +17,12 @@ use Rattle.steer_model.specs.Origins.TableWrites.{filter_at}
 use Rattle.steer_model.specs.Steps.CompoundSteps.{after}
 use Rattle.steer_model.specs.declared.note.Note.TheVariants as note
 
--- the chosen lane of a choice, where there is such a lane, accepted its packet
+-- The chosen lane of a choice, if there is such a lane, accepted its packet.
 abbrev pub WasAccepted : HopState → Chosen → Type 0
 WasAccepted s c =
     c.choice.lane < length s.bare.accepted → is_in c.id (accepted_at s.bare c.choice.lane) ≡ true
 
--- a producer holds one packet at most, and weighs none that it did not take up
+-- A producer has at most one packet in hand, and weighs none that it did not take.
 abbrev pub HoldOne : HopState → Type 0
 HoldOne s =
     (q : ℕ) → (length (choices_of s q) ≤ taken_of s q) × (taken_of s q ≤ placed_of s q + 1)
@@ -39,7 +39,7 @@ pub record FilterIsFrom (m : Machine) (place : ℕ) (f : Filter) : Type 0 where
   pub accepted : WasAccepted m.rx choice
   pub there : place_in_rows m.filters (packet_hash m.setup choice.id) ≡ Some place
 
--- Each filter that is set is from a choice, and each that a poller asks for is that of its last
+-- Each filter that is set is from a choice, and each that a poller asks for is from its last
 -- choice, whose packet was accepted.
 pub record FiltersAreFrom (m : Machine) : Type 0 where
   pub filters : (place : ℕ) (f : Filter) → filter_at place m ≡ Some f → FilterIsFrom m place f
@@ -49,7 +49,7 @@ pub record FiltersAreFrom (m : Machine) : Type 0 where
       × WasAccepted m.rx (last_chosen m.rx q)
   pub hands : HoldOne m.rx
 
--- It is so in the machine that a plan starts, and after any steps from there.
+-- Filters are from choices in the machine that a plan starts, and after any steps from there.
 pub record FiltersAreFromChoices : Type 0 where
   pub start : (plan : Plan) (packets : List Packet) (cut : Option ℕ)
       → FiltersAreFrom (new_machine plan packets cut)

@@ -19,7 +19,8 @@ pub record SocketIsWritten (m : Machine) : Type 0 where
   pub some_app : 0 < m.setup.apps
   pub lists : length m.writes ≡ m.setup.apps
 
--- It is so in the machine that a plan with an application starts, and after any steps from there.
+-- The socket flow table is written by the history in the machine that a plan with an application
+-- starts, and after any steps from there.
 pub record EntriesAreWritten : Type 0 where
   pub start : (plan : Plan) (packets : List Packet) (cut : Option ℕ) → 0 < length plan.apps
       → SocketIsWritten (new_machine plan packets cut)

@@ -17,6 +17,8 @@ use Rattle.steer_model.specs.State.Setup.{Setup}
 use Rattle.steer_model.specs.declared.note.Note.{Note}
 use Rattle.steer_model.specs.declared.note.Note.TheVariants as note
 
+-- The state of the machine: what the plan and the capture fix, the settings, the tables, the notes
+-- of the pollers, the two hops, and the lists of the history beside them.
 pub record Machine : Type 0 where
   pub setup : Setup
   pub settings : Settings
@@ -30,15 +32,17 @@ pub record Machine : Type 0 where
   pub writes : List (List SockWrite)  -- of each application, its writes to the socket flow table
   pub commands : List Commanded  -- each with its answer
 
+-- the note of a poller
 abbrev pub note_of : Machine → ℕ → Note
 note_of m q = slice_index_or m.notes q note.Nothing
 
--- the choice of a producer that was made last
+-- the last choice of a producer
 abbrev pub last_chosen : HopState → ℕ → Chosen
 last_chosen s q = unwrap_or (last_choice s q) nobody
 
 -- ---- the history of a machine
 
+-- what a history keeps of a lane
 abbrev pub lane_list : Bare → ℕ → LaneList
 lane_list b c =
     record {
@@ -49,9 +53,11 @@ lane_list b c =
       retired = retired_at b c;
     }
 
+-- what a history keeps of all lanes of a hop
 abbrev pub history_lanes : Bare → List LaneList
 history_lanes b = map (lane_list b) (range_with_len 0 (length b.accepted))
 
+-- the history of a machine
 abbrev pub history_of : Machine → History
 history_of m =
     record {

@@ -4,11 +4,13 @@ use Rattle.steer_base.specs.declared.filter.Filter.{Filter}
 use Rattle.steer_model.specs.declared.note.Note.{Note}
 use Rattle.steer_model.specs.declared.note.Note.TheVariants as note
 
+-- whether a poller keeps nothing
 abbrev pub is_nothing : Note → Bool
 is_nothing note.Nothing = true
 is_nothing (note.Looked want) = false
 is_nothing (note.Asking filter) = false
 
+-- whether a poller asks for a filter next
 abbrev pub is_asking : Note → Bool
 is_asking note.Nothing = false
 is_asking (note.Looked want) = false

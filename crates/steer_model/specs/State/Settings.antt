@@ -7,13 +7,14 @@ use Rattle.steer_base.specs.Sets.{with_cpu, without_cpu}
 use Rattle.steer_base.specs.declared.command.Command.{Command}
 use Rattle.steer_base.specs.declared.command.Command.TheVariants as give
 use Rattle.steer_base.specs.declared.cpu_mask.CpuMask.{CpuMask}
+use Rattle.steer_base.specs.declared.limits.TheConstants.{MAX_FLOW_COUNT, MAX_SOCKET_SIZE}
 use Rattle.rss_table.specs.Redirection.{Redirection, is_in_range, with_entry}
 use Rattle.xps_map.specs.Maps.{Maps}
 use Rattle.steer_model.specs.State.Setup.{Setup, packet_hash}
 
--- Of each receive queue its processors and its flow count in force; the size in force of the
--- socket flow table; the processors that are online; the maps of the transmit queues; the
--- redirection table; and the processor on which each application stands.
+-- The settings in force: each receive queue's processors and flow count, the socket flow table's
+-- size, the online processors, the maps of the transmit queues, the redirection table, and the
+-- processor of each application.
 pub record Settings : Type 0 where
   pub masks : List CpuMask
   pub counts : List ℕ
@@ -36,8 +37,8 @@ abbrev pub plain_lane : Setup → Settings → ℕ → ℕ → ℕ
 plain_lane p s q x =
     rps_choice_of (mask_of s q) (packet_hash p x) s.online (slice_index p.homes q)
 
--- The settings after a command that was done. Flow counts and the size of the socket flow table
--- are rounded up to a power of two.
+-- The settings after a command that was done; flow counts and the size of the socket flow table are
+-- rounded up to a power of two.
 abbrev pub changed : Settings → Command → Settings
 changed s (give.Mask q mask) = record s { masks = slice_set s.masks q mask }
 changed s (give.Flows q count) = record s { counts = slice_set s.counts q (rounded_up count) }
@@ -52,11 +53,11 @@ changed s (give.Reta place q) = record s { reta = with_entry s.reta place q }
 changed s (give.Stand app cpu) = record s { stands = slice_set s.stands app cpu }
 changed s give.Expire = s
 
--- a command names what these settings have, with numbers in its range
+-- A command names what these settings have, with numbers in range.
 abbrev pub IsInRange : Settings → Command → Type 0
 IsInRange s (give.Mask q mask) = q < length s.masks
-IsInRange s (give.Flows q count) = (q < length s.counts) × (count ≤ 32768)
-IsInRange s (give.Sock size) = size ≤ 65536
+IsInRange s (give.Flows q count) = (q < length s.counts) × (count ≤ MAX_FLOW_COUNT)
+IsInRange s (give.Sock size) = size ≤ MAX_SOCKET_SIZE
 IsInRange s (give.Offline cpu) = cpu < 32
 IsInRange s (give.Online cpu) = cpu < 32
 IsInRange s (give.XCpus tx mask) = tx < s.maps.count

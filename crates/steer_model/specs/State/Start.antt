@@ -5,6 +5,7 @@ use Rattle.steer_base.specs.Counters.{rounded_up}
 use Rattle.steer_base.specs.Sets.{first_cpus}
 use Rattle.steer_base.specs.declared.packet.Packet.{Packet}
 use Rattle.steer_base.specs.declared.step.Step.{Step}
+use Rattle.hop_core.specs.declared.shape.TheConstants.{MAX_HOP_ROOM}
 use Rattle.hop_core.specs.Hop.{HopState}
 use Rattle.hop_core.specs.Shape.{fresh_hop}
 use Rattle.sock_flow_table.specs.Sockets as sockets
@@ -20,6 +21,7 @@ use Rattle.steer_model.specs.State.Setup.{Setup}
 use Rattle.steer_model.specs.Steps.CompoundSteps.{after}
 use Rattle.steer_model.specs.declared.note.Note.TheVariants as note
 
+-- what a plan and the packets of a capture fix
 abbrev pub setup_of : Plan → List Packet → Option ℕ → Setup
 setup_of plan packets cut =
     record {
@@ -53,8 +55,8 @@ initial_settings plan =
       stands = plan.apps;
     }
 
--- The receive hop: a class for each flow entry of a queue, and the applications and a controller
--- as guests.
+-- the receive hop of a plan: a class for each flow entry of a queue, and the applications and a
+-- controller as guests
 abbrev pub fresh_rx : Plan → List Packet → HopState
 fresh_rx plan packets =
     fresh_hop
@@ -67,12 +69,13 @@ fresh_rx plan packets =
     })
     (initial_settings plan).counts (length plan.apps + 1) plan.cpus (length plan.apps)
 
--- The transmit hop: a class for each flow number and one at least, and lanes that are never full.
+-- the transmit hop of a plan: a class for each flow number, at least one, and lanes that are never
+-- full
 abbrev pub fresh_tx : Plan → List Packet → HopState
 fresh_tx plan packets =
     fresh_hop
     (record {
-      limit = 262144;
+      limit = MAX_HOP_ROOM;
       room = length packets;
       start = plan.start;
       exact = true;
@@ -80,7 +83,7 @@ fresh_tx plan packets =
     })
     (replicate (length plan.apps) (max 1 (length packets))) 0 (length plan.tx) 1
 
--- The machine before its first step: the plan's settings, open gates and empty lists.
+-- the machine before its first step: the plan's settings, open gates and empty lists
 abbrev pub new_machine : Plan → List Packet → Option ℕ → Machine
 new_machine plan packets cut =
     record {
@@ -101,6 +104,6 @@ new_machine plan packets cut =
 abbrev pub steps_of : Plan → List Step
 steps_of plan = filter_map (nth_step plan) (range_with_len 0 (step_count plan))
 
--- The history of a plan over the packets of a capture.
+-- the history of a plan over the packets of a capture
 abbrev pub replayed : Plan → List Packet → Option ℕ → History
 replayed plan packets cut = history_of (after (steps_of plan) (new_machine plan packets cut))

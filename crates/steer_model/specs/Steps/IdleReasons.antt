@@ -37,6 +37,7 @@ pub data Stage : Type 0 where
   Full : Stage
   Delivered : Stage
 
+-- whether a hand is at this stage
 abbrev pub is_at : Stage → Stage → Bool
 is_at Empty Empty = true
 is_at Taken Taken = true
@@ -48,14 +49,15 @@ is_at Full Full = true
 is_at Delivered Delivered = true
 is_at _ _ = false
 
--- whether a producer has a packet to weigh, and one to put
+-- whether a producer has a packet to weigh
 abbrev pub weighs_next : HopState → ℕ → Bool
 weighs_next s p = nat_lt (length (choices_of s p)) (taken_of s p)
 
+-- whether a producer has a packet to put
 abbrev pub puts_next : HopState → ℕ → Bool
 puts_next s p = nat_lt (placed_of s p) (length (choices_of s p))
 
--- of a poller, by its note, and by whether it has a packet to weigh and one to put
+-- the stage of a poller, by its note and by whether it has a packet to weigh and one to put
 abbrev pub poller_stage : Note → Bool → Bool → Stage
 poller_stage (note.Looked want) weighs puts = Looked
 poller_stage (note.Asking filter) weighs puts = Asking
@@ -63,24 +65,27 @@ poller_stage note.Nothing weighs true = Weighed
 poller_stage note.Nothing true false = Taken
 poller_stage note.Nothing false false = Empty
 
+-- the stage of a poller's hand
 abbrev pub poller_hand : Machine → ℕ → Stage
 poller_hand m q = poller_stage (note_of m q) (weighs_next m.rx q) (puts_next m.rx q)
 
--- of an application, by the same two
+-- the stage of an application, by whether it has a reply to weigh and one to put
 abbrev pub sender_stage : Bool → Bool → Stage
 sender_stage weighs true = Weighed
 sender_stage true false = Sent
 sender_stage false false = Empty
 
+-- the stage of an application's hand
 abbrev pub sender_hand : Machine → ℕ → Stage
 sender_hand m a = sender_stage (weighs_next m.tx a) (puts_next m.tx a)
 
--- of a lane, by whether it has a packet to deliver, and one to retire
+-- the stage of a lane, by whether it has a packet to deliver and one to retire
 abbrev pub lane_stage : Bool → Bool → Stage
 lane_stage true retires = Full
 lane_stage false true = Delivered
 lane_stage false false = Empty
 
+-- the stage of a lane's hand
 abbrev pub lane_hand : Bare → ℕ → Stage
 lane_hand b c =
     lane_stage (nat_lt (delivered_at b c) (pulled_at b c))
@@ -88,42 +93,46 @@ lane_hand b c =
 
 -- ---- what a step needs
 
--- what has to hold, and the reason for which a step is idle where it does not
+-- a condition of a step, and the reason for which the step is idle without it
 abbrev pub Need : Type 0
 Need = Bool × Idle
 
--- done where all needs hold, else idle for the first that does not
+-- the answer done if all conditions hold, otherwise idle for the first that does not
 abbrev pub answer_by_needs : List Need → Answer
 answer_by_needs [] = says.Done
 answer_by_needs (need ∷ needs) = if need.0 then answer_by_needs needs else says.Idle need.1
 
+-- what a pull needs
 abbrev pub pull_needs : Bare → ℕ → List Need
 pull_needs b c =
     (is_at (lane_hand b c) Empty, idle.HandFull)
     ∷ (nat_lt (pulled_at b c) (length (accepted_at b c)), idle.NothingWaiting) ∷ []
 
+-- what a delivery needs
 abbrev pub deliver_needs : Bare → ℕ → List Need
 deliver_needs b c =
     (not (is_at (lane_hand b c) Empty), idle.HandEmpty)
     ∷ (is_at (lane_hand b c) Full, idle.AlreadyDelivered) ∷ []
 
+-- what a retire needs
 abbrev pub retire_needs : Bare → ℕ → List Need
 retire_needs b c =
     (not (is_at (lane_hand b c) Empty), idle.HandEmpty)
     ∷ (is_at (lane_hand b c) Delivered, idle.NotDelivered) ∷ []
 
--- inside the gate with the hand at this stage
+-- what an event needs that is made inside the gate with the hand at a stage
 abbrev pub stage_needs : HopState → ℕ → Stage → Stage → List Need
 stage_needs s a hand stage =
     (inside_of s a, idle.NotInside) ∷ (is_at hand stage, idle.WrongStage) ∷ []
 
--- inside the gate with the hand empty or at this stage
+-- what leaving the gate needs: the hand empty or at this stage
 abbrev pub leave_needs : HopState → ℕ → Stage → Stage → List Need
 leave_needs s a hand stage =
     (inside_of s a, idle.NotInside)
     ∷ (is_at hand Empty || is_at hand stage, idle.MidPacket) ∷ []
 
--- What a step of one event needs, in the order of the reasons. One of many events is none of these.
+-- What a step of one event needs, in the order of the reasons; a step of many events needs nothing
+-- here.
 abbrev pub needs : Machine → Step → List Need
 needs m act.Arrive =
     (nat_lt (length m.arrivals) (length m.setup.packets), idle.NothingLeft) ∷ []
@@ -157,7 +166,7 @@ needs m _ = (false, idle.Nothing) ∷ []
 
 -- ---- the laws
 
--- A producer and a lane have at most one packet in hand. Each producer has a count of its puts.
+-- In a hop each producer and each lane has at most one packet in hand.
 pub record IsStaged (s : HopState) : Type 0 where
   pub weighed : (p : ℕ) → placed_of s p ≤ length (choices_of s p)
   pub taken : (p : ℕ) → length (choices_of s p) ≤ taken_of s p
@@ -167,8 +176,8 @@ pub record IsStaged (s : HopState) : Type 0 where
   pub one_pulled : (c : ℕ) → pulled_at s.bare c ≤ retired_at s.bare c + 1
   pub counted : length s.placed ≡ length s.choices
 
--- So it is in both hops. A poller that looked has a packet to weigh, and one that asks for a filter
--- has put what it took.
+-- In both hops of a machine each hand has at most one packet; a poller that looked has a packet to
+-- weigh, and one that asks for a filter has put what it took.
 pub record AreStaged (m : Machine) : Type 0 where
   pub rx : IsStaged m.rx
   pub tx : IsStaged m.tx
@@ -177,17 +186,18 @@ pub record AreStaged (m : Machine) : Type 0 where
   pub asking : (q : ℕ) (filter : Filter) → note_of m q ≡ note.Asking filter
       → taken_of m.rx q ≤ placed_of m.rx q
 
--- So it is in a new machine, and all steps keep it so.
+-- In a new machine each hand has at most one packet.
 abbrev pub NewIsStaged : Type 0
 NewIsStaged =
     (plan : Plan) (packets : List Packet) (cut : Option ℕ)
     → AreStaged (new_machine plan packets cut)
 
+-- After any steps each hand still has at most one packet.
 abbrev pub StepsKeepStaged : Type 0
 StepsKeepStaged = (ss : List Step) (m : Machine) → AreStaged m → AreStaged (after ss m)
 
--- A step of one event is done where all holds that it needs, and else idle for the first that does
--- not hold.
+-- A step of one event is done if and only if all that it needs holds, and otherwise idle for the
+-- first reason.
 abbrev pub IdleForFirstReason : Type 0
 IdleForFirstReason =
     (m : Machine) (s : Step) → AreStaged m → is_command s ≡ false

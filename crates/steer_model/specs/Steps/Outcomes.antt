@@ -12,7 +12,7 @@ use Rattle.steer_model.specs.State.Machine.{Machine}
 abbrev pub StepOutcome : Type 0
 StepOutcome = Machine × Answer
 
--- a step that is not enabled, for this reason
+-- the outcome of a step that is not enabled, for this reason
 abbrev pub idle_step : Machine → Idle → StepOutcome
 idle_step m why = (m, says.Idle why)
 
@@ -21,9 +21,10 @@ abbrev pub told : HopAnswer → Answer
 told (answer.Idle why) = says.Idle why
 told _ = says.Done
 
--- an event of the receive hop alone, and one of the transmit hop alone
+-- the outcome of an event of the receive hop only
 abbrev pub by_rx : Machine → HopEvent → StepOutcome
 by_rx m e = (record m { rx = (happens m.rx e).0 }, told (happens m.rx e).1)
 
+-- the outcome of an event of the transmit hop only
 abbrev pub by_tx : Machine → HopEvent → StepOutcome
 by_tx m e = (record m { tx = (happens m.tx e).0 }, told (happens m.tx e).1)

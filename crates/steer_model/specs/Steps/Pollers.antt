@@ -43,9 +43,11 @@ filter_seen filters (Some hash) = option_map (λ filter. filter.queue) (filter_o
 abbrev pub route_by : Machine → Option ℕ → Route
 route_by m hash = route hash (filter_seen m.filters hash) (queue_of m.settings.reta hash)
 
+-- the arrival of a packet by a route
 abbrev pub arrival_by : ℕ → Route → Arrival
 arrival_by x r = record { id = x; queue = r.queue; filter = r.filter; entry = r.entry }
 
+-- the machine after an arrival
 abbrev pub arrives : Machine → Arrival → Machine
 arrives m a =
     record m {
@@ -63,10 +65,11 @@ arrive m =
 
 -- ---- a poller
 
+-- the machine with another note for a poller
 abbrev pub with_note : Machine → ℕ → Note → Machine
 with_note m q n = record m { notes = slice_set m.notes q n }
 
--- The first packet of the ring is in hand. The hand of a poller that asks for a filter is full.
+-- A poller takes the first packet of its ring; a poller that asks for a filter has its hand full.
 abbrev pub poller_takes : Machine → ℕ → StepOutcome
 poller_takes m q = if is_asking (note_of m q) then idle_step m idle.HandFull else by_rx m
     (event.Take q)
@@ -77,21 +80,23 @@ socket_seen socket (Some class) (Some hash) = wanted socket hash
 socket_seen socket (Some class) None = None
 socket_seen socket None hash = None
 
+-- the processor that a packet at a receive queue finds in the socket flow table
 abbrev pub seen_by : Machine → ℕ → ℕ → Option ℕ
 seen_by m q x = socket_seen m.socket (class_at m.setup m.settings q x) (packet_hash m.setup x)
 
+-- the look of a poller for the packet that it weighs next, if there is one
 abbrev pub look_by : Machine → ℕ → Option ℕ → StepOutcome
 look_by m q (Some x) = (with_note m q (note.Looked (seen_by m q x)), says.Done)
 look_by m q None = idle_step m idle.WrongStage
 
--- The poller keeps what it sees in the socket flow table for the packet in hand.
+-- A poller looks up the packet in hand in the socket flow table, and keeps what it sees.
 abbrev pub look : Machine → ℕ → StepOutcome
 look m q =
     if not (inside_of m.rx q) then idle_step m idle.NotInside else
     if is_nothing (note_of m q) then look_by m q (to_weigh m.rx q) else
     idle_step m idle.WrongStage
 
--- what a packet is weighed with, where this was seen in the socket flow table
+-- the event that weighs a packet at a receive queue, with what was seen in the socket flow table
 abbrev pub weighing : Machine → ℕ → ℕ → Option ℕ → HopEvent
 weighing m q x want =
     event.Weigh q (class_at m.setup m.settings q x) want
@@ -99,6 +104,7 @@ weighing m q x want =
     (plain_lane m.setup m.settings q x))
     m.settings.online
 
+-- the weighing of a poller by its note
 abbrev pub weigh_by : Machine → ℕ → Note → Option ℕ → StepOutcome
 weigh_by m q (note.Looked want) (Some x) = by_rx (with_note m q note.Nothing) (weighing m q x want)
 weigh_by m q (note.Looked want) None = idle_step m idle.WrongStage
@@ -111,18 +117,18 @@ poller_weighs m q =
     if not (inside_of m.rx q) then idle_step m idle.NotInside else
     weigh_by m q (note_of m q) (to_weigh m.rx q)
 
--- the filter that is asked for after a packet was accepted at a position by this choice, where
--- there are so many filters
+-- the filter that is asked for after a packet was accepted at a position by this choice, if there
+-- are filters
 abbrev pub filter_for : List ℕ → ℕ → Choice → ℕ → Option Filter
 filter_for homes filters c position =
     if nat_lt 0 filters then filter_written homes c.why c.lane position else None
 
--- the position at which a put was accepted, where it was
+-- the position at which a put was accepted, if it was
 abbrev pub put_position : HopAnswer → Option ℕ
 put_position (answer.Went (went.At position)) = Some position
 put_position _ = None
 
--- what a poller does after its put
+-- what a poller does after its put: it asks for a filter if one is due
 abbrev pub poller_after_put : Machine → ℕ → Option ℕ → HopAnswer → StepOutcome
 poller_after_put m q (Some position) a = (
   with_note m q
@@ -131,19 +137,22 @@ poller_after_put m q (Some position) a = (
 )
 poller_after_put m q None a = (m, told a)
 
+-- the event that puts the packet in the hand of a poller
 abbrev pub putting : Machine → ℕ → HopEvent
 putting m q = event.Put q (packet_hash m.setup (last_chosen m.rx q).id)
 
--- The packet in hand is put to its processor, and a filter is asked for where one is due.
+-- The packet in hand is put to its processor, and a filter is asked for if one is due.
 abbrev pub poller_puts : Machine → ℕ → StepOutcome
 poller_puts m q =
     poller_after_put (by_rx m (putting m q)).0 q (put_position (happens m.rx (putting m q)).1)
     (happens m.rx (putting m q)).1
 
+-- the filters with one written for a hash, if there is a hash
 abbrev pub with_filter : List (Option Filter) → Option ℕ → Filter → List (Option Filter)
 with_filter filters None filter = filters
 with_filter filters (Some hash) filter = steered filters hash filter
 
+-- the writing of a filter by the note of a poller
 abbrev pub ask_by : Machine → ℕ → Note → StepOutcome
 ask_by m q (note.Asking filter) = (
   record (with_note m q note.Nothing) {
@@ -154,12 +163,12 @@ ask_by m q (note.Asking filter) = (
 ask_by m q note.Nothing = idle_step m idle.WrongStage
 ask_by m q (note.Looked want) = idle_step m idle.WrongStage
 
--- The filter that is asked for is written.
+-- The filter that a poller asks for is written.
 abbrev pub ask : Machine → ℕ → StepOutcome
 ask m q =
     if not (inside_of m.rx q) then idle_step m idle.NotInside else ask_by m q (note_of m q)
 
--- The poller leaves, but not between its look and the end of its put or its filter.
+-- A poller leaves the gate, but not between its look and the end of its put or its filter.
 abbrev pub poller_leaves : Machine → ℕ → StepOutcome
 poller_leaves m q =
     if not (inside_of m.rx q) then idle_step m idle.NotInside else

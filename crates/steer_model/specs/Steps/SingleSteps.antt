@@ -13,7 +13,8 @@ use Rattle.steer_model.specs.Steps.Outcomes.{StepOutcome, by_rx, by_tx, idle_ste
 use Rattle.steer_model.specs.Steps.Pollers.{arrive, ask, poller_leaves, look, poller_puts}
 use Rattle.steer_model.specs.Steps.Pollers.{poller_takes, poller_weighs}
 
--- A step of one event, or a command. A step of many events does nothing here.
+-- The machine and the answer after a step of one event or a command; a step of many events changes
+-- nothing here.
 abbrev pub simple : Machine → Step → StepOutcome
 simple m act.Arrive = arrive m
 simple m (act.Take q) = poller_takes m q
@@ -48,7 +49,7 @@ abbrev pub is_command : Step → Bool
 is_command (act.Give c) = true
 is_command _ = false
 
--- entering, leaving and recording are no work
+-- whether a step is work: entering, leaving and recording are not
 abbrev pub is_work : Step → Bool
 is_work (act.Enter q) = false
 is_work (act.Leave q) = false
@@ -57,6 +58,7 @@ is_work (act.TLeave a) = false
 is_work (act.Record flow) = false
 is_work _ = true
 
+-- whether an answer is that the step was idle
 abbrev pub is_idle : Answer → Bool
 is_idle (says.Idle why) = true
 is_idle says.Done = false

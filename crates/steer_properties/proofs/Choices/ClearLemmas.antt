@@ -21,7 +21,7 @@ use Rattle.hop_core.proofs.Lists.{Changed-set, chosen-push_front, chosen-push_la
 use Rattle.steer_base.specs.Choices.{has_moved}
 use Rattle.steer_base.specs.Entries.{current_lane, entry, is_class, of_class, place_in, position}
 use Rattle.steer_base.specs.Entries.{recorded_count}
-use Rattle.steer_base.specs.Moves.{MayLeave}
+use Rattle.steer_base.specs.Moves.{MayLeave, MovesByThree}
 use Rattle.steer_base.specs.Sets.{has}
 use Rattle.steer_base.specs.declared.choice.Choice.{Choice}
 use Rattle.steer_base.specs.declared.choice.Chosen.{Chosen}
@@ -29,11 +29,12 @@ use Rattle.steer_base.specs.declared.choice.Entry.{Entry}
 use Rattle.steer_base.specs.declared.cpu_mask.CpuMask.{CpuMask}
 use Rattle.steer_base.proofs.CountersLemmas.{has_reached-counts}
 use Rattle.steer_base.proofs.EntriesLemmas.{place_in-le, recorded_count-le}
+use Rattle.steer_base.proofs.RuleLemmas.{moves-of}
 use Rattle.steer_model.specs.State.Machine.{history_lanes}
 use Rattle.steer_invariant.proofs.LaneLemmas.{lane-is}
 use Rattle.steer_properties.specs.Choices.Clear.{MovesAreClear}
 use Rattle.steer_properties.proofs.Choices.HeadLemmas.{retired-small}
-use Rattle.steer_properties.proofs.Choices.MoveLemmas.{MovesBy, migrate-class, moves-of}
+use Rattle.steer_properties.proofs.Choices.MoveLemmas.{migrate-class}
 use Rattle.steer_properties.proofs.Histories.HopGrowthLemmas.{Stays}
 
 -- the same of a hop
@@ -162,7 +163,8 @@ module _ (s : HopState) (q : ℕ) (want : Option ℕ) (desired : ℕ) (online : 
       elim (cases_lt j (since_of s q)) [
         | inl early ↦ h.past q j n early at
         | inr late ↦ (
-            let w : MovesBy c desired e.tail (head_at s.fixed.start s.bare) (has online) e.lane =
+            let w : MovesByThree c desired e.tail (head_at s.fixed.start s.bare) (has online)
+            e.lane =
             moves-of c class want desired e.tail (head_at s.fixed.start s.bare) (has online) e.lane
             refl in
             clear-recent j n late lt own at (w.may.0 moved))

@@ -1,4 +1,4 @@
--- Choices by the rule move their classes in three cases alone.
+-- Choices by the rule move their classes by the three conditions.
 use Rattle.std.proofs.Common.{ℕ, ◌<◌, ◌≡◌, ◌⊎◌, Bool, true, false, List, Option, Some}
 use Rattle.std.proofs.Common.{None, length, take, drop, refl, ap, ◌∙◌, sym, subst, arith, inl, inr}
 use Rattle.std.proofs.Common.{unwrap_or, get_or}
@@ -17,12 +17,12 @@ use Rattle.hop_core.proofs.Standing.{current_lane-in}
 use Rattle.steer_base.specs.Choices.{by_entry, desired_cpu, has_moved, migrate}
 use Rattle.steer_base.specs.Counters.{has_reached}
 use Rattle.steer_base.specs.Entries.{current_lane, entry, is_class, of_class}
-use Rattle.steer_base.specs.Moves.{IsMove, MayLeave}
+use Rattle.steer_base.specs.Moves.{MayLeave, MovesByThree}
 use Rattle.steer_base.specs.Sets.{has}
 use Rattle.steer_base.specs.declared.choice.Choice.{Choice}
 use Rattle.steer_base.specs.declared.choice.Chosen.{Chosen}
 use Rattle.steer_base.specs.declared.choice.Entry.{Entry}
-use Rattle.steer_base.proofs.RuleLemmas.{by_entry-class}
+use Rattle.steer_base.proofs.RuleLemmas.{by_entry-class, moves-of}
 use Rattle.steer_model.specs.Steps.Applications.{everyone}
 use Rattle.steer_model.specs.Good.Choices.{AreByRule, accepted_in}
 use Rattle.steer_model.specs.Good.Replies.{IsReplyByRule}
@@ -32,8 +32,7 @@ use Rattle.steer_model.specs.State.Settings.{Settings, class_at, plain_lane}
 use Rattle.steer_model.specs.State.Setup.{flow_number_of, packet_hash}
 use Rattle.steer_invariant.specs.StepInvariant.{StepInvariant}
 use Rattle.xps_map.specs.Maps.{picked}
-use Rattle.steer_properties.specs.Choices.Moves.{ChangesFlow, FlowsMoveAsSaid, MayChange}
-use Rattle.steer_properties.specs.Choices.Moves.{MovesClass}
+use Rattle.steer_properties.specs.Choices.Moves.{ChangesFlow, FlowsMoveAsSaid, MovesClass}
 
 -- ---- the receive side
 
@@ -75,10 +74,9 @@ module _ (i : Input) (h : History) (at : ℕ → ℕ → ℕ) (r : AreByRule i h
       → MovesClass i h q k s (since_at h.commands q (at q) k) class
   class-moves class is =
       let e : Entry = entries class in
-      let w = moves-of c.choice class c.choice.want
+      moves-of c.choice class c.choice.want
       (desired_cpu (Some class) c.choice.want s.online (plain_lane (setup_in i) s q c.id)) e.tail
-      (λ lane. unwrap_or c.choice.head 0) (has s.online) e.lane (by-class (Some class) is) in
-      record { cases = w.cases; may = w.may; moved = w.moved; kept = w.kept }
+      (λ lane. unwrap_or c.choice.head 0) (has s.online) e.lane (by-class (Some class) is)
 
   plain-goes : c.choice.class ≡ None → c.choice.lane ≡ plain_lane (setup_in i) s q c.id
   plain-goes is = ap (λ (d : Choice). d.lane) (by-class None is)
@@ -96,22 +94,33 @@ flows_move i h at r =
 everyone-has : (c : ℕ) → c < 32 → has everyone c ≡ true
 everyone-has c lt = let bit = bit_at_ones 32 c lt in rw (lt-ltb c 32 lt, bit) refl
 
--- all transmit queues are online, so that none is left since it is offline
-may-change : (pick tail : ℕ) (head current : Option ℕ)
-    → ((tx : ℕ) → current ≡ Some tx → has everyone tx ≡ true)
-    → MayLeave pick tail (λ lane. unwrap_or head 0) (has everyone) current
-    ↔ MayChange pick tail head current
-may-change pick tail head None on = (λ w. w, λ w. w)
-may-change pick tail head (Some tx) on = (
-  λ w. (w.0, reached (on tx refl) w.1),
-  λ w. (w.0, inr w.1),
+-- where the current lane is online, a class leaves it as if all lanes were
+leaves-online : (desired tail : ℕ) (head : ℕ → ℕ) (online : ℕ → Bool) (current : Option ℕ)
+    → ((lane : ℕ) → current ≡ Some lane → online lane ≡ true)
+    → MayLeave desired tail head online current ↔ MayLeave desired tail head (λ lane. true) current
+leaves-online desired tail head online None on = (λ w. w, λ w. w)
+leaves-online desired tail head online (Some lane) on = (
+  λ w. (w.0, inr (reached (on lane refl) w.1)),
+  λ w. (w.0, inr (reached refl w.1)),
 )
   where
-    reached : has everyone tx ≡ true
-        → (has everyone tx ≡ false) ⊎ (has_reached (unwrap_or head 0) tail 0 ≡ true)
-        → has_reached (unwrap_or head 0) tail 0 ≡ true
+    reached : {b : Bool} → b ≡ true → (b ≡ false) ⊎ (has_reached (head lane) tail 0 ≡ true)
+        → has_reached (head lane) tail 0 ≡ true
     reached e (inl off) = absurd (let f : true ≡ false = sym e ∙ off in cc)
     reached e (inr r) = r
+
+moves-online : (c : Choice) (desired tail : ℕ) (head : ℕ → ℕ) (online : ℕ → Bool)
+    (current : Option ℕ) → ((lane : ℕ) → current ≡ Some lane → online lane ≡ true)
+    → MovesByThree c desired tail head online current
+    → MovesByThree c desired tail head (λ lane. true) current
+moves-online c desired tail head online current on w =
+    let same = leaves-online desired tail head online current on in
+    record {
+      cases = w.cases;
+      may = (λ f. same.0 (w.may.0 f), λ g. w.may.1 (same.1 g));
+      moved = w.moved;
+      kept = w.kept;
+    }
 
 -- a transmit queue that a flow has is one of the plan's
 tx-online : (m : Machine) → StepInvariant m → (a k flow tx : ℕ) → k < length (choices_of m.tx a)
@@ -150,15 +159,10 @@ reply-by i m a k s r kept lt is =
     let e : Entry =
     entry m.rx.fixed.start (accepted_in (history_lanes m.tx.bare))
     (take k (choices_of m.tx a)) flow in
-    let w = moves-of c flow (Some pick) pick e.tail (λ lane. unwrap_or c.head 0) (has everyone)
-    e.lane is in
-    let same = may-change pick e.tail c.head e.lane
-    (λ tx at. tx-online m kept a k flow tx lt at) in
-    record {
-      may = (λ f. same.0 (w.may.0 f), λ g. w.may.1 (same.1 g));
-      moved = w.moved;
-      kept = w.kept;
-    }
+    let head : ℕ → ℕ = λ tx. unwrap_or c.head 0 in
+    moves-online c pick e.tail head (has everyone) e.lane
+    (λ tx at. tx-online m kept a k flow tx lt at)
+    (moves-of c flow (Some pick) pick e.tail head (has everyone) e.lane is)
 
 pub reply-changes : (i : Input) (m : Machine) (a k : ℕ) (s : Settings) (r : Sent) → StepInvariant m
     → k < length (choices_of m.tx a) → slice_get (list_at m.sent a) k ≡ Some r

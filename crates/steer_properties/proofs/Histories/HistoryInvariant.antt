@@ -1,5 +1,5 @@
--- What holds of the machine after every step beside what it is held by: all that its history says
--- of choices, of what they saw, of writes and of commands.
+-- The invariant of the machine together with its history: what every state says of choices, of what
+-- they saw, of writes and of commands. Each law of `src/laws.rt` is read off it.
 use Rattle.std.proofs.Common.{ℕ, ◌≡◌, List, None, length, refl, ap, ◌∙◌, sym, subst, arith}
 use Rattle.std.specs.List.{AllPass}
 use Rattle.std.proofs.Math.ListN.{length-map}
@@ -76,20 +76,36 @@ based-lasts i m n l b =
 
 -- ---- all of it
 
+-- The invariant of a machine together with its history, a field for each law that it serves.
 pub record HistoryInvariant (i : Input) (m : Machine) : Type 0 where
+  -- the invariant of `steer_invariant`, which every law needs
   pub held : Invariant m
+  -- what the plan fixes: every_history_is_of_its_input
   pub based : Based i m
+  -- the settings are the plan's, changed by the done commands: needed by rules, tx_rules,
+  -- commanding, stood, seen and written
   pub follows : Follows i m
+  -- heads_never_fall
   pub heads : Heads m
+  -- each socket entry was written by an application: needed by looking and rules
   pub socket : SocketIsWritten m
+  -- what a poller saw in the socket table was written: the wants of every_choice_is_by_the_rule
   pub looking : Looking m
+  -- every_choice_is_by_the_rule
   pub rules : Rules i m
+  -- every_reply_is_by_the_rule, its choices
   pub tx_rules : TxRules i m
+  -- every_command_is_answered
   pub commanding : Commanding i m
+  -- each reply keeps a processor where its application stood: every_reply_is_by_the_rule
   pub stood : AllStood i m
+  -- each filter is from a choice: needed by seen
   pub from : FiltersAreFrom m
+  -- every_queue_was_seen
   pub seen : AllSeen i m
+  -- every_write_is_of_a_packet
   pub written : Written i m
+  -- a_flow_moves_only_where_nothing_of_it_is_outstanding
   pub clear : Clear m
 
 -- both hops number from one start

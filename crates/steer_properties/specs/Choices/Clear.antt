@@ -10,9 +10,8 @@ use Rattle.steer_base.specs.Entries.{position}
 use Rattle.steer_base.specs.declared.choice.Chosen.{Chosen}
 use Rattle.steer_model.specs.Good.Choices.{accepted_in}
 
--- Where a choice moved a class, each packet of an earlier choice for this class that was accepted
--- is retired. In the state right after the choice it says that none was outstanding when it was
--- made.
+-- If a choice moved a class, each packet of an earlier choice for this class that was accepted is
+-- retired; right after the choice this says that none was outstanding.
 abbrev pub MovesAreClear : List LaneList → List Chosen → Type 0
 MovesAreClear lanes cs =
     (j k class n : ℕ) → j < k → k < length cs
@@ -21,7 +20,7 @@ MovesAreClear lanes cs =
     → position (accepted_in lanes) (chosen_at cs j) ≡ Some n
     → n ≤ (lane_at lanes (chosen_at cs j).choice.lane).retired
 
--- It is so of the choices of each receive queue, and of each application.
+-- Moves are clear for each receive queue and for each application.
 pub record NothingIsOutstanding (h : History) : Type 0 where
   pub rx : (q : ℕ) → MovesAreClear h.lanes (list_at h.choices q)
   pub tx : (a : ℕ) → MovesAreClear h.tx_lanes (list_at h.tx_choices a)

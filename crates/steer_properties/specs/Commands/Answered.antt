@@ -15,7 +15,7 @@ use Rattle.steer_model.specs.Good.Inputs.{Input, setup_in, settings_at}
 use Rattle.steer_model.specs.State.Settings.{Settings}
 use Rattle.steer_model.specs.State.Setup.{app_for, packet_hash}
 
--- The write of an application for a packet of the capture that is its own and has a hash.
+-- The write is that of an application for a packet of the capture that is its own and has a hash.
 pub record IsWriteFor (i : Input) (h : History) (a : ℕ) (w : SockWrite) : Type 0 where
   pub packet : ℕ
   pub of_the_capture : packet < length i.packets
@@ -24,11 +24,12 @@ pub record IsWriteFor (i : Input) (h : History) (a : ℕ) (w : SockWrite) : Type
   pub hash_is : packet_hash (setup_in i) packet ≡ Some hash
   pub write : IsWrite i h a hash w
 
+-- Each write to the socket flow table is that of an application for a packet of its own.
 abbrev pub WritesAreMade : Input → History → Type 0
 WritesAreMade i h = (a : ℕ) → All (IsWriteFor i h a) (list_at h.writes a)
 
--- A command that may be given with these settings found somebody inside its gate. A replay may have
--- more actors inside than a plan has workers.
+-- A command that is not refused found somebody inside its gate; a replay may have more actors
+-- inside than a plan has workers.
 pub record IsInside (i : Input) (h : History) (s : Settings) (c : Commanded) : Type 0 where
   pub number : ℕ
   pub answer : c.answer ≡ says.Busy (busy.Inside number)

@@ -11,8 +11,8 @@ use Rattle.steer_model.specs.State.Machine.{history_of}
 use Rattle.steer_model.specs.State.Start.{new_machine, replayed}
 use Rattle.steer_model.specs.Steps.CompoundSteps.{after}
 
--- After any steps that name what the plan has they are the commands among these steps, in their
--- order, each given once: a replay tries no command again.
+-- After any steps that name what the plan has, the commands of the history are those among these
+-- steps, in order, each given once.
 abbrev pub RunsGiveOnce : Type 0
 RunsGiveOnce =
     (i : Input) (ss : List Step) → MayStart i.plan i.packets
@@ -20,7 +20,7 @@ RunsGiveOnce =
     → AreGiven 1 (filter_map command_in ss)
     (history_of (after ss (new_machine i.plan i.packets i.cut))).commands
 
--- So after all steps of a plan they are the plan's.
+-- After all steps of a plan the commands of the history are the plan's, each given once.
 abbrev pub ReplaysGiveOnce : Type 0
 ReplaysGiveOnce =
     (i : Input) → MayStart i.plan i.packets

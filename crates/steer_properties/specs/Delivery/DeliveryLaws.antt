@@ -23,14 +23,14 @@ pub record DeliversInOrder (i : Input) (h : History) : Type 0 where
   pub places : AreInOneTxPlace h
   pub leave : LeaveInOrder i h
 
--- So does the history of every list of steps that name what the plan has, and of all steps that the
--- plan has.
+-- The history after any steps that name what the plan has delivers each flow in order.
 abbrev pub RunsDeliverInOrder : Type 0
 RunsDeliverInOrder =
     (i : Input) (ss : List Step) → MayStart i.plan i.packets
     → AllPass (step_is_within (sizes_of i.plan)) ss
     → DeliversInOrder i (history_of (after ss (new_machine i.plan i.packets i.cut)))
 
+-- The history after all steps of a plan delivers each flow in order.
 abbrev pub ReplaysDeliverInOrder : Type 0
 ReplaysDeliverInOrder =
     (i : Input) → MayStart i.plan i.packets → DeliversInOrder i (replayed i.plan i.packets i.cut)

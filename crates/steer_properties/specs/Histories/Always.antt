@@ -11,8 +11,8 @@ use Rattle.steer_model.specs.State.Machine.{history_of}
 use Rattle.steer_model.specs.State.Start.{new_machine, replayed}
 use Rattle.steer_model.specs.Steps.CompoundSteps.{after}
 
--- It holds of the history after any steps that name what the plan has, and after all steps that the
--- plan has.
+-- A property holds of the history after any steps that name what the plan has, and after all steps
+-- of the plan.
 pub record Always (P : Input → History → Type 0) : Type 0 where
   pub runs : (i : Input) (ss : List Step) → MayStart i.plan i.packets
       → AllPass (step_is_within (sizes_of i.plan)) ss

@@ -20,6 +20,8 @@ use Rattle.steer_model.specs.State.Start.{new_machine, replayed}
 use Rattle.steer_model.specs.Steps.CompoundSteps.{after}
 use Rattle.steer_properties.specs.Commands.Answered.{AreAnswered, WritesAreMade}
 
+-- The history of a replay that ends with a sweep: each clause of a good history, but that its
+-- writes and its tries of commands are those of its steps.
 pub record GoodAtRest (i : Input) (h : History) : Type 0 where
   pub at : ℕ → ℕ → ℕ
   pub tx_at : ℕ → ℕ → ℕ
@@ -35,14 +37,14 @@ pub record GoodAtRest (i : Input) (h : History) : Type 0 where
   pub commands : AreAnswered i h
   pub replies : RepliesAreByRule i h tx_at
 
--- So is the history after any steps that name what the plan has and a sweep, and that of every
--- seeded plan, whose steps end with one.
+-- The history after any steps that name what the plan has and a sweep is good at rest.
 abbrev pub SweptRunsAreGood : Type 0
 SweptRunsAreGood =
     (i : Input) (ss : List Step) → MayStart i.plan i.packets
     → AllPass (step_is_within (sizes_of i.plan)) ss
     → GoodAtRest i (history_of (after (ss ++ act.Sweep ∷ []) (new_machine i.plan i.packets i.cut)))
 
+-- The history of every seeded plan, whose steps end with a sweep, is good at rest.
 abbrev pub SeededReplaysAreGood : Type 0
 SeededReplaysAreGood =
     (i : Input) (seed count : ℕ) → MayStart i.plan i.packets

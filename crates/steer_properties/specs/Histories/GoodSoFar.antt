@@ -10,6 +10,8 @@ use Rattle.steer_model.specs.Good.Replies.{RepliesAreByRule}
 use Rattle.steer_model.specs.Good.Inputs.{Input}
 use Rattle.steer_properties.specs.Commands.Answered.{AreAnswered, WritesAreMade}
 
+-- The history of a replay in any state: each clause of a good history that does not ask that the
+-- run is over.
 pub record GoodSoFar (i : Input) (h : History) : Type 0 where
   pub at : ℕ → ℕ → ℕ
   pub tx_at : ℕ → ℕ → ℕ

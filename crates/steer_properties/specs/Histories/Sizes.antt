@@ -3,8 +3,8 @@ use Rattle.std.specs.Prelude.{◌≡◌, length}
 use Rattle.history.specs.declared.history.History.{History}
 use Rattle.steer_model.specs.Good.Inputs.{Input}
 
--- The capture's number of packets and its cut, the plan's start, and lists for the plan's queues,
--- processors and transmit queues.
+-- A history has the capture's number of packets and its cut, the plan's start, and lists for the
+-- plan's queues, processors and transmit queues.
 pub record IsOfItsInput (i : Input) (h : History) : Type 0 where
   pub total : h.total ≡ length i.packets
   pub cut : h.cut ≡ i.cut
