@@ -2,9 +2,9 @@
 ghost use Rattle.std.specs.Prelude.{◌≡◌, ◌<◌, ◌≤◌, false, codes, if◌then◌else◌, IfOk};
 ghost use Rattle.serde_json.specs.View.{view};
 ghost use Rattle.plan_reader.specs.Faults.{Gives, here};
-ghost use Rattle.plan_reader.specs.Readings.{optional};
+ghost use Rattle.plan_reader.specs.Readings.{only, optional};
 ghost use Rattle.ntuple_rules.specs.Readings.{address_at, address_of, ipv4_address, ipv6_address};
-ghost use Rattle.ntuple_rules.specs.Readings.{port_at, rule_of, truth};
+ghost use Rattle.ntuple_rules.specs.Readings.{port_at, rule_keys, rule_of, truth};
 
 use crate::kind::{is_ipv4, required_kind};
 use crate::rule::Rule;
