@@ -11,8 +11,10 @@ use crate::steps::cut::cut;
 use crate::steps::set::{bits_of, is_set};
 use crate::steps::words::{app_step, bare_step, cpu_step, is, queue_step, tx_step};
 use crate::values::number::{count_below, index_below, number_of};
-use steer_base::{AppId, Command, Cpu, CpuMask, MAX_FLOW_COUNT, MAX_PACKETS, MAX_SOCKET_SIZE};
-use steer_base::{RxQueue, Step, TxQueue};
+use steer_base::{
+    AppId, Command, Cpu, CpuMask, MAX_FLOW_COUNT, MAX_PACKETS, MAX_SOCKET_SIZE, RxQueue, Step,
+    TxQueue,
+};
 
 /// The step of a word and a number.
 #[tactic(auto, unfolding(crate::specs::StepTexts::number_step))]
