@@ -16,7 +16,7 @@ SENTENCES = [
      [("headline.specs.Headline", "Says"), ("headline.specs.Headline", "Reports"),
       ("steer_model.specs.State.Start", "replayed")]),
     ("1, each packet is in exactly one place",
-     [("headline.specs.Places", "StandsAtOnePlace"), ("history.specs.Places", "AreInOnePlace")]),
+     [("headline.specs.Places", "IsAtOnePlace"), ("history.specs.Places", "AreInOnePlace")]),
     ("2, each drop has its cause", [("headline.specs.Drops", "IsDroppedFor")]),
     ("3, each flow is delivered in the order of its arrivals",
      [("headline.specs.Orders", "AreInOrder")]),

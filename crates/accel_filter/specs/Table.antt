@@ -6,19 +6,19 @@ use Rattle.steer_base.specs.Filters.{may_expire}
 use Rattle.steer_base.specs.HashTables.{cleared_rows, place_in_rows, row_at, with_row}
 use Rattle.steer_base.specs.declared.filter.Filter.{Filter}
 
--- so many filters, none of them set
+-- a table of this many filters, none of them set
 abbrev pub unset : ℕ → List (Option Filter)
 unset count = cleared_rows count None
 
--- the filter that a hash finds
+-- the filter that a hash finds in the table
 abbrev pub filter_of : List (Option Filter) → ℕ → Option Filter
 filter_of filters hash = row_at None filters (place_in_rows filters (Some hash))
 
--- the filters after one was written for a hash
+-- the table after a filter was written for a hash
 abbrev pub steered : List (Option Filter) → ℕ → Filter → List (Option Filter)
 steered filters hash filter = with_row filters (place_in_rows filters (Some hash)) (Some filter)
 
--- whether a filter is set and may go
+-- whether a filter is set and may expire
 abbrev pub is_over : Option Filter → ℕ → ℕ → Bool
 is_over None head flows = false
 is_over (Some filter) head flows = may_expire filter head flows

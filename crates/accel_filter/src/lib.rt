@@ -1,8 +1,8 @@
-//! Accelerated receive flow steering: the filters of a card, and when they go.
+//! Accelerated receive flow steering: the filters of a network card, and when they expire.
 #![tactic(auto)]
 
 mod filter;
 mod table;
 
 pub use filter::{filter_written, may_expire};
-pub use table::FilterTable;
+pub use table::{FilterTable, MAX_FILTERS};

@@ -3,39 +3,45 @@ ghost use Rattle.std.specs.Prelude.{◌≡◌, ◌<◌, ◌≤◌, IfOk, IfSome,
 ghost use Rattle.std.specs.Prelude.{slice_index_or, slice_set};
 ghost use Rattle.std.specs.Bool.{OnTrue, OnFalse};
 ghost use Rattle.steer_base.specs.HashTables.{place_in_rows};
+ghost use Rattle.steer_base.specs.declared.limits.TheConstants.{MAX_FLOW_COUNT};
 ghost use Rattle.accel_filter.specs.Table.{filter_of, is_over, steered, unset};
+ghost use Rattle.accel_filter.specs.declared.table.TheConstants.{MAX_FILTERS};
 
 use crate::filter::may_expire;
 use std::alloc::Global;
 use std::marker::Model;
 use steer_base::{Filter, OutOfMemory, place_of_hash};
 
-/// The filters by which a card sends a flow to the receive queue of the processor that reads it
-/// (kernel scaling chapter, section accelerated RFS). Flows whose hashes agree modulo the number of
-/// filters share one.
+/// The most filters of a card that a plan may ask for.
+pub const MAX_FILTERS: u32 = 4_096;
+
+/// The filters by which a network card steers a flow to the receive queue of the processor that
+/// reads it (kernel scaling chapter, section accelerated RFS). Flows whose hashes agree modulo the
+/// number of filters share one.
 #[derive(Drop)]
 pub struct FilterTable {
-    // With no room for more.
+    // Without spare capacity.
     filters: Vec<Option<Filter>>,
 }
 
 impl Model for FilterTable {
     ghost use Rattle.std.specs.Prelude.{◌≡◌, ◌≤◌, List, Option, vec_len, vec_capacity};
     ghost use Rattle.steer_base.specs.declared.filter.Filter.{Filter};
+    ghost use Rattle.accel_filter.specs.declared.table.TheConstants.{MAX_FILTERS};
 
     ghost Value = { List (Option Filter) };
 
     ghost view = { λ t. t.filters.items };
 
-    ghost invariant = { λ t. (vec_len t.filters ≤ 4096)
+    ghost invariant = { λ t. (vec_len t.filters ≤ MAX_FILTERS)
         × (vec_capacity t.filters ≡ vec_len t.filters) };
 }
 
 impl FilterTable {
-    /// A table of so many filters, 4,096 at most, none of them set. With 0 there are no filters. It
-    /// takes no more memory later.
+    /// A table of `count` unset filters, at most 4,096; 0 means that the card has none. Allocates
+    /// its memory here, and none later.
     pub fn make(alloc: Global, count: u32) -> Result<FilterTable, OutOfMemory>
-        requires { count ≤ 4096 }
+        requires { count ≤ MAX_FILTERS }
         ensures { IfOk result (λ table. table ≡ unset count) }
     {
         let mut filters = Vec::with_capacity(alloc, count as usize)?;
@@ -45,14 +51,14 @@ impl FilterTable {
         Ok(FilterTable { filters })
     }
 
-    /// How many filters there are, set or not.
+    /// The number of filters, set or not.
     pub fn count(&self) -> u32
         ensures { result ≡ length self.now }
     {
         self.filters.len() as u32
     }
 
-    /// Writes filter `hash mod count`, and nothing where there are no filters.
+    /// Writes filter `hash mod count`. Without filters it changes nothing.
     pub fn steer(&mut self, hash: u32, f: Filter)
         ensures { self.new ≡ steered self.old hash f }
     {
@@ -61,7 +67,7 @@ impl FilterTable {
         }
     }
 
-    /// Filter `hash mod count`, where it is set.
+    /// Filter `hash mod count`, if it is set.
     pub fn look(&self, hash: u32) -> Option<Filter>
         ensures { result ≡ filter_of self.now hash }
     {
@@ -69,11 +75,11 @@ impl FilterTable {
         self.filters[place]
     }
 
-    /// Clears filter `i` where it is set and may go. `head` is the head of its processor, and
-    /// `entries` the flow count of its queue. Answers whether it was cleared.
+    /// Clears filter `i` if it is set and may expire. `head` is the head of its processor,
+    /// `entries` the flow count of its queue. Returns whether it was cleared.
     pub fn expire(&mut self, i: u32, head: u32, entries: u32) -> bool
         requires place { i < length self.old }
-        requires few { entries ≤ 32768 }
+        requires few { entries ≤ MAX_FLOW_COUNT }
         ensures answer { result ≡ is_over (slice_index_or self.old i None) head entries }
         ensures cleared { OnTrue result (self.new ≡ slice_set self.old i None) }
         ensures kept { OnFalse result (self.new ≡ self.old) }
@@ -88,7 +94,7 @@ impl FilterTable {
         over
     }
 
-    // The place of a hash, if there are filters.
+    // The index of a hash, if there are filters.
     fn place(&self, hash: u32) -> Option<usize>
         ensures value { result ≡ place_in_rows self.now (Some hash) }
         ensures within { IfSome result (λ place. place < length self.now) }

@@ -5,6 +5,7 @@ use Rattle.steer_base.specs.declared.put.LaneDrop.{LaneDrop}
 use Rattle.steer_base.specs.Journals.{Journal}
 use Rattle.backlog.specs.Puts.{IsLane}
 use Rattle.backlog.specs.Queues.{QueueLists}
+use Rattle.backlog.specs.declared.limits.TheConstants.{MAX_LANE_ROOM}
 
 -- the lists of a lane from its parts
 abbrev pub lane_lists : QueueLists → Journal (Option ℕ) → List LaneDrop → ℕ → ℕ → ℕ → Bool
@@ -21,7 +22,7 @@ lane_lists queue offers drops limit room start limited =
       limited = limited;
     }
 
--- A lane whose parts have its limit and its room, with memory for as many drops.
+-- The parts of a lane have its limit and its room, and memory for as many drops as it has room.
 pub record IsKept (l : LaneLists) (queue : QueueLists) (offers : Journal (Option ℕ))
     (drops_capacity : ℕ) : Type 0 where
   pub lane : IsLane l
@@ -29,4 +30,4 @@ pub record IsKept (l : LaneLists) (queue : QueueLists) (offers : Journal (Option
   pub queue_room : queue.room ≡ l.room
   pub offers_room : offers.room ≡ l.room
   pub reserved : l.room ≤ drops_capacity
-  pub small : l.room ≤ 262144
+  pub small : l.room ≤ MAX_LANE_ROOM

@@ -8,7 +8,7 @@ use Rattle.steer_base.specs.declared.put.DropCause.{DropCause}
 use Rattle.steer_base.specs.declared.put.Put.{Put}
 use Rattle.steer_base.specs.declared.put.Put.TheVariants.{At, Dropped}
 
--- a lane that no packet was put to
+-- an empty lane
 abbrev pub new_lane : ℕ → ℕ → ℕ → Bool → LaneLists
 new_lane limit room start limited =
     record {
@@ -22,8 +22,7 @@ new_lane limit room start limited =
       limited = limited;
     }
 
--- The lane after a packet was dropped for a cause, or accepted where there is none. Either is an
--- offer.
+-- the lane after a packet was dropped for a cause, or accepted if there is none; either is an offer
 abbrev pub put_by : Option DropCause → LaneLists → ℕ → Option ℕ → LaneLists
 put_by None l id bucket =
     record l { accepted = l.accepted ++ id ∷ []; offers = l.offers ++ bucket ∷ [] }
@@ -39,28 +38,28 @@ put_by (Some cause) l id bucket =
       offers = l.offers ++ bucket ∷ [];
     }
 
--- the lane after a put
+-- the lane after a put of a packet with this hash
 abbrev pub after_put : LaneLists → ℕ → Option ℕ → LaneLists
 after_put l id hash = put_by (lane_drop_cause l hash) l id (bucket_of hash)
 
--- the number of the drop from 1, the two counts and the cause; or the new tail
+-- the answer of a put: the new tail, or the number of the drop from 1, its two counts and its cause
 abbrev pub answer_by : Option DropCause → LaneLists → Put
 answer_by None l = At (number l.start (length l.accepted + 1))
 answer_by (Some cause) l = Dropped (length l.drops + 1) (length l.accepted) l.pulled cause
 
--- the answer of a put
+-- the answer of a put to a lane
 abbrev pub put_answer : LaneLists → Option ℕ → Put
 put_answer l hash = answer_by (lane_drop_cause l hash) l
 
--- the lane after a take, which pulls the next packet where one waits
+-- the lane after a take, which pulls the next packet if one waits
 abbrev pub after_take : LaneLists → LaneLists
 after_take l = if nat_lt l.pulled (length l.accepted) then record l { pulled = l.pulled + 1 } else l
 
--- the next packet that waits, if one does
+-- the oldest packet that waits in a lane, if there is one
 abbrev pub next_waiting : LaneLists → Option ℕ
 next_waiting l = slice_get l.accepted l.pulled
 
--- What always holds of a lane: only accepted packets are pulled, no more wait than the limit, each
+-- The invariant of a lane: only accepted packets are pulled, no more wait than the limit, each
 -- offer was accepted or dropped, and all offers fit the room.
 pub record IsLane (l : LaneLists) : Type 0 where
   pub pulled : l.pulled ≤ length l.accepted
@@ -68,14 +67,13 @@ pub record IsLane (l : LaneLists) : Type 0 where
   pub offers : length l.offers ≡ length l.accepted + length l.drops
   pub fits : length l.offers ≤ l.room
 
--- A put or a take leaves the limit, the room, the start of the counter, and whether the flow limit
--- holds.
+-- Two states of a lane have the same limit, room, counter start and flow limit.
 pub record SameShape (old new : LaneLists) : Type 0 where
   pub limit : new.limit ≡ old.limit
   pub room : new.room ≡ old.room
   pub start : new.start ≡ old.start
   pub limited : new.limited ≡ old.limited
 
--- how many packets were put: the accepted and the dropped ones together
+-- how many packets were put to a lane, accepted and dropped together
 abbrev pub put_count : LaneLists → ℕ
 put_count l = length l.accepted + length l.drops

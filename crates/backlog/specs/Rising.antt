@@ -4,7 +4,7 @@ use Rattle.std.specs.List.{All}
 use Rattle.std.specs.List.Sorted.{IsNonDecreasingBy}
 use Rattle.steer_base.specs.Lanes.{LaneLists}
 
--- Along the drops of a lane neither of the two counts falls, and none is over that of the lane now.
+-- Along the drops of a lane neither of their two counts falls, and none is over the lane's own.
 pub record AreRising (l : LaneLists) : Type 0 where
   pub accepted : IsNonDecreasingBy (λ d. d.accepted) l.drops
   pub pulled : IsNonDecreasingBy (λ d. d.pulled) l.drops

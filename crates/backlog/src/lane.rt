@@ -1,15 +1,16 @@
-//! A lane: what it accepted, what it dropped, and how much of it was pulled.
+//! A lane: the packets it accepted and dropped, and how many were pulled.
 ghost use Rattle.std.specs.Prelude.{ℕ, ◌≡◌, ◌+◌, ◌-◌, ◌<◌, ◌≤◌, length, IfOk, slice_get};
 ghost use Rattle.steer_base.specs.Counters.{number};
 ghost use Rattle.backlog.specs.Puts.{IsLane, SameShape, after_put, after_take, new_lane};
 ghost use Rattle.backlog.specs.Puts.{next_waiting, put_answer, put_count};
+ghost use Rattle.backlog.specs.declared.limits.TheConstants.{MAX_LANE_ROOM};
 
 use crate::bucket::{bucket_of, drop_cause};
 use crate::offers::Offers;
 use crate::queue::Queue;
 use std::alloc::Global;
 use std::marker::Model;
-use steer_base::{LaneDrop, OutOfMemory, PacketId, Put};
+use steer_base::{LaneDrop, OutOfMemory, PacketId, Put, number_at};
 
 /// A queue of packets with a limit on those that wait, after the kernel's backlog of a processor
 /// (`netdev_max_backlog`) and, where it is limited, the flow limit of the scaling chapter.
@@ -40,9 +41,9 @@ impl Model for Lane {
 }
 
 impl Lane {
-    /// An empty lane, with the memory for `room` packets, accepted and dropped together. At most
-    /// `limit` packets wait in it. Its counter shows `start` at no packet. Whether the flow limit
-    /// holds is `limited`.
+    /// An empty lane with memory for `room` packets, accepted and dropped together, of which at
+    /// most `limit` wait at once. Its counter begins at the number `start`. `limited` says whether
+    /// the flow limit applies.
     pub fn make(
         alloc: Global,
         limit: u32,
@@ -51,7 +52,7 @@ impl Lane {
         limited: bool,
     ) -> Result<Lane, OutOfMemory>
         requires limit { 1 ≤ limit }
-        requires room { room ≤ 262144 }
+        requires room { room ≤ MAX_LANE_ROOM }
         ensures { IfOk result (λ lane. lane ≡ new_lane limit room start limited) }
     {
         let queue = Queue::make(alloc, limit, room)?;
@@ -68,8 +69,9 @@ impl Lane {
         })
     }
 
-    /// Offers a packet with this hash to the lane. It is dropped where as many packets wait as the
-    /// limit allows, and else where the flow limit says so; otherwise it is accepted.
+    /// Offers a packet with this hash to the lane. It is dropped if as many packets wait as the
+    /// limit allows, or if the flow limit applies and says so; otherwise it is accepted. Returns
+    /// its position, or the drop with its number, counts and cause.
     pub fn put(&mut self, id: PacketId, hash: Option<u32>) -> Put
         requires { put_count self.old < self.old.room }
         ensures lists { self.new ≡ after_put self.old id hash }
@@ -104,7 +106,7 @@ impl Lane {
         }
     }
 
-    /// Pulls the next accepted packet, if one waits.
+    /// Pulls the oldest packet that waits, if there is one.
     pub fn take(&mut self) -> Option<PacketId>
         ensures lists { self.new ≡ after_take self.old }
         ensures packet { result ≡ next_waiting self.old }
@@ -113,21 +115,21 @@ impl Lane {
         self.queue.take()
     }
 
-    /// How many packets may still be put: the room less those that were accepted or dropped.
+    /// How many more packets may be put: the room less the packets accepted or dropped so far.
     pub fn room(&self) -> u32
         ensures { result + put_count self.now ≡ self.now.room }
     {
         self.room - self.offers.len()
     }
 
-    /// How many packets were accepted.
+    /// The number of packets accepted so far.
     pub fn accepted_len(&self) -> u32
         ensures { result ≡ length self.now.accepted }
     {
         self.queue.accepted()
     }
 
-    /// The packet at index `n`, from 0, among the accepted ones, if more than `n` were accepted.
+    /// The accepted packet at index `n`, from 0, if more than `n` were accepted.
     pub fn accepted_at(&self, n: u32) -> Option<PacketId>
         ensures { result ≡ slice_get self.now.accepted n }
     {
@@ -141,7 +143,7 @@ impl Lane {
         &self.drops
     }
 
-    /// How many packets were pulled.
+    /// The number of packets pulled so far.
     pub fn pulled(&self) -> u32
         ensures pulled { result ≡ self.now.pulled }
         ensures lane { IsLane self.now }
@@ -149,17 +151,10 @@ impl Lane {
         self.queue.pulled()
     }
 
-    /// The number of the count of accepted packets, a 32-bit counter number that wraps.
+    /// The counter number of the accepted packets, which wraps at 32 bits.
     pub fn tail(&self) -> u32
         ensures { result ≡ number self.now.start (length self.now.accepted) }
     {
         number_at(self.start, self.queue.accepted())
     }
-}
-
-// The number that a counter shows at a count.
-fn number_at(start: u32, count: u32) -> u32
-    ensures { result ≡ number start count }
-{
-    start.wrapping_add(count)
 }

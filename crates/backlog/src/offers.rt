@@ -1,8 +1,10 @@
-//! The offers of a lane, each by its bucket, with the window of the last ones.
+//! The offers to a lane, each by its bucket, with the window of the last ones.
 ghost use Rattle.std.specs.Prelude.{ℕ, ◌≡◌, ◌<◌, ◌≤◌, List, [], length, IfOk, Option};
 ghost use Rattle.std.specs.Option.{ForSome, option_map};
 ghost use Rattle.steer_base.specs.Drops.{bucket_count};
 ghost use Rattle.steer_base.specs.Journals.{grown, journal};
+ghost use Rattle.steer_base.specs.declared.limits.TheConstants.{FLOW_LIMIT_BUCKETS};
+ghost use Rattle.backlog.specs.declared.limits.TheConstants.{MAX_LANE_ROOM};
 
 use crate::pages::Pages;
 use crate::window::Window;
@@ -10,7 +12,8 @@ use std::alloc::Global;
 use std::marker::Model;
 use steer_base::OutOfMemory;
 
-/// The bucket of each offer in the order of the puts, or none for one without a hash.
+/// The offers to a lane in order: the bucket of each, or none for an offer without a hash. It also
+/// counts the buckets of the last 256 offers that have one.
 #[derive(Drop)]
 pub struct Offers {
     buckets: Pages<Option<u16>>,
@@ -30,9 +33,9 @@ impl Model for Offers {
 }
 
 impl Offers {
-    /// No offers yet, with room for `room` of them.
+    /// An empty list with memory for `room` offers. Later calls allocate nothing.
     pub fn make(alloc: Global, room: u32) -> Result<Offers, OutOfMemory>
-        requires { room ≤ 262144 }
+        requires { room ≤ MAX_LANE_ROOM }
         ensures { IfOk result (λ offers. offers ≡ journal [] room) }
     {
         let buckets = Pages::make(alloc, room)?;
@@ -40,11 +43,11 @@ impl Offers {
         Ok(Offers { buckets, window })
     }
 
-    /// Notes an offer, and answers how many of the last 256 offers with a hash have its bucket,
-    /// itself included.
+    /// Adds an offer, and returns how many of the last 256 offers with a hash have its bucket,
+    /// itself included. Returns none for an offer without a hash.
     pub fn note(&mut self, bucket: Option<u16>) -> Option<u32>
         requires room { length self.old.items < self.old.room }
-        requires bucket { ForSome bucket (λ b. b < 4096) }
+        requires bucket { ForSome bucket (λ b. b < FLOW_LIMIT_BUCKETS) }
         ensures items { self.new ≡ grown self.old bucket }
         ensures count { result ≡ option_map (bucket_count self.old.items) bucket }
     {

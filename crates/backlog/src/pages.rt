@@ -1,15 +1,17 @@
-//! A list that grows without memory, up to a room that was reserved for it in pages.
+//! A list that grows within memory that was reserved for it in pages.
 ghost use Rattle.std.specs.Prelude.{ℕ, ◌≡◌, ◌<◌, ◌*◌, ◌≤◌, List, [], ◌∷◌, ◌++◌, length, IfOk};
 ghost use Rattle.std.specs.Prelude.{replicate, slice_get, vec_capacity};
 ghost use Rattle.steer_base.specs.Journals.{grown, journal};
 ghost use Rattle.backlog.specs.Paged.{PagesHold, joined};
+ghost use Rattle.backlog.specs.declared.limits.TheConstants.{MAX_LANE_ROOM};
+ghost use Rattle.backlog.specs.declared.pages.TheConstants.{PAGE};
 
 use std::alloc::Global;
 use std::marker::Model;
 use steer_base::OutOfMemory;
 
 /// The items of a page.
-const PAGE: usize = 4096;
+pub const PAGE: usize = 4_096;
 
 /// One page, seen as the list of its items.
 #[derive(Drop)]
@@ -18,11 +20,14 @@ struct Page<T> {
 }
 
 impl<T> Model for Page<T> {
+    ghost use Rattle.std.specs.Prelude.{◌≤◌, List, vec_capacity};
+    ghost use Rattle.backlog.specs.declared.pages.TheConstants.{PAGE};
+
     ghost Value = { List T };
 
     ghost view = { λ p. p.items.items };
 
-    ghost invariant = { λ p. 4096 ≤ vec_capacity p.items };
+    ghost invariant = { λ p. PAGE ≤ vec_capacity p.items };
 }
 
 impl<T: Copy> Page<T> {
@@ -34,7 +39,7 @@ impl<T: Copy> Page<T> {
     }
 
     fn push(&mut self, item: T)
-        requires { length self.old < 4096 }
+        requires { length self.old < PAGE }
         ensures { self.new ≡ self.old ++ item ∷ [] }
     {
         self.items.push(item).unwrap();
@@ -69,9 +74,9 @@ impl<T> Model for Pages<T> {
 }
 
 impl<T: Copy> Pages<T> {
-    /// An empty list, with all memory for `room` items.
+    /// An empty list with memory for `room` items.
     pub fn make(alloc: Global, room: u32) -> Result<Pages<T>, OutOfMemory>
-        requires { room ≤ 262144 }
+        requires { room ≤ MAX_LANE_ROOM }
         ensures { IfOk result (λ pages. pages ≡ journal [] room) }
     {
         let pages = empty_pages(alloc, room.div_ceil(PAGE as u32))?;
@@ -82,7 +87,7 @@ impl<T: Copy> Pages<T> {
         })
     }
 
-    /// Adds an item.
+    /// Appends an item.
     pub fn push_reserved(&mut self, item: T)
         requires { length self.old.items < self.old.room }
         ensures { self.new ≡ grown self.old item }
@@ -92,7 +97,7 @@ impl<T: Copy> Pages<T> {
         self.len += 1;
     }
 
-    /// The item at an index, if the list is so long.
+    /// The item at an index, if the list is long enough.
     pub fn get(&self, index: u32) -> Option<T>
         ensures { result ≡ slice_get self.now.items index }
     {

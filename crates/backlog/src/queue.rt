@@ -3,6 +3,7 @@ ghost use Rattle.std.specs.Prelude.{ℕ, ◌≡◌, ◌+◌, ◌-◌, ◌<◌, �
 ghost use Rattle.std.specs.Prelude.{nat_lt, slice_get, if◌then◌else◌};
 ghost use Rattle.steer_base.specs.Journals.{journal};
 ghost use Rattle.backlog.specs.Queues.{QueueLists, queue_lists};
+ghost use Rattle.backlog.specs.declared.limits.TheConstants.{MAX_LANE_ROOM};
 
 use crate::pages::Pages;
 use circular_buffer::HeapCircularBuffer;
@@ -10,7 +11,7 @@ use std::alloc::Global;
 use std::marker::Model;
 use steer_base::{OutOfMemory, PacketId};
 
-/// The accepted packets and how many of them were pulled. Those that wait stand in a ring besides.
+/// The accepted packets and how many of them were pulled. Those that wait are also in a ring.
 #[derive(Drop)]
 pub struct Queue {
     accepted: Pages<PacketId>,
@@ -30,9 +31,9 @@ impl Model for Queue {
 }
 
 impl Queue {
-    /// An empty queue, with memory for `room` packets, of which at most `limit` wait at once.
+    /// An empty queue with memory for `room` packets, of which at most `limit` wait at once.
     pub fn make(alloc: Global, limit: u32, room: u32) -> Result<Queue, OutOfMemory>
-        requires { room ≤ 262144 }
+        requires { room ≤ MAX_LANE_ROOM }
         ensures { IfOk result (λ queue. queue ≡ queue_lists (journal [] room) 0 limit) }
     {
         let accepted = Pages::make(alloc, room)?;
@@ -55,7 +56,7 @@ impl Queue {
         self.waiting.try_push_back(id).unwrap();
     }
 
-    /// Pulls the next packet that waits, if one does.
+    /// Pulls the oldest packet that waits, if there is one.
     pub fn take(&mut self) -> Option<PacketId>
         ensures lists { self.new ≡ (if nat_lt self.old.pulled (length self.old.accepted)
             then record self.old { pulled = self.old.pulled + 1 } else self.old) }
@@ -66,7 +67,7 @@ impl Queue {
         Some(id)
     }
 
-    /// How many packets wait.
+    /// The number of packets that wait.
     pub fn waiting(&self) -> u32
         ensures waiting { result ≡ length self.now.accepted - self.now.pulled }
         ensures limited { result ≤ self.now.limit }
@@ -74,7 +75,7 @@ impl Queue {
         self.waiting.len() as u32
     }
 
-    /// How many packets were accepted.
+    /// The number of packets accepted so far.
     pub fn accepted(&self) -> u32
         ensures accepted { result ≡ length self.now.accepted }
         ensures fits { result ≤ self.now.room }
@@ -82,7 +83,7 @@ impl Queue {
         self.accepted.len()
     }
 
-    /// How many packets were pulled.
+    /// The number of packets pulled so far.
     pub fn pulled(&self) -> u32
         ensures pulled { result ≡ self.now.pulled }
         ensures within { result ≤ length self.now.accepted }

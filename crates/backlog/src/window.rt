@@ -1,13 +1,13 @@
-//! The buckets of the last offers of a lane, with how often each bucket stands among them.
+//! The buckets of the last offers to a lane, with how often each bucket is among them.
 ghost use Rattle.std.specs.Prelude.{ℕ, ◌≡◌, ◌<◌, ◌≤◌, ◌==◌, List, [], ◌∷◌, ◌++◌, count_by, drop};
 ghost use Rattle.std.specs.Prelude.{length, replicate, IfOk};
 ghost use Rattle.steer_base.specs.Drops.{last_of};
+ghost use Rattle.steer_base.specs.declared.limits.TheConstants.{FLOW_LIMIT_BUCKETS};
 
-use crate::bucket::BUCKETS;
 use circular_buffer::HeapCircularBuffer;
 use std::alloc::Global;
 use std::marker::Model;
-use steer_base::OutOfMemory;
+use steer_base::{FLOW_LIMIT_BUCKETS, OutOfMemory};
 
 /// How many offers the flow limit looks back at.
 const WINDOW: usize = 256;
@@ -40,9 +40,9 @@ impl Window {
         Ok(Window { last, counts })
     }
 
-    /// Takes the bucket of an offer in, and lets go of the oldest one if there are 256.
+    /// Adds the bucket of an offer, and drops the oldest one if there are 256.
     pub fn push(&mut self, bucket: u16)
-        requires { bucket < 4096 }
+        requires { bucket < FLOW_LIMIT_BUCKETS }
         ensures { self.new ≡ last_of 256 (self.old ++ bucket ∷ []) }
     {
         if self.last.is_full() {
@@ -51,9 +51,9 @@ impl Window {
         self.add(bucket);
     }
 
-    /// How often a bucket stands in the window.
+    /// How often a bucket is in the window.
     pub fn count(&self, bucket: u16) -> u32
-        requires { bucket < 4096 }
+        requires { bucket < FLOW_LIMIT_BUCKETS }
         ensures { result ≡ count_by (λ b. b == bucket) self.now }
     {
         self.counts[bucket as usize] as u32
@@ -69,7 +69,7 @@ impl Window {
 
     fn add(&mut self, bucket: u16)
         requires room { length self.old < 256 }
-        requires bucket { bucket < 4096 }
+        requires bucket { bucket < FLOW_LIMIT_BUCKETS }
         ensures { self.new ≡ self.old ++ bucket ∷ [] }
     {
         self.last.try_push_back(bucket).unwrap();
@@ -79,7 +79,7 @@ impl Window {
 
 // A count of 0 for each bucket.
 fn zeros(alloc: Global) -> Result<Vec<u16>, OutOfMemory>
-    ensures { IfOk result (λ counts. counts.items ≡ replicate 4096 0) }
+    ensures { IfOk result (λ counts. counts.items ≡ replicate FLOW_LIMIT_BUCKETS 0) }
 {
-    Ok(Vec::from_elem(alloc, 0, BUCKETS as usize)?)
+    Ok(Vec::from_elem(alloc, 0, FLOW_LIMIT_BUCKETS as usize)?)
 }

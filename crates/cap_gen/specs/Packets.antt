@@ -36,12 +36,7 @@ generated_frame flow = ethernet ++ (ip_header flow ++ tcp_header flow)
 
 -- Packet i of a seed: its flow is word i modulo the number of flows, and its time is second i.
 abbrev pub packet_of : ℕ → ℕ → ℕ → Packet
-packet_of seed flows i = record {
-  sec = i;
-  frac = 0;
-  frame = generated_frame
-      (word_of seed i % flows);
-}
+packet_of seed flows i = record { sec = i; frac = 0; frame = generated_frame (word_of seed i % flows) }
 
 -- the first n packets of a seed, one word of the generator for each
 abbrev pub packets_of : ℕ → ℕ → ℕ → List Packet

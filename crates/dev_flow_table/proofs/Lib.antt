@@ -1,3 +1,4 @@
 pub mod FoldsLemmas
+pub mod MovesLemmas
 pub mod WalkExample
 pub mod WalksLemmas

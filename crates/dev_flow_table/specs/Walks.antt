@@ -7,6 +7,7 @@ use Rattle.steer_base.specs.Choices.{by_entry}
 use Rattle.steer_base.specs.Counters.{number}
 use Rattle.steer_base.specs.Entries.{entry, position}
 use Rattle.steer_base.specs.declared.choice.Chosen.{Chosen}
+use Rattle.steer_base.specs.declared.limits.TheConstants.{MAX_PACKETS}
 
 -- A choice for a class by the rule, after these choices, whose packet was put when so many packets
 -- of each lane were retired: over the entry of the class, with a head that its lane had shown by
@@ -34,8 +35,8 @@ pub record IsRuled (start : ℕ) (accepted : ℕ → List ℕ) (retired : ℕ �
 pub record IsWalk (start : ℕ) (accepted : ℕ → List ℕ) (retired : ℕ → ℕ → ℕ)
     (cs : List Chosen) : Type 0 where
   pub start_small : start < 2 ^ 32
-  pub few : (lane : ℕ) → length (accepted lane) ≤ 262144
-  pub few_retired : (i lane : ℕ) → retired i lane ≤ 262144
+  pub few : (lane : ℕ) → length (accepted lane) ≤ MAX_PACKETS
+  pub few_retired : (i lane : ℕ) → retired i lane ≤ MAX_PACKETS
   pub rising : (i j lane : ℕ) → i ≤ j → retired i lane ≤ retired j lane
   pub in_order : (i j n m : ℕ) (d : Chosen) → i < j → j < length cs
       → (slice_index_or cs i d).choice.lane ≡ (slice_index_or cs j d).choice.lane
@@ -58,7 +59,7 @@ WalkKeepsOrder =
     → (n ≤ retired j (slice_index_or cs i d).choice.lane)
     ⊎ ((slice_index_or cs i d).choice.lane ≡ (slice_index_or cs j d).choice.lane)
 
--- There are such choices, two of them for one class at two lanes.
+-- There are choices by the rule of which two for one class have two lanes.
 abbrev pub WalksMove : Type 0
 WalksMove =
     (accepted : ℕ → List ℕ) × (retired : ℕ → ℕ → ℕ) × (first : Chosen) × (second : Chosen)
@@ -68,12 +69,12 @@ WalksMove =
 
 -- ---- where a table was cleared
 
--- the first choice since the last change of a size, where choice i was made at size i
+-- the first choice since the last change of a table's size, if choice i was made at size i
 unfoldable pub since_resize : (ℕ → ℕ) → ℕ → ℕ
 since_resize size zero = 0
 since_resize size (suc i) = if size i == size (suc i) then since_resize size i else suc i
 
--- Since then the size was one, and whatever choice is before it has a change of the size behind it.
+-- Since the last change a table had one size, and after each earlier choice its size changed.
 abbrev pub SinceIsLastChange : Type 0
 SinceIsLastChange =
     (size : ℕ → ℕ) (j : ℕ)

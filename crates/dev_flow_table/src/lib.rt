@@ -1,5 +1,4 @@
-//! The flow table of a receive queue, or of an application: what is recorded of each class of
-//! packets, and the rule by which a class moves to another lane.
+//! The flow table of a receive queue or application, and the rule by which a flow changes lane.
 #![tactic(auto)]
 
 mod laws;
@@ -7,12 +6,9 @@ mod list_laws;
 mod rule;
 mod table;
 
-pub use laws::{
-    a_choice_leaves_other_classes, a_class_moves_by_three_conditions,
-    a_move_goes_to_the_desired_lane,
-};
+pub use laws::{a_choice_leaves_other_classes, a_class_moves_by_three_conditions};
 pub use list_laws::{
     a_class_walks_in_order, a_table_has_the_entries_of_the_lists,
     a_table_was_cleared_at_the_last_change,
 };
-pub use table::DevTable;
+pub use table::{DevTable, MAX_EXACT_CLASSES};

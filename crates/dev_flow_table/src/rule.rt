@@ -7,8 +7,7 @@ ghost use Rattle.dev_flow_table.specs.Tables.{entry_after};
 
 use steer_base::{Choice, CpuMask, Entry, Why, reached};
 
-// What was given to a choice: the class, the lane that was wanted as it was seen, and the desired
-// lane.
+// The input of a choice: the class, the wanted lane as it was read, and the desired lane.
 #[derive(Clone, Copy)]
 pub struct Wish {
     pub class: u32,
@@ -16,8 +15,8 @@ pub struct Wish {
     pub desired: u8,
 }
 
-// The choice of the lane for a class with this entry, where `head` was seen at its current lane if
-// the rule looks there.
+// The choice of the lane for a class with this entry. `head` is the head of its current lane, if
+// the rule looks at it.
 pub fn choose(wish: Wish, entry: Entry, head: Option<u32>, online: CpuMask) -> Choice
     requires { is_some head ≡ looks_from entry.lane wish.desired (has online) }
     ensures { result ≡ by_entry wish.class wish.want wish.desired entry.tail

@@ -7,23 +7,27 @@ ghost use Rattle.steer_base.specs.Counters.{rounded_up};
 ghost use Rattle.steer_base.specs.HashTables.{place_in_rows};
 ghost use Rattle.steer_base.specs.Sets.{has};
 ghost use Rattle.steer_base.specs.declared.choice.Entry.{Entry as AnEntry};
+ghost use Rattle.steer_base.specs.declared.limits.TheConstants.{MAX_FLOW_COUNT};
+ghost use Rattle.dev_flow_table.specs.Moves.{MovesInTable};
 ghost use Rattle.dev_flow_table.specs.Tables.{IsClassOf, cleared, entries, recorded, unset};
 ghost use Rattle.dev_flow_table.specs.Tables.{weighed};
+ghost use Rattle.dev_flow_table.specs.declared.table.TheConstants.{MAX_EXACT_CLASSES};
 
 use crate::rule::{self, Wish};
 use std::alloc::{AllocError, Global};
 use std::marker::Model;
-use steer_base::{Choice, CpuMask, Entry, OutOfMemory, Why, place_of_hash, round_up};
+use steer_base::{
+    Choice, CpuMask, Entry, MAX_FLOW_COUNT, OutOfMemory, Why, place_of_hash, round_up,
+};
 
-/// The most classes of a table whose count is rounded up.
-const LARGEST: u32 = 32768;
+/// The most classes of a table whose size is fixed: one for each flow of a capture.
+pub const MAX_EXACT_CLASSES: u32 = 262_144;
 
-/// The entries of a queue's classes, each its current lane and its recorded tail, after the device
-/// flow tables of the kernel's scaling chapter. Recorded tails are 32-bit counter numbers that
-/// wrap.
+/// For each class of a queue, its current lane and its recorded tail, as in the device flow tables
+/// of the kernel's scaling chapter. Recorded tails are wrapping 32-bit counter numbers.
 #[derive(Drop)]
 pub struct DevTable {
-    // As many as the table ever has, with no room for more. The first `size` are its entries.
+    // As many as the table ever has, without spare capacity. The first `size` are in use.
     rows: Vec<Entry>,
     size: u32,
     start: u32,
@@ -32,7 +36,9 @@ pub struct DevTable {
 
 impl Model for DevTable {
     ghost use Rattle.std.specs.Prelude.{◌≡◌, ◌≤◌, true, false, take, vec_len, vec_capacity};
+    ghost use Rattle.steer_base.specs.declared.limits.TheConstants.{MAX_FLOW_COUNT};
     ghost use Rattle.dev_flow_table.specs.Tables.{Table};
+    ghost use Rattle.dev_flow_table.specs.declared.table.TheConstants.{MAX_EXACT_CLASSES};
 
     ghost Value = { Table };
 
@@ -44,30 +50,31 @@ impl Model for DevTable {
 
     ghost invariant = { λ t. (vec_capacity t.rows ≡ vec_len t.rows)
         × (t.size ≤ vec_len t.rows)
-        × (vec_len t.rows ≤ 262144)
-        × (t.exact ≡ false → vec_len t.rows ≡ 32768)
+        × (vec_len t.rows ≤ MAX_EXACT_CLASSES)
+        × (t.exact ≡ false → vec_len t.rows ≡ MAX_FLOW_COUNT)
         × (t.exact ≡ true → vec_len t.rows ≡ t.size) };
 }
 
 impl DevTable {
-    /// A table of unset entries, `count` of them rounded up to a power of two, that may be resized.
-    /// The counters of the lanes show `start` at 0 packets. It has the memory of the largest such
-    /// table, and takes no more later.
+    /// A resizable table of `count` unset entries, rounded up to a power of two. The counters of
+    /// the lanes begin at the number `start`. Allocates the memory of the largest such table here,
+    /// and none later.
     pub fn make(alloc: Global, count: u32, start: u32) -> Result<DevTable, OutOfMemory>
-        requires { count ≤ 32768 }
+        requires { count ≤ MAX_FLOW_COUNT }
         ensures { IfOk result (λ table. table ≡ cleared (rounded_up count) start false) }
     {
         Ok(DevTable {
-            rows: unset_rows(alloc, LARGEST, start)?,
+            rows: unset_rows(alloc, MAX_FLOW_COUNT, start)?,
             size: round_up(count),
             start,
             exact: false,
         })
     }
 
-    /// A table of just `count` unset entries, which keeps its size and takes no more memory later.
+    /// A table of exactly `count` unset entries, whose size is fixed. Allocates its memory here,
+    /// and none later.
     pub fn make_exact(alloc: Global, count: u32, start: u32) -> Result<DevTable, OutOfMemory>
-        requires { count ≤ 262144 }
+        requires { count ≤ MAX_EXACT_CLASSES }
         ensures { IfOk result (λ table. table ≡ cleared count start true) }
     {
         Ok(DevTable {
@@ -78,8 +85,8 @@ impl DevTable {
         })
     }
 
-    /// The class of a hash: the hash modulo the number of entries. There is none without a hash,
-    /// and none in a table without entries.
+    /// The class of a hash: the hash modulo the number of entries. There is none without a hash, or
+    /// if the table has no entries.
     pub fn class(&self, hash: Option<u32>) -> Option<u32>
         ensures { result ≡ place_in_rows self.now.rows hash }
     {
@@ -102,8 +109,9 @@ impl DevTable {
         self.rows[class as usize].tail
     }
 
-    /// Chooses the lane of a packet by the entry of its class, and records the choice there. `head`
-    /// is that of the class's current lane, given exactly where the rule looks at it.
+    /// Chooses the lane of a packet by the entry of its class, and records the choice in that
+    /// entry. `head` is the head of the class's current lane, given if and only if the rule looks
+    /// at it.
     pub fn weigh(
         &mut self,
         class: Option<u32>,
@@ -117,6 +125,8 @@ impl DevTable {
         ensures choice { result ≡ migrate class want desired (entries self.old)
             (λ _. unwrap_or head 0) (has online) }
         ensures table { self.new ≡ weighed self.old class result }
+        ensures moves { MovesInTable self.old class result desired
+            (λ _. unwrap_or head 0) (has online) }
     {
         let Some(class) = class else {
             return Choice {
@@ -139,7 +149,7 @@ impl DevTable {
         choice
     }
 
-    /// Records that a packet of the class was accepted at this position of the current lane.
+    /// Records that the current lane accepted a packet of the class at this position.
     pub fn accepted(&mut self, class: u32, position: u32)
         requires class { class < length self.old.rows }
         requires set { IsSome (entries self.old class).lane }
@@ -148,9 +158,9 @@ impl DevTable {
         self.rows[class as usize].tail = position;
     }
 
-    /// Makes all entries unset, and gives the table `count` of them, rounded up to a power of two.
+    /// Clears all entries and resizes the table to `count` of them, rounded up to a power of two.
     pub fn resize(&mut self, count: u32)
-        requires count { count ≤ 32768 }
+        requires count { count ≤ MAX_FLOW_COUNT }
         requires rounded { self.old.exact ≡ false }
         ensures { self.new ≡ cleared (rounded_up count) self.old.start false }
     {
@@ -159,7 +169,7 @@ impl DevTable {
     }
 }
 
-// So many unset entries, with no room for more.
+// `count` unset entries, without spare capacity.
 fn unset_rows(alloc: Global, count: u32, start: u32) -> Result<Vec<Entry>, AllocError>
     ensures rows { IfOk result (λ rows. rows.items ≡ replicate count (unset start)) }
     ensures len { IfOk result (λ rows. vec_len rows ≡ count) }
@@ -172,7 +182,7 @@ fn unset_rows(alloc: Global, count: u32, start: u32) -> Result<Vec<Entry>, Alloc
     Ok(rows)
 }
 
-// Makes the first `count` entries unset.
+// Clears the first `count` entries.
 fn clear(rows: &mut Vec<Entry>, count: u32, start: u32)
     requires { count ≤ vec_len rows.old }
     ensures rows { take count rows.new.items ≡ replicate count (unset start) }
@@ -184,7 +194,7 @@ fn clear(rows: &mut Vec<Entry>, count: u32, start: u32)
     }
 }
 
-// The entry of a class without a lane. The counters show `start` at no packet.
+// The entry of a class without a lane. The lanes' counters begin at `start`.
 fn unset(start: u32) -> Entry
     ensures { result ≡ unset start }
 {

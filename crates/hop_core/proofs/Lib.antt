@@ -12,6 +12,7 @@ pub mod Flows
 pub mod Gate
 pub mod GateSteps
 pub mod Gathered
+pub mod HeadsSeen
 pub mod KeptHeads
 pub mod LaneSteps
 pub mod LaneTables

@@ -393,8 +393,8 @@ whole-new shape is =
     }
 
 -- an event leaves the sizes
-pub sizes-stay : (s t : HopState) (e : HopEvent) → t ≡ (happens s e).0 → SameSizes s t
-sizes-stay s t e is = rw is (Sizes-happens s e)
+pub sizes_stay : (s t : HopState) (e : HopEvent) → t ≡ (happens s e).0 → SameSizes s t
+sizes_stay s t e is = rw is (Sizes-happens s e)
 
 -- parts that are made one by one
 pub are_new : (shape : HopShape) → (arrivals : Journals ℕ) (taken : List ℕ)

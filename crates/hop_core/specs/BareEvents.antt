@@ -26,7 +26,7 @@ pub data BareEvent : Type 0 where
   delivers : ℕ → ℕ → BareEvent  -- a lane, to an out lane
   retires : ℕ → BareEvent  -- a lane
 
--- what it does
+-- what an event of the bare part does to it
 abbrev pub bare_after : Fixed → Bare → BareEvent → Bare
 bare_after f b nothing = b
 bare_after f b enters = with_inside b (b.inside + 1)
@@ -38,8 +38,9 @@ bare_after f b (pulls c) = pull_at b c
 bare_after f b (delivers c o) = deliver_at b c o
 bare_after f b (retires c) = retire_at b c
 
--- Where it may happen: actors come in by an open gate, which closes with nobody inside; a lane with
--- an empty hand pulls a packet that waits, delivers the one in its hand, and then retires it.
+-- When an event of the bare part may happen: actors enter through an open gate, which closes only
+-- with nobody inside; a lane with an empty hand pulls a waiting packet, delivers the one in its
+-- hand, and then retires it.
 abbrev pub MayBe : Bare → BareEvent → Type 0
 MayBe b nothing = Unit {0}
 MayBe b enters = b.closed ≡ false
@@ -54,7 +55,7 @@ MayBe b (delivers c o) =
     (c < length b.accepted) × (o < length b.outs) × (delivered_at b c < pulled_at b c)
 MayBe b (retires c) = (c < length b.accepted) × (retired_at b c < delivered_at b c)
 
--- the event of the bare part that an event of the hop is, where it is not idle
+-- the event of the bare part that an event of the hop is, unless it is idle
 abbrev pub bare_event : HopState → HopEvent → BareEvent
 bare_event s (event.Arrive p id) = nothing
 bare_event s (event.Take p) = nothing
@@ -69,26 +70,26 @@ bare_event s (event.Resize p count) = nothing
 bare_event s event.Close = closes
 bare_event s event.Reopen = opens
 
--- the lane with this number after an event of the bare part, in the words of the lane's own crate
+-- the lane with this number after an event of the bare part, by the definitions of the lane's own
+-- crate
 abbrev pub lane_after : BareEvent → ℕ → LaneLists → LaneLists
 lane_after (offers c id hash) d l = if d == c then after_put l id hash else l
 lane_after (pulls c) d l = if d == c then after_take l else l
 lane_after _ d l = l
 
--- The lists of a bare part have as many members as there are lanes.
+-- Each list of a bare part has one member for each lane.
 pub record HasLanes (b : Bare) : Type 0 where
   pub offers_long : length b.offers ≡ length b.accepted
   pub drops_long : length b.drops ≡ length b.accepted
   pub pulled_long : length b.pulled ≡ length b.accepted
 
--- Along the drops of each lane neither count falls, and none is over the lane's count.
+-- Along the drops of each lane neither of their counts falls, and none is over the lane's own.
 abbrev pub LaneDropsRise : HopState → Type 0
 LaneDropsRise s = (c : ℕ) → AreRising (lane_of s.fixed s.bare c)
 
 -- ---- laws
 
--- An event of the hop is this event of its bare part, where that may happen, or leaves the whole
--- state.
+-- An event of a hop is one event of its bare part, if that may happen, or leaves the whole state.
 abbrev pub EachIsBare : Type 0
 EachIsBare =
     (s : HopState) (e : HopEvent) → MayAsk s e → Sound s
@@ -96,25 +97,27 @@ EachIsBare =
     × ((happens s e).0.bare ≡ bare_after s.fixed s.bare (bare_event s e)))
     ⊎ ((happens s e).0 ≡ s)
 
--- Each lane after an event of the bare part is what its own put or take makes of it, or as it was.
+-- After an event of the bare part each lane is as before or what its own put or take makes of it.
 abbrev pub EachLaneIsItsOwn : Type 0
 EachLaneIsItsOwn =
     (f : Fixed) (b : Bare) (e : BareEvent) → HasLanes b → MayBe b e → (d : ℕ)
     → lane_of f (bare_after f b e) d ≡ lane_after e d (lane_of f b d)
 
--- A sound hop has its lanes in that sense, and events of the bare part leave them so.
+-- Each list of a sound hop has one member for each lane.
 abbrev pub SoundHasLanes : Type 0
 SoundHasLanes = (s : HopState) → Sound s → HasLanes s.bare
 
+-- An event of the bare part leaves each list with one member for each lane.
 abbrev pub BareKeepsLanes : Type 0
 BareKeepsLanes = (f : Fixed) (b : Bare) (e : BareEvent) → HasLanes b → HasLanes (bare_after f b e)
 
--- The counts of drops rise in a hop in which nothing has happened, and every event leaves them so.
+-- The counts of drops rise in a hop in which nothing has happened.
 abbrev pub FreshDropsRise : Type 0
 FreshDropsRise =
     (fixed : Fixed) (counts : List ℕ) (guests lanes outs : ℕ)
     → LaneDropsRise (fresh_hop fixed counts guests lanes outs)
 
+-- Every event of a hop leaves the counts of drops rising.
 abbrev pub EachKeepsDropsRising : Type 0
 EachKeepsDropsRising =
     (s : HopState) (e : HopEvent) → MayAsk s e → Sound s → LaneDropsRise s → LaneDropsRise

@@ -8,19 +8,19 @@ use Rattle.hop_core.specs.Hop.{arrivals_of, choices_of, chosen_at, placed_of, re
 use Rattle.hop_core.specs.Hop.{next_out}
 use Rattle.hop_core.specs.Order.{OneClass, Ordered}
 
--- The packets of a set arrive at this producer alone.
+-- The packets of a set arrive at this producer only.
 abbrev pub ArrivesAt : (ℕ → Bool) → ℕ → HopState → Type 0
 ArrivesAt set p s =
     (q i : ℕ) → i < length (arrivals_of s q) → set (slice_index (arrivals_of s q) i) ≡ true → q ≡ p
 
--- Each set of packets that pass the test of the flow and arrived at the producer alone is kept in
+-- Each set of packets that pass the test of a flow and arrived at one producer only is kept in
 -- order.
 abbrev pub FlowOrdered : (ℕ → Bool) → ℕ → ℕ → HopState → Type 0
 FlowOrdered test p o s =
     (set : ℕ → Bool) → ((x : ℕ) → set x ≡ true → test x ≡ true) → ArrivesAt set p s
     → Ordered set p o s
 
--- Each packet of the producer that passes the test and is accepted and not retired stands at this
+-- Each packet of a producer that passes a flow's test and is accepted and not retired is at this
 -- lane.
 abbrev pub FlowAt : (ℕ → Bool) → ℕ → ℕ → HopState → Type 0
 FlowAt test p lane s =
@@ -28,8 +28,8 @@ FlowAt test p lane s =
     → (chosen_at (choices_of s p) i).id ≡ slice_index (accepted_at s.bare d) j
     → test (slice_index (accepted_at s.bare d) j) ≡ true → d ≡ lane
 
--- What an event has to meet for the flow: a packet of it is delivered to its out lane, and where
--- one is put by its producer, all choices of the flow since the last resize have one class, or the
+-- The premise on an event for the order of a flow: its packets are delivered to its out lane; and
+-- when its producer puts one, all choices of the flow since the last resize have one class, or the
 -- packet goes to the lane of all those that are not retired.
 abbrev pub FlowAllowed : (ℕ → Bool) → ℕ → ℕ → HopState → HopEvent → Type 0
 FlowAllowed test p o s (event.Put q hash) =
@@ -48,6 +48,6 @@ FlowAllowed test p o s (event.Resize q count) = Unit {0}
 FlowAllowed test p o s event.Close = Unit {0}
 FlowAllowed test p o s event.Reopen = Unit {0}
 
--- the packets of the flow that came by the producer
+-- the packets of a flow that arrived at a producer
 abbrev pub arrived_by : (ℕ → Bool) → ℕ → HopState → ℕ → Bool
 arrived_by test p s x = list_any (λ y. y == x) (arrivals_of s p) && test x

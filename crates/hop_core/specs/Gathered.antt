@@ -1,8 +1,8 @@
 -- Where the packets of one set are.
 use Rattle.std.specs.Prelude.{ℕ, Bool, List, [], ◌++◌, ◌≡◌, ◌≢◌, drop, filter}
 
--- Of a set of packets: those put and kept are the ones in the out lane and then those that wait at
--- one lane. None that is not retired stands at another lane.
+-- The packets of a set that were put and kept are those in the out lane followed by those that wait
+-- at one lane, and none that is not retired is at another lane.
 pub record Gathered (set : ℕ → Bool) (accepted : ℕ → List ℕ) (delivered retired : ℕ → ℕ)
     (out kept : List ℕ) (lane : ℕ) : Type 0 where
   pub in_order : kept ≡ filter set out ++ filter set (drop (delivered lane) (accepted lane))

@@ -7,8 +7,8 @@ use Rattle.steer_base.specs.declared.cpu_mask.CpuMask.{CpuMask}
 use Rattle.steer_base.specs.declared.put.LaneDrop.{LaneDrop}
 use Rattle.backlog.specs.Puts.{SameShape, new_lane}
 
--- Lanes of one limit, one room and one start of their counters, with the set of those under the
--- flow limit.
+-- Lanes of one limit, one room and one first counter number, with the set of those under the flow
+-- limit.
 pub record LaneTable : Type 0 where
   pub accepted : List (List ℕ)
   pub offers : List (List (Option ℕ))
@@ -19,7 +19,7 @@ pub record LaneTable : Type 0 where
   pub start : ℕ
   pub limited : CpuMask
 
--- the lane of this number
+-- the lane with this number
 abbrev pub lane_at : LaneTable → ℕ → LaneLists
 lane_at t c =
     record {
@@ -33,7 +33,7 @@ lane_at t c =
       limited = has t.limited c;
     }
 
--- one of the lanes has other lists
+-- the lanes with other lists for one of them
 abbrev pub with_lane : LaneTable → ℕ → LaneLists → LaneTable
 with_lane t c l =
     record t {
@@ -43,7 +43,7 @@ with_lane t c l =
       pulled = slice_set t.pulled c l.pulled;
     }
 
--- lanes that no packet was put to, `count` of them
+-- `count` empty lanes
 abbrev pub new_lanes : ℕ → ℕ → ℕ → ℕ → CpuMask → LaneTable
 new_lanes count limit room start limited =
     record {
@@ -57,7 +57,7 @@ new_lanes count limit room start limited =
       limited = limited;
     }
 
--- each lane has this limit, room and start, and is limited where the set has it
+-- Each lane has this limit, room and first counter number, and the flow limit if it is in the set.
 abbrev pub AreShaped : ℕ → ℕ → ℕ → CpuMask → List LaneLists → Type 0
 AreShaped limit room start limited lanes =
     (c : ℕ) (d : LaneLists) → c < length lanes

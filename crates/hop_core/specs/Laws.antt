@@ -9,6 +9,7 @@ use Rattle.steer_base.specs.declared.choice.Choice.{Choice}
 use Rattle.steer_base.specs.declared.choice.Entry.{Entry}
 use Rattle.steer_base.specs.declared.cpu_mask.CpuMask.{CpuMask}
 use Rattle.backlog.specs.Offers.{AreOffers, AllExplained}
+use Rattle.hop_core.specs.declared.shape.TheConstants.{MAX_HOP_ROOM}
 use Rattle.hop_core.specs.declared.event.HopEvent.{HopEvent}
 use Rattle.hop_core.specs.declared.event.HopEvent.TheVariants as event
 use Rattle.hop_core.specs.declared.event.HopAnswer.TheVariants as answer
@@ -25,17 +26,18 @@ use Rattle.hop_core.specs.Pairs.{Pairwise}
 
 -- ---- what holds after any events
 
--- A new hop is sound, and every event leaves a sound hop sound.
+-- A new hop is sound.
 abbrev pub NewIsSound : Type 0
 NewIsSound = (shape : HopShape) → IsShape shape → Sound (new_hop shape)
 
--- The same of a hop that is given by plain lists.
+-- A hop in which nothing has happened is sound, when it is given by plain lists.
 abbrev pub FreshIsSound : Type 0
 FreshIsSound =
-    (fixed : Fixed) (counts : List ℕ) (guests lanes outs : ℕ) → fixed.room ≤ 262144
+    (fixed : Fixed) (counts : List ℕ) (guests lanes outs : ℕ) → fixed.room ≤ MAX_HOP_ROOM
     → fixed.start < 2 ^ 32
     → Sound (fresh_hop fixed counts guests lanes outs)
 
+-- Every event leaves a sound hop sound.
 abbrev pub EachKeepsSound : Type 0
 EachKeepsSound = (s : HopState) (e : HopEvent) → MayAsk s e → Sound s → Sound (happens s e).0
 
@@ -43,9 +45,9 @@ EachKeepsSound = (s : HopState) (e : HopEvent) → MayAsk s e → Sound s → So
 abbrev pub fallen : Bare → List (List ℕ)
 fallen b = map (λ drops. map (λ d. d.id) drops) b.drops
 
--- Each packet is at most at one place, once: in the lists of accepted and of dropped packets
--- together, and in the out lanes; in an out lane only where it was accepted and delivered; and
--- accepted or dropped by a lane only where a choice sent it there.
+-- Each packet is at most at one place, once: in one accepted or dropped list of all lanes, and in
+-- one out lane. It is in an out lane only if it was accepted and delivered, and accepted or dropped
+-- by a lane only if a choice sent it there.
 pub record HasPlaces (s : HopState) : Type 0 where
   pub lanes : Apart (s.bare.accepted ++ fallen s.bare)
   pub outs : Apart s.bare.outs
@@ -53,28 +55,29 @@ pub record HasPlaces (s : HopState) : Type 0 where
   pub accepted : Puts (accepted_at s.bare) (choices_of s) (placed_of s)
   pub dropped : Puts (fell_at s.bare) (choices_of s) (placed_of s)
 
+-- From a new hop on, after any events, each packet is at most at one place, once.
 abbrev pub KeepsPlaces : Type 0
 KeepsPlaces =
     (shape : HopShape) (es : List HopEvent) → IsShape shape → AllMayAsk es (new_hop shape)
     → HasPlaces (run es (new_hop shape))
 
--- It is so of every sound hop, however it came about.
+-- In every sound hop each packet is at most at one place, once.
 abbrev pub SoundHasPlaces : Type 0
 SoundHasPlaces = (s : HopState) → Sound s → HasPlaces s
 
--- While nobody is inside, each choice was put: no packet is between its choice and its put.
+-- While nobody is inside, no packet is between its choice and its put.
 abbrev pub NobodyWeighsOutside : Type 0
 NobodyWeighsOutside =
     (s : HopState) → Sound s → s.bare.inside ≡ 0 → (p : ℕ) → placed_of s p ≡ length (choices_of s p)
 
--- A close is answered with the number of those inside exactly where somebody is, and an entry that
--- the gate is closed exactly where it is.
+-- A close is answered with the number of those inside if and only if somebody is inside.
 abbrev pub InsideIsExact : Type 0
 InsideIsExact =
     (s : HopState)
     → ((n : ℕ) → (happens s event.Close).1 ≡ answer.Inside n → (s.bare.inside ≡ n) × (n ≢ 0))
     × (s.bare.inside ≢ 0 → (happens s event.Close).1 ≡ answer.Inside s.bare.inside)
 
+-- An entry is answered that the gate is closed if and only if it is.
 abbrev pub ClosedIsExact : Type 0
 ClosedIsExact =
     (s : HopState) (a : ℕ) → Sound s
@@ -83,51 +86,56 @@ ClosedIsExact =
 
 -- ---- delivery in order
 
--- The law of a hop: from a new hop on, whatever events come, each tight set is delivered in order.
+-- The delivery theorem of a hop: from a new hop on, whatever events come, each tight set is
+-- delivered in order.
 abbrev pub KeepsOrder : Type 0
 KeepsOrder =
     (shape : HopShape) (es : List HopEvent) (set : ℕ → Bool) (p o : ℕ) → IsShape shape
     → AllMayAsk es (new_hop shape) → AllTight set p o es (new_hop shape)
     → IsInOrder set p o (run es (new_hop shape))
 
--- The same event by event: each set is ordered in a new hop, an event leaves an ordered set ordered
--- where the set is tight in it, and an ordered set is delivered in order.
+-- Each set is ordered in a new hop.
 abbrev pub NewIsOrdered : Type 0
 NewIsOrdered = (shape : HopShape) (set : ℕ → Bool) (p o : ℕ) → Ordered set p o (new_hop shape)
 
+-- Each set is ordered in a hop in which nothing has happened.
 abbrev pub FreshIsOrdered : Type 0
 FreshIsOrdered =
     (fixed : Fixed) (counts : List ℕ) (guests lanes outs : ℕ) (set : ℕ → Bool) (p o : ℕ)
     → Ordered set p o (fresh_hop fixed counts guests lanes outs)
 
+-- An event leaves an ordered set ordered if the set is tight in it.
 abbrev pub EachKeepsOrder : Type 0
 EachKeepsOrder =
     (set : ℕ → Bool) (p o : ℕ) (s : HopState) (e : HopEvent) → MayAsk s e → Tight set p o s e
     → Sound s → Ordered set p o s → Ordered set p o (happens s e).0
 
+-- An ordered set is delivered in order.
 abbrev pub OrderedIsInOrder : Type 0
 OrderedIsInOrder =
     (set : ℕ → Bool) (p o : ℕ) (s : HopState) → Ordered set p o s → IsInOrder set p o s
 
--- The same of the flow of a producer, whose packets are known by a test.
+-- The flow of a producer is ordered in a hop in which nothing has happened.
 abbrev pub FreshFlowIsOrdered : Type 0
 FreshFlowIsOrdered =
     (fixed : Fixed) (counts : List ℕ) (guests lanes outs : ℕ) (test : ℕ → Bool) (p o : ℕ)
     → FlowOrdered test p o (fresh_hop fixed counts guests lanes outs)
 
+-- An event that is allowed for a flow leaves it ordered.
 abbrev pub EachKeepsFlows : Type 0
 EachKeepsFlows =
     (test : ℕ → Bool) (p o : ℕ) (s : HopState) (e : HopEvent) → MayAsk s e
     → FlowAllowed test p o s e → Sound s → FlowOrdered test p o s
     → FlowOrdered test p o (happens s e).0
 
+-- An ordered flow is delivered in order.
 abbrev pub FlowIsInOrder : Type 0
 FlowIsInOrder =
     (test : ℕ → Bool) (p o : ℕ) (s : HopState) → Sound s → FlowOrdered test p o s
     → IsInOrder (arrived_by test p s) p o s
 
--- From end to end, where a second hop gets what was sent on of an out lane of the first, and drops
--- nothing: what left the second is a prefix of what arrived at the first, without what the first
+-- Order from end to end: if a second hop gets a prefix of an out lane of the first and drops
+-- nothing, what left the second is a prefix of what arrived at the first without what the first
 -- dropped.
 abbrev pub EndToEnd : Type 0
 EndToEnd =
@@ -137,7 +145,7 @@ EndToEnd =
     → IsPrefix (filter set (out_at second.bare port))
     (filter (is_kept set first.bare) (arrivals_of first q))
 
--- The last step of an order that is known pair by pair.
+-- An order that is known pair by pair is a prefix.
 abbrev pub PairsMakePrefix : Type 0
 PairsMakePrefix = (xs ys : List ℕ) → Pairwise xs ys → IsPrefix ys xs
 
@@ -159,66 +167,68 @@ IsHashed hash s (event.Resize p count) = Unit {0}
 IsHashed hash s event.Close = Unit {0}
 IsHashed hash s event.Reopen = Unit {0}
 
+-- Each put of a list of events carries the hash of its packet.
 abbrev pub AllHashed : (ℕ → Option ℕ) → List HopEvent → HopState → Type 0
 AllHashed hash [] s = Unit {0}
 AllHashed hash (e ∷ es) s = IsHashed hash s e × AllHashed hash es (happens s e).0
 
--- The offers of each lane are those of its accepted and dropped packets in the order of their puts,
--- and each drop has the cause that its two counts and the offers before it give: a full backlog, or
--- the flow limit.
+-- The offers to each lane are those of its accepted and dropped packets in the order of their puts,
+-- and each drop has the cause that its two counts and the offers before it give.
 pub record DropsExplained (hash : ℕ → Option ℕ) (s : HopState) : Type 0 where
   pub offers : (c : ℕ) → AreOffers hash (lane_of s.fixed s.bare c)
   pub causes : (c : ℕ) → AllExplained hash (lane_of s.fixed s.bare c)
 
+-- From a new hop on, after any events, each drop is explained.
 abbrev pub ExplainsDrops : Type 0
 ExplainsDrops =
     (hash : ℕ → Option ℕ) (shape : HopShape) (es : List HopEvent) → IsShape shape
     → AllMayAsk es (new_hop shape) → AllHashed hash es (new_hop shape)
     → DropsExplained hash (run es (new_hop shape))
 
--- The same event by event: the drops of a new hop are explained, and every event leaves them so.
+-- The drops of a hop in which nothing has happened are explained.
 abbrev pub FreshIsExplained : Type 0
 FreshIsExplained =
     (hash : ℕ → Option ℕ) (fixed : Fixed) (counts : List ℕ) (guests lanes outs : ℕ)
     → DropsExplained hash (fresh_hop fixed counts guests lanes outs)
 
+-- Every event leaves the drops explained.
 abbrev pub EachExplainsDrops : Type 0
 EachExplainsDrops =
     (hash : ℕ → Option ℕ) (s : HopState) (e : HopEvent) → IsHashed hash s e → Sound s
     → DropsExplained hash s → DropsExplained hash (happens s e).0
 
--- Where as many packets may wait as there can be, and no lane is under the flow limit, nothing is
--- dropped.
+-- If as many packets may wait as there can be and no lane has the flow limit, nothing is dropped.
 abbrev pub NeverDrops : Type 0
 NeverDrops =
     (shape : HopShape) (es : List HopEvent) → IsShape shape → shape.room ≤ shape.limit
     → ((c : ℕ) → c < shape.lanes → has shape.limited c ≡ false) → AllMayAsk es (new_hop shape)
     → (c : ℕ) → drops_at (run es (new_hop shape)).bare c ≡ []
 
--- The same event by event, of a hop whose lanes have room for all and no flow limit, and dropped
--- nothing.
+-- The lanes of a hop have room for all packets and no flow limit, and dropped nothing.
 pub record Ample (s : HopState) : Type 0 where
   pub room : s.fixed.room ≤ s.fixed.limit
   pub unlimited : (c : ℕ) → c < length s.bare.accepted → has s.fixed.limited c ≡ false
   pub none : (c : ℕ) → drops_at s.bare c ≡ []
 
+-- A hop in which nothing has happened dropped nothing.
 abbrev pub FreshIsAmple : Type 0
 FreshIsAmple =
     (fixed : Fixed) (counts : List ℕ) (guests lanes outs : ℕ) → fixed.room ≤ fixed.limit
     → ((c : ℕ) → c < lanes → has fixed.limited c ≡ false)
     → Ample (fresh_hop fixed counts guests lanes outs)
 
+-- After an event a hop whose lanes have room for all still dropped nothing.
 abbrev pub EachKeepsAmple : Type 0
 EachKeepsAmple = (s : HopState) (e : HopEvent) → Sound s → Ample s → Ample (happens s e).0
 
 -- ---- choices
 
--- the entries that a producer's first i choices give, but for those before a resize
+-- the entries that a producer's first i choices give, without those before a resize
 abbrev pub entries_before : HopState → ℕ → ℕ → ℕ → ℕ → Entry
 entries_before s p from i =
     entry s.fixed.start (accepted_at s.bare) (drop from (take i (choices_of s p)))
 
--- A choice by the rule over the heads of all lanes is the choice over the head that it kept, alone.
+-- A choice by the rule over the heads of all lanes is the choice over the one head that it kept.
 abbrev pub KeptHeadDecides : Type 0
 KeptHeadDecides =
     (class want : Option ℕ) (desired : ℕ) (entries : ℕ → Entry) (head : ℕ → ℕ) (online : ℕ → Bool)
@@ -226,7 +236,7 @@ KeptHeadDecides =
     → c ≡ migrate class want desired entries head online
     → c ≡ migrate class want desired entries (λ lane. unwrap_or c.head 0) online
 
--- Events leave each choice as it was made, and the entries of the choices before it too.
+-- Later events leave each choice as it was made, and the entries of the choices before it.
 abbrev pub ChoicesStay : Type 0
 ChoicesStay =
     (s : HopState) (es : List HopEvent) → Sound s → AllMayAsk es s → (p i : ℕ)
@@ -239,7 +249,7 @@ abbrev pub after_weigh : HopState → ℕ → Option ℕ → Option ℕ → ℕ 
 after_weigh s p class want desired online = (happens s (event.Weigh p class want desired online)).0
 
 -- The choice that a weigh makes is the migration rule over the entries of the choices before it
--- since the last resize, with the heads of that moment, and this stays true whatever events follow.
+-- since the last resize, with the heads of that moment, and stays so whatever events follow.
 abbrev pub ChoiceIsByTheRule : Type 0
 ChoiceIsByTheRule =
     (s : HopState) (p : ℕ) (class want : Option ℕ) (desired : ℕ) (online : CpuMask)

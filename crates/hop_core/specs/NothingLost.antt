@@ -20,14 +20,15 @@ WasLeft accepted fell c =
 abbrev pub IsInOutLane : (ℕ → List ℕ) → ℕ → Type 0
 IsInOutLane out x = (o : ℕ) × Contains (out o) x
 
+-- Each packet that was put was accepted or dropped by the lane of its choice, and each that was
+-- delivered is in an out lane.
 pub record NothingLost (s : HopState) : Type 0 where
   pub put : (p i : ℕ) → i < placed_of s p
       → WasLeft (accepted_at s.bare) (fell_at s.bare) (chosen_at (choices_of s p) i)
   pub delivered : (c i : ℕ) → i < delivered_at s.bare c
       → IsInOutLane (out_at s.bare) (slice_index (accepted_at s.bare c) i)
 
--- A packet is in the list of this lane, at one place, and in no other of these lists and of the
--- others.
+-- A packet is in one list, at one place, and in no other of these lists.
 pub record IsOnceIn (lists others : ℕ → List ℕ) (lane x : ℕ) : Type 0 where
   pub at : ℕ
   pub within : at < length (lists lane)
@@ -44,24 +45,25 @@ IsLeftOnce s c =
 
 -- ---- laws
 
--- Nothing is lost in a hop in which nothing has happened, and after every event.
+-- Nothing is lost in a hop in which nothing has happened.
 abbrev pub FreshLosesNothing : Type 0
 FreshLosesNothing =
     (fixed : Fixed) (counts : List ℕ) (guests lanes outs : ℕ)
     → NothingLost (fresh_hop fixed counts guests lanes outs)
 
+-- If nothing is lost in a sound hop, nothing is lost after an event.
 abbrev pub EachLosesNothing : Type 0
 EachLosesNothing =
     (s : HopState) (e : HopEvent) → MayAsk s e → Sound s → NothingLost s
     → NothingLost (happens s e).0
 
--- The same of every list of events from a new hop on.
+-- From a new hop on, after any events, nothing is lost.
 abbrev pub LosesNothing : Type 0
 LosesNothing =
     (shape : HopShape) (es : List HopEvent) → IsShape shape → AllMayAsk es (new_hop shape)
     → NothingLost (run es (new_hop shape))
 
--- Where nothing is lost, each packet that was put is at exactly one place.
+-- If nothing is lost, each packet that was put is at exactly one place.
 abbrev pub EachPutIsOnce : Type 0
 EachPutIsOnce =
     (s : HopState) → Sound s → NothingLost s → (p i : ℕ) → i < placed_of s p

@@ -12,27 +12,27 @@ use Rattle.hop_core.specs.Hop.{next_out}
 use Rattle.hop_core.specs.Events.{happens}
 use Rattle.hop_core.specs.Gathered.{Gathered}
 
--- whether a packet is of the set and was not dropped
+-- whether a packet is of a set and was not dropped
 abbrev pub is_kept : (ℕ → Bool) → Bare → ℕ → Bool
 is_kept set b x = set x && not (was_dropped b.drops x)
 
--- Delivery in order: the packets of the set in the out lane are a prefix of its arrivals at the
+-- Delivery in order: the packets of a set in the out lane are a prefix of its arrivals at the
 -- producer without the dropped ones.
 abbrev pub IsInOrder : (ℕ → Bool) → ℕ → ℕ → HopState → Type 0
 IsInOrder set p o s = InOrder set (arrivals_of s p) s.bare.drops (out_at s.bare o)
 
--- Every packet of the set that is accepted and not retired stands at this lane.
+-- Every packet of a set that is accepted and not retired is at this lane.
 abbrev pub OnlyAt : (ℕ → Bool) → Bare → ℕ → Type 0
 OnlyAt set b lane = (d : ℕ) → d ≢ lane → filter set (drop (retired_at b d) (accepted_at b d)) ≡ []
 
--- All choices of the set since the last resize have this class.
+-- All choices of a set since the last resize have this class.
 abbrev pub OneClass : (ℕ → Bool) → List Chosen → ℕ → Type 0
 OneClass set cs k = All (λ c. set c.id ≡ true → c.choice.class ≡ Some k) cs
 
--- A set of packets of a producer and for an out lane is tight in an event, as the event finds it:
--- it arrives at the producer alone and is delivered to the out lane alone, and where a packet of it
--- is put, all its choices since the producer's last resize have one class, or the packet goes to
--- the lane of all those that are not retired.
+-- A set of packets of one producer and one out lane is tight in an event: it arrives at that
+-- producer only and is delivered to that out lane only; and when a packet of it is put, all its
+-- choices since the last resize have one class, or the packet goes to the lane of all those that
+-- are not retired.
 abbrev pub Tight : (ℕ → Bool) → ℕ → ℕ → HopState → HopEvent → Type 0
 Tight set p o s (event.Arrive q id) = set id ≡ true → q ≡ p
 Tight set p o s (event.Put q hash) =
@@ -50,12 +50,13 @@ Tight set p o s (event.Resize q count) = Unit {0}
 Tight set p o s event.Close = Unit {0}
 Tight set p o s event.Reopen = Unit {0}
 
+-- A set is tight in each event of a list.
 abbrev pub AllTight : (ℕ → Bool) → ℕ → ℕ → List HopEvent → HopState → Type 0
 AllTight set p o [] s = Unit {0}
 AllTight set p o (e ∷ es) s = Tight set p o s e × AllTight set p o es (happens s e).0
 
--- What the events keep of a tight set: it arrives at its producer alone, and those of it that were
--- put and not dropped are the delivered ones, followed by those that wait at one lane.
+-- The invariant of a tight set: it arrives at its producer only, and those of it that were put and
+-- not dropped are the delivered ones followed by those that wait at one lane.
 pub record Ordered (set : ℕ → Bool) (p o : ℕ) (s : HopState) : Type 0 where
   pub mine : (q i : ℕ) → i < length (arrivals_of s q) → set (slice_index (arrivals_of s q) i) ≡ true
       → q ≡ p

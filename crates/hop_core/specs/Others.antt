@@ -8,7 +8,7 @@ use Rattle.hop_core.specs.Hop.{drops_at}
 use Rattle.hop_core.specs.Hop.{in_hand, offers_at, placed_of, pulled_at, retired_at, since_of}
 use Rattle.hop_core.specs.Hop.{taken_of}
 
--- the producer whose lists an event may change
+-- the producer whose lists an event may change, if any
 abbrev pub producer_of : HopEvent → Option ℕ
 producer_of (event.Arrive p id) = Some p
 producer_of (event.Take p) = Some p
@@ -17,7 +17,7 @@ producer_of (event.Put p hash) = Some p
 producer_of (event.Resize p count) = Some p
 producer_of _ = None
 
--- the lane whose lists an event may change
+-- the lane whose lists an event may change, if any
 abbrev pub changed_lane : HopState → HopEvent → Option ℕ
 changed_lane s (event.Put p hash) = Some (in_hand s p).choice.lane
 changed_lane s (event.Pull c) = Some c
@@ -43,11 +43,13 @@ pub record SameLane (d : ℕ) (s t : HopState) : Type 0 where
   pub delivered : delivered_at t.bare d ≡ delivered_at s.bare d
   pub retired : retired_at t.bare d ≡ retired_at s.bare d
 
+-- Each event leaves what every other producer has.
 abbrev pub EachLeavesProducers : Type 0
 EachLeavesProducers =
     (s : HopState) (e : HopEvent) (q : ℕ) → producer_of e ≢ Some q
     → SameProducer q s (happens s e).0
 
+-- Each event leaves what every other lane has.
 abbrev pub EachLeavesLanes : Type 0
 EachLeavesLanes =
     (s : HopState) (e : HopEvent) (d : ℕ) → changed_lane s e ≢ Some d → SameLane d s (happens s e).0

@@ -7,17 +7,17 @@ use Rattle.hop_core.specs.Hop.{pull_at, deliver_at, retire_at, with_bare}
 use Rattle.hop_core.specs.Events.{AllMayAsk, run}
 use Rattle.hop_core.specs.Sound.{Sound}
 
--- The state after two lists of events is that of the second after the first, and both may be asked
--- where the first may be asked, and then the second.
+-- The state after two lists of events is that of the second after the first.
 abbrev pub RunsAreJoined : Type 0
 RunsAreJoined = (es fs : List HopEvent) (s : HopState) → run (es ++ fs) s ≡ run fs (run es s)
 
+-- Two lists of events may be asked one after the other if and only if the joined list may be asked.
 abbrev pub AsksAreJoined : Type 0
 AsksAreJoined =
     (es fs : List HopEvent) (s : HopState)
     → AllMayAsk (es ++ fs) s ↔ (AllMayAsk es s × AllMayAsk fs (run es s))
 
--- a lane pulls a packet, delivers it to an out lane and retires it
+-- the round of a lane: it pulls a packet, delivers it to an out lane and retires it
 abbrev pub round_of : ℕ → ℕ → List HopEvent
 round_of c o = event.Pull c ∷ event.Deliver c o ∷ event.Retire c ∷ []
 
@@ -27,7 +27,7 @@ RoundMayBeAsked =
     (s : HopState) (c o : ℕ) → c < length s.bare.accepted → o < length s.bare.outs
     → AllMayAsk (round_of c o) s
 
--- One packet went through a lane: the head of this lane alone rose by one, its hand is empty, and
+-- One packet went through a lane: the head of this lane only rose by one, its hand is empty, and
 -- the packet that waited first is the last one of the out lane.
 pub record WentThrough (s t : HopState) (c o : ℕ) : Type 0 where
   pub state : t ≡ with_bare s (retire_at (deliver_at (pull_at s.bare c) c o) c)
@@ -37,7 +37,7 @@ pub record WentThrough (s t : HopState) (c o : ℕ) : Type 0 where
       ≡ out_at s.bare o ++ slice_index (accepted_at s.bare c) (retired_at s.bare c) ∷ []
   pub others : (d : ℕ) → d ≢ c → retired_at t.bare d ≡ retired_at s.bare d
 
--- A round gets one packet through a lane with an empty hand in which a packet waits.
+-- A round gets exactly one packet through a lane with an empty hand in which a packet waits.
 abbrev pub RoundRetiresOne : Type 0
 RoundRetiresOne =
     (s : HopState) (c o : ℕ) → Sound s → c < length s.bare.accepted → o < length s.bare.outs

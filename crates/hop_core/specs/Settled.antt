@@ -13,15 +13,15 @@ use Rattle.hop_core.specs.Hop.{placed_of, retired_at, since_of, taken_of}
 use Rattle.hop_core.specs.Shape.{fresh_hop}
 use Rattle.hop_core.specs.Sound.{Sound}
 
--- Where the packet of a choice is accepted and not retired, it stands where its producer sends such
--- packets now.
+-- If the packet of a choice is accepted and not retired, it is at the lane to which its producer
+-- sends such packets now.
 abbrev pub AtPlain : (ℕ → List ℕ) → (ℕ → ℕ) → (ℕ → ℕ) → Chosen → Type 0
 AtPlain accepted retired plain c =
     (n : ℕ) → position accepted c ≡ Some n → retired c.choice.lane < n → c.choice.lane ≡ plain c.id
 
--- The choices since the last resize have the class that the settings give their packets; and
--- without a class a packet that is not retired stands where its producer sends such packets, or is
--- in hand and goes there.
+-- A producer is settled by settings: its choices since the last resize have the class that the
+-- settings give; and a packet without a class that is not retired is at the lane to which its
+-- producer sends such packets, or is in hand and goes there.
 pub record Settled (choices : ℕ → List Chosen) (since placed : ℕ → ℕ) (accepted : ℕ → List ℕ)
     (retired : ℕ → ℕ) (class_of : ℕ → ℕ → Option ℕ) (plain : ℕ → ℕ → ℕ) : Type 0 where
   pub classes : (p i : ℕ) → since p ≤ i → i < length (choices p)
@@ -34,22 +34,22 @@ pub record Settled (choices : ℕ → List Chosen) (since placed : ℕ → ℕ) 
       → (chosen_at (choices p) (placed p)).choice.lane
       ≡ plain p (chosen_at (choices p) (placed p)).id
 
--- the same of a hop
+-- A hop is settled by settings: each of its producers is.
 abbrev pub SettledIn : (ℕ → ℕ → Option ℕ) → (ℕ → ℕ → ℕ) → HopState → Type 0
 SettledIn class_of plain s =
     Settled (choices_of s) (since_of s) (placed_of s) (accepted_at s.bare) (retired_at s.bare)
     class_of plain
 
--- A weigh that is enabled is by the settings; the other events are free.
+-- An enabled weigh is by the settings; the other events are free.
 abbrev pub IsBySettings : (ℕ → ℕ → Option ℕ) → (ℕ → ℕ → ℕ) → HopState → HopEvent → Type 0
 IsBySettings class_of plain s (event.Weigh p class want desired online) =
     length (choices_of s p) < taken_of s p
     → (class ≡ class_of p (next_of s p)) × (class ≡ None → desired ≡ plain p (next_of s p))
 IsBySettings class_of plain s _ = Unit {0}
 
--- Other settings may take the place of these: no packet is between its choice and its put; the
--- choices since the last resize have the same classes; and each packet without a class goes where
--- it went, or the lane where it went is empty. Only producers that there are count.
+-- Other settings may replace these: no packet is between its choice and its put; the choices since
+-- the last resize have the same classes; and each packet without a class goes where it went, or the
+-- lane where it went is empty.
 pub record MayReset (s : HopState) (class_of now_class_of : ℕ → ℕ → Option ℕ)
     (plain now_plain : ℕ → ℕ → ℕ) : Type 0 where
   pub hands : (p : ℕ) → p < length s.arrivals → length (choices_of s p) ≤ placed_of s p
@@ -69,7 +69,7 @@ FreshIsSettled =
     (fixed : Fixed) (counts : List ℕ) (guests lanes outs : ℕ)
     → SettledIn class_of plain (fresh_hop fixed counts guests lanes outs)
 
--- Every event keeps a hop settled where a weigh is by the settings, a resize included.
+-- Every event leaves a hop settled if its weighs are by the settings.
 abbrev pub EachKeepsSettled : Type 0
 EachKeepsSettled =
     (class_of : ℕ → ℕ → Option ℕ) (plain : ℕ → ℕ → ℕ) (s : HopState) (e : HopEvent)
@@ -77,7 +77,7 @@ EachKeepsSettled =
     → IsBySettings class_of plain s e → SettledIn class_of plain s
     → SettledIn class_of plain (happens s e).0
 
--- A resize leaves a hop settled by settings that give other classes at its producer alone.
+-- A resize leaves a hop settled by settings that give other classes at its producer only.
 abbrev pub ResizeSettles : Type 0
 ResizeSettles =
     (class_of now_class_of : ℕ → ℕ → Option ℕ) (plain : ℕ → ℕ → ℕ) (s : HopState) (p count : ℕ)
@@ -85,7 +85,7 @@ ResizeSettles =
     → ((q x : ℕ) → q ≢ p → now_class_of q x ≡ class_of q x)
     → SettledIn class_of plain s → SettledIn now_class_of plain (happens s (event.Resize p count)).0
 
--- Settings that may take the place of others leave a hop settled.
+-- Settings that may replace others leave a hop settled.
 abbrev pub ResetSettles : Type 0
 ResetSettles =
     (class_of now_class_of : ℕ → ℕ → Option ℕ) (plain now_plain : ℕ → ℕ → ℕ) (s : HopState)

@@ -3,19 +3,22 @@ use Rattle.std.specs.Prelude.{ℕ, ◌+◌, ◌<◌, ◌≤◌, ◌≡◌, ◌^�
 use Rattle.std.specs.Prelude.{length, map, replicate, if◌then◌else◌}
 use Rattle.std.specs.List.{All}
 use Rattle.steer_base.specs.Counters.{rounded_up}
+use Rattle.steer_base.specs.declared.limits.TheConstants.{MAX_FLOW_COUNT}
+use Rattle.dev_flow_table.specs.declared.table.TheConstants.{MAX_EXACT_CLASSES}
 use Rattle.hop_core.specs.declared.shape.HopShape.{HopShape}
+use Rattle.hop_core.specs.declared.shape.TheConstants.{MAX_HOP_ROOM}
 use Rattle.hop_core.specs.Hop.{Fixed, HopState}
 
--- the most classes of a producer
+-- the largest number of classes of a producer
 abbrev pub most_classes : Bool → ℕ
-most_classes exact = if exact then 262144 else 32768
+most_classes exact = if exact then MAX_EXACT_CLASSES else MAX_FLOW_COUNT
 
--- What a shape has to meet: at least one packet may wait in a lane, the room is for no more packets
--- than a capture has, and there are 1 to 32 producers, lanes and out lanes, at most 64 guests, and
+-- The requirements on the shape of a hop: at least one packet may wait in a lane, the room is at
+-- most MAX_HOP_ROOM, there are 1 to 32 producers, lanes and out lanes and at most 64 guests, and
 -- one number of classes for each producer.
 pub record IsShape (shape : HopShape) : Type 0 where
   pub limit : 1 ≤ shape.limit
-  pub room : shape.room ≤ 262144
+  pub room : shape.room ≤ MAX_HOP_ROOM
   pub producers : 1 ≤ shape.producers
   pub few_producers : shape.producers ≤ 32
   pub guests : shape.guests ≤ 64
@@ -27,12 +30,12 @@ pub record IsShape (shape : HopShape) : Type 0 where
   pub classes : All (λ count. count ≤ most_classes shape.exact) shape.counts.items
   pub start : shape.start < 2 ^ 32
 
--- the number of classes for a count: itself where the shape is exact, else rounded up to a power of
--- two
+-- the number of classes for a count: the count itself if the shape is exact, otherwise rounded up
+-- to a power of two
 abbrev pub classes_for : Bool → ℕ → ℕ
 classes_for exact count = if exact then count else rounded_up count
 
--- A hop in which nothing has happened, with one producer for each of these numbers of classes.
+-- a hop in which nothing has happened, with one producer for each of these numbers of classes
 abbrev pub fresh_hop : Fixed → List ℕ → ℕ → ℕ → ℕ → HopState
 fresh_hop fixed counts guests lanes outs =
     record {
@@ -57,7 +60,7 @@ fresh_hop fixed counts guests lanes outs =
       visits = replicate (length counts + guests) false;
     }
 
--- what a hop of this shape keeps for good
+-- the fixed part of a hop of this shape
 abbrev pub fixed_of : HopShape → Fixed
 fixed_of shape =
     record {

@@ -3,6 +3,8 @@
 use Rattle.std.specs.Prelude.{◌≡◌, length}
 use Rattle.hop_core.specs.Hop.{HopState}
 
+-- Two states of a hop have the same fixed part and the same numbers of producers, actors, lanes and
+-- out lanes.
 pub record SameSizes (s t : HopState) : Type 0 where
   pub fixed : t.fixed ≡ s.fixed
   pub producers : length t.arrivals ≡ length s.arrivals

@@ -3,13 +3,14 @@ use Rattle.std.specs.Prelude.{ℕ, ◌+◌, ◌≤◌, ◌<◌, ◌≡◌, ◌�
 use Rattle.std.specs.Prelude.{count_by, slice_index}
 use Rattle.steer_base.specs.Entries.{of_class, position}
 use Rattle.steer_base.specs.declared.choice.Chosen.{Chosen}
+use Rattle.hop_core.specs.declared.shape.TheConstants.{MAX_HOP_ROOM}
 use Rattle.hop_core.specs.Hop.{HopState, accepted_at, fell_at, out_at, pulled_at, delivered_at}
 use Rattle.hop_core.specs.Hop.{retired_at, arrivals_of, choices_of, chosen_at, taken_of, placed_of}
 use Rattle.hop_core.specs.Hop.{since_of, inside_of}
 use Rattle.hop_core.specs.Standing.{Standing}
 
--- The choices are of the first arrivals, the puts of the first choices, and at most one packet is
--- in hand.
+-- The choices of a producer are for its first arrivals, the puts for its first choices, and at most
+-- one packet is in hand.
 pub record Hands (arrivals : ℕ → List ℕ) (taken : ℕ → ℕ) (choices : ℕ → List Chosen)
     (placed since : ℕ → ℕ) : Type 0 where
   pub of_arrivals : (p i : ℕ) → i < length (choices p)
@@ -20,13 +21,13 @@ pub record Hands (arrivals : ℕ → List ℕ) (taken : ℕ → ℕ) (choices : 
   pub one : (p : ℕ) → taken p ≤ placed p + 1
   pub past : (p : ℕ) → since p ≤ placed p
 
--- No packet stands twice in these lists.
+-- No packet is twice in these lists.
 abbrev pub Distinct : (ℕ → List ℕ) → Type 0
 Distinct lists =
     (p q i j : ℕ) → i < length (lists p) → j < length (lists q)
     → slice_index (lists p) i ≡ slice_index (lists q) j → (p ≡ q) × (i ≡ j)
 
--- A lane's hand has one packet at most, which was pulled, then delivered, then retired.
+-- A lane's hand has at most one packet, which was pulled, then delivered, then retired.
 pub record Counts (accepted : ℕ → List ℕ) (pulled delivered retired : ℕ → ℕ) : Type 0 where
   pub retired_first : (c : ℕ) → retired c ≤ delivered c
   pub delivered_first : (c : ℕ) → delivered c ≤ pulled c
@@ -39,13 +40,13 @@ WasPut choices placed c x =
     (p : ℕ) × (i : ℕ) × (i < placed p) × ((chosen_at (choices p) i).id ≡ x)
     × ((chosen_at (choices p) i).choice.lane ≡ c)
 
--- Each packet in these lists of the lanes was put there.
+-- Each packet in the lists of the lanes was put there.
 abbrev pub Puts : (ℕ → List ℕ) → (ℕ → List Chosen) → (ℕ → ℕ) → Type 0
 Puts lists choices placed =
     (c j : ℕ) → j < length (lists c) → WasPut choices placed c (slice_index (lists c) j)
 
--- No packet stands twice, none is accepted and dropped, and what is in an out lane was accepted and
--- delivered.
+-- No packet is twice in the lists, none is both accepted and dropped, and what is in an out lane
+-- was accepted and delivered.
 pub record Places (accepted fell : ℕ → List ℕ) (delivered : ℕ → ℕ) (out : ℕ → List ℕ) : Type 0 where
   pub once : Distinct accepted
   pub fell_once : Distinct fell
@@ -55,7 +56,7 @@ pub record Places (accepted fell : ℕ → List ℕ) (delivered : ℕ → ℕ) (
   pub from : (o j : ℕ) → j < length (out o)
       → (c : ℕ) × (i : ℕ) × (i < delivered c) × (slice_index (accepted c) i ≡ slice_index (out o) j)
 
--- The packets of each class of each producer stand at its current lane, up to its recorded count.
+-- The packets of each class of each producer are at its current lane, up to its recorded count.
 abbrev pub Stands : (ℕ → List ℕ) → (ℕ → ℕ) → (ℕ → List Chosen) → (ℕ → ℕ) → Type 0
 Stands accepted retired choices since =
     (p k : ℕ) → Standing accepted retired (of_class k (drop (since p) (choices p)))
@@ -66,7 +67,7 @@ Past accepted retired choices since =
     (p i n : ℕ) → i < since p → position accepted (chosen_at (choices p) i) ≡ Some n
     → n ≤ retired (chosen_at (choices p) i).choice.lane
 
--- The lists have as many members as there are producers, and as there are lanes.
+-- Each list has one member for each producer, or for each lane.
 pub record Wide (s : HopState) : Type 0 where
   pub counts : length s.counts ≡ length s.arrivals
   pub taken : length s.taken ≡ length s.arrivals
@@ -80,21 +81,21 @@ pub record Wide (s : HopState) : Type 0 where
   pub delivered : length s.bare.delivered ≡ length s.bare.accepted
   pub retired : length s.bare.retired ≡ length s.bare.accepted
 
--- Who is inside, that nobody is behind a closed gate, and that whoever has weighed and not put is
--- inside.
+-- The gate: who is inside, that nobody is inside a closed gate, and that an actor that has weighed
+-- and not put is inside.
 pub record Gate (s : HopState) : Type 0 where
   pub inside : s.bare.inside ≡ count_by (λ b. b) s.visits
   pub shut : s.bare.closed ≡ true → s.bare.inside ≡ 0
   pub weighed : (p : ℕ) → placed_of s p < length (choices_of s p) → inside_of s p ≡ true
 
--- Packets are numbers below the room, which is a capture's at most, and the counters are 32 bits
--- wide.
+-- Packets are numbers below the room, which is at most MAX_HOP_ROOM, and the counters have 32 bits.
 pub record Small (s : HopState) : Type 0 where
   pub below : (p i : ℕ) → i < length (arrivals_of s p)
       → slice_index (arrivals_of s p) i < s.fixed.room
-  pub room : s.fixed.room ≤ 262144
+  pub room : s.fixed.room ≤ MAX_HOP_ROOM
   pub start : s.fixed.start < 2 ^ 32
 
+-- The invariant of a hop: what holds after any events.
 pub record Sound (s : HopState) : Type 0 where
   pub small : Small s
   pub wide : Wide s

@@ -9,6 +9,7 @@ use Rattle.hop_core.specs.declared.hop.Gate.{Gate}
 use Rattle.hop_core.specs.declared.hop.Hands.{Hands}
 use Rattle.hop_core.specs.declared.hop.Rings.{Rings}
 
+-- The values of a hop's parts, as its code holds them.
 pub record HopParts : Type 0 where
   pub arrivals : Journals ℕ
   pub taken : List ℕ
@@ -25,6 +26,7 @@ pub record HopParts : Type 0 where
   pub inside : ℕ
   pub closed : Bool
 
+-- the values of a hop's parts, as a record
 abbrev pub parts_of : Rings → List ℕ → FlowTables → LaneTable → Hands → Journals ℕ → Gate → HopParts
 parts_of rings counts tables lanes hands outs gate =
     record {
@@ -44,6 +46,7 @@ parts_of rings counts tables lanes hands outs gate =
       closed = gate.closed;
     }
 
+-- the state that the values of a hop's parts represent
 abbrev pub state_of : HopParts → HopState
 state_of h =
     record {

@@ -19,7 +19,8 @@ pub record Tabled (s : HopState) (tables : FlowTables) : Type 0 where
   pub classes : (p i : ℕ) → since_of s p ≤ i → i < length (choices_of s p)
       → IsClassBelow (slice_index s.counts p) (chosen_at (choices_of s p) i).choice.class
 
--- A sound hop with its flow tables, at most 96 actors and 32 lanes, and one room for all lists.
+-- The invariant of a hop's parts: they represent a sound hop, its flow tables have the entries of
+-- its lists, and there are at most 96 actors and 32 lanes, with one room for all lists.
 pub record IsWhole (h : HopParts) : Type 0 where
   pub sound : Sound (state_of h)
   pub tabled : Tabled (state_of h) h.tables

@@ -9,21 +9,23 @@ use Rattle.hop_core.specs.Hop.{HopState}
 use Rattle.hop_core.specs.Events.{happens, MayAsk}
 use Rattle.hop_core.specs.Sound.{Sound}
 
--- how many members lists have together
+-- how many members a list of lists has together
 unfoldable pub total : {X : Type 0} → List (List X) → ℕ
 total [] = 0
 total (list ∷ lists) = length list + total lists
 
+-- the sum of a list of numbers
 unfoldable pub sum_of : List ℕ → ℕ
 sum_of [] = 0
 sum_of (n ∷ ns) = n + sum_of ns
 
+-- how much work was done in a hop: the packets that arrived, and each step that took one of them on
 abbrev pub work : HopState → ℕ
 work s =
     total s.arrivals + sum_of s.taken + total s.choices + sum_of s.placed
     + sum_of s.bare.pulled + sum_of s.bare.delivered + sum_of s.bare.retired
 
--- the events that get a packet on
+-- whether an event takes a packet on
 abbrev pub event_is_work : HopEvent → Bool
 event_is_work (event.Arrive p id) = true
 event_is_work (event.Take p) = true
@@ -38,19 +40,20 @@ event_is_work (event.Resize p count) = false
 event_is_work event.Close = false
 event_is_work event.Reopen = false
 
--- the event was idle, and the state is as it was
+-- The event was idle, and the state is as it was.
 abbrev pub WasIdle : HopState → HopEvent → Type 0
 WasIdle s e = (why : Idle) × ((happens s e).1 ≡ answer.Idle why) × ((happens s e).0 ≡ s)
 
--- An event that gets a packet on adds one to the work, or is idle. No other event changes the work.
--- There is no more work than seven steps for each packet.
+-- An event that takes a packet on adds one to the work, or is idle.
 abbrev pub WorkGoesOn : Type 0
 WorkGoesOn =
     (s : HopState) (e : HopEvent) → MayAsk s e → Sound s → event_is_work e ≡ true
     → (work (happens s e).0 ≡ work s + 1) ⊎ WasIdle s e
 
+-- No other event changes the work.
 abbrev pub WorkStays : Type 0
 WorkStays = (s : HopState) (e : HopEvent) → event_is_work e ≡ false → work (happens s e).0 ≡ work s
 
+-- There are at most seven steps of work for each packet.
 abbrev pub WorkIsBounded : Type 0
 WorkIsBounded = (s : HopState) → Sound s → work s ≤ 7 * s.fixed.room

@@ -10,15 +10,15 @@ pub enum HopEvent {
         p: u8,
         id: PacketId,
     },
-    /// A producer takes up the next packet that arrived.
+    /// A producer takes the next packet that arrived.
     Take {
         p: u8,
     },
-    /// A producer or guest goes inside the gate.
+    /// A producer or guest enters the gate.
     Enter {
         p: u8,
     },
-    /// A producer or guest goes outside.
+    /// A producer or guest leaves the gate.
     Leave {
         p: u8,
     },
@@ -28,7 +28,7 @@ pub enum HopEvent {
         p: u8,
         /// The class of the packet, if it has one.
         class: Option<u32>,
-        /// What was wanted, kept with the choice.
+        /// The lane that was wanted, recorded with the choice.
         want: Option<u8>,
         desired: u8,
         online: CpuMask,
@@ -38,7 +38,7 @@ pub enum HopEvent {
         p: u8,
         hash: Option<u32>,
     },
-    /// A lane pulls the next packet that waits.
+    /// A lane pulls the oldest packet that waits.
     Pull {
         lane: u8,
     },
@@ -47,12 +47,12 @@ pub enum HopEvent {
         lane: u8,
         to: u8,
     },
-    /// A lane's head rises past the packet that it delivered.
+    /// A lane retires the packet that it delivered: its head rises by one.
     Retire {
         lane: u8,
     },
-    /// The entries of a producer's classes are cleared, and there are `count` of them, rounded up
-    /// to a power of two.
+    /// A producer's entries are cleared and resized to `count` classes, rounded up to a power of
+    /// two.
     Resize {
         p: u8,
         count: u32,
@@ -66,19 +66,19 @@ pub enum HopEvent {
 /// The answer to an event.
 #[derive(Clone, Copy, Debug, PartialEq, Eq)]
 pub enum HopAnswer {
-    /// The event was done, with nothing more to tell.
+    /// The event was done.
     Done,
     /// The choice that was made.
     Chose(Choice),
     /// Where the put left its packet.
     Went(Put),
-    /// The packet that is in hand now.
+    /// The packet that was taken or pulled.
     Took(PacketId),
     /// The place of the delivered packet in its out lane, from 1.
     Position(u32),
-    /// Nothing was done, for the first reason that holds.
+    /// Nothing was done, for the first reason that applies.
     Idle(Idle),
-    /// The gate stays open: the number of actors that are inside.
+    /// The gate stays open, since this many actors are inside.
     Inside(u32),
     /// The actor stays outside, since the gate is closed.
     Closed,

@@ -7,6 +7,7 @@ ghost use Rattle.hop_core.specs.Reads.{FitsRoom};
 ghost use Rattle.hop_core.specs.Shape.{classes_for, most_classes, new_hop};
 ghost use Rattle.hop_core.specs.Sizes.{SameSizes};
 ghost use Rattle.hop_core.specs.Sound.{Sound};
+ghost use Rattle.hop_core.specs.declared.shape.TheConstants.{MAX_HOP_ROOM};
 
 mod asking;
 mod events;
@@ -19,9 +20,9 @@ use std::alloc::Global;
 use std::marker::Model;
 use steer_base::{Chosen, Journals, OutOfMemory, PacketId, round_up};
 
-/// One steered hop: in the receive direction from the queues over the processors' backlogs to the
-/// applications' inboxes, in the transmit direction from the applications over the transmit queues
-/// to the port.
+/// One steered hop. In the receive direction the producers are receive queues, the lanes are the
+/// processors' backlogs and the out lanes are the applications' inboxes; in the transmit direction
+/// they are the applications, the transmit queues and the port.
 #[derive(Drop)]
 pub struct Hop {
     rings: Rings,
@@ -48,10 +49,10 @@ impl Model for Hop {
 }
 
 impl Hop {
-    /// A hop in which nothing has happened, with all the memory that it ever takes.
+    /// A hop in which nothing has happened yet. Allocates all its memory here.
     pub fn make(alloc: Global, shape: HopShape) -> Result<Hop, OutOfMemory>
         requires limit { 1 ≤ shape.limit }
-        requires room { shape.room ≤ 262144 }
+        requires room { shape.room ≤ MAX_HOP_ROOM }
         requires producers { 1 ≤ shape.producers }
         requires few_producers { shape.producers ≤ 32 }
         requires guests { shape.guests ≤ 64 }
@@ -63,25 +64,14 @@ impl Hop {
         requires classes { All (λ count. count ≤ most_classes shape.exact) shape.counts.items }
         ensures { IfOk result (λ hop. hop ≡ new_hop shape) }
     {
-        let HopShape {
-            producers,
-            guests,
-            lanes: lane_count,
-            outs: out_count,
-            limit,
-            room,
-            counts,
-            exact,
-            start,
-            limited,
-        } = shape;
-        let tables = Tables::make(alloc, &counts, start, exact)?;
-        let counts = class_counts(alloc, &counts, exact)?;
-        let rings = Rings::make(alloc, producers, room)?;
-        let lanes = Lanes::make(alloc, lane_count, limit, room, start, limited)?;
-        let hands = Hands::make(alloc, lane_count)?;
-        let outs = Journals::make(alloc, out_count, room)?;
-        let gate = Gate::make(alloc, producers + guests)?;
+        let (limit, room, start) = (shape.limit, shape.room, shape.start);
+        let tables = Tables::make(alloc, &shape.counts, start, shape.exact)?;
+        let counts = class_counts(alloc, &shape.counts, shape.exact)?;
+        let rings = Rings::make(alloc, shape.producers, room)?;
+        let lanes = Lanes::make(alloc, shape.lanes, limit, room, start, shape.limited)?;
+        let hands = Hands::make(alloc, shape.lanes)?;
+        let outs = Journals::make(alloc, shape.outs, room)?;
+        let gate = Gate::make(alloc, shape.producers + shape.guests)?;
         Ok(Hop {
             rings,
             counts,
@@ -93,21 +83,13 @@ impl Hop {
         })
     }
 
-    /// One step of one actor. It takes no memory.
+    /// Makes one event, the step of one actor. Allocates nothing.
+    #[tactic(auto, using(crate::proofs::Wholes::sizes_stay))]
     pub fn step(&mut self, e: HopEvent) -> HopAnswer
         requires { MayAsk self.old e }
         ensures state { self.new ≡ (happens self.old e).0 }
         ensures answer { result ≡ (happens self.old e).1 }
         ensures sizes { SameSizes self.old self.new }
-    {
-        self.act(e)
-    }
-
-    // The step, by the events one by one.
-    fn act(&mut self, e: HopEvent) -> HopAnswer
-        requires { MayAsk self.old e }
-        ensures state { self.new ≡ (happens self.old e).0 }
-        ensures answer { result ≡ (happens self.old e).1 }
     {
         match e {
             HopEvent::Arrive { p, id } => self.arrive(p, id),
@@ -131,18 +113,18 @@ impl Hop {
         }
     }
 
-    /// What holds of every hop, whatever its events were.
+    /// Lemma: every hop is sound, and its lists are no longer than its room.
     pub fn sound(&self)
         ensures sound { Sound self.now }
         ensures fits { FitsRoom self.now }
     {
-        // A read of the hop, so that what holds of it is known here.
+        // Reads the hop, so that its invariant is known here.
         let _ = &self.gate.closed;
     }
 }
 
-// What is kept of each producer: its ring and how far it is in it, its choices and how far these
-// are put, and cleared by the last resize.
+// For each producer: its ring and how many packets of it were taken, its choices and how many of
+// them were put, and how many there were at the last resize.
 #[derive(Drop)]
 struct Rings {
     arrivals: Journals<PacketId>,
@@ -154,7 +136,7 @@ struct Rings {
 
 impl Rings {
     fn make(alloc: Global, producers: u8, room: u32) -> Result<Rings, OutOfMemory>
-        requires { room ≤ 262144 }
+        requires { room ≤ MAX_HOP_ROOM }
         ensures arrivals { IfOk result (λ rings. rings.arrivals ≡ new_journals producers room) }
         ensures taken { IfOk result (λ rings. rings.taken.items ≡ replicate producers 0) }
         ensures choices { IfOk result (λ rings. rings.choices ≡ new_journals producers room) }
@@ -171,7 +153,7 @@ impl Rings {
     }
 }
 
-// Of each lane, how many packets were delivered and retired.
+// For each lane, how many packets were delivered and retired.
 #[derive(Drop)]
 struct Hands {
     delivered: Vec<u32>,
@@ -190,7 +172,7 @@ impl Hands {
     }
 }
 
-// Who is inside: each producer and then each guest, their number, and whether the gate is closed.
+// Who is inside (each producer and then each guest), their number, and whether the gate is closed.
 #[derive(Drop)]
 struct Gate {
     visits: Vec<bool>,
@@ -219,7 +201,7 @@ fn zeros(alloc: Global, count: u8) -> Result<Vec<u32>, OutOfMemory>
     Ok(Vec::from_elem(alloc, 0, count as usize)?)
 }
 
-// The numbers of classes: rounded up to powers of two, but where they are exact.
+// The numbers of classes, rounded up to powers of two unless they are exact.
 fn class_counts(alloc: Global, counts: &[u32], exact: bool) -> Result<Vec<u32>, OutOfMemory>
     requires { All (λ count. count ≤ most_classes exact) counts.now }
     ensures { IfOk result (λ classes. classes.items ≡ map (classes_for exact) counts.now) }

@@ -3,11 +3,12 @@ ghost use Rattle.std.specs.Prelude.{◌≡◌, ℕ, ◌<◌, ◌≤◌, length, 
 ghost use Rattle.steer_base.specs.Counters.{number};
 ghost use Rattle.backlog.specs.Puts.{after_put, after_take, next_waiting, put_answer, put_count};
 ghost use Rattle.hop_core.specs.LaneTable.{lane_at, new_lanes, with_lane};
+ghost use Rattle.hop_core.specs.declared.shape.TheConstants.{MAX_HOP_ROOM};
 
 use backlog::Lane;
 use std::alloc::Global;
 use std::marker::Model;
-use steer_base::{CpuMask, LaneDrop, OutOfMemory, PacketId, Put};
+use steer_base::{CpuMask, LaneDrop, OutOfMemory, PacketId, Put, number_at};
 
 /// The lanes of a hop, of one limit and one room.
 #[derive(Drop)]
@@ -22,6 +23,7 @@ pub struct Lanes {
 impl Model for Lanes {
     ghost use Rattle.std.specs.Prelude.{◌≤◌, length, map};
     ghost use Rattle.hop_core.specs.LaneTable.{AreShaped, LaneTable};
+    ghost use Rattle.hop_core.specs.declared.shape.TheConstants.{MAX_HOP_ROOM};
 
     ghost Value = { LaneTable };
 
@@ -36,13 +38,13 @@ impl Model for Lanes {
       limited = t.limited;
     } };
 
-    ghost invariant = { λ t. (t.room ≤ 262144) × (length t.lanes.items ≤ 255)
+    ghost invariant = { λ t. (t.room ≤ MAX_HOP_ROOM) × (length t.lanes.items ≤ 255)
         × AreShaped t.limit t.room t.start t.limited t.lanes.items };
 }
 
 impl Lanes {
-    /// `count` empty lanes. Their counters show `start` at no packet, and `limited` has those under
-    /// the flow limit.
+    /// `count` empty lanes. Their counters begin at the number `start`; the flow limit applies to
+    /// the lanes in `limited`.
     pub fn make(
         alloc: Global,
         count: u8,
@@ -52,7 +54,7 @@ impl Lanes {
         limited: CpuMask,
     ) -> Result<Lanes, OutOfMemory>
         requires limit { 1 ≤ limit }
-        requires room { room ≤ 262144 }
+        requires room { room ≤ MAX_HOP_ROOM }
         ensures { IfOk result (λ lanes. lanes ≡ new_lanes count limit room start limited) }
     {
         let mut lanes = Vec::with_capacity(alloc, count as usize)?;
@@ -80,8 +82,8 @@ impl Lanes {
         lane.put(id, hash)
     }
 
-    /// Pulls the next packet of a lane, if one waits.
-    pub fn take(&mut self, lane: u8) -> Option<PacketId>
+    /// Pulls the oldest packet that waits in a lane, if there is one.
+    pub fn pull(&mut self, lane: u8) -> Option<PacketId>
         requires { lane < length self.old.accepted }
         ensures lists { self.new ≡ with_lane self.old lane (after_take (lane_at self.old lane)) }
         ensures packet { result ≡ next_waiting (lane_at self.old lane) }
@@ -100,7 +102,7 @@ impl Lanes {
         lane.accepted_at(n).unwrap()
     }
 
-    /// The packet that a lane accepted as number `n`, from 0, if it accepted more than `n`.
+    /// The packet that a lane accepted at index `n`, from 0, if it accepted more than `n`.
     pub fn get(&self, lane: u8, n: u32) -> Option<PacketId>
         requires { lane < length self.now.accepted }
         ensures { result ≡ slice_get (lane_at self.now lane).accepted n }
@@ -118,7 +120,7 @@ impl Lanes {
         lane.drops()
     }
 
-    /// How many packets of a lane were pulled.
+    /// The number of packets pulled from a lane.
     pub fn pulled(&self, lane: u8) -> u32
         requires { lane < length self.now.accepted }
         ensures { result ≡ slice_index self.now.pulled lane }
@@ -127,7 +129,7 @@ impl Lanes {
         lane.pulled()
     }
 
-    /// The number of a lane's tail.
+    /// The counter number of a lane's tail.
     pub fn tail(&self, lane: u8) -> u32
         requires { lane < length self.now.accepted }
         ensures { result ≡ number self.now.start (length (lane_at self.now lane).accepted) }
@@ -143,10 +145,10 @@ impl Lanes {
         self.lanes.len() as u8
     }
 
-    /// The number that the counter of a lane shows at a count.
+    /// The counter number of a lane at a count of packets.
     pub fn number_at(&self, count: u32) -> u32
         ensures { result ≡ number self.now.start count }
     {
-        self.start.wrapping_add(count)
+        number_at(self.start, count)
     }
 }

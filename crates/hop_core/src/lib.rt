@@ -1,4 +1,4 @@
-//! One steered hop: from the arrival of a packet at a producer to its delivery in an out lane.
+//! One steered hop: the way of packets from their arrival at a producer to delivery in an out lane.
 #![tactic(auto)]
 
 mod event;
@@ -19,7 +19,7 @@ pub use laws::{
     pairs_in_order_make_a_prefix, the_gate_answers_exactly, tight_sets_are_delivered_in_order,
     work_goes_on_and_is_bounded,
 };
-pub use shape::HopShape;
+pub use shape::{HopShape, MAX_HOP_ROOM};
 pub use state_laws::{
     counts_of_drops_never_fall, each_event_is_one_of_the_bare_part, each_event_leaves_the_rest,
     nothing_is_lost, settled_hops_let_flows_pass,

@@ -4,6 +4,7 @@ ghost use Rattle.std.specs.List.{All};
 ghost use Rattle.steer_base.specs.Choices.{class_of, looks_at_head, migrate};
 ghost use Rattle.steer_base.specs.Counters.{number, rounded_up};
 ghost use Rattle.steer_base.specs.Sets.{has};
+ghost use Rattle.steer_base.specs.declared.limits.TheConstants.{MAX_FLOW_COUNT};
 ghost use Rattle.dev_flow_table.specs.Tables.{IsClassOf, cleared, entries, unset, weighed};
 ghost use Rattle.hop_core.specs.FlowTables.{IsSet, LanesBelow, head_seen, new_tables, noted};
 ghost use Rattle.hop_core.specs.FlowTables.{table_at, with_rows};
@@ -12,7 +13,7 @@ ghost use Rattle.hop_core.specs.Shape.{classes_for, most_classes};
 use dev_flow_table::DevTable;
 use std::alloc::Global;
 use std::marker::Model;
-use steer_base::{Choice, CpuMask, OutOfMemory, Put};
+use steer_base::{Choice, CpuMask, OutOfMemory, Put, number_at};
 
 /// A flow table for each producer.
 #[derive(Drop)]
@@ -40,8 +41,8 @@ impl Model for Tables {
 }
 
 impl Tables {
-    /// A table of unset entries for each of these numbers of classes, which are rounded up but in
-    /// exact tables.
+    /// A table of unset entries for each of these numbers of classes, which are rounded up to
+    /// powers of two unless `exact`.
     pub fn make(
         alloc: Global,
         counts: &[u32],
@@ -62,7 +63,7 @@ impl Tables {
         })
     }
 
-    // Whether numbers of classes are exact.
+    // Whether the numbers of classes are taken as they are.
     pub(crate) fn is_exact(&self) -> bool
         ensures { result ≡ self.now.exact }
     {
@@ -78,8 +79,8 @@ impl Tables {
         table.class(hash)
     }
 
-    /// The choice for a packet of a producer, which its table records. `retired` has the count of
-    /// each lane's head.
+    /// Chooses the lane of a producer's packet, and records the choice in its table. `retired` has
+    /// the count of each lane's head.
     pub fn choose(
         &mut self,
         retired: &[u32],
@@ -101,7 +102,7 @@ impl Tables {
         weigh_at(table, self.start, retired, class, want, desired, online)
     }
 
-    /// Records the position of a packet that was put, where it was accepted.
+    /// Records the position of a packet that was put, if it was accepted.
     pub fn note(&mut self, p: u8, class: Option<u32>, went: Put)
         requires table { p < length self.old.rows }
         requires class { IsClassOf (table_at self.old p) class }
@@ -112,10 +113,10 @@ impl Tables {
         note_at(table, class, went);
     }
 
-    /// Makes all entries of a table unset, and gives it `count` of them, rounded up.
+    /// Clears all entries of a table and resizes it to `count` of them, rounded up.
     pub fn resize(&mut self, p: u8, count: u32)
         requires table { p < length self.old.rows }
-        requires count { count ≤ 32768 }
+        requires count { count ≤ MAX_FLOW_COUNT }
         requires rounded { self.old.exact ≡ false }
         ensures { self.new
             ≡ with_rows self.old p (replicate (rounded_up count) (unset self.old.start)) }
@@ -137,7 +138,7 @@ fn table_of(alloc: Global, count: u32, start: u32, exact: bool) -> Result<DevTab
     }
 }
 
-// The head of the current lane of a class, where the migration rule looks at it.
+// The head of a class's current lane, if the migration rule looks at it.
 fn head_for(
     table: &DevTable,
     start: u32,
@@ -153,7 +154,7 @@ fn head_for(
 {
     match table.current(class?) {
         Some(lane) if lane != desired && online.has(lane) => {
-            Some(start.wrapping_add(retired[lane as usize]))
+            Some(number_at(start, retired[lane as usize]))
         }
         _ => None,
     }

@@ -5,11 +5,11 @@ ghost use Rattle.steer_base.specs.Sets.{has};
 
 use steer_base::{Command, Cpu, CpuMask};
 
-/// The lanes that have to be empty for a command: all processors for a mask, a flow count and the
-/// socket size; the named processor that goes offline; the homes of all receive queues for one that
-/// comes online; all transmit queues for their maps; and none for an entry of the redirection
+/// The lanes that must be empty for a command: all processors for a mask, a flow count and the
+/// socket table's size; the named processor if it goes offline; the homes of all receive queues if
+/// one comes online; all transmit queues for their maps; and none for an entry of the redirection
 /// table, an application's processor and an expiry. `homes` has the home processor of each receive
-/// queue, `cpus` and `txs` are the numbers of processors and of transmit queues.
+/// queue; `cpus` and `txs` are the numbers of processors and of transmit queues.
 pub fn affected(command: &Command, homes: &[Cpu], cpus: u8, txs: u8) -> CpuMask
     requires cpus { cpus ≤ 32 }
     requires txs { txs ≤ 32 }

@@ -1,5 +1,4 @@
-//! Processors that go offline and come online: which lanes a command affects, and when it may not
-//! be given.
+//! CPU hotplug and other gated commands: which lanes a command affects, and when it is refused.
 #![tactic(auto)]
 
 mod lanes;

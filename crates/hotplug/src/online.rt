@@ -13,11 +13,11 @@ pub struct Online {
 }
 
 impl Online {
-    /// Whether a command may be given at all. An offline processor can neither go offline nor be
-    /// stood on, an online one cannot come online, and one cannot go offline that is home to a
-    /// receive queue or stood on by an application: the answer names the lowest such queue, else
-    /// the lowest such application. `homes` has the home processor of each receive queue, and
-    /// `stands` the processor of each application.
+    /// Checks whether a command may be given at all. Refused: taking an offline processor offline,
+    /// moving an application to one, bringing an online processor online, and taking a processor
+    /// offline while it is the home of a receive queue or runs an application. For the last, the
+    /// error names the lowest such queue, or else the lowest such application. `homes` has the home
+    /// processor of each receive queue, `stands` the processor of each application.
     pub fn may(&self, command: &Command, homes: &[Cpu], stands: &[Cpu]) -> Result<(), Refused>
         requires homes { length homes.now ≤ 32 }
         requires stands { length stands.now ≤ 32 }
@@ -52,8 +52,7 @@ impl Online {
     }
 }
 
-// The lowest receive queue whose home the processor is, else the lowest application that stands on
-// it.
+// The lowest receive queue whose home is the processor, else the lowest application on it.
 fn who_uses(cpu: Cpu, homes: &[Cpu], stands: &[Cpu]) -> Option<User>
     requires homes { length homes.now ≤ 32 }
     requires stands { length stands.now ≤ 32 }
@@ -68,7 +67,7 @@ fn who_uses(cpu: Cpu, homes: &[Cpu], stands: &[Cpu]) -> Option<User>
     None
 }
 
-// The first place of a processor in a list.
+// The first index of a processor in a list.
 fn place_of(cpu: Cpu, cpus: &[Cpu]) -> Option<usize>
     ensures value { result ≡ position (λ other. other == cpu) cpus.now }
     ensures within { IfSome result (λ place. place < length cpus.now) }

@@ -13,8 +13,7 @@ use Rattle.plan_reader.specs.declared.plan_fault.PlanFault.{PlanFault}
 use Rattle.plan_reader.specs.Causes.{◌>>=◌, kind}
 use Rattle.plan_reader.specs.Faults.{here}
 use Rattle.plan_reader.specs.PlanTexts.{json_of, named, value_of}
-use Rattle.plan_reader.specs.Readings.{an_object, list_of, number_between, number_below, only}
-use Rattle.plan_reader.specs.Readings.{optional}
+use Rattle.plan_reader.specs.Readings.{an_object, list_of, number_between, number_below, only, optional}
 use Rattle.plan_reader.specs.Readings.{required}
 use Rattle.ntuple_rules.specs.declared.rule.RuleKind.{RuleKind}
 use Rattle.ntuple_rules.specs.declared.rule.RuleKind.TheVariants.{Tcp4, Udp4, Tcp6, Udp6, Ip4, Ip6}

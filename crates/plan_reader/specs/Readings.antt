@@ -9,6 +9,7 @@ use Rattle.hex.specs.Hex.{decode_sized}
 use Rattle.serde_json.specs.Data.{Data, Items, no_items, item, Members, no_members, member}
 use Rattle.serde_json.specs.Events.{items_len}
 use Rattle.serde_json.specs.Find.{get, as_number, as_u64, as_str, as_array, as_object}
+use Rattle.steer_base.specs.declared.limits.TheConstants.{MAX_FLOW_COUNT, MAX_PACKETS}
 use Rattle.steer_base.specs.declared.step.Detach.{Detach}
 use Rattle.steer_base.specs.declared.step.Step.{Step}
 use Rattle.plan_reader.specs.declared.faults.cause.Cause.{Cause}

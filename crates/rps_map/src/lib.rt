@@ -1,4 +1,4 @@
-//! Receive packet steering: the processor that the mask of a receive queue gives a packet.
+//! Receive packet steering (RPS): the processor that a receive queue's mask selects for a packet.
 #![tactic(auto)]
 
 mod choice;

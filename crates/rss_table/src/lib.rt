@@ -1,6 +1,6 @@
-//! The redirection table, by which a network card maps the hash of a packet to a receive queue.
+//! The redirection table of RSS, which maps the hash of a packet to a receive queue.
 #![tactic(auto)]
 
 mod reta;
 
-pub use reta::{EntryRange, Reta};
+pub use reta::{EntryRange, RETA_ENTRIES, Reta};

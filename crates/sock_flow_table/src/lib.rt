@@ -1,4 +1,4 @@
-//! The socket flow table: the processor on which the reader of a flow was last seen.
+//! The socket flow table of RFS: for each entry, the processor on which a flow's reader last ran.
 #![tactic(auto)]
 
 mod laws;

@@ -3,44 +3,44 @@ ghost use Rattle.std.specs.Prelude.{◌≡◌, ◌<◌, ◌≤◌, IfOk, IfSome,
 ghost use Rattle.std.specs.Vec.{vec_len, vec_capacity};
 ghost use Rattle.steer_base.specs.Counters.{rounded_up};
 ghost use Rattle.steer_base.specs.HashTables.{place_in_rows};
+ghost use Rattle.steer_base.specs.declared.limits.TheConstants.{MAX_SOCKET_SIZE};
 ghost use Rattle.sock_flow_table.specs.Sockets.{noted, unset, wanted};
 
 use std::alloc::Global;
 use std::marker::Model;
-use steer_base::{Cpu, OutOfMemory, place_of_hash, round_up};
+use steer_base::{Cpu, MAX_SOCKET_SIZE, OutOfMemory, place_of_hash, round_up};
 
-/// The entries of the largest table.
-const LARGEST: usize = 65536;
-
-/// For each entry the processor noted there last (kernel scaling chapter, section RFS:
+/// For each entry, the processor noted there last (kernel scaling chapter, section RFS:
 /// `rps_sock_flow_table`, whose size is `rps_sock_flow_entries` rounded up to a power of two).
 #[derive(Drop)]
 pub struct SockTable {
-    // As many as the largest table has, with no room for more. The first `size` are the table's.
+    // As many as the largest table has, and no spare capacity. The first `size` are in use.
     entries: Vec<Option<Cpu>>,
     size: u32,
 }
 
 impl Model for SockTable {
     ghost use Rattle.std.specs.Prelude.{◌≡◌, ◌≤◌, ℕ, List, Option, take, vec_len, vec_capacity};
+    ghost use Rattle.steer_base.specs.declared.limits.TheConstants.{MAX_SOCKET_SIZE};
 
     ghost Value = { List (Option ℕ) };
 
     ghost view = { λ t. take t.size t.entries.items };
 
-    ghost invariant = { λ t. (vec_len t.entries ≡ 65536) × (vec_capacity t.entries ≡ 65536)
-        × (t.size ≤ 65536) };
+    ghost invariant = { λ t. (vec_len t.entries ≡ MAX_SOCKET_SIZE)
+        × (vec_capacity t.entries ≡ MAX_SOCKET_SIZE)
+        × (t.size ≤ MAX_SOCKET_SIZE) };
 }
 
 impl SockTable {
-    /// A table without a note, of at least so many entries: 65,536 at most, and none for 0. It has
-    /// the memory of the largest table, and takes no more later.
+    /// An empty table of `entries` entries, at most 65,536, rounded up to a power of two; 0 stays
+    /// 0. It allocates the memory of the largest table here, and none later.
     pub fn make(alloc: Global, entries: u32) -> Result<SockTable, OutOfMemory>
-        requires { entries ≤ 65536 }
+        requires { entries ≤ MAX_SOCKET_SIZE }
         ensures { IfOk result (λ table. table ≡ unset (rounded_up entries)) }
     {
-        let mut all = Vec::with_capacity(alloc, LARGEST)?;
-        for _ in 0..LARGEST {
+        let mut all = Vec::with_capacity(alloc, MAX_SOCKET_SIZE as usize)?;
+        for _ in 0..MAX_SOCKET_SIZE {
             all.push_reserved(None);
         }
         Ok(SockTable {
@@ -49,8 +49,8 @@ impl SockTable {
         })
     }
 
-    /// Writes the processor at entry `hash mod size`. Answers false, with nothing written, where
-    /// the table has no entries.
+    /// Writes the processor to entry `hash mod size`. If the table has no entries, returns false
+    /// and writes nothing.
     pub fn note(&mut self, hash: u32, cpu: Cpu) -> bool
         ensures answer { result ≡ nat_lt 0 (length self.old) }
         ensures table { self.new ≡ noted self.old hash cpu }
@@ -62,7 +62,7 @@ impl SockTable {
         true
     }
 
-    /// The processor at entry `hash mod size`, if one was noted there since the table was cleared.
+    /// The processor in entry `hash mod size`, if one was noted there since the table was cleared.
     pub fn desired(&self, hash: u32) -> Option<Cpu>
         ensures { result ≡ wanted self.now hash }
     {
@@ -70,9 +70,9 @@ impl SockTable {
         self.entries[place]
     }
 
-    /// Clears the table and gives it another size, at least so many entries.
+    /// Clears the table and resizes it to `entries` entries, rounded up to a power of two.
     pub fn resize(&mut self, entries: u32)
-        requires { entries ≤ 65536 }
+        requires { entries ≤ MAX_SOCKET_SIZE }
         ensures { self.new ≡ unset (rounded_up entries) }
     {
         self.size = round_up(entries);
@@ -88,7 +88,7 @@ impl SockTable {
     }
 }
 
-// Makes the first `count` entries unset.
+// Clears the first `count` entries.
 fn clear(entries: &mut Vec<Option<Cpu>>, count: usize)
     requires { count ≤ vec_len entries.old }
     ensures unset { take count entries.new.items ≡ unset count }

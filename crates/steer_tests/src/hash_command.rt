@@ -18,7 +18,8 @@ const LINE_A: &[u8] =
     b"packet 0 tcp4 420995bb a18e6450 2794 1766 hash 51ccc178 entry 120 queue 0\npackets 1\n";
 
 const USAGE: &[u8] =
-    b"usage: steer hash CAPTURE [QUEUES [KINDS]] | replay PLAN CAPTURE | run PLAN CAPTURE | gen SEED PACKETS FLOWS | check PLAN CAPTURE REPORT | place RULES CAPTURE\n";
+    b"usage: steer hash CAPTURE [QUEUES [KINDS]] | replay PLAN CAPTURE | run PLAN CAPTURE | gen \
+        SEED PACKETS FLOWS | check PLAN CAPTURE REPORT | place RULES CAPTURE\n";
 
 // A desk that holds this file as a.pcap, and whose calls with these numbers fail.
 fn desk_with(alloc: Global, bytes: &[u8], failing: &[u64]) -> Result<MemoryDesk, Fail> {
@@ -54,12 +55,14 @@ fn captures_are_hashed(rt: HostRuntime) -> Result<(), Fail> {
         (
             &["hash", "a.pcap", "016", "063"],
             &one,
-            b"packet 0 tcp4 420995bb a18e6450 2794 1766 hash 51ccc178 entry 120 queue 8\npackets 1\n",
+            b"packet 0 tcp4 420995bb a18e6450 2794 1766 hash 51ccc178 entry 120 queue 8\n\
+                packets 1\n",
         ),
         (
             &["hash", "a.pcap", "4", "61"],
             &one,
-            b"packet 0 tcp4 420995bb a18e6450 2794 1766 hash 323e8fc2 entry 66 queue 2\npackets 1\n",
+            b"packet 0 tcp4 420995bb a18e6450 2794 1766 hash 323e8fc2 entry 66 queue 2\n\
+                packets 1\n",
         ),
         (
             &["hash", "a.pcap", "1", "0"],
@@ -70,17 +73,20 @@ fn captures_are_hashed(rt: HostRuntime) -> Result<(), Fail> {
         (
             &["hash", "a.pcap", "16"],
             &big,
-            b"packet 0 tcp4 c75c6f02 41458c53 14230 4739 hash c626b0ea entry 106 queue 10\npackets 1\n",
+            b"packet 0 tcp4 c75c6f02 41458c53 14230 4739 hash c626b0ea entry 106 queue 10\n\
+                packets 1\n",
         ),
         (
             &["hash", "a.pcap"],
             &cut,
-            b"packet 0 tcp4 420995bb a18e6450 2794 1766 hash 51ccc178 entry 120 queue 0\npackets 1 cut 69\n",
+            b"packet 0 tcp4 420995bb a18e6450 2794 1766 hash 51ccc178 entry 120 queue 0\n\
+                packets 1 cut 69\n",
         ),
         (
             &["hash", "a.pcap"],
             &tagged,
-            b"packet 0 tcp6 3ffe050100080000026097fffe40efab ff020000000000000000000000000001 14230 4739 hash dde51bbf entry 63 queue 3\npackets 1\n",
+            b"packet 0 tcp6 3ffe050100080000026097fffe40efab ff020000000000000000000000000001 \
+                14230 4739 hash dde51bbf entry 63 queue 3\npackets 1\n",
         ),
         (
             &["hash", "a.pcap"],

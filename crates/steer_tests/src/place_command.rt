@@ -8,7 +8,8 @@ use tunnel_dissector::put_vxlan;
 
 /// Rules for a port and for a whole version.
 const RULES: &[u8] = b"{\"queues\":4,\"rules\":[\
-{\"kind\":\"tcp4\",\"dport\":1766,\"dportmask\":65535,\"queue\":3},{\"kind\":\"ip4\",\"queue\":1}]}";
+{\"kind\":\"tcp4\",\"dport\":1766,\"dportmask\":65535,\"queue\":3},\
+{\"kind\":\"ip4\",\"queue\":1}]}";
 
 const SYMMETRIC: &[u8] = b"{\"queues\":4,\"symmetric\":true,\"rules\":[]}";
 
@@ -47,7 +48,8 @@ fn packets_are_placed(rt: HostRuntime) -> Result<(), Fail> {
         (
             RULES,
             &three,
-            b"packet 0 tcp4 420995bb a18e6450 2794 1766 hash 51ccc178 entry 120 queue 3 rule 0 depth 0\n\
+            b"packet 0 tcp4 420995bb a18e6450 2794 1766 hash 51ccc178 entry 120 queue 3 rule 0 \
+                depth 0\n\
 packet 1 tcp4 c75c6f02 41458c53 14230 4739 hash c626b0ea entry 106 queue 1 rule 1 depth 0\n\
 packet 2 none hash - entry - queue 0 rule - depth 0\n\
 packets 3\n",
@@ -61,20 +63,23 @@ packets 1\n",
         (
             SYMMETRIC,
             &both,
-            b"packet 0 tcp4 420995bb a18e6450 2794 1766 hash ac2b58ca entry 74 queue 2 rule - depth 0\n\
+            b"packet 0 tcp4 420995bb a18e6450 2794 1766 hash ac2b58ca entry 74 queue 2 rule - \
+                depth 0\n\
 packet 1 tcp4 a18e6450 420995bb 1766 2794 hash ac2b58ca entry 74 queue 2 rule - depth 0\n\
 packets 2\n",
         ),
         (
             INNER,
             &tunnel,
-            b"packet 0 tcp4 420995bb a18e6450 2794 1766 hash 51ccc178 entry 120 queue 0 rule - depth 1\n\
+            b"packet 0 tcp4 420995bb a18e6450 2794 1766 hash 51ccc178 entry 120 queue 0 rule - \
+                depth 1\n\
 packets 1\n",
         ),
         (
             INNER,
             front(&three, 100),
-            b"packet 0 tcp4 420995bb a18e6450 2794 1766 hash 51ccc178 entry 120 queue 0 rule - depth 0\n\
+            b"packet 0 tcp4 420995bb a18e6450 2794 1766 hash 51ccc178 entry 120 queue 0 rule - \
+                depth 0\n\
 packets 1 cut 6\n",
         ),
     ];

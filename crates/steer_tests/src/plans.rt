@@ -12,11 +12,13 @@ pub type Case<'a> = (&'a [u8], &'a [u8], &'a [u8], &'a [u8]);
 /// One receive queue with one flow entry, steered to processor 1; its application stands on
 /// processor 2.
 pub const ONE_FLOW: &[u8] =
-    br#""cpus":4,"queues":[{"home":0,"mask":[1],"flows":1}],"sock":4,"apps":[2],"tx":[{"cpus":[],"queues":[]}]"#;
+    br#""cpus":4,"queues":[{"home":0,"mask":[1],"flows":1}],"sock":4,"apps":[2],"tx":[{"cpus":[],
+        "queues":[]}]"#;
 
 /// Steps of four packets, of which the last one moves.
 pub const FOUR_STEPS: &[u8] =
-    br#""arrive","poll 0","record 0","arrive","poll 0","pull 1","deliver 1","arrive","poll 0","drain 1","arrive","poll 0""#;
+    br#""arrive","poll 0","record 0","arrive","poll 0","pull 1","deliver 1","arrive","poll 0",
+        "drain 1","arrive","poll 0""#;
 
 /// The report of these steps on four packets of one flow, up to its last line.
 pub const FOUR_LINES: &[u8] = b"steer 1
@@ -35,7 +37,8 @@ w app 0 entry 0 cpu 2
 
 /// Plain packet steering of one queue, and one packet that is swept through.
 pub const SWEPT: &[u8] =
-    br#""cpus":3,"queues":[{"home":0,"mask":[1],"flows":0}],"sock":0,"apps":[2],"tx":[{"cpus":[],"queues":[]}]"#;
+    br#""cpus":3,"queues":[{"home":0,"mask":[1],"flows":0}],"sock":0,"apps":[2],"tx":[{"cpus":[],
+        "queues":[]}]"#;
 
 /// A plan with these settings and steps.
 pub fn plan_of(alloc: Global, settings: &[u8], steps: &[u8]) -> Result<Vec<u8>, Fail> {

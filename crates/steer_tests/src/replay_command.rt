@@ -12,34 +12,43 @@ fn flows_move_by_the_rule(rt: HostRuntime) -> Result<(), Fail> {
             ONE_FLOW,
             br#""arrive","poll 0""#,
             b"n",
-            b"p 0 q 0 via none class - want - head - tail - cpu 0 why plain at 1 app 0 in - place backlog",
+            b"p 0 q 0 via none class - want - head - tail - cpu 0 why plain at 1 app 0 in - place \
+                backlog",
         ),
         // Two flows share an entry: where one wants to go, the other goes with it.
         (
-            br#""cpus":4,"queues":[{"home":0,"mask":[1],"flows":2}],"sock":4,"apps":[2],"tx":[{"cpus":[],"queues":[]}]"#,
-            br#""arrive","poll 0","record 1","arrive","poll 0","drain 1","arrive","poll 0","arrive","poll 0""#,
+            br#""cpus":4,"queues":[{"home":0,"mask":[1],"flows":2}],"sock":4,"apps":[2],
+                "tx":[{"cpus":[],"queues":[]}]"#,
+            br#""arrive","poll 0","record 1","arrive","poll 0","drain 1","arrive","poll 0","arrive",
+                "poll 0""#,
             b"abba",
-            b"p 0 q 0 via reta class 0 want - head - tail 0 cpu 1 why unset at 1 app 0 in 1 place inbox
+            b"p 0 q 0 via reta class 0 want - head - tail 0 cpu 1 why unset at 1 app 0 in 1 place \
+                inbox
 p 1 q 0 via reta class 0 want 2 head 0 tail 1 cpu 1 why kept at 2 app 0 in 2 place inbox
 p 2 q 0 via reta class 0 want 2 head 2 tail 2 cpu 2 why passed at 1 app 0 in - place backlog
 p 3 q 0 via reta class 0 want - head 0 tail 1 cpu 2 why kept at 2 app 0 in - place backlog",
         ),
         // A full backlog: the packet in hand does not count.
         (
-            br#""cpus":4,"queues":[{"home":0,"mask":[1],"flows":0}],"sock":4,"backlog":1,"apps":[2],"tx":[{"cpus":[],"queues":[]}]"#,
+            br#""cpus":4,"queues":[{"home":0,"mask":[1],"flows":0}],"sock":4,"backlog":1,"apps":[2],
+                "tx":[{"cpus":[],"queues":[]}]"#,
             br#""arrive","arrive","arrive","poll 0","poll 0","pull 1","poll 0""#,
             b"aaa",
-            b"p 0 q 0 via reta class - want - head - tail - cpu 1 why plain at 1 app 0 in - place hand
+            b"p 0 q 0 via reta class - want - head - tail - cpu 1 why plain at 1 app 0 in - place \
+                hand
 p 1 q 0 via reta class - want - head - tail - cpu 1 why plain at drop 1 1 0 app 0 in - place drop
 p 2 q 0 via reta class - want - head - tail - cpu 1 why plain at 2 app 0 in - place backlog
 cpu 1 accepted 2 pulled 1 delivered 0 retired 0 dropped 1",
         ),
         // A filter leads later packets to another queue, and goes when it is old.
         (
-            br#""cpus":2,"queues":[{"home":0,"mask":[0],"flows":1},{"home":1,"mask":[],"flows":1}],"sock":4,"filters":8,"apps":[1],"tx":[{"cpus":[],"queues":[]}]"#,
-            br#""record 0","arrive","poll 0","arrive","poll 1","expire","drain 1","expire","arrive""#,
+            br#""cpus":2,"queues":[{"home":0,"mask":[0],"flows":1},{"home":1,"mask":[],"flows":1}],
+                "sock":4,"filters":8,"apps":[1],"tx":[{"cpus":[],"queues":[]}]"#,
+            br#""record 0","arrive","poll 0","arrive","poll 1","expire","drain 1","expire",
+                "arrive""#,
             b"aaa",
-            b"p 0 q 0 via reta class 0 want 1 head - tail 0 cpu 1 why unset at 1 app 0 in 1 place inbox
+            b"p 0 q 0 via reta class 0 want 1 head - tail 0 cpu 1 why unset at 1 app 0 in 1 place \
+                inbox
 p 1 q 1 via filter class 0 want 1 head - tail 0 cpu 1 why unset at 2 app 0 in 2 place inbox
 p 2 q 0 via reta class - want - head - tail - cpu - why - at - app 0 in - place ring
 c 0 expire expired 0
@@ -50,7 +59,8 @@ c 1 expire expired 1",
             ONE_FLOW,
             br#""arrive","poll 0","drain 1","offline 1","arrive","poll 0""#,
             b"aa",
-            b"p 1 q 0 via reta class 0 want - head - tail 1 cpu 0 why offline at 1 app 0 in - place backlog
+            b"p 1 q 0 via reta class 0 want - head - tail 1 cpu 0 why offline at 1 app 0 in - \
+                place backlog
 c 0 offline 1 done",
         ),
     ];
@@ -62,7 +72,8 @@ fn commands_are_answered(rt: HostRuntime) -> Result<(), Fail> {
     let alloc = rt.alloc();
     let cases: [Case; 4] = [
         (
-            br#""cpus":4,"queues":[{"home":0,"mask":[1],"flows":0}],"sock":0,"apps":[2],"tx":[{"cpus":[],"queues":[]}]"#,
+            br#""cpus":4,"queues":[{"home":0,"mask":[1],"flows":0}],"sock":0,"apps":[2],
+                "tx":[{"cpus":[],"queues":[]}]"#,
             br#""arrive","poll 0","pull 1","mask 0 2","deliver 1","retire 1","mask 0 2""#,
             b"a",
             b"c 0 mask 0 2 busy lane 1 head 0 tail 1
@@ -70,7 +81,8 @@ c 1 mask 0 2 done",
         ),
         // The same where the counters wrap.
         (
-            br#""cpus":4,"queues":[{"home":0,"mask":[1],"flows":0}],"sock":0,"start":4294967295,"apps":[2],"tx":[{"cpus":[],"queues":[]}]"#,
+            br#""cpus":4,"queues":[{"home":0,"mask":[1],"flows":0}],"sock":0,"start":4294967295,
+                "apps":[2],"tx":[{"cpus":[],"queues":[]}]"#,
             br#""arrive","poll 0","pull 1","mask 0 2","deliver 1","retire 1","mask 0 2""#,
             b"a",
             b"c 0 mask 0 2 busy lane 1 head 4294967295 tail 0
@@ -79,7 +91,8 @@ c 1 mask 0 2 done",
         // Each refusal of a change of processors; a stale word of the socket flow table.
         (
             ONE_FLOW,
-            br#""offline 0","offline 2","record 0","stand 0 3","offline 2","offline 2","stand 0 2","online 3","arrive","poll 0""#,
+            br#""offline 0","offline 2","record 0","stand 0 3","offline 2","offline 2","stand 0 2",
+                "online 3","arrive","poll 0""#,
             b"a",
             b"c 0 offline 0 in use queue 0
 c 1 offline 2 in use app 0
@@ -107,8 +120,10 @@ p 0 q 0 via reta class - want - head - tail - cpu - why - at - app 0 in - place 
 fn replies_keep_their_transmit_queue(rt: HostRuntime) -> Result<(), Fail> {
     let alloc = rt.alloc();
     let cases: [Case; 1] = [(
-        br#""cpus":4,"queues":[{"home":0,"mask":[],"flows":0}],"sock":4,"apps":[2],"tx":[{"cpus":[2],"queues":[]},{"cpus":[3],"queues":[]}]"#,
-        br#""arrive","poll 0","drain 0","reply 0","stand 0 3","arrive","poll 0","drain 0","reply 0","ship 0","arrive","poll 0","drain 0","reply 0""#,
+        br#""cpus":4,"queues":[{"home":0,"mask":[],"flows":0}],"sock":4,"apps":[2],
+            "tx":[{"cpus":[2],"queues":[]},{"cpus":[3],"queues":[]}]"#,
+        br#""arrive","poll 0","drain 0","reply 0","stand 0 3","arrive","poll 0","drain 0","reply 0",
+            "ship 0","arrive","poll 0","drain 0","reply 0""#,
         b"aaa",
         b"r 0 app 0 rxq 0 cpu 2 pick 0 head - tail 0 tx 0 why unset at 1 port 1
 r 1 app 0 rxq 0 cpu 3 pick 1 head 0 tail 1 tx 0 why kept at 2 port 2
@@ -126,14 +141,18 @@ fn whole_reports_are_written(rt: HostRuntime) -> Result<(), Fail> {
         (ONE_FLOW, FOUR_STEPS, b"aaaa", &four),
         // The same where the counters wrap.
         (
-            br#""cpus":4,"queues":[{"home":0,"mask":[1],"flows":1}],"sock":4,"start":4294967294,"apps":[2],"tx":[{"cpus":[],"queues":[]}]"#,
+            br#""cpus":4,"queues":[{"home":0,"mask":[1],"flows":1}],"sock":4,"start":4294967294,
+                "apps":[2],"tx":[{"cpus":[],"queues":[]}]"#,
             FOUR_STEPS,
             b"aaaa",
             b"steer 1
-p 0 q 0 via reta class 0 want - head - tail 4294967294 cpu 1 why unset at 4294967295 app 0 in 1 place inbox
-p 1 q 0 via reta class 0 want 2 head 4294967294 tail 4294967295 cpu 1 why kept at 0 app 0 in 2 place inbox
+p 0 q 0 via reta class 0 want - head - tail 4294967294 cpu 1 why unset at 4294967295 app 0 in 1 \
+place inbox
+p 1 q 0 via reta class 0 want 2 head 4294967294 tail 4294967295 cpu 1 why kept at 0 app 0 in 2 \
+place inbox
 p 2 q 0 via reta class 0 want 2 head 4294967294 tail 0 cpu 1 why kept at 1 app 0 in 3 place inbox
-p 3 q 0 via reta class 0 want 2 head 1 tail 1 cpu 2 why passed at 4294967295 app 0 in - place backlog
+p 3 q 0 via reta class 0 want 2 head 1 tail 1 cpu 2 why passed at 4294967295 app 0 in - place \
+backlog
 queue 0 arrived 4 taken 4
 cpu 0 accepted 0 pulled 0 delivered 0 retired 0 dropped 0
 cpu 1 accepted 3 pulled 3 delivered 3 retired 3 dropped 0
@@ -160,7 +179,8 @@ end 1 of 1
 ",
         ),
         (
-            br#""cpus":3,"queues":[{"home":0,"mask":[1],"flows":0}],"sock":0,"start":4294967295,"apps":[2],"tx":[{"cpus":[],"queues":[]}]"#,
+            br#""cpus":3,"queues":[{"home":0,"mask":[1],"flows":0}],"sock":0,"start":4294967295,
+                "apps":[2],"tx":[{"cpus":[],"queues":[]}]"#,
             b"\"sweep\"",
             b"a",
             b"steer 1
@@ -175,7 +195,8 @@ end 1 of 1
 ",
         ),
         (
-            br#""cpus":4,"queues":[{"home":0,"mask":[1],"flows":0}],"sock":0,"apps":[0],"tx":[{"cpus":[],"queues":[]}]"#,
+            br#""cpus":4,"queues":[{"home":0,"mask":[1],"flows":0}],"sock":0,"apps":[0],
+                "tx":[{"cpus":[],"queues":[]}]"#,
             br#""arrive","poll 0","drain 1""#,
             b"a",
             b"steer 1
@@ -210,17 +231,22 @@ fn the_flow_limit_drops_the_large_flow(rt: HostRuntime) -> Result<(), Fail> {
     let steps = arrivals(alloc)?;
     let cases: [Case; 2] = [
         (
-            br#""cpus":4,"queues":[{"home":0,"mask":[1],"flows":0}],"sock":4,"backlog":300,"limited":[1],"apps":[2],"tx":[{"cpus":[],"queues":[]}]"#,
+            br#""cpus":4,"queues":[{"home":0,"mask":[1],"flows":0}],"sock":4,"backlog":300,
+                "limited":[1],"apps":[2],"tx":[{"cpus":[],"queues":[]}]"#,
             &steps,
             &letters,
-            b"p 150 q 0 via reta class - want - head - tail - cpu 1 why plain at 151 app 0 in - place backlog
-p 151 q 0 via reta class - want - head - tail - cpu 1 why plain at drop 1 151 0 flow 152 app 0 in - place drop
-p 199 q 0 via reta class - want - head - tail - cpu 1 why plain at drop 49 151 0 flow 200 app 0 in - place drop
+            b"p 150 q 0 via reta class - want - head - tail - cpu 1 why plain at 151 app 0 in - \
+                place backlog
+p 151 q 0 via reta class - want - head - tail - cpu 1 why plain at drop 1 151 0 flow 152 app 0 in \
+- place drop
+p 199 q 0 via reta class - want - head - tail - cpu 1 why plain at drop 49 151 0 flow 200 app 0 \
+in - place drop
 p 200 q 0 via reta class - want - head - tail - cpu 1 why plain at 152 app 0 in - place backlog
 cpu 1 accepted 152 pulled 0 delivered 0 retired 0 dropped 49",
         ),
         (
-            br#""cpus":4,"queues":[{"home":0,"mask":[1],"flows":0}],"sock":4,"backlog":300,"apps":[2],"tx":[{"cpus":[],"queues":[]}]"#,
+            br#""cpus":4,"queues":[{"home":0,"mask":[1],"flows":0}],"sock":4,"backlog":300,
+                "apps":[2],"tx":[{"cpus":[],"queues":[]}]"#,
             &steps,
             &letters,
             b"cpu 1 accepted 201 pulled 0 delivered 0 retired 0 dropped 0",

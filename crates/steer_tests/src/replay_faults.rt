@@ -25,15 +25,18 @@ fn what_is_no_plan_is_named(rt: HostRuntime) -> Result<(), Fail> {
         (&zeal, b"plan: unknown key zeal\n"),
         (&step, b"plan: wrong kind steps/0\n"),
         (
-            br#"{"cpus":4,"queues":[{"home":0,"mask":[1],"flows":1}],"sock":4.0,"apps":[2],"tx":[{"cpus":[],"queues":[]}],"steps":[]}"#,
+            br#"{"cpus":4,"queues":[{"home":0,"mask":[1],"flows":1}],"sock":4.0,"apps":[2],
+                "tx":[{"cpus":[],"queues":[]}],"steps":[]}"#,
             b"plan: wrong kind sock\n",
         ),
         (
-            br#"{"cpus":4,"queues":[{"home":0,"mask":[1],"flows":1}],"sock":-1,"apps":[2],"tx":[{"cpus":[],"queues":[]}],"steps":[]}"#,
+            br#"{"cpus":4,"queues":[{"home":0,"mask":[1],"flows":1}],"sock":-1,"apps":[2],
+                "tx":[{"cpus":[],"queues":[]}],"steps":[]}"#,
             b"plan: wrong kind sock\n",
         ),
         (
-            br#"{"cpus":4,"queues":[{"home":0,"mask":[1],"flows":1}],"sock":65537,"apps":[2],"tx":[{"cpus":[],"queues":[]}],"steps":[]}"#,
+            br#"{"cpus":4,"queues":[{"home":0,"mask":[1],"flows":1}],"sock":65537,"apps":[2],
+                "tx":[{"cpus":[],"queues":[]}],"steps":[]}"#,
             b"plan: range sock 65537\n",
         ),
         (
@@ -124,7 +127,8 @@ fn a_swept_packet_stops_at_the_third_write(rt: HostRuntime) -> Result<(), Fail> 
         &rt,
         &got,
         6,
-        b"steer 1\np 0 q 0 via reta class - want - head - tail - cpu 1 why plain at 1 app 0 in 1 place inbox\n",
+        b"steer 1\np 0 q 0 via reta class - want - head - tail - cpu 1 why plain at 1 app 0 in 1 \
+            place inbox\n",
         b"write fault\n",
         0,
     );

@@ -28,7 +28,8 @@ fn texts_of_taps_stand_before_the_end(rt: HostRuntime) -> Result<(), Fail> {
     taps.push(per_flow)?;
     let got = observed(
         alloc,
-        br#""cpus":4,"queues":[{"home":0,"mask":[1],"flows":1}],"sock":4,"detach":[{"tap":0,"after":2}],"apps":[2],"tx":[{"cpus":[],"queues":[]}]"#,
+        br#""cpus":4,"queues":[{"home":0,"mask":[1],"flows":1}],"sock":4,"detach":[{"tap":0,
+            "after":2}],"apps":[2],"tx":[{"cpus":[],"queues":[]}]"#,
         taps,
     )?;
     let mut text = FOUR_LINES.to_vec(alloc)?;

@@ -7,27 +7,33 @@ use std::test::Fail;
 /// One receive queue with one flow entry, whose packets go to processor 1; the application stands
 /// on processor 2.
 const STEERED: &[u8] =
-    br#""cpus":3,"queues":[{"home":0,"mask":[1],"flows":1}],"sock":4,"apps":[2],"tx":[{"cpus":[],"queues":[]}]"#;
+    br#""cpus":3,"queues":[{"home":0,"mask":[1],"flows":1}],"sock":4,"apps":[2],"tx":[{"cpus":[],
+        "queues":[]}]"#;
 
 /// The same with a backlog of one packet.
 const SHORT: &[u8] =
-    br#""cpus":3,"queues":[{"home":0,"mask":[1],"flows":1}],"sock":4,"backlog":1,"apps":[2],"tx":[{"cpus":[],"queues":[]}]"#;
+    br#""cpus":3,"queues":[{"home":0,"mask":[1],"flows":1}],"sock":4,"backlog":1,"apps":[2],
+        "tx":[{"cpus":[],"queues":[]}]"#;
 
 /// No flow table, and a backlog of one packet.
 const PLAIN: &[u8] =
-    br#""cpus":2,"queues":[{"home":0,"mask":[1],"flows":0}],"sock":0,"backlog":1,"apps":[0],"tx":[{"cpus":[],"queues":[]}]"#;
+    br#""cpus":2,"queues":[{"home":0,"mask":[1],"flows":0}],"sock":0,"backlog":1,"apps":[0],
+        "tx":[{"cpus":[],"queues":[]}]"#;
 
 /// Two receive queues and eight filters; the application stands on the home of the second.
 const FILTERED: &[u8] =
-    br#""cpus":2,"queues":[{"home":0,"mask":[0],"flows":1},{"home":1,"mask":[],"flows":1}],"sock":4,"filters":8,"apps":[1],"tx":[{"cpus":[],"queues":[]}]"#;
+    br#""cpus":2,"queues":[{"home":0,"mask":[0],"flows":1},{"home":1,"mask":[],"flows":1}],"sock":4,
+        "filters":8,"apps":[1],"tx":[{"cpus":[],"queues":[]}]"#;
 
 /// Two transmit queues, for processors 2 and 3.
 const SENT: &[u8] =
-    br#""cpus":4,"queues":[{"home":0,"mask":[],"flows":0}],"sock":0,"apps":[2],"tx":[{"cpus":[2],"queues":[]},{"cpus":[3],"queues":[]}]"#;
+    br#""cpus":4,"queues":[{"home":0,"mask":[],"flows":0}],"sock":0,"apps":[2],"tx":[{"cpus":[2],
+        "queues":[]},{"cpus":[3],"queues":[]}]"#;
 
 /// A backlog of 200 packets under the flow limit.
 const LIMITED: &[u8] =
-    br#""cpus":2,"queues":[{"home":0,"mask":[1],"flows":0}],"sock":0,"backlog":200,"limited":[1],"apps":[0],"tx":[{"cpus":[],"queues":[]}]"#;
+    br#""cpus":2,"queues":[{"home":0,"mask":[1],"flows":0}],"sock":0,"backlog":200,"limited":[1],
+        "apps":[0],"tx":[{"cpus":[],"queues":[]}]"#;
 
 // The class has no lane: it gets the RPS choice, the one processor of the mask.
 const UNSET: &[u8] = b"steer 1
@@ -170,7 +176,8 @@ fn each_case_of_the_rule_is_reported(rt: HostRuntime) -> Result<(), Fail> {
         ),
         (
             STEERED,
-            br#""arrive","poll 0","pull 1","offline 1","deliver 1","retire 1","offline 1","arrive","poll 0""#,
+            br#""arrive","poll 0","pull 1","offline 1","deliver 1","retire 1","offline 1","arrive",
+                "poll 0""#,
             b"aa",
             OFFLINE,
         ),
@@ -189,7 +196,8 @@ fn each_place_and_a_full_backlog_are_reported(rt: HostRuntime) -> Result<(), Fai
         ),
         (
             PLAIN,
-            br#""arrive","arrive","arrive","arrive","arrive","arrive","poll 0","drain 1","poll 0","pull 1","poll 0","poll 0","take 0""#,
+            br#""arrive","arrive","arrive","arrive","arrive","arrive","poll 0","drain 1","poll 0",
+                "pull 1","poll 0","poll 0","take 0""#,
             b"aaaaaaa",
             PLACES,
         ),
@@ -208,7 +216,9 @@ fn moves_by_a_filter_and_of_replies_are_reported(rt: HostRuntime) -> Result<(), 
         ),
         (
             SENT,
-            br#""arrive","poll 0","drain 0","reply 0","stand 0 3","tpull 0","tdeliver 0","arrive","poll 0","drain 0","reply 0","tretire 0","ship 0","arrive","poll 0","drain 0","reply 0""#,
+            br#""arrive","poll 0","drain 0","reply 0","stand 0 3","tpull 0","tdeliver 0","arrive",
+                "poll 0","drain 0","reply 0","tretire 0","ship 0","arrive","poll 0","drain 0",
+                "reply 0""#,
             b"aaa",
             TRANSMIT,
         ),
@@ -231,8 +241,10 @@ fn a_drop_by_the_flow_limit_is_reported(rt: HostRuntime) -> Result<(), Fail> {
     let got = replayed(alloc, LIMITED, &steps, &letters)?;
     same(&rt, &got.status, &0, 0);
     let lines =
-        b"p 127 q 0 via reta class - want - head - tail - cpu 1 why plain at 128 app 0 in - place backlog
-p 128 q 0 via reta class - want - head - tail - cpu 1 why plain at drop 1 128 0 flow 129 app 0 in - place drop
+        b"p 127 q 0 via reta class - want - head - tail - cpu 1 why plain at 128 app 0 in - place \
+            backlog
+p 128 q 0 via reta class - want - head - tail - cpu 1 why plain at drop 1 128 0 flow 129 app 0 in \
+- place drop
 p 129 q 0 via reta class - want - head - tail - cpu 1 why plain at 129 app 0 in - place backlog
 cpu 1 accepted 129 pulled 0 delivered 0 retired 0 dropped 1
 c 0 expire expired 0

@@ -5,16 +5,18 @@ use Rattle.steer_base.specs.Sends.{pick_of}
 use Rattle.steer_base.specs.Sets.{has, has_queue}
 use Rattle.steer_base.specs.declared.cpu_mask.CpuMask.{CpuMask}
 
--- a number of transmit queues, and for each of them its processors and its receive queues
+-- the maps of transmit packet steering: for each transmit queue its processors and its receive
+-- queues
 pub record Maps : Type 0 where
   pub count : ℕ
   pub cpus : List CpuMask
   pub queues : List ℕ
 
+-- the empty set of processors
 abbrev pub no_cpus : CpuMask
 no_cpus = record { 0 = 0 }
 
--- so many transmit queues whose maps are empty
+-- the maps of this many transmit queues, all of them empty
 abbrev pub empty_maps : ℕ → Maps
 empty_maps count =
     record { count = count; cpus = replicate count no_cpus; queues = replicate count 0 }
@@ -27,6 +29,6 @@ serves_queue maps tx rxq = has_queue (slice_index maps.queues tx) rxq
 abbrev pub serves_cpu : Maps → ℕ → ℕ → Bool
 serves_cpu maps tx cpu = has (slice_index_or maps.cpus tx no_cpus) cpu
 
--- the transmit queue that these maps pick
+-- the transmit queue that the maps pick for a packet
 abbrev pub picked : Maps → ℕ → ℕ → Option ℕ → ℕ
 picked maps rxq cpu hash = pick_of maps.count (serves_queue maps) (serves_cpu maps) rxq cpu hash

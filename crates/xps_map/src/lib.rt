@@ -1,4 +1,4 @@
-//! Transmit packet steering: the transmit queue that a packet leaves by.
+//! Transmit packet steering (XPS): the transmit queue that a packet is sent through.
 #![tactic(auto)]
 
 mod laws;

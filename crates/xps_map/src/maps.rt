@@ -7,15 +7,16 @@ ghost use Rattle.xps_map.specs.Maps.{empty_maps, picked, serves_cpu, serves_queu
 use std::marker::Model;
 use steer_base::{Cpu, CpuMask, RxQueue, TxQueue};
 
-const MOST: usize = 32;
+/// The most transmit queues.
+const MAX_QUEUES: usize = 32;
 
-/// For each of 1 to 32 transmit queues the processors and the receive queues that are mapped to it
+/// For each of 1 to 32 transmit queues, the processors and the receive queues that are mapped to it
 /// (kernel scaling chapter, section XPS: `xps_cpus` and `xps_rxqs`).
 #[derive(Drop)]
 pub struct XpsMaps {
     count: u8,
-    cpus: [CpuMask; MOST],
-    queues: [u16; MOST],
+    cpus: [CpuMask; MAX_QUEUES],
+    queues: [u16; MAX_QUEUES],
 }
 
 impl Model for XpsMaps {
@@ -34,7 +35,7 @@ impl Model for XpsMaps {
 }
 
 impl XpsMaps {
-    /// The maps of so many transmit queues, 1 to 32, all of them empty.
+    /// Empty maps for `queues` transmit queues, 1 to 32.
     pub fn make(queues: u8) -> XpsMaps
         requires some { 1 ≤ queues }
         requires few { queues ≤ 32 }
@@ -42,12 +43,13 @@ impl XpsMaps {
     {
         XpsMaps {
             count: queues,
-            cpus: [CpuMask(0); MOST],
-            queues: [0; MOST],
+            cpus: [CpuMask(0); MAX_QUEUES],
+            queues: [0; MAX_QUEUES],
         }
     }
 
-    /// The maps of 1 to 32 transmit queues, by the processors and the receive queues of each.
+    /// The maps of 1 to 32 transmit queues: `cpus` has the processors of each, `queues` the receive
+    /// queues, bit q for receive queue q.
     pub fn from_lists(cpus: &[CpuMask], queues: &[u16]) -> XpsMaps
         requires some { 1 ≤ length cpus.now }
         requires few { length cpus.now ≤ 32 }
@@ -56,9 +58,9 @@ impl XpsMaps {
             ≡ record { count = length cpus.now; cpus = cpus.now; queues = queues.now } }
     {
         let count = cpus.len();
-        let mut all_cpus = [CpuMask(0); MOST];
+        let mut all_cpus = [CpuMask(0); MAX_QUEUES];
         all_cpus[..count].copy_from_slice(cpus);
-        let mut all_queues = [0; MOST];
+        let mut all_queues = [0; MAX_QUEUES];
         all_queues[..count].copy_from_slice(queues);
         XpsMaps {
             count: count as u8,
@@ -67,7 +69,7 @@ impl XpsMaps {
         }
     }
 
-    /// Gives a transmit queue other processors.
+    /// Sets the processors of a transmit queue.
     pub fn set_cpus(&mut self, tx: TxQueue, mask: CpuMask)
         requires { tx < self.old.count }
         ensures { self.new ≡ record self.old { cpus = slice_set self.old.cpus tx mask } }
@@ -75,7 +77,7 @@ impl XpsMaps {
         self.cpus[usize::from(tx.0)] = mask;
     }
 
-    /// Gives a transmit queue other receive queues: bit q is receive queue q.
+    /// Sets the receive queues of a transmit queue: bit q is receive queue q.
     pub fn set_queues(&mut self, tx: TxQueue, mask: u16)
         requires { tx < self.old.count }
         ensures { self.new ≡ record self.old { queues = slice_set self.old.queues tx mask } }
@@ -83,10 +85,11 @@ impl XpsMaps {
         self.queues[usize::from(tx.0)] = mask;
     }
 
-    /// The transmit queue of a packet that came by `rxq` and is sent from `cpu`. The candidates,
-    /// ascending, are the transmit queues whose receive-queue map has `rxq`; with none, those whose
-    /// processor map has `cpu`; with none of these either, all. Of `k` candidates it is the one at
-    /// index `hash mod k`, and the first without a hash.
+    /// The transmit queue for a packet that was received on `rxq` and is sent from `cpu`. The
+    /// candidates are the transmit queues whose receive-queue map has `rxq`; if there are none,
+    /// those whose processor map has `cpu`; if there are none of these either, all. Of `k`
+    /// candidates in ascending order it is the one at index `hash mod k`, or the first without a
+    /// hash.
     pub fn pick(&self, rxq: RxQueue, cpu: Cpu, hash: Option<u32>) -> TxQueue
         ensures value { result ≡ picked self.now rxq cpu hash }
         ensures within { result < self.now.count }

@@ -6,11 +6,11 @@ ghost use Rattle.hop_core.specs.Hop.{arrivals_of};
 
 use crate::HopEvent;
 use crate::hop::Hop;
-use steer_base::{CpuMask, PacketId};
+use steer_base::{CpuMask, MAX_FLOW_COUNT, PacketId};
 
 impl Hop {
-    /// Whether an event may be asked now, as `step` requires it. Its time grows with the number of
-    /// packets that arrived, where it is asked for an arrival, and with the number of lanes.
+    /// Whether `step` may be asked for an event now. For an arrival this takes time in the number
+    /// of packets that arrived, for other events in the number of lanes.
     pub fn may_ask(&self, e: HopEvent) -> bool
         ensures may { IsTrue result → MayAsk self.now e }
         ensures must { MayAsk self.now e → IsTrue result }
@@ -41,7 +41,7 @@ impl Hop {
             HopEvent::Deliver { lane, to } => lane < lanes && (to as usize) < self.outs.count(),
             HopEvent::Resize { p, count } => {
                 (p as usize) < producers
-                    && count <= 32768
+                    && count <= MAX_FLOW_COUNT
                     && !self.tables.is_exact()
                     && self.gate.closed
                     && self.is_empty()
@@ -51,7 +51,7 @@ impl Hop {
         }
     }
 
-    // Whether the packet is new to the hop.
+    // Whether the packet has not arrived yet.
     fn is_new(&self, id: PacketId) -> bool
         ensures new { IsTrue result → (q i : ℕ) → i < length (arrivals_of self.now q)
             → slice_index (arrivals_of self.now q) i ≢ id }
@@ -100,7 +100,7 @@ impl Hop {
         true
     }
 
-    // Whether the class, where there is one, is one of the producer's.
+    // Whether the class, if there is one, is one of the producer's.
     fn has_class(&self, p: u8, class: Option<u32>) -> bool
         requires { p < length self.now.arrivals }
         ensures below { IsTrue result → IsClassBelow (slice_index self.now.counts p) class }

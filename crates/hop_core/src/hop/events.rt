@@ -124,7 +124,7 @@ impl Hop {
         if self.hands.retired[lane as usize] < self.lanes.pulled(lane) {
             return HopAnswer::Idle(Idle::HandFull);
         }
-        match self.lanes.take(lane) {
+        match self.lanes.pull(lane) {
             Some(id) => HopAnswer::Took(id),
             None => HopAnswer::Idle(Idle::NothingWaiting),
         }

@@ -1,4 +1,4 @@
-//! What callers read of a hop.
+//! Reads of a hop's state.
 ghost use Rattle.std.specs.Prelude.{◌≡◌, ◌↔◌, ℕ, ◌-◌, ◌<◌, IsOk, length, slice_get, slice_index};
 ghost use Rattle.steer_base.specs.Choices.{class_of};
 ghost use Rattle.hop_core.specs.Emptied.{AreEmptied, emptied};
@@ -11,8 +11,8 @@ use crate::hop::Hop;
 use steer_base::{Busy, Chosen, CpuMask, LaneDrop, PacketId};
 
 impl Hop {
-    /// Whether each of these lanes is empty; else the first one that is not, with the numbers of
-    /// its head and tail.
+    /// Checks that each of these lanes is empty. Otherwise returns the first one that is not, with
+    /// the numbers of its head and tail.
     pub fn emptied(&self, lanes: CpuMask) -> Result<(), Busy>
         ensures answer { result ≡ emptied self.now lanes }
         ensures ok { IsOk result ↔ AreEmptied self.now lanes }
@@ -26,7 +26,7 @@ impl Hop {
         Ok(())
     }
 
-    /// The number of a lane's head.
+    /// The counter number of a lane's head.
     pub fn head(&self, lane: u8) -> u32
         requires { lane < length self.now.bare.accepted }
         ensures { result ≡ head_at self.now.fixed.start self.now.bare lane }
@@ -34,7 +34,7 @@ impl Hop {
         self.lanes.number_at(self.hands.retired[lane as usize])
     }
 
-    /// The number of a lane's tail.
+    /// The counter number of a lane's tail.
     pub fn tail(&self, lane: u8) -> u32
         requires { lane < length self.now.bare.accepted }
         ensures { result ≡ tail_at self.now.fixed.start self.now.bare lane }
@@ -42,7 +42,7 @@ impl Hop {
         self.lanes.tail(lane)
     }
 
-    /// How many packets of a lane were pulled.
+    /// The number of packets pulled from a lane.
     pub fn pulled(&self, lane: u8) -> u32
         requires { lane < length self.now.bare.accepted }
         ensures { result ≡ pulled_at self.now.bare lane }
@@ -50,7 +50,7 @@ impl Hop {
         self.lanes.pulled(lane)
     }
 
-    /// How many packets of a lane were delivered.
+    /// The number of packets that a lane delivered.
     pub fn delivered(&self, lane: u8) -> u32
         requires { lane < length self.now.bare.accepted }
         ensures { result ≡ delivered_at self.now.bare lane }
@@ -58,7 +58,7 @@ impl Hop {
         self.hands.delivered[lane as usize]
     }
 
-    /// How many packets a lane accepted and has not retired.
+    /// The number of packets that a lane accepted and has not retired.
     pub fn unretired(&self, lane: u8) -> u32
         requires { lane < length self.now.bare.accepted }
         ensures { result ≡ length (accepted_at self.now.bare lane) - retired_at self.now.bare lane }
@@ -67,7 +67,7 @@ impl Hop {
         self.lanes.tail(lane).wrapping_sub(head)
     }
 
-    /// How many packets of a lane were retired.
+    /// The number of packets that a lane retired.
     pub fn retired(&self, lane: u8) -> u32
         requires { lane < length self.now.bare.accepted }
         ensures { result ≡ retired_at self.now.bare lane }
@@ -88,7 +88,7 @@ impl Hop {
         }
     }
 
-    /// How many packets a lane accepted.
+    /// The number of packets that a lane accepted.
     pub fn accepted_len(&self, lane: u8) -> u32
         requires { lane < length self.now.bare.accepted }
         ensures { result ≡ length (accepted_at self.now.bare lane) }
@@ -97,7 +97,7 @@ impl Hop {
         self.lanes.tail(lane).wrapping_sub(none)
     }
 
-    /// The packet that a lane accepted as number `n`, from 0, if it accepted more than `n`.
+    /// The packet that a lane accepted at index `n`, from 0, if it accepted more than `n`.
     pub fn accepted_at(&self, lane: u8, n: u32) -> Option<PacketId>
         requires { lane < length self.now.bare.accepted }
         ensures { result ≡ slice_get (accepted_at self.now.bare lane) n }
@@ -122,7 +122,7 @@ impl Hop {
         self.outs.list(to)
     }
 
-    /// How many actors are inside the gate.
+    /// The number of actors inside the gate.
     pub fn inside(&self) -> u32
         ensures { result ≡ self.now.bare.inside }
     {
@@ -152,7 +152,7 @@ impl Hop {
         self.tables.class(p, hash)
     }
 
-    /// How many packets a producer has taken up.
+    /// The number of packets that a producer has taken.
     pub fn taken(&self, p: u8) -> u32
         requires { p < length self.now.arrivals }
         ensures { result ≡ taken_of self.now p }
@@ -160,7 +160,7 @@ impl Hop {
         self.rings.taken[p as usize]
     }
 
-    /// The packet that a producer has taken up and weighs next, if there is one.
+    /// The packet that a producer has taken and weighs next, if there is one.
     pub fn to_weigh(&self, p: u8) -> Option<PacketId>
         requires { p < length self.now.arrivals }
         ensures { result ≡ to_weigh self.now p }
@@ -173,7 +173,7 @@ impl Hop {
         }
     }
 
-    /// How many of a producer's choices were put.
+    /// The number of a producer's choices that were put.
     pub fn placed(&self, p: u8) -> u32
         requires { p < length self.now.arrivals }
         ensures { result ≡ placed_of self.now p }
@@ -181,7 +181,7 @@ impl Hop {
         self.rings.placed[p as usize]
     }
 
-    /// The choice of a producer that is to be put, if there is one.
+    /// The choice that a producer puts next, if there is one.
     pub fn to_put(&self, p: u8) -> Option<Chosen>
         requires { p < length self.now.arrivals }
         ensures { result ≡ to_put self.now p }

@@ -1,9 +1,14 @@
 use Rattle.std.proofs.Common.{◌≡◌, ◌<◌, ℕ, Some, arith, ap, sym, subst, ◌∙◌, take, set, length}
 use Rattle.std.proofs.Common.{slice_index_or}
+use Rattle.std.specs.Option.{unwrap_or}
 use Rattle.std.proofs.Math.Seq.{take-set-lt}
 use Rattle.std.proofs.lemmas.List.{length-take-le, get_or-take, get_or_default}
+use Rattle.steer_base.specs.Moves.{MovesByThree}
+use Rattle.steer_base.specs.Sets.{has}
 use Rattle.steer_base.specs.declared.choice.Entry.{Entry}
-use Rattle.dev_flow_table.specs.Tables.{Table, IsClassOf, entry_after, unset, weighed}
+use Rattle.steer_base.proofs.RuleLemmas.{moves-of}
+use Rattle.dev_flow_table.specs.Moves.{MovesInTable}
+use Rattle.dev_flow_table.specs.Tables.{Table, IsClassOf, entries, entry_after, unset, weighed}
 use Rattle.dev_flow_table.proofs.table.DevTable.weigh.Goals as goal
 
 pub returns-clause-table : goal.returns-clause-table
@@ -29,3 +34,32 @@ returns-clause-table c = let t = c.self.inside in let rows = t.rows.items in let
     })
     ∙ (ap (λ (x : Table). weighed x (Some k) choice) c.self.view_is
     ∙ ap (λ class. weighed c.args.self.now class choice) (sym c.in-Some.is)))
+
+pub returns-clause-moves : goal.returns-clause-moves
+returns-clause-moves c =
+    let t = c.self.inside in
+    let rows = t.rows.items in
+    let n : ℕ = t.size in
+    let k : ℕ = c.in-Some.class in
+    let inv = c.self.invariant in
+    let counted = t.rows.ok.0 in
+    let choice = c.choose-choice.result in
+    let table = c.args.self.now in
+    let first = unset t.start in
+    let e : Entry = c.index-entry.result.now in
+    let short : length (take n rows) ≡ n = length-take-le n rows (omega arith) in
+    let same : length (take n rows) ≡ length table.rows =
+    ap (λ (x : Table). length x.rows) c.self.view_is in
+    let asked : k < length table.rows =
+    subst (λ class. IsClassOf table class) c.in-Some.is c.requires.class in
+    let within : k < n = omega arith in
+    let found : e ≡ entries table k = c.index-entry.ensures
+    ∙ (get_or_default rows k e first (omega arith) ∙ sym (get_or-take n rows k first within))
+    ∙ ap (λ (x : Table). entries x k) c.self.view_is in
+    let head : ℕ → ℕ = λ _. unwrap_or c.args.head 0 in
+    let moves = moves-of choice k c.args.want c.args.desired e.tail head (has c.args.online) e.lane
+    c.choose-choice.ensures in
+    subst (λ class. MovesInTable table class choice c.args.desired head (has c.args.online))
+    (sym c.in-Some.is)
+    (subst (λ (en : Entry). MovesByThree choice c.args.desired en.tail head (has c.args.online)
+    en.lane) found moves)

@@ -40,7 +40,7 @@ invariant_of-self c =
     let lane = rw (← c.self.view_is) at c.requires.lane in
     let retired = read-retired _ c.args.lane c.index.result.now w lane c.index.ensures in
     let free = rw (retired, c.pulled.ensures) at c.if-index-pulled.false in
-    rw c.take.ensures.lists (whole-pull _ c.args.lane lane free w)
+    rw c.pull.ensures.lists (whole-pull _ c.args.lane lane free w)
 
 pub returns-clause-answer : goal.returns-clause-answer
 returns-clause-answer c =
@@ -48,7 +48,7 @@ returns-clause-answer c =
     let lane = rw (← c.self.view_is) at c.requires.lane in
     let retired = read-retired _ c.args.lane c.index.result.now w lane c.index.ensures in
     let free = rw (retired, c.pulled.ensures) at c.if-index-pulled.false in
-    rw (← c.self.view_is) (elim c.match-take.branch [
+    rw (← c.self.view_is) (elim c.match-pull.branch [
       | in-Some w ↦ w.result-is ∙ sym (took _ c.args.lane w.in-Some.id free
           (sym w.in-Some.ensures.packet))
       | in-None w ↦ w.result-is ∙ sym (found_none _ c.args.lane free (sym w.in-None.ensures.packet))

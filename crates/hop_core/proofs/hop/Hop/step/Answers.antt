@@ -1,5 +1,15 @@
-use Rattle.hop_core.proofs.Wholes.{sizes-stay}
+use Rattle.hop_core.specs.declared.event.HopEvent.TheVariants as event
+use Rattle.hop_core.proofs.Wholes.{sizes_stay}
 use Rattle.hop_core.proofs.hop.Hop.step.Goals as goal
 
-pub returns-clause-sizes : goal.returns-clause-sizes
-returns-clause-sizes c = sizes-stay c.args.self.now c.act.new.self c.args.e c.act.ensures.state
+pub returns-in-Leave-clause-sizes : goal.returns-in-Leave-clause-sizes
+returns-in-Leave-clause-sizes c =
+    sizes_stay c.args.self.now c.leave.new.self (event.Leave _) c.leave.ensures.state
+
+pub returns-in-Weigh-clause-sizes : goal.returns-in-Weigh-clause-sizes
+returns-in-Weigh-clause-sizes c =
+    sizes_stay c.args.self.now c.weigh.new.self (event.Weigh _ _ _ _ _) c.weigh.ensures.state
+
+pub returns-in-Put-clause-sizes : goal.returns-in-Put-clause-sizes
+returns-in-Put-clause-sizes c =
+    sizes_stay c.args.self.now c.put.new.self (event.Put _ _) c.put.ensures.state

@@ -4,7 +4,7 @@ use Rattle.std.proofs.lemmas.List.{length-map}
 use Rattle.steer_base.specs.Lanes.{LaneLists}
 use Rattle.backlog.specs.Puts.{after_take}
 use Rattle.hop_core.specs.LaneTable.{LaneTable, lane_at, with_lane}
-use Rattle.hop_core.proofs.lanes.Lanes.take.Goals as goal
+use Rattle.hop_core.proofs.lanes.Lanes.pull.Goals as goal
 use Rattle.hop_core.proofs.LaneTables.{AreShaped-set, lane_at-table_of, table_of}
 use Rattle.hop_core.proofs.LaneTables.{with_lane-table_of}
 
