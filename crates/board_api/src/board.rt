@@ -16,6 +16,7 @@ ghost use Rattle.board_api.specs.Calls.Results.{EnterTells, HoldTells, OpenTells
 ghost use Rattle.board_api.specs.Calls.Results.{PutTells};
 ghost use Rattle.board_api.specs.Calls.Results.{ReadTells, RetireTells, WeighTells};
 ghost use Rattle.board_api.specs.Views.{BoardView};
+ghost use Rattle.hop_rule.specs.declared.sizes.TheConstants.{MAX_OPENINGS};
 
 use crate::answers::{CloseAnswer, Emptied, EnterAnswer, Hold, Pull};
 use crate::board_seat::BoardSeat;
@@ -122,7 +123,7 @@ pub trait Board {
         requires closer { IsCloser (view self.now).sizes seat.old.number }
         requires outside { IsOutside seat.old.steps }
         requires open { HasOpen seat.old.steps }
-        requires few { openings (gate_steps seat.old.steps) < 1000000000 }
+        requires few { openings (gate_steps seat.old.steps) < MAX_OPENINGS }
         ensures { CloseTells (view self.now).sizes seat.old seat.new result };
 
     /// Looks at the middle lanes of a set, ascending, up to the first that is not empty. Numbers

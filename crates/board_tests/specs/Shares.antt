@@ -1,11 +1,12 @@
--- What the threads of a board are, and how they begin.
+-- The threads of a test board, and how they begin.
 use Rattle.std.specs.Prelude.{◌≡◌, ℕ, ◌+◌, ◌<◌, ◌≤◌, length}
 use Rattle.hop_rule.specs.declared.sizes.BoardSizes.{BoardSizes}
 use Rattle.board_api.specs.Seats.{BoardSeatView}
 use Rattle.board_api.specs.Views.{BoardView}
 use Rattle.board_tests.specs.Stands.{SeatIsOutside}
 
--- a board of four lanes and two out lanes for these workers and one seat more, with a setting
+-- A board of four lanes and two out lanes, with one seat for each worker and one for the closer,
+-- and at least one setting.
 pub record IsWide (about : BoardSizes) (workers : ℕ) : Type 0 where
   pub lanes : about.lanes ≡ 4
   pub outs : about.outs ≡ 2
@@ -15,13 +16,13 @@ pub record IsWide (about : BoardSizes) (workers : ℕ) : Type 0 where
   pub few : workers ≤ 4
   pub seats : about.seats ≡ workers + 1
 
--- the seat of one of the workers, outside, with nothing in hand
+-- The seat of one of the workers, outside, with no packet in hand.
 pub record IsReady (board : BoardView) (number workers : ℕ) (seat : BoardSeatView)
     : Type 0 where
   pub within : number < workers
   pub stands : SeatIsOutside board number seat
 
--- the same at a wide board
+-- The seat of one of the workers at a wide board, outside, with no packet in hand.
 pub record MayWork (board : BoardView) (number workers : ℕ) (seat : BoardSeatView)
     : Type 0 where
   pub wide : IsWide board.sizes workers

@@ -1,4 +1,4 @@
--- Where a seat stands between two calls.
+-- The state of a seat between two calls.
 use Rattle.std.specs.Prelude.{◌≡◌, ℕ, ◌==◌, Option, Some, None, if◌then◌else◌}
 use Rattle.hop_rule.specs.Boards.{gate_steps, lane_steps}
 use Rattle.hop_rule.specs.Gates.{Visit, closed, inside, openings, outside, visit}
@@ -6,16 +6,16 @@ use Rattle.hop_rule.specs.Lanes.{Phase, gave, has_pulled, holding, idle, out_hol
 use Rattle.board_api.specs.Seats.{BoardSeatView}
 use Rattle.board_api.specs.Views.{BoardView}
 
--- no packet in hand, of any lane
+-- No packet in hand, of any lane.
 abbrev pub no_hand : ℕ → Phase
 no_hand l = idle
 
--- a packet of the lane l alone
+-- This phase for the lane l, and no packet in hand of any other lane.
 abbrev pub hand_of : ℕ → Phase → ℕ → Phase
 hand_of l p i = if l == i then p else idle
 
--- The seat with this number, at this board: by its own steps it stands here, has closed the gate or
--- not, holds no lane, and has these packets in hand.
+-- The seat with this number at this board: by its own steps it is at this place of the gate, has
+-- closed the gate or not, holds no lane, and has these packets in hand.
 pub record SeatIs (board : BoardView) (number : ℕ) (place : Visit) (gate : ℕ) (hand : ℕ → Phase)
     (seat : BoardSeatView) : Type 0 where
   pub table : seat.table ≡ board.table
@@ -26,34 +26,34 @@ pub record SeatIs (board : BoardView) (number : ℕ) (place : Visit) (gate : ℕ
   pub hands : (l : ℕ) → phase l (lane_steps seat.steps) ≡ hand l
   pub outs : (o : ℕ) → out_holding o (lane_steps seat.steps) ≡ None
 
--- outside, with nothing in hand
+-- The seat is outside, with no packet in hand.
 abbrev pub SeatIsOutside : BoardView → ℕ → BoardSeatView → Type 0
 SeatIsOutside board number seat = SeatIs board number outside 0 no_hand seat
 
--- the same by its own number
+-- The seat is outside, with no packet in hand, whatever its number.
 abbrev pub IsDone : BoardView → BoardSeatView → Type 0
 IsDone board seat = SeatIsOutside board seat.number seat
 
--- inside
+-- The seat is inside.
 abbrev pub IsIn : BoardView → ℕ → BoardSeatView → Type 0
 IsIn board number seat = SeatIs board number inside 0 no_hand seat
 
--- behind the gate that it has closed
+-- The seat has closed the gate and not opened it.
 abbrev pub IsBehind : BoardView → ℕ → BoardSeatView → Type 0
 IsBehind board number seat = SeatIs board number outside 1 no_hand seat
 
--- with a packet of the lane that it has pulled, if it has pulled one
+-- The seat has the packet of the lane that it pulled, if it pulled one.
 abbrev pub HasTaken : BoardView → ℕ → ℕ → Option ℕ → BoardSeatView → Type 0
 HasTaken board number lane (Some id) seat =
     SeatIs board number outside 0 (hand_of lane (has_pulled id)) seat
 HasTaken board number lane None seat = SeatIsOutside board number seat
 
--- with a packet of the lane that it has delivered, if it found the out lane free
+-- The seat has the packet of the lane that it delivered, if it found the out lane free.
 abbrev pub HasGiven : BoardView → ℕ → ℕ → ℕ → Option ℕ → BoardSeatView → Type 0
 HasGiven board number lane id (Some place) seat =
     SeatIs board number outside 0 (hand_of lane gave) seat
 HasGiven board number lane id None seat = HasTaken board number lane (Some id) seat
 
--- how often the seat has opened the gate
+-- The number of times that the seat has opened the gate.
 abbrev pub opened_by : BoardSeatView → ℕ
 opened_by seat = openings (gate_steps seat.steps)

@@ -2,6 +2,7 @@
 ghost use Rattle.std.specs.Prelude.{◌≡◌, ◌<◌, ◌≤◌, ◌+◌, length, false, true};
 ghost use Rattle.board_api.specs.Calls.Rights.{IsCloser};
 ghost use Rattle.board_tests.specs.Stands.{IsBehind, SeatIsOutside, opened_by};
+ghost use Rattle.hop_rule.specs.declared.sizes.TheConstants.{MAX_OPENINGS};
 
 use board_api::{Board, BoardSeat, CloseAnswer, Emptied};
 use steer_base::CpuMask;
@@ -36,7 +37,7 @@ pub fn change_often<B: Board>(board: &B, seat: &mut BoardSeat) -> u64
 pub fn change<B: Board>(board: &B, seat: &mut BoardSeat, lanes: CpuMask, value: u64) -> bool
     requires closer { IsCloser (B.view board.now).sizes seat.old.number }
     requires setting { 0 < length (B.view board.now).sizes.settings }
-    requires few { opened_by seat.old < 1000000000 }
+    requires few { opened_by seat.old < MAX_OPENINGS }
     requires stands { SeatIsOutside (B.view board.now) seat.old.number seat.old }
     ensures stands { SeatIsOutside (B.view board.now) seat.old.number seat.new }
     ensures few { opened_by seat.new ≤ opened_by seat.old + 1 }
@@ -52,7 +53,7 @@ pub fn change<B: Board>(board: &B, seat: &mut BoardSeat, lanes: CpuMask, value: 
 // Closes the gate, if nobody is inside.
 fn close<B: Board>(board: &B, seat: &mut BoardSeat) -> bool
     requires closer { IsCloser (B.view board.now).sizes seat.old.number }
-    requires few { opened_by seat.old < 1000000000 }
+    requires few { opened_by seat.old < MAX_OPENINGS }
     requires stands { SeatIsOutside (B.view board.now) seat.old.number seat.old }
     ensures closed { result ≡ true → IsBehind (B.view board.now) seat.old.number seat.new }
     ensures open { result ≡ false → SeatIsOutside (B.view board.now) seat.old.number seat.new }

@@ -4,14 +4,15 @@ use Rattle.std.specs.List.{range_with_len}
 use Rattle.byteorder.specs.Endian.{big_bytes}
 use Rattle.pcap_reader.specs.Writing.{Packet}
 use Rattle.plan_reader.specs.Seeds.{word_of}
+use Rattle.cap_gen.specs.declared.frame.TheConstants.{FIRST_PORT, PORTS}
 
--- the source address of a flow: so many after 10.0.0.0
+-- the source address of a flow: 10.0.0.0 plus its number
 abbrev pub source_of : ℕ → ℕ
 source_of flow = 0x0a000000 + flow
 
--- the source port of a flow: the ports from 1024 on, over again after 32768 of them
+-- the source port of a flow: `PORTS` ports from `FIRST_PORT` on, used in turn
 abbrev pub port_of : ℕ → ℕ
-port_of flow = 1024 + flow % 32768
+port_of flow = FIRST_PORT + flow % PORTS
 
 -- Ethernet (IEEE 802.3): the two addresses, and the type of IPv4
 abbrev pub ethernet : List ℕ
@@ -39,8 +40,7 @@ abbrev pub packet_of : ℕ → ℕ → ℕ → Packet
 packet_of seed flows i = record {
   sec = i;
   frac = 0;
-  frame = generated_frame
-      (word_of seed i % flows);
+  frame = generated_frame (word_of seed i % flows);
 }
 
 -- the first n packets of a seed, one word of the generator for each

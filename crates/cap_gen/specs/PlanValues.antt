@@ -13,9 +13,7 @@ whole_value n = number (unsigned n)
 
 -- the numbers 0 to 3
 abbrev pub all_four : Data
-all_four = array
-    (item (whole_value 0)
-    (item (whole_value 1) (item (whole_value 2) (item (whole_value 3) no_items))))
+all_four = array (item (whole_value 0) (item (whole_value 1) (item (whole_value 2) (item (whole_value 3) no_items))))
 
 -- one value for each of the numbers 0 to 3
 abbrev pub for_each : (ℕ → Data) → Data

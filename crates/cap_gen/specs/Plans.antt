@@ -1,6 +1,6 @@
 -- The plan of a generated capture.
 use Rattle.std.specs.Prelude.{ℕ, [], ◌∷◌}
-use Rattle.plan_reader.specs.declared.settings.key.TheConstants.{VERIFICATION_KEY}
+use Rattle.toeplitz.specs.declared.key.TheConstants.{VERIFICATION_KEY}
 use Rattle.plan_reader.specs.declared.plan.QueuePlan.{QueuePlan}
 use Rattle.plan_reader.specs.declared.plan.TxPlan.{TxPlan}
 use Rattle.plan_reader.specs.declared.plan.Steps.TheVariants.{Seed}

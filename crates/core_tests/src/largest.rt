@@ -1,5 +1,6 @@
 //! The largest plan, with the most packets.
 ghost use Rattle.std.specs.Prelude.{◌≤◌, length};
+ghost use Rattle.steer_base.specs.declared.limits.TheConstants.{MAX_PACKETS};
 ghost use Rattle.steer_model.specs.State.Ranges.{AreOfFlows};
 
 use crate::frames::Frame;
@@ -45,7 +46,7 @@ fn text(alloc: Global) -> Result<Vec<u8>, AllocError> {
 fn the_largest_plan_is_made(rt: HostRuntime) -> Result<(), Fail> {
     let alloc = rt.alloc();
     let plan = plan(alloc)?;
-    let frames = Vec::from_elem(alloc, Frame::A, 262_144)?;
+    let frames = Vec::from_elem(alloc, Frame::A, MAX_PACKETS)?;
     let packets = packets_of(alloc, &plan, &frames)?;
     let history = arrived(&rt, alloc, &plan, &packets)?;
     has_its_sizes(&rt, &history);
@@ -59,7 +60,7 @@ fn arrived(
     plan: &Plan,
     packets: &[Packet],
 ) -> Result<History, OutOfMemory>
-    requires few { length packets.now ≤ 262144 }
+    requires few { length packets.now ≤ MAX_PACKETS }
     requires flows { AreOfFlows packets.now }
 {
     let mut steering = begun(alloc, plan, packets, Some(7))?;

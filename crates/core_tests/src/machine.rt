@@ -2,6 +2,7 @@
 //! holds is dropped in one place alone.
 ghost use Rattle.std.specs.Prelude.{◌+◌, ◌<◌, ◌≡◌, ◌≤◌, IfOk, length};
 ghost use Rattle.plan_reader.specs.Plans.{sizes_of, step_count};
+ghost use Rattle.steer_base.specs.declared.limits.TheConstants.{MAX_PACKETS};
 ghost use Rattle.steer_invariant.specs.StepInvariant.{sizes_in};
 ghost use Rattle.steer_model.specs.State.Ranges.{AreOfFlows};
 
@@ -12,12 +13,13 @@ use plan_reader::Plan;
 use std::alloc::Global;
 use std::test::Fail;
 use steer_base::{Answer, OutOfMemory, Packet};
-use steer_core::{Steering, packets};
+use steer_core::Steering;
+use steer_model::packets;
 use toeplitz::{Key, Kinds};
 
 /// The packets of a capture of these frames, with the hashes that a plan has them get.
 pub fn packets_of(alloc: Global, plan: &Plan, frames: &[Frame]) -> Result<Vec<Packet>, Fail>
-    ensures few { IfOk result (λ packets. length packets.items ≤ 262144) }
+    ensures few { IfOk result (λ packets. length packets.items ≤ MAX_PACKETS) }
     ensures flows { IfOk result (λ packets. AreOfFlows packets.items) }
 {
     let bytes = captured(alloc, frames)?;
@@ -33,7 +35,7 @@ pub fn begun(
     packets: &[Packet],
     cut: Option<u32>,
 ) -> Result<Steering, OutOfMemory>
-    requires few { length packets.now ≤ 262144 }
+    requires few { length packets.now ≤ MAX_PACKETS }
     requires flows { AreOfFlows packets.now }
     ensures made { IfOk result (λ s. s.made ≡ 0) }
     ensures steps { IfOk result (λ s. s.steps ≡ step_count plan.now) }
@@ -62,7 +64,7 @@ pub fn left_by(alloc: Global, steering: Steering) -> Result<History, OutOfMemory
 
 /// The history of all steps of a plan.
 pub fn played(alloc: Global, plan: &Plan, packets: &[Packet]) -> Result<History, OutOfMemory>
-    requires few { length packets.now ≤ 262144 }
+    requires few { length packets.now ≤ MAX_PACKETS }
     requires flows { AreOfFlows packets.now }
 {
     let mut steering = begun(alloc, plan, packets, None)?;

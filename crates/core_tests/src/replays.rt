@@ -1,6 +1,7 @@
 //! Worked replays: a plan, its steps with their answers, and the history that they leave.
 ghost use Rattle.std.specs.Prelude.{◌≡◌, ◌≤◌, length};
 ghost use Rattle.plan_reader.specs.Plans.{sizes_of, step_count};
+ghost use Rattle.steer_base.specs.declared.limits.TheConstants.{MAX_PACKETS};
 ghost use Rattle.steer_invariant.specs.StepInvariant.{sizes_in};
 ghost use Rattle.steer_model.specs.State.Ranges.{AreOfFlows};
 
@@ -61,7 +62,7 @@ impl Worked {
         plan: &Plan,
         packets: &[Packet],
     ) -> Result<History, OutOfMemory>
-        requires few { length packets.now ≤ 262144 }
+        requires few { length packets.now ≤ MAX_PACKETS }
         requires flows { AreOfFlows packets.now }
     {
         let mut steering = begun(alloc, plan, packets, None)?;

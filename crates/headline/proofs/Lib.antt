@@ -2,3 +2,5 @@ pub mod Places
 pub mod Rules
 pub mod Rights
 pub mod Reports
+mod ExampleLemmas
+mod ForgedLemmas

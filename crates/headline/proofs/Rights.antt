@@ -1,6 +1,5 @@
 -- The history of every replay is as it should be.
 use Rattle.std.proofs.Common.{length}
-use Rattle.history.specs.Lists.{list_at}
 use Rattle.history.specs.declared.history.History.{History}
 use Rattle.steer_properties.specs.Histories.Always.{Always}
 use Rattle.steer_properties.specs.Choices.Clear.{NothingIsOutstanding}
@@ -13,7 +12,7 @@ use Rattle.steer_model.specs.State.Start.{new_machine, replayed}
 use Rattle.steer_model.specs.Steps.CompoundSteps.{after}
 use Rattle.headline.specs.Headline.{IsRight}
 use Rattle.headline.proofs.Places.{stands-at_one}
-use Rattle.headline.proofs.Rules.{dropped-for, left-clear, processors-chosen, queues-picked}
+use Rattle.headline.proofs.Rules.{dropped-for, processors-chosen, queues-picked}
 
 right-of : (i : Input) (h : History) → AreChosen i h → AreReplied i h → NothingIsOutstanding h
     → DeliversInOrder i h → IsRight i h
@@ -24,14 +23,14 @@ right-of i h chosen replied clear delivers =
       places = λ x has. stands-at_one i.packets (length i.plan.apps) h steered.regular
           steered.places x;
       drops = dropped-for i h delivers.drops;
+      drops_rise = delivers.drops.counts;
       inboxes = steered.order;
       port = delivers.leave.end_to_end;
       at = chosen.at;
       processors = processors-chosen i h chosen;
       tx_at = replied.at;
       queues = queues-picked i h replied;
-      processors_clear = λ q. left-clear h.lanes (list_at h.choices q) (clear.rx q);
-      queues_clear = λ a. left-clear h.tx_lanes (list_at h.tx_choices a) (clear.tx a);
+      clear = clear;
     }
 
 pub replays-right : Always AreChosen → Always AreReplied

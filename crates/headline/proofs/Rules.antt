@@ -13,23 +13,19 @@ use Rattle.history.specs.declared.lane_list.LaneList.{LaneList}
 use Rattle.history.specs.declared.sent.Sent.{Sent}
 use Rattle.hop_core.specs.Hop.{chosen_at, nobody}
 use Rattle.steer_base.specs.Choices.{has_moved}
-use Rattle.steer_base.specs.Entries.{position}
 use Rattle.steer_base.specs.Moves.{MayLeave}
 use Rattle.steer_base.specs.declared.choice.Choice.{Choice}
 use Rattle.steer_base.specs.declared.choice.Chosen.{Chosen}
 use Rattle.steer_base.specs.declared.choice.Entry.{Entry}
 use Rattle.steer_base.specs.declared.put.LaneDrop.{LaneDrop}
-use Rattle.steer_properties.specs.Choices.Clear.{MovesAreClear}
 use Rattle.steer_properties.specs.Choices.Moves.{ChangesAsSaid, MayChange, MovesAsSaid}
 use Rattle.steer_properties.specs.Choices.ByTheRule.{AreChosen, AreReplied}
-use Rattle.steer_model.specs.Good.Choices.{accepted_in}
 use Rattle.steer_model.specs.Good.Drops.{DropsAreExplained, DropsRise}
 use Rattle.steer_model.specs.Good.Writes.{StoodAt}
 use Rattle.steer_model.specs.Good.Inputs.{Input, settings_at, since_at}
 use Rattle.headline.specs.Drops.{IsDroppedFor}
-use Rattle.headline.specs.Outstanding.{IsLeftClear}
-use Rattle.headline.specs.Processors.{ChangesByTheManual, IsChosen, ProcessorsAreChosen}
-use Rattle.headline.specs.Replies.{ChangesByThePick, IsSentBy, QueuesArePicked}
+use Rattle.headline.specs.Processors.{ChangesByThree, IsChosen, ProcessorsAreChosen}
+use Rattle.headline.specs.Replies.{IsSentBy, QueuesArePicked}
 
 -- ---- a change
 
@@ -54,9 +50,9 @@ module _ (c : Choice) (goal : ℕ) (before : Option ℕ) (May : Option ℕ → T
   pub change-to : Some c.lane ≢ before → c.lane ≡ goal
   change-to new = moved (moves-if_changed new)
 
-by-the-manual : (c : Choice) (desired : ℕ) (online : ℕ → Bool) (before : Entry)
-    → MovesAsSaid c desired online before → ChangesByTheManual c desired online before
-by-the-manual c desired online before said =
+by-three : (c : Choice) (desired : ℕ) (online : ℕ → Bool) (before : Entry)
+    → MovesAsSaid c desired online before → ChangesByThree c desired online before
+by-three c desired online before said =
     let May : Option ℕ → Type 0 =
     MayLeave desired before.tail (λ lane. unwrap_or c.head 0) online in
     let other : May (Some desired) → ⊥ = λ can. can.0 refl in
@@ -65,14 +61,27 @@ by-the-manual c desired online before said =
       to = change-to c desired before.lane May said.may said.moved said.kept other;
     }
 
+-- where all queues are online, the head alone lets a flow leave its own
+leaves-by_head : (pick tail : ℕ) (head before : Option ℕ) → MayChange pick tail head before
+    ↔ MayLeave pick tail (λ lane. unwrap_or head 0) (λ queue. true) before
+leaves-by_head pick tail head None = (λ can. can, λ can. can)
+leaves-by_head pick tail head (Some tx) = (
+  λ can. (can.0, inr can.1),
+  λ can. (can.0, elim can.1 [ inl off ↦ absurd (cc) | inr reached ↦ reached ]),
+)
+
 by-the-pick : (c : Choice) (pick : ℕ) (before : Entry) → ChangesAsSaid c pick before
-    → ChangesByThePick c pick before
+    → ChangesByThree c pick (λ queue. true) before
 by-the-pick c pick before said =
-    let May : Option ℕ → Type 0 = MayChange pick before.tail c.head in
+    let May : Option ℕ → Type 0 =
+    MayLeave pick before.tail (λ lane. unwrap_or c.head 0) (λ queue. true) in
+    let same = leaves-by_head pick before.tail c.head before.lane in
+    let may : has_moved c.why ≡ true ↔ May before.lane =
+    (λ moved. same.0 (said.may.0 moved), λ can. said.may.1 (same.1 can)) in
     let other : May (Some pick) → ⊥ = λ can. can.0 refl in
     record {
-      just_where = change-just_where c pick before.lane May said.may said.moved said.kept other;
-      to = change-to c pick before.lane May said.may said.moved said.kept other;
+      just_where = change-just_where c pick before.lane May may said.moved said.kept other;
+      to = change-to c pick before.lane May may said.moved said.kept other;
     }
 
 -- ---- choices of processors
@@ -85,7 +94,7 @@ module _ (i : Input) (h : History) (w : AreChosen i h) where
       let c : Chosen = chosen_at (list_at h.choices q) k in
       record {
         rule = w.choices.each q k lt;
-        moves = λ class is. by-the-manual c.choice _ _ _ (w.moves.classes q k class lt is);
+        moves = λ class is. by-three c.choice _ _ _ (w.moves.classes q k class lt is);
         want = λ cpu is. w.wants q k cpu lt is;
       }
 
@@ -139,22 +148,6 @@ module _ (i : Input) (h : History) (w : AreReplied i h) where
                   (get_or_from_slice_get cs k c nobody is) by,
             ));
       }
-
--- ---- what is left behind
-
-pub left-clear : (lanes : List LaneList) (cs : List Chosen) → MovesAreClear lanes cs
-    → IsLeftClear lanes cs
-left-clear lanes cs clear =
-    record {
-      retired = λ j k class n earlier later less first second of is moved at. (
-          let a : chosen_at cs j ≡ earlier = get_or_from_slice_get cs j earlier nobody first in
-          let b : chosen_at cs k ≡ later = get_or_from_slice_get cs k later nobody second in
-          subst (λ (c : Chosen). n ≤ (lane_at lanes c.choice.lane).retired) a
-          (clear j k class n less (slice_get_within cs k later second)
-          (ap (λ (c : Chosen). has_moved c.choice.why) b ∙ moved)
-          (ap (λ (c : Chosen). c.choice.class) b ∙ is) (ap (λ (c : Chosen). c.choice.class) a ∙ of)
-          (ap (position (accepted_in lanes)) a ∙ at)));
-    }
 
 -- ---- drops
 

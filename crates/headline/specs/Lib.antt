@@ -3,6 +3,6 @@ pub mod Orders
 pub mod Drops
 pub mod Processors
 pub mod Replies
-pub mod Outstanding
 pub mod Headline
+pub mod Forged
 pub mod Laws

@@ -1,65 +1,49 @@
 -- When a flow changes its processor (kernel scaling chapter, sections RPS and RFS).
 use Rattle.std.specs.Prelude.{ℕ, ◌≡◌, ◌≢◌, ◌↔◌, Bool, List, Option, Some, drop, slice_get, take}
-use Rattle.std.specs.Prelude.{length, map, slice_index, unwrap_or}
-use Rattle.history.specs.Lists.{lane_at, list_at, packet_at}
+use Rattle.std.specs.Prelude.{length, unwrap_or}
+use Rattle.history.specs.Lists.{list_at, packet_at}
 use Rattle.history.specs.declared.history.History.{History}
 use Rattle.history.specs.declared.lane_list.LaneList.{LaneList}
-use Rattle.steer_base.specs.Choices.{class_of, desired_cpu, migrate, rps_choice_of}
+use Rattle.steer_base.specs.Choices.{class_of, desired_cpu}
 use Rattle.steer_base.specs.Entries.{entry}
 use Rattle.steer_base.specs.Moves.{MayLeave}
 use Rattle.steer_base.specs.Sets.{has}
 use Rattle.steer_base.specs.declared.choice.Choice.{Choice}
 use Rattle.steer_base.specs.declared.choice.Chosen.{Chosen}
 use Rattle.steer_base.specs.declared.choice.Entry.{Entry}
-use Rattle.steer_model.specs.Good.Choices.{WasWritten}
-use Rattle.steer_model.specs.Good.Inputs.{Input, Prefixes, settings_at, since_at}
-use Rattle.steer_model.specs.State.Settings.{Settings, mask_of}
-
--- what a lane accepted
-abbrev pub accepted_by : List LaneList → ℕ → List ℕ
-accepted_by lanes lane = (lane_at lanes lane).accepted
+use Rattle.steer_model.specs.Good.Choices.{IsByRule, WasWritten, accepted_in}
+use Rattle.steer_model.specs.Good.Inputs.{Input, Prefixes, settings_at, setup_in, since_at}
+use Rattle.steer_model.specs.State.Settings.{Settings, plain_lane}
 
 -- The entry of a class before choice k of a list: the lane that the class has, if it has one, and
 -- its recorded tail, by the choices from `since` on.
 abbrev pub entry_before : ℕ → List LaneList → List Chosen → ℕ → ℕ → ℕ → Entry
 entry_before start lanes choices since k class =
-    entry start (accepted_by lanes) (drop since (take k choices)) class
+    entry start (accepted_in lanes) (drop since (take k choices)) class
 
--- the processor that plain packet steering gives packet x of queue q
-abbrev pub plain_cpu : Input → Settings → ℕ → ℕ → ℕ
-plain_cpu i s q x =
-    rps_choice_of (mask_of s q) (packet_at i.packets x).hash s.online
-    (slice_index (map (λ queue. queue.home) i.plan.queues) q)
-
--- A flow leaves the lane that its class had just where the manual lets it, having none, or another
--- than the desired one that is offline or whose head has reached the recorded tail; and then it
--- goes to the desired one.
-pub record ChangesByTheManual (c : Choice) (desired : ℕ) (online : ℕ → Bool) (before : Entry)
+-- A choice gives a class another lane than the one that it had just where the class may leave its
+-- lane by the manual's three conditions: it has none, or another than the desired one that is
+-- offline or whose head has reached the recorded tail. Then it goes to the desired one.
+pub record ChangesByThree (c : Choice) (desired : ℕ) (online : ℕ → Bool) (before : Entry)
     : Type 0 where
   pub just_where : Some c.lane ≢ before.lane
       ↔ MayLeave desired before.tail (λ lane. unwrap_or c.head 0) online before.lane
   pub to : Some c.lane ≢ before.lane → c.lane ≡ desired
 
--- the class of packet x at queue q
-abbrev pub class_in : Input → Settings → ℕ → ℕ → Option ℕ
-class_in i s q x = class_of (slice_index s.counts q) (packet_at i.packets x).hash
-
--- the processor that a packet with this class and want is to go to
-abbrev pub goal : Input → Settings → ℕ → ℕ → Option ℕ → Option ℕ → ℕ
-goal i s q x class want = desired_cpu class want s.online (plain_cpu i s q x)
+-- the processor that packet x of queue q is to go to, with this class and want
+abbrev pub desired_for : Input → Settings → ℕ → ℕ → Option ℕ → Option ℕ → ℕ
+desired_for i s q x class want =
+    desired_cpu class want s.online (plain_lane (setup_in i) s q x)
 
 -- Choice k of queue q, with these settings: it is the migration rule over the entry of its class,
 -- with the want and the head that it keeps, and a want was written to the socket flow table by an
--- application, at the place of the packet's hash. So the flow changes its processor as said.
+-- application, at the place of the packet's hash. So the flow changes its processor by the manual's
+-- three conditions.
 pub record IsChosen (i : Input) (h : History) (q k : ℕ) (c : Chosen) (s : Settings) (since : ℕ)
     : Type 0 where
-  pub rule : c.choice
-      ≡ migrate (class_in i s q c.id) c.choice.want
-      (goal i s q c.id (class_in i s q c.id) c.choice.want)
-      (entry_before h.start h.lanes (list_at h.choices q) since k)
-      (λ lane. unwrap_or c.choice.head 0) (has s.online)
+  pub rule : IsByRule i h q k s since
   pub moves : (class : ℕ) → c.choice.class ≡ Some class
-      → ChangesByTheManual c.choice (goal i s q c.id (Some class) c.choice.want) (has s.online)
+      → ChangesByThree c.choice (desired_for i s q c.id (Some class) c.choice.want) (has s.online)
       (entry_before h.start h.lanes (list_at h.choices q) since k class)
   pub want : (cpu : ℕ) → c.choice.want ≡ Some cpu
       → (place : ℕ) × (class_of s.sock (packet_at i.packets c.id).hash ≡ Some place)

@@ -1,25 +1,16 @@
 -- When a flow's replies change their transmit queue (kernel scaling chapter, section XPS).
-use Rattle.std.specs.Prelude.{ℕ, ◌≡◌, ◌≢◌, ◌↔◌, Some, length, slice_get, unwrap_or}
+use Rattle.std.specs.Prelude.{ℕ, ◌≡◌, true, Some, length, slice_get, unwrap_or}
 use Rattle.history.specs.Lists.{list_at, packet_at}
 use Rattle.history.specs.declared.history.History.{History}
 use Rattle.history.specs.declared.sent.Sent.{Sent}
 use Rattle.steer_base.specs.Choices.{migrate}
 use Rattle.steer_base.specs.Sets.{first_cpus, has}
-use Rattle.steer_base.specs.declared.choice.Choice.{Choice}
 use Rattle.steer_base.specs.declared.choice.Chosen.{Chosen}
-use Rattle.steer_base.specs.declared.choice.Entry.{Entry}
-use Rattle.steer_properties.specs.Choices.Moves.{MayChange}
 use Rattle.steer_model.specs.Good.Writes.{StoodAt}
 use Rattle.steer_model.specs.Good.Inputs.{Input, Prefixes, settings_at}
 use Rattle.steer_model.specs.State.Settings.{Settings}
 use Rattle.xps_map.specs.Maps.{picked}
-use Rattle.headline.specs.Processors.{entry_before}
-
--- A flow leaves its transmit queue just where it has none, or another than the picked one whose
--- head has reached the recorded tail; and then it goes to the picked one.
-pub record ChangesByThePick (c : Choice) (pick : ℕ) (before : Entry) : Type 0 where
-  pub just_where : Some c.lane ≢ before.lane ↔ MayChange pick before.tail c.head before.lane
-  pub to : Some c.lane ≢ before.lane → c.lane ≡ pick
+use Rattle.headline.specs.Processors.{ChangesByThree, entry_before}
 
 -- the transmit queue that these maps pick for a reply
 abbrev pub pick_by : Input → Settings → Sent → ℕ
@@ -27,7 +18,9 @@ pick_by i s r = picked s.maps r.rxq r.cpu (packet_at i.packets r.id).hash
 
 -- Transmit choice k of application a, of its reply k, with these settings. The reply keeps a
 -- processor where its application stood. The choice is the migration rule with the flow as class,
--- the pick as want and as desired queue, and all queues online.
+-- the pick as want and as desired queue, and all queues online. So the flow leaves its transmit
+-- queue just where it has none, or another than the picked one whose head has reached the recorded
+-- tail; and then it goes to the picked one.
 pub record IsSentBy (i : Input) (h : History) (a k : ℕ) (c : Chosen) (r : Sent) (s : Settings)
     : Type 0 where
   pub same : c.id ≡ r.id
@@ -36,7 +29,7 @@ pub record IsSentBy (i : Input) (h : History) (a k : ℕ) (c : Chosen) (r : Sent
       ≡ migrate (Some (packet_at i.packets r.id).flow_number) (Some (pick_by i s r)) (pick_by i s r)
       (entry_before h.start h.tx_lanes (list_at h.tx_choices a) 0 k)
       (λ lane. unwrap_or c.choice.head 0) (has (first_cpus 32))
-  pub changes : ChangesByThePick c.choice (pick_by i s r)
+  pub changes : ChangesByThree c.choice (pick_by i s r) (λ queue. true)
       (entry_before h.start h.tx_lanes (list_at h.tx_choices a) 0 k
       (packet_at i.packets r.id).flow_number)
 

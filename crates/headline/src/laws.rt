@@ -1,20 +1,26 @@
-//! The headline, as contracts of functions that do nothing.
-ghost use Rattle.headline.specs.Laws.{ReplaysAreRight, ReportsHaveTheHeadline};
+//! The promises of a replay, as contracts of lemmas: functions with empty bodies.
+ghost use Rattle.headline.specs.Forged.{AnotherCommandIsForged, AnotherQueueIsForged};
+ghost use Rattle.headline.specs.Forged.{AnotherWriteIsForged, EmptyIsForged, ExamplesAreWithin};
+ghost use Rattle.headline.specs.Forged.{HeadlinesAreOfTheRun, MovingAtOnceIsForged};
+ghost use Rattle.headline.specs.Forged.{NeverMovingIsForged, NoWantIsForged};
+ghost use Rattle.headline.specs.Laws.{ReplaysAreOfTheirRuns, ReplaysAreRight};
+ghost use Rattle.headline.specs.Laws.{ReportsHaveTheHeadline};
 
 use report::a_report_has_one_history;
-use steer_invariant::{every_replay_can_be_reported, every_replay_delivers_in_order};
+use steer_invariant::every_replay_can_be_reported;
 use steer_model::a_capture_has_one_list_of_packets;
 use steer_properties::{
-    a_flow_moves_only_where_nothing_of_it_is_outstanding, every_choice_is_by_the_rule,
-    every_history_is_of_its_input, every_reply_is_by_the_rule,
+    a_flow_moves_only_where_nothing_of_it_is_outstanding, commands_are_given_once,
+    every_choice_is_by_the_rule, every_history_is_of_its_input, every_replay_delivers_in_order,
+    every_replay_is_good_so_far, every_reply_is_by_the_rule,
 };
 
-/// In every state of every replay each packet that arrived stands at exactly one place, every drop
-/// was by a full backlog or by the flow limit, the packets of each flow from each receive queue are
-/// delivered in the order of their arrival without the dropped ones, to the inbox and from end to
-/// end, and a flow changed its processor exactly where the manual lets it, and its transmit queue
-/// exactly where another one was picked and the head of its own had reached the recorded tail; in
-/// both cases only where nothing of it was under way.
+/// Lemma: in every state of every replay each packet that arrived is at exactly one place; every
+/// drop was by a full backlog or by the flow limit; the packets of each flow from each receive
+/// queue are delivered in the order of their arrival without the dropped ones, to the inbox and to
+/// the port; and a flow changed its processor exactly where the manual lets it, and its transmit
+/// queue exactly where another one was picked and the head of its own had reached the recorded
+/// tail, in both cases only where none of its packets was outstanding.
 pub fn every_replay_is_right()
     ensures { ReplaysAreRight }
 {
@@ -24,14 +30,49 @@ pub fn every_replay_is_right()
     every_replay_delivers_in_order();
 }
 
-/// The report of a replay of these bytes is that of just one history, and all of this holds of that
-/// history.
+/// Lemma: the history of the replay of a plan is the one that its steps make over the packets of
+/// the capture. It has the sizes of its input, meets each clause of a good history that does not
+/// ask that the run is over, and has the plan's commands, each given once.
+pub fn every_replay_is_of_its_run()
+    ensures { ReplaysAreOfTheirRuns }
+{
+    every_history_is_of_its_input();
+    every_replay_is_good_so_far();
+    commands_are_given_once();
+}
+
+/// Lemma: the report of a replay of these bytes is that of just one history, which is the one of
+/// the run, and all that is promised of a replay holds of it.
 pub fn a_report_has_the_headline()
     ensures { ReportsHaveTheHeadline }
 {
     every_replay_is_right();
+    every_replay_is_of_its_run();
     every_replay_can_be_reported();
     a_report_has_one_history();
     a_capture_has_one_list_of_packets();
-    every_history_is_of_its_input();
+}
+
+/// Lemma: forged reports are refused, on an example of two packets of one flow. Each of these is no
+/// history of the run: one of no packets; one in which the flow never moves, or moves while its
+/// first packet is outstanding; one with a packet in a queue that no entry names; one in which the
+/// second packet finds no want; and ones with a write or a command that the plan does not give.
+pub fn forged_histories_are_not_of_the_run()
+    ensures examples { ExamplesAreWithin }
+    ensures empty { EmptyIsForged }
+    ensures never_moving { NeverMovingIsForged }
+    ensures moving_at_once { MovingAtOnceIsForged }
+    ensures another_queue { AnotherQueueIsForged }
+    ensures no_want { NoWantIsForged }
+    ensures another_write { AnotherWriteIsForged }
+    ensures another_command { AnotherCommandIsForged }
+{}
+
+/// Lemma: a text with the headline is the report of no other history than the one of the run, so
+/// that a report of a forged history has no headline.
+pub fn a_headline_is_of_the_run()
+    ensures { HeadlinesAreOfTheRun }
+{
+    every_replay_is_of_its_run();
+    a_capture_has_one_list_of_packets();
 }

@@ -20,7 +20,7 @@ use Rattle.hint_words.specs.declared.step.HintStep.{HintStep}
 use Rattle.hint_words.specs.declared.step.HintStep.TheVariants.{Load, Store, ClearIf}
 use Rattle.hint_words.specs.declared.sizes.Sizes.{Sizes}
 use Rattle.linearization.specs.Prefixes.{Found}
-use Rattle.hint_words.specs.Steps.{written, word_after, AnswersAfter, IsLawful}
+use Rattle.hint_words.specs.Steps.{value_written, word_after, AnswersAfter, IsLawful}
 use Rattle.hint_words.specs.Tables.{HasLastWrites, load_of, store_of, clear_of}
 
 abbrev Seated : Type 0
@@ -35,18 +35,18 @@ module _ (about : Sizes) where
   kept : (order : List (StepBy HintStep)) (words : List ℕ)
       (homes : List (mathlib.Core.Option.Option (Unit {0}))) (p i m : ℕ) (d : HintStep)
       → i < about.words → HasLastWrites about order words homes
-      → AnswersAfter order d → unwrap_or (written i d) (slice_index words i) ≡ m
-      → ((j : ℕ) → j ≢ i → written j d ≡ None) → HasLastWrites about (step_by p d ∷ order)
+      → AnswersAfter order d → unwrap_or (value_written i d) (slice_index words i) ≡ m
+      → ((j : ℕ) → j ≢ i → value_written j d ≡ None) → HasLastWrites about (step_by p d ∷ order)
       (set words i m) homes
   kept order words homes p i m d inside h answers becomes none_else =
       let count = h.counted in record {
         lawful = (answers, h.lawful);
         counted = length-set words i m ∙ h.counted;
         each = λ j l. dite (ℕ_discrete j i)
-            (λ same. subst (λ (z : ℕ). get_or (set words i m) z 0 ≡ unwrap_or (written z d)
+            (λ same. subst (λ (z : ℕ). get_or (set words i m) z 0 ≡ unwrap_or (value_written z d)
             (word_after z order)) (sym same)
             (get_or-set_same words i m 0 (omega arith)
-            ∙ (sym becomes ∙ ap (λ (x : ℕ). unwrap_or (written i d) x) (h.each i inside))))
+            ∙ (sym becomes ∙ ap (λ (x : ℕ). unwrap_or (value_written i d) x) (h.each i inside))))
             (λ other. get_or-set_other words i j m 0 other
             ∙ (h.each j l ∙ sym (ap (λ (o : Option ℕ). unwrap_or o (word_after j order))
             (none_else j other))));

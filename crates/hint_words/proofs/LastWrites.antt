@@ -5,11 +5,11 @@ use Rattle.std.specs.Option.{unwrap_or}
 use Rattle.std.proofs.lemmas.List.Elements.{All-nil, All-cons, All-head, All-tail}
 use Rattle.linearization.specs.Orders.{StepBy}
 use Rattle.hint_words.specs.declared.step.HintStep.{HintStep}
-use Rattle.hint_words.specs.Steps.{written, word_after, NoneWrites, IsWrittenLast}
+use Rattle.hint_words.specs.Steps.{value_written, word_after, NoneWrites, IsWrittenLast}
 
 module _ (i : ℕ) where
   abbrev Silent : StepBy HintStep → Type 0
-  Silent e = written i e.step ≡ None
+  Silent e = value_written i e.step ≡ None
 
   behind : (newer older : List (StepBy HintStep)) → NoneWrites i newer → word_after i
       (newer ++ older) ≡ word_after i older
@@ -28,7 +28,7 @@ module _ (i : ℕ) where
       ∙ ap (λ (o : Option ℕ). unwrap_or o (word_after i w.older)) w.writes)
 
   by_newest : (e : StepBy HintStep) (order : List (StepBy HintStep)) (o : Option ℕ)
-      → written i e.step ≡ o → NoneWrites i order ⊎ IsWrittenLast i order (word_after i order)
+      → value_written i e.step ≡ o → NoneWrites i order ⊎ IsWrittenLast i order (word_after i order)
       → NoneWrites i (e ∷ order) ⊎ IsWrittenLast i (e ∷ order) (unwrap_or o (word_after i order))
   by_newest e order (Some n) is before =
       inr (record {
@@ -54,4 +54,4 @@ module _ (i : ℕ) where
   pub either_way : (order : List (StepBy HintStep)) → NoneWrites i order ⊎ IsWrittenLast i order
       (word_after i order)
   either_way [] = inl (All-nil Silent)
-  either_way (e ∷ order) = by_newest e order (written i e.step) refl (either_way order)
+  either_way (e ∷ order) = by_newest e order (value_written i e.step) refl (either_way order)

@@ -11,7 +11,7 @@ use Rattle.linearization.specs.Orders.{StepBy, step_by, steps_of}
 use Rattle.linearization.specs.Seats.{SeatView, HasPart, IsByOne, ArePartsOf}
 use Rattle.hint_words.specs.declared.step.HintStep.{HintStep}
 use Rattle.hint_words.specs.declared.step.HintStep.TheVariants.{Load, Store, ClearIf}
-use Rattle.hint_words.specs.Steps.{written, word_after, AnswersAfter, IsLawful}
+use Rattle.hint_words.specs.Steps.{value_written, word_after, AnswersAfter, IsLawful}
 use Rattle.hint_words.specs.Loads.{IsStoredBy, ComesFrom, LoadsAreStored}
 
 here : {A : Type 0} (x : A) (xs : List A) → Contains (x ∷ xs) x
@@ -59,7 +59,7 @@ module _ (es : List (StepBy HintStep)) (i : ℕ) (before : word_after i es ≢ 0
   After q d o = unwrap_or o (word_after i es) ≢ 0 → IsStored (step_by q d ∷ es) i
       (unwrap_or o (word_after i es))
 
-  after_step : (q : ℕ) (d : HintStep) → After q d (written i d)
+  after_step : (q : ℕ) (d : HintStep) → After q d (value_written i d)
   after_step q (Load j n) = λ ne. further (step_by q (Load j n)) es i (word_after i es) (before ne)
   after_step q (Store j n) = by_test j i (Some n) None (After q (Store j n))
       (λ same ne. (q, (0, omega arith, λ k. step_by q (Store (same k) n))))

@@ -1,4 +1,4 @@
--- What the passes over the lists of a history tell of each packet.
+-- What the passes over the lists of a history say about each packet.
 use Rattle.std.specs.Prelude.{ℕ, ◌<◌, ◌^◌, ◌&&◌, List, Option, Some, None, length, nat_lt, nat_le}
 use Rattle.std.specs.Prelude.{if◌then◌else◌}
 use Rattle.steer_base.specs.Entries.{place_in}
@@ -11,7 +11,7 @@ use Rattle.history.specs.declared.history.History.{History}
 use Rattle.history.specs.declared.known.Known.{Known}
 use Rattle.history.specs.declared.lane_list.LaneList.{LaneList}
 
--- The places in each list are numbers of 32 bits.
+-- The lists of a history are so short that each place in them has 32 bits.
 pub record HasShortLists (h : History) : Type 0 where
   pub accepted : (c : ℕ) → length (lane_at h.lanes c).accepted < 2 ^ 32
   pub dropped : (c : ℕ) → length (lane_at h.lanes c).drops < 2 ^ 32
@@ -19,7 +19,7 @@ pub record HasShortLists (h : History) : Type 0 where
   pub shipped : (t : ℕ) → length (lane_at h.tx_lanes t).accepted < 2 ^ 32
   pub port : length h.port < 2 ^ 32
 
--- What is known of each packet that arrived is what its lines say.
+-- the index of a history has for each packet that arrived what its lines show
 pub record IsKnown (h : History) (k : Known) : Type 0 where
   pub choices : IsIndex (length h.arrivals) k.choices (choice_of h)
   pub accepted : IsIndex (length h.arrivals) k.accepted (accepted_place h.lanes)
@@ -30,8 +30,7 @@ pub record IsKnown (h : History) (k : Known) : Type 0 where
   pub tx_accepted : IsIndex (length h.arrivals) k.tx_accepted (accepted_place h.tx_lanes)
   pub port : IsIndex (length h.arrivals) k.port (λ x. place_in x h.port)
 
--- the lane of a packet, where its place among the accepted ones there is among those that were
--- pulled
+-- the lane that accepted a packet, if the packet is among those that were pulled there
 abbrev pub pulled_lane : List LaneList → Option ℕ → Option ℕ → Option ℕ
 pulled_lane lanes (Some c) (Some n) =
     if nat_lt c (length lanes) && nat_le n (lane_at lanes c).pulled then Some c else None

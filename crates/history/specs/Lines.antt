@@ -1,4 +1,4 @@
--- What a history has of one packet: the line of its way in, and the line of its reply.
+-- What a history says about one packet: the line of its way in, and the line of its reply.
 use Rattle.std.specs.Prelude.{ℕ, Bool, List, Option, is_some, length, map, if◌then◌else◌}
 use Rattle.std.specs.List.{list_any, range_with_len}
 use Rattle.std.specs.Option.{option_map, option_or, option_and_then}
@@ -30,10 +30,11 @@ via_of a = if is_some a.filter then Filter else if is_some a.entry then Reta els
 abbrev pub choice_in : ℕ → List Chosen → Option Choice
 choice_in x choices = option_map (λ c. c.choice) (found (λ c. c.id) x choices)
 
--- its choice of a processor, and of a transmit queue for its reply
+-- the processor choice of a packet in a history
 abbrev pub choice_of : History → ℕ → Option Choice
 choice_of h x = first_some (choice_in x) h.choices
 
+-- the transmit queue choice of the reply to a packet
 abbrev pub tx_choice_of : History → ℕ → Option Choice
 tx_choice_of h x = first_some (choice_in x) h.tx_choices
 
@@ -41,39 +42,41 @@ tx_choice_of h x = first_some (choice_in x) h.tx_choices
 abbrev pub accepted_place : List LaneList → ℕ → Option ℕ
 accepted_place lanes x = first_some (λ lane. place_in x lane.accepted) lanes
 
--- its position at the processors, and at the transmit queues: the counter number of this place
+-- the position of a packet in the backlogs: the counter number of its place
 abbrev pub position_of : History → ℕ → Option ℕ
 position_of h x = option_map (number h.start) (accepted_place h.lanes x)
 
+-- the position of the reply to a packet in the transmit queues: the counter number of its place
 abbrev pub tx_position_of : History → ℕ → Option ℕ
 tx_position_of h x = option_map (number h.start) (accepted_place h.tx_lanes x)
 
--- the drop of a packet at a lane, with its number, from 1
+-- a drop with its number, as the result of a put
 abbrev pub dropped_as : LaneDrop → ℕ → Put
 dropped_as d n = Dropped n d.accepted d.pulled d.cause
 
+-- the drop of a packet at a lane, with its number from 1
 abbrev pub drop_in : ℕ → LaneList → Option Put
 drop_in x lane =
     option_and_then (λ d. option_map (dropped_as d) (place_in x (drop_ids lane)))
     (found (λ d. d.id) x lane.drops)
 
--- what became of a packet at the processors: its position, or else its drop
+-- the result of putting a packet to a processor: its position, or else its drop
 abbrev pub put_of : History → ℕ → Option Put
 put_of h x = option_or (option_map (λ n. At n) (position_of h x)) (first_some (drop_in x) h.lanes)
 
--- its place in the inboxes, from 1
+-- the place of a packet in the inboxes, from 1
 abbrev pub inbox_place_of : History → ℕ → Option ℕ
 inbox_place_of h x = first_some (place_in x) h.inboxes
 
--- the reply to it, where one was begun
+-- the reply to a packet, if one was begun
 abbrev pub first_reply_to : History → ℕ → Option Sent
 first_reply_to h x = first_some (found (λ s. s.id) x) h.sent
 
--- whether a reply to it was begun
+-- whether a reply to a packet was begun
 abbrev pub is_replied : History → ℕ → Bool
 is_replied h x = list_any (λ list. is_in x (map (λ s. s.id) list)) h.sent
 
--- The line of an arrived packet.
+-- the line of a packet that arrived
 abbrev pub packet_line : List Packet → ℕ → History → ℕ → PacketLine
 packet_line packets apps h x =
     record {
@@ -102,7 +105,7 @@ line_of_sent packets apps h x sent =
       flow_number = (packet_at packets x).flow_number;
     }
 
--- The line of the reply to a packet: none where no reply was begun.
+-- the line of the reply to a packet, if one was begun
 abbrev pub reply_line : List Packet → ℕ → History → ℕ → Option ReplyLine
 reply_line packets apps h x = option_map (line_of_sent packets apps h x) (first_reply_to h x)
 
@@ -113,6 +116,7 @@ pub record LineLists : Type 0 where
   pub replies : List (Option ReplyLine)
   pub arrived : List ℕ
 
+-- all lines of a history
 abbrev pub lines_of : List Packet → ℕ → History → LineLists
 lines_of packets apps h =
     record {

@@ -1,4 +1,4 @@
--- The lists of a history, read by number; beyond its lists a history has empty ones.
+-- The lists of a history, read by index; past its last list a history has empty ones.
 use Rattle.std.specs.Prelude.{ℕ, List, [], None, ◌==◌, map, slice_index_or}
 use Rattle.std.specs.List.{filter}
 use Rattle.std.specs.Option.{unwrap_or}
@@ -9,23 +9,23 @@ use Rattle.history.specs.Finding.{found}
 use Rattle.history.specs.declared.arrival.Arrival.{Arrival}
 use Rattle.history.specs.declared.lane_list.LaneList.{LaneList}
 
--- what stands for a packet that the capture has not: it has no hash
+-- the default for a packet beyond the capture: it has no hash
 abbrev pub no_packet : Packet
 no_packet = record { flow = Bare; hash = None; len = 0; flow_number = 0 }
 
--- what stands for the arrival of a packet that did not arrive
+-- the default for the arrival of a packet that did not arrive
 abbrev pub no_arrival : Arrival
 no_arrival = record { id = 0; queue = 0; filter = None; entry = None }
 
--- a lane that no packet was put to
+-- the lane to which no packet was put
 abbrev pub no_lane : LaneList
 no_lane = record { accepted = []; drops = []; pulled = 0; delivered = 0; retired = 0 }
 
--- a packet of the capture
+-- the packet of the capture with this number
 abbrev pub packet_at : List Packet → ℕ → Packet
 packet_at packets x = slice_index_or packets x no_packet
 
--- the application of a packet
+-- the application that a packet's hash leads to
 abbrev pub app_at : List Packet → ℕ → ℕ → ℕ
 app_at packets apps x = app_of (packet_at packets x).hash apps
 
@@ -33,19 +33,19 @@ app_at packets apps x = app_of (packet_at packets x).hash apps
 abbrev pub list_at : {A : Type 0} → List (List A) → ℕ → List A
 list_at lists i = slice_index_or lists i []
 
--- the lane of a number
+-- the lane with this number
 abbrev pub lane_at : List LaneList → ℕ → LaneList
 lane_at lanes c = slice_index_or lanes c no_lane
 
--- the packets that a lane dropped
+-- the packets that a lane dropped, in order
 abbrev pub drop_ids : LaneList → List ℕ
 drop_ids lane = map (λ d. d.id) lane.drops
 
--- what each lane accepted
+-- for each lane, the packets that it accepted
 abbrev pub accepted_lists : List LaneList → List (List ℕ)
 accepted_lists lanes = map (λ lane. lane.accepted) lanes
 
--- what each lane dropped
+-- for each lane, the packets that it dropped
 abbrev pub dropped_lists : List LaneList → List (List ℕ)
 dropped_lists lanes = map drop_ids lanes
 

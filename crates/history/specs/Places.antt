@@ -15,14 +15,14 @@ use Rattle.history.specs.declared.place.Place.TheVariants.{Dropped}
 abbrev pub has_arrived : History → ℕ → Bool
 has_arrived h x = is_in x (map (λ a. a.id) h.arrivals)
 
--- whether the poller of its queue took it
+-- whether the poller of its receive queue took a packet
 abbrev pub was_taken : History → ℕ → Bool
 was_taken h x =
     let queue = (arrival_of h.arrivals x).queue in
     is_among (slice_index h.taken queue) x (arrivals_at h.arrivals queue)
 
--- the first case that holds: the lane that dropped a packet, its inbox, the lane that it was pulled
--- from, the lane that accepted it, and whether it was taken
+-- a place by the first case that applies: the lane that dropped the packet, its inbox, the lane
+-- that it was pulled from, the lane that accepted it, and whether it was taken
 abbrev pub place_by : Option ℕ → Option ℕ → Option ℕ → Option ℕ → Bool → Place
 place_by (Some c) inbox pulled accepted taken = Dropped c
 place_by None (Some a) pulled accepted taken = Inbox a
@@ -31,8 +31,8 @@ place_by None None None (Some c) taken = Backlog c
 place_by None None None None true = Poller
 place_by None None None None false = Ring
 
--- The place of a packet that arrived: the first case that holds. Where several lanes or inboxes
--- have it, which is never so in a regular history, it is at the one with the least number.
+-- The place of a packet that arrived. If several lanes or inboxes have it, which never happens in a
+-- regular history, it is at the one with the least number.
 abbrev pub place_of : History → ℕ → Place
 place_of h x =
     place_by
@@ -42,20 +42,20 @@ place_of h x =
     (position (λ lane. is_in x lane.accepted) h.lanes)
     (was_taken h x)
 
--- Each lane and inbox that has the packet has a number below 256.
+-- every lane and inbox that has the packet has a number below 256
 pub record IsInReach (h : History) (x : ℕ) : Type 0 where
   pub accepted : (c : ℕ) → is_in x (lane_at h.lanes c).accepted ≡ true → c < 256
   pub dropped : (c : ℕ) → is_in x (drop_ids (lane_at h.lanes c)) ≡ true → c < 256
   pub inbox : (a : ℕ) → is_in x (list_at h.inboxes a) ≡ true → a < 256
 
--- What is in an inbox is among the delivered packets of the lane that accepted it.
+-- every packet in an inbox is among the delivered packets of the lane that accepted it
 abbrev pub InboxesAreDelivered : History → Type 0
 InboxesAreDelivered h =
     (a c x : ℕ) → is_in x (list_at h.inboxes a) ≡ true → is_in x (lane_at h.lanes c).accepted ≡ true
     → is_among (lane_at h.lanes c).delivered x (lane_at h.lanes c).accepted ≡ true
 
--- Each packet has one place: it is in at most one list of accepted or of dropped packets, once; in
--- at most one inbox, once; and in an inbox only where it is among the delivered packets of a lane.
+-- Each packet has one place: it is in at most one list of accepted or dropped packets, once; in at
+-- most one inbox, once; and in an inbox only if it is among the delivered packets of a lane.
 pub record AreInOnePlace (h : History) : Type 0 where
   pub lanes : Apart (accepted_lists h.lanes ++ dropped_lists h.lanes)
   pub inboxes : Apart h.inboxes

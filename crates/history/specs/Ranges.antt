@@ -29,16 +29,18 @@ use Rattle.history.specs.declared.reply_line.ReplyLine.{ReplyLine}
 use Rattle.history.specs.declared.sent.Sent.{Sent}
 use Rattle.history.specs.declared.sock_write.SockWrite.{SockWrite}
 
--- a number below 2 to the power of `bits`, where there is one
+-- an optional number is below 2 to the power of `bits`
 abbrev pub FitsIn : ℕ → Option ℕ → Type 0
 FitsIn bits o = IfSome o (λ n. n < 2 ^ bits)
 
+-- the numbers of an arrival are within the types of its fields
 pub record ArrivalFits (a : Arrival) : Type 0 where
   pub id : a.id < 2 ^ 32
   pub queue : a.queue < 2 ^ 8
   pub filter : FitsIn 8 a.filter
   pub entry : FitsIn 8 a.entry
 
+-- the numbers of a choice are within the types of its fields
 pub record ChoiceFits (c : Choice) : Type 0 where
   pub class : FitsIn 32 c.class
   pub want : FitsIn 8 c.want
@@ -46,20 +48,24 @@ pub record ChoiceFits (c : Choice) : Type 0 where
   pub tail : FitsIn 32 c.tail
   pub lane : c.lane < 2 ^ 8
 
+-- the numbers of a packet's choice are within the types of its fields
 pub record ChosenFits (c : Chosen) : Type 0 where
   pub id : c.id < 2 ^ 32
   pub choice : ChoiceFits c.choice
 
+-- the numbers of a drop's cause are within the types of its fields
 abbrev pub CauseFits : DropCause → Type 0
 CauseFits Full = ⊤
 CauseFits (Flow offers) = offers < 2 ^ 32
 
+-- the numbers of a drop are within the types of its fields
 pub record DropFits (d : LaneDrop) : Type 0 where
   pub id : d.id < 2 ^ 32
   pub accepted : d.accepted < 2 ^ 32
   pub pulled : d.pulled < 2 ^ 32
   pub cause : CauseFits d.cause
 
+-- the numbers of a lane are within the types of its fields
 pub record LaneFits (l : LaneList) : Type 0 where
   pub accepted : All (λ x. x < 2 ^ 32) l.accepted
   pub drops : All DropFits l.drops
@@ -67,15 +73,18 @@ pub record LaneFits (l : LaneList) : Type 0 where
   pub delivered : l.delivered < 2 ^ 32
   pub retired : l.retired < 2 ^ 32
 
+-- the numbers of a reply are within the types of its fields
 pub record SentFits (s : Sent) : Type 0 where
   pub id : s.id < 2 ^ 32
   pub rxq : s.rxq < 2 ^ 8
   pub cpu : s.cpu < 2 ^ 8
 
+-- the numbers of a write to the socket flow table are within the types of its fields
 pub record WriteFits (w : SockWrite) : Type 0 where
   pub entry : w.entry < 2 ^ 32
   pub cpu : w.cpu < 2 ^ 8
 
+-- the numbers of a command are within the types of its fields
 abbrev pub CommandFits : Command → Type 0
 CommandFits (command.Mask queue cpus) = (queue < 2 ^ 8) × (cpus.0 < 2 ^ 32)
 CommandFits (command.Flows queue count) = (queue < 2 ^ 8) × (count < 2 ^ 32)
@@ -88,6 +97,7 @@ CommandFits (command.Reta place queue) = (place < 2 ^ 8) × (queue < 2 ^ 8)
 CommandFits (command.Stand app cpu) = (app < 2 ^ 8) × (cpu < 2 ^ 8)
 CommandFits command.Expire = ⊤
 
+-- the numbers of an answer are within the types of its fields
 abbrev pub AnswerFits : Answer → Type 0
 AnswerFits answer.Done = ⊤
 AnswerFits (answer.Idle why) = ⊤
@@ -99,11 +109,12 @@ AnswerFits (answer.CpuInUse (user.App app)) = app < 2 ^ 8
 AnswerFits answer.CpuOffline = ⊤
 AnswerFits (answer.Expired filters) = filters < 2 ^ 32
 
+-- the numbers of a command and its answer are within the types of their fields
 pub record CommandedFits (c : Commanded) : Type 0 where
   pub command : CommandFits c.command
   pub answer : AnswerFits c.answer
 
--- The numbers of a history are within the types of its fields.
+-- the numbers of a history are within the types of its fields
 pub record HistoryFits (h : History) : Type 0 where
   pub total : h.total < 2 ^ 32
   pub cut : FitsIn 32 h.cut
@@ -120,19 +131,22 @@ pub record HistoryFits (h : History) : Type 0 where
   pub commands : All CommandedFits h.commands
   pub start : h.start < 2 ^ 32
 
+-- the numbers of a put's result are within the types of its fields
 abbrev pub PutFits : Put → Type 0
 PutFits (At position) = position < 2 ^ 32
 PutFits (Dropped number accepted pulled cause) =
     (number < 2 ^ 32) × (accepted < 2 ^ 32) × (pulled < 2 ^ 32) × CauseFits cause
 
--- The numbers of a packet's line that are not those of the packet itself.
+-- The numbers of a packet's line are within the types of its fields, apart from those that the
+-- packet itself has.
 pub record PacketFits (l : PacketLine) : Type 0 where
   pub queue : l.queue < 2 ^ 8
   pub choice : IfSome l.choice ChoiceFits
   pub put : IfSome l.put PutFits
   pub inbox : FitsIn 32 l.inbox
 
--- The numbers of a reply's line that are not those of the packet itself.
+-- The numbers of a reply's line are within the types of its fields, apart from those that the
+-- packet itself has.
 pub record ReplyFits (r : ReplyLine) : Type 0 where
   pub rxq : r.rxq < 2 ^ 8
   pub cpu : r.cpu < 2 ^ 8

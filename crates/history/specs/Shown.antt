@@ -1,4 +1,4 @@
--- What two histories have in common where their reports are equal: their lines and sums.
+-- What two histories with equal reports have in common: their lines and sums.
 use Rattle.std.specs.Prelude.{ℕ, ◌<◌, ◌≤◌, ◌≡◌, List, Option, None, length, map}
 use Rattle.std.specs.Option.{option_map}
 use Rattle.steer_base.specs.declared.choice.Choice.{Choice}
@@ -11,24 +11,26 @@ use Rattle.history.specs.declared.lane_list.LaneList.{LaneList}
 use Rattle.history.specs.declared.packet_line.PacketLine.{PacketLine}
 use Rattle.history.specs.declared.reply_line.ReplyLine.{ReplyLine}
 
--- the numbers of a lane that are not lengths of its lists
+-- how many packets of a lane were pulled, delivered and retired
 pub record Sums : Type 0 where
   pub pulled : ℕ
   pub delivered : ℕ
   pub retired : ℕ
 
+-- the numbers of a lane that are not lengths of its lists
 abbrev pub sums_of : LaneList → Sums
 sums_of lane = record { pulled = lane.pulled; delivered = lane.delivered; retired = lane.retired }
 
--- the line of a reply does not show the class of its choice
+-- a choice without its class, as the line of a reply shows it
 abbrev pub without_class : Choice → Choice
 without_class c = record c { class = None }
 
+-- the line of a reply as a report shows it
 abbrev pub shown_of : ReplyLine → ReplyLine
 shown_of r = record r { choice = option_map without_class r.choice }
 
--- Two lines of one packet show the same. Its number, its application and its flow number are those
--- of the packet, and its place is not asked for.
+-- Two lines of one packet show the same. Number, application and flow number belong to the packet,
+-- and the place is not compared.
 pub record SamePacket (l m : PacketLine) : Type 0 where
   pub queue : l.queue ≡ m.queue
   pub via : l.via ≡ m.via
@@ -40,7 +42,7 @@ pub record SamePacket (l m : PacketLine) : Type 0 where
 abbrev pub SameReply : Option ReplyLine → Option ReplyLine → Type 0
 SameReply l m = option_map shown_of l ≡ option_map shown_of m
 
--- Two histories of one start have the same lines, sums, writes and commands.
+-- two histories have the same counter start, lines, sums, writes and commands
 pub record SameShown (packets : List Packet) (apps : ℕ) (h k : History) : Type 0 where
   pub start : h.start ≡ k.start
   pub total : h.total ≡ k.total
@@ -56,7 +58,7 @@ pub record SameShown (packets : List Packet) (apps : ℕ) (h k : History) : Type
   pub writes : h.writes ≡ k.writes
   pub commands : h.commands ≡ k.commands
 
--- A regular history is found again in its lines, sums, writes and commands.
+-- a regular history is determined by its lines, sums, writes and commands
 abbrev pub IsFoundAgain : Type 0
 IsFoundAgain =
     (packets : List Packet) (apps : ℕ) (h k : History) → length packets ≤ MAX_PACKETS

@@ -64,9 +64,9 @@ impl History {
     }
 
     /// The place of a packet that arrived: the first that applies of dropped, in an inbox, pulled,
-    /// accepted, and taken from the ring. If several lanes or inboxes have it, which never happens in
-    /// a regular history, the one with the least number is meant. Allocates nothing and walks each
-    /// list once.
+    /// accepted, and taken from the ring. If several lanes or inboxes have it, which never happens
+    /// in a regular history, the one with the least number is meant. Allocates nothing and walks
+    /// each list once.
     pub fn place(&self, id: PacketId) -> Place
         requires arrived { IsTrue (has_arrived self.now id) }
         requires in_reach { IsInReach self.now id }

@@ -7,10 +7,10 @@ ghost use Rattle.history.specs.Regular.{AreDelivered, AreSteered};
 ghost use Rattle.history.specs.Shown.{IsFoundAgain};
 ghost use Rattle.history.specs.declared.history.History.{History};
 
-/// Lemma: in a regular history whose inboxes hold only what the lanes delivered, each packet has one
-/// place. It is in at most one list of accepted or dropped packets, once; in at most one inbox, once;
-/// and in an inbox only if it is among the delivered packets of a lane. Two parts of `Regular` are
-/// enough: how packets were steered, and how they were delivered.
+/// Lemma: in a regular history whose inboxes hold only what the lanes delivered, each packet has
+/// one place. It is in at most one list of accepted or dropped packets, once; in at most one inbox,
+/// once; and in an inbox only if it is among the delivered packets of a lane. Two parts of
+/// `Regular` are enough: how packets were steered, and how they were delivered.
 pub fn a_packet_has_one_place()
     ensures { (packets : List Packet) (apps : ℕ) (h : History) → AreSteered h
         → AreDelivered packets apps h → InboxesAreDelivered h → AreInOnePlace h }

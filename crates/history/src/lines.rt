@@ -41,8 +41,8 @@ impl Model for Lines {
 }
 
 impl Lines {
-    /// Makes the lines of a history that is regular for these packets and `apps` applications, in time
-    /// and memory linear in its packets. All memory is allocated here.
+    /// Makes the lines of a history that is regular for these packets and `apps` applications, in
+    /// time and memory linear in its packets. All memory is allocated here.
     pub fn make(
         alloc: Global,
         h: &History,

@@ -1,8 +1,8 @@
 //! The line that a report shows of a reply.
 use steer_base::{AppId, Choice, Cpu, PacketId, RxQueue};
 
-/// The line of a reply that was begun: what selects its transmit queue, the choice of the queue, and
-/// how far it has come.
+/// The line of a reply that was begun: what selects its transmit queue, the choice of the queue,
+/// and how far it has come.
 #[derive(Clone, Copy, Debug, PartialEq, Eq)]
 pub struct ReplyLine {
     /// The packet that is replied to.

@@ -12,6 +12,7 @@ use Rattle.linearization.specs.Orders.{StepBy, step_by, steps_of}
 use Rattle.linearization.specs.Seats.{SeatView}
 use Rattle.linearization.proofs.ListLemmas.{if_same, if_other}
 use Rattle.hop_rule.specs.declared.sizes.BoardSizes.{BoardSizes}
+use Rattle.hop_rule.specs.declared.sizes.TheConstants.{MAX_OPENINGS}
 use Rattle.hop_rule.specs.declared.step.BoardStep.{BoardStep}
 use Rattle.hop_rule.specs.declared.step.BoardStep.TheVariants.{Lane, Gate, Weighed, Counted}
 use Rattle.hop_rule.specs.declared.step.GateStep.{GateStep}
@@ -243,7 +244,7 @@ module _ (about : BoardSizes) where
 
   pub shuts : (seat : SeatView BoardStep) (free : ℕ) → IsCloser about seat.number
       → IsOutside seat.steps → HasOpen seat.steps → gates.openings
-      (gate_steps seat.steps) < 1000000000
+      (gate_steps seat.steps) < MAX_OPENINGS
       → free ≡ gates.openings (gate_steps seat.steps) * 2 ^ 32
       → MayAct about seat kind.Gate (λ n. either (n == free) (free + 2 ^ 31) n) (closing free)
       (IsBusy about free)
@@ -273,7 +274,7 @@ module _ (about : BoardSizes) where
             refl,
             none_in,
             ap gates.closed s ∙ open_,
-            subst (λ (z : ℕ). z < 1000000000) (sym (ap gates.openings s)) rarely,
+            subst (λ (z : ℕ). z < MAX_OPENINGS) (sym (ap gates.openings s)) rarely,
           );
           here = (let z : free + 2147483648 ≡ gates.visits
               gs + 2147483648 * 1 + 4294967296 * gates.all_openings gs =
@@ -299,7 +300,7 @@ module _ (about : BoardSizes) where
 
   pub opens : (seat : SeatView BoardStep) → IsCloser about seat.number → HasClosed seat.steps
       → MayAct about seat kind.Gate (λ n. (n + 2 ^ 31) % 2 ^ 64) (λ n. Gate Opened)
-      (λ n. gates.openings (gate_steps seat.steps) < 1000000000)
+      (λ n. gates.openings (gate_steps seat.steps) < MAX_OPENINGS)
   opens seat is_closer is_closed fit order few_ own lawful =
       let p : ℕ = seat.number in
       let s = seen order p seat.steps own in

@@ -10,6 +10,7 @@ ghost use Rattle.board_api.specs.Calls.Results.{looking};
 ghost use Rattle.hop_board.specs.Makings.{IsBusy, closing};
 ghost use Rattle.hop_board.specs.Named.{board_seat};
 ghost use Rattle.hop_board.specs.Emptying.{emptied_after};
+ghost use Rattle.hop_rule.specs.declared.sizes.TheConstants.{MAX_OPENINGS};
 
 use crate::board::{Board, WordSeat};
 use crate::places::Word;
@@ -26,7 +27,7 @@ impl Board {
         requires closer { IsCloser self.now.sizes seat.old.number }
         requires outside { IsOutside seat.old.steps }
         requires open { HasOpen seat.old.steps }
-        requires few { openings (gate_steps seat.old.steps) < 1000000000 }
+        requires few { openings (gate_steps seat.old.steps) < MAX_OPENINGS }
         ensures { CloseTells self.now.sizes seat.old seat.new result }
     {
         let free = GateWord::empty(seat.openings).0;
@@ -85,7 +86,7 @@ impl Board {
         requires closer { IsCloser self.now.sizes seat.old.number }
         requires outside { IsOutside seat.old.steps }
         requires open { HasOpen seat.old.steps }
-        requires few { openings (gate_steps seat.old.steps) < 1000000000 }
+        requires few { openings (gate_steps seat.old.steps) < MAX_OPENINGS }
         requires free { free ≡ openings (gate_steps seat.old.steps) * 2 ^ 32 }
         ensures step { seat.new ≡ record seat.old { steps = closing free result ∷ seat.old.steps } }
         ensures busy { IsBusy self.now.sizes free result }
@@ -101,7 +102,7 @@ impl Board {
         ensures step { seat.new ≡ record seat.old {
           steps = BoardStep.Gate GateStep.Opened ∷ seat.old.steps;
         } }
-        ensures few { openings (gate_steps seat.old.steps) < 1000000000 }
+        ensures few { openings (gate_steps seat.old.steps) < MAX_OPENINGS }
     {
         self.add_as::<Brand>(seat, Word::Gate, 1 << 31);
     }

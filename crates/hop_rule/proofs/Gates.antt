@@ -6,6 +6,7 @@ use native.Mathlib.Decide.{ℕ_discrete}
 use Rattle.linearization.specs.Orders.{StepBy, step_by, steps_of}
 use Rattle.linearization.proofs.ViewLemmas.{steps_of_own, steps_of_other}
 use Rattle.hop_rule.specs.declared.sizes.BoardSizes.{BoardSizes}
+use Rattle.hop_rule.specs.declared.sizes.TheConstants.{MAX_OPENINGS}
 use Rattle.hop_rule.specs.declared.step.GateStep.{GateStep}
 use Rattle.hop_rule.specs.declared.step.GateStep.TheVariants.{Entered, Turned, Left, Shut, NotShut}
 use Rattle.hop_rule.specs.declared.step.GateStep.TheVariants.{Opened, Set, Read}
@@ -282,13 +283,13 @@ module _ (about : BoardSizes) where
 
   abbrev Small : List (StepBy GateStep) → Type 0
   Small es = (closed (steps_of C es) ≤ 1)
-      × (openings (steps_of C es) + closed (steps_of C es) ≤ 1000000000)
+      × (openings (steps_of C es) + closed (steps_of C es) ≤ MAX_OPENINGS)
 
   small_quiet : (q : ℕ) (d : GateStep) (es : List (StepBy GateStep))
       → ((c : ℕ) → closed_after d c ≡ c) → ((n : ℕ) → openings_after d n ≡ n) → Small es
       → Small (step_by q (d) ∷ es)
   small_quiet q d es a b t = let e : StepBy GateStep = step_by q (d) in
-      subst (λ (z : ℕ × ℕ). (z.0 ≤ 1) × (z.1 + z.0 ≤ 1000000000)) (sym (dite (ℕ_discrete q C)
+      subst (λ (z : ℕ × ℕ). (z.0 ≤ 1) × (z.1 + z.0 ≤ MAX_OPENINGS)) (sym (dite (ℕ_discrete q C)
       (λ is. λ k. (
         (ap closed (own_step C e es is) ∙ a _) k,
         (ap openings (own_step C e es is)
@@ -299,9 +300,9 @@ module _ (about : BoardSizes) where
   small_own : (q : ℕ) (d : GateStep) (es : List (StepBy GateStep)) → q ≡ C
       → (closed_after d (closed (steps_of C es)) ≤ 1)
       × (openings_after d (openings (steps_of C es)) + closed_after d (closed (steps_of C es)) ≤
-      1000000000) → Small (step_by q (d) ∷ es)
+      MAX_OPENINGS) → Small (step_by q (d) ∷ es)
   small_own q d es is t = let e : StepBy GateStep = step_by q (d) in
-      subst (λ (l : List GateStep). (closed l ≤ 1) × (openings l + closed l ≤ 1000000000))
+      subst (λ (l : List GateStep). (closed l ≤ 1) × (openings l + closed l ≤ MAX_OPENINGS))
       (sym (own_step C e es is)) t
 
   small_step : (q : ℕ) (d : GateStep) (es : List (StepBy GateStep)) → MayCome about q es d
@@ -309,8 +310,8 @@ module _ (about : BoardSizes) where
   small_step q (Entered w) es right t = small_quiet q (Entered w) es (λ _. refl) (λ _. refl) t
   small_step q (Turned w) es right t = small_quiet q (Turned w) es (λ _. refl) (λ _. refl) t
   small_step q Left es right t = small_quiet q Left es (λ _. refl) (λ _. refl) t
-  small_step q (Shut w) es right t = let few : openings (steps_of C es) < 1000000000 =
-      subst (λ (z : ℕ). openings (steps_of z es) < 1000000000) right.0 right.4 in small_own q
+  small_step q (Shut w) es right t = let few : openings (steps_of C es) < MAX_OPENINGS =
+      subst (λ (z : ℕ). openings (steps_of z es) < MAX_OPENINGS) right.0 right.4 in small_own q
       (Shut w) es right.0 (omega arith, omega arith)
   small_step q (NotShut w) es right t = small_quiet q (NotShut w) es (λ _. refl) (λ _. refl) t
   small_step q Opened es right t = let c : closed (steps_of C es) ≡ 1 =

@@ -5,6 +5,7 @@ use Rattle.std.specs.Prelude.{slice_index, length, if◌then◌else◌}
 use Rattle.linearization.specs.Orders.{StepBy, steps_of}
 use Rattle.hop_rule.specs.Sizes.{closer}
 use Rattle.hop_rule.specs.declared.sizes.BoardSizes.{BoardSizes}
+use Rattle.hop_rule.specs.declared.sizes.TheConstants.{MAX_OPENINGS}
 use Rattle.hop_rule.specs.declared.step.GateStep.{GateStep}
 use Rattle.hop_rule.specs.declared.step.GateStep.TheVariants.{Entered, Turned, Left, Shut, NotShut}
 use Rattle.hop_rule.specs.declared.step.GateStep.TheVariants.{Opened, Set, Read}
@@ -145,7 +146,7 @@ module _ (about : BoardSizes) where
   MayCome p es Left = visit (steps_of p es) ≢ outside
   MayCome p es (Shut w) =
       (p ≡ closer about) × (w ≡ gate_word es) × (visits es ≡ 0) × (closed (steps_of p es) ≡ 0)
-      × (openings (steps_of p es) < 1000000000)
+      × (openings (steps_of p es) < MAX_OPENINGS)
   MayCome p es (NotShut w) =
       (p ≡ closer about) × (w ≡ gate_word es) × (0 < visits es) × (closed (steps_of p es) ≡ 0)
   MayCome p es Opened = (p ≡ closer about) × (closed (steps_of p es) ≡ 1)

@@ -13,6 +13,7 @@ use Rattle.hop_rule.specs.Owns.{own_of}
 use Rattle.hop_rule.specs.PutLaws.{WasPut, lane_then}
 use Rattle.hop_rule.specs.Sizes.{FitSizes, closer}
 use Rattle.hop_rule.specs.declared.sizes.BoardSizes.{BoardSizes}
+use Rattle.hop_rule.specs.declared.sizes.TheConstants.{MAX_OPENINGS}
 use Rattle.hop_rule.specs.declared.step.BoardStep.{BoardStep}
 use Rattle.hop_rule.specs.declared.step.BoardStep.TheVariants.{Gate, Weighed, Counted}
 use Rattle.hop_rule.specs.declared.step.GateStep.{GateStep}
@@ -41,7 +42,7 @@ pub record IsGateWord (about : BoardSizes) (order : List (StepBy BoardStep)) : T
       + 2 ^ 32 * openings (closers about order)
   pub few : open_visits about order ≤ about.seats
   pub once : closed (closers about order) ≤ 1
-  pub bounded : openings (closers about order) ≤ 1000000000
+  pub bounded : openings (closers about order) ≤ MAX_OPENINGS
   pub nobody_inside : closed (closers about order) ≡ 1
       → (q : ℕ) → q < about.seats → visit (own_gate order q) ≢ inside
   pub closer_outside : closed (closers about order) ≡ 1 → visit (closers about order) ≡ outside

@@ -16,7 +16,7 @@ pub use laws::{
     puts_and_positions_are_one_to_one, the_gate_word_counts_visits,
 };
 pub use out_lane::OutLane;
-pub use sizes::{BoardSizes, MAX_BOARD_ROOM};
+pub use sizes::{BoardSizes, MAX_BOARD_ROOM, MAX_OPENINGS};
 pub use step::{BoardStep, Change, GateStep, LaneStep, Slot};
 pub use wrong_orders::{
     a_head_is_raised_after_its_delivery, a_pull_is_of_the_oldest_packet,

@@ -1,4 +1,4 @@
--- The rules of a JSON value: a value after another in their order, up to the first that is wrong.
+-- Reads the parts of rules from a JSON value, one after another, up to the first that is wrong.
 use Rattle.std.specs.Prelude.{ℕ, List, [], ◌∷◌, Bool, true, false, Option, Some, None, Result, Ok}
 use Rattle.std.specs.Prelude.{codes, bytes_eq, if◌then◌else◌}
 use Rattle.std.specs.Int.{w32, w128, from_be_bytes}
@@ -13,13 +13,13 @@ use Rattle.plan_reader.specs.declared.plan_fault.PlanFault.{PlanFault}
 use Rattle.plan_reader.specs.Causes.{◌>>=◌, kind}
 use Rattle.plan_reader.specs.Faults.{here}
 use Rattle.plan_reader.specs.PlanTexts.{json_of, named, value_of}
-use Rattle.plan_reader.specs.Readings.{an_object, list_of, number_between, number_below, only}
-use Rattle.plan_reader.specs.Readings.{optional}
+use Rattle.plan_reader.specs.Readings.{an_object, list_of, number_between, number_below, only, optional}
 use Rattle.plan_reader.specs.Readings.{required}
 use Rattle.ntuple_rules.specs.declared.rule.RuleKind.{RuleKind}
 use Rattle.ntuple_rules.specs.declared.rule.RuleKind.TheVariants.{Tcp4, Udp4, Tcp6, Udp6, Ip4, Ip6}
 use Rattle.ntuple_rules.specs.declared.rule.Rule.{Rule}
 use Rattle.ntuple_rules.specs.declared.rules.Rules.{Rules}
+use Rattle.ntuple_rules.specs.declared.rules.TheConstants.{MAX_RULES}
 
 -- ---- the parts of a rule
 
@@ -107,12 +107,12 @@ rule_of queues d = do
 abbrev pub truth : Data → Result Bool Cause
 truth d = kind (as_bool d)
 
--- every key of the rules, in the order in which it is looked at
+-- all keys that the rules may have, in the order in which they are read
 abbrev pub rules_keys : List (List ℕ)
 rules_keys =
     codes "queues" ∷ codes "kinds" ∷ codes "symmetric" ∷ codes "inner" ∷ codes "rules" ∷ []
 
--- the rules of a value, or the first that is wrong with it
+-- the rules of a JSON value, or the first thing that is wrong with it
 unfoldable pub rules_in : Data → Result Rules Fault
 rules_in d = do
   is ← an_object d
@@ -120,7 +120,7 @@ rules_in d = do
   kinds ← optional (codes "kinds") (λ v. here (number_between 0 63 v)) 63 d
   symmetric ← optional (codes "symmetric") (λ v. here (truth v)) false d
   inner ← optional (codes "inner") (λ v. here (truth v)) false d
-  rules ← required (codes "rules") (list_of (rule_of queues) 0 4096) d
+  rules ← required (codes "rules") (list_of (rule_of queues) 0 MAX_RULES) d
   none ← only rules_keys d
   Ok (record {
     queues = queues;

@@ -2,9 +2,9 @@
 ghost use Rattle.std.specs.Prelude.{◌≡◌, ◌<◌, ◌≤◌, false, codes, if◌then◌else◌, IfOk};
 ghost use Rattle.serde_json.specs.View.{view};
 ghost use Rattle.plan_reader.specs.Faults.{Gives, here};
-ghost use Rattle.plan_reader.specs.Readings.{optional};
+ghost use Rattle.plan_reader.specs.Readings.{only, optional};
 ghost use Rattle.ntuple_rules.specs.Readings.{address_at, address_of, ipv4_address, ipv6_address};
-ghost use Rattle.ntuple_rules.specs.Readings.{port_at, rule_of, truth};
+ghost use Rattle.ntuple_rules.specs.Readings.{port_at, rule_keys, rule_of, truth};
 
 use crate::kind::{is_ipv4, required_kind};
 use crate::rule::Rule;
@@ -87,7 +87,26 @@ fn truth(value: &Value) -> Result<bool, Cause>
     value.as_bool().ok_or(Cause::WrongKind)
 }
 
-/// A rule over so many queues.
+/// Refuses an object that has another key than a rule.
+fn only_known(alloc: Global, value: &Value) -> Result<(), Refusal>
+    ensures { Gives result (only rule_keys (view value.now)) }
+{
+    let keys = [
+        "kind",
+        "src",
+        "srcmask",
+        "dst",
+        "dstmask",
+        "sport",
+        "sportmask",
+        "dport",
+        "dportmask",
+        "queue",
+    ];
+    only(alloc, value, &keys)
+}
+
+/// Reads a rule over this many receive queues.
 #[tactic(auto, unfolding(crate::specs::Readings::rule_of))]
 pub fn rule_of(alloc: Global, queues: u8, value: &Value) -> Result<Rule, Refusal>
     ensures gives { Gives result (rule_of queues (view value.now)) }
@@ -105,19 +124,7 @@ pub fn rule_of(alloc: Global, queues: u8, value: &Value) -> Result<Rule, Refusal
     let dport = port_at(alloc, value, "dport")?;
     let dportmask = port_at(alloc, value, "dportmask")?;
     let queue = required_below(alloc, value, "queue", queues)?;
-    let keys = [
-        "kind",
-        "src",
-        "srcmask",
-        "dst",
-        "dstmask",
-        "sport",
-        "sportmask",
-        "dport",
-        "dportmask",
-        "queue",
-    ];
-    only(alloc, value, &keys)?;
+    only_known(alloc, value)?;
     Ok(Rule {
         kind,
         src,

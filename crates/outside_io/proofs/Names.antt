@@ -1,7 +1,7 @@
 -- The name of a file that was found.
-use Rattle.std.proofs.Common.{◌≡◌, ℕ, List, get_or, Bool, true, Option, Some, None, Vec, sym, ap}
+use Rattle.std.proofs.Common.{◌≡◌, ℕ, List, Bool, true, Option, Some, None, Vec, sym, ap}
 use Rattle.std.proofs.Common.{refl}
-use Rattle.std.proofs.Common.{subst, ◌∙◌}
+use Rattle.std.proofs.Common.{◌∙◌}
 use Rattle.std.specs.Prelude.{IfSome, String, string_bytes, bytes_eq}
 use Rattle.std.specs.declared.alloc.Global.{Global}
 use Rattle.std.specs.List.{slice_get}

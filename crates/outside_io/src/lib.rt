@@ -1,5 +1,5 @@
-//! Traits for reading files by name and writing byte streams, with implementations over the operating
-//! system and in memory.
+//! Traits for reading files by name and writing byte streams, with implementations over the
+//! operating system and in memory.
 #![tactic(auto)]
 
 mod desk;

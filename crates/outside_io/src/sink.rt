@@ -20,8 +20,8 @@ pub trait Sink {
     /// All bytes taken so far, if the sink can observe them.
     ghost written: { Self → Option (List ℕ) };
 
-    /// The bytes taken but not yet sent on, if the sink can observe them. A sink that sends bytes on
-    /// at times of its own choice says `None`.
+    /// The bytes taken but not yet sent on, if the sink can observe them. A sink that sends bytes
+    /// on at times of its own choice says `None`.
     ghost unsent: { Self → Option (List ℕ) } = { λ _. None };
 
     /// The number of failed writes and flushes.
@@ -35,8 +35,8 @@ pub trait Sink {
         ensures later { faults self.old ≤ faults self.new }
         ensures failed { result ≡ Took.Failed → Rose (faults self.old) (faults self.new) };
 
-    /// Sends on all bytes that were taken and are not yet sent. On `Ok` none is left unsent. It does
-    /// not change the bytes written.
+    /// Sends on all bytes that were taken and are not yet sent. On `Ok` none is left unsent. It
+    /// does not change the bytes written.
     fn flush(&mut self) -> Result<(), WriteFault>
         ensures kept { Keeps (written self.old) (written self.new) }
         ensures sent { OnOk result (IsAtEnd (unsent self.new)) }

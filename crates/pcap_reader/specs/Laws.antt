@@ -1,5 +1,6 @@
--- What holds of captures and faults, whatever reads or writes them.
+-- Lemmas about captures and faults.
 use Rattle.std.specs.Prelude.{◌≡◌, ◌≤◌, ◌<◌, ◌⊎◌, ℕ, Bool, List, [], ◌∷◌, ◌++◌, length, map, All}
+use Rattle.steer_base.specs.declared.limits.TheConstants.{MAX_PACKETS}
 use Rattle.pcap_reader.specs.declared.capture.Capture.{Capture}
 use Rattle.pcap_reader.specs.declared.fault.CaptureFault.{CaptureFault}
 use Rattle.pcap_reader.specs.Numbers.{number_of, magic_of, HasMagic}
@@ -8,19 +9,19 @@ use Rattle.pcap_reader.specs.Faults.{HasFault}
 use Rattle.pcap_reader.specs.Writing.{header_bytes, Packet, CanBeWritten, packet_bytes}
 use Rattle.pcap_reader.specs.Writing.{capture_bytes, capture_of}
 
--- the first four bytes of a file tell a byte order and a unit of time where that is the number that
--- they are in that order
+-- the first four bytes of a file announce a byte order and a unit of time if and only if they are
+-- the magic number of this unit, read in this byte order
 abbrev pub MagicIsRead : Type 0
 MagicIsRead =
     (bytes : List ℕ) (big nano : Bool) → 4 ≤ length bytes → All (λ b. b < 256) bytes
     → (HasMagic big nano bytes → number_of big 4 bytes ≡ magic_of nano)
     × (number_of big 4 bytes ≡ magic_of nano → HasMagic big nano bytes)
 
--- bytes have one capture at most
+-- bytes have at most one capture
 abbrev pub HasOneCapture : Type 0
 HasOneCapture = (bytes : List ℕ) (a b : Capture) → HasCapture bytes a → HasCapture bytes b → a ≡ b
 
--- bytes have one fault at most
+-- bytes have at most one fault
 abbrev pub HasOneFault : Type 0
 HasOneFault = (bytes : List ℕ) (a b : CaptureFault) → HasFault bytes a → HasFault bytes b → a ≡ b
 
@@ -35,22 +36,23 @@ HasOneOfBoth =
     (bytes : List ℕ) → ((capture : Capture) × HasCapture bytes capture) ⊎ ((fault : CaptureFault)
     × HasFault bytes fault)
 
--- a header alone is the capture of no packets
+-- the file of no packets is just the header
 abbrev pub BeginsWithHeader : Type 0
 BeginsWithHeader = capture_bytes [] ≡ header_bytes
 
--- a packet that is written behind a capture is its last
+-- appending the bytes of a packet to a file appends the packet to its capture
 abbrev pub GrowsByPacket : Type 0
 GrowsByPacket = (packets : List Packet) (p : Packet) → capture_bytes (packets ++ p
     ∷ []) ≡ capture_bytes packets ++ packet_bytes p
 
--- at most 262144 packets that were written have the capture with just their times, and no cut
+-- a file of at most `MAX_PACKETS` written packets has the capture with exactly their times, and
+-- nothing truncated
 abbrev pub ReadsBack : Type 0
 ReadsBack =
-    (packets : List Packet) → All CanBeWritten packets → length packets ≤ 262144
+    (packets : List Packet) → All CanBeWritten packets → length packets ≤ MAX_PACKETS
     → HasCapture (capture_bytes packets) (capture_of packets)
 
--- the records of that capture have just the frames that were written
+-- the records of a written file's capture have exactly the frames that were written
 abbrev pub KeepsFrames : Type 0
 KeepsFrames =
     (packets : List Packet) → map (frame_of (capture_bytes packets))

@@ -2,16 +2,18 @@
 use Rattle.std.specs.Prelude.{◌≤◌, ◌<◌, ℕ, ◌+◌, ◌^◌, false, List, [], ◌∷◌, ◌++◌, length, None}
 use Rattle.std.specs.List.{flat_map}
 use Rattle.byteorder.specs.Endian.{little_bytes}
+use Rattle.pcap_reader.specs.declared.limits.TheConstants.{MAX_FRAME}
 use Rattle.pcap_reader.specs.declared.record.PcapRecord.{PcapRecord}
 use Rattle.pcap_reader.specs.declared.capture.Capture.{Capture}
 
--- the header: magic, version 2.4, two unused fields, the largest frame 65535, and Ethernet
+-- the header of a written file: magic number, version 2.4, two unused fields, largest frame 65535,
+-- and Ethernet
 unfoldable pub header_bytes : List ℕ
 header_bytes =
     0xd4 ∷ 0xc3 ∷ 0xb2 ∷ 0xa1 ∷ 2 ∷ 0 ∷ 4 ∷ 0 ∷ 0 ∷ 0 ∷ 0 ∷ 0 ∷ 0 ∷ 0 ∷ 0 ∷ 0 ∷ 0xff ∷ 0xff ∷ 0 ∷ 0
     ∷ 1 ∷ 0 ∷ 0 ∷ 0 ∷ []
 
--- the 16 bytes before a frame of this length
+-- the 16 bytes before a written frame of this length
 unfoldable pub record_header : ℕ → ℕ → ℕ → List ℕ
 record_header sec frac len = ((little_bytes 4 sec ++ little_bytes 4 frac) ++ little_bytes 4 len)
     ++ little_bytes 4 len
@@ -22,20 +24,21 @@ pub record Packet : Type 0 where
   pub frac : ℕ
   pub frame : List ℕ
 
--- the numbers of a packet fit the fields of a record
+-- the numbers of a packet fit into the fields of a record
 pub record CanBeWritten (p : Packet) : Type 0 where
   pub sec : p.sec < 2 ^ 32
   pub frac : p.frac < 2 ^ 32
-  pub frame : length p.frame ≤ 262144
+  pub frame : length p.frame ≤ MAX_FRAME
 
+-- the bytes of the record of a packet
 abbrev pub packet_bytes : Packet → List ℕ
 packet_bytes p = record_header p.sec p.frac (length p.frame) ++ p.frame
 
--- the header, and then each packet
+-- the bytes of a file of packets: the header, and then each packet
 abbrev pub capture_bytes : List Packet → List ℕ
 capture_bytes packets = header_bytes ++ flat_map packet_bytes packets
 
--- the records of packets that begin at this place of the file
+-- the records of packets written from offset `place` of the file on
 abbrev pub records_from : ℕ → List Packet → List PcapRecord
 records_from place [] = []
 records_from place (p ∷ ps) =
@@ -48,7 +51,7 @@ records_from place (p ∷ ps) =
     }
     ∷ records_from (place + (16 + length p.frame)) ps
 
--- the capture of packets, which ends behind the last of them
+-- the capture of a file of packets
 abbrev pub capture_of : List Packet → Capture
 capture_of packets = record {
   big = false;

@@ -1,15 +1,15 @@
-//! What a capture file tells.
+//! The content of a capture file.
 use crate::records::Records;
 
-/// The records of a capture file, and how the file writes its numbers and its times.
+/// The records of a capture file, its byte order and its unit of time.
 #[derive(Drop)]
 pub struct Capture {
-    /// Whether the file writes the highest byte of a number first.
+    /// Whether the numbers of the file are big-endian.
     pub big: bool,
-    /// Whether times are in nanoseconds. They are in microseconds otherwise.
+    /// Whether times are in nanoseconds; otherwise they are in microseconds.
     pub nano: bool,
-    /// The whole records, in the order of the file.
+    /// The complete records, in the order of the file.
     pub records: Records,
-    /// How many bytes of a last record there are, where the file ends within it.
+    /// The number of bytes of a last record, if the file ends within it.
     pub cut: Option<u32>,
 }

@@ -1,25 +1,26 @@
-//! Why a file is no capture.
+//! Why a file is not a capture.
 ghost use Rattle.pcap_reader.specs.declared.fault.CaptureFault.TheVariants.{OutOfMemory as NoMemory};
 ghost use Rattle.std.specs.Prelude.{◌≡◌};
 
 use steer_base::OutOfMemory;
 
-/// Why a file's bytes are no capture, or that there was no memory to read it.
+/// Why a file's bytes are not a capture, or that memory ran out.
 #[derive(Clone, Copy, Debug, PartialEq, Eq)]
 pub enum CaptureFault {
-    /// The file has only so many bytes, fewer than the 24 of a header.
+    /// The file has `len` bytes, fewer than the 24 of a header.
     ShortHeader { len: usize },
-    /// The first four bytes are no magic number. They are shown as a little-endian number.
+    /// The first four bytes are no magic number. `magic` is them as a little-endian number.
     BadMagic { magic: u32 },
     /// The version is not 2.4.
     BadVersion { major: u16, minor: u16 },
-    /// The low 16 bits of the link type are not 1, Ethernet. The whole field is shown.
+    /// The low 16 bits of the link type are not `LINKTYPE_ETHERNET`. `link` is the whole field.
     BadLink { link: u32 },
-    /// The record with this number, counted from 0, has a frame of more than 262,144 bytes.
+    /// The record with number `at`, counted from 0, has a frame of `len` bytes, more than
+    /// `MAX_FRAME`.
     RecordTooLong { at: u32, len: u32 },
-    /// Bytes follow the 262,144th record.
+    /// Bytes follow the record with number `MAX_PACKETS`, counted from 1.
     TooManyPackets,
-    /// There was no memory for the records.
+    /// There was not enough memory for the records.
     OutOfMemory,
 }
 

@@ -1,29 +1,27 @@
-//! What stands at one place behind the header of a capture.
+//! What comes next at one place after the header of a capture.
 ghost use Rattle.std.specs.Prelude.{◌≤◌, ◌<◌, ◌+◌, ◌^◌, length};
 
+use crate::limits::MAX_FRAME;
 use crate::record::PcapRecord;
 use byteorder::ByteOrder;
 
-/// The most bytes that a frame may have.
-const MAX_FRAME: u32 = 262_144;
-
-/// The bytes of a record before its frame.
+/// The number of bytes of a record before its frame.
 pub const RECORD_HEADER: usize = 16;
 
-/// What the front of some bytes is.
+/// What some bytes begin with.
 pub enum Front {
     /// A whole record.
     Whole(PcapRecord),
-    /// The header of a record that tells a frame of this length, more than a frame may have.
+    /// The header of a record whose frame would have this length, more than `MAX_FRAME`.
     TooLong(u32),
-    /// The beginning of a record.
+    /// A truncated record.
     Cut,
 }
 
 impl Front {
     ghost use Rattle.pcap_reader.specs.Fronts.{IsFront};
 
-    /// What the front of these bytes is, which begin at this place of the file.
+    /// What these bytes begin with. `place` is the offset of the first of them in the file.
     pub fn of<T: ByteOrder>(rest: &[u8], place: usize) -> Front
         requires some { 0 < length rest.now }
         requires fits { place + length rest.now < 2 ^ 64 }

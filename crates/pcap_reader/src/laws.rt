@@ -1,10 +1,10 @@
-//! Laws of captures, as functions that do nothing: their contracts are the laws.
+//! Lemmas about captures, each the contract of a function with an empty body.
 ghost use Rattle.pcap_reader.specs.Laws.{MagicIsRead, HasOneCapture, HasOneFault, HasNotBoth};
 ghost use Rattle.pcap_reader.specs.Laws.{HasOneOfBoth, BeginsWithHeader, GrowsByPacket, ReadsBack};
 ghost use Rattle.pcap_reader.specs.Laws.{KeepsFrames};
 
-/// A file's bytes have one capture or one fault, and never two of these. The magic number may be
-/// held against the four bytes, or against the number that they are.
+/// Lemma: a file's bytes have exactly one capture or exactly one fault, and never both. Comparing
+/// the magic number as four bytes or as a number is the same.
 pub fn one_capture_or_fault()
     ensures magic { MagicIsRead }
     ensures one_capture { HasOneCapture }
@@ -13,8 +13,8 @@ pub fn one_capture_or_fault()
     ensures either { HasOneOfBoth }
 {}
 
-/// What `put_header` and then one `put_packet` for each packet write is read back: the same times
-/// and the same frames, with no cut.
+/// Lemma: what `put_header` and then one `put_packet` for each packet write is read back with the
+/// same times and the same frames, and nothing truncated.
 pub fn captures_read_back()
     ensures header { BeginsWithHeader }
     ensures packet { GrowsByPacket }

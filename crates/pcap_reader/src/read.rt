@@ -1,6 +1,7 @@
-//! Reading a capture: one walk over its bytes.
+//! Reads a capture in one walk over its bytes.
 ghost use Rattle.std.specs.Prelude.{◌≡◌, ◌≢◌, ◌≤◌, ◌⊎◌, length, take, drop, All, IfOk, IfErr, OnOk};
 ghost use Rattle.std.specs.Prelude.{IfSome, IfNone, IsErrAnd, MatchResult, Bool};
+ghost use Rattle.steer_base.specs.declared.limits.TheConstants.{MAX_PACKETS};
 ghost use Rattle.pcap_reader.specs.declared.capture.Capture.{Capture as ACapture};
 ghost use Rattle.pcap_reader.specs.declared.fault.CaptureFault.{CaptureFault as AFault};
 ghost use Rattle.pcap_reader.specs.declared.fault.CaptureFault.TheVariants.{OutOfMemory as NoMemory};
@@ -12,47 +13,46 @@ ghost use Rattle.pcap_reader.specs.Faults.{HasFault};
 use crate::capture::Capture;
 use crate::fault::CaptureFault;
 use crate::front::{Front, RECORD_HEADER};
+use crate::limits::LINKTYPE_ETHERNET;
 use crate::records::Records;
 use byteorder::{BigEndian, ByteOrder, LittleEndian};
 use std::alloc::Global;
+use steer_base::MAX_PACKETS;
 
-/// The most packets that a capture may have.
-const MAX_PACKETS: usize = 262_144;
-
-/// The bytes of a file before its first record.
+/// The number of bytes of a file before its first record.
 const HEADER: usize = 24;
 
-/// The version of the format that is read.
+/// The major version of the format that is read.
 const MAJOR: u16 = 2;
 
+/// The minor version of the format that is read.
 const MINOR: u16 = 4;
 
-/// The link type of Ethernet (`LINKTYPE_ETHERNET`), in the low 16 bits of its field.
-const LINKTYPE_ETHERNET: u32 = 1;
-
+/// The number of low bits of its field that hold the link type.
 const LINKTYPE_BITS: u32 = 16;
 
-/// Reads the bytes of a pcap file, version 2.4, of Ethernet frames: of either byte order, with
-/// microseconds or nanoseconds. The fault is the first in the order of the file. Takes memory for
-/// the records alone.
+/// Reads the bytes of a pcap file, version 2.4, of Ethernet frames, in either byte order, with
+/// microseconds or nanoseconds. The fault is the first in the order of the file. Allocates memory
+/// only for the records.
 pub fn read_capture(alloc: Global, bytes: &[u8]) -> Result<Capture, CaptureFault>
-    // Ok exactly where the bytes have a capture, and memory is left.
+    // Ok if and only if the bytes have a capture and memory suffices.
     ensures found { IfOk result (λ capture. HasCapture bytes.now capture) }
     ensures complete { (capture : ACapture) → HasCapture bytes.now capture
         → MatchResult result (λ c. c ≡ capture) (λ e. e ≡ NoMemory) }
 
-    // Each fault exactly where the bytes have it, and memory is left.
+    // Each fault if and only if the bytes have it and memory suffices.
     ensures fault { IfErr result (λ e. e ≢ NoMemory → HasFault bytes.now e) }
     ensures exact { (fault : AFault) → HasFault bytes.now fault
         → IsErrAnd result (λ e. (e ≡ fault) ⊎ (e ≡ NoMemory)) }
 
-    ensures few { IfOk result (λ capture. length capture.records ≤ 262144) }
+    ensures few { IfOk result (λ capture. length capture.records ≤ MAX_PACKETS) }
     ensures within { IfOk result (λ capture. All (FrameIsWithin bytes.now) capture.records) }
 {
     read_file(alloc, bytes)
 }
 
-/// Reads the file. That no other answer is right follows from what captures and faults are.
+/// Reads the file. That no other result is right follows from the definitions of captures and
+/// faults.
 fn read_file(alloc: Global, bytes: &[u8]) -> Result<Capture, CaptureFault>
     ensures found { IfOk result (λ capture. HasCapture bytes.now capture) }
     ensures fault { IfErr result (λ e. e ≢ NoMemory → HasFault bytes.now e) }
@@ -74,7 +74,7 @@ fn read_file(alloc: Global, bytes: &[u8]) -> Result<Capture, CaptureFault>
     })
 }
 
-/// The byte order and the unit of time that the first four bytes tell.
+/// The byte order and the unit of time that the first four bytes announce.
 fn magic_of(bytes: &[u8]) -> Option<(bool, bool)>
     requires { 24 ≤ length bytes.now }
     ensures some { IfSome result (λ m. HasMagic m.0 m.1 bytes.now) }
@@ -89,7 +89,7 @@ fn magic_of(bytes: &[u8]) -> Option<(bool, bool)>
     }
 }
 
-/// Reads all but the magic number. `big` has the highest byte of a number first.
+/// Reads all but the magic number; numbers are big-endian if `big`.
 fn read_ordered(
     alloc: Global,
     big: bool,
@@ -108,7 +108,7 @@ fn read_ordered(
     }
 }
 
-/// The same, in the byte order `T`.
+/// Reads all but the magic number, in the byte order `T`.
 fn read_parts<T: ByteOrder>(
     alloc: Global,
     bytes: &[u8],
@@ -123,7 +123,7 @@ fn read_parts<T: ByteOrder>(
     read_records::<T>(alloc, bytes)
 }
 
-/// Whether the header is of version 2.4 and of Ethernet.
+/// Checks that the header has version 2.4 and link type Ethernet.
 fn check_header<T: ByteOrder>(header: &[u8]) -> Result<(), CaptureFault>
     requires { length header.now ≡ 24 }
     ensures ok { OnOk result (IsEthernet T.number_of header.now) }
@@ -141,7 +141,7 @@ fn check_header<T: ByteOrder>(header: &[u8]) -> Result<(), CaptureFault>
     Ok(())
 }
 
-/// Reads the records of a file, and counts the bytes of a last one that is cut.
+/// Reads the records of a file, and counts the bytes of a last one that is truncated.
 fn read_records<T: ByteOrder>(
     alloc: Global,
     bytes: &[u8],

@@ -22,7 +22,7 @@ impl Model for Records {
 }
 
 impl Records {
-    /// No records. Takes no memory yet.
+    /// An empty list. Allocates nothing.
     pub fn new(alloc: Global) -> Self
         ensures { result ≡ [] }
     {
@@ -31,25 +31,28 @@ impl Records {
         }
     }
 
+    /// The number of records.
     pub fn len(&self) -> usize
         ensures { result ≡ length self.now }
     {
         self.items.len()
     }
 
+    /// Whether there are no records.
     pub fn is_empty(&self) -> bool
         ensures { IsTrue result ↔ (self.now ≡ []) }
     {
         self.items.is_empty()
     }
 
+    /// The records as a slice.
     pub fn as_slice(&self) -> &[PcapRecord]
         ensures { result.now ≡ self.now }
     {
         self.items.as_slice()
     }
 
-    /// Appends a record, or leaves the list as it is.
+    /// Appends a record. On an error the list is unchanged.
     pub fn push(&mut self, next: PcapRecord) -> Result<(), OutOfMemory>
         ensures ok { OnOk result (self.new ≡ self.old ++ next ∷ []) }
         ensures err { OnErr result (self.new ≡ self.old) }

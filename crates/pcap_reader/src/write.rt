@@ -1,6 +1,7 @@
-//! Writing a capture: a little-endian file with microseconds, of Ethernet frames.
+//! Writes a capture: a little-endian file with microseconds, of Ethernet frames.
 ghost use Rattle.std.specs.Prelude.{◌≡◌, ◌≤◌, ◌+◌, ◌++◌, length, OnOk, OnErr, IsOk, vec_len};
 ghost use Rattle.std.specs.Vec.{vec_capacity};
+ghost use Rattle.pcap_reader.specs.declared.limits.TheConstants.{MAX_FRAME};
 ghost use Rattle.pcap_reader.specs.Writing.{header_bytes, record_header, packet_bytes};
 
 use byteorder::{ByteOrder, LittleEndian};
@@ -11,8 +12,8 @@ const HEADER: [u8; 24] = [
     0xd4, 0xc3, 0xb2, 0xa1, 2, 0, 4, 0, 0, 0, 0, 0, 0, 0, 0, 0, 0xff, 0xff, 0, 0, 1, 0, 0, 0,
 ];
 
-/// Appends the header of a capture, 24 bytes. Without memory `out` stays as it was; where it has
-/// room it takes none.
+/// Appends the header of a capture, 24 bytes. On an error `out` is unchanged. Allocates nothing if
+/// `out` has room.
 #[tactic(auto, unfolding(crate::specs::Writing::header_bytes))]
 pub fn put_header(out: &mut Vec<u8>) -> Result<(), OutOfMemory>
     ensures ok { OnOk result (out.new.items ≡ out.old.items ++ header_bytes) }
@@ -23,10 +24,11 @@ pub fn put_header(out: &mut Vec<u8>) -> Result<(), OutOfMemory>
     Ok(())
 }
 
-/// Appends the record of a frame: its time in seconds and microseconds, its length as both
-/// lengths, and its bytes. Without memory `out` stays as it was; where it has room it takes none.
+/// Appends the record of a frame: its time in seconds and microseconds, its length as both captured
+/// and original length, and its bytes. On an error `out` is unchanged. Allocates nothing if `out`
+/// has room.
 pub fn put_packet(out: &mut Vec<u8>, sec: u32, frac: u32, frame: &[u8]) -> Result<(), OutOfMemory>
-    requires { length frame.now ≤ 262144 }
+    requires { length frame.now ≤ MAX_FRAME }
     ensures ok { OnOk result (out.new.items
         ≡ out.old.items ++ packet_bytes (record { sec = sec; frac = frac; frame = frame.now })) }
     ensures err { OnErr result (out.new.items ≡ out.old.items) }

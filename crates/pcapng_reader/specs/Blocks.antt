@@ -1,4 +1,4 @@
--- The block at the front of what is left of a pcapng file: whole, cut, or at fault.
+-- The block at the front of the rest of a pcapng file: complete, truncated, or faulty.
 use Rattle.std.specs.Prelude.{ℕ, ◌-◌, Bool, true, false, not, ◌==◌, nat_lt, if◌then◌else◌, List}
 use Rattle.std.specs.Prelude.{length, Option, Some, None, Result, Ok, Err}
 use Rattle.pcapng_reader.specs.declared.section.Section.{Section}
@@ -9,11 +9,12 @@ use Rattle.pcapng_reader.specs.declared.fault.NgFault.TheVariants as fault
 use Rattle.pcapng_reader.specs.Numbers.{u32_at}
 use Rattle.pcapng_reader.specs.Contents.{is_len, and_then, content_at}
 
--- the type of a block. That of a section header is the same number in both byte orders
+-- the type of a block; that of a section header is the same number in both byte orders
 abbrev pub kind_of : Section → List ℕ → ℕ
 kind_of section block = u32_at section.big 0 block
 
--- the byte order of a block: a section header tells its own, every other block has its section's
+-- the byte order of a block: a section header announces its own, every other block has its
+-- section's
 unfoldable pub order_of : Section → List ℕ → Option Bool
 order_of section block =
     if not (kind_of section block == 0x0a0d0d0a) then Some section.big
@@ -21,15 +22,17 @@ order_of section block =
     else if u32_at true 8 block == 0x1a2b3c4d then Some true
     else None
 
--- the first total length of a block in its byte order, and the second, at the end of as many bytes
+-- the first total length of a block
 abbrev pub total_len : Bool → List ℕ → ℕ
 total_len big block = u32_at big 4 block
 
+-- the second total length of a block, in its last four bytes
 abbrev pub tail_len : Bool → List ℕ → ℕ
 tail_len big block = u32_at big (total_len big block - 4) block
 
--- a block of this byte order: its length fits its type, it is whole, it ends with its length, and
--- it tells what its type says
+-- the block at the front, of this byte order, with its content; `None` if it is truncated, and a
+-- fault if its length does not fit its type, it does not end with its length, or its content is
+-- faulty
 unfoldable pub block_in : Section → Place → Bool → List ℕ → Result (Option Block) NgFault
 block_in section place big rest =
     let len : ℕ = total_len big rest in
@@ -41,12 +44,13 @@ block_in section place big rest =
     and_then (λ content. Ok (Some (record { len = len; content = content })))
     (content_at section place kind big len rest)
 
+-- the block at the front, of a byte order if it is known
 abbrev pub ordered : Section → Place → List ℕ → Option Bool → Result (Option Block) NgFault
 ordered section place rest None = Err (fault.BadOrder (u32_at false 8 rest))
 ordered section place rest (Some big) = block_in section place big rest
 
--- what stands at the front: the first that holds of a cut block, the faults in their order, and a
--- whole block. Twelve bytes tell a type, a length, and the magic number of a section header
+-- the block at the front of the rest of a file: the first that applies of a truncated block, the
+-- faults in their order, and a complete block
 unfoldable pub block_at : Section → Place → List ℕ → Result (Option Block) NgFault
 block_at section place rest =
     if nat_lt (length rest) 12 then Ok None

@@ -13,21 +13,22 @@ use Rattle.pcapng_reader.specs.declared.content.Content.TheVariants as content
 use Rattle.pcapng_reader.specs.declared.fault.NgFault.{NgFault}
 use Rattle.pcapng_reader.specs.Blocks.{block_at}
 
--- before the first block there is no section, and nothing stands before it
+-- the section before the first block: there is none yet
 abbrev pub no_section : Section
 no_section = record { big = false; interfaces = [] }
 
+-- the place of the first block
 abbrev pub file_start : Place
 file_start = record { block = 0; packets = 0; start = 0 }
 
--- the packets of a block
+-- the packets of a block, none or one
 abbrev pub packets_in : Content → List PcapRecord
 packets_in (content.Section big) = []
 packets_in (content.Interface interface) = []
 packets_in (content.Packet r) = r ∷ []
 packets_in content.Other = []
 
--- the section behind a block: a section header forgets the interfaces, an interface is added
+-- the section after a block: a section header removes the interfaces, an interface is added
 abbrev pub section_behind : Section → Content → Section
 section_behind section (content.Section big) = record { big = big; interfaces = [] }
 section_behind section (content.Interface interface) =
@@ -35,7 +36,7 @@ section_behind section (content.Interface interface) =
 section_behind section (content.Packet r) = section
 section_behind section content.Other = section
 
--- the place behind a block
+-- the place after a block
 abbrev pub place_behind : Place → Block → Place
 place_behind place b = record {
   block = place.block + 1;
@@ -43,26 +44,27 @@ place_behind place b = record {
   start = place.start + b.len;
 }
 
--- how a file ends behind its last whole block: with nothing, with a cut block of so many bytes, or
--- with a fault
+-- how a file ends after its last complete block: with nothing, with a truncated block of this many
+-- bytes, or with a fault
 abbrev pub End : Type 0
 End = Result (Option ℕ) NgFault
 
+-- the rest of a file ends it like this
 abbrev pub EndsWith : Section → Place → List ℕ → End → Type 0
 EndsWith section place rest (Ok None) = rest ≡ []
 EndsWith section place rest (Ok (Some cut)) =
     (0 < length rest) × (block_at section place rest ≡ Ok None) × (cut ≡ length rest)
 EndsWith section place rest (Err e) = (0 < length rest) × (block_at section place rest ≡ Err e)
 
--- bytes that begin at this place, in this section, are these blocks one after another, and then
--- this end
+-- the bytes from this place on, in this section, are these blocks one after another, and then this
+-- end
 abbrev pub Reads : Section → Place → List ℕ → List Block → End → Type 0
 Reads section place bytes [] end = EndsWith section place bytes end
 Reads section place bytes (b ∷ bs) end =
     (0 < length bytes) × (block_at section place bytes ≡ Ok (Some b))
     × Reads (section_behind section b.content) (place_behind place b) (drop b.len bytes) bs end
 
--- the first four bytes of a pcapng file, the type of a section header
+-- the first four bytes of a file are the type of a section header
 abbrev pub BeginsNg : List ℕ → Type 0
 BeginsNg bytes = take 4 bytes ≡ 0x0a ∷ 0x0d ∷ 0x0d ∷ 0x0a ∷ []
 
@@ -70,19 +72,20 @@ BeginsNg bytes = take 4 bytes ≡ 0x0a ∷ 0x0d ∷ 0x0d ∷ 0x0a ∷ []
 abbrev pub packets_of : List Block → List PcapRecord
 packets_of blocks = flat_map (λ b. packets_in b.content) blocks
 
--- the byte order that the first block tells, a section header: `true` has the highest byte first
+-- the byte order that a section header announces, big-endian if `true`
 abbrev pub order_in : Content → Bool
 order_in (content.Section big) = big
 order_in (content.Interface interface) = false
 order_in (content.Packet r) = false
 order_in content.Other = false
 
+-- the byte order that the first block announces
 abbrev pub first_order : List Block → Bool
 first_order [] = false
 first_order (b ∷ bs) = order_in b.content
 
--- a file's bytes have this capture: the packets of its blocks, and the bytes of a last block that
--- is cut
+-- a file's bytes have this capture: the packets of its blocks, and the bytes of a truncated last
+-- block
 pub record HasNgCapture (bytes : List ℕ) (capture : Capture) : Type 0 where
   pub begins : BeginsNg bytes
   pub blocks : List Block
@@ -91,7 +94,7 @@ pub record HasNgCapture (bytes : List ℕ) (capture : Capture) : Type 0 where
   pub order : capture.big ≡ first_order blocks
   pub unit : capture.nano ≡ false
 
--- a file's bytes have this fault behind some whole blocks; want of memory is none of the bytes
+-- a file's bytes have this fault after some complete blocks; running out of memory is not a fault
 pub record HasNgFault (bytes : List ℕ) (e : NgFault) : Type 0 where
   pub begins : BeginsNg bytes
   pub blocks : List Block

@@ -1,7 +1,9 @@
--- What a whole block tells by its type, or its fault, after the pcapng file format
--- (draft-ietf-opsawg-pcapng, section 4). `place` says what stands before the block.
+-- The content of a complete block by its type, or its fault, after the pcapng file format
+-- (draft-ietf-opsawg-pcapng, section 4). `place` says what comes before the block.
 use Rattle.std.specs.Prelude.{ℕ, ◌+◌, ◌*◌, ◌/◌, ◌%◌, min, Bool, ◌&&◌, ◌==◌, nat_le, nat_lt}
 use Rattle.std.specs.Prelude.{if◌then◌else◌, List, Option, Some, None, Result, Ok, Err, slice_get}
+use Rattle.steer_base.specs.declared.limits.TheConstants.{MAX_PACKETS}
+use Rattle.pcap_reader.specs.declared.limits.TheConstants.{LINKTYPE_ETHERNET, MAX_FRAME}
 use Rattle.pcap_reader.specs.declared.record.PcapRecord.{PcapRecord}
 use Rattle.pcapng_reader.specs.declared.section.Interface.{Interface}
 use Rattle.pcapng_reader.specs.declared.section.Section.{Section}
@@ -12,8 +14,8 @@ use Rattle.pcapng_reader.specs.declared.fault.NgFault.{NgFault}
 use Rattle.pcapng_reader.specs.declared.fault.NgFault.TheVariants as fault
 use Rattle.pcapng_reader.specs.Numbers.{u16_at, u32_at}
 
--- the bytes that a block of this type has at the least: of a section header, an interface, an
--- enhanced packet, a simple packet, and every other type
+-- the least number of bytes of a block of this type: a section header, an interface, an enhanced
+-- packet, a simple packet, or any other type
 abbrev pub least_len : ℕ → ℕ
 least_len kind =
     if kind == 0x0a0d0d0a then 28
@@ -22,40 +24,43 @@ least_len kind =
     else if kind == 3 then 16
     else 12
 
--- a block of this type may have this total length
+-- whether a block of this type may have this total length
 abbrev pub is_len : ℕ → ℕ → Bool
 is_len kind len = len % 4 == 0 && nat_le (least_len kind) len
 
--- a length with the bytes that fill its last group of four
+-- a length padded to a multiple of four
 abbrev pub padded : ℕ → ℕ
 padded len = (len + 3) / 4 * 4
 
--- an answer that goes on with the value, and keeps the fault
+-- goes on with the value of a result, or keeps its fault
 abbrev pub and_then : {T U : Type 0} → (T → Result U NgFault) → Result T NgFault → Result U NgFault
 and_then f (Ok x) = f x
 and_then f (Err e) = Err e
 
--- the interface of a packet block that names this one: none stands behind 262144 packets, and the
--- section has described the interface, whose link type is Ethernet's
+-- the interface with this number that a packet names, or the fault if the section has not described
+-- it or its link type is not Ethernet
 abbrev pub linked : Place → ℕ → Option Interface → Result Interface NgFault
 linked place id None = Err (fault.BadInterface place.block id)
 linked place id (Some interface) =
-    if interface.link == 1 then Ok interface else Err (fault.BadNgLink place.block interface.link)
+    if interface.link == LINKTYPE_ETHERNET then Ok interface else Err (fault.BadNgLink place.block interface.link)
 
+-- the Ethernet interface with this number that a packet names, or the fault; a packet after
+-- `MAX_PACKETS` others is a fault too
 unfoldable pub ethernet_of : Section → Place → ℕ → Result Interface NgFault
 ethernet_of section place id =
-    if nat_le 262144 place.packets then Err fault.TooManyPackets
+    if nat_le MAX_PACKETS place.packets then Err fault.TooManyPackets
     else linked place id (slice_get section.interfaces id)
 
--- the packet of a block of this length whose frame begins `at` bytes behind the block's first: the
--- frame is not too long, and stands padded before the block's second length, which has 4 bytes
+-- the packet of a block of this length whose frame begins at offset `at` of the block, or the fault
+-- if the frame is too long or does not fit, padded, before the block's second length of 4 bytes
 unfoldable pub framed : Place → ℕ → ℕ → PcapRecord → Result Content NgFault
 framed place len at r =
-    if nat_lt 262144 r.len then Err (fault.RecordTooLong place.packets r.len)
+    if nat_lt MAX_FRAME r.len then Err (fault.RecordTooLong place.packets r.len)
     else if nat_lt len (at + padded r.len + 4) then Err (fault.BadBlock place.block len)
     else Ok (content.Packet r)
 
--- an enhanced packet: interface, two words of time, captured and original length, frame
+-- the content of an enhanced packet block: interface, two words of time, captured and original
+-- length, frame
 unfoldable pub enhanced : Section → Place → ℕ → List ℕ → Result Content NgFault
 enhanced section place len block =
     let r : PcapRecord = record {
@@ -67,11 +72,11 @@ enhanced section place len block =
     } in
     and_then (λ _. framed place len 28 r) (ethernet_of section place (u32_at section.big 8 block))
 
--- how many bytes of a frame an interface keeps: a snap length of 0 keeps all
+-- the number of bytes of a frame that an interface keeps: a snap length of 0 keeps all
 abbrev pub kept : Interface → ℕ → ℕ
 kept interface orig = if interface.snap == 0 then orig else min orig interface.snap
 
--- a simple packet, which the section's first interface saw: original length, frame
+-- the content of a simple packet block, of the section's first interface: original length, frame
 unfoldable pub simple : Section → Place → ℕ → List ℕ → Result Content NgFault
 simple section place len block =
     let orig : ℕ = u32_at section.big 8 block in
@@ -85,7 +90,7 @@ simple section place len block =
     } in
     and_then (λ interface. framed place len 12 (r interface)) (ethernet_of section place 0)
 
--- what a whole block of this type, byte order and length tells
+-- the content of a complete block of this type, byte order and length, or its fault
 unfoldable pub content_at : Section → Place → ℕ → Bool → ℕ → List ℕ → Result Content NgFault
 content_at section place kind big len block =
     if kind == 0x0a0d0d0a then

@@ -1,6 +1,8 @@
--- What holds of captures and faults, whatever reads or writes them.
+-- Lemmas about captures and faults.
 use Rattle.std.specs.Prelude.{◌≡◌, ◌≤◌, ◌⊎◌, ℕ, ◌+◌, ◌%◌, Bool, Some, Ok, List, [], ◌∷◌, ◌++◌}
 use Rattle.std.specs.Prelude.{length, map, All}
+use Rattle.steer_base.specs.declared.limits.TheConstants.{MAX_PACKETS}
+use Rattle.pcap_reader.specs.declared.limits.TheConstants.{MAX_FRAME}
 use Rattle.pcap_reader.specs.declared.capture.Capture.{Capture}
 use Rattle.pcap_reader.specs.Captures.{frame_of}
 use Rattle.pcap_reader.specs.Numbers.{number_of}
@@ -13,12 +15,12 @@ use Rattle.pcapng_reader.specs.declared.fault.NgFault.TheVariants as fault
 use Rattle.pcapng_reader.specs.Captures.{BeginsNg, HasNgCapture, HasNgFault}
 use Rattle.pcapng_reader.specs.Writing.{section_bytes, enhanced_bytes, ng_bytes, ng_capture}
 
--- bytes have one capture at most
+-- bytes have at most one capture
 abbrev pub HasOneNgCapture : Type 0
 HasOneNgCapture =
     (bytes : List ℕ) (a b : Capture) → HasNgCapture bytes a → HasNgCapture bytes b → a ≡ b
 
--- bytes have one fault at most
+-- bytes have at most one fault
 abbrev pub HasOneNgFault : Type 0
 HasOneNgFault = (bytes : List ℕ) (a b : NgFault) → HasNgFault bytes a → HasNgFault bytes b → a ≡ b
 
@@ -49,7 +51,8 @@ pub record IsFramed (big : Bool) (len : ℕ) (bytes : List ℕ) : Type 0 where
   pub first_told : number_of big 4 first ≡ len
   pub last_told : number_of big 4 last ≡ len
 
--- a whole block is these pieces in its byte order, and its length is a multiple of 4
+-- a complete block is a type, a length, a body and the length again in its byte order, and the
+-- length is a multiple of 4
 abbrev pub HasFourPieces : Type 0
 HasFourPieces =
     (section : Section) (place : Place) (bytes : List ℕ) (b : Block)
@@ -57,28 +60,30 @@ HasFourPieces =
     → (big : Bool) × (order_of section bytes ≡ Some big) × (b.len % 4 ≡ 0)
     × IsFramed big b.len bytes
 
--- a section alone is the capture of no frames
+-- the file of no frames is just the section
 abbrev pub BeginsWithSection : Type 0
 BeginsWithSection = ng_bytes [] ≡ section_bytes
 
--- a frame that is written behind a capture is its last
+-- appending the bytes of a frame to a file appends the frame to its capture
 abbrev pub GrowsByFrame : Type 0
 GrowsByFrame =
     (frames : List (List ℕ)) (f : List ℕ)
     → ng_bytes (frames ++ f ∷ []) ≡ ng_bytes frames ++ enhanced_bytes f
 
--- at most 262144 frames that were written have this capture, with no cut
+-- a file of at most `MAX_PACKETS` written frames has the capture of these frames, with nothing
+-- truncated
 abbrev pub ReadsNgBack : Type 0
 ReadsNgBack =
-    (frames : List (List ℕ)) → All (λ f. length f ≤ 262144) frames → length frames ≤ 262144
+    (frames : List (List ℕ)) → All (λ f. length f ≤ MAX_FRAME) frames
+    → length frames ≤ MAX_PACKETS
     → HasNgCapture (ng_bytes frames) (ng_capture frames)
 
--- the records of that capture have just the frames that were written
+-- the records of a written file's capture have exactly the frames that were written
 abbrev pub KeepsNgFrames : Type 0
 KeepsNgFrames =
     (frames : List (List ℕ))
     → map (frame_of (ng_bytes frames)) (ng_capture frames).records ≡ frames
 
--- want of memory is no fault of bytes
+-- running out of memory is not a fault of bytes
 abbrev pub IsNoWant : Type 0
 IsNoWant = (bytes : List ℕ) → HasNgFault bytes fault.OutOfMemory → ⊥

@@ -1,4 +1,4 @@
-//! What stands at one place of a pcapng file.
+//! The block at one place of a pcapng file.
 ghost use Rattle.std.specs.Prelude.{◌≡◌, ◌≤◌, ◌+◌, ◌<◌, ◌^◌, length, IfOk, IfNone};
 ghost use Rattle.pcapng_reader.specs.Blocks.{order_of, block_in, block_at};
 
@@ -8,22 +8,22 @@ use crate::numbers::u32_at;
 use crate::place::Place;
 use crate::section::Section;
 
-/// The bytes of a block without a body: its type and twice its total length.
+/// The number of bytes of a block without a body: its type and twice its total length.
 const EMPTY_BLOCK: usize = 12;
 
-/// The byte-order magic of a section header, in the order that it tells.
+/// The byte-order magic of a section header, read in the byte order that it announces.
 const BYTE_ORDER_MAGIC: u32 = 0x1a2b_3c4d;
 
-/// A whole block.
+/// A complete block.
 #[derive(Clone, Copy, Debug, PartialEq, Eq)]
 pub struct Block {
     /// Its total length in bytes.
     pub len: u32,
-    /// What it tells.
+    /// Its content.
     pub content: Content,
 }
 
-/// The byte order of the block at the front: `None` for a section header that tells neither.
+/// The byte order of the block at the front, `None` for a section header that fits neither.
 #[tactic(auto, unfolding(crate::specs::Blocks::order_of))]
 fn order_of(section: &Section, rest: &[u8]) -> Option<bool>
     requires { 12 ≤ length rest.now }
@@ -76,8 +76,8 @@ fn block_in(
     Ok(Some(Block { len, content }))
 }
 
-/// The block at the front of what is left of a file, which begins at this place, or `None` where
-/// the file ends within it.
+/// The block at the front of the rest of a file, which begins at `place`, or `None` if the file
+/// ends within it.
 #[tactic(auto, unfolding(crate::specs::Blocks::block_at))]
 pub fn block_at(section: &Section, place: Place, rest: &[u8]) -> Result<Option<Block>, NgFault>
     requires { place.start + length rest.now < 2 ^ 64 }

@@ -1,5 +1,6 @@
-//! What a whole block tells, by its type (draft-ietf-opsawg-pcapng, section 4).
+//! The content of a complete block, by its type (draft-ietf-opsawg-pcapng, section 4).
 ghost use Rattle.std.specs.Prelude.{◌≡◌, ◌≤◌, ◌+◌, ◌<◌, ◌^◌, length, IsTrue};
+ghost use Rattle.pcap_reader.specs.declared.limits.TheConstants.{MAX_FRAME};
 ghost use Rattle.pcapng_reader.specs.Contents.{ethernet_of, framed, enhanced, simple, content_at};
 ghost use Rattle.pcapng_reader.specs.Contents.{least_len, is_len, padded};
 
@@ -7,7 +8,8 @@ use crate::fault::NgFault;
 use crate::numbers::{u16_at, u32_at};
 use crate::place::Place;
 use crate::section::{Interface, Section};
-use pcap_reader::PcapRecord;
+use pcap_reader::{LINKTYPE_ETHERNET, MAX_FRAME, PcapRecord};
+use steer_base::MAX_PACKETS;
 
 /// The type of a section header block, the same in both byte orders.
 pub const SECTION_HEADER: u32 = 0x0a0d_0d0a;
@@ -24,25 +26,16 @@ pub const ENHANCED: u32 = 6;
 /// The major version of a section that is read.
 const MAJOR: u16 = 1;
 
-/// The link type of Ethernet (`LINKTYPE_ETHERNET`).
-const LINKTYPE_ETHERNET: u16 = 1;
-
-/// The most bytes that a frame may have.
-const MAX_FRAME: u32 = 262_144;
-
-/// The most packets that a capture may have.
-const MAX_PACKETS: u32 = 262_144;
-
-/// Where the frame of an enhanced packet begins in its block.
+/// The offset of an enhanced packet's frame in its block.
 const ENHANCED_FRAME: u32 = 28;
 
-/// Where the frame of a simple packet begins in its block.
+/// The offset of a simple packet's frame in its block.
 const SIMPLE_FRAME: u32 = 12;
 
-/// The bytes of a block's second total length.
+/// The number of bytes of a block's second total length.
 const TAIL: u32 = 4;
 
-/// What a whole block tells.
+/// The content of a complete block.
 #[derive(Clone, Copy, Debug, PartialEq, Eq)]
 pub enum Content {
     /// A new section, in this byte order.
@@ -51,11 +44,11 @@ pub enum Content {
     Interface(Interface),
     /// A packet.
     Packet(PcapRecord),
-    /// Nothing that a capture keeps.
+    /// A block of another type, which is skipped.
     Other,
 }
 
-/// The bytes that a block of this type has at the least.
+/// The least number of bytes of a block of this type.
 fn least_len(kind: u32) -> u32
     ensures { result ≡ least_len kind }
 {
@@ -75,20 +68,20 @@ pub fn is_len(kind: u32, len: u32) -> bool
     len % 4 == 0 && len >= least_len(kind)
 }
 
-/// A frame's length with the bytes behind it that fill its last group of four.
+/// The length of a frame padded to a multiple of four.
 pub fn padded(len: u32) -> u32
-    requires { len ≤ 262144 }
+    requires { len ≤ MAX_FRAME }
     ensures { result ≡ padded len }
 {
     (len + 3) / 4 * 4
 }
 
-/// The interface with this number, which a packet names.
+/// The Ethernet interface with this number, which a packet names.
 #[tactic(auto, unfolding(crate::specs::Contents::ethernet_of))]
 fn ethernet_of(section: &Section, place: Place, id: u32) -> Result<Interface, NgFault>
     ensures { result ≡ ethernet_of section.now place id }
 {
-    if place.packets >= MAX_PACKETS {
+    if place.packets as usize >= MAX_PACKETS {
         return Err(NgFault::TooManyPackets);
     }
     let Some(interface) = section.interfaces.get(id) else {
@@ -97,16 +90,18 @@ fn ethernet_of(section: &Section, place: Place, id: u32) -> Result<Interface, Ng
             id,
         });
     };
-    if interface.link != LINKTYPE_ETHERNET {
+    let link = u32::from(interface.link);
+    if link != LINKTYPE_ETHERNET {
         return Err(NgFault::BadNgLink {
             block: place.block,
-            link: u32::from(interface.link),
+            link,
         });
     }
     Ok(interface)
 }
 
-/// This packet, whose frame begins `at` bytes behind the beginning of its block.
+/// Checks that a packet's frame, which begins at offset `at` of its block, is not too long and
+/// fits.
 #[tactic(auto, unfolding(crate::specs::Contents::framed))]
 fn framed(place: Place, len: u32, at: u32, packet: PcapRecord) -> Result<Content, NgFault>
     requires { at ≤ 28 }
@@ -127,7 +122,7 @@ fn framed(place: Place, len: u32, at: u32, packet: PcapRecord) -> Result<Content
     Ok(Content::Packet(packet))
 }
 
-/// What an enhanced packet block tells.
+/// The content of an enhanced packet block.
 #[tactic(auto, unfolding(crate::specs::Contents::enhanced))]
 fn enhanced(section: &Section, place: Place, len: u32, block: &[u8]) -> Result<Content, NgFault>
     requires whole { len ≤ length block.now }
@@ -147,7 +142,7 @@ fn enhanced(section: &Section, place: Place, len: u32, block: &[u8]) -> Result<C
     framed(place, len, ENHANCED_FRAME, packet)
 }
 
-/// What a simple packet block tells. Its interface is the section's first.
+/// The content of a simple packet block. Its interface is the first of the section.
 #[tactic(auto, unfolding(crate::specs::Contents::simple))]
 fn simple(section: &Section, place: Place, len: u32, block: &[u8]) -> Result<Content, NgFault>
     requires whole { len ≤ length block.now }
@@ -172,7 +167,7 @@ fn simple(section: &Section, place: Place, len: u32, block: &[u8]) -> Result<Con
     framed(place, len, SIMPLE_FRAME, packet)
 }
 
-/// What a whole block of this type tells, where `big` is its byte order and `len` its total length.
+/// The content of a complete block of this type, with byte order `big` and total length `len`.
 #[tactic(auto, unfolding(crate::specs::Contents::content_at))]
 pub fn content_at(
     section: &Section,

@@ -1,11 +1,10 @@
-//! Laws of captures, as functions that do nothing: their contracts are the laws.
-ghost use Rattle.pcapng_reader.specs.Laws.{HasOneNgCapture, HasOneNgFault, HasNotBothNg};
-ghost use Rattle.pcapng_reader.specs.Laws.{HasOneOfBothNg};
+//! Lemmas about captures, each the contract of a function with an empty body.
+ghost use Rattle.pcapng_reader.specs.Laws.{HasOneNgCapture, HasOneNgFault, HasNotBothNg, HasOneOfBothNg};
 ghost use Rattle.pcapng_reader.specs.Laws.{IsNoWant, HasFourPieces, BeginsWithSection};
 ghost use Rattle.pcapng_reader.specs.Laws.{GrowsByFrame, ReadsNgBack, KeepsNgFrames};
 
-/// A file's bytes have one capture or one fault, and never two of these. Want of memory is no fault
-/// of bytes.
+/// Lemma: a file's bytes have exactly one capture or exactly one fault, and never both. Running out
+/// of memory is not a fault of bytes.
 pub fn one_capture_or_fault()
     ensures one_capture { HasOneNgCapture }
     ensures one_fault { HasOneNgFault }
@@ -14,14 +13,14 @@ pub fn one_capture_or_fault()
     ensures memory { IsNoWant }
 {}
 
-/// A whole block is a type, its total length, a body and the length again, of 4, 4, 12 less than
-/// the length, and 4 bytes; the length is a multiple of 4.
+/// Lemma: a complete block is a type, its total length, a body and the length again, of 4, 4, the
+/// length minus 12, and 4 bytes; the length is a multiple of 4.
 pub fn a_block_is_four_pieces()
     ensures { HasFourPieces }
 {}
 
-/// What `put_section` and then one `put_enhanced` for each frame write is read back: just the same
-/// frames, with no cut.
+/// Lemma: what `put_section` and then one `put_enhanced` for each frame write is read back with
+/// exactly the same frames, and nothing truncated.
 pub fn frames_are_read_back()
     ensures section { BeginsWithSection }
     ensures frame { GrowsByFrame }

@@ -1,4 +1,4 @@
-//! The pcapng file format, version 1: captures of Ethernet frames are read and written.
+//! Reads and writes captures of Ethernet frames in the pcapng file format, version 1.
 #![tactic(auto)]
 
 mod block;

@@ -4,7 +4,7 @@ ghost use Rattle.pcapng_reader.specs.Numbers.{u16_at, u32_at};
 
 use byteorder::{BigEndian, ByteOrder, LittleEndian};
 
-/// The 16-bit number at a place. `big` has the highest byte first.
+/// The 16-bit number at an offset, big-endian if `big`.
 #[tactic(auto, unfolding(crate::specs::Numbers::u16_at))]
 pub fn u16_at(big: bool, at: usize, bytes: &[u8]) -> u16
     requires { at + 2 ≤ length bytes.now }
@@ -18,7 +18,7 @@ pub fn u16_at(big: bool, at: usize, bytes: &[u8]) -> u16
     }
 }
 
-/// The 32-bit number at a place. `big` has the highest byte first.
+/// The 32-bit number at an offset, big-endian if `big`.
 #[tactic(auto, unfolding(crate::specs::Numbers::u32_at))]
 pub fn u32_at(big: bool, at: usize, bytes: &[u8]) -> u32
     requires { at + 4 ≤ length bytes.now }

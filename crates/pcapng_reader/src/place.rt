@@ -1,12 +1,12 @@
-//! Where a block stands in its file.
+//! Where a block is in its file.
 
-/// What stands before a block.
+/// What comes before a block.
 #[derive(Clone, Copy, Debug, PartialEq, Eq)]
 pub struct Place {
-    /// How many blocks of the file.
+    /// The number of blocks of the file before it.
     pub block: u64,
-    /// How many packets of the file.
+    /// The number of packets of the file before it.
     pub packets: u32,
-    /// How many bytes of the file.
+    /// The number of bytes of the file before it.
     pub start: usize,
 }

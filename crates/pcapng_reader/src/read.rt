@@ -1,6 +1,7 @@
-//! Reading a capture: one walk over the blocks of its file.
+//! Reads a capture in one walk over the blocks of its file.
 ghost use Rattle.std.specs.Prelude.{◌≡◌, ◌≢◌, ◌≤◌, ◌⊎◌, ◌↔◌, length, All, IsTrue, IfOk, IfErr};
 ghost use Rattle.std.specs.Prelude.{IsErrAnd, MatchResult};
+ghost use Rattle.steer_base.specs.declared.limits.TheConstants.{MAX_PACKETS};
 ghost use Rattle.pcap_reader.specs.declared.capture.Capture.{Capture as ACapture};
 ghost use Rattle.pcap_reader.specs.Captures.{FrameIsWithin};
 ghost use Rattle.pcapng_reader.specs.declared.fault.NgFault.{NgFault as AFault};
@@ -13,7 +14,7 @@ use crate::reader::Reader;
 use pcap_reader::Capture;
 use std::alloc::Global;
 
-/// Whether bytes begin as a pcapng file does, with the type of a section header.
+/// Whether bytes begin with the type of a section header, as every pcapng file does.
 pub fn is_pcapng(bytes: &[u8]) -> bool
     ensures { IsTrue result ↔ BeginsNg bytes.now }
 {
@@ -21,35 +22,37 @@ pub fn is_pcapng(bytes: &[u8]) -> bool
 }
 
 /// Reads the bytes of a pcapng file of Ethernet frames, which begin with the type of a section
-/// header, `0a 0d 0d 0a`: several sections, of either byte order, with their interfaces, enhanced
-/// and simple packets; all other blocks are passed over. The fault is the first in the order of the
-/// file. The two words of a packet's time are its `sec` and `frac`, whatever the interface's unit
-/// is. Takes memory for the records and for the interfaces of a section.
+/// header, `0a 0d 0d 0a`: any number of sections, in either byte order, with their interfaces,
+/// enhanced and simple packets; all other blocks are skipped. The fault is the first in the order
+/// of the file. The two words of a packet's time become its `sec` and `frac`, whatever the
+/// interface's unit of time is. Allocates memory for the records and for the interfaces of a
+/// section.
 pub fn read_ng(alloc: Global, bytes: &[u8]) -> Result<Capture, NgFault>
     requires { BeginsNg bytes.now }
 
-    // Ok exactly where the bytes have a capture, and memory is left.
+    // Ok if and only if the bytes have a capture and memory suffices.
     ensures found { IfOk result (λ capture. HasNgCapture bytes.now capture) }
     ensures complete { (capture : ACapture) → HasNgCapture bytes.now capture
         → MatchResult result (λ c. c ≡ capture) (λ e. e ≡ NoMemory) }
 
-    // Each fault exactly where the bytes have it, and memory is left.
+    // Each fault if and only if the bytes have it and memory suffices.
     ensures fault { IfErr result (λ e. e ≢ NoMemory → HasNgFault bytes.now e) }
     ensures exact { (fault : AFault) → HasNgFault bytes.now fault
         → IsErrAnd result (λ e. (e ≡ fault) ⊎ (e ≡ NoMemory)) }
 
-    ensures few { IfOk result (λ capture. length capture.records ≤ 262144) }
+    ensures few { IfOk result (λ capture. length capture.records ≤ MAX_PACKETS) }
     ensures within { IfOk result (λ capture. All (FrameIsWithin bytes.now) capture.records) }
 {
     read_file(alloc, bytes)
 }
 
-/// Reads the file. That no other answer is right follows from what captures and faults are.
+/// Reads the file. That no other result is right follows from the definitions of captures and
+/// faults.
 fn read_file(alloc: Global, bytes: &[u8]) -> Result<Capture, NgFault>
     requires { BeginsNg bytes.now }
     ensures found { IfOk result (λ capture. HasNgCapture bytes.now capture) }
     ensures fault { IfErr result (λ e. e ≢ NoMemory → HasNgFault bytes.now e) }
-    ensures few { IfOk result (λ capture. length capture.records ≤ 262144) }
+    ensures few { IfOk result (λ capture. length capture.records ≤ MAX_PACKETS) }
     ensures within { IfOk result (λ capture. All (FrameIsWithin bytes.now) capture.records) }
 {
     let mut reader = Reader::new(alloc);

@@ -1,4 +1,4 @@
-//! What was read of a file up to some place.
+//! The part of a file that was read so far.
 ghost use Rattle.std.specs.Prelude.{◌≡◌, ◌+◌, ◌<◌, ◌^◌, [], length, OnOk, false};
 ghost use Rattle.pcapng_reader.specs.Captures.{no_section, file_start, packets_in, section_behind};
 ghost use Rattle.pcapng_reader.specs.Captures.{place_behind, order_in};
@@ -12,21 +12,21 @@ use pcap_reader::{Capture, Records};
 use std::alloc::Global;
 use steer_base::OutOfMemory;
 
-/// What a file told so far.
+/// What was read of a file so far.
 #[derive(Drop)]
 pub struct Reader {
-    /// The section in which the next block stands.
+    /// The section of the next block.
     pub section: Section,
-    /// Where the next block stands.
+    /// Where the next block is.
     pub place: Place,
     /// The packets so far.
     pub records: Records,
-    /// The byte order of the first section, `true` where it has the highest byte of a number first.
+    /// The byte order of the first section, `true` if it is big-endian.
     pub big: bool,
 }
 
 impl Reader {
-    /// Nothing is read yet. Takes no memory.
+    /// A reader that has read nothing. Allocates nothing.
     pub fn new(alloc: Global) -> Self
         ensures section { result.section ≡ no_section }
         ensures place { result.place ≡ file_start }
@@ -48,7 +48,7 @@ impl Reader {
         }
     }
 
-    /// Goes over a whole block, and keeps what it tells.
+    /// Moves past a complete block, and keeps its content.
     pub fn take_in(&mut self, block: Block) -> Result<(), OutOfMemory>
         requires blocks { self.old.place.block + 1 < 2 ^ 64 }
         requires packets { self.old.place.packets + length (packets_in block.content) < 2 ^ 32 }
@@ -75,7 +75,7 @@ impl Reader {
         Ok(())
     }
 
-    /// What was read, as a capture whose last block is cut after so many bytes, where one is.
+    /// The capture of what was read, with the number of bytes of a truncated last block.
     pub fn ends(self, cut: Option<u32>) -> Capture
         ensures { result ≡ ng_capture_of self cut }
     {
@@ -89,7 +89,7 @@ impl Reader {
     }
 }
 
-/// The byte order that a section header tells; that of every other block is not asked for.
+/// The byte order that a section header announces, `false` for every other block.
 fn is_big(content: Content) -> bool
     ensures { result ≡ order_in content }
 {

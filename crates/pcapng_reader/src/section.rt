@@ -1,16 +1,16 @@
-//! What a section tells of its blocks.
+//! A section and its interfaces.
 ghost use Rattle.std.specs.Prelude.{◌≡◌, [], ◌∷◌, ◌++◌, List, OnOk, OnErr, slice_get};
 
 use std::alloc::Global;
 use std::marker::Model;
 use steer_base::OutOfMemory;
 
-/// What an interface description block tells.
+/// The content of an interface description block.
 #[derive(Clone, Copy, Debug, PartialEq, Eq)]
 pub struct Interface {
     /// The link type of its frames; 1 is Ethernet.
     pub link: u16,
-    /// The most bytes that were kept of a frame, or 0 where that was not bounded.
+    /// The most bytes that were kept of each frame, or 0 if that was not bounded.
     pub snap: u32,
 }
 
@@ -30,7 +30,7 @@ impl Model for Interfaces {
 }
 
 impl Interfaces {
-    /// No interfaces. Takes no memory yet.
+    /// An empty list. Allocates nothing.
     pub fn new(alloc: Global) -> Self
         ensures { result ≡ [] }
     {
@@ -46,7 +46,7 @@ impl Interfaces {
         self.items.get(id as usize).copied()
     }
 
-    /// Appends an interface, or leaves the list as it is.
+    /// Appends an interface. On an error the list is unchanged.
     pub fn push(&mut self, next: Interface) -> Result<(), OutOfMemory>
         ensures ok { OnOk result (self.new ≡ self.old ++ next ∷ []) }
         ensures err { OnErr result (self.new ≡ self.old) }
@@ -55,7 +55,7 @@ impl Interfaces {
         Ok(())
     }
 
-    /// Forgets all interfaces.
+    /// Removes all interfaces.
     pub fn clear(&mut self)
         ensures { self.new ≡ [] }
     {
@@ -63,10 +63,10 @@ impl Interfaces {
     }
 }
 
-/// A section: how it writes numbers, and the interfaces that it has described so far.
+/// A section: its byte order, and the interfaces that it has described so far.
 #[derive(Drop)]
 pub struct Section {
-    /// Whether the highest byte of a number comes first.
+    /// Whether its numbers are big-endian.
     pub big: bool,
     /// The interfaces that packets may name.
     pub interfaces: Interfaces,

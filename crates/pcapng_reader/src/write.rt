@@ -1,8 +1,9 @@
-//! Writing a capture: one little-endian section of Ethernet frames.
+//! Writes a capture: one little-endian section of Ethernet frames.
 ghost use Rattle.std.specs.Prelude.{◌≡◌, ◌≤◌, ◌+◌, ◌++◌, length, OnOk, OnErr, IsOk, vec_len};
 ghost use Rattle.std.specs.Prelude.{replicate};
 ghost use Rattle.std.specs.Vec.{vec_capacity};
 ghost use Rattle.byteorder.specs.Endian.{little_bytes};
+ghost use Rattle.pcap_reader.specs.declared.limits.TheConstants.{MAX_FRAME};
 ghost use Rattle.pcapng_reader.specs.Writing.{section_bytes, enhanced_len, enhanced_header};
 ghost use Rattle.pcapng_reader.specs.Writing.{enhanced_bytes};
 
@@ -10,22 +11,22 @@ use crate::content::{ENHANCED, padded};
 use byteorder::{ByteOrder, LittleEndian};
 use steer_base::OutOfMemory;
 
-/// A section header of version 1.0 and of no known length, and the description of an interface of
-/// Ethernet frames that keeps at most 262,144 bytes of each.
+/// A section header of version 1.0 and unspecified length, and the description of an Ethernet
+/// interface that keeps at most `MAX_FRAME` bytes of each frame.
 const SECTION: [u8; 48] = [
     0x0a, 0x0d, 0x0d, 0x0a, 28, 0, 0, 0, 0x4d, 0x3c, 0x2b, 0x1a, 1, 0, 0, 0, 0xff, 0xff, 0xff,
     0xff, 0xff, 0xff, 0xff, 0xff, 28, 0, 0, 0, 1, 0, 0, 0, 20, 0, 0, 0, 1, 0, 0, 0, 0, 0, 4, 0, 20,
     0, 0, 0,
 ];
 
-/// The bytes of an enhanced packet block beside its padded frame.
+/// The number of bytes of an enhanced packet block besides its padded frame.
 const ENHANCED_FIELDS: u32 = 32;
 
-/// What fills the last group of four bytes of a frame, at the most.
+/// The longest padding of a frame.
 const ZEROS: [u8; 3] = [0, 0, 0];
 
-/// Appends a section header and one interface, 48 bytes. Without memory `out` stays as it was;
-/// where it has room it takes none.
+/// Appends a section header and one interface, 48 bytes. On an error `out` is unchanged. Allocates
+/// nothing if `out` has room.
 #[tactic(auto, unfolding(crate::specs::Writing::section_bytes))]
 pub fn put_section(out: &mut Vec<u8>) -> Result<(), OutOfMemory>
     ensures ok { OnOk result (out.new.items ≡ out.old.items ++ section_bytes) }
@@ -36,11 +37,11 @@ pub fn put_section(out: &mut Vec<u8>) -> Result<(), OutOfMemory>
     Ok(())
 }
 
-/// Appends an enhanced packet of interface 0 at time 0, with the frame's length as both lengths,
-/// its bytes, and zeros that fill its last group of four. Without memory `out` stays as it was;
-/// where it has room it takes none.
+/// Appends an enhanced packet of interface 0 at time 0, with the frame's length as both captured
+/// and original length, its bytes, and zeros that pad it to a multiple of four. On an error `out`
+/// is unchanged. Allocates nothing if `out` has room.
 pub fn put_enhanced(out: &mut Vec<u8>, frame: &[u8]) -> Result<(), OutOfMemory>
-    requires { length frame.now ≤ 262144 }
+    requires { length frame.now ≤ MAX_FRAME }
     ensures ok { OnOk result (out.new.items ≡ out.old.items ++ enhanced_bytes frame.now) }
     ensures err { OnErr result (out.new.items ≡ out.old.items) }
     ensures room { vec_len out.old + enhanced_len (length frame.now) ≤ vec_capacity out.old
@@ -61,7 +62,7 @@ pub fn put_enhanced(out: &mut Vec<u8>, frame: &[u8]) -> Result<(), OutOfMemory>
 /// The 28 bytes before a frame of this length.
 #[tactic(auto, unfolding(crate::specs::Writing::enhanced_header))]
 fn header_of(len: u32) -> [u8; 28]
-    requires { len ≤ 262144 }
+    requires { len ≤ MAX_FRAME }
     ensures { result ≡ enhanced_header len }
 {
     let mut header = [0; 28];
@@ -74,7 +75,7 @@ fn header_of(len: u32) -> [u8; 28]
 
 /// The total length of the block of a frame of this length.
 fn total_of(len: u32) -> [u8; 4]
-    requires { len ≤ 262144 }
+    requires { len ≤ MAX_FRAME }
     ensures { result ≡ little_bytes 4 (enhanced_len len) }
 {
     let mut total = [0; 4];

@@ -1,5 +1,7 @@
 -- The ranges of the parts of a plan.
 use Rattle.std.specs.Prelude.{ℕ, ◌^◌, ◌<◌, ◌≤◌, length, All}
+use Rattle.steer_base.specs.declared.limits.TheConstants.{MAX_SOCKET_SIZE}
+use Rattle.plan_reader.specs.declared.limits.TheConstants.{MAX_PLAN_BACKLOG, MAX_PLAN_FILTERS}
 use Rattle.plan_reader.specs.declared.settings.parts.Parts.{Parts}
 use Rattle.plan_reader.specs.declared.settings.parts.Receive.{Receive}
 use Rattle.plan_reader.specs.declared.settings.parts.Tables.{Tables}
@@ -7,6 +9,7 @@ use Rattle.plan_reader.specs.declared.settings.parts.Sends.{Sends}
 use Rattle.plan_reader.specs.Ranges.{StepsAreWithin, HasLength, QueueIsWithin, TxIsWithin}
 use Rattle.plan_reader.specs.Ranges.{DetachIsWithin}
 
+-- the settings of the receive side are within their ranges
 pub record ReceiveIsWithin (receive : Receive) : Type 0 where
   pub some_cpu : 1 ≤ receive.cpus
   pub cpus_within : receive.cpus ≤ 32
@@ -16,13 +19,15 @@ pub record ReceiveIsWithin (receive : Receive) : Type 0 where
   pub reta_length : HasLength 128 128 receive.reta
   pub reta_within : All (λ queue. queue < length receive.queues) receive.reta
 
+-- the sizes of tables and the backlog limit are within their ranges
 pub record TablesAreWithin (cpus : ℕ) (tables : Tables) : Type 0 where
-  pub sock_within : tables.sock ≤ 65536
-  pub filters_within : tables.filters ≤ 4096
+  pub sock_within : tables.sock ≤ MAX_SOCKET_SIZE
+  pub filters_within : tables.filters ≤ MAX_PLAN_FILTERS
   pub some_backlog : 1 ≤ tables.backlog
-  pub backlog_within : tables.backlog ≤ 65536
+  pub backlog_within : tables.backlog ≤ MAX_PLAN_BACKLOG
   pub limited_within : tables.limited.0 < 2 ^ cpus
 
+-- the settings of the transmit side are within their ranges
 pub record SendsAreWithin (cpus queues : ℕ) (sends : Sends) : Type 0 where
   pub apps_length : HasLength 1 32 sends.apps
   pub apps_within : All (λ cpu. cpu < cpus) sends.apps
@@ -35,6 +40,7 @@ pub record SendsAreWithin (cpus queues : ℕ) (sends : Sends) : Type 0 where
   pub detach_length : HasLength 0 32 sends.detach
   pub detach_within : All DetachIsWithin sends.detach
 
+-- the parts of a plan are within their ranges
 pub record PartsAreWithin (parts : Parts) : Type 0 where
   pub receive_within : ReceiveIsWithin parts.receive
   pub tables_within : TablesAreWithin parts.receive.cpus parts.tables

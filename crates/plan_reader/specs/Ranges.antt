@@ -1,11 +1,12 @@
 -- The ranges of a plan's fields.
-use Rattle.std.specs.Prelude.{ℕ, ◌^◌, ◌<◌, ◌≤◌, ◌&&◌, Bool, true, List, [], length, Option, Some}
+use Rattle.std.specs.Prelude.{ℕ, ◌+◌, ◌^◌, ◌<◌, ◌≤◌, ◌&&◌, Bool, true, List, [], length, Option, Some}
 use Rattle.std.specs.Prelude.{None, nat_lt}
 use Rattle.std.specs.List.{AllPass, filter_map}
 use Rattle.steer_base.specs.declared.command.Command.{Command}
 use Rattle.steer_base.specs.declared.command.Command.TheVariants.{Mask, Flows, Sock, Offline}
 use Rattle.steer_base.specs.declared.command.Command.TheVariants.{Online, XCpus, XQueues, Reta}
 use Rattle.steer_base.specs.declared.command.Command.TheVariants.{Stand, Expire}
+use Rattle.steer_base.specs.declared.limits.TheConstants.{MAX_FLOW_COUNT, MAX_PACKETS, MAX_SOCKET_SIZE}
 use Rattle.steer_base.specs.declared.step.Detach.{Detach}
 use Rattle.steer_base.specs.declared.step.Step.{Step}
 use Rattle.steer_base.specs.declared.step.Step.TheVariants as step
@@ -15,30 +16,34 @@ use Rattle.plan_reader.specs.declared.plan.TxPlan.{TxPlan}
 use Rattle.plan_reader.specs.declared.plan.Steps.{Steps}
 use Rattle.plan_reader.specs.declared.plan.Steps.TheVariants as steps
 
--- a length from `low` to `high`
+-- the length of a list is from `low` to `high`
 pub record HasLength {X : Type 0} (low high : ℕ) (list : List X) : Type 0 where
   pub at_least : low ≤ length list
   pub at_most : length list ≤ high
 
+-- the settings of a receive queue are within their ranges
 pub record QueueIsWithin (cpus : ℕ) (queue : QueuePlan) : Type 0 where
   pub home : queue.home < cpus
   pub mask : queue.mask.0 < 2 ^ cpus
-  pub flows : queue.flows ≤ 32768
+  pub flows : queue.flows ≤ MAX_FLOW_COUNT
 
+-- the settings of a transmit queue are within their ranges
 pub record TxIsWithin (cpus queues : ℕ) (tx : TxPlan) : Type 0 where
   pub cpus_below : tx.cpus.0 < 2 ^ cpus
   pub queues_below : tx.queues < 2 ^ queues
 
+-- a detachment is within its ranges
 pub record DetachIsWithin (detach : Detach) : Type 0 where
   pub tap : detach.tap ≤ 31
-  pub after : detach.after ≤ 262144
+  pub after : detach.after ≤ MAX_PACKETS
 
--- whether a command names what the plan has
+-- whether a command names only processors, queues and applications of the plan, and its sizes are
+-- within their ranges
 abbrev pub command_is_within : Sizes → Command → Bool
 command_is_within sizes (Mask queue mask) =
     nat_lt queue sizes.queues && nat_lt mask.0 (2 ^ sizes.cpus)
-command_is_within sizes (Flows queue count) = nat_lt queue sizes.queues && nat_lt count 32769
-command_is_within sizes (Sock size) = nat_lt size 65537
+command_is_within sizes (Flows queue count) = nat_lt queue sizes.queues && nat_lt count (MAX_FLOW_COUNT + 1)
+command_is_within sizes (Sock size) = nat_lt size (MAX_SOCKET_SIZE + 1)
 command_is_within sizes (Offline cpu) = nat_lt cpu sizes.cpus
 command_is_within sizes (Online cpu) = nat_lt cpu sizes.cpus
 command_is_within sizes (XCpus tx mask) = nat_lt tx sizes.tx && nat_lt mask.0 (2 ^ sizes.cpus)
@@ -47,7 +52,7 @@ command_is_within sizes (Reta place queue) = nat_lt place 128 && nat_lt queue si
 command_is_within sizes (Stand app cpu) = nat_lt app sizes.apps && nat_lt cpu sizes.cpus
 command_is_within sizes Expire = true
 
--- whether a step names what the plan has
+-- whether a step names only processors, queues, applications and packets that a plan can have
 abbrev pub step_is_within : Sizes → Step → Bool
 step_is_within sizes step.Arrive = true
 step_is_within sizes (step.Take queue) = nat_lt queue sizes.queues
@@ -60,7 +65,7 @@ step_is_within sizes (step.Leave queue) = nat_lt queue sizes.queues
 step_is_within sizes (step.Pull cpu) = nat_lt cpu sizes.cpus
 step_is_within sizes (step.Deliver cpu) = nat_lt cpu sizes.cpus
 step_is_within sizes (step.Retire cpu) = nat_lt cpu sizes.cpus
-step_is_within sizes (step.Record flow) = nat_lt flow 262144
+step_is_within sizes (step.Record flow) = nat_lt flow MAX_PACKETS
 step_is_within sizes (step.Send app) = nat_lt app sizes.apps
 step_is_within sizes (step.TEnter app) = nat_lt app sizes.apps
 step_is_within sizes (step.TLeave app) = nat_lt app sizes.apps

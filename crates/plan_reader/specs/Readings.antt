@@ -1,4 +1,4 @@
--- The plan of a JSON value: a value after another in their order, up to the first that is wrong.
+-- Reads the parts of a plan from a JSON value, one after another, up to the first that is wrong.
 use Rattle.std.specs.Prelude.{ℕ, ◌+◌, ◌^◌, List, [], ◌∷◌, Bool, Option, Some, None, Result, Ok, Err}
 use Rattle.std.specs.Prelude.{nat_le, if◌then◌else◌, is_some, option_and_then, bytes_eq, codes}
 use Rattle.std.specs.Prelude.{bit_or, ⊤}
@@ -9,6 +9,7 @@ use Rattle.hex.specs.Hex.{decode_sized}
 use Rattle.serde_json.specs.Data.{Data, Items, no_items, item, Members, no_members, member}
 use Rattle.serde_json.specs.Events.{items_len}
 use Rattle.serde_json.specs.Find.{get, as_number, as_u64, as_str, as_array, as_object}
+use Rattle.steer_base.specs.declared.limits.TheConstants.{MAX_FLOW_COUNT, MAX_PACKETS}
 use Rattle.steer_base.specs.declared.step.Detach.{Detach}
 use Rattle.steer_base.specs.declared.step.Step.{Step}
 use Rattle.plan_reader.specs.declared.faults.cause.Cause.{Cause}
@@ -120,7 +121,7 @@ queue_plan cpus d = do
   is ← an_object d
   home ← required (codes "home") (λ v. here (number_below cpus v)) d
   mask ← required (codes "mask") (set 32 cpus) d
-  flows ← required (codes "flows") (λ v. here (number_between 0 32768 v)) d
+  flows ← required (codes "flows") (λ v. here (number_between 0 MAX_FLOW_COUNT v)) d
   none ← only (codes "home" ∷ codes "mask" ∷ codes "flows" ∷ []) d
   Ok (record { home = home; mask = record { 0 = mask }; flows = flows })
 
@@ -138,7 +139,7 @@ unfoldable pub detach_of : Data → Result Detach Fault
 detach_of d = do
   is ← an_object d
   tap ← required (codes "tap") (λ v. here (number_between 0 31 v)) d
-  after ← required (codes "after") (λ v. here (number_between 0 262144 v)) d
+  after ← required (codes "after") (λ v. here (number_between 0 MAX_PACKETS v)) d
   none ← only (codes "tap" ∷ codes "after" ∷ []) d
   Ok (record { tap = tap; after = after })
 

@@ -1,14 +1,16 @@
--- What a plan says, and its ranges.
+-- The settings of a plan and their ranges.
 use Rattle.std.specs.Prelude.{ℕ, ◌^◌, ◌<◌, ◌≤◌, List, length, All}
 use Rattle.steer_base.specs.declared.cpu_mask.CpuMask.{CpuMask}
+use Rattle.steer_base.specs.declared.limits.TheConstants.{MAX_SOCKET_SIZE}
 use Rattle.steer_base.specs.declared.step.Detach.{Detach}
+use Rattle.plan_reader.specs.declared.limits.TheConstants.{MAX_PLAN_BACKLOG, MAX_PLAN_FILTERS}
 use Rattle.plan_reader.specs.declared.plan.QueuePlan.{QueuePlan}
 use Rattle.plan_reader.specs.declared.plan.TxPlan.{TxPlan}
 use Rattle.plan_reader.specs.declared.plan.Steps.{Steps}
 use Rattle.plan_reader.specs.Ranges.{HasLength, QueueIsWithin, TxIsWithin, DetachIsWithin}
 use Rattle.plan_reader.specs.Ranges.{StepsAreWithin}
 
--- what a plan says, field by field
+-- the settings of a plan, field by field
 pub record PlanSettings : Type 0 where
   pub cpus : ℕ
   pub queues : List QueuePlan
@@ -27,7 +29,7 @@ pub record PlanSettings : Type 0 where
   pub detach : List Detach
   pub steps : Steps
 
--- each field is within its range
+-- each setting of a plan is within its range
 pub record IsWithin (plan : PlanSettings) : Type 0 where
   pub some_cpu : 1 ≤ plan.cpus
   pub cpus_within : plan.cpus ≤ 32
@@ -36,10 +38,10 @@ pub record IsWithin (plan : PlanSettings) : Type 0 where
   pub kinds_within : plan.kinds ≤ 63
   pub reta_length : HasLength 128 128 plan.reta
   pub reta_within : All (λ queue. queue < length plan.queues) plan.reta
-  pub sock_within : plan.sock ≤ 65536
-  pub filters_within : plan.filters ≤ 4096
+  pub sock_within : plan.sock ≤ MAX_SOCKET_SIZE
+  pub filters_within : plan.filters ≤ MAX_PLAN_FILTERS
   pub some_backlog : 1 ≤ plan.backlog
-  pub backlog_within : plan.backlog ≤ 65536
+  pub backlog_within : plan.backlog ≤ MAX_PLAN_BACKLOG
   pub limited_within : plan.limited.0 < 2 ^ plan.cpus
   pub apps_length : HasLength 1 32 plan.apps
   pub apps_within : All (λ cpu. cpu < plan.cpus) plan.apps

@@ -1,9 +1,10 @@
--- The step of a text: the whole text is held against the grammar first, then its numbers against
--- the plan from the left.
-use Rattle.std.specs.Prelude.{ℕ, Bool, ◌||◌, List, Option, Some, None, Result, Ok, Err, is_some}
+-- The step of a text: the whole text is checked against the grammar first, then its numbers against
+-- the plan, from the left.
+use Rattle.std.specs.Prelude.{ℕ, ◌+◌, Bool, ◌||◌, List, Option, Some, None, Result, Ok, Err, is_some}
 use Rattle.std.specs.Prelude.{if◌then◌else◌, bytes_eq, codes}
 use Rattle.steer_base.specs.declared.command.Command.TheVariants.{Mask, Flows, Sock, XCpus, XQueues}
 use Rattle.steer_base.specs.declared.command.Command.TheVariants.{Reta, Stand}
+use Rattle.steer_base.specs.declared.limits.TheConstants.{MAX_FLOW_COUNT, MAX_PACKETS, MAX_SOCKET_SIZE}
 use Rattle.steer_base.specs.declared.step.Step.{Step}
 use Rattle.steer_base.specs.declared.step.Step.TheVariants.{Record, Give}
 use Rattle.plan_reader.specs.declared.faults.cause.Cause.{Cause}
@@ -19,23 +20,23 @@ one_of limit n step = do
   n ← below limit n
   kind (step n)
 
--- a word with one number
+-- the step of a word and a number
 unfoldable pub number_step : Sizes → List ℕ → ℕ → Result Step Cause
 number_step sizes word n =
     if is_some (queue_step word 0) then one_of sizes.queues n (queue_step word)
     else (if is_some (cpu_step word 0) then one_of sizes.cpus n (cpu_step word)
     else (if is_some (app_step word 0) then one_of sizes.apps n (app_step word)
     else (if is_some (tx_step word 0) then one_of sizes.tx n (tx_step word)
-    else (if bytes_eq word (codes "record") then one_of 262144 n (λ flow. Some (Record flow))
-    else (if bytes_eq word (codes "sock") then one_of 65537 n (λ size. Some (Give (Sock size)))
+    else (if bytes_eq word (codes "record") then one_of MAX_PACKETS n (λ flow. Some (Record flow))
+    else (if bytes_eq word (codes "sock") then one_of (MAX_SOCKET_SIZE + 1) n (λ size. Some (Give (Sock size)))
     else Err WrongKind)))))
 
--- a word with two numbers
+-- the step of a word and two numbers
 unfoldable pub pair_step : Sizes → List ℕ → ℕ → ℕ → Result Step Cause
 pair_step sizes word first second =
     if bytes_eq word (codes "flows") then (do
       queue ← below sizes.queues first
-      count ← below 32769 second
+      count ← below (MAX_FLOW_COUNT + 1) second
       Ok (Give (Flows queue count)))
     else (if bytes_eq word (codes "reta") then (do
       place ← below 128 first
@@ -47,7 +48,7 @@ pair_step sizes word first second =
       Ok (Give (Stand app cpu)))
     else Err WrongKind))
 
--- a word with a number and a set
+-- the step of a word, a number and a set
 unfoldable pub set_step : Sizes → List ℕ → ℕ → List ℕ → Result Step Cause
 set_step sizes word first members =
     if bytes_eq word (codes "mask") then (do
@@ -64,12 +65,12 @@ set_step sizes word first members =
       Ok (Give (XQueues tx queues)))
     else Err WrongKind))
 
--- whether the second argument of the word is a set
+-- whether the second argument of a word is a set
 unfoldable pub takes_set : List ℕ → Bool
 takes_set word =
     bytes_eq word (codes "mask") || bytes_eq word (codes "xcpus") || bytes_eq word (codes "xqueues")
 
--- a word and two arguments
+-- the step of a word and two arguments
 abbrev pub two_arguments : Sizes → List ℕ → List ℕ → List ℕ → Result Step Cause
 two_arguments sizes word first second =
     if takes_set word then (do
@@ -81,14 +82,14 @@ two_arguments sizes word first second =
       other ← kind (plain_number second)
       pair_step sizes word number other)
 
--- a word and one argument, or two where something follows the space behind the first
+-- the step of a word and one argument, or two if something follows the space after the first
 abbrev pub some_arguments : Sizes → List ℕ → List ℕ → Option (List ℕ) → Result Step Cause
 some_arguments sizes word first None = do
   number ← kind (plain_number first)
   number_step sizes word number
 some_arguments sizes word first (Some second) = two_arguments sizes word first second
 
--- a word, and its arguments where something follows the space behind it
+-- the step of a word, with arguments if something follows the space after it
 abbrev pub arguments : Sizes → List ℕ → Option (List ℕ) → Result Step Cause
 arguments sizes word None = bare_step word
 arguments sizes word (Some rest) = some_arguments sizes word (before 32 rest) (after_byte 32 rest)

@@ -1,4 +1,4 @@
-//! What a plan says.
+//! The plan of a run.
 ghost use Rattle.std.specs.Prelude.{◌≡◌};
 ghost use Rattle.plan_reader.specs.Ranges.{commands_of};
 ghost use Rattle.plan_reader.specs.Settings.{IsWithin};
@@ -12,9 +12,10 @@ use steer_base::{Command, Cpu, CpuMask, Detach, List, RxQueue, Step};
 pub struct QueuePlan {
     /// The processor that polls the queue.
     pub home: Cpu,
-    /// Its packet-steering processors (`rps_cpus`).
+    /// The processors that its packets may be steered to (`rps_cpus`).
     pub mask: CpuMask,
-    /// Its flow count (`rps_flow_cnt`), from 0 to 32,768, as given.
+    /// Its flow count (`rps_flow_cnt`), at most `MAX_FLOW_COUNT`, as given: not rounded up to a
+    /// power of two.
     pub flows: u32,
 }
 
@@ -30,13 +31,13 @@ pub struct TxPlan {
 /// The steps of a run.
 #[derive(Debug, Drop)]
 pub enum Steps {
-    /// These, at most 1,000,000 of them.
+    /// A list of at most 1,000,000 steps.
     List(List<Step>),
-    /// The steps of the first `count` words of a seed, and a `sweep` after them.
+    /// The steps of the first `count` words of a seed, and then a `sweep`.
     Seed {
         /// The seed of the words.
         seed: u64,
-        /// How many words.
+        /// The number of words, at most 999,999.
         count: u32,
     },
 }
@@ -44,36 +45,37 @@ pub enum Steps {
 /// The settings of a run and its steps, each within its range.
 #[derive(Drop)]
 pub struct Plan {
-    /// How many processors there are, from 1 to 32.
+    /// The number of processors, from 1 to 32.
     pub cpus: u8,
-    /// The receive queues, from 1 to 16 of them.
+    /// The receive queues, 1 to 16.
     pub queues: List<QueuePlan>,
-    /// The key of the receive hash.
+    /// The key of the receive hash. The default key is `toeplitz`'s `VERIFICATION_KEY`.
     pub key: [u8; 40],
-    /// The hash kinds that are on, a set of six bits.
+    /// The enabled hash kinds, a set of six bits.
     pub kinds: u8,
     /// The 128 entries of the redirection table.
     pub reta: List<RxQueue>,
-    /// The size of the socket flow table (`rps_sock_flow_entries`), from 0 to 65,536, as given.
+    /// The size of the socket flow table (`rps_sock_flow_entries`), at most `MAX_SOCKET_SIZE`, as
+    /// given: not rounded up to a power of two.
     pub sock: u32,
-    /// How many filters the card has, from 0 to 4,096.
+    /// The number of hardware filters of the network card, at most `MAX_PLAN_FILTERS`.
     pub filters: u32,
-    /// How many packets may wait in the backlog of a processor (`netdev_max_backlog`), from 1 to
-    /// 65,536.
+    /// The most packets that may wait in the backlog of a processor (`netdev_max_backlog`), from 1
+    /// to `MAX_PLAN_BACKLOG`.
     pub backlog: u32,
-    /// The number that the counters of all lanes show before their first packet.
+    /// The number at which the counters of all lanes start, before their first packet.
     pub start: u32,
     /// The processors that have the flow limit (`flow_limit_cpu_bitmap`).
     pub limited: CpuMask,
-    /// The processor on which each application stands, from 1 to 32 of them.
+    /// For each application, the processor that it runs on; 1 to 32 applications.
     pub apps: List<Cpu>,
-    /// The transmit queues, from 1 to 32 of them.
+    /// The transmit queues, 1 to 32.
     pub tx: List<TxPlan>,
-    /// How many threads run the machine, from 1 to 32.
+    /// The number of threads that run the machine, from 1 to 32.
     pub workers: u32,
-    /// How often a command is tried while it finds the machine busy, from 1 to 64.
+    /// How often a command is tried while the machine is busy, from 1 to 64.
     pub tries: u32,
-    /// The taps that are detached, and when, at most 32.
+    /// Which taps are detached, and when; at most 32.
     pub detach: List<Detach>,
     /// The steps.
     pub steps: Steps,
@@ -104,7 +106,7 @@ impl Plan {
     ghost use Rattle.plan_reader.specs.Plans.{nth_step, sizes_of, step_count};
     ghost use Rattle.plan_reader.specs.Ranges.{commands_of, step_is_within};
 
-    /// How many of each the plan has.
+    /// The numbers of processors, queues and applications of the plan.
     fn sizes(&self) -> Sizes
         ensures { result ≡ sizes_of self.now }
     {
@@ -116,7 +118,7 @@ impl Plan {
         }
     }
 
-    /// How many steps the plan has: those of the list, or those of the seed and the `sweep`.
+    /// The number of steps: those of the list, or those of the seed and the `sweep`.
     pub fn step_count(&self) -> u32
         ensures { result ≡ step_count self.now }
     {
@@ -126,7 +128,7 @@ impl Plan {
         }
     }
 
-    /// The `i`-th step, from 0: of the list, or of the seed with the `sweep` after its steps.
+    /// The step with index `i`: of the list, or of the seed with the `sweep` after its steps.
     pub fn step_at(&self, i: u32) -> Step
         requires { i < step_count self.now }
         ensures step { nth_step self.now i ≡ Some result }
@@ -144,7 +146,7 @@ impl Plan {
         }
     }
 
-    /// The commands of a list of steps, in their order. A seed has none.
+    /// The commands among the steps of a list, in order. A seed has none.
     pub fn commands(&self) -> &[Command]
         ensures { result.now ≡ commands_of self.now.steps }
     {

@@ -18,4 +18,6 @@ mod plans;
 #[cfg(test)]
 mod rules;
 #[cfg(test)]
+mod seeds;
+#[cfg(test)]
 mod tunnels;

@@ -1,5 +1,6 @@
 -- The report of the bytes of a plan and of a capture.
 use Rattle.std.specs.Prelude.{◌≡◌, ◌≤◌, ℕ, List, Ok, length}
+use Rattle.steer_base.specs.declared.limits.TheConstants.{MAX_PACKETS}
 use Rattle.steer_base.specs.declared.packet.Packet.{Packet}
 use Rattle.pcap_reader.specs.declared.capture.Capture.{Capture}
 use Rattle.plan_reader.specs.PlanTexts.{plan_of, settings_of}
@@ -24,7 +25,7 @@ pub record IsReplayOf (plan : Plan) (bytes : List ℕ) (capture : Capture) (taps
     (r : ReplayLists) : Type 0 where
   pub packets : List Packet
   pub are_packets : ArePacketsBy plan bytes capture packets
-  pub few : length packets ≤ 262144
+  pub few : length packets ≤ MAX_PACKETS
   pub is : r ≡ replay_of plan packets capture.cut taps
   pub fits : IsWithinTypes plan r
 
@@ -37,6 +38,6 @@ pub record IsReportOfPlan (plan_bytes capture_bytes : List ℕ) (capture : Captu
   pub has_plan : HasPlan plan_bytes plan
   pub packets : List Packet
   pub are_packets : ArePacketsBy plan capture_bytes capture packets
-  pub few : length packets ≤ 262144
+  pub few : length packets ≤ MAX_PACKETS
   pub is : text ≡ replay_text (replay_of plan packets capture.cut taps)
   pub fits : IsWithinTypes plan (replay_of plan packets capture.cut taps)

@@ -1,5 +1,6 @@
 //! The steps of a plan, made one by one.
 ghost use Rattle.std.specs.Prelude.{◌≡◌, ◌≤◌, IfOk, length};
+ghost use Rattle.steer_base.specs.declared.limits.TheConstants.{MAX_PACKETS};
 ghost use Rattle.steer_invariant.specs.InvariantLaws.{MayStart};
 ghost use Rattle.steer_model.specs.State.Ranges.{AreOfFlows};
 ghost use Rattle.steer_model.specs.State.Start.{replayed};
@@ -20,7 +21,7 @@ pub fn play(
     packets: &[Packet],
     cut: Option<u32>,
 ) -> Result<History, OutOfMemory>
-    requires few { length packets.now ≤ 262144 }
+    requires few { length packets.now ≤ MAX_PACKETS }
     requires flows { AreOfFlows packets.now }
     ensures { IfOk result (λ history. history ≡ replayed plan.now packets.now cut) }
 {
@@ -33,7 +34,7 @@ pub fn play(
 
 /// Tells that a machine may start of this plan and these packets. It does nothing.
 pub fn tell_start(plan: &Plan, packets: &[Packet])
-    requires few { length packets.now ≤ 262144 }
+    requires few { length packets.now ≤ MAX_PACKETS }
     requires flows { AreOfFlows packets.now }
     ensures { MayStart plan.now packets.now }
 {
@@ -42,7 +43,7 @@ pub fn tell_start(plan: &Plan, packets: &[Packet])
 
 /// Tells that what the history of a plan is counted in is below 2^64. It does nothing.
 pub fn tell_countable(plan: &Plan, packets: &[Packet], cut: Option<u32>)
-    requires few { length packets.now ≤ 262144 }
+    requires few { length packets.now ≤ MAX_PACKETS }
     requires flows { AreOfFlows packets.now }
     ensures { IsCountable (replayed plan.now packets.now cut) }
 {

@@ -3,6 +3,7 @@ ghost use Rattle.std.specs.Prelude.{◌≡◌, ◌≤◌, IfOk, OnErr, OnOk, len
 ghost use Rattle.std.specs.Io.KnownBytes.{Appends};
 ghost use Rattle.outside_io.specs.Counts.{Rose};
 ghost use Rattle.outside_io.specs.Sink.{AppendsSome};
+ghost use Rattle.steer_base.specs.declared.limits.TheConstants.{MAX_PACKETS};
 ghost use Rattle.steer_model.specs.State.Ranges.{AreOfFlows};
 ghost use Rattle.replay.specs.Replays.{IsWithinTypes, replay_of, replay_text};
 
@@ -54,7 +55,7 @@ impl Replay {
         cut: Option<u32>,
         taps: Vec<Box<dyn Tap>>,
     ) -> Result<Replay, OutOfMemory>
-        requires few { length packets.now ≤ 262144 }
+        requires few { length packets.now ≤ MAX_PACKETS }
         requires flows { AreOfFlows packets.now }
         ensures is { IfOk result (λ replay. replay
             ≡ replay_of plan.now packets.now cut (map (λ tap lines. text tap lines) taps.items)) }

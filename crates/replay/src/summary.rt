@@ -4,6 +4,7 @@ ghost use Rattle.std.specs.Io.KnownBytes.{Appends};
 ghost use Rattle.outside_io.specs.Counts.{Rose};
 ghost use Rattle.outside_io.specs.Sink.{AppendsSome};
 ghost use Rattle.replay.specs.Summaries.{after_drops, counts_line, input_line, up_to_drops};
+ghost use Rattle.steer_base.specs.declared.limits.TheConstants.{MAX_PACKETS};
 
 use crate::counts::Counts;
 use crate::flows::flow_count;
@@ -36,7 +37,7 @@ impl Summary {
     /// Generates a plan and a capture of `packets` packets over at most `flows` flows, and makes
     /// all steps of the plan over them.
     pub fn make(alloc: Global, seed: u64, packets: u32, flows: u32) -> Result<Summary, OutOfMemory>
-        requires few_packets { packets ≤ 262144 }
+        requires few_packets { packets ≤ MAX_PACKETS }
         requires some_flow { 1 ≤ flows }
         requires few_flows { flows ≤ 65536 }
         ensures { IfOk result (IsSummaryOf seed packets flows) }

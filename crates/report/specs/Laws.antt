@@ -1,6 +1,7 @@
 -- What a report determines: its rows, its history and the texts of its taps.
 use Rattle.std.specs.Prelude.{ℕ, ◌≡◌, ◌<◌, ◌≤◌, ◌^◌, List, length}
 use Rattle.std.specs.List.{All}
+use Rattle.steer_base.specs.declared.limits.TheConstants.{MAX_PACKETS}
 use Rattle.steer_base.specs.declared.packet.Packet.{Packet}
 use Rattle.history.specs.Lines.{LineLists}
 use Rattle.history.specs.Ranges.{HistoryFits}
@@ -45,6 +46,6 @@ abbrev pub HasOneHistory : Type 0
 HasOneHistory =
     (packets : List Packet) (apps start : ℕ) (h k : History) (texts others : List (List ℕ))
     (bytes : List ℕ)
-    → length packets ≤ 262144 → apps < 2 ^ 64
+    → length packets ≤ MAX_PACKETS → apps < 2 ^ 64
     → IsReportOf packets apps start h texts bytes → IsReportOf packets apps start k others bytes
     → (h ≡ k) × (texts ≡ others)

@@ -1,5 +1,6 @@
 -- Which lines are those of a history.
 use Rattle.std.specs.Prelude.{ℕ, ◌≡◌, ◌≤◌, List, length}
+use Rattle.steer_base.specs.declared.limits.TheConstants.{MAX_PACKETS}
 use Rattle.steer_base.specs.declared.packet.Packet.{Packet}
 use Rattle.history.specs.Lines.{LineLists, lines_of}
 use Rattle.history.specs.declared.history.History.{History}
@@ -10,4 +11,4 @@ pub record AreLinesOf (lines : LineLists) (h : History) : Type 0 where
   pub packets : List Packet
   pub apps : ℕ
   pub are : lines ≡ lines_of packets apps h
-  pub few : length h.arrivals ≤ 262144
+  pub few : length h.arrivals ≤ MAX_PACKETS

@@ -1,5 +1,5 @@
-//! Steers the packets of a capture after the kernel's scaling chapter, and reports what happened to
-//! each.
+//! The program `steer`: it replays a capture through packet steering as the kernel's scaling chapter
+//! describes it, and reports what happened to each packet.
 #![tactic(auto)]
 
 use outside_io::{Desk, FileDesk, Sink, StdSink};
@@ -9,11 +9,11 @@ use std::process::ExitCode;
 use std::{env, io};
 use steer_base::OutOfMemory;
 use steer_top::steer_still;
-use taps::{Depth, PerCpu, PerFlow, Tap};
+use taps::{Tap, standard_taps};
 
 const OUT_OF_MEMORY: u8 = 7;
 
-/// How many bytes of the text are gathered before they go to standard output.
+/// The bytes of text that are buffered before they go to standard output.
 const GATHERED: usize = 65_536;
 
 // The words after the program's name.
@@ -25,7 +25,7 @@ fn words_of(rt: &HostRuntime) -> io::Result<Vec<String>> {
     Ok(words)
 }
 
-// Does the command of the words with a tap of each kind, and answers its status.
+// Carries out the command of the words with the standard taps, and returns its status.
 fn call<D: Desk, K: Sink, E: Sink>(
     alloc: Global,
     words: &[String],
@@ -33,13 +33,11 @@ fn call<D: Desk, K: Sink, E: Sink>(
     out: &mut K,
     err: &mut E,
 ) -> Result<u8, OutOfMemory> {
-    let per_cpu: Box<dyn Tap> = Box::new(alloc, PerCpu::make(alloc))?;
-    let per_flow: Box<dyn Tap> = Box::new(alloc, PerFlow::make(alloc))?;
-    let depth: Box<dyn Tap> = Box::new(alloc, Depth::make(alloc))?;
     let mut taps = Vec::new(alloc);
-    taps.push(per_cpu)?;
-    taps.push(per_flow)?;
-    taps.push(depth)?;
+    for tap in standard_taps(alloc)? {
+        let tap: Box<dyn Tap> = Box::new(alloc, tap)?;
+        taps.push(tap)?;
+    }
     Ok(steer_still(alloc, words, desk, out, err, taps))
 }
 

@@ -5,6 +5,7 @@ use Rattle.steer_base.specs.Filters.{may_expire}
 use Rattle.steer_base.specs.declared.filter.Filter.{Filter}
 use Rattle.hop_core.specs.Hop.{HopState, head_at}
 use Rattle.steer_model.specs.State.Settings.{Settings}
+use Rattle.steer_base.specs.declared.limits.TheConstants.{MAX_FLOW_COUNT}
 
 -- whether a filter is set and may go, by the head of its processor at the receive hop and the flow
 -- count of its queue
@@ -22,4 +23,4 @@ abbrev pub FilterIsSeated : HopState → Settings → Option Filter → Type 0
 FilterIsSeated rx now None = Unit {0}
 FilterIsSeated rx now (Some filter) =
     (filter.cpu < length rx.bare.accepted) × (filter.queue < length now.counts)
-    × (slice_index now.counts filter.queue ≤ 32768)
+    × (slice_index now.counts filter.queue ≤ MAX_FLOW_COUNT)

@@ -1,9 +1,8 @@
-//! The machine of two steered hops: it is made for a plan and the packets of a capture, makes its
-//! steps one by one, and hands out its history.
+//! The machine: it is made for a plan and the packets of a capture, carries out the plan's steps one
+//! by one, and gives out its history.
 #![tactic(auto)]
 
 mod actors;
 mod steering;
 
-pub use steer_model::packets;
 pub use steering::Steering;

@@ -1,6 +1,7 @@
 //! A run of the machine.
 ghost use Rattle.std.specs.Prelude.{◌≡◌, ◌<◌, ◌≤◌, IfOk, length, true};
 ghost use Rattle.plan_reader.specs.Ranges.{step_is_within};
+ghost use Rattle.steer_base.specs.declared.limits.TheConstants.{MAX_PACKETS};
 ghost use Rattle.steer_core.specs.Runs.{new_run, stepped};
 ghost use Rattle.steer_invariant.specs.Invariant.{Invariant};
 ghost use Rattle.steer_invariant.specs.StepInvariant.{sizes_in};
@@ -47,7 +48,7 @@ impl Steering {
         packets: &[Packet],
         cut: Option<u32>,
     ) -> Result<Steering, OutOfMemory>
-        requires few { length packets.now ≤ 262144 }
+        requires few { length packets.now ≤ MAX_PACKETS }
         requires flows { AreOfFlows packets.now }
         ensures { IfOk result (λ steering. steering ≡ new_run plan.now packets.now cut) }
     {

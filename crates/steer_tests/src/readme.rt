@@ -4,7 +4,7 @@ use crate::files::{FRAME_A, file};
 use outside_io::MemoryDesk;
 use std::alloc::Global;
 use std::test::Fail;
-use taps::{Depth, PerCpu, PerFlow, Tap};
+use taps::{Tap, standard_taps};
 
 // The bytes of examples/three.json.
 const PLAN: &[u8] =
@@ -38,13 +38,11 @@ end 3 of 3
 
 // What the program's taps, in their order, and its report come to over the files of this desk.
 fn observed(alloc: Global, desk: MemoryDesk) -> Result<Outcome, Fail> {
-    let per_cpu: Box<dyn Tap> = Box::new(alloc, PerCpu::make(alloc))?;
-    let per_flow: Box<dyn Tap> = Box::new(alloc, PerFlow::make(alloc))?;
-    let depth: Box<dyn Tap> = Box::new(alloc, Depth::make(alloc))?;
     let mut taps = Vec::new(alloc);
-    taps.push(per_cpu)?;
-    taps.push(per_flow)?;
-    taps.push(depth)?;
+    for tap in standard_taps(alloc)? {
+        let tap: Box<dyn Tap> = Box::new(alloc, tap)?;
+        taps.push(tap)?;
+    }
     called_with(alloc, &["replay", "three.json", "three.pcap"], desk, taps)
 }
 

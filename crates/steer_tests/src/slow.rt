@@ -3,7 +3,7 @@
 ghost use Rattle.std.specs.Prelude.{None};
 ghost use Rattle.outside_io.specs.Counts.{last_count};
 
-use outside_io::{Begin, Desk, Got, MemorySink, Sink, Took};
+use outside_io::{Begin, Desk, Got, MemorySink, Sink, Took, WriteFault};
 
 /// A desk with a plan, `p.json`, and a capture under every other name.
 #[derive(Drop)]
@@ -73,5 +73,9 @@ impl Sink for Dripping {
 
     fn write(&mut self, bytes: &[u8]) -> Took {
         self.inner.write(&bytes[..1])
+    }
+
+    fn flush(&mut self) -> Result<(), WriteFault> {
+        self.inner.flush()
     }
 }

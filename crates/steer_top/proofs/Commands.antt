@@ -21,21 +21,6 @@ use Rattle.steer_top.specs.declared.ending.Refusal.TheVariants as refusal
 use Rattle.steer_top.specs.declared.ending.Ending.{Ending}
 use Rattle.steer_top.specs.declared.ending.Ending.TheVariants as ending
 
--- the course of a call, by what it met
-abbrev pub course_of : (List ℕ → Option (List ℕ)) → List Meaning → Option (List ℕ) → ℕ → ℕ → ℕ → ℕ
-    → Option (List ℕ) → Option (List ℕ) → Course
-course_of held taps asked desk desk' out out' written written' = record {
-  held = held;
-  taps = taps;
-  asked = asked;
-  desk_before = desk;
-  desk_after = desk';
-  out_before = out;
-  out_after = out';
-  written_before = written;
-  written_after = written';
-}
-
 -- what is told is kept, whatever stands where nothing is told
 keeps_told : (told : Option (List ℕ)) (d : List ℕ) → Keeps told (Some (unwrap_or told d))
 keeps_told None d = tt
@@ -284,11 +269,11 @@ module _ (command : CommandWords) (files : Files) (course : Course) (faults : �
 
 -- a command that was done ends so behind its flush, or the flush failed; every other ending stays
 pub ends_flushed : (command : CommandWords) (course : Course) (faults : ℕ)
-    (written : Option (List ℕ)) (e e' : Ending)
+    (written unsent : Option (List ℕ)) (e e' : Ending)
     → course.out_before ≤ course.out_after → EndsCommand e command course
-    → Flushes e e' course.out_after faults course.written_after written
+    → Flushes e e' course.out_after faults course.written_after written unsent
     → EndsCommand e' command (flushed course faults written)
-ends_flushed command course faults written e e' before (files, gave, by) flush =
+ends_flushed command course faults written unsent e e' before (files, gave, by) flush =
     let By : Ending → Course → Type 0 = EndsBy command files in
     let after : Course = flushed course faults written in
     elim flush.ends [

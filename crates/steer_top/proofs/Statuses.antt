@@ -106,6 +106,16 @@ same_writes taps (Place words) given told text (first, (second, rest))
       is ∙ ap (λ bytes. place_text rules bytes capture) second,
     )
 
+-- status 0 is that of one ending
+pub done_of : (e : Ending) → status_of e ≡ 0 → e ≡ ending.Done
+done_of ending.Done s = refl
+done_of (ending.Refuses reason) s =
+    other_status reason 0 s (omega arith) (omega arith) (omega arith)
+done_of ending.Usage s = absurd (omega (arith, s))
+done_of ending.ReadFault s = absurd (omega (arith, s))
+done_of ending.WriteFault s = absurd (omega (arith, s))
+done_of ending.OutOfMemory s = absurd (omega (arith, s))
+
 -- what is true of a command whose files are told
 module _ (once : IsRefusedOnce) (apart : IsNotBoth) (command : CommandWords) (told : Files)
     (course : Course)

@@ -2,7 +2,7 @@
 use Rattle.std.specs.Prelude.{◌≡◌, ◌≢◌, ◌≤◌, ◌<◌, ◌⊎◌, ℕ, List, [], ◌∷◌, ◌++◌, length, codes}
 use Rattle.std.specs.Prelude.{decimal, ⊤}
 use Rattle.std.specs.Prelude.{Option, Some, None, IfSome, ◌==◌, if◌then◌else◌}
-use Rattle.std.specs.Io.KnownBytes.{Keeps, Appends}
+use Rattle.std.specs.Io.KnownBytes.{Keeps, Appends, IsAtEnd}
 use Rattle.outside_io.specs.Counts.{Rose}
 use Rattle.outside_io.specs.Sink.{AppendsSome}
 use Rattle.report.specs.Numbers.{hex8_of}
@@ -52,7 +52,8 @@ status_of ending.OutOfMemory = 7
 
 abbrev pub usage_line : List ℕ
 usage_line =
-    codes "usage: steer hash CAPTURE [QUEUES [KINDS]] | replay PLAN CAPTURE | run PLAN CAPTURE | gen SEED PACKETS FLOWS | check PLAN CAPTURE REPORT | place RULES CAPTURE\n"
+    codes "usage: steer hash CAPTURE [QUEUES [KINDS]] | replay PLAN CAPTURE | run PLAN CAPTURE | gen "
+    ++ codes "SEED PACKETS FLOWS | check PLAN CAPTURE REPORT | place RULES CAPTURE\n"
 
 -- the line that names a fault of a text in JSON, which begins with what the text is called
 abbrev pub line_of_plan_fault : List ℕ → PlanFault → List ℕ
@@ -144,6 +145,21 @@ pub record Course : Type 0 where
   pub out_after : ℕ
   pub written_before : Option (List ℕ)
   pub written_after : Option (List ℕ)
+
+-- the course of a call, by what it met
+abbrev pub course_of : (List ℕ → Option (List ℕ)) → List Meaning → Option (List ℕ) → ℕ → ℕ → ℕ → ℕ
+    → Option (List ℕ) → Option (List ℕ) → Course
+course_of held taps asked desk desk' out out' written written' = record {
+  held = held;
+  taps = taps;
+  asked = asked;
+  desk_before = desk;
+  desk_after = desk';
+  out_before = out;
+  out_after = out';
+  written_before = written;
+  written_after = written';
+}
 
 abbrev pub DeskFailed : Course → Type 0
 DeskFailed course = Rose course.desk_before course.desk_after
@@ -240,10 +256,12 @@ EndsWriting ending.OutOfMemory text faults faults' written written' =
     Keeps written written'
 EndsWriting e text faults faults' written written' = ⊥
 
--- a command that was done is so still, or its flush failed; every other ending stays
-pub record Flushes (e e' : Ending) (faults faults' : ℕ) (written written' : Option (List ℕ))
+-- a command that was done is so still, and nothing that the sink took is unsent, or its flush
+-- failed; every other ending stays
+pub record Flushes (e e' : Ending) (faults faults' : ℕ) (written written' unsent' : Option (List ℕ))
     : Type 0 where
   pub ends : (e' ≡ e) ⊎ ((e ≡ ending.Done) × (e' ≡ ending.WriteFault) × Rose faults faults')
+  pub sent : e' ≡ ending.Done → IsAtEnd unsent'
   pub kept : Keeps written written'
   pub later : faults ≤ faults'
 

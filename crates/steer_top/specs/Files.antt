@@ -1,5 +1,6 @@
 -- The files of a call: what each is read as, and for what reason one is refused.
 use Rattle.std.specs.Prelude.{◌≡◌, ◌≤◌, ◌<◌, ◌⊎◌, ℕ, List, [], ◌∷◌, length, ⊤, Ok, Err}
+use Rattle.outside_io.specs.declared.reading.TheConstants.{MAX_FILE}
 use Rattle.pcap_reader.specs.Faults.{HasFault}
 use Rattle.pcap_reader.specs.declared.capture.Capture.{Capture}
 use Rattle.pcapng_reader.specs.Captures.{BeginsNg, HasNgFault}
@@ -8,6 +9,7 @@ use Rattle.plan_reader.specs.Settings.{PlanSettings}
 use Rattle.ntuple_rules.specs.Readings.{rules_of}
 use Rattle.ntuple_rules.specs.declared.rules.Rules.{Rules}
 use Rattle.steer_top.specs.Captures.{HasAnyCapture}
+use Rattle.steer_top.specs.declared.ending.TheConstants.{MAX_TEXT_FILE}
 use Rattle.steer_top.specs.declared.ending.Role.{Role}
 use Rattle.steer_top.specs.declared.ending.Role.TheVariants as role
 use Rattle.steer_top.specs.declared.ending.Refusal.{Refusal}
@@ -15,9 +17,9 @@ use Rattle.steer_top.specs.declared.ending.Refusal.TheVariants as refusal
 
 -- the most bytes that a file of a role may have
 abbrev pub limit_of : Role → ℕ
-limit_of role.Plan = 16777216
-limit_of role.Rules = 16777216
-limit_of role.Capture = 268435456
+limit_of role.Plan = MAX_TEXT_FILE
+limit_of role.Rules = MAX_TEXT_FILE
+limit_of role.Capture = MAX_FILE
 
 -- the bytes are what they are read as
 abbrev pub IsRead : Role → List ℕ → Type 0

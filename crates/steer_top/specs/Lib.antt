@@ -8,4 +8,5 @@ pub mod Taken
 pub mod Outcomes
 pub mod Headlines
 pub mod Endings
+pub mod Calls
 pub mod Laws

@@ -7,6 +7,7 @@ use Rattle.ntuple_rules.specs.Ranges.{RulesAreWithin as AreWithin}
 use Rattle.ntuple_rules.specs.Readings.{rules_of}
 use Rattle.ntuple_rules.specs.declared.rules.Rules.{Rules}
 use Rattle.pcap_reader.specs.Captures.{FrameIsWithin}
+use Rattle.steer_base.specs.declared.limits.TheConstants.{MAX_PACKETS}
 use Rattle.steer_top.specs.Captures.{HasAnyCapture}
 use Rattle.steer_top.specs.Files.{limit_of}
 use Rattle.steer_top.specs.declared.ending.Role.TheVariants as role
@@ -17,7 +18,7 @@ pub record IsCaptureOf (held : Option (List ℕ)) (file : CaptureFile) : Type 0 
   pub whole : Keeps held (Some file.bytes.items)
   pub few : length file.bytes.items ≤ limit_of role.Capture
   pub has : HasAnyCapture file.bytes.items file.capture
-  pub few_records : length file.capture.records ≤ 262144
+  pub few_records : length file.capture.records ≤ MAX_PACKETS
   pub within : All (FrameIsWithin file.bytes.items) file.capture.records
 
 -- the plan is that of some bytes that the file may have, within the limit

@@ -5,6 +5,7 @@ use Rattle.std.specs.Prelude.{string_bytes, map}
 use Rattle.std.specs.declared.alloc.Global.{Global}
 use Rattle.std.specs.Option.{option_map}
 use Rattle.steer_base.specs.Decimals.{decimal_number}
+use Rattle.steer_base.specs.declared.limits.TheConstants.{MAX_PACKETS}
 
 -- a word that names a file: it is neither empty nor begins with a dash
 abbrev pub is_name : List ℕ → Bool
@@ -83,7 +84,7 @@ gen_arguments [] = None
 gen_arguments (seed ∷ []) = None
 gen_arguments (seed ∷ packets ∷ []) = None
 gen_arguments (seed ∷ packets ∷ flows ∷ []) =
-    gen_with (number_within 0 18446744073709551615 seed) (number_within 0 262144 packets)
+    gen_with (number_within 0 18446744073709551615 seed) (number_within 0 MAX_PACKETS packets)
     (number_within 1 65536 flows)
 gen_arguments (seed ∷ packets ∷ flows ∷ more ∷ rest) = None
 

@@ -1,6 +1,7 @@
 //! The capture of a file, by the format that its first four bytes choose.
 ghost use Rattle.std.specs.Prelude.{◌≤◌, All, IfOk, IfErr, length};
 ghost use Rattle.pcap_reader.specs.Captures.{FrameIsWithin};
+ghost use Rattle.steer_base.specs.declared.limits.TheConstants.{MAX_PACKETS};
 ghost use Rattle.steer_top.specs.Captures.{HasAnyCapture};
 ghost use Rattle.steer_top.specs.Endings.{EndsUnfit};
 
@@ -14,7 +15,7 @@ use std::alloc::Global;
 pub fn read_any(alloc: Global, bytes: &[u8]) -> Result<Capture, Ending>
     ensures found { IfOk result (λ capture. HasAnyCapture bytes.now capture) }
     ensures unfit { IfErr result (λ ending. EndsUnfit ending Role.Capture bytes.now) }
-    ensures few { IfOk result (λ capture. length capture.records ≤ 262144) }
+    ensures few { IfOk result (λ capture. length capture.records ≤ MAX_PACKETS) }
     ensures within { IfOk result (λ capture. All (FrameIsWithin bytes.now) capture.records) }
 {
     if is_pcapng(bytes) {

@@ -1,5 +1,6 @@
 //! The commands of the program.
 ghost use Rattle.std.specs.Prelude.{◌≤◌};
+ghost use Rattle.steer_base.specs.declared.limits.TheConstants.{MAX_PACKETS};
 
 /// A command with its arguments.
 #[derive(Drop)]
@@ -45,7 +46,7 @@ pub struct GenCommand {
     pub packets: u32,
     /// The most flows that they may have.
     pub flows: u32,
-    ghost few_packets: { packets ≤ 262144 },
+    ghost few_packets: { packets ≤ MAX_PACKETS },
     ghost some_flow: { 1 ≤ flows },
     ghost few_flows: { flows ≤ 65536 },
 }

@@ -1,11 +1,16 @@
 //! How a command ends.
 ghost use Rattle.std.specs.Prelude.{◌≡◌, ◌≤◌};
+ghost use Rattle.outside_io.specs.declared.reading.TheConstants.{MAX_FILE};
 ghost use Rattle.steer_top.specs.Files.{limit_of};
 ghost use Rattle.steer_top.specs.Endings.{EndsAs, name_of_role};
 
+use outside_io::MAX_FILE;
 use pcap_reader::CaptureFault;
 use pcapng_reader::NgFault;
 use plan_reader::PlanFault;
+
+/// The most bytes that a plan or a file of rules may have.
+pub const MAX_TEXT_FILE: usize = 16_777_216;
 
 /// What a file of a command is read as.
 #[derive(Clone, Copy, Debug, PartialEq, Eq)]
@@ -22,11 +27,11 @@ impl Role {
     /// The most bytes that such a file may have.
     pub fn limit(self) -> usize
         ensures value { result ≡ limit_of self }
-        ensures few { result ≤ 268435456 }
+        ensures few { result ≤ MAX_FILE }
     {
         match self {
-            Role::Plan | Role::Rules => 16_777_216,
-            Role::Capture => 268_435_456,
+            Role::Plan | Role::Rules => MAX_TEXT_FILE,
+            Role::Capture => MAX_FILE,
         }
     }
 
@@ -70,12 +75,12 @@ pub enum Ending {
     ReadFault,
     /// The sink of the text failed.
     WriteFault,
-    /// There was no memory.
+    /// Memory ran out.
     OutOfMemory,
 }
 
 impl Ending {
-    /// How a command ends that got no capture of its bytes: refused, or for want of memory.
+    /// How a command ends that got no capture from its bytes: with a refusal, or out of memory.
     pub fn of_fault(fault: CaptureFault) -> Ending
         ensures { EndsAs fault CaptureFault.OutOfMemory (Refusal.Capture fault) result }
     {

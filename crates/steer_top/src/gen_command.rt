@@ -3,7 +3,7 @@ ghost use Rattle.std.specs.Prelude.{◌≡◌, ◌≤◌, ℕ, List, Option};
 ghost use Rattle.replay.specs.Meanings.{Meaning};
 ghost use Rattle.replay.specs.Summaries.{summary_text};
 ghost use Rattle.steer_top.specs.Commands.{gen_words_of};
-ghost use Rattle.steer_top.specs.Endings.{EndsCommand, EndsWriting};
+ghost use Rattle.steer_top.specs.Endings.{EndsCommand, EndsWriting, course_of};
 ghost use Rattle.steer_top.specs.Words.CommandWords.{Gen};
 
 use crate::command::GenCommand;
@@ -18,17 +18,9 @@ use steer_base::OutOfMemory;
 /// one what the desk and the taps are.
 pub fn gen_input<K: Sink>(alloc: Global, command: &GenCommand, out: &mut K) -> Ending
     ensures ends { (held : List ℕ → Option (List ℕ)) (taps : List Meaning) (asked : Option (List ℕ))
-        (before after : ℕ) → EndsCommand result (Gen (gen_words_of command.now)) (record {
-          held = held;
-          taps = taps;
-          asked = asked;
-          desk_before = before;
-          desk_after = after;
-          out_before = K.faults out.old;
-          out_after = K.faults out.new;
-          written_before = K.written out.old;
-          written_after = K.written out.new;
-        }) }
+        (before after : ℕ) → EndsCommand result (Gen (gen_words_of command.now))
+        (course_of held taps asked before after (K.faults out.old) (K.faults out.new)
+        (K.written out.old) (K.written out.new)) }
     ensures later { K.faults out.old ≤ K.faults out.new }
 {
     match Summary::make(alloc, command.seed, command.packets, command.flows) {

@@ -2,6 +2,7 @@
 ghost use Rattle.std.specs.Prelude.{◌≡◌, ◌≤◌, ℕ, List};
 ghost use Rattle.outside_io.specs.Desk.{GoesOnTelling};
 ghost use Rattle.replay.specs.Meanings.{Meaning};
+ghost use Rattle.steer_top.specs.Calls.{course};
 ghost use Rattle.steer_top.specs.Commands.{hash_words_of};
 ghost use Rattle.steer_top.specs.Endings.{EndsCommand};
 ghost use Rattle.steer_top.specs.Words.CommandWords.{Hash};
@@ -23,17 +24,8 @@ pub fn hash_file<D: Desk, K: Sink>(
     out: &mut K,
 ) -> Ending
     ensures ends { (taps : List Meaning)
-        → EndsCommand result (Hash (hash_words_of command.now)) (record {
-          held = D.held desk.old;
-          taps = taps;
-          asked = D.asked desk.new;
-          desk_before = D.faults desk.old;
-          desk_after = D.faults desk.new;
-          out_before = K.faults out.old;
-          out_after = K.faults out.new;
-          written_before = K.written out.old;
-          written_after = K.written out.new;
-        }) }
+        → EndsCommand result (Hash (hash_words_of command.now))
+        (course D.held D.asked D.faults desk.old desk.new K.faults K.written out.old out.new taps) }
 
     ensures held { D.held desk.new ≡ D.held desk.old }
     ensures told { GoesOnTelling (D.left desk.old) (D.left desk.new) }

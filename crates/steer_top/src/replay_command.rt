@@ -4,8 +4,9 @@ ghost use Rattle.std.specs.Prelude.{◌≡◌, ◌≤◌, ℕ, List, All, IfOk, 
 ghost use Rattle.outside_io.specs.Desk.{GoesOnTelling};
 ghost use Rattle.pcap_reader.specs.Captures.{FrameIsWithin};
 ghost use Rattle.replay.specs.Replays.{replay_text};
-ghost use Rattle.replay.specs.Reports.{ArePacketsBy, IsReplayOf};
-ghost use Rattle.steer_model.specs.State.Ranges.{AreOfFlows};
+ghost use Rattle.replay.specs.Reports.{IsReplayOf};
+ghost use Rattle.steer_base.specs.declared.limits.TheConstants.{MAX_PACKETS};
+ghost use Rattle.steer_top.specs.Calls.{course};
 ghost use Rattle.steer_top.specs.Commands.{replay_words_of};
 ghost use Rattle.steer_top.specs.Endings.{EndsCommand, EndsWriting};
 ghost use Rattle.steer_top.specs.Words.CommandWords.{Replay as TheReplay};
@@ -18,7 +19,7 @@ use plan_reader::Plan;
 use replay::{Replay, packets_by};
 use report::LineBuf;
 use std::alloc::Global;
-use steer_base::{OutOfMemory, Packet};
+use steer_base::OutOfMemory;
 use taps::Tap;
 
 /// Reads the plan and the capture, takes all memory, and writes the report.
@@ -29,17 +30,9 @@ pub fn replay_file<D: Desk, K: Sink>(
     out: &mut K,
     taps: Vec<Box<dyn Tap>>,
 ) -> Ending
-    ensures ends { EndsCommand result (TheReplay (replay_words_of command.now)) (record {
-      held = D.held desk.old;
-      taps = map (λ tap lines. text tap lines) taps.items;
-      asked = D.asked desk.new;
-      desk_before = D.faults desk.old;
-      desk_after = D.faults desk.new;
-      out_before = K.faults out.old;
-      out_after = K.faults out.new;
-      written_before = K.written out.old;
-      written_after = K.written out.new;
-    }) }
+    ensures ends { EndsCommand result (TheReplay (replay_words_of command.now))
+        (course D.held D.asked D.faults desk.old desk.new K.faults K.written out.old out.new
+        (map (λ tap lines. text tap lines) taps.items)) }
 
     ensures held { D.held desk.new ≡ D.held desk.old }
     ensures told { GoesOnTelling (D.left desk.old) (D.left desk.new) }
@@ -60,33 +53,22 @@ pub fn replay_file<D: Desk, K: Sink>(
     }
 }
 
-// The replay of a plan over a capture. The bytes of the file are given up before the first step.
+// The replay of a plan over a capture. The file is dropped before the first step.
 fn replay_of(
     alloc: Global,
     plan: &Plan,
     file: CaptureFile,
     taps: Vec<Box<dyn Tap>>,
 ) -> Result<Replay, OutOfMemory>
-    requires few { length file.capture.records ≤ 262144 }
+    requires few { length file.capture.records ≤ MAX_PACKETS }
     requires within { All (FrameIsWithin file.bytes.items) file.capture.records }
     ensures { IfOk result (IsReplayOf plan.now file.bytes.items file.capture
         (map (λ tap lines. text tap lines) taps.items)) }
 {
     let cut = file.capture.cut;
-    let packets = packets_of(alloc, plan, file)?;
+    let packets = packets_by(alloc, plan, &file.capture, &file.bytes)?;
+    drop(file);
     Replay::make(alloc, plan, packets.as_slice(), cut, taps)
-}
-
-// The packets of a file.
-fn packets_of(alloc: Global, plan: &Plan, file: CaptureFile) -> Result<Vec<Packet>, OutOfMemory>
-    requires few { length file.capture.records ≤ 262144 }
-    requires within { All (FrameIsWithin file.bytes.items) file.capture.records }
-    ensures list { IfOk result
-        (λ packets. ArePacketsBy plan.now file.bytes.items file.capture packets.items) }
-    ensures flows { IfOk result (λ packets. AreOfFlows packets.items) }
-    ensures few { IfOk result (λ packets. length packets.items ≤ 262144) }
-{
-    packets_by(alloc, plan, &file.capture, &file.bytes)
 }
 
 // Takes the memory for a line, and writes the report.

@@ -1,7 +1,8 @@
 //! The line that says how a command ended. It is written in pieces and takes no memory.
 ghost use Rattle.std.specs.Prelude.{◌++◌, codes, decimal};
 ghost use Rattle.std.specs.List.{flat_map};
-ghost use Rattle.steer_top.specs.Endings.{Told, line_of, line_of_fault, line_of_ng_fault};
+ghost use Rattle.steer_top.specs.Calls.{TakesLine};
+ghost use Rattle.steer_top.specs.Endings.{line_of, line_of_fault, line_of_ng_fault};
 ghost use Rattle.steer_top.specs.Endings.{line_of_plan_fault, line_of_refusal};
 
 use crate::ending::{Ending, Refusal};
@@ -13,12 +14,12 @@ use plan_reader::PlanFault;
 use report::hex8;
 
 const USAGE: &[u8] =
-    b"usage: steer hash CAPTURE [QUEUES [KINDS]] | replay PLAN CAPTURE | run PLAN CAPTURE | gen SEED PACKETS FLOWS | check PLAN CAPTURE REPORT | place RULES CAPTURE\n";
+    b"usage: steer hash CAPTURE [QUEUES [KINDS]] | replay PLAN CAPTURE | run PLAN CAPTURE | gen \
+        SEED PACKETS FLOWS | check PLAN CAPTURE REPORT | place RULES CAPTURE\n";
 
 /// Writes the line of an ending, as much of it as the sink takes.
 pub fn tell<E: Sink>(err: &mut E, ending: &Ending)
-    ensures { Told (E.faults err.old) (E.faults err.new) (E.written err.old) (E.written err.new)
-        (line_of ending.now) }
+    ensures { TakesLine E.faults E.written err.old err.new (line_of ending.now) }
 {
     match ending {
         Ending::Done => {}
@@ -31,8 +32,7 @@ pub fn tell<E: Sink>(err: &mut E, ending: &Ending)
 }
 
 fn tell_refusal<E: Sink>(err: &mut E, refusal: &Refusal)
-    ensures { Told (E.faults err.old) (E.faults err.new) (E.written err.old) (E.written err.new)
-        (line_of_refusal refusal.now) }
+    ensures { TakesLine E.faults E.written err.old err.new (line_of_refusal refusal.now) }
 {
     match refusal {
         Refusal::TooLong(role) => say(err, &[role.name(), b" too long\n"]),
@@ -44,8 +44,7 @@ fn tell_refusal<E: Sink>(err: &mut E, refusal: &Refusal)
 }
 
 fn tell_plan_fault<E: Sink>(err: &mut E, word: &[u8], fault: &PlanFault)
-    ensures { Told (E.faults err.old) (E.faults err.new) (E.written err.old) (E.written err.new)
-        (line_of_plan_fault word.now fault.now) }
+    ensures { TakesLine E.faults E.written err.old err.new (line_of_plan_fault word.now fault.now) }
 {
     let mut buffer = Buffer::new();
     match fault {
@@ -73,8 +72,7 @@ fn tell_plan_fault<E: Sink>(err: &mut E, word: &[u8], fault: &PlanFault)
 }
 
 fn tell_fault<E: Sink>(err: &mut E, fault: CaptureFault)
-    ensures { Told (E.faults err.old) (E.faults err.new) (E.written err.old) (E.written err.new)
-        (line_of_fault fault) }
+    ensures { TakesLine E.faults E.written err.old err.new (line_of_fault fault) }
 {
     match fault {
         CaptureFault::ShortHeader { len } => {
@@ -97,8 +95,7 @@ fn tell_fault<E: Sink>(err: &mut E, fault: CaptureFault)
 }
 
 fn tell_ng_fault<E: Sink>(err: &mut E, fault: NgFault)
-    ensures { Told (E.faults err.old) (E.faults err.new) (E.written err.old) (E.written err.new)
-        (line_of_ng_fault fault) }
+    ensures { TakesLine E.faults E.written err.old err.new (line_of_ng_fault fault) }
 {
     match fault {
         NgFault::BadOrder { magic } => say(err, &[b"capture: bad order ", &hex8(magic), b"\n"]),
@@ -125,7 +122,7 @@ fn tell_ng_fault<E: Sink>(err: &mut E, fault: NgFault)
 
 // Writes a text, a number and a line feed.
 fn say_one<E: Sink>(err: &mut E, text: &[u8], number: u64)
-    ensures { Told (E.faults err.old) (E.faults err.new) (E.written err.old) (E.written err.new)
+    ensures { TakesLine E.faults E.written err.old err.new
         (text.now ++ (decimal number ++ codes "\n")) }
 {
     let mut buffer = Buffer::new();
@@ -134,7 +131,7 @@ fn say_one<E: Sink>(err: &mut E, text: &[u8], number: u64)
 
 // Writes a text and a number, another text and number, and a line feed.
 fn say_two<E: Sink>(err: &mut E, text: &[u8], number: u64, then: &[u8], other: u32)
-    ensures { Told (E.faults err.old) (E.faults err.new) (E.written err.old) (E.written err.new)
+    ensures { TakesLine E.faults E.written err.old err.new
         (text.now ++ (decimal number ++ (then.now ++ (decimal other ++ codes "\n")))) }
 {
     let mut buffer = Buffer::new();
@@ -146,7 +143,7 @@ fn say_two<E: Sink>(err: &mut E, text: &[u8], number: u64, then: &[u8], other: u
 
 // Writes a line in pieces, as far as the sink takes them.
 fn say<E: Sink>(err: &mut E, pieces: &[&[u8]])
-    ensures { Told (E.faults err.old) (E.faults err.new) (E.written err.old) (E.written err.new)
+    ensures { TakesLine E.faults E.written err.old err.new
         (flat_map (λ piece. piece.now) pieces.now) }
 {
     for piece in pieces {

@@ -5,21 +5,20 @@ use Rattle.history.specs.declared.packet_line.PacketLine.{PacketLine}
 use Rattle.steer_base.specs.declared.choice.Choice.{Choice}
 use Rattle.taps.specs.Rows.{each_cpu, row}
 
--- whether a choice is one of this processor
+-- whether a choice is this processor
 abbrev pub is_of : ℕ → Option Choice → Bool
 is_of cpu None = false
 is_of cpu (Some choice) = choice.lane == cpu
 
--- how many of these lines have a choice of the processor
+-- the number of lines whose choice is the processor
 abbrev pub chosen_for : ℕ → List PacketLine → ℕ
 chosen_for cpu lines = count_by (λ line. is_of cpu line.choice) lines
 
--- the line of a processor with `count` packets, and none without packets
+-- the text line of a processor with `count` packets, empty if it has none
 abbrev pub cpu_count_line : ℕ → ℕ → List ℕ
-cpu_count_line cpu count = if count == 0 then [] else row (codes "cpu ") cpu
-    (codes " packets ") count
+cpu_count_line cpu count = if count == 0 then [] else row (codes "cpu ") cpu (codes " packets ") count
 
--- For each processor, ascending, with at least one line that has a choice of it: how many there
--- are.
+-- the text of a per-processor tap: for each processor, ascending, the number of lines whose choice
+-- it is, if there are any
 abbrev pub per_cpu_text : List PacketLine → List ℕ
 per_cpu_text lines = each_cpu (λ cpu. cpu_count_line cpu (chosen_for cpu lines))

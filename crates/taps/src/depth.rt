@@ -1,4 +1,4 @@
-//! A tap that follows how far the positions of each processor have come.
+//! A tap that reports the greatest position of each processor's backlog.
 ghost use Rattle.std.specs.Prelude.{◌≡◌, ◌==◌, ◌++◌, ℕ, List, slice_index_or, IfOk, OnOk};
 ghost use Rattle.std.specs.Prelude.{if◌then◌else◌};
 ghost use Rattle.history.specs.declared.packet_line.PacketLine.{PacketLine};
@@ -11,10 +11,10 @@ use history::PacketLine;
 use std::alloc::Global;
 use steer_base::{OutOfMemory, Put, reached};
 
-/// Follows the positions of the accepted packets of each processor, and gives the line `depth cpu C
-/// at N` for each that has one, ascending: N is the greatest position along the lines. Positions
-/// are counter numbers that wrap, so a later position counts as greater where it has reached the
-/// earlier one.
+/// Tracks the positions of the packets that each processor accepted. Its text is one line `depth
+/// cpu C at N` for each processor that accepted a packet, in ascending order, where N is the
+/// greatest position. Positions are counter numbers that wrap: a later position counts as greater
+/// if it has reached the earlier one.
 #[derive(Drop)]
 pub struct Depth {
     alloc: Global,
@@ -24,7 +24,7 @@ pub struct Depth {
 impl Depth {
     ghost use Rattle.taps.specs.Depth.{depths_after};
 
-    /// A tap that was shown nothing yet.
+    /// A tap that has been shown no line yet.
     pub fn make(alloc: Global) -> Depth
         ensures { (lines : List PacketLine) → depths_after result lines ≡ depth_text lines }
     {
@@ -53,7 +53,7 @@ impl Tap for Depth {
     }
 }
 
-// The depth of a lane after one position more.
+// Updates the depth of a lane with one more position.
 fn deepen_at(depths: &mut [Option<u32>; 256], lane: u8, position: u32)
     ensures { (cpu : ℕ)
         → slice_index_or depths.new cpu None
@@ -73,7 +73,7 @@ fn deepened(depth: Option<u32>, position: u32) -> Option<u32>
     }
 }
 
-// The lines of all processors with a depth.
+// The lines of all processors that have a depth.
 fn rows(alloc: Global, depths: &[Option<u32>; 256]) -> Result<Vec<u8>, OutOfMemory>
     ensures { IfOk result
         (λ text. text.items

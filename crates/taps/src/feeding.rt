@@ -1,4 +1,4 @@
-//! The taps of a history are shown its packet lines.
+//! Shows taps the packet lines of a history.
 ghost use Rattle.std.specs.Prelude.{◌≡◌, ◌≤◌, map, length, take, IfOk, OnOk, OnErr, List, [], ◌∷◌};
 ghost use Rattle.std.specs.List.{enumerate_from};
 ghost use Rattle.history.specs.declared.packet_line.PacketLine.{PacketLine};
@@ -10,9 +10,9 @@ use std::alloc::Global;
 use steer_base::{Detach, OutOfMemory, PacketId};
 
 /// Shows each tap the lines of the `arrived` packets in packet order, up to the least `after` of
-/// its detachings, and answers the texts in the order of the taps. A tap is finished and dropped
-/// after its last line; one with `after` 0 is shown none. A detaching of a tap that isn't there is
-/// ignored. After want of memory all taps are dropped.
+/// its detachments, and returns the texts in the order of the taps. A tap is finished and dropped
+/// after its last line; one with `after` 0 is shown none. A detachment that names no tap is
+/// ignored. If memory runs out, all taps are dropped.
 pub fn feed(
     alloc: Global,
     taps: Vec<Box<dyn Tap>>,
@@ -35,7 +35,7 @@ pub fn feed(
     Ok(texts)
 }
 
-// The least of a number and of what the detachings of a tap say.
+// The least of a number and of the `after` of a tap's detachments.
 fn least_after(tap: usize, detach: &[Detach], count: u32) -> u32
     ensures { result ≡ least_of tap detach.now count }
 {
@@ -46,7 +46,7 @@ fn least_after(tap: usize, detach: &[Detach], count: u32) -> u32
         .fold(count, |least, after| least.min(after))
 }
 
-// Shows a tap the first lines, and drops it.
+// Shows a tap the first lines, finishes and drops it.
 fn shown(tap: Box<dyn Tap>, lines: &Lines, count: u32) -> Result<TapText, OutOfMemory>
     requires { count ≤ length lines.now.packets }
     ensures { IfOk result (λ t. t ≡ text tap (take count lines.now.packets)) }

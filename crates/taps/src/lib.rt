@@ -1,4 +1,4 @@
-//! Taps: observers that are shown the packet lines of a history and give a text.
+//! Taps: observers that are shown the packet lines of a history and produce a text for its report.
 #![tactic(auto)]
 
 mod depth;

@@ -11,8 +11,8 @@ use history::PacketLine;
 use std::alloc::Global;
 use steer_base::OutOfMemory;
 
-/// Counts for each processor the packets that were chosen for it, and gives the line `cpu C packets
-/// N` for each that has one, ascending.
+/// Counts the packets steered to each processor. Its text is one line `cpu C packets N` for each
+/// processor with at least one, in ascending order.
 #[derive(Drop)]
 pub struct PerCpu {
     alloc: Global,
@@ -22,7 +22,7 @@ pub struct PerCpu {
 impl PerCpu {
     ghost use Rattle.taps.specs.PerCpu.{per_cpu_after};
 
-    /// A tap that was shown nothing yet.
+    /// A tap that has been shown no line yet.
     pub fn make(alloc: Global) -> PerCpu
         ensures { (lines : List PacketLine) → per_cpu_after result lines ≡ per_cpu_text lines }
     {
@@ -51,7 +51,8 @@ impl Tap for PerCpu {
     }
 }
 
-// Counts one packet more at a lane. A count at its end answers want of memory.
+// Increments a lane's packet count. If the count would overflow, returns `OutOfMemory`, the only
+// error that a tap can return.
 fn count_at(counts: &mut [u64; 256], lane: u8) -> Result<(), OutOfMemory>
     ensures counted { OnOk result
         ((cpu : ℕ)
@@ -64,7 +65,7 @@ fn count_at(counts: &mut [u64; 256], lane: u8) -> Result<(), OutOfMemory>
     Ok(())
 }
 
-// The lines of all processors with a count.
+// The lines of all processors that have packets.
 fn rows(alloc: Global, counts: &[u64; 256]) -> Result<Vec<u8>, OutOfMemory>
     ensures { IfOk result
         (λ text. text.items ≡ each_cpu (λ cpu. cpu_count_line cpu (slice_index counts.now cpu))) }

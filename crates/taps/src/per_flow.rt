@@ -10,8 +10,8 @@ use indexmap::IndexMap;
 use std::alloc::Global;
 use steer_base::OutOfMemory;
 
-/// Counts the packets of each flow, and gives the line `flow F packets N` for each, in the order in
-/// which the flows were first shown.
+/// Counts the packets of each flow. Its text is one line `flow F packets N` for each flow, in the
+/// order in which the flows were first shown.
 #[derive(Drop)]
 pub struct PerFlow {
     alloc: Global,
@@ -21,7 +21,7 @@ pub struct PerFlow {
 impl PerFlow {
     ghost use Rattle.taps.specs.PerFlow.{flows_after};
 
-    /// A tap that was shown nothing yet.
+    /// A tap that has been shown no line yet.
     pub fn make(alloc: Global) -> PerFlow
         ensures { (lines : List PacketLine) → flows_after result lines ≡ per_flow_text lines }
     {

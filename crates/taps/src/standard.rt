@@ -41,8 +41,8 @@ impl Tap for StandardTap {
     }
 }
 
-/// The taps of the program, in the order in which a plan's `detach` numbers them from 0: packets per
-/// processor, packets per flow, and depth per processor. None was shown a line yet.
+/// The taps of the program, in the order in which a plan's `detach` numbers them from 0: packets
+/// per processor, packets per flow, and depth per processor. They have been shown no line yet.
 pub fn standard_taps(alloc: Global) -> Result<Vec<StandardTap>, OutOfMemory>
     ensures { IfOk result
         (λ taps. (lines : List PacketLine)

@@ -1,11 +1,11 @@
-//! The lines of a tap's text.
+//! Writes the lines of a tap's text.
 ghost use Rattle.std.specs.Prelude.{◌≡◌, ◌++◌, OnOk};
 ghost use Rattle.taps.specs.Rows.{row};
 
 use itoa::Buffer;
 use steer_base::OutOfMemory;
 
-/// Puts a line with two words, each before a number, behind the text.
+/// Appends a line of two words, each followed by a number.
 pub(crate) fn push_row(
     text: &mut Vec<u8>,
     name: &[u8],

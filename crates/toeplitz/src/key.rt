@@ -10,8 +10,8 @@ use crate::words::Words;
 use std::marker::Model;
 use steer_base::Flow;
 
-/// The 40 bytes of the key of Microsoft's verification suite for the RSS hash. It is the default key
-/// of plans and of the commands `hash` and `place`.
+/// The 40 bytes of the key of Microsoft's verification suite for the RSS hash. It is the default
+/// key of plans and of the commands `hash` and `place`.
 pub const VERIFICATION_KEY: [u8; 40] = [
     0x6d, 0x5a, 0x56, 0xda, 0x25, 0x5b, 0x0e, 0xc2, 0x41, 0x67, 0x25, 0x3d, 0x43, 0xa3, 0x8f, 0xb0,
     0xd0, 0xca, 0x2b, 0xcb, 0xae, 0x7b, 0x30, 0xb4, 0x77, 0xcb, 0x2d, 0xa3, 0x80, 0x30, 0xf2, 0x0c,

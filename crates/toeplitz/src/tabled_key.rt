@@ -17,8 +17,8 @@ const ROWS: usize = 36;
 // A word for each byte in a row.
 const ROW: usize = 256;
 
-/// A key with a lookup table of 36 rows of 256 words (36 KiB), so that a hash takes one XOR for each
-/// byte of its input.
+/// A key with a lookup table of 36 rows of 256 words (36 KiB), so that a hash takes one XOR for
+/// each byte of its input.
 #[derive(Drop)]
 pub struct TabledKey {
     key: Key,

@@ -156,7 +156,8 @@ accepted-elsewhere packets apps h x c r ne = no_value (place_in x (lane_at h.lan
     (λ n e.
     ne (accepted-lane packets apps h r c x (ap is_some e)))
 
-pub drop-elsewhere : (packets : List Packet) (apps : ℕ) (h : History) (x c : ℕ) → Regular packets apps h
+pub drop-elsewhere : (packets : List Packet) (apps : ℕ) (h : History) (x c : ℕ)
+    → Regular packets apps h
     → c ≢ lane_or (choice_of h x)
     → drop_in x (lane_at h.lanes c) ≡ None
 drop-elsewhere packets apps h x c r ne =
@@ -171,7 +172,8 @@ accepted-unarrived packets apps h x r l =
     no_value (place_in x (lane_at h.lanes c).accepted) (λ n e.
     let f = arrived-accepted packets apps h r c x (ap is_some e) in omega (arith, f, l)))
 
-pub drop-unarrived : (packets : List Packet) (apps : ℕ) (h : History) (x : ℕ) → Regular packets apps h
+pub drop-unarrived : (packets : List Packet) (apps : ℕ) (h : History) (x : ℕ)
+    → Regular packets apps h
     → length h.arrivals ≤ x → first_some (drop_in x) h.lanes ≡ None
 drop-unarrived packets apps h x r l = first_some-none (drop_in x) no_lane h.lanes (λ c.
     no_drop x (lane_at h.lanes c) (no_value (place_in x (drop_ids (lane_at h.lanes c))) (λ n e.
@@ -184,7 +186,8 @@ accepted-at packets apps h x r =
     first_some-only (λ lane. place_in x lane.accepted) no_lane refl h.lanes
     (lane_or (choice_of h x)) (λ c ne. accepted-elsewhere packets apps h x c r ne)
 
-pub accepted-bound : (packets : List Packet) (apps : ℕ) (h : History) (x n : ℕ) → Regular packets apps h
+pub accepted-bound : (packets : List Packet) (apps : ℕ) (h : History) (x n : ℕ)
+    → Regular packets apps h
     → length packets ≤ 262144
     → accepted_place h.lanes x ≡ Some n → n < 2 ^ 32
 accepted-bound packets apps h x n r small e =
@@ -321,7 +324,8 @@ pub inbox-elsewhere : (packets : List Packet) (apps : ℕ) (h : History) (x a : 
 inbox-elsewhere packets apps h x a r ne = no_value (place_in x (list_at h.inboxes a)) (λ n e.
     ne (sym (r.delivered.own a x (ap is_some e))))
 
-pub inbox-unarrived : (packets : List Packet) (apps : ℕ) (h : History) (x : ℕ) → Regular packets apps h
+pub inbox-unarrived : (packets : List Packet) (apps : ℕ) (h : History) (x : ℕ)
+    → Regular packets apps h
     → length h.arrivals ≤ x → inbox_place_of h x ≡ None
 inbox-unarrived packets apps h x r l = first_some-none (place_in x) [] h.inboxes (λ a.
     no_value (place_in x (list_at h.inboxes a)) (λ n e. let f = arrived-inbox packets apps h r a x

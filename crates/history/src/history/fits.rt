@@ -114,8 +114,8 @@ fn tell_lanes(lanes: &List<LaneList>)
 
 impl History {
     /// Lemma: the numbers of a history are within the types of its fields, as they are in every
-    /// history that a program holds. It changes nothing and walks each list once; code never needs to
-    /// call it.
+    /// history that a program holds. It changes nothing and walks each list once; code never needs
+    /// to call it.
     pub fn numbers_fit(&self)
         ensures { HistoryFits self.now }
     {

@@ -1,8 +1,9 @@
-//! The key of the hash.
+//! Reads the key of the receive hash. The default key is the one of Microsoft's verification suite.
 ghost use Rattle.std.specs.Prelude.{◌≡◌, codes};
 ghost use Rattle.serde_json.specs.View.{view};
 ghost use Rattle.plan_reader.specs.Faults.{Gives, here};
 ghost use Rattle.plan_reader.specs.Readings.{key_of, optional};
+ghost use Rattle.toeplitz.specs.declared.key.TheConstants.{VERIFICATION_KEY};
 
 use crate::faults::cause::Cause;
 use crate::faults::fault::Refusal;
@@ -10,15 +11,9 @@ use crate::faults::placed::{here, placed};
 use hex::FromHex;
 use serde_json::Value;
 use std::alloc::Global;
+use toeplitz::VERIFICATION_KEY;
 
-/// The key of Microsoft's verification suite for the RSS hash.
-pub const VERIFICATION_KEY: [u8; 40] = [
-    0x6d, 0x5a, 0x56, 0xda, 0x25, 0x5b, 0x0e, 0xc2, 0x41, 0x67, 0x25, 0x3d, 0x43, 0xa3, 0x8f, 0xb0,
-    0xd0, 0xca, 0x2b, 0xcb, 0xae, 0x7b, 0x30, 0xb4, 0x77, 0xcb, 0x2d, 0xa3, 0x80, 0x30, 0xf2, 0x0c,
-    0x6a, 0x42, 0xb7, 0x3b, 0xbe, 0xac, 0x01, 0xfa,
-];
-
-/// A key: a text of 80 hexadecimal digits of either case.
+/// Reads a key: a text of 80 hexadecimal digits, in upper or lower case.
 #[tactic(auto, unfolding(crate::specs::Readings::key_of))]
 fn key_of(value: &Value) -> Result<[u8; 40], Cause>
     ensures { result ≡ key_of (view value.now) }
@@ -29,7 +24,7 @@ fn key_of(value: &Value) -> Result<[u8; 40], Cause>
         .ok_or(Cause::WrongKind)
 }
 
-/// The key of a plan, or that of the verification suite.
+/// The key of a plan, or the default key if the plan has none.
 #[tactic(auto, using(crate::proofs::Placed::gives_placed))]
 pub fn key_or_default(alloc: Global, object: &Value) -> Result<[u8; 40], Refusal>
     ensures { Gives result

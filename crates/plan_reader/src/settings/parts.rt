@@ -1,5 +1,6 @@
-//! The fields of a plan, in the order in which they are read.
+//! Reads the fields of a plan, in their order.
 use crate::faults::fault::Refusal;
+use crate::limits::{MAX_PLAN_BACKLOG, MAX_PLAN_FILTERS};
 use crate::plan::{QueuePlan, Steps, TxPlan};
 use crate::settings::key::key_or_default;
 use crate::settings::reta::reta_or_even;
@@ -9,9 +10,9 @@ use crate::values::fields::{list_or, number_or, required_list, required_number, 
 use crate::values::object::{an_object, only};
 use serde_json::Value;
 use std::alloc::Global;
-use steer_base::{Cpu, CpuMask, Detach, List, RxQueue};
+use steer_base::{Cpu, CpuMask, Detach, List, MAX_SOCKET_SIZE, RxQueue};
 
-/// The processors, the receive queues, and how packets come to them.
+/// The processors, the receive queues, and how packets are spread over them.
 #[derive(Drop)]
 pub struct Receive {
     pub cpus: u8,
@@ -21,7 +22,7 @@ pub struct Receive {
     pub reta: List<RxQueue>,
 }
 
-/// The sizes of tables and the limits of backlogs.
+/// The sizes of tables, the backlog limit, the counter start, and who has the flow limit.
 #[derive(Clone, Copy)]
 pub struct Tables {
     pub sock: u32,
@@ -31,7 +32,7 @@ pub struct Tables {
     pub limited: CpuMask,
 }
 
-/// The applications, the transmit queues, and what a run is given.
+/// The applications, the transmit queues, and how the replay is run.
 #[derive(Drop)]
 pub struct Sends {
     pub apps: List<Cpu>,
@@ -98,9 +99,16 @@ impl Tables {
         ensures gives { Gives result (tables_of cpus (view value.now)) }
         ensures within { IfOk result (TablesAreWithin cpus) }
     {
-        let sock = required_number(alloc, value, "sock", 0, 65_536)?;
-        let filters = number_or(alloc, value, "filters", 0, 4_096, 0)?;
-        let backlog = number_or(alloc, value, "backlog", 1, 65_536, 1_000)?;
+        let sock = required_number(alloc, value, "sock", 0, u64::from(MAX_SOCKET_SIZE))?;
+        let filters = number_or(alloc, value, "filters", 0, u64::from(MAX_PLAN_FILTERS), 0)?;
+        let backlog = number_or(
+            alloc,
+            value,
+            "backlog",
+            1,
+            u64::from(MAX_PLAN_BACKLOG),
+            1_000,
+        )?;
         let start = number_or(alloc, value, "start", 0, 4_294_967_295, 0)?;
         let limited = set_or_empty(alloc, value, "limited", 32, cpus)?;
         Ok(Tables {

@@ -1,4 +1,4 @@
-//! The queues and the taps of a plan.
+//! Reads the queues and the detached taps of a plan.
 ghost use Rattle.std.specs.Prelude.{◌≡◌, ◌≤◌, IfOk};
 ghost use Rattle.serde_json.specs.View.{view};
 ghost use Rattle.plan_reader.specs.Faults.{Gives};
@@ -11,9 +11,9 @@ use crate::values::fields::{required_below, required_number, required_set};
 use crate::values::object::{an_object, only};
 use serde_json::Value;
 use std::alloc::Global;
-use steer_base::{Cpu, CpuMask, Detach};
+use steer_base::{Cpu, CpuMask, Detach, MAX_FLOW_COUNT, MAX_PACKETS};
 
-/// A receive queue.
+/// Reads a receive queue.
 #[tactic(auto, unfolding(crate::specs::Readings::queue_plan))]
 pub fn queue_of(alloc: Global, cpus: u8, value: &Value) -> Result<QueuePlan, Refusal>
     requires { cpus ≤ 32 }
@@ -23,7 +23,7 @@ pub fn queue_of(alloc: Global, cpus: u8, value: &Value) -> Result<QueuePlan, Ref
     an_object(alloc, value)?;
     let home = required_below(alloc, value, "home", cpus)?;
     let mask = required_set(alloc, value, "mask", 32, cpus)?;
-    let flows = required_number(alloc, value, "flows", 0, 32_768)?;
+    let flows = required_number(alloc, value, "flows", 0, u64::from(MAX_FLOW_COUNT))?;
     only(alloc, value, &["home", "mask", "flows"])?;
     Ok(QueuePlan {
         home: Cpu(home),
@@ -32,7 +32,7 @@ pub fn queue_of(alloc: Global, cpus: u8, value: &Value) -> Result<QueuePlan, Ref
     })
 }
 
-/// A transmit queue.
+/// Reads a transmit queue.
 #[tactic(auto, unfolding(crate::specs::Readings::tx_of))]
 pub fn tx_of(alloc: Global, cpus: u8, queues: u8, value: &Value) -> Result<TxPlan, Refusal>
     requires cpus { cpus ≤ 32 }
@@ -50,7 +50,7 @@ pub fn tx_of(alloc: Global, cpus: u8, queues: u8, value: &Value) -> Result<TxPla
     })
 }
 
-/// A tap that is detached.
+/// Reads the detachment of a tap.
 #[tactic(auto, unfolding(crate::specs::Readings::detach_of))]
 pub fn detach_of(alloc: Global, value: &Value) -> Result<Detach, Refusal>
     ensures gives { Gives result (detach_of (view value.now)) }
@@ -58,7 +58,7 @@ pub fn detach_of(alloc: Global, value: &Value) -> Result<Detach, Refusal>
 {
     an_object(alloc, value)?;
     let tap = required_number(alloc, value, "tap", 0, 31)?;
-    let after = required_number(alloc, value, "after", 0, 262_144)?;
+    let after = required_number(alloc, value, "after", 0, MAX_PACKETS as u64)?;
     only(alloc, value, &["tap", "after"])?;
     Ok(Detach {
         tap: tap as u32,

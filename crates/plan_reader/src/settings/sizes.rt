@@ -1,6 +1,7 @@
-//! How many processors, queues and applications a plan has.
+//! The numbers of processors, queues and applications of a plan.
 
-/// How many of each a plan has. A size that is not read yet is 0.
+/// The numbers of processors, receive queues, applications and transmit queues of a plan. One that
+/// has not been read yet is 0.
 #[derive(Clone, Copy, Debug, PartialEq, Eq)]
 pub struct Sizes {
     pub cpus: u8,

@@ -3,8 +3,7 @@ ghost use Rattle.std.specs.Prelude.{◌≡◌, ◌≤◌, IfOk, codes, true};
 ghost use Rattle.serde_json.specs.View.{view, items_view};
 ghost use Rattle.plan_reader.specs.Faults.{Gives};
 ghost use Rattle.plan_reader.specs.Ranges.{StepsAreWithin, step_is_within};
-ghost use Rattle.plan_reader.specs.Readings.{listed_steps, required, seed_of, step_value};
-ghost use Rattle.plan_reader.specs.Readings.{read_steps};
+ghost use Rattle.plan_reader.specs.Readings.{listed_steps, required, seed_of, step_value, read_steps};
 
 use crate::faults::cause::Cause;
 use crate::faults::fault::Refusal;

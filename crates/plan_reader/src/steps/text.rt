@@ -1,4 +1,4 @@
-//! The step of a text.
+//! Reads the text of a step.
 ghost use Rattle.std.specs.Prelude.{◌≡◌, ◌≤◌, true, IsSome, IfSome, IfOk};
 ghost use Rattle.plan_reader.specs.Ranges.{step_is_within};
 ghost use Rattle.plan_reader.specs.StepTexts.{number_step, pair_step, takes_set, set_step};
@@ -11,9 +11,12 @@ use crate::steps::cut::cut;
 use crate::steps::set::{bits_of, is_set};
 use crate::steps::words::{app_step, bare_step, cpu_step, is, queue_step, tx_step};
 use crate::values::number::{count_below, index_below, number_of};
-use steer_base::{AppId, Command, Cpu, CpuMask, RxQueue, Step, TxQueue};
+use steer_base::{
+    AppId, Command, Cpu, CpuMask, MAX_FLOW_COUNT, MAX_PACKETS, MAX_SOCKET_SIZE, RxQueue, Step,
+    TxQueue,
+};
 
-/// A word with one number.
+/// The step of a word and a number.
 #[tactic(auto, unfolding(crate::specs::StepTexts::number_step))]
 fn number_step(sizes: Sizes, word: &[u8], number: u64) -> Result<Step, Cause>
     ensures step { result ≡ number_step sizes word.now number }
@@ -32,17 +35,17 @@ fn number_step(sizes: Sizes, word: &[u8], number: u64) -> Result<Step, Cause>
         let tx = index_below(sizes.tx, number)?;
         tx_step(word, tx).ok_or(Cause::WrongKind)
     } else if is(word, "record") {
-        let flow = count_below(262_144, number)?;
+        let flow = count_below(MAX_PACKETS as u32, number)?;
         Ok(Step::Record(flow))
     } else if is(word, "sock") {
-        let size = count_below(65_537, number)?;
+        let size = count_below(MAX_SOCKET_SIZE + 1, number)?;
         Ok(Step::Give(Command::Sock(size)))
     } else {
         Err(Cause::WrongKind)
     }
 }
 
-/// A word with two numbers.
+/// The step of a word and two numbers.
 #[tactic(auto, unfolding(crate::specs::StepTexts::pair_step))]
 fn pair_step(sizes: Sizes, word: &[u8], first: u64, second: u64) -> Result<Step, Cause>
     ensures step { result ≡ pair_step sizes word.now first second }
@@ -50,7 +53,7 @@ fn pair_step(sizes: Sizes, word: &[u8], first: u64, second: u64) -> Result<Step,
 {
     if is(word, "flows") {
         let queue = index_below(sizes.queues, first)?;
-        let count = count_below(32_769, second)?;
+        let count = count_below(MAX_FLOW_COUNT + 1, second)?;
         Ok(Step::Give(Command::Flows(RxQueue(queue), count)))
     } else if is(word, "reta") {
         let place = index_below(128, first)?;
@@ -65,7 +68,8 @@ fn pair_step(sizes: Sizes, word: &[u8], first: u64, second: u64) -> Result<Step,
     }
 }
 
-/// A word with a number and a set, whose numbers are below what the word asks.
+/// The step of a word, a number and a set, whose members must be below the number that the plan
+/// has.
 #[tactic(auto, unfolding(crate::specs::StepTexts::set_step))]
 fn set_step(sizes: Sizes, word: &[u8], first: u64, second: &[u8]) -> Result<Step, Cause>
     requires cpus { sizes.cpus ≤ 32 }
@@ -100,7 +104,7 @@ fn takes_set(word: &[u8]) -> bool
     is(word, "mask") || is(word, "xcpus") || is(word, "xqueues")
 }
 
-/// A word and two arguments.
+/// The step of a word and two arguments.
 fn two_arguments(sizes: Sizes, word: &[u8], first: &[u8], second: &[u8]) -> Result<Step, Cause>
     requires cpus { sizes.cpus ≤ 32 }
     requires queues { sizes.queues ≤ 16 }
@@ -120,12 +124,11 @@ fn two_arguments(sizes: Sizes, word: &[u8], first: &[u8], second: &[u8]) -> Resu
     }
 }
 
-/// A word and what follows the space behind it.
+/// The step of a word and what follows the space after it.
 fn some_arguments(sizes: Sizes, word: &[u8], rest: &[u8]) -> Result<Step, Cause>
     requires cpus { sizes.cpus ≤ 32 }
     requires queues { sizes.queues ≤ 16 }
-    ensures step { result ≡ some_arguments sizes word.now (before 32 rest.now)
-        (after_byte 32 rest.now) }
+    ensures step { result ≡ some_arguments sizes word.now (before 32 rest.now) (after_byte 32 rest.now) }
     ensures within { IfOk result (λ step. step_is_within sizes step ≡ true) }
 {
     let (first, second) = cut(rest, b' ');

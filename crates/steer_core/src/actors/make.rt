@@ -4,6 +4,7 @@ ghost use Rattle.accel_filter.specs.Table as table;
 ghost use Rattle.plan_reader.specs.Plans.{step_count};
 ghost use Rattle.sock_flow_table.specs.Sockets as sockets;
 ghost use Rattle.steer_base.specs.Journals.{journal, new_journals};
+ghost use Rattle.steer_base.specs.declared.limits.TheConstants.{MAX_PACKETS};
 ghost use Rattle.steer_core.specs.Starting.{started};
 ghost use Rattle.steer_model.specs.State.Ranges.{AreOfFlows};
 ghost use Rattle.steer_model.specs.State.Start.{fresh_rx, fresh_tx, initial_settings};
@@ -27,7 +28,7 @@ impl Actors {
         packets: &[Packet],
         cut: Option<u32>,
     ) -> Result<Actors, OutOfMemory>
-        requires few { length packets.now ≤ 262144 }
+        requires few { length packets.now ≤ MAX_PACKETS }
         requires flows { AreOfFlows packets.now }
         ensures { IfOk result (λ actors. actors ≡ started plan.now packets.now cut) }
     {
@@ -35,21 +36,18 @@ impl Actors {
         let _start = plan.start;
         let given = Given::of_plan(alloc, plan, packets, cut)?;
         let settings = InForce::of_plan(alloc, plan)?;
-        let tables = Tables::make(alloc, plan)?;
-        let hops = Hops::make(alloc, plan, packets)?;
-        let lists = Lists::make(alloc, plan, packets)?;
         let Tables {
             socket,
             filters,
             notes,
-        } = tables;
-        let Hops { rx, tx } = hops;
+        } = Tables::make(alloc, plan)?;
+        let Hops { rx, tx } = Hops::make(alloc, plan, packets)?;
         let Lists {
             arrivals,
             sent,
             writes,
             commands,
-        } = lists;
+        } = Lists::make(alloc, plan, packets)?;
         Ok(Actors {
             given,
             settings,
@@ -104,7 +102,7 @@ struct Hops {
 impl Hops {
     // Both of them empty.
     fn make(alloc: Global, plan: &Plan, packets: &[Packet]) -> Result<Hops, OutOfMemory>
-        requires { length packets.now ≤ 262144 }
+        requires { length packets.now ≤ MAX_PACKETS }
         ensures rx { IfOk result (λ hops. hops.rx ≡ fresh_rx plan.now packets.now) }
         ensures tx { IfOk result (λ hops. hops.tx ≡ fresh_tx plan.now packets.now) }
     {
@@ -126,7 +124,7 @@ struct Lists {
 impl Lists {
     // Empty lists, with room for all that the plan's steps append.
     fn make(alloc: Global, plan: &Plan, packets: &[Packet]) -> Result<Lists, OutOfMemory>
-        requires { length packets.now ≤ 262144 }
+        requires { length packets.now ≤ MAX_PACKETS }
         ensures arrivals { IfOk result (λ lists. lists.arrivals ≡ journal [] (length packets.now)) }
         ensures sent { IfOk result (λ lists. lists.sent
             ≡ new_journals (length plan.now.apps) (length packets.now)) }
@@ -154,7 +152,7 @@ impl Lists {
 // The receive hop: from the receive queues over the processors to the inboxes, with the
 // applications and a controller as guests.
 fn receive_hop(alloc: Global, plan: &Plan, packets: &[Packet]) -> Result<Hop, OutOfMemory>
-    requires { length packets.now ≤ 262144 }
+    requires { length packets.now ≤ MAX_PACKETS }
     ensures { IfOk result (λ hop. hop ≡ fresh_rx plan.now packets.now) }
 {
     let counts = flow_counts(alloc, plan.queues.as_slice())?;
@@ -179,7 +177,7 @@ fn receive_hop(alloc: Global, plan: &Plan, packets: &[Packet]) -> Result<Hop, Ou
 // The transmit hop: from the applications over the transmit queues to the port, with a class for
 // each flow number and one at least, and lanes that are never full.
 fn transmit_hop(alloc: Global, plan: &Plan, packets: &[Packet]) -> Result<Hop, OutOfMemory>
-    requires { length packets.now ≤ 262144 }
+    requires { length packets.now ≤ MAX_PACKETS }
     ensures { IfOk result (λ hop. hop ≡ fresh_tx plan.now packets.now) }
 {
     let room = packets.len() as u32;

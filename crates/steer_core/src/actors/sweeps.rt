@@ -1,5 +1,6 @@
 //! A sweep: rounds of all actors until one in which no work was done.
 ghost use Rattle.std.specs.Prelude.{◌≡◌, ◌≤◌, false, length};
+ghost use Rattle.steer_base.specs.declared.limits.TheConstants.{MAX_PACKETS};
 ghost use Rattle.steer_core.specs.Rooms.{HasSpare};
 ghost use Rattle.steer_model.specs.Steps.CompoundSteps.{drain, for_each, most_rounds as the_most};
 ghost use Rattle.steer_model.specs.Steps.CompoundSteps.{one_round, poll};
@@ -102,7 +103,7 @@ impl Actors {
 
 // More rounds than there is work for so many packets.
 fn most_rounds(packets: u32) -> u32
-    requires { packets ≤ 262144 }
+    requires { packets ≤ MAX_PACKETS }
     ensures { result ≡ the_most packets }
 {
     16 * packets + 32

@@ -2,9 +2,9 @@ use Rattle.std.proofs.Common.{[], refl}
 use Rattle.std.proofs.KnownBytes.{Keeps-refl}
 use Rattle.replay.specs.Summaries.{summary_text}
 use Rattle.steer_top.specs.Commands.{gen_words_of}
-use Rattle.steer_top.specs.Endings.{Course}
+use Rattle.steer_top.specs.Endings.{Course, course_of}
 use Rattle.steer_top.specs.Words.CommandWords.{Gen}
-use Rattle.steer_top.proofs.Commands.{course_of, ends_written, files_of, gen_gave}
+use Rattle.steer_top.proofs.Commands.{ends_written, files_of, gen_gave}
 use Rattle.steer_top.proofs.gen_command.gen_input.Goals as goal
 
 pub returns-in-Err-clause-ends : goal.returns-in-Err-clause-ends

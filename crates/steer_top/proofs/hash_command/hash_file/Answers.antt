@@ -1,12 +1,12 @@
 use Rattle.std.proofs.Common.{[], refl}
 use Rattle.std.proofs.KnownBytes.{Keeps-refl}
 use Rattle.steer_top.specs.Commands.{hash_words_of}
-use Rattle.steer_top.specs.Endings.{Course}
+use Rattle.steer_top.specs.Endings.{Course, course_of}
 use Rattle.steer_top.specs.HashText.{capture_text}
 use Rattle.steer_top.specs.Words.CommandWords.{Hash}
 use Rattle.steer_top.specs.declared.ending.Ending.TheVariants as ending
 use Rattle.steer_top.specs.declared.ending.Role.TheVariants as role
-use Rattle.steer_top.proofs.Commands.{course_of, ends_at, ends_written, files_of, hash_gave}
+use Rattle.steer_top.proofs.Commands.{ends_at, ends_written, files_of, hash_gave}
 use Rattle.steer_top.proofs.hash_command.hash_file.Goals as goal
 
 pub returns-in-Err-clause-ends : goal.returns-in-Err-clause-ends

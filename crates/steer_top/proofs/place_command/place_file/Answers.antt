@@ -1,12 +1,12 @@
 use Rattle.std.proofs.Common.{[], ◌∷◌, refl}
 use Rattle.std.proofs.KnownBytes.{Keeps-refl}
 use Rattle.steer_top.specs.Commands.{place_words_of}
-use Rattle.steer_top.specs.Endings.{Course}
+use Rattle.steer_top.specs.Endings.{Course, course_of}
 use Rattle.steer_top.specs.PlaceText.{place_text}
 use Rattle.steer_top.specs.Words.CommandWords.{Place}
 use Rattle.steer_top.specs.declared.ending.Ending.TheVariants as ending
 use Rattle.steer_top.specs.declared.ending.Role.TheVariants as role
-use Rattle.steer_top.proofs.Commands.{course_of, ends_at, ends_written, files_of, place_gave}
+use Rattle.steer_top.proofs.Commands.{ends_at, ends_written, files_of, place_gave}
 use Rattle.steer_top.proofs.Commands.{stops_later, told_bytes}
 use Rattle.steer_top.proofs.place_command.place_file.Goals as goal
 

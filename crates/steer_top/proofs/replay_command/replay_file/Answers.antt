@@ -4,11 +4,11 @@ use Rattle.replay.specs.Replays.{IsWithinTypes, replay_text}
 use Rattle.replay.specs.Reports.{IsReportOfPlan}
 use Rattle.std.proofs.KnownBytes.{Keeps-refl}
 use Rattle.steer_top.specs.Commands.{replay_words_of}
-use Rattle.steer_top.specs.Endings.{Course}
+use Rattle.steer_top.specs.Endings.{Course, course_of}
 use Rattle.steer_top.specs.Words.CommandWords.{Replay}
 use Rattle.steer_top.specs.declared.ending.Ending.TheVariants as ending
 use Rattle.steer_top.specs.declared.ending.Role.TheVariants as role
-use Rattle.steer_top.proofs.Commands.{course_of, ends_at, ends_written, files_of, replay_gave}
+use Rattle.steer_top.proofs.Commands.{ends_at, ends_written, files_of, replay_gave}
 use Rattle.steer_top.proofs.Commands.{stops_later, told_bytes}
 use Rattle.steer_top.proofs.replay_command.replay_file.Goals as goal
 

@@ -1,6 +1,6 @@
 use Rattle.steer_top.specs.Commands.{words_of}
-use Rattle.steer_top.specs.Endings.{Course}
-use Rattle.steer_top.proofs.Commands.{course_of, ends_flushed}
+use Rattle.steer_top.specs.Endings.{Course, course_of}
+use Rattle.steer_top.proofs.Commands.{ends_flushed}
 use Rattle.steer_top.proofs.top.run.Goals as goal
 
 pub returns-in-Some-clause-ends : goal.returns-in-Some-clause-ends
@@ -14,6 +14,6 @@ returns-in-Some-clause-ends g c =
     (g.K.Sink.faults out) (g.K.Sink.faults done) (g.K.Sink.written out) (g.K.Sink.written done) in
     rw (← c.in-Some.ensures)
     (ends_flushed (words_of c.in-Some.command) course (g.K.Sink.faults c.flush.new.out)
-    (g.K.Sink.written c.flush.new.out)
+    (g.K.Sink.written c.flush.new.out) (g.K.Sink.unsent c.flush.new.out)
     c.perform-ending.result c.flush.result c.perform-ending.ensures.out_later
     c.perform-ending.ensures.ends c.flush.ensures)

@@ -2,7 +2,7 @@ use Rattle.std.proofs.Common.{◌≡◌, ◌∙◌, sym, subst}
 use Rattle.steer_top.specs.Endings.{IsRefusal}
 use Rattle.steer_top.specs.declared.ending.Ending.TheVariants as ending
 use Rattle.steer_top.proofs.Statuses.{refuses_of, refused_of, complete_of, accepted_of, text_of}
-use Rattle.steer_top.proofs.Statuses.{part_of, refused_is, unread_of}
+use Rattle.steer_top.proofs.Statuses.{done_of, part_of, refused_is, unread_of}
 use Rattle.steer_top.proofs.Replays.{headline_of}
 use Rattle.steer_top.proofs.top.steer_still.Goals as goal
 
@@ -65,3 +65,7 @@ returns-clause-headline g c = λ status words files asks.
     let law = c.a_call_is_decided.ensures in
     headline_of law.once law.apart c.every_report_has_the_headline.ensures words files _ asks.told
     c.run-ending.result (rw asks.is at c.run-ending.ensures.ends) (sym c.status.ensures ∙ status)
+
+pub returns-clause-sent : goal.returns-clause-sent
+returns-clause-sent g c = λ status.
+    c.run-ending.ensures.sent (done_of c.run-ending.result (sym c.status.ensures ∙ status))

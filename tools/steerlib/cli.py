@@ -1,0 +1,275 @@
+"""What all companion programs share: words, notes, refusals, statuses, input, and steer itself.
+
+Statuses: 0 done, 1 two things differ, 2 wrong words, 3 refused with the value and the reason,
+4 a file that is not of the wanted kind.
+"""
+
+import argparse
+import gzip
+import io
+import os
+import shutil
+import signal
+import subprocess
+import sys
+import zlib
+
+DONE, DIFFERS, WRONG_WORDS, REFUSED, NOT_THAT_FILE = 0, 1, 2, 3, 4
+
+APART = "This program is a companion of steer; it is not part of the proved program."
+
+STATUSES = ("Statuses: 0 done, 1 differs, 2 wrong words, 3 refused with the value and the reason, "
+            "4 not that kind of file.")
+
+GZIP_MAGIC = b"\x1f\x8b"
+
+
+class WrongWords(Exception):
+    """Words on the command line that mean nothing: status 2. WrongWords(reason)."""
+
+
+class Refused(Exception):
+    """What was read cannot be used: status 3. Refused(source, reason, ..), with the values."""
+
+    def __init__(self, source, reason, *reasons):
+        super().__init__(source, reason, *reasons)
+        self.source = source
+        self.reason = reason
+        self.reasons = (reason,) + reasons
+
+    def __str__(self):
+        return "%s: refused: %s" % (self.source, self.reason)
+
+
+class NotThatFile(Exception):
+    """A file that cannot be read or is of another kind: status 4. NotThatFile(source, reason)."""
+
+    def __init__(self, source, reason):
+        super().__init__(source, reason)
+        self.source = source
+        self.reason = reason
+
+    def __str__(self):
+        return "%s: %s" % (self.source, self.reason)
+
+
+def program_name():
+    """The name that this program was called by, without its folder."""
+    return os.path.basename(sys.argv[0]) or "steer"
+
+
+def printable(text):
+    """`text` with all that a terminal might act upon, or that UTF-8 lacks, written as \\x.. ."""
+    if text.isprintable():
+        return text
+    kept = (c if c.isprintable() or c == "\n" else c.encode("unicode_escape").decode()
+            for c in text)
+    return "".join(kept)
+
+
+def say(text):
+    """One line on standard error; a standard error that is closed is none of our business."""
+    try:
+        sys.stderr.write(printable(text) + "\n")
+        sys.stderr.flush()
+    except (OSError, ValueError):
+        pass
+
+
+def note(text):
+    """A guess, a warning or a measure that the user should know of, on standard error."""
+    say("note: " + text)
+
+
+class _Parser(argparse.ArgumentParser):
+    def error(self, message):
+        raise WrongWords(message + " (--help says more)")
+
+
+def parser(description, example, **keywords):
+    """An argument parser: wrong words have status 2, --help ends with `example` and statuses.
+
+    `description` is prose, `example` lines as typed; `keywords` go to argparse.ArgumentParser.
+    """
+    lines = "\n".join("  " + line for line in example.strip().splitlines())
+    keywords.setdefault("formatter_class", argparse.RawDescriptionHelpFormatter)
+    keywords.setdefault("allow_abbrev", False)
+    return _Parser(
+        prog=program_name(), description=description.strip() + "\n\n" + APART,
+        epilog="example:\n" + lines + "\n\n" + STATUSES, **keywords)
+
+
+def _silence_output():
+    """Nothing more is written to a standard output that is closed, also not at exit."""
+    try:
+        quiet = os.open(os.devnull, os.O_WRONLY)
+        os.dup2(quiet, 1)
+        os.close(quiet)
+    except OSError:
+        pass
+
+
+def guarded(main):
+    """The status of main(words); a fault is said in a line on standard error."""
+    name = program_name()
+    try:
+        status = main(sys.argv[1:])
+        sys.stdout.flush()
+        return DONE if status is None else status
+    except WrongWords as fault:
+        say("%s: %s" % (name, fault))
+        return WRONG_WORDS
+    except Refused as fault:
+        for reason in fault.reasons:
+            say("%s: %s: refused: %s" % (name, fault.source, reason))
+        return REFUSED
+    except NotThatFile as fault:
+        say("%s: %s" % (name, fault))
+        return NOT_THAT_FILE
+    except BrokenPipeError:
+        _silence_output()
+        return DONE
+    except (MemoryError, RecursionError):
+        say("%s: refused: the input needs more memory than there is" % name)
+        return REFUSED
+    except OSError as fault:
+        _silence_output()
+        say("%s: %s: %s" % (name, fault.filename or "input or output", fault.strerror or fault))
+        return NOT_THAT_FILE
+
+
+def run(main):
+    """Calls main(words), whose result (None is 0) becomes the status, and ends the program.
+
+    Faults become one line on standard error and their status; a closed pipe is silent.
+    """
+    if sys.stdout is None:
+        sys.stdout = open(os.devnull, "w")
+    if hasattr(sys.stdout, "reconfigure"):
+        sys.stdout.reconfigure(encoding="utf-8", errors="backslashreplace", newline="\n")
+    try:
+        status = guarded(main)
+    except KeyboardInterrupt:
+        _silence_output()
+        signal.signal(signal.SIGINT, signal.SIG_DFL)
+        os.kill(os.getpid(), signal.SIGINT)
+        status = 130
+    except SystemExit as end:
+        status = end.code
+        try:
+            sys.stdout.flush()
+        except BrokenPipeError:
+            _silence_output()
+    sys.exit(status)
+
+
+class _Guarded(io.RawIOBase):
+    """A stream whose faults of reading name their source; closing it closes `plain` too."""
+
+    def __init__(self, stream, source, plain):
+        super().__init__()
+        self.stream = stream
+        self.source = source
+        self.plain = plain
+
+    def readable(self):
+        return True
+
+    def readinto(self, buffer):
+        try:
+            data = self.stream.read(len(buffer))
+        except EOFError:
+            raise NotThatFile(self.source, "the gz data is cut short") from None
+        except (OSError, ValueError, zlib.error) as fault:
+            reason = getattr(fault, "strerror", None) or str(fault)
+            raise NotThatFile(self.source, reason) from None
+        buffer[:len(data)] = data
+        return len(data)
+
+    def close(self):
+        if not self.closed:
+            self.stream.close()
+            self.plain.close()
+        super().close()
+
+
+def source_name(name):
+    """How messages name the file of this word: `-` is standard input."""
+    return "standard input" if name == "-" else name
+
+
+def open_bytes(name, unpacked=True):
+    """A buffered binary stream of the file `name`; `-` is standard input; gz is opened through.
+
+    With `unpacked` false a gz file is given as it is. Raises NotThatFile where the file cannot
+    be opened, and the stream does where it cannot be read.
+    """
+    source = source_name(name)
+    try:
+        if name == "-":
+            if sys.stdin is None:
+                raise NotThatFile(source, "it is closed")
+            plain = sys.stdin.buffer
+        else:
+            plain = open(name, "rb")
+        start = plain.peek(2)[:2]
+    except (OSError, ValueError, AttributeError) as fault:
+        raise NotThatFile(source, getattr(fault, "strerror", None) or str(fault)) from None
+    packed = unpacked and start == GZIP_MAGIC
+    stream = gzip.GzipFile(fileobj=plain, mode="rb") if packed else plain
+    return io.BufferedReader(_Guarded(stream, source, plain), 1 << 18)
+
+
+def read_bytes(name):
+    """All bytes of the file `name`, as open_bytes opens it."""
+    with open_bytes(name) as stream:
+        return stream.read()
+
+
+def read_text(name):
+    """The file `name` as text; NotThatFile with the number of the byte that is not UTF-8."""
+    data = read_bytes(name)
+    try:
+        return data.decode("utf-8")
+    except UnicodeDecodeError as fault:
+        raise NotThatFile(source_name(name), "byte %d (0x%02x) is not UTF-8 text"
+                          % (fault.start, data[fault.start])) from None
+
+
+def find_steer():
+    """The command that runs steer, as a list: $STEER, else on the path, else ../steer.sh.
+
+    $STEER is the name of a program, without words.
+    """
+    named = os.environ.get("STEER")
+    if named:
+        found = shutil.which(named)
+        if found is None:
+            raise Refused("$STEER", "%s is no program that can be run" % named)
+        return [found]
+    found = shutil.which("steer")
+    if found is not None:
+        return [found]
+    here = os.path.dirname(os.path.abspath(__file__))
+    beside = os.path.normpath(os.path.join(here, "..", "..", "steer.sh"))
+    if os.access(beside, os.X_OK):
+        return [beside]
+    raise Refused("steer", "no such program: neither $STEER, nor on the path, nor %s" % beside)
+
+
+def run_steer(words, out=None):
+    """Runs steer with `words`; its output goes to the binary file `out`, else it is returned.
+
+    Raises Refused(the words, steer's own message) where the status is not 0.
+    """
+    command = find_steer() + list(words)
+    try:
+        ended = subprocess.run(command, stdin=subprocess.DEVNULL, stderr=subprocess.PIPE,
+                               stdout=subprocess.PIPE if out is None else out)
+    except OSError as fault:
+        raise Refused(command[0], fault.strerror or str(fault)) from None
+    if ended.returncode != 0:
+        message = ended.stderr.decode("utf-8", "replace").strip()
+        raise Refused("steer " + " ".join(words),
+                      message or "status %d without a word" % ended.returncode)
+    return ended.stdout

@@ -1,0 +1,66 @@
+"""Plans: reading one that steer takes, and writing one a line for each queue."""
+
+import json
+
+from . import cli
+from . import jsontext
+from . import lint
+
+DEFAULTS = {
+    "kinds": 63, "filters": 0, "backlog": 1000, "start": 0, "limited": [], "workers": 1,
+    "tries": 1, "detach": [],
+}
+VERIFICATION_KEY = ("6d5a56da255b0ec24167253d43a38fb0d0ca2bcbae7b30b4"
+                    "77cb2da38030f20c6a42b73bbeac01fa")
+
+
+def read_plan(name):
+    """The plan of the file `name` as dicts and lists, with the keys that it has.
+
+    NotThatFile where it is no JSON, Refused with the first fault where steer does not take it.
+    """
+    with cli.open_bytes(name) as stream:
+        text, value, faults, notes = lint.judge(stream.read())
+    if faults:
+        first = faults[0]
+        place = "%d:%d" % jsontext.Places(text).of(first.offset)
+        source = "%s:%s" % (cli.source_name(name), place)
+        if first.path is None:
+            raise cli.NotThatFile(source, "no plan: " + first.reason)
+        others = " (steer-lint shows all %d faults)" % len(faults) if faults[1:] else ""
+        raise cli.Refused(source, "%s: %s%s" % (first.path, first.reason, others))
+    for text in notes:
+        cli.note("%s: %s" % (cli.source_name(name), text))
+    return jsontext.plain(value)
+
+
+def table_of(plan):
+    """The redirection table of a plan: 128 numbers of queues."""
+    return plan.get("reta") or [i % len(plan["queues"]) for i in range(128)]
+
+
+def _lines(values, indent):
+    """Written members on lines of at most 100 columns behind `indent` blanks."""
+    lines, line = [], ""
+    for value in values:
+        if line and len(line) + len(value) + 3 + indent > 100:
+            lines.append(line)
+            line = ""
+        line += (", " if line else "") + value
+    return (",\n" + " " * indent).join(lines + [line])
+
+
+def value_text(name, value):
+    """One value of a plan as it is written behind its key."""
+    indent = len(name) + 6
+    if name in ("queues", "tx") and value:
+        return "[" + (",\n" + " " * indent).join(json.dumps(one) for one in value) + "]"
+    if name == "steps" and isinstance(value, list):
+        return "[" + _lines((json.dumps(one) for one in value), indent) + "]"
+    return json.dumps(value)
+
+
+def plan_text(plan):
+    """A plan as text: a line for each key, and one for each queue."""
+    return "{" + ",\n ".join("%s: %s" % (json.dumps(name), value_text(name, value))
+                             for name, value in plan.items()) + "}\n"

@@ -1,0 +1,326 @@
+"""Reads the report of `steer replay`, checks its form line by line, and recounts its sums.
+
+A row of a report is a named tuple; a dash of the report is None. Counter numbers (`head`, `tail`,
+`at`) have 32 bits and wrap; all other numbers are indices, which count from 0, or plain counts.
+"""
+
+import re
+import tempfile
+from collections import namedtuple
+
+from . import cli
+
+FIRST_LINE = b"steer 1\n"
+LONGEST_LINE = 512
+
+Packet = namedtuple("Packet", (
+    "id", "q", "via", "class_", "want", "head", "tail", "cpu", "why", "at",
+    "drop", "drop_accepted", "drop_pulled", "flow_offers", "app", "inbox", "place"))
+Reply = namedtuple("Reply", (
+    "id", "app", "rxq", "cpu", "pick", "head", "tail", "tx", "why", "at", "port"))
+Queue = namedtuple("Queue", ("queue", "arrived", "taken"))
+Cpu = namedtuple("Cpu", ("cpu", "accepted", "pulled", "delivered", "retired", "dropped"))
+Tx = namedtuple("Tx", ("tx", "accepted", "pulled", "delivered", "retired"))
+Write = namedtuple("Write", ("app", "entry", "cpu"))
+Answer = namedtuple("Answer", ("number", "step", "answer"))
+Tap = namedtuple("Tap", ("number", "text"))
+End = namedtuple("End", ("arrived", "total", "cut"))
+
+MOVES = ("passed", "offline")
+"""The reasons for which a packet's flow leaves the processor, or the queue, that it had."""
+
+NUMBER = r"(0|[1-9]\d{0,9})"
+MAYBE = r"(-|0|[1-9]\d{0,9})"
+SET = r"(?:-|\d+(?:,\d+)*)"
+STEP = (r"(mask \d+ " + SET + r"|flows \d+ \d+|sock \d+|offline \d+|online \d+|xcpus \d+ " + SET
+        + r"|xqueues \d+ " + SET + r"|reta \d+ \d+|stand \d+ \d+|expire)")
+ANSWER = (r"(done|idle online|busy inside \d+|busy lane \d+ head \d+ tail \d+"
+          r"|in use queue \d+|in use app \d+|cpu offline|expired \d+)")
+
+FORMS = {
+    "p": "p N q N via (filter|reta|none) class M want M head M tail M cpu M "
+         "why (-|plain|same|unset|offline|passed|kept) at (?:M|drop N N N(?: flow N)?) "
+         "app N in M place (ring|poller|backlog|hand|inbox|drop)",
+    "r": "r N app N rxq N cpu N pick M head M tail M tx M "
+         "why (-|plain|same|unset|offline|passed|kept) at M port M",
+    "queue": "queue N arrived N taken N",
+    "cpu": "cpu N accepted N pulled N delivered N retired N dropped N",
+    "tx": "tx N accepted N pulled N delivered N retired N",
+    "w": "w app N entry N cpu N",
+    "c": "c N STEP ANSWER",
+    "tap": "tap N bytes N",
+    "end": "end N of N(?: cut N)?",
+}
+"""The form of each kind of line, in the order of a report: N a number, M a number or a dash."""
+
+ROWS = {"p": Packet, "r": Reply, "queue": Queue, "cpu": Cpu, "tx": Tx, "w": Write, "c": Answer,
+        "tap": Tap, "end": End}
+
+KINDS = [kind for kind in FORMS if kind != "end"]
+
+
+def _pattern(form):
+    """A pattern for the bytes of a whole line of this form."""
+    parts = {"N": NUMBER, "M": MAYBE, "STEP": STEP, "ANSWER": ANSWER}
+    text = re.sub(r"\b(STEP|ANSWER|N|M)\b", lambda found: parts[found.group()], form)
+    return re.compile(text.encode() + rb"\n", re.ASCII)
+
+
+PATTERNS = {kind: _pattern(form) for kind, form in FORMS.items()}
+
+
+class Report:
+    """A report: lists of rows by kind. `taps` are (number, bytes); `end` is the last line.
+
+    `end.arrived` packets of the `end.total` of the capture arrived; `end.cut` is how many bytes of
+    a cut last record the capture has, or None.
+    """
+
+    def __init__(self, packets, replies, queues, cpus, tx, writes, answers, taps, end):
+        self.packets = packets
+        self.replies = replies
+        self.queues = queues
+        self.cpus = cpus
+        self.tx = tx
+        self.writes = writes
+        self.answers = answers
+        self.taps = taps
+        self.end = end
+
+    def by_kind(self):
+        """The lists of rows by kind: `p`, `r`, `queue`, `cpu`, `tx`, `w`, `c`, `tap`."""
+        return dict(zip(KINDS, (self.packets, self.replies, self.queues, self.cpus, self.tx,
+                                self.writes, self.answers, self.taps)))
+
+
+class _Lines:
+    """The lines of a stream: `line` is the one that is read next, `number` counts from 1."""
+
+    def __init__(self, stream, source):
+        self.stream = stream
+        self.source = source
+        self.number = 0
+        self.advance()
+
+    def advance(self):
+        """Goes on to the next line; it has no line feed if it is cut or too long."""
+        self.line = self.stream.readline(LONGEST_LINE)
+        self.number += 1
+
+    def skip(self, size):
+        """The next `size` bytes, which are whole lines or none."""
+        text = self.stream.read(size)
+        self.number += text.count(b"\n")
+        if len(text) < size:
+            raise cli.Refused(self.source, "cut short after line %d (%d of the %d bytes of a tap)"
+                              % (self.number, len(text), size))
+        return text
+
+    def refuse(self, reason):
+        raise cli.Refused(self.source, "line %d %s" % (self.number, reason))
+
+    def refuse_line(self):
+        """Refuses the next line, which is none of those that may follow."""
+        if not self.line.endswith(b"\n") and len(self.line) < LONGEST_LINE:
+            raise cli.Refused(self.source, "cut short after line %d (no line `end`)"
+                              % (self.number - 1))
+        shown = self.line[:80].decode("ascii", "backslashreplace").rstrip("\n")
+        self.refuse("is unexpected: `%s`" % shown)
+
+
+class _Values(dict):
+    """Fields as numbers or words; a dash, and a field that the form left out, is None.
+
+    Each is made once, which is faster, and lets rows share their numbers.
+    """
+
+    def __missing__(self, field):
+        if field is None or field == b"-":
+            value = None
+        elif field.isdigit():
+            value = int(field)
+        else:
+            value = field.decode()
+        self[field] = value
+        return value
+
+
+def _check_number(row, rows, lines):
+    if row[0] != len(rows):
+        lines.refuse("has number %d, expected %d" % (row[0], len(rows)))
+
+
+def _check_reply(row, rows, lines):
+    if rows and row.id <= rows[-1].id:
+        lines.refuse("has number %d after %d" % (row.id, rows[-1].id))
+
+
+def _check_packet(row, rows, lines):
+    """Refuses a packet out of order, and one whose own fields contradict each other."""
+    _check_number(row, rows, lines)
+    if (row.place == "drop") != (row.drop is not None):
+        lines.refuse("has place %s and %s drop" % (row.place, "no" if row.drop is None else "a"))
+    if (row.place == "inbox") != (row.inbox is not None):
+        lines.refuse("has place %s and %s place in an inbox"
+                     % (row.place, "no" if row.inbox is None else "a"))
+    if (row.cpu is None) != (row.why is None):
+        lines.refuse("has a processor without a reason, or a reason without a processor")
+    is_put = row.at is not None or row.drop is not None
+    if is_put != (row.place not in ("ring", "poller")) or (is_put and row.cpu is None):
+        lines.refuse("has place %s and processor %s and position %s"
+                     % (row.place, row.cpu, row.at))
+
+
+CHECKS = {"p": _check_packet, "r": _check_reply, "w": None}
+
+
+def _read_kind(kind, lines, values):
+    """The rows of a kind, up to the first line of another one."""
+    pattern = PATTERNS[kind]
+    make = ROWS[kind]._make
+    check = CHECKS.get(kind, _check_number)
+    rows = []
+    while True:
+        found = pattern.fullmatch(lines.line)
+        if found is None:
+            return rows
+        row = make(map(values.__getitem__, found.groups()))
+        if check is not None:
+            check(row, rows, lines)
+        if kind == "tap":
+            row = Tap(row.number, lines.skip(row.text))
+        rows.append(row)
+        lines.advance()
+
+
+def _read_end(lines, values):
+    found = PATTERNS["end"].fullmatch(lines.line)
+    if found is None:
+        lines.refuse_line()
+    lines.advance()
+    if lines.line:
+        lines.refuse("follows the line `end`")
+    return End._make(map(values.__getitem__, found.groups()))
+
+
+def read(stream, source="report"):
+    """The report that a binary stream has; `source` names it in messages.
+
+    Raises NotThatFile if the first line is not that of a report, and Refused if it is cut short, a
+    line has another form, or a sum is not that of its packets.
+    """
+    lines = _Lines(stream, source)
+    if lines.line != FIRST_LINE:
+        raise cli.NotThatFile(source, "is no report: its first line is not `steer 1`")
+    lines.advance()
+    values = _Values()
+    rows = [_read_kind(kind, lines, values) for kind in KINDS]
+    report = Report(*rows, _read_end(lines, values))
+    for difference in differences(report):
+        raise cli.Refused(source, difference)
+    return report
+
+
+def read_file(name):
+    """The report in the file `name`; `-` is standard input, and gz is opened through."""
+    with cli.open_bytes(name) as stream:
+        return read(stream, cli.source_name(name))
+
+
+def replay(plan, capture):
+    """The report of `steer replay` on the files with these names."""
+    with tempfile.TemporaryFile() as out:
+        cli.run_steer(["replay", plan, capture], out)
+        out.seek(0)
+        return read(out, "steer replay %s %s" % (plan, capture))
+
+
+def _counted_queues(report):
+    """The sums of each receive queue over the packets."""
+    arrived = [0] * len(report.queues)
+    taken = [0] * len(report.queues)
+    for packet in report.packets:
+        arrived[packet.q] += 1
+        taken[packet.q] += packet.place != "ring"
+    return [Queue(number, arrived[number], taken[number]) for number in range(len(arrived))]
+
+
+def _counted_cpus(report):
+    """The sums of each processor over the packets; `retired` is None, since no line has it."""
+    sums = [[0, 0, 0, 0] for _ in report.cpus]
+    for packet in report.packets:
+        if packet.cpu is None:
+            continue
+        count = sums[packet.cpu]
+        count[0] += packet.at is not None
+        count[1] += packet.place in ("hand", "inbox")
+        count[2] += packet.place == "inbox"
+        count[3] += packet.place == "drop"
+    return [Cpu(number, accepted, pulled, delivered, None, dropped)
+            for number, (accepted, pulled, delivered, dropped) in enumerate(sums)]
+
+
+def _counted_tx(report):
+    """The sums of each transmit queue over the replies, without `pulled` and `retired`."""
+    sums = [[0, 0] for _ in report.tx]
+    for reply in report.replies:
+        if reply.tx is None:
+            continue
+        sums[reply.tx][0] += reply.at is not None
+        sums[reply.tx][1] += reply.port is not None
+    return [Tx(number, accepted, None, delivered, None)
+            for number, (accepted, delivered) in enumerate(sums)]
+
+
+def _out_of_range(report):
+    """A text for the first row whose queue, processor or packet the report does not have."""
+    queues, cpus, tx = len(report.queues), len(report.cpus), len(report.tx)
+    for row in report.packets:
+        if row.q >= queues:
+            return "packet %d is of queue %d, and there are %d" % (row.id, row.q, queues)
+        if row.cpu is not None and row.cpu >= cpus:
+            return "packet %d is of processor %d, and there are %d" % (row.id, row.cpu, cpus)
+    for row in report.replies:
+        if row.id >= len(report.packets):
+            return "reply %d is of no packet that arrived" % row.id
+        if row.tx is not None and row.tx >= tx:
+            return "reply %d is of transmit queue %d, and there are %d" % (row.id, row.tx, tx)
+    return None
+
+
+def _unlike(kind, said, counted, of):
+    for row, sums in zip(said, counted):
+        for name, value, count in zip(row._fields, row, sums):
+            if count is not None and value != count:
+                yield ("%s %d says %s %d, and the lines of its %s give %d"
+                       % (kind, row[0], name, value, of, count))
+
+
+def _work_in_order(kind, rows):
+    """A text for each row with more than one packet in hand, or with work done out of order."""
+    for row in rows:
+        if not (row.retired <= row.delivered <= row.pulled <= row.accepted
+                and row.pulled - row.retired <= 1):
+            yield ("%s %d says accepted %d, pulled %d, delivered %d, retired %d, which no order of "
+                   "work gives" % (kind, row[0], row.accepted, row.pulled, row.delivered,
+                                   row.retired))
+
+
+def differences(report):
+    """A text for each sum of a report that is not the sum over its packets or replies.
+
+    `retired` of a processor, and `pulled` and `retired` of a transmit queue, cannot be counted from
+    the lines of packets and replies; they are compared with the other sums of their line only.
+    """
+    wrong = _out_of_range(report)
+    if wrong is not None:
+        yield wrong
+        return
+    if report.end.arrived != len(report.packets) or report.end.arrived > report.end.total:
+        yield ("the last line says %d of %d packets, and there are lines of %d"
+               % (report.end.arrived, report.end.total, len(report.packets)))
+    yield from _unlike("queue", report.queues, _counted_queues(report), "packets")
+    yield from _unlike("cpu", report.cpus, _counted_cpus(report), "packets")
+    yield from _unlike("tx", report.tx, _counted_tx(report), "replies")
+    yield from _work_in_order("cpu", report.cpus)
+    yield from _work_in_order("tx", report.tx)

@@ -1,0 +1,104 @@
+"""A report on one screen: sums, and where the packets of each flow went."""
+
+from collections import Counter
+
+from . import cli, flows, report, tables
+
+FLOWS_SHOWN = 10
+IN_ORDER = ("ring", "poller", "backlog", "hand")
+"""Places of packets that are still under way, in the order in which they are passed."""
+
+
+def _headline(rep):
+    """The first lines: what arrived, was dropped, moved and replied to, and what is under way."""
+    packets = rep.packets
+    why = Counter(packet.why for packet in packets)
+    dropped = [packet for packet in packets if packet.place == "drop"]
+    limited = sum(packet.flow_offers is not None for packet in dropped)
+    by_limit = ", %d of them by the flow limit" % limited if limited else ""
+    yield "packets %d of %d   dropped %d (%s)%s" % (
+        rep.end.arrived, rep.end.total, len(dropped), tables.share(len(dropped), len(packets)),
+        by_limit)
+    yield "flows moved %d times, kept %d times   replies %d" % (
+        sum(why[reason] for reason in report.MOVES), why["kept"], len(rep.replies))
+    places = Counter(packet.place for packet in packets)
+    waiting = ["%s %d" % (place, places[place]) for place in IN_ORDER if places[place]]
+    if waiting:
+        yield "still under way: " + ", ".join(waiting)
+    refused = sum(answer.answer not in ("done", "idle online") and
+                  not answer.answer.startswith("expired") for answer in rep.answers)
+    if rep.answers:
+        yield "commands %d, of which %d were not done" % (len(rep.answers), refused)
+
+
+def _without(name, numbers):
+    if numbers:
+        yield "no packets on %s %s" % (name, ", ".join(str(number) for number in numbers))
+
+
+def _cpus(rep):
+    """A line for each processor that some packet was sent to."""
+    offered = Counter(packet.cpu for packet in rep.packets)
+    offered.pop(None, None)
+    largest = max(offered.values(), default=0)
+    rows = [(row.cpu, offered[row.cpu], tables.share(offered[row.cpu], len(rep.packets)),
+             row.dropped, tables.bar(offered[row.cpu], largest))
+            for row in rep.cpus if offered[row.cpu]]
+    yield ""
+    yield from tables.aligned(("cpu", "packets", "share", "dropped", ""), rows)
+    yield from _without("cpu", [row.cpu for row in rep.cpus if not offered[row.cpu]])
+
+
+def _queues(rep):
+    largest = max((row.arrived for row in rep.queues), default=0)
+    rows = [(row.queue, row.arrived, tables.share(row.arrived, len(rep.packets)),
+             tables.bar(row.arrived, largest)) for row in rep.queues if row.arrived]
+    yield ""
+    yield from tables.aligned(("queue", "packets", "share", ""), rows)
+    yield from _without("queue", [row.queue for row in rep.queues if not row.arrived])
+    filtered = sum(packet.via == "filter" for packet in rep.packets)
+    if filtered:
+        yield "by a filter of accelerated RFS: %d packets" % filtered
+
+
+def _replies(rep):
+    largest = max((row.accepted for row in rep.tx), default=0)
+    if not largest:
+        return
+    rows = [(row.tx, row.accepted, tables.share(row.accepted, len(rep.replies)),
+             tables.bar(row.accepted, largest)) for row in rep.tx if row.accepted]
+    yield ""
+    yield from tables.aligned(("tx", "replies", "share", ""), rows)
+    yield from _without("tx", [row.tx for row in rep.tx if not row.accepted])
+
+
+def _flows(rep, names):
+    """The flows with the most packets; `names` has the flow of each packet of the capture."""
+    count, dropped, cpus = Counter(), Counter(), {}
+    for packet in rep.packets:
+        flow = names[packet.id]
+        count[flow] += 1
+        dropped[flow] += packet.place == "drop"
+        if packet.cpu is not None:
+            cpus.setdefault(flow, set()).add(packet.cpu)
+    shown = count.most_common(FLOWS_SHOWN)
+    rows = [(packets, dropped[flow], ",".join(str(cpu) for cpu in sorted(cpus.get(flow, ()))),
+             flows.name(flow)) for flow, packets in shown]
+    yield ""
+    yield from tables.aligned(("packets", "dropped", "cpus", "flow"), rows)
+    if len(count) > len(shown):
+        yield "%d more flows with %d packets" % (
+            len(count) - len(shown), len(rep.packets) - sum(packets for _, packets in shown))
+
+
+def screen(rep, names=None, source="HASH"):
+    """The lines of the screen; `names` are the flows of the packets, read from `source`."""
+    if names is not None and len(names) != rep.end.total:
+        raise cli.Refused(source, "has %d packets, and the report is of %d"
+                          % (len(names), rep.end.total))
+    yield from _headline(rep)
+    yield from _cpus(rep)
+    yield from _queues(rep)
+    yield from _replies(rep)
+    if names is not None:
+        yield from _flows(rep, names)

@@ -1,0 +1,250 @@
+"""Trials: plans over one capture, each with some seeds or at some rates, and a table of them.
+
+A trial is independent of all others, so they run in any order, at once, or on other machines;
+what one leaves is a report, whose name says the plan and the seed or the rate.
+"""
+
+import os
+import re
+import shlex
+import signal
+import statistics
+import tempfile
+from collections import namedtuple
+from concurrent.futures import ProcessPoolExecutor
+from concurrent.futures.process import BrokenProcessPool
+from urllib.parse import quote, unquote
+
+from . import cli, limits, numbers, report, schedule, tables
+
+SEED, RATE = "seed", "pps"
+STEPS_PER_PACKET = 4
+REPORT, REFUSED = ".report", ".refused"
+
+# plan: the name of its file. settings: what it has, or an exception that says why there are none.
+# kind: SEED or RATE. value: the seed, or the packets a second.
+Trial = namedtuple("Trial", "plan settings kind value")
+
+# What all trials of a call share. capture: a file that steer reads, shown: what messages name it.
+# times: those of its packets, or None. packets: how many. load: without its rate. work: a folder
+# for what is made underway. folder: where the reports are kept, on the same disk, or None.
+Setting = namedtuple("Setting", "capture shown times packets load work folder")
+
+# What a report says in one line. offered: the packets of each processor, with the dropped ones.
+Outcome = namedtuple("Outcome", "packets drops moves offered")
+
+_NAME = re.compile(r"(.+)\.(seed|pps)-([0-9.e+-]+)(\.report|\.refused)")
+
+
+def outcome_of(name):
+    """The Outcome that the report in the file `name` has."""
+    rep = report.read_file(name)
+    return Outcome(rep.end.total, sum(row.dropped for row in rep.cpus),
+                   sum(packet.why in report.MOVES for packet in rep.packets),
+                   [row.accepted + row.dropped for row in rep.cpus])
+
+
+def report_name(trial):
+    """The name of a trial's report, without its folder and ending; it tells the plan's path."""
+    return "%s.%s-%s" % (quote(trial.plan, safe=""), trial.kind, numbers.number_text(trial.value))
+
+
+def trial_of(name):
+    """The plan, kind and value of a report's file name, and its ending; None of another name."""
+    found = _NAME.fullmatch(name)
+    if found is None:
+        return None
+    plan, kind, value, ending = found.groups()
+    try:
+        value = int(value) if kind == SEED else float(value)
+    except ValueError:
+        return None
+    return unquote(plan), kind, value, ending
+
+
+def packets_of(capture, shown):
+    """How many packets steer reads in a capture, which messages name `shown`."""
+    try:
+        last = cli.run_steer(["hash", capture]).splitlines()[-1]
+    except cli.Refused as fault:
+        raise cli.Refused(shown, fault.reason) from None
+    return int(last.split()[1])
+
+
+def _replay(trial, setting, folder):
+    """Replays a trial; the name of its report. Refused too where its plan cannot be read."""
+    if isinstance(trial.settings, Exception):
+        raise trial.settings
+    replays = schedule.Replays(trial.settings, trial.plan, setting.capture, setting.shown, folder)
+    if trial.kind == SEED:
+        count = min(limits.MOST_COUNT, STEPS_PER_PACKET * setting.packets)
+        replays.run({"seed": trial.value, "count": count})
+    else:
+        load = setting.load._replace(rate=trial.value)
+        schedule.timed_steps(replays, setting.times, load)
+    return replays.report
+
+
+def _keep(trial, folder, name, ending):
+    """Moves a file into the folder of reports, where it appears whole under its name."""
+    target = os.path.join(folder, report_name(trial))
+    for old in (REPORT, REFUSED):
+        if old != ending and os.path.exists(target + old):
+            os.remove(target + old)
+    os.replace(name, target + ending)
+
+
+def attempt(trial, setting):
+    """The Outcome of a trial, or the text of why it was refused; its report is kept if asked."""
+    with tempfile.TemporaryDirectory(dir=setting.work) as work:
+        try:
+            name = _replay(trial, setting, work)
+            outcome = outcome_of(name)
+        except (cli.Refused, cli.NotThatFile, cli.WrongWords) as fault:
+            outcome = str(fault)
+            name = os.path.join(work, "refused")
+            with open(name, "w", encoding="utf-8") as out:
+                out.write(outcome + "\n")
+        if setting.folder is not None:
+            _keep(trial, setting.folder, name, REFUSED if isinstance(outcome, str) else REPORT)
+    return outcome
+
+
+def outcome_or_text(name):
+    """The Outcome of a report in a file, or the text of why it has none."""
+    try:
+        return outcome_of(name)
+    except (cli.Refused, cli.NotThatFile) as fault:
+        return str(fault)
+
+
+def _end_at_interrupt():
+    """Lets an interrupt end this process at once; the one that began it removes its files."""
+    signal.signal(signal.SIGINT, signal.SIG_DFL)
+
+
+def processors_here():
+    """How many processors this program may use."""
+    if hasattr(os, "sched_getaffinity"):
+        return len(os.sched_getaffinity(0))
+    return os.cpu_count() or 1
+
+
+def at_once(function, jobs, arguments):
+    """The results of a function over lists of arguments, in their order, so many at once."""
+    if jobs == 1 or len(arguments) < 2:
+        return [function(*each) for each in arguments]
+    with ProcessPoolExecutor(min(jobs, len(arguments)), initializer=_end_at_interrupt) as pool:
+        futures = [pool.submit(function, *each) for each in arguments]
+        try:
+            return [future.result() for future in futures]
+        except BrokenProcessPool:
+            raise cli.Refused("--jobs %d" % jobs, "a trial ended without a result, as where memory "
+                              "is short; fewer at once may do") from None
+        finally:
+            for future in futures:
+                future.cancel()
+
+
+def commands(program, capture, plans, values, words, folder):
+    """A command a line for each plan and value, which leaves the report in `folder`.
+
+    `values` are pairs of an option and its value; `words` are further words of the user's.
+    """
+    for plan in plans:
+        for option, value in values:
+            line = [program, capture, option, value] + words + ["--jobs", "1", "--reports", folder]
+            yield " ".join(shlex.quote(word) for word in line + [plan])
+
+
+def collected(folder, jobs):
+    """What the reports in a folder say: rows of (plan, {(kind, value): outcome or text}).
+
+    The plans are in the order of their names. Refused where two reports are of captures of
+    different lengths.
+    """
+    names = [(name, trial_of(name)) for name in sorted(os.listdir(folder))]
+    reports = [(os.path.join(folder, name), trial) for name, trial in names if trial is not None]
+    if not reports:
+        raise cli.Refused(folder, "it has no report of a trial")
+    whole = [(name,) for name, trial in reports if trial[3] == REPORT]
+    found = dict(zip((name for name, in whole), at_once(outcome_or_text, jobs, whole)))
+    rows = {}
+    for name, (plan, kind, value, ending) in reports:
+        if ending == REFUSED:
+            found[name] = cli.read_text(name).rstrip("\n")
+        rows.setdefault(plan, {})[kind, value] = found[name]
+    lengths = sorted({found[name].packets for name, in whole if not isinstance(found[name], str)})
+    if lengths[1:]:
+        raise cli.Refused(folder, "it has reports of captures of %d and of %d packets"
+                          % (lengths[0], lengths[-1]))
+    return sorted(rows.items())
+
+
+def labels(plans):
+    """How plans are named in a table: without their folders, where these names differ."""
+    short = [os.path.basename(plan) for plan in plans]
+    distinct = len(set(short)) == len(set(plans))
+    return short if distinct else list(plans)
+
+
+def _busiest(outcomes):
+    """The processor with the most packets over all outcomes, and its share of them."""
+    offered = [sum(counts) for counts in zip(*(outcome.offered for outcome in outcomes))]
+    most = max(offered)
+    return "cpu %d %s" % (offered.index(most), tables.share(most, sum(offered)))
+
+
+def _seed_row(label, results):
+    """The row of one plan's outcomes over its seeds."""
+    outcomes = [result for result in results if not isinstance(result, str)]
+    if not outcomes:
+        return (0, "refused", "-", "-", "-", label)
+    drops = [outcome.drops for outcome in outcomes]
+    spread = statistics.stdev(drops) if drops[1:] else 0.0
+    return (len(drops), "%.1f ± %.1f" % (statistics.mean(drops), spread),
+            "%d..%d" % (min(drops), max(drops)),
+            "%.1f" % statistics.mean(outcome.moves for outcome in outcomes),
+            _busiest(outcomes), label)
+
+
+def _of_kind(rows, kind):
+    """The rows with results of a kind: (label, results by value)."""
+    some = [(plan, {value: result for (of, value), result in results.items() if of == kind})
+            for plan, results in rows]
+    some = [(plan, results) for plan, results in some if results]
+    return list(zip(labels([plan for plan, _ in some]), [results for _, results in some]))
+
+
+def seed_table(rows):
+    """Lines of the table over seeds, of rows of (label, results by seed)."""
+    return tables.aligned(("seeds", "drops", "range", "moves", "busiest", "plan"),
+                          [_seed_row(label, results.values()) for label, results in rows])
+
+
+def rate_table(rows, title, text_of):
+    """Lines of the table over rates, with `text_of` each outcome, `refused`, or `-` for none."""
+    rates = sorted({rate for _, results in rows for rate in results})
+
+    def cell(result):
+        if result is None:
+            return "-"
+        return "refused" if isinstance(result, str) else text_of(result)
+
+    return tables.aligned([numbers.number_text(rate) for rate in rates] + [title],
+                          [[cell(results.get(rate)) for rate in rates] + [label]
+                           for label, results in rows])
+
+
+def screen(rows):
+    """All lines of the tables of rows of (plan, results by kind and value)."""
+    by_seed, by_rate = _of_kind(rows, SEED), _of_kind(rows, RATE)
+    parts = [seed_table(by_seed)] if by_seed else []
+    if by_rate:
+        parts += [rate_table(by_rate, "drops at packets/s", lambda outcome: outcome.drops),
+                  rate_table(by_rate, "moves", lambda outcome: outcome.moves),
+                  rate_table(by_rate, "busiest", lambda outcome: _busiest([outcome]))]
+    for number, part in enumerate(parts):
+        if number:
+            yield ""
+        yield from part

@@ -1,0 +1,157 @@
+"""Tests of steer-top."""
+
+import unittest
+
+from reporting import REPLIED, Folder, example, replayed, run, run_closed
+
+from steerlib import cli, flows, tables
+
+REPLIED_SCREEN = """\
+packets 3 of 3   dropped 0 (0.0%)
+flows moved 0 times, kept 0 times   replies 3
+
+cpu  packets   share  dropped
+  1        3  100.0%        0  ########################
+no packets on cpu 0, 2
+
+queue  packets   share
+    0        3  100.0%  ########################
+
+tx  replies   share
+ 0        3  100.0%  ########################
+no packets on tx 1
+"""
+
+THREE_SCREEN = """\
+packets 3 of 3   dropped 1 (33.3%)
+flows moved 1 times, kept 1 times   replies 0
+
+cpu  packets  share  dropped
+  1        2  66.7%        1  ########################
+  2        1  33.3%        0  ############
+no packets on cpu 0
+
+queue  packets   share
+    0        3  100.0%  ########################
+
+packets  dropped  cpus  flow
+      3        1   1,2  tcp4 66.9.149.187:2794 > 161.142.100.80:1766
+"""
+
+
+class Top(unittest.TestCase):
+    def test_worked_reports(self):
+        ended = run("steer-top", "-", data=REPLIED)
+        self.assertEqual((ended.stdout, ended.stderr, ended.returncode), (REPLIED_SCREEN, "", 0))
+        with Folder() as folder:
+            path = folder.write("report", replayed("three", "three"))
+            names = folder.write("hash", cli.run_steer(["hash", example("three.pcap")]))
+            ended = run("steer-top", path, names)
+        self.assertEqual((ended.stdout, ended.stderr, ended.returncode), (THREE_SCREEN, "", 0))
+
+    def test_what_is_under_way_and_what_was_not_done(self):
+        plan = {"cpus": 3, "queues": [{"home": 0, "mask": [1], "flows": 0}], "sock": 0,
+                "apps": [2], "tx": [{"cpus": [], "queues": []}],
+                "steps": ["arrive", "arrive", "poll 0", "offline 0", "online 1", "expire"]}
+        with Folder() as folder:
+            shown = run("steer-top", folder.replay(plan, example("three.pcap"))).stdout
+        self.assertEqual(shown.splitlines()[:4], [
+            "packets 2 of 3   dropped 0 (0.0%)",
+            "flows moved 0 times, kept 0 times   replies 0",
+            "still under way: ring 1, backlog 1",
+            "commands 3, of which 1 were not done"])
+
+    def test_no_packets(self):
+        plan = {"cpus": 2, "queues": [{"home": 0, "mask": [], "flows": 0}], "sock": 0,
+                "apps": [0], "tx": [{"cpus": [], "queues": []}], "steps": []}
+        with Folder() as folder:
+            ended = run("steer-top", folder.replay(plan, example("three.pcap")))
+        self.assertEqual(ended.stdout.splitlines()[0], "packets 0 of 3   dropped 0 (0.0%)")
+        self.assertIn("no packets on cpu 0, 1\n", ended.stdout)
+        self.assertIn("no packets on queue 0\n", ended.stdout)
+
+    def test_drops_by_the_flow_limit_are_told_apart(self):
+        text = REPLIED.replace(b"at 1 app 0 in 1 place inbox", b"at drop 1 0 0 flow 130 app 0 in - "
+                               b"place drop").replace(b"at 2 app 0 in 2 place inbox", b"at drop 2 "
+                               b"0 0 app 0 in - place drop")
+        text = text.replace(b"accepted 3 pulled 3 delivered 3 retired 3 dropped 0",
+                            b"accepted 1 pulled 1 delivered 1 retired 1 dropped 2")
+        shown = run("steer-top", "-", data=text).stdout
+        self.assertEqual(shown.splitlines()[0],
+                         "packets 3 of 3   dropped 2 (66.7%), 1 of them by the flow limit")
+
+    def test_packets_by_a_filter_are_counted(self):
+        shown = run("steer-top", "-", data=REPLIED.replace(b"via reta", b"via filter", 2)).stdout
+        self.assertIn("\nby a filter of accelerated RFS: 2 packets\n", shown)
+
+    def test_ten_flows_and_the_rest(self):
+        with Folder() as folder:
+            path = folder.write("report", replayed("rps", "web"))
+            names = folder.write("hash", cli.run_steer(["hash", example("web.pcap")]))
+            lines = run("steer-top", path, names).stdout.splitlines()
+            self.check_flow(path, names, lines)
+            self.assertEqual(lines[-1], "      4        0     0  no IP")
+            many = "".join("packet %d udp4 0a000001 0a000002 %d 53 hash 00000000 entry 0 queue 0\n"
+                           % (number, number) for number in range(177)) + "packets 177\n"
+            lines = run("steer-top", path, folder.write("many", many.encode())).stdout.splitlines()
+            self.assertEqual(lines[-1], "167 more flows with 167 packets")
+
+    def check_flow(self, path, names, lines):
+        """The connection from port 40001 has the packets and drops that its lines have."""
+        with open(names) as stream:
+            of_it = {line.split()[1] for line in stream if " 40001 80 " in line}
+        with open(path) as stream:
+            drops = sum(line.split()[1] in of_it for line in stream if " at drop " in line)
+        self.assertEqual((len(of_it), drops > 0), (65, True))
+        self.assertIn("%7d  %7d  %4s  tcp4 10.0.0.11:40001 > 10.0.0.1:80" % (65, drops, "3"), lines)
+
+    def test_faults(self):
+        with Folder() as folder:
+            path = folder.write("report", REPLIED)
+            cases = (
+                ([path, folder.write("a", b"packets 0\n")], 3,
+                 "a: refused: has 0 packets, and the report is of 3"),
+                ([path, folder.write("b", b"packet 0 none hash - entry - queue 0\n")], 3,
+                 "b: refused: cut short after line 1 (no line `packets`)"),
+                ([path, folder.write("c", b"packet 1 none hash - entry - queue 0\n")], 3,
+                 "c: refused: line 1 is of packet 1, expected 0"),
+                ([path, folder.write("d", b"packet 0 none hash - entry - queue 0\npackets 2\n")],
+                 3, "d: refused: the last line counts 2 packets, and there are 1"),
+                ([path, path], 4, "report: line 1 is not output of `steer hash`"),
+                ([folder.path("none")], 4, "none: No such file or directory"),
+                ([folder.name], 4, "Is a directory"),
+                ([folder.write("e", REPLIED[:-20])], 3, "cut short after line 17"),
+                (["-", "-"], 2, "cannot both be standard input"), ([], 2, "REPORT"))
+            for words, status, text in cases:
+                ended = run("steer-top", *words)
+                self.assertEqual((ended.returncode, ended.stdout), (status, ""), words)
+                self.assertTrue(ended.stderr.startswith("steer-top: "), ended.stderr)
+                self.assertIn(text, ended.stderr)
+                self.assertEqual(ended.stderr.count("\n"), 1, ended.stderr)
+            self.assertEqual(run_closed("steer-top", path), (0, ""))
+
+    def test_help(self):
+        ended = run("steer-top", "--help")
+        self.assertEqual((ended.returncode, ended.stderr), (0, ""))
+        self.assertIn("not part of the proved program", ended.stdout)
+        self.assertIn("steer-top report hash.txt", ended.stdout)
+
+
+class Names(unittest.TestCase):
+    def test_flows_as_people_write_them(self):
+        cases = {
+            "none": "no IP",
+            "two4 0a000001 0a000002": "two4 10.0.0.1 > 10.0.0.2",
+            "udp6 20010db8000000000000000000000001 fe800000000000000000000000000002 53 1024":
+                "udp6 [2001:db8::1]:53 > [fe80::2]:1024"}
+        for flow, text in cases.items():
+            self.assertEqual(flows.name(flow), text)
+
+    def test_bars_and_shares(self):
+        self.assertEqual([len(tables.bar(part, 48)) for part in (0, 1, 2, 24, 48)],
+                         [0, 0, 1, 12, 24])
+        self.assertEqual([tables.share(1, 3), tables.share(0, 0)], ["33.3%", "0.0%"])
+
+
+if __name__ == "__main__":
+    unittest.main()
