@@ -28,8 +28,8 @@ pub struct Generated {
     pub plan: Vec<u8>,
 }
 
-/// Generates the input of a seed: a capture of `packets` packets over `flows` flows, and a plan with
-/// four steps of the same seed for each packet, at most 999,999.
+/// Generates the input of a seed: a capture of `packets` packets over `flows` flows, and a plan
+/// with four steps of the same seed for each packet, at most 999,999.
 ///
 /// Packet i is of flow `w mod flows`, where w is word i of the generator PCG XSH RR 64/32 on
 /// stream 54. Flow k is TCP from 10.0.0.0 + k and port `FIRST_PORT + k mod PORTS` to port 80 of
@@ -44,13 +44,15 @@ pub fn generate(
     requires some_flow { 1 ≤ flows }
     requires few_flows { flows ≤ MAX_FLOWS }
 
-    // The capture is that of the packets, with exactly their times and frames, and nothing truncated.
+    // The capture is that of the packets, with exactly their times and frames, and nothing
+    // truncated.
     ensures capture_bytes { IfOk result
         (λ made. made.capture.items ≡ capture_bytes (packets_of seed flows packets)) }
     ensures capture { IfOk result
         (λ made. HasCapture made.capture.items (capture_of (packets_of seed flows packets))) }
     ensures frames { IfOk result
-        (λ made. map (frame_of made.capture.items) (capture_of (packets_of seed flows packets)).records
+        (λ made. map (frame_of made.capture.items)
+            (capture_of (packets_of seed flows packets)).records
         ≡ map (λ packet. packet.frame) (packets_of seed flows packets)) }
 
     // The text is the compact JSON of the plan's value, and is read as the plan.

@@ -1,4 +1,4 @@
-//! Whether a history is regular, found in one pass over each of its lists.
+//! Decides whether a history is regular, in one pass over each of its lists.
 ghost use Rattle.std.specs.Prelude.{◌≡◌, ◌≤◌, ◌↔◌, IfOk, IsTrue, length, true};
 ghost use Rattle.steer_base.specs.declared.limits.TheConstants.{MAX_PACKETS};
 ghost use Rattle.history.specs.Regular.{Regular, has_text};
@@ -53,9 +53,9 @@ fn passes(alloc: Global, h: &History, packets: &[Packet], apps: u8) -> Result<bo
     )
 }
 
-/// Whether a history is regular for these packets and `apps` applications, which is what its lines
-/// are made for: whether each list is of those before it in the way of a packet. It takes time and
-/// memory linear in the packets, for each receive queue, and gives the memory back.
+/// Decides whether a history is regular for these packets and `apps` applications, as lines
+/// require: whether each list agrees with those before it on the way of a packet. Takes time and
+/// memory linear in the packets for each receive queue, and frees the memory at the end.
 pub fn is_regular(
     alloc: Global,
     history: &History,

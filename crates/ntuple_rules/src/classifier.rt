@@ -11,8 +11,8 @@ use std::alloc::Global;
 use std::marker::Model;
 use steer_base::{Flow, OutOfMemory};
 
-/// Finds the first rule that matches a flow. Rules of the same kind with the same masks form a group,
-/// and a flow is looked up once in each group. Contracts see the list of the rules.
+/// Finds the first rule that matches a flow. Rules of the same kind with the same masks form a
+/// group, and a flow is looked up once in each group. Contracts see the list of the rules.
 #[derive(Drop)]
 pub struct Classifier {
     rules: Vec<Rule>,

@@ -1,5 +1,5 @@
-//! Reads rules that steer packets by addresses and ports from JSON text, and finds the first rule that
-//! matches a flow.
+//! Reads rules that steer packets by addresses and ports from JSON text, and finds the first rule
+//! that matches a flow.
 #![tactic(auto)]
 
 mod classifier;

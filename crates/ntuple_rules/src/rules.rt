@@ -12,7 +12,8 @@ pub struct Rules {
     pub queues: u8,
     /// The enabled hash kinds, one bit for each, 0 to 63.
     pub kinds: u8,
-    /// Whether the hash is that of the folded flow, so that both directions of a flow have the same.
+    /// Whether the hash is that of the folded flow, so that both directions of a flow have the
+    /// same.
     pub symmetric: bool,
     /// Whether the flow is that of the innermost packet of a tunnel.
     pub inner: bool,

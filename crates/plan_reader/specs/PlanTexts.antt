@@ -24,7 +24,8 @@ use Rattle.plan_reader.specs.declared.settings.sizes.Sizes.{Sizes}
 use Rattle.plan_reader.specs.Settings.{PlanSettings}
 use Rattle.plan_reader.specs.Causes.{◌>>=◌}
 use Rattle.plan_reader.specs.Faults.{here}
-use Rattle.plan_reader.specs.Readings.{number_between, number_below, set, list_of, required, optional}
+use Rattle.plan_reader.specs.Readings.{number_between, number_below, set, list_of, required}
+use Rattle.plan_reader.specs.Readings.{optional}
 use Rattle.plan_reader.specs.Readings.{an_object, only, queue_plan, tx_of, detach_of, key_of}
 use Rattle.plan_reader.specs.Readings.{read_steps}
 

@@ -31,6 +31,7 @@ abbrev pub count_of : Steps → ℕ
 count_of (steps.List list) = length list
 count_of (steps.Seed seed count) = count + 1
 
+-- the number of steps of a plan
 abbrev pub step_count : Plan → ℕ
 step_count plan = count_of plan.steps
 

@@ -79,6 +79,7 @@ set most limit d = do
 
 -- ---- objects
 
+-- reads a value that must be present
 abbrev pub found : {A : Type 0} → (Data → Result A Fault) → Option Data → Result A Fault
 found read None = here (Err Missing)
 found read (Some d) = read d
@@ -87,6 +88,7 @@ found read (Some d) = read d
 abbrev pub required : {A : Type 0} → List ℕ → (Data → Result A Fault) → Data → Result A Fault
 required key read d = under key (found read (get key d))
 
+-- reads a value if it is present, else takes the default
 abbrev pub or_default : {A : Type 0} → (Data → Result A Fault) → A → Option Data → Result A Fault
 or_default read default None = Ok default
 or_default read default (Some d) = read d
@@ -104,6 +106,7 @@ abbrev pub first_unknown : (List ℕ → Bool) → Members → Option (List ℕ)
 first_unknown known no_members = None
 first_unknown known (member key d ms) = if known key then first_unknown known ms else Some key
 
+-- the fault of a key that is not known, if there is one
 abbrev pub unknown : Option (List ℕ) → Result ⊤ Fault
 unknown None = Ok tt
 unknown (Some key) = under key (here (Err UnknownKey))
@@ -171,6 +174,7 @@ listed_steps sizes ds = if nat_le (items_len ds) 1000000 then (do
   Ok (steps.List list))
     else here (Err (TooLong (items_len ds)))
 
+-- reads the steps as a list, or as an object with a seed and a count
 abbrev pub listed_or_seeded : Sizes → Option Items → Data → Result Steps Fault
 listed_or_seeded sizes (Some ds) d = listed_steps sizes ds
 listed_or_seeded sizes None d = seed_of d

@@ -128,7 +128,8 @@ fn two_arguments(sizes: Sizes, word: &[u8], first: &[u8], second: &[u8]) -> Resu
 fn some_arguments(sizes: Sizes, word: &[u8], rest: &[u8]) -> Result<Step, Cause>
     requires cpus { sizes.cpus ≤ 32 }
     requires queues { sizes.queues ≤ 16 }
-    ensures step { result ≡ some_arguments sizes word.now (before 32 rest.now) (after_byte 32 rest.now) }
+    ensures step { result ≡ some_arguments sizes word.now (before 32 rest.now)
+        (after_byte 32 rest.now) }
     ensures within { IfOk result (λ step. step_is_within sizes step ≡ true) }
 {
     let (first, second) = cut(rest, b' ');
