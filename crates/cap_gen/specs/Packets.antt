@@ -3,7 +3,7 @@ use Rattle.std.specs.Prelude.{ℕ, ◌+◌, ◌%◌, List, [], ◌∷◌, ◌++�
 use Rattle.std.specs.List.{range_with_len}
 use Rattle.byteorder.specs.Endian.{big_bytes}
 use Rattle.pcap_reader.specs.Writing.{Packet}
-use Rattle.plan_reader.specs.Seeds.{word_of}
+use Rattle.plan_reader.specs.Seeds.{seeded_word}
 use Rattle.cap_gen.specs.declared.frame.TheConstants.{FIRST_PORT, PORTS}
 
 -- the source address of a flow: 10.0.0.0 plus its number
@@ -39,7 +39,7 @@ abbrev pub packet_of : ℕ → ℕ → ℕ → Packet
 packet_of seed flows i = record {
   sec = i;
   frac = 0;
-  frame = generated_frame (word_of seed i % flows);
+  frame = generated_frame (seeded_word seed i % flows);
 }
 
 -- the first n packets of a seed, one word of the generator for each

@@ -31,7 +31,7 @@ number_step sizes word n =
     else (if is_some (tx_step word 0) then one_of sizes.tx n (tx_step word)
     else (if bytes_eq word (codes "record") then one_of MAX_PACKETS n (λ flow. Some (Record flow))
     else (if bytes_eq word (codes "sock") then one_of (MAX_SOCKET_SIZE + 1) n
-        (λ size. Some (Give (Sock size)))
+    (λ size. Some (Give (Sock size)))
     else Err WrongKind)))))
 
 -- the step of a word and two numbers
