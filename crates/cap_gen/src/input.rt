@@ -52,7 +52,7 @@ pub fn generate(
         (λ made. HasCapture made.capture.items (capture_of (packets_of seed flows packets))) }
     ensures frames { IfOk result
         (λ made. map (frame_of made.capture.items)
-            (capture_of (packets_of seed flows packets)).records
+        (capture_of (packets_of seed flows packets)).records
         ≡ map (λ packet. packet.frame) (packets_of seed flows packets)) }
 
     // The text is the compact JSON of the plan's value, and is read as the plan.

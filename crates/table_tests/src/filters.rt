@@ -64,7 +64,8 @@ fn a_filter_goes_when_its_packets_have_gone(rt: HostRuntime) -> Result<(), Fail>
     Ok(())
 }
 
-// Whether the one filter, with the mark 4294967295, expires at this head, and whether it is gone then.
+// Whether the one filter, with the mark 4294967295, expires at this head, and whether it is then
+// gone.
 fn goes(alloc: Global, head: u32, entries: u32) -> Result<(bool, bool), Fail>
     requires { entries ≤ MAX_FLOW_COUNT }
 {

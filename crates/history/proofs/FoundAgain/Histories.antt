@@ -115,7 +115,7 @@ same_sent_of packets apps h k b x = elim (cases_lt x (length h.arrivals)) [
       no_value (first_reply_to h x) (λ s e. let f = (sent-arrived packets apps h x s b.left e).0 in
       omega (arith, f, l))
       ∙ sym (no_value (first_reply_to k x) (λ s e.
-          let f = (sent-arrived packets apps k x s b.right e).0 in
+      let f = (sent-arrived packets apps k x s b.right e).0 in
       omega (arith, f, l, b.shown.arrived)))
 ]
 

@@ -281,7 +281,8 @@ commands-listed z (steps.List list) =
     (λ k. ap (slice_get list) (let e : 0 + k ≡ k = omega arith in e)))
 commands-listed z (steps.Seed seed count) =
     none-picked (nth_of z (steps.Seed seed count))
-    (λ i s is. nth-none (nat_lt i count) (i == count) (seeded_step z (seeded_word seed i)) act.Sweep s
+    (λ i s is. nth-none (nat_lt i count) (i == count) (seeded_step z (seeded_word seed i)) act.Sweep
+        s
     (seeded-none z (seeded_word seed i)) refl is) (range_with_len 0 (count + 1))
 
 pub replays_give_once : ReplaysGiveOnce
