@@ -40,7 +40,7 @@ moved : row_text
       flow_number = 0;
     }))
     ≡ codes "p 3 q 0 via reta class 0 want 2 head 3 tail 3 cpu 2 why passed at 1 app 0 in "
-      ++ codes "- place backlog\n"
+    ++ codes "- place backlog\n"
 unfolding digits
 moved = refl
 
@@ -79,7 +79,7 @@ full : row_text
       flow_number = 0;
     }))
     ≡ codes "p 1 q 0 via none class - want - head - tail - cpu 1 why plain at drop 1 1 0 "
-      ++ codes "app 0 in - place drop\n"
+    ++ codes "app 0 in - place drop\n"
 unfolding digits
 full = refl
 
@@ -103,7 +103,7 @@ limited : row_text
       flow_number = 0;
     }))
     ≡ codes "p 199 q 0 via reta class - want - head - tail - cpu 1 why plain at drop 49 "
-      ++ codes "151 0 flow 200 app 0 in - place drop\n"
+    ++ codes "151 0 flow 200 app 0 in - place drop\n"
 unfolding digits
 limited = refl
 
