@@ -282,7 +282,7 @@ commands-listed z (steps.List list) =
 commands-listed z (steps.Seed seed count) =
     none-picked (nth_of z (steps.Seed seed count))
     (λ i s is. nth-none (nat_lt i count) (i == count) (seeded_step z (seeded_word seed i)) act.Sweep
-        s
+    s
     (seeded-none z (seeded_word seed i)) refl is) (range_with_len 0 (count + 1))
 
 pub replays_give_once : ReplaysGiveOnce
