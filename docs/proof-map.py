@@ -12,17 +12,20 @@ import specs
 
 # Each sentence of the theorem with the definitions in which it is said.
 SENTENCES = [
-    ("the text is the report of exactly one history, the one that the plan's steps make",
-     [("headline.specs.Headline", "Says"), ("headline.specs.Headline", "Reports"),
-      ("steer_model.specs.State.Start", "replayed")]),
+    ("the output is the report of exactly one history",
+     [("headline.specs.Headline", "Says"), ("headline.specs.Headline", "Reports")]),
+    ("which is that of the plan's steps on the capture's packets",
+     [("headline.specs.Headline", "IsOfTheRun")]),
     ("1, each packet is in exactly one place",
      [("headline.specs.Places", "IsAtOnePlace"), ("history.specs.Places", "AreInOnePlace")]),
-    ("2, each drop has its cause", [("headline.specs.Drops", "IsDroppedFor")]),
+    ("2, each drop has its cause",
+     [("headline.specs.Drops", "IsDroppedFor"), ("steer_model.specs.Good.Drops", "DropsRise")]),
     ("3, each flow is delivered in the order of its arrivals",
      [("headline.specs.Orders", "AreInOrder")]),
     ("4, a flow changes its processor just where one of the three conditions holds",
      [("headline.specs.Processors", "ProcessorsAreChosen")]),
     ("4, and its transmit queue likewise", [("headline.specs.Replies", "QueuesArePicked")]),
+    ("1 to 4 together", [("headline.specs.Headline", "IsRight")]),
     ("all of it", [("headline.specs.Headline", "Headline")]),
 ]
 FIRST_LAW = "every_report_has_the_headline"

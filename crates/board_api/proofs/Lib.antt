@@ -10,3 +10,4 @@ pub mod OwnTimes
 pub mod OwnVisits
 pub mod Owners
 pub mod Sums
+pub mod OutSums

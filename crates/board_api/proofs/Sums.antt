@@ -29,7 +29,7 @@ abbrev Order : Type 0
 Order = List (StepBy BoardStep)
 
 -- one more, if there is something
-abbrev gained : Option ℕ → ℕ
+abbrev pub gained : Option ℕ → ℕ
 gained None = 0
 gained (Some x) = 1
 

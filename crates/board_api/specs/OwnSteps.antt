@@ -54,6 +54,11 @@ delivered_in l (Lane (Given o from id place)) =
     if from == l then Some (delivery o id place) else None
 delivered_in l _ = None
 
+-- The packet that a step delivered to the out lane o, if it is such a step.
+abbrev pub given_in : ℕ → BoardStep → Option ℕ
+given_in o (Lane (Given i from id place)) = if i == o then Some id else None
+given_in o _ = None
+
 -- The word that a raise of the lane's head found, if the step is one.
 abbrev pub retired_in : ℕ → BoardStep → Option ℕ
 retired_in l (Lane (Retired i word)) = if i == l then Some word else None
@@ -74,6 +79,10 @@ pulled_by l own = filter_map (pulled_in l) own
 -- The deliveries of a seat from the lane.
 abbrev pub delivered_by : ℕ → List BoardStep → List Delivery
 delivered_by l own = filter_map (delivered_in l) own
+
+-- The packets that a seat delivered to the out lane o.
+abbrev pub given_to : ℕ → List BoardStep → List ℕ
+given_to o own = filter_map (given_in o) own
 
 -- The words that a seat found when it raised the lane's head.
 abbrev pub retired_by : ℕ → List BoardStep → List ℕ

@@ -5,7 +5,7 @@ ghost use Rattle.board_api.specs.Laws.Heads.{EmptiedLanesStandFirst, HeadsAreBel
 ghost use Rattle.board_api.specs.Laws.Heads.{HeadsArePassed, HeadsRise, ReadsAreSettings};
 ghost use Rattle.board_api.specs.Laws.Heads.{VisitNumbersRise};
 ghost use Rattle.board_api.specs.Laws.Lanes.{DeliveriesHavePlaces, HoldsFindFronts, LanesAreInTurn};
-ghost use Rattle.board_api.specs.Laws.Lanes.{LanesAreServedByOne};
+ghost use Rattle.board_api.specs.Laws.Lanes.{LanesAreServedByOne, ListsAreCounted, OutsAreSums};
 ghost use Rattle.board_api.specs.Laws.Puts.{AcceptedWerePut, CountsAreSums, DropsHaveCauses};
 ghost use Rattle.board_api.specs.Laws.Puts.{DropsRise, DropsWerePut, PutsKeepOrder, PutsStand};
 ghost use Rattle.board_api.specs.Laws.Puts.{PutsTakeTurns};
@@ -23,6 +23,16 @@ pub fn puts_and_positions_agree()
 /// Lemma: a lane accepted, and dropped, as many packets as all seats' own puts had that answer.
 pub fn counts_are_sums_over_seats()
     ensures { AtEachClosing CountsAreSums }
+{}
+
+/// Lemma: an out lane has as many packets as all seats delivered to it.
+pub fn outs_are_sums_over_seats()
+    ensures { AtEachClosing OutsAreSums }
+{}
+
+/// Lemma: as many lanes and out lanes are left as the board has.
+pub fn all_lanes_are_left()
+    ensures { AtEachClosing ListsAreCounted }
 {}
 
 /// Lemma: each drop is by a full backlog or by the flow limit, and the counts of drops never fall.

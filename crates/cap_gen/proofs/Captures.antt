@@ -6,17 +6,17 @@ use Rattle.std.proofs.lemmas.List.FromFn.{map-range_with_len_more}
 use Rattle.pcap_reader.specs.Captures as captures
 use Rattle.pcap_reader.specs.Laws.{GrowsByPacket, ReadsBack}
 use Rattle.pcap_reader.specs.Writing.{CanBeWritten, packet_bytes, capture_bytes, capture_of}
-use Rattle.plan_reader.specs.Seeds.{word_of}
+use Rattle.plan_reader.specs.Seeds.{seeded_word}
 use Rattle.cap_gen.specs.Packets.{generated_frame, packet_of, packets_of}
 
 -- the bytes of i packets and of the next one
 pub one_more : (seed flows i word : ℕ) (frame old new : List ℕ) → GrowsByPacket
     → old ≡ capture_bytes (packets_of seed flows i)
-    → word ≡ word_of seed i → frame ≡ generated_frame (word % flows) → new ≡ old ++ packet_bytes
+    → word ≡ seeded_word seed i → frame ≡ generated_frame (word % flows) → new ≡ old ++ packet_bytes
     (record { sec = i; frac = 0; frame = frame })
     → new ≡ capture_bytes (packets_of seed flows (i + 1))
 one_more seed flows i word frame old new grows before is_word is_frame after =
-    let same : frame ≡ generated_frame (word_of seed i % flows) =
+    let same : frame ≡ generated_frame (seeded_word seed i % flows) =
     is_frame ∙ ap (λ w. generated_frame (w % flows)) is_word in
     after
     ∙ ap (λ bytes. bytes ++ packet_bytes (record { sec = i; frac = 0; frame = frame })) before

@@ -9,7 +9,8 @@ use Rattle.cap_gen.specs.Packets.{source_of, port_of, tcp_header, generated_fram
 use Rattle.cap_gen.specs.Flows.{FrameIsOfFlow}
 
 pub its_flow : (k : ℕ) → k < 65536 → FrameIsOfFlow k
-unfolding generated_frame flow_of packet_in after_tags ip_flow ipv4_flow is_ipv4 ipv4_payload flow_between
+unfolding generated_frame flow_of packet_in after_tags ip_flow ipv4_flow is_ipv4 ipv4_payload
+    flow_between
     flow_with_ports
 its_flow k few =
     let source_fits : source_of k < 256 ^ 4 = omega (arith, few) in

@@ -3,7 +3,7 @@ use Rattle.std.proofs.Common.{◌≡◌, ℕ, zero, suc, ◌+◌, refl, ap, ◌�
 use Rattle.rand_pcg.specs.Lcg.{Lcg, started, increment_of, next, advance, state_after}
 use Rattle.rand_pcg.specs.Pcg.{multiplier_64, pcg32}
 use Rattle.rand_pcg.proofs.LcgLemmas.{advance_more}
-use Rattle.plan_reader.specs.Seeds.{generator, word_of}
+use Rattle.plan_reader.specs.Seeds.{generator, seeded_word}
 
 -- one step after i is i + 1 steps
 next-advance : (w m i : ℕ) (g : Lcg) → next w m (advance w m i g) ≡ advance w m (i + 1) g
@@ -24,8 +24,8 @@ generator_at-new seed s new = new
 
 -- what it gives next is word i
 pub word_at : (seed i word : ℕ) (s t : Lcg) → (word, t) ≡ pcg32 s → s ≡ generator_at seed i
-    → word ≡ word_of seed i
-unfolding generator_at word_of
+    → word ≡ seeded_word seed i
+unfolding generator_at seeded_word
 word_at seed i word s t step at = ap (λ (p : ℕ × Lcg). p.0) step ∙ ap (λ g. (pcg32 g).0) at
 
 -- and then it gave i + 1

@@ -7,7 +7,7 @@ use Rattle.plan_reader.specs.declared.plan.Steps.TheVariants.{Seed}
 use Rattle.steer_base.specs.Arrivals.{even_entries}
 use Rattle.plan_reader.specs.Settings.{PlanSettings}
 
--- receive queue q, at home on processor q, with all four processors and 256 flows
+-- receive queue q, polled by processor q, with all four processors and 256 flows
 abbrev pub generated_queue : ℕ → QueuePlan
 generated_queue q = record { home = q; mask = record { 0 = 15 }; flows = 256 }
 
@@ -15,8 +15,8 @@ generated_queue q = record { home = q; mask = record { 0 = 15 }; flows = 256 }
 abbrev pub generated_tx : ℕ → TxPlan
 generated_tx cpus = record { cpus = record { 0 = cpus }; queues = 0 }
 
--- four processors, each with a receive queue, an application and a transmit queue of its own; so
--- many steps of the seed
+-- the generated plan: four processors, each with a receive queue, an application and a transmit
+-- queue of its own, and this many steps of the seed
 abbrev pub plan_for : ℕ → ℕ → PlanSettings
 plan_for seed count = record {
   cpus = 4;

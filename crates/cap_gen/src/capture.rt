@@ -1,7 +1,9 @@
-//! The capture of generated packets.
+//! Makes the capture of generated packets.
 ghost use Rattle.std.specs.Prelude.{◌≡◌, ◌≤◌, IfOk, map};
 ghost use Rattle.pcap_reader.specs.Captures.{HasCapture, frame_of};
 ghost use Rattle.pcap_reader.specs.Writing.{capture_bytes, capture_of};
+ghost use Rattle.steer_base.specs.declared.limits.TheConstants.{MAX_PACKETS};
+ghost use Rattle.cap_gen.specs.declared.frame.TheConstants.{MAX_FLOWS};
 ghost use Rattle.cap_gen.specs.Packets.{packets_of};
 
 use crate::frame::frame_of;
@@ -11,22 +13,22 @@ use rand_pcg::Lcg64Xsh32;
 use std::alloc::Global;
 use steer_base::OutOfMemory;
 
-/// How many bytes a capture has before its first record.
+/// The number of bytes of a capture before its first record.
 const HEADER_LEN: usize = 24;
 
-/// How many bytes a record has with its frame.
+/// The number of bytes of a record with its frame.
 const RECORD_LEN: usize = 70;
 
-/// The bytes of a capture of the first so many packets of a seed, over so many flows.
+/// The bytes of a capture of the first `packets` packets of a seed, over `flows` flows.
 pub fn capture_bytes(
     alloc: Global,
     seed: u64,
     packets: u32,
     flows: u32,
 ) -> Result<Vec<u8>, OutOfMemory>
-    requires few_packets { packets ≤ 262144 }
+    requires few_packets { packets ≤ MAX_PACKETS }
     requires some_flow { 1 ≤ flows }
-    requires few_flows { flows ≤ 65536 }
+    requires few_flows { flows ≤ MAX_FLOWS }
     ensures { IfOk result (λ bytes. bytes.items ≡ capture_bytes (packets_of seed flows packets)) }
 {
     captures_read_back();

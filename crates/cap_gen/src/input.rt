@@ -1,9 +1,11 @@
-//! Generated input.
+//! Generates the input of a replay.
 ghost use Rattle.std.specs.Prelude.{◌≡◌, ◌≤◌, IfOk, Ok, map};
 ghost use Rattle.pcap_reader.specs.Captures.{HasCapture, frame_of};
 ghost use Rattle.pcap_reader.specs.Writing.{capture_bytes, capture_of};
 ghost use Rattle.plan_reader.specs.PlanTexts.{plan_of};
 ghost use Rattle.serde_json.specs.Written.{compact_text};
+ghost use Rattle.steer_base.specs.declared.limits.TheConstants.{MAX_PACKETS};
+ghost use Rattle.cap_gen.specs.declared.frame.TheConstants.{MAX_FLOWS};
 ghost use Rattle.cap_gen.specs.Packets.{packets_of};
 ghost use Rattle.cap_gen.specs.PlanValues.{plan_value, generated_step_count};
 ghost use Rattle.cap_gen.specs.Plans.{plan_for};
@@ -14,7 +16,7 @@ use pcap_reader::captures_read_back;
 use std::alloc::Global;
 use steer_base::OutOfMemory;
 
-/// The most steps that a plan makes of a seed.
+/// The most steps that a generated plan takes from its seed.
 const MOST_STEPS: u32 = 999_999;
 
 /// A capture, and the text of a plan for it.
@@ -26,11 +28,11 @@ pub struct Generated {
     pub plan: Vec<u8>,
 }
 
-/// Makes the input of a seed: a capture of so many packets over so many flows, and a plan with
-/// four steps of the same seed for each packet, 999,999 at most.
+/// Generates the input of a seed: a capture of `packets` packets over `flows` flows, and a plan
+/// with four steps of the same seed for each packet, at most 999,999.
 ///
 /// Packet i is of flow `w mod flows`, where w is word i of the generator PCG XSH RR 64/32 on
-/// stream 54. Flow k is TCP from 10.0.0.0 + k and port `1024 + k mod 32768` to port 80 of
+/// stream 54. Flow k is TCP from 10.0.0.0 + k and port `FIRST_PORT + k mod PORTS` to port 80 of
 /// 10.128.0.1. The capture is a little-endian pcap file, and packet i is of second i.
 pub fn generate(
     alloc: Global,
@@ -38,17 +40,19 @@ pub fn generate(
     packets: u32,
     flows: u32,
 ) -> Result<Generated, OutOfMemory>
-    requires few_packets { packets ≤ 262144 }
+    requires few_packets { packets ≤ MAX_PACKETS }
     requires some_flow { 1 ≤ flows }
-    requires few_flows { flows ≤ 65536 }
+    requires few_flows { flows ≤ MAX_FLOWS }
 
-    // The capture is that of the packets, with just their times and frames and no cut.
+    // The capture is that of the packets, with exactly their times and frames, and nothing
+    // truncated.
     ensures capture_bytes { IfOk result
         (λ made. made.capture.items ≡ capture_bytes (packets_of seed flows packets)) }
     ensures capture { IfOk result
         (λ made. HasCapture made.capture.items (capture_of (packets_of seed flows packets))) }
     ensures frames { IfOk result
-        (λ made. map (frame_of made.capture.items) (capture_of (packets_of seed flows packets)).records
+        (λ made. map (frame_of made.capture.items)
+        (capture_of (packets_of seed flows packets)).records
         ≡ map (λ packet. packet.frame) (packets_of seed flows packets)) }
 
     // The text is the compact JSON of the plan's value, and is read as the plan.

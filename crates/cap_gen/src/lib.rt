@@ -1,4 +1,4 @@
-//! Generated input: a capture of so many flows and a plan for it, both made from a seed.
+//! Generates input from a seed: a capture of some flows and a plan for it.
 #![tactic(auto)]
 
 mod capture;
@@ -7,5 +7,6 @@ mod input;
 mod laws;
 mod plan_text;
 
+pub use frame::MAX_FLOWS;
 pub use input::{Generated, generate};
 pub use laws::a_frame_is_of_its_flow;

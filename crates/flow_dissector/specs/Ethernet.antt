@@ -6,15 +6,16 @@ use Rattle.std.specs.Option.{option_and_then}
 use Rattle.byteorder.specs.Endian.{big_number}
 use Rattle.flow_dissector.specs.Carried.{Carried, carries}
 
--- the type is that of a VLAN tag, plain or of a service
+-- whether the type is that of a VLAN tag, customer or service
 abbrev pub is_tag : ℕ → Bool
 is_tag kind = kind == 0x8100 || kind == 0x88a8
 
--- the type is that of IPv4 or of IPv6
+-- whether the type is that of IPv4 or IPv6
 abbrev pub is_ip : ℕ → Bool
 is_ip kind = kind == 0x0800 || kind == 0x86dd
 
--- what at most so many tags carry: each has 4 bytes, of which the last two are the next type
+-- what follows at most this many VLAN tags: each has 4 bytes, of which the last two are the next
+-- type
 unfoldable pub after_tags : ℕ → ℕ → List ℕ → Option Carried
 after_tags zero kind bytes = carries kind bytes
 after_tags (suc left) kind bytes =
@@ -22,11 +23,12 @@ after_tags (suc left) kind bytes =
     else if nat_lt (length bytes) 4 then None
     else after_tags left (big_number 2 (drop 2 bytes)) (drop 4 bytes)
 
--- what carries an IP packet, and nothing else
+-- what was carried, if it is an IP packet
 abbrev pub only_ip : Carried → Option Carried
 only_ip carried = if is_ip carried.kind then carries carried.kind carried.bytes else None
 
--- the IP packet of a frame: behind two addresses of 6 bytes, the type, and at most two tags
+-- the IP packet of a frame: it follows two addresses of 6 bytes, the type, and at most two VLAN
+-- tags
 unfoldable pub packet_in : List ℕ → Option Carried
 packet_in frame =
     if nat_lt (length frame) 14 then None

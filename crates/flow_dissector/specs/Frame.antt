@@ -1,4 +1,4 @@
--- The flow of a frame: each layer is a case on the bytes that the layer above leaves.
+-- The flow of a frame: each layer is a case on the bytes that the layer before it leaves.
 use Rattle.std.specs.Prelude.{ℕ, ◌==◌, List, if◌then◌else◌, Option, Some, None}
 use Rattle.steer_base.specs.declared.flow.Flow.{Flow}
 use Rattle.steer_base.specs.declared.flow.Flow.TheVariants.{Bare}
@@ -7,7 +7,7 @@ use Rattle.flow_dissector.specs.Ethernet.{packet_in}
 use Rattle.flow_dissector.specs.Ipv4.{is_ipv4, ipv4_payload, ipv4_flow}
 use Rattle.flow_dissector.specs.Ipv6.{is_ipv6, ipv6_payload, ipv6_flow}
 
--- what an IP packet of this type carries, where its headers are whole and it is no fragment
+-- the payload of an IP packet of this type, if its headers are complete and it is not a fragment
 unfoldable pub payload_in : ℕ → List ℕ → Option Carried
 payload_in kind packet =
     if kind == 0x0800 then (if is_ipv4 packet then ipv4_payload packet else None)

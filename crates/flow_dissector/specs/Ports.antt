@@ -1,4 +1,4 @@
--- The flow that addresses and a payload make.
+-- The flow of two addresses and a payload.
 use Rattle.std.specs.Prelude.{ℕ, ◌==◌, List, length, drop, nat_lt, if◌then◌else◌, Option, Some}
 use Rattle.std.specs.Prelude.{None}
 use Rattle.byteorder.specs.Endian.{big_number}
@@ -9,13 +9,14 @@ use Rattle.steer_base.specs.declared.flow.Flow.{Flow}
 use Rattle.steer_base.specs.declared.flow.Flow.TheVariants.{Two, Four}
 use Rattle.flow_dissector.specs.Carried.{Carried}
 
--- the ports are the first four bytes of the segment; without four there are none
+-- the flow with the ports in the first four bytes of a segment; without ports if it has fewer bytes
 unfoldable pub flow_with_ports : Pair → Proto → List ℕ → Flow
 flow_with_ports pair proto segment =
     if nat_lt (length segment) 4 then Two pair
     else Four pair proto (big_number 2 segment) (big_number 2 (drop 2 segment))
 
--- TCP and UDP have ports (RFC 9293, RFC 768); what has none is a flow of the addresses alone
+-- the flow of two addresses and a payload: with ports for TCP and UDP (RFC 9293, RFC 768), else of
+-- the addresses only
 unfoldable pub flow_between : Pair → Option Carried → Flow
 flow_between pair None = Two pair
 flow_between pair (Some payload) =

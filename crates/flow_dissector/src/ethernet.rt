@@ -19,7 +19,7 @@ const ETHERTYPE_SERVICE: u16 = 0x88a8;
 /// How many bytes a frame has before what it carries.
 const ADDRESSES_AND_TYPE: usize = 14;
 
-/// How many VLAN tags are walked.
+/// The most VLAN tags that are skipped.
 const MAX_TAGS: usize = 2;
 
 /// The bytes of a tag: its value, and the type of what it carries.
@@ -30,7 +30,7 @@ const TAG: usize = 4;
 pub struct IpAt {
     /// `ETHERTYPE_IPV4` or `ETHERTYPE_IPV6`.
     pub kind: u16,
-    /// How many bytes of the frame stand before the packet.
+    /// The offset of the packet in the frame.
     pub start: usize,
 }
 

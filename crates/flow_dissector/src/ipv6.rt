@@ -13,7 +13,7 @@ use steer_base::{Flow, Pair};
 /// How many bytes the fixed header has.
 const HEADER: usize = 40;
 
-/// How many extension headers are walked.
+/// The most extension headers that are skipped.
 const MAX_EXTENSIONS: usize = 8;
 
 /// The number of a hop-by-hop options header.

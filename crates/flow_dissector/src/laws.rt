@@ -1,4 +1,4 @@
-//! What follows from the definitions for every packet.
+//! Lemmas about flows, each the contract of a function with an empty body.
 ghost use Rattle.std.specs.Prelude.{◌≡◌, ℕ, List, Option, None, Some, IsTrue, ◌++◌, slice_index};
 ghost use Rattle.std.specs.Prelude.{drop};
 ghost use Rattle.steer_base.specs.declared.flow.Flow.TheVariants.{Two, Four};
@@ -10,9 +10,8 @@ ghost use Rattle.flow_dissector.specs.Ipv4.{is_ipv4, is_ipv4_fragment, ipv4_pair
 ghost use Rattle.flow_dissector.specs.Ipv6.{is_ipv6, after_extensions, ipv6_pair};
 ghost use Rattle.flow_dissector.specs.Ports.{flow_between};
 
-/// The flow of a packet whose header is whole lies between its addresses, and has ports where the
-/// payload has them.
-#[tactic(auto, unfolding(crate::specs::Frame::ip_flow, crate::specs::Frame::payload_in, crate::specs::Ipv4::ipv4_flow, crate::specs::Ipv6::ipv6_flow))]
+/// Lemma: the flow of a packet with a complete header is between its addresses, and has ports if
+/// the payload has them.
 pub fn flow_is_of_the_payload()
     ensures ipv4 { (packet : List ℕ) → IsTrue (is_ipv4 packet)
         → ip_flow 0x0800 packet ≡ flow_between (ipv4_pair packet) (payload_in 0x0800 packet) }
@@ -20,9 +19,8 @@ pub fn flow_is_of_the_payload()
         → ip_flow 0x86dd packet ≡ flow_between (ipv6_pair packet) (payload_in 0x86dd packet) }
 {}
 
-/// A fragment of an IPv4 packet, the first one too, has no payload that is known, and its flow is
-/// made of its addresses alone.
-#[tactic(auto, unfolding(crate::specs::Frame::ip_flow, crate::specs::Frame::payload_in, crate::specs::Ipv4::ipv4_flow, crate::specs::Ipv4::ipv4_payload, crate::specs::Ports::flow_between))]
+/// Lemma: the payload of an IPv4 fragment, even the first, is not known, and its flow has only the
+/// addresses.
 pub fn ipv4_fragment_has_no_ports()
     ensures flow { (packet : List ℕ) → IsTrue (is_ipv4 packet) → IsTrue (is_ipv4_fragment packet)
         → ip_flow 0x0800 packet ≡ Two (ipv4_pair packet) }
@@ -30,9 +28,8 @@ pub fn ipv4_fragment_has_no_ports()
         → payload_in 0x0800 packet ≡ None }
 {}
 
-/// An IPv6 packet whose extensions lead to a fragment header has no payload that is known, and its
-/// flow is made of its addresses alone.
-#[tactic(auto, unfolding(crate::specs::Frame::ip_flow, crate::specs::Frame::payload_in, crate::specs::Ipv6::ipv6_flow, crate::specs::Ipv6::ipv6_payload, crate::specs::Ports::flow_between))]
+/// Lemma: the payload of an IPv6 packet whose extensions lead to a fragment header is not known,
+/// and its flow has only the addresses.
 pub fn ipv6_fragment_has_no_ports()
     ensures flow { (packet rest : List ℕ) → IsTrue (is_ipv6 packet)
         → after_extensions 8 (slice_index packet 6) (drop 40 packet) ≡ carries 44 rest
@@ -42,8 +39,8 @@ pub fn ipv6_fragment_has_no_ports()
         → payload_in 0x86dd packet ≡ None }
 {}
 
-/// What stands behind the ports, as what a longer capture of the same frame has, changes no flow
-/// that has ports.
+/// Lemma: bytes after the ports, as a longer capture of the same frame has them, do not change a
+/// flow that has ports.
 pub fn ports_end_the_flow()
     ensures { (frame more : List ℕ) (ends : Pair) (proto : Proto) (source destination : ℕ)
         → flow_of frame ≡ Four ends proto source destination

@@ -1,4 +1,4 @@
-//! The flow of an Ethernet frame, and where the layers within it begin.
+//! Finds the flow of an Ethernet frame, and where the layers in it begin.
 #![tactic(auto)]
 
 mod ethernet;

@@ -5,6 +5,6 @@
 pub struct Payload {
     /// The protocol number that IANA assigns, such as 6 for TCP, 17 for UDP and 47 for GRE.
     pub proto: u8,
-    /// How many bytes of the packet stand before the payload.
+    /// The offset of the payload in the packet.
     pub start: usize,
 }

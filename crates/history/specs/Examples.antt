@@ -5,6 +5,8 @@ use Rattle.steer_base.specs.declared.choice.Why.TheVariants.{Plain, Unset}
 use Rattle.history.specs.Lists.{no_lane}
 use Rattle.history.specs.declared.history.History.{History}
 
+-- the history of one packet that is steered, delivered, replied to and sent, with this counter
+-- start
 abbrev pub one_packet : ℕ → History
 one_packet start =
     record {

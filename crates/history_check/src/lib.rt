@@ -1,4 +1,4 @@
-//! Whether a history is regular for the packets of a capture and a number of applications.
+//! Decides whether a history is regular for the packets of a capture and a number of applications.
 #![tactic(auto)]
 
 mod item_test;

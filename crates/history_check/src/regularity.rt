@@ -1,5 +1,6 @@
-//! Whether a history is regular, found in one pass over each of its lists.
+//! Decides whether a history is regular, in one pass over each of its lists.
 ghost use Rattle.std.specs.Prelude.{◌≡◌, ◌≤◌, ◌↔◌, IfOk, IsTrue, length, true};
+ghost use Rattle.steer_base.specs.declared.limits.TheConstants.{MAX_PACKETS};
 ghost use Rattle.history.specs.Regular.{Regular, has_text};
 ghost use Rattle.history_check.specs.Tests.{has_shape, has_short_lists, have_texts, passes};
 
@@ -31,7 +32,7 @@ fn passes(alloc: Global, h: &History, packets: &[Packet], apps: u8) -> Result<bo
     requires shape { has_shape packets.now apps h.now ≡ true }
     requires short { has_short_lists h.now ≡ true }
     requires apps { 1 ≤ apps }
-    requires few { length packets.now ≤ 262144 }
+    requires few { length packets.now ≤ MAX_PACKETS }
     ensures { IfOk result (λ passed. passed ≡ passes packets.now apps h.now) }
 {
     let known = Known::make(alloc, h)?;
@@ -52,9 +53,9 @@ fn passes(alloc: Global, h: &History, packets: &[Packet], apps: u8) -> Result<bo
     )
 }
 
-/// Whether a history is regular for these packets and `apps` applications, which is what its lines
-/// are made for: whether each list is of those before it in the way of a packet. It takes time and
-/// memory linear in the packets, for each receive queue, and gives the memory back.
+/// Decides whether a history is regular for these packets and `apps` applications, as lines
+/// require: whether each list agrees with those before it on the way of a packet. Takes time and
+/// memory linear in the packets for each receive queue, and frees the memory at the end.
 pub fn is_regular(
     alloc: Global,
     history: &History,
@@ -62,7 +63,7 @@ pub fn is_regular(
     apps: u8,
 ) -> Result<bool, OutOfMemory>
     requires apps { 1 ≤ apps }
-    requires few { length packets.now ≤ 262144 }
+    requires few { length packets.now ≤ MAX_PACKETS }
     ensures { IfOk result (λ regular. IsTrue regular ↔ Regular packets.now apps history.now) }
 {
     if has_shape(history, packets, apps as usize) && has_short_lists(history) {

@@ -1,5 +1,5 @@
 -- The fields of a board besides its words and slots.
-use Rattle.std.specs.Prelude.{◌≡◌, ℕ, ◌+◌, ◌≤◌, [], replicate, vec_capacity}
+use Rattle.std.specs.Prelude.{◌≡◌, ◌≤◌, [], replicate, vec_capacity}
 use Rattle.atomic_table.specs.Seated.{TableId}
 use Rattle.steer_base.specs.Journals.{journal}
 use Rattle.hop_rule.specs.Sizes.{FitSizes}

@@ -2,8 +2,6 @@
 -- before and after.
 use Rattle.std.specs.Prelude.{◌≡◌, ℕ, true, false, List, [], ◌∷◌, None, Some}
 use Rattle.atomic_table.specs.Table.{Step, rest}
-use Rattle.steer_base.specs.Lanes.{LaneLists}
-use Rattle.hop_rule.specs.OutLanes.{OutList}
 use Rattle.hop_rule.specs.declared.step.BoardStep.{BoardStep}
 use Rattle.hop_rule.specs.declared.step.BoardStep.TheVariants.{Lane, LaneOut, LaneIn}
 use Rattle.hop_rule.specs.declared.step.LaneStep.TheVariants.{Held, OutHeld}

@@ -233,7 +233,7 @@ module _ (about : BoardSizes) where
       let y : LaneLists = lane_after_step l d (lane about l es) in
       let k = lane_keeps l d (lane about l es) in
       let now :
-          Ok (delivered_from l es) (phase l (steps_of (puller about l) es)) (retired l es) y = (
+      Ok (delivered_from l es) (phase l (steps_of (puller about l) es)) (retired l es) y = (
         same ∙ t.0,
         t.1,
         ids_more (delivered_from l es) (lane about l es).accepted y.accepted k t.2,

@@ -63,7 +63,7 @@ module _ {S D : Type 0} (seats : ℕ) (lawful : List (StepBy D) → List ℕ →
       let here : get_elem? s.views id ≡ some (one p ds) = at ∙ ap some alone in
       let own = r.views_are.each_hand id (one p ds) here 0 (hand p ds) refl in
       let next =
-          on r.order s.words s.homes all wide r.views_are.by_seats own.0 own.2 r.lawfully in (
+      on r.order s.words s.homes all wide r.views_are.by_seats own.0 own.2 r.lawfully in (
         one p (next.0 ∷ ds),
         next.1,
         next.2,

@@ -18,7 +18,8 @@ use Rattle.ntuple_rules.specs.declared.rule.Rule.{Rule}
 use Rattle.ntuple_rules.specs.declared.fields.Fields.{Fields}
 use Rattle.ntuple_rules.specs.declared.group.Group.{Group}
 use Rattle.ntuple_rules.specs.Groups.{Adds, AddsAt, Finds, FindsAsBefore, IsNew, lesser, found_in}
-use Rattle.ntuple_rules.specs.Groups.{found_among, significant_bits, looked_at, masked, same_fields, shape_of}
+use Rattle.ntuple_rules.specs.Groups.{found_among, significant_bits, looked_at, masked, same_fields}
+use Rattle.ntuple_rules.specs.Groups.{shape_of}
 use Rattle.ntuple_rules.specs.Matches.{first_match, matches}
 use Rattle.ntuple_rules.proofs.Matched.{first_match-below, first_match-push, has_key}
 use Rattle.ntuple_rules.proofs.Matched.{matches-has_key}

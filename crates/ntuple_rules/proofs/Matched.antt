@@ -116,7 +116,8 @@ first_match-push rules rule flow =
 -- a flow has the key of a rule among what the rule's kind looks at
 abbrev pub has_key : Rule → Option Fields → Bool
 has_key rule looked =
-    option_map_or (λ fields. same_fields (significant_bits rule) (masked (shape_of rule).mask fields)) looked
+    option_map_or (λ fields. same_fields (significant_bits rule)
+    (masked (shape_of rule).mask fields)) looked
     false
 
 no_ports : (kind : RuleKind) (pair : Pair) → fits_version kind pair ≡ true → has_ports kind ≡ false

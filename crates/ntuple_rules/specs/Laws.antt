@@ -1,4 +1,4 @@
--- What holds of rules and folds, whatever finds or makes them.
+-- Lemmas about rules and folds.
 use Rattle.std.specs.Prelude.{◌≡◌, ◌<◌, ℕ, List, Bool, true, false, Option, Some, None, slice_get}
 use Rattle.std.specs.Prelude.{length}
 use Rattle.std.specs.Prelude.{All}
@@ -15,17 +15,18 @@ pub record IsFirst (rules : List Rule) (flow : Flow) (number : ℕ) : Type 0 whe
   pub before : (i : ℕ) (other : Rule) → i < number → slice_get rules i ≡ Some other
       → matches other flow ≡ false
 
--- the match that is found is the first, and none is found only where no rule matches
+-- the match that is found is the first
 abbrev pub FindsTheFirst : Type 0
 FindsTheFirst =
     (rules : List Rule) (flow : Flow) (number : ℕ) → first_match rules flow ≡ Some number
     → IsFirst rules flow number
 
+-- no rule is found if and only if none of the list matches
 abbrev pub FindsNoneOfNone : Type 0
 FindsNoneOfNone =
     (rules : List Rule) (flow : Flow) → first_match rules flow ≡ None
     → All (λ rule. matches rule flow ≡ false) rules
 
--- a flow and its other direction have one fold
+-- a flow and its other direction have the same fold
 abbrev pub FoldsAlike : Type 0
 FoldsAlike = (flow : Flow) → fold_of (swapped flow) ≡ fold_of flow

@@ -12,17 +12,17 @@ use Rattle.ntuple_rules.specs.declared.rule.RuleKind.{RuleKind}
 use Rattle.ntuple_rules.specs.declared.rule.RuleKind.TheVariants.{Tcp4, Udp4, Tcp6, Udp6, Ip4, Ip6}
 use Rattle.ntuple_rules.specs.declared.rule.Rule.{Rule}
 
--- two numbers are the same in the bits of a mask
+-- whether two numbers are equal in the bits of a mask
 abbrev pub agree : ℕ → ℕ → ℕ → Bool
 agree mask a b = bit_and a mask == bit_and b mask
 
--- the kind is that of every packet of this version of IP, whatever it carries
+-- whether a kind is that of all packets of this IP version, whatever they carry
 abbrev pub fits_version : RuleKind → Pair → Bool
 fits_version Ip4 (V4 src dst) = true
 fits_version Ip6 (V6 src dst) = true
 fits_version kind pair = false
 
--- the kind is that of this protocol over this version of IP
+-- whether a kind is that of this protocol over this IP version
 abbrev pub fits_proto : RuleKind → Pair → Proto → Bool
 fits_proto Tcp4 (V4 src dst) Tcp = true
 fits_proto Udp4 (V4 src dst) Udp = true
@@ -30,20 +30,20 @@ fits_proto Tcp6 (V6 src dst) Tcp = true
 fits_proto Udp6 (V6 src dst) Udp = true
 fits_proto kind pair proto = false
 
--- both addresses agree under the rule's masks
+-- whether both addresses agree with a rule under its masks
 abbrev pub addresses_agree : Rule → Pair → Bool
 addresses_agree rule (V4 src dst) =
     agree rule.srcmask rule.src src && agree rule.dstmask rule.dst dst
 addresses_agree rule (V6 src dst) =
     agree rule.srcmask rule.src src && agree rule.dstmask rule.dst dst
 
--- both ports agree under the rule's masks
+-- whether both ports agree with a rule under its masks
 abbrev pub ports_agree : Rule → ℕ → ℕ → Bool
 ports_agree rule sport dport =
     agree rule.sportmask rule.sport sport && agree rule.dportmask rule.dport dport
 
--- A rule matches a flow where its kind fits and each field agrees. A kind of a whole version fits
--- flows with ports too, and does not look at the ports.
+-- Whether a rule matches a flow: its kind fits and each field agrees. A kind of a whole IP version
+-- fits flows with ports too, and does not compare the ports.
 abbrev pub matches : Rule → Flow → Bool
 matches rule Bare = false
 matches rule (Two pair) = fits_version rule.kind pair && addresses_agree rule pair
@@ -52,6 +52,6 @@ matches rule (Four pair proto sport dport) =
     || (fits_proto rule.kind pair proto && ports_agree rule sport dport))
     && addresses_agree rule pair
 
--- the least number of a rule that matches the flow, if one does
+-- the index of the first rule that matches a flow, if one does
 abbrev pub first_match : List Rule → Flow → Option ℕ
 first_match rules flow = position (λ rule. matches rule flow) rules

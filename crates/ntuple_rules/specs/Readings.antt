@@ -1,4 +1,4 @@
--- The rules of a JSON value: a value after another in their order, up to the first that is wrong.
+-- Reads the parts of rules from a JSON value, one after another, up to the first that is wrong.
 use Rattle.std.specs.Prelude.{ℕ, List, [], ◌∷◌, Bool, true, false, Option, Some, None, Result, Ok}
 use Rattle.std.specs.Prelude.{codes, bytes_eq, if◌then◌else◌}
 use Rattle.std.specs.Int.{w32, w128, from_be_bytes}
@@ -13,12 +13,14 @@ use Rattle.plan_reader.specs.declared.plan_fault.PlanFault.{PlanFault}
 use Rattle.plan_reader.specs.Causes.{◌>>=◌, kind}
 use Rattle.plan_reader.specs.Faults.{here}
 use Rattle.plan_reader.specs.PlanTexts.{json_of, named, value_of}
-use Rattle.plan_reader.specs.Readings.{an_object, list_of, number_between, number_below, only, optional}
+use Rattle.plan_reader.specs.Readings.{an_object, list_of, number_between, number_below, only}
+use Rattle.plan_reader.specs.Readings.{optional}
 use Rattle.plan_reader.specs.Readings.{required}
 use Rattle.ntuple_rules.specs.declared.rule.RuleKind.{RuleKind}
 use Rattle.ntuple_rules.specs.declared.rule.RuleKind.TheVariants.{Tcp4, Udp4, Tcp6, Udp6, Ip4, Ip6}
 use Rattle.ntuple_rules.specs.declared.rule.Rule.{Rule}
 use Rattle.ntuple_rules.specs.declared.rules.Rules.{Rules}
+use Rattle.ntuple_rules.specs.declared.rules.TheConstants.{MAX_RULES}
 
 -- ---- the parts of a rule
 
@@ -32,6 +34,7 @@ kind_named text =
     if bytes_eq text (codes "ip4") then Some Ip4 else
     if bytes_eq text (codes "ip6") then Some Ip6 else None
 
+-- reads the kind of a rule
 unfoldable pub kind_of : Data → Result RuleKind Cause
 kind_of d = do
   text ← kind (as_str d)
@@ -46,33 +49,35 @@ is_ipv4 Tcp6 = false
 is_ipv4 Udp6 = false
 is_ipv4 Ip6 = false
 
--- an address or a mask: a text of 8 hexadecimal digits for IPv4, of 32 for IPv6, of either case
+-- reads an IPv4 address or mask: 8 hexadecimal digits
 unfoldable pub ipv4_address : List ℕ → Option ℕ
 ipv4_address text = option_map (from_be_bytes w32) (result_ok (decode_sized text 4))
 
+-- reads an IPv6 address or mask: 32 hexadecimal digits
 unfoldable pub ipv6_address : List ℕ → Option ℕ
 ipv6_address text = option_map (from_be_bytes w128) (result_ok (decode_sized text 16))
 
+-- reads an address or a mask of IPv4 or IPv6
 unfoldable pub address_of : Bool → Data → Result ℕ Cause
 address_of ipv4 d = do
   text ← kind (as_str d)
   kind (if ipv4 then ipv4_address text else ipv6_address text)
 
--- an address or a mask at a key, 0 where it is not there
+-- reads an address or a mask at a key, 0 if it is absent
 abbrev pub address_at : Bool → List ℕ → Data → Result ℕ Fault
 address_at ipv4 key d = optional key (λ v. here (address_of ipv4 v)) 0 d
 
--- a port or a mask at a key, 0 where it is not there
+-- reads a port or a mask at a key, 0 if it is absent
 abbrev pub port_at : List ℕ → Data → Result ℕ Fault
 port_at key d = optional key (λ v. here (number_between 0 65535 v)) 0 d
 
--- every key of a rule, in the order in which it is looked at
+-- all keys that a rule may have, in the order in which they are read
 abbrev pub rule_keys : List (List ℕ)
 rule_keys =
     codes "kind" ∷ codes "src" ∷ codes "srcmask" ∷ codes "dst" ∷ codes "dstmask" ∷ codes "sport"
     ∷ codes "sportmask" ∷ codes "dport" ∷ codes "dportmask" ∷ codes "queue" ∷ []
 
--- a rule over so many queues
+-- reads a rule over this many receive queues
 unfoldable pub rule_of : ℕ → Data → Result Rule Fault
 rule_of queues d = do
   is ← an_object d
@@ -102,16 +107,16 @@ rule_of queues d = do
 
 -- ---- the rules
 
--- `true` or `false`
+-- reads `true` or `false`
 abbrev pub truth : Data → Result Bool Cause
 truth d = kind (as_bool d)
 
--- every key of the rules, in the order in which it is looked at
+-- all keys that the rules may have, in the order in which they are read
 abbrev pub rules_keys : List (List ℕ)
 rules_keys =
     codes "queues" ∷ codes "kinds" ∷ codes "symmetric" ∷ codes "inner" ∷ codes "rules" ∷ []
 
--- the rules of a value, or the first that is wrong with it
+-- the rules of a JSON value, or the first thing that is wrong with it
 unfoldable pub rules_in : Data → Result Rules Fault
 rules_in d = do
   is ← an_object d
@@ -119,7 +124,7 @@ rules_in d = do
   kinds ← optional (codes "kinds") (λ v. here (number_between 0 63 v)) 63 d
   symmetric ← optional (codes "symmetric") (λ v. here (truth v)) false d
   inner ← optional (codes "inner") (λ v. here (truth v)) false d
-  rules ← required (codes "rules") (list_of (rule_of queues) 0 4096) d
+  rules ← required (codes "rules") (list_of (rule_of queues) 0 MAX_RULES) d
   none ← only rules_keys d
   Ok (record {
     queues = queues;
@@ -129,11 +134,12 @@ rules_in d = do
     rules = rules;
   })
 
+-- the rules of bytes, or the first thing that is wrong with them
 abbrev pub rules_of_bytes : List ℕ → Result Rules Fault
 rules_of_bytes bytes = do
   d ← json_of (value_of bytes)
   rules_in d
 
--- the rules of bytes, or their fault
+-- the rules of bytes, or their public fault
 unfoldable pub rules_of : List ℕ → Result Rules PlanFault
 rules_of bytes = named (rules_of_bytes bytes)

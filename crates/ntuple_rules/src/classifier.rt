@@ -1,7 +1,8 @@
-//! The first match of a flow.
+//! Finds the first rule that matches a flow.
 ghost use Rattle.std.specs.Prelude.{◌≡◌, ◌≤◌, length, IfOk};
 ghost use Rattle.ntuple_rules.specs.Groups.{lesser};
 ghost use Rattle.ntuple_rules.specs.Matches.{first_match};
+ghost use Rattle.ntuple_rules.specs.declared.rules.TheConstants.{MAX_RULES};
 
 use crate::group::{Group, add};
 use crate::rule::Rule;
@@ -10,8 +11,8 @@ use std::alloc::Global;
 use std::marker::Model;
 use steer_base::{Flow, OutOfMemory};
 
-/// Finds the first of some rules that matches a flow. Rules of one kind and with the same masks are
-/// a group, and a flow is looked up once in each group. Contracts see the list of the rules.
+/// Finds the first rule that matches a flow. Rules of the same kind with the same masks form a
+/// group, and a flow is looked up once in each group. Contracts see the list of the rules.
 #[derive(Drop)]
 pub struct Classifier {
     rules: Vec<Rule>,
@@ -30,7 +31,7 @@ impl Model for Classifier {
     ghost invariant = { λ c. Finds c.groups.items c.rules.items };
 }
 
-/// The lesser of two numbers, where there is one.
+/// The lesser of two optional numbers.
 fn lesser(first: Option<u32>, second: Option<u32>) -> Option<u32>
     ensures { result ≡ lesser first second }
 {
@@ -42,9 +43,9 @@ fn lesser(first: Option<u32>, second: Option<u32>) -> Option<u32>
 }
 
 impl Classifier {
-    /// Takes memory for the rules and their groups.
+    /// Builds the groups of the rules. Allocates memory for the rules and their groups.
     pub fn make(alloc: Global, rules: &Rules) -> Result<Classifier, OutOfMemory>
-        requires few { length rules.now.rules ≤ 4096 }
+        requires few { length rules.now.rules ≤ MAX_RULES }
         ensures { IfOk result (λ classifier. classifier ≡ rules.now.rules) }
     {
         let mut groups = Vec::new(alloc);
@@ -55,7 +56,7 @@ impl Classifier {
         Ok(Classifier { rules, groups })
     }
 
-    /// The number of the first rule that matches the flow, from 0. It takes no memory.
+    /// The index of the first rule that matches the flow. Allocates nothing.
     pub fn find(&self, flow: &Flow) -> Option<u32>
         ensures { result ≡ first_match self.now flow.now }
     {

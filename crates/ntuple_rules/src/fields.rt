@@ -1,6 +1,7 @@
 //! The fields of flows and rules, and their masks.
 ghost use Rattle.std.specs.Prelude.{◌≡◌};
-ghost use Rattle.ntuple_rules.specs.Groups.{fields_with, significant_bits, looked_at, masked, shape_of};
+ghost use Rattle.ntuple_rules.specs.Groups.{fields_with, significant_bits, looked_at, masked};
+ghost use Rattle.ntuple_rules.specs.Groups.{shape_of};
 ghost use Rattle.ntuple_rules.specs.Matches.{fits_proto, fits_version};
 
 use crate::rule::{Rule, RuleKind};

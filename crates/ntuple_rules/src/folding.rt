@@ -21,7 +21,7 @@ fn fold_pair(pair: Pair) -> Pair
 }
 
 /// The flow whose addresses are both the XOR of this one's addresses, and whose ports are both the
-/// XOR of its ports. A flow and its other direction have one fold. It takes no memory.
+/// XOR of its ports. A flow and its other direction have the same fold. Allocates nothing.
 pub fn fold(flow: &Flow) -> Flow
     ensures { result ≡ fold_of flow.now }
 {

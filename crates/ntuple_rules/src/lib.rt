@@ -1,5 +1,5 @@
-//! Rules that steer packets by their addresses and ports: read from a JSON text, and the first that
-//! matches a flow found among them.
+//! Reads rules that steer packets by addresses and ports from JSON text, and finds the first rule
+//! that matches a flow.
 #![tactic(auto)]
 
 mod classifier;
@@ -18,5 +18,5 @@ pub use classifier::Classifier;
 pub use folding::fold;
 pub use laws::{a_match_is_the_first, both_directions_fold_alike};
 pub use rule::{Rule, RuleKind};
-pub use rules::Rules;
+pub use rules::{MAX_RULES, Rules};
 pub use rules_text::read_rules;

@@ -2,9 +2,9 @@
 ghost use Rattle.std.specs.Prelude.{◌≡◌, ◌<◌, ◌≤◌, false, codes, if◌then◌else◌, IfOk};
 ghost use Rattle.serde_json.specs.View.{view};
 ghost use Rattle.plan_reader.specs.Faults.{Gives, here};
-ghost use Rattle.plan_reader.specs.Readings.{optional};
+ghost use Rattle.plan_reader.specs.Readings.{only, optional};
 ghost use Rattle.ntuple_rules.specs.Readings.{address_at, address_of, ipv4_address, ipv6_address};
-ghost use Rattle.ntuple_rules.specs.Readings.{port_at, rule_of, truth};
+ghost use Rattle.ntuple_rules.specs.Readings.{port_at, rule_keys, rule_of, truth};
 
 use crate::kind::{is_ipv4, required_kind};
 use crate::rule::Rule;
@@ -18,7 +18,7 @@ use serde_json::Value;
 use std::alloc::Global;
 use steer_base::RxQueue;
 
-/// A text of 8 hexadecimal digits of either case.
+/// A text of 8 hexadecimal digits in upper or lower case.
 #[tactic(auto, unfolding(crate::specs::Readings::ipv4_address))]
 fn ipv4_address(text: &str) -> Option<u128>
     ensures { result ≡ ipv4_address text.now }
@@ -27,7 +27,7 @@ fn ipv4_address(text: &str) -> Option<u128>
     Some(u128::from(u32::from_be_bytes(bytes)))
 }
 
-/// A text of 32 hexadecimal digits of either case.
+/// A text of 32 hexadecimal digits in upper or lower case.
 #[tactic(auto, unfolding(crate::specs::Readings::ipv6_address))]
 fn ipv6_address(text: &str) -> Option<u128>
     ensures { result ≡ ipv6_address text.now }
@@ -50,7 +50,7 @@ fn address_of(ipv4: bool, value: &Value) -> Result<u128, Cause>
     address.ok_or(Cause::WrongKind)
 }
 
-/// An address or a mask at a key, 0 where it is not there.
+/// An address or a mask at a key, 0 if it is absent.
 #[tactic(auto, using(plan_reader::proofs::Placed::gives_placed))]
 fn address_at(alloc: Global, ipv4: bool, object: &Value, key: &str) -> Result<u128, Refusal>
     ensures { Gives result (address_at ipv4 key.now (view object.now)) }
@@ -61,7 +61,7 @@ fn address_at(alloc: Global, ipv4: bool, object: &Value, key: &str) -> Result<u1
     }
 }
 
-/// A port or a mask at a key, 0 where it is not there.
+/// A port or a mask at a key, 0 if it is absent.
 fn port_at(alloc: Global, object: &Value, key: &str) -> Result<u16, Refusal>
     ensures { Gives result (port_at key.now (view object.now)) }
 {
@@ -69,7 +69,7 @@ fn port_at(alloc: Global, object: &Value, key: &str) -> Result<u16, Refusal>
     Ok(port as u16)
 }
 
-/// `true` or `false` at a key, `false` where it is not there.
+/// `true` or `false` at a key, `false` if it is absent.
 #[tactic(auto, using(plan_reader::proofs::Placed::gives_placed))]
 pub fn truth_or_false(alloc: Global, object: &Value, key: &str) -> Result<bool, Refusal>
     ensures { Gives result (optional key.now (λ v. here (truth v)) false (view object.now)) }
@@ -87,7 +87,26 @@ fn truth(value: &Value) -> Result<bool, Cause>
     value.as_bool().ok_or(Cause::WrongKind)
 }
 
-/// A rule over so many queues.
+/// Refuses an object that has another key than a rule.
+fn only_known(alloc: Global, value: &Value) -> Result<(), Refusal>
+    ensures { Gives result (only rule_keys (view value.now)) }
+{
+    let keys = [
+        "kind",
+        "src",
+        "srcmask",
+        "dst",
+        "dstmask",
+        "sport",
+        "sportmask",
+        "dport",
+        "dportmask",
+        "queue",
+    ];
+    only(alloc, value, &keys)
+}
+
+/// Reads a rule over this many receive queues.
 #[tactic(auto, unfolding(crate::specs::Readings::rule_of))]
 pub fn rule_of(alloc: Global, queues: u8, value: &Value) -> Result<Rule, Refusal>
     ensures gives { Gives result (rule_of queues (view value.now)) }
@@ -105,19 +124,7 @@ pub fn rule_of(alloc: Global, queues: u8, value: &Value) -> Result<Rule, Refusal
     let dport = port_at(alloc, value, "dport")?;
     let dportmask = port_at(alloc, value, "dportmask")?;
     let queue = required_below(alloc, value, "queue", queues)?;
-    let keys = [
-        "kind",
-        "src",
-        "srcmask",
-        "dst",
-        "dstmask",
-        "sport",
-        "sportmask",
-        "dport",
-        "dportmask",
-        "queue",
-    ];
-    only(alloc, value, &keys)?;
+    only_known(alloc, value)?;
     Ok(Rule {
         kind,
         src,

@@ -1,4 +1,4 @@
-//! The rules of bytes.
+//! Reads rules from JSON text.
 ghost use Rattle.std.specs.Prelude.{◌≡◌, ◌≢◌, IfOk, IfErr, Ok, Err};
 ghost use Rattle.serde_json.specs.View.{view};
 ghost use Rattle.plan_reader.specs.Faults.{Gives};
@@ -6,7 +6,7 @@ ghost use Rattle.ntuple_rules.specs.Readings.{rules_in, rules_of, rules_of_bytes
 ghost use Rattle.ntuple_rules.specs.Ranges.{RulesAreWithin};
 
 use crate::reading::truth_or_false;
-use crate::rules::Rules;
+use crate::rules::{MAX_RULES, Rules};
 use plan_reader::faults::fault::Refusal;
 use plan_reader::json_text::{bounded_value, named};
 use plan_reader::values::fields::{number_or, required_list, required_number};
@@ -15,7 +15,7 @@ use plan_reader::{PlanFault, Sizes};
 use serde_json::Value;
 use std::alloc::Global;
 
-/// The rules of a JSON value.
+/// Reads the rules of a JSON value.
 #[tactic(auto, unfolding(crate::specs::Readings::rules_in))]
 fn rules_in(alloc: Global, value: &Value) -> Result<Rules, Refusal>
     ensures gives { Gives result (rules_in (view value.now)) }
@@ -32,7 +32,7 @@ fn rules_in(alloc: Global, value: &Value) -> Result<Rules, Refusal>
         apps: 0,
         tx: 0,
     };
-    let rules = required_list(alloc, sizes, value, "rules", 0, 4096)?;
+    let rules = required_list(alloc, sizes, value, "rules", 0, u64::from(MAX_RULES))?;
     only(
         alloc,
         value,
@@ -47,7 +47,7 @@ fn rules_in(alloc: Global, value: &Value) -> Result<Rules, Refusal>
     })
 }
 
-/// The rules of bytes. Their JSON value is given up at the end.
+/// Reads the rules of bytes. The memory of their JSON value is freed at the end.
 fn rules_of_bytes(alloc: Global, bytes: &[u8]) -> Result<Rules, Refusal>
     ensures gives { Gives result (rules_of_bytes bytes.now) }
     ensures within { IfOk result RulesAreWithin }
@@ -56,10 +56,10 @@ fn rules_of_bytes(alloc: Global, bytes: &[u8]) -> Result<Rules, Refusal>
     rules_in(alloc, &value)
 }
 
-/// The rules of a JSON text (RFC 8259), or the first that is wrong with it.
+/// Reads the rules of a JSON text (RFC 8259), or returns the first thing that is wrong with it.
 ///
-/// Memory may run out at any text; then the answer says nothing of the rules. The JSON value of the
-/// text is given up once the rules are read out of it.
+/// Memory may run out for any text; the result then says nothing about the rules. The memory of the
+/// text's JSON value is freed once the rules are read.
 #[tactic(auto, unfolding(crate::specs::Readings::rules_of))]
 pub fn read_rules(alloc: Global, bytes: &[u8]) -> Result<Rules, PlanFault>
     ensures rules { IfOk result (λ rules. rules_of bytes.now ≡ Ok rules) }

@@ -27,7 +27,8 @@ memory_desk_faults desk = desk.failures.faults
 
 -- a `begin` fails if its number is listed or the name is unknown
 abbrev pub begin_fails : MemoryDesk → List ℕ → Bool
-begin_fails desk name = next_fails (memory_desk_failures desk) || is_none (memory_desk_held desk name)
+begin_fails desk name = next_fails (memory_desk_failures desk) || is_none
+    (memory_desk_held desk name)
 
 -- a `read` fails if its number is listed
 abbrev pub read_fails : MemoryDesk → Bool

@@ -52,11 +52,13 @@ impl<R: Files + Drop> Desk for FileDesk<R> {
         ensures taken { last_count ≡ last_count }
         ensures reads { last_count ≡ last_count }
         ensures later { file_desk_faults self.old ≤ file_desk_faults self.new }
-        ensures failed { result ≡ Begin.Failed → Rose (file_desk_faults self.old) (file_desk_faults self.new) }
+        ensures failed { result ≡ Begin.Failed → Rose (file_desk_faults self.old)
+            (file_desk_faults self.new) }
 
         ensures begun { result ≡ Begin.Ok → IsSome (file_of self.new) }
         ensures stopped { result ≡ Begin.Failed → file_of self.new ≡ None }
-        ensures counted { file_desk_faults self.new ≡ counted (has_failed result) (file_desk_faults self.old) }
+        ensures counted { file_desk_faults self.new ≡ counted (has_failed result)
+            (file_desk_faults self.old) }
     {
         self.file = None;
         let Ok(file) = fs::open(&self.rt, name) else {
@@ -74,12 +76,14 @@ impl<R: Files + Drop> Desk for FileDesk<R> {
         ensures taken { last_count ≡ raised (read_count result) last_count }
         ensures reads { last_count ≡ raised 1 last_count }
         ensures later { file_desk_faults self.old ≤ file_desk_faults self.new }
-        ensures failed { result ≡ Got.Failed → Rose (file_desk_faults self.old) (file_desk_faults self.new) }
+        ensures failed { result ≡ Got.Failed → Rose (file_desk_faults self.old)
+            (file_desk_faults self.new) }
 
         ensures nothing_begun { file_of self.old ≡ None → result ≡ Got.End }
         ensures passed { Reads result buf.new (option_and_then R.File.remaining (file_of self.old))
             (option_and_then R.File.remaining (file_of self.new)) }
-        ensures counted { file_desk_faults self.new ≡ counted (read_failed result) (file_desk_faults self.old) }
+        ensures counted { file_desk_faults self.new ≡ counted (read_failed result)
+            (file_desk_faults self.old) }
     {
         let Some(file) = &mut self.file else {
             return Got::End;

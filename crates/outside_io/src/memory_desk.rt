@@ -22,7 +22,8 @@ pub struct MemoryDesk {
 }
 
 impl MemoryDesk {
-    ghost use Rattle.outside_io.specs.MemoryDesk.{memory_desk_failures, memory_desk_held, memory_desk_left, reads_of};
+    ghost use Rattle.outside_io.specs.MemoryDesk.{memory_desk_failures, memory_desk_held};
+    ghost use Rattle.outside_io.specs.MemoryDesk.{memory_desk_left, reads_of};
     ghost use Rattle.outside_io.specs.MemoryDesk.{taken_of};
 
     /// A desk with these files, each a name and its bytes. If a name occurs more than once, its
@@ -59,7 +60,8 @@ impl MemoryDesk {
 
 impl Desk for MemoryDesk {
     ghost use Rattle.outside_io.specs.MemoryDesk.{begin_fails, read_fails};
-    ghost use Rattle.outside_io.specs.MemoryDesk.{asked_on, memory_desk_failures, memory_desk_faults, memory_desk_held};
+    ghost use Rattle.outside_io.specs.MemoryDesk.{asked_on, memory_desk_failures};
+    ghost use Rattle.outside_io.specs.MemoryDesk.{memory_desk_faults, memory_desk_held};
     ghost use Rattle.outside_io.specs.MemoryDesk.{memory_desk_left};
     ghost use Rattle.outside_io.specs.MemoryDesk.{reads_of, taken_of};
 
@@ -77,13 +79,16 @@ impl Desk for MemoryDesk {
 
     fn begin(&mut self, name: &str) -> Begin
         ensures held { memory_desk_held self.new ≡ memory_desk_held self.old }
-        ensures left { Begins result (memory_desk_held self.old name.now) (Some (memory_desk_left self.new)) }
-        ensures told { GoesOnTelling (Some (memory_desk_left self.old)) (Some (memory_desk_left self.new)) }
+        ensures left { Begins result (memory_desk_held self.old name.now)
+            (Some (memory_desk_left self.new)) }
+        ensures told { GoesOnTelling (Some (memory_desk_left self.old))
+            (Some (memory_desk_left self.new)) }
         ensures asked { IfSome (asked_on self.new) (λ asked. asked ≡ name.now) }
         ensures taken { taken_of self.new ≡ taken_of self.old }
         ensures reads { reads_of self.new ≡ reads_of self.old }
         ensures later { memory_desk_faults self.old ≤ memory_desk_faults self.new }
-        ensures failed { result ≡ Begin.Failed → Rose (memory_desk_faults self.old) (memory_desk_faults self.new) }
+        ensures failed { result ≡ Begin.Failed → Rose (memory_desk_faults self.old)
+            (memory_desk_faults self.new) }
 
         ensures exact { result ≡
             (if begin_fails self.old name.now then Begin.Failed else Begin.Ok) }
@@ -102,12 +107,14 @@ impl Desk for MemoryDesk {
     fn read(&mut self, buf: &mut [u8]) -> Got
         requires { 0 < length buf.old }
         ensures held { memory_desk_held self.new ≡ memory_desk_held self.old }
-        ensures left { Reads result buf.new (Some (memory_desk_left self.old)) (Some (memory_desk_left self.new)) }
+        ensures left { Reads result buf.new (Some (memory_desk_left self.old))
+            (Some (memory_desk_left self.new)) }
         ensures asked { asked_on self.new ≡ asked_on self.old }
         ensures taken { taken_of self.new ≡ raised (read_count result) (taken_of self.old) }
         ensures reads { reads_of self.new ≡ raised 1 (reads_of self.old) }
         ensures later { memory_desk_faults self.old ≤ memory_desk_faults self.new }
-        ensures failed { result ≡ Got.Failed → Rose (memory_desk_faults self.old) (memory_desk_faults self.new) }
+        ensures failed { result ≡ Got.Failed → Rose (memory_desk_faults self.old)
+            (memory_desk_faults self.new) }
 
         ensures exact { read_failed result ≡ read_fails self.old }
         ensures counted { Counts (memory_desk_failures self.old) (memory_desk_failures self.new)

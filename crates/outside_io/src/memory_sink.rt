@@ -26,7 +26,8 @@ pub struct MemorySink {
 }
 
 impl MemorySink {
-    ghost use Rattle.outside_io.specs.MemorySink.{memory_sink_failures, room_of, unsent_by, written_to};
+    ghost use Rattle.outside_io.specs.MemorySink.{memory_sink_failures, room_of, unsent_by};
+    ghost use Rattle.outside_io.specs.MemorySink.{written_to};
 
     /// An empty sink with room for this many bytes, all reserved here.
     pub fn make(alloc: Global, room: usize, failing: Vec<u64>) -> Result<Self, OutOfMemory>
@@ -59,7 +60,8 @@ impl MemorySink {
 }
 
 impl Sink for MemorySink {
-    ghost use Rattle.outside_io.specs.MemorySink.{memory_sink_failures, memory_sink_faults, room_of, unsent_by};
+    ghost use Rattle.outside_io.specs.MemorySink.{memory_sink_failures, memory_sink_faults};
+    ghost use Rattle.outside_io.specs.MemorySink.{room_of, unsent_by};
     ghost use Rattle.outside_io.specs.MemorySink.{write_answer, write_fails, written_to};
 
     ghost written = { λ sink. Some (written_to sink) };
@@ -75,7 +77,8 @@ impl Sink for MemorySink {
         ensures unsent { Takes result bytes.now (Some (unsent_by self.old))
             (Some (unsent_by self.new)) }
         ensures later { memory_sink_faults self.old ≤ memory_sink_faults self.new }
-        ensures failed { result ≡ Took.Failed → Rose (memory_sink_faults self.old) (memory_sink_faults self.new) }
+        ensures failed { result ≡ Took.Failed → Rose (memory_sink_faults self.old)
+            (memory_sink_faults self.new) }
 
         ensures exact { result ≡ write_answer self.old (length bytes.now) }
         ensures counted { Counts (memory_sink_failures self.old) (memory_sink_failures self.new)
@@ -96,7 +99,8 @@ impl Sink for MemorySink {
         ensures kept { Keeps (Some (written_to self.old)) (Some (written_to self.new)) }
         ensures sent { OnOk result (IsAtEnd (Some (unsent_by self.new))) }
         ensures later { memory_sink_faults self.old ≤ memory_sink_faults self.new }
-        ensures failed { OnErr result (Rose (memory_sink_faults self.old) (memory_sink_faults self.new)) }
+        ensures failed { OnErr result (Rose (memory_sink_faults self.old)
+            (memory_sink_faults self.new)) }
 
         ensures exact { IsOk result }
         ensures same { memory_sink_failures self.new ≡ memory_sink_failures self.old }

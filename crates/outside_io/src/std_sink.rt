@@ -37,11 +37,13 @@ impl<W: Write + Drop> Sink for StdSink<W> {
         ensures written { Takes result bytes.now None None }
         ensures unsent { Takes result bytes.now None None }
         ensures later { std_sink_faults self.old ≤ std_sink_faults self.new }
-        ensures failed { result ≡ Took.Failed → Rose (std_sink_faults self.old) (std_sink_faults self.new) }
+        ensures failed { result ≡ Took.Failed → Rose (std_sink_faults self.old)
+            (std_sink_faults self.new) }
 
         ensures passed { Takes result bytes.now (W.contents (writer_of self.old))
             (W.contents (writer_of self.new)) }
-        ensures counted { std_sink_faults self.new ≡ counted (write_failed result) (std_sink_faults self.old) }
+        ensures counted { std_sink_faults self.new ≡ counted (write_failed result)
+            (std_sink_faults self.old) }
     {
         match self.writer.write(bytes) {
             Ok(count) if count > 0 => Took::Bytes(count),
@@ -59,7 +61,8 @@ impl<W: Write + Drop> Sink for StdSink<W> {
         ensures failed { OnErr result (Rose (std_sink_faults self.old) (std_sink_faults self.new)) }
 
         ensures passed { Keeps (W.contents (writer_of self.old)) (W.contents (writer_of self.new)) }
-        ensures counted { std_sink_faults self.new ≡ counted (is_err result) (std_sink_faults self.old) }
+        ensures counted { std_sink_faults self.new ≡ counted (is_err result)
+            (std_sink_faults self.old) }
     {
         match self.writer.flush() {
             Ok(()) => Ok(()),

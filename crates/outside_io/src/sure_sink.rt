@@ -44,7 +44,8 @@ impl Sink for SureSink {
         ensures failed { result ≡ Took.Failed → Rose 0 0 }
 
         ensures whole { result ≡ Took.Bytes (length bytes.now) }
-        ensures count { sure_sink_count self.new ≡ raised (length bytes.now) (sure_sink_count self.old) }
+        ensures count { sure_sink_count self.new ≡ raised (length bytes.now)
+            (sure_sink_count self.old) }
     {
         self.count = self.count.saturating_add(bytes.len() as u64);
         Took::Bytes(bytes.len())

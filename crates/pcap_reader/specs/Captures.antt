@@ -65,7 +65,8 @@ pub record IsCut (number : ℕ → List ℕ → ℕ) (rest : List ℕ) : Type 0 
 -- what follows `count` records: nothing, or a truncated record of this many bytes
 abbrev pub EndsAfterRecords : (ℕ → List ℕ → ℕ) → ℕ → List ℕ → Option ℕ → Type 0
 EndsAfterRecords number count rest None = rest ≡ []
-EndsAfterRecords number count rest (Some cut) = IsCut number rest × (cut ≡ length rest) × (count < MAX_PACKETS)
+EndsAfterRecords number count rest (Some cut) = IsCut number rest × (cut ≡ length rest)
+    × (count < MAX_PACKETS)
 
 -- the bytes after the 24 of the header are these records, and then nothing or a truncated record
 pub record HasRecords (number : ℕ → List ℕ → ℕ) (body : List ℕ) (records : List PcapRecord)

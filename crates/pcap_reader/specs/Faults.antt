@@ -14,7 +14,8 @@ abbrev pub HeaderHasFault : (ℕ → List ℕ → ℕ) → List ℕ → CaptureF
 HeaderHasFault number header (fault.BadVersion major minor) =
     IsVersion number header major minor × (IsVersion number header 2 4 → ⊥)
 HeaderHasFault number header (fault.BadLink link) =
-    IsVersion number header 2 4 × (link ≡ link_of number header) × (link % 2 ^ 16 ≡ LINKTYPE_ETHERNET → ⊥)
+    IsVersion number header 2 4 × (link ≡ link_of number header)
+    × (link % 2 ^ 16 ≡ LINKTYPE_ETHERNET → ⊥)
 HeaderHasFault number header _ = ⊥
 
 -- these bytes begin with a complete record header that announces this frame length, which is too

@@ -1,5 +1,5 @@
 //! Why a file is not a capture.
-ghost use Rattle.pcap_reader.specs.declared.fault.CaptureFault.TheVariants.{OutOfMemory as NoMemory};
+ghost use Rattle.pcap_reader.specs.declared.fault.CaptureFault.TheVariants.{OutOfMemory as NoSpace};
 ghost use Rattle.std.specs.Prelude.{◌≡◌};
 
 use steer_base::OutOfMemory;
@@ -25,7 +25,7 @@ pub enum CaptureFault {
 }
 
 impl From<OutOfMemory> for CaptureFault {
-    ghost from_gives = { λ _ e. e ≡ NoMemory };
+    ghost from_gives = { λ _ e. e ≡ NoSpace };
 
     fn from(_: OutOfMemory) -> Self {
         CaptureFault::OutOfMemory

@@ -4,7 +4,7 @@ ghost use Rattle.std.specs.Prelude.{IfSome, IfNone, IsErrAnd, MatchResult, Bool}
 ghost use Rattle.steer_base.specs.declared.limits.TheConstants.{MAX_PACKETS};
 ghost use Rattle.pcap_reader.specs.declared.capture.Capture.{Capture as ACapture};
 ghost use Rattle.pcap_reader.specs.declared.fault.CaptureFault.{CaptureFault as AFault};
-ghost use Rattle.pcap_reader.specs.declared.fault.CaptureFault.TheVariants.{OutOfMemory as NoMemory};
+ghost use Rattle.pcap_reader.specs.declared.fault.CaptureFault.TheVariants.{OutOfMemory as NoSpace};
 ghost use Rattle.pcap_reader.specs.Numbers.{number_of, HasMagic};
 ghost use Rattle.pcap_reader.specs.Captures.{IsEthernet, HasRecords, HasCapture, FrameIsWithin};
 ghost use Rattle.pcap_reader.specs.Faults.{HeaderHasFault, RecordsHaveFault, PartsHaveFault};
@@ -38,12 +38,12 @@ pub fn read_capture(alloc: Global, bytes: &[u8]) -> Result<Capture, CaptureFault
     // Ok if and only if the bytes have a capture and memory suffices.
     ensures found { IfOk result (λ capture. HasCapture bytes.now capture) }
     ensures complete { (capture : ACapture) → HasCapture bytes.now capture
-        → MatchResult result (λ c. c ≡ capture) (λ e. e ≡ NoMemory) }
+        → MatchResult result (λ c. c ≡ capture) (λ e. e ≡ NoSpace) }
 
     // Each fault if and only if the bytes have it and memory suffices.
-    ensures fault { IfErr result (λ e. e ≢ NoMemory → HasFault bytes.now e) }
+    ensures fault { IfErr result (λ e. e ≢ NoSpace → HasFault bytes.now e) }
     ensures exact { (fault : AFault) → HasFault bytes.now fault
-        → IsErrAnd result (λ e. (e ≡ fault) ⊎ (e ≡ NoMemory)) }
+        → IsErrAnd result (λ e. (e ≡ fault) ⊎ (e ≡ NoSpace)) }
 
     ensures few { IfOk result (λ capture. length capture.records ≤ MAX_PACKETS) }
     ensures within { IfOk result (λ capture. All (FrameIsWithin bytes.now) capture.records) }
@@ -55,7 +55,7 @@ pub fn read_capture(alloc: Global, bytes: &[u8]) -> Result<Capture, CaptureFault
 /// faults.
 fn read_file(alloc: Global, bytes: &[u8]) -> Result<Capture, CaptureFault>
     ensures found { IfOk result (λ capture. HasCapture bytes.now capture) }
-    ensures fault { IfErr result (λ e. e ≢ NoMemory → HasFault bytes.now e) }
+    ensures fault { IfErr result (λ e. e ≢ NoSpace → HasFault bytes.now e) }
 {
     if bytes.len() < HEADER {
         return Err(CaptureFault::ShortHeader { len: bytes.len() });
@@ -98,7 +98,7 @@ fn read_ordered(
     requires { 24 ≤ length bytes.now }
     ensures ethernet { OnOk result (IsEthernet (number_of big) (take 24 bytes.now)) }
     ensures found { IfOk result (λ r. HasRecords (number_of big) (drop 24 bytes.now) r.0 r.1) }
-    ensures fault { IfErr result (λ e. e ≢ NoMemory
+    ensures fault { IfErr result (λ e. e ≢ NoSpace
         → PartsHaveFault (number_of big) (take 24 bytes.now) (drop 24 bytes.now) e) }
 {
     if big {
@@ -116,7 +116,7 @@ fn read_parts<T: ByteOrder>(
     requires { 24 ≤ length bytes.now }
     ensures ethernet { OnOk result (IsEthernet T.number_of (take 24 bytes.now)) }
     ensures found { IfOk result (λ r. HasRecords T.number_of (drop 24 bytes.now) r.0 r.1) }
-    ensures fault { IfErr result (λ e. e ≢ NoMemory
+    ensures fault { IfErr result (λ e. e ≢ NoSpace
         → PartsHaveFault T.number_of (take 24 bytes.now) (drop 24 bytes.now) e) }
 {
     check_header::<T>(&bytes[..HEADER])?;
@@ -148,7 +148,7 @@ fn read_records<T: ByteOrder>(
 ) -> Result<(Records, Option<u32>), CaptureFault>
     requires { 24 ≤ length bytes.now }
     ensures found { IfOk result (λ r. HasRecords T.number_of (drop 24 bytes.now) r.0 r.1) }
-    ensures fault { IfErr result (λ e. e ≢ NoMemory → RecordsHaveFault T.number_of
+    ensures fault { IfErr result (λ e. e ≢ NoSpace → RecordsHaveFault T.number_of
         (drop 24 bytes.now) e) }
 {
     let mut records = Records::new(alloc);

@@ -47,7 +47,8 @@ framed_wants place len at r h =
     elim (taken (ltb 262144 r.len) (Err (fault.RecordTooLong place.packets r.len)) _
     (Err fault.OutOfMemory) h) [
       | inl a ↦ absurd (let e = a.1 in cc)
-      | inr a ↦ elim (taken (ltb len (at + padded r.len + 4)) (Err (fault.BadBlock place.block len)) _
+      | inr a ↦ elim (taken (ltb len (at + padded r.len + 4)) (Err (fault.BadBlock place.block len))
+          _
           (Err fault.OutOfMemory) a.1) [
             | inl b ↦ absurd (let e = b.1 in cc)
             | inr b ↦ absurd (let e = b.1 in cc)
@@ -78,7 +79,8 @@ content_wants : (section : Section) (place : Place) (kind : ℕ) (big : Bool) (l
 unfolding content_at
 content_wants section place kind big len block h =
     elim (taken (eqb kind 0x0a0d0d0a) _ _ (Err fault.OutOfMemory) h) [
-      | inl a ↦ elim (taken (eqb (u16_at big 12 block) 1) _ (Err (fault.BadMajor (u16_at big 12 block)))
+      | inl a ↦ elim (taken (eqb (u16_at big 12 block) 1) _
+          (Err (fault.BadMajor (u16_at big 12 block)))
           (Err fault.OutOfMemory) a.1) [
             | inl b ↦ absurd (let e = b.1 in cc)
             | inr b ↦ absurd (let e = b.1 in cc)

@@ -308,7 +308,8 @@ reads_back frames fit few =
 
 -- the frames behind the bytes that went before
 frames_behind : (front : List ℕ) (place : ℕ) (frames : List (List ℕ)) → length front ≡ place
-    → map (frame_of (front ++ flat_map enhanced_bytes frames)) (ng_records_from place frames) ≡ frames
+    → map (frame_of (front ++ flat_map enhanced_bytes frames))
+    (ng_records_from place frames) ≡ frames
 frames_behind front place [] at = refl
 frames_behind front place (f ∷ fs) at =
     let len = length f in
@@ -317,7 +318,8 @@ frames_behind front place (f ∷ fs) at =
     let more = flat_map enhanced_bytes fs in
     let bytes = front ++ (enhanced_bytes f ++ more) in
     let behind = place + enhanced_len len in
-    let next : map (frame_of ((front ++ enhanced_bytes f) ++ more)) (ng_records_from behind fs) ≡ fs =
+    let next : map (frame_of ((front ++ enhanced_bytes f) ++ more))
+    (ng_records_from behind fs) ≡ fs =
     frames_behind (front ++ enhanced_bytes f) behind fs
     (omega (arith, at, length-append front (enhanced_bytes f), length-block f)) in
     let same : (front ++ enhanced_bytes f) ++ more ≡ bytes =

@@ -42,7 +42,8 @@ and_then f (Err e) = Err e
 abbrev pub linked : Place → ℕ → Option Interface → Result Interface NgFault
 linked place id None = Err (fault.BadInterface place.block id)
 linked place id (Some interface) =
-    if interface.link == LINKTYPE_ETHERNET then Ok interface else Err (fault.BadNgLink place.block interface.link)
+    if interface.link == LINKTYPE_ETHERNET then Ok interface else Err
+    (fault.BadNgLink place.block interface.link)
 
 -- the Ethernet interface with this number that a packet names, or the fault; a packet after
 -- `MAX_PACKETS` others is a fault too

@@ -1,5 +1,6 @@
 //! Lemmas about captures, each the contract of a function with an empty body.
-ghost use Rattle.pcapng_reader.specs.Laws.{HasOneNgCapture, HasOneNgFault, HasNotBothNg, HasOneOfBothNg};
+ghost use Rattle.pcapng_reader.specs.Laws.{HasOneNgCapture, HasOneNgFault, HasNotBothNg};
+ghost use Rattle.pcapng_reader.specs.Laws.{HasOneOfBothNg};
 ghost use Rattle.pcapng_reader.specs.Laws.{IsNoWant, HasFourPieces, BeginsWithSection};
 ghost use Rattle.pcapng_reader.specs.Laws.{GrowsByFrame, ReadsNgBack, KeepsNgFrames};
 

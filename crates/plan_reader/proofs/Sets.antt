@@ -13,7 +13,8 @@ use Rattle.std.proofs.lemmas.Bool.{ltb-true, ltb-false, lt-ltb, le-ltb}
 use Rattle.std.proofs.lemmas.Nat.{or_lt}
 use Rattle.plan_reader.specs.declared.faults.cause.Cause.{Cause}
 use Rattle.plan_reader.specs.declared.faults.cause.Cause.TheVariants.{Range}
-use Rattle.plan_reader.specs.Texts.{plain_number, numbers_of, merged_from, parts, before, after_byte}
+use Rattle.plan_reader.specs.Texts.{plain_number, numbers_of, merged_from, parts, before}
+use Rattle.plan_reader.specs.Texts.{after_byte}
 
 -- the numbers that follow the first comma
 abbrev pub numbers_after : Option (List ℕ) → Option (List ℕ)
@@ -77,7 +78,8 @@ numbers-first token first rest n is some e =
     first_of token first n is some ∙ ap (λ (o : Option (List ℕ)). option_map (λ (ns : List ℕ). n
     ∷ ns) (numbers_after o)) (sym e)
 
-some-first : (token first : List ℕ) (o : Option ℕ) → first ≡ before 44 token → plain_number first ≡ o
+some-first : (token first : List ℕ) (o : Option ℕ) → first ≡ before 44 token
+    → plain_number first ≡ o
     → is_some o ≡ true
     → is_some (numbers_of (parts token)) ≡ is_some (numbers_after (after_byte 44 token))
 some-first token first None is e h = absurd cc

@@ -24,7 +24,8 @@ use Rattle.plan_reader.specs.declared.settings.sizes.Sizes.{Sizes}
 use Rattle.plan_reader.specs.Settings.{PlanSettings}
 use Rattle.plan_reader.specs.Causes.{◌>>=◌}
 use Rattle.plan_reader.specs.Faults.{here}
-use Rattle.plan_reader.specs.Readings.{number_between, number_below, set, list_of, required, optional}
+use Rattle.plan_reader.specs.Readings.{number_between, number_below, set, list_of, required}
+use Rattle.plan_reader.specs.Readings.{optional}
 use Rattle.plan_reader.specs.Readings.{an_object, only, queue_plan, tx_of, detach_of, key_of}
 use Rattle.plan_reader.specs.Readings.{read_steps}
 
@@ -45,9 +46,9 @@ receive_of d = do
 -- reads the sizes of tables, the backlog limit, the counter start and the flow limit set of a plan
 unfoldable pub tables_of : ℕ → Data → Result Tables Fault
 tables_of cpus d = do
-  sock ← required (codes "sock") (λ v. here (number_between 0 65536 v)) d
-  filters ← optional (codes "filters") (λ v. here (number_between 0 4096 v)) 0 d
-  backlog ← optional (codes "backlog") (λ v. here (number_between 1 65536 v)) 1000 d
+  sock ← required (codes "sock") (λ v. here (number_between 0 MAX_SOCKET_SIZE v)) d
+  filters ← optional (codes "filters") (λ v. here (number_between 0 MAX_PLAN_FILTERS v)) 0 d
+  backlog ← optional (codes "backlog") (λ v. here (number_between 1 MAX_PLAN_BACKLOG v)) 1000 d
   start ← optional (codes "start") (λ v. here (number_between 0 4294967295 v)) 0 d
   limited ← optional (codes "limited") (set 32 cpus) 0 d
   Ok (record {

@@ -7,7 +7,7 @@ use Rattle.plan_reader.specs.declared.settings.sizes.Sizes.{Sizes}
 use Rattle.plan_reader.specs.declared.plan.Plan.{Plan}
 use Rattle.plan_reader.specs.declared.plan.Steps.{Steps}
 use Rattle.plan_reader.specs.declared.plan.Steps.TheVariants as steps
-use Rattle.plan_reader.specs.Seeds.{seeded_step, word_of}
+use Rattle.plan_reader.specs.Seeds.{seeded_step, seeded_word}
 
 -- how many of each a plan has
 abbrev pub sizes_of : Plan → Sizes
@@ -23,7 +23,7 @@ sizes_of plan =
 abbrev pub nth_of : Sizes → Steps → ℕ → Option Step
 nth_of sizes (steps.List list) i = slice_get list i
 nth_of sizes (steps.Seed seed count) i =
-    if nat_lt i count then Some (seeded_step sizes (word_of seed i))
+    if nat_lt i count then Some (seeded_step sizes (seeded_word seed i))
     else (if i == count then Some Sweep else None)
 
 -- how many steps there are: those of a list, or those of a seed and the sweep
@@ -31,6 +31,7 @@ abbrev pub count_of : Steps → ℕ
 count_of (steps.List list) = length list
 count_of (steps.Seed seed count) = count + 1
 
+-- the number of steps of a plan
 abbrev pub step_count : Plan → ℕ
 step_count plan = count_of plan.steps
 

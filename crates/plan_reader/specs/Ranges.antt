@@ -1,12 +1,14 @@
 -- The ranges of a plan's fields.
-use Rattle.std.specs.Prelude.{ℕ, ◌+◌, ◌^◌, ◌<◌, ◌≤◌, ◌&&◌, Bool, true, List, [], length, Option, Some}
+use Rattle.std.specs.Prelude.{ℕ, ◌+◌, ◌^◌, ◌<◌, ◌≤◌, ◌&&◌, Bool, true, List, [], length, Option}
+use Rattle.std.specs.Prelude.{Some}
 use Rattle.std.specs.Prelude.{None, nat_lt}
 use Rattle.std.specs.List.{AllPass, filter_map}
 use Rattle.steer_base.specs.declared.command.Command.{Command}
 use Rattle.steer_base.specs.declared.command.Command.TheVariants.{Mask, Flows, Sock, Offline}
 use Rattle.steer_base.specs.declared.command.Command.TheVariants.{Online, XCpus, XQueues, Reta}
 use Rattle.steer_base.specs.declared.command.Command.TheVariants.{Stand, Expire}
-use Rattle.steer_base.specs.declared.limits.TheConstants.{MAX_FLOW_COUNT, MAX_PACKETS, MAX_SOCKET_SIZE}
+use Rattle.steer_base.specs.declared.limits.TheConstants.{MAX_FLOW_COUNT, MAX_PACKETS}
+use Rattle.steer_base.specs.declared.limits.TheConstants.{MAX_SOCKET_SIZE}
 use Rattle.steer_base.specs.declared.step.Detach.{Detach}
 use Rattle.steer_base.specs.declared.step.Step.{Step}
 use Rattle.steer_base.specs.declared.step.Step.TheVariants as step
@@ -42,7 +44,8 @@ pub record DetachIsWithin (detach : Detach) : Type 0 where
 abbrev pub command_is_within : Sizes → Command → Bool
 command_is_within sizes (Mask queue mask) =
     nat_lt queue sizes.queues && nat_lt mask.0 (2 ^ sizes.cpus)
-command_is_within sizes (Flows queue count) = nat_lt queue sizes.queues && nat_lt count (MAX_FLOW_COUNT + 1)
+command_is_within sizes (Flows queue count) = nat_lt queue sizes.queues && nat_lt count
+    (MAX_FLOW_COUNT + 1)
 command_is_within sizes (Sock size) = nat_lt size (MAX_SOCKET_SIZE + 1)
 command_is_within sizes (Offline cpu) = nat_lt cpu sizes.cpus
 command_is_within sizes (Online cpu) = nat_lt cpu sizes.cpus
@@ -101,6 +104,7 @@ abbrev pub seeded_count : Steps → ℕ
 seeded_count (steps.List list) = 0
 seeded_count (steps.Seed seed count) = count
 
+-- the steps are within their ranges for a plan of these sizes
 pub record StepsAreWithin (sizes : Sizes) (steps : Steps) : Type 0 where
   pub list_length : length (steps_in_list steps) ≤ 1000000
   pub list_within : AllPass (step_is_within sizes) (steps_in_list steps)

@@ -1,4 +1,4 @@
--- The plan of a JSON value: a value after another in their order, up to the first that is wrong.
+-- Reads the parts of a plan from a JSON value, one after another, up to the first that is wrong.
 use Rattle.std.specs.Prelude.{ℕ, ◌+◌, ◌^◌, List, [], ◌∷◌, Bool, Option, Some, None, Result, Ok, Err}
 use Rattle.std.specs.Prelude.{nat_le, if◌then◌else◌, is_some, option_and_then, bytes_eq, codes}
 use Rattle.std.specs.Prelude.{bit_or, ⊤}
@@ -79,6 +79,7 @@ set most limit d = do
 
 -- ---- objects
 
+-- reads a value that must be present
 abbrev pub found : {A : Type 0} → (Data → Result A Fault) → Option Data → Result A Fault
 found read None = here (Err Missing)
 found read (Some d) = read d
@@ -87,6 +88,7 @@ found read (Some d) = read d
 abbrev pub required : {A : Type 0} → List ℕ → (Data → Result A Fault) → Data → Result A Fault
 required key read d = under key (found read (get key d))
 
+-- reads a value if it is present, else takes the default
 abbrev pub or_default : {A : Type 0} → (Data → Result A Fault) → A → Option Data → Result A Fault
 or_default read default None = Ok default
 or_default read default (Some d) = read d
@@ -104,6 +106,7 @@ abbrev pub first_unknown : (List ℕ → Bool) → Members → Option (List ℕ)
 first_unknown known no_members = None
 first_unknown known (member key d ms) = if known key then first_unknown known ms else Some key
 
+-- the fault of a key that is not known, if there is one
 abbrev pub unknown : Option (List ℕ) → Result ⊤ Fault
 unknown None = Ok tt
 unknown (Some key) = under key (here (Err UnknownKey))
@@ -121,7 +124,7 @@ queue_plan cpus d = do
   is ← an_object d
   home ← required (codes "home") (λ v. here (number_below cpus v)) d
   mask ← required (codes "mask") (set 32 cpus) d
-  flows ← required (codes "flows") (λ v. here (number_between 0 32768 v)) d
+  flows ← required (codes "flows") (λ v. here (number_between 0 MAX_FLOW_COUNT v)) d
   none ← only (codes "home" ∷ codes "mask" ∷ codes "flows" ∷ []) d
   Ok (record { home = home; mask = record { 0 = mask }; flows = flows })
 
@@ -139,7 +142,7 @@ unfoldable pub detach_of : Data → Result Detach Fault
 detach_of d = do
   is ← an_object d
   tap ← required (codes "tap") (λ v. here (number_between 0 31 v)) d
-  after ← required (codes "after") (λ v. here (number_between 0 262144 v)) d
+  after ← required (codes "after") (λ v. here (number_between 0 MAX_PACKETS v)) d
   none ← only (codes "tap" ∷ codes "after" ∷ []) d
   Ok (record { tap = tap; after = after })
 
@@ -171,6 +174,7 @@ listed_steps sizes ds = if nat_le (items_len ds) 1000000 then (do
   Ok (steps.List list))
     else here (Err (TooLong (items_len ds)))
 
+-- reads the steps as a list, or as an object with a seed and a count
 abbrev pub listed_or_seeded : Sizes → Option Items → Data → Result Steps Fault
 listed_or_seeded sizes (Some ds) d = listed_steps sizes ds
 listed_or_seeded sizes None d = seed_of d

@@ -12,8 +12,8 @@ unfoldable pub generator : ℕ → Lcg
 generator seed = started 64 multiplier_64 seed (increment_of 64 54)
 
 -- word i of a seed, from 0
-unfoldable pub word_of : ℕ → ℕ → ℕ
-word_of seed i = (pcg32 (advance 64 multiplier_64 i (generator seed))).0
+unfoldable pub seeded_word : ℕ → ℕ → ℕ
+seeded_word seed i = (pcg32 (advance 64 multiplier_64 i (generator seed))).0
 
 -- the single events that a word may give
 abbrev pub event_of : Sizes → ℕ → ℕ → Step

@@ -1,10 +1,12 @@
 -- The step of a text: the whole text is checked against the grammar first, then its numbers against
 -- the plan, from the left.
-use Rattle.std.specs.Prelude.{ℕ, ◌+◌, Bool, ◌||◌, List, Option, Some, None, Result, Ok, Err, is_some}
+use Rattle.std.specs.Prelude.{ℕ, ◌+◌, Bool, ◌||◌, List, Option, Some, None, Result, Ok, Err}
+use Rattle.std.specs.Prelude.{is_some}
 use Rattle.std.specs.Prelude.{if◌then◌else◌, bytes_eq, codes}
 use Rattle.steer_base.specs.declared.command.Command.TheVariants.{Mask, Flows, Sock, XCpus, XQueues}
 use Rattle.steer_base.specs.declared.command.Command.TheVariants.{Reta, Stand}
-use Rattle.steer_base.specs.declared.limits.TheConstants.{MAX_FLOW_COUNT, MAX_PACKETS, MAX_SOCKET_SIZE}
+use Rattle.steer_base.specs.declared.limits.TheConstants.{MAX_FLOW_COUNT, MAX_PACKETS}
+use Rattle.steer_base.specs.declared.limits.TheConstants.{MAX_SOCKET_SIZE}
 use Rattle.steer_base.specs.declared.step.Step.{Step}
 use Rattle.steer_base.specs.declared.step.Step.TheVariants.{Record, Give}
 use Rattle.plan_reader.specs.declared.faults.cause.Cause.{Cause}
@@ -28,7 +30,8 @@ number_step sizes word n =
     else (if is_some (app_step word 0) then one_of sizes.apps n (app_step word)
     else (if is_some (tx_step word 0) then one_of sizes.tx n (tx_step word)
     else (if bytes_eq word (codes "record") then one_of MAX_PACKETS n (λ flow. Some (Record flow))
-    else (if bytes_eq word (codes "sock") then one_of (MAX_SOCKET_SIZE + 1) n (λ size. Some (Give (Sock size)))
+    else (if bytes_eq word (codes "sock") then one_of (MAX_SOCKET_SIZE + 1) n
+    (λ size. Some (Give (Sock size)))
     else Err WrongKind)))))
 
 -- the step of a word and two numbers

@@ -39,7 +39,7 @@ fn value_of(alloc: Global, bytes: &[u8]) -> Result<Value, Refusal>
     }
 }
 
-/// The JSON value of bytes, but for want of memory where the text may have too many objects.
+/// The JSON value of bytes; a text that may have too many objects gives `OutOfMemory`.
 pub fn bounded_value(alloc: Global, bytes: &[u8]) -> Result<Value, Refusal>
     ensures { GivesAs view result (json_of (value_of bytes.now)) }
 {

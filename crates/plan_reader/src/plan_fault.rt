@@ -18,6 +18,6 @@ pub enum PlanFault {
     UnknownKey { path: List<u8> },
     /// The list has more than 1,000,000 steps.
     TooLong { steps: u64 },
-    /// Want of memory.
+    /// There was not enough memory.
     OutOfMemory,
 }

@@ -60,7 +60,7 @@ fn plan_with(alloc: Global, parts: Parts) -> Result<Plan, AllocError>
 /// Memory may run out at any text; then the answer says nothing of the plan. The
 /// JSON value of the text, which can take a hundred times its bytes, is given up
 /// once the fields are read out of it, before the commands are listed. A text with
-/// more than 2,500,000 opening braces is answered with want of memory.
+/// more than 2,500,000 opening braces gives `OutOfMemory`.
 #[tactic(auto, unfolding(crate::specs::PlanTexts::plan_of))]
 pub fn read_plan(alloc: Global, bytes: &[u8]) -> Result<Plan, PlanFault>
     ensures plan { IfOk result (λ plan. plan_of bytes.now ≡ Ok (settings_of plan)) }

@@ -1,4 +1,4 @@
-//! Tests of the readers: of captures, frames, hashes and plans, and of generated input.
+//! Tests of the readers of captures, frames, hashes, plans and rules, and of generated input.
 #![tactic(auto)]
 
 #[cfg(test)]
@@ -17,5 +17,7 @@ mod pieces;
 mod plans;
 #[cfg(test)]
 mod rules;
+#[cfg(test)]
+mod seeds;
 #[cfg(test)]
 mod tunnels;

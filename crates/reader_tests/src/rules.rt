@@ -15,7 +15,8 @@ const SIX: &[u8] = b"{\"queues\":4,\"rules\":[\
 {\"kind\":\"tcp4\",\"dport\":80,\"dportmask\":65535,\"queue\":1},\
 {\"kind\":\"udp6\",\"src\":\"20010DB8000000000000000000000000\",\
 \"srcmask\":\"ffffffff000000000000000000000000\",\"queue\":2},\
-{\"kind\":\"ip4\",\"src\":\"0a000000\",\"srcmask\":\"ff000000\",\"sport\":5,\"sportmask\":65535,\"queue\":3},\
+{\"kind\":\"ip4\",\"src\":\"0a000000\",\"srcmask\":\"ff000000\",\"sport\":5,\
+\"sportmask\":65535,\"queue\":3},\
 {\"kind\":\"tcp4\",\"dport\":80,\"dportmask\":65535,\"queue\":0},\
 {\"kind\":\"ip6\",\"queue\":0},\
 {\"kind\":\"ip4\",\"dst\":\"ffffffff\",\"dstmask\":\"00000001\",\"queue\":0}]}";
@@ -101,7 +102,8 @@ fn faults_of_rules(rt: HostRuntime) {
             65536,
         ),
         (
-            "{\"queues\":1,\"rules\":[{\"kind\":\"ip4\",\"queue\":0},{\"kind\":\"ip4\",\"queue\":1}]}",
+            "{\"queues\":1,\"rules\":[{\"kind\":\"ip4\",\"queue\":0},\
+                {\"kind\":\"ip4\",\"queue\":1}]}",
             "range",
             "rules/1/queue",
             1,

@@ -1,5 +1,5 @@
 -- Rows that are known from outside, as the definitions have them.
-use Rattle.std.proofs.Common.{ℕ, ◌≡◌, List, Option, Some, None, refl}
+use Rattle.std.proofs.Common.{ℕ, ◌≡◌, List, ◌++◌, Option, Some, None, refl}
 use Rattle.std.specs.Prelude.{codes}
 use Rattle.std.specs.Fmt.{digits}
 use Rattle.steer_base.specs.Sets.{those_below}
@@ -39,7 +39,8 @@ moved : row_text
       place = Backlog 2;
       flow_number = 0;
     }))
-    ≡ codes "p 3 q 0 via reta class 0 want 2 head 3 tail 3 cpu 2 why passed at 1 app 0 in - place backlog\n"
+    ≡ codes "p 3 q 0 via reta class 0 want 2 head 3 tail 3 cpu 2 why passed at 1 app 0 in "
+    ++ codes "- place backlog\n"
 unfolding digits
 moved = refl
 
@@ -77,7 +78,8 @@ full : row_text
       place = Dropped 1;
       flow_number = 0;
     }))
-    ≡ codes "p 1 q 0 via none class - want - head - tail - cpu 1 why plain at drop 1 1 0 app 0 in - place drop\n"
+    ≡ codes "p 1 q 0 via none class - want - head - tail - cpu 1 why plain at drop 1 1 0 "
+    ++ codes "app 0 in - place drop\n"
 unfolding digits
 full = refl
 
@@ -100,7 +102,8 @@ limited : row_text
       place = Dropped 1;
       flow_number = 0;
     }))
-    ≡ codes "p 199 q 0 via reta class - want - head - tail - cpu 1 why plain at drop 49 151 0 flow 200 app 0 in - place drop\n"
+    ≡ codes "p 199 q 0 via reta class - want - head - tail - cpu 1 why plain at drop 49 "
+    ++ codes "151 0 flow 200 app 0 in - place drop\n"
 unfolding digits
 limited = refl
 

@@ -1,7 +1,8 @@
 -- A report that is known from outside: one packet that was steered without a flow table, delivered
 -- and replied to. Its history meets all that the laws over reports ask, so they speak of some
 -- histories.
-use Rattle.std.proofs.Common.{◌≡◌, ◌<◌, ◌^◌, List, [], ◌∷◌, Some, None, length, refl, arith}
+use Rattle.std.proofs.Common.{◌≡◌, ◌<◌, ◌^◌, List, [], ◌∷◌, ◌++◌, Some, None, length, refl}
+use Rattle.std.proofs.Common.{arith}
 use Rattle.std.specs.Prelude.{ℕ, codes}
 use Rattle.std.specs.Fmt.{digits}
 use Rattle.std.specs.List.{All}
@@ -39,8 +40,17 @@ history = one_packet 0
 
 -- its report, written by hand
 abbrev text : List ℕ
-text = codes
-    "steer 1\np 0 q 0 via reta class - want - head - tail - cpu 1 why plain at 1 app 0 in 1 place inbox\nr 0 app 0 rxq 0 cpu 2 pick 0 head - tail 0 tx 0 why unset at 1 port 1\nqueue 0 arrived 1 taken 1\ncpu 0 accepted 0 pulled 0 delivered 0 retired 0 dropped 0\ncpu 1 accepted 1 pulled 1 delivered 1 retired 1 dropped 0\ncpu 2 accepted 0 pulled 0 delivered 0 retired 0 dropped 0\ntx 0 accepted 1 pulled 1 delivered 1 retired 1\nend 1 of 1\n"
+text =
+    codes "steer 1\n"
+    ++ codes "p 0 q 0 via reta class - want - head - tail - cpu 1 why plain at 1 app 0 in 1 "
+    ++ codes "place inbox\n"
+    ++ codes "r 0 app 0 rxq 0 cpu 2 pick 0 head - tail 0 tx 0 why unset at 1 port 1\n"
+    ++ codes "queue 0 arrived 1 taken 1\n"
+    ++ codes "cpu 0 accepted 0 pulled 0 delivered 0 retired 0 dropped 0\n"
+    ++ codes "cpu 1 accepted 1 pulled 1 delivered 1 retired 1 dropped 0\n"
+    ++ codes "cpu 2 accepted 0 pulled 0 delivered 0 retired 0 dropped 0\n"
+    ++ codes "tx 0 accepted 1 pulled 1 delivered 1 retired 1\n"
+    ++ codes "end 1 of 1\n"
 
 known : report packets 1 history [] ≡ text
 unfolding digits
@@ -49,8 +59,17 @@ known = refl
 -- the same where counters start at their last number: the positions wrap, and counts and places do
 -- not
 wrapped : report packets 1
-    (one_packet 4294967295) [] ≡ codes
-    "steer 1\np 0 q 0 via reta class - want - head - tail - cpu 1 why plain at 0 app 0 in 1 place inbox\nr 0 app 0 rxq 0 cpu 2 pick 0 head - tail 4294967295 tx 0 why unset at 0 port 1\nqueue 0 arrived 1 taken 1\ncpu 0 accepted 0 pulled 0 delivered 0 retired 0 dropped 0\ncpu 1 accepted 1 pulled 1 delivered 1 retired 1 dropped 0\ncpu 2 accepted 0 pulled 0 delivered 0 retired 0 dropped 0\ntx 0 accepted 1 pulled 1 delivered 1 retired 1\nend 1 of 1\n"
+    (one_packet 4294967295) [] ≡
+    codes "steer 1\n"
+    ++ codes "p 0 q 0 via reta class - want - head - tail - cpu 1 why plain at 0 app 0 in 1 "
+    ++ codes "place inbox\n"
+    ++ codes "r 0 app 0 rxq 0 cpu 2 pick 0 head - tail 4294967295 tx 0 why unset at 0 port 1\n"
+    ++ codes "queue 0 arrived 1 taken 1\n"
+    ++ codes "cpu 0 accepted 0 pulled 0 delivered 0 retired 0 dropped 0\n"
+    ++ codes "cpu 1 accepted 1 pulled 1 delivered 1 retired 1 dropped 0\n"
+    ++ codes "cpu 2 accepted 0 pulled 0 delivered 0 retired 0 dropped 0\n"
+    ++ codes "tx 0 accepted 1 pulled 1 delivered 1 retired 1\n"
+    ++ codes "end 1 of 1\n"
 unfolding digits
 wrapped = refl
 

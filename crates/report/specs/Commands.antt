@@ -16,25 +16,25 @@ use Rattle.history.specs.declared.commanded.Commanded.{Commanded}
 use Rattle.report.specs.Texts.{Row}
 use Rattle.report.specs.Texts.Row.{Line}
 
--- numbers, each behind a comma
+-- numbers, each after a comma
 abbrev pub with_commas : List ℕ → List ℕ
 with_commas [] = []
 with_commas (n ∷ ns) = 44 ∷ (decimal n ++ with_commas ns)
 
--- numbers with commas between them, and a dash for none
+-- numbers separated by commas, a dash if there are none
 abbrev pub set_field : List ℕ → List ℕ
 set_field [] = codes "-"
 set_field (n ∷ ns) = decimal n ++ with_commas ns
 
--- the processors of a set, ascending
+-- the processors of a set, ascending, separated by commas
 abbrev pub cpus_field : CpuMask → List ℕ
 cpus_field cpus = set_field (those_below 32 (has cpus))
 
--- the receive queues of a set, ascending
+-- the receive queues of a set, ascending, separated by commas
 abbrev pub queues_field : ℕ → List ℕ
 queues_field queues = set_field (those_below 16 (has_queue queues))
 
--- the text of a command's step; flow counts and socket sizes are those that were given
+-- the text of a command's step, with flow counts and socket table sizes as they were given
 abbrev pub command_fields : Command → List (List ℕ)
 command_fields (command.Mask queue cpus) = codes "mask" ∷ decimal queue ∷ cpus_field cpus ∷ []
 command_fields (command.Flows queue count) = codes "flows" ∷ decimal queue ∷ decimal count ∷ []
@@ -47,20 +47,23 @@ command_fields (command.Reta place queue) = codes "reta" ∷ decimal place ∷ d
 command_fields (command.Stand app cpu) = codes "stand" ∷ decimal app ∷ decimal cpu ∷ []
 command_fields command.Expire = codes "expire" ∷ []
 
--- the one reason of idleness that a command is answered with
+-- the word for the only reason why a command does nothing: the processor is already online
 abbrev pub idle_fields : Idle → List (List ℕ)
 idle_fields AlreadyOnline = codes "online" ∷ []
 idle_fields other = []
 
+-- the fields of why a command found the machine busy
 abbrev pub busy_fields : Busy → List (List ℕ)
 busy_fields (Inside actors) = codes "inside" ∷ decimal actors ∷ []
 busy_fields (NotEmpty lane head tail) =
     codes "lane" ∷ decimal lane ∷ codes "head" ∷ decimal head ∷ codes "tail" ∷ decimal tail ∷ []
 
+-- the fields of who uses a processor
 abbrev pub user_fields : User → List (List ℕ)
 user_fields (Queue queue) = codes "queue" ∷ decimal queue ∷ []
 user_fields (App app) = codes "app" ∷ decimal app ∷ []
 
+-- the fields of a command's answer
 abbrev pub answer_fields : Answer → List (List ℕ)
 answer_fields answer.Done = codes "done" ∷ []
 answer_fields (answer.Idle idle) = codes "idle" ∷ idle_fields idle

@@ -16,50 +16,51 @@ use Rattle.report.specs.Lines.{end_row}
 use Rattle.report.specs.Texts.{Row, text_of}
 use Rattle.report.specs.Texts.Row.{Line, Tap}
 
--- a row for each of a list, with its number, from n
+-- a row for each item of a list, numbered from n
 abbrev pub numbered : {A : Type 0} → (ℕ → A → Row) → ℕ → List A → List Row
 numbered row n [] = []
 numbered row n (a ∷ rest) = row n a ∷ numbered row (suc n) rest
 
--- the first row
+-- the first row of a report
 abbrev pub first_row : Row
 first_row = Line (codes "steer") (codes "1" ∷ [])
 
--- the packets that arrived, in packet order
+-- the rows of the packets that arrived, in packet order
 abbrev pub packet_rows : List PacketLine → List Row
 packet_rows lines = map packet_row lines
 
--- the replies that were begun, in packet order
+-- the rows of the replies that were begun, in packet order
 abbrev pub reply_rows : List (Option ReplyLine) → List Row
 reply_rows lines = filter_map (λ line. option_map reply_row line) lines
 
--- the receive queues: how many packets arrived at each, and how many were taken
+-- the rows of the receive queues
 abbrev pub queue_rows : List ℕ → List ℕ → List Row
 queue_rows arrived taken =
     numbered (λ queue count. queue_row queue (slice_index arrived queue) count) 0 taken
 
--- the processors
+-- the rows of the processors
 abbrev pub cpu_rows : List LaneList → List Row
 cpu_rows lanes = numbered cpu_row 0 lanes
 
--- the transmit queues
+-- the rows of the transmit queues
 abbrev pub tx_rows : List LaneList → List Row
 tx_rows lanes = numbered tx_row 0 lanes
 
--- the socket writes of the applications from this one on, those of each application in order
+-- the rows of the writes to the socket flow table, of the applications from this one on
 abbrev pub write_rows : ℕ → List (List SockWrite) → List Row
 write_rows app [] = []
 write_rows app (writes ∷ rest) = map (write_row app) writes ++ write_rows (suc app) rest
 
--- the commands in order
+-- the rows of the commands, in order
 abbrev pub command_rows : List Commanded → List Row
 command_rows commands = numbered command_row 0 commands
 
--- the taps by their numbers
+-- the rows of the taps, by their numbers
 abbrev pub tap_rows : List (List ℕ) → List Row
 tap_rows texts = numbered Tap 0 texts
 
--- The rows of a history, of the lines of its packets and replies, and of the texts of its taps.
+-- the rows of a report, from a history, the lines of its packets and replies, and the texts of its
+-- taps
 abbrev pub rows_of : LineLists → History → List (List ℕ) → List Row
 rows_of lines h texts =
     first_row
@@ -73,7 +74,7 @@ rows_of lines h texts =
     ++ (tap_rows texts
     ++ (end_row (length h.arrivals) h.total h.cut ∷ [])))))))))
 
--- The report of a history with the texts of its taps, for the packets of the capture and a number
--- of applications.
+-- the report of a history with the texts of its taps, for the packets of the capture and a number
+-- of applications
 abbrev pub report : List Packet → ℕ → History → List (List ℕ) → List ℕ
 report packets apps h texts = text_of (rows_of (lines_of packets apps h) h texts)

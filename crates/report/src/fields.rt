@@ -1,4 +1,4 @@
-//! Fields of a line, each behind a space.
+//! Appends fields to a line, each after a space.
 ghost use Rattle.std.specs.Prelude.{◌≡◌, ◌≤◌, ◌+◌, ◌++◌, [], ◌∷◌, decimal, length};
 ghost use Rattle.report.specs.Lines.{or_dash};
 ghost use Rattle.report.specs.Pieces.{spaced};
@@ -16,7 +16,7 @@ pub(crate) fn begin(buf: &mut LineBuf, word: &[u8], number: u64)
     push_number(buf, number);
 }
 
-/// Puts a number behind a line.
+/// Appends a number to a line.
 pub(crate) fn push_number(buf: &mut LineBuf, number: u64)
     requires { length buf.old + 21 ≤ 512 }
     ensures text { buf.new ≡ buf.old ++ spaced (decimal number ∷ []) }
@@ -26,7 +26,7 @@ pub(crate) fn push_number(buf: &mut LineBuf, number: u64)
     buf.push_decimal(number);
 }
 
-/// Puts a word behind a line.
+/// Appends a word to a line.
 pub(crate) fn push_word(buf: &mut LineBuf, word: &[u8])
     requires { length buf.old + length word.now + 1 ≤ 512 }
     ensures text { buf.new ≡ buf.old ++ spaced (word.now ∷ []) }
@@ -36,7 +36,7 @@ pub(crate) fn push_word(buf: &mut LineBuf, word: &[u8])
     buf.push(word);
 }
 
-/// Puts a word and a number behind a line.
+/// Appends a word and a number to a line.
 pub(crate) fn push_named(buf: &mut LineBuf, name: &[u8], number: u64)
     requires { length buf.old + length name.now + 22 ≤ 512 }
     ensures text { buf.new ≡ buf.old ++ spaced (name.now ∷ decimal number ∷ []) }
@@ -46,7 +46,7 @@ pub(crate) fn push_named(buf: &mut LineBuf, name: &[u8], number: u64)
     push_number(buf, number);
 }
 
-/// Puts a word and a number behind a line, or a dash where there is no number.
+/// Appends a word and a number to a line, a dash if there is no number.
 pub(crate) fn push_option(buf: &mut LineBuf, name: &[u8], number: Option<u32>)
     requires { length buf.old + length name.now + 22 ≤ 512 }
     ensures text { buf.new ≡ buf.old ++ spaced (name.now ∷ or_dash number ∷ []) }
@@ -59,7 +59,7 @@ pub(crate) fn push_option(buf: &mut LineBuf, name: &[u8], number: Option<u32>)
     }
 }
 
-/// The same with a number of 8 bits.
+/// Appends a word and an 8-bit number to a line, a dash if there is no number.
 pub(crate) fn push_lane(buf: &mut LineBuf, name: &[u8], number: Option<u8>)
     requires { length buf.old + length name.now + 22 ≤ 512 }
     ensures text { buf.new ≡ buf.old ++ spaced (name.now ∷ or_dash number ∷ []) }

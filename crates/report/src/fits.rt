@@ -1,18 +1,18 @@
-//! What the types say of the lengths of taps' texts.
+//! The lengths of the taps' texts are within their types.
 ghost use Rattle.std.specs.Prelude.{◌<◌, ◌^◌, length};
 ghost use Rattle.report.specs.Laws.{TextsFit};
 
 use taps::TapText;
 
-// The bytes of a text are counted by a number of 64 bits.
+// Lemma: the length of a text has 64 bits.
 fn text_fits(text: &TapText)
     ensures { length text.now < 2 ^ 64 }
 {
     let _ = text.bytes.len();
 }
 
-/// Tells that numbers of 64 bits count the texts of the taps and the bytes of each, as they do in
-/// every program. It changes nothing, and need never be called.
+/// Lemma: the number of the taps' texts and the length of each have 64 bits, as in every program.
+/// It changes nothing; code never needs to call it.
 pub fn texts_fit(texts: &[TapText])
     ensures { TextsFit texts.now }
 {

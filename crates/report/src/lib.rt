@@ -1,5 +1,4 @@
-//! The text that the program writes: numbers, lines, one piece for the sink a line, and the report
-//! of a history.
+//! Writes the report of a history to a sink, line by line.
 #![tactic(auto)]
 
 mod commands;

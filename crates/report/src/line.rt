@@ -1,4 +1,4 @@
-//! A line that is built in memory and then goes to a sink as one piece.
+//! A line that is built in memory and then written to a sink as one piece.
 ghost use Rattle.std.specs.Prelude.{◌≡◌, ◌<◌, ◌≤◌, ◌+◌, ◌++◌, ◌^◌, [], length, decimal, IfOk, OnOk};
 ghost use Rattle.std.specs.Prelude.{OnErr};
 ghost use Rattle.std.specs.Io.KnownBytes.{Appends};
@@ -16,13 +16,13 @@ use steer_base::OutOfMemory;
 /// The most bytes that a line may have.
 const ROOM: usize = 512;
 
-/// The bytes of a line so far, at most 512 of them. The room for them all is taken when it is made,
-/// and stays as it is: no other call takes memory.
+/// The bytes of a line so far, at most 512. Their memory is allocated when the buffer is made; no
+/// other call allocates.
 #[derive(Drop)]
 pub struct LineBuf {
-    // The line and, behind it, bytes without a meaning.
+    // The line, followed by bytes without meaning.
     room: Vec<u8>,
-    // How many bytes the line has.
+    // The number of bytes of the line.
     length: usize,
 }
 
@@ -37,7 +37,7 @@ impl Model for LineBuf {
 }
 
 impl LineBuf {
-    /// An empty line with its room.
+    /// An empty line with all its room.
     pub fn make(alloc: Global) -> Result<LineBuf, OutOfMemory>
         ensures { IfOk result (λ line. line ≡ []) }
     {
@@ -53,7 +53,7 @@ impl LineBuf {
         self.length = 0;
     }
 
-    /// Puts a text behind the line.
+    /// Appends a text to the line.
     pub fn push(&mut self, text: &[u8])
         requires { length self.old + length text.now ≤ 512 }
         ensures { self.new ≡ self.old ++ text.now }
@@ -63,7 +63,7 @@ impl LineBuf {
         self.length = end;
     }
 
-    /// Puts the decimal digits of a number behind the line, at most 20 of them.
+    /// Appends the decimal digits of a number to the line, at most 20.
     pub fn push_decimal(&mut self, number: u64)
         requires { length self.old + 20 ≤ 512 }
         ensures value { self.new ≡ self.old ++ decimal number }
@@ -74,7 +74,7 @@ impl LineBuf {
         self.push(digits);
     }
 
-    /// Puts the lowest `digits` hexadecimal digits of a number behind the line, the highest of them
+    /// Appends the lowest `digits` hexadecimal digits of a number to the line, the most significant
     /// first.
     pub fn push_hex(&mut self, number: u128, digits: u32)
         requires few { digits ≤ 32 }
@@ -90,7 +90,7 @@ impl LineBuf {
         self.push(&text[..digits as usize]);
     }
 
-    /// Writes the line as one piece and clears it, also where the sink fails.
+    /// Writes the line as one piece and clears it, even if the sink fails.
     pub fn write<K: Sink>(&mut self, out: &mut K) -> Result<(), WriteFault>
         ensures cleared { self.new ≡ [] }
         ensures whole { OnOk result (Appends (K.written out.old) (K.written out.new) self.old) }

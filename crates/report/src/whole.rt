@@ -1,4 +1,4 @@
-//! The report of a history.
+//! Writes the report of a history.
 ghost use Rattle.std.specs.Prelude.{◌≤◌, ◌++◌, OnOk, OnErr};
 ghost use Rattle.std.specs.Io.KnownBytes.{Appends};
 ghost use Rattle.outside_io.specs.Counts.{Rose};
@@ -19,9 +19,9 @@ use history::{History, Lines};
 use outside_io::{Sink, WriteFault};
 use taps::TapText;
 
-/// Writes the report of a history, from the lines that were made of it and the texts of the taps.
-/// Each line with its line feed is one piece for the sink, and each text of a tap is one. No memory
-/// is taken.
+/// Writes the report of a history, from the lines that were made from it and the texts of the taps.
+/// Each line with its line feed is one piece for the sink, and so is each text of a tap. Allocates
+/// nothing.
 pub fn render<K: Sink>(
     h: &History,
     lines: &Lines,

@@ -157,7 +157,8 @@ fn text(alloc: Global) -> Result<String, AllocError> {
         let place = id / 4 + 1;
         write!(
             text,
-            "p {id} q {way} via reta class - want - head - tail - cpu {way} why plain at {place} app {way} in {place} place inbox\n"
+            "p {id} q {way} via reta class - want - head - tail - cpu {way} why plain \
+                at {place} app {way} in {place} place inbox\n"
         )?;
     }
     for id in 0..PACKETS {
@@ -166,7 +167,8 @@ fn text(alloc: Global) -> Result<String, AllocError> {
         let left = id + 1;
         write!(
             text,
-            "r {id} app {way} rxq {way} cpu {way} pick {way} head - tail 0 tx {way} why same at {place} port {left}\n"
+            "r {id} app {way} rxq {way} cpu {way} pick {way} head - tail 0 tx {way} why \
+                same at {place} port {left}\n"
         )?;
     }
     for way in 0..4 {

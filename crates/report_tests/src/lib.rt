@@ -1,4 +1,4 @@
-//! Tests of histories and their lines, of taps, of reports, and of the parts of the machine.
+//! Tests of histories and their lines, of taps, reports, and parts of the machine.
 #![tactic(auto)]
 
 #[cfg(test)]

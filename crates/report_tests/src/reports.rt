@@ -70,10 +70,13 @@ end 4 of 4
         wanted.as_slice(),
     );
     let wanted = b"steer 1
-p 0 q 0 via reta class 0 want - head - tail 4294967294 cpu 1 why unset at 4294967295 app 0 in 1 place inbox
-p 1 q 0 via reta class 0 want 2 head 4294967294 tail 4294967295 cpu 1 why kept at 0 app 0 in 2 place inbox
+p 0 q 0 via reta class 0 want - head - tail 4294967294 cpu 1 why unset at 4294967295 \
+app 0 in 1 place inbox
+p 1 q 0 via reta class 0 want 2 head 4294967294 tail 4294967295 cpu 1 why kept at 0 \
+app 0 in 2 place inbox
 p 2 q 0 via reta class 0 want 2 head 4294967294 tail 0 cpu 1 why kept at 1 app 0 in 3 place inbox
-p 3 q 0 via reta class 0 want 2 head 1 tail 1 cpu 2 why passed at 4294967295 app 0 in - place backlog
+p 3 q 0 via reta class 0 want 2 head 1 tail 1 cpu 2 why passed at 4294967295 app 0 \
+in - place backlog
 queue 0 arrived 4 taken 4
 cpu 0 accepted 0 pulled 0 delivered 0 retired 0 dropped 0
 cpu 1 accepted 3 pulled 3 delivered 3 retired 3 dropped 0
@@ -436,10 +439,18 @@ fn a_report_goes_out_line_by_line(rt: HostRuntime) {
     let lines = lines_of(&rt, alloc, &h, &[SEGMENT; 4], 1);
     let pieces = [
         b"steer 1\n".as_slice(),
-        b"p 0 q 0 via reta class 0 want - head - tail 0 cpu 1 why unset at 1 app 0 in 1 place inbox\n".as_slice(),
-        b"p 1 q 0 via reta class 0 want 2 head 0 tail 1 cpu 1 why kept at 2 app 0 in 2 place inbox\n".as_slice(),
-        b"p 2 q 0 via reta class 0 want 2 head 0 tail 2 cpu 1 why kept at 3 app 0 in 3 place inbox\n".as_slice(),
-        b"p 3 q 0 via reta class 0 want 2 head 3 tail 3 cpu 2 why passed at 1 app 0 in - place backlog\n".as_slice(),
+        b"p 0 q 0 via reta class 0 want - head - tail 0 cpu 1 why unset at 1 \
+            app 0 in 1 place inbox\n"
+            .as_slice(),
+        b"p 1 q 0 via reta class 0 want 2 head 0 tail 1 cpu 1 why kept at 2 app \
+            0 in 2 place inbox\n"
+            .as_slice(),
+        b"p 2 q 0 via reta class 0 want 2 head 0 tail 2 cpu 1 why kept at 3 app \
+            0 in 3 place inbox\n"
+            .as_slice(),
+        b"p 3 q 0 via reta class 0 want 2 head 3 tail 3 cpu 2 why passed at 1 \
+            app 0 in - place backlog\n"
+            .as_slice(),
         b"queue 0 arrived 4 taken 4\n".as_slice(),
         b"cpu 0 accepted 0 pulled 0 delivered 0 retired 0 dropped 0\n".as_slice(),
         b"cpu 1 accepted 3 pulled 3 delivered 3 retired 3 dropped 0\n".as_slice(),
@@ -464,8 +475,12 @@ fn each_section_goes_out_line_by_line(rt: HostRuntime) {
     }];
     let pieces = [
         b"steer 1\n".as_slice(),
-        b"p 0 q 0 via reta class - want - head - tail - cpu - why - at - app 0 in - place ring\n".as_slice(),
-        b"p 1 q 0 via reta class - want - head - tail - cpu - why - at - app 0 in - place ring\n".as_slice(),
+        b"p 0 q 0 via reta class - want - head - tail - cpu - why - at - app 0 \
+            in - place ring\n"
+            .as_slice(),
+        b"p 1 q 0 via reta class - want - head - tail - cpu - why - at - app 0 \
+            in - place ring\n"
+            .as_slice(),
         b"queue 0 arrived 2 taken 0\n".as_slice(),
         b"cpu 0 accepted 0 pulled 0 delivered 0 retired 0 dropped 0\n".as_slice(),
         b"cpu 1 accepted 0 pulled 0 delivered 0 retired 0 dropped 0\n".as_slice(),

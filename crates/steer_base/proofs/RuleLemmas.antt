@@ -82,7 +82,8 @@ by_entry-online k want desired tail head online (Some a) on =
 
 pub moves-by : (k : ℕ) (want : Option ℕ) (desired tail : ℕ) (head : ℕ → ℕ) (online : ℕ → Bool)
     (current : Option ℕ)
-    → MovesByThree (by_entry k want desired tail head online current) desired tail head online current
+    → MovesByThree (by_entry k want desired tail head online current) desired tail head online
+    current
 moves-by k want desired tail head online None =
     record {
       cases = λ _. inl refl;

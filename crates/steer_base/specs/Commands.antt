@@ -36,14 +36,14 @@ queue_or_app (Some queue) app = Some (Queue queue)
 queue_or_app None (Some app) = Some (App app)
 queue_or_app None None = None
 
--- Who uses a processor: the lowest queue whose home it is, else the lowest application that stands
+-- Who uses a processor: the lowest queue whose home it is, else the lowest application that runs
 -- on it.
 abbrev pub user_of : List ℕ → List ℕ → ℕ → Option User
 user_of homes stands cpu =
     queue_or_app (position (λ home. home == cpu) homes) (position (λ stand. stand == cpu) stands)
 
--- Why a command may not be given: an offline processor cannot go offline or be stood on, one in use
--- cannot go offline, and an online one cannot come online.
+-- Why a command may not be given: an offline processor cannot go offline or run an application, one
+-- in use cannot go offline, and an online one cannot come online.
 abbrev pub refusal : CpuMask → Command → List ℕ → List ℕ → Option Refused
 refusal online (Offline cpu) homes stands =
     if has online cpu then option_map (λ user. CpuInUse user) (user_of homes stands cpu)

@@ -25,12 +25,12 @@ last_of n xs = drop (length xs - n) xs
 abbrev pub window : List (Option ℕ) → List ℕ
 window offers = last_of 256 (filter_map (λ bucket. bucket) offers)
 
--- how often a bucket stands among the last 256 offers, this packet's included
+-- how often a bucket occurs among the last 256 offers, this packet's included
 abbrev pub bucket_count : List (Option ℕ) → ℕ → ℕ
 bucket_count offers bucket = count_by (λ b. b == bucket) (window (offers ++ Some bucket ∷ []))
 
--- the flow limit, by how often the packet's bucket stands among the last offers: more than half of
--- the limit waits, and the bucket stands there more than 128 times
+-- the flow limit, by how often the packet's bucket occurs among the last offers: more than half of
+-- the limit waits, and the bucket occurs there more than 128 times
 abbrev pub flow_cause : Bool → ℕ → ℕ → Option ℕ → Option DropCause
 flow_cause limited limit waiting None = None
 flow_cause limited limit waiting (Some count) =
@@ -54,7 +54,7 @@ lane_drop_cause l hash = drop_cause l.limited l.limit (length l.accepted - l.pul
 abbrev pub dropped_after : ℕ → List LaneDrop → List ℕ
 dropped_after n drops = map (λ d. d.id) (filter (λ d. d.accepted == n) drops)
 
--- The offers of a lane in the order of their puts: each drop stands after the accepted packets that
+-- The offers of a lane in the order of their puts: each drop comes after the accepted packets that
 -- it counted.
 abbrev pub offers_from : ℕ → List ℕ → List LaneDrop → List ℕ
 offers_from n [] drops = dropped_after n drops

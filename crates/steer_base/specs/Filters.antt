@@ -22,7 +22,7 @@ filter_written homes why cpu accepted =
     (home_queue homes cpu)
     else None
 
--- Whether a filter may go: the head of its processor stands ten times the flow count, less one,
+-- Whether a filter may go: the head of its processor is ten times the flow count, less one,
 -- past its mark. The flow count is that of the queue that the filter names, and counts as one where
 -- it is 0.
 abbrev pub may_expire : Filter → ℕ → ℕ → Bool

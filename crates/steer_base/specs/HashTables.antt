@@ -1,5 +1,5 @@
 -- Tables whose row for a hash is at `hash mod size`: the flow tables of the kernel's scaling
--- chapter, and this project's filters of a card. What stands in a row that was not written since
+-- chapter, and this project's filters of a card. What is in a row that was not written since
 -- the table was cleared is its unset row.
 use Rattle.std.specs.Prelude.{ℕ, List, Option, Some, None, length, replicate, slice_index_or}
 use Rattle.std.specs.Prelude.{slice_set}
@@ -15,7 +15,7 @@ module _ {Row : Type 0} where
   abbrev pub place_in_rows : List Row → Option ℕ → Option ℕ
   place_in_rows rows hash = class_of (length rows) hash
 
-  -- what stands at a place, and an unset row at none
+  -- what is at a place, and an unset row at none
   abbrev pub row_at : Row → List Row → Option ℕ → Row
   row_at unset rows None = unset
   row_at unset rows (Some place) = slice_index_or rows place unset

@@ -8,7 +8,7 @@ use Rattle.steer_base.specs.declared.put.LaneDrop.{LaneDrop}
 abbrev pub IsPrefix : List ℕ → List ℕ → Type 0
 IsPrefix xs ys = (rest : List ℕ) × (xs ++ rest ≡ ys)
 
--- No packet stands twice in all these lists together: equal members are at one place of one list.
+-- No packet occurs twice in all these lists together: equal members are at one place of one list.
 abbrev pub Apart : List (List ℕ) → Type 0
 Apart lists =
     (p q i j : ℕ) → p < length lists → q < length lists

@@ -7,7 +7,7 @@ use crate::ids::PacketId;
 /// Why a packet goes to its lane.
 #[derive(Clone, Copy, Debug, PartialEq, Eq)]
 pub enum Why {
-    /// It has no class, so no entry is asked.
+    /// It has no class, so there is no entry to consult.
     Plain,
     /// The current lane of its class is the desired one.
     Same,
@@ -34,15 +34,15 @@ impl Why {
     }
 }
 
-/// The choice of a lane with all that was seen for it. In this order its fields take 28 bytes, and
-/// with a packet 32.
+/// The choice of a lane with everything it was based on. In this order its fields take 28 bytes,
+/// and 32 with a packet.
 #[derive(Clone, Copy, Debug, PartialEq, Eq)]
 pub struct Choice {
     /// The class of the packet, if it has one, from 0.
     pub class: Option<u32>,
-    /// The head of the current lane, where the rule looked at it: a counter number that wraps.
+    /// The head of the current lane, if the rule looked at it: a counter number that wraps.
     pub head: Option<u32>,
-    /// The recorded tail of the class before this choice, where there is a class: a counter number
+    /// The recorded tail of the class before this choice, if there is a class: a counter number
     /// that wraps.
     pub tail: Option<u32>,
     /// The lane that was wanted, as it was seen.

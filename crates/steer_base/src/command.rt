@@ -1,4 +1,4 @@
-//! Commands that change settings, and what answers them.
+//! Commands that change settings, and their answers.
 use crate::cpu_mask::CpuMask;
 use crate::idle::Idle;
 use crate::ids::{AppId, Cpu, RxQueue, TxQueue};
@@ -24,13 +24,13 @@ pub enum Command {
     XQueues(TxQueue, u16),
     /// An entry of the redirection table, 0 to 127, gets another receive queue.
     Reta(u8, RxQueue),
-    /// The processor on which an application stands.
+    /// The processor that an application runs on.
     Stand(AppId, Cpu),
-    /// All filters are asked whether they may go.
+    /// Every filter that may be removed is removed.
     Expire,
 }
 
-/// What keeps a gated command from being done.
+/// Why a gated command cannot be carried out yet.
 #[derive(Clone, Copy, Debug, PartialEq, Eq)]
 pub enum Busy {
     /// The number of actors that are inside the gate.
@@ -51,7 +51,7 @@ pub enum Busy {
 pub enum User {
     /// It is the home of this receive queue.
     Queue(RxQueue),
-    /// This application stands on it.
+    /// This application runs on it.
     App(AppId),
 }
 
@@ -60,7 +60,7 @@ pub enum User {
 pub enum Refused {
     /// The processor that was to go offline is in use.
     CpuInUse(User),
-    /// The processor that was to go offline, or to be stood on, is offline.
+    /// The processor that was to go offline, or to run an application, is offline.
     CpuOffline,
     /// The processor that was to come online is online.
     AlreadyOnline,
@@ -82,14 +82,14 @@ impl Display for Refused {
 pub enum Answer {
     /// The step was made.
     Done,
-    /// The step was not enabled, and nothing changed.
+    /// The step was not enabled, and the machine did not change.
     Idle(Idle),
     /// A gated command was not done, since packets or actors are under way.
     Busy(Busy),
     /// The processor that was to go offline is in use.
     CpuInUse(User),
-    /// The processor that was to go offline, or to be stood on, is offline.
+    /// The processor that was to go offline, or to run an application, is offline.
     CpuOffline,
-    /// All filters were asked: the number of those that were cleared.
+    /// The number of filters that were removed.
     Expired(u32),
 }

@@ -17,7 +17,7 @@ pub fn number_at(start: u32, count: u32) -> u32
     start.wrapping_add(count)
 }
 
-/// Whether the counter `head` stands at least `more` past `tail`, where the two are less than half
+/// Whether the counter `head` is at least `more` past `tail`, if the two are less than half
 /// of the number range apart: the comparison by signed difference that the kernel makes of its
 /// queue counters.
 pub fn reached(head: u32, tail: u32, more: u32) -> bool

@@ -28,12 +28,12 @@ pub enum Proto {
     Udp,
 }
 
-/// What a frame tells of its flow. All frames without an IP packet are one flow.
+/// The flow of a frame. All frames without an IP packet are one flow.
 #[derive(Clone, Copy, Debug, PartialEq, Eq, PartialOrd, Ord)]
 pub enum Flow {
     /// No IP packet was found.
     Bare,
-    /// The addresses alone, as of a fragment or of another protocol than TCP and UDP.
+    /// Only the addresses: of a fragment, or of a protocol other than TCP and UDP.
     Two(Pair),
     /// The addresses, the protocol, the source port and the destination port.
     Four(Pair, Proto, u16, u16),

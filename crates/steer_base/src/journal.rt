@@ -7,7 +7,7 @@ use std::alloc::Global;
 use std::marker::Model;
 
 /// A list of at most `room` items, with the memory for them: while it has room it grows without
-/// taking any.
+/// allocating.
 #[derive(Debug, Drop)]
 pub struct Journal<T> {
     items: Vec<T>,
@@ -29,7 +29,7 @@ impl<T> Model for Journal<T> {
 }
 
 impl<T> Journal<T> {
-    /// An empty list with room for `room` items, whose memory is taken here.
+    /// An empty list with room for `room` items, whose memory is allocated here.
     pub fn make(alloc: Global, room: u32) -> Result<Journal<T>, OutOfMemory>
         ensures { IfOk result (λ made. made ≡ journal [] room) }
     {
@@ -76,7 +76,7 @@ impl<T> Journal<T> {
         &self.items
     }
 
-    /// The items as a vector, with the memory that they lie in.
+    /// The items as a vector, without copying.
     pub fn into_vec(self) -> Vec<T>
         ensures { result.items ≡ self.items }
     {

@@ -7,7 +7,7 @@ use std::alloc::Global;
 use std::marker::Model;
 
 /// Lists of at most `room` items each, with the memory for them: while one has room it grows
-/// without taking any.
+/// without allocating.
 #[derive(Debug, Drop)]
 pub struct Journals<T> {
     lists: Vec<Vec<T>>,
@@ -30,7 +30,7 @@ impl<T> Model for Journals<T> {
 }
 
 impl<T> Journals<T> {
-    /// `count` empty lists with room for `room` items each, whose memory is taken here.
+    /// `count` empty lists with room for `room` items each, whose memory is allocated here.
     pub fn make(alloc: Global, count: u8, room: u32) -> Result<Journals<T>, OutOfMemory>
     where
         T: Drop,

@@ -1,4 +1,4 @@
-//! The names and types that the parts of the replayer share.
+//! The types and definitions that the other crates share.
 #![tactic(auto)]
 
 mod app;

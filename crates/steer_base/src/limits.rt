@@ -1,7 +1,7 @@
 //! Limits that more than one part of the replayer keeps.
 
-/// The most packets that a capture may have. A packet's number is below it, and each count of
-/// packets is at most this.
+/// The most packets that a capture may have. Packet numbers are below it, and counts of packets are
+/// at most this.
 pub const MAX_PACKETS: usize = 262_144;
 
 /// The most entries of a receive queue's flow table, as a plan and the command `flows` may ask.

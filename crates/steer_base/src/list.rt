@@ -21,7 +21,7 @@ impl<T> Model for List<T> {
 }
 
 impl<T> List<T> {
-    /// The list of a vector's items. It takes no memory.
+    /// The list of a vector's items. Allocates nothing.
     pub fn from_vec(items: Vec<T>) -> List<T>
         ensures { result ≡ items.items }
     {
@@ -50,7 +50,7 @@ impl<T> List<T> {
         &self.items
     }
 
-    /// The items as a vector, with the memory that they lie in.
+    /// The items as a vector, without copying.
     pub fn into_vec(self) -> Vec<T>
         ensures { result.items ≡ self }
     {

@@ -6,7 +6,7 @@ use crate::flow::Flow;
 pub struct Packet {
     /// The flow of the frame.
     pub flow: Flow,
-    /// The receive hash, where one of the flow's hash kinds is on.
+    /// The receive hash, if one of the flow's hash kinds is on.
     pub hash: Option<u32>,
     /// The number of bytes of the frame that the capture has.
     pub len: u32,

@@ -1,4 +1,4 @@
-//! What becomes of a packet that is put to a lane.
+//! The outcome of putting a packet to a lane.
 use crate::ids::PacketId;
 
 /// Why a packet was dropped.
@@ -10,7 +10,7 @@ pub enum DropCause {
     Flow(u32),
 }
 
-/// Where a put left its packet.
+/// The outcome of a put.
 #[derive(Clone, Copy, Debug, PartialEq, Eq)]
 pub enum Put {
     /// It was accepted at this position, a counter number that wraps.

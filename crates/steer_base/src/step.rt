@@ -21,7 +21,7 @@ pub enum Step {
     Ask(u8),
     /// A poller leaves the gate.
     Leave(u8),
-    /// A processor takes the first packet of its backlog in hand.
+    /// A processor dequeues the first packet of its backlog.
     Pull(u8),
     /// A processor delivers the packet in hand to the inbox of its application.
     Deliver(u8),

@@ -1,4 +1,4 @@
-//! The processor that a packet is sent to, and the filter that follows it.
+//! The desired processor of a packet, and the filter that its choice asks for.
 ghost use Rattle.std.specs.Prelude.{◌≡◌, ◌≤◌, length};
 ghost use Rattle.steer_base.specs.Choices.{desired_cpu as desired_with};
 ghost use Rattle.steer_model.specs.Steps.Pollers.{filter_for as filter_after};
@@ -8,8 +8,8 @@ use accel_filter::filter_written;
 use sock_flow_table::SockTable;
 use steer_base::{Choice, Cpu, CpuMask, Filter};
 
-/// The processor that a packet should go to: with a class the one that was seen in the socket flow
-/// table, where it is online, else the RPS choice.
+/// The desired processor of a packet: if it has a class, the one seen in the socket flow table if
+/// that is online; otherwise the RPS choice.
 pub fn desired_cpu(class: Option<u32>, want: Option<u8>, online: CpuMask, rps: u8) -> u8
     ensures { result ≡ desired_with class want online rps }
 {
@@ -19,8 +19,8 @@ pub fn desired_cpu(class: Option<u32>, want: Option<u8>, online: CpuMask, rps: u
     }
 }
 
-/// The processor that a packet with this class and hash finds in the socket flow table; without
-/// either it is not looked up.
+/// The processor that a packet with this class and hash finds in the socket flow table. It is not
+/// looked up without a class or without a hash.
 pub fn socket_seen(socket: &SockTable, class: Option<u32>, hash: Option<u32>) -> Option<u8>
     ensures { result ≡ seen_in socket.now class hash }
 {
@@ -33,9 +33,9 @@ pub fn socket_seen(socket: &SockTable, class: Option<u32>, hash: Option<u32>) ->
     }
 }
 
-/// The filter that is asked for after a packet was accepted at a position by this choice: where
-/// there are filters and the choice moved to a processor that is home to a queue, the lowest such
-/// queue.
+/// The filter that a poller asks for after its packet was accepted at a position by this choice:
+/// one to the lowest queue whose home is the chosen processor, if there are filters and the choice
+/// moved its class.
 pub fn filter_for(homes: &[Cpu], filters: u32, choice: Choice, position: u32) -> Option<Filter>
     requires { length homes.now ≤ 32 }
     ensures { result ≡ filter_after homes.now filters choice position }

@@ -5,7 +5,7 @@ ghost use Rattle.steer_model.specs.State.Ranges.{AreFlowHashes, AreOfFlows, with
 use std::alloc::Global;
 use steer_base::{OutOfMemory, Packet};
 
-/// The hash of each flow of these packets, by its number; nothing for a number that no packet has.
+/// The hash of each flow of these packets, by flow number; nothing for a number that no packet has.
 #[tactic(auto, using(crate::proofs::Capture::HashLemmas::hashes_none))]
 pub fn flow_hashes(
     alloc: Global,
@@ -20,7 +20,7 @@ pub fn flow_hashes(
     Ok(hashes)
 }
 
-// Keeps the hash of each packet for its flow.
+// Records the hash of each packet for its flow.
 fn keep_hashes(hashes: &mut [Option<Option<u32>>], packets: &[Packet])
     requires many { length hashes.old ≡ length packets.now }
     requires empty { AreFlowHashes [] hashes.old }
@@ -32,7 +32,7 @@ fn keep_hashes(hashes: &mut [Option<Option<u32>>], packets: &[Packet])
     }
 }
 
-// Keeps the hash of a packet for its flow, unless there is one already.
+// Records the hash of a packet for its flow, unless there is one already.
 fn keep_hash(hashes: &mut [Option<Option<u32>>], packet: &Packet)
     requires { packet.now.flow_number < length hashes.old }
     ensures { hashes.new ≡ with_hash hashes.old packet.now }

@@ -7,8 +7,8 @@ ghost use Rattle.steer_model.specs.Steps.Commands.{refused_answer as refused_wit
 use hop_core::Hop;
 use steer_base::{Answer, Busy, CpuMask, Idle, Refused};
 
-/// The answer of a hop's gate to a command for which these lanes have to be empty: busy where
-/// somebody is inside, then where one of the lanes is not empty, else done.
+/// The answer of a hop's gate to a command for which these lanes must be empty: busy if somebody is
+/// inside or one of the lanes is not empty, otherwise done.
 pub fn gate_answer(hop: &Hop, lanes: CpuMask) -> Answer
     ensures { result ≡ answer_at hop.now (emptied hop.now lanes) }
 {
@@ -22,7 +22,7 @@ pub fn gate_answer(hop: &Hop, lanes: CpuMask) -> Answer
     }
 }
 
-/// What answers a command that may not be given.
+/// The answer to a command that is refused.
 pub fn refused_answer(why: &Refused) -> Answer
     ensures { result ≡ refused_with why.now }
 {

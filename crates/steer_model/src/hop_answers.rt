@@ -7,8 +7,8 @@ ghost use Rattle.steer_model.specs.Steps.Pollers.{put_position as position_in};
 use hop_core::{Hop, HopAnswer};
 use steer_base::{Answer, Choice, Chosen, PacketId, Put, Why};
 
-/// The answer of a hop as the machine gives it: the reason for which an event was idle, else that
-/// it was done.
+/// The machine's answer for an answer of a hop: the reason for which the event was idle, otherwise
+/// done.
 pub fn told(answer: HopAnswer) -> Answer
     ensures { result ≡ told_by answer }
 {
@@ -18,7 +18,7 @@ pub fn told(answer: HopAnswer) -> Answer
     }
 }
 
-/// The position at which a put was accepted, a counter number that wraps; none where it was not.
+/// The position at which a put was accepted, a wrapping counter number; none if it was not.
 pub fn position_of(answer: &HopAnswer) -> Option<u32>
     ensures { result ≡ position_in answer.now }
 {
@@ -28,7 +28,7 @@ pub fn position_of(answer: &HopAnswer) -> Option<u32>
     }
 }
 
-/// The last choice of a producer; with none a choice of packet 0 for lane 0.
+/// The last choice of a producer; if it made none, a plain choice of lane 0 for packet 0.
 pub fn last_of(hop: &Hop, p: u8) -> Chosen
     requires { p < length hop.now.arrivals }
     ensures { result ≡ last_choice_of hop.now p }

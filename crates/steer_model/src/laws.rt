@@ -1,4 +1,4 @@
-//! Laws of the machine and of its histories, each the contract of a function that does nothing.
+//! Lemmas on the machine and its histories: functions without code whose contracts state them.
 ghost use Rattle.plan_reader.specs.Plans.{sizes_of};
 ghost use Rattle.plan_reader.specs.Ranges.{step_is_within};
 ghost use Rattle.std.specs.List.{AllPass};
@@ -17,60 +17,61 @@ ghost use Rattle.steer_model.specs.Origins.TableWrites.{StepsAreEvents, TablesSt
 
 use plan_reader::Plan;
 
-/// Where no command was given, a history is good exactly where each clause holds by itself.
+/// Lemma: without commands a history is good if and only if each clause holds by itself.
 pub fn a_history_is_good_by_its_clauses()
     ensures { GoodByClauses }
 {}
 
-/// A step of one event that is idle leaves the machine as it was.
+/// Lemma: a step of one event that is idle leaves the machine as it was.
 pub fn an_idle_step_leaves_all()
     ensures { IdleLeavesAll }
 {}
 
-/// A step of one event is done where all holds that it needs, and else idle for the first of its
-/// reasons, where every hand has at most one packet.
+/// Lemma: in a machine whose hands have at most one packet, a step of one event is done if and only
+/// if all that it needs holds, and otherwise idle for the first reason.
 pub fn a_step_is_idle_for_its_first_reason()
     ensures { IdleForFirstReason }
 {}
 
-/// A hand of a new machine has at most one packet, a poller that looked has one to weigh, and one
-/// that asks for a filter has put it; and all steps keep that so.
+/// Lemma: in a new machine and after any steps each hand has at most one packet, a poller that
+/// looked has one to weigh, and one that asks for a filter has put it.
 pub fn a_hand_has_one_packet()
     ensures new { NewIsStaged }
     ensures steps { StepsKeepStaged }
 {}
 
-/// A command that is not done changes nothing but the list of commands.
+/// Lemma: a command that is not done changes nothing but the list of commands.
 pub fn a_refused_command_leaves_all()
     ensures { RefusedLeavesAll }
 {}
 
-/// A capture has one list of packets by a key and its kinds.
+/// Lemma: a capture determines its packets, given a key and the kinds that are hashed.
 pub fn a_capture_has_one_list_of_packets()
     ensures { PacketsAreOne }
 {}
 
-/// The flow number of each packet of a capture is below the number of packets, and all packets of a
-/// flow have one hash.
+/// Lemma: the flow number of each packet of a capture is below the number of packets, and all
+/// packets of a flow have one hash.
 pub fn packets_are_of_flows()
     ensures { PacketsAreOfFlows }
 {}
 
-/// Each setting in force is that of the last done command for it, else the one before all commands.
+/// Lemma: each setting in force is what the last done command for it wrote, otherwise its first
+/// value.
 pub fn a_value_in_force_is_the_last_write()
     ensures { ValuesAreLastWrites }
 {}
 
-/// After any steps the settings are those that the done ones of all commands leave of the first
-/// ones.
+/// Lemma: after any steps the settings are the first ones changed by the done commands.
 pub fn settings_follow_the_commands()
     ensures { SettingsFollow }
 {}
 
-/// An entry of the socket flow table and a filter in force are what was written there last, else
-/// what they were at first: after any events one by one, and any steps are some of these. A plan
-/// starts with none of them set; from there on each entry that is set is a write of the history,
-/// and each filter that of a choice which moved and whose packet was accepted.
+/// Lemma: an entry of the socket flow table and a filter are what was written there last, otherwise
+/// what they were at first. A plan starts with none of them set (`start`). Any steps are some
+/// single events and commands (`steps`), after which both are the last writes (`entries`,
+/// `filters`). From the start on, each entry that is set is a write of the history (`written`), and
+/// each filter is from a choice that moved and whose packet was accepted (`chosen`).
 pub fn a_table_in_force_is_the_last_writes()
     ensures start { TablesStartUnset }
     ensures steps { StepsAreEvents }
@@ -80,10 +81,10 @@ pub fn a_table_in_force_is_the_last_writes()
     ensures chosen { FiltersAreFromChoices }
 {}
 
-/// Each step of a plan, of its list or of its seed, names what the plan has.
+/// Lemma: each step of a plan, listed or seeded, names what the plan has.
 pub fn steps_of_a_plan_are_within(plan: &Plan)
     ensures { AllPass (step_is_within (sizes_of plan.now)) (steps_of plan.now) }
 {
-    // No code: a look at the plan hands out what its type says of its fields.
+    // Reads the plan, so that its invariant is known here.
     let _ = &plan.cpus;
 }

@@ -1,4 +1,4 @@
-//! The machine of two steered hops in words: its steps, the good history of a run, and its parts.
+//! The model: the machine of two hops, its steps and commands, and the good history of a run.
 #![tactic(auto)]
 
 mod desired;

@@ -7,12 +7,12 @@ use steer_base::Filter;
 /// What a poller keeps beside the packet in its hand.
 #[derive(Clone, Copy, Debug, PartialEq, Eq)]
 pub enum Note {
-    /// Nothing, before its look and between its weighing and its put.
+    /// Nothing: before its look, and between its weighing and its put.
     Nothing,
-    /// It looked at the socket flow table, and saw this processor there, if there was one.
+    /// It looked at the socket flow table and saw this processor, if there was one.
     Looked(Option<u8>),
-    /// Its packet was accepted at a processor to which its class moved, and it asks for this
-    /// filter next.
+    /// Its packet was accepted at a processor to which its class moved; it asks for this filter
+    /// next.
     Asking(Filter),
 }
 

@@ -16,9 +16,8 @@ use steer_base::{Flow, OutOfMemory, Packet};
 use toeplitz::{Key, Kinds, TabledKey};
 
 /// The packet of each record of a capture, in order: the flow of its frame, the flow's hash by the
-/// key and the kinds, its length, and the number of the flow among the distinct flows in order of
-/// first appearance. There are at most 262,144 records, and the frame of each lies within the
-/// bytes.
+/// key and the kinds, the length, and the number of the flow, from 0 in order of first appearance.
+/// There are at most `MAX_PACKETS` records, and the frame of each is within the bytes.
 pub fn packets(
     alloc: Global,
     capture: &Capture,

@@ -64,7 +64,7 @@ impl InForce {
         })
     }
 
-    /// Changes what a command changes that is done; `expire` changes no setting.
+    /// Makes the change of a command that is done; `expire` changes no setting.
     pub fn change(&mut self, command: &Command)
         requires { IsInRange self.old command.now }
         ensures { self.new ≡ changed self.old command.now }
@@ -83,7 +83,7 @@ impl InForce {
         }
     }
 
-    // Gives a receive queue other processors.
+    // Sets the processors of a receive queue.
     fn set_mask(&mut self, q: RxQueue, mask: CpuMask)
         requires { q < length self.old.masks }
         ensures { self.new ≡ record self.old { masks = slice_set self.old.masks q mask } }
@@ -91,7 +91,7 @@ impl InForce {
         self.masks[q.0 as usize] = mask;
     }
 
-    // Gives a receive queue another flow count, rounded up to a power of two.
+    // Sets the flow count of a receive queue, rounded up to a power of two.
     fn set_flows(&mut self, q: RxQueue, count: u32)
         requires queue { q < length self.old.counts }
         requires within { count ≤ MAX_FLOW_COUNT }
@@ -101,7 +101,7 @@ impl InForce {
         self.counts[q.0 as usize] = round_up(count);
     }
 
-    // Gives the socket flow table another size, rounded up to a power of two.
+    // Sets the size of the socket flow table, rounded up to a power of two.
     fn set_sock(&mut self, size: u32)
         requires { size ≤ MAX_SOCKET_SIZE }
         ensures { self.new ≡ record self.old { sock = rounded_up size } }
@@ -117,7 +117,7 @@ impl InForce {
         self.online = self.online.without(cpu);
     }
 
-    // Takes a processor online.
+    // Brings a processor online.
     fn take_online(&mut self, cpu: Cpu)
         requires { cpu < 32 }
         ensures { self.new ≡ record self.old { online = with_cpu self.old.online cpu } }
@@ -125,7 +125,7 @@ impl InForce {
         self.online = self.online.with(cpu);
     }
 
-    // Gives a transmit queue other processors.
+    // Sets the processors of a transmit queue.
     fn set_tx_cpus(&mut self, tx: TxQueue, mask: CpuMask)
         requires { tx < self.old.maps.count }
         ensures { self.new ≡ record self.old {
@@ -135,7 +135,7 @@ impl InForce {
         self.maps.set_cpus(tx, mask);
     }
 
-    // Gives a transmit queue other receive queues.
+    // Sets the receive queues of a transmit queue.
     fn set_tx_queues(&mut self, tx: TxQueue, queues: u16)
         requires { tx < self.old.maps.count }
         ensures { self.new ≡ record self.old {
@@ -145,7 +145,7 @@ impl InForce {
         self.maps.set_queues(tx, queues);
     }
 
-    // Gives an entry of the redirection table to another queue.
+    // Sets an entry of the redirection table to a queue.
     fn set_entry(&mut self, place: u8, q: RxQueue)
         requires { is_in_range self.old.reta place q ≡ true }
         ensures { self.new ≡ record self.old { reta = with_entry self.old.reta place q } }
@@ -153,7 +153,7 @@ impl InForce {
         self.reta.set(place, q).unwrap();
     }
 
-    // Gives an application another processor to stand on.
+    // Moves an application to a processor.
     fn set_stand(&mut self, app: u8, cpu: Cpu)
         requires { app < length self.old.stands }
         ensures { self.new ≡ record self.old { stands = slice_set self.old.stands app cpu } }
@@ -183,7 +183,7 @@ impl InForce {
         self.counts[q as usize]
     }
 
-    /// The receive queue that the redirection table gives a hash; 0 without one.
+    /// The receive queue that the redirection table gives a hash; queue 0 without a hash.
     pub fn queue(&self, hash: Option<u32>) -> RxQueue
         ensures value { result ≡ queue_of self.now.reta hash }
         ensures within { result < self.now.reta.queues }
@@ -191,7 +191,7 @@ impl InForce {
         self.reta.queue(hash)
     }
 
-    /// The processor that a packet goes to from a receive queue without a class: the RPS choice.
+    /// The processor to which a receive queue sends a packet without a class: the RPS choice.
     pub fn plain_lane(&self, given: &Given, q: u8, id: PacketId) -> Cpu
         requires queue { q < length given.now.homes }
         requires masks { q < length self.now.masks }
@@ -201,8 +201,8 @@ impl InForce {
         rps_choice(mask, given.hash_of(id), self.online, given.home(q))
     }
 
-    /// The transmit queue that the maps pick for a packet of a receive queue, sent from a
-    /// processor.
+    /// The transmit queue that the maps pick for a packet that was received on `rxq` and is sent
+    /// from `cpu`.
     pub fn pick(&self, rxq: RxQueue, cpu: Cpu, hash: Option<u32>) -> u8
         ensures value { result ≡ picked self.now.maps rxq cpu hash }
         ensures within { result < self.now.maps.count }
@@ -210,7 +210,7 @@ impl InForce {
         self.maps.pick(rxq, cpu, hash).0
     }
 
-    /// The processor on which an application stands.
+    /// The processor of an application.
     pub fn stand(&self, a: u8) -> Cpu
         requires { a < length self.now.stands }
         ensures { result ≡ slice_index self.now.stands a }
@@ -218,7 +218,7 @@ impl InForce {
         self.stands[a as usize]
     }
 
-    /// The processors on which the applications stand.
+    /// The processors of all applications.
     pub fn stands(&self) -> &[Cpu]
         ensures { result.now ≡ self.now.stands }
     {
@@ -233,7 +233,7 @@ fn masks_of(alloc: Global, queues: &[QueuePlan]) -> Result<Vec<CpuMask>, OutOfMe
     Ok(queues.iter().map(|queue| queue.mask).collect(alloc)?)
 }
 
-// The processors on which the applications stand.
+// The processors of all applications.
 fn stands_of(alloc: Global, apps: &[Cpu]) -> Result<Vec<Cpu>, OutOfMemory>
     ensures { IfOk result (λ stands. stands.items ≡ apps.now) }
 {

@@ -11,8 +11,8 @@ use std::alloc::Global;
 use std::marker::Model;
 use steer_base::{AppId, Cpu, OutOfMemory, Packet, PacketId, app_of};
 
-/// What never changes in a run: the plan's homes and sizes, the packets of the capture, and the
-/// length of its cut record. The hash of each flow lies beside them.
+/// What the plan and the capture fix for a run: the homes and sizes, the packets, and the length of
+/// the cut record in bytes. It also keeps the hash of each flow.
 #[derive(Drop)]
 pub struct Given {
     homes: Vec<Cpu>,
@@ -50,8 +50,8 @@ impl Model for Given {
 }
 
 impl Given {
-    /// What a plan and the packets of a capture fix. There are at most 262,144 packets, each flow
-    /// has a number below the number of packets, and all packets of a flow have one hash.
+    /// What a plan and the packets of a capture fix. There are at most `MAX_PACKETS` packets, each
+    /// flow has a number below the number of packets, and all packets of a flow have one hash.
     pub fn of_plan(
         alloc: Global,
         plan: &Plan,
@@ -96,7 +96,7 @@ impl Given {
         self.cut
     }
 
-    /// The hash of a packet, if it has one. There is none beyond the capture.
+    /// The hash of a packet, if it has one. Beyond the capture there is none.
     pub fn hash_of(&self, id: PacketId) -> Option<u32>
         ensures { result ≡ packet_hash self.now id }
     {
@@ -116,7 +116,7 @@ impl Given {
         }
     }
 
-    /// The application of a packet.
+    /// The application of a packet: its hash modulo the number of applications.
     pub fn app_of(&self, id: PacketId) -> AppId
         ensures value { result ≡ app_for self.now id }
         ensures within { result < self.now.apps }
@@ -124,7 +124,7 @@ impl Given {
         app_of(self.hash_of(id), self.apps)
     }
 
-    /// The hash of a flow, if it has one; nothing where the capture has no such flow.
+    /// The hash of a flow, if it has one; nothing if the capture has no such flow.
     pub fn flow_hash(&self, flow: u32) -> Option<Option<u32>>
         ensures { result ≡ flow_hash self.now flow }
     {
@@ -183,7 +183,7 @@ impl Given {
         self.txs
     }
 
-    /// Says what is fixed in every run.
+    /// Lemma: what is fixed is within the ranges of a plan.
     pub fn ranges(&self)
         ensures { IsGiven self.now }
     {

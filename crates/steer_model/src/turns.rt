@@ -5,7 +5,7 @@ ghost use Rattle.steer_model.specs.Steps.SingleSteps.{is_work as counts_as_work}
 
 use steer_base::{Answer, Step};
 
-/// Whether a step gets a packet on: entering, leaving and recording do not.
+/// Whether a step takes a packet on: entering, leaving and recording do not.
 pub fn is_work(step: &Step) -> bool
     ensures { result ≡ counts_as_work step.now }
 {

@@ -26,4 +26,6 @@ mod replay_taps;
 #[cfg(test)]
 mod slow;
 #[cfg(test)]
+mod vectors;
+#[cfg(test)]
 mod worked;

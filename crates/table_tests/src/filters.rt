@@ -1,11 +1,12 @@
-//! The filters of a network card, as they are written, found and expired.
+//! The filters of a network card: how they are written, found and expired.
 ghost use Rattle.std.specs.Prelude.{◌≤◌};
+ghost use Rattle.steer_base.specs.declared.limits.TheConstants.{MAX_FLOW_COUNT};
 
 use crate::equal::same;
 use accel_filter::{FilterTable, filter_written};
 use std::alloc::Global;
 use std::test::Fail;
-use steer_base::{Cpu, Filter, RxQueue, Why};
+use steer_base::{Cpu, Filter, MAX_FLOW_COUNT, RxQueue, Why};
 
 #[test]
 fn a_move_to_a_home_writes_a_filter(rt: HostRuntime) {
@@ -63,9 +64,10 @@ fn a_filter_goes_when_its_packets_have_gone(rt: HostRuntime) -> Result<(), Fail>
     Ok(())
 }
 
-// Whether the one filter, with the mark 4294967295, goes at this head, and whether it is gone then.
+// Whether the one filter, with the mark 4294967295, expires at this head, and whether it is then
+// gone.
 fn goes(alloc: Global, head: u32, entries: u32) -> Result<(bool, bool), Fail>
-    requires { entries ≤ 32768 }
+    requires { entries ≤ MAX_FLOW_COUNT }
 {
     let mut table = FilterTable::make(alloc, 1)?;
     let filter = Filter {
@@ -85,7 +87,7 @@ fn marks_wrap(rt: HostRuntime) -> Result<(), Fail> {
         (4294967294u32, 1u32, false),
         (4294967295, 0, true),
         (0, 1, true),
-        // With two entries the head has to stand ten past the mark: at 9.
+        // With two entries the head must be ten past the mark: at 9.
         (0, 2, false),
         (8, 2, false),
         (9, 2, true),
@@ -95,7 +97,7 @@ fn marks_wrap(rt: HostRuntime) -> Result<(), Fail> {
         (2147483647, 1, false),
     ];
     for (head, entries, wanted) in cases {
-        assert!(rt; entries <= 32768);
+        assert!(rt; entries <= MAX_FLOW_COUNT);
         let gone = goes(rt.alloc(), head, entries)?;
         same(
             &rt,

@@ -1,9 +1,11 @@
-//! Hops that are played by worked traces, with the choices, positions and answers that they must
-//! give.
+//! Hops played by worked traces, with the choices, positions and answers that they must give.
 ghost use Rattle.std.specs.Prelude.{◌<◌, ◌≤◌, length};
+ghost use Rattle.steer_base.specs.declared.limits.TheConstants.{MAX_FLOW_COUNT};
+ghost use Rattle.hop_core.specs.declared.shape.TheConstants.{MAX_HOP_ROOM};
 
 use crate::equal::same;
-use hop_core::{Hop, HopAnswer, HopEvent, HopShape};
+use dev_flow_table::MAX_EXACT_CLASSES;
+use hop_core::{Hop, HopAnswer, HopEvent, HopShape, MAX_HOP_ROOM};
 use std::alloc::Global;
 use std::process::Abort;
 use std::test::Fail;
@@ -91,8 +93,8 @@ fn receive_hop(
     limited: CpuMask,
 ) -> Result<Hop, OutOfMemory>
     requires limit { 1 ≤ limit }
-    requires room { room ≤ 262144 }
-    requires classes { classes ≤ 32768 }
+    requires room { room ≤ MAX_HOP_ROOM }
+    requires classes { classes ≤ MAX_FLOW_COUNT }
 {
     let mut counts = Vec::with_capacity(alloc, 1)?;
     counts.push(classes)?;
@@ -434,22 +436,22 @@ fn the_gate_closes_where_nobody_is_inside(rt: HostRuntime) -> Result<(), Fail> {
 fn the_largest_hop_is_made(rt: HostRuntime) -> Result<(), Fail> {
     let mut counts = Vec::with_capacity(rt.alloc(), 32)?;
     for _ in 0..32u8 {
-        counts.push(262144u32)?;
+        counts.push(MAX_EXACT_CLASSES)?;
     }
     let shape = HopShape {
         producers: 32,
         guests: 0,
         lanes: 32,
         outs: 1,
-        limit: 262144,
-        room: 262144,
+        limit: MAX_HOP_ROOM,
+        room: MAX_HOP_ROOM,
         counts,
         exact: true,
         start: 0,
         limited: CpuMask(0),
     };
     let mut hop = Hop::make(rt.alloc(), shape)?;
-    let last = PacketId(262143);
+    let last = PacketId(MAX_HOP_ROOM - 1);
     let turns = [
         (HopEvent::Arrive { p: 31, id: last }, HopAnswer::Done),
         (HopEvent::Take { p: 31 }, HopAnswer::Took(last)),

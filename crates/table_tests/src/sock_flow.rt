@@ -1,8 +1,8 @@
-//! The socket flow table as applications write and packets read it.
+//! The socket flow table, as applications write it and packets read it.
 use crate::equal::same;
 use sock_flow_table::SockTable;
 use std::test::Fail;
-use steer_base::Cpu;
+use steer_base::{Cpu, MAX_SOCKET_SIZE};
 
 #[test]
 fn the_last_note_of_an_entry_stands(rt: HostRuntime) -> Result<(), Fail> {
@@ -22,7 +22,7 @@ fn the_last_note_of_an_entry_stands(rt: HostRuntime) -> Result<(), Fail> {
 
 #[test]
 fn a_table_without_entries_takes_no_note(rt: HostRuntime) -> Result<(), Fail> {
-    let mut table = SockTable::make(rt.alloc(), 65536)?;
+    let mut table = SockTable::make(rt.alloc(), MAX_SOCKET_SIZE)?;
     assert!(rt; table.note(65535, Cpu(7)));
     same(&rt, &table.desired(65535), &Some(Cpu(7)), 5);
     table.resize(0);

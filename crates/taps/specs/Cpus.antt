@@ -16,7 +16,8 @@ chosen_for cpu lines = count_by (λ line. is_of cpu line.choice) lines
 
 -- the text line of a processor with `count` packets, empty if it has none
 abbrev pub cpu_count_line : ℕ → ℕ → List ℕ
-cpu_count_line cpu count = if count == 0 then [] else row (codes "cpu ") cpu (codes " packets ") count
+cpu_count_line cpu count = if count == 0 then [] else row (codes "cpu ") cpu
+    (codes " packets ") count
 
 -- the text of a per-processor tap: for each processor, ascending, the number of lines whose choice
 -- it is, if there are any

@@ -28,7 +28,8 @@ window_is key place k within small =
 
 -- one bit more of the byte, that is 1 or not
 pub word_of_one : (key place byte k word : ℕ) → bit_and (byte / 2 ^ (7 - k)) 1 ≡ 1
-    → word ≡ key_window key (8 * place + k) → bit_xor (xor_of_byte key place byte k) word ≡ xor_of_byte
+    → word ≡ key_window key (8 * place + k)
+    → bit_xor (xor_of_byte key place byte k) word ≡ xor_of_byte
     key place byte (k + 1)
 unfolding xor_of_byte
 word_of_one key place byte k word one e =

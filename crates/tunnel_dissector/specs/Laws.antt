@@ -1,10 +1,10 @@
--- What holds of frames in tunnels.
+-- Lemmas about frames in tunnels.
 use Rattle.std.specs.Prelude.{◌≡◌, ◌≢◌, ◌<◌, ◌≤◌, ℕ, ◌+◌, List}
 use Rattle.steer_base.specs.declared.flow.Flow.TheVariants.{Bare}
 use Rattle.tunnel_dissector.specs.Inner.{inner_of}
 use Rattle.tunnel_dissector.specs.Writing.{vxlan_bytes}
 
--- a frame in a VXLAN has the inner flow of that frame, and one level more
+-- a frame in a VXLAN has the inner flow of the frame, and a depth greater by one
 abbrev pub IsOneLevelMore : Type 0
 IsOneLevelMore =
     (src dst vni : ℕ) (frame : List ℕ) → (inner_of frame).flow ≢ Bare → (inner_of frame).depth < 4

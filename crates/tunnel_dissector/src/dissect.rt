@@ -8,7 +8,7 @@ use crate::level::entered;
 use flow_dissector::{dissect_ip, ip_of};
 use steer_base::Flow;
 
-/// How many levels are entered.
+/// The most levels that are entered.
 const MAX_LEVELS: u8 = 4;
 
 /// The flow of the innermost packet of an Ethernet frame, through IPv4 and IPv6 in IP (RFC 2003,

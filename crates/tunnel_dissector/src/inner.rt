@@ -6,6 +6,6 @@ use steer_base::Flow;
 pub struct Inner {
     /// The flow of that level, or of the frame itself where no level was entered.
     pub flow: Flow,
-    /// How many levels were entered, at most four.
+    /// The number of levels that were entered, at most four.
     pub depth: u8,
 }

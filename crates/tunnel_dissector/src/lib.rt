@@ -1,4 +1,4 @@
-//! The flow of the innermost packet of a frame, through IP in IP, GRE and VXLAN.
+//! Finds the flow of the innermost packet of a frame, through IP in IP, GRE and VXLAN.
 #![tactic(auto)]
 
 mod dissect;

@@ -25,7 +25,7 @@ const HEADERS: [u8; 50] = [
 ];
 
 /// Appends an Ethernet frame that carries this one in a VXLAN: from one IPv4 address to another, in
-/// the network `vni`. Without memory `out` stays as it was; where it has room it takes none.
+/// the network `vni`. On an error `out` is unchanged. Allocates nothing if `out` has room.
 pub fn put_vxlan(
     out: &mut Vec<u8>,
     src: u32,

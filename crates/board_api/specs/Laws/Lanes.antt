@@ -4,6 +4,7 @@ use Rattle.steer_base.specs.Lanes.{LaneLists}
 use Rattle.history.specs.Lists.{lane_at, list_at}
 use Rattle.history.specs.declared.lane_list.LaneList.{LaneList}
 use Rattle.hop_rule.specs.Deliveries.{Delivery}
+use Rattle.hop_rule.specs.Events.{sum_below}
 use Rattle.hop_rule.specs.Fronts.{Front}
 use Rattle.hop_rule.specs.Moments.{nth_step}
 use Rattle.hop_rule.specs.OutLanes.{OutList}
@@ -13,7 +14,7 @@ use Rattle.hop_rule.specs.declared.step.BoardStep.{BoardStep}
 use Rattle.hop_rule.specs.declared.step.BoardStep.TheVariants.{Lane}
 use Rattle.hop_rule.specs.declared.step.LaneStep.TheVariants.{Held, OutHeld, Given}
 use Rattle.board_api.specs.Lists.{IsFrontOf, IsLaneOf}
-use Rattle.board_api.specs.OwnSteps.{Has, delivered_by, pulled_by, retired_by}
+use Rattle.board_api.specs.OwnSteps.{Has, delivered_by, given_to, pulled_by, retired_by}
 use Rattle.board_api.specs.declared.lists.BoardLists.{BoardLists}
 
 module _ (about : BoardSizes) (own : ℕ → List BoardStep) (lists : BoardLists) where
@@ -103,3 +104,16 @@ module _ (about : BoardSizes) (own : ℕ → List BoardStep) (lists : BoardLists
     pub apart : (p q j k o from to x y place : ℕ)
         → Has (own p) j (Lane (Given o from x place)) → Has (own q) k (Lane (Given o to y place))
         → (p ≡ q) × (j ≡ k)
+
+  -- ---- counts
+
+  -- As many lanes and out lanes are left as the board has.
+  pub record ListsAreCounted : Type 0 where
+    pub lanes : length lists.lanes ≡ about.lanes
+    pub outs : length lists.outs ≡ about.outs
+
+  -- An out lane has as many packets as all seats delivered to it.
+  abbrev pub OutsAreSums : Type 0
+  OutsAreSums =
+      (o : ℕ) → o < about.outs
+      → length (list_at lists.outs o) ≡ sum_below (λ q. length (given_to o (own q))) about.seats

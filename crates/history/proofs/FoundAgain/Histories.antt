@@ -9,7 +9,8 @@ use Rattle.steer_base.specs.Orders.{Apart}
 use Rattle.steer_base.specs.declared.choice.Choice.{Choice}
 use Rattle.steer_base.specs.declared.packet.Packet.{Packet}
 use Rattle.history.specs.Finding.{found, Once}
-use Rattle.history.specs.Lines.{choice_in, tx_choice_of, accepted_place, tx_position_of, first_reply_to}
+use Rattle.history.specs.Lines.{choice_in, tx_choice_of, accepted_place, tx_position_of}
+use Rattle.history.specs.Lines.{first_reply_to}
 use Rattle.history.specs.Lines.{line_of_sent}
 use Rattle.history.specs.Lists.{app_at, packet_at, list_at, lane_at, no_lane, accepted_lists}
 use Rattle.history.specs.Regular.{Regular}
@@ -113,7 +114,8 @@ same_sent_of packets apps h k b x = elim (cases_lt x (length h.arrivals)) [
   | inr l ↦
       no_value (first_reply_to h x) (λ s e. let f = (sent-arrived packets apps h x s b.left e).0 in
       omega (arith, f, l))
-      ∙ sym (no_value (first_reply_to k x) (λ s e. let f = (sent-arrived packets apps k x s b.right e).0 in
+      ∙ sym (no_value (first_reply_to k x) (λ s e.
+      let f = (sent-arrived packets apps k x s b.right e).0 in
       omega (arith, f, l, b.shown.arrived)))
 ]
 

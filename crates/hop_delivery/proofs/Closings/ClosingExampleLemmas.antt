@@ -1,12 +1,10 @@
 -- Stories of lawful orders are stories of closings.
-use Rattle.std.proofs.Common.{◌≡◌, ℕ, List, sym, subst}
+use Rattle.std.proofs.Common.{ℕ, List, sym, subst}
 use Rattle.atomic_table.specs.Seated.{TableId}
 use Rattle.linearization.specs.Orders.{StepBy}
-use Rattle.hop_rule.specs.Boards.{accepted}
-use Rattle.hop_rule.specs.Owns.{own_of}
 use Rattle.hop_rule.specs.declared.sizes.BoardSizes.{BoardSizes}
 use Rattle.hop_rule.specs.declared.step.BoardStep.{BoardStep}
-use Rattle.board_api.specs.Closings.Closings.{own_in, seats_in}
+use Rattle.board_api.specs.Closings.Closings.{seats_in}
 use Rattle.board_api.specs.Closings.Finals.{lists_of}
 use Rattle.board_api.proofs.Endings.{each_order_closes}
 use Rattle.hop_delivery.specs.Orders.Examples.{MeetsAll, one_flow, one_queue, receive_board}
@@ -20,7 +18,6 @@ use Rattle.hop_delivery.specs.Orders.TransmitSettings.{transmit_steering}
 use Rattle.hop_delivery.proofs.Orders.ReceiveExample.{receive_example}
 use Rattle.hop_delivery.proofs.Orders.TransmitExample.{transmit_example}
 use Rattle.hop_delivery.specs.Closings.ClosingExamples.{CanClose, ReceiveClosing, TransmitClosing}
-use Rattle.hop_delivery.specs.Closings.FlowLaw.{accepted_left}
 use Rattle.hop_delivery.proofs.Closings.FlowLemmas.{accepted_same}
 
 can_close : (table : TableId) (about : BoardSizes) (order : List (StepBy BoardStep)) (t : Story)

@@ -1,5 +1,5 @@
 -- Delivery in order by the lists that are left.
-use Rattle.std.proofs.Common.{◌≡◌, inl, inr, ℕ, ◌<◌, ◌≤◌, List, [], ◌∷◌, map, Some, sym, refl, ap}
+use Rattle.std.proofs.Common.{◌≡◌, inl, inr, ℕ, ◌≤◌, List, [], ◌∷◌, map, Some, sym, refl, ap}
 use Rattle.std.proofs.Common.{◌∙◌, subst, arith}
 use Rattle.std.specs.List.{range_with_len}
 use Rattle.std.specs.Prelude.{slice_get}
@@ -9,7 +9,7 @@ use Rattle.steer_base.specs.declared.put.LaneDrop.{LaneDrop}
 use Rattle.linearization.specs.Orders.{StepBy}
 use Rattle.history.specs.Lists.{list_at}
 use Rattle.history.specs.declared.lane_list.LaneList.{LaneList}
-use Rattle.hop_rule.specs.Boards.{IsLawful, accepted, drops, lane_at, out}
+use Rattle.hop_rule.specs.Boards.{IsLawful, accepted, out}
 use Rattle.hop_rule.specs.Owns.{own_of}
 use Rattle.hop_rule.specs.Sizes.{FitSizes}
 use Rattle.hop_rule.specs.declared.sizes.BoardSizes.{BoardSizes}
@@ -21,12 +21,10 @@ use Rattle.hop_rule.proofs.Boards.{step_lawful}
 use Rattle.hop_rule.proofs.Puts.{each_accepted_was_put, each_member_was_given}
 use Rattle.board_api.specs.Closings.Closings.{AtEachClosing}
 use Rattle.board_api.specs.Closings.Finals.{lane_list, lists_of}
-use Rattle.board_api.specs.declared.lists.BoardLists.{BoardLists}
-use Rattle.board_api.proofs.Endings.{AtEachOrder, at_closings}
+use Rattle.board_api.proofs.Endings.{at_closings}
 use Rattle.board_api.proofs.Left.{lane_is, lane_past, out_is, out_past}
 use Rattle.hop_delivery.specs.Orders.DeliveryLaw.{came_by}
 use Rattle.hop_delivery.specs.Orders.Premises.{MeetsPremises}
-use Rattle.hop_delivery.specs.Orders.Runs.{Story, Steering, IsSteering}
 use Rattle.hop_delivery.proofs.Orders.DeliveryLemmas.{delivers_in_order}
 use Rattle.hop_delivery.specs.Closings.FlowLaw.{FlowsAreInOrder, accepted_left}
 

@@ -1,14 +1,13 @@
 -- A choice by what a queue's turns read is a choice by the settings of their visits.
-use Rattle.std.proofs.Common.{◌≡◌, ℕ, zero, suc, ◌+◌, ◌%◌, ◌^◌, ◌<◌, ◌≤◌, ◌==◌, Bool, true, List}
+use Rattle.std.proofs.Common.{◌≡◌, ℕ, zero, suc, ◌≤◌, ◌==◌, List}
 use Rattle.std.proofs.Common.{Option, Some, None, take, drop, if◌then◌else◌, sym, refl, ap, ◌∙◌}
-use Rattle.std.proofs.Common.{subst, arith}
+use Rattle.std.proofs.Common.{arith}
 use Rattle.std.specs.Prelude.{nat_lt, slice_index}
 use Rattle.std.specs.List.{Contains}
 use Rattle.steer_base.specs.Choices.{desired_cpu, migrate, rps_choice_of}
 use Rattle.steer_base.specs.Entries.{entry, of_class, current_lane}
 use Rattle.steer_base.specs.Sets.{has}
 use Rattle.steer_base.specs.declared.choice.Chosen.{Chosen}
-use Rattle.steer_base.specs.declared.cpu_mask.CpuMask.{CpuMask}
 use Rattle.dev_flow_table.specs.Walks.{since_resize}
 use Rattle.hop_rule.specs.Moments.{nth_step}
 use Rattle.hop_rule.specs.declared.sizes.BoardSizes.{BoardSizes}
@@ -16,9 +15,9 @@ use Rattle.hop_rule.specs.declared.step.BoardStep.{BoardStep}
 use Rattle.hop_rule.specs.declared.step.BoardStep.TheVariants.{Weighed}
 use Rattle.hop_rule.proofs.Moments.{nth-inside, nth-some}
 use Rattle.board_api.specs.declared.lists.BoardLists.{BoardLists}
-use Rattle.hop_delivery.specs.Orders.ReceiveSettings.{Queues, flows_word, mask, mask_word, online}
+use Rattle.hop_delivery.specs.Orders.ReceiveSettings.{Queues, flows_word, mask, mask_word}
 use Rattle.hop_delivery.specs.Orders.ReceiveSettings.{online_word}
-use Rattle.hop_delivery.specs.Orders.ReceiveSettings.{queues, receive_steering, rps}
+use Rattle.hop_delivery.specs.Orders.ReceiveSettings.{queues, receive_steering}
 use Rattle.hop_delivery.specs.Orders.Runs.{Story, Steering, IsByRule, goal_of, settings_of_visit}
 use Rattle.hop_delivery.specs.Orders.Runs.{turns_of}
 use Rattle.hop_delivery.specs.Orders.Runs.{settings_at, word_of}

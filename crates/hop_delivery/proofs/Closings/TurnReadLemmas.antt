@@ -1,14 +1,13 @@
 -- What a turn reads is of the settings of its visit.
-use Rattle.std.proofs.Common.{◌≡◌, ℕ, zero, suc, ◌+◌, ◌-◌, ◌/◌, ◌^◌, ◌<◌, ◌==◌, List, [], ◌∷◌, ◌++◌}
-use Rattle.std.proofs.Common.{length, drop, Some, None, if◌then◌else◌, sym, refl, ap, ◌∙◌, subst}
+use Rattle.std.proofs.Common.{◌≡◌, ℕ, zero, suc, ◌-◌, List, [], ◌∷◌, ◌++◌}
+use Rattle.std.proofs.Common.{length, drop, Some, None, sym, refl, ap, ◌∙◌, subst}
 use Rattle.std.proofs.Common.{arith, append_assoc, length-append}
 use Rattle.std.specs.List.{Contains, cons_option}
-use Rattle.std.specs.Prelude.{slice_index_or}
 use Rattle.std.proofs.Math.Seq.{drop-append_seam}
 use Rattle.std.proofs.lemmas.List.Elements.{filter_map-append}
 use mathlib.Core.Logic.{dite}
 use native.Mathlib.Decide.{ℕ_discrete}
-use Rattle.linearization.specs.Orders.{StepBy, step_by, steps_of}
+use Rattle.linearization.specs.Orders.{StepBy, steps_of}
 use Rattle.linearization.proofs.ListLemmas.{if_same, if_other}
 use Rattle.hop_rule.specs.Boards.{gate_steps}
 use Rattle.hop_rule.specs.Gates.{opened, own_settings, visit, visit_number}
@@ -25,7 +24,7 @@ use Rattle.board_api.specs.Laws.Heads.{ReadsAreSettings}
 use Rattle.board_api.specs.OwnSteps.{Has}
 use Rattle.board_api.specs.declared.lists.BoardLists.{BoardLists}
 use Rattle.board_api.proofs.AddedSteps.{quiet_steps_stay}
-use Rattle.hop_delivery.specs.Orders.Runs.{Story, settings_of_visit, turns_of}
+use Rattle.hop_delivery.specs.Orders.Runs.{settings_of_visit}
 use Rattle.hop_delivery.specs.Orders.Turns.{Turn, Explained, turn_put, visit_with}
 use Rattle.hop_delivery.specs.Closings.TurnReads.{HasRead, TurnsReadSettings}
 

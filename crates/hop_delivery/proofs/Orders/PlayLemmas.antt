@@ -1,12 +1,12 @@
 -- Moves that may come one after the other leave a lawful order. That a step may come is stated by
 -- equations that compute, so that `assumption` proves it of orders that are written down: a
 -- comparison is its test, and a seat holds the lane as it is now.
-use Rattle.std.proofs.Common.{◌≡◌, ◌≢◌, ℕ, ◌+◌, ◌<◌, List, [], ◌∷◌, Some, true, length, sym, ap}
+use Rattle.std.proofs.Common.{◌≡◌, ◌≢◌, ℕ, ◌+◌, List, [], ◌∷◌, Some, true, length, sym, ap}
 use Rattle.std.proofs.Common.{subst, arith}
 use Rattle.std.specs.Prelude.{nat_lt}
 use Rattle.std.proofs.lemmas.Bool.{ltb-true}
 use Rattle.steer_base.specs.Lanes.{LaneLists}
-use Rattle.backlog.specs.Puts.{put_answer, put_count, next_waiting}
+use Rattle.backlog.specs.Puts.{put_answer, put_count}
 use Rattle.linearization.specs.Orders.{StepBy, steps_of}
 use Rattle.hop_rule.specs.Boards.{IsLawful, MayCome, IsInside, HasSlot, visit_of, lanes_of}
 use Rattle.hop_rule.specs.Boards.{gates_of}
@@ -100,15 +100,18 @@ module _ (about : BoardSizes) where
       → TestsLane p es d → lanes.MayCome about p es d
   lane_comes p es (Held l w x) t = (ltb-true _ _ t.0, t.1, t.2, t.3)
   lane_comes p es (Missed l w) t = t
-  lane_comes p es (Freed l c) t =
-      (ltb-true _ _ t.0,
-        (lanes.lane about l es, t.1, fits_change l p (steps_of p es) (lanes.lane about l es) c t.2))
+  lane_comes p es (Freed l c) t = (
+    ltb-true _ _ t.0,
+    (lanes.lane about l es, t.1, fits_change l p (steps_of p es) (lanes.lane about l es) c t.2),
+  )
   lane_comes p es (OutHeld o w x) t = (ltb-true _ _ t.0, t.1, t.2, t.3)
   lane_comes p es (OutMissed o w) t = t
   lane_comes p es (OutFreed o) t = t
-  lane_comes p es (Given o from id place) t =
-      (ltb-true _ _ t.0, ltb-true _ _ t.1,
-        (lanes.out_content about o es, t.2, ltb-true _ _ t.3, t.4, t.5, t.6))
+  lane_comes p es (Given o from id place) t = (
+    ltb-true _ _ t.0,
+    ltb-true _ _ t.1,
+    (lanes.out_content about o es, t.2, ltb-true _ _ t.3, t.4, t.5, t.6),
+  )
   lane_comes p es (Retired l w) t = (ltb-true _ _ t.0, t.1, t.2, t.3)
 
   gate_comes : (p : ℕ) (es : List (StepBy GateStep)) (d : GateStep)

@@ -1,5 +1,5 @@
 -- The settings that a turn reads, and choices by what was read.
-use Rattle.std.specs.Prelude.{◌≡◌, ℕ, ◌%◌, ◌/◌, ◌^◌, ◌<◌, ◌≤◌, true, List, Option, Some, take, drop}
+use Rattle.std.specs.Prelude.{◌≡◌, ℕ, ◌%◌, ◌^◌, ◌<◌, ◌≤◌, true, List, Option, Some, take, drop}
 use Rattle.std.specs.List.{Contains}
 use Rattle.steer_base.specs.Choices.{migrate}
 use Rattle.steer_base.specs.Entries.{entry, of_class, current_lane}

@@ -55,7 +55,7 @@ impl Refusal {
         })
     }
 
-    /// The same, at a segment of the path.
+    /// The same at a segment of the path.
     pub fn under(self, alloc: Global, segment: &str) -> Refusal
         ensures { IsUnder segment.now self result }
     {

@@ -101,7 +101,14 @@ impl Tables {
     {
         let sock = required_number(alloc, value, "sock", 0, u64::from(MAX_SOCKET_SIZE))?;
         let filters = number_or(alloc, value, "filters", 0, u64::from(MAX_PLAN_FILTERS), 0)?;
-        let backlog = number_or(alloc, value, "backlog", 1, u64::from(MAX_PLAN_BACKLOG), 1_000)?;
+        let backlog = number_or(
+            alloc,
+            value,
+            "backlog",
+            1,
+            u64::from(MAX_PLAN_BACKLOG),
+            1_000,
+        )?;
         let start = number_or(alloc, value, "start", 0, 4_294_967_295, 0)?;
         let limited = set_or_empty(alloc, value, "limited", 32, cpus)?;
         Ok(Tables {

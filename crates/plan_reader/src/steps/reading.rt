@@ -3,7 +3,8 @@ ghost use Rattle.std.specs.Prelude.{◌≡◌, ◌≤◌, IfOk, codes, true};
 ghost use Rattle.serde_json.specs.View.{view, items_view};
 ghost use Rattle.plan_reader.specs.Faults.{Gives};
 ghost use Rattle.plan_reader.specs.Ranges.{StepsAreWithin, step_is_within};
-ghost use Rattle.plan_reader.specs.Readings.{listed_steps, required, seed_of, step_value, read_steps};
+ghost use Rattle.plan_reader.specs.Readings.{listed_steps, required, seed_of, step_value};
+ghost use Rattle.plan_reader.specs.Readings.{read_steps};
 
 use crate::faults::cause::Cause;
 use crate::faults::fault::Refusal;
@@ -18,7 +19,7 @@ use serde_json::Value;
 use std::alloc::Global;
 use steer_base::{List, Step};
 
-/// How many steps a list may have.
+/// The number of steps a list may have.
 const MOST_STEPS: usize = 1_000_000;
 
 /// The step of a text.

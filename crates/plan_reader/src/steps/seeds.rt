@@ -1,7 +1,7 @@
 //! The steps of a seed.
 ghost use Rattle.std.specs.Prelude.{◌≡◌, ◌≤◌, ◌%◌, true};
 ghost use Rattle.plan_reader.specs.Ranges.{step_is_within};
-ghost use Rattle.plan_reader.specs.Seeds.{event_of, seeded_step, word_of};
+ghost use Rattle.plan_reader.specs.Seeds.{event_of, seeded_step, seeded_word};
 
 use crate::settings::sizes::Sizes;
 use rand_core::utils::NextWord;
@@ -9,9 +9,9 @@ use rand_pcg::Lcg64Xsh32;
 use steer_base::Step;
 
 /// Word `i` of a seed, from 0, in a logarithmic number of steps.
-#[tactic(auto, unfolding(crate::specs::Seeds::word_of, crate::specs::Seeds::generator))]
+#[tactic(auto, unfolding(crate::specs::Seeds::seeded_word, crate::specs::Seeds::generator))]
 pub fn word_of(seed: u64, i: u32) -> u32
-    ensures { result ≡ word_of seed i }
+    ensures { result ≡ seeded_word seed i }
 {
     let mut generator = Lcg64Xsh32::new(seed, 54);
     generator.advance(u64::from(i));

@@ -11,8 +11,10 @@ use crate::steps::cut::cut;
 use crate::steps::set::{bits_of, is_set};
 use crate::steps::words::{app_step, bare_step, cpu_step, is, queue_step, tx_step};
 use crate::values::number::{count_below, index_below, number_of};
-use steer_base::{AppId, Command, Cpu, CpuMask, MAX_FLOW_COUNT, MAX_PACKETS, MAX_SOCKET_SIZE};
-use steer_base::{RxQueue, Step, TxQueue};
+use steer_base::{
+    AppId, Command, Cpu, CpuMask, MAX_FLOW_COUNT, MAX_PACKETS, MAX_SOCKET_SIZE, RxQueue, Step,
+    TxQueue,
+};
 
 /// The step of a word and a number.
 #[tactic(auto, unfolding(crate::specs::StepTexts::number_step))]
@@ -126,7 +128,8 @@ fn two_arguments(sizes: Sizes, word: &[u8], first: &[u8], second: &[u8]) -> Resu
 fn some_arguments(sizes: Sizes, word: &[u8], rest: &[u8]) -> Result<Step, Cause>
     requires cpus { sizes.cpus ≤ 32 }
     requires queues { sizes.queues ≤ 16 }
-    ensures step { result ≡ some_arguments sizes word.now (before 32 rest.now) (after_byte 32 rest.now) }
+    ensures step { result ≡ some_arguments sizes word.now (before 32 rest.now)
+        (after_byte 32 rest.now) }
     ensures within { IfOk result (λ step. step_is_within sizes step ≡ true) }
 {
     let (first, second) = cut(rest, b' ');

@@ -2,7 +2,8 @@
 ghost use Rattle.std.specs.Prelude.{◌≡◌, ◌≤◌, ◌<◌, ◌^◌, All, Err, IfOk};
 ghost use Rattle.serde_json.specs.View.{view};
 ghost use Rattle.plan_reader.specs.Faults.{Gives, here, under};
-ghost use Rattle.plan_reader.specs.Readings.{list_of, number_between, number_below, optional, required};
+ghost use Rattle.plan_reader.specs.Readings.{list_of, number_between, number_below, optional};
+ghost use Rattle.plan_reader.specs.Readings.{required};
 ghost use Rattle.plan_reader.specs.Readings.{set, whole};
 ghost use Rattle.plan_reader.specs.Ranges.{HasLength};
 

@@ -17,38 +17,38 @@ pub fn number_of(token: &[u8]) -> Option<u64>
 }
 
 /// A number from `low` to `high`.
-pub fn in_range(low: u64, high: u64, number_between: u64) -> Result<u64, Cause>
-    ensures gives { result ≡ in_range low high number_between }
+pub fn in_range(low: u64, high: u64, number: u64) -> Result<u64, Cause>
+    ensures gives { result ≡ in_range low high number }
     ensures within { IfOk result (λ n. (low ≤ n) × (n ≤ high)) }
 {
-    if low <= number_between && number_between <= high {
-        Ok(number_between)
+    if low <= number && number <= high {
+        Ok(number)
     } else {
-        Err(Cause::Range(number_between))
+        Err(Cause::Range(number))
     }
 }
 
 /// A number below a size.
-pub fn index_below(size: u8, number_between: u64) -> Result<u8, Cause>
-    ensures gives { result ≡ below size number_between }
+pub fn index_below(size: u8, number: u64) -> Result<u8, Cause>
+    ensures gives { result ≡ below size number }
     ensures within { IfOk result (λ n. n < size) }
 {
-    if number_between < u64::from(size) {
-        Ok(number_between as u8)
+    if number < u64::from(size) {
+        Ok(number as u8)
     } else {
-        Err(Cause::Range(number_between))
+        Err(Cause::Range(number))
     }
 }
 
 /// A number below a limit.
-pub fn count_below(limit: u32, number_between: u64) -> Result<u32, Cause>
-    ensures gives { result ≡ below limit number_between }
+pub fn count_below(limit: u32, number: u64) -> Result<u32, Cause>
+    ensures gives { result ≡ below limit number }
     ensures within { IfOk result (λ n. n < limit) }
 {
-    if number_between < u64::from(limit) {
-        Ok(number_between as u32)
+    if number < u64::from(limit) {
+        Ok(number as u32)
     } else {
-        Err(Cause::Range(number_between))
+        Err(Cause::Range(number))
     }
 }
 

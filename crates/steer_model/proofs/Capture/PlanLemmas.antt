@@ -8,7 +8,7 @@ use Rattle.std.proofs.lemmas.Bool.{lt-ltb}
 use Rattle.std.proofs.lemmas.Option.{none-some, same_Some, slice_get-get_or, slice_get_within}
 use Rattle.plan_reader.specs.Plans.{nth_of, nth_step, sizes_of, step_count}
 use Rattle.plan_reader.specs.Ranges.{StepsAreWithin, step_is_within}
-use Rattle.plan_reader.specs.Seeds.{event_of, seeded_step, word_of}
+use Rattle.plan_reader.specs.Seeds.{event_of, seeded_step, seeded_word}
 use Rattle.plan_reader.specs.declared.plan.Plan.{Plan}
 use Rattle.plan_reader.specs.declared.plan.Steps.{Steps}
 use Rattle.plan_reader.specs.declared.plan.Steps.TheVariants as steps
@@ -91,8 +91,8 @@ nth-within sizes queues cpus apps tx (steps.List list) within i s is =
     subst (λ t. step_is_within sizes t ≡ true) at (within.list_within i s lt)
 nth-within sizes queues cpus apps tx (steps.Seed seed count) within i s is =
     pass-some (step_is_within sizes) (nat_lt i count) (i == count)
-    (seeded_step sizes (word_of seed i)) act.Sweep s
-    (seeded-within sizes queues cpus apps tx (word_of seed i)) refl is
+    (seeded_step sizes (seeded_word seed i)) act.Sweep s
+    (seeded-within sizes queues cpus apps tx (seeded_word seed i)) refl is
 
 pub plan_steps_are_within : (plan : Plan) → HasSteps plan
     → AllPass (step_is_within (sizes_of plan)) (steps_of plan)

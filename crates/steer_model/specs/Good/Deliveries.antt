@@ -27,7 +27,7 @@ IsDeliveredInOrder i h =
     → InOrder (of_flow i h q x) (arrivals_at h.arrivals q) (map (λ lane. lane.drops) h.lanes)
     (list_at h.inboxes (app_for (setup_in i) x))
 
--- Each packet is in one place, and each inbox is in order.
+-- The history is regular, each packet is in one place, and each inbox is in order.
 pub record IsSteered (i : Input) (h : History) : Type 0 where
   pub regular : Regular i.packets (length i.plan.apps) h
   pub places : AreInOnePlace h

@@ -4,7 +4,7 @@ use Rattle.std.proofs.Common.{None, length, take, drop, refl, ap, ◌∙◌, sym
 use Rattle.std.proofs.Common.{unwrap_or, get_or}
 use Rattle.std.specs.Prelude.{◌↔◌, slice_get}
 use Rattle.std.specs.List.{All}
-use Rattle.std.proofs.lemmas.Bool.{cases_Bool, cases_eq, eq-eqb, lt-ltb, ne_eqb}
+use Rattle.std.proofs.lemmas.Bool.{lt-ltb}
 use Rattle.std.proofs.lemmas.List.{get_or-take, get_or_default, length-take-le}
 use Rattle.std.proofs.lemmas.List.Elements.{All-filter}
 use Rattle.std.proofs.lemmas.Nat.Bits.{bit_at_ones}
@@ -14,7 +14,7 @@ use Rattle.history.specs.declared.history.History.{History}
 use Rattle.history.specs.declared.sent.Sent.{Sent}
 use Rattle.hop_core.specs.Hop.{choices_of, chosen_at, nobody}
 use Rattle.hop_core.proofs.Standing.{current_lane-in}
-use Rattle.steer_base.specs.Choices.{by_entry, desired_cpu, has_moved, migrate}
+use Rattle.steer_base.specs.Choices.{desired_cpu, migrate}
 use Rattle.steer_base.specs.Counters.{has_reached}
 use Rattle.steer_base.specs.Entries.{current_lane, entry, is_class, of_class}
 use Rattle.steer_base.specs.Moves.{MayLeave, MovesByThree}

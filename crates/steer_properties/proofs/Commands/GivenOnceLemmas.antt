@@ -12,7 +12,7 @@ use Rattle.std.proofs.lemmas.Option.{same_Some}
 use Rattle.history.specs.declared.commanded.Commanded.{Commanded}
 use Rattle.plan_reader.specs.Plans.{count_of, nth_of, sizes_of}
 use Rattle.plan_reader.specs.Ranges.{command_in, commands_of}
-use Rattle.plan_reader.specs.Seeds.{event_of, seeded_step, word_of}
+use Rattle.plan_reader.specs.Seeds.{event_of, seeded_step, seeded_word}
 use Rattle.plan_reader.specs.declared.plan.Steps.{Steps}
 use Rattle.plan_reader.specs.declared.plan.Steps.TheVariants as steps
 use Rattle.plan_reader.specs.declared.settings.sizes.Sizes.{Sizes}
@@ -281,8 +281,9 @@ commands-listed z (steps.List list) =
     (λ k. ap (slice_get list) (let e : 0 + k ≡ k = omega arith in e)))
 commands-listed z (steps.Seed seed count) =
     none-picked (nth_of z (steps.Seed seed count))
-    (λ i s is. nth-none (nat_lt i count) (i == count) (seeded_step z (word_of seed i)) act.Sweep s
-    (seeded-none z (word_of seed i)) refl is) (range_with_len 0 (count + 1))
+    (λ i s is. nth-none (nat_lt i count) (i == count) (seeded_step z (seeded_word seed i)) act.Sweep
+    s
+    (seeded-none z (seeded_word seed i)) refl is) (range_with_len 0 (count + 1))
 
 pub replays_give_once : ReplaysGiveOnce
 replays_give_once i may =

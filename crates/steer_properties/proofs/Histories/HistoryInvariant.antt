@@ -87,9 +87,9 @@ pub record HistoryInvariant (i : Input) (m : Machine) : Type 0 where
   pub follows : Follows i m
   -- heads_never_fall
   pub heads : Heads m
-  -- each socket entry was written by an application: needed by looking and rules
+  -- each socket entry was written by an application: needed by looking
   pub socket : SocketIsWritten m
-  -- what a poller saw in the socket table was written: the wants of every_choice_is_by_the_rule
+  -- what a poller saw in the socket flow table was written: the wants of rules
   pub looking : Looking m
   -- every_choice_is_by_the_rule
   pub rules : Rules i m

@@ -1,6 +1,6 @@
 -- When a flow changes its processor, and when its replies change their transmit queue (kernel
 -- scaling chapter, sections RFS and XPS).
-use Rattle.std.specs.Prelude.{ℕ, ◌<◌, ◌≡◌, true, Option, Some, None}
+use Rattle.std.specs.Prelude.{ℕ, ◌<◌, ◌≡◌, true, Some, None}
 use Rattle.std.specs.Prelude.{length, take, drop, unwrap_or, slice_get}
 use Rattle.history.specs.Lists.{list_at}
 use Rattle.history.specs.declared.history.History.{History}

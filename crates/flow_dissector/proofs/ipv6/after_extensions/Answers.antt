@@ -5,8 +5,6 @@ use Rattle.flow_dissector.proofs.Extensions.{after_extensions-none, after_extens
 use Rattle.flow_dissector.proofs.Extensions.{after_extensions-short, after_extensions-cut}
 use Rattle.flow_dissector.proofs.Extensions.{after_extensions-more}
 use Rattle.flow_dissector.proofs.ipv6.after_extensions.Goals as goal
-use Rattle.flow_dissector.proofs.ipv6.after_extensions.Goals.{then-left-eq0-via-then-left-eq0}
-use Rattle.flow_dissector.proofs.ipv6.after_extensions.Goals.{then-left-eq0-via-else-left-eq0+then-rest-lt2}
 
 pub returns-then-left-eq0-clause-payload : goal.returns-then-left-eq0-clause-payload
 returns-then-left-eq0-clause-payload c =
@@ -17,8 +15,8 @@ returns-then-left-eq0-clause-payload c =
     let short = λ (short : length (drop c.loop-rest.start c.args.packet.now) < 2). sym
     (after_extensions-short _ _ _ walked short) ∙ c.loop-rest.invariant.1 in
     elim c.then-left-eq0.branch [
-      | then-left-eq0-via-then-left-eq0 w ↦ too_many (omega arith)
-      | then-left-eq0-via-else-left-eq0+then-rest-lt2 w ↦
+      | goal.then-left-eq0-via-then-left-eq0 w ↦ too_many (omega arith)
+      | goal.then-left-eq0-via-else-left-eq0+then-rest-lt2 w ↦
           short (rw (← c.split_at.ensures.back) w.if-rest-lt2.true)
     ]
 

@@ -8,8 +8,6 @@ use Rattle.history_check.proofs.FromTests.{from_tests}
 use Rattle.history_check.proofs.PassingLists.{to_shape, to_short_lists}
 use Rattle.history_check.proofs.ToTests.{to_tests}
 use Rattle.history_check.proofs.regularity.is_regular.Goals as goal
-use Rattle.history_check.proofs.regularity.is_regular.Goals.{else-has_shape-via-then-has_shape+else-has_short_lists}
-use Rattle.history_check.proofs.regularity.is_regular.Goals.{else-has_shape-via-else-has_shape}
 
 pub returns-then-has_short_lists : goal.returns-then-has_short_lists
 returns-then-has_short_lists c =
@@ -29,9 +27,9 @@ returns-else-has_shape c =
     let h = c.args.history.now in (
       λ t. absurd (false≢true t),
       λ r. elim c.else-has_shape.branch [
-        | else-has_shape-via-then-has_shape+else-has_short_lists w ↦
+        | goal.else-has_shape-via-then-has_shape+else-has_short_lists w ↦
             let short : has_short_lists h ≡ true = to_short_lists packets c.args.apps h r in cc
-        | else-has_shape-via-else-has_shape w ↦
+        | goal.else-has_shape-via-else-has_shape w ↦
             let shape : has_shape packets c.args.apps h ≡ true = to_shape packets c.args.apps h r in
             cc
       ],

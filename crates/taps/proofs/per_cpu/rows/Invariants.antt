@@ -7,5 +7,6 @@ use Rattle.taps.proofs.per_cpu.rows.Given as goal
 -- the lines so far and those of the processors left are all lines
 abbrev pub invariant-loop-cpu : goal.invariant-loop-cpu
 invariant-loop-cpu l =
-    l.text.items ++ rows_of_cpus l.cpu (256 - l.cpu) (λ cpu. cpu_count_line cpu (slice_index l.counts cpu))
+    l.text.items ++ rows_of_cpus l.cpu (256 - l.cpu) (λ cpu. cpu_count_line cpu
+    (slice_index l.counts cpu))
     ≡ each_cpu (λ cpu. cpu_count_line cpu (slice_index l.counts cpu))

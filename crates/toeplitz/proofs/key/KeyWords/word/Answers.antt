@@ -19,7 +19,8 @@ loop-bit-preserved c =
       | then-byte-bit-eq1 w ↦
           let span : c.span-span.result ≡ key / 2 ^ (8 * (35 - place)) % 2 ^ 40 =
           c.span-span.ensures ∙ ap (λ n. n / 2 ^ (8 * (35 - place)) % 2 ^ 40) c.self.view_is in
-          let shown : c.span-span.result / 2 ^ (8 - bit) % 2 ^ 32 ≡ key_window key (8 * place + bit) =
+          let shown : c.span-span.result / 2 ^ (8 - bit) % 2 ^ 32 ≡ key_window key
+          (8 * place + bit) =
           ap (λ n. n / 2 ^ (8 - bit) % 2 ^ 32) span ∙ window_is key place bit c.requires small in
           rw (w.word-is, c.loop-bit.invariant) (word_of_one key place c.args.byte bit
           (c.span-span.result / 2 ^ (8 - bit) % 2 ^ 32) w.if-byte-bit-eq1.true shown)
