@@ -10,7 +10,7 @@ use plan_reader::{Plan, read_plan};
 use std::alloc::{AllocError, Global};
 use std::process::Abort;
 use std::test::Fail;
-use steer_base::{Answer, OutOfMemory, Packet, Step};
+use steer_base::{Answer, MAX_PACKETS, OutOfMemory, Packet, Step};
 use steer_core::Steering;
 
 // Puts so many of an item behind the text, with commas between them.

@@ -1,13 +1,12 @@
 -- Forged histories are none of the run, on the examples of two packets.
-use Rattle.std.proofs.Common.{ℕ, ◌≡◌, ◌⊎◌, true, List, [], ◌∷◌, Option, Some, None, refl, ap, ◌∙◌}
-use Rattle.std.proofs.Common.{sym, subst, arith, get_or, inl, inr, zero, suc}
+use Rattle.std.proofs.Common.{ℕ, ◌≡◌, List, [], Option, Some, None, refl, ap, ◌∙◌}
+use Rattle.std.proofs.Common.{sym, subst, arith, inl, inr, zero, suc}
 use Rattle.std.specs.Prelude.{slice_get}
 use Rattle.std.specs.List.{All}
 use Rattle.std.proofs.lemmas.List.Elements.{All-get_or}
 use Rattle.std.proofs.lemmas.Option.{get_or_from_slice_get, slice_get_within}
 use Rattle.history.specs.Lists.{list_at, packet_at}
 use Rattle.history.specs.declared.arrival.Arrival.{Arrival}
-use Rattle.history.specs.declared.commanded.Commanded.{Commanded}
 use Rattle.history.specs.declared.history.History.{History}
 use Rattle.history.specs.declared.sock_write.SockWrite.{SockWrite}
 use Rattle.plan_reader.specs.Settings.{IsWithin}
@@ -20,7 +19,7 @@ use Rattle.steer_base.specs.declared.choice.Why.TheVariants.{Kept, Passed}
 use Rattle.steer_base.specs.declared.command.Command.{Command}
 use Rattle.steer_base.specs.declared.step.Step.{Step}
 use Rattle.steer_model.specs.Good.Arrivals.{SeenBy}
-use Rattle.steer_model.specs.Good.Inputs.{Input, WasDone}
+use Rattle.steer_model.specs.Good.Inputs.{WasDone}
 use Rattle.steer_model.specs.Good.Writes.{StoodAt}
 use Rattle.steer_model.specs.State.Start.{replayed}
 use Rattle.steer_properties.specs.Commands.Answered.{IsWriteFor}

@@ -2,5 +2,6 @@ pub mod Places
 pub mod Rules
 pub mod Rights
 pub mod Reports
+pub mod MomentLemmas
 mod ExampleLemmas
 mod ForgedLemmas

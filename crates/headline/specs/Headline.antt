@@ -20,6 +20,7 @@ use Rattle.steer_properties.specs.Histories.GoodSoFar.{GoodSoFar}
 use Rattle.steer_properties.specs.Histories.Sizes.{IsOfItsInput}
 use Rattle.toeplitz.specs.Toeplitz.{number_of}
 use Rattle.headline.specs.Drops.{IsDroppedFor}
+use Rattle.headline.specs.Moments.{HaveMomentsOfTheRun}
 use Rattle.headline.specs.Orders.{AreInOrder}
 use Rattle.headline.specs.Places.{IsAtOnePlace}
 use Rattle.headline.specs.Processors.{ProcessorsAreChosen}
@@ -52,12 +53,14 @@ pub record IsRight (i : Input) (h : History) : Type 0 where
 -- the capture's number of packets and its cut record, and the plan's start and sizes. It meets each
 -- clause of a good history that does not ask that the run is over: each arrival is at the queue of
 -- a table entry or of a filter, wants were written, heads never fall, and writes, answers and
--- replies are those of the rules. Its commands are the plan's, each given once.
+-- replies are those of the rules. Its commands are the plan's, each given once. Each arrival and
+-- each choice was made at a state of the run, with the heads, entries, tables and settings of it.
 pub record IsOfTheRun (i : Input) (h : History) : Type 0 where
   pub made : h ≡ replayed i.plan i.packets i.cut
   pub of_input : IsOfItsInput i h
   pub good : GoodSoFar i h
   pub given : AreGiven 1 (commands_of i.plan.steps) h.commands
+  pub moments : HaveMomentsOfTheRun i h
 
 -- The bytes of a plan and the capture in other bytes say what was to be done: the plan, and the
 -- packets with their flows, and their hashes by the plan's key and kinds.
