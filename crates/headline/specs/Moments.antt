@@ -45,8 +45,8 @@ pub record ArrivedAt (i : Input) (last : Machine) (k : ℕ) (a : Arrival) : Type
   pub is : a ≡ arrival_by k (route_by at (packet_hash at.setup k))
 
 -- Choice k of queue q of a run that came to a last state. It was made at a state on the way, as the
--- next one of the queue, by the rule with the heads, the entries and the settings of that state. Its
--- want is what the poller had seen in the socket flow table at an earlier state. At the state right
+-- next one of the queue, by the rule with the heads, entries and settings of that state. Its want
+-- is what the poller had seen in the socket flow table at an earlier state. At the state right
 -- after it, each earlier choice that it moved away from is clear.
 pub record ChosenAt (i : Input) (last : Machine) (q k : ℕ) (c : Chosen) : Type 0 where
   pub looked : Machine
