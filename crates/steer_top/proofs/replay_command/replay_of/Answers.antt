@@ -8,4 +8,5 @@ returns g c =
     let packets = c.in_ok-packets.ensures in
     let same : c.as_slice.result.now ≡ c.in_ok-packets.packets.items = c.as_slice.ensures.value in
     replay_is c.args.plan.now file.bytes.items file.capture _ c.as_slice.result.now c.make.result
-    (rw same (rw c.deref.ensures.value at packets.list)) (rw same packets.few) c.make.ensures.is c.make.ensures.fits
+    (rw same (rw c.deref.ensures.value at packets.list)) (rw same packets.few) c.make.ensures.is
+    c.make.ensures.fits
