@@ -16,6 +16,13 @@ use steer_base::{LaneDrop, OutOfMemory, PacketId, Put, number_at};
 /// (`netdev_max_backlog`) and, where it is limited, the flow limit of the scaling chapter.
 #[derive(Drop)]
 pub struct Lane {
+    parts: Box<Parts>,
+}
+
+/// What a lane consists of. A lane is moved into and out of its place on a board at each hold, so
+/// it is one pointer to them.
+#[derive(Drop)]
+struct Parts {
     queue: Queue,
     offers: Offers,
     drops: Vec<LaneDrop>,
@@ -32,12 +39,14 @@ impl Model for Lane {
 
     ghost Value = { LaneLists };
 
-    ghost view = { λ l.
-        lane_lists l.queue l.offers l.drops.items l.limit l.room l.start l.limited };
+    ghost view = { λ l. lane_lists l.parts.value.queue l.parts.value.offers
+        l.parts.value.drops.items l.parts.value.limit l.parts.value.room l.parts.value.start
+        l.parts.value.limited };
 
     ghost invariant = { λ l.
-        IsKept (lane_lists l.queue l.offers l.drops.items l.limit l.room l.start l.limited)
-        l.queue l.offers (vec_capacity l.drops) };
+        IsKept (lane_lists l.parts.value.queue l.parts.value.offers l.parts.value.drops.items
+        l.parts.value.limit l.parts.value.room l.parts.value.start l.parts.value.limited)
+        l.parts.value.queue l.parts.value.offers (vec_capacity l.parts.value.drops) };
 }
 
 impl Lane {
@@ -58,7 +67,7 @@ impl Lane {
         let queue = Queue::make(alloc, limit, room)?;
         let offers = Offers::make(alloc, room)?;
         let drops = Vec::with_capacity(alloc, room as usize)?;
-        Ok(Lane {
+        let parts = Parts {
             queue,
             offers,
             drops,
@@ -66,6 +75,9 @@ impl Lane {
             room,
             start,
             limited,
+        };
+        Ok(Lane {
+            parts: Box::new(alloc, parts)?,
         })
     }
 
@@ -79,16 +91,17 @@ impl Lane {
         ensures one_more { put_count self.new ≡ put_count self.old + 1 }
         ensures shape { SameShape self.old self.new }
     {
-        let (accepted, pulled) = (self.queue.accepted(), self.queue.pulled());
-        let waiting = self.queue.waiting();
-        let count = self.offers.note(bucket_of(hash));
-        match drop_cause(self.limited, self.limit, waiting, count) {
+        let (accepted, pulled) = (self.parts.queue.accepted(), self.parts.queue.pulled());
+        let waiting = self.parts.queue.waiting();
+        let count = self.parts.offers.note(bucket_of(hash));
+        match drop_cause(self.parts.limited, self.parts.limit, waiting, count) {
             None => {
-                self.queue.put(id);
-                Put::At(number_at(self.start, accepted + 1))
+                self.parts.queue.put(id);
+                Put::At(number_at(self.parts.start, accepted + 1))
             }
             Some(cause) => {
-                self.drops
+                self.parts
+                    .drops
                     .push(LaneDrop {
                         id,
                         accepted,
@@ -97,7 +110,7 @@ impl Lane {
                     })
                     .unwrap();
                 Put::Dropped {
-                    number: self.drops.len() as u32,
+                    number: self.parts.drops.len() as u32,
                     accepted,
                     pulled,
                     cause,
@@ -112,35 +125,35 @@ impl Lane {
         ensures packet { result ≡ next_waiting self.old }
         ensures shape { SameShape self.old self.new }
     {
-        self.queue.take()
+        self.parts.queue.take()
     }
 
     /// How many more packets may be put: the room less the packets accepted or dropped so far.
     pub fn room(&self) -> u32
         ensures { result + put_count self.now ≡ self.now.room }
     {
-        self.room - self.offers.len()
+        self.parts.room - self.parts.offers.len()
     }
 
     /// The number of packets accepted so far.
     pub fn accepted_len(&self) -> u32
         ensures { result ≡ length self.now.accepted }
     {
-        self.queue.accepted()
+        self.parts.queue.accepted()
     }
 
     /// The accepted packet at index `n`, from 0, if more than `n` were accepted.
     pub fn accepted_at(&self, n: u32) -> Option<PacketId>
         ensures { result ≡ slice_get self.now.accepted n }
     {
-        self.queue.get(n)
+        self.parts.queue.get(n)
     }
 
     /// The drops, in the order of their numbers.
     pub fn drops(&self) -> &[LaneDrop]
         ensures { result.now ≡ self.now.drops }
     {
-        &self.drops
+        &self.parts.drops
     }
 
     /// The number of packets pulled so far.
@@ -148,13 +161,13 @@ impl Lane {
         ensures pulled { result ≡ self.now.pulled }
         ensures lane { IsLane self.now }
     {
-        self.queue.pulled()
+        self.parts.queue.pulled()
     }
 
     /// The counter number of the accepted packets, which wraps at 32 bits.
     pub fn tail(&self) -> u32
         ensures { result ≡ number self.now.start (length self.now.accepted) }
     {
-        number_at(self.start, self.queue.accepted())
+        number_at(self.parts.start, self.parts.queue.accepted())
     }
 }
