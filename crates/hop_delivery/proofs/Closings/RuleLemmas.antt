@@ -1,4 +1,4 @@
--- A choice by what a queue's turns read is a choice by the settings of their visits.
+-- A choice by what a queue's turns know is a choice by the settings of their visits.
 use Rattle.std.proofs.Common.{◌≡◌, ℕ, zero, suc, ◌≤◌, ◌==◌, List}
 use Rattle.std.proofs.Common.{Option, Some, None, take, drop, if◌then◌else◌, sym, refl, ap, ◌∙◌}
 use Rattle.std.proofs.Common.{arith}
@@ -23,8 +23,8 @@ use Rattle.hop_delivery.specs.Orders.Runs.{turns_of}
 use Rattle.hop_delivery.specs.Orders.Runs.{settings_at, word_of}
 use Rattle.hop_delivery.specs.Orders.Turns.{Turn, Explained}
 use Rattle.hop_delivery.specs.Closings.FlowLaw.{accepted_left}
-use Rattle.hop_delivery.specs.Closings.TurnReads.{HasSeen, IsBySeen, RulesAreByReads}
-use Rattle.hop_delivery.specs.Closings.TurnReads.{TurnsReadSettings}
+use Rattle.hop_delivery.specs.Closings.TurnReads.{HasSeen, IsBySeen, Knows, RulesAreByReads}
+use Rattle.hop_delivery.specs.Closings.TurnReads.{TurnsKnowSettings}
 
 -- the last resize before a choice, by the shapes up to it
 since-same : (f g : ℕ → ℕ) (i : ℕ) → ((j : ℕ) → j ≤ i → f j ≡ g j)
@@ -63,10 +63,10 @@ module _ (q : Queues) (p : ℕ) (s z : ℕ → ℕ) (masks : s (mask_word q p) �
       λ i. desired_cpu (Some 0) want (mask (onlines i)) (plain_same f i)
 
 module _ (about : BoardSizes) (own : ℕ → List BoardStep) (lists : BoardLists)
-    (law : TurnsReadSettings about own lists) (q : Queues) (t : Story) (seen : ℕ → ℕ → ℕ)
+    (law : TurnsKnowSettings about own lists) (q : Queues) (t : Story) (seen : ℕ → ℕ → ℕ)
     (p i : ℕ) (explained : Explained (own (t.seat p)) (t.turns (t.seat p)))
-    (sees : (j : ℕ) (v : Turn) → j ≤ i → nth_step (turns_of t p) j ≡ Some v → HasSeen q p v
-    (seen j))
+    (sees : (j : ℕ) (v : Turn) → j ≤ i → nth_step (turns_of t p) j ≡ Some v
+    → HasSeen (own (t.seat p)) q p v (seen j))
   where
     abbrev steering : Steering
     steering = receive_steering q
@@ -77,12 +77,9 @@ module _ (about : BoardSizes) (own : ℕ → List BoardStep) (lists : BoardLists
     abbrev visits_at : ℕ → ℕ → ℕ
     visits_at j = settings_at about own accepted t steering p j
 
-    -- the settings of the j-th visit are what its turn saw
+    -- the settings of the j-th visit are what its turn knows
     word_same : (j word : ℕ) (v : Turn) → nth_step (turns_of t p) j ≡ Some v
-        → Contains v.early
-        (Rattle.hop_rule.specs.declared.step.BoardStep.TheVariants.Gate
-        (Rattle.hop_rule.specs.declared.step.GateStep.TheVariants.Read word (seen j word)))
-        → seen j word ≡ visits_at j word
+        → Knows (own (t.seat p)) v word (seen j word) → seen j word ≡ visits_at j word
     word_same j word v at has =
         law t p j word (seen j word) v explained at has
         ∙ ap (λ o. settings_of_visit about own (word_of o) word) (sym at)
@@ -139,6 +136,6 @@ module _ (about : BoardSizes) (own : ℕ → List BoardStep) (lists : BoardLists
           }
 
 pub rules_by_reads : (about : BoardSizes) (own : ℕ → List BoardStep) (lists : BoardLists)
-    → TurnsReadSettings about own lists → RulesAreByReads about own lists
+    → TurnsKnowSettings about own lists → RulesAreByReads about own lists
 rules_by_reads about own lists law q t seen p i u less explained at sees b =
     by_reads about own lists law q t seen p i explained sees u at b
