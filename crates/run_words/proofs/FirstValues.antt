@@ -45,7 +45,8 @@ module _ (plan : Plan) where
   masks_count = length-map plan.queues (λ (queue : QueuePlan). cpus_word queue.mask)
 
   flows_count : length flows ≡ length plan.queues
-  flows_count = length-map plan.queues (λ (queue : QueuePlan). flows_word (rounded_up queue.flows) 0)
+  flows_count =
+      length-map plan.queues (λ (queue : QueuePlan). flows_word (rounded_up queue.flows) 0)
 
   receive_stands : (s : ReceiveSetting) → IsReceiveSetting (length plan.queues) s
       → slice_get (first_receive_settings plan) (receive_number (length plan.queues) s)

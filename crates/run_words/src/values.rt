@@ -73,8 +73,8 @@ pub fn cpus_word(mask: CpuMask) -> u64
     mask.0 as u64
 }
 
-/// The set of processors of a word, empty if it has a processor that is not one of the first `cpus`,
-/// of which there are at most 32.
+/// The set of processors of a word, empty if it has one that is not one of the first `cpus`, of
+/// which there are at most 32.
 pub fn cpus_in(word: u64, cpus: u8) -> CpuMask
     requires { cpus ≤ 32 }
     ensures value { result ≡ values.cpus_in word cpus }

@@ -1,0 +1,7 @@
+pub mod ChoiceLemmas
+pub mod DeltaLemmas
+pub mod DrainLemmas
+pub mod GateLemmas
+pub mod PollerLemmas
+pub mod PutLemmas
+pub mod VisitLemmas
