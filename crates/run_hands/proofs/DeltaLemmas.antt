@@ -10,9 +10,9 @@ use Rattle.hop_rule.specs.Owns.{puts_of, visits_of, put_in, visit_in}
 use Rattle.hop_rule.specs.declared.sizes.BoardSizes.{BoardSizes}
 use Rattle.hop_rule.specs.declared.step.BoardStep.{BoardStep}
 use Rattle.hop_rule.specs.declared.step.BoardStep.TheVariants.{Lane, LaneIn, LaneOut}
-use Rattle.hop_rule.specs.declared.step.Change.TheVariants.{Nothing, Pulled}
-use Rattle.hop_rule.specs.declared.step.LaneStep.TheVariants.{Held, Missed, Freed, OutHeld, OutMissed}
-use Rattle.hop_rule.specs.declared.step.LaneStep.TheVariants.{OutFreed, Given, Retired}
+use Rattle.hop_rule.specs.declared.step.Change.TheVariants.{Nothing}
+use Rattle.hop_rule.specs.declared.step.LaneStep.TheVariants.{Held, Missed, OutHeld, OutMissed}
+use Rattle.hop_rule.specs.declared.step.LaneStep.TheVariants.{OutFreed}
 use Rattle.board_api.specs.Calls.Results.{Took, BackTells, released}
 use Rattle.board_api.specs.OwnSteps.{delivered_by, delivered_in, retired_by, retired_in}
 use Rattle.board_api.specs.Seats.{BoardSeatView, Adds}
@@ -20,7 +20,7 @@ use Rattle.board_api.specs.declared.held_lane.HeldLane.{HeldLane}
 use Rattle.board_api.specs.declared.held_lane.HeldLane.TheVariants as held
 use Rattle.board_api.specs.declared.held_lane.LaneId.TheVariants as id
 use Rattle.hop_delivery.specs.Orders.Turns.{AreQuiet}
-use Rattle.run_hands.specs.Deltas.{HoldsNoMore, LeavesLane, OnlyServes, Serves, no_lane, this_lane}
+use Rattle.run_hands.specs.Deltas.{HoldsNoMore, LeavesLane, OnlyServes, Serves}
 
 -- what is None in both cases
 pub none_either : {A : Type 0} (b : Bool) (x y : Option A) → x ≡ None

@@ -1,6 +1,6 @@
 -- What steps leave of a drain's record.
-use Rattle.std.proofs.Common.{◌≡◌, ℕ, suc, ◌+◌, ◌==◌, ◌<◌, List, [], ◌∷◌, ◌++◌, All, None, Some}
-use Rattle.std.proofs.Common.{Option, refl, sym, ap, subst, ◌∙◌, true, false, length, arith}
+use Rattle.std.proofs.Common.{◌≡◌, ℕ, ◌+◌, ◌==◌, List, [], ◌∷◌, ◌++◌, All, None, Some}
+use Rattle.std.proofs.Common.{refl, sym, ap, subst, ◌∙◌, false, length, arith}
 use Rattle.std.proofs.Common.{Bool}
 use Rattle.std.proofs.lemmas.Bool.{eq-eqb}
 use Rattle.std.proofs.lemmas.List.Elements.{All-cons, filter_map-append}
@@ -13,7 +13,7 @@ use Rattle.hop_rule.specs.Lanes.{Phase, idle, gave, has_pulled, holding, out_hol
 use Rattle.hop_rule.specs.OutLanes.{OutList}
 use Rattle.hop_rule.specs.declared.sizes.BoardSizes.{BoardSizes}
 use Rattle.hop_rule.specs.declared.step.BoardStep.{BoardStep}
-use Rattle.hop_rule.specs.declared.step.BoardStep.TheVariants.{Lane, LaneIn, LaneOut}
+use Rattle.hop_rule.specs.declared.step.BoardStep.TheVariants.{Lane, LaneIn}
 use Rattle.hop_rule.specs.declared.step.Change.TheVariants.{Pulled}
 use Rattle.hop_rule.specs.declared.step.LaneStep.TheVariants.{Given, Retired}
 use Rattle.board_api.specs.Calls.Results.{Took, DeliverTells, PullTells, RetireTells, released}

@@ -1,5 +1,5 @@
 -- The gate while the closer looks at lanes.
-use Rattle.std.proofs.Common.{◌≡◌, ℕ, List, [], ◌∷◌, refl, ap, ◌∙◌}
+use Rattle.std.proofs.Common.{◌≡◌, List, [], ◌∷◌, refl, ap, ◌∙◌}
 use Rattle.hop_rule.specs.Boards.{gate_steps}
 use Rattle.hop_rule.specs.Gates.{closed}
 use Rattle.hop_rule.specs.declared.step.BoardStep.{BoardStep}

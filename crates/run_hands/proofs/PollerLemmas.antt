@@ -1,5 +1,5 @@
 -- A poller's record after a packet was steered.
-use Rattle.std.proofs.Common.{◌≡◌, ◌≤◌, ℕ, ◌+◌, ◌<◌, List, [], ◌∷◌, ◌++◌, Option, None, Some, refl}
+use Rattle.std.proofs.Common.{◌≡◌, ◌≤◌, ℕ, ◌+◌, [], ◌∷◌, ◌++◌, Option, None, Some, refl}
 use Rattle.std.proofs.Common.{sym, ap, subst, ◌∙◌, false, length, length-append, arith}
 use Rattle.steer_base.specs.Journals.{Journal, grown}
 use Rattle.steer_base.specs.declared.choice.Chosen.{Chosen}

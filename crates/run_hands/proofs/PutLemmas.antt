@@ -1,5 +1,5 @@
 -- The steps of a put: a middle lane taken, and given back with one more packet.
-use Rattle.std.proofs.Common.{◌≡◌, ℕ, ◌==◌, List, [], ◌∷◌, ◌++◌, None, Some, Option, refl, sym, ap}
+use Rattle.std.proofs.Common.{◌≡◌, ℕ, ◌==◌, List, ◌∷◌, ◌++◌, None, Some, Option, refl, ap}
 use Rattle.std.proofs.Common.{subst, ◌∙◌}
 use Rattle.linearization.specs.Seats.{SeatView}
 use Rattle.steer_base.specs.Lanes.{LaneLists}
@@ -11,24 +11,23 @@ use Rattle.dev_flow_table.specs.Folds.{table_after}
 use Rattle.dev_flow_table.specs.Tables.{Table}
 use Rattle.hint_words.specs.declared.step.HintStep.{HintStep}
 use Rattle.hop_rule.specs.Boards.{gate_steps, lane_steps}
-use Rattle.hop_rule.specs.Gates.{inside, visit}
+use Rattle.hop_rule.specs.Gates.{visit}
 use Rattle.hop_rule.specs.Lanes.{holding}
 use Rattle.hop_rule.specs.declared.sizes.BoardSizes.{BoardSizes}
 use Rattle.hop_rule.specs.declared.step.BoardStep.{BoardStep}
 use Rattle.hop_rule.specs.declared.step.BoardStep.TheVariants.{Lane, LaneIn}
 use Rattle.hop_rule.specs.declared.step.Change.TheVariants.{Offered}
 use Rattle.hop_rule.specs.declared.step.LaneStep.TheVariants.{Freed}
-use Rattle.board_api.specs.Calls.Results.{PutTells, Took, released}
+use Rattle.board_api.specs.Calls.Results.{PutTells, released}
 use Rattle.board_api.specs.Calls.Rights.{IsInside}
 use Rattle.board_api.specs.Seats.{BoardSeatView, Adds}
 use Rattle.board_api.specs.declared.held_lane.HeldLane.{HeldLane}
 use Rattle.board_api.specs.declared.held_lane.HeldLane.TheVariants as held
-use Rattle.board_api.specs.declared.held_lane.LaneId.TheVariants as id
 use Rattle.board_api.proofs.AddedSteps.{quiet_steps_stay}
 use Rattle.hop_delivery.specs.Orders.Turns.{AreQuiet}
 use Rattle.steer_model.specs.State.Setup.{Setup, packet_hash}
 use Rattle.run_hands.specs.Pollers.{AsksFilter, Puts, count_after}
-use Rattle.run_hands.specs.Deltas.{HoldsNoMore, LeavesLane, TakesLane, no_lane}
+use Rattle.run_hands.specs.Deltas.{HoldsNoMore, LeavesLane, TakesLane}
 use Rattle.run_hands.proofs.DeltaLemmas.{adds_both, held_steps, holds_both, leaves_both}
 use Rattle.run_hands.proofs.DeltaLemmas.{none_either, quiet_both}
 

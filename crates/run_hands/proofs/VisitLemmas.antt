@@ -1,7 +1,7 @@
 -- A visit in which a packet was steered is a turn.
-use Rattle.std.proofs.Common.{◌≡◌, ℕ, List, [], ◌∷◌, ◌++◌, Option, None, Some, IfSome, refl, sym, ap}
+use Rattle.std.proofs.Common.{◌≡◌, ℕ, List, [], ◌∷◌, ◌++◌}
+use Rattle.std.proofs.Common.{Option, None, Some, IfSome, refl, sym, ap}
 use Rattle.std.proofs.Common.{false, subst, ◌∙◌, unwrap_or, length, append_assoc}
-use Rattle.std.specs.List.{Contains}
 use Rattle.std.proofs.lemmas.List.Elements.{Contains-append_left, Contains-append_right}
 use Rattle.std.proofs.lemmas.List.Elements.{Contains-push}
 use Rattle.linearization.specs.Orders.{step_by}
@@ -9,9 +9,8 @@ use Rattle.linearization.specs.Seats.{SeatView}
 use Rattle.steer_base.specs.Sets.{has}
 use Rattle.steer_base.specs.declared.choice.Choice.{Choice}
 use Rattle.steer_base.specs.declared.choice.Chosen.{Chosen}
-use Rattle.steer_base.specs.declared.put.Put.{Put}
-use Rattle.dev_flow_table.specs.Folds.{after_turn, table_after}
-use Rattle.dev_flow_table.specs.Tables.{Table, entries, weighed}
+use Rattle.dev_flow_table.specs.Folds.{table_after}
+use Rattle.dev_flow_table.specs.Tables.{Table, weighed}
 use Rattle.hint_words.specs.declared.step.HintStep.{HintStep}
 use Rattle.hop_rule.specs.Boards.{gate_steps}
 use Rattle.hop_rule.specs.Gates.{closed, visit}
@@ -20,7 +19,7 @@ use Rattle.hop_rule.specs.declared.step.BoardStep.TheVariants.{Gate, Weighed}
 use Rattle.hop_rule.specs.declared.step.GateStep.TheVariants.{Entered, Left}
 use Rattle.board_api.specs.Calls.Rights.{HasOpen, IsInside}
 use Rattle.board_api.specs.Seats.{BoardSeatView, Adds}
-use Rattle.board_api.specs.StepWords.{is_marked, low_half}
+use Rattle.board_api.specs.StepWords.{is_marked}
 use Rattle.board_api.proofs.AddedSteps.{quiet_steps_stay}
 use Rattle.hop_delivery.specs.Orders.Turns.{AreQuiet, Explained, Turn, turn_put, visit_with}
 use Rattle.hop_delivery.proofs.Orders.TurnLemmas.{explained_more, explained_turn}
@@ -82,7 +81,8 @@ idle_left =
 
 -- ---- the head that was loaded
 
-pub record HeadSteps (table : Table) (class head : Option ℕ) (old new : BoardSeatView) : Type 0 where
+pub record HeadSteps (table : Table) (class head : Option ℕ) (old new : BoardSeatView)
+    : Type 0 where
   pub added : List BoardStep
   pub adds : Adds added old new
   pub quiet : AreQuiet added
@@ -214,7 +214,8 @@ module _ (given : Setup) (filters q flows seen : ℕ) (before after : Table)
           last hint_old hint_new
       visits =
           record {
-            adds = adds_both first new last (Gate Left ∷ []) ((put ∷ early) ++ Gate (Entered w) ∷ [])
+            adds = adds_both first new last (Gate Left ∷ [])
+                ((put ∷ early) ++ Gate (Entered w) ∷ [])
                 (adds_both first old new (put ∷ early) (Gate (Entered w) ∷ []) enters adds) leaves;
             gate = unmarked;
             quiet = quiet;

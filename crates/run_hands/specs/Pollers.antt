@@ -23,6 +23,7 @@ use Rattle.dev_flow_table.specs.Folds.{Placement, after_turn, table_after}
 use Rattle.dev_flow_table.specs.Tables.{Table, cleared, entries, weighed}
 use Rattle.hint_words.specs.declared.step.HintStep.{HintStep}
 use Rattle.hint_words.specs.declared.step.HintStep.TheVariants.{Load, Store}
+use Rattle.hop_rule.specs.declared.sizes.BoardSizes.{BoardSizes}
 use Rattle.hop_rule.specs.declared.step.BoardStep.{BoardStep}
 use Rattle.hop_rule.specs.declared.step.BoardStep.TheVariants.{Gate, Lane, Weighed}
 use Rattle.hop_rule.specs.declared.step.Change.TheVariants.{Offered}
@@ -38,6 +39,10 @@ use Rattle.run_words.specs.declared.hint_word.TheConstants.{FILTER_WORDS}
 use Rattle.run_hands.specs.Deltas.{HoldsNoMore, LeavesLane}
 use Rattle.run_hands.specs.declared.poller.Poller.{Poller}
 use Rattle.run_hands.specs.declared.poller.Reading.{Reading}
+
+-- The board has the settings of a receive board: two for each queue, and two more.
+abbrev pub HasQueueSettings : BoardSizes → Setup → Type 0
+HasQueueSettings about given = length about.settings ≡ 2 * length given.homes + 2
 
 -- The reads of the four settings of queue q, of so many: its processors, its flow count, the socket
 -- size and the online processors.
@@ -162,8 +167,8 @@ count_after count (Dropped number accepted pulled cause) = count
 abbrev pub put_of : Setup → ℕ → ℕ → Put → BoardStep
 put_of given lane id answer = Lane (Freed lane (Offered id (packet_hash given id) answer))
 
--- A poller put a packet to the lane of its choice: the lane was taken and given back, the packet was
--- offered with its hash, and the table was told of the answer.
+-- A poller put a packet to the lane of its choice: the lane was taken and given back, the packet
+-- was offered with its hash, and the table was told of the answer.
 pub record Puts (given : Setup) (filters id : ℕ) (choice : Choice) (answer : Put)
     (before after : Table) (count_old count_new : ℕ) (old new : BoardSeatView)
     (hint_old hint_new : SeatView HintStep) : Type 0 where
@@ -224,12 +229,14 @@ pub record Visits (given : Setup) (filters q flows seen : ℕ) (before after : T
   pub table : after ≡ after_turn (refreshed flows reading.flows before) (as_told turn)
   pub word : seen ≡ reading.flows
   pub count : count_new ≡ count_after count_old turn.answer
-  pub asks : AsksFilter given filters turn.chosen.id turn.chosen.choice turn.answer hint_mid hint_new
+  pub asks : AsksFilter given filters turn.chosen.id turn.chosen.choice turn.answer hint_mid
+      hint_new
 
 -- ---- a poll
 
--- What a poller keeps of itself: its hand names a packet for which there is room in its journal, its
--- table names processors of the board, and it has counted no more accepted packets than choices.
+-- What a poller keeps of itself: its hand names a packet for which there is room in its journal,
+-- its table names processors of the board, and it has counted at most as many accepted packets as
+-- choices.
 pub record IsPoller (cpus : ℕ) (p : Poller) : Type 0 where
   pub few : p.choices.room ≤ MAX_PACKETS
   pub hand : IfSome p.hand (λ id. id < p.choices.room)
@@ -260,9 +267,8 @@ pub record SteersHand (given : Setup) (filters id : ℕ) (p q : Poller) (old new
   pub visit : Visits given filters p.queue p.flows q.flows p.table q.table p.accepted q.accepted
       turn old new hint_old hint_new
   pub choices : q.choices ≡ grown p.choices turn.chosen
-  pub empty : q.hand ≡ None
   pub same : q ≡ record p {
-    hand = q.hand;
+    hand = None;
     flows = q.flows;
     table = q.table;
     choices = q.choices;

@@ -1,5 +1,6 @@
 //! The poller of a receive queue.
-ghost use Rattle.std.specs.Prelude.{◌≡◌, ◌<◌, ◌≤◌, ◌+◌, ◌*◌, None, Some, false, length, IfSome, IsSome};
+ghost use Rattle.std.specs.Prelude.{◌≡◌, ◌<◌, ◌≤◌, ◌+◌, ◌*◌, None, Some, false, length, IfSome};
+ghost use Rattle.std.specs.Prelude.{IsSome};
 ghost use Rattle.std.specs.Option.{is_some};
 ghost use Rattle.steer_base.specs.Arrivals.{filter_place};
 ghost use Rattle.steer_base.specs.Choices.{looks_at_head};
@@ -14,6 +15,7 @@ ghost use Rattle.board_api.specs.Calls.Rights.{HasOpen, IsInside, IsOutside};
 ghost use Rattle.board_api.specs.Seats.{Adds};
 ghost use Rattle.steer_model.specs.Steps.Pollers.{filter_for as filter_after};
 ghost use Rattle.run_words.specs.declared.hint_word.TheConstants.{FILTER_WORDS};
+ghost use Rattle.run_hands.specs.Pollers.{HasQueueSettings};
 ghost use Rattle.run_hands.specs.Pollers.{Chooses, HasLanesBelow, IsPoller, LoadsHead, LooksUp};
 ghost use Rattle.run_hands.specs.Pollers.{Polls};
 ghost use Rattle.run_hands.specs.Pollers.{Puts, Steers, StoresFilter, Takes, read_steps};
@@ -92,8 +94,8 @@ fn look(
 
 impl Poller {
     /// Takes the next packet from the ring if the hand is empty, and steers the packet in hand in
-    /// one visit of the receive board. If the gate is closed, or there is no packet, nothing is
-    /// steered, and the packet stays in hand. Returns whether a number was taken or a packet steered.
+    /// one visit of the receive board. If the gate is closed nothing is steered, and the packet
+    /// stays in hand. Returns whether a number was taken or a packet steered.
     pub fn poll<R: Wait, B: Board>(
         &mut self,
         rt: &R,
@@ -109,13 +111,12 @@ impl Poller {
         requires outside { IsOutside seat.old.steps }
         requires open { HasOpen seat.old.steps }
         requires queue { self.old.queue < length shared.now.given.homes }
-        requires settings { length (B.view board.now).sizes.settings
-            ≡ 2 * length shared.now.given.homes + 2 }
+        requires settings { HasQueueSettings (B.view board.now).sizes shared.now.given }
         requires cpus { (B.view board.now).sizes.lanes ≡ shared.now.given.cpus }
         requires room { self.old.choices.room ≡ (B.view board.now).sizes.room }
         requires is { IsPoller shared.now.given.cpus self.old }
-        ensures polls { Polls shared.now.given shared.now.filters self.old self.new seat.old seat.new
-            hint.old hint.new }
+        ensures polls { Polls shared.now.given shared.now.filters self.old self.new
+            seat.old seat.new hint.old hint.new }
         ensures is { IsPoller shared.now.given.cpus self.new }
         ensures ring { SameConsumer self.old.ring self.new.ring }
         ensures outside { IsOutside seat.new.steps }
@@ -242,8 +243,7 @@ impl Poller {
         requires words { MAX_SOCKET_SIZE ≤ shared.now.hints.words }
         requires inside { IsInside seat.old.steps }
         requires queue { self.old.queue < length shared.now.given.homes }
-        requires settings { length (B.view board.now).sizes.settings
-            ≡ 2 * length shared.now.given.homes + 2 }
+        requires settings { HasQueueSettings (B.view board.now).sizes shared.now.given }
         requires cpus { (B.view board.now).sizes.lanes ≡ shared.now.given.cpus }
         requires rounded { self.old.table.exact ≡ false }
         requires lanes { HasLanesBelow shared.now.given.cpus self.old.table }
@@ -324,8 +324,7 @@ impl Poller {
         requires filters { shared.now.filters ≤ MAX_PLAN_FILTERS }
         requires inside { IsInside seat.old.steps }
         requires queue { self.old.queue < length shared.now.given.homes }
-        requires settings { length (B.view board.now).sizes.settings
-            ≡ 2 * length shared.now.given.homes + 2 }
+        requires settings { HasQueueSettings (B.view board.now).sizes shared.now.given }
         requires cpus { (B.view board.now).sizes.lanes ≡ shared.now.given.cpus }
         requires id { id < (B.view board.now).sizes.room }
         requires is { IsPoller shared.now.given.cpus self.old }
@@ -336,9 +335,8 @@ impl Poller {
         ensures is { IsPoller shared.now.given.cpus self.new }
         ensures choices { self.new.choices
             ≡ grown self.old.choices (record { id = id; choice = result }) }
-        ensures empty { self.new.hand ≡ None }
         ensures same { self.new ≡ record self.old {
-          hand = self.new.hand;
+          hand = None;
           flows = self.new.flows;
           table = self.new.table;
           choices = self.new.choices;

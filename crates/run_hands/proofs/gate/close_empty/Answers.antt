@@ -1,4 +1,4 @@
-use Rattle.std.proofs.Common.{◌≡◌, ℕ, [], ◌∷◌, ◌++◌, ap}
+use Rattle.std.proofs.Common.{[], ◌∷◌, ◌++◌, ap}
 use Rattle.hop_rule.specs.Boards.{gate_steps}
 use Rattle.hop_rule.specs.Gates.{closed}
 use Rattle.board_api.specs.Seats.{BoardSeatView}

@@ -1,4 +1,3 @@
-use Rattle.std.proofs.Common.{◌≡◌, ℕ}
 use Rattle.run_hands.specs.Deltas.{no_lane}
 use Rattle.run_hands.proofs.DeltaLemmas.{serves_back, serves_missed, serves_next}
 use Rattle.run_hands.proofs.holding.hold.Goals as goal

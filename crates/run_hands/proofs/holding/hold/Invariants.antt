@@ -1,4 +1,3 @@
-use Rattle.std.proofs.Common.{◌≡◌, ℕ}
 use Rattle.run_hands.specs.Deltas.{Serves, no_lane}
 use Rattle.run_hands.proofs.holding.hold.Given as goal
 

@@ -1,4 +1,3 @@
-use Rattle.std.proofs.Common.{◌≡◌, ℕ}
 use Rattle.run_hands.specs.Deltas.{this_lane}
 use Rattle.run_hands.proofs.DeltaLemmas.{serves_out_back, serves_out_missed}
 use Rattle.run_hands.proofs.DrainLemmas.{given_one, keeps_drain, still_pulled}

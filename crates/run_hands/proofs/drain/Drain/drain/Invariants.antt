@@ -1,4 +1,4 @@
-use Rattle.std.proofs.Common.{◌≡◌, ℕ}
+use Rattle.std.proofs.Common.{◌≡◌}
 use Rattle.run_hands.specs.Deltas.{Serves, this_lane}
 use Rattle.run_hands.specs.Drains.{IsDrain}
 use Rattle.run_hands.proofs.drain.Drain.drain.Given as goal

@@ -1,4 +1,3 @@
-use Rattle.std.proofs.Common.{◌≡◌, ℕ}
 use Rattle.run_hands.specs.Deltas.{this_lane}
 use Rattle.run_hands.proofs.DeltaLemmas.{serves_missed}
 use Rattle.run_hands.proofs.DrainLemmas.{keeps_drain, pulled_none, pulled_one}

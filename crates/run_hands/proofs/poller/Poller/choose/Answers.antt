@@ -1,5 +1,4 @@
-use Rattle.std.proofs.Common.{◌≡◌, ℕ, ◌<◌, true, subst, sym, Option, Some, unwrap_or, slice_index}
-use Rattle.steer_base.specs.HashTables.{place_in_rows}
+use Rattle.std.proofs.Common.{◌≡◌, ℕ, ◌<◌, true, subst, sym, unwrap_or, slice_index}
 use Rattle.steer_base.specs.Sets.{has}
 use Rattle.dev_flow_table.specs.Tables.{IsClassOf}
 use Rattle.run_hands.specs.Pollers.{HasLanesBelow}

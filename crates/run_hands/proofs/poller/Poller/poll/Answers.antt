@@ -1,11 +1,9 @@
-use Rattle.std.proofs.Common.{◌≡◌, ℕ, inl, inr, refl, ap, ◌∙◌}
+use Rattle.std.proofs.Common.{inl, inr, refl, ap, ◌∙◌}
 use Rattle.hop_rule.specs.Boards.{gate_steps}
 use Rattle.hop_rule.specs.Gates.{closed, visit}
 use Rattle.steer_base.specs.declared.choice.Chosen.{Chosen}
 use Rattle.board_api.specs.Seats.{BoardSeatView}
-use Rattle.run_hands.specs.Pollers.{Polls, Visits}
 use Rattle.run_hands.proofs.VisitLemmas.{stays_inside, stays_open, turn, visits}
-use Rattle.run_hands.proofs.poller.Poller.poll.Given as given
 use Rattle.run_hands.proofs.poller.Poller.poll.Goals as goal
 
 pub returns-in_default-clause-polls : goal.returns-in_default-clause-polls
@@ -53,7 +51,6 @@ returns-in-Ok-clause-polls g c =
               c.steer.new.hint c.steer.ensures.steers c.args.seat.now c.leave.new.seat word
               c.in-Ok.ensures.step.1 c.in-Ok.ensures.step.2 c.leave.ensures;
           choices = c.steer.ensures.choices;
-          empty = c.steer.ensures.empty;
           same = c.steer.ensures.same;
         },
       );

@@ -1,4 +1,4 @@
-use Rattle.std.proofs.Common.{◌≡◌, ℕ, Option, refl, ap, subst, sym}
+use Rattle.std.proofs.Common.{ℕ, Option, refl, ap, subst, sym}
 use Rattle.steer_base.specs.Arrivals.{filter_place}
 use Rattle.steer_base.specs.declared.put.Put.{Put}
 use Rattle.steer_base.specs.declared.put.Put.TheVariants.{At, Dropped}

@@ -1,4 +1,4 @@
-use Rattle.std.proofs.Common.{◌≡◌, ℕ, ◌<◌, ap, arith}
+use Rattle.std.proofs.Common.{◌≡◌, ap, arith}
 use Rattle.run_hands.specs.declared.poller.Poller.{Poller}
 use Rattle.run_hands.proofs.PollerLemmas.{steered_is}
 use Rattle.run_hands.proofs.poller.Poller.steer.Goals as goal
