@@ -40,7 +40,7 @@ class_is table (Some hash) = by_size (nat_lt 0 (length table.rows)) refl
 
 -- ---- the table
 
-cleared_below : (cpus count start : ℕ) (exact : Bool)
+pub cleared_below : (cpus count start : ℕ) (exact : Bool)
     → HasLanesBelow cpus (cleared count start exact)
 cleared_below cpus count start exact class lt =
     subst (λ (e : Entry). IfSome e.lane (λ l. l < cpus))

@@ -9,7 +9,7 @@ use Rattle.hop_rule.specs.OutLanes.{OutList}
 use Rattle.hop_rule.specs.Owns.{puts_of, visits_of, put_in, visit_in}
 use Rattle.hop_rule.specs.declared.sizes.BoardSizes.{BoardSizes}
 use Rattle.hop_rule.specs.declared.step.BoardStep.{BoardStep}
-use Rattle.hop_rule.specs.declared.step.BoardStep.TheVariants.{Lane, LaneIn, LaneOut}
+use Rattle.hop_rule.specs.declared.step.BoardStep.TheVariants.{Counted, Lane, LaneIn, LaneOut}
 use Rattle.hop_rule.specs.declared.step.Change.TheVariants.{Nothing}
 use Rattle.hop_rule.specs.declared.step.LaneStep.TheVariants.{Held, Missed, OutHeld, OutMissed}
 use Rattle.hop_rule.specs.declared.step.LaneStep.TheVariants.{OutFreed}
@@ -20,6 +20,7 @@ use Rattle.board_api.specs.declared.held_lane.HeldLane.{HeldLane}
 use Rattle.board_api.specs.declared.held_lane.HeldLane.TheVariants as held
 use Rattle.board_api.specs.declared.held_lane.LaneId.TheVariants as id
 use Rattle.hop_delivery.specs.Orders.Turns.{AreQuiet}
+use Rattle.run_hands.specs.Drains.{Looks}
 use Rattle.run_hands.specs.Deltas.{HoldsNoMore, LeavesLane, OnlyServes, Serves}
 
 -- what is None in both cases
@@ -53,6 +54,14 @@ module _ (served : ℕ → Bool) where
         quiet = record { puts = refl; visits = refl };
         holds = record { lanes = λ l own e. e; outs = λ o own e. e };
         others = leaves_each [] (λ l own. refl) (λ l. refl) (λ l. refl) served;
+      }
+
+  serve_counted : (l w : ℕ) → OnlyServes served (Counted l w ∷ [])
+  serve_counted l w =
+      record {
+        quiet = record { puts = refl; visits = refl };
+        holds = record { lanes = λ i own e. e; outs = λ o own e. e };
+        others = leaves_each (Counted l w ∷ []) (λ i own. refl) (λ i. refl) (λ i. refl) served;
       }
 
   pub serve_missed : (l w : ℕ) → OnlyServes served (Lane (Missed l w) ∷ [])
@@ -162,6 +171,14 @@ module _ (served : ℕ → Bool) where
         added = t.added ++ s.added;
         only = serve_both t.added s.added t.only s.only;
         adds = adds_both a b c t.added s.added s.adds t.adds;
+      }
+
+  pub serves_look : (l : ℕ) (a b : BoardSeatView) → Looks l a b → Serves served a b
+  serves_look l a b looks =
+      record {
+        added = Counted l looks.0 ∷ [];
+        only = serve_counted served l looks.0;
+        adds = looks.1;
       }
 
   pub serves_missed : (l w : ℕ) (a b : BoardSeatView) → Adds (Lane (Missed l w) ∷ []) a b

@@ -214,3 +214,12 @@ pub serves_on : (l k : ℕ) (a b c : BoardSeatView) → Serves (this_lane l) a b
     → Serves (this_lane k) b c → Serves (this_lane l) a c
 serves_on l k a b c s same t =
     serves_next (this_lane l) a b c s (subst (λ (i : ℕ). Serves (this_lane i) b c) same t)
+
+-- ---- the calls of another drain
+
+pub serves_leave : (given : Setup) (d : Drain) (served : ℕ → Bool) (old new : BoardSeatView)
+    → Serves served old new → served d.lane ≡ false → IsDrain given d old.steps
+    → IsDrain given d new.steps
+serves_leave given d served old new s other is =
+    subst (IsDrain given d) (sym (ap (λ (v : BoardSeatView). v.steps) s.adds))
+    (stays_drain given d s.added old.steps (s.only.others d.lane other) is)

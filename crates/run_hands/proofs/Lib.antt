@@ -4,4 +4,5 @@ pub mod DrainLemmas
 pub mod GateLemmas
 pub mod PollerLemmas
 pub mod PutLemmas
+pub mod StayLemmas
 pub mod VisitLemmas

@@ -1,7 +1,7 @@
 -- A visit in which a packet was steered is a turn.
 use Rattle.std.proofs.Common.{◌≡◌, ℕ, List, [], ◌∷◌, ◌++◌}
 use Rattle.std.proofs.Common.{Option, None, Some, IfSome, refl, sym, ap}
-use Rattle.std.proofs.Common.{false, subst, ◌∙◌, unwrap_or, length, append_assoc}
+use Rattle.std.proofs.Common.{◌⊎◌, inl, inr, false, subst, ◌∙◌, unwrap_or, length, append_assoc}
 use Rattle.std.proofs.lemmas.List.Elements.{Contains-append_left, Contains-append_right}
 use Rattle.std.proofs.lemmas.List.Elements.{Contains-push}
 use Rattle.linearization.specs.Orders.{step_by}
@@ -16,7 +16,7 @@ use Rattle.hop_rule.specs.Boards.{gate_steps}
 use Rattle.hop_rule.specs.Gates.{closed, visit}
 use Rattle.hop_rule.specs.declared.step.BoardStep.{BoardStep}
 use Rattle.hop_rule.specs.declared.step.BoardStep.TheVariants.{Gate, Weighed}
-use Rattle.hop_rule.specs.declared.step.GateStep.TheVariants.{Entered, Left}
+use Rattle.hop_rule.specs.declared.step.GateStep.TheVariants.{Entered, Left, Turned}
 use Rattle.board_api.specs.Calls.Rights.{HasOpen, IsInside}
 use Rattle.board_api.specs.Seats.{BoardSeatView, Adds}
 use Rattle.board_api.specs.StepWords.{is_marked}
@@ -25,11 +25,15 @@ use Rattle.hop_delivery.specs.Orders.Turns.{AreQuiet, Explained, Turn, turn_put,
 use Rattle.hop_delivery.proofs.Orders.TurnLemmas.{explained_more, explained_turn}
 use Rattle.steer_model.specs.State.Setup.{Setup, packet_hash}
 use Rattle.run_hands.specs.Deltas.{HoldsNoMore, LeavesLane}
-use Rattle.run_hands.specs.Laws.{ServesExplain, VisitsExplain}
+use Rattle.run_hands.specs.Drains.{IsDrain}
+use Rattle.run_hands.specs.Laws.{PollsLeaveDrains, ServesExplain, VisitsExplain}
+use Rattle.run_hands.specs.Pollers.{SteersHand, Waits}
+use Rattle.run_hands.specs.declared.drain.Drain.{Drain}
 use Rattle.run_hands.specs.Pollers.{LoadedHead, LoadsHead, Steers, Visits, class_read}
 use Rattle.run_hands.specs.Pollers.{desired_read, online_read, put_of, read_steps, refreshed}
 use Rattle.run_hands.specs.declared.poller.Reading.{Reading}
 use Rattle.run_hands.proofs.ChoiceLemmas.{class_stays}
+use Rattle.run_hands.proofs.DrainLemmas.{stays_drain}
 use Rattle.run_hands.proofs.DeltaLemmas.{adds_both, holds_both, leaves_both, quiet_both}
 
 -- steps at the gate and of loads hold and serve nothing
@@ -255,3 +259,39 @@ pub serves_explain : ServesExplain
 serves_explain served old new s ts is =
     subst (λ ds. Explained ds ts) (sym (ap (λ (v : BoardSeatView). v.steps) s.adds))
     (explained_more s.added old.steps ts s.only.quiet.puts is)
+
+-- ---- polls leave drains
+
+idle_turned : (w : ℕ) → AreIdle (Gate Left ∷ Gate (Turned w) ∷ [])
+idle_turned w =
+    record {
+      holds = record { lanes = λ i own e. e; outs = λ o own e. e };
+      leaves = λ i. record { hand = λ own. refl; retires = refl; deliveries = refl };
+    }
+
+leaves_drain : (given : Setup) (d : Drain) (added : List BoardStep) (old new : BoardSeatView)
+    → Adds added old new → LeavesLane d.lane added → IsDrain given d old.steps
+    → IsDrain given d new.steps
+leaves_drain given d added old new adds leaves is =
+    subst (IsDrain given d) (sym (ap (λ (v : BoardSeatView). v.steps) adds))
+    (stays_drain given d added old.steps leaves is)
+
+pub polls_leave : PollsLeaveDrains
+polls_leave given d filters p q old new hint_old hint_new polls is = by_case polls.steers
+  where
+    by_steps : (new ≡ old) ⊎ ((word : ℕ) × Adds (Gate Left ∷ Gate (Turned word) ∷ []) old new)
+        → IsDrain given d new.steps
+    by_steps (inl same) =
+        subst (λ (v : BoardSeatView). IsDrain given d v.steps) (sym same) is
+    by_steps (inr (word, adds)) =
+        leaves_drain given d (Gate Left ∷ Gate (Turned word) ∷ []) old new adds
+        ((idle_turned word).leaves d.lane) is
+
+    by_case : Waits polls.mid q old new hint_old hint_new
+        ⊎ ((id : ℕ) × (polls.mid.hand ≡ Some id)
+        × SteersHand given filters id polls.mid q old new hint_old hint_new)
+        → IsDrain given d new.steps
+    by_case (inl waits) = by_steps waits.steps
+    by_case (inr (id, hand, steers)) =
+        leaves_drain given d (visit_with steers.turn [] []) old new steers.visit.adds
+        (steers.visit.leaves d.lane) is

@@ -1,11 +1,12 @@
 //! What empties a middle lane into out lanes: the processor of a backlog, or a transmit queue.
-ghost use Rattle.std.specs.Prelude.{◌≡◌, ◌<◌, ℕ, None, Some};
+ghost use Rattle.std.specs.Prelude.{◌≡◌, ◌<◌, ◌≤◌, None, Some, []};
 ghost use Rattle.board_api.specs.Calls.Rights.{Pulls};
 ghost use Rattle.run_hands.specs.Deltas.{Serves, this_lane};
-ghost use Rattle.run_hands.specs.Drains.{IsDrain, out_for};
+ghost use Rattle.steer_model.specs.State.Setup.{Setup};
+ghost use Rattle.run_hands.specs.Drains.{IsDrain, Looks, out_for, outs_of};
 
 use board_api::{Board, BoardSeat, Hold, LaneId, Pull};
-use steer_base::PacketId;
+use steer_base::{PacketId, number_at};
 use steer_model::Given;
 
 /// Where the packets of a lane go.
@@ -28,11 +29,14 @@ pub struct Drain {
     pub hand: Option<PacketId>,
     /// The number of packets that were retired.
     pub retired: u32,
+    /// The number at which the lane's counters start.
+    pub start: u32,
 }
 
 // The out lane of a packet.
 fn out_of(exit: Exit, given: &Given, id: PacketId) -> u8
-    ensures { result ≡ out_for exit given.now id }
+    ensures value { result ≡ out_for exit given.now id }
+    ensures within { result < outs_of exit given.now }
 {
     match exit {
         Exit::Inboxes => given.app_of(id).0,
@@ -41,14 +45,29 @@ fn out_of(exit: Exit, given: &Given, id: PacketId) -> u8
 }
 
 impl Drain {
+    /// What empties a lane, whose counters start at the number `start`, and from which nothing was
+    /// pulled yet.
+    pub fn new(lane: u8, exit: Exit, start: u32) -> Drain
+        ensures lane { result.lane ≡ lane }
+        ensures exit { result.exit ≡ exit }
+        ensures is { (given : Setup) → IsDrain given result [] }
+    {
+        Drain {
+            lane,
+            exit,
+            hand: None,
+            retired: 0,
+            start,
+        }
+    }
+
     /// Empties the lane until nothing waits there, or another seat holds the lane or an out lane.
     /// Returns whether a packet was pulled or delivered.
     pub fn drain<B: Board>(&mut self, board: &B, given: &Given, seat: &mut BoardSeat) -> bool
         requires table { seat.old.table ≡ (B.view board.now).table }
         requires within { self.old.lane < (B.view board.now).sizes.lanes }
         requires mine { Pulls (B.view board.now).sizes seat.old.number self.old.lane }
-        requires outs { (id : ℕ) → out_for self.old.exit given.now id
-            < (B.view board.now).sizes.outs }
+        requires outs { outs_of self.old.exit given.now ≤ (B.view board.now).sizes.outs }
         requires is { IsDrain given.now self.old seat.old.steps }
         ensures is { IsDrain given.now self.new seat.new.steps }
         ensures serves { Serves (this_lane self.old.lane) seat.old seat.new }
@@ -70,7 +89,7 @@ impl Drain {
         did
     }
 
-    // Pulls the next packet if the hand is empty. Returns whether it did.
+    // Pulls the next packet if the hand is empty and the lane is not. Returns whether it did.
     fn fill<B: Board>(&mut self, board: &B, given: &Given, seat: &mut BoardSeat) -> bool
         requires table { seat.old.table ≡ (B.view board.now).table }
         requires within { self.old.lane < (B.view board.now).sizes.lanes }
@@ -84,8 +103,21 @@ impl Drain {
         if self.hand.is_some() {
             return false;
         }
+        if self.has_all(board, seat) {
+            return false;
+        }
         self.pull(board, given, seat);
         self.hand.is_some()
+    }
+
+    // Whether as many packets were retired as the lane has accepted, by one look at its tail. Only
+    // this seat pulls from it, so then nothing waits.
+    fn has_all<B: Board>(&self, board: &B, seat: &mut BoardSeat) -> bool
+        requires table { seat.old.table ≡ (B.view board.now).table }
+        requires within { self.now.lane < (B.view board.now).sizes.lanes }
+        ensures looks { Looks self.now.lane seat.old seat.new }
+    {
+        board.tail(seat, LaneId::Middle(self.lane)) == number_at(self.start, self.retired)
     }
 
     // Pulls the next packet, if one waits and no other seat holds the lane.
@@ -122,7 +154,7 @@ impl Drain {
         requires mine { Pulls (B.view board.now).sizes seat.old.number self.old.lane }
         requires is { IsDrain given.now self.old seat.old.steps }
         requires hand { self.old.hand ≡ Some id }
-        requires out { out_for self.old.exit given.now id < (B.view board.now).sizes.outs }
+        requires outs { outs_of self.old.exit given.now ≤ (B.view board.now).sizes.outs }
         ensures is { IsDrain given.now self.new seat.new.steps }
         ensures serves { Serves (this_lane self.old.lane) seat.old seat.new }
         ensures lane { self.new.lane ≡ self.old.lane }

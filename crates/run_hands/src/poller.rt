@@ -1,11 +1,12 @@
 //! The poller of a receive queue.
 ghost use Rattle.std.specs.Prelude.{◌≡◌, ◌<◌, ◌≤◌, ◌+◌, ◌*◌, None, Some, false, length, IfSome};
-ghost use Rattle.std.specs.Prelude.{IsSome};
+ghost use Rattle.std.specs.Prelude.{IfOk, IsSome, ℕ};
 ghost use Rattle.std.specs.Option.{is_some};
 ghost use Rattle.steer_base.specs.Arrivals.{filter_place};
 ghost use Rattle.steer_base.specs.Choices.{looks_at_head};
 ghost use Rattle.steer_base.specs.Journals.{grown};
 ghost use Rattle.steer_base.specs.Sets.{has};
+ghost use Rattle.steer_base.specs.declared.limits.TheConstants.{MAX_FLOW_COUNT, MAX_PACKETS};
 ghost use Rattle.steer_base.specs.declared.limits.TheConstants.{MAX_SOCKET_SIZE};
 ghost use Rattle.plan_reader.specs.declared.limits.TheConstants.{MAX_PLAN_FILTERS};
 ghost use Rattle.dev_flow_table.specs.Folds.{table_after};
@@ -29,11 +30,13 @@ use hint_words::HintSeat;
 use rps_map::rps_choice;
 use rtrb::Consumer;
 use run_words::{
-    HintWord, ReceiveSetting, cpus_in, filter_word, flows_in, place_in, socket_size_in,
+    HintWord, ReceiveSetting, cpus_in, filter_word, flows_in, flows_word, place_in, socket_size_in,
 };
 use std::alloc::Global;
 use std::sync::Wait;
-use steer_base::{Choice, Chosen, CpuMask, Journal, PacketId, Put, RxQueue, place_of_hash};
+use steer_base::{
+    Choice, Chosen, CpuMask, Journal, OutOfMemory, PacketId, Put, RxQueue, place_of_hash, round_up,
+};
 use steer_model::{desired_cpu, filter_for};
 
 /// The poller of a receive queue.
@@ -93,6 +96,35 @@ fn look(
 }
 
 impl Poller {
+    /// The poller of a receive queue, which has steered nothing yet, with room for `room` choices.
+    /// `flows` is the queue's flow count, not rounded up; `start` is the number at which the lanes'
+    /// counters start. Allocates the memory of the table and of the choices here, and none later.
+    pub fn make(
+        alloc: Global,
+        queue: u8,
+        ring: Consumer<u32, Global>,
+        flows: u32,
+        start: u32,
+        room: u32,
+    ) -> Result<Poller, OutOfMemory>
+        requires flows { flows ≤ MAX_FLOW_COUNT }
+        requires room { room ≤ MAX_PACKETS }
+        ensures queue { IfOk result (λ p. p.queue ≡ queue) }
+        ensures ring { IfOk result (λ p. p.ring ≡ ring) }
+        ensures room { IfOk result (λ p. p.choices.room ≡ room) }
+        ensures is { IfOk result (λ p. (cpus : ℕ) → IsPoller cpus p) }
+    {
+        Ok(Poller {
+            queue,
+            ring,
+            hand: None,
+            flows: flows_word(round_up(flows), 0),
+            table: DevTable::make(alloc, flows, start)?,
+            choices: Journal::make(alloc, room)?,
+            accepted: 0,
+        })
+    }
+
     /// Takes the next packet from the ring if the hand is empty, and steers the packet in hand in
     /// one visit of the receive board. If the gate is closed nothing is steered, and the packet
     /// stays in hand. Returns whether a number was taken or a packet steered.

@@ -21,14 +21,14 @@ returns-else-room-eq0-clause-is g c =
     (given_one c.args.given.now c.args.self.now (g.B.Board.view c.args.board.now).sizes
     c.args.seat.now c.try_hold.new.seat c.deliver.new.seat c.retire.new.seat c.in-Ok.held
     c.out_of-out.result c.deliver.result c.args.id c.in-Ok.ensures.0 c.deliver.ensures
-    c.retire.ensures c.requires.hand c.out_of-out.ensures c.requires.is).0
+    c.retire.ensures c.requires.hand c.out_of-out.ensures.value c.requires.is).0
 
 pub returns-else-room-eq0-clause-serves : goal.returns-else-room-eq0-clause-serves
 returns-else-room-eq0-clause-serves g c =
     (given_one c.args.given.now c.args.self.now (g.B.Board.view c.args.board.now).sizes
     c.args.seat.now c.try_hold.new.seat c.deliver.new.seat c.retire.new.seat c.in-Ok.held
     c.out_of-out.result c.deliver.result c.args.id c.in-Ok.ensures.0 c.deliver.ensures
-    c.retire.ensures c.requires.hand c.out_of-out.ensures c.requires.is).1
+    c.retire.ensures c.requires.hand c.out_of-out.ensures.value c.requires.is).1
 
 pub deliver-requires-clause-pulled : goal.deliver-requires-clause-pulled
 deliver-requires-clause-pulled g c = (
