@@ -234,6 +234,7 @@ module _ (given : Setup) (filters q flows seen : ℕ) (before after : Table)
                 (Contains-append_right head.added reads d among);
             looks = s.chooses.looks;
             loads = loads_if table class s.chooses.head s.puts.early head.added reads head.loads;
+            looked = s.chooses.looked;
             rule = s.chooses.rule;
             table = told;
             word = s.chooses.word;

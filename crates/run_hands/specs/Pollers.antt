@@ -4,10 +4,12 @@ use Rattle.std.specs.Prelude.{◌≡◌, ◌⊎◌, ℕ, ◌+◌, ◌*◌, ◌<�
 use Rattle.std.specs.Prelude.{List, [], ◌∷◌, ◌++◌, Option, Some, nat_lt}
 use Rattle.std.specs.Prelude.{None, length, slice_index, unwrap_or, IfSome, if◌then◌else◌}
 use Rattle.std.specs.List.{Contains}
+use Rattle.std.specs.Option.{is_some}
 use Rattle.rtrb.specs.Ring.{received}
 use Rattle.linearization.specs.Seats.{SeatView}
 use Rattle.steer_base.specs.Arrivals.{filter_place}
-use Rattle.steer_base.specs.Choices.{class_of, desired_cpu, migrate, rps_choice_of}
+use Rattle.steer_base.specs.Choices.{class_of, desired_cpu, looks_at_head, migrate}
+use Rattle.steer_base.specs.Choices.{rps_choice_of}
 use Rattle.steer_base.specs.Counters.{rounded_up}
 use Rattle.steer_base.specs.Journals.{grown}
 use Rattle.steer_base.specs.HashTables.{place_in_rows}
@@ -106,6 +108,12 @@ module _ (given : Setup) (q id : ℕ) (r : Reading) (table : Table) where
   abbrev pub desired_read : Option ℕ → ℕ
   desired_read want = desired_cpu (class_read given id table) want online_read plain_read
 
+  -- whether the rule looks at the head of the current lane
+  abbrev pub looks_to_head : Option ℕ → Bool
+  looks_to_head want =
+      looks_at_head (class_read given id table) (entries table) (desired_read want)
+      (has online_read)
+
   -- the choice by the rule, by what was wanted and the head that was loaded
   abbrev pub choice_read : Option ℕ → Option ℕ → Choice
   choice_read want head =
@@ -133,6 +141,8 @@ pub record Chooses (given : Setup) (q id flows seen : ℕ) (before after : Table
       hint_old hint_new want
   pub loads : LoadsHead (refreshed flows reading.flows before)
       (class_read given id (refreshed flows reading.flows before)) mid new head
+  pub looked : is_some head
+      ≡ looks_to_head given q id reading (refreshed flows reading.flows before) want
   pub rule : choice
       ≡ choice_read given q id reading (refreshed flows reading.flows before) want head
   pub table : after
@@ -224,6 +234,8 @@ pub record Visits (given : Setup) (filters q flows seen : ℕ) (before after : T
       hint_old hint_mid want
   pub loads : IfSome head (λ n. LoadedHead (refreshed flows reading.flows before)
       (class_read given turn.chosen.id (refreshed flows reading.flows before)) turn.early n)
+  pub looked : is_some head
+      ≡ looks_to_head given q turn.chosen.id reading (refreshed flows reading.flows before) want
   pub rule : turn.chosen.choice
       ≡ choice_read given q turn.chosen.id reading (refreshed flows reading.flows before) want head
   pub table : after ≡ after_turn (refreshed flows reading.flows before) (as_told turn)
