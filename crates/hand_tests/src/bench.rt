@@ -1,13 +1,14 @@
-//! A worker's seat at a receive board with a poller, and what is done with it: each function makes
-//! one call.
-ghost use Rattle.std.specs.Prelude.{◌≡◌, ◌<◌, ◌≤◌, ◌+◌, ◌-◌, IfOk, IfSome, length};
+//! A receive board of two lanes for two receive queues, with two workers, a visitor and a closer.
+ghost use Rattle.std.specs.Prelude.{◌≡◌, ◌<◌, ◌≤◌, ◌+◌, ◌-◌, IfOk, IfSome, length, []};
 ghost use Rattle.std.specs.Vec.{vec_len};
-ghost use Rattle.steer_base.specs.declared.limits.TheConstants.{MAX_PACKETS, MAX_SOCKET_SIZE};
+ghost use Rattle.steer_base.specs.declared.limits.TheConstants.{MAX_PACKETS};
 ghost use Rattle.steer_model.specs.State.Ranges.{AreOfFlows};
 ghost use Rattle.run_words.specs.declared.hint_word.TheConstants.{FILTER_WORDS};
+ghost use Rattle.run_hands.specs.Drains.{IsDrain};
 ghost use Rattle.run_hands.specs.Pollers.{IsPoller};
+ghost use Rattle.run_hands.specs.declared.drain.Exit.TheVariants.{Inboxes};
 ghost use Rattle.hop_board.specs.Made.{new_board_seats};
-ghost use Rattle.hand_tests.specs.Benches.{IsBench, IsFresh};
+ghost use Rattle.hand_tests.specs.Benches.{IsBench, IsFresh, IsWorker, Rests, opened_by};
 
 use board_api::BoardSeat;
 use hint_words::{HintSeat, Hints};
@@ -15,26 +16,39 @@ use hop_board::Board;
 use hop_core::HopShape;
 use plan_reader::Plan;
 use rtrb::{Producer, RingBuffer};
-use run_hands::{Poller, Shared};
-use run_words::{HintWord, first_receive_settings, place_word, word_count};
+use run_hands::{Drain, Exit, Poller, Shared};
+use run_words::{first_receive_settings, word_count};
 use std::alloc::Global;
 use std::process::Abort;
-use std::sync::Wait;
 use std::test::Fail;
-use steer_base::Packet;
+use steer_base::{OutOfMemory, Packet};
 use steer_model::Given;
 
 /// The number of filters.
 const FILTERS: u32 = 8;
 
-/// A worker's seat with a poller.
+/// A worker: its seats, the poller of a queue, and the drain of the lane of the queue's number.
+#[derive(Drop)]
+pub struct Worker {
+    pub poller: Poller,
+    pub drain: Drain,
+    pub seat: BoardSeat,
+    pub hint: HintSeat,
+}
+
+/// The ends of the rings at which packets arrive, of queue 0 and of queue 1.
+pub type Rings = (Producer<u32, Global>, Producer<u32, Global>);
+
+/// A board, its seats, and the ends of the rings at which packets arrive.
 #[derive(Drop)]
 pub struct Bench {
     pub board: Board,
     pub shared: Shared,
-    pub poller: Poller,
-    pub seat: BoardSeat,
-    pub hint: HintSeat,
+    pub zero: Worker,
+    pub one: Worker,
+    pub visitor: BoardSeat,
+    pub closer: BoardSeat,
+    pub rings: Rings,
 }
 
 // The last of so many seats that have made no step.
@@ -49,10 +63,11 @@ fn last_seat(board: &Board, seats: &mut Vec<BoardSeat>, count: u32) -> Option<Bo
     seats.pop()
 }
 
-// A hop with the lanes and out lanes of a plan, in which few packets may wait.
+// A hop with the lanes and out lanes of a plan.
 fn shape_of(alloc: Global, plan: &Plan, given: &Given) -> HopShape
     ensures limit { 1 ≤ result.limit }
     ensures room { result.room ≡ length given.now.packets }
+    ensures few { result.room ≤ MAX_PACKETS }
     ensures lanes { result.lanes ≡ given.now.cpus }
     ensures outs { result.outs ≡ given.now.apps }
 {
@@ -70,118 +85,149 @@ fn shape_of(alloc: Global, plan: &Plan, given: &Given) -> HopShape
     }
 }
 
-/// A bench for a plan with one receive queue, the seat of its closer, and the end of the ring at
-/// which packets arrive.
-pub fn begun(
+// The board of a plan with two receive queues, and its seats.
+fn board_of(
     rt: &impl Abort,
     alloc: Global,
     plan: &Plan,
-    packets: &[Packet],
-) -> Result<(Bench, BoardSeat, Producer<u32, Global>), Fail>
-    requires few { length packets.now ≤ MAX_PACKETS }
-    requires flows { AreOfFlows packets.now }
-    ensures bench { IfOk result (λ r. IsBench r.0.board r.0.shared r.0.poller r.0.seat r.0.hint) }
-    ensures closer { IfOk result (λ r. IsFresh r.0.board 1 r.1) }
+    given: &Given,
+) -> Result<(Board, Vec<BoardSeat>), Fail>
+    ensures lanes { IfOk result (λ r. r.0.sizes.lanes ≡ 2) }
+    ensures cpus { IfOk result (λ r. r.0.sizes.lanes ≡ given.now.cpus) }
+    ensures queues { IfOk result (λ r. length given.now.homes ≡ 2) }
+    ensures outs { IfOk result (λ r. r.0.sizes.outs ≡ given.now.apps) }
+    ensures inboxes { IfOk result (λ r. r.0.sizes.outs ≡ 2) }
+    ensures room { IfOk result (λ r. r.0.sizes.room ≡ length given.now.packets) }
+    ensures settings { IfOk result (λ r. length r.0.sizes.settings ≡ 6) }
+    ensures count { IfOk result (λ r. r.0.sizes.seats ≡ 4) }
+    ensures seats { IfOk result (λ r. r.1.items ≡ new_board_seats r.0.table 4) }
+    ensures all { IfOk result (λ r. vec_len r.1 ≡ 4) }
 {
-    let given = Given::of_plan(alloc, plan, packets, None)?;
-    let room = given.packet_count();
     let settings = first_receive_settings(alloc, plan)?;
-    assert!(rt; given.queues() == 1);
-    assert!(rt; settings.len() == 4);
-    let flows = plan.queues.as_slice()[0].flows;
-    assert!(rt; flows <= 32_768);
-    let (board, mut seats) = Board::make(alloc, &shape_of(alloc, plan, &given), &settings, 2)?;
-    let closer = last_seat(&board, &mut seats, 2).expect(rt, "the closer's seat");
-    let seat = last_seat(&board, &mut seats, 1).expect(rt, "the worker's seat");
-    let (hints, mut hint_seats) = Hints::make(alloc, word_count(room), 1)?;
-    let hint = hint_seats.pop().expect(rt, "the hint seat");
-    let (producer, ring) = RingBuffer::<u32>::new(alloc, 8)?;
-    let poller = Poller::make(alloc, 0, ring, flows, plan.start, room)?;
+    assert!(rt; given.queues() == 2);
+    assert!(rt; given.cpus() == 2);
+    assert!(rt; given.apps() == 2);
+    assert!(rt; settings.len() == 6);
+    Ok(Board::make(alloc, &shape_of(alloc, plan, given), &settings, 4)?)
+}
+
+// What the threads share.
+fn shared_of(
+    rt: &impl Abort,
+    alloc: Global,
+    given: Given,
+) -> Result<(Shared, HintSeat, HintSeat), OutOfMemory>
+    ensures given { IfOk result (λ r. r.0.given ≡ given) }
+    ensures filters { IfOk result (λ r. r.0.filters ≡ 8) }
+    ensures words { IfOk result (λ r. FILTER_WORDS + r.0.filters ≤ r.0.hints.words) }
+    ensures zero { IfOk result (λ r. r.1.table ≡ r.0.hints.table) }
+    ensures one { IfOk result (λ r. r.2.table ≡ r.0.hints.table) }
+{
+    let (hints, mut seats) = Hints::make(alloc, word_count(given.packet_count()), 2)?;
+    let one = seats.pop().expect(rt, "a hint seat");
+    let zero = seats.pop().expect(rt, "a hint seat");
     let shared = Shared {
         hints,
         given,
         filters: FILTERS,
     };
-    Ok((
-        bench_of(board, shared, poller, seat, hint),
-        closer,
-        producer,
-    ))
+    Ok((shared, zero, one))
 }
 
-// The parts of a bench, joined.
-fn bench_of(board: Board, shared: Shared, poller: Poller, seat: BoardSeat, hint: HintSeat) -> Bench
-    requires fresh { IsFresh board 0 seat }
-    requires hint_table { hint.table ≡ shared.hints.table }
-    requires words { FILTER_WORDS + 8 ≤ shared.hints.words }
-    requires filters { shared.filters ≡ 8 }
-    requires seats { board.sizes.seats ≡ 2 }
-    requires queue { poller.queue ≡ 0 }
-    requires homes { length shared.given.homes ≡ 1 }
-    requires settings { length board.sizes.settings ≡ 4 }
-    requires cpus { board.sizes.lanes ≡ shared.given.cpus }
-    requires outs { shared.given.apps ≤ board.sizes.outs }
-    requires room { poller.choices.room ≡ board.sizes.room }
-    requires poller { IsPoller shared.given.cpus poller }
-    ensures is { IsBench result.board result.shared result.poller result.seat result.hint }
-    ensures board { result.board ≡ board }
+// A worker that has made no step, by its seats and its poller.
+fn worker_of(
+    board: &Board,
+    shared: &Shared,
+    seat: BoardSeat,
+    hint: HintSeat,
+    poller: Poller,
+    drain: Drain,
+) -> Worker
+    requires bench { IsBench board.now.sizes shared.now }
+    requires within { drain.lane < 2 }
+    requires fresh { IsFresh board.now drain.lane seat }
+    requires hint { hint.table ≡ shared.now.hints.table }
+    requires queue { poller.queue ≡ drain.lane }
+    requires room { poller.choices.room ≡ board.now.sizes.room }
+    requires poller { IsPoller shared.now.given.cpus poller }
+    requires exit { drain.exit ≡ Inboxes }
+    requires drain { IsDrain shared.now.given drain [] }
+    ensures { IsWorker board.now shared.now result.poller result.drain result.seat result.hint }
 {
-    Bench {
-        board,
-        shared,
+    Worker {
         poller,
+        drain,
         seat,
         hint,
     }
 }
 
-/// Polls once.
-pub fn poll<R: Wait>(rt: &R, bench: &mut Bench) -> bool
-    requires { IsBench bench.old.board bench.old.shared bench.old.poller
-        bench.old.seat bench.old.hint }
-    ensures is { IsBench bench.new.board bench.new.shared bench.new.poller
-        bench.new.seat bench.new.hint }
-    ensures board { bench.new.board ≡ bench.old.board }
+// A worker that takes the last of so many seats, and the end of the ring of its queue.
+fn last_worker(
+    rt: &impl Abort,
+    alloc: Global,
+    board: &Board,
+    shared: &Shared,
+    plan: &Plan,
+    number: u8,
+    seats: &mut Vec<BoardSeat>,
+    hint: HintSeat,
+) -> Result<(Worker, Producer<u32, Global>), Fail>
+    requires bench { IsBench board.now.sizes shared.now }
+    requires room { board.now.sizes.room ≡ length shared.now.given.packets }
+    requires number { number < 2 }
+    requires seats { seats.old.items ≡ new_board_seats board.now.table (number + 1) }
+    requires all { vec_len seats.old ≡ number + 1 }
+    requires hint { hint.table ≡ shared.now.hints.table }
+    ensures worker { IfOk result (λ r. IsWorker board.now shared.now r.0.poller r.0.drain
+        r.0.seat r.0.hint) }
+    ensures seats { IfOk result (λ _. seats.new.items ≡ new_board_seats board.now.table number) }
+    ensures all { IfOk result (λ _. vec_len seats.new ≡ number) }
 {
-    bench.poller.poll(
-        rt,
-        &bench.board,
-        &bench.shared,
-        &mut bench.seat,
-        &mut bench.hint,
-    )
+    let room = shared.given.packet_count();
+    let seat = last_seat(board, seats, number as u32 + 1).expect(rt, "a worker's seat");
+    let Some(queue) = plan.queues.as_slice().get(number as usize) else {
+        panic!(rt; "fewer than two queues")
+    };
+    let flows = queue.flows;
+    assert!(rt; flows <= 32_768);
+    let (producer, ring) = RingBuffer::<u32>::new(alloc, room as usize)?;
+    let poller = Poller::make(alloc, number, ring, flows, plan.start, room)?;
+    let drain = Drain::new(number, Exit::Inboxes, plan.start);
+    Ok((
+        worker_of(board, shared, seat, hint, poller, drain),
+        producer,
+    ))
 }
 
-/// A packet arrives at the ring.
-pub fn arrive(ring: &mut Producer<u32, Global>, id: u32) -> bool {
-    ring.push(id).is_ok()
-}
-
-/// Stores the processor of an entry of the socket flow table.
-pub fn note(bench: &mut Bench, entry: u32, cpu: u8)
-    requires bench { IsBench bench.old.board bench.old.shared bench.old.poller
-        bench.old.seat bench.old.hint }
-    requires entry { entry < MAX_SOCKET_SIZE }
-    ensures { IsBench bench.new.board bench.new.shared bench.new.poller
-        bench.new.seat bench.new.hint }
+/// A bench for a plan with two receive queues and two processors.
+pub fn begun(rt: &impl Abort, alloc: Global, plan: &Plan, packets: &[Packet]) -> Result<Bench, Fail>
+    requires few { length packets.now ≤ MAX_PACKETS }
+    requires flows { AreOfFlows packets.now }
+    ensures zero { IfOk result (λ b. IsWorker b.board b.shared b.zero.poller b.zero.drain
+        b.zero.seat b.zero.hint) }
+    ensures one { IfOk result (λ b. IsWorker b.board b.shared b.one.poller b.one.drain
+        b.one.seat b.one.hint) }
+    ensures visitor { IfOk result (λ b. Rests b.board 2 b.visitor) }
+    ensures closer { IfOk result (λ b. Rests b.board 3 b.closer) }
+    ensures opened { IfOk result (λ b. opened_by b.closer ≡ 0) }
 {
-    bench.shared.hints.store(
-        &mut bench.hint,
-        HintWord::Socket(entry).number(),
-        place_word(cpu),
-    );
-}
-
-/// The word of a filter.
-pub fn filter_at(bench: &mut Bench, place: u32) -> u64
-    requires bench { IsBench bench.old.board bench.old.shared bench.old.poller
-        bench.old.seat bench.old.hint }
-    requires place { place < 8 }
-    ensures { IsBench bench.new.board bench.new.shared bench.new.poller
-        bench.new.seat bench.new.hint }
-{
-    bench
-        .shared
-        .hints
-        .load(&mut bench.hint, HintWord::Filter(place).number())
+    let given = Given::of_plan(alloc, plan, packets, None)?;
+    let (board, mut seats) = board_of(rt, alloc, plan, &given)?;
+    let (shared, hint_zero, hint_one) = shared_of(rt, alloc, given)?;
+    let closer = last_seat(&board, &mut seats, 4).expect(rt, "the closer's seat");
+    let visitor = last_seat(&board, &mut seats, 3).expect(rt, "the visitor's seat");
+    let (one, ring_one) = last_worker(rt, alloc, &board, &shared, plan, 1, &mut seats, hint_one)?;
+    let (zero, ring_zero) = last_worker(
+        rt, alloc, &board, &shared, plan, 0, &mut seats, hint_zero,
+    )?;
+    Ok(Bench {
+        board,
+        shared,
+        zero,
+        one,
+        visitor,
+        closer,
+        rings: (ring_zero, ring_one),
+    })
 }

@@ -1,9 +1,19 @@
-//! Tests of the hands of a worker: each by one thread over the real board.
+//! Tests of the hands of a worker over the real board, and of the words that they begin with.
 #![tactic(auto)]
 
 #[cfg(test)]
 mod bench;
 #[cfg(test)]
+mod drains;
+#[cfg(test)]
+mod first_words;
+#[cfg(test)]
 mod frames;
 #[cfg(test)]
+mod gates;
+#[cfg(test)]
+mod hands;
+#[cfg(test)]
 mod pollers;
+#[cfg(test)]
+mod threads;

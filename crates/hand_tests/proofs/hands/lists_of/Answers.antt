@@ -1,0 +1,5 @@
+use Rattle.hand_tests.proofs.Resting.{all_rest}
+use Rattle.hand_tests.proofs.hands.lists_of.Goals as goal
+
+pub close_board-requires-clause-rest : goal.close_board-requires-clause-rest
+close_board-requires-clause-rest c = all_rest c.args.board c.args.seats.items c.requires.seats
