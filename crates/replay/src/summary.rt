@@ -7,7 +7,6 @@ ghost use Rattle.replay.specs.Summaries.{after_drops, counts_line, input_line, u
 ghost use Rattle.steer_base.specs.declared.limits.TheConstants.{MAX_PACKETS};
 
 use crate::counts::Counts;
-use crate::flows::flow_count;
 use crate::packets::packets_by;
 use crate::play::{play, tell_countable};
 use cap_gen::{Generated, generate};
@@ -17,6 +16,7 @@ use plan_reader::read_plan;
 use report::LineBuf;
 use std::alloc::Global;
 use steer_base::OutOfMemory;
+use steer_model::flow_count;
 
 /// What the replay of generated input comes to.
 #[derive(Clone, Copy, Debug, PartialEq, Eq)]

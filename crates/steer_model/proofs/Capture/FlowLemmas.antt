@@ -4,7 +4,8 @@ use Rattle.std.proofs.Common.{length, fold, map, max, refl, arith}
 use Rattle.std.proofs.lemmas.Bool.{cases_lt}
 use Rattle.history.specs.Lists.{packet_at}
 use Rattle.steer_base.specs.declared.packet.Packet.{Packet}
-use Rattle.replay.specs.FlowCounts.{FlowsAreCounted}
+use Rattle.steer_model.specs.Capture.FlowCounts.{FlowsAreCounted, flow_count}
+use Rattle.steer_model.specs.State.Ranges.{AreOfFlows}
 
 -- the greatest number so far, and those of more packets
 abbrev greatest : ℕ → List Packet → ℕ
@@ -38,6 +39,19 @@ reached (p ∷ ps) most =
             | inr l ↦ inl (omega (arith, same))
           ]
       | inr r ↦ inr (record { at = suc r.at; within = omega (arith, r.within); is = r.is })
+    ]
+
+pub below_count : (packets : List Packet) (x : ℕ) → x < length packets
+    → (packet_at packets x).flow_number < flow_count packets
+below_count packets x lt = below packets 0 x lt
+
+-- no flow number is above the number of packets, so there are at most as many flows
+pub count_within : (packets : List Packet) → AreOfFlows packets
+    → flow_count packets ≤ length packets
+count_within packets are =
+    elim (reached packets 0) [
+      | inl none ↦ omega (arith, none)
+      | inr r ↦ let lt = are.below r.at r.within in omega (arith, r.is, lt)
     ]
 
 pub flows_are_counted : FlowsAreCounted

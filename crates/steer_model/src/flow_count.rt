@@ -1,6 +1,6 @@
 //! How many flows a capture has.
 ghost use Rattle.std.specs.Prelude.{◌≡◌};
-ghost use Rattle.replay.specs.FlowCounts.{flow_count};
+ghost use Rattle.steer_model.specs.Capture.FlowCounts.{flow_count};
 
 use steer_base::Packet;
 
