@@ -2,7 +2,7 @@
 #![tactic(auto)]
 
 mod desired;
-mod flow_count;
+mod flow_counts;
 mod flow_hashes;
 mod gate;
 mod hop_answers;
@@ -14,7 +14,7 @@ mod setup;
 mod turns;
 
 pub use desired::{desired_cpu, filter_for, socket_seen};
-pub use flow_count::flow_count;
+pub use flow_counts::flow_count;
 pub use gate::{gate_answer, is_done, refused_answer};
 pub use hop_answers::{last_of, position_of, told};
 pub use laws::{
