@@ -1,5 +1,6 @@
 //! The promises of a replay, as contracts of lemmas: functions with empty bodies.
-ghost use Rattle.headline.specs.Forged.{AnotherCommandIsForged, AnotherQueueIsForged};
+ghost use Rattle.headline.specs.Forged.{AcceptingAtFullIsForged, AnotherCommandIsForged};
+ghost use Rattle.headline.specs.Forged.{AnotherDropIsForged, AnotherQueueIsForged};
 ghost use Rattle.headline.specs.Forged.{AnotherWriteIsForged, EmptyIsForged, ExamplesAreWithin};
 ghost use Rattle.headline.specs.Forged.{HeadlinesAreOfTheRun, MovingAtOnceIsForged};
 ghost use Rattle.headline.specs.Forged.{NeverMovingIsForged, NoWantIsForged};
@@ -56,7 +57,9 @@ pub fn a_report_has_the_headline()
 /// Lemma: forged reports are refused, on an example of two packets of one flow. Each of these is no
 /// history of the run: one of no packets; one in which the flow never moves, or moves while its
 /// first packet is outstanding; one with a packet in a queue that no entry names; one in which the
-/// second packet finds no want; and ones with a write or a command that the plan does not give.
+/// second packet finds no want; and ones with a write or a command that the plan does not give. No
+/// moments of a run are in a history with a packet that was accepted where the backlog was full, or
+/// with a drop that keeps other counts than those of its moment.
 pub fn forged_histories_are_not_of_the_run()
     ensures examples { ExamplesAreWithin }
     ensures empty { EmptyIsForged }
@@ -66,6 +69,8 @@ pub fn forged_histories_are_not_of_the_run()
     ensures no_want { NoWantIsForged }
     ensures another_write { AnotherWriteIsForged }
     ensures another_command { AnotherCommandIsForged }
+    ensures accepting_at_full { AcceptingAtFullIsForged }
+    ensures another_drop { AnotherDropIsForged }
 {}
 
 /// Lemma: a text with the headline is the report of no other history than the one of the run, so

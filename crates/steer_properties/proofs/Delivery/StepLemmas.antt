@@ -39,7 +39,7 @@ use Rattle.steer_model.specs.Steps.SingleSteps.{simple}
 use Rattle.steer_model.specs.declared.note.Note.{Note}
 use Rattle.steer_model.specs.declared.note.Note.TheVariants as note
 use Rattle.steer_invariant.specs.EventPremises.{AsksRx, AsksTx}
-use Rattle.steer_properties.specs.Delivery.HopDelivery.{Delivers}
+use Rattle.steer_properties.proofs.Delivery.HopDelivery.{Delivers}
 use Rattle.steer_invariant.specs.Invariant.{Invariant}
 use Rattle.steer_invariant.specs.StepInvariant.{IsCommandNamed, IsNamed}
 use Rattle.steer_invariant.proofs.BelowLemmas.{both-below}
