@@ -11,8 +11,9 @@ use std::alloc::Global;
 use std::marker::Model;
 use steer_base::{Flow, OutOfMemory};
 
-/// Finds the first rule that matches a flow. Rules of the same kind with the same masks form a
-/// group, and a flow is looked up once in each group. Contracts see the list of the rules.
+/// Finds the first of some rules that matches a flow. Rules of the same kind with the same masks
+/// form a group, and a flow is looked up once in each group, whatever the number of its rules.
+/// Contracts see the list of the rules.
 #[derive(Drop)]
 pub struct Classifier {
     rules: Vec<Rule>,
@@ -43,7 +44,8 @@ fn lesser(first: Option<u32>, second: Option<u32>) -> Option<u32>
 }
 
 impl Classifier {
-    /// Builds the groups of the rules. Allocates memory for the rules and their groups.
+    /// A classifier of these rules, in their order. Allocates memory for a copy of the rules and
+    /// for their groups; `OutOfMemory` is the only error.
     pub fn make(alloc: Global, rules: &Rules) -> Result<Classifier, OutOfMemory>
         requires few { length rules.now.rules ≤ MAX_RULES }
         ensures { IfOk result (λ classifier. classifier ≡ rules.now.rules) }
@@ -56,7 +58,8 @@ impl Classifier {
         Ok(Classifier { rules, groups })
     }
 
-    /// The index of the first rule that matches the flow. Allocates nothing.
+    /// The index, from 0, of the first rule that matches the flow, or `None` if no rule does; a
+    /// `Flow::Bare` matches none. Allocates nothing.
     pub fn find(&self, flow: &Flow) -> Option<u32>
         ensures { result ≡ first_match self.now flow.now }
     {

@@ -8,7 +8,7 @@ use indexmap::IndexMap;
 use std::alloc::Global;
 use steer_base::{Flow, OutOfMemory};
 
-/// The rules of one shape: the least number of a rule for each key.
+/// The rules of one shape: for each key, the number of the first rule that has it.
 #[derive(Drop)]
 pub struct Group {
     shape: Shape,
@@ -41,7 +41,7 @@ impl Group {
         }
     }
 
-    /// The least number of a rule of the group that matches the flow.
+    /// The number of the first rule of the group that matches the flow, or `None`.
     pub fn find(&self, flow: Flow) -> Option<u32>
         ensures { result ≡ found_in self.now flow }
     {
@@ -78,7 +78,8 @@ fn place_of(alloc: Global, groups: &mut Vec<Group>, shape: Shape) -> Result<usiz
     }
 }
 
-/// Adds a rule behind those that the groups find.
+/// Adds a rule with this number, which is greater than those of the rules that the groups have.
+/// Allocates memory for the rule, and for a group if it is the first of its shape.
 pub fn add(
     alloc: Global,
     groups: &mut Vec<Group>,

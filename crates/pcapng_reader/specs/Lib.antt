@@ -2,6 +2,8 @@ pub mod Numbers
 pub mod Contents
 pub mod Blocks
 pub mod Captures
+pub mod Format
+pub mod Files
 pub mod Readers
 pub mod Writing
 pub mod Laws
