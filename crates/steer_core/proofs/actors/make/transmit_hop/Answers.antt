@@ -1,4 +1,4 @@
-use Rattle.std.proofs.Common.{◌≤◌, ◌<◌, ◌≡◌, List, ℕ, length, max, replicate, ap, refl, subst, sym}
+use Rattle.std.proofs.Common.{◌≤◌, ◌≡◌, List, ℕ, length, max, replicate, ap, refl, subst, sym}
 use Rattle.std.proofs.Common.{◌∙◌, arith}
 use Rattle.std.specs.List.{All}
 use Rattle.std.proofs.Math.ListN.{length-replicate}
@@ -45,3 +45,10 @@ make-requires c =
       classes = subst (λ (l : List ℕ). All (λ n. n ≤ 262144) l) (sym c.in_ok-counts.ensures)
           (All-replicate (λ n. n ≤ 262144) c.len-apps.result c.max.result most);
     }
+
+pub overflow_cast-max : goal.overflow_cast-max
+overflow_cast-max c =
+    let m = c.max.ensures in let f = c.flow_count.ensures in
+    let within = count_within c.args.packets.now c.requires.flows in
+    let few = c.requires.few in
+    omega (arith, m, f, within, few)
