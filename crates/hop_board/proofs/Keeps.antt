@@ -491,8 +491,8 @@ module _ (about : BoardSizes) where
           given,
           gives,
           tt,
-          subst (λ (cs : Carried). HasBoard about (step_by p given ∷ order) (set words at_word (f k))
-              (homes_after homes cs gives))
+          subst (λ (cs : Carried). HasBoard about (step_by p given ∷ order)
+              (set words at_word (f k)) (homes_after homes cs gives))
               (sym carried)
               (kept order words homes (set homes s (some (Some c))) p (f k)
               (kind.Lane x) given few at.0 h

@@ -33,21 +33,21 @@ sizes_of shape settings seats =
 abbrev pub new_board_seats : TableId → ℕ → List BoardSeatView
 new_board_seats table seats = map (λ s. board_seat s false) (new_seats table 0 seats)
 
--- A cache line with this value in its first word and zeros behind it.
+-- This value, with zeros behind it to the length of a cache line.
 abbrev pub line_of : ℕ → List ℕ
 line_of n = n ∷ replicate (WORDS_PER_LINE - 1) 0
 
--- So many cache lines, each with this value.
+-- So many of these, with one value.
 abbrev pub lines_of : ℕ → ℕ → List ℕ
 lines_of n zero = []
 lines_of n (suc count) = lines_of n count ++ line_of n
 
 module _ (about : BoardSizes) where
-  -- The lines of the lanes before any step: each lane is free and without packets.
+  -- The words of the lanes before any step: each lane is free and without packets.
   abbrev pub lane_words : List ℕ
   lane_words = lines_of (2 * (about.start + 0)) (about.lanes + about.outs)
 
-  -- The lines of the heads before any step.
+  -- The words of the heads before any step.
   abbrev pub head_words : List ℕ
   head_words = lines_of about.start about.lanes
 

@@ -43,7 +43,8 @@ EmptiesThen st n d before after = (d ≡ LaneOut (slot_at st.word)) × (after �
 
 -- The emptied slot was taken again.
 abbrev pub FillsThen : Step InSlot → ℕ → BoardStep → Carried → Carried → Type 0
-FillsThen st n d before after = (d ≡ LaneIn (slot_at st.word)) × (after ≡ (slot_at st.word, None) ∷ before)
+FillsThen st n d before after =
+    (d ≡ LaneIn (slot_at st.word)) × (after ≡ (slot_at st.word, None) ∷ before)
 
 -- The slot was given back with its lane, by this step.
 abbrev pub GivesThen : BoardStep → Type 0 → Step InSlot → ℕ → BoardStep → Carried → Carried

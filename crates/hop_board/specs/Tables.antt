@@ -41,19 +41,19 @@ module _ (about : BoardSizes) where
   abbrev pub slots : ℕ
   slots = about.lanes + about.outs
 
-  -- The number of words that have a cache line of their own.
+  -- The number of words that lie a cache line apart.
   abbrev pub lines : ℕ
   lines = about.lanes + about.outs + about.lanes + 1
 
-  -- The place of a word in the table: those of lanes, heads and the gate begin a cache line each,
-  -- and the settings are in a row behind the gate's line.
+  -- The place of a word in the table: those of lanes, heads and the gate lie a cache line apart,
+  -- and behind them are the settings in a row.
   abbrev pub place : Word → ℕ
   place (kind.Lane x) = WORDS_PER_LINE * slot_of x
   place (kind.Head l) = WORDS_PER_LINE * (about.lanes + about.outs + l)
   place kind.Gate = WORDS_PER_LINE * (about.lanes + about.outs + about.lanes)
   place (kind.Setting i) = WORDS_PER_LINE * lines + i
 
-  -- The length of the table in words, with those between that no call uses.
+  -- The number of words of the table, with those between that no call uses.
   abbrev pub width : ℕ
   width = WORDS_PER_LINE * lines + length about.settings
 

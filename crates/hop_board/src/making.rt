@@ -105,7 +105,7 @@ fn first_words(alloc: Global, sizes: &BoardSizes) -> Result<Vec<u64>, OutOfMemor
     Ok(words)
 }
 
-// So many cache lines more, each with this value in its first word and zeros behind it.
+// So many words more of this value, each with zeros behind it to the length of a cache line.
 fn push_lines(words: &mut Vec<u64>, value: u64, count: usize) -> Result<(), OutOfMemory>
     ensures { OnOk result (words.new.items ≡ words.old.items ++ lines_of value count) }
 {

@@ -31,8 +31,8 @@ impl Board {
         let _ = &self.sizes;
     }
 
-    // The place of a word in the table: middle lanes, out lanes, heads and the gate at the start of
-    // a cache line each, since threads change them beside each other; then the settings in a row.
+    // The place of a word in the table: those of middle lanes, out lanes, heads and the gate, a
+    // cache line apart since threads change them beside each other; then the settings in a row.
     pub(crate) fn place(&self, word: Word) -> usize
         ensures { result ≡ place self.now.sizes word }
     {
