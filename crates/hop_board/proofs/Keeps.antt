@@ -44,7 +44,7 @@ use Rattle.hop_board.specs.Tables.{value, home_by, home_after, HomesAre, HasBoar
 use Rattle.hop_board.specs.Steps.{IsAt, MayAct, MayGive, released_word}
 use Rattle.hop_board.specs.Plays.{HeldAt, Carried, HoldsThen, EmptiesThen, FillsThen}
 use Rattle.hop_board.specs.Plays.{GivesThen}
-use Rattle.hop_board.proofs.Apart.{same_lane, same_word, slot_inside, place_inside}
+use Rattle.hop_board.proofs.Apart.{same_lane, same_word, slot_inside, slot_is_at, place_inside}
 
 abbrev Order : Type 0
 Order = List (StepBy BoardStep)
@@ -337,7 +337,7 @@ module _ (about : BoardSizes) where
         × HasBoard about (step_by (number_in me.0) d ∷ order) (set words (place about (kind.Lane x))
         (f k))
         (homes_after homes me.1 act)
-        × goes_so (step n (slot_of about x) a 0 none) k d me.1
+        × goes_so (step n (place about (kind.Lane x)) a 0 none) k d me.1
         (Rattle.atomic_table.specs.Table.carried_after me.1 act))
         → Allows (Ordered about.seats (HasBoard about)) n id me i f
         (Moved goes_so (step n i a 0 none) me)
@@ -345,8 +345,8 @@ module _ (about : BoardSizes) where
         subst (λ (k : ℕ). Allows (Ordered about.seats (HasBoard about)) n id me k f
         (Moved goes_so (step n k a 0 none) me))
         (sym at.1)
-        (moves_taking about.seats (HasBoard about) goes_so (step n (slot_of about x) a 0 none) n id
-        me (slot_of about x) f alone
+        (moves_taking about.seats (HasBoard about) goes_so
+        (step n (place about (kind.Lane x)) a 0 none) n id me (place about (kind.Lane x)) f alone
         (λ order words homes all wide by few own h.
         on order words homes (all ∙ many) few own h (h.words_are (kind.Lane x) at.0) wide))
 
@@ -357,7 +357,7 @@ module _ (about : BoardSizes) where
         (λ order words homes all few own h word wide.
         let p : ℕ = number_in me.0 in
         let ls : List (StepBy LaneStep) = lanes_of order in
-        let k : ℕ = slice_index words (slot_of about x) in
+        let k : ℕ = slice_index words (place about (kind.Lane x)) in
         let holder : ℕ = holder_of about ls x in
         let t : ℕ = tail_of ls x in
         let is : k ≡ 2 * t + lanes.bit holder = word ∙ lane_is ls x in
@@ -381,7 +381,7 @@ module _ (about : BoardSizes) where
             (λ e. record {
               found = content about ls x;
               held = held_at x k ls;
-              carries = ap (λ cs. (slot_of about x, Some (content about ls x)) ∷ cs) none_carried;
+              carries = λ j. (slot_is_at about x j, Some (content about ls x)) ∷ none_carried j;
             }),
             λ odd. absurd (let z : Rattle.std.proofs.Common.true ≡ false = sym odd ∙ even in cc),
           ),
@@ -414,13 +414,14 @@ module _ (about : BoardSizes) where
         (λ order words homes all few own h word wide.
         let p : ℕ = number_in me.0 in
         let s : ℕ = slot_of about x in
-        let k : ℕ = slice_index words s in
+        let at_word : ℕ = place about (kind.Lane x) in
+        let k : ℕ = slice_index words at_word in
         let d : BoardStep = LaneOut s in
         let inside = slot_inside about x at.0 in (
           d,
           gives,
           tt,
-          subst (λ (cs : Carried). HasBoard about (step_by p d ∷ order) (set words s k)
+          subst (λ (cs : Carried). HasBoard about (step_by p d ∷ order) (set words at_word k)
               (homes_after homes cs gives))
               (sym carried)
               (kept order words homes (set homes s (some None)) p k (kind.Lane x) d few at.0 h
@@ -430,7 +431,7 @@ module _ (about : BoardSizes) where
               (if_same s s empty (slot_state about s order) refl))
               (λ u fits ne. ap (λ z. home_by about z (content about (lanes_of order) u))
               (state_else x u empty (slot_state about (slot_of about u) order) at.0 fits ne)))),
-          (refl, refl),
+          (ap (λ z. LaneOut z) (slot_is_at about x), refl),
         ))
 
     -- the emptied slot is taken again
@@ -441,7 +442,8 @@ module _ (about : BoardSizes) where
         (λ order words homes all few own h word wide.
         let p : ℕ = number_in me.0 in
         let s : ℕ = slot_of about x in
-        let k : ℕ = slice_index words s in
+        let at_word : ℕ = place about (kind.Lane x) in
+        let k : ℕ = slice_index words at_word in
         let d : BoardStep = LaneIn s in
         let inside = slot_inside about x at.0 in
         let mine : own_state about s (steps_of p order) ≡ empty = ap (own_state about s) (sym own)
@@ -459,7 +461,10 @@ module _ (about : BoardSizes) where
               (if_same s s taken (slot_state about s order) refl))
               (λ u fits ne. ap (λ z. home_by about z (content about (lanes_of order) u))
               (state_else x u taken (slot_state about (slot_of about u) order) at.0 fits ne))),
-          (refl, refl),
+          (
+            ap (λ z. LaneIn z) (slot_is_at about x),
+            ap (λ z. (z, None) ∷ me.1) (slot_is_at about x),
+          ),
         ))
 
     -- the slot is given back with a lane in it
@@ -477,7 +482,8 @@ module _ (about : BoardSizes) where
         (λ order words homes all few own h word wide.
         let p : ℕ = number_in me.0 in
         let s : ℕ = slot_of about x in
-        let k : ℕ = slice_index words s in
+        let at_word : ℕ = place about (kind.Lane x) in
+        let k : ℕ = slice_index words at_word in
         let t = may fit order few (sym (ap steps_in alone) ∙ own) h.lawful
         (subst (λ (z : ℕ). z < 18446744073709551616) word wide) in
         let here : f k ≡ value about (step_by p given ∷ order) (kind.Lane x) =
@@ -485,8 +491,8 @@ module _ (about : BoardSizes) where
           given,
           gives,
           tt,
-          subst (λ (cs : Carried). HasBoard about (step_by p given ∷ order) (set words s (f k))
-              (homes_after homes cs gives))
+          subst (λ (cs : Carried). HasBoard about (step_by p given ∷ order)
+              (set words at_word (f k)) (homes_after homes cs gives))
               (sym carried)
               (kept order words homes (set homes s (some (Some c))) p (f k)
               (kind.Lane x) given few at.0 h
@@ -524,7 +530,7 @@ module _ (about told : BoardSizes) (told_is : told ≡ about) (fit : FitSizes ab
       (subst (λ (s : SeatView BoardStep). MayAct about s w (λ _. v) (λ _. makes v) (λ _. says v))
       (sym seen) may))
 
-  module _ (x : LaneId) (within : FitsLane about x) (here : i ≡ slot_of about x)
+  module _ (x : LaneId) (within : FitsLane about x) (here : i ≡ place about (kind.Lane x))
       (many : n ≡ slots about) where
     pub holds_in : (y : LaneId) → y ≡ x → Alone me
         → Allows (Ordered told.seats (HasBoard told)) n id me i (λ k. bit_or k 1)
