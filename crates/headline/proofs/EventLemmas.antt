@@ -5,14 +5,15 @@ use Rattle.steer_base.specs.declared.step.Step.{Step}
 use Rattle.steer_base.specs.declared.step.Step.TheVariants as act
 use Rattle.steer_model.specs.Origins.TableWrites.{after_events}
 use Rattle.steer_model.specs.State.Machine.{Machine}
-use Rattle.steer_model.specs.Steps.CompoundSteps.{Progress, after, again, drain, drain_one, for_each}
-use Rattle.steer_model.specs.Steps.CompoundSteps.{most_rounds, one_round, poll, reply, replying}
-use Rattle.steer_model.specs.Steps.CompoundSteps.{rounds, serve, ship, ship_one, step, tried, tries}
-use Rattle.steer_model.specs.Steps.CompoundSteps.{unretired, with_record}
+use Rattle.steer_model.specs.Steps.CompoundSteps.{Progress, after, again, drain, drain_one}
+use Rattle.steer_model.specs.Steps.CompoundSteps.{for_each, most_rounds, one_round, poll, reply}
+use Rattle.steer_model.specs.Steps.CompoundSteps.{replying, rounds, serve, ship, ship_one, step}
+use Rattle.steer_model.specs.Steps.CompoundSteps.{tried, tries, unretired, with_record}
 use Rattle.steer_model.specs.Steps.SingleSteps.{simple}
-use Rattle.headline.specs.Events.{EventsAreTheSteps, all_events, and_then, drain_events, each_events}
-use Rattle.headline.specs.Events.{events_of, poll_events, record_events, repeated, reply_events}
-use Rattle.headline.specs.Events.{round_events, rounds_events, serve_events, ship_events}
+use Rattle.headline.specs.Events.{EventsAreTheSteps, all_events, and_then, drain_events}
+use Rattle.headline.specs.Events.{each_events, events_of, poll_events, record_events, repeated}
+use Rattle.headline.specs.Events.{reply_events, round_events, rounds_events, serve_events}
+use Rattle.headline.specs.Events.{ship_events}
 
 pub events-join : (es fs : List Step) (m : Machine)
     → after_events (es ++ fs) m ≡ after_events fs (after_events es m)

@@ -7,8 +7,8 @@ use Rattle.steer_base.specs.declared.step.Step.TheVariants as act
 use Rattle.steer_model.specs.Origins.TableWrites.{after_events}
 use Rattle.steer_model.specs.State.Machine.{Machine}
 use Rattle.steer_model.specs.State.Setup.{flow_number_of}
-use Rattle.steer_model.specs.Steps.CompoundSteps.{after, drain_one, most_rounds, one_round, replying}
-use Rattle.steer_model.specs.Steps.CompoundSteps.{ship_one, step, unretired}
+use Rattle.steer_model.specs.Steps.CompoundSteps.{after, drain_one, most_rounds, one_round}
+use Rattle.steer_model.specs.Steps.CompoundSteps.{replying, ship_one, step, unretired}
 
 -- ---- the turns of one actor
 

@@ -16,12 +16,13 @@ use Rattle.steer_base.specs.declared.put.LaneDrop.{LaneDrop}
 use Rattle.steer_base.specs.declared.step.Step.{Step}
 use Rattle.steer_model.specs.Good.Inputs.{Input, setup_in}
 use Rattle.steer_model.specs.Origins.TableWrites.{after_events, socket_write, writes_of}
-use Rattle.steer_model.specs.State.Machine.{Machine, history_lanes}
+use Rattle.steer_model.specs.State.Machine.{Machine, history_lanes, note_of}
 use Rattle.steer_model.specs.State.Settings.{class_at, plain_lane}
 use Rattle.steer_model.specs.State.Setup.{flow_number_of, packet_hash}
 use Rattle.steer_model.specs.State.Start.{fresh_rx, fresh_tx, new_machine, steps_of}
 use Rattle.steer_model.specs.Steps.Applications.{everyone, in_reply, pick_for}
 use Rattle.steer_model.specs.Steps.Pollers.{arrival_by, route_by, seen_by}
+use Rattle.steer_model.specs.declared.note.Note.TheVariants as note
 use Rattle.steer_properties.specs.Choices.Clear.{MovesAreClear}
 use Rattle.headline.specs.Events.{all_events}
 
@@ -88,8 +89,8 @@ pub record HasChosenNext (q k : ℕ) (c : Chosen) (want : Option ℕ) (m n : Mac
   pub made : choices_of n.rx q ≡ choices_of m.rx q ++ c ∷ []
   pub clear : MovesAreClear (history_lanes n.rx.bare) (choices_of n.rx q)
 
--- Choice k of a queue had its moment, and before that its poller looked. The want is what it saw
--- then in the socket flow table, which is what was last written to the entry of its packet.
+-- Choice k of a queue had its moment, and before that its poller looked and noted the want. This is
+-- what it saw in the socket flow table, and what was last written to the entry of its packet.
 pub record ChosenAt (i : Input) (events : List Step) (q k : ℕ) (c : Chosen) : Type 0 where
   pub look : ℕ  -- how many events were before the look
   pub weigh : ℕ  -- and how many before the choice
@@ -98,6 +99,7 @@ pub record ChosenAt (i : Input) (events : List Step) (q k : ℕ) (c : Chosen) : 
   pub want : Option ℕ
   pub seen : want ≡ seen_by (state_at i events look) q c.id
   pub written : want ≡ last_want i events look q c.id
+  pub noted : note_of (state_at i events (look + 1)) q ≡ note.Looked want
   pub made : HasChosenNext q k c want (state_at i events weigh) (state_at i events (weigh + 1))
 
 -- Transmit choice k of application a was made for the reply that was the next one, by the rule with
