@@ -39,8 +39,9 @@ use Rattle.headline.specs.Forged.{AnotherDropIsForged, AnotherQueueIsForged}
 use Rattle.headline.specs.Forged.{AnotherWriteIsForged, EmptyIsForged, MovingAtOnceIsForged}
 use Rattle.headline.specs.Forged.{NeverMovingIsForged, NoWantIsForged}
 use Rattle.headline.specs.Headline.{IsOfTheRun}
-use Rattle.headline.specs.Moments.{AreEventsOfAll, start_of, state_at}
-use Rattle.headline.proofs.RunLemmas.{events-split, pulled-after, steps-end}
+use Rattle.headline.specs.Moments.{run_events, start_of, state_at}
+use Rattle.headline.proofs.EventLemmas.{steps-come}
+use Rattle.headline.proofs.RunLemmas.{events-split, pulled-after}
 
 -- what two ways of reading one element give is one
 same_element : {A : Type 0} (a b : A) (found : Option A) → found ≡ Some a → found ≡ Some b → a ≡ b
@@ -193,13 +194,13 @@ module _ (within : IsWithin full_settings) where
   nothing-pulled = refl
 
   -- so it had at any state of the run
-  none-yet : (events : List Step) → AreEventsOfAll (start_of full) (steps_of full.plan) events
-      → (n : ℕ) → pulled_at (state_at full events n).rx.bare 1 ≡ 0
-  none-yet events of n =
-      let end = steps-end (steps_of full.plan) (start_of full) events of in
+  none-yet : (n : ℕ) → pulled_at (state_at full (run_events full) n).rx.bare 1 ≡ 0
+  none-yet n =
+      let events : List Step = run_events full in
       let all : after_events (drop n events) (state_at full events n)
       ≡ after (steps_of full.plan) (start_of full) =
-      sym (events-split n events (start_of full)) ∙ end in
+      sym (events-split n events (start_of full))
+      ∙ steps-come (steps_of full.plan) (start_of full) in
       let last : pulled_at (after_events (drop n events) (state_at full events n)).rx.bare 1 ≡ 0 =
       ap (λ (m : Machine). pulled_at m.rx.bare 1) all ∙ nothing-pulled in
       let up = pulled-after (drop n events) (state_at full events n) 1 in
@@ -220,13 +221,13 @@ pub accepting-at-full-forged : AcceptingAtFullIsForged
 accepting-at-full-forged within h x is run =
     let w = run.accepted 1 1 x is in
     let did = w.did in
-    let s : Machine = state_at (full within) run.events w.before in
+    let s : Machine = state_at (full within) (run_events (full within)) w.before in
     full-then (fresh_rx (full within).plan (full within).packets).fixed s.rx.bare 1
     (packet_hash (setup_in (full within)) x) refl (sym did.next)
-    (none-yet within run.events run.of_plan w.before) did.no_drop
+    (none-yet within w.before) did.no_drop
 
 pub another-drop-forged : AnotherDropIsForged
 another-drop-forged within h j d is other run =
     let w = run.drops 1 j d is in
     let did = w.did in
-    other (did.pulled ∙ none-yet within run.events run.of_plan w.before)
+    other (did.pulled ∙ none-yet within w.before)

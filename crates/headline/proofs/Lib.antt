@@ -2,6 +2,7 @@ pub mod Places
 pub mod Rules
 pub mod Rights
 pub mod Reports
+pub mod EventLemmas
 pub mod RunLemmas
 pub mod MomentLemmas
 pub mod PutMomentLemmas

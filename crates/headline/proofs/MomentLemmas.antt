@@ -1,5 +1,5 @@
 -- Every event of a run keeps the moments of arrivals and choices, and adds its own.
-use Rattle.std.proofs.Common.{ℕ, ◌<◌, ◌≡◌, List, [], ◌∷◌, ◌++◌, Option, Some}
+use Rattle.std.proofs.Common.{ℕ, ◌+◌, ◌<◌, ◌≡◌, List, [], ◌∷◌, ◌++◌, Option, Some}
 use Rattle.std.proofs.Common.{None, length, refl, ap, ◌∙◌, sym, subst, arith, inl, inr, get_or}
 use Rattle.std.specs.Prelude.{slice_get, slice_index}
 use Rattle.std.proofs.lemmas.Bool.{cases_eq}
@@ -36,6 +36,7 @@ record LookedAt (i : Input) (es : List Step) (m : Machine) (q : ℕ) (want : Opt
   look : ℕ
   order : look < length es
   seen : want ≡ seen_by (state_at i es look) q (next_of m.rx q)
+  noted : note_of (state_at i es (look + 1)) q ≡ note.Looked want
 
 pub record Moments (i : Input) (es : List Step) (m : Machine) : Type 0 where
   pub arrivals : (k : ℕ) (a : Arrival) → slice_get m.arrivals k ≡ Some a
@@ -62,6 +63,9 @@ module _ (i : Input) (es fs : List Step) (m n : Machine) (go : GoesOn i es fs m 
         want = w.want;
         seen = seen;
         written = seen ∙ seen-is-last i fs w.look q c.id;
+        noted = ap (λ (t : Machine). note_of t q)
+            (state-before i es fs m n go (w.look + 1) (omega (arith, first, lt)))
+            ∙ w.noted;
         made = did-before i es fs m n go (HasChosenNext q k c w.want) w.weigh lt w.made;
       }
 
@@ -76,6 +80,9 @@ module _ (i : Input) (es fs : List Step) (m n : Machine) (go : GoesOn i es fs m 
         order = omega (arith, lt, long);
         seen = w.seen ∙ ap (λ (t : Machine). seen_by t q (next_of m.rx q)) (sym before)
             ∙ ap (seen_by (state_at i fs w.look) q) (sym same);
+        noted = ap (λ (t : Machine). note_of t q)
+            (state-before i es fs m n go (w.look + 1) (omega (arith, lt)))
+            ∙ w.noted;
       }
 
   -- the next packet of a poller that looked stays, while no choice is made for its queue
@@ -147,13 +154,15 @@ module _ (i : Input) (es fs : List Step) (m : Machine) (h : Invariant m)
             (subst (λ j. HasArrivedNext j new m n) (sym last.0) did))
       ]
 
-  looked-one : (q : ℕ)
+  looked-one : (q : ℕ) → q < length m.setup.homes
       → GoesOn i es fs m (with_note m q (note.Looked (seen_by m q (next_of m.rx q))))
       → Moments i fs (with_note m q (note.Looked (seen_by m q (next_of m.rx q))))
-  looked-one q go =
+  looked-one q in' go =
       let x : Option ℕ = seen_by m q (next_of m.rx q) in
       let n : Machine = with_note m q (note.Looked x) in
-      let long = go.longer in
+      let long = go.longer in let ls = h.kept.lists in
+      let ns = Changed-set m.notes q (note.Looked x) note.Nothing
+      (omega (arith, in', ls.notes_long)) in
       record {
         arrivals = still-arrived i es fs m n go refl old;
         looks = λ p want is. elim (looked-in m.notes q (note.Looked x) p want is) [
@@ -165,6 +174,7 @@ module _ (i : Input) (es fs : List Step) (m : Machine) (h : Invariant m)
                 order = omega (arith, long);
                 seen = sym same
                     ∙ ap (λ (t : Machine). seen_by t q (next_of m.rx q)) (sym go.here);
+                noted = ap (λ (t : Machine). note_of t q) go.there ∙ ns.here ∙ new.1;
               } in
               subst (λ r. LookedAt i fs n r want) (sym new.0) one
           | inr before ↦ looked-later i es fs m n go p want refl (old.looks p want before)
@@ -208,6 +218,9 @@ module _ (i : Input) (es fs : List Step) (m : Machine) (h : Invariant m)
         want = want;
         seen = seen;
         written = seen ∙ seen-is-last i fs l.look q new.id;
+        noted = ap (λ (t : Machine). note_of t q)
+            (state-before i es fs m n go (l.look + 1) (omega (arith, lt)))
+            ∙ l.noted;
         made = did-now i es fs m n go
             (HasChosenNext q (length (choices_of m.rx q)) new want) did;
       }) in
@@ -316,7 +329,7 @@ moments-simple i es fs m s h named go held clear old =
       arrive = λ few k g inv cl.
           unchosen i es fs m _ g h k.lasts k.rx.choices k.tx.choices k.looked
           (arrived-one i es fs m h old g) old;
-      look = λ q in' inside more g inv cl. looked-one i es fs m h old q g;
+      look = λ q in' inside more g inv cl. looked-one i es fs m h old q in' g;
       weigh = λ q want in' is more l g inv cl. weighed-one i es fs m h old q want in' is g inv cl;
       write = λ flow hash is some k g inv cl.
           unchosen i es fs m _ g h k.lasts k.rx.choices k.tx.choices k.looked

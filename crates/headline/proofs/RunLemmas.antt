@@ -8,20 +8,17 @@ use Rattle.hop_core.specs.Hop.{pulled_at}
 use Rattle.steer_base.specs.Entries.{last_or}
 use Rattle.steer_base.specs.HashTables.{place_in_rows, row_at}
 use Rattle.steer_base.specs.declared.step.Step.{Step}
-use Rattle.steer_base.specs.declared.step.Step.TheVariants as act
 use Rattle.steer_model.specs.Good.Inputs.{Input}
 use Rattle.steer_model.specs.Origins.TableWrites.{after_events, socket_at, socket_write, writes_of}
 use Rattle.steer_model.specs.State.Machine.{Machine}
 use Rattle.steer_model.specs.State.Settings.{class_at}
 use Rattle.steer_model.specs.State.Setup.{packet_hash}
-use Rattle.steer_model.specs.Steps.CompoundSteps.{after, step}
 use Rattle.steer_model.specs.Steps.Pollers.{seen_by, socket_seen}
 use Rattle.steer_model.specs.Steps.SingleSteps.{simple}
 use Rattle.steer_model.proofs.Origins.TableWriteLemmas.{entries_are_last_writes}
 use Rattle.steer_model.proofs.Origins.TableWriteLemmas.{tables_start_unset}
 use Rattle.steer_properties.proofs.Histories.PutKindLemmas.{pulled-rises}
-use Rattle.headline.specs.Moments.{AreEventsOf, AreEventsOfAll, Moment, last_want, left_for}
-use Rattle.headline.specs.Moments.{start_of, state_at}
+use Rattle.headline.specs.Moments.{Moment, last_want, left_for, start_of, state_at}
 
 -- ---- one event more
 
@@ -136,47 +133,3 @@ pulled-after (e ∷ es) m c =
     let one = pulled-rises m e c in
     let rest = pulled-after es (simple m e).0 c in
     omega (arith, one, rest)
-
-events-join : (es fs : List Step) (m : Machine)
-    → after_events (es ++ fs) m ≡ after_events fs (after_events es m)
-events-join [] fs m = refl
-events-join (e ∷ es) fs m = events-join es fs (simple m e).0
-
--- the events of a step lead to the state that it leaves
-pub step-ends : (m : Machine) (s : Step) (es : List Step) → AreEventsOf m s es
-    → after_events es m ≡ (step m s).0
-step-ends m (act.Poll q) es is = is
-step-ends m (act.Drain c) es is = is
-step-ends m (act.Reply a) es is = is
-step-ends m (act.Serve a) es is = is
-step-ends m (act.Ship t) es is = is
-step-ends m act.Sweep es is = is
-step-ends m act.Arrive es is = ap (λ l. after_events l m) is
-step-ends m (act.Take q) es is = ap (λ l. after_events l m) is
-step-ends m (act.Enter q) es is = ap (λ l. after_events l m) is
-step-ends m (act.Look q) es is = ap (λ l. after_events l m) is
-step-ends m (act.Weigh q) es is = ap (λ l. after_events l m) is
-step-ends m (act.Put q) es is = ap (λ l. after_events l m) is
-step-ends m (act.Ask q) es is = ap (λ l. after_events l m) is
-step-ends m (act.Leave q) es is = ap (λ l. after_events l m) is
-step-ends m (act.Pull c) es is = ap (λ l. after_events l m) is
-step-ends m (act.Deliver c) es is = ap (λ l. after_events l m) is
-step-ends m (act.Retire c) es is = ap (λ l. after_events l m) is
-step-ends m (act.Record flow) es is = ap (λ l. after_events l m) is
-step-ends m (act.Send a) es is = ap (λ l. after_events l m) is
-step-ends m (act.TEnter a) es is = ap (λ l. after_events l m) is
-step-ends m (act.TLeave a) es is = ap (λ l. after_events l m) is
-step-ends m (act.TWeigh a) es is = ap (λ l. after_events l m) is
-step-ends m (act.TPut a) es is = ap (λ l. after_events l m) is
-step-ends m (act.TPull t) es is = ap (λ l. after_events l m) is
-step-ends m (act.TDeliver t) es is = ap (λ l. after_events l m) is
-step-ends m (act.TRetire t) es is = ap (λ l. after_events l m) is
-step-ends m (act.Give c) es is = ap (λ l. after_events l m) is
-
-pub steps-end : (ss : List Step) (m : Machine) (es : List Step) → AreEventsOfAll m ss es
-    → after_events es m ≡ after ss m
-steps-end [] m es is = ap (λ l. after_events l m) is
-steps-end (s ∷ ss) m es (first, rest, split, of, others) =
-    ap (λ l. after_events l m) split ∙ events-join first rest m
-    ∙ ap (after_events rest) (step-ends m s first of)
-    ∙ steps-end ss (step m s).0 rest others

@@ -14,18 +14,17 @@ use Rattle.steer_base.specs.HashTables.{place_in_rows}
 use Rattle.steer_base.specs.declared.choice.Chosen.{Chosen}
 use Rattle.steer_base.specs.declared.put.LaneDrop.{LaneDrop}
 use Rattle.steer_base.specs.declared.step.Step.{Step}
-use Rattle.steer_base.specs.declared.step.Step.TheVariants as act
-use Rattle.steer_invariant.specs.StepInvariant.{AreNamed}
 use Rattle.steer_model.specs.Good.Inputs.{Input, setup_in}
 use Rattle.steer_model.specs.Origins.TableWrites.{after_events, socket_write, writes_of}
-use Rattle.steer_model.specs.State.Machine.{Machine, history_lanes}
+use Rattle.steer_model.specs.State.Machine.{Machine, history_lanes, note_of}
 use Rattle.steer_model.specs.State.Settings.{class_at, plain_lane}
 use Rattle.steer_model.specs.State.Setup.{flow_number_of, packet_hash}
 use Rattle.steer_model.specs.State.Start.{fresh_rx, fresh_tx, new_machine, steps_of}
 use Rattle.steer_model.specs.Steps.Applications.{everyone, in_reply, pick_for}
-use Rattle.steer_model.specs.Steps.CompoundSteps.{step}
 use Rattle.steer_model.specs.Steps.Pollers.{arrival_by, route_by, seen_by}
+use Rattle.steer_model.specs.declared.note.Note.TheVariants as note
 use Rattle.steer_properties.specs.Choices.Clear.{MovesAreClear}
+use Rattle.headline.specs.Events.{all_events}
 
 -- ---- an event of a run
 
@@ -33,27 +32,13 @@ use Rattle.steer_properties.specs.Choices.Clear.{MovesAreClear}
 abbrev pub start_of : Input → Machine
 start_of i = new_machine i.plan i.packets i.cut
 
+-- the events of the run, those of the plan's steps
+abbrev pub run_events : Input → List Step
+run_events i = all_events (start_of i) (steps_of i.plan)
+
 -- the machine of a run after its first n events
 abbrev pub state_at : Input → List Step → ℕ → Machine
 state_at i events n = after_events (take n events) (start_of i)
-
--- The events of one step of a plan: itself, if it is of one event or a command; otherwise some
--- events that lead to the state that it leaves.
-abbrev pub AreEventsOf : Machine → Step → List Step → Type 0
-AreEventsOf m (act.Poll q) events = after_events events m ≡ (step m (act.Poll q)).0
-AreEventsOf m (act.Drain c) events = after_events events m ≡ (step m (act.Drain c)).0
-AreEventsOf m (act.Reply a) events = after_events events m ≡ (step m (act.Reply a)).0
-AreEventsOf m (act.Serve a) events = after_events events m ≡ (step m (act.Serve a)).0
-AreEventsOf m (act.Ship t) events = after_events events m ≡ (step m (act.Ship t)).0
-AreEventsOf m act.Sweep events = after_events events m ≡ (step m act.Sweep).0
-AreEventsOf m s events = events ≡ s ∷ []
-
--- The events of some steps: those of each, from the state that the steps before it leave.
-abbrev pub AreEventsOfAll : Machine → List Step → List Step → Type 0
-AreEventsOfAll m [] events = events ≡ []
-AreEventsOfAll m (s ∷ ss) events =
-    (first : List Step) × (rest : List Step) × (events ≡ first ++ rest) × AreEventsOf m s first
-    × AreEventsOfAll (step m s).0 ss rest
 
 -- One event of a run led from a state to the next one, and did this there.
 pub record Moment (i : Input) (events : List Step) (Did : Machine → Machine → Type 0) : Type 0 where
@@ -104,8 +89,8 @@ pub record HasChosenNext (q k : ℕ) (c : Chosen) (want : Option ℕ) (m n : Mac
   pub made : choices_of n.rx q ≡ choices_of m.rx q ++ c ∷ []
   pub clear : MovesAreClear (history_lanes n.rx.bare) (choices_of n.rx q)
 
--- Choice k of a queue had its moment, and before that its poller looked. The want is what it saw
--- then in the socket flow table, which is what was last written to the entry of its packet.
+-- Choice k of a queue had its moment, and before that its poller looked and noted the want. This is
+-- what it saw in the socket flow table, and what was last written to the entry of its packet.
 pub record ChosenAt (i : Input) (events : List Step) (q k : ℕ) (c : Chosen) : Type 0 where
   pub look : ℕ  -- how many events were before the look
   pub weigh : ℕ  -- and how many before the choice
@@ -114,6 +99,7 @@ pub record ChosenAt (i : Input) (events : List Step) (q k : ℕ) (c : Chosen) : 
   pub want : Option ℕ
   pub seen : want ≡ seen_by (state_at i events look) q c.id
   pub written : want ≡ last_want i events look q c.id
+  pub noted : note_of (state_at i events (look + 1)) q ≡ note.Looked want
   pub made : HasChosenNext q k c want (state_at i events weigh) (state_at i events (weigh + 1))
 
 -- Transmit choice k of application a was made for the reply that was the next one, by the rule with
@@ -173,22 +159,18 @@ QueueAccepts i t k x m n =
 
 -- ---- all of them
 
--- The events of the plan's steps, one after the other, name what the plan has, and each arrival,
--- each choice, each drop of a processor, and each packet that a processor or a transmit queue
--- accepted has its moment among them.
+-- Each arrival, each choice, each drop of a processor, and each packet that a processor or a
+-- transmit queue accepted has its moment among the events of the plan's steps.
 pub record HaveMomentsOfTheRun (i : Input) (h : History) : Type 0 where
-  pub events : List Step
-  pub of_plan : AreEventsOfAll (start_of i) (steps_of i.plan) events
-  pub named : AreNamed (setup_in i) events
   pub arrivals : (k : ℕ) (a : Arrival) → slice_get h.arrivals k ≡ Some a
-      → Moment i events (HasArrivedNext k a)
+      → Moment i (run_events i) (HasArrivedNext k a)
   pub choices : (q k : ℕ) (c : Chosen) → slice_get (list_at h.choices q) k ≡ Some c
-      → ChosenAt i events q k c
+      → ChosenAt i (run_events i) q k c
   pub replies : (a k : ℕ) (c : Chosen) → slice_get (list_at h.tx_choices a) k ≡ Some c
-      → Moment i events (HasRepliedNext a k c)
+      → Moment i (run_events i) (HasRepliedNext a k c)
   pub drops : (c j : ℕ) (d : LaneDrop) → slice_get (lane_at h.lanes c).drops j ≡ Some d
-      → Moment i events (ProcessorDrops i c j d)
+      → Moment i (run_events i) (ProcessorDrops i c j d)
   pub accepted : (c k x : ℕ) → slice_get (lane_at h.lanes c).accepted k ≡ Some x
-      → Moment i events (ProcessorAccepts i c k x)
+      → Moment i (run_events i) (ProcessorAccepts i c k x)
   pub queued : (t k x : ℕ) → slice_get (lane_at h.tx_lanes t).accepted k ≡ Some x
-      → Moment i events (QueueAccepts i t k x)
+      → Moment i (run_events i) (QueueAccepts i t k x)

@@ -1,4 +1,5 @@
 //! The promises of a replay, as contracts of lemmas: functions with empty bodies.
+ghost use Rattle.headline.specs.Events.{EventsAreTheSteps};
 ghost use Rattle.headline.specs.Forged.{AcceptingAtFullIsForged, AnotherCommandIsForged};
 ghost use Rattle.headline.specs.Forged.{AnotherDropIsForged, AnotherQueueIsForged};
 ghost use Rattle.headline.specs.Forged.{AnotherWriteIsForged, EmptyIsForged, ExamplesAreWithin};
@@ -41,6 +42,12 @@ pub fn every_replay_is_of_its_run()
     every_replay_is_good_so_far();
     commands_are_given_once();
 }
+
+/// Lemma: the events of a step lead to the state that the step leaves, and the events of some steps
+/// to the state after them; so a run is its events, one by one.
+pub fn the_events_of_steps_do_the_steps()
+    ensures { EventsAreTheSteps }
+{}
 
 /// Lemma: the report of a replay of these bytes is that of just one history, which is the one of
 /// the run, and all that is promised of a replay holds of it.
