@@ -4,7 +4,7 @@ ghost use Rattle.pcapng_reader.specs.Laws.{HasOneOfBothNg};
 ghost use Rattle.pcapng_reader.specs.Laws.{IsNoWant, HasFourPieces, BeginsWithSection};
 ghost use Rattle.pcapng_reader.specs.Laws.{GrowsByFrame, ReadsNgBack, KeepsNgFrames};
 ghost use Rattle.pcapng_reader.specs.Laws.{ReadsWritten, ReadsWrittenOnly, TruncatesWritten};
-ghost use Rattle.pcapng_reader.specs.Laws.{ReadsWrittenFiles};
+ghost use Rattle.pcapng_reader.specs.Laws.{ReadsWrittenFiles, ReadsExamples};
 
 /// Lemma: a file's bytes have exactly one capture or exactly one fault, and never both. Running out
 /// of memory is not a fault of bytes.
@@ -28,6 +28,7 @@ pub fn a_block_is_read_as_written()
     ensures read { ReadsWritten }
     ensures only { ReadsWrittenOnly }
     ensures truncated { TruncatesWritten }
+    ensures examples { ReadsExamples }
 {}
 
 /// Lemma: a file has a capture if and only if its bytes were put together after the format so that
