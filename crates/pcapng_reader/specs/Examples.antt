@@ -4,7 +4,7 @@ use Rattle.pcap_reader.specs.declared.record.PcapRecord.{PcapRecord}
 use Rattle.pcapng_reader.specs.declared.section.Section.{Section}
 use Rattle.pcapng_reader.specs.declared.place.Place.{Place}
 
--- the place of each: after three blocks of 100 bytes
+-- the place of each example: after three blocks of 100 bytes together
 abbrev pub example_place : Place
 example_place = record { block = 3; packets = 0; start = 100 }
 
@@ -27,7 +27,7 @@ enhanced_example =
     ∷ 0 ∷ 1 ∷ 0 ∷ 2 ∷ 0x68 ∷ 0x69 ∷ 0 ∷ 0 ∷ 0 ∷ 0 ∷ 0 ∷ 0
     ∷ 0 ∷ 0 ∷ 0 ∷ 0x34 ∷ []
 
--- its packet
+-- the packet of the enhanced example
 abbrev pub enhanced_packet : PcapRecord
 enhanced_packet =
     record { sec = 0x00051a2b; frac = 0x3c4d5e6f; start = 128; len = 5; orig = 1500 }
@@ -44,6 +44,6 @@ simple_example =
     ∷ 0xde ∷ 0xad ∷ 0xbe ∷ 0xef ∷ 1 ∷ 2 ∷ 0 ∷ 0
     ∷ 24 ∷ 0 ∷ 0 ∷ 0 ∷ []
 
--- its packet
+-- the packet of the simple example
 abbrev pub simple_packet : PcapRecord
 simple_packet = record { sec = 0; frac = 0; start = 112; len = 6; orig = 9 }

@@ -22,8 +22,9 @@ pub fn a_block_is_four_pieces()
     ensures { HasFourPieces }
 {}
 
-/// Lemma: a block is read just where a writer put one together after the format, and it says what
-/// the writer said.
+/// Lemma: a block is read, with what it says, if and only if the bytes are this block as a writer
+/// puts it together after the format; likewise a truncated block. Two blocks that are written out
+/// byte by byte are read as worked out by hand.
 pub fn a_block_is_read_as_written()
     ensures read { ReadsWritten }
     ensures only { ReadsWrittenOnly }
