@@ -9,3 +9,4 @@ pub mod Fields
 pub mod Assembled
 pub mod Taken
 pub mod Files
+pub mod Examples

@@ -47,9 +47,9 @@ pub record IsInterface (big : Bool) (interface : Interface) (body : List ℕ) : 
   pub link_fits : interface.link < 2 ^ 16
   pub snap_fits : interface.snap < 2 ^ 32
 
--- a packet that can be a record of a capture: its interface is one that the section has described,
--- and is Ethernet; its frame is not too long and begins at this offset of the block; the file has
--- not too many packets before it
+-- a packet that can be a record of a capture: its section has described the interface, which is
+-- Ethernet; the frame is not too long and begins at this offset of the block; the file does not have
+-- too many packets before it
 pub record IsPacket (section : Section) (place : Place) (id : ℕ) (interface : Interface) (at : ℕ)
     (frame : List ℕ) (r : PcapRecord) : Type 0 where
   pub described : slice_get section.interfaces id ≡ Some interface
@@ -80,8 +80,8 @@ pub record IsEnhanced (section : Section) (place : Place) (r : PcapRecord) (body
   pub pads : Pads padding frame
   pub fits : (id < 2 ^ 32) × (r.sec < 2 ^ 32) × (r.frac < 2 ^ 32) × (r.orig < 2 ^ 32)
 
--- of a packet of this original length, this many bytes are captured: all of them, unless an
--- interface with a snap length, which is not 0, keeps fewer
+-- of a packet of this original length, this many bytes are captured: all, or as many as the
+-- interface's snap length if that is less and not 0
 pub record IsCaptured (snap orig len : ℕ) : Type 0 where
   pub most : len ≤ orig
   pub kept : 0 < snap → len ≤ snap
@@ -103,7 +103,7 @@ pub record IsSimple (section : Section) (place : Place) (r : PcapRecord) (body :
   pub second : r.sec ≡ 0
   pub fraction : r.frac ≡ 0
 
--- a type of blocks that a reader may skip: none of the four above
+-- a type of blocks that a reader skips: none of the four whose bodies are above
 pub record IsSkipped (kind : ℕ) : Type 0 where
   pub section : kind ≢ 0x0a0d0d0a
   pub interface : kind ≢ 1
@@ -157,7 +157,7 @@ pub record IsBegun (section : Section) (bytes : List ℕ) : Type 0 where
   pub short : length bytes < total
   pub fits : (kind < 2 ^ 32) × (total < 2 ^ 32)
 
--- the end of a file truncates a block: fewer bytes are left than any block has, or than this block
--- has
+-- the end of a file truncates a block: these bytes are fewer than the shortest block has, or the
+-- beginning of a longer one
 abbrev pub IsTruncated : Section → List ℕ → Type 0
 IsTruncated section bytes = (length bytes < 12) ⊎ IsBegun section bytes

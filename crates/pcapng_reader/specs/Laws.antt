@@ -9,12 +9,16 @@ use Rattle.pcap_reader.specs.Numbers.{number_of}
 use Rattle.pcapng_reader.specs.declared.section.Section.{Section}
 use Rattle.pcapng_reader.specs.declared.place.Place.{Place}
 use Rattle.pcapng_reader.specs.declared.block.Block.{Block}
+use Rattle.pcapng_reader.specs.declared.content.Content.TheVariants as content
 use Rattle.pcapng_reader.specs.Blocks.{order_of, block_at}
 use Rattle.pcapng_reader.specs.declared.fault.NgFault.{NgFault}
 use Rattle.pcapng_reader.specs.declared.fault.NgFault.TheVariants as fault
 use Rattle.pcapng_reader.specs.Format.{IsWritten, IsTruncated}
 use Rattle.pcapng_reader.specs.Captures.{BeginsNg, HasNgCapture, HasNgFault}
 use Rattle.pcapng_reader.specs.Files.{IsNgFile}
+use Rattle.pcapng_reader.specs.Examples.{big_section, little_section, example_place}
+use Rattle.pcapng_reader.specs.Examples.{enhanced_example, enhanced_packet, simple_example}
+use Rattle.pcapng_reader.specs.Examples.{simple_packet}
 use Rattle.pcapng_reader.specs.Writing.{section_bytes, enhanced_bytes, ng_bytes, ng_capture}
 
 -- bytes have at most one capture
@@ -118,3 +122,12 @@ ReadsWrittenFiles =
     (bytes : List ℕ) (capture : Capture) → All (λ x. x < 256) bytes
     → (IsNgFile bytes capture → HasNgCapture bytes capture)
     × (HasNgCapture bytes capture → IsNgFile bytes capture)
+
+-- two blocks that are written out byte by byte are read as worked out by hand, whatever follows
+abbrev pub ReadsExamples : Type 0
+ReadsExamples =
+    (more : List ℕ)
+    → (block_at big_section example_place (enhanced_example ++ more)
+    ≡ Ok (Some (record { len = 52; content = content.Packet enhanced_packet })))
+    × (block_at little_section example_place (simple_example ++ more)
+    ≡ Ok (Some (record { len = 24; content = content.Packet simple_packet })))

@@ -6,4 +6,5 @@ pub mod Format
 pub mod Files
 pub mod Readers
 pub mod Writing
+pub mod Examples
 pub mod Laws

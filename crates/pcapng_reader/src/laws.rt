@@ -4,7 +4,7 @@ ghost use Rattle.pcapng_reader.specs.Laws.{HasOneOfBothNg};
 ghost use Rattle.pcapng_reader.specs.Laws.{IsNoWant, HasFourPieces, BeginsWithSection};
 ghost use Rattle.pcapng_reader.specs.Laws.{GrowsByFrame, ReadsNgBack, KeepsNgFrames};
 ghost use Rattle.pcapng_reader.specs.Laws.{ReadsWritten, ReadsWrittenOnly, TruncatesWritten};
-ghost use Rattle.pcapng_reader.specs.Laws.{ReadsWrittenFiles};
+ghost use Rattle.pcapng_reader.specs.Laws.{ReadsWrittenFiles, ReadsExamples};
 
 /// Lemma: a file's bytes have exactly one capture or exactly one fault, and never both. Running out
 /// of memory is not a fault of bytes.
@@ -22,12 +22,14 @@ pub fn a_block_is_four_pieces()
     ensures { HasFourPieces }
 {}
 
-/// Lemma: a block is read just where a writer put one together after the format, and it says what
-/// the writer said.
+/// Lemma: a block is read, with what it says, if and only if the bytes are this block as a writer
+/// puts it together after the format; likewise a truncated block. Two blocks that are written out
+/// byte by byte are read as worked out by hand.
 pub fn a_block_is_read_as_written()
     ensures read { ReadsWritten }
     ensures only { ReadsWrittenOnly }
     ensures truncated { TruncatesWritten }
+    ensures examples { ReadsExamples }
 {}
 
 /// Lemma: a file has a capture if and only if its bytes were put together after the format so that

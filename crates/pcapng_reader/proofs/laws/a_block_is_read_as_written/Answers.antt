@@ -1,3 +1,4 @@
+use Rattle.pcapng_reader.proofs.Examples.{reads_examples}
 use Rattle.pcapng_reader.proofs.Files.{truncates_written}
 use Rattle.pcapng_reader.proofs.Assembled.{reads_written}
 use Rattle.pcapng_reader.proofs.Taken.{written_only}
@@ -11,3 +12,6 @@ returns-clause-only c = written_only
 
 pub returns-clause-truncated : goal.returns-clause-truncated
 returns-clause-truncated c = truncates_written
+
+pub returns-clause-examples : goal.returns-clause-examples
+returns-clause-examples c = reads_examples
