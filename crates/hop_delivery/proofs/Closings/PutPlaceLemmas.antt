@@ -166,7 +166,8 @@ answers_are_places about own lists stand were once q k l id hash answer does =
         let n : ℕ = length found.accepted in (
           n + 1,
           place-first id n (accepted_left lists l)
-              (ap (λ xs. slice_get xs n) front.accepted.1 ∙ at-end found.accepted id front.accepted.0)
+              (ap (λ xs. slice_get xs n) front.accepted.1
+              ∙ at-end found.accepted id front.accepted.0)
               (λ m at. sym (other m at).0),
           ap (λ z. number z (n + 1)) (sym start),
         )
