@@ -1,5 +1,5 @@
 -- What lay in a lane that was found empty stands below what is put after the next opening.
-use Rattle.std.proofs.Common.{◌≡◌, ◌⊎◌, inl, inr, ℕ, zero, suc, ◌+◌, ◌/◌, ◌%◌, ◌^◌, ◌<◌, ◌≤◌}
+use Rattle.std.proofs.Common.{◌≡◌, ◌⊎◌, inl, inr, ℕ, suc, ◌+◌, ◌/◌, ◌%◌, ◌^◌, ◌<◌, ◌≤◌}
 use Rattle.std.proofs.Common.{List, ◌∷◌, length, sym, ap, ◌∙◌, refl, subst, arith}
 use Rattle.std.proofs.lemmas.Bool.{cases_lt}
 use Rattle.linearization.specs.Orders.{StepBy, step_by}
@@ -31,11 +31,8 @@ use Rattle.hop_rule.proofs.Moments.{past-all, step-inside, along}
 use Rattle.hop_rule.proofs.Openings.{openings_later}
 use Rattle.hop_rule.proofs.Owns.{gates_own}
 use Rattle.hop_rule.proofs.Puts.{put_counts}
+use Rattle.hop_rule.proofs.Tails.{bit-small}
 use Rattle.hop_rule.proofs.Visits.{closed_at}
-
-bit-small : (h : ℕ) → lanes.bit h ≤ 1
-bit-small zero = omega arith
-bit-small (suc h) = omega arith
 
 module _ (about : BoardSizes) (order : List (StepBy BoardStep)) (fit : FitSizes about)
     (lawful : IsLawful about order) where
