@@ -1,6 +1,7 @@
 //! The replay of generated input in two lines.
 ghost use Rattle.std.specs.Prelude.{◌≡◌, ◌≤◌, ◌+◌, ◌++◌, [], length, IfOk, OnErr, OnOk};
 ghost use Rattle.std.specs.Io.KnownBytes.{Appends};
+ghost use Rattle.cap_gen.specs.declared.frame.TheConstants.{MAX_FLOWS};
 ghost use Rattle.outside_io.specs.Counts.{Rose};
 ghost use Rattle.outside_io.specs.Sink.{AppendsSome};
 ghost use Rattle.replay.specs.Summaries.{after_drops, counts_line, input_line, up_to_drops};
@@ -39,7 +40,7 @@ impl Summary {
     pub fn make(alloc: Global, seed: u64, packets: u32, flows: u32) -> Result<Summary, OutOfMemory>
         requires few_packets { packets ≤ MAX_PACKETS }
         requires some_flow { 1 ≤ flows }
-        requires few_flows { flows ≤ 65536 }
+        requires few_flows { flows ≤ MAX_FLOWS }
         ensures { IfOk result (IsSummaryOf seed packets flows) }
     {
         let Generated {
