@@ -1,13 +1,13 @@
 -- The machine of a plan in memory is that of its definition.
-use Rattle.std.proofs.Common.{ℕ, ◌+◌, ◌≤◌, ◌≡◌, Bool, true, false, List, [], ◌∷◌, Option, length}
+use Rattle.std.proofs.Common.{ℕ, ◌+◌, ◌≡◌, true, false, List, [], ◌∷◌, Option, length}
 use Rattle.std.proofs.Common.{map, max, replicate, suc, zero}
 use Rattle.std.proofs.Common.{refl, ap, ◌∙◌, sym, subst}
 use Rattle.std.specs.Prelude.{Result, Ok, Err, IfOk}
 use Rattle.steer_base.specs.Counters.{rounded_up}
-use Rattle.steer_base.specs.Journals.{Journal, Journals, journal, journals, new_journals}
+use Rattle.steer_base.specs.Journals.{Journal, Journals, journal, new_journals}
 use Rattle.steer_base.specs.declared.filter.Filter.{Filter}
 use Rattle.steer_base.specs.declared.packet.Packet.{Packet}
-use Rattle.hop_core.specs.Hop.{Fixed, HopState}
+use Rattle.hop_core.specs.Hop.{HopState}
 use Rattle.hop_core.specs.Shape.{classes_for, fresh_hop}
 use Rattle.accel_filter.specs.Table as table
 use Rattle.sock_flow_table.specs.Sockets as sockets

@@ -1,4 +1,4 @@
-use Rattle.std.proofs.Common.{◌≤◌, ◌<◌, ◌≡◌, List, ℕ, length, max, replicate, ap, refl, subst, sym}
+use Rattle.std.proofs.Common.{◌≤◌, ◌≡◌, List, ℕ, length, max, replicate, ap, refl, subst, sym}
 use Rattle.std.proofs.Common.{◌∙◌, arith}
 use Rattle.std.specs.List.{All}
 use Rattle.std.proofs.Math.ListN.{length-replicate}
