@@ -6,7 +6,6 @@ use Rattle.std.proofs.Common.{◌+◌, Bor, Result, Ok, Err, subst, length-appen
 use Rattle.std.specs.Prelude.{OnOk, is_some}
 use Rattle.std.specs.Option.{option_copied}
 use Rattle.std.specs.Option.{option_or, option_and_then}
-use Rattle.std.specs.List.{slice_get}
 use Rattle.std.proofs.lemmas.Option.{get_or_from_slice_get, slice_get_read, slice_get_within}
 use Rattle.std.proofs.Math.Seq.{get_or-append_seam}
 use Rattle.std.proofs.lemmas.Bool.{and_parts, eqb-true}
@@ -17,7 +16,7 @@ use Rattle.ntuple_rules.specs.Groups.{IsAt}
 use Rattle.ntuple_rules.specs.declared.rule.Rule.{Rule}
 use Rattle.ntuple_rules.specs.declared.fields.Fields.{Fields}
 use Rattle.ntuple_rules.specs.declared.group.Group.{Group}
-use Rattle.ntuple_rules.specs.Groups.{Adds, AddsAt, Finds, FindsAsBefore, IsNew, lesser, found_in}
+use Rattle.ntuple_rules.specs.Groups.{Adds, AddsAt, FindsAsBefore, IsNew, lesser, found_in}
 use Rattle.ntuple_rules.specs.Groups.{found_among, significant_bits, looked_at, masked, same_fields}
 use Rattle.ntuple_rules.specs.Groups.{shape_of}
 use Rattle.ntuple_rules.specs.Matches.{first_match, matches}

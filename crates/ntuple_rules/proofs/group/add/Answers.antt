@@ -1,4 +1,3 @@
-use Rattle.ntuple_rules.specs.Groups.{Adds, AddsAt, IsAt}
 use Rattle.ntuple_rules.proofs.Found.{adds_here, on_ok}
 use Rattle.ntuple_rules.proofs.group.add.Goals as goal
 
