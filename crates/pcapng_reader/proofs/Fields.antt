@@ -7,7 +7,8 @@ use Rattle.std.proofs.lemmas.List.{drop-drop, drop_at, get_or_past}
 use Rattle.std.proofs.lemmas.List.Elements.{All-drop}
 use Rattle.byteorder.specs.Numbers.{big_number-reads_back, little_number-reads_back}
 use Rattle.byteorder.specs.Numbers.{length-bytes_high_first, length-bytes_low_first}
-use Rattle.byteorder.specs.Numbers.{big_from-append, little_from-append, big_from-lt, little_from-lt}
+use Rattle.byteorder.specs.Numbers.{big_from-append, big_from-lt, little_from-append}
+use Rattle.byteorder.specs.Numbers.{little_from-lt}
 use Rattle.pcap_reader.specs.Numbers.{number_of}
 use Rattle.pcapng_reader.specs.Numbers.{u16_at, u32_at}
 use Rattle.pcapng_reader.specs.Format.{field}

@@ -48,8 +48,8 @@ pub record IsInterface (big : Bool) (interface : Interface) (body : List ℕ) : 
   pub snap_fits : interface.snap < 2 ^ 32
 
 -- a packet that can be a record of a capture: its section has described the interface, which is
--- Ethernet; the frame is not too long and begins at this offset of the block; the file does not have
--- too many packets before it
+-- Ethernet; the frame is not too long and begins at this offset of the block; the file has not too
+-- many packets before it
 pub record IsPacket (section : Section) (place : Place) (id : ℕ) (interface : Interface) (at : ℕ)
     (frame : List ℕ) (r : PcapRecord) : Type 0 where
   pub described : slice_get section.interfaces id ≡ Some interface
