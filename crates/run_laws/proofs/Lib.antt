@@ -1,0 +1,4 @@
+pub mod Lists
+pub mod Tries
+pub mod Turns
+pub mod Ends

@@ -1,0 +1,12 @@
+pub mod Puts
+pub mod Choices
+pub mod EmptiedLanes
+pub mod Calls
+pub mod Orders
+pub mod Heads
+pub mod Drops
+pub mod BusyLanes
+pub mod Commands
+pub mod Ends
+pub mod Standing
+pub mod Replies
