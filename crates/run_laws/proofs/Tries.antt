@@ -2,6 +2,9 @@ pub mod AnswerLemmas
 pub mod BusyLemmas
 pub mod CallLemmas
 pub mod EmptiedLemmas
+pub mod GivenLemmas
+pub mod HomeLemmas
+pub mod RangeLemmas
 pub mod ResizeLemmas
 pub mod TryLemmas
 pub mod WordLemmas

@@ -115,7 +115,9 @@ module _ (i : Input) (p : ℕ) (z : ℕ → ℕ) (s : Settings) (g : ℕ → ℕ
 module _ (i : Input) (h : History) (about : BoardSizes) (own : ℕ → List BoardStep)
     (lists : BoardLists) (tries : List Try) (t : Story) (law : VisitNumbersRise about own lists)
     (hashes : FlowsHaveOneHash i) (board : IsReceiveBoard i h about lists)
-    (kept : KeepsReceiveTries i h about own tries) (keeps : ChoicesHaveTurns i h about own lists t) where
+    (kept : KeepsReceiveTries i h about own tries)
+    (fits : All (λ (t : Try). NamesReceiveQueues (queues (receive_queues i)) t.given.command) tries)
+    (keeps : ChoicesHaveTurns i h about own lists t) where
   abbrev q : Queues
   q = receive_queues i
 
@@ -148,7 +150,7 @@ module _ (i : Input) (h : History) (about : BoardSizes) (own : ℕ → List Boar
       (subst (AllSetByAnswer about sets at_receive) f.1 kept.are) in
       let fit : All (λ (t : Try). NamesReceiveQueues (queues q) t.given.command) (upto n) =
       all-later (λ (t : Try). NamesReceiveQueues (queues q) t.given.command) f.0 (upto n)
-      (subst (All (λ (t : Try). NamesReceiveQueues (queues q) t.given.command)) f.1 kept.fit) in
+      (subst (All (λ (t : Try). NamesReceiveQueues (queues q) t.given.command)) f.1 fits) in
       subst (AreReceiveWords q (after n) (λ p. resizes_by p (upto n)))
       (sym (ap (λ ds. own_settings about (opened n (gate_steps ds))) kept.own_list
       ∙ settings_opened about sets at_receive n tries kept.are))
@@ -323,5 +325,5 @@ module _ (i : Input) (h : History) (about : BoardSizes) (own : ℕ → List Boar
 
 pub choices_of_closing : (about : BoardSizes) (own : ℕ → List BoardStep) (lists : BoardLists)
     → VisitNumbersRise about own lists → ChoicesFollow about own lists
-choices_of_closing about own lists law i h tries t hashes board kept keeps =
-    choices_follow i h about own lists tries t law hashes board kept keeps
+choices_of_closing about own lists law i h tries t hashes board kept fits keeps =
+    choices_follow i h about own lists tries t law hashes board kept fits keeps

@@ -294,6 +294,7 @@ module _ (i : Input) (h : History) (about : BoardSizes) (own : ℕ → List Boar
     (lists : BoardLists) (tries : List Try) (t : Story) (law : VisitNumbersRise about own lists)
     (board : IsTransmitBoard i h about lists)
     (kept : KeepsTransmitTries i h about own tries (length i.plan.tx))
+    (fits : All (λ (t : Try). NamesTransmitQueues (length i.plan.tx) t.given.command) tries)
     (keeps : RepliesHaveTurns i h about own lists t) where
   abbrev count : ℕ
   count = length i.plan.tx
@@ -317,7 +318,7 @@ module _ (i : Input) (h : History) (about : BoardSizes) (own : ℕ → List Boar
       are-later about ss at_transmit f.0 (upto n) (subst (AllSetByAnswer about ss at_transmit) f.1 kept.are) in
       let fit : All (λ (t : Try). NamesTransmitQueues count t.given.command) (upto n) =
       all-later (λ (t : Try). NamesTransmitQueues count t.given.command) f.0 (upto n)
-      (subst (All (λ (t : Try). NamesTransmitQueues count t.given.command)) f.1 kept.fit) in
+      (subst (All (λ (t : Try). NamesTransmitQueues count t.given.command)) f.1 fits) in
       subst (AreTransmitWords count (settings_by begin (upto n)))
       (sym (ap (λ ds. own_settings about (opened n (gate_steps ds))) kept.own_list
       ∙ settings_opened about ss at_transmit n tries kept.are))
@@ -465,5 +466,5 @@ module _ (i : Input) (h : History) (about : BoardSizes) (own : ℕ → List Boar
 
 pub replies_of_closing : (about : BoardSizes) (own : ℕ → List BoardStep) (lists : BoardLists)
     → VisitNumbersRise about own lists → RepliesFollow about own lists
-replies_of_closing about own lists law i h tries t board kept keeps =
-    replies_follow i h about own lists tries t law board kept keeps
+replies_of_closing about own lists law i h tries t board kept fits keeps =
+    replies_follow i h about own lists tries t law board kept fits keeps

@@ -1,5 +1,5 @@
 -- The choices of the receive queues, for the third clause of a good history.
-use Rattle.std.specs.Prelude.{◌≡◌, ℕ, ◌/◌, ◌^◌, ◌<◌, ◌≤◌, List, [], Some, length, slice_get}
+use Rattle.std.specs.Prelude.{◌≡◌, ℕ, ◌/◌, ◌^◌, ◌<◌, ◌≤◌, List, [], Some, length, slice_get, All}
 use Rattle.history.specs.Lists.{list_at}
 use Rattle.history.specs.declared.history.History.{History}
 use Rattle.hop_rule.specs.Moments.{nth_step}
@@ -13,7 +13,7 @@ use Rattle.hop_delivery.specs.Orders.Turns.{Explained, Turn}
 use Rattle.steer_model.specs.Good.Choices.{AreByRule}
 use Rattle.steer_model.specs.Good.Inputs.{Input}
 use Rattle.run_laws.specs.Ties.Boards.{IsReceiveBoard}
-use Rattle.run_laws.specs.Ties.Inputs.{FlowsHaveOneHash, receive_queues}
+use Rattle.run_laws.specs.Ties.Inputs.{FlowsHaveOneHash, NamesReceiveQueues, receive_queues}
 use Rattle.run_laws.specs.Ties.Tries.{KeepsReceiveTries, Try, at_receive, tries_up_to}
 
 module _ (i : Input) (h : History) (about : BoardSizes) (own : ℕ → List BoardStep)
@@ -43,4 +43,5 @@ abbrev pub ChoicesFollow : BoardSizes → (ℕ → List BoardStep) → BoardList
 ChoicesFollow about own lists =
     (i : Input) (h : History) (tries : List Try) (t : Story) → FlowsHaveOneHash i
     → IsReceiveBoard i h about lists → KeepsReceiveTries i h about own tries
+    → All (λ (t : Try). NamesReceiveQueues (queues (receive_queues i)) t.given.command) tries
     → ChoicesHaveTurns i h about own lists t → AreByRule i h (commands_before tries t)

@@ -15,6 +15,7 @@ use Rattle.steer_model.specs.Good.Inputs.{Input, Prefixes, settings_at, setup_in
 use Rattle.steer_model.specs.Good.Replies.{IsReplyByRule}
 use Rattle.steer_model.specs.State.Setup.{flow_number_of, packet_hash}
 use Rattle.run_laws.specs.Ties.Boards.{IsTransmitBoard}
+use Rattle.run_laws.specs.Ties.Inputs.{NamesTransmitQueues}
 use Rattle.run_laws.specs.Ties.Tries.{KeepsTransmitTries, Try, at_transmit, tries_up_to}
 
 module _ (i : Input) (h : History) (about : BoardSizes) (own : ℕ → List BoardStep)
@@ -56,4 +57,5 @@ RepliesFollow about own lists =
     (i : Input) (h : History) (tries : List Try) (t : Story)
     → IsTransmitBoard i h about lists
     → KeepsTransmitTries i h about own tries (length i.plan.tx)
+    → All (λ (t : Try). NamesTransmitQueues (length i.plan.tx) t.given.command) tries
     → RepliesHaveTurns i h about own lists t → RepliesAreBy i h (commands_before_reply tries t)

@@ -20,7 +20,7 @@ use Rattle.run_laws.specs.Ties.Turns.{KeepsTurns}
 -- The words of a receive queue are within the ranges of what they say: a set of processors, a flow
 -- count below the number of its changes, a socket size, and a set of the board's processors.
 pub record FitReceiveWords (q : Queues) (cpus p : ℕ) (s : ℕ → ℕ) : Type 0 where
-  pub mask : s (mask_word q p) < 2 ^ 32
+  pub mask : s (mask_word q p) < 2 ^ cpus
   pub flows : s (flows_word q p) % 2 ^ 32 ≤ MAX_FLOW_COUNT
   pub sock : s (socket_word q) ≤ MAX_SOCKET_SIZE
   pub online : s (online_word q) < 2 ^ cpus

@@ -1,7 +1,7 @@
 -- What the controller keeps of its tries, and the steps that each has left in its own lists at the
 -- two boards. Lists of tries and of steps have the newest first.
 use Rattle.std.specs.Prelude.{◌≡◌, ◌⊎◌, ℕ, suc, ◌==◌, true, false, List, [], ◌∷◌, ◌++◌}
-use Rattle.std.specs.Prelude.{Option, Some, None, map, if◌then◌else◌, All, length}
+use Rattle.std.specs.Prelude.{Option, Some, None, map, if◌then◌else◌}
 use Rattle.std.specs.List.{filter_map}
 use Rattle.steer_base.specs.declared.command.Command.{Command}
 use Rattle.history.specs.declared.commanded.Commanded.{Commanded}
@@ -14,11 +14,10 @@ use Rattle.hop_rule.specs.declared.step.BoardStep.{BoardStep}
 use Rattle.hop_rule.specs.declared.step.GateStep.{GateStep}
 use Rattle.hop_rule.specs.declared.step.GateStep.TheVariants.{Opened, Set}
 use Rattle.hop_delivery.specs.Orders.Commands.{SettingChange, received_sets, sent_sets}
-use Rattle.hop_delivery.specs.Orders.ReceiveSettings.{queues}
 use Rattle.steer_model.specs.Good.Inputs.{Input, is_resize}
 use Rattle.steer_model.specs.State.Settings.{Settings, changed}
 use Rattle.steer_model.specs.Steps.Commands.{is_done}
-use Rattle.run_laws.specs.Ties.Inputs.{NamesReceiveQueues, NamesTransmitQueues, receive_queues}
+use Rattle.run_laws.specs.Ties.Inputs.{receive_queues}
 
 -- One try of a command: the command with its answer, and the steps that it added to the controller's
 -- own lists at the receive board and at the transmit board.
@@ -112,11 +111,10 @@ module _ (i : Input) (h : History) (about : BoardSizes) (own : ℕ → List Boar
       pub commands : h.commands ≡ oldest_first (map (λ t. t.given) tries)
       pub own_list : own (closer about) ≡ steps_of_tries at_receive tries
       pub are : AllSetByAnswer about (received_sets (receive_queues i)) at_receive tries
-      pub fit : All (λ (t : Try). NamesReceiveQueues (queues (receive_queues i)) t.given.command) tries
-
+  
     -- The controller has made no step at the transmit board but those of its tries.
     pub record KeepsTransmitTries (count : ℕ) : Type 0 where
       pub commands : h.commands ≡ oldest_first (map (λ t. t.given) tries)
       pub own_list : own (closer about) ≡ steps_of_tries at_transmit tries
       pub are : AllSetByAnswer about (λ w c. sent_sets count c) at_transmit tries
-      pub fit : All (λ (t : Try). NamesTransmitQueues count t.given.command) tries
+  
