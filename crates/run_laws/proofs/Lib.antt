@@ -2,3 +2,4 @@ pub mod Lists
 pub mod Tries
 pub mod Turns
 pub mod Ends
+pub mod Runs

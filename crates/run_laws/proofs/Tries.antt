@@ -4,6 +4,7 @@ pub mod CallLemmas
 pub mod EmptiedLemmas
 pub mod GivenLemmas
 pub mod HomeLemmas
+pub mod OpeningLemmas
 pub mod RangeLemmas
 pub mod ResizeLemmas
 pub mod TryLemmas

@@ -47,6 +47,8 @@ use Rattle.run_laws.specs.Laws.Choices.{ChoicesFollow, ChoicesHaveTurns, command
 use Rattle.run_laws.specs.Ties.Boards.{IsReceiveBoard}
 use Rattle.run_laws.specs.Ties.Inputs.{AreReceiveWords, FlowsHaveOneHash, NamesReceiveQueues, hash_of_flow, receive_queues}
 use Rattle.run_laws.specs.Ties.Tries.{AllSetByAnswer, KeepsReceiveTries, Try, at_receive, openings_by, resizes_by, settings_by, steps_of_tries, tries_up_to}
+use Rattle.run_laws.proofs.Tries.OpeningLemmas.{settings_of_opening, words_of_opening}
+use Rattle.run_laws.proofs.Tries.OpeningLemmas as opening_lemmas
 
 pub get-or : {A : Type 0} (xs : List A) (k : ℕ) (d x : A) → slice_get xs k ≡ Some x
     → slice_index_or xs k d ≡ x
@@ -59,15 +61,6 @@ is-below p n less = lt-ltb p n less
 
 mod-low : (c g : ℕ) → c < 2 ^ 32 → (c + 2 ^ 32 * g) % 2 ^ 32 ≡ c
 mod-low c g small = omega arith
-
-pub are-later : (about : BoardSizes) (sets : (ℕ → ℕ) → Command → List SettingChange) (f : Try → List BoardStep)
-    (more ts : List Try) → AllSetByAnswer about sets f (more ++ ts) → AllSetByAnswer about sets f ts
-are-later about sets f [] ts are = are
-are-later about sets f (t ∷ more) ts are = are-later about sets f more ts are.1
-
-pub all-later : {A : Type 0} (P : A → Type 0) (xs ys : List A) → All P (xs ++ ys) → All P ys
-all-later P [] ys all = all
-all-later P (x ∷ xs) ys all = all-later P xs ys (All-tail P x (xs ++ ys) all)
 
 -- ---- by words that are the settings
 
@@ -142,36 +135,17 @@ module _ (i : Input) (h : History) (about : BoardSizes) (own : ℕ → List Boar
   abbrev shown : ℕ → ℕ → ℕ
   shown n = own_settings about (opened n (gate_steps (own (closer about))))
 
-  pub words-at : (n : ℕ) → AreReceiveWords q (after n) (λ p. resizes_by p (upto n)) (shown n)
-  words-at n =
-      let f = first-tries about sets at_receive n tries kept.are in
-      let are : AllSetByAnswer about sets at_receive (upto n) =
-      are-later about sets at_receive f.0 (upto n)
-      (subst (AllSetByAnswer about sets at_receive) f.1 kept.are) in
-      let fit : All (λ (t : Try). NamesReceiveQueues (queues q) t.given.command) (upto n) =
-      all-later (λ (t : Try). NamesReceiveQueues (queues q) t.given.command) f.0 (upto n)
-      (subst (All (λ (t : Try). NamesReceiveQueues (queues q) t.given.command)) f.1 fits) in
-      subst (AreReceiveWords q (after n) (λ p. resizes_by p (upto n)))
-      (sym (ap (λ ds. own_settings about (opened n (gate_steps ds))) kept.own_list
-      ∙ settings_opened about sets at_receive n tries kept.are))
-      (words_are about q first at_receive board.settings (upto n) fit are)
+  words-at : (n : ℕ) → AreReceiveWords q (after n) (λ p. resizes_by p (upto n)) (shown n)
+  words-at n = words_of_opening i h about own lists tries board kept fits n
 
   take-upto : (n : ℕ) → take (length (upto n)) h.commands ≡ given_by (upto n)
-  take-upto n =
-      let f = first-tries about sets at_receive n tries kept.are in
-      ap (take (length (upto n))) (kept.commands ∙ ap given_by f.1) ∙ take-given f.0 (upto n)
+  take-upto n = opening_lemmas.take-upto i h about own lists tries board kept fits n
 
-  pub settings-at : (n : ℕ) → settings_at i h (length (upto n)) ≡ after n
-  settings-at n = ap (settings_after first) (take-upto n) ∙ sym (settings-given first (upto n))
+  settings-at : (n : ℕ) → settings_at i h (length (upto n)) ≡ after n
+  settings-at n = settings_of_opening i h about own lists tries board kept fits n
 
   length-upto : (n : ℕ) → length (upto n) ≤ length h.commands
-  length-upto n =
-      let f = first-tries about sets at_receive n tries kept.are in
-      let a = ap length f.1 in
-      let b = length-append f.0 (upto n) in
-      let c = ap length kept.commands in
-      let d = length-given tries in
-      omega arith
+  length-upto n = opening_lemmas.length-upto i h about own lists tries board kept fits n
 
   -- ---- the visits of a queue
 

@@ -55,7 +55,8 @@ use Rattle.steer_model.specs.State.Setup.{flow_number_of, packet_hash}
 use Rattle.steer_model.specs.State.Start.{initial_settings}
 use Rattle.run_laws.proofs.Turns.EntryLemmas.{entries-rise, entry-at}
 use Rattle.run_laws.proofs.Turns.OwnHeadLemmas.{migrate_own}
-use Rattle.run_laws.proofs.Turns.ChoiceLemmas.{all-later, are-later, get-or}
+use Rattle.run_laws.proofs.Turns.ChoiceLemmas.{get-or}
+use Rattle.run_laws.proofs.Tries.OpeningLemmas.{all-later, are-later}
 use Rattle.run_laws.proofs.Tries.TryLemmas.{Form, sets_one, opens, makes_none, form, first-tries, given_by, length-given, made-more, openings-makings, settings-given, settings_opened, take-given, tries-grow, words-made}
 use Rattle.run_laws.specs.Laws.Replies.{RepliesAreBy, RepliesFollow, RepliesHaveTurns, commands_before_reply}
 use Rattle.run_laws.specs.Ties.Boards.{IsTransmitBoard}

@@ -35,7 +35,7 @@ use Rattle.hop_delivery.specs.Closings.TurnReads.{IsBySeen, before_seen, class_s
 use Rattle.steer_model.specs.Good.Drops as good
 use Rattle.steer_model.specs.Good.Inputs.{Input, setup_in}
 use Rattle.steer_model.specs.State.Setup.{packet_hash}
-use Rattle.run_laws.proofs.Turns.ChoiceLemmas.{all-later}
+use Rattle.run_laws.proofs.Tries.OpeningLemmas.{all-later}
 use Rattle.run_laws.specs.Laws.Drops.{DropsFollow}
 use Rattle.run_laws.specs.Laws.Puts.{TablesAreEntries, TablesRule}
 use Rattle.run_laws.specs.Ties.Boards.{IsReceiveBoard}

@@ -1,7 +1,5 @@
 use Rattle.run_laws.proofs.Tries.EmptiedLemmas as emptied
-use Rattle.run_laws.proofs.Tries.RangeLemmas as ranges
-use Rattle.run_laws.proofs.Tries.GivenLemmas as givens
-use Rattle.run_laws.proofs.Tries.HomeLemmas as homes
+use Rattle.run_laws.proofs.Runs.QueueLemmas as queues
 use Rattle.run_laws.proofs.laws.tries_find_empty.Goals as goal
 
 pub returns : goal.returns
