@@ -1,3 +1,4 @@
 pub mod FactLemmas
 pub mod QueueLemmas
+pub mod StandLemmas
 pub mod TurnListLemmas

@@ -1,5 +1,5 @@
 -- What holds at each closing of a board, in one record.
-use Rattle.std.specs.Prelude.{ℕ, List}
+use Rattle.std.specs.Prelude.{ℕ, ◌<◌, List}
 use Rattle.linearization.specs.Orders.{StepBy}
 use Rattle.dev_flow_table.proofs.FoldsLemmas as folds
 use Rattle.hop_rule.specs.Boards.{IsLawful}
@@ -7,6 +7,10 @@ use Rattle.hop_rule.specs.Owns.{own_of}
 use Rattle.hop_rule.specs.Sizes.{FitSizes}
 use Rattle.hop_rule.specs.declared.sizes.BoardSizes.{BoardSizes}
 use Rattle.hop_rule.specs.declared.step.BoardStep.{BoardStep}
+use Rattle.hop_rule.specs.declared.step.BoardStep.TheVariants.{Lane}
+use Rattle.hop_rule.specs.declared.step.LaneStep.TheVariants.{Given}
+use Rattle.hop_rule.proofs.Boards.{step_lawful}
+use Rattle.board_api.specs.OwnSteps.{Has}
 use Rattle.board_api.specs.Closings.Closings.{AtEachClosing}
 use Rattle.board_api.specs.Closings.Finals.{lists_of}
 use Rattle.board_api.specs.Laws.Heads.{HeadsAreBelowTails, HeadsRise, ReadsAreSettings}
@@ -23,6 +27,7 @@ use Rattle.board_api.proofs.OwnHeads.{heads_are_below, heads_rise}
 use Rattle.board_api.proofs.OwnLanes.{deliveries_have_places, holds_find_fronts, lanes_are_in_turn}
 use Rattle.board_api.proofs.OwnLanes.{lanes_are_served_by_one}
 use Rattle.board_api.proofs.OwnPuts.{accepted_were_put, drops_were_put, puts_stand}
+use Rattle.board_api.proofs.OwnTimes.{step_is, when}
 use Rattle.board_api.proofs.OwnVisits.{reads_are_settings, visit_numbers_rise}
 use Rattle.hop_delivery.specs.Closings.FlowLaw.{FlowsAreInOrder}
 use Rattle.hop_delivery.specs.Closings.TurnReads.{RulesAreByReads, TurnsReadSettings}
@@ -35,9 +40,26 @@ use Rattle.run_laws.proofs.Turns.PutLemmas.{answers_are_places, tables_are_entri
 use Rattle.run_laws.proofs.Turns.StandingLemmas.{packets_stand}
 use Rattle.run_laws.proofs.Turns.TableLemmas.{tables_rule}
 
+-- a delivery is from a lane of the board to an out lane of the board
+pub record GivesWithin (about : BoardSizes) (own : ℕ → List BoardStep) : Type 0 where
+  pub within : (q k o from id place : ℕ) → Has (own q) k (Lane (Given o from id place))
+      → (o < about.outs) × (from < about.lanes)
+
+gives_within : (about : BoardSizes) (order : List (StepBy BoardStep)) → IsLawful about order
+    → GivesWithin about (own_of order)
+gives_within about order lawful =
+    record {
+      within = λ q k o from id place does.
+          (let d : BoardStep = Lane (Given o from id place) in
+          let may = (step_lawful about order (when order q k) q d lawful
+          (step_is order q k d does)).1.0 in
+          (may.0, may.1));
+    }
+
 pub record BoardFacts (about : BoardSizes) (own : ℕ → List BoardStep) (lists : BoardLists)
     : Type 0 where
   pub fit : FitSizes about
+  pub gives : GivesWithin about own
   pub counted : ListsAreCounted about own lists
   pub sums : CountsAreSums about own lists
   pub outs : OutsAreSums about own lists
@@ -73,6 +95,7 @@ facts_of about order fit lawful =
     let answers = answers_are_places about own lists stand were in
     record {
       fit = fit;
+      gives = gives_within about order lawful;
       counted = lists_are_counted about own order;
       sums = counts_are_sums about order lawful;
       outs = outs_are_sums about order lawful;
