@@ -1,4 +1,5 @@
 pub mod FactLemmas
 pub mod QueueLemmas
+pub mod ReceiveLemmas
 pub mod StandLemmas
 pub mod TurnListLemmas

@@ -10,3 +10,4 @@ pub mod Deliveries
 pub mod Applications
 pub mod Hints
 pub mod Ends
+pub mod Runs

@@ -1,0 +1,203 @@
+-- The receive side of a good history, from what the threads keep at the receive board.
+use Rattle.std.proofs.Common.{◌≡◌, ◌≢◌, ◌⊎◌, inl, inr, ℕ, zero, suc, ◌+◌, ◌-◌, ◌<◌, ◌≤◌, Bool, true}
+use Rattle.std.proofs.Common.{false, List, [], ◌∷◌, ◌++◌, Option, Some, None, length, map, take, All}
+use Rattle.std.proofs.Common.{sym, refl, ap, ◌∙◌, subst, arith, append_assoc}
+use Rattle.std.specs.Prelude.{slice_get, slice_index}
+use Rattle.std.proofs.lemmas.List.{length-map}
+use Rattle.std.proofs.Math.Seq.{take_all}
+use Rattle.steer_base.specs.Apps.{app_of}
+use Rattle.steer_base.specs.Orders.{Apart, IsPrefix}
+use Rattle.steer_base.specs.declared.choice.Chosen.{Chosen}
+use Rattle.steer_base.specs.declared.put.Put.{Put}
+use Rattle.history.specs.Finding.{is_in, Once}
+use Rattle.history.specs.Lists.{accepted_lists, app_at, arrivals_at, dropped_lists, lane_at, list_at}
+use Rattle.history.specs.Places.{AreInOnePlace, InboxesAreDelivered}
+use Rattle.history.specs.Regular.{AreDelivered, AreSteered, HaveArrived}
+use Rattle.history.specs.declared.arrival.Arrival.{Arrival}
+use Rattle.history.specs.declared.history.History.{History}
+use Rattle.history.specs.declared.lane_list.LaneList.{LaneList}
+use Rattle.hop_rule.specs.Moments.{nth_step}
+use Rattle.hop_rule.specs.Sizes.{puller}
+use Rattle.hop_rule.specs.declared.sizes.BoardSizes.{BoardSizes}
+use Rattle.hop_rule.specs.declared.step.BoardStep.{BoardStep}
+use Rattle.hop_rule.specs.declared.step.BoardStep.TheVariants.{Lane}
+use Rattle.hop_rule.specs.declared.step.LaneStep.TheVariants.{Given}
+use Rattle.board_api.specs.declared.lists.BoardLists.{BoardLists}
+use Rattle.hop_delivery.specs.Closings.FlowLaw.{accepted_left}
+use Rattle.hop_delivery.specs.Orders.Premises.{GoesRight, MeetsPremises}
+use Rattle.hop_delivery.specs.Orders.ReceiveSettings.{receive_steering}
+use Rattle.hop_delivery.specs.Orders.Runs.{Story, turns_of}
+use Rattle.hop_delivery.specs.Orders.Turns.{Turn}
+use Rattle.hop_delivery.proofs.Orders.AccountedLemmas.{nth-all}
+use Rattle.hop_delivery.proofs.Orders.ReceiveSettingLemmas.{receive_steers}
+use Rattle.steer_model.specs.Good.Choices.{ChoicesAreByRule}
+use Rattle.steer_model.specs.Good.Deliveries.{IsDeliveredInOrder}
+use Rattle.steer_model.specs.Good.Inputs.{Input, setup_in}
+use Rattle.run_laws.specs.Laws.Choices.{ChoicesHaveTurns, commands_before}
+use Rattle.run_laws.specs.Ties.Inputs.{receive_queues}
+use Rattle.run_laws.specs.Ties.Runs.{IsOfInput, KeepsCommands, ReceiveTies}
+use Rattle.run_laws.specs.Ties.Tries.{Try}
+use Rattle.run_laws.specs.Ties.Turns.{AreTurnsOf}
+use Rattle.run_laws.proofs.Ends.InboxLemmas.{inboxes_follow}
+use Rattle.run_laws.proofs.Lists.PlaceLemmas.{AreNumbered, StandOnce, apart_from, at_in, once_from}
+use Rattle.run_laws.proofs.Runs.FactLemmas.{BoardFacts}
+use Rattle.run_laws.proofs.Runs.QueueLemmas as queues
+use Rattle.run_laws.proofs.Runs.StandLemmas as stand
+use Rattle.run_laws.proofs.Tries.GivenLemmas.{all_within}
+use Rattle.run_laws.proofs.Tries.RangeLemmas.{IsWithinPlan}
+use Rattle.run_laws.proofs.Turns.ChoiceLemmas.{choices_of_closing}
+
+module _ (i : Input) (h : History) (about : BoardSizes) (own : ℕ → List BoardStep)
+    (lists : BoardLists) (facts : BoardFacts about own lists) (tries : List Try) (t : Story)
+    (seen : ℕ → ℕ → ℕ → ℕ) (input : IsOfInput i h) (commands : KeepsCommands i h tries)
+    (ties : ReceiveTies i h about own lists tries t seen) where
+  pub within : All (λ (t : Try). IsWithinPlan i.plan t.given.command) tries
+  within = all_within i.plan tries h.commands ties.tries_are.commands commands.given
+
+  -- ---- the turns
+
+  pub turns : AreTurnsOf own t
+  turns =
+      queues.are-turns i h about own lists facts tries t seen input.hashes ties.board ties.tries_are
+      within commands.answered ties.finds ties.right input.arrived ties.queues
+
+  pub premises : MeetsPremises about own (accepted_left lists) t
+      (receive_steering (receive_queues i))
+  premises =
+      queues.meets-premises i h about own lists facts tries t seen input.hashes ties.board
+      ties.tries_are within commands.answered ties.finds ties.right input.arrived ties.queues
+
+  pub choices : ChoicesHaveTurns i h about own lists t
+  choices =
+      queues.choices-have-turns i h about own lists facts tries t seen input.hashes ties.board
+      ties.tries_are within commands.answered ties.finds ties.right input.arrived ties.queues
+
+  once : (p q j k x : ℕ) → slice_get (t.arrivals p) j ≡ Some x
+      → slice_get (t.arrivals q) k ≡ Some x → (p ≡ q) × (j ≡ k)
+  once =
+      queues.arrival-once i h about own lists facts tries t seen input.hashes ties.board
+      ties.tries_are within commands.answered ties.finds ties.right input.arrived ties.queues
+
+  known : (p j x : ℕ) → slice_get (t.arrivals p) j ≡ Some x → x < length i.packets
+  known =
+      queues.arrival-known i h about own lists facts tries t seen input.hashes ties.board
+      ties.tries_are within commands.answered ties.finds ties.right input.arrived ties.queues
+
+  pub numbered : AreNumbered 0 h.arrivals
+  numbered =
+      queues.numbered i h about own lists facts tries t seen input.hashes ties.board ties.tries_are
+      within commands.answered ties.finds ties.right input.arrived ties.queues
+
+  counted : length h.arrivals ≡ length i.packets
+  counted =
+      queues.arrivals-counted i h about own lists facts tries t seen input.hashes ties.board
+      ties.tries_are within commands.answered ties.finds ties.right input.arrived ties.queues
+
+  -- ---- the choices
+
+  -- the choices of a queue are of all its arrivals
+  pub all-chosen : (p : ℕ)
+      → map (λ (c : Chosen). c.id) (list_at h.choices p) ≡ arrivals_at h.arrivals p
+  all-chosen p =
+      ap (map (λ (c : Chosen). c.id)) (ties.queues.choices p)
+      ∙ (ties.queues.turns.all_chosen p ∙ ties.queues.arrivals p)
+
+  choice-count : (p : ℕ) → slice_index h.taken p ≡ length (arrivals_at h.arrivals p)
+  choice-count p =
+      ties.queues.taken p
+      ∙ (sym (length-map (t.choices p) (λ (c : Chosen). c.id))
+      ∙ ap length (ties.queues.turns.all_chosen p ∙ ties.queues.arrivals p))
+
+  pub have-arrived : HaveArrived i.packets h
+  have-arrived =
+      record {
+        numbered = numbered;
+        of_the_capture = (let n = counted in omega arith);
+        taken = λ q. (let n = choice-count q in omega arith);
+        chosen = λ q. (
+            [],
+            append-none (map (λ (c : Chosen). c.id) (list_at h.choices q)) ∙ all-chosen q,
+        );
+        chosen_taken = λ q.
+            (let n = ties.queues.taken q in
+            let m = ap length (ties.queues.choices q) in omega arith);
+      }
+    where
+      append-none : {A : Type 0} (xs : List A) → xs ++ [] ≡ xs
+      append-none [] = refl
+      append-none (x ∷ xs) = ap (λ r. x ∷ r) (append-none xs)
+
+  pub choices-by-rule : ChoicesAreByRule i h (commands_before tries t)
+  choices-by-rule =
+      record {
+        all = λ q.
+            all-chosen q
+            ∙ sym (ap (λ n. take n (arrivals_at h.arrivals q)) (choice-count q)
+            ∙ take_all (length (arrivals_at h.arrivals q)) (arrivals_at h.arrivals q) (omega arith));
+        by_rule =
+            choices_of_closing about own lists facts.visits i h tries t input.hashes ties.board
+            ties.tries_are (queues.all_name_queues i tries within) choices;
+      }
+
+  -- ---- where packets stand
+
+  pub are-steered : AreSteered h
+  are-steered =
+      record {
+        accepted = λ c x is.
+            stand.accepted-choice about own lists facts t ties.queues.turns turns once h.choices
+            ties.queues.choices c x (ap (λ ls. is_in x (lane_at ls c).accepted) (sym ties.board.lanes)
+            ∙ is);
+        dropped = λ c x is.
+            stand.dropped-choice about own lists facts t ties.queues.turns turns once h.choices
+            ties.queues.choices c x
+            (ap (λ ls. is_in x (Rattle.history.specs.Lists.drop_ids (lane_at ls c)))
+            (sym ties.board.lanes) ∙ is);
+        once =
+            apart_from (accepted_lists h.lanes ++ dropped_lists h.lanes)
+            (subst (λ ls. StandOnce (accepted_lists ls ++ dropped_lists ls)) (sym ties.board.lanes)
+            (stand.all-stand about own lists facts t ties.queues.turns turns once h.choices
+            ties.queues.choices));
+      }
+
+  inbox-app : (a x : ℕ) → is_in x (list_at lists.outs a) ≡ true
+      → app_at i.packets (length i.plan.apps) x ≡ a
+  inbox-app a x is =
+      let n = at_in x (list_at lists.outs a) is in
+      let f = stand.came-from about own lists facts t ties.queues.turns turns once h.choices
+      ties.queues.choices a n.0 x n.1 in
+      let p = stand.accepted-arrived about own lists facts t ties.queues.turns turns once h.choices
+      ties.queues.choices f.lane f.index x f.stands_at in
+      let goes : GoesRight (receive_steering (receive_queues i)) (Lane (Given a f.lane x (suc n.0))) =
+      nth-all (GoesRight (receive_steering (receive_queues i))) (own (puller about f.lane)) f.step
+      (Lane (Given a f.lane x (suc n.0))) (ties.right (puller about f.lane)) f.does in
+      sym (goes ∙ ap (λ o. app_of o (length i.plan.apps)) (input.hashes x (known p.0 p.1 x p.2)))
+
+  pub are-delivered : AreDelivered i.packets (length i.plan.apps) h
+  are-delivered =
+      record {
+        accepted = λ a x is.
+            subst (λ ls. (c : ℕ) × (is_in x (lane_at ls c).accepted ≡ true)) (sym ties.board.lanes)
+            (stand.out-accepted about own lists facts t ties.queues.turns turns once h.choices
+            ties.queues.choices a x (ap (λ ls. is_in x (list_at ls a)) (sym ties.board.inboxes) ∙ is));
+        own = λ a x is. inbox-app a x (ap (λ ls. is_in x (list_at ls a)) (sym ties.board.inboxes) ∙ is);
+        once = λ a.
+            once_from (list_at h.inboxes a)
+            (λ j k x at there.
+            (subst StandOnce (sym ties.board.inboxes)
+            (stand.outs-stand about own lists facts t ties.queues.turns turns once h.choices
+            ties.queues.choices) a a j k x at there).1);
+      }
+
+  pub inboxes-delivered : InboxesAreDelivered h
+  inboxes-delivered a c x is there =
+      ap (λ ls. Rattle.history.specs.Finding.is_among (lane_at ls c).delivered x (lane_at ls c).accepted)
+      ties.board.lanes
+      ∙ stand.out-delivered about own lists facts t ties.queues.turns turns once h.choices
+      ties.queues.choices a c x (ap (λ ls. is_in x (list_at ls a)) (sym ties.board.inboxes) ∙ is)
+      (ap (λ ls. is_in x (lane_at ls c).accepted) (sym ties.board.lanes) ∙ there)
+
+  pub in-order : IsDeliveredInOrder i h
+  in-order =
+      inboxes_follow about own lists facts.order (λ i. receive_steers (receive_queues i) about.lanes)
+      i h t input.hashes ties.board ties.queues.arrivals premises
