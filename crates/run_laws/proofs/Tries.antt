@@ -4,6 +4,8 @@ pub mod CallLemmas
 pub mod EmptiedLemmas
 pub mod GivenLemmas
 pub mod HomeLemmas
+pub mod MapLemmas
+pub mod MapOpeningLemmas
 pub mod OpeningLemmas
 pub mod RangeLemmas
 pub mod ResizeLemmas

@@ -24,7 +24,9 @@ use Rattle.steer_base.specs.declared.cpu_mask.CpuMask.{CpuMask}
 use Rattle.steer_base.specs.declared.limits.TheConstants.{MAX_FLOW_COUNT, MAX_SOCKET_SIZE}
 use Rattle.steer_base.proofs.MasksLemmas.{has-first_cpus, has-with_cpu, has-without_cpu}
 use Rattle.plan_reader.specs.Plans.{sizes_of}
-use Rattle.plan_reader.specs.Ranges.{QueueIsWithin, command_is_within}
+use Rattle.plan_reader.specs.Ranges.{QueueIsWithin, TxIsWithin, command_is_within}
+use Rattle.plan_reader.specs.declared.plan.TxPlan.{TxPlan}
+use Rattle.xps_map.specs.Maps.{no_cpus}
 use Rattle.plan_reader.specs.declared.plan.Plan.{Plan}
 use Rattle.plan_reader.specs.declared.plan.QueuePlan.{QueuePlan}
 use Rattle.steer_model.specs.State.Settings.{Settings, changed, mask_of}
@@ -79,6 +81,11 @@ pub record FitSettings (cpus : ℕ) (s : Settings) : Type 0 where
   pub counts : (p : ℕ) → slice_index s.counts p ≤ MAX_FLOW_COUNT
   pub sock : s.sock ≤ MAX_SOCKET_SIZE
   pub online : s.online.0 < 2 ^ cpus
+
+-- the maps of the transmit queues have processors and receive queues that there are
+pub record FitMaps (cpus queues : ℕ) (s : Settings) : Type 0 where
+  pub cpu_sets : (tx : ℕ) → (slice_index_or s.maps.cpus tx no_cpus).0 < 2 ^ cpus
+  pub queue_sets : (tx : ℕ) → slice_index s.maps.queues tx < 2 ^ queues
 
 and-both : (a b : Bool) → (a && b) ≡ true → (a ≡ true) × (b ≡ true)
 and-both true b e = (refl, e)
@@ -220,4 +227,74 @@ module _ (plan : Plan) where
           else settings_by (initial_settings plan) ts)
       by_done true f within =
           fit_changed (settings_by (initial_settings plan) ts) t.given.command within f
+      by_done false f within = f
+
+  -- ---- maps
+
+  abbrev Maps : Settings → Type 0
+  Maps s = FitMaps plan.cpus (length plan.queues) s
+
+  maps_changed : (s : Settings) (c : Command) → IsWithinPlan c → Maps s → Maps (changed s c)
+  maps_changed s (give.XCpus tx mask) within f =
+      let b = and-both (nat_lt tx (length plan.tx)) (nat_lt mask.0 (2 ^ plan.cpus)) within in
+      record {
+        cpu_sets = λ y.
+            set-any (λ (m : CpuMask). m.0 < 2 ^ plan.cpus) s.maps.cpus tx y mask no_cpus
+            (ltb-true mask.0 (2 ^ plan.cpus) b.1) (f.cpu_sets y);
+        queue_sets = f.queue_sets;
+      }
+  maps_changed s (give.XQueues tx queues) within f =
+      let b = and-both (nat_lt tx (length plan.tx)) (nat_lt queues (2 ^ length plan.queues))
+      within in
+      record {
+        cpu_sets = f.cpu_sets;
+        queue_sets = λ y.
+            set-number (λ n. n < 2 ^ length plan.queues) s.maps.queues tx y queues
+            (ltb-true queues (2 ^ length plan.queues) b.1) (f.queue_sets y);
+      }
+  maps_changed s (give.Mask q mask) within f = record { cpu_sets = f.cpu_sets; queue_sets = f.queue_sets }
+  maps_changed s (give.Flows q n) within f = record { cpu_sets = f.cpu_sets; queue_sets = f.queue_sets }
+  maps_changed s (give.Sock n) within f = record { cpu_sets = f.cpu_sets; queue_sets = f.queue_sets }
+  maps_changed s (give.Offline cpu) within f = record { cpu_sets = f.cpu_sets; queue_sets = f.queue_sets }
+  maps_changed s (give.Online cpu) within f = record { cpu_sets = f.cpu_sets; queue_sets = f.queue_sets }
+  maps_changed s (give.Reta place q) within f = record { cpu_sets = f.cpu_sets; queue_sets = f.queue_sets }
+  maps_changed s (give.Stand app cpu) within f = record { cpu_sets = f.cpu_sets; queue_sets = f.queue_sets }
+  maps_changed s give.Expire within f = f
+
+  first-cpu_sets : (ts : List TxPlan) (tx : ℕ)
+      → All (TxIsWithin plan.cpus (length plan.queues)) ts
+      → (slice_index_or (map (λ (q : TxPlan). q.cpus) ts) tx no_cpus).0 < 2 ^ plan.cpus
+  first-cpu_sets [] tx all = some-power plan.cpus
+  first-cpu_sets (t ∷ ts) zero all =
+      (All-head (TxIsWithin plan.cpus (length plan.queues)) t ts all).cpus_below
+  first-cpu_sets (t ∷ ts) (suc tx) all =
+      first-cpu_sets ts tx (All-tail (TxIsWithin plan.cpus (length plan.queues)) t ts all)
+
+  first-queue_sets : (ts : List TxPlan) (tx : ℕ)
+      → All (TxIsWithin plan.cpus (length plan.queues)) ts
+      → slice_index (map (λ (q : TxPlan). q.queues) ts) tx < 2 ^ length plan.queues
+  first-queue_sets [] tx all = some-power (length plan.queues)
+  first-queue_sets (t ∷ ts) zero all =
+      (All-head (TxIsWithin plan.cpus (length plan.queues)) t ts all).queues_below
+  first-queue_sets (t ∷ ts) (suc tx) all =
+      first-queue_sets ts tx (All-tail (TxIsWithin plan.cpus (length plan.queues)) t ts all)
+
+  pub maps_by : (ts : List Try) → All (λ (t : Try). IsWithinPlan t.given.command) ts
+      → Maps (settings_by (initial_settings plan) ts)
+  maps_by [] all =
+      record {
+        cpu_sets = λ tx. first-cpu_sets plan.tx tx plan.within.tx_within;
+        queue_sets = λ tx. first-queue_sets plan.tx tx plan.within.tx_within;
+      }
+  maps_by (t ∷ ts) all =
+      by_done (is_done t.given.answer)
+      (maps_by ts (All-tail (λ (t : Try). IsWithinPlan t.given.command) t ts all))
+      (All-head (λ (t : Try). IsWithinPlan t.given.command) t ts all)
+    where
+      by_done : (b : Bool) → Maps (settings_by (initial_settings plan) ts)
+          → IsWithinPlan t.given.command
+          → Maps (if b then changed (settings_by (initial_settings plan) ts) t.given.command
+          else settings_by (initial_settings plan) ts)
+      by_done true f within =
+          maps_changed (settings_by (initial_settings plan) ts) t.given.command within f
       by_done false f within = f
