@@ -3,5 +3,7 @@ pub mod FactLemmas
 pub mod PutTurnLemmas
 pub mod QueueLemmas
 pub mod ReceiveLemmas
+pub mod RunLemmas
 pub mod StandLemmas
+pub mod TransmitLemmas
 pub mod TurnListLemmas

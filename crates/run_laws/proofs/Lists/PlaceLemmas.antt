@@ -261,3 +261,46 @@ arrived_once (a ∷ rest) i p q j k x numbered at there =
     both is older before (beside ne at) (behind n f t there) =
         absurd (ne (f ∙ sym (before j n older at there).0))
     both is older before (beside ne at) (beside mf there) = before j k older at there
+
+-- each number that arrived stands at some index of the arrivals at some queue
+pub arrived_somewhere : (arrivals : List Arrival) (x : ℕ)
+    → is_in x (map (λ a. a.id) arrivals) ≡ true
+    → (p : ℕ) × (j : ℕ) × (slice_get (arrivals_at arrivals p) j ≡ Some x)
+arrived_somewhere [] x is = absurd (cc)
+arrived_somewhere (a ∷ rest) x is =
+    elim (cases_eq x a.id) [
+      | inl e ↦ (
+        a.queue,
+        0,
+        ap (λ xs. slice_get xs 0)
+            (split-arrivals a rest a.queue
+            ∙ ap (λ b. if_there b a.id (arrivals_at rest a.queue)) (eq-eqb a.queue a.queue refl))
+            ∙ ap (λ n. Some n) (sym e),
+      )
+      | inr ne ↦
+          (let r = arrived_somewhere rest x
+          (sym (is_in-past x a.id (map (λ (a : Arrival). a.id) rest) ne) ∙ is) in
+          later r.0 r.1 r.2)
+    ]
+  where
+    later : (p j : ℕ) → slice_get (arrivals_at rest p) j ≡ Some x
+        → (p : ℕ) × (j : ℕ) × (slice_get (arrivals_at (a ∷ rest) p) j ≡ Some x)
+    later p j at =
+        elim (cases_eq a.queue p) [
+          | inl e ↦ (
+            p,
+            suc j,
+            ap (λ xs. slice_get xs (suc j))
+                (split-arrivals a rest p
+                ∙ ap (λ b. if_there b a.id (arrivals_at rest p)) (eq-eqb a.queue p e))
+                ∙ at,
+          )
+          | inr ne ↦ (
+            p,
+            j,
+            ap (λ xs. slice_get xs j)
+                (split-arrivals a rest p
+                ∙ ap (λ b. if_there b a.id (arrivals_at rest p)) (ne_eqb a.queue p ne))
+                ∙ at,
+          )
+        ]

@@ -72,13 +72,13 @@ module _ (i : Input) (h : History) (about : BoardSizes) (own : ℕ → List Boar
       queues.choices-have-turns i h about own lists facts tries t seen input.hashes ties.board
       ties.tries_are within commands.answered ties.finds ties.right input.arrived ties.queues
 
-  once : (p q j k x : ℕ) → slice_get (t.arrivals p) j ≡ Some x
+  pub once : (p q j k x : ℕ) → slice_get (t.arrivals p) j ≡ Some x
       → slice_get (t.arrivals q) k ≡ Some x → (p ≡ q) × (j ≡ k)
   once =
       queues.arrival-once i h about own lists facts tries t seen input.hashes ties.board
       ties.tries_are within commands.answered ties.finds ties.right input.arrived ties.queues
 
-  known : (p j x : ℕ) → slice_get (t.arrivals p) j ≡ Some x → x < length i.packets
+  pub known : (p j x : ℕ) → slice_get (t.arrivals p) j ≡ Some x → x < length i.packets
   known =
       queues.arrival-known i h about own lists facts tries t seen input.hashes ties.board
       ties.tries_are within commands.answered ties.finds ties.right input.arrived ties.queues

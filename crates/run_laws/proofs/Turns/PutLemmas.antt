@@ -76,18 +76,19 @@ module _ (own : ℕ → List BoardStep) (t : Story) (a : AreTurnsOf own t) where
   places q = turns_have_places (own q) (t.turns q) (a.explained q)
 
   -- the turn of a put
-  pub record TurnOf (q k l id : ℕ) : Type 0 where
+  pub record TurnOf (q k l id : ℕ) (hash : Option ℕ) : Type 0 where
     pub producer : ℕ
     pub index : ℕ
     pub turn : Turn
     pub is : nth_step (turns_of t producer) index ≡ Some turn
     pub same_id : turn.chosen.id ≡ id
     pub same_lane : turn.chosen.choice.lane ≡ l
+    pub same_hash : turn.hash ≡ hash
     pub seat : t.seat producer ≡ q
     pub step : (places q).put (moment_of producer (t.turns q) index) ≡ k
 
   pub turn_of : (q k l id : ℕ) (hash : Option ℕ) (answer : Put)
-      → Has (own q) k (put_step l id hash answer) → TurnOf q k l id
+      → Has (own q) k (put_step l id hash answer) → TurnOf q k l id hash
   turn_of q k l id hash answer does =
       let f = (places q).all_puts k l id hash answer does in
       let e = nth-some (t.turns q) f.0 f.1 in
@@ -109,6 +110,7 @@ module _ (own : ℕ → List BoardStep) (t : Story) (a : AreTurnsOf own t) where
         is = ap (λ z. nth_step (steps_of p (t.turns z)) i.0) seat ∙ i.1;
         same_id = ap (λ (m : PutMade). m.id) made;
         same_lane = ap (λ (m : PutMade). m.lane) made;
+        same_hash = ap (λ (m : PutMade). m.hash) made;
         seat = seat;
         step = ap (λ n. (places q).put n) i.2 ∙ f.2;
       }
