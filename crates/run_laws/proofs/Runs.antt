@@ -1,5 +1,6 @@
 pub mod ApplicationLemmas
 pub mod FactLemmas
+pub mod HintLemmas
 pub mod PutTurnLemmas
 pub mod QueueLemmas
 pub mod ReceiveLemmas

@@ -9,5 +9,6 @@ pub mod MapOpeningLemmas
 pub mod OpeningLemmas
 pub mod RangeLemmas
 pub mod ResizeLemmas
+pub mod SizeLemmas
 pub mod TryLemmas
 pub mod WordLemmas
