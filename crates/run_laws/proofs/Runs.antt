@@ -1,5 +1,6 @@
 pub mod ApplicationLemmas
 pub mod FactLemmas
+pub mod GoodLemmas
 pub mod HintLemmas
 pub mod PutTurnLemmas
 pub mod QueueLemmas

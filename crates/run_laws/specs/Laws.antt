@@ -10,3 +10,4 @@ pub mod Commands
 pub mod Ends
 pub mod Standing
 pub mod Replies
+pub mod GoodRuns

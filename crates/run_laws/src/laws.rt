@@ -7,6 +7,7 @@ ghost use Rattle.run_laws.specs.Laws.Commands.{CommandsFollow};
 ghost use Rattle.run_laws.specs.Laws.Drops.{DropsFollow};
 ghost use Rattle.run_laws.specs.Laws.EmptiedLanes.{TriesFindEmpty};
 ghost use Rattle.run_laws.specs.Laws.Ends.{AllAreSent, LanesAreDone, PutsEnd, TotalsSuffice};
+ghost use Rattle.run_laws.specs.Laws.GoodRuns.{RunsAreGood};
 ghost use Rattle.run_laws.specs.Laws.Heads.{HeadsFollow};
 ghost use Rattle.run_laws.specs.Laws.Orders.{InboxesFollow};
 ghost use Rattle.run_laws.specs.Laws.Puts.{AnswersArePlaces, TablesAreEntries, TablesRule};
@@ -89,4 +90,10 @@ pub fn equal_counts_end_a_run()
 /// of the transmit gate that its visit counts.
 pub fn replies_are_by_rule()
     ensures { AtEachClosing RepliesFollow }
+{}
+
+/// Lemma: a run is good. If the threads keep their ties with a history, its boards and hint words
+/// have ended and its sweep has ended, all eleven clauses of a good history hold of it.
+pub fn a_run_is_good()
+    ensures { RunsAreGood }
 {}

@@ -9,9 +9,9 @@ use Rattle.steer_base.specs.Apps.{app_of}
 use Rattle.steer_base.specs.Orders.{Apart, IsPrefix}
 use Rattle.steer_base.specs.declared.choice.Chosen.{Chosen}
 use Rattle.steer_base.specs.declared.put.Put.{Put}
-use Rattle.history.specs.Finding.{is_in, Once}
-use Rattle.history.specs.Lists.{accepted_lists, app_at, arrivals_at, dropped_lists, lane_at, list_at}
-use Rattle.history.specs.Places.{AreInOnePlace, InboxesAreDelivered}
+use Rattle.history.specs.Finding.{is_among, is_in}
+use Rattle.history.specs.Lists.{accepted_lists, app_at, arrivals_at, drop_ids, dropped_lists, lane_at, list_at}
+use Rattle.history.specs.Places.{AreInOnePlace}
 use Rattle.history.specs.Regular.{AreDelivered, AreSteered, HaveArrived}
 use Rattle.history.specs.declared.arrival.Arrival.{Arrival}
 use Rattle.history.specs.declared.history.History.{History}
@@ -151,7 +151,7 @@ module _ (i : Input) (h : History) (about : BoardSizes) (own : ℕ → List Boar
         dropped = λ c x is.
             stand.dropped-choice about own lists facts t ties.queues.turns turns once h.choices
             ties.queues.choices c x
-            (ap (λ ls. is_in x (Rattle.history.specs.Lists.drop_ids (lane_at ls c)))
+            (ap (λ ls. is_in x (drop_ids (lane_at ls c)))
             (sym ties.board.lanes) ∙ is);
         once =
             apart_from (accepted_lists h.lanes ++ dropped_lists h.lanes)
@@ -189,13 +189,22 @@ module _ (i : Input) (h : History) (about : BoardSizes) (own : ℕ → List Boar
             ties.queues.choices) a a j k x at there).1);
       }
 
-  pub inboxes-delivered : InboxesAreDelivered h
-  inboxes-delivered a c x is there =
-      ap (λ ls. Rattle.history.specs.Finding.is_among (lane_at ls c).delivered x (lane_at ls c).accepted)
-      ties.board.lanes
-      ∙ stand.out-delivered about own lists facts t ties.queues.turns turns once h.choices
-      ties.queues.choices a c x (ap (λ ls. is_in x (list_at ls a)) (sym ties.board.inboxes) ∙ is)
-      (ap (λ ls. is_in x (lane_at ls c).accepted) (sym ties.board.lanes) ∙ there)
+  pub one-place : AreInOnePlace h
+  one-place =
+      record {
+        lanes = are-steered.once;
+        inboxes =
+            apart_from h.inboxes
+            (subst StandOnce (sym ties.board.inboxes)
+            (stand.outs-stand about own lists facts t ties.queues.turns turns once h.choices
+            ties.queues.choices));
+        delivered = λ a x is.
+            subst (λ ls.
+            (c : ℕ) × (is_among (lane_at ls c).delivered x (lane_at ls c).accepted ≡ true))
+            (sym ties.board.lanes)
+            (stand.out-among about own lists facts t ties.queues.turns turns once h.choices
+            ties.queues.choices a x (ap (λ ls. is_in x (list_at ls a)) (sym ties.board.inboxes) ∙ is));
+      }
 
   pub in-order : IsDeliveredInOrder i h
   in-order =

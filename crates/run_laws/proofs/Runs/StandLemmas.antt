@@ -206,19 +206,6 @@ module _ (about : BoardSizes) (own : ℕ → List BoardStep) (lists : BoardLists
       (f.lane, among_at x f.index (lane_at lists.lanes f.lane).delivered
       (accepted_left lists f.lane) f.stands_at f.early)
 
-  pub out-delivered : (o c x : ℕ) → is_in x (list_at lists.outs o) ≡ true
-      → is_in x (lane_at lists.lanes c).accepted ≡ true
-      → is_among (lane_at lists.lanes c).delivered x (lane_at lists.lanes c).accepted ≡ true
-  out-delivered o c x is there =
-      let a = at_in x (list_at lists.outs o) is in
-      let f = came-from o a.0 x a.1 in
-      let b = at_in x (lane_at lists.lanes c).accepted there in
-      let same = stands.accepted_once f.lane c f.index b.0 x f.stands_at b.1 in
-      subst (λ l.
-      is_among (lane_at lists.lanes l).delivered x (lane_at lists.lanes l).accepted ≡ true) same.0
-      (among_at x f.index (lane_at lists.lanes f.lane).delivered (accepted_left lists f.lane)
-      f.stands_at f.early)
-
   pub outs-stand : StandOnce lists.outs
   outs-stand o u i j x at there =
       let f = came-from o i x at in
