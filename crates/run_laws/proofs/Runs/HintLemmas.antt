@@ -1,7 +1,14 @@
 -- What the hint words tell of a run: where arrivals, wants, replies and writes come from.
 use Rattle.std.proofs.Common.{◌≡◌, ◌≢◌, ◌⊎◌, inl, inr, ℕ, zero, suc, ◌/◌, ◌^◌, ◌<◌, Bool, true, List, []}
 use Rattle.std.proofs.Common.{◌∷◌, ◌++◌, Option, Some, None, length, map, All, sym, refl, ap, ◌∙◌, subst}
-use Rattle.std.proofs.Common.{arith, get_or}
+use Rattle.std.proofs.Common.{arith, get_or, ◌%◌, ◌≤◌}
+use Rattle.std.specs.Option.{option_map}
+use Rattle.std.proofs.Math.ListN.{get_or-eq_default}
+use Rattle.std.proofs.Math.Nat.{mod-lt}
+use Rattle.std.proofs.lemmas.Bool.{cases_lt, lt-ltb}
+use Rattle.std.proofs.lemmas.List.Elements.{All-from_get_or}
+use Rattle.std.proofs.lemmas.Option.{slice_get-map}
+use Rattle.hop_rule.proofs.Lists.{none-some, some-is}
 use Rattle.std.specs.Prelude.{is_some, slice_get, slice_index}
 use Rattle.std.specs.List.{Contains}
 use Rattle.std.proofs.lemmas.List.Elements.{All-cons, All-contains, All-head, All-nil, All-tail}
@@ -78,6 +85,27 @@ each-all P Q [] gives all = All-nil Q
 each-all P Q (x ∷ xs) gives all =
     All-cons Q x xs (gives x (All-head P x xs all)) (each-all P Q xs gives (All-tail P x xs all))
 
+both-all : {A : Type 0} (P Q R : A → Type 0) (xs : List A) → ((x : A) → P x → Q x → R x)
+    → All P xs → All Q xs → All R xs
+both-all P Q R [] gives all more = All-nil R
+both-all P Q R (x ∷ xs) gives all more =
+    All-cons R x xs (gives x (All-head P x xs all) (All-head Q x xs more))
+    (both-all P Q R xs gives (All-tail P x xs all) (All-tail Q x xs more))
+
+below-modulus : (n : ℕ) → n % 128 < 128
+below-modulus n = omega arith
+
+-- a class is below the count
+class-below : (count : ℕ) (hash : Option ℕ) (k : ℕ) → class_of count hash ≡ Some k → k < count
+class-below count None k is = none-some k is
+class-below zero (Some hash) k is = none-some k is
+class-below (suc n) (Some hash) k is =
+    let same : hash % suc n ≡ k = some-is (hash % suc n) k (sym (some-count hash n) ∙ is) in
+    let low = mod-lt hash {m = suc n} (omega arith) in omega arith
+  where
+    some-count : (hash n : ℕ) → class_of (suc n) (Some hash) ≡ Some (hash % suc n)
+    some-count hash n = rw (lt-ltb 0 (suc n) (omega arith)) refl
+
 answered-back : (i : Input) (h : History) (more ts : List Try) → AllAnswered i h (more ++ ts)
     → AllAnswered i h ts
 answered-back i h [] ts all = all
@@ -133,14 +161,15 @@ module _ (i : Input) (h : History) (run : IsRun i h) where
   seen-by None a is = is
   seen-by (Some hash) a (inl (q, is, inl plan)) = inl (q, is, inl plan)
   seen-by (Some hash) a (inl (q, is, inr loaded)) =
-      inl (q, is, run.meant.entries (table_place hash) q
+      inl (q, is, run.meant.entries (table_place hash) q (below-modulus hash)
       (stored-place (run.codes.entry (table_place hash)) q loaded))
-  seen-by (Some hash) a (inr (place, f, is, here, loaded)) =
+  seen-by (Some hash) a (inr (place, f, queue_few, cpu_few, is, here, loaded)) =
       inr (
         f.queue,
         is,
         filter-from hash place f.queue
-            (run.meant.filters place f
+            (run.meant.filters place f (class-below i.plan.filters (Some hash) place here) queue_few
+            cpu_few
             (loaded-stored run.hint_seats (run.codes.filter place) (run.codes.filter_value f)
             run.stored loaded (run.codes.filter_is_set f)))
             here,
@@ -185,7 +214,14 @@ module _ (i : Input) (h : History) (run : IsRun i h) where
       ∙ sym sock in (
         w.0,
         ap (λ n. class_of n (packet_hash (setup_in i) u.chosen.id)) same ∙ w.1,
-        run.meant.sockets w.0 want (stored-place (run.codes.socket w.0) want w.2),
+        run.meant.sockets w.0 want
+            (let place = class-below (run.queues_seen q k (socket_word (receive_queues i)))
+            (packet_hash (setup_in i) u.chosen.id) w.0 w.1 in
+            let few = (queues.fit-seen i h run.rx rx_own run.rx_lists (runs.rx-facts i h run) run.tries
+            run.queues run.queues_seen run.input.hashes run.received.board run.received.tries_are
+            (runs.within i h run) run.commands.answered run.received.finds run.received.right
+            run.input.arrived run.received.queues q k u at).sock in omega arith)
+            (stored-place (run.codes.socket w.0) want w.2),
       )
 
   pub wants-are-written : WantsAreWritten i h (commands_before run.tries run.queues)
@@ -206,10 +242,11 @@ module _ (i : Input) (h : History) (run : IsRun i h) where
 
   -- ---- 9: writes
 
-  stood-at : (a cpu : ℕ) → Stands i h run.codes run.hint_seats a cpu → StoodAt i h a cpu
-  stood-at a cpu (inl plan) = inl plan
-  stood-at a cpu (inr loaded) =
-      run.meant.stands a cpu (stored-place (run.codes.stand a) cpu loaded)
+  stood-at : (a cpu : ℕ) → a < length i.plan.apps → Stands i h run.codes run.hint_seats a cpu
+      → StoodAt i h a cpu
+  stood-at a cpu less (inl plan) = inl plan
+  stood-at a cpu less (inr loaded) =
+      run.meant.stands a cpu less (stored-place (run.codes.stand a) cpu loaded)
 
   size-read : (size : ℕ) → WasRead i h run.codes run.hint_seats rx_own size → IsSize i h size
   size-read size w =
@@ -228,11 +265,11 @@ module _ (i : Input) (h : History) (run : IsRun i h) where
       (answered-back i h f.0 (tries_up_to at_receive n run.tries)
       (subst (AllAnswered i h) f.1 run.commands.answered)))
 
-  are-writes : (a : ℕ) (xs : List ℕ) (ws : List SockWrite)
+  are-writes : (a : ℕ) (xs : List ℕ) (ws : List SockWrite) → a < length i.plan.apps
       → AreRecorded i h run.codes run.hint_seats rx_own a xs ws → AreWrites i h a xs ws
-  are-writes a [] ws is = is
-  are-writes a (x ∷ xs) ws (inl (none, rest)) = inl (none, are-writes a xs ws rest)
-  are-writes a (x ∷ xs) ws (inr (inl (hash, w, more, size, has, parts, was, at, stands, rest))) =
+  are-writes a [] ws less is = is
+  are-writes a (x ∷ xs) ws less (inl (none, rest)) = inl (none, are-writes a xs ws less rest)
+  are-writes a (x ∷ xs) ws less (inr (inl (hash, w, more, size, has, parts, was, at, stands, rest))) =
       inr (inl (
         hash,
         w,
@@ -243,36 +280,74 @@ module _ (i : Input) (h : History) (run : IsRun i h) where
           size = size;
           is_size = size-read size was;
           at = at;
-          stood = stood-at a w.cpu stands;
+          stood = stood-at a w.cpu less stands;
         },
-        are-writes a xs more rest,
+        are-writes a xs more less rest,
       ))
-  are-writes a (x ∷ xs) ws (inr (inr (hash, has, was, rest))) =
-      inr (inr (hash, has, size-read 0 was, are-writes a xs ws rest))
+  are-writes a (x ∷ xs) ws less (inr (inr (hash, has, was, rest))) =
+      inr (inr (hash, has, size-read 0 was, are-writes a xs ws less rest))
+
+  no-replies : (a : ℕ) → length i.plan.apps ≤ a → list_at h.sent a ≡ []
+  no-replies a past =
+      let n = run.sent.applications.sent_lists in
+      let beyond : length h.sent ≤ a = omega arith in get_or-eq_default h.sent [] beyond
+
+  no-writes : (a : ℕ) → length i.plan.apps ≤ a → list_at h.writes a ≡ []
+  no-writes a past =
+      let n = run.sent.applications.write_lists in
+      let beyond : length h.writes ≤ a = omega arith in get_or-eq_default h.writes [] beyond
 
   pub writes-are-right : WritesAreRight i h
   writes-are-right a =
       subst (λ xs. AreWrites i h a xs (list_at h.writes a)) (runs.all-replied i h run a)
-      (are-writes a (map (λ (s : Sent). s.id) (list_at h.sent a)) (list_at h.writes a)
-      (run.used.writes a))
+      (elim (cases_lt a (length i.plan.apps)) [
+        | inl less ↦
+            are-writes a (map (λ (s : Sent). s.id) (list_at h.sent a)) (list_at h.writes a) less
+            (run.used.writes a)
+        | inr past ↦
+            subst (λ (ss : List Sent).
+            AreWrites i h a (map (λ (s : Sent). s.id) ss) (list_at h.writes a))
+            (sym (no-replies a past)) (no-writes a past)
+      ])
 
   -- ---- 11: replies
 
-  came-by : (x rxq : ℕ) → CameBy i h run.codes run.hint_seats x rxq
+  came-by : (x rxq : ℕ) → x < length i.packets → CameBy i h run.codes run.hint_seats x rxq
       → rxq ≡ (arrival_of h.arrivals x).queue
-  came-by x rxq (inl is) = sym is
-  came-by x rxq (inr loaded) =
-      sym (run.meant.packets x rxq (stored-place (run.codes.packet x) rxq loaded))
+  came-by x rxq less (inl is) = sym is
+  came-by x rxq less (inr loaded) =
+      sym (run.meant.packets x rxq less (stored-place (run.codes.packet x) rxq loaded))
+
+  each-known : (a : ℕ) → All (λ (s : Sent). s.id < length i.packets) (list_at h.sent a)
+  each-known a =
+      All-from_get_or (λ (s : Sent). s.id < length i.packets) (list_at h.sent a) no_sent
+      (λ k less.
+      (let s : Sent = get_or (list_at h.sent a) k no_sent in
+      runs.reply-known i h run a k s.id
+      (ap (λ xs. slice_get xs k) (run.sent.applications.replies a)
+      ∙ (slice_get-map (λ (s : Sent). s.id) (list_at h.sent a) k
+      ∙ ap (option_map (λ (s : Sent). s.id))
+      (slice_get-get_or (list_at h.sent a) k no_sent less)))))
+    where
+      no_sent : Sent
+      no_sent = record { id = 0; rxq = 0; cpu = 0 }
 
   pub queues-of-replies : (a : ℕ)
       → All (λ (s : Sent). s.rxq ≡ (arrival_of h.arrivals s.id).queue) (list_at h.sent a)
   queues-of-replies a =
-      each-all (λ (s : Sent). CameBy i h run.codes run.hint_seats s.id s.rxq)
+      both-all (λ (s : Sent). s.id < length i.packets)
+      (λ (s : Sent). CameBy i h run.codes run.hint_seats s.id s.rxq)
       (λ (s : Sent). s.rxq ≡ (arrival_of h.arrivals s.id).queue) (list_at h.sent a)
-      (λ s is. came-by s.id s.rxq is) (run.used.queues a)
+      (λ s less is. came-by s.id s.rxq less is) (each-known a) (run.used.queues a)
 
   pub stood-of-replies : (a : ℕ) → All (λ (s : Sent). StoodAt i h a s.cpu) (list_at h.sent a)
   stood-of-replies a =
-      each-all (λ (s : Sent). Stands i h run.codes run.hint_seats a s.cpu)
-      (λ (s : Sent). StoodAt i h a s.cpu) (list_at h.sent a) (λ s is. stood-at a s.cpu is)
-      (run.used.stands a)
+      elim (cases_lt a (length i.plan.apps)) [
+        | inl less ↦
+            each-all (λ (s : Sent). Stands i h run.codes run.hint_seats a s.cpu)
+            (λ (s : Sent). StoodAt i h a s.cpu) (list_at h.sent a)
+            (λ s is. stood-at a s.cpu less is) (run.used.stands a)
+        | inr past ↦
+            subst (All (λ (s : Sent). StoodAt i h a s.cpu)) (sym (no-replies a past))
+            (All-nil (λ (s : Sent). StoodAt i h a s.cpu))
+      ]

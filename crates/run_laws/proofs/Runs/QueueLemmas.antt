@@ -249,7 +249,7 @@ module _ (i : Input) (h : History) (about : BoardSizes) (own : ℕ → List Boar
     pub seen-sock : z (socket_word q) ≡ (after n).sock
     seen-sock = read-is (socket_word q) (keeps.reads_sock p k u at) ∙ (words-upto n).sock
 
-    fit-seen : FitReceiveWords q i.plan.cpus p z
+    pub fit-seen : FitReceiveWords q i.plan.cpus p z
     fit-seen =
         let f = fit-upto n in
         let w = words-upto n in

@@ -230,6 +230,21 @@ module _ (i : Input) (h : History) (run : IsRun i h) where
             ∙ sym (get_or-eq_default h.inboxes [] a2))
       ]
 
+  -- a packet that was replied to is one of the capture
+  pub reply-known : (a k x : ℕ) → slice_get (run.applications.arrivals a) k ≡ Some x
+      → x < length i.packets
+  reply-known a k x at =
+      let inbox = transmits.reply-in-inbox i h run.rx rx_own run.rx_lists rx-facts
+      run.received.board.inboxes inboxes-stand run.tx tx_own run.tx_lists tx-facts run.tries
+      run.applications run.maps_seen within run.sent a k x at in
+      let f = stand.came-from run.rx rx_own run.rx_lists rx-facts run.queues
+      run.received.queues.turns rx-turns rx-once h.choices run.received.queues.choices a k x
+      (ap (λ ls. slice_get (list_at ls a) k) (sym run.received.board.inboxes) ∙ inbox) in
+      let p = stand.accepted-arrived run.rx rx_own run.rx_lists rx-facts run.queues
+      run.received.queues.turns rx-turns rx-once h.choices run.received.queues.choices f.lane f.index
+      x f.stands_at in
+      rx-known p.0 p.1 x p.2
+
   -- a packet of an inbox left
   inbox-leaves : (a x : ℕ) → is_in x (list_at h.inboxes a) ≡ true → is_in x h.port ≡ true
   inbox-leaves a x is =

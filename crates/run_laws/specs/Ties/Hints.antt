@@ -1,6 +1,6 @@
 -- What the values of the shared hint words are, and how the threads use what they load.
-use Rattle.std.specs.Prelude.{◌≡◌, ◌≢◌, ◌⊎◌, ℕ, ◌<◌, true, List, [], ◌∷◌, Option, Some, None, map}
-use Rattle.std.specs.Prelude.{slice_get, slice_index, All}
+use Rattle.std.specs.Prelude.{◌≡◌, ◌≢◌, ◌⊎◌, ℕ, ◌<◌, true, List, [], ◌∷◌, Option, Some, None}
+use Rattle.std.specs.Prelude.{length, map, slice_get, slice_index, All}
 use Rattle.std.specs.List.{Contains}
 use Rattle.linearization.specs.Seats.{SeatView}
 use Rattle.steer_base.specs.Arrivals.{filter_place, route, table_place}
@@ -8,6 +8,7 @@ use Rattle.steer_base.specs.Choices.{class_of, has_moved}
 use Rattle.steer_base.specs.Filters.{home_queue}
 use Rattle.steer_base.specs.declared.filter.Filter.{Filter}
 use Rattle.steer_base.specs.declared.put.Put.TheVariants.{At}
+use Rattle.steer_base.specs.declared.limits.TheConstants.{MAX_SOCKET_SIZE}
 use Rattle.hint_words.specs.Loads.{IsStoredBy}
 use Rattle.hint_words.specs.declared.step.HintStep.{HintStep}
 use Rattle.hint_words.specs.declared.step.HintStep.TheVariants.{Load}
@@ -68,17 +69,19 @@ pub record WasFiltered (i : Input) (t : Story) (place queue : ℕ) : Type 0 wher
   pub there : filter_place i.plan.filters (packet_hash (setup_in i) turn.chosen.id) ≡ Some place
 
 module _ (i : Input) (h : History) (c : HintCodes) (seats : List (SeatView HintStep)) where
-  -- What each store of the threads was for: a write of an application, a done command, a filter, or
-  -- the queue of an arrival.
+  -- What each store of the threads was for, by its word and value within their ranges: a write of an
+  -- application, a done command, a filter, or the queue of an arrival.
   pub record StoresAreMeant (t : Story) : Type 0 where
-    pub sockets : (place cpu : ℕ) → IsStoredBy seats (c.socket place) (c.place cpu)
+    pub sockets : (place cpu : ℕ) → place < MAX_SOCKET_SIZE → IsStoredBy seats (c.socket place) (c.place cpu)
         → WasWritten h (record { entry = place; cpu = cpu })
-    pub entries : (place q : ℕ) → IsStoredBy seats (c.entry place) (c.place q)
+    pub entries : (place q : ℕ) → place < 128 → IsStoredBy seats (c.entry place) (c.place q)
         → EntryFrom i h place q
-    pub stands : (a cpu : ℕ) → IsStoredBy seats (c.stand a) (c.place cpu) → StoodAt i h a cpu
-    pub filters : (place : ℕ) (f : Filter)
+    pub stands : (a cpu : ℕ) → a < length i.plan.apps → IsStoredBy seats (c.stand a) (c.place cpu)
+        → StoodAt i h a cpu
+    pub filters : (place : ℕ) (f : Filter) → place < i.plan.filters
+        → f.queue < length i.plan.queues → f.cpu < i.plan.cpus
         → IsStoredBy seats (c.filter place) (c.filter_value f) → WasFiltered i t place f.queue
-    pub packets : (x q : ℕ) → IsStoredBy seats (c.packet x) (c.place q)
+    pub packets : (x q : ℕ) → x < length i.packets → IsStoredBy seats (c.packet x) (c.place q)
         → (arrival_of h.arrivals x).queue ≡ q
 
   -- ---- how loads were used
@@ -91,7 +94,8 @@ module _ (i : Input) (h : History) (c : HintCodes) (seats : List (SeatView HintS
       ((q : ℕ) × (route_of a ≡ route (Some hash) None q)
       × ((slice_index i.plan.reta (table_place hash) ≡ q)
       ⊎ WasLoaded seats (c.entry (table_place hash)) (c.place q)))
-      ⊎ ((place : ℕ) × (f : Filter) × (route_of a ≡ route (Some hash) (Some f.queue) 0)
+      ⊎ ((place : ℕ) × (f : Filter) × (f.queue < length i.plan.queues) × (f.cpu < i.plan.cpus)
+      × (route_of a ≡ route (Some hash) (Some f.queue) 0)
       × (filter_place i.plan.filters (Some hash) ≡ Some place)
       × WasLoaded seats (c.filter place) (c.filter_value f))
 
