@@ -2,10 +2,12 @@ pub mod AddedSteps
 pub mod Endings
 pub mod Entries
 pub mod Left
+pub mod NumberedSteps
 pub mod OwnDrops
 pub mod OwnHeads
 pub mod OwnLanes
 pub mod OwnPuts
+pub mod OwnTails
 pub mod OwnTimes
 pub mod OwnVisits
 pub mod Owners

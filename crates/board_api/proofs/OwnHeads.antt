@@ -23,6 +23,7 @@ use Rattle.hop_rule.proofs.Heads.{in_turn, loaded_heads_are_passed, loaded_heads
 use Rattle.hop_rule.proofs.Lists.{some-is}
 use Rattle.hop_rule.proofs.Moments.{one-step}
 use Rattle.hop_rule.proofs.Numbers.{none_between}
+use Rattle.hop_rule.proofs.Tails.{bit-small}
 use Rattle.board_api.specs.Closings.Finals.{lists_of}
 use Rattle.board_api.specs.Laws.Heads.{EmptiedLanesStandFirst, FindsEmpty}
 use Rattle.board_api.specs.Laws.Heads.{HeadsAreBelowTails, HeadsArePassed, HeadsRise}
@@ -33,10 +34,6 @@ use Rattle.board_api.proofs.Left.{lane_is}
 use Rattle.board_api.proofs.OwnPuts.{order_put}
 use Rattle.board_api.proofs.OwnTimes.{moments, own, rise, step_is, when}
 use Rattle.board_api.proofs.Owners.{given_own}
-
-bit-small : (h : ℕ) → lanes.bit h ≤ 1
-bit-small zero = omega arith
-bit-small (suc h) = omega arith
 
 module _ (about : BoardSizes) (order : List (StepBy BoardStep))
     (lawful : IsLawful about order) where

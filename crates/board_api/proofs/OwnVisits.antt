@@ -15,8 +15,9 @@ use Rattle.hop_rule.proofs.Numbers.{none_between}
 use Rattle.hop_rule.proofs.Openings.{settings_are_the_closers, visits_are_numbered}
 use Rattle.hop_rule.proofs.Openings.{visits_read_settings}
 use Rattle.board_api.specs.Closings.Finals.{lists_of}
-use Rattle.board_api.specs.Laws.Heads.{ReadsAreSettings, VisitNumbersRise}
-use Rattle.board_api.specs.OwnSteps.{Has, visit_before}
+use Rattle.board_api.specs.Laws.Heads.{NumberedReadsAreSettings, ReadsAreSettings}
+use Rattle.board_api.specs.Laws.Heads.{VisitNumbersRise}
+use Rattle.board_api.specs.OwnSteps.{Has, ReadsIn, visit_before}
 use Rattle.board_api.proofs.Entries.{entry_of, length-past, nth-past}
 use Rattle.board_api.proofs.OwnTimes.{moments, own, rise, step_is, when}
 
@@ -77,3 +78,19 @@ module _ (about : BoardSizes) (order : List (StepBy BoardStep)) (fit : FitSizes 
 
   pub reads_are_settings : ReadsAreSettings about (own order) (lists_of about order)
   reads_are_settings = record { in_visit = visit_reads; by_closer = closer_reads }
+
+  setting_read : (q number i v : ℕ) → ReadsIn (own order q) number i v
+      → v ≡ own_settings about (opened number (gate_steps (own order (closer about)))) i
+  setting_read q number i v r =
+      visit_reads q r.step i v r.reads r.visits
+      ∙ ap (λ n. own_settings about (opened n (gate_steps (own order (closer about)))) i)
+      r.number_is
+
+  pub numbered_reads_are_settings : NumberedReadsAreSettings about (own order)
+      (lists_of about order)
+  numbered_reads_are_settings =
+      record {
+        reads = setting_read;
+        alike = λ p q number i v w r s. (setting_read p number i v r
+            ∙ sym (setting_read q number i w s));
+      }

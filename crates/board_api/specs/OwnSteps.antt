@@ -6,12 +6,13 @@ use Rattle.steer_base.specs.declared.put.Put.{Put}
 use Rattle.steer_base.specs.declared.put.Put.TheVariants.{At, Dropped}
 use Rattle.hop_rule.specs.Boards.{lane_steps, gate_steps}
 use Rattle.hop_rule.specs.Deliveries.{Delivery, delivery}
-use Rattle.hop_rule.specs.Gates.{visit_number}
+use Rattle.hop_rule.specs.Gates.{inside, visit, visit_number}
 use Rattle.hop_rule.specs.Lanes.{holding}
 use Rattle.hop_rule.specs.Moments.{nth_step, past}
 use Rattle.hop_rule.specs.declared.step.BoardStep.{BoardStep}
-use Rattle.hop_rule.specs.declared.step.BoardStep.TheVariants.{Lane}
+use Rattle.hop_rule.specs.declared.step.BoardStep.TheVariants.{Gate, Lane}
 use Rattle.hop_rule.specs.declared.step.Change.TheVariants.{Offered, Pulled}
+use Rattle.hop_rule.specs.declared.step.GateStep.TheVariants.{Read}
 use Rattle.hop_rule.specs.declared.step.LaneStep.TheVariants.{Freed, Given, Retired}
 
 -- The step with this number, from 0 at the oldest, is this one.
@@ -29,6 +30,13 @@ held_before own k l = holding l (lane_steps (past k own))
 -- The number of the last visit that the seat began before its step k.
 abbrev pub visit_before : List BoardStep → ℕ → ℕ
 visit_before own k = visit_number (gate_steps (past k own))
+
+-- The seat read this value of a setting in a visit with this number.
+pub record ReadsIn (own : List BoardStep) (number setting value : ℕ) : Type 0 where
+  pub step : ℕ
+  pub reads : Has own step (Gate (Read setting value))
+  pub visits : visit (gate_steps (past step own)) ≡ inside
+  pub number_is : visit_before own step ≡ number
 
 -- ---- of one middle lane
 

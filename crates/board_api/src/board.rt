@@ -14,7 +14,7 @@ ghost use Rattle.board_api.specs.Seats.{Adds};
 ghost use Rattle.board_api.specs.Calls.Results.{BackTells, CloseTells, DeliverTells, EmptiedTells};
 ghost use Rattle.board_api.specs.Calls.Results.{EnterTells, HoldTells, OpenTells, PullTells};
 ghost use Rattle.board_api.specs.Calls.Results.{PutTells};
-ghost use Rattle.board_api.specs.Calls.Results.{ReadTells, RetireTells, WeighTells};
+ghost use Rattle.board_api.specs.Calls.Results.{ReadTells, RetireTells, TailTells, WeighTells};
 ghost use Rattle.board_api.specs.Views.{BoardView};
 ghost use Rattle.hop_rule.specs.declared.sizes.TheConstants.{MAX_OPENINGS};
 
@@ -32,12 +32,14 @@ pub trait Board {
     // The table of its words, and its sizes.
     ghost view: { Self → BoardView };
 
-    /// Begins a visit if the gate is open. If it is closed the visitor backs out in the same call.
+    /// Begins a visit if the gate is open. If it is closed the visitor backs out in the same call;
+    /// the closer never finds it so, since it alone closes it.
     fn enter(&self, seat: &mut BoardSeat) -> EnterAnswer
         requires table { seat.old.table ≡ (view self.now).table }
         requires outside { IsOutside seat.old.steps }
         requires open { HasOpen seat.old.steps }
-        ensures { EnterTells seat.old seat.new result };
+        ensures step { EnterTells seat.old seat.new result }
+        ensures closer { IsCloser (view self.now).sizes seat.old.number → result ≡ EnterAnswer.Ok };
 
     /// Ends the visit.
     fn leave(&self, seat: &mut BoardSeat)
@@ -58,6 +60,14 @@ pub trait Board {
         requires inside { MayRead seat.old.steps }
         requires within { lane < (view self.now).sizes.lanes }
         ensures { WeighTells lane seat.old seat.new result };
+
+    /// Reads the tail of a lane, a counter number: how many packets a middle lane has accepted, or
+    /// how many were delivered to an out lane. The lane may be held. A seat that is the only one to
+    /// take packets from a lane can so see whether one waits, before it takes the lane.
+    fn tail(&self, seat: &mut BoardSeat, lane: LaneId) -> u32
+        requires table { seat.old.table ≡ (view self.now).table }
+        requires within { FitsLane (view self.now).sizes lane }
+        ensures { TailTells lane seat.old seat.new result };
 
     /// Takes a lane if no seat holds it.
     fn try_hold(&self, seat: &mut BoardSeat, lane: LaneId) -> Hold

@@ -1,4 +1,8 @@
 //! A seat at a board.
+ghost use Rattle.std.specs.Prelude.{◌≡◌};
+ghost use Rattle.hop_rule.specs.Boards.{gate_steps};
+ghost use Rattle.hop_rule.specs.Gates.{visit_number};
+
 use hop_rule::{BoardStep, Slot};
 use linearization::OrderedSeat;
 use std::marker::Model;
@@ -14,6 +18,8 @@ pub struct BoardSeat {
     pub pulled: [u32; 32],
     /// How many times it has opened the gate.
     pub openings: u32,
+    /// The number of its last visit.
+    pub visit: u32,
     /// Whether it has found lanes empty since it last closed the gate, and not opened it since.
     pub has_emptied: bool,
 }
@@ -30,5 +36,16 @@ impl Model for BoardSeat {
       has_emptied = s.has_emptied;
     } };
 
-    ghost invariant = { λ s. KeepsSteps s.seat.steps s.pulled s.openings };
+    ghost invariant = { λ s. KeepsSteps s.seat.steps s.pulled s.openings s.visit };
+}
+
+impl BoardSeat {
+    /// The number of the seat's visit, or of its last one while it is outside: how many times the
+    /// gate had been opened when the visit began, and 0 before the first visit. Visits of one
+    /// number read the same settings.
+    pub fn visit_number(&self) -> u32
+        ensures { result ≡ visit_number (gate_steps self.now.steps) }
+    {
+        self.visit
+    }
 }

@@ -32,6 +32,10 @@ impl<B: Board> Board for Forward<B> {
         self.inner.weigh(seat, lane)
     }
 
+    fn tail(&self, seat: &mut BoardSeat, lane: LaneId) -> u32 {
+        self.inner.tail(seat, lane)
+    }
+
     fn try_hold(&self, seat: &mut BoardSeat, lane: LaneId) -> Hold {
         self.inner.try_hold(seat, lane)
     }

@@ -2,7 +2,8 @@
 //! no code.
 ghost use Rattle.board_api.specs.Closings.Closings.{AtEachClosing, EachOrderCloses};
 ghost use Rattle.board_api.specs.Laws.Heads.{EmptiedLanesStandFirst, HeadsAreBelowTails};
-ghost use Rattle.board_api.specs.Laws.Heads.{HeadsArePassed, HeadsRise, ReadsAreSettings};
+ghost use Rattle.board_api.specs.Laws.Heads.{HeadsArePassed, HeadsRise, NumberedReadsAreSettings};
+ghost use Rattle.board_api.specs.Laws.Heads.{OutTailsRise, ReadsAreSettings, TailsRise};
 ghost use Rattle.board_api.specs.Laws.Heads.{VisitNumbersRise};
 ghost use Rattle.board_api.specs.Laws.Lanes.{DeliveriesHavePlaces, HoldsFindFronts, LanesAreInTurn};
 ghost use Rattle.board_api.specs.Laws.Lanes.{LanesAreServedByOne, ListsAreCounted, OutsAreSums};
@@ -65,6 +66,13 @@ pub fn loaded_heads_rise()
     ensures below { AtEachClosing HeadsAreBelowTails }
 {}
 
+/// Lemma: the tails that a seat loads of one lane never fall, and count no more packets than the
+/// lane accepted in the end, or than were delivered to an out lane.
+pub fn loaded_tails_rise()
+    ensures middle { AtEachClosing TailsRise }
+    ensures out { AtEachClosing OutTailsRise }
+{}
+
 /// Lemma: the packets that a loaded head counts were delivered, and are below those that its seat
 /// puts after the load.
 pub fn loaded_heads_are_passed()
@@ -73,10 +81,11 @@ pub fn loaded_heads_are_passed()
 
 /// Lemma: the numbers of a seat's visits never fall. A visit reads the settings after the closer's
 /// own sets before the last opening that its number counts, and the closer reads what its sets
-/// left.
+/// left. So visits with one number read the same settings.
 pub fn visits_read_the_closers_settings()
     ensures numbers { AtEachClosing VisitNumbersRise }
     ensures settings { AtEachClosing ReadsAreSettings }
+    ensures alike { AtEachClosing NumberedReadsAreSettings }
 {}
 
 /// Lemma: the packets of a lane that the closer found empty were put in visits with a number up to

@@ -21,8 +21,11 @@ pub use laws::{
     all_lanes_are_left, counts_are_sums_over_seats, deliveries_and_places_agree,
     drops_have_their_causes, each_lawful_order_may_close, emptied_lanes_stand_first,
     holds_find_fronts, lanes_are_served_in_order, loaded_heads_are_passed, loaded_heads_rise,
-    outs_are_sums_over_seats, puts_and_positions_agree, visits_read_the_closers_settings,
+    loaded_tails_rise, outs_are_sums_over_seats, puts_and_positions_agree,
+    visits_read_the_closers_settings,
 };
 pub use lists::BoardLists;
-pub use own_laws::{a_taken_lane_is_held, quiet_steps_stay};
+pub use own_laws::{
+    a_read_has_its_visits_number, a_step_has_its_number, a_taken_lane_is_held, quiet_steps_stay,
+};
 pub use words::{GateWord, HeadWord, LaneWord};

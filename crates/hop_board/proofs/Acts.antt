@@ -15,6 +15,7 @@ use Rattle.hop_rule.specs.declared.sizes.BoardSizes.{BoardSizes}
 use Rattle.hop_rule.specs.declared.sizes.TheConstants.{MAX_OPENINGS}
 use Rattle.hop_rule.specs.declared.step.BoardStep.{BoardStep}
 use Rattle.hop_rule.specs.declared.step.BoardStep.TheVariants.{Lane, Gate, Weighed, Counted}
+use Rattle.hop_rule.specs.declared.step.BoardStep.TheVariants.{OutCounted}
 use Rattle.hop_rule.specs.declared.step.GateStep.{GateStep}
 use Rattle.hop_rule.specs.declared.step.GateStep.TheVariants.{Entered, Turned, Left, Shut, NotShut}
 use Rattle.hop_rule.specs.declared.step.GateStep.TheVariants.{Opened, Set, Read}
@@ -35,7 +36,7 @@ use Rattle.board_api.specs.declared.held_lane.LaneId.{LaneId}
 use Rattle.board_api.specs.declared.held_lane.LaneId.TheVariants as id
 use Rattle.hop_board.specs.declared.places.Word.{Word}
 use Rattle.hop_board.specs.declared.places.Word.TheVariants as kind
-use Rattle.hop_board.specs.Makings.{closing, entering, loaded, IsBusy, MayLoad}
+use Rattle.hop_board.specs.Makings.{FindsOpen, IsBusy, MayLoad, closing, entering, loaded}
 use Rattle.hop_board.specs.Steps.{IsStepAt, MayAct}
 use Rattle.hop_board.specs.Tables.{IsWord, value, value_by}
 use Rattle.hop_board.specs.Tables.{home_after}
@@ -52,6 +53,16 @@ pub lanes_seen : (order : Order) (p : ℕ) (ds : List BoardStep) → ds ≡ step
     → steps_of p (lanes_of order) ≡ lane_steps ds
 lanes_seen order p ds own = lanes_own p order ∙ ap lane_steps (sym own)
 
+-- the step that raises a head
+abbrev pub raised : Word → ℕ → BoardStep
+raised (kind.Head l) word = Lane (Retired l word)
+raised _ word = Gate Left
+
+-- the step that changes a setting
+abbrev pub setting_step : Word → ℕ → BoardStep
+setting_step (kind.Setting i) value = Gate (Set i value)
+setting_step _ value = Gate Left
+
 module _ (about : BoardSizes) where
   -- ---- loads
 
@@ -63,6 +74,11 @@ module _ (about : BoardSizes) where
   pub counts : (seat : SeatView BoardStep) (l : ℕ) → l < about.lanes
       → MayAct about seat (kind.Lane (id.Middle l)) (λ n. n) (λ n. Counted l n) (λ n. Unit {0})
   counts seat l inside fit_ order few_ own lawful =
+      (record { may = (inside, refl); here = refl; others = λ v ne. refl; homes = λ x. refl }, tt)
+
+  pub out_counts : (seat : SeatView BoardStep) (o : ℕ) → o < about.outs
+      → MayAct about seat (kind.Lane (id.Out o)) (λ n. n) (λ n. OutCounted o n) (λ n. Unit {0})
+  out_counts seat o inside fit_ order few_ own lawful =
       (record { may = (inside, refl); here = refl; others = λ v ne. refl; homes = λ x. refl }, tt)
 
   -- ---- steps that change no setting
@@ -127,7 +143,7 @@ module _ (about : BoardSizes) where
   pub loads : (seat : SeatView BoardStep) (w : Word) → IsWord about w → MayLoad seat.steps w
       → MayAct about seat w (λ n. n) (loaded w) (λ n. Unit {0})
   loads seat (kind.Lane (id.Middle l)) inside may = counts seat l inside
-  loads seat (kind.Lane (id.Out o)) inside may = absurd may
+  loads seat (kind.Lane (id.Out o)) inside may = out_counts seat o inside
   loads seat (kind.Head l) inside may = weighs seat l inside
   loads seat kind.Gate inside may = absurd may
   loads seat (kind.Setting i) inside may = reads seat i may
@@ -213,13 +229,33 @@ module _ (about : BoardSizes) where
         homes = λ x. refl;
       }
 
+  -- the closer, which has not closed the gate, finds it open
+  finds_open : FitSizes about → (order : Order) (p : ℕ) → IsLawful about order
+      → gates.closed (steps_of p (gates_of order)) ≡ 0
+      → FindsOpen about p (value about order kind.Gate)
+  finds_open fit order p lawful open_ is_closer =
+      by_mark (is_marked (value about order kind.Gate)) refl
+    where
+      by_mark : (b : Bool) → is_marked (value about order kind.Gate) ≡ b
+          → is_marked (value about order kind.Gate) ≡ false
+      by_mark false is = is
+      by_mark true is =
+          let gs : List (StepBy GateStep) = gates_of order in
+          let all = (parts about order lawful).1 in
+          let shut = (enter_finds about gs all fit.seats).1
+          (leb-true 2147483648 (gates.gate_word gs % 4294967296) is) in
+          let own = (closes about gs all).0 in
+          let none = ap (λ q. gates.closed (steps_of q gs)) (sym is_closer) ∙ open_ in
+          absurd (omega arith)
+
   pub enters : (seat : SeatView BoardStep) → IsOutside seat.steps → HasOpen seat.steps
-      → MayAct about seat kind.Gate (λ n. (n + 1) % 2 ^ 64) entering (λ n. Unit {0})
+      → MayAct about seat kind.Gate (λ n. (n + 1) % 2 ^ 64) entering
+      (FindsOpen about seat.number)
   enters seat out open_ fit order few_ own lawful =
       let s = seen order seat.number seat.steps own in (
         enter_as fit order seat.number (is_marked (value about order kind.Gate)) few_ lawful
             (ap gates.visit s ∙ out) (ap gates.closed s ∙ open_) refl,
-        tt,
+        finds_open fit order seat.number lawful (ap gates.closed s ∙ open_),
       )
 
   pub leaves : (seat : SeatView BoardStep) → gates.visit (gate_steps seat.steps) ≢ gates.outside

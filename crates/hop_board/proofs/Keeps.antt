@@ -39,9 +39,9 @@ use Rattle.board_api.specs.declared.held_lane.LaneId.TheVariants as id
 use Rattle.hop_board.specs.declared.places.Word.{Word}
 use Rattle.hop_board.specs.declared.places.Word.TheVariants as kind
 use Rattle.hop_board.specs.Tables.{InSlot, slot_of}
-use Rattle.hop_board.specs.Tables.{slots, place, IsWord, holder_of, content, lane_value}
+use Rattle.hop_board.specs.Tables.{slots, place, IsWord, content, lane_value}
 use Rattle.hop_board.specs.Tables.{value, home_by, home_after, HomesAre, HasBoard}
-use Rattle.hop_board.specs.Steps.{IsAt, MayAct, MayGive, released_word}
+use Rattle.hop_board.specs.Steps.{MayAct, MayGive, released_word}
 use Rattle.hop_board.specs.Plays.{HeldAt, Carried, HoldsThen, EmptiesThen, FillsThen}
 use Rattle.hop_board.specs.Plays.{GivesThen}
 use Rattle.hop_board.proofs.Apart.{same_lane, same_word, slot_inside, place_inside}
@@ -55,6 +55,15 @@ Seated = Me InSlot (Hands BoardStep)
 -- the one hand of a seat, which has taken nothing
 abbrev pub Alone : Seated → Type 0
 Alone me = me ≡ (one (number_in me.0) (steps_in me.0), [])
+
+-- the holder of a lane after an order: 0 for nobody, otherwise the holder's number plus 1
+abbrev pub holder_of : List (StepBy LaneStep) → LaneId → ℕ
+holder_of ls (id.Middle l) = lanes.holder l ls
+holder_of ls (id.Out o) = lanes.out_holder o ls
+
+-- the word is at this place of the table
+abbrev pub IsAt : BoardSizes → Word → ℕ → Type 0
+IsAt about w i = IsWord about w × (i ≡ place about w)
 
 module _ (about : BoardSizes) where
   -- a step that leaves m in the word w
@@ -171,7 +180,7 @@ module _ (about : BoardSizes) where
 
   -- a free lane is in its slot
   pub home_is : (x : LaneId) (order : Order) → FitsLane about x → IsLawful about order
-      → holder_of about (lanes_of order) x ≡ 0
+      → holder_of (lanes_of order) x ≡ 0
       → home_after about order x ≡ some (Some (content about (lanes_of order) x))
   home_is (id.Middle l) order inside lawful free =
       ap (λ s. home_by about s (content about (lanes_of order) (id.Middle l)))
@@ -193,7 +202,7 @@ module _ (about : BoardSizes) where
   tail_of ls (id.Out o) = about.start + length (lanes.out o ls)
 
   pub lane_is : (ls : List (StepBy LaneStep)) (x : LaneId)
-      → lane_value about ls x ≡ 2 * tail_of ls x + lanes.bit (holder_of about ls x)
+      → lane_value about ls x ≡ 2 * tail_of ls x + lanes.bit (holder_of ls x)
   lane_is ls (id.Middle l) = refl
   lane_is ls (id.Out o) = refl
 
@@ -207,7 +216,7 @@ module _ (about : BoardSizes) where
   held_at (id.Out o) w ls = refl
 
   held_may : (x : LaneId) (w p : ℕ) (order : Order) → FitsLane about x
-      → w ≡ lane_value about (lanes_of order) x → holder_of about (lanes_of order) x ≡ 0
+      → w ≡ lane_value about (lanes_of order) x → holder_of (lanes_of order) x ≡ 0
       → MayCome about p order (held_step x w (lanes_of order))
   held_may (id.Middle l) w p order inside is free = ((inside, is, free, refl), tt, tt)
   held_may (id.Out o) w p order inside is free = ((inside, is, free, refl), tt, tt)
@@ -274,7 +283,7 @@ module _ (about : BoardSizes) where
       (state_else (id.Out o) u taken (slot_state about (slot_of about u) order) inside fits ne)
 
   missed_may : (x : LaneId) (w p : ℕ) (order : Order) → FitsLane about x
-      → w ≡ lane_value about (lanes_of order) x → 0 < holder_of about (lanes_of order) x
+      → w ≡ lane_value about (lanes_of order) x → 0 < holder_of (lanes_of order) x
       → MayCome about p order (MissedAt x w)
   missed_may (id.Middle l) w p order inside is held = ((inside, is, held), tt, tt)
   missed_may (id.Out o) w p order inside is held = ((inside, is, held), tt, tt)
@@ -358,7 +367,7 @@ module _ (about : BoardSizes) where
         let p : ℕ = number_in me.0 in
         let ls : List (StepBy LaneStep) = lanes_of order in
         let k : ℕ = slice_index words (slot_of about x) in
-        let holder : ℕ = holder_of about ls x in
+        let holder : ℕ = holder_of ls x in
         let t : ℕ = tail_of ls x in
         let is : k ≡ 2 * t + lanes.bit holder = word ∙ lane_is ls x in
         let none_carried : me.1 ≡ [] = ap (λ m. m.1) alone in

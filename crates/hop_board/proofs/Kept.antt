@@ -30,25 +30,41 @@ use Rattle.hop_board.specs.Makings.{TookSlot, MissedSlot}
 use Rattle.hop_board.specs.Plays.{HeldAt}
 use Rattle.hop_board.specs.Tables.{slot_of}
 
-module _ (pulled : List ℕ) (opened : ℕ) where
+module _ (pulled : List ℕ) (opened visit : ℕ) where
   abbrev Keeps : List BoardStep → Type 0
-  Keeps steps = KeepsSteps steps pulled opened
+  Keeps steps = KeepsSteps steps pulled opened visit
 
   held_kept : (k : ℕ) (x : LaneId) (w : ℕ) (found : Slot) (d : BoardStep) (ds : List BoardStep)
       → HeldAt x w found d → Keeps ds → Keeps (LaneOut k ∷ d ∷ ds)
   held_kept k (id.Middle l) w (slot.Middle y) d ds is t = subst (λ z. Keeps (LaneOut k ∷ z ∷ ds))
       (sym is)
-      record { in_hand = λ lane packet inside at. t.in_hand lane packet inside at; opens = t.opens }
+      record {
+        in_hand = λ lane packet inside at. t.in_hand lane packet inside at;
+        opens = t.opens;
+        number = t.number;
+      }
   held_kept k (id.Out o) w (slot.Out y) d ds is t = subst (λ z. Keeps (LaneOut k ∷ z ∷ ds)) (sym is)
-      record { in_hand = λ lane packet inside at. t.in_hand lane packet inside at; opens = t.opens }
+      record {
+        in_hand = λ lane packet inside at. t.in_hand lane packet inside at;
+        opens = t.opens;
+        number = t.number;
+      }
   held_kept k (id.Middle l) w (slot.Out y) d ds is t = absurd is
   held_kept k (id.Out o) w (slot.Middle y) d ds is t = absurd is
 
   missed_kept : (x : LaneId) (w : ℕ) (ds : List BoardStep) → Keeps ds → Keeps (MissedAt x w ∷ ds)
   missed_kept (id.Middle l) w ds t =
-      record { in_hand = λ lane packet inside at. t.in_hand lane packet inside at; opens = t.opens }
+      record {
+        in_hand = λ lane packet inside at. t.in_hand lane packet inside at;
+        opens = t.opens;
+        number = t.number;
+      }
   missed_kept (id.Out o) w ds t =
-      record { in_hand = λ lane packet inside at. t.in_hand lane packet inside at; opens = t.opens }
+      record {
+        in_hand = λ lane packet inside at. t.in_hand lane packet inside at;
+        opens = t.opens;
+        number = t.number;
+      }
 
   -- a lane was taken, or missed
   pub taken_kept : (about : BoardSizes) (x : LaneId) (old new : SeatView BoardStep)
@@ -92,6 +108,7 @@ module _ (pulled : List ℕ) (opened : ℕ) where
         (λ e. if_same from lane gave before e) (λ ne. if_other from lane gave before ne) at in
         t.in_hand lane packet inside h.1);
     opens = t.opens;
+    number = t.number;
   }
 
   pub retired_kept : (l word : ℕ) (ds : List BoardStep) → Keeps ds → Keeps (Lane (Retired l word)
@@ -104,11 +121,12 @@ module _ (pulled : List ℕ) (opened : ℕ) where
         (λ e. if_same l lane idle before e) (λ ne. if_other l lane idle before ne) at in
         t.in_hand lane packet inside h.1);
     opens = t.opens;
+    number = t.number;
   }
 
   -- the packet that was pulled is noted
   pub pulled_kept : (k l id : ℕ) (ds : List BoardStep) → l < length pulled → Keeps ds
-      → KeepsSteps (Lane (Freed l (Pulled id)) ∷ LaneIn k ∷ ds) (set pulled l id) opened
+      → KeepsSteps (Lane (Freed l (Pulled id)) ∷ LaneIn k ∷ ds) (set pulled l id) opened visit
   pulled_kept k l id ds room t = record {
     in_hand = λ lane packet inside at. dite (ℕ_discrete l lane)
         (λ e. subst (λ (z : ℕ). slice_index (set pulled l id) z ≡ packet) e
@@ -118,13 +136,18 @@ module _ (pulled : List ℕ) (opened : ℕ) where
         ∙ t.in_hand lane packet inside
         (sym (if_other l lane (has_pulled id) (phase lane (lane_steps ds)) ne) ∙ at));
     opens = t.opens;
+    number = t.number;
   }
 
   -- lanes were looked at
   looked_kept : (xs : List Looked) (ds : List BoardStep) → Keeps ds → Keeps (looking xs ds)
   looked_kept [] ds t = t
   looked_kept (x ∷ xs) ds t = looked_kept xs (looking (x ∷ []) ds)
-      record { in_hand = λ lane packet inside at. t.in_hand lane packet inside at; opens = t.opens }
+      record {
+        in_hand = λ lane packet inside at. t.in_hand lane packet inside at;
+        opens = t.opens;
+        number = t.number;
+      }
 
   pub emptied_kept : (about : BoardSizes) (mask : CpuMask) (old new : SeatView BoardStep) (e : Bool)
       (answer : Emptied)

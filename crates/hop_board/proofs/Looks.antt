@@ -1,8 +1,9 @@
 -- Lanes that are looked at.
 use Rattle.std.proofs.Common.{◌≡◌, ◌≢◌, ℕ, zero, suc, ◌+◌, ◌-◌, ◌<◌, List, [], ◌∷◌, ◌++◌, Bool}
 use Rattle.std.proofs.Common.{true, false}
-use Rattle.std.proofs.Common.{cond, map, sym, refl, ap, ◌∙◌, arith, append-nil, append_assoc}
-use Rattle.std.proofs.lemmas.List.Elements.{All-nil, All-cons}
+use Rattle.std.proofs.Common.{All, cond, map, sym, refl, ap, ◌∙◌, arith, append-nil}
+use Rattle.std.proofs.Common.{append_assoc}
+use Rattle.std.proofs.lemmas.List.Elements.{All-cons, All-head, All-nil, All-tail}
 use Rattle.steer_base.specs.Sets.{has, those_below}
 use Rattle.steer_base.specs.declared.cpu_mask.CpuMask.{CpuMask}
 use Rattle.steer_base.proofs.SetsLemmas.{those_below-more}
@@ -12,8 +13,15 @@ use Rattle.hop_rule.specs.declared.step.BoardStep.{BoardStep}
 use Rattle.board_api.specs.StepWords.{low_half, tail_in}
 use Rattle.board_api.specs.Calls.Results.{EmptiedTells, IsEmpty, Looked, looking}
 use Rattle.board_api.specs.declared.answers.Emptied.TheVariants as emptied
-use Rattle.hop_board.specs.Emptying.{LooksBelow, emptied_after}
+use Rattle.hop_board.specs.Emptying.{emptied_after}
 use Rattle.hop_board.specs.Named.{board_seat}
+
+-- the lanes of the set below n were looked at, and each was found empty
+pub record LooksBelow (mask : CpuMask) (n : ℕ) (old new : SeatView BoardStep) : Type 0 where
+  pub looked : List Looked
+  pub lanes : map (λ (x : Looked). x.lane) looked ≡ those_below n (has mask)
+  pub empty : All IsEmpty looked
+  pub step : new ≡ record old { steps = looking looked old.steps }
 
 looking-end : (xs : List Looked) (x : Looked) (ds : List BoardStep)
     → looking (xs ++ x ∷ []) ds ≡ looking (x ∷ []) (looking xs ds)
@@ -25,12 +33,12 @@ map-end : (xs : List Looked) (x : Looked)
 map-end [] x = refl
 map-end (y ∷ ys) x = ap (λ l. y.lane ∷ l) (map-end ys x)
 
-all-end : (xs : List Looked) (x : Looked) → Rattle.std.proofs.Common.All IsEmpty xs → IsEmpty x
-    → Rattle.std.proofs.Common.All IsEmpty (xs ++ x ∷ [])
+all-end : (xs : List Looked) (x : Looked) → All IsEmpty xs → IsEmpty x
+    → All IsEmpty (xs ++ x ∷ [])
 all-end [] x all is = All-cons IsEmpty x [] is (All-nil IsEmpty)
 all-end (y ∷ ys) x all is = All-cons IsEmpty y (ys ++ x ∷ [])
-    (Rattle.std.proofs.lemmas.List.Elements.All-head IsEmpty y ys all)
-    (all-end ys x (Rattle.std.proofs.lemmas.List.Elements.All-tail IsEmpty y ys all) is)
+    (All-head IsEmpty y ys all)
+    (all-end ys x (All-tail IsEmpty y ys all) is)
 
 -- a set up to a greater number begins as it does up to a smaller one
 further : (test : ℕ → Bool) (n k : ℕ) → (rest : List ℕ)

@@ -3,18 +3,16 @@ use Rattle.std.specs.Prelude.{◌≡◌, ◌≢◌, ℕ, ◌+◌, ◌<◌, ◌�
 use Rattle.std.specs.Prelude.{if◌then◌else◌}
 use Rattle.hop_rule.specs.declared.sizes.BoardSizes.{BoardSizes}
 use Rattle.hop_rule.specs.declared.step.BoardStep.{BoardStep}
-use Rattle.hop_rule.specs.declared.step.BoardStep.TheVariants.{Gate, Lane, Counted, Weighed}
+use Rattle.hop_rule.specs.declared.step.BoardStep.TheVariants.{Gate, Weighed}
 use Rattle.hop_rule.specs.declared.step.BoardStep.TheVariants.{LaneOut}
-use Rattle.hop_rule.specs.declared.step.GateStep.TheVariants.{Entered, Turned, Left, Read, Set}
+use Rattle.hop_rule.specs.declared.step.GateStep.TheVariants.{Entered, Turned, Left, Read}
 use Rattle.hop_rule.specs.declared.step.GateStep.TheVariants.{Shut, NotShut}
-use Rattle.hop_rule.specs.declared.step.LaneStep.TheVariants.{Retired}
 use Rattle.hop_rule.specs.declared.step.Slot.{Slot}
 use Rattle.linearization.specs.Seats.{SeatView}
-use Rattle.board_api.specs.Calls.Rights.{MayRead}
+use Rattle.board_api.specs.Calls.Rights.{IsCloser, MayRead}
 use Rattle.board_api.specs.StepWords.{is_odd, is_marked, low_half}
-use Rattle.board_api.specs.Calls.Results.{MissedAt}
+use Rattle.board_api.specs.Calls.Results.{CountedAt, MissedAt}
 use Rattle.board_api.specs.declared.held_lane.LaneId.{LaneId}
-use Rattle.board_api.specs.declared.held_lane.LaneId.TheVariants as id
 use Rattle.hop_board.specs.declared.places.Word.{Word}
 use Rattle.hop_board.specs.declared.places.Word.TheVariants as kind
 use Rattle.hop_board.specs.Plays.{HeldAt}
@@ -24,6 +22,10 @@ use Rattle.hop_board.specs.Tables.{slot_of}
 -- mark.
 abbrev pub entering : ℕ → BoardStep
 entering word = if is_marked word then Gate (Turned word) else Gate (Entered word)
+
+-- If the seat with this number is the closer, the gate that has this word is open.
+abbrev pub FindsOpen : BoardSizes → ℕ → ℕ → Type 0
+FindsOpen about number word = IsCloser about number → is_marked word ≡ false
 
 -- The step of a close that expected this word of an empty gate.
 abbrev pub closing : ℕ → ℕ → BoardStep
@@ -35,29 +37,17 @@ abbrev pub IsBusy : BoardSizes → ℕ → ℕ → Type 0
 IsBusy about empty word =
     word ≢ empty → (0 < low_half word) × (low_half word + 1 ≤ about.seats)
 
--- The step that raises a head.
-abbrev pub raised : Word → ℕ → BoardStep
-raised (kind.Head l) word = Lane (Retired l word)
-raised _ word = Gate Left
-
--- The step that changes a setting.
-abbrev pub setting_step : Word → ℕ → BoardStep
-setting_step (kind.Setting i) value = Gate (Set i value)
-setting_step _ value = Gate Left
-
 -- The step of a load.
 abbrev pub loaded : Word → ℕ → BoardStep
-loaded (kind.Lane (id.Middle l)) word = Counted l word
-loaded (kind.Lane (id.Out o)) word = Counted o word
+loaded (kind.Lane x) word = CountedAt x word
 loaded (kind.Head l) word = Weighed l word
 loaded kind.Gate word = Gate Left
 loaded (kind.Setting i) word = Gate (Read i word)
 
--- A seat with these steps may load the word: that of a middle lane or of a head, or a setting if it
--- may read settings.
+-- A seat with these steps may load the word: that of a lane or of a head, or a setting if it may
+-- read settings.
 abbrev pub MayLoad : List BoardStep → Word → Type 0
-MayLoad steps (kind.Lane (id.Middle l)) = Unit {0}
-MayLoad steps (kind.Lane (id.Out o)) = ⊥
+MayLoad steps (kind.Lane x) = Unit {0}
 MayLoad steps (kind.Head l) = Unit {0}
 MayLoad steps kind.Gate = ⊥
 MayLoad steps (kind.Setting i) = MayRead steps

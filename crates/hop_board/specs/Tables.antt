@@ -56,11 +56,6 @@ module _ (about : BoardSizes) where
 
   -- ---- what an order leaves
 
-  -- The holder of a lane after an order: 0 for nobody, otherwise the holder's number plus 1.
-  abbrev pub holder_of : List (StepBy LaneStep) → LaneId → ℕ
-  holder_of ls (id.Middle l) = lanes.holder l ls
-  holder_of ls (id.Out o) = lanes.out_holder o ls
-
   -- The lane after an order, as the content of its slot.
   abbrev pub content : List (StepBy LaneStep) → LaneId → Slot
   content ls (id.Middle l) = slot.Middle (lanes.lane about l ls)

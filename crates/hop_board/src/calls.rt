@@ -25,6 +25,10 @@ impl Calls for Board {
         self.weigh(seat, lane)
     }
 
+    fn tail(&self, seat: &mut BoardSeat, lane: LaneId) -> u32 {
+        self.tail(seat, lane)
+    }
+
     fn try_hold(&self, seat: &mut BoardSeat, lane: LaneId) -> Hold {
         self.try_hold(seat, lane)
     }

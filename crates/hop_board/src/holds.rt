@@ -1,16 +1,27 @@
 //! Taking a lane, and giving it back as it was.
 ghost use Rattle.std.specs.Prelude.{◌≡◌};
 ghost use Rattle.board_api.specs.Calls.HeldLanes.{FitsLane, Holds, HoldsOut};
-ghost use Rattle.board_api.specs.Calls.Results.{BackTells, HoldTells, ReadTells};
+ghost use Rattle.board_api.specs.Calls.Results.{BackTells, HoldTells, ReadTells, TailTells};
 ghost use Rattle.hop_board.specs.Named.{content_of, held_by, held_lane_id};
 
 use crate::board::Board;
+use crate::places::Word;
 use crate::release::Release;
-use board_api::{BoardSeat, HeldLane, Hold, LaneId};
+use board_api::{BoardSeat, HeldLane, Hold, LaneId, LaneWord};
 use hop_rule::Slot;
 use steer_base::PacketId;
 
 impl Board {
+    /// Reads the tail of a lane, a counter number: how many packets a middle lane has accepted, or
+    /// how many were delivered to an out lane. The lane may be held.
+    pub fn tail(&self, seat: &mut BoardSeat, lane: LaneId) -> u32
+        requires table { seat.old.table ≡ self.now.table }
+        requires within { FitsLane self.now.sizes lane }
+        ensures { TailTells lane seat.old seat.new result }
+    {
+        LaneWord(self.load(&mut seat.seat, Word::Lane(lane))).tail()
+    }
+
     /// Takes a lane if no seat holds it.
     pub fn try_hold(&self, seat: &mut BoardSeat, lane: LaneId) -> Hold
         requires table { seat.old.table ≡ self.now.table }

@@ -146,6 +146,7 @@ fn at_board(alloc: Global, mut given: Vec<WordSeat>) -> Result<Vec<BoardSeat>, O
             seat,
             pulled: [0; 32],
             openings: 0,
+            visit: 0,
             has_emptied: false,
         });
     }

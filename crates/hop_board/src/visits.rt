@@ -2,10 +2,10 @@
 ghost use Rattle.std.specs.Prelude.{◌≡◌, ◌≢◌, ◌<◌, ◌∷◌, [], length};
 ghost use Rattle.hop_rule.specs.Boards.{gate_steps};
 ghost use Rattle.hop_rule.specs.Gates.{outside, visit};
-ghost use Rattle.board_api.specs.Calls.Rights.{HasOpen, IsInside, IsOutside, MayRead};
+ghost use Rattle.board_api.specs.Calls.Rights.{HasOpen, IsCloser, IsInside, IsOutside, MayRead};
 ghost use Rattle.board_api.specs.Seats.{Adds};
 ghost use Rattle.board_api.specs.Calls.Results.{EnterTells, WeighTells};
-ghost use Rattle.hop_board.specs.Makings.{entering};
+ghost use Rattle.hop_board.specs.Makings.{FindsOpen, entering};
 
 use crate::board::{Board, WordSeat};
 use crate::places::Word;
@@ -14,18 +14,21 @@ use hop_rule::{BoardStep, GateStep};
 use std::marker::Brand;
 
 impl Board {
-    /// Begins a visit if the gate is open. If it is closed the visitor backs out in the same call.
+    /// Begins a visit if the gate is open. If it is closed the visitor backs out in the same call;
+    /// the closer never finds it so, since it alone closes it.
     pub fn enter(&self, seat: &mut BoardSeat) -> EnterAnswer
         requires table { seat.old.table ≡ self.now.table }
         requires outside { IsOutside seat.old.steps }
         requires open { HasOpen seat.old.steps }
-        ensures { EnterTells seat.old seat.new result }
+        ensures step { EnterTells seat.old seat.new result }
+        ensures closer { IsCloser self.now.sizes seat.old.number → result ≡ EnterAnswer.Ok }
     {
         let word = self.step_in(&mut seat.seat);
         if GateWord(word).is_closed() {
             self.step_out(&mut seat.seat);
             return EnterAnswer::Closed { word };
         }
+        seat.visit = GateWord(word).openings();
         EnterAnswer::Ok
     }
 
@@ -64,7 +67,8 @@ impl Board {
         requires table { seat.old.table ≡ self.now.table }
         requires outside { IsOutside seat.old.steps }
         requires open { HasOpen seat.old.steps }
-        ensures { seat.new ≡ record seat.old { steps = entering result ∷ seat.old.steps } }
+        ensures step { seat.new ≡ record seat.old { steps = entering result ∷ seat.old.steps } }
+        ensures open { FindsOpen self.now.sizes seat.old.number result }
     {
         self.add_as::<Brand>(seat, Word::Gate, 1)
     }

@@ -1,4 +1,5 @@
 pub mod FlowLemmas
+pub mod PutPlaceLemmas
 pub mod ClosingExampleLemmas
 pub mod RuleLemmas
 pub mod TurnReadLemmas

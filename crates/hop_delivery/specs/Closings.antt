@@ -1,3 +1,4 @@
 pub mod ClosingExamples
 pub mod FlowLaw
+pub mod PutPlaces
 pub mod TurnReads

@@ -13,7 +13,7 @@ use Rattle.hop_rule.specs.PutLaws.{IsPut}
 use Rattle.hop_rule.specs.declared.sizes.BoardSizes.{BoardSizes}
 use Rattle.hop_rule.specs.declared.step.BoardStep.{BoardStep}
 use Rattle.hop_rule.specs.declared.step.BoardStep.TheVariants.{Lane, Gate, Weighed, Counted}
-use Rattle.hop_rule.specs.declared.step.BoardStep.TheVariants.{LaneOut, LaneIn}
+use Rattle.hop_rule.specs.declared.step.BoardStep.TheVariants.{LaneOut, LaneIn, OutCounted}
 use Rattle.hop_rule.specs.declared.step.LaneStep.{LaneStep}
 use Rattle.hop_rule.proofs.Cases.{lane_part, gate_part, lane_part_case, retired_case}
 use Rattle.hop_rule.proofs.Lanes.{counted}
@@ -56,6 +56,7 @@ module _ (about : BoardSizes) where
       by_step p (Gate d) l may t = (t.0, (l, may, t.1))
       by_step p (Weighed i h) l may t = t
       by_step p (Counted i n) l may t = t
+      by_step p (OutCounted i n) l may t = t
       by_step p (LaneOut i) l may t = t
       by_step p (LaneIn i) l may t = t
 

@@ -13,7 +13,7 @@ use Rattle.hop_rule.specs.Boards.{lane_step_in, gate_in}
 use Rattle.hop_rule.specs.Lanes.{lane_changed, lane_after_step, out_after, retired_after}
 use Rattle.hop_rule.specs.declared.step.BoardStep.{BoardStep}
 use Rattle.hop_rule.specs.declared.step.BoardStep.TheVariants.{Lane, Gate, Weighed, Counted}
-use Rattle.hop_rule.specs.declared.step.BoardStep.TheVariants.{LaneOut, LaneIn}
+use Rattle.hop_rule.specs.declared.step.BoardStep.TheVariants.{LaneOut, LaneIn, OutCounted}
 use Rattle.hop_rule.specs.declared.step.Change.{Change}
 use Rattle.hop_rule.specs.declared.step.GateStep.{GateStep}
 use Rattle.hop_rule.specs.declared.step.LaneStep.{LaneStep}
@@ -77,6 +77,7 @@ lane_part_case P p (Lane s) es some same = some s refl
 lane_part_case P p (Gate s) es some same = same
 lane_part_case P p (Weighed l w) es some same = same
 lane_part_case P p (Counted l w) es some same = same
+lane_part_case P p (OutCounted l w) es some same = same
 lane_part_case P p (LaneOut k) es some same = same
 lane_part_case P p (LaneIn k) es some same = same
 
@@ -87,5 +88,6 @@ gate_part_case P p (Gate s) es some same = some s refl
 gate_part_case P p (Lane s) es some same = same
 gate_part_case P p (Weighed l w) es some same = same
 gate_part_case P p (Counted l w) es some same = same
+gate_part_case P p (OutCounted l w) es some same = same
 gate_part_case P p (LaneOut k) es some same = same
 gate_part_case P p (LaneIn k) es some same = same

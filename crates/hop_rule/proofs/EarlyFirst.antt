@@ -31,11 +31,8 @@ use Rattle.hop_rule.proofs.Moments.{past-all, step-inside, along}
 use Rattle.hop_rule.proofs.Openings.{openings_later}
 use Rattle.hop_rule.proofs.Owns.{gates_own}
 use Rattle.hop_rule.proofs.Puts.{put_counts}
+use Rattle.hop_rule.proofs.Tails.{bit-small}
 use Rattle.hop_rule.proofs.Visits.{closed_at}
-
-bit-small : (h : ℕ) → lanes.bit h ≤ 1
-bit-small zero = omega arith
-bit-small (suc h) = omega arith
 
 module _ (about : BoardSizes) (order : List (StepBy BoardStep)) (fit : FitSizes about)
     (lawful : IsLawful about order) where

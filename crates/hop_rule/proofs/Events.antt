@@ -18,7 +18,7 @@ use Rattle.linearization.proofs.ListLemmas.{if_same, if_other}
 use Rattle.hop_rule.specs.declared.sizes.BoardSizes.{BoardSizes}
 use Rattle.hop_rule.specs.declared.step.BoardStep.{BoardStep}
 use Rattle.hop_rule.specs.declared.step.BoardStep.TheVariants.{Lane, Gate, Weighed, Counted}
-use Rattle.hop_rule.specs.declared.step.BoardStep.TheVariants.{LaneOut, LaneIn}
+use Rattle.hop_rule.specs.declared.step.BoardStep.TheVariants.{LaneOut, LaneIn, OutCounted}
 use Rattle.hop_rule.specs.declared.step.Change.{Change}
 use Rattle.hop_rule.specs.declared.step.Change.TheVariants.{Nothing, Offered, Pulled}
 use Rattle.hop_rule.specs.declared.step.LaneStep.{LaneStep}
@@ -495,6 +495,7 @@ each_step_is_an_event about p (Gate d) es lawful = (
 )
 each_step_is_an_event about p (Weighed l w) es lawful = (tt, refl)
 each_step_is_an_event about p (Counted l w) es lawful = (tt, refl)
+each_step_is_an_event about p (OutCounted l w) es lawful = (tt, refl)
 each_step_is_an_event about p (LaneOut k) es lawful = (tt, refl)
 each_step_is_an_event about p (LaneIn k) es lawful = (tt, refl)
 

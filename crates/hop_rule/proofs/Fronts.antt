@@ -134,3 +134,8 @@ module _ (about : BoardSizes) where
       (lane_at about (past n order) l).accepted
   count_later order m n l le = front-length (lane_at about (past m order) l).accepted
       (lane_at about (past n order) l).accepted (lane_later order m n l le).accepted
+
+  pub out_count_later : (order : List (StepBy BoardStep)) (m n o : ℕ) → m ≤ n
+      → length (out about (past m order) o) ≤ length (out about (past n order) o)
+  out_count_later order m n o le = front-length (out about (past m order) o)
+      (out about (past n order) o) (out_later order m n o le)

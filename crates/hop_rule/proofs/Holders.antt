@@ -16,7 +16,7 @@ use Rattle.hop_rule.specs.Owns.{own_of}
 use Rattle.hop_rule.specs.declared.sizes.BoardSizes.{BoardSizes}
 use Rattle.hop_rule.specs.declared.step.BoardStep.{BoardStep}
 use Rattle.hop_rule.specs.declared.step.BoardStep.TheVariants.{Lane, Gate, Weighed, Counted}
-use Rattle.hop_rule.specs.declared.step.BoardStep.TheVariants.{LaneOut, LaneIn}
+use Rattle.hop_rule.specs.declared.step.BoardStep.TheVariants.{LaneOut, LaneIn, OutCounted}
 use Rattle.hop_rule.specs.declared.step.LaneStep.{LaneStep}
 use Rattle.hop_rule.specs.declared.step.LaneStep.TheVariants.{Held, Missed, Freed, OutHeld}
 use Rattle.hop_rule.specs.declared.step.LaneStep.TheVariants.{OutMissed, OutFreed, Given, Retired}
@@ -63,6 +63,7 @@ module _ (about : BoardSizes) (l : ℕ) (inside : l < about.lanes) where
   held_out (Gate d ∷ ds) x at = held_out ds x at
   held_out (Weighed i w ∷ ds) x at = held_out ds x at
   held_out (Counted i w ∷ ds) x at = held_out ds x at
+  held_out (OutCounted i w ∷ ds) x at = held_out ds x at
   held_out (LaneOut k ∷ ds) x at = dite (ℕ_discrete k l)
       (λ e. ap is_out (if_same k l empty (own_state about l ds) e))
       (λ ne. ap is_out (if_other k l empty (own_state about l ds) ne) ∙ held_out ds x at)
@@ -113,6 +114,7 @@ module _ (about : BoardSizes) (o : ℕ) where
   out_out_step p (Gate d) es ds may t x at = t x at
   out_out_step p (Weighed i w) es ds may t x at = t x at
   out_out_step p (Counted i w) es ds may t x at = t x at
+  out_out_step p (OutCounted i w) es ds may t x at = t x at
   out_out_step p (LaneOut j) es ds may t x at = dite (ℕ_discrete j k)
       (λ e. ap is_out (if_same j k empty (own_state about k ds) e))
       (λ ne. ap is_out (if_other j k empty (own_state about k ds) ne) ∙ t x at)

@@ -21,5 +21,6 @@ pub mod Owns
 pub mod Parts
 pub mod Puts
 pub mod Slots
+pub mod Tails
 pub mod Unlawful
 pub mod Visits

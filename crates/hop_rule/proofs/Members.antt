@@ -7,7 +7,7 @@ use Rattle.linearization.proofs.ListLemmas.{if_same}
 use Rattle.hop_rule.specs.declared.sizes.BoardSizes.{BoardSizes}
 use Rattle.hop_rule.specs.declared.step.BoardStep.{BoardStep}
 use Rattle.hop_rule.specs.declared.step.BoardStep.TheVariants.{Lane, Gate, Weighed, Counted}
-use Rattle.hop_rule.specs.declared.step.BoardStep.TheVariants.{LaneOut, LaneIn}
+use Rattle.hop_rule.specs.declared.step.BoardStep.TheVariants.{LaneOut, LaneIn, OutCounted}
 use Rattle.hop_rule.specs.declared.step.LaneStep.{LaneStep}
 use Rattle.hop_rule.specs.declared.step.LaneStep.TheVariants.{Held, Missed, Freed, OutHeld}
 use Rattle.hop_rule.specs.declared.step.LaneStep.TheVariants.{OutMissed, OutFreed, Given, Retired}
@@ -63,6 +63,7 @@ each_given about l P (e ∷ es) all = by_step e.by e.step (λ n q o id place is.
     by_step p (Gate d) all' t = t
     by_step p (Weighed i w) all' t = t
     by_step p (Counted i w) all' t = t
+    by_step p (OutCounted i w) all' t = t
     by_step p (LaneOut i) all' t = t
     by_step p (LaneIn i) all' t = t
 

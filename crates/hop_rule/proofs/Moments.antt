@@ -1,5 +1,6 @@
 -- Moments of an order.
-use Rattle.std.proofs.Common.{◌≡◌, inl, inr, ℕ, zero, suc, ◌-◌, ◌<◌, ◌≤◌, List, [], ◌∷◌, ◌++◌}
+use Rattle.std.proofs.Common.{◌≡◌, ◌⊎◌, inl, inr, ℕ, zero, suc, ◌-◌, ◌<◌, ◌≤◌, List, [], ◌∷◌}
+use Rattle.std.proofs.Common.{◌++◌, get_or}
 use Rattle.std.proofs.Common.{Some, length, drop, refl, sym, ap, ◌∙◌, subst, arith}
 use Rattle.std.proofs.Common.{length-append}
 use Rattle.std.proofs.lemmas.Bool.{cases_eq, cases_lt}
@@ -7,7 +8,7 @@ use mathlib.Core.Logic.{dite}
 use native.Mathlib.Decide.{ℕ_discrete}
 use Rattle.linearization.specs.Orders.{StepBy, step_by}
 use Rattle.linearization.proofs.ListLemmas.{if_same, if_other}
-use Rattle.hop_rule.proofs.Lists.{none-some}
+use Rattle.hop_rule.proofs.Lists.{none-some, some-is}
 use Rattle.hop_rule.specs.Moments.{past, nth_step, IsStep}
 
 drop-all : {A : Type 0} (xs : List A) → drop (length xs) xs ≡ []
@@ -50,6 +51,48 @@ module _ {A : Type 0} where
       (λ e. (y, if_same (length ys) k (Some y) (nth_step ys k) e))
       (λ ne. let t = nth-some ys k (omega arith) in
       (t.0, if_other (length ys) k (Some y) (nth_step ys k) ne ∙ t.1))
+
+  pub nth-first : (y : A) (ys : List A) (k : ℕ) (x : A) → nth_step (y ∷ ys) k ≡ Some x
+      → (nth_step ys k ≡ Some x) ⊎ ((y ≡ x) × (k ≡ length ys))
+  nth-first y ys k x at = dite (ℕ_discrete (length ys) k)
+      (λ e. inr (some-is y x (sym (if_same (length ys) k (Some y) (nth_step ys k) e) ∙ at), sym e))
+      (λ ne. inl (sym (if_other (length ys) k (Some y) (nth_step ys k) ne) ∙ at))
+
+  pub past-next : (xs : List A) (k : ℕ) (x : A) → nth_step xs k ≡ Some x
+      → past (suc k) xs ≡ x ∷ past k xs
+  past-next [] k x at = none-some x at
+  past-next (y ∷ ys) k x at = elim (nth-first y ys k x at) [
+    | inl old ↦ (let l = nth-inside ys k x old in past-old y ys (suc k) (omega arith)
+        ∙ (past-next ys k x old ∙ ap (λ zs. x ∷ zs) (sym (past-old y ys k (omega arith)))))
+    | inr new ↦ (let e = new.1 in past-all (y ∷ ys) (suc k) (omega arith)
+        ∙ (λ i. new.0 i ∷ sym (past-old y ys k (omega arith) ∙ past-all ys k (omega arith)) i))
+  ]
+
+  -- the step between two parts of a list, and what is before it
+  pub nth-between : (newer : List A) (x : A) (older : List A)
+      → nth_step (newer ++ x ∷ older) (length older) ≡ Some x
+  nth-between newer x older =
+      nth-old newer (x ∷ older) (length older) (omega arith) ∙ nth-last x older
+
+  pub past-between : (newer : List A) (x : A) (older : List A)
+      → past (length older) (newer ++ x ∷ older) ≡ older
+  past-between [] x older = past-old x older (length older) (omega arith)
+      ∙ past-all older (length older) (omega arith)
+  past-between (y ∷ ys) x older =
+      let n = length-append ys (x ∷ older) in
+      past-old y (ys ++ x ∷ older) (length older) (omega arith) ∙ past-between ys x older
+
+  -- the k-th member of a list, from the newest
+  pub nth-member : (xs : List A) (k : ℕ) (d : A) → k < length xs
+      → nth_step xs (length xs - suc k) ≡ Some (get_or xs k d)
+  nth-member [] k d l = absurd (omega arith)
+  nth-member (y ∷ ys) zero d l =
+      let n : length (y ∷ ys) - 1 ≡ length ys = omega arith in
+      ap (nth_step (y ∷ ys)) n ∙ nth-last y ys
+  nth-member (y ∷ ys) (suc k) d l =
+      let n : length (y ∷ ys) - suc (suc k) ≡ length ys - suc k = omega arith in
+      ap (nth_step (y ∷ ys)) n
+      ∙ (nth-old (y ∷ []) ys (length ys - suc k) (omega arith) ∙ nth-member ys k d (omega arith))
 
 -- ---- orders
 

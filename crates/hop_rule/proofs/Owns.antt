@@ -11,7 +11,7 @@ use Rattle.linearization.proofs.ViewLemmas.{steps_of_own, steps_of_other}
 use Rattle.hop_rule.specs.declared.sizes.BoardSizes.{BoardSizes}
 use Rattle.hop_rule.specs.declared.step.BoardStep.{BoardStep}
 use Rattle.hop_rule.specs.declared.step.BoardStep.TheVariants.{Lane, Gate, Weighed, Counted}
-use Rattle.hop_rule.specs.declared.step.BoardStep.TheVariants.{LaneOut, LaneIn}
+use Rattle.hop_rule.specs.declared.step.BoardStep.TheVariants.{LaneOut, LaneIn, OutCounted}
 use Rattle.hop_rule.specs.declared.step.Change.{Change}
 use Rattle.hop_rule.specs.declared.step.Change.TheVariants.{Nothing, Offered, Pulled}
 use Rattle.hop_rule.specs.declared.step.LaneStep.{LaneStep}
@@ -43,6 +43,9 @@ module _ (p : ℕ) where
       by_step q (Counted i w) is = is
           ∙ sym (pick q p (Counted i w ∷ steps_of p es) (steps_of p es)
           (λ l. lane_steps l ≡ lane_steps (steps_of p es)) (λ _. refl) (λ _. refl))
+      by_step q (OutCounted i w) is = is
+          ∙ sym (pick q p (OutCounted i w ∷ steps_of p es) (steps_of p es)
+          (λ l. lane_steps l ≡ lane_steps (steps_of p es)) (λ _. refl) (λ _. refl))
       by_step q (LaneOut i) is = is
           ∙ sym (pick q p (LaneOut i ∷ steps_of p es) (steps_of p es)
           (λ l. lane_steps l ≡ lane_steps (steps_of p es)) (λ _. refl) (λ _. refl))
@@ -70,6 +73,9 @@ module _ (p : ℕ) where
           (λ l. gate_steps l ≡ gate_steps (steps_of p es)) (λ _. refl) (λ _. refl))
       by_step q (Counted i w) is = is
           ∙ sym (pick q p (Counted i w ∷ steps_of p es) (steps_of p es)
+          (λ l. gate_steps l ≡ gate_steps (steps_of p es)) (λ _. refl) (λ _. refl))
+      by_step q (OutCounted i w) is = is
+          ∙ sym (pick q p (OutCounted i w ∷ steps_of p es) (steps_of p es)
           (λ l. gate_steps l ≡ gate_steps (steps_of p es)) (λ _. refl) (λ _. refl))
       by_step q (LaneOut i) is = is
           ∙ sym (pick q p (LaneOut i ∷ steps_of p es) (steps_of p es)

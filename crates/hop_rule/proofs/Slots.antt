@@ -9,7 +9,7 @@ use Rattle.linearization.proofs.ListLemmas.{if_same, if_other}
 use Rattle.hop_rule.specs.declared.sizes.BoardSizes.{BoardSizes}
 use Rattle.hop_rule.specs.declared.step.BoardStep.{BoardStep}
 use Rattle.hop_rule.specs.declared.step.BoardStep.TheVariants.{Lane, Gate, Weighed, Counted}
-use Rattle.hop_rule.specs.declared.step.BoardStep.TheVariants.{LaneOut, LaneIn}
+use Rattle.hop_rule.specs.declared.step.BoardStep.TheVariants.{LaneOut, LaneIn, OutCounted}
 use Rattle.hop_rule.specs.declared.step.LaneStep.{LaneStep}
 use Rattle.hop_rule.specs.declared.step.LaneStep.TheVariants.{Held, Missed, Freed, OutHeld}
 use Rattle.hop_rule.specs.declared.step.LaneStep.TheVariants.{OutMissed, OutFreed, Given, Retired}
@@ -111,6 +111,7 @@ module _ (about : BoardSizes) (l : ℕ) (held : List (StepBy LaneStep) → ℕ) 
       by_step q (Gate d) may t = same q (Gate d) es (λ s. refl) refl t
       by_step q (Weighed i w) may t = same q (Weighed i w) es (λ s. refl) refl t
       by_step q (Counted i w) may t = same q (Counted i w) es (λ s. refl) refl t
+      by_step q (OutCounted i w) may t = same q (OutCounted i w) es (λ s. refl) refl t
       by_step q (LaneOut i) may t = dite (ℕ_discrete i l)
           (λ e. let mine = (t.own q
           (ap is_out (ap (λ z. own_state about z (steps_of q es)) (sym e) ∙ may.1))).0 in

@@ -11,7 +11,7 @@ use Rattle.linearization.proofs.ViewLemmas.{steps_of_own, steps_of_other}
 use Rattle.hop_rule.specs.declared.sizes.BoardSizes.{BoardSizes}
 use Rattle.hop_rule.specs.declared.step.BoardStep.{BoardStep}
 use Rattle.hop_rule.specs.declared.step.BoardStep.TheVariants.{Lane, Gate, Weighed, Counted}
-use Rattle.hop_rule.specs.declared.step.BoardStep.TheVariants.{LaneOut, LaneIn}
+use Rattle.hop_rule.specs.declared.step.BoardStep.TheVariants.{LaneOut, LaneIn, OutCounted}
 use Rattle.hop_rule.specs.declared.step.GateStep.{GateStep}
 use Rattle.hop_rule.specs.declared.step.GateStep.TheVariants.{Entered, Turned, Left, Shut, NotShut}
 use Rattle.hop_rule.specs.declared.step.GateStep.TheVariants.{Opened, Set, Read}
@@ -88,6 +88,7 @@ module _ (about : BoardSizes) (order : List (StepBy BoardStep)) (lawful : IsLawf
         by_step p (Gate d) is here there = by_gate p d is here there
         by_step p (Weighed i w) is here there = absurd (true≢false (sym here ∙ there))
         by_step p (Counted i w) is here there = absurd (true≢false (sym here ∙ there))
+        by_step p (OutCounted i w) is here there = absurd (true≢false (sym here ∙ there))
         by_step p (LaneOut i) is here there = absurd (true≢false (sym here ∙ there))
         by_step p (LaneIn i) is here there = absurd (true≢false (sym here ∙ there))
 
@@ -129,6 +130,7 @@ module _ (about : BoardSizes) (order : List (StepBy BoardStep)) (lawful : IsLawf
         by_step p (Gate d) m s = by_gate p d m s
         by_step p (Weighed i w) m s = is
         by_step p (Counted i w) m s = is
+        by_step p (OutCounted i w) m s = is
         by_step p (LaneOut i) m s = is
         by_step p (LaneIn i) m s = is
 
@@ -166,6 +168,7 @@ module _ (about : BoardSizes) (order : List (StepBy BoardStep)) (lawful : IsLawf
         by_step (Gate d) n = by_gate d n
         by_step (Weighed i w) n = is
         by_step (Counted i w) n = is
+        by_step (OutCounted i w) n = is
         by_step (LaneOut i) n = is
         by_step (LaneIn i) n = is
 
@@ -222,6 +225,7 @@ module _ (about : BoardSizes) (order : List (StepBy BoardStep)) (lawful : IsLawf
         by_step k p (Gate d) is from to here = by_gate k p d is from to here
         by_step k p (Weighed l w) is from to here = here
         by_step k p (Counted l w) is from to here = here
+        by_step k p (OutCounted l w) is from to here = here
         by_step k p (LaneOut l) is from to here = here
         by_step k p (LaneIn l) is from to here = here
 

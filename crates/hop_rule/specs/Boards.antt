@@ -11,7 +11,7 @@ use Rattle.hop_rule.specs.declared.sizes.BoardSizes.{BoardSizes}
 use Rattle.hop_rule.specs.declared.step.Change.TheVariants.{Offered}
 use Rattle.hop_rule.specs.declared.step.BoardStep.{BoardStep}
 use Rattle.hop_rule.specs.declared.step.BoardStep.TheVariants.{Lane, Gate, Weighed, Counted}
-use Rattle.hop_rule.specs.declared.step.BoardStep.TheVariants.{LaneOut, LaneIn}
+use Rattle.hop_rule.specs.declared.step.BoardStep.TheVariants.{LaneOut, LaneIn, OutCounted}
 use Rattle.hop_rule.specs.declared.step.LaneStep.{LaneStep}
 use Rattle.hop_rule.specs.declared.step.LaneStep.TheVariants.{Held, Freed, OutHeld, OutFreed, Given}
 use Rattle.hop_rule.specs.declared.step.GateStep.{GateStep}
@@ -114,6 +114,7 @@ module _ (about : BoardSizes) where
   MayCome p es (Gate d) = gates.MayCome about p (gates_of es) d
   MayCome p es (Weighed l w) = (l < about.lanes) × (w ≡ lanes.head_word about l (lanes_of es))
   MayCome p es (Counted l w) = (l < about.lanes) × (w ≡ lanes.lane_word about l (lanes_of es))
+  MayCome p es (OutCounted o w) = (o < about.outs) × (w ≡ lanes.out_word about o (lanes_of es))
   MayCome p es (LaneOut k) =
       (k < about.lanes + about.outs) × (own_state k (steps_of p es) ≡ taken)
   MayCome p es (LaneIn k) =
@@ -154,3 +155,11 @@ module _ (about : BoardSizes) where
   -- The value of each setting after an order.
   abbrev pub settings : List (StepBy BoardStep) → ℕ → ℕ
   settings es = gates.settings about (gates_of es)
+
+-- ---- the two parts of a lawful order
+
+-- The steps at lanes in a lawful order are lawful by themselves, and so are those at the gate.
+abbrev pub PartsAreLawful : Type 0
+PartsAreLawful =
+    (about : BoardSizes) (order : List (StepBy BoardStep)) → IsLawful about order
+    → lanes.AreLawful about (lanes_of order) × gates.AreLawful about (gates_of order)

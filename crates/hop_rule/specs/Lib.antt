@@ -13,4 +13,5 @@ pub mod Owns
 pub mod PutLaws
 pub mod SettingLaws
 pub mod Sizes
+pub mod TailLaws
 pub mod Unlawful

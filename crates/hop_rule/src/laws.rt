@@ -1,4 +1,5 @@
 //! Lemmas on every lawful order of steps. The functions have no code.
+ghost use Rattle.hop_rule.specs.Boards.{PartsAreLawful};
 ghost use Rattle.hop_rule.specs.Events.{BeginsFresh, EachStepIsAnEvent};
 ghost use Rattle.hop_rule.specs.LaneLaws.{EachRetireFollows, HeadsFollowDeliveries};
 ghost use Rattle.hop_rule.specs.LaneLaws.{MiddleLanesAreHeldByOne, OutLanesAreHeldByOne};
@@ -13,10 +14,17 @@ ghost use Rattle.hop_rule.specs.SettingLaws.{EmptiedLanesStandFirst, GateWordCou
 ghost use Rattle.hop_rule.specs.SettingLaws.{HeadsAreBelowTails, NoSetWhileInside};
 ghost use Rattle.hop_rule.specs.SettingLaws.{SettingsAreTheClosers, VisitsAreNumbered};
 ghost use Rattle.hop_rule.specs.SettingLaws.{VisitsReadSettings, VisitsShowSettings};
+ghost use Rattle.hop_rule.specs.TailLaws.{LoadedTailsAreAccepted, LoadedTailsAreDelivered};
 
 /// Lemma: each of a seat's own steps is a step of the order, at moments that rise along its list.
 pub fn own_steps_stand_in_the_order()
     ensures { OwnStepsHaveMoments }
+{}
+
+/// Lemma: in a lawful order the steps at lanes are lawful by themselves, and so are those at the
+/// gate.
+pub fn parts_of_an_order_are_lawful()
+    ensures { PartsAreLawful }
 {}
 
 /// Lemma: the gate's word is the sum of the open visits of all seats, the closed mark and the
@@ -72,6 +80,13 @@ pub fn lanes_deliver_in_order()
 pub fn a_loaded_head_was_passed()
     ensures retires { LoadedHeadsAreRetires }
     ensures passed { LoadedHeadsArePassed }
+{}
+
+/// Lemma: the loaded word of a lane counts the packets that the lane had accepted, and that of an
+/// out lane those delivered to it; there are no fewer in the end.
+pub fn loaded_tails_count_packets()
+    ensures accepted { LoadedTailsAreAccepted }
+    ensures delivered { LoadedTailsAreDelivered }
 {}
 
 /// Lemma: settings are made by the closer, and none while a seat is inside. A visit reads those

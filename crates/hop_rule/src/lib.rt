@@ -12,8 +12,9 @@ pub use laws::{
     a_held_lane_is_as_its_holder_found_it, a_loaded_head_was_passed,
     a_visit_sees_one_list_of_settings, an_emptied_lane_stands_first,
     deliveries_and_places_are_one_to_one, drops_are_explained, each_step_is_one_event_or_none,
-    heads_follow_deliveries, lanes_deliver_in_order, own_steps_stand_in_the_order,
-    puts_and_positions_are_one_to_one, the_gate_word_counts_visits,
+    heads_follow_deliveries, lanes_deliver_in_order, loaded_tails_count_packets,
+    own_steps_stand_in_the_order, parts_of_an_order_are_lawful, puts_and_positions_are_one_to_one,
+    the_gate_word_counts_visits,
 };
 pub use out_lane::OutLane;
 pub use sizes::{BoardSizes, MAX_BOARD_ROOM, MAX_OPENINGS};

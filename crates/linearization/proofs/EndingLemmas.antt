@@ -14,8 +14,12 @@ use Rattle.linearization.specs.Views.{hand}
 use Rattle.linearization.specs.Rules.{Views, Ordered}
 use Rattle.atomic_table.specs.Seated.{TableId}
 use Rattle.linearization.specs.Seats.{SeatView, HasPart, IsByOne, ArePartsOf, HasOnce, AreNumbered}
-use Rattle.linearization.specs.Closings.{hands_of, seats_with, Ends}
+use Rattle.linearization.specs.Closings.{seats_with, Ends}
 use Rattle.linearization.proofs.PigeonholeLemmas.{AreApart, all_there}
+
+-- the hands of a list of seats
+abbrev pub hands_of : {D : Type 0} → List (SeatView D) → List (Hand D)
+hands_of {D} seats = map (λ (s : SeatView D). hand s.number s.steps) seats
 
 number_is : {D : Type 0} (seats : List (SeatView D)) (k q : ℕ) → k < length seats
     → get_or (map (λ (s : SeatView D). s.number) seats) k q ≡ (get_or (hands_of seats) k

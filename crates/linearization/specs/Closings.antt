@@ -5,12 +5,7 @@ use lib.ListN.{get_elem?}
 use Rattle.atomic_table.specs.Seated.{TableId}
 use Rattle.linearization.specs.declared.hands.Hand.{Hand}
 use Rattle.linearization.specs.Orders.{StepBy, AreBySeats}
-use Rattle.linearization.specs.Views.{hand}
 use Rattle.linearization.specs.Seats.{SeatView, seat_view, ArePartsOf, AreNumbered}
-
--- The hands of a list of seats.
-abbrev pub hands_of : {D : Type 0} → List (SeatView D) → List (Hand D)
-hands_of {D} seats = map (λ (s : SeatView D). hand s.number s.steps) seats
 
 -- The seats of a table that have these hands.
 abbrev pub seats_with : {D : Type 0} → TableId → List (Hand D) → List (SeatView D)

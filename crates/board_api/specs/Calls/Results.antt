@@ -15,7 +15,7 @@ use Rattle.hop_rule.specs.OutLanes.{OutList}
 use Rattle.hop_rule.specs.declared.sizes.BoardSizes.{BoardSizes}
 use Rattle.hop_rule.specs.declared.step.BoardStep.{BoardStep}
 use Rattle.hop_rule.specs.declared.step.BoardStep.TheVariants.{Lane, Gate, Weighed, Counted}
-use Rattle.hop_rule.specs.declared.step.BoardStep.TheVariants.{LaneOut, LaneIn}
+use Rattle.hop_rule.specs.declared.step.BoardStep.TheVariants.{LaneOut, LaneIn, OutCounted}
 use Rattle.hop_rule.specs.declared.step.Change.{Change}
 use Rattle.hop_rule.specs.declared.step.Change.TheVariants.{Nothing, Offered, Pulled}
 use Rattle.hop_rule.specs.declared.step.GateStep.TheVariants.{Entered, Turned, Left, Shut}
@@ -57,6 +57,18 @@ EnterTells old new (enter.Closed word) =
 abbrev pub WeighTells : ℕ → Seat → Seat → ℕ → Type 0
 WeighTells lane old new answer =
     (word : ℕ) × (answer ≡ low_half word) × Adds (Weighed lane word ∷ []) old new
+
+-- ---- words of lanes
+
+-- The step of a load of a lane's word, with the word that was found.
+abbrev pub CountedAt : LaneId → ℕ → BoardStep
+CountedAt (id.Middle l) word = Counted l word
+CountedAt (id.Out o) word = OutCounted o word
+
+-- The tail is that of the word that was loaded.
+abbrev pub TailTells : LaneId → Seat → Seat → ℕ → Type 0
+TailTells lane old new answer =
+    (word : ℕ) × (answer ≡ tail_in word) × Adds (CountedAt lane word ∷ []) old new
 
 -- ---- holds
 

@@ -1,6 +1,6 @@
 -- What follows from loads of heads and of lanes' words, and from lanes that were found empty.
 use Rattle.std.specs.Prelude.{◌≡◌, ◌↔◌, ℕ, ◌+◌, ◌/◌, ◌<◌, ◌≤◌, List, Some, length}
-use Rattle.history.specs.Lists.{lane_at}
+use Rattle.history.specs.Lists.{lane_at, list_at}
 use Rattle.hop_rule.specs.Boards.{gate_steps}
 use Rattle.hop_rule.specs.Deliveries.{Delivery}
 use Rattle.hop_rule.specs.Gates.{inside, openings, opened, own_settings, visit}
@@ -9,8 +9,9 @@ use Rattle.hop_rule.specs.Sizes.{closer, puller}
 use Rattle.hop_rule.specs.declared.sizes.BoardSizes.{BoardSizes}
 use Rattle.hop_rule.specs.declared.step.BoardStep.{BoardStep}
 use Rattle.hop_rule.specs.declared.step.BoardStep.TheVariants.{Gate, Weighed, Counted}
+use Rattle.hop_rule.specs.declared.step.BoardStep.TheVariants.{OutCounted}
 use Rattle.hop_rule.specs.declared.step.GateStep.TheVariants.{Entered, Opened, Read, Shut}
-use Rattle.board_api.specs.OwnSteps.{Has, delivered_by, visit_before}
+use Rattle.board_api.specs.OwnSteps.{Has, ReadsIn, delivered_by, visit_before}
 use Rattle.board_api.specs.Laws.Puts.{WasPut}
 use Rattle.board_api.specs.StepWords.{low_half, openings_in, tail_in}
 use Rattle.board_api.specs.declared.lists.BoardLists.{BoardLists}
@@ -35,6 +36,24 @@ module _ (about : BoardSizes) (own : ℕ → List BoardStep) (lists : BoardLists
       → Has (own q) k (Counted l tail)
       → (head ≤ tail / 2)
       × (tail / 2 ≤ about.start + length (lane_at lists.lanes l).accepted)
+
+  -- The words that one seat loads of one middle lane never count fewer packets, and none counts
+  -- more than the lane accepted in the end.
+  pub record TailsRise : Type 0 where
+    pub rise : (q j k l before word : ℕ) → j < k → Has (own q) j (Counted l before)
+        → Has (own q) k (Counted l word) → before / 2 ≤ word / 2
+    pub from_start : (q k l word : ℕ) → Has (own q) k (Counted l word) → about.start ≤ word / 2
+    pub reached : (q k l word : ℕ) → Has (own q) k (Counted l word)
+        → word / 2 ≤ about.start + length (lane_at lists.lanes l).accepted
+
+  -- The words that one seat loads of one out lane never count fewer packets, and none counts more
+  -- than were delivered to it in the end.
+  pub record OutTailsRise : Type 0 where
+    pub rise : (q j k o before word : ℕ) → j < k → Has (own q) j (OutCounted o before)
+        → Has (own q) k (OutCounted o word) → before / 2 ≤ word / 2
+    pub from_start : (q k o word : ℕ) → Has (own q) k (OutCounted o word) → about.start ≤ word / 2
+    pub reached : (q k o word : ℕ) → Has (own q) k (OutCounted o word)
+        → word / 2 ≤ about.start + length (list_at lists.outs o)
 
   -- Each packet that a loaded head counts was delivered, and is in its out lane below each that the
   -- seat put to any lane after the load and that went to the same out lane.
@@ -69,6 +88,14 @@ module _ (about : BoardSizes) (own : ℕ → List BoardStep) (lists : BoardLists
         (opened (visit_before (own q) k) (gate_steps (own (closer about)))) i
     pub by_closer : (k i v : ℕ) → Has (own (closer about)) k (Gate (Read i v))
         → v ≡ own_settings about (gate_steps (past k (own (closer about)))) i
+
+  -- What is read in a visit with some number is the setting after the closer's own sets before that
+  -- opening; so visits with one number, of one seat or of two, read one value of each setting.
+  pub record NumberedReadsAreSettings : Type 0 where
+    pub reads : (q number i v : ℕ) → ReadsIn (own q) number i v
+        → v ≡ own_settings about (opened number (gate_steps (own (closer about)))) i
+    pub alike : (p q number i v w : ℕ) → ReadsIn (own p) number i v → ReadsIn (own q) number i w
+        → v ≡ w
 
   -- ---- lanes that were found empty
 

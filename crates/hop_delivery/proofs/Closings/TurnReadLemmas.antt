@@ -1,9 +1,8 @@
--- What a turn reads is of the settings of its visit.
-use Rattle.std.proofs.Common.{◌≡◌, ℕ, zero, suc, ◌-◌, List, [], ◌∷◌, ◌++◌}
+-- What a turn knows is of the settings of its visit.
+use Rattle.std.proofs.Common.{◌≡◌, ℕ, zero, suc, inl, inr, List, [], ◌∷◌, ◌++◌}
 use Rattle.std.proofs.Common.{length, drop, Some, None, sym, refl, ap, ◌∙◌, subst}
 use Rattle.std.proofs.Common.{arith, append_assoc, length-append}
 use Rattle.std.specs.List.{Contains, cons_option}
-use Rattle.std.proofs.Math.Seq.{drop-append_seam}
 use Rattle.std.proofs.lemmas.List.Elements.{filter_map-append}
 use mathlib.Core.Logic.{dite}
 use native.Mathlib.Decide.{ℕ_discrete}
@@ -19,14 +18,15 @@ use Rattle.hop_rule.specs.declared.step.BoardStep.{BoardStep}
 use Rattle.hop_rule.specs.declared.step.BoardStep.TheVariants.{Gate}
 use Rattle.hop_rule.specs.declared.step.GateStep.TheVariants.{Entered, Left, Read}
 use Rattle.hop_rule.proofs.Lists.{none-some, some-is}
-use Rattle.hop_rule.proofs.Moments.{nth-old}
-use Rattle.board_api.specs.Laws.Heads.{ReadsAreSettings}
+use Rattle.hop_rule.proofs.Moments.{nth-between, past-between}
+use Rattle.board_api.specs.Laws.Heads.{NumberedReadsAreSettings, ReadsAreSettings}
 use Rattle.board_api.specs.OwnSteps.{Has}
+use Rattle.board_api.specs.StepWords.{openings_in}
 use Rattle.board_api.specs.declared.lists.BoardLists.{BoardLists}
 use Rattle.board_api.proofs.AddedSteps.{quiet_steps_stay}
 use Rattle.hop_delivery.specs.Orders.Runs.{settings_of_visit}
 use Rattle.hop_delivery.specs.Orders.Turns.{Turn, Explained, turn_put, visit_with}
-use Rattle.hop_delivery.specs.Closings.TurnReads.{HasRead, TurnsReadSettings}
+use Rattle.hop_delivery.specs.Closings.TurnReads.{HasRead, TurnsKnowSettings}
 
 -- ---- a member splits its list
 
@@ -36,23 +36,6 @@ split-at [] x (k, less, at) = absurd (omega arith)
 split-at (y ∷ xs) x (zero, less, at) = ([], xs, ap (λ z. z ∷ xs) at)
 split-at (y ∷ xs) x (suc k, less, at) =
     let t = split-at xs x (k, omega arith, at) in (y ∷ t.0, t.1, ap (λ zs. y ∷ zs) t.2)
-
-nth-split : {X : Type 0} (front : List X) (x : X) (back : List X)
-    → nth_step (front ++ x ∷ back) (length back) ≡ Some x
-nth-split front x back =
-    nth-old front (x ∷ back) (length back) (omega arith)
-    ∙ if_same (length back) (length back) (Some x) (nth_step back (length back)) refl
-
-past-split : {X : Type 0} (front : List X) (x : X) (back : List X)
-    → past (length back) (front ++ x ∷ back) ≡ back
-past-split front x back =
-    let whole : front ++ x ∷ back ≡ (front ++ x ∷ []) ++ back =
-    sym (append_assoc front (x ∷ []) back) in
-    let size = length-append (front ++ x ∷ []) back in
-    let same = ap length whole in
-    let n : length (front ++ x ∷ back) - length back ≡ length (front ++ x ∷ []) = omega arith in
-    ap (λ k. drop k (front ++ x ∷ back)) n
-    ∙ (ap (drop (length (front ++ x ∷ []))) whole ∙ drop-append_seam (front ++ x ∷ []) back)
 
 -- a later part of a quiet list is quiet
 quiet-back : (front back : List BoardStep) (d : BoardStep) → visit_in d ≡ None
@@ -86,9 +69,9 @@ module _ (about : BoardSizes) (own : ℕ → List BoardStep) (lists : BoardLists
       let whole : own q ≡ front ++ reading ∷ back = list ∙ joined t.0 t.1 t.2 in
       let k : ℕ = length back in
       let does : Has (own q) k reading =
-      ap (λ ds. nth_step ds k) whole ∙ nth-split front reading back in
+      ap (λ ds. nth_step ds k) whole ∙ nth-between front reading back in
       let before : past k (own q) ≡ back =
-      ap (past k) whole ∙ past-split front reading back in
+      ap (past k) whole ∙ past-between front reading back in
       let stays = quiet_steps_stay t.1 begun
       (quiet-back t.0 t.1 reading refl (ap visits_of (sym t.2) ∙ quiet)) in
       law.in_visit q k word value does (ap (λ ds. visit (gate_steps ds)) before ∙ stays.place)
@@ -152,8 +135,11 @@ module _ (about : BoardSizes) (own : ℕ → List BoardStep) (lists : BoardLists
       further
       (ap (λ z. nth_step z i) (sym (if_other t.by p (t.step ∷ others) others other)) ∙ at))
 
-pub turns_read : (about : BoardSizes) (own : ℕ → List BoardStep) (lists : BoardLists)
-    → ReadsAreSettings about own lists → TurnsReadSettings about own lists
-turns_read about own lists law t p i word value u explained at has =
+pub turns_know : (about : BoardSizes) (own : ℕ → List BoardStep) (lists : BoardLists)
+    → ReadsAreSettings about own lists → NumberedReadsAreSettings about own lists
+    → TurnsKnowSettings about own lists
+turns_know about own lists law numbered t p i word value u explained at (inl has) =
     let q : ℕ = t.seat p in
     turn_among about own lists law q word value [] (own q) (t.turns q) refl explained p i u at has
+turns_know about own lists law numbered t p i word value u explained at (inr kept) =
+    numbered.reads (t.seat p) (openings_in u.word) word value kept

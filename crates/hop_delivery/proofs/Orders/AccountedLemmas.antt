@@ -26,7 +26,7 @@ use Rattle.hop_rule.specs.Sizes.{FitSizes, closer}
 use Rattle.hop_rule.specs.declared.sizes.BoardSizes.{BoardSizes}
 use Rattle.hop_rule.specs.declared.step.BoardStep.{BoardStep}
 use Rattle.hop_rule.specs.declared.step.BoardStep.TheVariants.{Lane, Gate, Weighed, Counted}
-use Rattle.hop_rule.specs.declared.step.BoardStep.TheVariants.{LaneOut, LaneIn}
+use Rattle.hop_rule.specs.declared.step.BoardStep.TheVariants.{LaneOut, LaneIn, OutCounted}
 use Rattle.hop_rule.specs.declared.step.Change.TheVariants.{Offered}
 use Rattle.hop_rule.specs.declared.step.GateStep.{GateStep}
 use Rattle.hop_rule.specs.declared.step.GateStep.TheVariants.{Entered, Turned, Left, Shut, NotShut}
@@ -34,7 +34,7 @@ use Rattle.hop_rule.specs.declared.step.GateStep.TheVariants.{Opened, Set, Read}
 use Rattle.hop_rule.specs.declared.step.LaneStep.TheVariants.{Freed, Given}
 use Rattle.hop_rule.proofs.Lists.{get-inside, none-some}
 use Rattle.hop_rule.proofs.Moments.{nth-inside, nth-last, nth-old, nth-some, past-all, past-old}
-use Rattle.hop_rule.proofs.Moments.{step-inside}
+use Rattle.hop_rule.proofs.Moments.{nth-first, nth-member, past-next, step-inside}
 use Rattle.hop_rule.proofs.Numbers.{rise, none_between}
 use Rattle.hop_rule.proofs.Openings.{settings_are_the_closers, visits_show_settings}
 use Rattle.hop_rule.proofs.Boards.{lawful_past}
@@ -49,7 +49,6 @@ use Rattle.hop_delivery.specs.Orders.Turns.{Turn, turn_put}
 use Rattle.hop_delivery.proofs.Orders.AccountLemmas.{Account, IsAccount, IsRuled, HasVisit}
 use Rattle.hop_delivery.proofs.Orders.AccountLemmas.{WasLoaded, chosen}
 use Rattle.hop_delivery.proofs.Orders.TurnLemmas.{Places, VisitAt, turns_have_places, nth-split}
-use Rattle.hop_delivery.proofs.Orders.TurnLemmas.{nth-first}
 
 -- the last change of a size, by the sizes up to a choice
 since-same : (f g : ℕ → ℕ) (i : ℕ) → ((j : ℕ) → j ≤ i → f j ≡ g j)
@@ -69,14 +68,6 @@ get-place xs ys i j x a b = let u = get-inside xs i x a in let v = get-inside ys
 -- ---- numbers of members
 
 module _ {A : Type 0} where
-  contains_at : (xs : List A) (k : ℕ) (d : A) → k < length xs → (j : ℕ)
-      × (nth_step xs j ≡ Some (get_or xs k d))
-  contains_at [] k d l = absurd (omega arith)
-  contains_at (y ∷ ys) zero d l = (length ys, nth-last y ys)
-  contains_at (y ∷ ys) (suc k) d l =
-      let t = contains_at ys k d (omega arith) in
-      (t.0, nth-old (y ∷ []) ys t.0 (nth-inside ys t.0 (get_or ys k d) t.1) ∙ t.1)
-
   pub nth-all : (P : A → Type 0) (xs : List A) (j : ℕ) (x : A) → All P xs → nth_step xs j ≡ Some x
       → P x
   nth-all P [] j x all at = none-some x at
@@ -101,16 +92,6 @@ module _ {A : Type 0} where
       nth-past xs (suc k) k (omega arith)
       ∙ (ap (λ zs. nth_step zs k) is
       ∙ (ap (nth_step (x ∷ past k xs)) (sym n) ∙ nth-last x (past k xs)))
-
-  past-next : (xs : List A) (k : ℕ) (x : A) → nth_step xs k ≡ Some x
-      → past (suc k) xs ≡ x ∷ past k xs
-  past-next [] k x at = none-some x at
-  past-next (y ∷ ys) k x at = elim (nth-first y ys k x at) [
-    | inl old ↦ (let l = nth-inside ys k x old in past-old y ys (suc k) (omega arith)
-        ∙ (past-next ys k x old ∙ ap (λ zs. x ∷ zs) (sym (past-old y ys k (omega arith)))))
-    | inr new ↦ (let e = new.1 in past-all (y ∷ ys) (suc k) (omega arith)
-        ∙ (λ i. new.0 i ∷ sym (past-old y ys k (omega arith) ∙ past-all ys k (omega arith)) i))
-  ]
 
 -- the numbers of the first part of a list come after those of the second
 nth-new : (xs ys : List BoardStep) (j : ℕ) (d : BoardStep) → nth_step xs j ≡ Some d
@@ -151,6 +132,7 @@ opened_has (d ∷ ds) j at = elim (nth-first d ds j (Gate Opened) at) [
     by_step (Lane s) more = more
     by_step (Weighed l w) more = more
     by_step (Counted l w) more = more
+    by_step (OutCounted l w) more = more
     by_step (LaneOut k) more = more
     by_step (LaneIn k) more = more
 
@@ -364,8 +346,8 @@ module _ (about : BoardSizes) (order : List (StepBy BoardStep)) (t : Story) (r :
         → WasLoaded about order account r p i l number
     unfolding put_at
     was_loaded l w number has shows =
-        let j = contains_at u.early has.0 (Weighed l w) has.1 in
-        let e = visit.early j.0 (Weighed l w) (j.1 ∙ ap Some has.2) in
+        let e = visit.early (length u.early - suc has.0) (Weighed l w)
+        (nth-member u.early has.0 (Weighed l w) has.1 ∙ ap Some has.2) in
         record {
           moment = moment_of q order e.0;
           word = w;

@@ -12,7 +12,7 @@ use Rattle.hop_rule.specs.Owns.{own_of}
 use Rattle.hop_rule.specs.declared.sizes.BoardSizes.{BoardSizes}
 use Rattle.hop_rule.specs.declared.step.BoardStep.{BoardStep}
 use Rattle.hop_rule.proofs.Lists.{none-some}
-use Rattle.hop_delivery.proofs.Orders.TurnLemmas.{nth-first}
+use Rattle.hop_rule.proofs.Moments.{nth-first}
 
 -- a number of no seat has the empty list
 pub own_empty : (about : BoardSizes) (order : List (StepBy BoardStep)) → IsLawful about order

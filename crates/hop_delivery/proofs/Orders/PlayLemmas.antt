@@ -18,7 +18,7 @@ use Rattle.hop_rule.specs.declared.sizes.BoardSizes.{BoardSizes}
 use Rattle.hop_rule.specs.declared.sizes.TheConstants.{MAX_OPENINGS}
 use Rattle.hop_rule.specs.declared.step.BoardStep.{BoardStep}
 use Rattle.hop_rule.specs.declared.step.BoardStep.TheVariants.{Lane, Gate, Weighed, Counted}
-use Rattle.hop_rule.specs.declared.step.BoardStep.TheVariants.{LaneOut, LaneIn}
+use Rattle.hop_rule.specs.declared.step.BoardStep.TheVariants.{LaneOut, LaneIn, OutCounted}
 use Rattle.hop_rule.specs.declared.step.Change.{Change}
 use Rattle.hop_rule.specs.declared.step.Change.TheVariants.{Nothing, Offered, Pulled}
 use Rattle.hop_rule.specs.declared.step.GateStep.{GateStep}
@@ -132,6 +132,7 @@ module _ (about : BoardSizes) where
   comes p es (Gate d) t = gate_comes p (gates_of es) d t
   comes p es (Weighed l w) t = (ltb-true _ _ t.0, t.1)
   comes p es (Counted l w) t = (ltb-true _ _ t.0, t.1)
+  comes p es (OutCounted o w) t = t
   comes p es (LaneOut k) t = t
   comes p es (LaneIn k) t = t
 

@@ -17,7 +17,7 @@ use Rattle.hop_rule.specs.declared.step.Change.TheVariants.{Offered}
 use Rattle.hop_rule.specs.declared.step.GateStep.TheVariants.{Entered, Left}
 use Rattle.hop_rule.specs.declared.step.LaneStep.TheVariants.{Freed}
 use Rattle.hop_rule.proofs.Lists.{some-is, none-some}
-use Rattle.hop_rule.proofs.Moments.{nth-inside, nth-last, nth-old}
+use Rattle.hop_rule.proofs.Moments.{nth-first, nth-inside, nth-last, nth-old}
 use Rattle.hop_delivery.specs.Orders.Turns.{Turn, turn_put, AreQuiet, Explained, visit_with}
 
 -- ---- steps of a list in parts
@@ -44,12 +44,6 @@ module _ {A : Type 0} where
               new.2,
             ))
       ])
-
-  pub nth-first : (y : A) (ys : List A) (k : ℕ) (x : A) → nth_step (y ∷ ys) k ≡ Some x
-      → (nth_step ys k ≡ Some x) ⊎ ((y ≡ x) × (k ≡ length ys))
-  nth-first y ys k x at = dite (ℕ_discrete (length ys) k)
-      (λ e. inr (some-is y x (sym (if_same (length ys) k (Some y) (nth_step ys k) e) ∙ at), sym e))
-      (λ ne. inl (sym (if_other (length ys) k (Some y) (nth_step ys k) ne) ∙ at))
 
   -- a list of which a part is looked for has it where one of its members is of that part
   pub part_has : {B : Type 0} (f : A → Option B) (xs : List A) (j : ℕ) (x : A) (y : B)

@@ -1,5 +1,6 @@
--- The settings that a turn reads, and choices by what was read.
-use Rattle.std.specs.Prelude.{◌≡◌, ℕ, ◌%◌, ◌^◌, ◌<◌, ◌≤◌, true, List, Option, Some, take, drop}
+-- The settings that a turn knows, and choices by what it knows.
+use Rattle.std.specs.Prelude.{◌≡◌, ◌⊎◌, ℕ, ◌*◌, ◌%◌, ◌^◌, ◌<◌, ◌≤◌, true, List, Option, Some, take}
+use Rattle.std.specs.Prelude.{drop}
 use Rattle.std.specs.List.{Contains}
 use Rattle.steer_base.specs.Choices.{migrate}
 use Rattle.steer_base.specs.Entries.{entry, of_class, current_lane}
@@ -10,11 +11,14 @@ use Rattle.hop_rule.specs.declared.sizes.BoardSizes.{BoardSizes}
 use Rattle.hop_rule.specs.declared.step.BoardStep.{BoardStep}
 use Rattle.hop_rule.specs.declared.step.BoardStep.TheVariants.{Gate, Weighed}
 use Rattle.hop_rule.specs.declared.step.GateStep.TheVariants.{Read}
+use Rattle.board_api.specs.OwnSteps.{ReadsIn}
+use Rattle.board_api.specs.StepWords.{openings_in}
 use Rattle.board_api.specs.declared.lists.BoardLists.{BoardLists}
 use Rattle.hop_delivery.specs.Orders.ReceiveSettings.{Queues, queues, receive_steering}
 use Rattle.hop_delivery.specs.Orders.ReceiveSettings.{flows_word, mask_word, online_word}
 use Rattle.hop_delivery.specs.Orders.Runs.{Story, Steering, IsByRule, goal_of, settings_of_visit}
 use Rattle.hop_delivery.specs.Orders.Runs.{turns_of}
+use Rattle.hop_delivery.specs.Orders.TransmitSettings.{pick_by}
 use Rattle.hop_delivery.specs.Orders.Turns.{Turn, Explained}
 use Rattle.hop_delivery.specs.Closings.FlowLaw.{accepted_left}
 
@@ -22,21 +26,28 @@ use Rattle.hop_delivery.specs.Closings.FlowLaw.{accepted_left}
 abbrev pub HasRead : Turn → ℕ → ℕ → Type 0
 HasRead u word value = Contains u.early (Gate (Read word value))
 
+-- A turn of a seat with these steps knows this value of a setting word: it read it, or the seat has
+-- kept it from another visit with the same number.
+abbrev pub Knows : List BoardStep → Turn → ℕ → ℕ → Type 0
+Knows own u word value = HasRead u word value ⊎ ReadsIn own (openings_in u.word) word value
+
 module _ (about : BoardSizes) (own : ℕ → List BoardStep) (lists : BoardLists) where
-  -- The settings that a turn reads are those of its visit.
-  abbrev pub TurnsReadSettings : Type 0
-  TurnsReadSettings =
+  -- The settings that a turn knows are those of its visit.
+  abbrev pub TurnsKnowSettings : Type 0
+  TurnsKnowSettings =
       (t : Story) (p i word value : ℕ) (u : Turn)
       → Explained (own (t.seat p)) (t.turns (t.seat p)) → nth_step (turns_of t p) i ≡ Some u
-      → HasRead u word value → value ≡ settings_of_visit about own u.word word
+      → Knows (own (t.seat p)) u word value → value ≡ settings_of_visit about own u.word word
 
 -- ---- receive boards
 
--- A turn of queue p read its mask, its flow count and the online mask, and these are as in s.
-pub record HasSeen (q : Queues) (p : ℕ) (u : Turn) (s : ℕ → ℕ) : Type 0 where
-  pub mask : HasRead u (mask_word q p) (s (mask_word q p))
-  pub flows : HasRead u (flows_word q p) (s (flows_word q p))
-  pub online : HasRead u (online_word q) (s (online_word q))
+-- A turn of queue p, of a seat with these steps, knows the queue's mask, its flow count and the
+-- online mask, and these are as in s.
+pub record HasSeen (own : List BoardStep) (q : Queues) (p : ℕ) (u : Turn) (s : ℕ → ℕ)
+    : Type 0 where
+  pub mask : Knows own u (mask_word q p) (s (mask_word q p))
+  pub flows : Knows own u (flows_word q p) (s (flows_word q p))
+  pub online : Knows own u (online_word q) (s (online_word q))
 
 module _ (about : BoardSizes) (accepted : ℕ → List ℕ) (t : Story) (r : Steering)
     (seen : ℕ → ℕ → ℕ) where
@@ -80,6 +91,23 @@ module _ (about : BoardSizes) (own : ℕ → List BoardStep) (lists : BoardLists
       (q : Queues) (t : Story) (seen : ℕ → ℕ → ℕ) (p i : ℕ) (u : Turn) → p < queues q
       → Explained (own (t.seat p)) (t.turns (t.seat p)) → nth_step (turns_of t p) i ≡ Some u
       → ((j : ℕ) (v : Turn) → j ≤ i → nth_step (turns_of t p) j ≡ Some v
-      → HasSeen q p v (seen j))
+      → HasSeen (own (t.seat p)) q p v (seen j))
       → IsBySeen about (accepted_left lists) t (receive_steering q) seen p i u
       → IsByRule about own (accepted_left lists) t (receive_steering q) p i u
+
+-- ---- transmit boards
+
+-- A turn of a seat with these steps knows the maps of so many transmit queues, and these are as in
+-- s.
+abbrev pub KnowsMaps : List BoardStep → ℕ → Turn → (ℕ → ℕ) → Type 0
+KnowsMaps own count u s = (word : ℕ) → word < 2 * count → Knows own u word (s word)
+
+module _ (about : BoardSizes) (own : ℕ → List BoardStep) (lists : BoardLists) where
+  -- The transmit queue that is picked by the maps that a turn knows is picked by those of its visit.
+  abbrev pub PicksAreByReads : Type 0
+  PicksAreByReads =
+      (t : Story) (p i count : ℕ) (u : Turn) (s : ℕ → ℕ)
+      → Explained (own (t.seat p)) (t.turns (t.seat p)) → nth_step (turns_of t p) i ≡ Some u
+      → KnowsMaps (own (t.seat p)) count u s → (rxq cpu : ℕ) (hash : Option ℕ)
+      → pick_by count s rxq cpu hash
+      ≡ pick_by count (settings_of_visit about own u.word) rxq cpu hash

@@ -3,15 +3,14 @@
 use Rattle.std.specs.Prelude.{ℕ, ◌+◌, List, [], ◌∷◌, Option, length}
 use Rattle.backlog.specs.Puts.{put_answer}
 use Rattle.linearization.specs.Orders.{StepBy, step_by}
-use Rattle.hop_rule.specs.Boards.{gates_of, lane_at, lanes_of, out, settings}
+use Rattle.hop_rule.specs.Boards.{gates_of, lane_at, lanes_of, out}
 use Rattle.hop_rule.specs.Gates.{gate_word}
 use Rattle.hop_rule.specs.Lanes.{head_word, lane_word, out_content, out_word}
 use Rattle.hop_rule.specs.declared.sizes.BoardSizes.{BoardSizes}
 use Rattle.hop_rule.specs.declared.step.BoardStep.{BoardStep}
 use Rattle.hop_rule.specs.declared.step.BoardStep.TheVariants.{Lane, Gate, Weighed, Counted}
-use Rattle.hop_rule.specs.declared.step.BoardStep.TheVariants.{LaneIn, LaneOut}
 use Rattle.hop_rule.specs.declared.step.Change.TheVariants.{Offered, Pulled}
-use Rattle.hop_rule.specs.declared.step.GateStep.TheVariants.{Entered, Left, Opened, Read, Set}
+use Rattle.hop_rule.specs.declared.step.GateStep.TheVariants.{Entered, Left, Opened, Set}
 use Rattle.hop_rule.specs.declared.step.GateStep.TheVariants.{Shut}
 use Rattle.hop_rule.specs.declared.step.LaneStep.TheVariants.{Freed, Given, Held, OutHeld, Retired}
 
@@ -52,10 +51,6 @@ module _ (about : BoardSizes) where
   abbrev pub sets : ℕ → ℕ → ℕ → Move
   sets p i v es = step_by p (Gate (Set i v))
 
-  -- The seat p reads the setting i.
-  abbrev pub reads : ℕ → ℕ → Move
-  reads p i es = step_by p (Gate (Read i (settings about es i)))
-
   -- ---- at the lane l
 
   -- The seat p loads the head of the lane l.
@@ -69,14 +64,6 @@ module _ (about : BoardSizes) where
   -- The seat p takes the lane l.
   abbrev pub holds : ℕ → ℕ → Move
   holds p l es = step_by p (Lane (Held l (lane_word about l (lanes_of es)) (lane_at about es l)))
-
-  -- The seat p moves the lane out of the slot k.
-  abbrev pub moves_out : ℕ → ℕ → Move
-  moves_out p k es = step_by p (LaneOut k)
-
-  -- The seat p moves the lane into the slot k.
-  abbrev pub moves_in : ℕ → ℕ → Move
-  moves_in p k es = step_by p (LaneIn k)
 
   -- The seat p puts a packet with this hash to the lane l.
   abbrev pub puts : ℕ → ℕ → ℕ → Option ℕ → Move

@@ -1,4 +1,4 @@
-use Rattle.hop_board.specs.Makings.{setting_step}
+use Rattle.hop_board.proofs.Acts.{setting_step}
 use Rattle.hop_board.proofs.board.Board.change.Given as goal
 
 abbrev pub ghosts-store_as : goal.ghosts-store_as

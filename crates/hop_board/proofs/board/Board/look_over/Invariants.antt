@@ -1,4 +1,4 @@
-use Rattle.hop_board.specs.Emptying.{LooksBelow}
+use Rattle.hop_board.proofs.Looks.{LooksBelow}
 use Rattle.hop_board.proofs.board.Board.look_over.Given as goal
 
 abbrev pub invariant-loop-lane : goal.invariant-loop-lane

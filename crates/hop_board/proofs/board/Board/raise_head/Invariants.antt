@@ -1,4 +1,4 @@
-use Rattle.hop_board.specs.Makings.{raised}
+use Rattle.hop_board.proofs.Acts.{raised}
 use Rattle.hop_board.proofs.board.Board.raise_head.Given as goal
 
 abbrev pub ghosts-add_as : goal.ghosts-add_as
