@@ -1,4 +1,4 @@
-pub mod Puts
+pub mod OwnTables
 pub mod Choices
 pub mod EmptiedLanes
 pub mod Calls
@@ -8,6 +8,5 @@ pub mod Drops
 pub mod BusyLanes
 pub mod Commands
 pub mod Ends
-pub mod Standing
 pub mod Replies
 pub mod GoodRuns

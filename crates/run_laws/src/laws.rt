@@ -10,22 +10,14 @@ ghost use Rattle.run_laws.specs.Laws.Ends.{AllAreSent, LanesAreDone, PutsEnd, To
 ghost use Rattle.run_laws.specs.Laws.GoodRuns.{RunsAreGood};
 ghost use Rattle.run_laws.specs.Laws.Heads.{HeadsFollow};
 ghost use Rattle.run_laws.specs.Laws.Orders.{InboxesFollow};
-ghost use Rattle.run_laws.specs.Laws.Puts.{AnswersArePlaces, TablesAreEntries, TablesRule};
-ghost use Rattle.run_laws.specs.Laws.Puts.{TurnsPutOnce};
+ghost use Rattle.run_laws.specs.Laws.OwnTables.{TablesAreEntries, TablesRule};
 ghost use Rattle.run_laws.specs.Laws.Replies.{RepliesFollow};
-ghost use Rattle.run_laws.specs.Laws.Standing.{PacketsStand};
 
-/// Lemma: no packet is put twice, the answer of a put is its packet's place, and a table that was
-/// told of each turn has the entries of the lists.
-pub fn packets_are_put_once()
-    ensures once { TurnsPutOnce }
-    ensures places { AtEachClosing AnswersArePlaces }
-    ensures tables { AtEachClosing TablesAreEntries }
-{}
-
-/// Lemma: a choice by a producer's own table is by the rule over the entries of the lists.
+/// Lemma: a table that was told of each of its producer's turns has the entries of the lists, so a
+/// choice by it is by the rule over these.
 pub fn own_tables_rule()
-    ensures { AtEachClosing TablesRule }
+    ensures entries { AtEachClosing TablesAreEntries }
+    ensures rule { AtEachClosing TablesRule }
 {}
 
 /// Lemma: each choice is by the rule with the settings after the commands up to the opening that
@@ -42,12 +34,6 @@ pub fn heads_are_rising()
 /// Lemma: each drop has its cause, and the counts that drops keep never fall.
 pub fn drops_are_explained()
     ensures { AtEachClosing DropsFollow }
-{}
-
-/// Lemma: each accepted and each dropped packet has a turn that chose its lane, and none stands
-/// twice.
-pub fn packets_stand_once()
-    ensures { AtEachClosing PacketsStand }
 {}
 
 /// Lemma: each setting of the controller found the lanes empty that it affects.

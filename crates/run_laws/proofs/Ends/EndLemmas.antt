@@ -25,7 +25,7 @@ use Rattle.hop_rule.specs.Moments.{nth_step}
 use Rattle.hop_rule.specs.Sizes.{puller}
 use Rattle.hop_rule.specs.declared.sizes.BoardSizes.{BoardSizes}
 use Rattle.hop_rule.specs.declared.step.BoardStep.{BoardStep}
-use Rattle.hop_rule.specs.declared.step.BoardStep.TheVariants.{Lane, Gate, Weighed, Counted, LaneOut, LaneIn}
+use Rattle.hop_rule.specs.declared.step.BoardStep.TheVariants.{Lane, Gate, Weighed, Counted, OutCounted, LaneOut, LaneIn}
 use Rattle.hop_rule.specs.declared.step.LaneStep.TheVariants.{Held, Missed, Freed, OutHeld, OutMissed, OutFreed, Given, Retired}
 use Rattle.hop_rule.proofs.Lists.{none-some, some-is}
 use Rattle.hop_rule.proofs.Moments.{nth-inside, nth-old, nth-some}
@@ -87,6 +87,7 @@ delivered-step l (Lane (Retired i word)) g is = none-some g is
 delivered-step l (Gate d) g is = none-some g is
 delivered-step l (Weighed i word) g is = none-some g is
 delivered-step l (Counted i word) g is = none-some g is
+delivered-step l (OutCounted o word) g is = none-some g is
 delivered-step l (LaneOut k) g is = none-some g is
 delivered-step l (LaneIn k) g is = none-some g is
 

@@ -1,5 +1,5 @@
 -- What the applications keep gives turns of all choices for replies, by the rule.
-use Rattle.std.proofs.Common.{◌≡◌, ◌≢◌, ◌⊎◌, inl, inr, ℕ, zero, suc, ◌+◌, ◌/◌, ◌^◌, ◌<◌, ◌≤◌, ◌&&◌, Bool}
+use Rattle.std.proofs.Common.{◌≡◌, ◌≢◌, ◌⊎◌, inl, inr, ℕ, zero, suc, ◌+◌, ◌*◌, ◌/◌, ◌^◌, ◌<◌, ◌≤◌, ◌&&◌, Bool}
 use Rattle.std.proofs.Common.{true, false, List, [], ◌∷◌, ◌++◌, Option, Some, None, length, map, All, sym}
 use Rattle.std.proofs.Common.{refl, ap, ◌∙◌, subst, arith}
 use Rattle.std.specs.Prelude.{nat_lt, slice_get, slice_index, slice_index_or}
@@ -42,7 +42,8 @@ use Rattle.run_laws.specs.Ties.Applications.{FitTransmitWords, WasFoundAt}
 use Rattle.run_laws.specs.Ties.Inputs.{AreTransmitWords, NamesTransmitQueues}
 use Rattle.run_laws.specs.Ties.Runs.{TransmitTies}
 use Rattle.run_laws.specs.Ties.Tries.{Try, at_transmit, settings_by, tries_up_to}
-use Rattle.run_laws.specs.Ties.Turns.{AreTurnsOf, ArriveOnce}
+use Rattle.hop_delivery.specs.Closings.PutPlaces.{AreTurnsOf}
+use Rattle.run_laws.proofs.Runs.TurnListLemmas.{ArriveOnce}
 use Rattle.run_laws.proofs.Lists.PlaceLemmas.{StandOnce, at_index}
 use Rattle.run_laws.proofs.Runs.FactLemmas.{BoardFacts}
 use Rattle.run_laws.proofs.Runs.PutTurnLemmas.{put-of, turn-at}
@@ -193,11 +194,11 @@ module _ (i : Input) (h : History) (rx : BoardSizes) (rx_own : ℕ → List Boar
     abbrev n : ℕ
     n = u.word / 2 ^ 32
 
-    read-is : (word : ℕ) → word < count + count → seen a k word ≡ shown n word
+    read-is : (word : ℕ) → word < 2 * count → seen a k word ≡ shown n word
     read-is word less =
-        facts.turns_read t a k word (seen a k word) u
+        facts.turns_know t a k word (seen a k word) u
         (ties.applications.turns.explained (t.seat a)) at
-        (ties.applications.reads a k word u at less)
+        (ties.applications.knows a k u at word less)
 
     seen-maps : AreTransmitWords count (after n) (seen a k)
     seen-maps =

@@ -28,16 +28,17 @@ use Rattle.board_api.proofs.OwnLanes.{deliveries_have_places, holds_find_fronts,
 use Rattle.board_api.proofs.OwnLanes.{lanes_are_served_by_one}
 use Rattle.board_api.proofs.OwnPuts.{accepted_were_put, drops_were_put, puts_stand}
 use Rattle.board_api.proofs.OwnTimes.{step_is, when}
-use Rattle.board_api.proofs.OwnVisits.{reads_are_settings, visit_numbers_rise}
+use Rattle.board_api.proofs.OwnVisits.{numbered_reads_are_settings, reads_are_settings}
+use Rattle.board_api.proofs.OwnVisits.{visit_numbers_rise}
 use Rattle.hop_delivery.specs.Closings.FlowLaw.{FlowsAreInOrder}
-use Rattle.hop_delivery.specs.Closings.TurnReads.{RulesAreByReads, TurnsReadSettings}
+use Rattle.hop_delivery.specs.Closings.TurnReads.{RulesAreByReads, TurnsKnowSettings}
 use Rattle.hop_delivery.proofs.Closings.FlowLemmas.{flows_in_order}
 use Rattle.hop_delivery.proofs.Closings.RuleLemmas.{rules_by_reads}
-use Rattle.hop_delivery.proofs.Closings.TurnReadLemmas.{turns_read}
-use Rattle.run_laws.specs.Laws.Puts.{AnswersArePlaces, TablesRule}
-use Rattle.run_laws.specs.Laws.Standing.{PacketsStand}
-use Rattle.run_laws.proofs.Turns.PutLemmas.{answers_are_places, tables_are_entries}
-use Rattle.run_laws.proofs.Turns.StandingLemmas.{packets_stand}
+use Rattle.hop_delivery.proofs.Closings.TurnReadLemmas.{turns_know}
+use Rattle.hop_delivery.specs.Closings.PutPlaces.{AnswersArePlaces, PacketsStand}
+use Rattle.hop_delivery.proofs.Closings.PutPlaceLemmas.{answers_are_places, packets_stand}
+use Rattle.run_laws.specs.Laws.OwnTables.{TablesRule}
+use Rattle.run_laws.proofs.Turns.TableEntryLemmas.{tables_are_entries}
 use Rattle.run_laws.proofs.Turns.TableLemmas.{tables_rule}
 
 -- a delivery is from a lane of the board to an out lane of the board
@@ -76,7 +77,7 @@ pub record BoardFacts (about : BoardSizes) (own : ℕ → List BoardStep) (lists
   pub below : HeadsAreBelowTails about own lists
   pub visits : VisitNumbersRise about own lists
   pub reads : ReadsAreSettings about own lists
-  pub turns_read : TurnsReadSettings about own lists
+  pub turns_know : TurnsKnowSettings about own lists
   pub rules : RulesAreByReads about own lists
   pub order : FlowsAreInOrder about own lists
   pub answers : AnswersArePlaces about own lists
@@ -91,7 +92,8 @@ facts_of about order fit lawful =
     let stand = puts_stand about order lawful in
     let were = accepted_were_put about order lawful in
     let read = reads_are_settings about order fit lawful in
-    let by_turn = turns_read about own lists read in
+    let by_turn = turns_know about own lists read
+    (numbered_reads_are_settings about order fit lawful) in
     let answers = answers_are_places about own lists stand were in
     record {
       fit = fit;
@@ -112,7 +114,7 @@ facts_of about order fit lawful =
       below = heads_are_below about order lawful;
       visits = visit_numbers_rise about order fit lawful;
       reads = read;
-      turns_read = by_turn;
+      turns_know = by_turn;
       rules = rules_by_reads about own lists by_turn;
       order = flows_in_order about order lawful fit;
       answers = answers;

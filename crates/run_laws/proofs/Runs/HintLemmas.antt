@@ -69,7 +69,7 @@ use Rattle.run_laws.proofs.Runs.TurnListLemmas.{turn-chosen}
 use Rattle.run_laws.proofs.Tries.OpeningLemmas.{settings_of_opening}
 use Rattle.run_laws.proofs.Tries.SizeLemmas.{size_by}
 use Rattle.run_laws.proofs.Tries.TryLemmas.{first-tries}
-use Rattle.run_laws.proofs.Turns.PutLemmas.{turns_put_once}
+use Rattle.hop_delivery.proofs.Closings.PutPlaceLemmas.{turns_put_once}
 
 -- a value that was loaded and is not 0 was stored
 loaded-stored : (seats : List (SeatView HintStep)) (word value : ℕ) → LoadsAreStored seats

@@ -14,7 +14,7 @@ use Rattle.hop_delivery.specs.Orders.Turns.{Turn}
 use Rattle.hop_delivery.proofs.Orders.TurnLemmas.{turns_have_places}
 use Rattle.run_laws.specs.Ties.Turns.{KeepsTurns}
 use Rattle.run_laws.proofs.Runs.TurnListLemmas.{turn-chosen, turns-counted}
-use Rattle.run_laws.proofs.Turns.PutLemmas.{nth-moment}
+use Rattle.run_laws.proofs.Turns.TableEntryLemmas.{nth-moment}
 
 module _ (own : ℕ → List BoardStep) (t : Story) (keeps : KeepsTurns own t) where
   -- each turn has its put in the own list of its seat

@@ -27,7 +27,7 @@ use Rattle.hop_rule.specs.declared.step.BoardStep.{BoardStep}
 use Rattle.hop_rule.proofs.Moments.{nth-inside}
 use Rattle.board_api.specs.declared.lists.BoardLists.{BoardLists}
 use Rattle.hop_delivery.specs.Closings.FlowLaw.{accepted_left}
-use Rattle.hop_delivery.specs.Closings.TurnReads.{HasRead}
+use Rattle.hop_delivery.specs.Closings.TurnReads.{Knows}
 use Rattle.hop_delivery.specs.Orders.Commands.{received_sets}
 use Rattle.hop_delivery.specs.Orders.Premises.{AllFindEmpty, MeetsPremises}
 use Rattle.hop_delivery.specs.Orders.ReceiveSettings.{Queues, flows_word, mask, mask_word, online}
@@ -51,7 +51,8 @@ use Rattle.run_laws.specs.Ties.Inputs.{receive_queues}
 use Rattle.run_laws.specs.Ties.Queues.{FitReceiveWords, KeepsQueues}
 use Rattle.run_laws.specs.Ties.Tries.{KeepsReceiveTries, Try, at_receive, resizes_by, settings_by}
 use Rattle.run_laws.specs.Ties.Tries.{steps_of_tries, tries_up_to}
-use Rattle.run_laws.specs.Ties.Turns.{AreTurnsOf, ArriveOnce}
+use Rattle.hop_delivery.specs.Closings.PutPlaces.{AreTurnsOf}
+use Rattle.run_laws.proofs.Runs.TurnListLemmas.{ArriveOnce}
 use Rattle.run_laws.proofs.Lists.PlaceLemmas.{AreNumbered, arrived_once, arrived_within, at_index}
 use Rattle.run_laws.proofs.Runs.FactLemmas.{BoardFacts}
 use Rattle.run_laws.proofs.Runs.TurnListLemmas.{turn-arrived, turn-chosen, turns-counted}
@@ -236,18 +237,18 @@ module _ (i : Input) (h : History) (about : BoardSizes) (own : ℕ → List Boar
     less : p < queues q
     less = turn-within p k u at
 
-    read-is : (word : ℕ) → HasRead u word (z word)
+    read-is : (word : ℕ) → Knows (own (t.seat p)) u word (z word)
         → z word ≡ shown n word
     read-is word has =
-        facts.turns_read t p k word (z word) u (keeps.turns.explained (t.seat p)) at has
+        facts.turns_know t p k word (z word) u (keeps.turns.explained (t.seat p)) at has
 
     seen-online : online q z ≡ (after n).online
     seen-online =
         ap (λ w. mask w)
-        (read-is (online_word q) (keeps.reads p k u at).online ∙ (words-upto n).online)
+        (read-is (online_word q) (keeps.knows p k u at).online ∙ (words-upto n).online)
 
     pub seen-sock : z (socket_word q) ≡ (after n).sock
-    seen-sock = read-is (socket_word q) (keeps.reads_sock p k u at) ∙ (words-upto n).sock
+    seen-sock = read-is (socket_word q) (keeps.knows_sock p k u at) ∙ (words-upto n).sock
 
     pub fit-seen : FitReceiveWords q i.plan.cpus p z
     fit-seen =
@@ -256,10 +257,10 @@ module _ (i : Input) (h : History) (about : BoardSizes) (own : ℕ → List Boar
         record {
           mask =
               subst (λ m. m < 2 ^ i.plan.cpus)
-              (sym (read-is (mask_word q p) (keeps.reads p k u at).mask ∙ w.mask p less)) (f.masks p);
+              (sym (read-is (mask_word q p) (keeps.knows p k u at).mask ∙ w.mask p less)) (f.masks p);
           flows =
               subst (λ m. m % 2 ^ 32 ≤ MAX_FLOW_COUNT)
-              (sym (read-is (flows_word q p) (keeps.reads p k u at).flows ∙ w.flows p less))
+              (sym (read-is (flows_word q p) (keeps.knows p k u at).flows ∙ w.flows p less))
               (low (slice_index (after n).counts p) (resizes_by p (upto n)) (w.small p less)
               (f.counts p));
           sock = subst (λ m. m ≤ MAX_SOCKET_SIZE)
@@ -281,7 +282,7 @@ module _ (i : Input) (h : History) (about : BoardSizes) (own : ℕ → List Boar
     pub rule-of : IsByRule about own (accepted_left lists) t r p k u
     rule-of =
         facts.rules q t (seen p) p k u less (keeps.turns.explained (t.seat p)) at
-        (λ j v early there. keeps.reads p j v there)
+        (λ j v early there. keeps.knows p j v there)
         (facts.tables t r (seen p) p k u are-turns (keeps.turns.journal p)
         (goals_are_online q z p (r.flow u.chosen.id)
         (r.class (r.shape z p) (r.flow u.chosen.id)) u.chosen.choice.want less home-online)

@@ -37,7 +37,7 @@ use Rattle.run_laws.specs.Laws.Choices.{ChoicesHaveTurns, commands_before}
 use Rattle.run_laws.specs.Ties.Inputs.{receive_queues}
 use Rattle.run_laws.specs.Ties.Runs.{IsOfInput, KeepsCommands, ReceiveTies}
 use Rattle.run_laws.specs.Ties.Tries.{Try}
-use Rattle.run_laws.specs.Ties.Turns.{AreTurnsOf}
+use Rattle.hop_delivery.specs.Closings.PutPlaces.{AreTurnsOf}
 use Rattle.run_laws.proofs.Ends.InboxLemmas.{inboxes_follow}
 use Rattle.run_laws.proofs.Lists.PlaceLemmas.{AreNumbered, StandOnce, apart_from, at_in, once_from}
 use Rattle.run_laws.proofs.Runs.FactLemmas.{BoardFacts}

@@ -19,6 +19,7 @@ use Rattle.history.specs.declared.history.History.{History}
 use Rattle.history.specs.declared.lane_list.LaneList.{LaneList}
 use Rattle.hop_core.specs.Hop.{nobody}
 use Rattle.hop_rule.specs.Moments.{nth_step}
+use Rattle.hop_rule.specs.Owns.{PutMade}
 use Rattle.hop_rule.specs.Sizes.{puller}
 use Rattle.hop_rule.specs.declared.sizes.BoardSizes.{BoardSizes}
 use Rattle.hop_rule.specs.declared.step.BoardStep.{BoardStep}
@@ -41,7 +42,7 @@ use Rattle.run_laws.specs.Laws.Ends.{WasDelivered}
 use Rattle.run_laws.specs.Ties.Inputs.{hash_of_flow, receive_queues}
 use Rattle.run_laws.specs.Ties.Runs.{IsRun}
 use Rattle.run_laws.specs.Ties.Tries.{Try, at_receive, at_transmit}
-use Rattle.run_laws.specs.Ties.Turns.{AreTurnsOf}
+use Rattle.hop_delivery.specs.Closings.PutPlaces.{AreTurnsOf}
 use Rattle.run_laws.proofs.Ends.EndLemmas as ends
 use Rattle.run_laws.proofs.Ends.OutLemmas.{all_are_sent}
 use Rattle.run_laws.proofs.Lists.OrderLemmas.{end_to_end}
@@ -56,7 +57,7 @@ use Rattle.run_laws.proofs.Tries.AnswerLemmas.{commands_follow}
 use Rattle.run_laws.proofs.Tries.BusyLemmas.{busy_lanes}
 use Rattle.run_laws.proofs.Tries.RangeLemmas.{IsWithinPlan}
 use Rattle.run_laws.proofs.Turns.HeadLemmas.{heads_of_closing}
-use Rattle.run_laws.proofs.Turns.PutLemmas.{said, turn_of}
+use Rattle.hop_delivery.proofs.Closings.PutPlaceLemmas.{said, turn_of, turns_put_once}
 use Rattle.run_laws.proofs.Turns.TableLemmas.{drops_follow}
 
 module _ (i : Input) (h : History) (run : IsRun i h) where
@@ -158,7 +159,19 @@ module _ (i : Input) (h : History) (run : IsRun i h) where
       → Has (rx_own q) k (put_step l id hash answer) → hash ≡ packet_hash (setup_in i) id
   own-hash q k l id hash answer does =
       let u = turn_of rx_own run.queues rx-turns q k l id hash answer does in
-      sym u.same_hash ∙ (run.received.queues.hashes u.producer u.index u.turn u.is
+      let lane : ℕ = u.turn.chosen.choice.lane in
+      let put = put-of rx_own run.queues run.received.queues.turns u.producer u.index u.turn u.is in
+      let seat : ℕ = run.queues.seat u.producer in
+      let here : Has (rx_own seat) put.0 (put_step lane id u.turn.hash u.turn.answer) =
+      subst (λ x. Has (rx_own seat) put.0 (put_step lane x u.turn.hash u.turn.answer)) u.same_id put.1 in
+      let same = turns_put_once rx_own run.queues rx-turns seat q put.0 k lane l id u.turn.hash hash
+      u.turn.answer answer here does in
+      let made = said lane l id id u.turn.hash hash u.turn.answer answer
+      (Rattle.hop_rule.proofs.Lists.some-is (put_step lane id u.turn.hash u.turn.answer)
+      (put_step l id hash answer)
+      (sym here ∙ ((λ j. nth_step (rx_own (same.0 j)) (same.1 j)) ∙ does))) in
+      sym (ap (λ (m : PutMade). m.hash) made)
+      ∙ (run.received.queues.hashes u.producer u.index u.turn u.is
       ∙ ap (packet_hash (setup_in i)) u.same_id)
 
   pub drops : DropsAreExplained i h

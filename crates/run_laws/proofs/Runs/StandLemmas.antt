@@ -33,8 +33,8 @@ use Rattle.board_api.specs.declared.lists.BoardLists.{BoardLists}
 use Rattle.hop_delivery.specs.Closings.FlowLaw.{accepted_left}
 use Rattle.hop_delivery.specs.Orders.Runs.{Story, turns_of}
 use Rattle.hop_delivery.specs.Orders.Turns.{Turn}
-use Rattle.run_laws.specs.Laws.Standing.{HasTurn, PacketsStandOnce}
-use Rattle.run_laws.specs.Ties.Turns.{AreTurnsOf, KeepsTurns}
+use Rattle.hop_delivery.specs.Closings.PutPlaces.{AreTurnsOf, HasTurn, PacketsStandOnce}
+use Rattle.run_laws.specs.Ties.Turns.{KeepsTurns}
 use Rattle.run_laws.proofs.Lists.PlaceLemmas.{StandOnce, among_at, at_in, choice_at, drop_at}
 use Rattle.run_laws.proofs.Lists.PlaceLemmas.{in_at, joined_stand}
 use Rattle.run_laws.proofs.Runs.FactLemmas.{BoardFacts}
@@ -73,7 +73,7 @@ module _ (about : BoardSizes) (own : ℕ → List BoardStep) (lists : BoardLists
     (once : (p q j k x : ℕ) → slice_get (t.arrivals p) j ≡ Some x
     → slice_get (t.arrivals q) k ≡ Some x → (p ≡ q) × (j ≡ k))
     (choices : List (List Chosen)) (journals : (p : ℕ) → list_at choices p ≡ t.choices p) where
-  abbrev stands : PacketsStandOnce lists t
+  abbrev stands : PacketsStandOnce about own lists t
   stands = facts.packets t turns
 
   -- ---- choices

@@ -37,7 +37,7 @@ use Rattle.hop_rule.specs.Moments.{nth_step}
 use Rattle.hop_rule.specs.Sizes.{closer}
 use Rattle.hop_rule.specs.declared.sizes.BoardSizes.{BoardSizes}
 use Rattle.hop_rule.specs.declared.step.BoardStep.{BoardStep}
-use Rattle.hop_rule.specs.declared.step.BoardStep.TheVariants.{Lane, Gate, Weighed, Counted, LaneOut, LaneIn}
+use Rattle.hop_rule.specs.declared.step.BoardStep.TheVariants.{Lane, Gate, Weighed, Counted, OutCounted, LaneOut, LaneIn}
 use Rattle.hop_rule.specs.declared.step.GateStep.TheVariants.{Entered, Turned, Left, Shut, NotShut, Opened, Set, Read}
 use Rattle.hop_rule.proofs.Lists.{none-some, some-is}
 use Rattle.board_api.specs.Laws.Puts.{PutStands}
@@ -97,6 +97,7 @@ no-change-asks about flow before (Gate (Read w v)) = tt
 no-change-asks about flow before (Lane d) = tt
 no-change-asks about flow before (Weighed l w) = tt
 no-change-asks about flow before (Counted l w) = tt
+no-change-asks about flow before (OutCounted o w) = tt
 no-change-asks about flow before (LaneOut k) = tt
 no-change-asks about flow before (LaneIn k) = tt
 
@@ -117,7 +118,7 @@ module _ (i : Input) (h : History) (rx : BoardSizes) (rx_own : ℕ → List Boar
   abbrev r : Steering
   r = transmit_steering (flow_number_of (setup_in i))
 
-  pub turns : Rattle.run_laws.specs.Ties.Turns.AreTurnsOf own t
+  pub turns : Rattle.hop_delivery.specs.Closings.PutPlaces.AreTurnsOf own t
   turns =
       apps.are-turns i h rx rx_own rx_lists rx_facts inboxes inboxes_stand about own lists facts tries
       t seen within ties

@@ -2,7 +2,7 @@
 use Rattle.std.proofs.Common.{◌≡◌, ◌≢◌, inl, inr, ℕ, zero, suc, ◌+◌, ◌<◌, ◌≤◌, ◌==◌, Bool, true, false}
 use Rattle.std.proofs.Common.{List, [], ◌∷◌, ◌++◌, Option, Some, None, length, map, sym, refl, ap, ◌∙◌}
 use Rattle.std.proofs.Common.{subst, arith, length-append}
-use Rattle.std.specs.Prelude.{slice_get}
+use Rattle.std.specs.Prelude.{slice_get, slice_index}
 use Rattle.std.specs.Option.{option_map}
 use Rattle.std.proofs.lemmas.Bool.{cases_eq, eq-eqb, ne_eqb}
 use Rattle.std.proofs.lemmas.List.{length-map}
@@ -47,6 +47,12 @@ nth-oldest (x ∷ xs) i =
           ∙ (nth-oldest xs i
           ∙ sym (if_other (length xs) i (Some x) (nth_step xs i) (λ e. ne (sym e))))
     ]
+
+-- no packet arrives twice, at any producers
+abbrev pub ArriveOnce : Story → Type 0
+ArriveOnce t =
+    (p q i j : ℕ) → i < length (t.arrivals p) → j < length (t.arrivals q)
+    → slice_index (t.arrivals p) i ≡ slice_index (t.arrivals q) j → (p ≡ q) × (i ≡ j)
 
 module _ (own : ℕ → List BoardStep) (t : Story) (keeps : KeepsTurns own t) where
   -- as many turns as choices

@@ -11,7 +11,7 @@ use Rattle.hop_rule.specs.Boards.{gate_steps}
 use Rattle.hop_rule.specs.Gates.{openings, own_settings}
 use Rattle.hop_rule.specs.declared.sizes.BoardSizes.{BoardSizes}
 use Rattle.hop_rule.specs.declared.step.BoardStep.{BoardStep}
-use Rattle.hop_rule.specs.declared.step.BoardStep.TheVariants.{Lane, Gate, Weighed, Counted, LaneOut, LaneIn}
+use Rattle.hop_rule.specs.declared.step.BoardStep.TheVariants.{Lane, Gate, Weighed, Counted, OutCounted, LaneOut, LaneIn}
 use Rattle.hop_rule.specs.declared.step.GateStep.TheVariants.{Entered, Turned, Left, Shut, NotShut, Opened, Set, Read}
 use Rattle.board_api.specs.Calls.Results.{IsEmpty, Looked, lanes_in, looking}
 use Rattle.hop_delivery.specs.Orders.Commands.{AreAffected, SettingChange, received_sets}
@@ -140,6 +140,7 @@ module _ (about : BoardSizes) (r : Steering) where
   finds-none before (Lane d) quiet = tt
   finds-none before (Weighed l w) quiet = tt
   finds-none before (Counted l w) quiet = tt
+  finds-none before (OutCounted o w) quiet = tt
   finds-none before (LaneOut k) quiet = tt
   finds-none before (LaneIn k) quiet = tt
 

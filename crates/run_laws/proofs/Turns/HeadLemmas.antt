@@ -32,7 +32,7 @@ use Rattle.hop_delivery.proofs.Orders.TurnLemmas.{Places, VisitAt, turns_have_pl
 use Rattle.hop_delivery.specs.Closings.FlowLaw.{accepted_left}
 use Rattle.steer_model.specs.Good.Choices.{HeadsRise, lane_seen}
 use Rattle.run_laws.proofs.Tries.BusyLemmas.{shown}
-use Rattle.run_laws.proofs.Turns.PutLemmas.{nth-moment}
+use Rattle.run_laws.proofs.Turns.TableEntryLemmas.{nth-moment}
 use Rattle.run_laws.proofs.Turns.ChoiceLemmas.{get-or}
 use Rattle.run_laws.specs.Laws.Heads.{HeadsFollow}
 

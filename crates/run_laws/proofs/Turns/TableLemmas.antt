@@ -37,11 +37,12 @@ use Rattle.steer_model.specs.Good.Inputs.{Input, setup_in}
 use Rattle.steer_model.specs.State.Setup.{packet_hash}
 use Rattle.run_laws.proofs.Tries.OpeningLemmas.{all-later}
 use Rattle.run_laws.specs.Laws.Drops.{DropsFollow}
-use Rattle.run_laws.specs.Laws.Puts.{TablesAreEntries, TablesRule}
+use Rattle.run_laws.specs.Laws.OwnTables.{TablesAreEntries, TablesRule}
 use Rattle.run_laws.specs.Ties.Boards.{IsReceiveBoard}
 use Rattle.run_laws.specs.Ties.OwnTables.{IsByTable, as_told, table_before}
 use Rattle.run_laws.specs.Ties.Tries.{oldest_first}
-use Rattle.run_laws.specs.Ties.Turns.{AreTurnsOf, IsTurnOf}
+use Rattle.hop_delivery.specs.Closings.PutPlaces.{AreTurnsOf}
+use Rattle.run_laws.specs.Ties.Turns.{IsTurnOf}
 
 migrate-entries : (class want : Option ℕ) (desired : ℕ) (xs ys : ℕ → Entry) (head : ℕ → ℕ)
     (online : ℕ → Bool) → ((k : ℕ) → class ≡ Some k → xs k ≡ ys k)

@@ -10,7 +10,7 @@ use Rattle.hop_rule.specs.declared.step.BoardStep.{BoardStep}
 use Rattle.hop_rule.specs.declared.step.BoardStep.TheVariants.{Lane}
 use Rattle.hop_rule.specs.declared.step.LaneStep.TheVariants.{OutHeld}
 use Rattle.board_api.specs.OwnSteps.{Has}
-use Rattle.hop_delivery.specs.Closings.TurnReads.{HasRead}
+use Rattle.hop_delivery.specs.Closings.TurnReads.{KnowsMaps}
 use Rattle.hop_delivery.specs.Orders.Runs.{Story, turns_of}
 use Rattle.hop_delivery.specs.Orders.TransmitSettings.{pick_by, transmit_steering}
 use Rattle.hop_delivery.specs.Orders.Turns.{Turn}
@@ -37,7 +37,7 @@ pub record FitTransmitWords (cpus queues count : ℕ) (s : ℕ → ℕ) : Type 0
 module _ (i : Input) (h : History) (rx_own : ℕ → List BoardStep) (about : BoardSizes)
     (own : ℕ → List BoardStep) where
   -- The journals of the applications, by the turns that explain the workers' own lists at the
-  -- transmit board. An application found its k-th reply's packet in its inbox. The k-th turn read
+  -- transmit board. An application found its k-th reply's packet in its inbox. The k-th turn knows
   -- all maps; if they are within their ranges, it wants the queue that they pick. Its choice is by
   -- the application's own table. In the end each application has a list of each kind.
   pub record KeepsApplications (t : Story) (seen : ℕ → ℕ → ℕ → ℕ) : Type 0 where
@@ -49,8 +49,8 @@ module _ (i : Input) (h : History) (rx_own : ℕ → List BoardStep) (about : Bo
     pub choices : (a : ℕ) → list_at h.tx_choices a ≡ t.choices a
     pub found : (a k : ℕ) (s : Sent) → slice_get (list_at h.sent a) k ≡ Some s
         → WasFoundAt rx_own a k s.id
-    pub reads : (a k word : ℕ) (u : Turn) → nth_step (turns_of t a) k ≡ Some u
-        → word < length i.plan.tx + length i.plan.tx → HasRead u word (seen a k word)
+    pub knows : (a k : ℕ) (u : Turn) → nth_step (turns_of t a) k ≡ Some u
+        → KnowsMaps (own (t.seat a)) (length i.plan.tx) u (seen a k)
     pub picks : (a k : ℕ) (u : Turn) (s : Sent) → nth_step (turns_of t a) k ≡ Some u
         → slice_get (list_at h.sent a) k ≡ Some s
         → FitTransmitWords i.plan.cpus (length i.plan.queues) (length i.plan.tx) (seen a k)

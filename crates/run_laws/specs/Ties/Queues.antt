@@ -6,7 +6,7 @@ use Rattle.history.specs.declared.history.History.{History}
 use Rattle.hop_rule.specs.Moments.{nth_step}
 use Rattle.hop_rule.specs.declared.sizes.BoardSizes.{BoardSizes}
 use Rattle.hop_rule.specs.declared.step.BoardStep.{BoardStep}
-use Rattle.hop_delivery.specs.Closings.TurnReads.{HasRead, HasSeen}
+use Rattle.hop_delivery.specs.Closings.TurnReads.{HasSeen, Knows}
 use Rattle.hop_delivery.specs.Orders.ReceiveSettings.{Queues, flows_word, mask_word, online_word}
 use Rattle.hop_delivery.specs.Orders.ReceiveSettings.{queues, receive_steering, socket_word}
 use Rattle.hop_delivery.specs.Orders.Runs.{Story, turns_of}
@@ -27,7 +27,7 @@ pub record FitReceiveWords (q : Queues) (cpus p : ℕ) (s : ℕ → ℕ) : Type 
 
 module _ (i : Input) (h : History) (about : BoardSizes) (own : ℕ → List BoardStep) where
   -- The journals of the receive queues, by the turns that explain the workers' own lists. The k-th
-  -- turn of a queue read its settings; if they are within their ranges, its choice is by the queue's
+  -- turn of a queue knows its settings; if they are within their ranges, its choice is by the queue's
   -- own table. Each packet is put with its hash.
   pub record KeepsQueues (t : Story) (seen : ℕ → ℕ → ℕ → ℕ) : Type 0 where
     pub turns : KeepsTurns own t
@@ -38,10 +38,11 @@ module _ (i : Input) (h : History) (about : BoardSizes) (own : ℕ → List Boar
     pub taken : (p : ℕ) → slice_index h.taken p ≡ length (t.choices p)
     pub hashes : (p k : ℕ) (u : Turn) → nth_step (turns_of t p) k ≡ Some u
         → u.hash ≡ packet_hash (setup_in i) u.chosen.id
-    pub reads : (p k : ℕ) (u : Turn) → nth_step (turns_of t p) k ≡ Some u
-        → HasSeen (receive_queues i) p u (seen p k)
-    pub reads_sock : (p k : ℕ) (u : Turn) → nth_step (turns_of t p) k ≡ Some u
-        → HasRead u (socket_word (receive_queues i)) (seen p k (socket_word (receive_queues i)))
+    pub knows : (p k : ℕ) (u : Turn) → nth_step (turns_of t p) k ≡ Some u
+        → HasSeen (own (t.seat p)) (receive_queues i) p u (seen p k)
+    pub knows_sock : (p k : ℕ) (u : Turn) → nth_step (turns_of t p) k ≡ Some u
+        → Knows (own (t.seat p)) u (socket_word (receive_queues i))
+        (seen p k (socket_word (receive_queues i)))
     pub by_table : (p k : ℕ) (u : Turn) → nth_step (turns_of t p) k ≡ Some u
         → FitReceiveWords (receive_queues i) i.plan.cpus p (seen p k)
         → IsByTable about.start t (receive_steering (receive_queues i)) (seen p) p k u

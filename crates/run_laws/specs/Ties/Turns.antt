@@ -15,21 +15,6 @@ pub record KeepsTurns (own : ℕ → List BoardStep) (t : Story) : Type 0 where
   pub journal : (p : ℕ) → t.choices p ≡ map (λ u. u.chosen) (oldest_first (turns_of t p))
   pub all_chosen : (p : ℕ) → map (λ c. c.id) (t.choices p) ≡ t.arrivals p
 
--- No packet arrives twice, at any producers.
-abbrev pub ArriveOnce : Story → Type 0
-ArriveOnce t =
-    (p q i j : ℕ) → i < length (t.arrivals p) → j < length (t.arrivals q)
-    → slice_index (t.arrivals p) i ≡ slice_index (t.arrivals q) j → (p ≡ q) × (i ≡ j)
-
--- The turns explain the seats' own lists and are for arrivals, none of which comes twice: the first
--- two premises of delivery in order, but for the choices.
-pub record AreTurnsOf (own : ℕ → List BoardStep) (t : Story) : Type 0 where
-  pub once : ArriveOnce t
-  pub explained : (q : ℕ) → Explained (own q) (t.turns q)
-  pub by_seat : (q : ℕ) → All (λ (e : StepBy Turn). t.seat e.by ≡ q) (t.turns q)
-  pub arrived : (p i : ℕ) (u : Turn) → nth_step (turns_of t p) i ≡ Some u
-      → slice_get (t.arrivals p) i ≡ Some u.chosen.id
-
 -- The turn was made by the producer.
 abbrev pub IsTurnOf : Story → ℕ → Turn → Type 0
 IsTurnOf t p u = (i : ℕ) × (nth_step (turns_of t p) i ≡ Some u)
