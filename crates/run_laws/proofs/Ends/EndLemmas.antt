@@ -1,14 +1,11 @@
 -- All is done where the tallies are equal.
-use Rattle.std.proofs.Common.{◌≡◌, ◌⊎◌, inl, inr, ℕ, zero, suc, ◌+◌, ◌-◌, ◌<◌, ◌≤◌, ◌==◌, Bool, true, List, [], ◌∷◌, ◌++◌, Option, Some, None, length, map, All, if◌then◌else◌, sym, refl, ap, ◌∙◌, subst, arith, length-append}
+use Rattle.std.proofs.Common.{◌≡◌, ◌⊎◌, inl, inr, ℕ, ◌-◌, ◌<◌, true, List, [], ◌∷◌, ◌++◌, Option}
+use Rattle.std.proofs.Common.{Some, None, length, map, All, sym, refl, ap, ◌∙◌, arith}
 use Rattle.std.specs.Prelude.{slice_get}
-use Rattle.std.specs.List.{cons_option, filter_map, range_with_len}
-use Rattle.std.proofs.lemmas.List.{length-map}
+use Rattle.std.specs.List.{cons_option, filter_map}
 use Rattle.std.proofs.lemmas.List.Elements.{All-from_get_or}
-use Rattle.std.proofs.lemmas.List.FromFn.{length-range_with_len}
-use Rattle.std.proofs.lemmas.Bool.{cases_lt}
 use mathlib.Core.Logic.{dite}
 use native.Mathlib.Decide.{ℕ_discrete}
-use Rattle.linearization.specs.Orders.{StepBy}
 use Rattle.linearization.proofs.ListLemmas.{if_same, if_other}
 use Rattle.steer_base.specs.Drops.{bucket_of, lane_drop_cause}
 use Rattle.steer_base.specs.Lanes.{LaneLists}
@@ -17,26 +14,28 @@ use Rattle.steer_base.specs.declared.put.LaneDrop.{LaneDrop}
 use Rattle.steer_base.specs.declared.put.Put.{Put}
 use Rattle.backlog.specs.Puts.{put_by}
 use Rattle.history.specs.Finding.{is_in}
-use Rattle.history.specs.Lists.{drop_ids, lane_at, list_at, no_lane}
-use Rattle.history.specs.declared.lane_list.LaneList.{LaneList}
+use Rattle.history.specs.Lists.{drop_ids, lane_at, no_lane}
 use Rattle.history.proofs.FindingLemmas.{is_in-here, is_in-past}
 use Rattle.hop_rule.specs.Deliveries.{Delivery, delivery}
 use Rattle.hop_rule.specs.Moments.{nth_step}
 use Rattle.hop_rule.specs.Sizes.{puller}
 use Rattle.hop_rule.specs.declared.sizes.BoardSizes.{BoardSizes}
 use Rattle.hop_rule.specs.declared.step.BoardStep.{BoardStep}
-use Rattle.hop_rule.specs.declared.step.BoardStep.TheVariants.{Lane, Gate, Weighed, Counted, OutCounted, LaneOut, LaneIn}
-use Rattle.hop_rule.specs.declared.step.LaneStep.TheVariants.{Held, Missed, Freed, OutHeld, OutMissed, OutFreed, Given, Retired}
+use Rattle.hop_rule.specs.declared.step.BoardStep.TheVariants.{Lane, Gate, Weighed, Counted}
+use Rattle.hop_rule.specs.declared.step.BoardStep.TheVariants.{OutCounted, LaneOut, LaneIn}
+use Rattle.hop_rule.specs.declared.step.LaneStep.TheVariants.{Held, Missed, Freed, OutHeld}
+use Rattle.hop_rule.specs.declared.step.LaneStep.TheVariants.{OutMissed, OutFreed, Given, Retired}
 use Rattle.hop_rule.proofs.Lists.{none-some, some-is}
 use Rattle.hop_rule.proofs.Moments.{nth-inside, nth-old, nth-some}
 use Rattle.board_api.specs.Lists.{IsFrontOf}
-use Rattle.board_api.specs.Laws.Lanes.{DeliveriesHavePlaces, LanesAreInTurn, LanesAreServedByOne, ListsAreCounted}
+use Rattle.board_api.specs.Laws.Lanes.{DeliveriesHavePlaces, LanesAreInTurn, LanesAreServedByOne}
+use Rattle.board_api.specs.Laws.Lanes.{ListsAreCounted}
 use Rattle.board_api.specs.OwnSteps.{Has, delivered_by, delivered_in, put_step}
 use Rattle.board_api.specs.Laws.Puts.{CountsAreSums, PutsStand}
 use Rattle.board_api.specs.declared.lists.BoardLists.{BoardLists}
 use Rattle.steer_model.specs.Good.Deliveries.{IsDone}
 use Rattle.run_laws.proofs.Lists.SumLemmas.{each-equal}
-use Rattle.run_laws.specs.Laws.Ends.{TotalsSuffice, LanesAreDone, PutsEnd, WasDelivered}
+use Rattle.run_laws.specs.Laws.Ends.{TotalsSuffice, WasDelivered}
 use Rattle.run_laws.specs.Ties.Ends.{accepted_count, retired_count, AllRetired}
 
 -- ---- the n-th of some steps is a step
@@ -134,7 +133,8 @@ module _ (about : BoardSizes) (own : ℕ → List BoardStep) (lists : BoardLists
   accepted_ends l n id within at =
       let s = served l within in
       let done = (lane_done l within).delivered in
-      let inside = Rattle.hop_rule.proofs.Lists.get-inside (lane_at lists.lanes l).accepted n id at in
+      let inside = Rattle.hop_rule.proofs.Lists.get-inside (lane_at lists.lanes l).accepted n id at
+      in
       let many = s.delivered in
       let g = nth-some (delivered_by l (own (puller about l))) n (omega arith) in
       let same : g.0.id ≡ id = some-is g.0.id id (sym (s.nth_delivery n g.0 g.1) ∙ at) in

@@ -1,5 +1,6 @@
 -- Delivery in order of a history.
-use Rattle.std.proofs.Common.{◌≡◌, ◌≢◌, ℕ, ◌<◌, ◌==◌, ◌&&◌, ◌||◌, Bool, true, false, List, [], ◌∷◌, map, length, sym, refl, ap, ◌∙◌, subst, eq-eqb, ne_eqb}
+use Rattle.std.proofs.Common.{◌≡◌, ℕ, ◌==◌, ◌&&◌, ◌||◌, Bool, List, [], ◌∷◌, map, sym, refl, ap}
+use Rattle.std.proofs.Common.{◌∙◌, subst, eq-eqb, ne_eqb}
 use Rattle.std.specs.List.{list_any}
 use mathlib.Core.Logic.{dite}
 use native.Mathlib.Decide.{ℕ_discrete}
@@ -8,15 +9,14 @@ use Rattle.steer_base.specs.Orders.{InOrder}
 use Rattle.steer_base.specs.declared.put.LaneDrop.{LaneDrop}
 use Rattle.history.specs.Finding.{is_in}
 use Rattle.history.specs.Lists.{arrivals_at, list_at}
-use Rattle.history.specs.declared.history.History.{History}
 use Rattle.history.specs.declared.lane_list.LaneList.{LaneList}
 use Rattle.history.proofs.FindingLemmas.{is_in-here, is_in-past}
 use Rattle.hop_rule.specs.declared.sizes.BoardSizes.{BoardSizes}
 use Rattle.hop_rule.specs.declared.step.BoardStep.{BoardStep}
 use Rattle.board_api.specs.declared.lists.BoardLists.{BoardLists}
 use Rattle.hop_delivery.specs.Orders.DeliveryLaw.{came_by}
-use Rattle.hop_delivery.specs.Orders.ReceiveSettings.{queues, receive_steering}
-use Rattle.hop_delivery.specs.Orders.Runs.{IsSteering, Steering, Story}
+use Rattle.hop_delivery.specs.Orders.ReceiveSettings.{receive_steering}
+use Rattle.hop_delivery.specs.Orders.Runs.{IsSteering, Steering}
 use Rattle.hop_delivery.specs.Closings.FlowLaw.{FlowsAreInOrder}
 use Rattle.steer_model.specs.Good.Deliveries.{of_flow}
 use Rattle.steer_model.specs.Good.Inputs.{Input, setup_in}

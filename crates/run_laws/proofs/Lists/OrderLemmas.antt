@@ -1,8 +1,9 @@
--- Order from end to end, on lists: what arrived, what an out lane has, what was replied to, and what
+-- Order from end to end, on lists: what arrived, what an out lane has, what was replied to, and
+-- what
 -- is on the port.
-use Rattle.std.proofs.Common.{◌≡◌, ◌≢◌, inl, inr, ℕ, suc, zero, ◌&&◌, Bool, true, false, not, List, []}
+use Rattle.std.proofs.Common.{◌≡◌, inl, inr, ℕ, suc, ◌&&◌, Bool, true, false, not, List, []}
 use Rattle.std.proofs.Common.{◌∷◌, ◌++◌, get_or, sym, refl, ap, ◌∙◌, append_assoc}
-use Rattle.std.specs.Prelude.{◌==◌, if◌then◌else◌}
+use Rattle.std.specs.Prelude.{if◌then◌else◌}
 use Rattle.std.specs.List.{filter}
 use Rattle.std.proofs.lemmas.Bool.{cases_eq}
 use Rattle.std.proofs.lemmas.List.Elements.{filter-append, filter_agree}
@@ -37,7 +38,8 @@ abbrev with_head : Bool → ℕ → List ℕ → List ℕ
 with_head here x xs = if here then x ∷ xs else xs
 
 member-kept : (p : ℕ → Bool) (here : Bool) (y : ℕ) (xs : List ℕ)
-    → filter p (with_head here y xs) ≡ (if here then with_head (p y) y (filter p xs) else filter p xs)
+    → filter p (with_head here y xs)
+    ≡ (if here then with_head (p y) y (filter p xs) else filter p xs)
 member-kept p true y xs = refl
 member-kept p false y xs = refl
 
@@ -78,7 +80,8 @@ pub end_to_end : (set wider : ℕ → Bool) (arrivals inbox sent port : List ℕ
     → ((y : ℕ) → is_in y port ≡ true → set y ≡ true → wider y ≡ true)
     → ((y : ℕ) → is_in y sent ≡ true → set y ≡ true → wider y ≡ true)
     → InOrder set arrivals drops port
-end_to_end set wider arrivals inbox sent port drops tx_drops first begins none second at_port at_sent =
+end_to_end set wider arrivals inbox sent port drops tx_drops first begins none second at_port
+    at_sent =
     let kept : filter (λ x. wider x && not (was_dropped tx_drops x)) sent ≡ filter wider sent =
     filter_agree (λ x. wider x && not (was_dropped tx_drops x)) wider
     (λ x. and_not_false (wider x) (was_dropped tx_drops x) (none_dropped tx_drops x none)) sent in

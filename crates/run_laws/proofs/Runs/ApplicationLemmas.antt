@@ -1,18 +1,17 @@
 -- What the applications keep gives turns of all choices for replies, by the rule.
-use Rattle.std.proofs.Common.{◌≡◌, ◌≢◌, ◌⊎◌, inl, inr, ℕ, zero, suc, ◌+◌, ◌*◌, ◌/◌, ◌^◌, ◌<◌, ◌≤◌, ◌&&◌, Bool}
-use Rattle.std.proofs.Common.{true, false, List, [], ◌∷◌, ◌++◌, Option, Some, None, length, map, All, sym}
+use Rattle.std.proofs.Common.{◌≡◌, ◌≢◌, ◌⊎◌, inl, inr, ℕ, zero, suc, ◌+◌, ◌*◌, ◌/◌, ◌^◌, ◌<◌, ◌≤◌}
+use Rattle.std.proofs.Common.{◌&&◌, Bool}
+use Rattle.std.proofs.Common.{true, false, List, [], ◌∷◌, ◌++◌, Option, Some, None, length, map}
+use Rattle.std.proofs.Common.{All, sym}
 use Rattle.std.proofs.Common.{refl, ap, ◌∙◌, subst, arith}
 use Rattle.std.specs.Prelude.{nat_lt, slice_get, slice_index, slice_index_or}
-use Rattle.std.specs.Option.{option_map}
 use Rattle.std.proofs.lemmas.Bool.{ltb-true}
 use Rattle.std.proofs.lemmas.List.Elements.{All-cons, All-from_get_or, All-head, All-nil, All-tail}
-use Rattle.std.proofs.lemmas.Option.{get_or_from_slice_get, slice_get-get_or, slice_get-map}
-use Rattle.std.proofs.lemmas.Option.{slice_get_within}
+use Rattle.std.proofs.lemmas.Option.{slice_get-get_or}
 use Rattle.steer_base.specs.Orders.{IsPrefix}
 use Rattle.steer_base.specs.declared.choice.Chosen.{Chosen}
 use Rattle.steer_base.specs.declared.command.Command.{Command}
 use Rattle.steer_base.specs.declared.command.Command.TheVariants as give
-use Rattle.steer_base.specs.declared.cpu_mask.CpuMask.{CpuMask}
 use Rattle.history.specs.Lists.{list_at}
 use Rattle.history.specs.declared.history.History.{History}
 use Rattle.history.specs.declared.sent.Sent.{Sent}
@@ -23,8 +22,6 @@ use Rattle.hop_rule.specs.Moments.{nth_step}
 use Rattle.hop_rule.specs.Sizes.{closer}
 use Rattle.hop_rule.specs.declared.sizes.BoardSizes.{BoardSizes}
 use Rattle.hop_rule.specs.declared.step.BoardStep.{BoardStep}
-use Rattle.hop_rule.specs.declared.step.BoardStep.TheVariants.{Lane}
-use Rattle.hop_rule.specs.declared.step.LaneStep.TheVariants.{OutHeld}
 use Rattle.hop_rule.proofs.Lists.{none-some, some-is}
 use Rattle.board_api.specs.declared.lists.BoardLists.{BoardLists}
 use Rattle.hop_delivery.specs.Closings.FlowLaw.{accepted_left}
@@ -32,13 +29,12 @@ use Rattle.hop_delivery.specs.Orders.Commands.{sent_sets}
 use Rattle.hop_delivery.specs.Orders.Runs.{IsByRule, Steering, Story, settings_of_visit, turns_of}
 use Rattle.hop_delivery.specs.Orders.TransmitSettings.{pick_by, transmit_steering}
 use Rattle.hop_delivery.specs.Orders.Turns.{Turn}
-use Rattle.xps_map.specs.Maps.{no_cpus}
 use Rattle.steer_model.specs.Good.Inputs.{Input, setup_in}
 use Rattle.steer_model.specs.State.Settings.{Settings}
 use Rattle.steer_model.specs.State.Setup.{flow_number_of, packet_hash}
 use Rattle.steer_model.specs.State.Start.{initial_settings}
 use Rattle.run_laws.specs.Laws.Replies.{RepliesHaveTurns}
-use Rattle.run_laws.specs.Ties.Applications.{FitTransmitWords, WasFoundAt}
+use Rattle.run_laws.specs.Ties.Applications.{FitTransmitWords}
 use Rattle.run_laws.specs.Ties.Inputs.{AreTransmitWords, NamesTransmitQueues}
 use Rattle.run_laws.specs.Ties.Runs.{TransmitTies}
 use Rattle.run_laws.specs.Ties.Tries.{Try, at_transmit, settings_by, tries_up_to}
@@ -249,7 +245,8 @@ module _ (i : Input) (h : History) (rx : BoardSizes) (rx_own : ℕ → List Boar
     pub lane-within : u.chosen.choice.lane < about.lanes
     lane-within =
         let p = put-of own t ties.applications.turns a k u at in
-        (facts.stand (t.seat a) p.0 u.chosen.choice.lane u.chosen.id u.hash u.answer p.1).lane.within
+        (facts.stand (t.seat a) p.0 u.chosen.choice.lane u.chosen.id u.hash u.answer
+        p.1).lane.within
 
   few : (a : ℕ) → All (λ (c : Chosen). c.choice.lane < 32) (t.choices a)
   few a =

@@ -1,7 +1,7 @@
 -- A run is good: the eleven clauses together.
-use Rattle.std.proofs.Common.{◌≡◌, ◌⊎◌, inl, inr, ℕ, ◌<◌, Bool, true, List, [], ◌∷◌, ◌++◌, Option, Some, None, length}
-use Rattle.std.proofs.Common.{All, map, sym, refl, ap, ◌∙◌, subst, get_or}
-use Rattle.std.specs.Prelude.{slice_get}
+use Rattle.std.proofs.Common.{◌≡◌, inl, inr, ℕ, true, List, [], ◌∷◌, ◌++◌, Option, Some, None}
+use Rattle.std.proofs.Common.{length}
+use Rattle.std.proofs.Common.{All, map, sym, refl, ap, ◌∙◌, get_or}
 use Rattle.std.proofs.lemmas.List.Elements.{All-from_get_or}
 use Rattle.std.proofs.lemmas.Option.{slice_get-get_or}
 use Rattle.steer_base.specs.declared.command.Answer.{Answer}
@@ -17,7 +17,7 @@ use Rattle.history.specs.declared.commanded.Commanded.{Commanded}
 use Rattle.history.specs.declared.history.History.{History}
 use Rattle.hop_rule.specs.declared.step.BoardStep.{BoardStep}
 use Rattle.board_api.specs.Closings.Closings.{own_in}
-use Rattle.steer_model.specs.Good.Commands.{CommandsAreGiven, IsAnswer, IsEnd, refused_with}
+use Rattle.steer_model.specs.Good.Commands.{IsAnswer, IsEnd, refused_with}
 use Rattle.steer_model.specs.Good.Deliveries.{IsSteered}
 use Rattle.steer_model.specs.Good.GoodHistory.{Good}
 use Rattle.steer_model.specs.Good.Inputs.{Input, settings_at}
@@ -64,7 +64,8 @@ module _ (i : Input) (h : History) (run : IsRun i h) where
       All-from_get_or (λ (c : Commanded). has_text c.answer ≡ true) h.commands
       (record { command = give.Expire; answer = says.Done })
       (λ k less.
-      (let c : Commanded = get_or h.commands k (record { command = give.Expire; answer = says.Done }) in
+      (let c : Commanded = get_or h.commands k
+      (record { command = give.Expire; answer = says.Done }) in
       answer-text i h c.command (refused_with i (settings_at i h k) c.command) c.answer
       ((runs.commands i h run).answers k c
       (slice_get-get_or h.commands k (record { command = give.Expire; answer = says.Done }) less))))
@@ -91,12 +92,13 @@ module _ (i : Input) (h : History) (run : IsRun i h) where
             run.sent;
         queue = hints.queues-of-replies i h run;
         chosen = λ a. (
-            [],
-            append-none (map (λ (c : Chosen). c.id) (list_at h.tx_choices a))
-                ∙ transmits.all-chosen i h run.rx rx_own run.rx_lists (runs.rx-facts i h run)
-                run.received.board.inboxes (runs.inboxes-stand i h run) run.tx tx_own run.tx_lists
-                (runs.tx-facts i h run) run.tries run.applications run.maps_seen (runs.within i h run)
-                run.sent a,
+          [],
+          append-none (map (λ (c : Chosen). c.id) (list_at h.tx_choices a))
+              ∙ transmits.all-chosen i h run.rx rx_own run.rx_lists (runs.rx-facts i h run)
+              run.received.board.inboxes (runs.inboxes-stand i h run) run.tx tx_own run.tx_lists
+              (runs.tx-facts i h run) run.tries run.applications run.maps_seen
+              (runs.within i h run)
+              run.sent a,
         );
         class =
             transmits.classes i h run.rx rx_own run.rx_lists (runs.rx-facts i h run)
@@ -116,7 +118,8 @@ module _ (i : Input) (h : History) (run : IsRun i h) where
 
   steered : Rattle.history.specs.Regular.AreSteered h
   steered =
-      receives.are-steered i h run.rx rx_own run.rx_lists (runs.rx-facts i h run) run.tries run.queues
+      receives.are-steered i h run.rx rx_own run.rx_lists (runs.rx-facts i h run) run.tries
+      run.queues
       run.queues_seen run.input run.commands run.received
 
   delivered : Rattle.history.specs.Regular.AreDelivered i.packets (length i.plan.apps) h
@@ -158,7 +161,8 @@ module _ (i : Input) (h : History) (run : IsRun i h) where
   by-rule =
       transmits.by-rule i h run.rx rx_own run.rx_lists (runs.rx-facts i h run)
       run.received.board.inboxes (runs.inboxes-stand i h run) run.tx tx_own run.tx_lists
-      (runs.tx-facts i h run) run.tries run.applications run.maps_seen (runs.within i h run) run.sent
+      (runs.tx-facts i h run) run.tries run.applications run.maps_seen (runs.within i h run)
+      run.sent
 
   replies-by-rule : RepliesAreByRule i h (commands_before_reply run.tries run.applications)
   replies-by-rule =
@@ -186,7 +190,8 @@ module _ (i : Input) (h : History) (run : IsRun i h) where
         arrived = runs.has-arrived-all i h run;
         queues = hints.queues-are-seen i h run;
         choices =
-            receives.choices-by-rule i h run.rx rx_own run.rx_lists (runs.rx-facts i h run) run.tries
+            receives.choices-by-rule i h run.rx rx_own run.rx_lists (runs.rx-facts i h run)
+            run.tries
             run.queues run.queues_seen run.input run.commands run.received;
         wants = hints.wants-are-written i h run;
         heads = runs.heads i h run;

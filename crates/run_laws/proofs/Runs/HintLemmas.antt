@@ -1,6 +1,7 @@
 -- What the hint words tell of a run: where arrivals, wants, replies and writes come from.
-use Rattle.std.proofs.Common.{◌≡◌, ◌≢◌, ◌⊎◌, inl, inr, ℕ, zero, suc, ◌/◌, ◌^◌, ◌<◌, Bool, true, List, []}
-use Rattle.std.proofs.Common.{◌∷◌, ◌++◌, Option, Some, None, length, map, All, sym, refl, ap, ◌∙◌, subst}
+use Rattle.std.proofs.Common.{◌≡◌, ◌≢◌, inl, inr, ℕ, zero, suc, ◌/◌, ◌^◌, ◌<◌, List, []}
+use Rattle.std.proofs.Common.{◌∷◌, ◌++◌, Option, Some, None, length, map, All, sym, refl, ap, ◌∙◌}
+use Rattle.std.proofs.Common.{subst}
 use Rattle.std.proofs.Common.{arith, get_or, ◌%◌, ◌≤◌}
 use Rattle.std.specs.Option.{option_map}
 use Rattle.std.proofs.Math.ListN.{get_or-eq_default}
@@ -9,16 +10,14 @@ use Rattle.std.proofs.lemmas.Bool.{cases_lt, lt-ltb}
 use Rattle.std.proofs.lemmas.List.Elements.{All-from_get_or}
 use Rattle.std.proofs.lemmas.Option.{slice_get-map}
 use Rattle.hop_rule.proofs.Lists.{none-some, some-is}
-use Rattle.std.specs.Prelude.{is_some, slice_get, slice_index}
-use Rattle.std.specs.List.{Contains}
+use Rattle.std.specs.Prelude.{is_some, slice_get}
 use Rattle.std.proofs.lemmas.List.Elements.{All-cons, All-contains, All-head, All-nil, All-tail}
 use Rattle.std.proofs.lemmas.Option.{slice_get-get_or}
 use Rattle.linearization.specs.Seats.{SeatView}
-use Rattle.steer_base.specs.Arrivals.{filter_place, route, table_place}
+use Rattle.steer_base.specs.Arrivals.{filter_place, table_place}
 use Rattle.steer_base.specs.Choices.{class_of}
 use Rattle.steer_base.specs.Entries.{place_in}
 use Rattle.steer_base.specs.declared.choice.Chosen.{Chosen}
-use Rattle.steer_base.specs.declared.filter.Filter.{Filter}
 use Rattle.steer_base.specs.declared.put.Put.{Put}
 use Rattle.steer_base.specs.declared.put.Put.TheVariants.{At}
 use Rattle.dev_flow_table.specs.Folds.{IsPutAt}
@@ -27,17 +26,13 @@ use Rattle.hint_words.specs.declared.step.HintStep.{HintStep}
 use Rattle.hint_words.specs.declared.step.HintStep.TheVariants.{Load}
 use Rattle.history.specs.Finding.{is_in}
 use Rattle.history.specs.Lists.{arrival_of, lane_at, list_at}
-use Rattle.history.specs.Regular.{route_of}
 use Rattle.history.specs.declared.arrival.Arrival.{Arrival}
 use Rattle.history.specs.declared.history.History.{History}
 use Rattle.history.specs.declared.lane_list.LaneList.{LaneList}
 use Rattle.history.specs.declared.sent.Sent.{Sent}
 use Rattle.history.specs.declared.sock_write.SockWrite.{SockWrite}
 use Rattle.hop_core.specs.Hop.{chosen_at, nobody}
-use Rattle.hop_rule.specs.Boards.{gate_steps}
-use Rattle.hop_rule.specs.Gates.{opened, own_settings}
 use Rattle.hop_rule.specs.Moments.{nth_step}
-use Rattle.hop_rule.specs.Sizes.{closer}
 use Rattle.hop_rule.specs.declared.step.BoardStep.{BoardStep}
 use Rattle.board_api.specs.Closings.Closings.{own_in}
 use Rattle.board_api.specs.OwnSteps.{visit_before}
@@ -46,11 +41,10 @@ use Rattle.hop_delivery.specs.Orders.Commands.{received_sets}
 use Rattle.hop_delivery.specs.Orders.ReceiveSettings.{socket_word}
 use Rattle.hop_delivery.specs.Orders.Runs.{turns_of, word_of}
 use Rattle.hop_delivery.specs.Orders.Turns.{Turn}
-use Rattle.steer_model.specs.Good.Arrivals.{EntryFrom, FilterFrom, QueuesAreSeen, SeenBy}
+use Rattle.steer_model.specs.Good.Arrivals.{FilterFrom, QueuesAreSeen, SeenBy}
 use Rattle.steer_model.specs.Good.Choices.{WantsAreWritten, WasWritten}
 use Rattle.steer_model.specs.Good.Inputs.{Input, settings_at, setup_in}
-use Rattle.steer_model.specs.Good.Replies.{AreSent}
-use Rattle.steer_model.specs.Good.Writes.{AreWrites, IsSize, IsWrite, StoodAt, WritesAreRight}
+use Rattle.steer_model.specs.Good.Writes.{AreWrites, IsSize, StoodAt, WritesAreRight}
 use Rattle.steer_model.specs.State.Settings.{Settings}
 use Rattle.steer_model.specs.State.Setup.{packet_hash}
 use Rattle.steer_model.specs.State.Start.{initial_settings}
@@ -64,7 +58,6 @@ use Rattle.run_laws.specs.Ties.Tries.{Try, at_receive, settings_by, tries_up_to}
 use Rattle.run_laws.proofs.Runs.PutTurnLemmas.{put-of, turn-at}
 use Rattle.run_laws.proofs.Runs.QueueLemmas as queues
 use Rattle.run_laws.proofs.Runs.RunLemmas as runs
-use Rattle.run_laws.proofs.Runs.TransmitLemmas as transmits
 use Rattle.run_laws.proofs.Runs.TurnListLemmas.{turn-chosen}
 use Rattle.run_laws.proofs.Tries.OpeningLemmas.{settings_of_opening}
 use Rattle.run_laws.proofs.Tries.SizeLemmas.{size_by}
@@ -76,7 +69,8 @@ loaded-stored : (seats : List (SeatView HintStep)) (word value : ℕ) → LoadsA
     → WasLoaded seats word value → value ≢ 0 → IsStoredBy seats word value
 loaded-stored seats word value all w set =
     All-contains (ComesFrom seats) w.seat.steps (Load word value)
-    (All-contains (λ (s : SeatView HintStep). All (ComesFrom seats) s.steps) seats w.seat all w.among)
+    (All-contains (λ (s : SeatView HintStep). All (ComesFrom seats) s.steps) seats w.seat all
+    w.among)
     w.loads set
 
 each-all : {A : Type 0} (P Q : A → Type 0) (xs : List A) → ((x : A) → P x → Q x) → All P xs
@@ -148,7 +142,8 @@ module _ (i : Input) (h : History) (run : IsRun i h) where
         moved = w.moved;
         home = w.home;
         accepted =
-            ap (λ (ls : List LaneList). is_in u.chosen.id (lane_at ls u.chosen.choice.lane).accepted)
+            ap (λ (ls : List LaneList). is_in u.chosen.id
+            (lane_at ls u.chosen.choice.lane).accepted)
             run.received.board.lanes
             ∙ ap is_some at.1;
         place = place;
@@ -161,8 +156,12 @@ module _ (i : Input) (h : History) (run : IsRun i h) where
   seen-by None a is = is
   seen-by (Some hash) a (inl (q, is, inl plan)) = inl (q, is, inl plan)
   seen-by (Some hash) a (inl (q, is, inr loaded)) =
-      inl (q, is, run.meant.entries (table_place hash) q (below-modulus hash)
-      (stored-place (run.codes.entry (table_place hash)) q loaded))
+      inl (
+        q,
+        is,
+        run.meant.entries (table_place hash) q (below-modulus hash)
+            (stored-place (run.codes.entry (table_place hash)) q loaded),
+      )
   seen-by (Some hash) a (inr (place, f, queue_few, cpu_few, is, here, loaded)) =
       inr (
         f.queue,
@@ -217,7 +216,8 @@ module _ (i : Input) (h : History) (run : IsRun i h) where
         run.meant.sockets w.0 want
             (let place = class-below (run.queues_seen q k (socket_word (receive_queues i)))
             (packet_hash (setup_in i) u.chosen.id) w.0 w.1 in
-            let few = (queues.fit-seen i h run.rx rx_own run.rx_lists (runs.rx-facts i h run) run.tries
+            let few = (queues.fit-seen i h run.rx rx_own run.rx_lists (runs.rx-facts i h run)
+            run.tries
             run.queues run.queues_seen run.input.hashes run.received.board run.received.tries_are
             (runs.within i h run) run.commands.answered run.received.finds run.received.right
             run.input.arrived run.received.queues q k u at).sock in omega arith)
@@ -269,7 +269,8 @@ module _ (i : Input) (h : History) (run : IsRun i h) where
       → AreRecorded i h run.codes run.hint_seats rx_own a xs ws → AreWrites i h a xs ws
   are-writes a [] ws less is = is
   are-writes a (x ∷ xs) ws less (inl (none, rest)) = inl (none, are-writes a xs ws less rest)
-  are-writes a (x ∷ xs) ws less (inr (inl (hash, w, more, size, has, parts, was, at, stands, rest))) =
+  are-writes a (x ∷ xs) ws less (inr (inl (hash, w, more, size, has, parts, was, at, stands, rest)))
+      =
       inr (inl (
         hash,
         w,

@@ -1,8 +1,8 @@
 -- The put of a turn, and the turn of an index of a journal.
-use Rattle.std.proofs.Common.{◌≡◌, ℕ, ◌<◌, ◌≤◌, List, Option, Some, length, sym, refl, ap, ◌∙◌, arith}
+use Rattle.std.proofs.Common.{◌≡◌, ℕ, List, Some, sym, ◌∙◌, arith}
 use Rattle.std.specs.Prelude.{slice_get}
 use Rattle.std.proofs.lemmas.Option.{slice_get_within}
-use Rattle.linearization.specs.Orders.{StepBy, step_by}
+use Rattle.linearization.specs.Orders.{step_by}
 use Rattle.steer_base.specs.declared.choice.Chosen.{Chosen}
 use Rattle.hop_rule.specs.Moments.{moment_of, nth_step}
 use Rattle.hop_rule.specs.declared.step.BoardStep.{BoardStep}
@@ -37,5 +37,6 @@ module _ (own : ℕ → List BoardStep) (t : Story) (keeps : KeepsTurns own t) w
       let u = nth-some (turns_of t p) k (omega arith) in (
         u.0,
         u.1,
-        Rattle.hop_rule.proofs.Lists.some-is u.0.chosen c (sym (turn-chosen own t keeps p k u.0 u.1) ∙ at),
+        Rattle.hop_rule.proofs.Lists.some-is u.0.chosen c
+            (sym (turn-chosen own t keeps p k u.0 u.1) ∙ at),
       )

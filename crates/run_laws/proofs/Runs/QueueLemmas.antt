@@ -1,7 +1,7 @@
 -- What the receive queues keep gives the premises of delivery in order, and turns of all choices.
-use Rattle.std.proofs.Common.{◌≡◌, ◌≢◌, ◌⊎◌, inl, inr, ℕ, zero, suc, ◌+◌, ◌*◌, ◌/◌, ◌%◌, ◌^◌, ◌<◌, ◌≤◌}
-use Rattle.std.proofs.Common.{◌&&◌, Bool, true, false, List, [], ◌∷◌, ◌++◌, Option, Some, None, length, map}
-use Rattle.std.proofs.Common.{All, sym, refl, ap, ◌∙◌, subst, arith, length-append}
+use Rattle.std.proofs.Common.{◌≡◌, inl, inr, ℕ, ◌+◌, ◌*◌, ◌/◌, ◌%◌, ◌^◌, ◌<◌, ◌≤◌}
+use Rattle.std.proofs.Common.{◌&&◌, Bool, true, false, List, [], ◌∷◌, ◌++◌, Some, length}
+use Rattle.std.proofs.Common.{All, sym, refl, ap, ◌∙◌, subst, arith}
 use Rattle.std.specs.Prelude.{nat_lt, slice_get, slice_index}
 use Rattle.std.specs.List.{range_with_len}
 use Rattle.std.proofs.Math.ListN.{get_or-eq_default}
@@ -9,13 +9,11 @@ use Rattle.std.proofs.lemmas.Bool.{cases_lt, ltb-true}
 use Rattle.std.proofs.lemmas.List.{length-map}
 use Rattle.std.proofs.lemmas.List.Elements.{All-cons, All-head, All-nil, All-tail}
 use Rattle.std.proofs.lemmas.List.FromFn.{length-range_with_len}
-use Rattle.std.proofs.lemmas.Option.{slice_get_within}
 use Rattle.steer_base.specs.Sets.{has}
 use Rattle.steer_base.specs.declared.command.Command.{Command}
 use Rattle.steer_base.specs.declared.command.Command.TheVariants as give
 use Rattle.steer_base.specs.declared.cpu_mask.CpuMask.{CpuMask}
 use Rattle.steer_base.specs.declared.limits.TheConstants.{MAX_FLOW_COUNT, MAX_SOCKET_SIZE}
-use Rattle.history.specs.Lists.{arrivals_at, list_at}
 use Rattle.history.specs.declared.arrival.Arrival.{Arrival}
 use Rattle.history.specs.declared.history.History.{History}
 use Rattle.hop_rule.specs.Boards.{gate_steps}
@@ -31,14 +29,15 @@ use Rattle.hop_delivery.specs.Closings.TurnReads.{Knows}
 use Rattle.hop_delivery.specs.Orders.Commands.{received_sets}
 use Rattle.hop_delivery.specs.Orders.Premises.{AllFindEmpty, MeetsPremises}
 use Rattle.hop_delivery.specs.Orders.ReceiveSettings.{Queues, flows_word, mask, mask_word, online}
-use Rattle.hop_delivery.specs.Orders.ReceiveSettings.{online_word, queues, receive_steering, socket_word}
-use Rattle.hop_delivery.specs.Orders.Runs.{IsByRule, Steering, Story, goal_of, settings_of_visit}
+use Rattle.hop_delivery.specs.Orders.ReceiveSettings.{online_word, queues, receive_steering}
+use Rattle.hop_delivery.specs.Orders.ReceiveSettings.{socket_word}
+use Rattle.hop_delivery.specs.Orders.Runs.{IsByRule, Steering, Story}
 use Rattle.hop_delivery.specs.Orders.Runs.{turns_of}
 use Rattle.hop_delivery.specs.Orders.Turns.{Turn}
 use Rattle.hop_delivery.proofs.Orders.ReceiveSettingLemmas.{goals_are_online}
 use Rattle.plan_reader.specs.declared.plan.QueuePlan.{QueuePlan}
 use Rattle.steer_model.specs.Good.Inputs.{Input, setup_in}
-use Rattle.steer_model.specs.State.Settings.{Settings, mask_of}
+use Rattle.steer_model.specs.State.Settings.{Settings}
 use Rattle.steer_model.specs.State.Start.{initial_settings}
 use Rattle.run_laws.specs.Laws.Choices.{ChoicesHaveTurns}
 use Rattle.run_laws.specs.Ties.Answers.{AllAnswered}
@@ -50,7 +49,7 @@ use Rattle.run_laws.specs.Ties.Inputs.{AreReceiveWords, FlowsHaveOneHash, NamesR
 use Rattle.run_laws.specs.Ties.Inputs.{receive_queues}
 use Rattle.run_laws.specs.Ties.Queues.{FitReceiveWords, KeepsQueues}
 use Rattle.run_laws.specs.Ties.Tries.{KeepsReceiveTries, Try, at_receive, resizes_by, settings_by}
-use Rattle.run_laws.specs.Ties.Tries.{steps_of_tries, tries_up_to}
+use Rattle.run_laws.specs.Ties.Tries.{tries_up_to}
 use Rattle.hop_delivery.specs.Closings.PutPlaces.{AreTurnsOf}
 use Rattle.run_laws.proofs.Runs.TurnListLemmas.{ArriveOnce}
 use Rattle.run_laws.proofs.Lists.PlaceLemmas.{AreNumbered, arrived_once, arrived_within, at_index}
@@ -257,7 +256,8 @@ module _ (i : Input) (h : History) (about : BoardSizes) (own : ℕ → List Boar
         record {
           mask =
               subst (λ m. m < 2 ^ i.plan.cpus)
-              (sym (read-is (mask_word q p) (keeps.knows p k u at).mask ∙ w.mask p less)) (f.masks p);
+              (sym (read-is (mask_word q p) (keeps.knows p k u at).mask ∙ w.mask p less))
+              (f.masks p);
           flows =
               subst (λ m. m % 2 ^ 32 ≤ MAX_FLOW_COUNT)
               (sym (read-is (flows_word q p) (keeps.knows p k u at).flows ∙ w.flows p less))
@@ -269,7 +269,8 @@ module _ (i : Input) (h : History) (about : BoardSizes) (own : ℕ → List Boar
               subst (λ (m : CpuMask). m.0 < 2 ^ i.plan.cpus) (sym seen-online) f.online;
         }
       where
-        low : (c g : ℕ) → c < 2 ^ 32 → c ≤ MAX_FLOW_COUNT → (c + 2 ^ 32 * g) % 2 ^ 32 ≤ MAX_FLOW_COUNT
+        low : (c g : ℕ) → c < 2 ^ 32 → c ≤ MAX_FLOW_COUNT → (c + 2 ^ 32 * g) % 2 ^ 32
+            ≤ MAX_FLOW_COUNT
         low c g small few =
             let same : (c + 2 ^ 32 * g) % 2 ^ 32 ≡ c = omega arith in
             subst (λ m. m ≤ MAX_FLOW_COUNT) (sym same) few

@@ -1,22 +1,18 @@
 -- The receive side of a good history, from what the threads keep at the receive board.
-use Rattle.std.proofs.Common.{◌≡◌, ◌≢◌, ◌⊎◌, inl, inr, ℕ, zero, suc, ◌+◌, ◌-◌, ◌<◌, ◌≤◌, Bool, true}
-use Rattle.std.proofs.Common.{false, List, [], ◌∷◌, ◌++◌, Option, Some, None, length, map, take, All}
-use Rattle.std.proofs.Common.{sym, refl, ap, ◌∙◌, subst, arith, append_assoc}
+use Rattle.std.proofs.Common.{◌≡◌, ℕ, suc, ◌<◌, true}
+use Rattle.std.proofs.Common.{List, [], ◌∷◌, ◌++◌, Some, length, map, take, All}
+use Rattle.std.proofs.Common.{sym, refl, ap, ◌∙◌, subst, arith}
 use Rattle.std.specs.Prelude.{slice_get, slice_index}
 use Rattle.std.proofs.lemmas.List.{length-map}
 use Rattle.std.proofs.Math.Seq.{take_all}
 use Rattle.steer_base.specs.Apps.{app_of}
-use Rattle.steer_base.specs.Orders.{Apart, IsPrefix}
 use Rattle.steer_base.specs.declared.choice.Chosen.{Chosen}
-use Rattle.steer_base.specs.declared.put.Put.{Put}
 use Rattle.history.specs.Finding.{is_among, is_in}
-use Rattle.history.specs.Lists.{accepted_lists, app_at, arrivals_at, drop_ids, dropped_lists, lane_at, list_at}
+use Rattle.history.specs.Lists.{accepted_lists, app_at, arrivals_at, drop_ids, dropped_lists}
+use Rattle.history.specs.Lists.{lane_at, list_at}
 use Rattle.history.specs.Places.{AreInOnePlace}
 use Rattle.history.specs.Regular.{AreDelivered, AreSteered, HaveArrived}
-use Rattle.history.specs.declared.arrival.Arrival.{Arrival}
 use Rattle.history.specs.declared.history.History.{History}
-use Rattle.history.specs.declared.lane_list.LaneList.{LaneList}
-use Rattle.hop_rule.specs.Moments.{nth_step}
 use Rattle.hop_rule.specs.Sizes.{puller}
 use Rattle.hop_rule.specs.declared.sizes.BoardSizes.{BoardSizes}
 use Rattle.hop_rule.specs.declared.step.BoardStep.{BoardStep}
@@ -26,13 +22,12 @@ use Rattle.board_api.specs.declared.lists.BoardLists.{BoardLists}
 use Rattle.hop_delivery.specs.Closings.FlowLaw.{accepted_left}
 use Rattle.hop_delivery.specs.Orders.Premises.{GoesRight, MeetsPremises}
 use Rattle.hop_delivery.specs.Orders.ReceiveSettings.{receive_steering}
-use Rattle.hop_delivery.specs.Orders.Runs.{Story, turns_of}
-use Rattle.hop_delivery.specs.Orders.Turns.{Turn}
+use Rattle.hop_delivery.specs.Orders.Runs.{Story}
 use Rattle.hop_delivery.proofs.Orders.AccountedLemmas.{nth-all}
 use Rattle.hop_delivery.proofs.Orders.ReceiveSettingLemmas.{receive_steers}
 use Rattle.steer_model.specs.Good.Choices.{ChoicesAreByRule}
 use Rattle.steer_model.specs.Good.Deliveries.{IsDeliveredInOrder}
-use Rattle.steer_model.specs.Good.Inputs.{Input, setup_in}
+use Rattle.steer_model.specs.Good.Inputs.{Input}
 use Rattle.run_laws.specs.Laws.Choices.{ChoicesHaveTurns, commands_before}
 use Rattle.run_laws.specs.Ties.Inputs.{receive_queues}
 use Rattle.run_laws.specs.Ties.Runs.{IsOfInput, KeepsCommands, ReceiveTies}
@@ -115,8 +110,8 @@ module _ (i : Input) (h : History) (about : BoardSizes) (own : ℕ → List Boar
         of_the_capture = (let n = counted in omega arith);
         taken = λ q. (let n = choice-count q in omega arith);
         chosen = λ q. (
-            [],
-            append-none (map (λ (c : Chosen). c.id) (list_at h.choices q)) ∙ all-chosen q,
+          [],
+          append-none (map (λ (c : Chosen). c.id) (list_at h.choices q)) ∙ all-chosen q,
         );
         chosen_taken = λ q.
             (let n = ties.queues.taken q in
@@ -133,7 +128,8 @@ module _ (i : Input) (h : History) (about : BoardSizes) (own : ℕ → List Boar
         all = λ q.
             all-chosen q
             ∙ sym (ap (λ n. take n (arrivals_at h.arrivals q)) (choice-count q)
-            ∙ take_all (length (arrivals_at h.arrivals q)) (arrivals_at h.arrivals q) (omega arith));
+            ∙ take_all (length (arrivals_at h.arrivals q)) (arrivals_at h.arrivals q)
+            (omega arith));
         by_rule =
             choices_of_closing about own lists facts.visits i h tries t input.hashes ties.board
             ties.tries_are (queues.all_name_queues i tries within) choices;
@@ -146,7 +142,8 @@ module _ (i : Input) (h : History) (about : BoardSizes) (own : ℕ → List Boar
       record {
         accepted = λ c x is.
             stand.accepted-choice about own lists facts t ties.queues.turns turns once h.choices
-            ties.queues.choices c x (ap (λ ls. is_in x (lane_at ls c).accepted) (sym ties.board.lanes)
+            ties.queues.choices c x (ap (λ ls. is_in x (lane_at ls c).accepted)
+            (sym ties.board.lanes)
             ∙ is);
         dropped = λ c x is.
             stand.dropped-choice about own lists facts t ties.queues.turns turns once h.choices
@@ -168,7 +165,8 @@ module _ (i : Input) (h : History) (about : BoardSizes) (own : ℕ → List Boar
       ties.queues.choices a n.0 x n.1 in
       let p = stand.accepted-arrived about own lists facts t ties.queues.turns turns once h.choices
       ties.queues.choices f.lane f.index x f.stands_at in
-      let goes : GoesRight (receive_steering (receive_queues i)) (Lane (Given a f.lane x (suc n.0))) =
+      let goes : GoesRight (receive_steering (receive_queues i)) (Lane (Given a f.lane x (suc n.0)))
+      =
       nth-all (GoesRight (receive_steering (receive_queues i))) (own (puller about f.lane)) f.step
       (Lane (Given a f.lane x (suc n.0))) (ties.right (puller about f.lane)) f.does in
       sym (goes ∙ ap (λ o. app_of o (length i.plan.apps)) (input.hashes x (known p.0 p.1 x p.2)))
@@ -179,8 +177,10 @@ module _ (i : Input) (h : History) (about : BoardSizes) (own : ℕ → List Boar
         accepted = λ a x is.
             subst (λ ls. (c : ℕ) × (is_in x (lane_at ls c).accepted ≡ true)) (sym ties.board.lanes)
             (stand.out-accepted about own lists facts t ties.queues.turns turns once h.choices
-            ties.queues.choices a x (ap (λ ls. is_in x (list_at ls a)) (sym ties.board.inboxes) ∙ is));
-        own = λ a x is. inbox-app a x (ap (λ ls. is_in x (list_at ls a)) (sym ties.board.inboxes) ∙ is);
+            ties.queues.choices a x (ap (λ ls. is_in x (list_at ls a)) (sym ties.board.inboxes)
+            ∙ is));
+        own = λ a x is. inbox-app a x
+            (ap (λ ls. is_in x (list_at ls a)) (sym ties.board.inboxes) ∙ is);
         once = λ a.
             once_from (list_at h.inboxes a)
             (λ j k x at there.
@@ -203,10 +203,12 @@ module _ (i : Input) (h : History) (about : BoardSizes) (own : ℕ → List Boar
             (c : ℕ) × (is_among (lane_at ls c).delivered x (lane_at ls c).accepted ≡ true))
             (sym ties.board.lanes)
             (stand.out-among about own lists facts t ties.queues.turns turns once h.choices
-            ties.queues.choices a x (ap (λ ls. is_in x (list_at ls a)) (sym ties.board.inboxes) ∙ is));
+            ties.queues.choices a x (ap (λ ls. is_in x (list_at ls a)) (sym ties.board.inboxes)
+            ∙ is));
       }
 
   pub in-order : IsDeliveredInOrder i h
   in-order =
-      inboxes_follow about own lists facts.order (λ i. receive_steers (receive_queues i) about.lanes)
+      inboxes_follow about own lists facts.order
+      (λ i. receive_steers (receive_queues i) about.lanes)
       i h t input.hashes ties.board ties.queues.arrivals premises

@@ -1,35 +1,29 @@
 -- A run is good but for what the hint words tell: from all that its threads keep.
-use Rattle.std.proofs.Common.{◌≡◌, ◌≢◌, ◌⊎◌, inl, inr, ℕ, zero, suc, ◌+◌, ◌-◌, ◌<◌, ◌≤◌, ◌==◌, ◌&&◌}
-use Rattle.std.proofs.Common.{Bool, true, false, List, [], ◌∷◌, ◌++◌, Option, Some, None, length, map}
+use Rattle.std.proofs.Common.{◌≡◌, ◌⊎◌, inl, inr, ℕ, zero, suc, ◌<◌, ◌≤◌, ◌==◌, ◌&&◌}
+use Rattle.std.proofs.Common.{Bool, true, false, List, [], ◌∷◌, Option, Some, length, map}
 use Rattle.std.proofs.Common.{All, sym, refl, ap, ◌∙◌, subst, arith, get_or}
 use Rattle.std.specs.Prelude.{slice_get}
 use Rattle.std.proofs.lemmas.Bool.{cases_Bool, eqb-true}
 use Rattle.std.proofs.lemmas.List.{length-map}
-use Rattle.std.proofs.lemmas.Option.{slice_get_past, slice_get_within, slice_get-get_or}
+use Rattle.std.proofs.lemmas.Option.{slice_get_within, slice_get-get_or}
 use Rattle.std.proofs.Math.ListN.{get_or-eq_default}
 use Rattle.steer_base.specs.Apps.{app_of}
-use Rattle.steer_base.specs.Orders.{InOrder}
 use Rattle.steer_base.specs.declared.choice.Chosen.{Chosen}
 use Rattle.steer_base.specs.declared.put.LaneDrop.{LaneDrop}
 use Rattle.steer_base.specs.declared.put.Put.{Put}
 use Rattle.history.specs.Finding.{is_in}
 use Rattle.history.specs.Lists.{arrivals_at, drop_ids, lane_at, list_at}
-use Rattle.history.specs.Places.{has_arrived}
 use Rattle.history.specs.declared.history.History.{History}
 use Rattle.history.specs.declared.lane_list.LaneList.{LaneList}
 use Rattle.hop_core.specs.Hop.{nobody}
 use Rattle.hop_rule.specs.Moments.{nth_step}
 use Rattle.hop_rule.specs.Owns.{PutMade}
 use Rattle.hop_rule.specs.Sizes.{puller}
-use Rattle.hop_rule.specs.declared.sizes.BoardSizes.{BoardSizes}
 use Rattle.hop_rule.specs.declared.step.BoardStep.{BoardStep}
 use Rattle.board_api.specs.Closings.Closings.{own_in}
 use Rattle.board_api.specs.OwnSteps.{Has, put_step}
-use Rattle.board_api.specs.declared.lists.BoardLists.{BoardLists}
-use Rattle.hop_delivery.specs.Orders.Runs.{Story, turns_of}
 use Rattle.hop_delivery.specs.Orders.TransmitSettings.{transmit_steering}
 use Rattle.hop_delivery.specs.Orders.ReceiveSettings.{receive_steering}
-use Rattle.hop_delivery.specs.Orders.Turns.{Turn}
 use Rattle.steer_model.specs.Good.Choices.{HeadsAreRising, HeadsRise}
 use Rattle.steer_model.specs.Good.Commands.{CommandsAreGiven}
 use Rattle.steer_model.specs.Good.Deliveries.{IsDone, IsSwept, of_flow}
@@ -38,16 +32,14 @@ use Rattle.steer_model.specs.Good.Arrivals.{HasArrived}
 use Rattle.steer_model.specs.Good.Inputs.{Input, setup_in}
 use Rattle.steer_model.specs.Good.Replies.{LeaveInOrder, of_reply, replies_of}
 use Rattle.steer_model.specs.State.Setup.{app_for, flow_number_of, packet_hash}
-use Rattle.run_laws.specs.Laws.Ends.{WasDelivered}
 use Rattle.run_laws.specs.Ties.Inputs.{hash_of_flow, receive_queues}
 use Rattle.run_laws.specs.Ties.Runs.{IsRun}
-use Rattle.run_laws.specs.Ties.Tries.{Try, at_receive, at_transmit}
+use Rattle.run_laws.specs.Ties.Tries.{Try}
 use Rattle.hop_delivery.specs.Closings.PutPlaces.{AreTurnsOf}
 use Rattle.run_laws.proofs.Ends.EndLemmas as ends
 use Rattle.run_laws.proofs.Ends.OutLemmas.{all_are_sent}
 use Rattle.run_laws.proofs.Lists.OrderLemmas.{end_to_end}
 use Rattle.run_laws.proofs.Lists.PlaceLemmas.{StandOnce, arrived_somewhere, at_in, in_at}
-use Rattle.run_laws.proofs.Runs.ApplicationLemmas as apps
 use Rattle.run_laws.proofs.Runs.FactLemmas.{BoardFacts, facts_at_closings}
 use Rattle.run_laws.proofs.Runs.PutTurnLemmas.{put-of, turn-at}
 use Rattle.run_laws.proofs.Runs.ReceiveLemmas as receives
@@ -101,7 +93,8 @@ module _ (i : Input) (h : History) (run : IsRun i h) where
 
   tx-turns : AreTurnsOf tx_own run.applications
   tx-turns =
-      transmits.turns i h run.rx rx_own run.rx_lists rx-facts run.received.board.inboxes inboxes-stand
+      transmits.turns i h run.rx rx_own run.rx_lists rx-facts run.received.board.inboxes
+      inboxes-stand
       run.tx tx_own run.tx_lists tx-facts run.tries run.applications run.maps_seen within run.sent
 
   -- ---- 1: arrivals
@@ -163,7 +156,8 @@ module _ (i : Input) (h : History) (run : IsRun i h) where
       let put = put-of rx_own run.queues run.received.queues.turns u.producer u.index u.turn u.is in
       let seat : ℕ = run.queues.seat u.producer in
       let here : Has (rx_own seat) put.0 (put_step lane id u.turn.hash u.turn.answer) =
-      subst (λ x. Has (rx_own seat) put.0 (put_step lane x u.turn.hash u.turn.answer)) u.same_id put.1 in
+      subst (λ x. Has (rx_own seat) put.0 (put_step lane x u.turn.hash u.turn.answer)) u.same_id
+      put.1 in
       let same = turns_put_once rx_own run.queues rx-turns seat q put.0 k lane l id u.turn.hash hash
       u.turn.answer answer here does in
       let made = said lane l id id u.turn.hash hash u.turn.answer answer
@@ -228,9 +222,11 @@ module _ (i : Input) (h : History) (run : IsRun i h) where
   all-replied a =
       elim (Rattle.std.proofs.lemmas.Bool.cases_lt a run.rx.outs) [
         | inl less ↦
-            all_are_sent run.rx rx_own run.rx_lists rx-facts.outs h a less run.received.board.inboxes
+            all_are_sent run.rx rx_own run.rx_lists rx-facts.outs h a less
+            run.received.board.inboxes
             (transmits.front i h run.rx rx_own run.rx_lists rx-facts run.received.board.inboxes
-            inboxes-stand run.tx tx_own run.tx_lists tx-facts run.tries run.applications run.maps_seen
+            inboxes-stand run.tx tx_own run.tx_lists tx-facts run.tries run.applications
+            run.maps_seen
             within run.sent a) run.replied
         | inr past ↦
             (let sents = run.sent.applications.sent_lists in
@@ -254,7 +250,8 @@ module _ (i : Input) (h : History) (run : IsRun i h) where
       run.received.queues.turns rx-turns rx-once h.choices run.received.queues.choices a k x
       (ap (λ ls. slice_get (list_at ls a) k) (sym run.received.board.inboxes) ∙ inbox) in
       let p = stand.accepted-arrived run.rx rx_own run.rx_lists rx-facts run.queues
-      run.received.queues.turns rx-turns rx-once h.choices run.received.queues.choices f.lane f.index
+      run.received.queues.turns rx-turns rx-once h.choices run.received.queues.choices f.lane
+      f.index
       x f.stands_at in
       rx-known p.0 p.1 x p.2
 
@@ -360,7 +357,8 @@ module _ (i : Input) (h : History) (run : IsRun i h) where
       record {
         order = λ a x less.
             transmits.in-order i h run.rx rx_own run.rx_lists rx-facts run.received.board.inboxes
-            inboxes-stand run.tx tx_own run.tx_lists tx-facts run.tries run.applications run.maps_seen
+            inboxes-stand run.tx tx_own run.tx_lists tx-facts run.tries run.applications
+            run.maps_seen
             within run.sent a x;
         end_to_end = λ q x less.
             (let a : ℕ = app_for (setup_in i) x in
@@ -370,13 +368,15 @@ module _ (i : Input) (h : History) (run : IsRun i h) where
             (receives.in-order i h run.rx rx_own run.rx_lists rx-facts run.tries run.queues
             run.queues_seen run.input run.commands run.received q x less)
             (transmits.front i h run.rx rx_own run.rx_lists rx-facts run.received.board.inboxes
-            inboxes-stand run.tx tx_own run.tx_lists tx-facts run.tries run.applications run.maps_seen
+            inboxes-stand run.tx tx_own run.tx_lists tx-facts run.tries run.applications
+            run.maps_seen
             within run.sent a)
             (λ c. none-at h.tx_lanes c (transmits.no-drops i h run.rx rx_own run.rx_lists rx-facts
             run.received.board.inboxes inboxes-stand run.tx tx_own run.tx_lists tx-facts run.tries
             run.applications run.maps_seen within run.sent c))
             (transmits.in-order i h run.rx rx_own run.rx_lists rx-facts run.received.board.inboxes
-            inboxes-stand run.tx tx_own run.tx_lists tx-facts run.tries run.applications run.maps_seen
+            inboxes-stand run.tx tx_own run.tx_lists tx-facts run.tries run.applications
+            run.maps_seen
             within run.sent a x)
             (λ y is set. wider-port q x y less is set)
             (λ y is set. wider-of a q x y is set));

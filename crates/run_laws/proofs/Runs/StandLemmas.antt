@@ -1,8 +1,10 @@
--- Where the packets of a board stand at its closing: each accepted or dropped one at one place, by a
--- choice of its lane; each delivered one at one place of an out lane, and among the packets that its
+-- Where the packets of a board stand at its closing: each accepted or dropped one at one place, by
+-- a
+-- choice of its lane; each delivered one at one place of an out lane, and among the packets that
+-- its
 -- lane accepted and delivered.
-use Rattle.std.proofs.Common.{◌≡◌, ◌≢◌, ◌⊎◌, inl, inr, ℕ, zero, suc, ◌+◌, ◌-◌, ◌<◌, ◌≤◌, ◌==◌, Bool}
-use Rattle.std.proofs.Common.{true, false, List, [], ◌∷◌, ◌++◌, Option, Some, None, length, map, sym}
+use Rattle.std.proofs.Common.{◌≡◌, inl, inr, ℕ, suc, ◌<◌}
+use Rattle.std.proofs.Common.{true, List, [], ◌∷◌, ◌++◌, Option, Some, None, length, sym}
 use Rattle.std.proofs.Common.{refl, ap, ◌∙◌, subst, arith}
 use Rattle.std.specs.Prelude.{slice_get}
 use Rattle.std.specs.List.{cons_option, filter_map}
@@ -10,14 +12,11 @@ use Rattle.std.specs.Option.{option_map}
 use Rattle.std.proofs.lemmas.Bool.{cases_eq}
 use Rattle.std.proofs.lemmas.Option.{slice_get-map}
 use Rattle.linearization.proofs.ListLemmas.{if_same, if_other}
-use Rattle.steer_base.specs.declared.choice.Choice.{Choice}
 use Rattle.steer_base.specs.declared.choice.Chosen.{Chosen}
-use Rattle.steer_base.specs.declared.put.LaneDrop.{LaneDrop}
 use Rattle.history.specs.Finding.{is_among, is_in}
 use Rattle.history.specs.Lines.{choice_in}
 use Rattle.history.specs.Lists.{accepted_lists, drop_ids, dropped_lists, lane_at, list_at}
 use Rattle.history.specs.Regular.{HasChoice}
-use Rattle.history.specs.declared.lane_list.LaneList.{LaneList}
 use Rattle.history.proofs.BoundLemmas.{list-accepted, list-dropped}
 use Rattle.hop_rule.specs.Deliveries.{Delivery, delivery}
 use Rattle.hop_rule.specs.Moments.{nth_step}
@@ -31,8 +30,7 @@ use Rattle.hop_rule.proofs.Moments.{nth-inside, nth-last, nth-old}
 use Rattle.board_api.specs.OwnSteps.{Has, delivered_by, delivered_in}
 use Rattle.board_api.specs.declared.lists.BoardLists.{BoardLists}
 use Rattle.hop_delivery.specs.Closings.FlowLaw.{accepted_left}
-use Rattle.hop_delivery.specs.Orders.Runs.{Story, turns_of}
-use Rattle.hop_delivery.specs.Orders.Turns.{Turn}
+use Rattle.hop_delivery.specs.Orders.Runs.{Story}
 use Rattle.hop_delivery.specs.Closings.PutPlaces.{AreTurnsOf, HasTurn, PacketsStandOnce}
 use Rattle.run_laws.specs.Ties.Turns.{KeepsTurns}
 use Rattle.run_laws.proofs.Lists.PlaceLemmas.{StandOnce, among_at, at_in, choice_at, drop_at}
@@ -202,9 +200,11 @@ module _ (about : BoardSizes) (own : ℕ → List BoardStep) (lists : BoardLists
       × (is_among (lane_at lists.lanes c).delivered x (lane_at lists.lanes c).accepted ≡ true)
   out-among o x is =
       let a = at_in x (list_at lists.outs o) is in
-      let f = came-from o a.0 x a.1 in
-      (f.lane, among_at x f.index (lane_at lists.lanes f.lane).delivered
-      (accepted_left lists f.lane) f.stands_at f.early)
+      let f = came-from o a.0 x a.1 in (
+        f.lane,
+        among_at x f.index (lane_at lists.lanes f.lane).delivered
+            (accepted_left lists f.lane) f.stands_at f.early,
+      )
 
   pub outs-stand : StandOnce lists.outs
   outs-stand o u i j x at there =

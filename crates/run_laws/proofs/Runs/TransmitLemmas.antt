@@ -1,14 +1,13 @@
 -- The transmit side of a good history, from what the threads keep at the transmit board.
-use Rattle.std.proofs.Common.{◌≡◌, ◌≢◌, ◌⊎◌, inl, inr, ℕ, zero, suc, ◌+◌, ◌-◌, ◌*◌, ◌<◌, ◌≤◌, ◌==◌, ◌&&◌}
-use Rattle.std.proofs.Common.{not, Bool, true, false, List, [], ◌∷◌, ◌++◌, Option, Some, None, length}
+use Rattle.std.proofs.Common.{◌≡◌, ◌≢◌, ℕ, ◌-◌, ◌<◌, ◌≤◌, ◌==◌, ◌&&◌}
+use Rattle.std.proofs.Common.{Bool, true, false, List, [], ◌∷◌, Option, Some, None, length}
 use Rattle.std.proofs.Common.{map, All, if◌then◌else◌, sym, refl, ap, ◌∙◌, subst, arith, get_or}
 use Rattle.std.specs.Prelude.{IsSome, drop, nat_lt, slice_get, take}
 use Rattle.std.specs.List.{list_any}
 use Rattle.std.specs.Option.{option_map, unwrap_or}
-use Rattle.std.proofs.lemmas.Bool.{cases_eq, eq-eqb, eqb-true, ne_eqb}
+use Rattle.std.proofs.lemmas.Bool.{ne_eqb}
 use Rattle.std.proofs.lemmas.List.Elements.{All-from_get_or}
 use Rattle.std.proofs.lemmas.Option.{slice_get-get_or}
-use Rattle.steer_base.specs.Apps.{app_of}
 use Rattle.steer_base.specs.Drops.{bucket_count, bucket_of, cause_by, flow_cause, lane_drop_cause}
 use Rattle.steer_base.specs.Entries.{entry}
 use Rattle.steer_base.specs.Lanes.{LaneLists}
@@ -26,38 +25,33 @@ use Rattle.steer_base.proofs.RuleLemmas.{by_entry-class}
 use Rattle.backlog.specs.Puts.{put_count}
 use Rattle.history.specs.Finding.{Once, is_among, is_in}
 use Rattle.history.specs.Lists.{accepted_lists, lane_at, list_at, packet_at}
-use Rattle.history.specs.Regular.{AreShipped, HasChoice}
+use Rattle.history.specs.Regular.{AreShipped}
 use Rattle.history.specs.declared.history.History.{History}
 use Rattle.history.specs.declared.lane_list.LaneList.{LaneList}
-use Rattle.history.specs.declared.sent.Sent.{Sent}
 use Rattle.hop_core.specs.Hop.{nobody}
-use Rattle.hop_rule.specs.Gates.{own_settings}
-use Rattle.hop_rule.specs.Boards.{gate_steps}
-use Rattle.hop_rule.specs.Moments.{nth_step}
 use Rattle.hop_rule.specs.Sizes.{closer}
 use Rattle.hop_rule.specs.declared.sizes.BoardSizes.{BoardSizes}
 use Rattle.hop_rule.specs.declared.step.BoardStep.{BoardStep}
-use Rattle.hop_rule.specs.declared.step.BoardStep.TheVariants.{Lane, Gate, Weighed, Counted, OutCounted, LaneOut, LaneIn}
-use Rattle.hop_rule.specs.declared.step.GateStep.TheVariants.{Entered, Turned, Left, Shut, NotShut, Opened, Set, Read}
+use Rattle.hop_rule.specs.declared.step.BoardStep.TheVariants.{Lane, Gate, Weighed, Counted}
+use Rattle.hop_rule.specs.declared.step.BoardStep.TheVariants.{OutCounted, LaneOut, LaneIn}
+use Rattle.hop_rule.specs.declared.step.GateStep.TheVariants.{Entered, Turned, Left, Shut, NotShut}
+use Rattle.hop_rule.specs.declared.step.GateStep.TheVariants.{Opened, Set, Read}
 use Rattle.hop_rule.proofs.Lists.{none-some, some-is}
-use Rattle.board_api.specs.Laws.Puts.{PutStands}
 use Rattle.board_api.specs.declared.lists.BoardLists.{BoardLists}
 use Rattle.hop_delivery.specs.Closings.FlowLaw.{accepted_left}
 use Rattle.hop_delivery.specs.Orders.DeliveryLaw.{came_by}
 use Rattle.hop_delivery.specs.Orders.Premises.{AllFindEmpty, FindsEmpty, MeetsPremises}
-use Rattle.hop_delivery.specs.Orders.Runs.{Steering, Story, turns_of}
+use Rattle.hop_delivery.specs.Orders.Runs.{Steering, Story}
 use Rattle.hop_delivery.specs.Orders.TransmitSettings.{transmit_steering}
-use Rattle.hop_delivery.specs.Orders.Turns.{Turn}
 use Rattle.hop_delivery.proofs.Orders.TransmitSettingLemmas.{transmit_steers}
-use Rattle.steer_model.specs.Good.Deliveries.{of_flow}
 use Rattle.steer_model.specs.Good.Inputs.{Input, setup_in}
 use Rattle.steer_model.specs.Good.Replies.{AreInOneTxPlace, of_reply, replies_of}
-use Rattle.steer_model.specs.State.Setup.{flow_number_of, packet_hash}
+use Rattle.steer_model.specs.State.Setup.{flow_number_of}
 use Rattle.run_laws.specs.Laws.Replies.{RepliesAreBy, commands_before_reply}
 use Rattle.run_laws.specs.Ties.Runs.{TransmitTies}
 use Rattle.run_laws.specs.Ties.Tries.{Try}
 use Rattle.run_laws.proofs.Ends.InboxLemmas.{any-is}
-use Rattle.run_laws.proofs.Lists.PlaceLemmas.{StandOnce, apart_from, at_in, in_at, once_from}
+use Rattle.run_laws.proofs.Lists.PlaceLemmas.{StandOnce, apart_from, at_in, once_from}
 use Rattle.run_laws.proofs.Runs.ApplicationLemmas as apps
 use Rattle.run_laws.proofs.Runs.FactLemmas.{BoardFacts}
 use Rattle.run_laws.proofs.Runs.PutTurnLemmas.{turn-at}
@@ -120,13 +114,15 @@ module _ (i : Input) (h : History) (rx : BoardSizes) (rx_own : ℕ → List Boar
 
   pub turns : Rattle.hop_delivery.specs.Closings.PutPlaces.AreTurnsOf own t
   turns =
-      apps.are-turns i h rx rx_own rx_lists rx_facts inboxes inboxes_stand about own lists facts tries
+      apps.are-turns i h rx rx_own rx_lists rx_facts inboxes inboxes_stand about own lists facts
+      tries
       t seen within ties
 
   pub once : (p q j k x : ℕ) → slice_get (t.arrivals p) j ≡ Some x
       → slice_get (t.arrivals q) k ≡ Some x → (p ≡ q) × (j ≡ k)
   once =
-      apps.reply-once i h rx rx_own rx_lists rx_facts inboxes inboxes_stand about own lists facts tries
+      apps.reply-once i h rx rx_own rx_lists rx_facts inboxes inboxes_stand about own lists facts
+      tries
       t seen within ties
 
   pub front : (a : ℕ) → IsPrefix (replies_of h a) (list_at h.inboxes a)
@@ -299,7 +295,8 @@ module _ (i : Input) (h : History) (rx : BoardSizes) (rx_own : ℕ → List Boar
       → (a : ℕ) × (k : ℕ) × (slice_get (t.arrivals a) k ≡ Some x)
   port-replied x is =
       let n = at_in x (list_at lists.outs 0) (ap (is_in x) (sym ties.board.port) ∙ is) in
-      let f = stand.came-from about own lists facts t ties.applications.turns turns once h.tx_choices
+      let f = stand.came-from about own lists facts t ties.applications.turns turns once
+      h.tx_choices
       ties.applications.choices 0 n.0 x n.1 in
       stand.accepted-arrived about own lists facts t ties.applications.turns turns once h.tx_choices
       ties.applications.choices f.lane f.index x f.stands_at

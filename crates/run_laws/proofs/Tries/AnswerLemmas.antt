@@ -1,11 +1,10 @@
 -- The answers of the controller.
-use Rattle.std.proofs.Common.{◌≡◌, ◌≢◌, ◌⊎◌, inl, inr, ℕ, zero, suc, ◌+◌, ◌<◌, ◌≤◌, List, [], ◌∷◌, ◌++◌, Option, Some, None, length, map, take, sym, refl, ap, ◌∙◌, subst, arith, append_assoc, length-append}
+use Rattle.std.proofs.Common.{◌≡◌, ◌⊎◌, inl, inr, ℕ, zero, suc, ◌<◌, ◌≤◌, List, [], ◌∷◌, ◌++◌}
+use Rattle.std.proofs.Common.{Option, Some, None, length, take, sym, refl, ap, ◌∙◌, subst, arith}
+use Rattle.std.proofs.Common.{append_assoc, length-append}
 use Rattle.std.specs.Prelude.{slice_get}
 use Rattle.steer_base.specs.Counters.{distance}
-use Rattle.steer_base.specs.declared.command.Answer.{Answer}
-use Rattle.steer_base.specs.declared.command.Answer.TheVariants as says
 use Rattle.steer_base.specs.declared.command.Busy.TheVariants as busy
-use Rattle.steer_base.specs.declared.command.Command.{Command}
 use Rattle.steer_base.specs.declared.command.Refused.{Refused}
 use Rattle.history.specs.Lists.{lane_at}
 use Rattle.history.specs.declared.commanded.Commanded.{Commanded}
@@ -19,14 +18,14 @@ use Rattle.hop_rule.specs.declared.step.BoardStep.TheVariants.{Counted, Weighed}
 use Rattle.hop_rule.proofs.Lists.{none-some, some-is}
 use Rattle.hop_rule.proofs.Moments.{nth-last, nth-old}
 use Rattle.board_api.specs.declared.lists.BoardLists.{BoardLists}
-use Rattle.steer_model.specs.Good.Commands.{IsAnswer, IsEnd, MayBeBusy, refused_with}
+use Rattle.steer_model.specs.Good.Commands.{IsAnswer, MayBeBusy, refused_with}
 use Rattle.steer_model.specs.Good.Inputs.{Input, settings_after, settings_at}
 use Rattle.steer_model.specs.State.Settings.{Settings}
 use Rattle.steer_model.specs.State.Start.{initial_settings}
 use Rattle.run_laws.proofs.Tries.TryLemmas.{given_by, length-given, settings-given, take-given}
 use Rattle.run_laws.specs.Laws.Commands.{CommandsFollow, IsBoardOf}
-use Rattle.run_laws.specs.Ties.Answers.{AllAnswered, FindsOneBusy, IsAnswered, IsBusy}
-use Rattle.run_laws.specs.Ties.Tries.{Try, oldest_first, settings_by, steps_of_tries, at_receive, at_transmit}
+use Rattle.run_laws.specs.Ties.Answers.{AllAnswered, FindsOneBusy, IsAnswered}
+use Rattle.run_laws.specs.Ties.Tries.{Try, settings_by, steps_of_tries, at_receive, at_transmit}
 
 -- ---- the k-th command and its try
 
@@ -183,7 +182,8 @@ module _ (i : Input) (h : History) (tries : List Try) (rx tx : BoardSizes)
       subst (λ (z : Commanded × Settings).
       IsAnswer i h z.0.command (refused_with i z.1 z.0.command) z.0.answer)
       (λ j. (t.given j, settings j))
-      (answer_is t.more x older t.are (refused_with i (settings_by begin older) x.given.command) own)
+      (answer_is t.more x older t.are (refused_with i (settings_by begin older) x.given.command)
+      own)
 
 pub commands_follow : CommandsFollow
 commands_follow i h tries rx tx rx_own tx_own rx_lists tx_lists a b commands given all =

@@ -1,5 +1,6 @@
 -- A lane that was not found empty.
-use Rattle.std.proofs.Common.{◌≡◌, ◌≢◌, ℕ, ◌+◌, ◌-◌, ◌%◌, ◌/◌, ◌^◌, ◌<◌, ◌≤◌, List, length, sym, refl, ap, ◌∙◌, subst, arith}
+use Rattle.std.proofs.Common.{◌≡◌, ◌≢◌, ℕ, ◌+◌, ◌-◌, ◌%◌, ◌/◌, ◌^◌, ◌<◌, ◌≤◌, List, length, sym, ap}
+use Rattle.std.proofs.Common.{◌∙◌, subst, arith}
 use Rattle.steer_base.specs.Counters.{distance, number}
 use Rattle.steer_base.proofs.CountersLemmas.{distance-further}
 use Rattle.history.specs.Lists.{lane_at}
@@ -8,7 +9,7 @@ use Rattle.hop_rule.specs.declared.sizes.BoardSizes.{BoardSizes}
 use Rattle.hop_rule.specs.declared.step.BoardStep.{BoardStep}
 use Rattle.board_api.specs.Laws.Heads.{HeadsAreBelowTails, HeadsRise}
 use Rattle.board_api.specs.Laws.Lanes.{LanesAreInTurn}
-use Rattle.board_api.specs.StepWords.{low_half, tail_in}
+use Rattle.board_api.specs.StepWords.{tail_in}
 use Rattle.board_api.specs.declared.lists.BoardLists.{BoardLists}
 use Rattle.run_laws.specs.Laws.BusyLanes.{BusyLanesAreBusy}
 
@@ -48,7 +49,8 @@ busy_lanes about own lists fit rise below turn q j k l head tail less weighs cou
     let of_head = shown about.start head small a (omega arith) in
     let of_tail = shown about.start (tail / 2) small (omega arith) (omega arith) in
     let ne : head ≢ tail / 2 = λ e. apart (ap (λ n. n % 2 ^ 32) e) in (
-      (let d : head - about.start < tail / 2 - about.start = below-of head (tail / 2) about.start a c.0 ne in
+      (let d : head - about.start
+          < tail / 2 - about.start = below-of head (tail / 2) about.start a c.0 ne in
           subst (λ n. n < distance (tail_in tail) about.start) (sym of_head)
           (subst (λ n. head - about.start < n) (sym of_tail) d)),
       subst (λ n. n ≤ (lane_at lists.lanes l).retired) (sym of_head) (omega arith),

@@ -1,14 +1,12 @@
 -- The forms of a try from what its calls add.
-use Rattle.std.proofs.Common.{◌≡◌, ℕ, List, [], ◌∷◌, ◌++◌, sym, refl, ap, ◌∙◌}
+use Rattle.std.proofs.Common.{List, [], ◌∷◌, ◌++◌, refl, ap, ◌∙◌}
 use Rattle.std.specs.List.{filter_map}
-use Rattle.hop_rule.specs.Boards.{gate_steps}
 use Rattle.hop_rule.specs.declared.step.BoardStep.{BoardStep}
-use Rattle.hop_rule.specs.declared.step.BoardStep.TheVariants.{Counted, Gate, Weighed}
-use Rattle.hop_rule.specs.declared.step.GateStep.{GateStep}
-use Rattle.hop_rule.specs.declared.step.GateStep.TheVariants.{NotShut, Opened, Set, Shut}
-use Rattle.board_api.specs.Calls.Results.{Looked, looking}
+use Rattle.hop_rule.specs.declared.step.BoardStep.TheVariants.{Gate}
+use Rattle.hop_rule.specs.declared.step.GateStep.TheVariants.{Opened, Set, Shut}
+use Rattle.board_api.specs.Calls.Results.{looking}
 use Rattle.run_laws.proofs.Tries.EmptiedLemmas.{gates-looking, looking-split, no-sets-looking}
-use Rattle.run_laws.specs.Laws.Calls.{BusyCallsLook, DoneCallsSet, InsideCallsNone, LooksAtLast, busy_steps}
+use Rattle.run_laws.specs.Laws.Calls.{BusyCallsLook, DoneCallsSet, InsideCallsNone}
 use Rattle.run_laws.specs.Ties.Tries.{set_or_opening, sets_and_openings}
 
 pub done_calls : DoneCallsSet
@@ -22,7 +20,8 @@ busy_calls looked last word =
     let base : List BoardStep = Gate (Shut word) ∷ [] in
     record {
       opens =
-          ap (λ gs. Opened ∷ filter_map set_or_opening gs) (gates-looking (looked ++ last ∷ []) base);
+          ap (λ gs. Opened ∷ filter_map set_or_opening gs)
+          (gates-looking (looked ++ last ∷ []) base);
       none = (refl, no-sets-looking (looked ++ last ∷ []) base (refl, tt));
       newer = Gate Opened ∷ [];
       between = [];

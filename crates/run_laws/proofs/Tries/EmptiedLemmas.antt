@@ -1,5 +1,7 @@
 -- Lanes that the controller found empty before it set.
-use Rattle.std.proofs.Common.{◌≡◌, ◌≢◌, ◌⊎◌, inl, inr, ℕ, zero, suc, ◌+◌, ◌%◌, ◌/◌, ◌^◌, ◌<◌, ◌==◌, Bool, true, false, cond, List, [], ◌∷◌, ◌++◌, length, map, All, if◌then◌else◌, sym, refl, ap, ◌∙◌, subst, arith, append_assoc}
+use Rattle.std.proofs.Common.{◌≡◌, inl, inr, ℕ, zero, suc, ◌+◌, ◌<◌, Bool, true, false, cond, List}
+use Rattle.std.proofs.Common.{[], ◌∷◌, ◌++◌, length, map, All, if◌then◌else◌, sym, refl, ap, ◌∙◌}
+use Rattle.std.proofs.Common.{subst, arith, append_assoc}
 use Rattle.std.proofs.lemmas.List.Elements.{All-head, All-tail}
 use mathlib.Core.Logic.{dite}
 use native.Mathlib.Decide.{ℕ_discrete}
@@ -11,23 +13,28 @@ use Rattle.hop_rule.specs.Boards.{gate_steps}
 use Rattle.hop_rule.specs.Gates.{openings, own_settings}
 use Rattle.hop_rule.specs.declared.sizes.BoardSizes.{BoardSizes}
 use Rattle.hop_rule.specs.declared.step.BoardStep.{BoardStep}
-use Rattle.hop_rule.specs.declared.step.BoardStep.TheVariants.{Lane, Gate, Weighed, Counted, OutCounted, LaneOut, LaneIn}
-use Rattle.hop_rule.specs.declared.step.GateStep.TheVariants.{Entered, Turned, Left, Shut, NotShut, Opened, Set, Read}
-use Rattle.board_api.specs.Calls.Results.{IsEmpty, Looked, lanes_in, looking}
+use Rattle.hop_rule.specs.declared.step.BoardStep.TheVariants.{Lane, Gate, Weighed, Counted}
+use Rattle.hop_rule.specs.declared.step.BoardStep.TheVariants.{OutCounted, LaneOut, LaneIn}
+use Rattle.hop_rule.specs.declared.step.GateStep.TheVariants.{Entered, Turned, Left, Shut, NotShut}
+use Rattle.hop_rule.specs.declared.step.GateStep.TheVariants.{Opened, Set, Read}
+use Rattle.board_api.specs.Calls.Results.{IsEmpty, Looked, looking}
 use Rattle.hop_delivery.specs.Orders.Commands.{AreAffected, SettingChange, received_sets}
 use Rattle.hop_delivery.specs.Orders.Premises.{AllFindEmpty, FindsEmpty, WasFoundEmpty}
 use Rattle.hop_delivery.specs.Orders.ReceiveSettings.{Queues, receive_steering}
 use Rattle.hop_delivery.specs.Orders.Runs.{Steering}
 use Rattle.hop_delivery.proofs.Orders.CommandLemmas.{received_commands_empty}
 use Rattle.run_laws.specs.Laws.EmptiedLanes.{TriesFindEmpty}
-use Rattle.run_laws.specs.Ties.EmptiedLanes.{AllFindLanes, FindsAllEmpty, FindsLanes, NoSets, is_set}
+use Rattle.run_laws.specs.Ties.EmptiedLanes.{AllFindLanes, FindsAllEmpty, FindsLanes, NoSets}
+use Rattle.run_laws.specs.Ties.EmptiedLanes.{is_set}
 use Rattle.run_laws.specs.Ties.Tries.{Try, steps_of_tries, words_after}
 
 -- ---- looks at lanes
 
-pub looking-append : (xs : List Looked) (a b : List BoardStep) → looking xs (a ++ b) ≡ looking xs a ++ b
+pub looking-append : (xs : List Looked) (a b : List BoardStep) → looking xs (a ++ b)
+    ≡ looking xs a ++ b
 looking-append [] a b = refl
-looking-append (x ∷ xs) a b = looking-append xs (Counted x.lane x.tail ∷ Weighed x.lane x.head ∷ a) b
+looking-append (x ∷ xs) a b = looking-append xs (Counted x.lane x.tail ∷ Weighed x.lane x.head ∷ a)
+    b
 
 pub looking-split : (xs : List Looked) (x : Looked) (ys : List Looked) (b : List BoardStep)
     → looking (xs ++ x ∷ ys) b
@@ -158,7 +165,8 @@ module _ (about : BoardSizes) (q : Queues) (cpus txs : ℕ) (f : Try → List Bo
   found_one : (t : Try) (ts : List Try) (m : SettingChange)
       → received_sets q (words_after about (received_sets q) f ts) t.given.command ≡ m ∷ []
       → FindsAllEmpty about q.homes cpus txs t.given.command m (f t)
-      → AllFindEmpty about r (steps_of_tries f ts) → AllFindEmpty about r (steps_of_tries f (t ∷ ts))
+      → AllFindEmpty about r (steps_of_tries f ts)
+      → AllFindEmpty about r (steps_of_tries f (t ∷ ts))
   found_one t ts m one e all =
       let older : List BoardStep = steps_of_tries f ts in
       let c : Command = t.given.command in
@@ -173,7 +181,8 @@ module _ (about : BoardSizes) (q : Queues) (cpus txs : ℕ) (f : Try → List Bo
       λ l less affects. (
       let few : l < cpus = subst (λ n. l < n) lanes less in
       let affected = All-head
-      (λ (z : SettingChange). r.affects s z.word z.value l ≡ true → is_affected c q.homes cpus txs l ≡ true)
+      (λ (z : SettingChange). r.affects s z.word z.value l ≡ true → is_affected c q.homes cpus txs l
+      ≡ true)
       m []
       (subst (AreAffected r s c q.homes cpus txs l)
       (ap (λ w. received_sets q w c) words ∙ one)
@@ -190,7 +199,8 @@ module _ (about : BoardSizes) (q : Queues) (cpus txs : ℕ) (f : Try → List Bo
       )
 
   found_by : (t : Try) (ts : List Try) → FindsLanes about q cpus txs f t ts
-      → AllFindEmpty about r (steps_of_tries f ts) → AllFindEmpty about r (steps_of_tries f (t ∷ ts))
+      → AllFindEmpty about r (steps_of_tries f ts)
+      → AllFindEmpty about r (steps_of_tries f (t ∷ ts))
   found_by t ts (inl none) all = all-quiet about r (f t) (steps_of_tries f ts) none all
   found_by t ts (inr (m, one, e)) all = found_one t ts m one e all
 

@@ -1,21 +1,20 @@
 -- The homes of all queues stay online.
-use Rattle.std.proofs.Common.{◌≡◌, ◌≢◌, ◌⊎◌, inl, inr, ℕ, zero, suc, ◌<◌, ◌≤◌, ◌==◌, ◌&&◌, ◌||◌, not}
-use Rattle.std.proofs.Common.{Bool, true, false, List, [], ◌∷◌, Option, Some, None, length, map, All}
-use Rattle.std.proofs.Common.{if◌then◌else◌, sym, refl, ap, ◌∙◌, subst, arith}
+use Rattle.std.proofs.Common.{◌≡◌, ◌≢◌, ℕ, zero, suc, ◌<◌, ◌≤◌, ◌==◌, ◌&&◌, ◌||◌, not}
+use Rattle.std.proofs.Common.{Bool, true, false, List, [], ◌∷◌, Option, Some, None, length, map}
+use Rattle.std.proofs.Common.{All}
+use Rattle.std.proofs.Common.{if◌then◌else◌, sym, refl, ap, ◌∙◌, arith}
 use Rattle.std.specs.Prelude.{nat_lt, position, slice_index}
 use Rattle.std.specs.List.{position_or_len}
 use Rattle.std.specs.Option.{option_map}
-use Rattle.std.proofs.lemmas.Bool.{cases_Bool, cases_eq, eq-eqb, ne_eqb, lt-ltb, ltb-false, ltb-true}
+use Rattle.std.proofs.lemmas.Bool.{eq-eqb, ne_eqb, lt-ltb, ltb-false, ltb-true}
 use Rattle.std.proofs.lemmas.List.Elements.{All-head, All-tail}
 use Rattle.std.proofs.lemmas.List.Sums.{fails_before_first}
-use Rattle.steer_base.specs.Commands.{queue_or_app, refusal, user_of}
+use Rattle.steer_base.specs.Commands.{queue_or_app, user_of}
 use Rattle.steer_base.specs.Sets.{has}
-use Rattle.steer_base.specs.declared.command.Answer.{Answer}
 use Rattle.steer_base.specs.declared.command.Command.{Command}
 use Rattle.steer_base.specs.declared.command.Command.TheVariants as give
 use Rattle.steer_base.specs.declared.command.Refused.{Refused}
 use Rattle.steer_base.specs.declared.command.Refused.TheVariants as refused
-use Rattle.steer_base.specs.declared.command.User.{User}
 use Rattle.steer_base.proofs.MasksLemmas.{has-first_cpus, has-with_cpu, has-without_cpu}
 use Rattle.history.specs.declared.history.History.{History}
 use Rattle.plan_reader.specs.Ranges.{QueueIsWithin}
@@ -24,7 +23,7 @@ use Rattle.steer_model.specs.Good.Commands.{refused_with}
 use Rattle.steer_model.specs.Good.Inputs.{Input, setup_in}
 use Rattle.steer_model.specs.State.Settings.{Settings, changed}
 use Rattle.steer_model.specs.State.Start.{initial_settings}
-use Rattle.steer_model.specs.Steps.Commands.{is_done, refused_answer}
+use Rattle.steer_model.specs.Steps.Commands.{is_done}
 use Rattle.run_laws.specs.Ties.Answers.{AllAnswered, IsAnswered}
 use Rattle.run_laws.specs.Ties.Tries.{Try, settings_by}
 use Rattle.run_laws.proofs.Tries.RangeLemmas.{IsWithinPlan}
@@ -160,5 +159,6 @@ module _ (i : Input) where
       by_done true done on within answer =
           homes_changed (settings_by (initial_settings i.plan) ts) t.given.command within
           (done-free h t
-          (refused_with i (settings_by (initial_settings i.plan) ts) t.given.command) done answer) on
+          (refused_with i (settings_by (initial_settings i.plan) ts) t.given.command) done answer)
+          on
       by_done false done on within answer = on

@@ -1,67 +1,31 @@
 -- The words of a transmit board after any tries are the maps of the settings after them.
-use Rattle.std.proofs.Common.{◌≡◌, ◌≢◌, ◌⊎◌, inl, inr, ℕ, zero, suc, ◌+◌, ◌/◌, ◌^◌, ◌<◌, ◌≤◌, ◌==◌, not, Bool, true, false, List, [], ◌∷◌, ◌++◌, Option, Some, None, length, map, take, drop, filter, All, if◌then◌else◌, sym, refl, ap, ◌∙◌, subst, arith, length-append}
-use Rattle.std.specs.Prelude.{slice_get, slice_index, slice_index_or, slice_set, unwrap_or}
-use Rattle.std.proofs.lemmas.Bool.{lt-ltb}
+use Rattle.std.proofs.Common.{◌≡◌, inl, inr, ℕ, ◌+◌, ◌<◌, Bool, true, List, [], ◌∷◌, ◌++◌, Option}
+use Rattle.std.proofs.Common.{length, All, if◌then◌else◌, sym, refl, ap, ◌∙◌, subst, arith}
+use Rattle.std.specs.Prelude.{slice_index, slice_index_or, slice_set, unwrap_or}
 use Rattle.std.proofs.lemmas.List.{get_or-set_same, get_or-set_other, length-set}
-use Rattle.std.proofs.lemmas.List.Elements.{All-head, All-nil, All-cons, All-tail}
-use Rattle.std.proofs.lemmas.Nat.Bits.{bit_at_ones}
+use Rattle.std.proofs.lemmas.List.Elements.{All-head, All-tail}
 use mathlib.Core.Logic.{dite}
 use native.Mathlib.Decide.{ℕ_discrete}
 use Rattle.linearization.proofs.ListLemmas.{if_same, if_other}
-use Rattle.steer_base.specs.Choices.{by_entry, migrate}
-use Rattle.steer_base.specs.Counters.{has_reached}
-use Rattle.steer_base.specs.Entries.{current_lane, entry, is_class, last_or, of_class}
-use Rattle.steer_base.specs.Sends.{candidates, first_filled, pick_of}
+use Rattle.steer_base.specs.Sends.{first_filled, pick_of}
 use Rattle.steer_base.specs.Sets.{at_hash, has, has_queue, those_below}
-use Rattle.steer_base.specs.declared.choice.Choice.{Choice}
-use Rattle.steer_base.specs.declared.choice.Chosen.{Chosen}
-use Rattle.steer_base.specs.declared.choice.Entry.{Entry}
-use Rattle.steer_base.specs.declared.choice.Why.{Why}
-use Rattle.steer_base.specs.declared.choice.Why.TheVariants.{Kept, Offline, Passed, Same}
 use Rattle.steer_base.specs.declared.command.Command.{Command}
 use Rattle.steer_base.specs.declared.command.Command.TheVariants as give
 use Rattle.steer_base.specs.declared.cpu_mask.CpuMask.{CpuMask}
 use Rattle.steer_base.proofs.SetsLemmas.{those_below-same}
-use Rattle.dev_flow_table.specs.Walks.{since_resize}
 use Rattle.xps_map.specs.Maps.{Maps, no_cpus, picked, serves_cpu, serves_queue}
-use Rattle.history.specs.Lists.{list_at}
-use Rattle.history.specs.declared.commanded.Commanded.{Commanded}
-use Rattle.history.specs.declared.history.History.{History}
-use Rattle.history.specs.declared.sent.Sent.{Sent}
-use Rattle.hop_core.specs.Hop.{chosen_at, nobody}
-use Rattle.hop_rule.specs.Boards.{gate_steps}
-use Rattle.hop_rule.specs.Gates.{opened, openings, own_settings, with_setting}
-use Rattle.hop_rule.specs.Moments.{nth_step}
-use Rattle.hop_rule.specs.Sizes.{closer}
+use Rattle.hop_rule.specs.Gates.{own_settings, with_setting}
 use Rattle.hop_rule.specs.declared.sizes.BoardSizes.{BoardSizes}
 use Rattle.hop_rule.specs.declared.step.BoardStep.{BoardStep}
-use Rattle.hop_rule.proofs.Lists.{none-some, some-is}
-use Rattle.hop_rule.proofs.Moments.{nth-some}
-use Rattle.board_api.specs.Laws.Heads.{VisitNumbersRise}
-use Rattle.board_api.specs.declared.lists.BoardLists.{BoardLists}
 use Rattle.hop_delivery.specs.Orders.Commands.{SettingChange, sent_sets}
 use Rattle.hop_delivery.specs.Orders.ReceiveSettings.{mask}
-use Rattle.hop_delivery.specs.Orders.Runs.{IsByRule, Steering, Story, goal_of, turns_of, word_of}
-use Rattle.hop_delivery.specs.Orders.TransmitSettings.{pick_by, transmit_steering}
-use Rattle.hop_delivery.specs.Orders.Turns.{Turn, Explained}
-use Rattle.hop_delivery.specs.Closings.FlowLaw.{accepted_left}
-use Rattle.steer_model.specs.Steps.Applications.{everyone}
-use Rattle.steer_model.specs.Steps.Commands.{is_done}
-use Rattle.steer_model.specs.Good.Choices.{accepted_in}
-use Rattle.steer_model.specs.Good.Replies.{IsReplyByRule}
-use Rattle.steer_model.specs.Good.Inputs.{Input, settings_after, settings_at, setup_in}
+use Rattle.hop_delivery.specs.Orders.TransmitSettings.{pick_by}
 use Rattle.steer_model.specs.State.Settings.{Settings, changed}
-use Rattle.steer_model.specs.State.Setup.{flow_number_of, packet_hash}
-use Rattle.steer_model.specs.State.Start.{initial_settings}
-use Rattle.run_laws.proofs.Turns.EntryLemmas.{entries-rise, entry-at}
-use Rattle.run_laws.proofs.Turns.OwnHeadLemmas.{migrate_own}
-use Rattle.run_laws.proofs.Turns.ChoiceLemmas.{get-or}
-use Rattle.run_laws.proofs.Tries.OpeningLemmas.{all-later, are-later}
-use Rattle.run_laws.proofs.Tries.TryLemmas.{Form, sets_one, opens, makes_none, form, first-tries, given_by, length-given, made-more, openings-makings, settings-given, settings_opened, take-given, tries-grow, words-made}
-use Rattle.run_laws.specs.Laws.Replies.{RepliesAreBy, RepliesFollow, RepliesHaveTurns, commands_before_reply}
-use Rattle.run_laws.specs.Ties.Boards.{IsTransmitBoard}
+use Rattle.run_laws.proofs.Tries.TryLemmas.{Form, sets_one, opens, makes_none, form, made-more}
+use Rattle.run_laws.proofs.Tries.TryLemmas.{words-made}
 use Rattle.run_laws.specs.Ties.Inputs.{AreTransmitWords, NamesTransmitQueues}
-use Rattle.run_laws.specs.Ties.Tries.{AllSetByAnswer, KeepsTransmitTries, Try, at_transmit, openings_by, sets_and_openings, settings_by, steps_of_tries, tries_up_to, words_after}
+use Rattle.run_laws.specs.Ties.Tries.{AllSetByAnswer, Try, sets_and_openings, settings_by}
+use Rattle.run_laws.specs.Ties.Tries.{steps_of_tries, words_after}
 
 abbrev first_made : List SettingChange → SettingChange
 first_made [] = record { word = 0; value = 0 }
@@ -90,7 +54,8 @@ map_with count s w (give.XCpus tx cpus) within some a =
           ∙ sym (ap (λ (z : CpuMask). z.0)
           (get_or-set_other s.maps.cpus tx y cpus no_cpus (λ e. ne (sym e))))));
       queues = λ y lt.
-          if_other tx (count + y) cpus.0 (w (count + y)) (λ e. absurd (omega arith)) ∙ a.queues y lt;
+          if_other tx (count + y) cpus.0 (w (count + y)) (λ e. absurd (omega arith))
+          ∙ a.queues y lt;
     }
 map_with count s w (give.XQueues tx rxqs) within some a =
     record {
@@ -155,7 +120,8 @@ module _ (about : BoardSizes) (count : ℕ) (s : Settings) (f : Try → List Boa
   Fit ts = AreTransmitWords count (settings_by s ts) (words_after about sets f ts)
 
   more_maps : (t : Try) (ts : List Try) → NamesTransmitQueues count t.given.command
-      → Form (words_after about sets f ts) sets t.given (sets_and_openings (f t)) → Fit ts → Fit (t ∷ ts)
+      → Form (words_after about sets f ts) sets t.given (sets_and_openings (f t)) → Fit ts
+      → Fit (t ∷ ts)
   more_maps t ts fits (sets_one m done one is) a =
       let w : ℕ → ℕ = words_after about sets f ts in
       let c : Command = t.given.command in
@@ -213,7 +179,8 @@ module _ (about : BoardSizes) (count : ℕ) (s : Settings) (f : Try → List Boa
   maps_are (t ∷ ts) fits are =
       more_maps t ts (All-head (λ (t : Try). NamesTransmitQueues count t.given.command) t ts fits)
       (form (words_after about sets f ts) sets t.given (sets_and_openings (f t)) are.0)
-      (maps_are ts (All-tail (λ (t : Try). NamesTransmitQueues count t.given.command) t ts fits) are.1)
+      (maps_are ts (All-tail (λ (t : Try). NamesTransmitQueues count t.given.command) t ts fits)
+      are.1)
 
 -- the queue that is picked by such words
 pub pick-is : (count : ℕ) (s : Settings) (w : ℕ → ℕ) (rxq cpu : ℕ) (hash : Option ℕ)

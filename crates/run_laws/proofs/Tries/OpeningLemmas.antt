@@ -1,53 +1,30 @@
 -- The words and the settings of the receive board at an opening are those of the tries up to it.
-use Rattle.std.proofs.Common.{◌≡◌, ◌⊎◌, inl, inr, ℕ, zero, suc, ◌+◌, ◌*◌, ◌/◌, ◌%◌, ◌^◌, ◌<◌, ◌≤◌, ◌==◌, not, Bool, true, false, List, [], ◌∷◌, ◌++◌, Option, Some, None, length, map, take, drop, All, if◌then◌else◌, sym, refl, ap, ◌∙◌, subst, arith, length-append}
-use Rattle.std.specs.Prelude.{nat_lt, slice_get, slice_index, slice_index_or, unwrap_or}
-use Rattle.std.specs.List.{list_any}
-use Rattle.std.proofs.lemmas.Bool.{cases_lt, lt-ltb}
+use Rattle.std.proofs.Common.{◌≡◌, ℕ, ◌≤◌, List, [], ◌∷◌, ◌++◌, length, take, All, sym, ap, ◌∙◌}
+use Rattle.std.proofs.Common.{subst, arith, length-append}
 use Rattle.std.proofs.lemmas.List.Elements.{All-tail}
-use Rattle.steer_base.specs.Choices.{class_of, desired_cpu, migrate, online_or, rps_choice_of}
-use Rattle.steer_base.specs.Entries.{entry}
-use Rattle.steer_base.specs.Sets.{has}
-use Rattle.steer_base.specs.declared.choice.Choice.{Choice}
-use Rattle.steer_base.specs.declared.choice.Chosen.{Chosen}
 use Rattle.steer_base.specs.declared.command.Command.{Command}
-use Rattle.steer_base.specs.declared.cpu_mask.CpuMask.{CpuMask}
-use Rattle.dev_flow_table.specs.Walks.{since_resize}
-use Rattle.history.specs.Lists.{lane_at, list_at}
-use Rattle.history.specs.declared.commanded.Commanded.{Commanded}
 use Rattle.history.specs.declared.history.History.{History}
-use Rattle.history.specs.declared.lane_list.LaneList.{LaneList}
-use Rattle.hop_core.specs.Hop.{chosen_at, nobody}
 use Rattle.hop_rule.specs.Boards.{gate_steps}
-use Rattle.hop_rule.specs.Gates.{opened, openings, own_settings}
-use Rattle.hop_rule.specs.Moments.{nth_step}
+use Rattle.hop_rule.specs.Gates.{opened, own_settings}
 use Rattle.hop_rule.specs.Sizes.{closer}
 use Rattle.hop_rule.specs.declared.sizes.BoardSizes.{BoardSizes}
 use Rattle.hop_rule.specs.declared.step.BoardStep.{BoardStep}
-use Rattle.hop_rule.proofs.Moments.{nth-some}
-use Rattle.board_api.specs.Laws.Heads.{VisitNumbersRise}
 use Rattle.board_api.specs.declared.lists.BoardLists.{BoardLists}
 use Rattle.hop_delivery.specs.Orders.Commands.{SettingChange, received_sets}
-use Rattle.hop_delivery.specs.Orders.ReceiveSettings.{Queues, flows_word, mask, mask_word, online, online_word, queues, receive_steering, rps}
-use Rattle.hop_delivery.specs.Orders.Runs.{IsByRule, Steering, Story, goal_of, settings_of_visit, turns_of, word_of}
-use Rattle.hop_delivery.specs.Orders.Turns.{Turn, Explained}
-use Rattle.hop_delivery.specs.Closings.FlowLaw.{accepted_left}
-use Rattle.steer_model.specs.Good.Choices.{AreByRule, accepted_in}
-use Rattle.steer_model.specs.Good.Choices as good
-use Rattle.steer_model.specs.Good.Inputs.{Input, Prefixes, is_resize, settings_after, settings_at, setup_in, since_at}
-use Rattle.steer_model.specs.State.Settings.{Settings, class_at, mask_of, plain_lane}
-use Rattle.steer_model.specs.State.Setup.{Setup, flow_number_of, packet_hash}
+use Rattle.hop_delivery.specs.Orders.ReceiveSettings.{Queues, queues}
+use Rattle.steer_model.specs.Good.Inputs.{Input, settings_after, settings_at}
+use Rattle.steer_model.specs.State.Settings.{Settings}
 use Rattle.steer_model.specs.State.Start.{initial_settings}
-use Rattle.run_laws.proofs.Turns.EntryLemmas.{entries-rise, entry-at}
-use Rattle.run_laws.proofs.Turns.OwnHeadLemmas.{migrate_own}
-use Rattle.run_laws.proofs.Tries.ResizeLemmas.{flow_word, resized_between, since_same}
-use Rattle.run_laws.proofs.Tries.TryLemmas.{drop-given, first-tries, given_by, length-given, openings-makings, settings-given, settings_opened, take-given, tries-grow}
+use Rattle.run_laws.proofs.Tries.TryLemmas.{first-tries, given_by, length-given, settings-given}
+use Rattle.run_laws.proofs.Tries.TryLemmas.{settings_opened, take-given}
 use Rattle.run_laws.proofs.Tries.WordLemmas.{words_are}
-use Rattle.run_laws.specs.Laws.Choices.{ChoicesFollow, ChoicesHaveTurns, commands_before}
 use Rattle.run_laws.specs.Ties.Boards.{IsReceiveBoard}
-use Rattle.run_laws.specs.Ties.Inputs.{AreReceiveWords, FlowsHaveOneHash, NamesReceiveQueues, hash_of_flow, receive_queues}
-use Rattle.run_laws.specs.Ties.Tries.{AllSetByAnswer, KeepsReceiveTries, Try, at_receive, openings_by, resizes_by, settings_by, steps_of_tries, tries_up_to}
+use Rattle.run_laws.specs.Ties.Inputs.{AreReceiveWords, NamesReceiveQueues, receive_queues}
+use Rattle.run_laws.specs.Ties.Tries.{AllSetByAnswer, KeepsReceiveTries, Try, at_receive}
+use Rattle.run_laws.specs.Ties.Tries.{resizes_by, settings_by, tries_up_to}
 
-pub are-later : (about : BoardSizes) (sets : (ℕ → ℕ) → Command → List SettingChange) (f : Try → List BoardStep)
+pub are-later : (about : BoardSizes) (sets : (ℕ → ℕ) → Command → List SettingChange)
+    (f : Try → List BoardStep)
     (more ts : List Try) → AllSetByAnswer about sets f (more ++ ts) → AllSetByAnswer about sets f ts
 are-later about sets f [] ts are = are
 are-later about sets f (t ∷ more) ts are = are-later about sets f more ts are.1
@@ -61,51 +38,53 @@ module _ (i : Input) (h : History) (about : BoardSizes) (own : ℕ → List Boar
     (kept : KeepsReceiveTries i h about own tries)
     (fits : All (λ (t : Try). NamesReceiveQueues (queues (receive_queues i)) t.given.command) tries)
   where
-  abbrev q : Queues
-  q = receive_queues i
+    abbrev q : Queues
+    q = receive_queues i
 
-  abbrev first : Settings
-  first = initial_settings i.plan
+    abbrev first : Settings
+    first = initial_settings i.plan
 
-  abbrev sets : (ℕ → ℕ) → Command → List SettingChange
-  sets = received_sets q
+    abbrev sets : (ℕ → ℕ) → Command → List SettingChange
+    sets = received_sets q
 
-  abbrev upto : ℕ → List Try
-  upto n = tries_up_to at_receive n tries
+    abbrev upto : ℕ → List Try
+    upto n = tries_up_to at_receive n tries
 
-  abbrev after : ℕ → Settings
-  after n = settings_by first (upto n)
+    abbrev after : ℕ → Settings
+    after n = settings_by first (upto n)
 
-  abbrev shown : ℕ → ℕ → ℕ
-  shown n = own_settings about (opened n (gate_steps (own (closer about))))
+    abbrev shown : ℕ → ℕ → ℕ
+    shown n = own_settings about (opened n (gate_steps (own (closer about))))
 
-  pub words_of_opening : (n : ℕ) → AreReceiveWords q (after n) (λ p. resizes_by p (upto n)) (shown n)
-  words_of_opening n =
-      let f = first-tries about sets at_receive n tries kept.are in
-      let are : AllSetByAnswer about sets at_receive (upto n) =
-      are-later about sets at_receive f.0 (upto n)
-      (subst (AllSetByAnswer about sets at_receive) f.1 kept.are) in
-      let fit : All (λ (t : Try). NamesReceiveQueues (queues q) t.given.command) (upto n) =
-      all-later (λ (t : Try). NamesReceiveQueues (queues q) t.given.command) f.0 (upto n)
-      (subst (All (λ (t : Try). NamesReceiveQueues (queues q) t.given.command)) f.1 fits) in
-      subst (AreReceiveWords q (after n) (λ p. resizes_by p (upto n)))
-      (sym (ap (λ ds. own_settings about (opened n (gate_steps ds))) kept.own_list
-      ∙ settings_opened about sets at_receive n tries kept.are))
-      (words_are about q first at_receive board.settings (upto n) fit are)
+    pub words_of_opening : (n : ℕ)
+        → AreReceiveWords q (after n) (λ p. resizes_by p (upto n)) (shown n)
+    words_of_opening n =
+        let f = first-tries about sets at_receive n tries kept.are in
+        let are : AllSetByAnswer about sets at_receive (upto n) =
+        are-later about sets at_receive f.0 (upto n)
+        (subst (AllSetByAnswer about sets at_receive) f.1 kept.are) in
+        let fit : All (λ (t : Try). NamesReceiveQueues (queues q) t.given.command) (upto n) =
+        all-later (λ (t : Try). NamesReceiveQueues (queues q) t.given.command) f.0 (upto n)
+        (subst (All (λ (t : Try). NamesReceiveQueues (queues q) t.given.command)) f.1 fits) in
+        subst (AreReceiveWords q (after n) (λ p. resizes_by p (upto n)))
+        (sym (ap (λ ds. own_settings about (opened n (gate_steps ds))) kept.own_list
+        ∙ settings_opened about sets at_receive n tries kept.are))
+        (words_are about q first at_receive board.settings (upto n) fit are)
 
-  pub take-upto : (n : ℕ) → take (length (upto n)) h.commands ≡ given_by (upto n)
-  take-upto n =
-      let f = first-tries about sets at_receive n tries kept.are in
-      ap (take (length (upto n))) (kept.commands ∙ ap given_by f.1) ∙ take-given f.0 (upto n)
+    pub take-upto : (n : ℕ) → take (length (upto n)) h.commands ≡ given_by (upto n)
+    take-upto n =
+        let f = first-tries about sets at_receive n tries kept.are in
+        ap (take (length (upto n))) (kept.commands ∙ ap given_by f.1) ∙ take-given f.0 (upto n)
 
-  pub settings_of_opening : (n : ℕ) → settings_at i h (length (upto n)) ≡ after n
-  settings_of_opening n = ap (settings_after first) (take-upto n) ∙ sym (settings-given first (upto n))
+    pub settings_of_opening : (n : ℕ) → settings_at i h (length (upto n)) ≡ after n
+    settings_of_opening n = ap (settings_after first) (take-upto n)
+        ∙ sym (settings-given first (upto n))
 
-  pub length-upto : (n : ℕ) → length (upto n) ≤ length h.commands
-  length-upto n =
-      let f = first-tries about sets at_receive n tries kept.are in
-      let a = ap length f.1 in
-      let b = length-append f.0 (upto n) in
-      let c = ap length kept.commands in
-      let d = length-given tries in
-      omega arith
+    pub length-upto : (n : ℕ) → length (upto n) ≤ length h.commands
+    length-upto n =
+        let f = first-tries about sets at_receive n tries kept.are in
+        let a = ap length f.1 in
+        let b = length-append f.0 (upto n) in
+        let c = ap length kept.commands in
+        let d = length-given tries in
+        omega arith

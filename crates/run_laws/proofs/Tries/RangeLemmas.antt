@@ -1,28 +1,22 @@
--- The settings after any tries are within the plan's ranges, and the homes of all queues stay online.
-use Rattle.std.proofs.Common.{◌≡◌, ◌≢◌, ◌⊎◌, inl, inr, ℕ, zero, suc, ◌+◌, ◌-◌, ◌^◌, ◌<◌, ◌≤◌, ◌==◌}
-use Rattle.std.proofs.Common.{◌&&◌, ◌||◌, not, Bool, true, false, List, [], ◌∷◌, Option, Some, None}
-use Rattle.std.proofs.Common.{length, map, All, if◌then◌else◌, get_or, sym, refl, ap, ◌∙◌, subst, arith}
+-- The settings after any tries are within the plan's ranges, and the homes of all queues stay
+-- online.
+use Rattle.std.proofs.Common.{◌≡◌, inl, inr, ℕ, zero, suc, ◌+◌, ◌-◌, ◌^◌, ◌<◌, ◌≤◌, ◌==◌}
+use Rattle.std.proofs.Common.{◌&&◌, Bool, true, false, List, [], ◌∷◌}
+use Rattle.std.proofs.Common.{length, map, All, if◌then◌else◌, refl, ap, arith}
 use Rattle.std.proofs.Common.{nat_le, lit<}
-use Rattle.std.specs.Prelude.{find, nat_lt, position, slice_index, slice_index_or, slice_set}
+use Rattle.std.specs.Prelude.{find, nat_lt, slice_index, slice_index_or, slice_set}
 use Rattle.std.specs.Prelude.{unwrap_or}
 use Rattle.std.specs.List.{range_with_len}
-use Rattle.std.specs.Option.{option_map}
 use Rattle.std.proofs.Math.Nat.{pow-le-pow_right}
-use Rattle.std.proofs.Math.ListN.{get_or-eq_default, length-map}
-use Rattle.std.proofs.lemmas.Bool.{cases_Bool, cases_eq, cases_lt, eq-eqb, ne_eqb, leb-false, lt-ltb}
+use Rattle.std.proofs.lemmas.Bool.{cases_Bool, cases_eq, leb-false}
 use Rattle.std.proofs.lemmas.Bool.{ltb-true}
-use Rattle.std.proofs.lemmas.List.{get_or-map, get_or-set_same, get_or-set_other, length-set}
-use Rattle.std.proofs.lemmas.List.Elements.{All-get_or, All-head, All-tail}
+use Rattle.std.proofs.lemmas.List.Elements.{All-head, All-tail}
 use Rattle.std.proofs.lemmas.Nat.{and_le_l, or_lt}
 use Rattle.steer_base.specs.Counters.{first_power, rounded_up}
-use Rattle.steer_base.specs.Commands.{queue_or_app, refusal, user_of}
-use Rattle.steer_base.specs.Sets.{first_cpus, has, with_cpu, without_cpu}
 use Rattle.steer_base.specs.declared.command.Command.{Command}
 use Rattle.steer_base.specs.declared.command.Command.TheVariants as give
-use Rattle.steer_base.specs.declared.command.Refused.{Refused}
 use Rattle.steer_base.specs.declared.cpu_mask.CpuMask.{CpuMask}
 use Rattle.steer_base.specs.declared.limits.TheConstants.{MAX_FLOW_COUNT, MAX_SOCKET_SIZE}
-use Rattle.steer_base.proofs.MasksLemmas.{has-first_cpus, has-with_cpu, has-without_cpu}
 use Rattle.plan_reader.specs.Plans.{sizes_of}
 use Rattle.plan_reader.specs.Ranges.{QueueIsWithin, TxIsWithin, command_is_within}
 use Rattle.plan_reader.specs.declared.plan.TxPlan.{TxPlan}
@@ -252,13 +246,20 @@ module _ (plan : Plan) where
             set-number (λ n. n < 2 ^ length plan.queues) s.maps.queues tx y queues
             (ltb-true queues (2 ^ length plan.queues) b.1) (f.queue_sets y);
       }
-  maps_changed s (give.Mask q mask) within f = record { cpu_sets = f.cpu_sets; queue_sets = f.queue_sets }
-  maps_changed s (give.Flows q n) within f = record { cpu_sets = f.cpu_sets; queue_sets = f.queue_sets }
-  maps_changed s (give.Sock n) within f = record { cpu_sets = f.cpu_sets; queue_sets = f.queue_sets }
-  maps_changed s (give.Offline cpu) within f = record { cpu_sets = f.cpu_sets; queue_sets = f.queue_sets }
-  maps_changed s (give.Online cpu) within f = record { cpu_sets = f.cpu_sets; queue_sets = f.queue_sets }
-  maps_changed s (give.Reta place q) within f = record { cpu_sets = f.cpu_sets; queue_sets = f.queue_sets }
-  maps_changed s (give.Stand app cpu) within f = record { cpu_sets = f.cpu_sets; queue_sets = f.queue_sets }
+  maps_changed s (give.Mask q mask) within f = record
+      { cpu_sets = f.cpu_sets; queue_sets = f.queue_sets }
+  maps_changed s (give.Flows q n) within f = record
+      { cpu_sets = f.cpu_sets; queue_sets = f.queue_sets }
+  maps_changed s (give.Sock n) within f = record
+      { cpu_sets = f.cpu_sets; queue_sets = f.queue_sets }
+  maps_changed s (give.Offline cpu) within f = record
+      { cpu_sets = f.cpu_sets; queue_sets = f.queue_sets }
+  maps_changed s (give.Online cpu) within f = record
+      { cpu_sets = f.cpu_sets; queue_sets = f.queue_sets }
+  maps_changed s (give.Reta place q) within f = record
+      { cpu_sets = f.cpu_sets; queue_sets = f.queue_sets }
+  maps_changed s (give.Stand app cpu) within f = record
+      { cpu_sets = f.cpu_sets; queue_sets = f.queue_sets }
   maps_changed s give.Expire within f = f
 
   first-cpu_sets : (ts : List TxPlan) (tx : ℕ)

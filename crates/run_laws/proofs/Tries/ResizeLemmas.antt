@@ -1,12 +1,11 @@
 -- A resize lies between two openings exactly where the words of a queue's flow count differ.
-use Rattle.std.proofs.Common.{◌≡◌, ◌≢◌, ◌⊎◌, inl, inr, ℕ, zero, suc, ◌+◌, ◌*◌, ◌^◌, ◌<◌, ◌≤◌, ◌==◌, ◌&&◌, ◌||◌, not, Bool, true, false, List, [], ◌∷◌, ◌++◌, length, map, take, drop, All, if◌then◌else◌, sym, refl, ap, ◌∙◌, subst, arith, eq-eqb, ne_eqb}
-use Rattle.std.specs.Prelude.{slice_index, slice_set, nat_lt}
+use Rattle.std.proofs.Common.{◌≡◌, ◌≢◌, ℕ, zero, suc, ◌+◌, ◌*◌, ◌^◌, ◌<◌, ◌==◌, ◌&&◌, ◌||◌, not}
+use Rattle.std.proofs.Common.{Bool, true, false, List, [], ◌∷◌, ◌++◌, take, drop, if◌then◌else◌}
+use Rattle.std.proofs.Common.{sym, refl, ap, ◌∙◌, arith, eq-eqb, ne_eqb}
+use Rattle.std.specs.Prelude.{slice_index}
 use Rattle.std.specs.List.{list_any}
 use Rattle.std.proofs.lemmas.List.{get_or-set_other}
 use Rattle.std.proofs.lemmas.List.Folds.{list_any-append}
-use mathlib.Core.Logic.{dite}
-use native.Mathlib.Decide.{ℕ_discrete}
-use Rattle.linearization.proofs.ListLemmas.{if_same, if_other}
 use Rattle.steer_base.specs.declared.command.Command.{Command}
 use Rattle.steer_base.specs.declared.command.Command.TheVariants as give
 use Rattle.steer_base.specs.Counters.{rounded_up}
@@ -15,15 +14,16 @@ use Rattle.history.specs.declared.commanded.Commanded.{Commanded}
 use Rattle.steer_model.specs.Steps.Commands.{is_done}
 use Rattle.steer_model.specs.Good.Inputs.{is_flows, is_resize, since_at}
 use Rattle.steer_model.specs.State.Settings.{Settings, changed}
-use Rattle.run_laws.proofs.Tries.TryLemmas.{drop-given, given_by, take-given}
-use Rattle.run_laws.specs.Ties.Tries.{Try, oldest_first, resizes_by, settings_by}
+use Rattle.run_laws.proofs.Tries.TryLemmas.{given_by}
+use Rattle.run_laws.specs.Ties.Tries.{Try, resizes_by, settings_by}
 
 pub resizes-append : (p : ℕ) (xs ys : List Try)
     → resizes_by p (xs ++ ys) ≡ resizes_by p xs + resizes_by p ys
 resizes-append p [] ys = omega arith
 resizes-append p (t ∷ ts) ys = by_head (resizes-append p ts ys) (is_resize p t.given)
   where
-    by_head : resizes_by p (ts ++ ys) ≡ resizes_by p ts + resizes_by p ys → (b : Bool) → (if b then suc (resizes_by p (ts ++ ys)) else resizes_by p (ts ++ ys))
+    by_head : resizes_by p (ts ++ ys) ≡ resizes_by p ts + resizes_by p ys → (b : Bool)
+        → (if b then suc (resizes_by p (ts ++ ys)) else resizes_by p (ts ++ ys))
         ≡ (if b then suc (resizes_by p ts) else resizes_by p ts) + resizes_by p ys
     by_head before true = omega arith
     by_head before false = before
@@ -92,7 +92,8 @@ abbrev positive : ℕ → Bool
 positive zero = false
 positive (suc n) = true
 
-any-resizes : (p : ℕ) (ts : List Try) → list_any (is_resize p) (given_by ts) ≡ positive (resizes_by p ts)
+any-resizes : (p : ℕ) (ts : List Try) → list_any (is_resize p) (given_by ts)
+    ≡ positive (resizes_by p ts)
 any-resizes p [] = refl
 any-resizes p (t ∷ ts) =
     list_any-append (is_resize p) (given_by ts) (t.given ∷ [])

@@ -1,7 +1,8 @@
 -- The settings of a board at its n-th opening are those of the tries up to it.
-use Rattle.std.proofs.Common.{◌≡◌, ◌≢◌, ◌⊎◌, inl, inr, ℕ, zero, suc, ◌+◌, ◌<◌, ◌≤◌, ◌==◌, Bool, true, false, List, [], ◌∷◌, ◌++◌, length, map, take, drop, All, if◌then◌else◌, sym, refl, ap, ◌∙◌, subst, arith, append_assoc, length-append}
+use Rattle.std.proofs.Common.{◌≡◌, ◌≢◌, ◌⊎◌, inl, inr, ℕ, suc, ◌+◌, ◌≤◌, ◌==◌, true, false, List}
+use Rattle.std.proofs.Common.{[], ◌∷◌, ◌++◌, length, map, take, drop, if◌then◌else◌, sym, refl, ap}
+use Rattle.std.proofs.Common.{◌∙◌, arith, append_assoc, length-append}
 use Rattle.std.specs.List.{filter_map}
-use Rattle.std.proofs.lemmas.Bool.{cases_lt}
 use Rattle.std.proofs.lemmas.List.{map-append}
 use Rattle.std.proofs.lemmas.List.Elements.{filter_map-append}
 use Rattle.std.proofs.Math.Seq.{take-append_seam, drop-append_seam}
@@ -15,23 +16,28 @@ use Rattle.hop_rule.specs.Gates.{opened, openings, own_settings, with_setting}
 use Rattle.hop_rule.specs.declared.sizes.BoardSizes.{BoardSizes}
 use Rattle.hop_rule.specs.declared.step.BoardStep.{BoardStep}
 use Rattle.hop_rule.specs.declared.step.GateStep.{GateStep}
-use Rattle.hop_rule.specs.declared.step.GateStep.TheVariants.{Entered, Turned, Left, Shut, NotShut, Opened, Set, Read}
+use Rattle.hop_rule.specs.declared.step.GateStep.TheVariants.{Entered, Turned, Left, Shut, NotShut}
+use Rattle.hop_rule.specs.declared.step.GateStep.TheVariants.{Opened, Set, Read}
 use Rattle.hop_delivery.specs.Orders.Commands.{SettingChange}
 use Rattle.steer_model.specs.Steps.Commands.{is_done}
 use Rattle.steer_model.specs.Good.Inputs.{settings_after}
 use Rattle.steer_model.specs.State.Settings.{Settings, changed}
-use Rattle.run_laws.specs.Ties.Tries.{AllSetByAnswer, SetsByAnswer, Try, oldest_first, openings_by, set_or_opening, sets_and_openings, settings_by, steps_of_tries, tries_up_to, words_after}
+use Rattle.run_laws.specs.Ties.Tries.{AllSetByAnswer, SetsByAnswer, Try, oldest_first, openings_by}
+use Rattle.run_laws.specs.Ties.Tries.{set_or_opening, sets_and_openings, settings_by}
+use Rattle.run_laws.specs.Ties.Tries.{steps_of_tries, tries_up_to, words_after}
 
 -- ---- lists the other way round
 
-pub turned-append : {A : Type 0} (xs ys : List A) → oldest_first (xs ++ ys) ≡ oldest_first ys ++ oldest_first xs
+pub turned-append : {A : Type 0} (xs ys : List A) → oldest_first (xs ++ ys)
+    ≡ oldest_first ys ++ oldest_first xs
 turned-append [] ys = sym (append-none (oldest_first ys))
   where
     append-none : {A : Type 0} (zs : List A) → zs ++ [] ≡ zs
     append-none [] = refl
     append-none (z ∷ zs) = ap (λ r. z ∷ r) (append-none zs)
 turned-append (x ∷ xs) ys =
-    ap (λ z. z ++ x ∷ []) (turned-append xs ys) ∙ append_assoc (oldest_first ys) (oldest_first xs) (x ∷ [])
+    ap (λ z. z ++ x ∷ []) (turned-append xs ys)
+    ∙ append_assoc (oldest_first ys) (oldest_first xs) (x ∷ [])
 
 pub length-turned : {A : Type 0} (xs : List A) → length (oldest_first xs) ≡ length xs
 length-turned [] = refl
@@ -64,7 +70,8 @@ openings-makings (NotShut w ∷ gs) = openings-makings gs
 openings-makings (Read i v ∷ gs) = openings-makings gs
 
 pub opened-makings : (about : BoardSizes) (n : ℕ) (gs : List GateStep)
-    → own_settings about (opened n gs) ≡ own_settings about (opened n (filter_map set_or_opening gs))
+    → own_settings about (opened n gs)
+    ≡ own_settings about (opened n (filter_map set_or_opening gs))
 opened-makings about n [] = refl
 opened-makings about n (Set i v ∷ gs) = opened-makings about n gs
 opened-makings about n (Opened ∷ gs) =
@@ -89,7 +96,8 @@ opened-makings about n (Shut w ∷ gs) = opened-makings about n gs
 opened-makings about n (NotShut w ∷ gs) = opened-makings about n gs
 opened-makings about n (Read i v ∷ gs) = opened-makings about n gs
 
-pub makings-append : (xs ys : List BoardStep) → sets_and_openings (xs ++ ys) ≡ sets_and_openings xs ++ sets_and_openings ys
+pub makings-append : (xs ys : List BoardStep) → sets_and_openings (xs ++ ys)
+    ≡ sets_and_openings xs ++ sets_and_openings ys
 makings-append xs ys =
     ap (filter_map set_or_opening) (filter_map-append gate_in xs ys)
     ∙ filter_map-append set_or_opening (gate_steps xs) (gate_steps ys)
@@ -102,7 +110,8 @@ pub data Form (words : ℕ → ℕ) (sets : (ℕ → ℕ) → Command → List S
   sets_one : (m : SettingChange) → is_done c.answer ≡ true → sets words c.command ≡ m ∷ []
       → gs ≡ Opened ∷ Set m.word m.value ∷ [] → Form words sets c gs
   opens : is_done c.answer ≡ false → gs ≡ Opened ∷ [] → Form words sets c gs
-  makes_none : (is_done c.answer ≡ false) ⊎ ((is_done c.answer ≡ true) × (sets words c.command ≡ []))
+  makes_none : (is_done c.answer ≡ false)
+      ⊎ ((is_done c.answer ≡ true) × (sets words c.command ≡ []))
       → gs ≡ [] → Form words sets c gs
 
 pub form : (words : ℕ → ℕ) (sets : (ℕ → ℕ) → Command → List SettingChange) (c : Commanded)
@@ -112,7 +121,8 @@ form words sets c gs (inr (inl b)) = makes_none (inr (b.0, b.1)) b.2
 form words sets c gs (inr (inr (fails, inl none))) = makes_none (inl fails) none
 form words sets c gs (inr (inr (fails, inr one))) = opens fails one
 
-module _ (about : BoardSizes) (sets : (ℕ → ℕ) → Command → List SettingChange) (f : Try → List BoardStep)
+module _ (about : BoardSizes) (sets : (ℕ → ℕ) → Command → List SettingChange)
+    (f : Try → List BoardStep)
   where
     abbrev words : List Try → ℕ → ℕ
     words ts = words_after about sets f ts
@@ -157,12 +167,14 @@ module _ (about : BoardSizes) (sets : (ℕ → ℕ) → Command → List Setting
         (tries_up_to f n ts) ne
 
     -- what comes before an opening has no other
-    pub count-opens : (t : Try) (ts : List Try) (rest : List GateStep) → sets_and_openings (f t) ≡ Opened ∷ rest
+    pub count-opens : (t : Try) (ts : List Try) (rest : List GateStep) → sets_and_openings (f t)
+        ≡ Opened ∷ rest
         → openings (rest ++ made ts) ≡ count ts → count (t ∷ ts) ≡ count ts + 1
     count-opens t ts rest is none =
         ap openings (made-more t ts ∙ ap (λ gs. gs ++ made ts) is) ∙ ap (λ n. n + 1) none
 
-    pub count-none : (t : Try) (ts : List Try) → sets_and_openings (f t) ≡ [] → count (t ∷ ts) ≡ count ts
+    pub count-none : (t : Try) (ts : List Try) → sets_and_openings (f t) ≡ [] → count (t ∷ ts)
+        ≡ count ts
     count-none t ts is = ap openings (made-more t ts ∙ ap (λ gs. gs ++ made ts) is)
 
     abbrev Same : ℕ → List Try → Type 0
@@ -191,12 +203,14 @@ module _ (about : BoardSizes) (sets : (ℕ → ℕ) → Command → List Setting
         ∙ ap words
         (sym (to-other n t ts (λ e. ne (ap (λ k. k + 1) none ∙ (sym size ∙ e)))))))))
 
-    same-none : (n : ℕ) (t : Try) (ts : List Try) → sets_and_openings (f t) ≡ [] → Same n ts → Same n (t ∷ ts)
+    same-none : (n : ℕ) (t : Try) (ts : List Try) → sets_and_openings (f t) ≡ [] → Same n ts
+        → Same n (t ∷ ts)
     same-none n t ts is before =
         ap (λ z. own_settings about (opened n z)) (made-more t ts ∙ ap (λ z. z ++ made ts) is)
         ∙ (before ∙ ap words (sym (to-old n t ts (count-none t ts is))))
 
-    same_by : (n : ℕ) (t : Try) (ts : List Try) → Form (words ts) sets t.given (sets_and_openings (f t))
+    same_by : (n : ℕ) (t : Try) (ts : List Try)
+        → Form (words ts) sets t.given (sets_and_openings (f t))
         → Same n ts → Same n (t ∷ ts)
     same_by n t ts (sets_one m done one is) before =
         same-opens n t ts (Set m.word m.value ∷ []) is refl refl before
@@ -211,13 +225,15 @@ module _ (about : BoardSizes) (sets : (ℕ → ℕ) → Command → List Setting
 
     -- the settings at the n-th opening are those after the tries up to it
     pub settings_opened : (n : ℕ) (ts : List Try) → AllSetByAnswer about sets f ts
-        → own_settings about (opened n (gate_steps (steps_of_tries f ts))) ≡ words (tries_up_to f n ts)
+        → own_settings about (opened n (gate_steps (steps_of_tries f ts)))
+        ≡ words (tries_up_to f n ts)
     settings_opened n ts are =
         opened-makings about n (gate_steps (steps_of_tries f ts)) ∙ same_settings n ts are
 
     -- ---- the tries up to an opening are the first ones
 
-    pub count-steps : (t : Try) (ts : List Try) → Form (words ts) sets t.given (sets_and_openings (f t))
+    pub count-steps : (t : Try) (ts : List Try)
+        → Form (words ts) sets t.given (sets_and_openings (f t))
         → (count (t ∷ ts) ≡ count ts) ⊎ (count (t ∷ ts) ≡ count ts + 1)
     count-steps t ts (sets_one m done one is) =
         inr (count-opens t ts (Set m.word m.value ∷ []) is refl)
@@ -241,12 +257,15 @@ module _ (about : BoardSizes) (sets : (ℕ → ℕ) → Command → List Setting
         ]
 
     -- of two openings the earlier has the first ones of the tries of the later
-    pub tries-grow : (m n : ℕ) (ts : List Try) → AllSetByAnswer about sets f ts → m ≤ n → n ≤ count ts
+    pub tries-grow : (m n : ℕ) (ts : List Try) → AllSetByAnswer about sets f ts → m ≤ n → n
+        ≤ count ts
         → (more : List Try) × (tries_up_to f n ts ≡ more ++ tries_up_to f m ts)
     tries-grow m n [] are le within = ([], refl)
     tries-grow m n (t ∷ ts) are le within =
-        let old : tries_up_to f n (t ∷ ts) ≡ tries_up_to f n ts → tries_up_to f m (t ∷ ts) ≡ tries_up_to f m ts
-        → n ≤ count ts → (more : List Try) × (tries_up_to f n (t ∷ ts) ≡ more ++ tries_up_to f m (t ∷ ts)) =
+        let old : tries_up_to f n (t ∷ ts) ≡ tries_up_to f n ts → tries_up_to f m (t ∷ ts)
+        ≡ tries_up_to f m ts
+        → n ≤ count ts → (more : List Try)
+        × (tries_up_to f n (t ∷ ts) ≡ more ++ tries_up_to f m (t ∷ ts)) =
         λ a b small. (let r = tries-grow m n ts are.1 le small in
         (r.0, a ∙ (r.1 ∙ ap (λ z. r.0 ++ z) (sym b)))) in
         elim (count-steps t ts (form (words ts) sets t.given (sets_and_openings (f t)) are.0)) [

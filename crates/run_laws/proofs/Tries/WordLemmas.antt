@@ -1,5 +1,7 @@
 -- The words of a receive board after tries are the settings after their commands.
-use Rattle.std.proofs.Common.{◌≡◌, ◌≢◌, ◌⊎◌, inl, inr, ℕ, zero, suc, ◌+◌, ◌*◌, ◌/◌, ◌^◌, ◌<◌, ◌≤◌, ◌==◌, ◌&&◌, Bool, true, false, List, [], ◌∷◌, ◌++◌, length, map, All, if◌then◌else◌, sym, refl, ap, ◌∙◌, subst, arith}
+use Rattle.std.proofs.Common.{◌≡◌, inl, inr, ℕ, suc, ◌+◌, ◌*◌, ◌/◌, ◌^◌, ◌<◌, ◌==◌, ◌&&◌, Bool}
+use Rattle.std.proofs.Common.{true, false, List, [], ◌∷◌, ◌++◌, length, All, if◌then◌else◌, sym}
+use Rattle.std.proofs.Common.{refl, ap, ◌∙◌, subst, arith}
 use Rattle.std.specs.Prelude.{slice_index, slice_index_or, slice_set}
 use Rattle.std.proofs.lemmas.List.{get_or-set_same, get_or-set_other, length-set}
 use Rattle.std.proofs.lemmas.List.Elements.{All-head, All-tail}
@@ -11,19 +13,19 @@ use Rattle.steer_base.specs.Sets.{with_cpu, without_cpu}
 use Rattle.steer_base.specs.declared.command.Command.{Command}
 use Rattle.steer_base.specs.declared.command.Command.TheVariants as give
 use Rattle.steer_base.specs.declared.cpu_mask.CpuMask.{CpuMask}
-use Rattle.history.specs.declared.commanded.Commanded.{Commanded}
 use Rattle.hop_rule.specs.Gates.{own_settings, with_setting}
 use Rattle.hop_rule.specs.declared.sizes.BoardSizes.{BoardSizes}
 use Rattle.hop_rule.specs.declared.step.BoardStep.{BoardStep}
-use Rattle.hop_rule.specs.declared.step.GateStep.TheVariants.{Opened, Set}
 use Rattle.hop_delivery.specs.Orders.Commands.{SettingChange, next_flows, received_sets}
-use Rattle.hop_delivery.specs.Orders.ReceiveSettings.{Queues, flows_word, mask_word, online_word, queues, socket_word}
+use Rattle.hop_delivery.specs.Orders.ReceiveSettings.{Queues, queues}
 use Rattle.steer_model.specs.Steps.Commands.{is_done}
-use Rattle.steer_model.specs.Good.Inputs.{is_flows, is_resize}
-use Rattle.steer_model.specs.State.Settings.{Settings, changed, mask_of}
-use Rattle.run_laws.proofs.Tries.TryLemmas.{Form, sets_one, opens, makes_none, form, made-more, words-made}
+use Rattle.steer_model.specs.Good.Inputs.{is_flows}
+use Rattle.steer_model.specs.State.Settings.{Settings, changed}
+use Rattle.run_laws.proofs.Tries.TryLemmas.{Form, sets_one, opens, makes_none, form, made-more}
+use Rattle.run_laws.proofs.Tries.TryLemmas.{words-made}
 use Rattle.run_laws.specs.Ties.Inputs.{AreReceiveWords, NamesReceiveQueues}
-use Rattle.run_laws.specs.Ties.Tries.{AllSetByAnswer, Try, resizes_by, sets_and_openings, settings_by, steps_of_tries, words_after}
+use Rattle.run_laws.specs.Ties.Tries.{AllSetByAnswer, Try, resizes_by, sets_and_openings}
+use Rattle.run_laws.specs.Ties.Tries.{settings_by, steps_of_tries, words_after}
 
 abbrev first_made : List SettingChange → SettingChange
 first_made [] = record { word = 0; value = 0 }
@@ -53,16 +55,19 @@ module _ (q : Queues) (s : Settings) (g : ℕ → ℕ) (w : ℕ → ℕ) (a : Ar
             if_same r p mask.0 (w p) e
             ∙ sym (ap (λ (z : CpuMask). z.0)
             (ap (λ k. slice_index_or (slice_set s.masks r mask) k (record { 0 = 0 })) (sym e)
-            ∙ get_or-set_same s.masks r mask (record { 0 = 0 }) (subst (λ n. r < n) (sym a.masks) within))))
+            ∙ get_or-set_same s.masks r mask (record { 0 = 0 })
+            (subst (λ n. r < n) (sym a.masks) within))))
             (λ ne.
             if_other r p mask.0 (w p) ne
             ∙ (a.mask p lt
             ∙ sym (ap (λ (z : CpuMask). z.0)
             (get_or-set_other s.masks r p mask (record { 0 = 0 }) (λ e. ne (sym e))))));
-        flows = λ p lt. if_other r (Q + p) mask.0 (w (Q + p)) (λ e. absurd (omega arith)) ∙ a.flows p lt;
+        flows = λ p lt. if_other r (Q + p) mask.0 (w (Q + p)) (λ e. absurd (omega arith))
+            ∙ a.flows p lt;
         small = a.small;
         sock = if_other r (2 * Q) mask.0 (w (2 * Q)) (λ e. absurd (omega arith)) ∙ a.sock;
-        online = if_other r (2 * Q + 1) mask.0 (w (2 * Q + 1)) (λ e. absurd (omega arith)) ∙ a.online;
+        online = if_other r (2 * Q + 1) mask.0 (w (2 * Q + 1)) (λ e. absurd (omega arith))
+            ∙ a.online;
       }
 
   after-flows : (r n : ℕ) → r < Q → rounded_up n < 2 ^ 32 → After (give.Flows r n)
@@ -95,10 +100,12 @@ module _ (q : Queues) (s : Settings) (g : ℕ → ℕ) (w : ℕ → ℕ) (a : Ar
             ∙ get_or-set_same s.counts r (rounded_up n) 0 inside)) small)
             (λ ne.
             subst (λ z. z < 2 ^ 32)
-            (sym (get_or-set_other s.counts r p (rounded_up n) 0 (λ e. ne (sym e)))) (a.small p lt));
+            (sym (get_or-set_other s.counts r p (rounded_up n) 0 (λ e. ne (sym e))))
+            (a.small p lt));
         sock = if_other (Q + r) (2 * Q) value (w (2 * Q)) (λ e. absurd (omega arith)) ∙ a.sock;
         online =
-            if_other (Q + r) (2 * Q + 1) value (w (2 * Q + 1)) (λ e. absurd (omega arith)) ∙ a.online;
+            if_other (Q + r) (2 * Q + 1) value (w (2 * Q + 1)) (λ e. absurd (omega arith))
+            ∙ a.online;
       }
     where
       ap2 : {x y u v : ℕ} → x ≡ y → u ≡ v → x + 2 ^ 32 * u ≡ y + 2 ^ 32 * v
@@ -152,7 +159,8 @@ same_words q s z g w masks counts sock online a =
       counts = ap length counts ∙ a.counts;
       mask = λ p lt.
           a.mask p lt
-          ∙ sym (ap (λ (ms : List CpuMask). (slice_index_or {A = CpuMask} ms p (record { 0 = 0 })).0) masks);
+          ∙ sym (ap (λ (ms : List CpuMask).
+          (slice_index_or {A = CpuMask} ms p (record { 0 = 0 })).0) masks);
       flows = λ p lt.
           a.flows p lt ∙ sym (ap (λ ns. slice_index ns p + 2 ^ 32 * g p) counts);
       small = λ p lt. subst (λ ns. slice_index ns p < 2 ^ 32) (sym counts) (a.small p lt);
@@ -228,14 +236,17 @@ module _ (about : BoardSizes) (q : Queues) (s : Settings) (f : Try → List Boar
   sets = received_sets q
 
   abbrev Good : List Try → Type 0
-  Good ts = AreReceiveWords q (settings_by s ts) (λ p. resizes_by p ts) (words_after about sets f ts)
+  Good ts = AreReceiveWords q (settings_by s ts) (λ p. resizes_by p ts)
+      (words_after about sets f ts)
 
   more_words : (t : Try) (ts : List Try) → NamesReceiveQueues (queues q) t.given.command
-      → Form (words_after about sets f ts) sets t.given (sets_and_openings (f t)) → Good ts → Good (t ∷ ts)
+      → Form (words_after about sets f ts) sets t.given (sets_and_openings (f t)) → Good ts
+      → Good (t ∷ ts)
   more_words t ts fits (sets_one m done one is) a =
       let w : ℕ → ℕ = words_after about sets f ts in
       let c : Command = t.given.command in
-      let some : 0 < length (sets w c) = subst (λ (ms : List SettingChange). 0 < length ms) (sym one) (omega arith) in
+      let some : 0 < length (sets w c) = subst (λ (ms : List SettingChange). 0 < length ms)
+      (sym one) (omega arith) in
       let b = changes_with q (settings_by s ts) (λ p. resizes_by p ts) w c fits some a in
       let is_m : first_made (sets w c) ≡ m = ap first_made one in
       let word : with_setting w (first_made (sets w c)).word (first_made (sets w c)).value
@@ -285,10 +296,13 @@ module _ (about : BoardSizes) (q : Queues) (s : Settings) (f : Try → List Boar
             t.given.command (ap length done.1) a)
       ]
 
-  pub words_are : (ts : List Try) → All (λ (t : Try). NamesReceiveQueues (queues q) t.given.command) ts
+  pub words_are : (ts : List Try)
+      → All (λ (t : Try). NamesReceiveQueues (queues q) t.given.command) ts
       → AllSetByAnswer about sets f ts → Good ts
   words_are [] fits are = first
   words_are (t ∷ ts) fits are =
-      more_words t ts (All-head (λ (t : Try). NamesReceiveQueues (queues q) t.given.command) t ts fits)
+      more_words t ts (All-head (λ (t : Try). NamesReceiveQueues (queues q) t.given.command) t ts
+      fits)
       (form (words_after about sets f ts) sets t.given (sets_and_openings (f t)) are.0)
-      (words_are ts (All-tail (λ (t : Try). NamesReceiveQueues (queues q) t.given.command) t ts fits) are.1)
+      (words_are ts (All-tail (λ (t : Try). NamesReceiveQueues (queues q) t.given.command) t ts
+      fits) are.1)

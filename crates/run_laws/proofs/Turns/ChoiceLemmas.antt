@@ -1,22 +1,19 @@
 -- A choice by the rule of its visit is by the rule of a good history, with the settings after the
 -- commands up to the visit's opening.
-use Rattle.std.proofs.Common.{◌≡◌, ◌⊎◌, inl, inr, ℕ, zero, suc, ◌+◌, ◌*◌, ◌/◌, ◌%◌, ◌^◌, ◌<◌, ◌≤◌, ◌==◌, not, Bool, true, false, List, [], ◌∷◌, ◌++◌, Option, Some, None, length, map, take, drop, All, if◌then◌else◌, sym, refl, ap, ◌∙◌, subst, arith, length-append}
+use Rattle.std.proofs.Common.{◌≡◌, inl, inr, ℕ, zero, suc, ◌+◌, ◌*◌, ◌/◌, ◌%◌, ◌^◌, ◌<◌, ◌≤◌, ◌==◌}
+use Rattle.std.proofs.Common.{not, true, List, [], ◌∷◌, ◌++◌, Option, Some, None, length, take}
+use Rattle.std.proofs.Common.{drop, All, if◌then◌else◌, sym, ap, ◌∙◌, subst, arith, length-append}
 use Rattle.std.specs.Prelude.{nat_lt, slice_get, slice_index, slice_index_or, unwrap_or}
 use Rattle.std.specs.List.{list_any}
 use Rattle.std.proofs.lemmas.Bool.{cases_lt, lt-ltb}
-use Rattle.std.proofs.lemmas.List.Elements.{All-tail}
 use Rattle.steer_base.specs.Choices.{class_of, desired_cpu, migrate, online_or, rps_choice_of}
 use Rattle.steer_base.specs.Entries.{entry}
 use Rattle.steer_base.specs.Sets.{has}
-use Rattle.steer_base.specs.declared.choice.Choice.{Choice}
 use Rattle.steer_base.specs.declared.choice.Chosen.{Chosen}
 use Rattle.steer_base.specs.declared.command.Command.{Command}
-use Rattle.steer_base.specs.declared.cpu_mask.CpuMask.{CpuMask}
 use Rattle.dev_flow_table.specs.Walks.{since_resize}
-use Rattle.history.specs.Lists.{lane_at, list_at}
-use Rattle.history.specs.declared.commanded.Commanded.{Commanded}
+use Rattle.history.specs.Lists.{list_at}
 use Rattle.history.specs.declared.history.History.{History}
-use Rattle.history.specs.declared.lane_list.LaneList.{LaneList}
 use Rattle.hop_core.specs.Hop.{chosen_at, nobody}
 use Rattle.hop_rule.specs.Boards.{gate_steps}
 use Rattle.hop_rule.specs.Gates.{opened, openings, own_settings}
@@ -28,25 +25,27 @@ use Rattle.hop_rule.proofs.Moments.{nth-some}
 use Rattle.board_api.specs.Laws.Heads.{VisitNumbersRise}
 use Rattle.board_api.specs.declared.lists.BoardLists.{BoardLists}
 use Rattle.hop_delivery.specs.Orders.Commands.{SettingChange, received_sets}
-use Rattle.hop_delivery.specs.Orders.ReceiveSettings.{Queues, flows_word, mask, mask_word, online, online_word, queues, receive_steering, rps}
-use Rattle.hop_delivery.specs.Orders.Runs.{IsByRule, Steering, Story, goal_of, settings_of_visit, turns_of, word_of}
-use Rattle.hop_delivery.specs.Orders.Turns.{Turn, Explained}
+use Rattle.hop_delivery.specs.Orders.ReceiveSettings.{Queues, flows_word, mask, mask_word, online}
+use Rattle.hop_delivery.specs.Orders.ReceiveSettings.{queues, receive_steering}
+use Rattle.hop_delivery.specs.Orders.Runs.{Steering, Story, goal_of, turns_of, word_of}
+use Rattle.hop_delivery.specs.Orders.Turns.{Turn}
 use Rattle.hop_delivery.specs.Closings.FlowLaw.{accepted_left}
 use Rattle.steer_model.specs.Good.Choices.{AreByRule, accepted_in}
 use Rattle.steer_model.specs.Good.Choices as good
-use Rattle.steer_model.specs.Good.Inputs.{Input, Prefixes, is_resize, settings_after, settings_at, setup_in, since_at}
-use Rattle.steer_model.specs.State.Settings.{Settings, class_at, mask_of, plain_lane}
+use Rattle.steer_model.specs.Good.Inputs.{Input, is_resize, settings_at, setup_in, since_at}
+use Rattle.steer_model.specs.State.Settings.{Settings, class_at, plain_lane}
 use Rattle.steer_model.specs.State.Setup.{Setup, flow_number_of, packet_hash}
 use Rattle.steer_model.specs.State.Start.{initial_settings}
 use Rattle.run_laws.proofs.Turns.EntryLemmas.{entries-rise, entry-at}
 use Rattle.run_laws.proofs.Turns.OwnHeadLemmas.{migrate_own}
 use Rattle.run_laws.proofs.Tries.ResizeLemmas.{flow_word, resized_between, since_same}
-use Rattle.run_laws.proofs.Tries.TryLemmas.{drop-given, first-tries, given_by, length-given, openings-makings, settings-given, settings_opened, take-given, tries-grow}
-use Rattle.run_laws.proofs.Tries.WordLemmas.{words_are}
+use Rattle.run_laws.proofs.Tries.TryLemmas.{drop-given, given_by, openings-makings, tries-grow}
 use Rattle.run_laws.specs.Laws.Choices.{ChoicesFollow, ChoicesHaveTurns, commands_before}
 use Rattle.run_laws.specs.Ties.Boards.{IsReceiveBoard}
-use Rattle.run_laws.specs.Ties.Inputs.{AreReceiveWords, FlowsHaveOneHash, NamesReceiveQueues, hash_of_flow, receive_queues}
-use Rattle.run_laws.specs.Ties.Tries.{AllSetByAnswer, KeepsReceiveTries, Try, at_receive, openings_by, resizes_by, settings_by, steps_of_tries, tries_up_to}
+use Rattle.run_laws.specs.Ties.Inputs.{AreReceiveWords, FlowsHaveOneHash, NamesReceiveQueues}
+use Rattle.run_laws.specs.Ties.Inputs.{hash_of_flow, receive_queues}
+use Rattle.run_laws.specs.Ties.Tries.{KeepsReceiveTries, Try, at_receive, openings_by, resizes_by}
+use Rattle.run_laws.specs.Ties.Tries.{settings_by, steps_of_tries, tries_up_to}
 use Rattle.run_laws.proofs.Tries.OpeningLemmas.{settings_of_opening, words_of_opening}
 use Rattle.run_laws.proofs.Tries.OpeningLemmas as opening_lemmas
 
@@ -65,43 +64,45 @@ mod-low c g small = omega arith
 -- ---- by words that are the settings
 
 module _ (i : Input) (p : ℕ) (z : ℕ → ℕ) (s : Settings) (g : ℕ → ℕ)
-    (within : p < queues (receive_queues i)) (words : AreReceiveWords (receive_queues i) s g z) where
-  abbrev qs : Queues
-  qs = receive_queues i
+    (within : p < queues (receive_queues i)) (words : AreReceiveWords (receive_queues i) s g z)
+  where
+    abbrev qs : Queues
+    qs = receive_queues i
 
-  abbrev rs : Steering
-  rs = receive_steering qs
+    abbrev rs : Steering
+    rs = receive_steering qs
 
-  abbrev su : Setup
-  su = setup_in i
+    abbrev su : Setup
+    su = setup_in i
 
-  shape-is : rs.shape z p ≡ slice_index s.counts p + 2 ^ 32 * g p
-  shape-is =
-      ap (λ b. if b then z (flows_word qs p) else 0) (is-below p (queues qs) within)
-      ∙ words.flows p within
+    shape-is : rs.shape z p ≡ slice_index s.counts p + 2 ^ 32 * g p
+    shape-is =
+        ap (λ b. if b then z (flows_word qs p) else 0) (is-below p (queues qs) within)
+        ∙ words.flows p within
 
-  online-is : online qs z ≡ s.online
-  online-is = ap (λ n. mask n) words.online
+    online-is : online qs z ≡ s.online
+    online-is = ap (λ n. mask n) words.online
 
-  module _ (x : ℕ) (same : hash_of_flow i (flow_number_of su x) ≡ packet_hash su x) where
-    class-is : rs.class (rs.shape z p) (rs.flow x) ≡ class_at su s p x
-    class-is =
-        (λ k. class_of (shape-is k % 2 ^ 32) (same k))
-        ∙ ap (λ n. class_of n (packet_hash su x))
-        (mod-low (slice_index s.counts p) (g p) (words.small p within))
+    module _ (x : ℕ) (same : hash_of_flow i (flow_number_of su x) ≡ packet_hash su x) where
+      class-is : rs.class (rs.shape z p) (rs.flow x) ≡ class_at su s p x
+      class-is =
+          (λ k. class_of (shape-is k % 2 ^ 32) (same k))
+          ∙ ap (λ n. class_of n (packet_hash su x))
+          (mod-low (slice_index s.counts p) (g p) (words.small p within))
 
-    plain-is : rs.plain z p (rs.flow x) ≡ plain_lane su s p x
-    plain-is =
-        ap (λ b. if b then rps_choice_of (mask (z (mask_word qs p))) (qs.hash (rs.flow x))
-        (online qs z) (slice_index qs.homes p) else 0) (is-below p (queues qs) within)
-        ∙ (λ k. rps_choice_of (mask (words.mask p within k)) (same k) (online-is k)
-        (slice_index qs.homes p))
+      plain-is : rs.plain z p (rs.flow x) ≡ plain_lane su s p x
+      plain-is =
+          ap (λ b. if b then rps_choice_of (mask (z (mask_word qs p))) (qs.hash (rs.flow x))
+          (online qs z) (slice_index qs.homes p) else 0) (is-below p (queues qs) within)
+          ∙ (λ k. rps_choice_of (mask (words.mask p within k)) (same k) (online-is k)
+          (slice_index qs.homes p))
 
-    goal-is : (class want : Option ℕ)
-        → goal_of rs z p (rs.flow x) class want ≡ desired_cpu class want s.online (plain_lane su s p x)
-    goal-is None want = plain-is
-    goal-is (Some class) None = plain-is
-    goal-is (Some class) (Some cpu) = λ k. online_or (online-is k) cpu (plain-is k)
+      goal-is : (class want : Option ℕ)
+          → goal_of rs z p (rs.flow x) class want
+          ≡ desired_cpu class want s.online (plain_lane su s p x)
+      goal-is None want = plain-is
+      goal-is (Some class) None = plain-is
+      goal-is (Some class) (Some cpu) = λ k. online_or (online-is k) cpu (plain-is k)
 
 -- ---- the law
 
@@ -235,9 +236,11 @@ module _ (i : Input) (h : History) (about : BoardSizes) (own : ℕ → List Boar
         let x : ℕ = u.chosen.id in
         let want : Option ℕ = u.chosen.choice.want in
         let same = hashes x (keeps.known p k u at_u) in
-        let class = class-is i p z (after n) (λ c. resizes_by c (upto n)) within (words-at n) x same in
+        let class = class-is i p z (after n) (λ c. resizes_by c (upto n)) within (words-at n) x same
+        in
         let class_then : Option ℕ = r.class (r.shape z p) (r.flow x) in
-        let goal = goal-is i p z (after n) (λ c. resizes_by c (upto n)) within (words-at n) x same in
+        let goal = goal-is i p z (after n) (λ c. resizes_by c (upto n)) within (words-at n) x same
+        in
         let goal_now : goal_of r z p (r.flow x) class_then want
         ≡ desired_cpu (class_at now (after n) p x) want (after n).online
         (plain_lane now (after n) p x) =
@@ -246,7 +249,8 @@ module _ (i : Input) (h : History) (about : BoardSizes) (own : ℕ → List Boar
         let on : r.online z ≡ has (after n).online =
         ap has (online-is i p z (after n) (λ c. resizes_by c (upto n)) within (words-at n)) in
         let cs : List Chosen = take k (t.choices p) in
-        let entries = entry about.start (accepted_left lists) (drop (since_resize (shape p) k) cs) in
+        let entries = entry about.start (accepted_left lists) (drop (since_resize (shape p) k) cs)
+        in
         let by_own = migrate_own class_then want (goal_of r z p (r.flow x) class_then want) entries
         b.head (r.online z) in
         b.rule
@@ -290,7 +294,8 @@ module _ (i : Input) (h : History) (about : BoardSizes) (own : ℕ → List Boar
               let g = grows p k (omega arith) in
               let a = ap length g.1 in
               let b = length-append g.0 (upto (number p k)) in
-              let fewer : commands_before tries t p k ≤ commands_before tries t p (suc k) = omega arith in
+              let fewer : commands_before tries t p k
+              ≤ commands_before tries t p (suc k) = omega arith in
               let next : suc k ≡ k + 1 = omega arith in
               subst (λ n. commands_before tries t p k ≤ commands_before tries t p n) next fewer;
         });

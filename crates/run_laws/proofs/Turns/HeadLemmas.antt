@@ -1,12 +1,13 @@
 -- Heads that choices saw.
-use Rattle.std.proofs.Common.{◌≡◌, ℕ, zero, suc, ◌+◌, ◌-◌, ◌%◌, ◌^◌, ◌<◌, ◌≤◌, ◌==◌, not, Bool, true, false, List, [], ◌∷◌, ◌++◌, Option, Some, None, length, map, take, drop, filter, get_or, if◌then◌else◌, sym, refl, ap, ◌∙◌, subst, arith}
+use Rattle.std.proofs.Common.{◌≡◌, ℕ, zero, suc, ◌+◌, ◌-◌, ◌%◌, ◌^◌, ◌<◌, ◌≤◌, ◌==◌, not, Bool}
+use Rattle.std.proofs.Common.{true, false, List, [], ◌∷◌, ◌++◌, Option, Some, None, length, map}
+use Rattle.std.proofs.Common.{take, drop, get_or, if◌then◌else◌, sym, refl, ap, ◌∙◌, arith}
 use Rattle.std.specs.Prelude.{slice_get}
-use Rattle.std.specs.List.{Contains}
 use Rattle.std.proofs.lemmas.List.{map-append, take-append-drop}
-use Rattle.linearization.specs.Orders.{StepBy, step_by, steps_of}
+use Rattle.linearization.specs.Orders.{step_by}
 use Rattle.steer_base.specs.Choices.{by_entry, migrate}
 use Rattle.steer_base.specs.Counters.{distance, has_reached}
-use Rattle.steer_base.specs.Entries.{current_lane, entry, is_class, last_or, of_class}
+use Rattle.steer_base.specs.Entries.{current_lane, is_class, last_or, of_class}
 use Rattle.steer_base.specs.declared.choice.Choice.{Choice}
 use Rattle.steer_base.specs.declared.choice.Chosen.{Chosen}
 use Rattle.steer_base.specs.declared.choice.Entry.{Entry}
@@ -14,7 +15,7 @@ use Rattle.steer_base.specs.declared.choice.Why.{Why}
 use Rattle.steer_base.specs.declared.choice.Why.TheVariants.{Kept, Offline, Passed, Same}
 use Rattle.history.specs.Lists.{lane_at}
 use Rattle.hop_core.specs.Hop.{chosen_at, nobody}
-use Rattle.hop_rule.specs.Moments.{IsStep, moment_of, nth_step}
+use Rattle.hop_rule.specs.Moments.{moment_of, nth_step}
 use Rattle.hop_rule.specs.Sizes.{FitSizes}
 use Rattle.hop_rule.specs.declared.sizes.BoardSizes.{BoardSizes}
 use Rattle.hop_rule.specs.declared.step.BoardStep.{BoardStep}
@@ -28,7 +29,7 @@ use Rattle.board_api.specs.OwnSteps.{Has}
 use Rattle.board_api.specs.declared.lists.BoardLists.{BoardLists}
 use Rattle.hop_delivery.specs.Orders.Runs.{IsByRule, Steering, Story, turns_of}
 use Rattle.hop_delivery.specs.Orders.Turns.{Explained, Turn}
-use Rattle.hop_delivery.proofs.Orders.TurnLemmas.{Places, VisitAt, turns_have_places}
+use Rattle.hop_delivery.proofs.Orders.TurnLemmas.{Places, turns_have_places}
 use Rattle.hop_delivery.specs.Closings.FlowLaw.{accepted_left}
 use Rattle.steer_model.specs.Good.Choices.{HeadsRise, lane_seen}
 use Rattle.run_laws.proofs.Tries.BusyLemmas.{shown}
@@ -110,7 +111,8 @@ last-append : (d : Option ℕ) (xs ys : List (Option ℕ))
 last-append d [] ys = refl
 last-append d (x ∷ xs) ys = last-append x xs ys
 
-class-append : (c : ℕ) (xs ys : List Chosen) → of_class c (xs ++ ys) ≡ of_class c xs ++ of_class c ys
+class-append : (c : ℕ) (xs ys : List Chosen) → of_class c (xs ++ ys)
+    ≡ of_class c xs ++ of_class c ys
 class-append c [] ys = refl
 class-append c (x ∷ xs) ys =
     by_bool (is_class c x.choice.class) (class-append c xs ys)
@@ -184,7 +186,8 @@ module _ (about : BoardSizes) (own : ℕ → List BoardStep) (lists : BoardLists
       let x : chosen_at cs k ≡ u.0.chosen = get-or cs k nobody u.0.chosen (chosen k u.0 u.1) in
       let its_head : u.0.chosen.choice.head ≡ Some head =
       ap (λ (c : Chosen). c.choice.head) (sym x) ∙ has_head in
-      let kept = kept-head _ _ _ _ b.head _ head (ap (λ (c : Choice). c.head) (sym b.rule) ∙ its_head) in
+      let kept = kept-head _ _ _ _ b.head _ head
+      (ap (λ (c : Choice). c.head) (sym b.rule) ∙ its_head) in
       let class : (chosen_at cs k).choice.class ≡ Some kept.of_class =
       ap (λ (c : Chosen). c.choice.class) x
       ∙ (ap (λ (c : Choice). c.class) b.rule ∙ kept.same_class) in

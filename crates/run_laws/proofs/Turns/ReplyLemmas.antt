@@ -1,36 +1,30 @@
 -- A choice for a reply by the rule of its visit is by the rule of a good history.
-use Rattle.std.proofs.Common.{◌≡◌, ◌≢◌, ◌⊎◌, inl, inr, ℕ, zero, suc, ◌+◌, ◌/◌, ◌^◌, ◌<◌, ◌≤◌, ◌==◌, not, Bool, true, false, List, [], ◌∷◌, ◌++◌, Option, Some, None, length, map, take, drop, filter, All, if◌then◌else◌, sym, refl, ap, ◌∙◌, subst, arith, length-append}
-use Rattle.std.specs.Prelude.{slice_get, slice_index, slice_index_or, slice_set, unwrap_or}
+use Rattle.std.proofs.Common.{◌≡◌, ℕ, zero, suc, ◌+◌, ◌/◌, ◌^◌, ◌<◌, ◌≤◌, ◌==◌, not, Bool, true}
+use Rattle.std.proofs.Common.{false, List, [], ◌∷◌, ◌++◌, Option, Some, None, length, map, take}
+use Rattle.std.proofs.Common.{drop, All, if◌then◌else◌, sym, refl, ap, ◌∙◌, subst, arith}
+use Rattle.std.proofs.Common.{length-append}
+use Rattle.std.specs.Prelude.{unwrap_or}
 use Rattle.std.proofs.lemmas.Bool.{lt-ltb}
-use Rattle.std.proofs.lemmas.List.{get_or-set_same, get_or-set_other, length-set}
 use Rattle.std.proofs.lemmas.List.Elements.{All-head, All-nil, All-cons, All-tail}
 use Rattle.std.proofs.lemmas.Nat.Bits.{bit_at_ones}
-use mathlib.Core.Logic.{dite}
-use native.Mathlib.Decide.{ℕ_discrete}
-use Rattle.linearization.proofs.ListLemmas.{if_same, if_other}
 use Rattle.steer_base.specs.Choices.{by_entry, migrate}
 use Rattle.steer_base.specs.Counters.{has_reached}
-use Rattle.steer_base.specs.Entries.{current_lane, entry, is_class, last_or, of_class}
-use Rattle.steer_base.specs.Sends.{candidates, first_filled, pick_of}
-use Rattle.steer_base.specs.Sets.{at_hash, has, has_queue, those_below}
+use Rattle.steer_base.specs.Entries.{entry, is_class, last_or, of_class}
+use Rattle.steer_base.specs.Sets.{has}
 use Rattle.steer_base.specs.declared.choice.Choice.{Choice}
 use Rattle.steer_base.specs.declared.choice.Chosen.{Chosen}
 use Rattle.steer_base.specs.declared.choice.Entry.{Entry}
 use Rattle.steer_base.specs.declared.choice.Why.{Why}
 use Rattle.steer_base.specs.declared.choice.Why.TheVariants.{Kept, Offline, Passed, Same}
 use Rattle.steer_base.specs.declared.command.Command.{Command}
-use Rattle.steer_base.specs.declared.command.Command.TheVariants as give
-use Rattle.steer_base.specs.declared.cpu_mask.CpuMask.{CpuMask}
-use Rattle.steer_base.proofs.SetsLemmas.{those_below-same}
 use Rattle.dev_flow_table.specs.Walks.{since_resize}
-use Rattle.xps_map.specs.Maps.{Maps, no_cpus, picked, serves_cpu, serves_queue}
+use Rattle.xps_map.specs.Maps.{picked}
 use Rattle.history.specs.Lists.{list_at}
-use Rattle.history.specs.declared.commanded.Commanded.{Commanded}
 use Rattle.history.specs.declared.history.History.{History}
 use Rattle.history.specs.declared.sent.Sent.{Sent}
 use Rattle.hop_core.specs.Hop.{chosen_at, nobody}
 use Rattle.hop_rule.specs.Boards.{gate_steps}
-use Rattle.hop_rule.specs.Gates.{opened, openings, own_settings, with_setting}
+use Rattle.hop_rule.specs.Gates.{opened, openings, own_settings}
 use Rattle.hop_rule.specs.Moments.{nth_step}
 use Rattle.hop_rule.specs.Sizes.{closer}
 use Rattle.hop_rule.specs.declared.sizes.BoardSizes.{BoardSizes}
@@ -40,28 +34,27 @@ use Rattle.hop_rule.proofs.Moments.{nth-some}
 use Rattle.board_api.specs.Laws.Heads.{VisitNumbersRise}
 use Rattle.board_api.specs.declared.lists.BoardLists.{BoardLists}
 use Rattle.hop_delivery.specs.Orders.Commands.{SettingChange, sent_sets}
-use Rattle.hop_delivery.specs.Orders.ReceiveSettings.{mask}
-use Rattle.hop_delivery.specs.Orders.Runs.{IsByRule, Steering, Story, goal_of, turns_of, word_of}
-use Rattle.hop_delivery.specs.Orders.TransmitSettings.{pick_by, transmit_steering}
-use Rattle.hop_delivery.specs.Orders.Turns.{Turn, Explained}
+use Rattle.hop_delivery.specs.Orders.Runs.{Story, turns_of, word_of}
+use Rattle.hop_delivery.specs.Orders.TransmitSettings.{pick_by}
+use Rattle.hop_delivery.specs.Orders.Turns.{Turn}
 use Rattle.hop_delivery.specs.Closings.FlowLaw.{accepted_left}
 use Rattle.steer_model.specs.Steps.Applications.{everyone}
-use Rattle.steer_model.specs.Steps.Commands.{is_done}
 use Rattle.steer_model.specs.Good.Choices.{accepted_in}
 use Rattle.steer_model.specs.Good.Replies.{IsReplyByRule}
-use Rattle.steer_model.specs.Good.Inputs.{Input, settings_after, settings_at, setup_in}
-use Rattle.steer_model.specs.State.Settings.{Settings, changed}
+use Rattle.steer_model.specs.Good.Inputs.{Input, settings_at, setup_in}
+use Rattle.steer_model.specs.State.Settings.{Settings}
 use Rattle.steer_model.specs.State.Setup.{flow_number_of, packet_hash}
 use Rattle.steer_model.specs.State.Start.{initial_settings}
 use Rattle.run_laws.proofs.Turns.EntryLemmas.{entries-rise, entry-at}
 use Rattle.run_laws.proofs.Turns.OwnHeadLemmas.{migrate_own}
 use Rattle.run_laws.proofs.Turns.ChoiceLemmas.{get-or}
-use Rattle.run_laws.proofs.Tries.OpeningLemmas.{all-later, are-later}
-use Rattle.run_laws.proofs.Tries.TryLemmas.{Form, sets_one, opens, makes_none, form, first-tries, given_by, length-given, made-more, openings-makings, settings-given, settings_opened, take-given, tries-grow, words-made}
-use Rattle.run_laws.specs.Laws.Replies.{RepliesAreBy, RepliesFollow, RepliesHaveTurns, commands_before_reply}
+use Rattle.run_laws.proofs.Tries.TryLemmas.{openings-makings, tries-grow}
+use Rattle.run_laws.specs.Laws.Replies.{RepliesAreBy, RepliesFollow, RepliesHaveTurns}
+use Rattle.run_laws.specs.Laws.Replies.{commands_before_reply}
 use Rattle.run_laws.specs.Ties.Boards.{IsTransmitBoard}
 use Rattle.run_laws.specs.Ties.Inputs.{AreTransmitWords, NamesTransmitQueues}
-use Rattle.run_laws.specs.Ties.Tries.{AllSetByAnswer, KeepsTransmitTries, Try, at_transmit, openings_by, sets_and_openings, settings_by, steps_of_tries, tries_up_to, words_after}
+use Rattle.run_laws.specs.Ties.Tries.{KeepsTransmitTries, Try, at_transmit, openings_by}
+use Rattle.run_laws.specs.Ties.Tries.{settings_by, steps_of_tries, tries_up_to}
 use Rattle.run_laws.proofs.Tries.MapLemmas.{pick-is}
 use Rattle.run_laws.proofs.Tries.MapOpeningLemmas as map_openings
 
@@ -206,7 +199,8 @@ module _ (i : Input) (h : History) (about : BoardSizes) (own : ℕ → List Boar
       let n : ℕ = u.word / 2 ^ 32 in
       let hash : Option ℕ = packet_hash (setup_in i) r.id in
       let want : Option ℕ = u.chosen.choice.want in
-      let pick = pick-is count (settings_by begin (upto n)) (shown n) r.rxq r.cpu hash (maps-at n) in
+      let pick = pick-is count (settings_by begin (upto n)) (shown n) r.rxq r.cpu hash (maps-at n)
+      in
       let wants = want_is ∙ ap (λ p. Some p) pick in
       let flow : ℕ = flow_number_of (setup_in i) u.chosen.id in
       let cs : List Chosen = take k (t.choices a) in
@@ -230,7 +224,8 @@ module _ (i : Input) (h : History) (about : BoardSizes) (own : ℕ → List Boar
       ∙ (by_entry-online flow want (unwrap_or want 0) (entries flow).tail
       (λ _. unwrap_or u.chosen.choice.head 0) (λ _. true) (has everyone) (entries flow).lane
       (λ c is. sym (everyone-has c (lane_small c is)))
-      ∙ (λ j. migrate (Some (flow_number_of (setup_in i) (same j))) (wants j) (unwrap_or (wants j) 0)
+      ∙ (λ j. migrate (Some (flow_number_of (setup_in i) (same j))) (wants j)
+      (unwrap_or (wants j) 0)
       (entry (board.start j) (accepted_in (sym board.lanes j)) cs)
       (λ _. unwrap_or u.chosen.choice.head 0) (has everyone)))))
 
@@ -271,10 +266,12 @@ module _ (i : Input) (h : History) (about : BoardSizes) (own : ℕ → List Boar
               let g = grows a k (omega arith) in
               let x = ap length g.1 in
               let y = length-append g.0 (upto (number a k)) in
-              let fewer : commands_before_reply tries t a k ≤ commands_before_reply tries t a (suc k) =
+              let fewer : commands_before_reply tries t a k
+              ≤ commands_before_reply tries t a (suc k) =
               omega arith in
               let next : suc k ≡ k + 1 = omega arith in
-              subst (λ n. commands_before_reply tries t a k ≤ commands_before_reply tries t a n) next
+              subst (λ n. commands_before_reply tries t a k ≤ commands_before_reply tries t a n)
+              next
               fewer;
         });
         each = by_rule;

@@ -1,44 +1,21 @@
 -- A producer's own table, told of its turns, has the entries of the lists.
-use Rattle.std.proofs.Common.{◌≡◌, ◌≢◌, ◌⊎◌, inl, inr, ℕ, zero, suc, ◌+◌, ◌-◌, ◌<◌, ◌≤◌, ◌==◌, Bool, List, [], ◌∷◌, ◌++◌, Option, Some, None, length, map, All, if◌then◌else◌, sym, refl, ap, ◌∙◌, subst, arith, eq-eqb, ne_eqb}
-use Rattle.std.specs.Prelude.{slice_get, slice_index}
-use Rattle.std.specs.List.{fold}
-use Rattle.std.specs.Option.{option_map}
+use Rattle.std.proofs.Common.{◌≡◌, ℕ, List, [], ◌∷◌, Some, map, All, sym, refl, ap, ◌∙◌}
+use Rattle.std.specs.Prelude.{slice_get}
 use Rattle.std.proofs.lemmas.List.Elements.{All-cons, All-head, All-nil, All-tail}
-use Rattle.std.proofs.lemmas.Option.{get_or_from_slice_get, slice_get_within}
-use mathlib.Core.Logic.{dite}
-use native.Mathlib.Decide.{ℕ_discrete}
-use Rattle.linearization.specs.Orders.{StepBy, step_by, steps_of}
-use Rattle.steer_base.specs.Counters.{number}
-use Rattle.steer_base.specs.Drops.{bucket_of, lane_drop_cause}
-use Rattle.steer_base.specs.Entries.{entry, place_in}
-use Rattle.steer_base.specs.Lanes.{LaneLists}
-use Rattle.steer_base.specs.declared.choice.Chosen.{Chosen}
-use Rattle.steer_base.specs.declared.put.DropCause.{DropCause}
-use Rattle.steer_base.specs.declared.put.Put.{Put}
-use Rattle.backlog.specs.Puts.{answer_by, put_by}
-use Rattle.dev_flow_table.specs.Folds.{Agrees, IsPutAt, TableIsEntries, after_turn}
+use Rattle.linearization.specs.Orders.{StepBy, step_by}
+use Rattle.steer_base.specs.Entries.{entry}
+use Rattle.dev_flow_table.specs.Folds.{Agrees, TableIsEntries}
 use Rattle.dev_flow_table.specs.Folds.{Placement}
-use Rattle.dev_flow_table.specs.Tables.{cleared, entries}
-use Rattle.history.specs.Lists.{lane_at}
 use Rattle.hop_rule.specs.Moments.{IsStep, moment_of, nth_step, past}
-use Rattle.hop_rule.specs.Owns.{PutMade, put_in, put_made}
 use Rattle.hop_rule.specs.declared.sizes.BoardSizes.{BoardSizes}
 use Rattle.hop_rule.specs.declared.step.BoardStep.{BoardStep}
-use Rattle.hop_rule.proofs.Lists.{none-some, some-is}
 use Rattle.hop_rule.proofs.Moments.{nth-inside, nth-some, past-next}
-use Rattle.hop_rule.proofs.Parts.{at_moment, from_moment}
-use Rattle.board_api.specs.Lists.{IsFrontOf}
-use Rattle.board_api.specs.OwnSteps.{Has, put_step}
-use Rattle.board_api.specs.Laws.Puts.{AcceptedWerePut, PutsStand}
+use Rattle.hop_rule.proofs.Parts.{at_moment}
 use Rattle.board_api.specs.declared.lists.BoardLists.{BoardLists}
-use Rattle.hop_delivery.specs.Orders.Runs.{Story, turns_of}
-use Rattle.hop_delivery.specs.Orders.Turns.{Explained, Turn}
-use Rattle.hop_delivery.specs.Orders.Turns as turns
-use Rattle.hop_delivery.proofs.Orders.AccountedLemmas.{nth-all}
-use Rattle.hop_delivery.proofs.Orders.PlaceLemmas.{place-get}
+use Rattle.hop_delivery.specs.Orders.Turns.{Turn}
 use Rattle.hop_delivery.proofs.Orders.TurnLemmas.{turns_have_places}
 use Rattle.hop_delivery.specs.Closings.FlowLaw.{accepted_left}
-use Rattle.hop_delivery.specs.Closings.PutPlaces.{AnswersArePlaces, AreTurnsOf}
+use Rattle.hop_delivery.specs.Closings.PutPlaces.{AnswersArePlaces}
 use Rattle.hop_delivery.proofs.Closings.PutPlaceLemmas.{turns_put_once}
 use Rattle.run_laws.specs.Laws.OwnTables.{TablesAreEntries}
 use Rattle.run_laws.specs.Ties.OwnTables.{as_told}

@@ -1,47 +1,40 @@
 -- Choices by own tables are choices by the lists.
-use Rattle.std.proofs.Common.{◌≡◌, ℕ, zero, suc, ◌+◌, ◌%◌, ◌^◌, ◌<◌, ◌≤◌, Bool, false, List, [], ◌∷◌, ◌++◌, Option, Some, None, length, map, take, drop, All, sym, refl, ap, ◌∙◌, subst, arith}
+use Rattle.std.proofs.Common.{◌≡◌, ℕ, zero, suc, ◌+◌, ◌≤◌, Bool, false, List, [], ◌∷◌, ◌++◌, Option}
+use Rattle.std.proofs.Common.{Some, None, length, map, take, drop, All, sym, refl, ap, ◌∙◌, subst}
+use Rattle.std.proofs.Common.{arith}
 use Rattle.std.proofs.lemmas.List.{drop-map, take-map}
 use Rattle.std.proofs.lemmas.List.Elements.{All-cons, All-from_get_or, All-head, All-nil, All-tail}
-use Rattle.std.specs.List.{Contains, fold}
 use Rattle.std.specs.List.Sorted.{IsNonDecreasingBy}
 use Rattle.std.specs.Prelude.{slice_get}
 use Rattle.std.proofs.lemmas.Option.{get_or_from_slice_get, slice_get_within}
 use Rattle.steer_base.specs.declared.put.LaneDrop.{LaneDrop}
 use Rattle.steer_base.specs.Choices.{by_entry, migrate}
-use Rattle.steer_base.specs.Entries.{current_lane, entry, of_class}
-use Rattle.steer_base.specs.Lanes.{LaneLists}
+use Rattle.steer_base.specs.Entries.{entry}
 use Rattle.steer_base.specs.Sets.{has}
-use Rattle.steer_base.specs.declared.choice.Chosen.{Chosen}
 use Rattle.steer_base.specs.declared.choice.Entry.{Entry}
 use Rattle.backlog.specs.Offers.{AllExplained}
 use Rattle.dev_flow_table.specs.Tables.{entries}
 use Rattle.dev_flow_table.specs.Walks.{since_resize}
 use Rattle.history.specs.Lists.{lane_at, no_lane}
-use Rattle.history.specs.declared.history.History.{History}
-use Rattle.history.specs.declared.lane_list.LaneList.{LaneList}
 use Rattle.hop_rule.specs.Moments.{nth_step}
 use Rattle.hop_rule.specs.declared.sizes.BoardSizes.{BoardSizes}
 use Rattle.hop_rule.specs.declared.step.BoardStep.{BoardStep}
 use Rattle.hop_rule.proofs.Moments.{nth-inside, nth-last, nth-old}
-use Rattle.board_api.specs.Lists as seam
 use Rattle.board_api.specs.Laws.Puts.{DropsHaveCauses}
 use Rattle.board_api.specs.Laws.Lanes.{ListsAreCounted}
 use Rattle.board_api.specs.Laws.Puts as puts
 use Rattle.board_api.specs.declared.lists.BoardLists.{BoardLists}
-use Rattle.hop_delivery.specs.Orders.Runs.{Story, Steering, turns_of}
+use Rattle.hop_delivery.specs.Orders.Runs.{turns_of}
 use Rattle.hop_delivery.specs.Orders.Turns.{Turn}
 use Rattle.hop_delivery.specs.Closings.FlowLaw.{accepted_left}
-use Rattle.hop_delivery.specs.Closings.TurnReads.{IsBySeen, before_seen, class_seen, goal_seen, shape_seen}
+use Rattle.hop_delivery.specs.Closings.TurnReads.{before_seen, class_seen, goal_seen, shape_seen}
 use Rattle.steer_model.specs.Good.Drops as good
-use Rattle.steer_model.specs.Good.Inputs.{Input, setup_in}
+use Rattle.steer_model.specs.Good.Inputs.{setup_in}
 use Rattle.steer_model.specs.State.Setup.{packet_hash}
-use Rattle.run_laws.proofs.Tries.OpeningLemmas.{all-later}
 use Rattle.run_laws.specs.Laws.Drops.{DropsFollow}
 use Rattle.run_laws.specs.Laws.OwnTables.{TablesAreEntries, TablesRule}
-use Rattle.run_laws.specs.Ties.Boards.{IsReceiveBoard}
-use Rattle.run_laws.specs.Ties.OwnTables.{IsByTable, as_told, table_before}
+use Rattle.run_laws.specs.Ties.OwnTables.{table_before}
 use Rattle.run_laws.specs.Ties.Tries.{oldest_first}
-use Rattle.hop_delivery.specs.Closings.PutPlaces.{AreTurnsOf}
 use Rattle.run_laws.specs.Ties.Turns.{IsTurnOf}
 
 migrate-entries : (class want : Option ℕ) (desired : ℕ) (xs ys : ℕ → Entry) (head : ℕ → ℕ)

@@ -1,5 +1,5 @@
 -- A lane that the controller did not find empty.
-use Rattle.std.specs.Prelude.{◌≡◌, ◌≢◌, ℕ, ◌<◌, ◌≤◌, List, length}
+use Rattle.std.specs.Prelude.{◌≢◌, ℕ, ◌<◌, ◌≤◌, List, length}
 use Rattle.steer_base.specs.Counters.{distance}
 use Rattle.history.specs.Lists.{lane_at}
 use Rattle.hop_rule.specs.declared.sizes.BoardSizes.{BoardSizes}
@@ -9,7 +9,8 @@ use Rattle.board_api.specs.OwnSteps.{Has}
 use Rattle.board_api.specs.StepWords.{low_half, tail_in}
 use Rattle.board_api.specs.declared.lists.BoardLists.{BoardLists}
 
--- If a seat loaded the head of a lane and then its tail, and they differ, the head is below the tail
+-- If a seat loaded the head of a lane and then its tail, and they differ, the head is below the
+-- tail
 -- as counts, and neither is beyond what the lane has in the end.
 abbrev pub BusyLanesAreBusy : BoardSizes → (ℕ → List BoardStep) → BoardLists → Type 0
 BusyLanesAreBusy about own lists =

@@ -13,7 +13,8 @@ use Rattle.run_laws.specs.Laws.BusyLanes.{BusyLanesAreBusy}
 use Rattle.run_laws.specs.Ties.Answers.{AllAnswered}
 use Rattle.run_laws.specs.Ties.Tries.{Try, at_receive, at_transmit, oldest_first, steps_of_tries}
 
--- A board of a run leaves these lanes of the history, and the controller's own list there is that of
+-- A board of a run leaves these lanes of the history, and the controller's own list there is that
+-- of
 -- its tries.
 pub record IsBoardOf (h : History) (lanes : List LaneList) (at : Try → List BoardStep)
     (tries : List Try) (about : BoardSizes) (own : ℕ → List BoardStep) (lists : BoardLists)
@@ -23,7 +24,8 @@ pub record IsBoardOf (h : History) (lanes : List LaneList) (at : Try → List Bo
   pub own_list : own (closer about) ≡ steps_of_tries at tries
   pub busy : BusyLanesAreBusy about own lists
 
--- If the commands of the plan are given in order, each with its tries, and each try is answered with
+-- If the commands of the plan are given in order, each with its tries, and each try is answered
+-- with
 -- its cause, the commands and answers are those of a good history.
 abbrev pub CommandsFollow : Type 0
 CommandsFollow =

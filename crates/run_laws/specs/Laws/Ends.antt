@@ -33,7 +33,8 @@ module _ (about : BoardSizes) (own : ℕ → List BoardStep) (lists : BoardLists
     pub does : Has (own (puller about l)) step (Lane (Given to l id place))
     pub stands : slice_get (list_at lists.outs to) index ≡ Some id
 
-  -- If each lane has retired what it accepted, each packet that was put stands in an out lane or was
+  -- If each lane has retired what it accepted, each packet that was put stands in an out lane or
+  -- was
   -- dropped.
   abbrev pub PutsEnd : Type 0
   PutsEnd =

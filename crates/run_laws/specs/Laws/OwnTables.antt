@@ -1,13 +1,11 @@
 -- The tables that producers keep have the entries of the lists, so choices by them are by the rule.
-use Rattle.std.specs.Prelude.{◌≡◌, ℕ, ◌<◌, true, Bool, List, Option, Some, length, map, All}
+use Rattle.std.specs.Prelude.{◌≡◌, ℕ, ◌<◌, true, Bool, List, map, All}
 use Rattle.std.specs.List.{fold}
-use Rattle.steer_base.specs.Entries.{entry, place_in}
-use Rattle.steer_base.specs.declared.put.Put.{Put}
-use Rattle.dev_flow_table.specs.Folds.{IsPutAt, after_turn}
+use Rattle.steer_base.specs.Entries.{entry}
+use Rattle.dev_flow_table.specs.Folds.{after_turn}
 use Rattle.dev_flow_table.specs.Tables.{cleared, entries}
 use Rattle.hop_rule.specs.declared.sizes.BoardSizes.{BoardSizes}
 use Rattle.hop_rule.specs.declared.step.BoardStep.{BoardStep}
-use Rattle.board_api.specs.OwnSteps.{Has, put_step}
 use Rattle.board_api.specs.declared.lists.BoardLists.{BoardLists}
 use Rattle.hop_delivery.specs.Closings.FlowLaw.{accepted_left}
 use Rattle.hop_delivery.specs.Closings.PutPlaces.{AreTurnsOf}

@@ -16,7 +16,8 @@ use Rattle.steer_model.specs.State.Start.{initial_settings}
 use Rattle.steer_model.specs.Steps.Commands.{affects, refused_answer}
 use Rattle.run_laws.specs.Ties.Tries.{Try, settings_by}
 
--- The steps have the two loads of a lane that the command affects, first of its head and then of its
+-- The steps have the two loads of a lane that the command affects, first of its head and then of
+-- its
 -- word, and the lane was not found empty.
 pub record FindsOneBusy (i : Input) (lanes : List LaneList) (steps : List BoardStep) (c : Command)
     (lane head tail : ℕ) : Type 0 where

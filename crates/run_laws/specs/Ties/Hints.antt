@@ -69,10 +69,12 @@ pub record WasFiltered (i : Input) (t : Story) (place queue : ℕ) : Type 0 wher
   pub there : filter_place i.plan.filters (packet_hash (setup_in i) turn.chosen.id) ≡ Some place
 
 module _ (i : Input) (h : History) (c : HintCodes) (seats : List (SeatView HintStep)) where
-  -- What each store of the threads was for, by its word and value within their ranges: a write of an
+  -- What each store of the threads was for, by its word and value within their ranges: a write of
+  -- an
   -- application, a done command, a filter, or the queue of an arrival.
   pub record StoresAreMeant (t : Story) : Type 0 where
-    pub sockets : (place cpu : ℕ) → place < MAX_SOCKET_SIZE → IsStoredBy seats (c.socket place) (c.place cpu)
+    pub sockets : (place cpu : ℕ) → place < MAX_SOCKET_SIZE
+        → IsStoredBy seats (c.socket place) (c.place cpu)
         → WasWritten h (record { entry = place; cpu = cpu })
     pub entries : (place q : ℕ) → place < 128 → IsStoredBy seats (c.entry place) (c.place q)
         → EntryFrom i h place q
@@ -86,7 +88,8 @@ module _ (i : Input) (h : History) (c : HintCodes) (seats : List (SeatView HintS
 
   -- ---- how loads were used
 
-  -- The wire sent an arrival to the queue of the filter that it loaded, or else to that of the entry
+  -- The wire sent an arrival to the queue of the filter that it loaded, or else to that of the
+  -- entry
   -- that it loaded or that the plan has; without a hash to queue 0.
   abbrev pub IsRouted : Option ℕ → Arrival → Type 0
   IsRouted None a = route_of a ≡ route None None 0

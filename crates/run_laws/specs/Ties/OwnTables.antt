@@ -20,7 +20,8 @@ module _ (start : ℕ) (t : Story) (r : Steering) (seen : ℕ → ℕ → ℕ) w
   abbrev pub class_by : ℕ → ℕ → Turn → Option ℕ
   class_by p i u = r.class (r.shape (seen i) p) (r.flow u.chosen.id)
 
-  -- The lane to which the packet of a producer's i-th turn is to go, by the settings that it has seen.
+  -- The lane to which the packet of a producer's i-th turn is to go, by the settings that it has
+  -- seen.
   abbrev pub goal_by : ℕ → ℕ → Turn → ℕ
   goal_by p i u =
       goal_of r (seen i) p (r.flow u.chosen.id) (class_by p i u) u.chosen.choice.want

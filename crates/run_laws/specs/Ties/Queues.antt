@@ -8,7 +8,7 @@ use Rattle.hop_rule.specs.declared.sizes.BoardSizes.{BoardSizes}
 use Rattle.hop_rule.specs.declared.step.BoardStep.{BoardStep}
 use Rattle.hop_delivery.specs.Closings.TurnReads.{HasSeen, Knows}
 use Rattle.hop_delivery.specs.Orders.ReceiveSettings.{Queues, flows_word, mask_word, online_word}
-use Rattle.hop_delivery.specs.Orders.ReceiveSettings.{queues, receive_steering, socket_word}
+use Rattle.hop_delivery.specs.Orders.ReceiveSettings.{receive_steering, socket_word}
 use Rattle.hop_delivery.specs.Orders.Runs.{Story, turns_of}
 use Rattle.hop_delivery.specs.Orders.Turns.{Turn}
 use Rattle.steer_model.specs.Good.Inputs.{Input, setup_in}
@@ -27,7 +27,8 @@ pub record FitReceiveWords (q : Queues) (cpus p : ℕ) (s : ℕ → ℕ) : Type 
 
 module _ (i : Input) (h : History) (about : BoardSizes) (own : ℕ → List BoardStep) where
   -- The journals of the receive queues, by the turns that explain the workers' own lists. The k-th
-  -- turn of a queue knows its settings; if they are within their ranges, its choice is by the queue's
+  -- turn of a queue knows its settings; if they are within their ranges, its choice is by the
+  -- queue's
   -- own table. Each packet is put with its hash.
   pub record KeepsQueues (t : Story) (seen : ℕ → ℕ → ℕ → ℕ) : Type 0 where
     pub turns : KeepsTurns own t

@@ -60,7 +60,8 @@ pub record TransmitTies (i : Input) (h : History) (rx_own : ℕ → List BoardSt
   pub right : AllGoRight (transmit_steering (flow_number_of (setup_in i))) own
   pub retired : AllRetired about own
 
--- A history of a run: its two boards and its hint words have ended, the threads keep their ties with
+-- A history of a run: its two boards and its hint words have ended, the threads keep their ties
+-- with
 -- it, and its sweep ended.
 pub record IsRun (i : Input) (h : History) : Type 0 where
   pub input : IsOfInput i h

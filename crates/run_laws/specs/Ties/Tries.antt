@@ -19,7 +19,8 @@ use Rattle.steer_model.specs.State.Settings.{Settings, changed}
 use Rattle.steer_model.specs.Steps.Commands.{is_done}
 use Rattle.run_laws.specs.Ties.Inputs.{receive_queues}
 
--- One try of a command: the command with its answer, and the steps that it added to the controller's
+-- One try of a command: the command with its answer, and the steps that it added to the
+-- controller's
 -- own lists at the receive board and at the transmit board.
 pub record Try : Type 0 where
   pub given : Commanded
@@ -104,17 +105,17 @@ resizes_by p (t ∷ ts) =
 
 -- ---- the controller's journal
 
-module _ (i : Input) (h : History) (about : BoardSizes) (own : ℕ → List BoardStep) (tries : List Try)
+module _ (i : Input) (h : History) (about : BoardSizes) (own : ℕ → List BoardStep)
+    (tries : List Try)
   where
     -- The controller has made no step at the receive board but those of its tries.
     pub record KeepsReceiveTries : Type 0 where
       pub commands : h.commands ≡ oldest_first (map (λ t. t.given) tries)
       pub own_list : own (closer about) ≡ steps_of_tries at_receive tries
       pub are : AllSetByAnswer about (received_sets (receive_queues i)) at_receive tries
-  
+
     -- The controller has made no step at the transmit board but those of its tries.
     pub record KeepsTransmitTries (count : ℕ) : Type 0 where
       pub commands : h.commands ≡ oldest_first (map (λ t. t.given) tries)
       pub own_list : own (closer about) ≡ steps_of_tries at_transmit tries
       pub are : AllSetByAnswer about (λ w c. sent_sets count c) at_transmit tries
-  

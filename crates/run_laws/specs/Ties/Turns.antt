@@ -1,5 +1,5 @@
 -- The turns of a seat's producers, and their journals of choices.
-use Rattle.std.specs.Prelude.{◌≡◌, ℕ, ◌<◌, List, Some, length, map, slice_get, slice_index, All}
+use Rattle.std.specs.Prelude.{◌≡◌, ℕ, List, Some, map, All}
 use Rattle.linearization.specs.Orders.{StepBy}
 use Rattle.hop_rule.specs.Moments.{nth_step}
 use Rattle.hop_rule.specs.declared.step.BoardStep.{BoardStep}

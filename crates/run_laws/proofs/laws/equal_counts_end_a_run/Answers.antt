@@ -4,7 +4,8 @@ use Rattle.board_api.proofs.Endings.{at_closings}
 use Rattle.board_api.proofs.OutSums.{lists_are_counted}
 use Rattle.board_api.proofs.OwnDrops.{counts_are_sums}
 use Rattle.board_api.proofs.OutSums.{outs_are_sums}
-use Rattle.board_api.proofs.OwnLanes.{deliveries_have_places, lanes_are_in_turn, lanes_are_served_by_one}
+use Rattle.board_api.proofs.OwnLanes.{deliveries_have_places, lanes_are_in_turn}
+use Rattle.board_api.proofs.OwnLanes.{lanes_are_served_by_one}
 use Rattle.board_api.proofs.OwnPuts.{puts_stand}
 use Rattle.run_laws.specs.Laws.Ends.{AllAreSent, LanesAreDone, PutsEnd, TotalsSuffice}
 use Rattle.run_laws.proofs.Ends.EndLemmas.{lanes_done, puts_end, totals_suffice}
@@ -23,7 +24,8 @@ pub returns-clause-done : goal.returns-clause-done
 returns-clause-done c =
     at_closings LanesAreDone
     (λ about order fit lawful all.
-    lanes_done about (own_of order) (lists_of about order) (lists_are_counted about (own_of order) order)
+    lanes_done about (own_of order) (lists_of about order)
+    (lists_are_counted about (own_of order) order)
     (counts_are_sums about order lawful) (lanes_are_served_by_one about order lawful)
     (lanes_are_in_turn about order lawful) (puts_stand about order lawful)
     (deliveries_have_places about order lawful) all)
@@ -32,7 +34,8 @@ pub returns-clause-puts : goal.returns-clause-puts
 returns-clause-puts c =
     at_closings PutsEnd
     (λ about order fit lawful all.
-    puts_end about (own_of order) (lists_of about order) (lists_are_counted about (own_of order) order)
+    puts_end about (own_of order) (lists_of about order)
+    (lists_are_counted about (own_of order) order)
     (counts_are_sums about order lawful) (lanes_are_served_by_one about order lawful)
     (lanes_are_in_turn about order lawful) (puts_stand about order lawful)
     (deliveries_have_places about order lawful) all)
