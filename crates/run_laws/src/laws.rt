@@ -6,7 +6,8 @@ ghost use Rattle.run_laws.specs.Laws.Choices.{ChoicesFollow};
 ghost use Rattle.run_laws.specs.Laws.Commands.{CommandsFollow};
 ghost use Rattle.run_laws.specs.Laws.Drops.{DropsFollow};
 ghost use Rattle.run_laws.specs.Laws.EmptiedLanes.{TriesFindEmpty};
-ghost use Rattle.run_laws.specs.Laws.Ends.{AllAreSent, LanesAreDone, PutsEnd, TotalsSuffice};
+ghost use Rattle.run_laws.specs.Laws.Ends.{AllAreSent, LanesAreDone, PutsEnd, RepliesSuffice};
+ghost use Rattle.run_laws.specs.Laws.Ends.{TotalsSuffice};
 ghost use Rattle.run_laws.specs.Laws.GoodRuns.{RunsAreGood};
 ghost use Rattle.run_laws.specs.Laws.Heads.{HeadsFollow};
 ghost use Rattle.run_laws.specs.Laws.Orders.{InboxesFollow};
@@ -67,6 +68,7 @@ pub fn inboxes_are_in_order()
 /// dropped, and each application replied to its whole inbox.
 pub fn equal_counts_end_a_run()
     ensures totals { AtEachClosing TotalsSuffice }
+    ensures replies { AtEachClosing RepliesSuffice }
     ensures done { AtEachClosing LanesAreDone }
     ensures puts { AtEachClosing PutsEnd }
     ensures sent { AtEachClosing AllAreSent }

@@ -46,7 +46,7 @@ pub record GivesWithin (about : BoardSizes) (own : ℕ → List BoardStep) : Typ
   pub within : (q k o from id place : ℕ) → Has (own q) k (Lane (Given o from id place))
       → (o < about.outs) × (from < about.lanes)
 
-gives_within : (about : BoardSizes) (order : List (StepBy BoardStep)) → IsLawful about order
+pub gives_within : (about : BoardSizes) (order : List (StepBy BoardStep)) → IsLawful about order
     → GivesWithin about (own_of order)
 gives_within about order lawful =
     record {

@@ -37,7 +37,9 @@ use Rattle.run_laws.specs.Ties.Runs.{IsRun}
 use Rattle.run_laws.specs.Ties.Tries.{Try}
 use Rattle.hop_delivery.specs.Closings.PutPlaces.{AreTurnsOf}
 use Rattle.run_laws.proofs.Ends.EndLemmas as ends
+use Rattle.run_laws.specs.Ties.Ends.{AllReplied, AllRetired}
 use Rattle.run_laws.proofs.Ends.OutLemmas.{all_are_sent}
+use Rattle.run_laws.proofs.Ends.TotalLemmas.{replies_suffice}
 use Rattle.run_laws.proofs.Lists.OrderLemmas.{end_to_end}
 use Rattle.run_laws.proofs.Lists.PlaceLemmas.{StandOnce, arrived_somewhere, at_in, in_at}
 use Rattle.run_laws.proofs.Runs.FactLemmas.{BoardFacts, facts_at_closings}
@@ -175,15 +177,34 @@ module _ (i : Input) (h : History) (run : IsRun i h) where
 
   -- ---- 8: the end
 
+  rx-retired : AllRetired run.rx rx_own
+  rx-retired =
+      ends.totals_suffice run.rx rx_own run.rx_lists rx-facts.sums rx-facts.served rx-facts.turn
+      run.received.retired
+
+  tx-retired : AllRetired run.tx tx_own
+  tx-retired =
+      ends.totals_suffice run.tx tx_own run.tx_lists tx-facts.sums tx-facts.served tx-facts.turn
+      run.sent.retired
+
+  replied : AllReplied run.rx rx_own h
+  replied =
+      replies_suffice run.rx rx_own run.rx_lists rx-facts.fit rx-facts.gives.within rx-facts.places
+      rx-facts.served rx-facts.outs rx-facts.sums rx-facts.turn rx-retired h
+      run.received.board.inboxes
+      (transmits.front i h run.rx rx_own run.rx_lists rx-facts run.received.board.inboxes
+      inboxes-stand run.tx tx_own run.tx_lists tx-facts run.tries run.applications run.maps_seen
+      within run.sent) run.replied
+
   rx-done : All IsDone run.rx_lists.lanes
   rx-done =
       ends.lanes_done run.rx rx_own run.rx_lists rx-facts.counted rx-facts.sums rx-facts.served
-      rx-facts.turn rx-facts.stand rx-facts.places run.received.retired
+      rx-facts.turn rx-facts.stand rx-facts.places rx-retired
 
   tx-done : All IsDone run.tx_lists.lanes
   tx-done =
       ends.lanes_done run.tx tx_own run.tx_lists tx-facts.counted tx-facts.sums tx-facts.served
-      tx-facts.turn tx-facts.stand tx-facts.places run.sent.retired
+      tx-facts.turn tx-facts.stand tx-facts.places tx-retired
 
   -- a packet that arrived was put
   arrival-ends : (p j x : ℕ) → slice_get (run.queues.arrivals p) j ≡ Some x
@@ -203,7 +224,7 @@ module _ (i : Input) (h : History) (run : IsRun i h) where
       (sym (rx-turns.arrived p j u.0 u.1) ∙ at) in
       let put = put-of rx_own run.queues run.received.queues.turns p j u.0 u.1 in
       elim (ends.puts_end run.rx rx_own run.rx_lists rx-facts.counted rx-facts.sums rx-facts.served
-      rx-facts.turn rx-facts.stand rx-facts.places run.received.retired (run.queues.seat p) put.0
+      rx-facts.turn rx-facts.stand rx-facts.places rx-retired (run.queues.seat p) put.0
       u.0.chosen.choice.lane u.0.chosen.id u.0.hash u.0.answer put.1) [
         | inl w ↦ inl (
           w.to,
@@ -227,7 +248,7 @@ module _ (i : Input) (h : History) (run : IsRun i h) where
             (transmits.front i h run.rx rx_own run.rx_lists rx-facts run.received.board.inboxes
             inboxes-stand run.tx tx_own run.tx_lists tx-facts run.tries run.applications
             run.maps_seen
-            within run.sent a) run.replied
+            within run.sent a) replied
         | inr past ↦
             (let sents = run.sent.applications.sent_lists in
             let outs = run.received.board.out_count in
@@ -274,7 +295,7 @@ module _ (i : Input) (h : History) (run : IsRun i h) where
       (sym (tx-turns.arrived a n.0 u.0 u.1) ∙ reply) in
       let put = put-of tx_own run.applications run.sent.applications.turns a n.0 u.0 u.1 in
       elim (ends.puts_end run.tx tx_own run.tx_lists tx-facts.counted tx-facts.sums tx-facts.served
-      tx-facts.turn tx-facts.stand tx-facts.places run.sent.retired (run.applications.seat a) put.0
+      tx-facts.turn tx-facts.stand tx-facts.places tx-retired (run.applications.seat a) put.0
       u.0.chosen.choice.lane u.0.chosen.id u.0.hash u.0.answer put.1) [
         | inl w ↦
             (let g = (tx-facts.gives.within (puller run.tx u.0.chosen.choice.lane) w.step w.to

@@ -13,7 +13,7 @@ use Rattle.hop_rule.specs.declared.step.LaneStep.TheVariants.{Given}
 use Rattle.board_api.specs.OwnSteps.{Has, put_step}
 use Rattle.board_api.specs.declared.lists.BoardLists.{BoardLists}
 use Rattle.steer_model.specs.Good.Deliveries.{IsDone}
-use Rattle.run_laws.specs.Ties.Ends.{AllReplied, AllRetired, TotalsRetired}
+use Rattle.run_laws.specs.Ties.Ends.{AllReplied, AllRetired, TotalsReplied, TotalsRetired}
 
 module _ (about : BoardSizes) (own : ℕ → List BoardStep) (lists : BoardLists) where
   -- If all lanes together have retired what they accepted, each lane has.
@@ -41,6 +41,15 @@ module _ (about : BoardSizes) (own : ℕ → List BoardStep) (lists : BoardLists
       AllRetired about own → (q k l id : ℕ) (hash : Option ℕ) (answer : Put)
       → Has (own q) k (put_step l id hash answer)
       → WasDelivered l id ⊎ (is_in id (drop_ids (lane_at lists.lanes l)) ≡ true)
+
+  -- If each lane has retired what it accepted, each application replied to a front of its inbox, and
+  -- all applications together replied as often as packets were retired, each replied as often as
+  -- packets were delivered to it.
+  abbrev pub RepliesSuffice : Type 0
+  RepliesSuffice =
+      AllRetired about own → (h : History) → h.inboxes ≡ lists.outs
+      → ((a : ℕ) → IsPrefix (map (λ s. s.id) (list_at h.sent a)) (list_at h.inboxes a))
+      → TotalsReplied about own h → AllReplied about own h
 
   -- If an application replied to a front of its inbox and as often as packets were delivered to it,
   -- it replied to the whole.

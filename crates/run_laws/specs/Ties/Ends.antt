@@ -31,6 +31,12 @@ module _ (about : BoardSizes) (own : ℕ → List BoardStep) where
   abbrev pub TotalsRetired : Type 0
   TotalsRetired = sum_below accepted_count about.lanes ≡ sum_below retired_count about.lanes
 
+  -- All applications together have begun as many replies as all lanes retired packets.
+  abbrev pub TotalsReplied : History → Type 0
+  TotalsReplied h =
+      sum_below (λ a. length (list_at h.sent a)) about.outs
+      ≡ sum_below retired_count about.lanes
+
   -- Each application has begun as many replies as all seats delivered packets to it.
   abbrev pub AllReplied : History → Type 0
   AllReplied h =

@@ -21,7 +21,7 @@ use Rattle.run_laws.specs.Ties.Applications.{KeepsApplications}
 use Rattle.run_laws.specs.Ties.Boards.{IsReceiveBoard, IsTransmitBoard}
 use Rattle.run_laws.specs.Ties.Deliveries.{AllGoRight}
 use Rattle.run_laws.specs.Ties.EmptiedLanes.{AllFindLanes}
-use Rattle.run_laws.specs.Ties.Ends.{AllArrived, AllReplied, AllRetired}
+use Rattle.run_laws.specs.Ties.Ends.{AllArrived, TotalsReplied, TotalsRetired}
 use Rattle.run_laws.specs.Ties.Hints.{HintCodes, LoadsAreUsed, StoresAreMeant}
 use Rattle.run_laws.specs.Ties.Inputs.{FlowsHaveOneHash, receive_queues}
 use Rattle.run_laws.specs.Ties.Queues.{KeepsQueues}
@@ -48,7 +48,7 @@ pub record ReceiveTies (i : Input) (h : History) (about : BoardSizes) (own : ℕ
   pub finds : AllFindLanes about (receive_queues i) i.plan.cpus (length i.plan.tx) at_receive tries
   pub queues : KeepsQueues i h about own t seen
   pub right : AllGoRight (receive_steering (receive_queues i)) own
-  pub retired : AllRetired about own
+  pub retired : TotalsRetired about own
 
 -- What the controller, the applications and the transmit queues keep at the transmit board.
 pub record TransmitTies (i : Input) (h : History) (rx_own : ℕ → List BoardStep)
@@ -58,7 +58,7 @@ pub record TransmitTies (i : Input) (h : History) (rx_own : ℕ → List BoardSt
   pub tries_are : KeepsTransmitTries i h about own tries (length i.plan.tx)
   pub applications : KeepsApplications i h rx_own about own t seen
   pub right : AllGoRight (transmit_steering (flow_number_of (setup_in i))) own
-  pub retired : AllRetired about own
+  pub retired : TotalsRetired about own
 
 -- A history of a run: its two boards and its hint words have ended, the threads keep their ties
 -- with
@@ -82,7 +82,7 @@ pub record IsRun (i : Input) (h : History) : Type 0 where
   pub maps_seen : ℕ → ℕ → ℕ → ℕ
   pub sent : TransmitTies i h (own_in rx_seats) tx (own_in tx_seats) tx_lists tries applications
       maps_seen
-  pub replied : AllReplied rx (own_in rx_seats) h
+  pub replied : TotalsReplied rx (own_in rx_seats) h
   pub codes : HintCodes
   pub hint_seats : List (SeatView HintStep)
   pub stored : LoadsAreStored hint_seats

@@ -9,7 +9,10 @@ use Rattle.board_api.proofs.OwnLanes.{lanes_are_served_by_one}
 use Rattle.board_api.proofs.OwnPuts.{puts_stand}
 use Rattle.run_laws.specs.Laws.Ends.{AllAreSent, LanesAreDone, PutsEnd, TotalsSuffice}
 use Rattle.run_laws.proofs.Ends.EndLemmas.{lanes_done, puts_end, totals_suffice}
+use Rattle.run_laws.specs.Laws.Ends.{RepliesSuffice}
 use Rattle.run_laws.proofs.Ends.OutLemmas.{all_are_sent}
+use Rattle.run_laws.proofs.Ends.TotalLemmas.{replies_suffice}
+use Rattle.run_laws.proofs.Runs.FactLemmas.{gives_within}
 use Rattle.run_laws.proofs.laws.equal_counts_end_a_run.Goals as goal
 
 pub returns-clause-totals : goal.returns-clause-totals
@@ -19,6 +22,15 @@ returns-clause-totals c =
     totals_suffice about (own_of order) (lists_of about order)
     (counts_are_sums about order lawful) (lanes_are_served_by_one about order lawful)
     (lanes_are_in_turn about order lawful))
+
+pub returns-clause-replies : goal.returns-clause-replies
+returns-clause-replies c =
+    at_closings RepliesSuffice
+    (λ about order fit lawful.
+    replies_suffice about (own_of order) (lists_of about order) fit
+    (gives_within about order lawful).within (deliveries_have_places about order lawful)
+    (lanes_are_served_by_one about order lawful) (outs_are_sums about order lawful)
+    (counts_are_sums about order lawful) (lanes_are_in_turn about order lawful))
 
 pub returns-clause-done : goal.returns-clause-done
 returns-clause-done c =
