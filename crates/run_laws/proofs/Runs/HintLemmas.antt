@@ -21,6 +21,7 @@ use Rattle.steer_base.specs.declared.choice.Chosen.{Chosen}
 use Rattle.steer_base.specs.declared.put.Put.{Put}
 use Rattle.steer_base.specs.declared.put.Put.TheVariants.{At}
 use Rattle.dev_flow_table.specs.Folds.{IsPutAt}
+use Rattle.steer_base.specs.declared.limits.TheConstants.{MAX_SOCKET_SIZE}
 use Rattle.hint_words.specs.Loads.{ComesFrom, IsStoredBy, LoadsAreStored}
 use Rattle.hint_words.specs.declared.step.HintStep.{HintStep}
 use Rattle.hint_words.specs.declared.step.HintStep.TheVariants.{Load}
@@ -248,18 +249,35 @@ module _ (i : Input) (h : History) (run : IsRun i h) where
   stood-at a cpu less (inr loaded) =
       run.meant.stands a cpu less (stored-place (run.codes.stand a) cpu loaded)
 
+  -- a size that was read in a visit is that of its number
+  size-is : (size : ℕ) (w : WasRead i h run.codes run.hint_seats rx_own size)
+      → size ≡ (after (visit_before (rx_own w.seat) w.step)).sock
+  size-is size w =
+      let n : ℕ = visit_before (rx_own w.seat) w.step in
+      let words = queues.words-upto i h run.rx rx_own run.rx_lists (runs.rx-facts i h run) run.tries
+      run.queues run.queues_seen run.input.hashes run.received.board run.received.tries_are
+      (runs.within i h run) run.commands.answered run.received.finds run.received.right
+      run.input.arrived run.received.queues n in
+      (runs.rx-facts i h run).reads.in_visit w.seat w.step (socket_word (receive_queues i)) size
+      w.does w.in_visit
+      ∙ words.sock
+
+  size-few : (size : ℕ) → WasRead i h run.codes run.hint_seats rx_own size
+      → size ≤ MAX_SOCKET_SIZE
+  size-few size w =
+      let n : ℕ = visit_before (rx_own w.seat) w.step in
+      let fit = queues.fit-upto i h run.rx rx_own run.rx_lists (runs.rx-facts i h run) run.tries
+      run.queues run.queues_seen run.input.hashes run.received.board run.received.tries_are
+      (runs.within i h run) run.commands.answered run.received.finds run.received.right
+      run.input.arrived run.received.queues n in
+      subst (λ m. m ≤ MAX_SOCKET_SIZE) (sym (size-is size w)) fit.sock
+
   size-read : (size : ℕ) → WasRead i h run.codes run.hint_seats rx_own size → IsSize i h size
   size-read size w =
       let n : ℕ = visit_before (rx_own w.seat) w.step in
       let f = first-tries run.rx (received_sets (receive_queues i)) at_receive n run.tries
       run.received.tries_are.are in
-      let shown = (runs.rx-facts i h run).reads.in_visit w.seat w.step
-      (socket_word (receive_queues i)) size w.does w.in_visit in
-      let words = queues.words-upto i h run.rx rx_own run.rx_lists (runs.rx-facts i h run) run.tries
-      run.queues run.queues_seen run.input.hashes run.received.board run.received.tries_are
-      (runs.within i h run) run.commands.answered run.received.finds run.received.right
-      run.input.arrived run.received.queues n in
-      subst (IsSize i h) (sym (shown ∙ words.sock))
+      subst (IsSize i h) (sym (size-is size w))
       (size_by i h run.tries run.received.tries_are.commands f.0
       (tries_up_to at_receive n run.tries) f.1
       (answered-back i h f.0 (tries_up_to at_receive n run.tries)
@@ -285,8 +303,13 @@ module _ (i : Input) (h : History) (run : IsRun i h) where
         },
         are-writes a xs more less rest,
       ))
-  are-writes a (x ∷ xs) ws less (inr (inr (hash, has, was, rest))) =
-      inr (inr (hash, has, size-read 0 was, are-writes a xs ws less rest))
+  are-writes a (x ∷ xs) ws less (inr (inr (hash, size, has, was, zero_is, rest))) =
+      inr (inr (
+        hash,
+        has,
+        subst (IsSize i h) (zero_is (size-few size was)) (size-read size was),
+        are-writes a xs ws less rest,
+      ))
 
   no-replies : (a : ℕ) → length i.plan.apps ≤ a → list_at h.sent a ≡ []
   no-replies a past =

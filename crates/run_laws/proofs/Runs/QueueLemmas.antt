@@ -211,7 +211,7 @@ module _ (i : Input) (h : History) (about : BoardSizes) (own : ℕ → List Boar
       all-back (λ (t : Try). IsWithinPlan i.plan t.given.command) f.0 (upto n)
       (subst (All (λ (t : Try). IsWithinPlan i.plan t.given.command)) f.1 within)
 
-  fit-upto : (n : ℕ) → FitSettings i.plan.cpus (after n)
+  pub fit-upto : (n : ℕ) → FitSettings i.plan.cpus (after n)
   fit-upto n = fit_by i.plan (upto n) (within-upto n)
 
   homes-upto : (n : ℕ) → HomesOnline (setup_in i).homes (after n)

@@ -92,10 +92,10 @@ tables_rule about own lists law t r seen p i u turns_are journal goal_online b =
     ∙ (ap (drop n) (take-map (λ (u : Turn). u.chosen) i (oldest_first (turns_of t p)))
     ∙ drop-map (λ (u : Turn). u.chosen) n (take i (oldest_first (turns_of t p))))) in
     let same : (k : ℕ) → class_seen about accepted t r seen p i u ≡ Some k
-    → entries (table_before about.start t r seen b.count p i) k
+    → entries (table_before about.start t r seen b.count b.exact p i) k
     ≡ entry about.start accepted (before_seen about accepted t r seen p i) k =
     λ k is. (
-    law t turns_are p b.count false us k all (b.rows k is)
+    law t turns_are p b.count b.exact us k all (b.rows k is)
     ∙ ap (λ zs. entry about.start accepted zs k) cs) in
     record {
       head = b.head;
@@ -103,7 +103,7 @@ tables_rule about own lists law t r seen p i u turns_are journal goal_online b =
           b.rule
           ∙ migrate-entries (class_seen about accepted t r seen p i u) u.chosen.choice.want
           (goal_seen about accepted t r seen p i u)
-          (entries (table_before about.start t r seen b.count p i))
+          (entries (table_before about.start t r seen b.count b.exact p i))
           (entry about.start accepted (before_seen about accepted t r seen p i)) (λ _. b.head)
           (r.online (seen i)) same;
       loaded = λ k l is lane head.

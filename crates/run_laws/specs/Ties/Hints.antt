@@ -1,5 +1,5 @@
 -- What the values of the shared hint words are, and how the threads use what they load.
-use Rattle.std.specs.Prelude.{◌≡◌, ◌≢◌, ◌⊎◌, ℕ, ◌<◌, true, List, [], ◌∷◌, Option, Some, None}
+use Rattle.std.specs.Prelude.{◌≡◌, ◌≢◌, ◌⊎◌, ℕ, ◌<◌, ◌≤◌, true, List, [], ◌∷◌, Option, Some, None}
 use Rattle.std.specs.Prelude.{length, map, slice_get, slice_index, All}
 use Rattle.std.specs.List.{Contains}
 use Rattle.linearization.specs.Seats.{SeatView}
@@ -134,7 +134,8 @@ module _ (i : Input) (h : History) (c : HintCodes) (seats : List (SeatView HintS
       pub in_visit : visit (gate_steps (past step (rx_own seat))) ≡ inside
 
     -- An application wrote for each packet of a list that has a hash, in order, the entry by a size
-    -- that it read and the processor on which it stood; where the size was 0 it wrote nothing.
+    -- that it read and the processor on which it stood; where the size was 0 it wrote nothing. A size beyond its range, which is never read,
+    -- counts as 0.
     abbrev pub AreRecorded : ℕ → List ℕ → List SockWrite → Type 0
     AreRecorded a [] ws = ws ≡ []
     AreRecorded a (x ∷ xs) ws =
@@ -142,7 +143,8 @@ module _ (i : Input) (h : History) (c : HintCodes) (seats : List (SeatView HintS
         ⊎ ((hash : ℕ) × (w : SockWrite) × (rest : List SockWrite) × (size : ℕ)
         × (packet_hash (setup_in i) x ≡ Some hash) × (ws ≡ w ∷ rest) × WasRead size
         × (class_of size (Some hash) ≡ Some w.entry) × Stands a w.cpu × AreRecorded a xs rest)
-        ⊎ ((hash : ℕ) × (packet_hash (setup_in i) x ≡ Some hash) × WasRead 0 × AreRecorded a xs ws)
+        ⊎ ((hash : ℕ) × (size : ℕ) × (packet_hash (setup_in i) x ≡ Some hash) × WasRead size
+        × (size ≤ MAX_SOCKET_SIZE → size ≡ 0) × AreRecorded a xs ws)
 
     -- How the threads used what they loaded.
     pub record LoadsAreUsed (t : Story) (seen : ℕ → ℕ → ℕ → ℕ) : Type 0 where

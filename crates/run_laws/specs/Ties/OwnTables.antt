@@ -1,5 +1,5 @@
 -- Choices by the flow table that a producer keeps for itself.
-use Rattle.std.specs.Prelude.{◌≡◌, ℕ, ◌%◌, ◌^◌, ◌<◌, false, Option, Some, drop, map, take}
+use Rattle.std.specs.Prelude.{◌≡◌, ℕ, ◌%◌, ◌^◌, ◌<◌, Bool, Option, Some, drop, map, take}
 use Rattle.std.specs.List.{Contains, fold}
 use Rattle.steer_base.specs.Choices.{migrate}
 use Rattle.dev_flow_table.specs.Folds.{after_turn}
@@ -26,11 +26,11 @@ module _ (start : ℕ) (t : Story) (r : Steering) (seen : ℕ → ℕ → ℕ) w
   goal_by p i u =
       goal_of r (seen i) p (r.flow u.chosen.id) (class_by p i u) u.chosen.choice.want
 
-  -- The producer's own table before its i-th turn, with so many rows. It was cleared at the last
-  -- turn that saw another shape than the one before it, and told of each turn since.
-  abbrev pub table_before : ℕ → ℕ → ℕ → Table
-  table_before count p i =
-      fold after_turn (cleared count start false)
+  -- The producer's own table before its i-th turn, with so many rows, exact or not. It was cleared at
+  -- the last turn that saw another shape than the one before it, and told of each turn since.
+  abbrev pub table_before : ℕ → Bool → ℕ → ℕ → Table
+  table_before count exact p i =
+      fold after_turn (cleared count start exact)
       (map as_told
       (drop (since_resize (λ j. r.shape (seen j) p) i) (take i (oldest_first (turns_of t p)))))
 
@@ -40,10 +40,11 @@ module _ (start : ℕ) (t : Story) (r : Steering) (seen : ℕ → ℕ → ℕ) w
   pub record IsByTable (p i : ℕ) (u : Turn) : Type 0 where
     pub head : ℕ
     pub count : ℕ
+    pub exact : Bool
     pub rule : u.chosen.choice
         ≡ migrate (class_by p i u) u.chosen.choice.want (goal_by p i u)
-        (entries (table_before count p i)) (λ _. head) (r.online (seen i))
+        (entries (table_before count exact p i)) (λ _. head) (r.online (seen i))
     pub rows : (k : ℕ) → class_by p i u ≡ Some k → k < count
     pub loaded : (k l : ℕ) → class_by p i u ≡ Some k
-        → (entries (table_before count p i) k).lane ≡ Some l → u.chosen.choice.head ≡ Some head
+        → (entries (table_before count exact p i) k).lane ≡ Some l → u.chosen.choice.head ≡ Some head
         → (w : ℕ) × Contains u.early (Weighed l w) × (w % 2 ^ 32 ≡ head)
