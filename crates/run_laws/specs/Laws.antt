@@ -10,3 +10,4 @@ pub mod Commands
 pub mod Ends
 pub mod Replies
 pub mod GoodRuns
+pub mod EmptyRuns

@@ -6,6 +6,7 @@ ghost use Rattle.run_laws.specs.Laws.Choices.{ChoicesFollow};
 ghost use Rattle.run_laws.specs.Laws.Commands.{CommandsFollow};
 ghost use Rattle.run_laws.specs.Laws.Drops.{DropsFollow};
 ghost use Rattle.run_laws.specs.Laws.EmptiedLanes.{TriesFindEmpty};
+ghost use Rattle.run_laws.specs.Laws.EmptyRuns.{EmptyRunsExist};
 ghost use Rattle.run_laws.specs.Laws.Ends.{AllAreSent, LanesAreDone, PutsEnd, RepliesSuffice};
 ghost use Rattle.run_laws.specs.Laws.Ends.{TotalsSuffice};
 ghost use Rattle.run_laws.specs.Laws.GoodRuns.{RunsAreGood};
@@ -84,4 +85,10 @@ pub fn replies_are_by_rule()
 /// have ended and its sweep has ended, all eleven clauses of a good history hold of it.
 pub fn a_run_is_good()
     ensures { RunsAreGood }
+{}
+
+/// Lemma: the ties can be kept. Each plan without commands has a run over a capture without
+/// packets.
+pub fn empty_runs_exist()
+    ensures { EmptyRunsExist }
 {}
