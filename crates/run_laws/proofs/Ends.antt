@@ -1,3 +1,4 @@
+pub mod ChoiceCountLemmas
 pub mod EndLemmas
 pub mod InboxLemmas
 pub mod OutLemmas

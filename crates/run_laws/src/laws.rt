@@ -7,7 +7,7 @@ ghost use Rattle.run_laws.specs.Laws.Commands.{CommandsFollow};
 ghost use Rattle.run_laws.specs.Laws.Drops.{DropsFollow};
 ghost use Rattle.run_laws.specs.Laws.EmptiedLanes.{TriesFindEmpty};
 ghost use Rattle.run_laws.specs.Laws.EmptyRuns.{EmptyRunsExist};
-ghost use Rattle.run_laws.specs.Laws.Ends.{AllAreSent, LanesAreDone, PutsEnd, RepliesSuffice};
+ghost use Rattle.run_laws.specs.Laws.Ends.{AllAreSent, ChoicesSuffice, LanesAreDone, PutsEnd, RepliesSuffice};
 ghost use Rattle.run_laws.specs.Laws.Ends.{TotalsSuffice};
 ghost use Rattle.run_laws.specs.Laws.GoodRuns.{RunsAreGood};
 ghost use Rattle.run_laws.specs.Laws.Heads.{HeadsFollow};
@@ -68,6 +68,7 @@ pub fn inboxes_are_in_order()
 /// Lemma: if the counts are equal, all lanes are done, each packet that was put was delivered or
 /// dropped, and each application replied to its whole inbox.
 pub fn equal_counts_end_a_run()
+    ensures choices { ChoicesSuffice }
     ensures totals { AtEachClosing TotalsSuffice }
     ensures replies { AtEachClosing RepliesSuffice }
     ensures done { AtEachClosing LanesAreDone }

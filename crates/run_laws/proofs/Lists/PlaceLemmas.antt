@@ -162,10 +162,10 @@ abbrev pub AreNumbered : ℕ → List Arrival → Type 0
 AreNumbered i arrivals = map (λ a. a.id) arrivals ≡ range_with_len i (length arrivals)
 
 -- the arrivals at a queue, the first of all being there or not
-abbrev if_there : Bool → ℕ → List ℕ → List ℕ
+abbrev pub if_there : Bool → ℕ → List ℕ → List ℕ
 if_there here x xs = if here then x ∷ xs else xs
 
-split-arrivals : (a : Arrival) (rest : List Arrival) (p : ℕ)
+pub split-arrivals : (a : Arrival) (rest : List Arrival) (p : ℕ)
     → arrivals_at (a ∷ rest) p ≡ if_there (a.queue == p) a.id (arrivals_at rest p)
 split-arrivals a rest p =
     elim (cases_Bool (a.queue == p)) [

@@ -1,10 +1,13 @@
 -- The end of a run by equal counts, for the eighth clause of a good history.
-use Rattle.std.specs.Prelude.{◌≡◌, ◌⊎◌, ℕ, ◌<◌, true, List, Option, Some, map, slice_get, All}
+use Rattle.std.specs.Prelude.{◌≡◌, ◌⊎◌, ℕ, ◌<◌, true, List, Option, Some, length, map, slice_get, All}
 use Rattle.steer_base.specs.Orders.{IsPrefix}
+use Rattle.steer_base.specs.declared.choice.Chosen.{Chosen}
 use Rattle.steer_base.specs.declared.put.Put.{Put}
 use Rattle.history.specs.Finding.{is_in}
-use Rattle.history.specs.Lists.{drop_ids, lane_at, list_at}
+use Rattle.history.specs.Lists.{arrivals_at, drop_ids, lane_at, list_at}
+use Rattle.history.specs.declared.arrival.Arrival.{Arrival}
 use Rattle.history.specs.declared.history.History.{History}
+use Rattle.hop_rule.specs.Events.{sum_below}
 use Rattle.hop_rule.specs.Sizes.{puller}
 use Rattle.hop_rule.specs.declared.sizes.BoardSizes.{BoardSizes}
 use Rattle.hop_rule.specs.declared.step.BoardStep.{BoardStep}
@@ -59,3 +62,13 @@ module _ (about : BoardSizes) (own : ℕ → List BoardStep) (lists : BoardLists
       → IsPrefix (map (λ s. s.id) (list_at h.sent a)) (list_at h.inboxes a)
       → AllReplied about own h
       → map (λ s. s.id) (list_at h.sent a) ≡ list_at h.inboxes a
+
+-- If the choices of each queue are for its first arrivals, in order, and all queues together have as
+-- many choices as packets arrived, each arrival has its choice.
+abbrev pub ChoicesSuffice : Type 0
+ChoicesSuffice =
+    (count : ℕ) (arrivals : List Arrival) (choices : ℕ → List Chosen)
+    → All (λ (a : Arrival). a.queue < count) arrivals
+    → ((p : ℕ) → IsPrefix (map (λ c. c.id) (choices p)) (arrivals_at arrivals p))
+    → sum_below (λ p. length (choices p)) count ≡ length arrivals
+    → (p : ℕ) → p < count → map (λ c. c.id) (choices p) ≡ arrivals_at arrivals p

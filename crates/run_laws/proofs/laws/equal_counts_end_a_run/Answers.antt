@@ -10,10 +10,14 @@ use Rattle.board_api.proofs.OwnPuts.{puts_stand}
 use Rattle.run_laws.specs.Laws.Ends.{AllAreSent, LanesAreDone, PutsEnd, TotalsSuffice}
 use Rattle.run_laws.proofs.Ends.EndLemmas.{lanes_done, puts_end, totals_suffice}
 use Rattle.run_laws.specs.Laws.Ends.{RepliesSuffice}
+use Rattle.run_laws.proofs.Ends.ChoiceCountLemmas.{choices_suffice}
 use Rattle.run_laws.proofs.Ends.OutLemmas.{all_are_sent}
 use Rattle.run_laws.proofs.Ends.TotalLemmas.{replies_suffice}
 use Rattle.run_laws.proofs.Runs.FactLemmas.{gives_within}
 use Rattle.run_laws.proofs.laws.equal_counts_end_a_run.Goals as goal
+
+pub returns-clause-choices : goal.returns-clause-choices
+returns-clause-choices c = choices_suffice
 
 pub returns-clause-totals : goal.returns-clause-totals
 returns-clause-totals c =
