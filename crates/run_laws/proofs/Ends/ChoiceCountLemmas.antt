@@ -1,11 +1,10 @@
 -- The arrivals of all queues are all arrivals, so equal totals give each arrival its choice.
-use Rattle.std.proofs.Common.{◌≡◌, ◌≢◌, inl, inr, ℕ, zero, suc, ◌+◌, ◌<◌, ◌≤◌, ◌==◌, Bool, true, false}
-use Rattle.std.proofs.Common.{List, [], ◌∷◌, ◌++◌, length, map, All, sym, refl, ap, ◌∙◌, subst, arith}
+use Rattle.std.proofs.Common.{◌≡◌, ℕ, zero, suc, ◌<◌, ◌≤◌}
+use Rattle.std.proofs.Common.{List, [], ◌∷◌, ◌++◌, length, map, All, sym, refl, ap, ◌∙◌, arith}
 use Rattle.std.proofs.Common.{length-append}
-use Rattle.std.proofs.lemmas.Bool.{cases_eq, eq-eqb, ne_eqb}
+use Rattle.std.proofs.lemmas.Bool.{eq-eqb, ne_eqb}
 use Rattle.std.proofs.lemmas.List.{length-map}
 use Rattle.std.proofs.lemmas.List.Elements.{All-head, All-tail}
-use Rattle.steer_base.specs.Orders.{IsPrefix}
 use Rattle.steer_base.specs.declared.choice.Chosen.{Chosen}
 use Rattle.history.specs.Lists.{arrivals_at}
 use Rattle.history.specs.declared.arrival.Arrival.{Arrival}
@@ -28,7 +27,8 @@ arrivals-sum count (a ∷ rest) all =
     let here : length (arrivals_at (a ∷ rest) a.queue) ≡ suc (length (arrivals_at rest a.queue)) =
     ap length (split-arrivals a rest a.queue)
     ∙ ap (λ b. length (if_there b a.id (arrivals_at rest a.queue))) (eq-eqb a.queue a.queue refl) in
-    let e = sum_one (λ p. length (arrivals_at (a ∷ rest) p)) (λ p. length (arrivals_at rest p)) count
+    let e = sum_one (λ p. length (arrivals_at (a ∷ rest) p)) (λ p. length (arrivals_at rest p))
+    count
     a.queue (All-head (λ (a : Arrival). a.queue < count) a rest all)
     (λ p _ ne.
     ap length (split-arrivals a rest p)

@@ -1,17 +1,14 @@
 -- The deliveries of all seats, counted by out lane and by lane, and so the replies by totals.
-use Rattle.std.proofs.Common.{◌≡◌, ◌≢◌, inl, inr, ℕ, zero, suc, ◌+◌, ◌-◌, ◌%◌, ◌<◌, ◌≤◌, List, [], ◌∷◌, ◌++◌}
-use Rattle.std.proofs.Common.{Option, Some, None, length, map, All, sym, refl, ap, ◌∙◌, subst, arith}
+use Rattle.std.proofs.Common.{◌≡◌, ◌≢◌, ℕ, zero, suc, ◌-◌, ◌%◌, ◌<◌, ◌≤◌, List, [], ◌∷◌}
+use Rattle.std.proofs.Common.{Some, None, length, map, All, sym, refl, ap, ◌∙◌, arith}
 use Rattle.std.proofs.Common.{length-append}
 use Rattle.std.specs.Prelude.{max}
 use Rattle.std.specs.List.{cons_option}
 use Rattle.std.proofs.Math.Nat.{mod-lt}
-use Rattle.std.proofs.lemmas.Bool.{cases_eq}
 use Rattle.std.proofs.lemmas.List.{length-map}
 use Rattle.std.proofs.lemmas.List.Elements.{All-cons, All-head, All-nil, All-tail}
 use Rattle.linearization.proofs.ListLemmas.{if_same, if_other}
-use Rattle.steer_base.specs.Orders.{IsPrefix}
 use Rattle.history.specs.Lists.{lane_at, list_at}
-use Rattle.history.specs.declared.history.History.{History}
 use Rattle.history.specs.declared.sent.Sent.{Sent}
 use Rattle.hop_rule.specs.Deliveries.{Delivery, delivery}
 use Rattle.hop_rule.specs.Events.{sum_below}
@@ -24,14 +21,14 @@ use Rattle.hop_rule.specs.declared.step.BoardStep.TheVariants.{OutCounted, Weigh
 use Rattle.hop_rule.specs.declared.step.LaneStep.TheVariants.{Freed, Given, Held, Missed, OutFreed}
 use Rattle.hop_rule.specs.declared.step.LaneStep.TheVariants.{OutHeld, OutMissed, Retired}
 use Rattle.hop_rule.proofs.Gates.{sum_one, sum_same}
-use Rattle.hop_rule.proofs.Moments.{nth-inside, nth-last, nth-old, nth-some}
+use Rattle.hop_rule.proofs.Moments.{nth-inside, nth-last, nth-old}
 use Rattle.board_api.specs.Laws.Lanes.{DeliveriesHavePlaces, LanesAreInTurn, LanesAreServedByOne}
 use Rattle.board_api.specs.Laws.Lanes.{OutsAreSums}
 use Rattle.board_api.specs.Laws.Puts.{CountsAreSums}
-use Rattle.board_api.specs.OwnSteps.{Has, delivered_by, delivered_in, given_in, given_to}
+use Rattle.board_api.specs.OwnSteps.{Has, delivered_by, delivered_in, given_to}
 use Rattle.board_api.specs.declared.lists.BoardLists.{BoardLists}
 use Rattle.run_laws.specs.Laws.Ends.{RepliesSuffice}
-use Rattle.run_laws.specs.Ties.Ends.{accepted_count, retired_count}
+use Rattle.run_laws.specs.Ties.Ends.{retired_count}
 use Rattle.run_laws.proofs.Ends.EndLemmas.{delivered-step, nth-filter}
 use Rattle.run_laws.proofs.Lists.SumLemmas.{each-equal, sum-swap}
 
@@ -53,11 +50,13 @@ one-more f g n k less here other =
 module _ (outs lanes : ℕ) where
   -- the deliveries of a list, by out lane and by lane, are equally many
   same-gives : (ds : List BoardStep) → All (GivesIn outs lanes) ds
-      → sum_below (λ o. length (given_to o ds)) outs ≡ sum_below (λ l. length (delivered_by l ds)) lanes
+      → sum_below (λ o. length (given_to o ds)) outs
+      ≡ sum_below (λ l. length (delivered_by l ds)) lanes
   same-gives [] all = sum_none outs ∙ sym (sum_none lanes)
   same-gives (Lane (Given o from id place) ∷ ds) all =
       let within = All-head (GivesIn outs lanes) (Lane (Given o from id place)) ds all in
-      let rest = same-gives ds (All-tail (GivesIn outs lanes) (Lane (Given o from id place)) ds all) in
+      let rest = same-gives ds (All-tail (GivesIn outs lanes) (Lane (Given o from id place)) ds all)
+      in
       let d : BoardStep = Lane (Given o from id place) in
       one-more (λ a. length (given_to a (d ∷ ds))) (λ a. length (given_to a ds)) outs o within.0
       (ap (λ z. length (cons_option z (given_to o ds)))
@@ -66,7 +65,8 @@ module _ (outs lanes : ℕ) where
       ap (λ z. length (cons_option z (given_to p ds)))
       (if_other o p (Some id) None (λ e. ne (sym e))))
       ∙ (ap suc rest
-      ∙ sym (one-more (λ l. length (delivered_by l (d ∷ ds))) (λ l. length (delivered_by l ds)) lanes
+      ∙ sym (one-more (λ l. length (delivered_by l (d ∷ ds))) (λ l. length (delivered_by l ds))
+      lanes
       from within.1
       (ap (λ z. length (cons_option z (delivered_by from ds)))
       (if_same from from (Some (delivery o id place)) None refl))

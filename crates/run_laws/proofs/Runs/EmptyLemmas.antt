@@ -1,23 +1,18 @@
 -- A run over an empty capture and a plan without commands: no thread makes a step.
-use Rattle.std.proofs.Common.{◌≡◌, inl, inr, ℕ, zero, suc, ◌+◌, ◌*◌, ◌^◌, ◌<◌, ◌≤◌, List, [], ◌∷◌, ◌++◌}
-use Rattle.std.proofs.Common.{Option, Some, None, length, map, All, sym, refl, ap, ◌∙◌, subst, arith}
-use Rattle.std.proofs.Common.{get_or}
+use Rattle.std.proofs.Common.{◌≡◌, ℕ, zero, suc, ◌+◌, ◌*◌, ◌^◌, ◌<◌, List, [], ◌∷◌, ◌++◌}
+use Rattle.std.proofs.Common.{None, length, map, All, sym, refl, ap, ◌∙◌, subst, arith}
 use Rattle.std.specs.Prelude.{replicate, slice_get, slice_index, slice_index_or}
 use Rattle.std.specs.List.{Contains}
 use Rattle.std.proofs.Math.ListN.{get_or-append}
 use Rattle.std.proofs.lemmas.List.{get_or-append-add, length-map, length-replicate}
 use Rattle.std.proofs.lemmas.List.Elements.{All-nil}
 use Rattle.linearization.specs.Orders.{StepBy}
-use Rattle.linearization.specs.Seats.{IsByOne, SeatView}
+use Rattle.linearization.specs.Seats.{IsByOne}
 use Rattle.steer_base.specs.Counters.{rounded_up}
 use Rattle.steer_base.specs.Sets.{first_cpus}
 use Rattle.steer_base.specs.declared.choice.Chosen.{Chosen}
-use Rattle.steer_base.specs.declared.cpu_mask.CpuMask.{CpuMask}
-use Rattle.steer_base.specs.declared.filter.Filter.{Filter}
 use Rattle.hint_words.specs.Loads.{IsStoredBy}
-use Rattle.hint_words.specs.declared.step.HintStep.{HintStep}
 use Rattle.history.specs.Lists.{list_at}
-use Rattle.history.specs.declared.arrival.Arrival.{Arrival}
 use Rattle.history.specs.declared.history.History.{History}
 use Rattle.history.specs.declared.sent.Sent.{Sent}
 use Rattle.history.specs.declared.sock_write.SockWrite.{SockWrite}
@@ -25,7 +20,6 @@ use Rattle.hop_core.specs.declared.shape.TheConstants.{MAX_HOP_ROOM}
 use Rattle.hop_rule.specs.Events.{sum_below}
 use Rattle.hop_rule.specs.Sizes.{FitSizes}
 use Rattle.hop_rule.specs.declared.sizes.BoardSizes.{BoardSizes}
-use Rattle.hop_rule.specs.declared.step.BoardStep.{BoardStep}
 use Rattle.hop_rule.proofs.Lists.{none-some}
 use Rattle.board_api.specs.Closings.Closings.{HasEnded}
 use Rattle.board_api.specs.Closings.Finals.{lists_of}
@@ -45,7 +39,6 @@ use Rattle.steer_model.specs.State.Setup.{flow_number_of}
 use Rattle.steer_model.specs.State.Start.{initial_settings}
 use Rattle.run_laws.specs.Laws.EmptyRuns.{EmptyRunsExist}
 use Rattle.run_laws.specs.Ties.Applications.{KeepsApplications}
-use Rattle.run_laws.specs.Ties.Boards.{IsReceiveBoard, IsTransmitBoard}
 use Rattle.run_laws.specs.Ties.Ends.{accepted_count, retired_count}
 use Rattle.run_laws.specs.Ties.Hints.{AreRecorded, CameBy, HintCodes, LoadsAreUsed, Stands}
 use Rattle.run_laws.specs.Ties.Hints.{StoresAreMeant}
@@ -206,7 +199,8 @@ module _ (plan : Plan) where
             ∙ no-more (slice_index counts p));
         small = λ p less. small-counts plan p;
         sock =
-            ap (slice_index (masks ++ (counts ++ last))) (twice Q) ∙ (past-masks (Q + 0) ∙ past-counts 0);
+            ap (slice_index (masks ++ (counts ++ last))) (twice Q)
+            ∙ (past-masks (Q + 0) ∙ past-counts 0);
         online =
             ap (slice_index (masks ++ (counts ++ last))) (twice-one Q)
             ∙ (past-masks (Q + 1) ∙ past-counts 1);

@@ -1,5 +1,5 @@
 -- The ties can be kept: a run over an empty capture.
-use Rattle.std.specs.Prelude.{◌≡◌, ℕ, ◌^◌, ◌<◌, [], None}
+use Rattle.std.specs.Prelude.{◌≡◌, ◌^◌, ◌<◌, [], None}
 use Rattle.history.specs.declared.history.History.{History}
 use Rattle.plan_reader.specs.Ranges.{commands_of}
 use Rattle.plan_reader.specs.declared.plan.Plan.{Plan}

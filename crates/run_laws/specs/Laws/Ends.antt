@@ -1,5 +1,6 @@
 -- The end of a run by equal counts, for the eighth clause of a good history.
-use Rattle.std.specs.Prelude.{◌≡◌, ◌⊎◌, ℕ, ◌<◌, true, List, Option, Some, length, map, slice_get, All}
+use Rattle.std.specs.Prelude.{◌≡◌, ◌⊎◌, ℕ, ◌<◌, true, List, Option, Some, length, map, slice_get}
+use Rattle.std.specs.Prelude.{All}
 use Rattle.steer_base.specs.Orders.{IsPrefix}
 use Rattle.steer_base.specs.declared.choice.Chosen.{Chosen}
 use Rattle.steer_base.specs.declared.put.Put.{Put}
@@ -45,7 +46,8 @@ module _ (about : BoardSizes) (own : ℕ → List BoardStep) (lists : BoardLists
       → Has (own q) k (put_step l id hash answer)
       → WasDelivered l id ⊎ (is_in id (drop_ids (lane_at lists.lanes l)) ≡ true)
 
-  -- If each lane has retired what it accepted, each application replied to a front of its inbox, and
+  -- If each lane has retired what it accepted, each application replied to a front of its inbox,
+  -- and
   -- all applications together replied as often as packets were retired, each replied as often as
   -- packets were delivered to it.
   abbrev pub RepliesSuffice : Type 0
@@ -63,7 +65,8 @@ module _ (about : BoardSizes) (own : ℕ → List BoardStep) (lists : BoardLists
       → AllReplied about own h
       → map (λ s. s.id) (list_at h.sent a) ≡ list_at h.inboxes a
 
--- If the choices of each queue are for its first arrivals, in order, and all queues together have as
+-- If the choices of each queue are for its first arrivals, in order, and all queues together have
+-- as
 -- many choices as packets arrived, each arrival has its choice.
 abbrev pub ChoicesSuffice : Type 0
 ChoicesSuffice =

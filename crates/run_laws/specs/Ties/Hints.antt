@@ -134,7 +134,8 @@ module _ (i : Input) (h : History) (c : HintCodes) (seats : List (SeatView HintS
       pub in_visit : visit (gate_steps (past step (rx_own seat))) ≡ inside
 
     -- An application wrote for each packet of a list that has a hash, in order, the entry by a size
-    -- that it read and the processor on which it stood; where the size was 0 it wrote nothing. A size beyond its range, which is never read,
+    -- that it read and the processor on which it stood; where the size was 0 it wrote nothing. A
+    -- size beyond its range, which is never read,
     -- counts as 0.
     abbrev pub AreRecorded : ℕ → List ℕ → List SockWrite → Type 0
     AreRecorded a [] ws = ws ≡ []

@@ -26,7 +26,8 @@ module _ (start : ℕ) (t : Story) (r : Steering) (seen : ℕ → ℕ → ℕ) w
   goal_by p i u =
       goal_of r (seen i) p (r.flow u.chosen.id) (class_by p i u) u.chosen.choice.want
 
-  -- The producer's own table before its i-th turn, with so many rows, exact or not. It was cleared at
+  -- The producer's own table before its i-th turn, with so many rows, exact or not. It was cleared
+  -- at
   -- the last turn that saw another shape than the one before it, and told of each turn since.
   abbrev pub table_before : ℕ → Bool → ℕ → ℕ → Table
   table_before count exact p i =
@@ -46,5 +47,6 @@ module _ (start : ℕ) (t : Story) (r : Steering) (seen : ℕ → ℕ → ℕ) w
         (entries (table_before count exact p i)) (λ _. head) (r.online (seen i))
     pub rows : (k : ℕ) → class_by p i u ≡ Some k → k < count
     pub loaded : (k l : ℕ) → class_by p i u ≡ Some k
-        → (entries (table_before count exact p i) k).lane ≡ Some l → u.chosen.choice.head ≡ Some head
+        → (entries (table_before count exact p i) k).lane ≡ Some l → u.chosen.choice.head
+        ≡ Some head
         → (w : ℕ) × Contains u.early (Weighed l w) × (w % 2 ^ 32 ≡ head)
