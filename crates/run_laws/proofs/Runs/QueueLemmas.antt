@@ -9,6 +9,7 @@ use Rattle.std.proofs.lemmas.Bool.{cases_lt, ltb-true}
 use Rattle.std.proofs.lemmas.List.{length-map}
 use Rattle.std.proofs.lemmas.List.Elements.{All-cons, All-head, All-nil, All-tail}
 use Rattle.std.proofs.lemmas.List.FromFn.{length-range_with_len}
+use Rattle.steer_base.specs.Counters.{rounded_up}
 use Rattle.steer_base.specs.Sets.{has}
 use Rattle.steer_base.specs.declared.command.Command.{Command}
 use Rattle.steer_base.specs.declared.command.Command.TheVariants as give
@@ -263,6 +264,11 @@ module _ (i : Input) (h : History) (about : BoardSizes) (own : ℕ → List Boar
               (sym (read-is (flows_word q p) (keeps.knows p k u at).flows ∙ w.flows p less))
               (low (slice_index (after n).counts p) (resizes_by p (upto n)) (w.small p less)
               (f.counts p));
+          rounded =
+              subst (λ m. rounded_up (m % 2 ^ 32) ≡ m % 2 ^ 32)
+              (sym (read-is (flows_word q p) (keeps.knows p k u at).flows ∙ w.flows p less))
+              (same-low (slice_index (after n).counts p) (resizes_by p (upto n)) (w.small p less)
+              (f.rounded p));
           sock = subst (λ m. m ≤ MAX_SOCKET_SIZE)
               (sym seen-sock) f.sock;
           online =
@@ -274,6 +280,12 @@ module _ (i : Input) (h : History) (about : BoardSizes) (own : ℕ → List Boar
         low c g small few =
             let same : (c + 2 ^ 32 * g) % 2 ^ 32 ≡ c = omega arith in
             subst (λ m. m ≤ MAX_FLOW_COUNT) (sym same) few
+
+        same-low : (c g : ℕ) → c < 2 ^ 32 → rounded_up c ≡ c
+            → rounded_up ((c + 2 ^ 32 * g) % 2 ^ 32) ≡ (c + 2 ^ 32 * g) % 2 ^ 32
+        same-low c g small round =
+            let same : (c + 2 ^ 32 * g) % 2 ^ 32 ≡ c = omega arith in
+            subst (λ m. rounded_up m ≡ m) (sym same) round
 
     home-online : has (online q z) (slice_index q.homes p) ≡ true
     home-online =

@@ -1,14 +1,15 @@
 -- The settings after any tries are within the plan's ranges, and the homes of all queues stay
 -- online.
-use Rattle.std.proofs.Common.{◌≡◌, inl, inr, ℕ, zero, suc, ◌+◌, ◌-◌, ◌^◌, ◌<◌, ◌≤◌, ◌==◌}
+use Rattle.std.proofs.Common.{◌≡◌, ◌≢◌, inl, inr, ℕ, zero, suc, ◌+◌, ◌-◌, ◌/◌, ◌^◌, ◌<◌, ◌≤◌, ◌==◌}
 use Rattle.std.proofs.Common.{◌&&◌, Bool, true, false, List, [], ◌∷◌}
-use Rattle.std.proofs.Common.{length, map, All, if◌then◌else◌, refl, ap, arith}
+use Rattle.std.proofs.Common.{length, map, All, if◌then◌else◌, sym, refl, ap, ◌∙◌, subst, arith}
 use Rattle.std.proofs.Common.{nat_le, lit<}
 use Rattle.std.specs.Prelude.{find, nat_lt, slice_index, slice_index_or, slice_set}
-use Rattle.std.specs.Prelude.{unwrap_or}
+use Rattle.std.specs.Prelude.{max, unwrap_or}
+use Rattle.std.specs.Int.{IsPowerOfTwo}
 use Rattle.std.specs.List.{range_with_len}
 use Rattle.std.proofs.Math.Nat.{pow-le-pow_right}
-use Rattle.std.proofs.lemmas.Bool.{cases_Bool, cases_eq, leb-false}
+use Rattle.std.proofs.lemmas.Bool.{cases_Bool, cases_eq, leb-false, ne_eqb}
 use Rattle.std.proofs.lemmas.Bool.{ltb-true}
 use Rattle.std.proofs.lemmas.List.Elements.{All-head, All-tail}
 use Rattle.std.proofs.lemmas.Nat.{and_le_l, or_lt}
@@ -17,6 +18,7 @@ use Rattle.steer_base.specs.declared.command.Command.{Command}
 use Rattle.steer_base.specs.declared.command.Command.TheVariants as give
 use Rattle.steer_base.specs.declared.cpu_mask.CpuMask.{CpuMask}
 use Rattle.steer_base.specs.declared.limits.TheConstants.{MAX_FLOW_COUNT, MAX_SOCKET_SIZE}
+use Rattle.steer_base.proofs.CountersLemmas.{first_power-next}
 use Rattle.plan_reader.specs.Plans.{sizes_of}
 use Rattle.plan_reader.specs.Ranges.{QueueIsWithin, TxIsWithin, command_is_within}
 use Rattle.plan_reader.specs.declared.plan.TxPlan.{TxPlan}
@@ -67,12 +69,68 @@ rounded-flows n few = rounded-within n 15 few
 pub rounded-sock : (n : ℕ) → n ≤ MAX_SOCKET_SIZE → rounded_up n ≤ MAX_SOCKET_SIZE
 rounded-sock n few = rounded-within n 16 few
 
+-- the search finds a power of two, if one is enough
+find-power : (n k from len : ℕ) → from ≤ k → k < from + len → n ≤ 2 ^ k
+    → IsPowerOfTwo
+    (unwrap_or (find (λ power. nat_le n power) (map (λ i. 2 ^ i) (range_with_len from len))) 0)
+find-power n k from zero low high enough = absurd (omega arith)
+find-power n k from (suc len) low high enough =
+    elim (cases_Bool (nat_le n (2 ^ from))) [
+      | inl e ↦ rw e (from, refl)
+      | inr e ↦ (
+          let short : 2 ^ from < n = leb-false n (2 ^ from) e in
+          elim (cases_eq from k) [
+            | inl same ↦ absurd (
+                let s : 2 ^ from ≡ 2 ^ k = ap (λ i. 2 ^ i) same in
+                omega (arith, s, short, enough))
+            | inr other ↦
+                rw e (find-power n k (from + 1) len (omega (arith, low, other))
+                (omega (arith, high)) enough)
+          ])
+    ]
+
+power-found : (n : ℕ) → n ≤ MAX_FLOW_COUNT → IsPowerOfTwo (first_power n)
+unfolding first_power
+power-found n few = find-power n 15 0 33 (omega arith) (omega arith) few
+
+-- a rounded flow count is its own rounding
+rounded-again : (n : ℕ) → n ≤ MAX_FLOW_COUNT → rounded_up (rounded_up n) ≡ rounded_up n
+rounded-again n few =
+    elim (cases_eq n 0) [
+      | inl e ↦ ap (λ m. rounded_up (rounded_up m)) e ∙ ap rounded_up (sym e)
+      | inr ne ↦
+          (let is : rounded_up n ≡ first_power n =
+          ap (λ b. if b then 0 else first_power n) (ne_eqb n 0 ne) in
+          ap rounded_up is
+          ∙ (again (first_power n) (power-found n few)
+          (let most = first-within n 15 few in omega arith)
+          ∙ sym is))
+    ]
+  where
+    again : (p : ℕ) → IsPowerOfTwo p → p ≤ 65536 → rounded_up p ≡ p
+    again p power few =
+        let some : 0 < p = subst (λ m. 0 < m) (sym power.1) (some-of power.0) in
+        let other : p ≢ 0 = λ e. absurd (omega arith) in
+        ap (λ b. if b then 0 else first_power p) (ne_eqb p 0 other)
+        ∙ sym (first_power-next p p power some few (omega arith) (half p some))
+      where
+        some-of : (k : ℕ) → 0 < 2 ^ k
+        some-of k =
+            let least : 1 ≤ 2 ^ k = pow-le-pow_right {n = 2} (lit< tt) (zero-least k) in omega arith
+          where
+            zero-least : (m : ℕ) → 0 ≤ m
+            zero-least m = omega arith
+
+        half : (p : ℕ) → 0 < p → p / 2 < max 1 p
+        half p some = omega arith
+
 -- ---- ranges
 
 -- the settings are within the ranges of a plan with so many processors
 pub record FitSettings (cpus : ℕ) (s : Settings) : Type 0 where
   pub masks : (p : ℕ) → (mask_of s p).0 < 2 ^ cpus
   pub counts : (p : ℕ) → slice_index s.counts p ≤ MAX_FLOW_COUNT
+  pub rounded : (p : ℕ) → rounded_up (slice_index s.counts p) ≡ slice_index s.counts p
   pub sock : s.sock ≤ MAX_SOCKET_SIZE
   pub online : s.online.0 < 2 ^ cpus
 
@@ -138,6 +196,7 @@ module _ (plan : Plan) where
             set-any (λ (m : CpuMask). m.0 < 2 ^ plan.cpus) s.masks q p mask (record { 0 = 0 }) small
             (f.masks p);
         counts = f.counts;
+        rounded = f.rounded;
         sock = f.sock;
         online = f.online;
       }
@@ -149,6 +208,9 @@ module _ (plan : Plan) where
         counts = λ p.
             set-number (λ n. n ≤ MAX_FLOW_COUNT) s.counts q p (rounded_up count)
             (rounded-flows count (omega arith)) (f.counts p);
+        rounded = λ p.
+            set-number (λ n. rounded_up n ≡ n) s.counts q p (rounded_up count)
+            (rounded-again count (omega arith)) (f.rounded p);
         sock = f.sock;
         online = f.online;
       }
@@ -157,30 +219,62 @@ module _ (plan : Plan) where
       record {
         masks = f.masks;
         counts = f.counts;
+        rounded = f.rounded;
         sock = rounded-sock size (omega arith);
         online = f.online;
       }
   fit_changed s (give.Offline cpu) within f =
       let less = and_le_l s.online.0 (2 ^ 32 - 1 - 2 ^ cpu) in
       let now = f.online in
-      record { masks = f.masks; counts = f.counts; sock = f.sock; online = omega arith }
+      record {
+        masks = f.masks;
+        counts = f.counts;
+        rounded = f.rounded;
+        sock = f.sock;
+        online = omega arith;
+      }
   fit_changed s (give.Online cpu) within f =
       record {
         masks = f.masks;
         counts = f.counts;
+        rounded = f.rounded;
         sock = f.sock;
         online =
             or_lt plan.cpus s.online.0 (2 ^ cpu) f.online
             (below-power cpu plan.cpus (ltb-true cpu plan.cpus within));
       }
   fit_changed s (give.XCpus tx mask) within f =
-      record { masks = f.masks; counts = f.counts; sock = f.sock; online = f.online }
+      record {
+        masks = f.masks;
+        counts = f.counts;
+        rounded = f.rounded;
+        sock = f.sock;
+        online = f.online;
+      }
   fit_changed s (give.XQueues tx queues) within f =
-      record { masks = f.masks; counts = f.counts; sock = f.sock; online = f.online }
+      record {
+        masks = f.masks;
+        counts = f.counts;
+        rounded = f.rounded;
+        sock = f.sock;
+        online = f.online;
+      }
   fit_changed s (give.Reta place q) within f =
-      record { masks = f.masks; counts = f.counts; sock = f.sock; online = f.online }
+      record {
+        masks = f.masks;
+        counts = f.counts;
+        rounded = f.rounded;
+        sock = f.sock;
+        online = f.online;
+      }
   fit_changed s (give.Stand app cpu) within f =
-      record { masks = f.masks; counts = f.counts; sock = f.sock; online = f.online }
+      record {
+        masks = f.masks;
+        counts = f.counts;
+        rounded = f.rounded;
+        sock = f.sock;
+        online = f.online;
+      }
   fit_changed s give.Expire within f = f
 
   first-masks : (qs : List QueuePlan) (p : ℕ) → All (QueueIsWithin plan.cpus) qs
@@ -197,12 +291,22 @@ module _ (plan : Plan) where
   first-counts (q ∷ qs) (suc p) all =
       first-counts qs p (All-tail (QueueIsWithin plan.cpus) q qs all)
 
+  first-rounded : (qs : List QueuePlan) (p : ℕ) → All (QueueIsWithin plan.cpus) qs
+      → rounded_up (slice_index (map (λ (q : QueuePlan). rounded_up q.flows) qs) p)
+      ≡ slice_index (map (λ (q : QueuePlan). rounded_up q.flows) qs) p
+  first-rounded [] p all = refl
+  first-rounded (q ∷ qs) zero all =
+      rounded-again q.flows (All-head (QueueIsWithin plan.cpus) q qs all).flows
+  first-rounded (q ∷ qs) (suc p) all =
+      first-rounded qs p (All-tail (QueueIsWithin plan.cpus) q qs all)
+
   pub fit_first : Fit (initial_settings plan)
   fit_first =
       let some = some-power plan.cpus in
       record {
         masks = λ p. first-masks plan.queues p plan.within.queues_within;
         counts = λ p. first-counts plan.queues p plan.within.queues_within;
+        rounded = λ p. first-rounded plan.queues p plan.within.queues_within;
         sock = rounded-sock plan.sock plan.within.sock_within;
         online = omega arith;
       }

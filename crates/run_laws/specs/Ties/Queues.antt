@@ -1,5 +1,6 @@
 -- What the workers keep of the receive queues whose packets they steer.
 use Rattle.std.specs.Prelude.{◌≡◌, ℕ, ◌%◌, ◌^◌, ◌<◌, ◌≤◌, List, Some, length, slice_index}
+use Rattle.steer_base.specs.Counters.{rounded_up}
 use Rattle.steer_base.specs.declared.limits.TheConstants.{MAX_FLOW_COUNT, MAX_SOCKET_SIZE}
 use Rattle.history.specs.Lists.{arrivals_at, list_at}
 use Rattle.history.specs.declared.history.History.{History}
@@ -17,11 +18,13 @@ use Rattle.run_laws.specs.Ties.Inputs.{receive_queues}
 use Rattle.run_laws.specs.Ties.OwnTables.{IsByTable}
 use Rattle.run_laws.specs.Ties.Turns.{KeepsTurns}
 
--- The words of a receive queue are within the ranges of what they say: a set of processors, a flow
--- count below the number of its changes, a socket size, and a set of the board's processors.
+-- The words of a receive queue are within the ranges of what they say: a set of processors, a
+-- rounded flow count below the number of its changes, a socket size, and a set of the board's
+-- processors.
 pub record FitReceiveWords (q : Queues) (cpus p : ℕ) (s : ℕ → ℕ) : Type 0 where
   pub mask : s (mask_word q p) < 2 ^ cpus
   pub flows : s (flows_word q p) % 2 ^ 32 ≤ MAX_FLOW_COUNT
+  pub rounded : rounded_up (s (flows_word q p) % 2 ^ 32) ≡ s (flows_word q p) % 2 ^ 32
   pub sock : s (socket_word q) ≤ MAX_SOCKET_SIZE
   pub online : s (online_word q) < 2 ^ cpus
 
