@@ -98,7 +98,7 @@ module _ (outs lanes : ℕ) where
   same-gives (LaneIn k ∷ ds) all = same-gives ds (All-tail (GivesIn outs lanes) (LaneIn k) ds all)
 
 -- what holds of each step by its number holds of all
-all-by-number : {A : Type 0} (P : A → Type 0) (xs : List A)
+pub all-by-number : {A : Type 0} (P : A → Type 0) (xs : List A)
     → ((k : ℕ) (x : A) → nth_step xs k ≡ Some x → P x) → All P xs
 all-by-number P [] each = All-nil P
 all-by-number P (x ∷ xs) each =

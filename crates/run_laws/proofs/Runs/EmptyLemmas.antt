@@ -17,16 +17,14 @@ use Rattle.history.specs.declared.history.History.{History}
 use Rattle.history.specs.declared.sent.Sent.{Sent}
 use Rattle.history.specs.declared.sock_write.SockWrite.{SockWrite}
 use Rattle.hop_core.specs.declared.shape.TheConstants.{MAX_HOP_ROOM}
+use Rattle.hop_rule.specs.Deliveries.{Delivery}
 use Rattle.hop_rule.specs.Events.{sum_below}
 use Rattle.hop_rule.specs.Sizes.{FitSizes}
 use Rattle.hop_rule.specs.declared.sizes.BoardSizes.{BoardSizes}
 use Rattle.hop_rule.proofs.Lists.{none-some}
 use Rattle.board_api.specs.Closings.Closings.{HasEnded}
 use Rattle.board_api.specs.Closings.Finals.{lists_of}
-use Rattle.hop_delivery.specs.Orders.Premises.{GoesRight}
-use Rattle.hop_delivery.specs.Orders.ReceiveSettings.{receive_steering}
 use Rattle.hop_delivery.specs.Orders.Runs.{Story}
-use Rattle.hop_delivery.specs.Orders.TransmitSettings.{transmit_steering}
 use Rattle.hop_delivery.specs.Orders.Turns.{Turn}
 use Rattle.plan_reader.specs.Ranges.{commands_of}
 use Rattle.plan_reader.specs.declared.plan.Plan.{Plan}
@@ -35,8 +33,8 @@ use Rattle.plan_reader.specs.declared.plan.TxPlan.{TxPlan}
 use Rattle.xps_map.specs.Maps.{no_cpus}
 use Rattle.steer_model.specs.Good.Commands.{AreGiven}
 use Rattle.steer_model.specs.Good.Inputs.{Input, setup_in}
-use Rattle.steer_model.specs.State.Setup.{flow_number_of}
 use Rattle.steer_model.specs.State.Start.{initial_settings}
+use Rattle.steer_model.specs.State.Setup.{app_for}
 use Rattle.run_laws.specs.Laws.EmptyRuns.{EmptyRunsExist}
 use Rattle.run_laws.specs.Ties.Applications.{KeepsApplications}
 use Rattle.run_laws.specs.Ties.Ends.{accepted_count, retired_count}
@@ -384,7 +382,7 @@ module _ (plan : Plan) where
           tries_are = record { commands = refl; own_list = refl; are = tt };
           finds = tt;
           queues = queues-kept;
-          right = λ q. All-nil (GoesRight (receive_steering (receive_queues i)));
+          right = λ l less. All-nil (λ (g : Delivery). g.to ≡ app_for (setup_in i) g.id);
           retired = no-accepted rx rx.lanes;
         };
         tx = tx;
@@ -406,7 +404,7 @@ module _ (plan : Plan) where
           };
           tries_are = record { commands = refl; own_list = refl; are = tt };
           applications = applications-kept;
-          right = λ q. All-nil (GoesRight (transmit_steering (flow_number_of (setup_in i))));
+          right = λ l less. All-nil (λ (g : Delivery). g.to ≡ 0);
           retired = no-accepted tx tx.lanes;
         };
         replied =

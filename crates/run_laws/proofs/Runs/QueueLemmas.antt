@@ -1,5 +1,5 @@
 -- What the receive queues keep gives the premises of delivery in order, and turns of all choices.
-use Rattle.std.proofs.Common.{◌≡◌, inl, inr, ℕ, ◌+◌, ◌*◌, ◌/◌, ◌%◌, ◌^◌, ◌<◌, ◌≤◌}
+use Rattle.std.proofs.Common.{◌≡◌, inl, inr, ℕ, ◌+◌, ◌-◌, ◌*◌, ◌/◌, ◌%◌, ◌^◌, ◌<◌, ◌≤◌}
 use Rattle.std.proofs.Common.{◌&&◌, Bool, true, false, List, [], ◌∷◌, ◌++◌, Some, length}
 use Rattle.std.proofs.Common.{All, sym, refl, ap, ◌∙◌, subst, arith}
 use Rattle.std.specs.Prelude.{nat_lt, slice_get, slice_index}
@@ -23,12 +23,22 @@ use Rattle.hop_rule.specs.Moments.{nth_step}
 use Rattle.hop_rule.specs.Sizes.{closer}
 use Rattle.hop_rule.specs.declared.sizes.BoardSizes.{BoardSizes}
 use Rattle.hop_rule.specs.declared.step.BoardStep.{BoardStep}
+use Rattle.hop_rule.specs.declared.step.BoardStep.TheVariants.{Counted, Gate, Lane, LaneIn}
+use Rattle.hop_rule.specs.declared.step.BoardStep.TheVariants.{LaneOut, OutCounted, Weighed}
+use Rattle.hop_rule.specs.declared.step.LaneStep.TheVariants.{Freed, Given, Held, Missed}
+use Rattle.hop_rule.specs.declared.step.LaneStep.TheVariants.{OutFreed, OutHeld, OutMissed}
+use Rattle.hop_rule.specs.declared.step.LaneStep.TheVariants.{Retired}
+use Rattle.board_api.specs.OwnSteps.{Has}
+use Rattle.steer_base.specs.Apps.{app_of}
+use Rattle.steer_model.specs.State.Setup.{app_for}
+use Rattle.run_laws.proofs.Ends.TotalLemmas.{all-by-number}
+use Rattle.run_laws.proofs.Runs.StandLemmas as stand
 use Rattle.hop_rule.proofs.Moments.{nth-inside}
 use Rattle.board_api.specs.declared.lists.BoardLists.{BoardLists}
 use Rattle.hop_delivery.specs.Closings.FlowLaw.{accepted_left}
 use Rattle.hop_delivery.specs.Closings.TurnReads.{Knows}
 use Rattle.hop_delivery.specs.Orders.Commands.{received_sets}
-use Rattle.hop_delivery.specs.Orders.Premises.{AllFindEmpty, MeetsPremises}
+use Rattle.hop_delivery.specs.Orders.Premises.{AllFindEmpty, GoesRight, MeetsPremises}
 use Rattle.hop_delivery.specs.Orders.ReceiveSettings.{Queues, flows_word, mask, mask_word, online}
 use Rattle.hop_delivery.specs.Orders.ReceiveSettings.{online_word, queues, receive_steering}
 use Rattle.hop_delivery.specs.Orders.ReceiveSettings.{socket_word}
@@ -43,7 +53,7 @@ use Rattle.steer_model.specs.State.Start.{initial_settings}
 use Rattle.run_laws.specs.Laws.Choices.{ChoicesHaveTurns}
 use Rattle.run_laws.specs.Ties.Answers.{AllAnswered}
 use Rattle.run_laws.specs.Ties.Boards.{IsReceiveBoard}
-use Rattle.run_laws.specs.Ties.Deliveries.{AllGoRight}
+use Rattle.run_laws.specs.Ties.Deliveries.{AllDeliverTo}
 use Rattle.run_laws.specs.Ties.Ends.{AllArrived}
 use Rattle.run_laws.specs.Ties.EmptiedLanes.{AllFindLanes}
 use Rattle.run_laws.specs.Ties.Inputs.{AreReceiveWords, FlowsHaveOneHash, NamesReceiveQueues}
@@ -118,7 +128,7 @@ module _ (i : Input) (h : History) (about : BoardSizes) (own : ℕ → List Boar
     (within : All (λ (t : Try). IsWithinPlan i.plan t.given.command) tries)
     (answered : AllAnswered i h tries)
     (finds : AllFindLanes about (receive_queues i) i.plan.cpus (length i.plan.tx) at_receive tries)
-    (right : AllGoRight (receive_steering (receive_queues i)) own)
+    (right : AllDeliverTo about (app_for (setup_in i)) own)
     (arrived : AllArrived i h) (keeps : KeepsQueues i h about own t seen) where
   abbrev q : Queues
   q = receive_queues i
@@ -316,6 +326,36 @@ module _ (i : Input) (h : History) (about : BoardSizes) (own : ℕ → List Boar
         by_rule = rule-of;
       }
 
+  -- the packet of a delivery is one of the capture
+  delivered-known : (q k o from id place : ℕ) → Has (own q) k (Lane (Given o from id place))
+      → id < length i.packets
+  delivered-known q k o from id place does =
+      let s = facts.places.stand q k o from id place does in
+      let f = stand.came-from about own lists facts t keeps.turns are-turns arrival-once h.choices
+      keeps.choices o (place - 1) id s.stands in
+      let p = stand.accepted-arrived about own lists facts t keeps.turns are-turns arrival-once
+      h.choices keeps.choices f.lane f.index id f.stands_at in
+      arrival-known p.0 p.1 id p.2
+
+  goes-right : (q k : ℕ) (d : BoardStep) → Has (own q) k d → GoesRight r d
+  goes-right q k (Lane (Given o from id place)) does =
+      stand.delivered-to about own lists facts (app_for (setup_in i)) right q k o from id place does
+      ∙ sym (ap (λ a. app_of a (setup_in i).apps)
+      (hashes id (delivered-known q k o from id place does)))
+  goes-right q k (Lane (Held l w x)) does = tt
+  goes-right q k (Lane (Missed l w)) does = tt
+  goes-right q k (Lane (Freed l c)) does = tt
+  goes-right q k (Lane (OutHeld o w x)) does = tt
+  goes-right q k (Lane (OutMissed o w)) does = tt
+  goes-right q k (Lane (OutFreed o)) does = tt
+  goes-right q k (Lane (Retired l w)) does = tt
+  goes-right q k (Gate g) does = tt
+  goes-right q k (Weighed l w) does = tt
+  goes-right q k (Counted l w) does = tt
+  goes-right q k (OutCounted o w) does = tt
+  goes-right q k (LaneOut n) does = tt
+  goes-right q k (LaneIn n) does = tt
+
   pub meets-premises : MeetsPremises about own (accepted_left lists) t r
   meets-premises =
       record {
@@ -324,7 +364,7 @@ module _ (i : Input) (h : History) (about : BoardSizes) (own : ℕ → List Boar
         by_seat = keeps.turns.by_seat;
         arrived = turn-arrived own t keeps.turns;
         chosen = turn-chosen own t keeps.turns;
-        given = right;
+        given = λ q. all-by-number (GoesRight r) (own q) (goes-right q);
         by_rule = rule-of;
         emptied =
             subst (AllFindEmpty about r) (sym kept.own_list)

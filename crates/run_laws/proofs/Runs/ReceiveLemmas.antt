@@ -5,7 +5,6 @@ use Rattle.std.proofs.Common.{sym, refl, ap, ◌∙◌, subst, arith}
 use Rattle.std.specs.Prelude.{slice_get, slice_index}
 use Rattle.std.proofs.lemmas.List.{length-map}
 use Rattle.std.proofs.Math.Seq.{take_all}
-use Rattle.steer_base.specs.Apps.{app_of}
 use Rattle.steer_base.specs.declared.choice.Chosen.{Chosen}
 use Rattle.history.specs.Finding.{is_among, is_in}
 use Rattle.history.specs.Lists.{accepted_lists, app_at, arrivals_at, drop_ids, dropped_lists}
@@ -16,18 +15,16 @@ use Rattle.history.specs.declared.history.History.{History}
 use Rattle.hop_rule.specs.Sizes.{puller}
 use Rattle.hop_rule.specs.declared.sizes.BoardSizes.{BoardSizes}
 use Rattle.hop_rule.specs.declared.step.BoardStep.{BoardStep}
-use Rattle.hop_rule.specs.declared.step.BoardStep.TheVariants.{Lane}
-use Rattle.hop_rule.specs.declared.step.LaneStep.TheVariants.{Given}
 use Rattle.board_api.specs.declared.lists.BoardLists.{BoardLists}
 use Rattle.hop_delivery.specs.Closings.FlowLaw.{accepted_left}
-use Rattle.hop_delivery.specs.Orders.Premises.{GoesRight, MeetsPremises}
+use Rattle.hop_delivery.specs.Orders.Premises.{MeetsPremises}
 use Rattle.hop_delivery.specs.Orders.ReceiveSettings.{receive_steering}
 use Rattle.hop_delivery.specs.Orders.Runs.{Story}
-use Rattle.hop_delivery.proofs.Orders.AccountedLemmas.{nth-all}
 use Rattle.hop_delivery.proofs.Orders.ReceiveSettingLemmas.{receive_steers}
 use Rattle.steer_model.specs.Good.Choices.{ChoicesAreByRule}
 use Rattle.steer_model.specs.Good.Deliveries.{IsDeliveredInOrder}
-use Rattle.steer_model.specs.Good.Inputs.{Input}
+use Rattle.steer_model.specs.Good.Inputs.{Input, setup_in}
+use Rattle.steer_model.specs.State.Setup.{app_for}
 use Rattle.run_laws.specs.Laws.Choices.{ChoicesHaveTurns, commands_before}
 use Rattle.run_laws.specs.Ties.Inputs.{receive_queues}
 use Rattle.run_laws.specs.Ties.Runs.{IsOfInput, KeepsCommands, ReceiveTies}
@@ -163,13 +160,8 @@ module _ (i : Input) (h : History) (about : BoardSizes) (own : ℕ → List Boar
       let n = at_in x (list_at lists.outs a) is in
       let f = stand.came-from about own lists facts t ties.queues.turns turns once h.choices
       ties.queues.choices a n.0 x n.1 in
-      let p = stand.accepted-arrived about own lists facts t ties.queues.turns turns once h.choices
-      ties.queues.choices f.lane f.index x f.stands_at in
-      let goes : GoesRight (receive_steering (receive_queues i)) (Lane (Given a f.lane x (suc n.0)))
-      =
-      nth-all (GoesRight (receive_steering (receive_queues i))) (own (puller about f.lane)) f.step
-      (Lane (Given a f.lane x (suc n.0))) (ties.right (puller about f.lane)) f.does in
-      sym (goes ∙ ap (λ o. app_of o (length i.plan.apps)) (input.hashes x (known p.0 p.1 x p.2)))
+      sym (stand.delivered-to about own lists facts (app_for (setup_in i)) ties.right
+      (puller about f.lane) f.step a f.lane x (suc n.0) f.does)
 
   pub are-delivered : AreDelivered i.packets (length i.plan.apps) h
   are-delivered =

@@ -32,6 +32,8 @@ use Rattle.board_api.specs.declared.lists.BoardLists.{BoardLists}
 use Rattle.hop_delivery.specs.Closings.FlowLaw.{accepted_left}
 use Rattle.hop_delivery.specs.Orders.Runs.{Story}
 use Rattle.hop_delivery.specs.Closings.PutPlaces.{AreTurnsOf, HasTurn, PacketsStandOnce}
+use Rattle.hop_delivery.proofs.Orders.AccountedLemmas.{nth-all}
+use Rattle.run_laws.specs.Ties.Deliveries.{AllDeliverTo}
 use Rattle.run_laws.specs.Ties.Turns.{KeepsTurns}
 use Rattle.run_laws.proofs.Lists.PlaceLemmas.{StandOnce, among_at, at_in, choice_at, drop_at}
 use Rattle.run_laws.proofs.Lists.PlaceLemmas.{in_at, joined_stand}
@@ -64,6 +66,21 @@ filter-nth {A} {B} f (z ∷ zs) k x y at is =
         → (n : ℕ) × (nth_step (cons_option o ys) n ≡ Some y)
     later None ys n at = (n, at)
     later (Some w) ys n at = (n, nth-old (w ∷ []) ys n (nth-inside ys n y at) ∙ at)
+
+-- where each lane's seat delivers to the packet's own out lane, each delivery does
+pub delivered-to : (about : BoardSizes) (own : ℕ → List BoardStep) (lists : BoardLists)
+    → BoardFacts about own lists → (out : ℕ → ℕ) → AllDeliverTo about out own
+    → (q k o from id place : ℕ) → Has (own q) k (Lane (Given o from id place)) → o ≡ out id
+delivered-to about own lists facts out right q k o from id place does =
+    let s = facts.places.stand q k o from id place does in
+    let w = facts.gives.within q k o from id place does in
+    let here : Has (own (puller about from)) k (Lane (Given o from id place)) =
+    ap (λ z. nth_step (own z) k) s.by_puller ∙ does in
+    let n = filter-nth (delivered_in from) (own (puller about from)) k
+    (Lane (Given o from id place)) (delivery o id place) here
+    (if_same from from (Some (delivery o id place)) None refl) in
+    nth-all (λ (g : Delivery). g.to ≡ out g.id) (delivered_by from (own (puller about from))) n.0
+    (delivery o id place) (right from w.1) n.1
 
 module _ (about : BoardSizes) (own : ℕ → List BoardStep) (lists : BoardLists)
     (facts : BoardFacts about own lists) (t : Story) (keeps : KeepsTurns own t)

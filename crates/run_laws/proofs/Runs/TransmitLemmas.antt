@@ -40,7 +40,12 @@ use Rattle.hop_rule.proofs.Lists.{none-some, some-is}
 use Rattle.board_api.specs.declared.lists.BoardLists.{BoardLists}
 use Rattle.hop_delivery.specs.Closings.FlowLaw.{accepted_left}
 use Rattle.hop_delivery.specs.Orders.DeliveryLaw.{came_by}
-use Rattle.hop_delivery.specs.Orders.Premises.{AllFindEmpty, FindsEmpty, MeetsPremises}
+use Rattle.hop_delivery.specs.Orders.Premises.{AllFindEmpty, FindsEmpty, GoesRight, MeetsPremises}
+use Rattle.hop_rule.specs.declared.step.LaneStep.TheVariants.{Freed, Given, Held, Missed}
+use Rattle.hop_rule.specs.declared.step.LaneStep.TheVariants.{OutFreed, OutHeld, OutMissed}
+use Rattle.hop_rule.specs.declared.step.LaneStep.TheVariants.{Retired}
+use Rattle.board_api.specs.OwnSteps.{Has}
+use Rattle.run_laws.proofs.Ends.TotalLemmas.{all-by-number}
 use Rattle.hop_delivery.specs.Orders.Runs.{Steering, Story}
 use Rattle.hop_delivery.specs.Orders.TransmitSettings.{transmit_steering}
 use Rattle.hop_delivery.proofs.Orders.TransmitSettingLemmas.{transmit_steers}
@@ -140,6 +145,23 @@ module _ (i : Input) (h : History) (rx : BoardSizes) (rx_own : ℕ → List Boar
       replies_of_closing about own lists facts.visits i h tries t ties.board ties.tries_are
       (apps.all_name_maps i tries within) replies
 
+  goes-right : (q k : ℕ) (d : BoardStep) → Has (own q) k d → GoesRight r d
+  goes-right q k (Lane (Given o from id place)) does =
+      stand.delivered-to about own lists facts (λ id. 0) ties.right q k o from id place does
+  goes-right q k (Lane (Held l w x)) does = tt
+  goes-right q k (Lane (Missed l w)) does = tt
+  goes-right q k (Lane (Freed l c)) does = tt
+  goes-right q k (Lane (OutHeld o w x)) does = tt
+  goes-right q k (Lane (OutMissed o w)) does = tt
+  goes-right q k (Lane (OutFreed o)) does = tt
+  goes-right q k (Lane (Retired l w)) does = tt
+  goes-right q k (Gate g) does = tt
+  goes-right q k (Weighed l w) does = tt
+  goes-right q k (Counted l w) does = tt
+  goes-right q k (OutCounted o w) does = tt
+  goes-right q k (LaneOut n) does = tt
+  goes-right q k (LaneIn n) does = tt
+
   pub premises : MeetsPremises about own (accepted_left lists) t r
   premises =
       record {
@@ -148,7 +170,7 @@ module _ (i : Input) (h : History) (rx : BoardSizes) (rx_own : ℕ → List Boar
         by_seat = turns.by_seat;
         arrived = turns.arrived;
         chosen = turn-chosen own t ties.applications.turns;
-        given = ties.right;
+        given = λ q. all-by-number (GoesRight r) (own q) (goes-right q);
         by_rule = replies.by_rule;
         emptied = no-changes-ask about (flow_number_of (setup_in i)) (own (closer about));
       }

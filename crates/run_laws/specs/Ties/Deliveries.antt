@@ -1,9 +1,13 @@
 -- Where the workers deliver packets.
-use Rattle.std.specs.Prelude.{ℕ, List, All}
+use Rattle.std.specs.Prelude.{◌≡◌, ℕ, ◌<◌, List, All}
+use Rattle.hop_rule.specs.Deliveries.{Delivery}
+use Rattle.hop_rule.specs.Sizes.{puller}
+use Rattle.hop_rule.specs.declared.sizes.BoardSizes.{BoardSizes}
 use Rattle.hop_rule.specs.declared.step.BoardStep.{BoardStep}
-use Rattle.hop_delivery.specs.Orders.Premises.{GoesRight}
-use Rattle.hop_delivery.specs.Orders.Runs.{Steering}
+use Rattle.board_api.specs.OwnSteps.{delivered_by}
 
--- Each delivery of each seat is to the out lane of its packet's flow.
-abbrev pub AllGoRight : Steering → (ℕ → List BoardStep) → Type 0
-AllGoRight r own = (q : ℕ) → All (GoesRight r) (own q)
+-- The seat of each lane has delivered each packet of the lane to the packet's own out lane.
+abbrev pub AllDeliverTo : BoardSizes → (ℕ → ℕ) → (ℕ → List BoardStep) → Type 0
+AllDeliverTo about out own =
+    (l : ℕ) → l < about.lanes
+    → All (λ (g : Delivery). g.to ≡ out g.id) (delivered_by l (own (puller about l)))

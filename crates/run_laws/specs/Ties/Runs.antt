@@ -10,16 +10,14 @@ use Rattle.hop_rule.specs.declared.step.BoardStep.{BoardStep}
 use Rattle.board_api.specs.Closings.Closings.{HasEnded, own_in}
 use Rattle.board_api.specs.Seats.{BoardSeatView}
 use Rattle.board_api.specs.declared.lists.BoardLists.{BoardLists}
-use Rattle.hop_delivery.specs.Orders.ReceiveSettings.{receive_steering}
 use Rattle.hop_delivery.specs.Orders.Runs.{Story}
-use Rattle.hop_delivery.specs.Orders.TransmitSettings.{transmit_steering}
 use Rattle.steer_model.specs.Good.Commands.{AreGiven}
 use Rattle.steer_model.specs.Good.Inputs.{Input, setup_in}
-use Rattle.steer_model.specs.State.Setup.{flow_number_of}
+use Rattle.steer_model.specs.State.Setup.{app_for}
 use Rattle.run_laws.specs.Ties.Answers.{AllAnswered}
 use Rattle.run_laws.specs.Ties.Applications.{KeepsApplications}
 use Rattle.run_laws.specs.Ties.Boards.{IsReceiveBoard, IsTransmitBoard}
-use Rattle.run_laws.specs.Ties.Deliveries.{AllGoRight}
+use Rattle.run_laws.specs.Ties.Deliveries.{AllDeliverTo}
 use Rattle.run_laws.specs.Ties.EmptiedLanes.{AllFindLanes}
 use Rattle.run_laws.specs.Ties.Ends.{AllArrived, TotalsReplied, TotalsRetired}
 use Rattle.run_laws.specs.Ties.Hints.{HintCodes, LoadsAreUsed, StoresAreMeant}
@@ -47,7 +45,7 @@ pub record ReceiveTies (i : Input) (h : History) (about : BoardSizes) (own : ℕ
   pub tries_are : KeepsReceiveTries i h about own tries
   pub finds : AllFindLanes about (receive_queues i) i.plan.cpus (length i.plan.tx) at_receive tries
   pub queues : KeepsQueues i h about own t seen
-  pub right : AllGoRight (receive_steering (receive_queues i)) own
+  pub right : AllDeliverTo about (app_for (setup_in i)) own
   pub retired : TotalsRetired about own
 
 -- What the controller, the applications and the transmit queues keep at the transmit board.
@@ -57,7 +55,7 @@ pub record TransmitTies (i : Input) (h : History) (rx_own : ℕ → List BoardSt
   pub board : IsTransmitBoard i h about lists
   pub tries_are : KeepsTransmitTries i h about own tries (length i.plan.tx)
   pub applications : KeepsApplications i h rx_own about own t seen
-  pub right : AllGoRight (transmit_steering (flow_number_of (setup_in i))) own
+  pub right : AllDeliverTo about (λ id. 0) own
   pub retired : TotalsRetired about own
 
 -- A history of a run: its two boards and its hint words have ended, the threads keep their ties
