@@ -59,7 +59,8 @@ use Rattle.run_laws.specs.Ties.EmptiedLanes.{AllFindLanes}
 use Rattle.run_laws.specs.Ties.Inputs.{AreReceiveWords, FlowsHaveOneHash, NamesReceiveQueues}
 use Rattle.run_laws.specs.Ties.Inputs.{receive_queues}
 use Rattle.run_laws.specs.Ties.Queues.{FitReceiveWords, KeepsQueues}
-use Rattle.run_laws.specs.Ties.Tries.{KeepsReceiveTries, Try, at_receive, resizes_by, settings_by}
+use Rattle.run_laws.specs.Ties.Tries.{KeepsReceiveTries, Try, at_receive, settings_by}
+use Rattle.run_laws.proofs.Tries.ResizeLemmas.{resizes_by}
 use Rattle.run_laws.specs.Ties.Tries.{tries_up_to}
 use Rattle.hop_delivery.specs.Closings.PutPlaces.{AreTurnsOf}
 use Rattle.run_laws.proofs.Runs.TurnListLemmas.{ArriveOnce}

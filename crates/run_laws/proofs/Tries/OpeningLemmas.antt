@@ -21,7 +21,8 @@ use Rattle.run_laws.proofs.Tries.WordLemmas.{words_are}
 use Rattle.run_laws.specs.Ties.Boards.{IsReceiveBoard}
 use Rattle.run_laws.specs.Ties.Inputs.{AreReceiveWords, NamesReceiveQueues, receive_queues}
 use Rattle.run_laws.specs.Ties.Tries.{AllSetByAnswer, KeepsReceiveTries, Try, at_receive}
-use Rattle.run_laws.specs.Ties.Tries.{resizes_by, settings_by, tries_up_to}
+use Rattle.run_laws.specs.Ties.Tries.{settings_by, tries_up_to}
+use Rattle.run_laws.proofs.Tries.ResizeLemmas.{resizes_by}
 
 pub are-later : (about : BoardSizes) (sets : (ℕ → ℕ) → Command → List SettingChange)
     (f : Try → List BoardStep)

@@ -15,7 +15,13 @@ use Rattle.steer_model.specs.Steps.Commands.{is_done}
 use Rattle.steer_model.specs.Good.Inputs.{is_flows, is_resize, since_at}
 use Rattle.steer_model.specs.State.Settings.{Settings, changed}
 use Rattle.run_laws.proofs.Tries.TryLemmas.{given_by}
-use Rattle.run_laws.specs.Ties.Tries.{Try, resizes_by, settings_by}
+use Rattle.run_laws.specs.Ties.Tries.{Try, settings_by}
+
+-- how often these tries have resized the flow table of a queue
+abbrev pub resizes_by : ℕ → List Try → ℕ
+resizes_by p [] = 0
+resizes_by p (t ∷ ts) =
+    if is_resize p t.given then suc (resizes_by p ts) else resizes_by p ts
 
 pub resizes-append : (p : ℕ) (xs ys : List Try)
     → resizes_by p (xs ++ ys) ≡ resizes_by p xs + resizes_by p ys

@@ -24,7 +24,8 @@ use Rattle.steer_model.specs.State.Settings.{Settings, changed}
 use Rattle.run_laws.proofs.Tries.TryLemmas.{Form, sets_one, opens, makes_none, form, made-more}
 use Rattle.run_laws.proofs.Tries.TryLemmas.{words-made}
 use Rattle.run_laws.specs.Ties.Inputs.{AreReceiveWords, NamesReceiveQueues}
-use Rattle.run_laws.specs.Ties.Tries.{AllSetByAnswer, Try, resizes_by, sets_and_openings}
+use Rattle.run_laws.specs.Ties.Tries.{AllSetByAnswer, Try, sets_and_openings}
+use Rattle.run_laws.proofs.Tries.ResizeLemmas.{resizes_by}
 use Rattle.run_laws.specs.Ties.Tries.{settings_by, steps_of_tries, words_after}
 
 abbrev first_made : List SettingChange → SettingChange

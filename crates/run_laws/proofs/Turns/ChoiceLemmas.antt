@@ -44,7 +44,8 @@ use Rattle.run_laws.specs.Laws.Choices.{ChoicesFollow, ChoicesHaveTurns, command
 use Rattle.run_laws.specs.Ties.Boards.{IsReceiveBoard}
 use Rattle.run_laws.specs.Ties.Inputs.{AreReceiveWords, FlowsHaveOneHash, NamesReceiveQueues}
 use Rattle.run_laws.specs.Ties.Inputs.{hash_of_flow, receive_queues}
-use Rattle.run_laws.specs.Ties.Tries.{KeepsReceiveTries, Try, at_receive, openings_by, resizes_by}
+use Rattle.run_laws.specs.Ties.Tries.{KeepsReceiveTries, Try, at_receive, openings_by}
+use Rattle.run_laws.proofs.Tries.ResizeLemmas.{resizes_by}
 use Rattle.run_laws.specs.Ties.Tries.{settings_by, steps_of_tries, tries_up_to}
 use Rattle.run_laws.proofs.Tries.OpeningLemmas.{settings_of_opening, words_of_opening}
 use Rattle.run_laws.proofs.Tries.OpeningLemmas as opening_lemmas

@@ -1,6 +1,6 @@
 -- What the controller keeps of its tries, and the steps that each has left in its own lists at the
 -- two boards. Lists of tries and of steps have the newest first.
-use Rattle.std.specs.Prelude.{◌≡◌, ◌⊎◌, ℕ, suc, ◌==◌, true, false, List, [], ◌∷◌, ◌++◌}
+use Rattle.std.specs.Prelude.{◌≡◌, ◌⊎◌, ℕ, ◌==◌, true, false, List, [], ◌∷◌, ◌++◌}
 use Rattle.std.specs.Prelude.{Option, Some, None, map, if◌then◌else◌}
 use Rattle.std.specs.List.{filter_map}
 use Rattle.steer_base.specs.declared.command.Command.{Command}
@@ -14,7 +14,7 @@ use Rattle.hop_rule.specs.declared.step.BoardStep.{BoardStep}
 use Rattle.hop_rule.specs.declared.step.GateStep.{GateStep}
 use Rattle.hop_rule.specs.declared.step.GateStep.TheVariants.{Opened, Set}
 use Rattle.hop_delivery.specs.Orders.Commands.{SettingChange, received_sets, sent_sets}
-use Rattle.steer_model.specs.Good.Inputs.{Input, is_resize}
+use Rattle.steer_model.specs.Good.Inputs.{Input}
 use Rattle.steer_model.specs.State.Settings.{Settings, changed}
 use Rattle.steer_model.specs.Steps.Commands.{is_done}
 use Rattle.run_laws.specs.Ties.Inputs.{receive_queues}
@@ -96,12 +96,6 @@ settings_by s [] = s
 settings_by s (t ∷ ts) =
     if is_done t.given.answer then changed (settings_by s ts) t.given.command
     else settings_by s ts
-
--- How often these tries have resized the flow table of a queue.
-abbrev pub resizes_by : ℕ → List Try → ℕ
-resizes_by p [] = 0
-resizes_by p (t ∷ ts) =
-    if is_resize p t.given then suc (resizes_by p ts) else resizes_by p ts
 
 -- ---- the controller's journal
 
