@@ -4,7 +4,6 @@ use Rattle.std.proofs.Common.{Bool, true, cond}
 use Rattle.std.proofs.Common.{Option, Some, None, take, drop, if◌then◌else◌, sym, refl, ap, ◌∙◌}
 use Rattle.std.proofs.Common.{arith}
 use Rattle.std.specs.Prelude.{nat_lt, slice_index, unwrap_or}
-use Rattle.std.specs.List.{Contains}
 use Rattle.steer_base.specs.Choices.{desired_cpu, migrate, rps_choice_of}
 use Rattle.steer_base.specs.Entries.{entry, of_class, current_lane}
 use Rattle.steer_base.specs.Sends.{first_filled}
@@ -15,7 +14,6 @@ use Rattle.dev_flow_table.specs.Walks.{since_resize}
 use Rattle.hop_rule.specs.Moments.{nth_step}
 use Rattle.hop_rule.specs.declared.sizes.BoardSizes.{BoardSizes}
 use Rattle.hop_rule.specs.declared.step.BoardStep.{BoardStep}
-use Rattle.hop_rule.specs.declared.step.BoardStep.TheVariants.{Weighed}
 use Rattle.hop_rule.proofs.Moments.{nth-inside, nth-some}
 use Rattle.board_api.specs.declared.lists.BoardLists.{BoardLists}
 use Rattle.hop_delivery.specs.Orders.ReceiveSettings.{Queues, flows_word, mask, mask_word}

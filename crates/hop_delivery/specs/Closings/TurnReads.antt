@@ -103,7 +103,8 @@ abbrev pub KnowsMaps : List BoardStep → ℕ → Turn → (ℕ → ℕ) → Typ
 KnowsMaps own count u s = (word : ℕ) → word < 2 * count → Knows own u word (s word)
 
 module _ (about : BoardSizes) (own : ℕ → List BoardStep) (lists : BoardLists) where
-  -- The transmit queue that is picked by the maps that a turn knows is picked by those of its visit.
+  -- The transmit queue that is picked by the maps that a turn knows is the one that is picked by
+  -- those of its visit.
   abbrev pub PicksAreByReads : Type 0
   PicksAreByReads =
       (t : Story) (p i count : ℕ) (u : Turn) (s : ℕ → ℕ)
