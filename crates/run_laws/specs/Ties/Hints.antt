@@ -9,6 +9,7 @@ use Rattle.steer_base.specs.Filters.{home_queue}
 use Rattle.steer_base.specs.declared.filter.Filter.{Filter}
 use Rattle.steer_base.specs.declared.put.Put.TheVariants.{At}
 use Rattle.steer_base.specs.declared.limits.TheConstants.{MAX_SOCKET_SIZE}
+use Rattle.rss_table.specs.declared.reta.TheConstants.{RETA_ENTRIES}
 use Rattle.hint_words.specs.Loads.{IsStoredBy}
 use Rattle.hint_words.specs.declared.step.HintStep.{HintStep}
 use Rattle.hint_words.specs.declared.step.HintStep.TheVariants.{Load}
@@ -76,8 +77,8 @@ module _ (i : Input) (h : History) (c : HintCodes) (seats : List (SeatView HintS
     pub sockets : (place cpu : ℕ) → place < MAX_SOCKET_SIZE
         → IsStoredBy seats (c.socket place) (c.place cpu)
         → WasWritten h (record { entry = place; cpu = cpu })
-    pub entries : (place q : ℕ) → place < 128 → IsStoredBy seats (c.entry place) (c.place q)
-        → EntryFrom i h place q
+    pub entries : (place q : ℕ) → place < RETA_ENTRIES
+        → IsStoredBy seats (c.entry place) (c.place q) → EntryFrom i h place q
     pub stands : (a cpu : ℕ) → a < length i.plan.apps → IsStoredBy seats (c.stand a) (c.place cpu)
         → StoodAt i h a cpu
     pub filters : (place : ℕ) (f : Filter) → place < i.plan.filters
