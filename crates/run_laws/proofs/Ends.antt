@@ -1,0 +1,5 @@
+pub mod ChoiceCountLemmas
+pub mod EndLemmas
+pub mod InboxLemmas
+pub mod OutLemmas
+pub mod TotalLemmas

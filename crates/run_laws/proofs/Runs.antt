@@ -1,0 +1,12 @@
+pub mod ApplicationLemmas
+pub mod EmptyLemmas
+pub mod FactLemmas
+pub mod GoodLemmas
+pub mod HintLemmas
+pub mod PutTurnLemmas
+pub mod QueueLemmas
+pub mod ReceiveLemmas
+pub mod RunLemmas
+pub mod StandLemmas
+pub mod TransmitLemmas
+pub mod TurnListLemmas

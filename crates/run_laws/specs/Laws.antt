@@ -1,0 +1,13 @@
+pub mod OwnTables
+pub mod Choices
+pub mod EmptiedLanes
+pub mod Calls
+pub mod Orders
+pub mod Heads
+pub mod Drops
+pub mod BusyLanes
+pub mod Commands
+pub mod Ends
+pub mod Replies
+pub mod GoodRuns
+pub mod EmptyRuns
