@@ -134,9 +134,10 @@ adds_at old groups place group d rule number within same shaped adds rules finds
     ∙ sym (first_match-push rules rule flow)
 
 -- a new group finds nothing
-found_in-new : (group : Group) (shape : Shape) (flow : Flow) → IsNew group shape
+found_in-new : (group : Group) (shape : Shape) (first : ℕ) (flow : Flow)
+    → IsNew group shape first
     → found_in group flow ≡ None
-found_in-new group shape flow new = by (looked_at group.shape.kind flow)
+found_in-new group shape first flow new = by (looked_at group.shape.kind flow)
   where
     by : (looked : Option Fields)
         → option_and_then
@@ -144,12 +145,12 @@ found_in-new group shape flow new = by (looked_at group.shape.kind flow)
     by None = refl
     by (Some fields) = new.empty (masked group.shape.mask fields)
 
-pub found_among-new : (groups : List Group) (group : Group) (shape : Shape) → IsNew group shape
-    → FindsAsBefore groups (groups ++ group ∷ [])
-found_among-new [] group shape new flow =
-    lesser-None (found_in group flow) ∙ found_in-new group shape flow new
-found_among-new (g ∷ gs) group shape new flow =
-    ap (lesser (found_in g flow)) (found_among-new gs group shape new flow)
+pub found_among-new : (groups : List Group) (group : Group) (shape : Shape) (first : ℕ)
+    → IsNew group shape first → FindsAsBefore groups (groups ++ group ∷ [])
+found_among-new [] group shape first new flow =
+    lesser-None (found_in group flow) ∙ found_in-new group shape first flow new
+found_among-new (g ∷ gs) group shape first new flow =
+    ap (lesser (found_in g flow)) (found_among-new gs group shape first new flow)
 
 -- a key that had no number has it
 option_or-None : (a : Option ℕ) → option_or a None ≡ a

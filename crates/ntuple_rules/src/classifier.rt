@@ -12,8 +12,9 @@ use std::marker::Model;
 use steer_base::{Flow, OutOfMemory};
 
 /// Finds the first of some rules that matches a flow. Rules of the same kind with the same masks
-/// form a group, and a flow is looked up once in each group, whatever the number of its rules.
-/// Contracts see the list of the rules.
+/// form a group, in which a flow is looked up once, whatever the number of its rules. The groups
+/// stand in the order of their first rules, so that a match before the first rule of a group makes
+/// an end. Contracts see the list of the rules.
 #[derive(Drop)]
 pub struct Classifier {
     rules: Vec<Rule>,
@@ -23,13 +24,13 @@ pub struct Classifier {
 impl Model for Classifier {
     ghost use Rattle.std.specs.Prelude.{List};
     ghost use Rattle.ntuple_rules.specs.declared.rule.Rule.{Rule as ARule};
-    ghost use Rattle.ntuple_rules.specs.Groups.{Finds};
+    ghost use Rattle.ntuple_rules.specs.Groups.{Serves};
 
     ghost Value = { List ARule };
 
     ghost view = { λ c. c.rules.items };
 
-    ghost invariant = { λ c. Finds c.groups.items c.rules.items };
+    ghost invariant = { λ c. Serves c.groups.items c.rules.items };
 }
 
 /// The lesser of two optional numbers.
@@ -65,7 +66,10 @@ impl Classifier {
     {
         let mut found = None;
         for group in &self.groups {
-            found = lesser(found, group.find(*flow));
+            match found {
+                Some(number) if number < group.first => return found,
+                _ => found = lesser(found, group.find(*flow)),
+            }
         }
         found
     }
