@@ -1,4 +1,5 @@
-//! Tests of the shared names and types, of files and sinks, and of the seats and words of threads.
+//! Tests of the shared names and types, of files and sinks, and of the seats and words of
+//! threads.
 #![tactic(auto)]
 
 #[cfg(test)]
@@ -9,5 +10,7 @@ mod hints;
 mod seats;
 #[cfg(test)]
 mod shared;
+#[cfg(test)]
+mod shared_words;
 #[cfg(test)]
 mod sinks;

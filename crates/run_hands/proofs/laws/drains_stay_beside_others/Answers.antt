@@ -1,0 +1,12 @@
+use Rattle.run_hands.proofs.DrainLemmas.{serves_leave, stays_drain}
+use Rattle.run_hands.proofs.VisitLemmas.{polls_leave}
+use Rattle.run_hands.proofs.laws.drains_stay_beside_others.Goals as goal
+
+pub returns-clause-steps : goal.returns-clause-steps
+returns-clause-steps c = stays_drain
+
+pub returns-clause-serves : goal.returns-clause-serves
+returns-clause-serves c = serves_leave
+
+pub returns-clause-polls : goal.returns-clause-polls
+returns-clause-polls c = polls_leave

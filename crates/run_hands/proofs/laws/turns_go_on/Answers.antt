@@ -1,0 +1,8 @@
+use Rattle.run_hands.proofs.VisitLemmas.{serves_explain, visits_explain}
+use Rattle.run_hands.proofs.laws.turns_go_on.Goals as goal
+
+pub returns-clause-serves : goal.returns-clause-serves
+returns-clause-serves c = serves_explain
+
+pub returns-clause-visits : goal.returns-clause-visits
+returns-clause-visits c = visits_explain

@@ -1,0 +1,3 @@
+pub mod FirstValues
+pub mod ValueLemmas
+pub mod WordNumbers

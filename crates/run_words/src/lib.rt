@@ -1,0 +1,23 @@
+//! The numbers of the words that threads share and of the settings of their boards, what the values
+//! there mean, and the values that a plan begins with.
+#![tactic(auto)]
+
+mod first;
+mod hint_word;
+mod laws;
+mod setting;
+mod values;
+
+pub use first::{first_hint, first_receive_settings, first_transmit_settings};
+pub use hint_word::{
+    DONE_WORD, FILTER_WORDS, HintWord, QUEUE_WORDS, REDIRECTION_WORDS, STAND_WORDS, word_count,
+};
+pub use laws::{
+    coded_values_read_back, first_values_stand, only_coded_values_are_read, words_lie_apart,
+};
+pub use setting::{ReceiveSetting, TransmitSetting};
+pub use values::{
+    CPU_WEIGHT, DONE, MARK_WEIGHT, cpus_in, cpus_word, filter_in, filter_word, flows_in,
+    flows_word, is_done, place_in, place_word, queues_in, queues_word, socket_size_in,
+    socket_size_word,
+};
