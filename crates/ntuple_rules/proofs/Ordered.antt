@@ -1,7 +1,7 @@
 -- Groups in the order of their first rules.
 use Rattle.std.proofs.Common.{◌≡◌, ◌<◌, ◌≤◌, ◌+◌, ℕ, zero, suc, List, [], ◌∷◌, ◌++◌, length, get_or}
-use Rattle.std.proofs.Common.{set, drop, Bool, true, false, cond, Option, Some, None, min, refl, sym}
-use Rattle.std.proofs.Common.{ap, ◌∙◌, arith, subst}
+use Rattle.std.proofs.Common.{set, drop, Bool, true, false, cond, Option, Some, None, min, refl}
+use Rattle.std.proofs.Common.{sym, ap, ◌∙◌, arith, subst}
 use Rattle.std.specs.Option.{option_or, option_and_then}
 use Rattle.std.proofs.lemmas.Option.{slice_get_within}
 use Rattle.indexmap.specs.IndexMap.{get}
@@ -9,8 +9,8 @@ use Rattle.steer_base.specs.declared.flow.Flow.{Flow}
 use Rattle.ntuple_rules.specs.declared.fields.Fields.{Fields}
 use Rattle.ntuple_rules.specs.declared.fields.Shape.{Shape}
 use Rattle.ntuple_rules.specs.declared.group.Group.{Group}
-use Rattle.ntuple_rules.specs.Groups.{Adds, InOrder, IsAt, IsNew, StartsAtFirst, found_among, found_in}
-use Rattle.ntuple_rules.specs.Groups.{lesser, looked_at, masked, same_fields}
+use Rattle.ntuple_rules.specs.Groups.{Adds, InOrder, IsAt, IsNew, StartsAtFirst, found_in}
+use Rattle.ntuple_rules.specs.Groups.{found_among, lesser, looked_at, masked, same_fields}
 
 -- ---- what is found is no less than the first rule
 
