@@ -11,3 +11,4 @@ pub mod Ends
 pub mod Replies
 pub mod GoodRuns
 pub mod EmptyRuns
+pub mod SharedCodes

@@ -15,6 +15,7 @@ ghost use Rattle.run_laws.specs.Laws.Heads.{HeadsFollow};
 ghost use Rattle.run_laws.specs.Laws.Orders.{InboxesFollow};
 ghost use Rattle.run_laws.specs.Laws.OwnTables.{TablesAreEntries, TablesRule};
 ghost use Rattle.run_laws.specs.Laws.Replies.{RepliesFollow};
+ghost use Rattle.run_laws.specs.Laws.SharedCodes.{SharedCodesExist};
 
 /// Lemma: a table that was told of each of its producer's turns has the entries of the lists, so a
 /// choice by it is by the rule over these.
@@ -93,4 +94,10 @@ pub fn a_run_is_good()
 /// packets.
 pub fn empty_runs_exist()
     ensures { EmptyRunsExist }
+{}
+
+/// Lemma: the numbers and values of the hint words that the threads share are such codes as the
+/// ties ask for, and by them no store is for two words or two values.
+pub fn shared_codes_exist()
+    ensures { SharedCodesExist }
 {}
