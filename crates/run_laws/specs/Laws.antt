@@ -12,3 +12,4 @@ pub mod Replies
 pub mod GoodRuns
 pub mod EmptyRuns
 pub mod SharedCodes
+pub mod OneCount

@@ -12,6 +12,7 @@ ghost use Rattle.run_laws.specs.Laws.Ends.{RepliesSuffice};
 ghost use Rattle.run_laws.specs.Laws.Ends.{TotalsSuffice};
 ghost use Rattle.run_laws.specs.Laws.GoodRuns.{RunsAreGood};
 ghost use Rattle.run_laws.specs.Laws.Heads.{HeadsFollow};
+ghost use Rattle.run_laws.specs.Laws.OneCount.{OneCountSuffices};
 ghost use Rattle.run_laws.specs.Laws.Orders.{InboxesFollow};
 ghost use Rattle.run_laws.specs.Laws.OwnTables.{TablesAreEntries, TablesRule};
 ghost use Rattle.run_laws.specs.Laws.Replies.{RepliesFollow};
@@ -76,6 +77,12 @@ pub fn equal_counts_end_a_run()
     ensures done { AtEachClosing LanesAreDone }
     ensures puts { AtEachClosing PutsEnd }
     ensures sent { AtEachClosing AllAreSent }
+{}
+
+/// Lemma: if as many packets as there are were retired at the transmit board or dropped at the
+/// receive board, the totals of a run's end are equal.
+pub fn one_count_suffices()
+    ensures { OneCountSuffices }
 {}
 
 /// Lemma: each choice for a reply is by the rule with the maps after the commands up to the opening
