@@ -2,4 +2,6 @@ pub mod ChoiceCountLemmas
 pub mod EndLemmas
 pub mod InboxLemmas
 pub mod OutLemmas
+pub mod PutCountLemmas
+pub mod OneCountLemmas
 pub mod TotalLemmas

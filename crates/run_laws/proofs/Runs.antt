@@ -1,4 +1,5 @@
 pub mod ApplicationLemmas
+pub mod CodeLemmas
 pub mod EmptyLemmas
 pub mod FactLemmas
 pub mod GoodLemmas

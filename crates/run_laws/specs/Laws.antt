@@ -11,3 +11,5 @@ pub mod Ends
 pub mod Replies
 pub mod GoodRuns
 pub mod EmptyRuns
+pub mod SharedCodes
+pub mod OneCount

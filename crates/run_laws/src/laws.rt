@@ -12,9 +12,11 @@ ghost use Rattle.run_laws.specs.Laws.Ends.{RepliesSuffice};
 ghost use Rattle.run_laws.specs.Laws.Ends.{TotalsSuffice};
 ghost use Rattle.run_laws.specs.Laws.GoodRuns.{RunsAreGood};
 ghost use Rattle.run_laws.specs.Laws.Heads.{HeadsFollow};
+ghost use Rattle.run_laws.specs.Laws.OneCount.{OneCountSuffices};
 ghost use Rattle.run_laws.specs.Laws.Orders.{InboxesFollow};
 ghost use Rattle.run_laws.specs.Laws.OwnTables.{TablesAreEntries, TablesRule};
 ghost use Rattle.run_laws.specs.Laws.Replies.{RepliesFollow};
+ghost use Rattle.run_laws.specs.Laws.SharedCodes.{SharedCodesExist};
 
 /// Lemma: a table that was told of each of its producer's turns has the entries of the lists, so a
 /// choice by it is by the rule over these.
@@ -77,6 +79,12 @@ pub fn equal_counts_end_a_run()
     ensures sent { AtEachClosing AllAreSent }
 {}
 
+/// Lemma: if as many packets as there are were retired at the transmit board or dropped at the
+/// receive board, the totals of a run's end are equal.
+pub fn one_count_suffices()
+    ensures { OneCountSuffices }
+{}
+
 /// Lemma: each choice for a reply is by the rule with the maps after the commands up to the opening
 /// of the transmit gate that its visit counts.
 pub fn replies_are_by_rule()
@@ -93,4 +101,10 @@ pub fn a_run_is_good()
 /// packets.
 pub fn empty_runs_exist()
     ensures { EmptyRunsExist }
+{}
+
+/// Lemma: the numbers and values of the hint words that the threads share are such codes as the
+/// ties ask for, and by them no store is for two words or two values.
+pub fn shared_codes_exist()
+    ensures { SharedCodesExist }
 {}
