@@ -13,3 +13,4 @@ pub mod GoodRuns
 pub mod EmptyRuns
 pub mod SharedCodes
 pub mod OneCount
+pub mod OneRun

@@ -13,6 +13,7 @@ ghost use Rattle.run_laws.specs.Laws.Ends.{TotalsSuffice};
 ghost use Rattle.run_laws.specs.Laws.GoodRuns.{RunsAreGood};
 ghost use Rattle.run_laws.specs.Laws.Heads.{HeadsFollow};
 ghost use Rattle.run_laws.specs.Laws.OneCount.{OneCountSuffices};
+ghost use Rattle.run_laws.specs.Laws.OneRun.{OneRunExists};
 ghost use Rattle.run_laws.specs.Laws.Orders.{InboxesFollow};
 ghost use Rattle.run_laws.specs.Laws.OwnTables.{TablesAreEntries, TablesRule};
 ghost use Rattle.run_laws.specs.Laws.Replies.{RepliesFollow};
@@ -107,4 +108,9 @@ pub fn empty_runs_exist()
 /// ties ask for, and by them no store is for two words or two values.
 pub fn shared_codes_exist()
     ensures { SharedCodesExist }
+{}
+
+/// Lemma: the ties can be kept with a packet, from its arrival to the port.
+pub fn one_run_exists()
+    ensures { OneRunExists }
 {}

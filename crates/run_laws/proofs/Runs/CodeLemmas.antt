@@ -12,7 +12,7 @@ use Rattle.run_words.proofs.WordNumbers.{hint_words_apart}
 use Rattle.run_laws.specs.Laws.SharedCodes.{AreShared, SharedCodesExist, TellApart, code_of}
 use Rattle.run_laws.specs.Ties.Hints.{HintCodes}
 
-abbrev shared : HintCodes
+abbrev pub shared : HintCodes
 shared = record {
   socket = λ place. hint_number (word.Socket place);
   entry = λ place. hint_number (word.Redirection place);
