@@ -12,3 +12,4 @@ pub mod RunLemmas
 pub mod StandLemmas
 pub mod TransmitLemmas
 pub mod TurnListLemmas
+pub mod UnretiredLemmas

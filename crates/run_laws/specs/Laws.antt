@@ -14,3 +14,4 @@ pub mod EmptyRuns
 pub mod SharedCodes
 pub mod OneCount
 pub mod OneRun
+pub mod Unretired

@@ -1,4 +1,5 @@
 //! Lemmas: clauses of a good history from what the threads keep. The functions have no code.
+ghost use Rattle.atomic_table.specs.Seated.{TableId};
 ghost use Rattle.board_api.specs.Closings.Closings.{AtEachClosing};
 ghost use Rattle.run_laws.specs.Laws.BusyLanes.{BusyLanesAreBusy};
 ghost use Rattle.run_laws.specs.Laws.Calls.{BusyCallsLook, DoneCallsSet, InsideCallsNone};
@@ -18,6 +19,7 @@ ghost use Rattle.run_laws.specs.Laws.Orders.{InboxesFollow};
 ghost use Rattle.run_laws.specs.Laws.OwnTables.{TablesAreEntries, TablesRule};
 ghost use Rattle.run_laws.specs.Laws.Replies.{RepliesFollow};
 ghost use Rattle.run_laws.specs.Laws.SharedCodes.{SharedCodesExist};
+ghost use Rattle.run_laws.specs.Laws.Unretired.{OneCountIsNotAll};
 
 /// Lemma: a table that was told of each of its producer's turns has the entries of the lists, so a
 /// choice by it is by the rule over these.
@@ -113,4 +115,10 @@ pub fn shared_codes_exist()
 /// Lemma: the ties can be kept with a packet, from its arrival to the port.
 pub fn one_run_exists()
     ensures { OneRunExists }
+{}
+
+/// Lemma: one count is not all. It may be full while a receive lane is not yet retired, and then
+/// the history is not good.
+pub fn one_count_is_not_all()
+    ensures { (table : TableId) → OneCountIsNotAll table }
 {}

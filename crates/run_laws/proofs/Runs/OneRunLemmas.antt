@@ -114,10 +114,10 @@ i = one_input within
 -- ---- the boards
 
 -- a read in a visit, not after a close
-by-visit : (n : ℕ) → (inside ≡ inside) ⊎ (◌≡◌ {A = ℕ} 0 1)
+pub by-visit : (n : ℕ) → (inside ≡ inside) ⊎ (◌≡◌ {A = ℕ} 0 1)
 by-visit n = inl refl
 
-one-out : 0 < one_rx.outs
+pub one-out : 0 < one_rx.outs
 one-out = omega arith
 
 -- before the worker gives the inbox back
@@ -131,13 +131,13 @@ inbox-held = (out_list (0 ∷ []) 1, refl)
 rx-lawful : IsLawful one_rx rx_order
 rx-lawful = rows_lawfully one_rx rx_rows [] (assumption (by-visit 0, one-out, inbox-held)) tt
 
-tx-lawful : IsLawful one_tx tx_order
+pub tx-lawful : IsLawful one_tx tx_order
 tx-lawful = rows_lawfully one_tx tx_rows [] (assumption (by-visit 0)) tt
 
 abbrev rx_own : ℕ → List BoardStep
 rx_own = own_of rx_order
 
-abbrev tx_own : ℕ → List BoardStep
+abbrev pub tx_own : ℕ → List BoardStep
 tx_own = own_of tx_order
 
 rx-none : (q : ℕ) → rx_own (suc (suc q)) ≡ []
@@ -202,7 +202,7 @@ rx_turn = turn rx_order rx_chosen 0 0 6 (Some 5) (At 1)
 abbrev tx_turn : StepBy Turn
 tx_turn = turn tx_order tx_chosen 0 0 4 None (At 1)
 
-abbrev rx_story : Story
+abbrev pub rx_story : Story
 rx_story = record {
   arrivals = of_first (0 ∷ []) [];
   choices = of_first (rx_chosen ∷ []) [];
@@ -210,7 +210,7 @@ rx_story = record {
   turns = of_first (rx_turn ∷ []) [];
 }
 
-abbrev tx_story : Story
+abbrev pub tx_story : Story
 tx_story = record {
   arrivals = of_first (0 ∷ []) [];
   choices = of_first (tx_chosen ∷ []) [];
@@ -269,7 +269,7 @@ tx-each : (P : ℕ → ℕ → Turn → Type 0) → P 0 0 tx_turn.step
 tx-each P one zero k u at = nth_of_all (P 0) (turns_of tx_story 0) k u (one, tt) at
 tx-each P one (suc p) k u at = tx-others p k u at
 
-rx-turns : KeepsTurns rx_own rx_story
+pub rx-turns : KeepsTurns rx_own rx_story
 rx-turns =
     record { explained = rx-explained; by_seat = by-seat; journal = journal; all_chosen = chosen }
   where
@@ -289,7 +289,7 @@ rx-turns =
     chosen zero = refl
     chosen (suc p) = refl
 
-tx-turns : KeepsTurns tx_own tx_story
+pub tx-turns : KeepsTurns tx_own tx_story
 tx-turns =
     record { explained = tx-explained; by_seat = by-seat; journal = journal; all_chosen = chosen }
   where
