@@ -1,9 +1,8 @@
 -- The words that the threads share, as codes of hint words.
-use Rattle.std.proofs.Common.{◌≡◌, ℕ, ◌+◌, ◌*◌, ◌^◌, ◌<◌, ◌≤◌, Option, None, Some, sym, refl, ap}
+use Rattle.std.proofs.Common.{◌≡◌, ℕ, ◌^◌, ◌<◌, Option, None, Some, sym, refl, ap}
 use Rattle.std.proofs.Common.{◌∙◌, arith}
 use Rattle.steer_base.specs.declared.filter.Filter.{Filter}
-use Rattle.run_words.specs.Codes.{HintWordsApart}
-use Rattle.run_words.specs.Numbers.{IsHintWord, hint_number}
+use Rattle.run_words.specs.Numbers.{hint_number}
 use Rattle.run_words.specs.Values.{filter_in, filter_word, place_word}
 use Rattle.run_words.specs.declared.hint_word.HintWord.{HintWord}
 use Rattle.run_words.specs.declared.hint_word.HintWord.TheVariants as word

@@ -1,11 +1,11 @@
 -- A run with one packet keeps all ties.
-use Rattle.std.proofs.Common.{◌≡◌, ◌⊎◌, ℕ, zero, suc, ◌+◌, ◌*◌, ◌^◌, ◌<◌, ◌≤◌, inl, inr, true, false, List, [], ◌∷◌, Some}
+use Rattle.std.proofs.Common.{◌≡◌, ◌⊎◌, ℕ, zero, suc, ◌+◌, ◌*◌, ◌^◌, ◌<◌, inl, inr, true, false}
+use Rattle.std.proofs.Common.{List, [], ◌∷◌, Some}
 use Rattle.std.proofs.Common.{None, length, map, All, sym, refl, ap, ◌∙◌, subst, arith}
 use Rattle.std.specs.Prelude.{slice_get, slice_index, slice_index_or, take}
 use Rattle.std.specs.List.{Contains}
 use Rattle.std.proofs.lemmas.Bool.{ne_eqb}
 use Rattle.std.proofs.lemmas.List.Elements.{All-cons, All-nil, All-replicate}
-use Rattle.std.specs.List.{AllPass}
 use Rattle.atomic_table.specs.Seated.{TableId}
 use Rattle.linearization.specs.Orders.{StepBy, steps_of}
 use Rattle.steer_base.specs.Sets.{those_below}
@@ -51,9 +51,8 @@ use Rattle.run_laws.specs.Laws.OneRun.{OneRunExists, one_history, one_input, one
 use Rattle.run_laws.specs.Laws.OneRun.{one_tx, rx_chosen, rx_order, rx_rows, tx_chosen, tx_order}
 use Rattle.run_laws.specs.Laws.OneRun.{tx_rows}
 use Rattle.run_laws.specs.Ties.Applications.{KeepsApplications, WasFoundAt}
-use Rattle.run_laws.specs.Ties.Boards.{IsReceiveBoard, IsTransmitBoard}
 use Rattle.run_laws.specs.Ties.Ends.{TotalsReplied}
-use Rattle.run_laws.specs.Ties.Hints.{AreRecorded, CameBy, HintCodes, IsRouted, LoadsAreUsed}
+use Rattle.run_laws.specs.Ties.Hints.{AreRecorded, CameBy, IsRouted, LoadsAreUsed}
 use Rattle.run_laws.specs.Ties.Hints.{Stands, StoresAreMeant}
 use Rattle.run_laws.specs.Ties.Inputs.{AreReceiveWords, AreTransmitWords, FlowsHaveOneHash}
 use Rattle.run_laws.specs.Ties.Inputs.{receive_queues}
@@ -493,8 +492,14 @@ used =
     writes : (a : ℕ) → AreRecorded i one_history shared [] rx_own a
         (map (λ (s : Sent). s.id) (list_at one_history.sent a)) (list_at one_history.writes a)
     writes zero =
-        inr (inr (5, 0, refl, record { seat = 0; step = 3; does = refl; in_visit = refl },
-        (λ few. refl), refl))
+        inr (inr (
+          5,
+          0,
+          refl,
+          record { seat = 0; step = 3; does = refl; in_visit = refl },
+          (λ few. refl),
+          refl,
+        ))
     writes (suc a) = refl
 
 -- ---- all together

@@ -1,6 +1,6 @@
 -- One count is full before the receive lane is retired.
-use Rattle.std.proofs.Common.{◌≡◌, ◌⊎◌, ℕ, zero, suc, ◌+◌, ◌<◌, inl, inr, List, [], ◌∷◌, Some, length}
-use Rattle.std.proofs.Common.{map, All, sym, refl, ap, ◌∙◌, subst, arith}
+use Rattle.std.proofs.Common.{◌≡◌, ℕ, zero, suc, ◌+◌, List, [], ◌∷◌, Some, length}
+use Rattle.std.proofs.Common.{map, sym, refl, ap, subst, arith}
 use Rattle.std.specs.Prelude.{take}
 use Rattle.std.proofs.lemmas.List.Elements.{All-head}
 use Rattle.atomic_table.specs.Seated.{TableId}
@@ -25,7 +25,7 @@ use Rattle.hop_delivery.proofs.Orders.PlayLemmas.{rows_lawfully}
 use Rattle.plan_reader.specs.Settings.{IsWithin}
 use Rattle.steer_model.specs.Good.Deliveries.{IsDone}
 use Rattle.steer_model.specs.Good.GoodHistory.{Good}
-use Rattle.run_laws.specs.Laws.OneCount.{ChoicesAreOfTurns, KeepsCounts, dropped_count}
+use Rattle.run_laws.specs.Laws.OneCount.{KeepsCounts, dropped_count}
 use Rattle.run_laws.specs.Laws.OneRun.{one_input, one_of_each, one_rx, one_tx, tx_order}
 use Rattle.run_laws.specs.Laws.Unretired.{OneCountIsNotAll, unretired_history, unretired_order}
 use Rattle.run_laws.specs.Laws.Unretired.{unretired_rows}

@@ -10,7 +10,7 @@ use Rattle.steer_base.specs.declared.packet.Packet.{Packet}
 use Rattle.hop_core.specs.declared.shape.TheConstants.{MAX_HOP_ROOM}
 use Rattle.history.specs.Lists.{list_at}
 use Rattle.history.specs.declared.history.History.{History}
-use Rattle.hop_rule.specs.Boards.{gates_of, settings}
+use Rattle.hop_rule.specs.Boards.{settings}
 use Rattle.hop_rule.specs.declared.sizes.BoardSizes.{BoardSizes}
 use Rattle.hop_rule.specs.declared.step.BoardStep.{BoardStep}
 use Rattle.hop_rule.specs.declared.step.BoardStep.TheVariants.{Gate, Lane}
@@ -22,7 +22,6 @@ use Rattle.hop_delivery.specs.Orders.Plays as play
 use Rattle.hop_delivery.specs.Orders.Plays.{Move, plays_rows}
 use Rattle.plan_reader.specs.Ranges.{commands_of}
 use Rattle.plan_reader.specs.Settings.{IsWithin, PlanSettings}
-use Rattle.plan_reader.specs.declared.plan.Plan.{Plan}
 use Rattle.plan_reader.specs.declared.plan.Steps.TheVariants as steps
 use Rattle.steer_model.specs.Good.Inputs.{Input}
 use Rattle.run_laws.specs.Ties.Runs.{IsRun}

@@ -1,6 +1,6 @@
 -- The one count does not say that the receive lanes have retired what they delivered: the run with
 -- one packet, where the worker has not yet raised the head of the processor's lane.
-use Rattle.std.specs.Prelude.{◌≡◌, ℕ, ◌+◌, List, [], ◌∷◌, Some}
+use Rattle.std.specs.Prelude.{◌≡◌, ◌+◌, List, [], ◌∷◌, Some}
 use Rattle.atomic_table.specs.Seated.{TableId}
 use Rattle.linearization.specs.Orders.{StepBy, step_by}
 use Rattle.history.specs.declared.history.History.{History}
