@@ -4,6 +4,7 @@ pub mod EmptyLemmas
 pub mod FactLemmas
 pub mod GoodLemmas
 pub mod HintLemmas
+pub mod OneRunLemmas
 pub mod PutTurnLemmas
 pub mod QueueLemmas
 pub mod ReceiveLemmas
@@ -11,3 +12,4 @@ pub mod RunLemmas
 pub mod StandLemmas
 pub mod TransmitLemmas
 pub mod TurnListLemmas
+pub mod UnretiredLemmas

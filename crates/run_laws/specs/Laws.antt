@@ -13,3 +13,5 @@ pub mod GoodRuns
 pub mod EmptyRuns
 pub mod SharedCodes
 pub mod OneCount
+pub mod OneRun
+pub mod Unretired

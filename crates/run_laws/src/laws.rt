@@ -1,4 +1,5 @@
 //! Lemmas: clauses of a good history from what the threads keep. The functions have no code.
+ghost use Rattle.atomic_table.specs.Seated.{TableId};
 ghost use Rattle.board_api.specs.Closings.Closings.{AtEachClosing};
 ghost use Rattle.run_laws.specs.Laws.BusyLanes.{BusyLanesAreBusy};
 ghost use Rattle.run_laws.specs.Laws.Calls.{BusyCallsLook, DoneCallsSet, InsideCallsNone};
@@ -13,10 +14,12 @@ ghost use Rattle.run_laws.specs.Laws.Ends.{TotalsSuffice};
 ghost use Rattle.run_laws.specs.Laws.GoodRuns.{RunsAreGood};
 ghost use Rattle.run_laws.specs.Laws.Heads.{HeadsFollow};
 ghost use Rattle.run_laws.specs.Laws.OneCount.{OneCountSuffices};
+ghost use Rattle.run_laws.specs.Laws.OneRun.{OneRunExists};
 ghost use Rattle.run_laws.specs.Laws.Orders.{InboxesFollow};
 ghost use Rattle.run_laws.specs.Laws.OwnTables.{TablesAreEntries, TablesRule};
 ghost use Rattle.run_laws.specs.Laws.Replies.{RepliesFollow};
 ghost use Rattle.run_laws.specs.Laws.SharedCodes.{SharedCodesExist};
+ghost use Rattle.run_laws.specs.Laws.Unretired.{OneCountIsNotAll};
 
 /// Lemma: a table that was told of each of its producer's turns has the entries of the lists, so a
 /// choice by it is by the rule over these.
@@ -107,4 +110,15 @@ pub fn empty_runs_exist()
 /// ties ask for, and by them no store is for two words or two values.
 pub fn shared_codes_exist()
     ensures { SharedCodesExist }
+{}
+
+/// Lemma: the ties can be kept with a packet, from its arrival to the port.
+pub fn one_run_exists()
+    ensures { OneRunExists }
+{}
+
+/// Lemma: one count is not all. It may be full while a receive lane is not yet retired, and then
+/// the history is not good.
+pub fn one_count_is_not_all()
+    ensures { (table : TableId) → OneCountIsNotAll table }
 {}

@@ -1,6 +1,6 @@
 -- One count makes the totals equal: each number of a chain is at most the next, and the first is
 -- the last.
-use Rattle.std.proofs.Common.{◌≡◌, ℕ, ◌+◌, ◌<◌, ◌≤◌, List, length, map, length-append, sym, refl}
+use Rattle.std.proofs.Common.{◌≡◌, ℕ, ◌+◌, ◌≤◌, List, length, map, length-append}
 use Rattle.std.proofs.Common.{ap, ◌∙◌, arith}
 use Rattle.std.proofs.lemmas.List.{length-map}
 use Rattle.history.specs.Lists.{lane_at, list_at}
@@ -13,10 +13,10 @@ use Rattle.hop_rule.proofs.Gates.{sum_same}
 use Rattle.board_api.specs.Closings.Closings.{own_in}
 use Rattle.board_api.specs.declared.lists.BoardLists.{BoardLists}
 use Rattle.hop_delivery.specs.Orders.Runs.{Story}
-use Rattle.run_laws.specs.Laws.OneCount.{DeliveriesAreRetired, KeepsCounts, OneCountSuffices}
+use Rattle.run_laws.specs.Laws.OneCount.{KeepsCounts, OneCountSuffices}
 use Rattle.run_laws.specs.Laws.OneCount.{TotalsAreEqual, choice_count, delivered_count}
 use Rattle.run_laws.specs.Laws.OneCount.{dropped_count}
-use Rattle.run_laws.specs.Ties.Ends.{TotalsReplied, TotalsRetired, accepted_count, retired_count}
+use Rattle.run_laws.specs.Ties.Ends.{accepted_count, retired_count}
 use Rattle.run_laws.proofs.Ends.PutCountLemmas.{puts-are-chosen}
 use Rattle.run_laws.proofs.Ends.TotalLemmas.{all-delivered}
 use Rattle.run_laws.proofs.Lists.SumLemmas.{sum-le}
@@ -65,43 +65,44 @@ module _ (h : History) (rx : BoardSizes) (rx_own : ℕ → List BoardStep) (rx_l
     (test : n
     ≡ sum_below (retired_count tx tx_own) tx.lanes + sum_below (dropped_count rx rx_own) rx.lanes)
   where
-  -- the applications replied to not more than was delivered
-  sent-below : sum_below (λ a. length (list_at h.sent a)) rx.outs
-      ≤ sum_below (delivered_count rx rx_own) rx.lanes
-  sent-below =
-      let below = sum-le (λ a. length (list_at h.sent a)) (λ a. length (list_at rx_lists.outs a))
-      rx.outs
-      (λ k less.
-      (let f = keeps.front k in
-      let size = length-map (list_at h.sent k) (λ (s : Sent). s.id) in
-      let all = length-append (map (λ (s : Sent). s.id) (list_at h.sent k)) f.0 in
-      let same = ap length f.1 in
-      let out = ap (λ z. length (list_at z k)) keeps.inboxes in omega arith)) in
-      let outs = outs-delivered rx rx_own rx_lists rx_facts in
-      omega arith
+    -- the applications replied to not more than was delivered
+    sent-below : sum_below (λ a. length (list_at h.sent a)) rx.outs
+        ≤ sum_below (delivered_count rx rx_own) rx.lanes
+    sent-below =
+        let below = sum-le (λ a. length (list_at h.sent a)) (λ a. length (list_at rx_lists.outs a))
+        rx.outs
+        (λ k less.
+        (let f = keeps.front k in
+        let size = length-map (list_at h.sent k) (λ (s : Sent). s.id) in
+        let all = length-append (map (λ (s : Sent). s.id) (list_at h.sent k)) f.0 in
+        let same = ap length f.1 in
+        let out = ap (λ z. length (list_at z k)) keeps.inboxes in omega arith)) in
+        let outs = outs-delivered rx rx_own rx_lists rx_facts in
+        omega arith
 
-  choices-sent : choice_count h.tx_choices ≡ sum_below (λ a. length (list_at h.sent a)) rx.outs
-  choices-sent =
-      ap (λ m. sum_below (λ a. length (list_at h.tx_choices a)) m) keeps.lists
-      ∙ sum_same (λ a. length (list_at h.tx_choices a)) (λ a. length (list_at h.sent a)) rx.outs
-      (λ a less. keeps.replies a)
+    choices-sent : choice_count h.tx_choices ≡ sum_below (λ a. length (list_at h.sent a)) rx.outs
+    choices-sent =
+        ap (λ m. sum_below (λ a. length (list_at h.tx_choices a)) m) keeps.lists
+        ∙ sum_same (λ a. length (list_at h.tx_choices a)) (λ a. length (list_at h.sent a)) rx.outs
+        (λ a less. keeps.replies a)
 
-  one-count : TotalsAreEqual h rx rx_own tx tx_own n
-  one-count =
-      let a = puts-are-chosen rx rx_own queues h.choices keeps.received in
-      let b = delivered-below rx rx_own rx_lists rx_facts in
-      let c = sent-below in
-      let d = choices-sent in
-      let e = puts-are-chosen tx tx_own applications h.tx_choices keeps.sent in
-      let f = retired-below tx tx_own tx_lists tx_facts in
-      record {
-        chosen = omega arith;
-        sent = omega arith;
-        replied = omega arith;
-        received = λ done.
-            (let g = sum_same (delivered_count rx rx_own) (retired_count rx rx_own) rx.lanes done in
-            (omega arith, omega arith));
-      }
+    one-count : TotalsAreEqual h rx rx_own tx tx_own n
+    one-count =
+        let a = puts-are-chosen rx rx_own queues h.choices keeps.received in
+        let b = delivered-below rx rx_own rx_lists rx_facts in
+        let c = sent-below in
+        let d = choices-sent in
+        let e = puts-are-chosen tx tx_own applications h.tx_choices keeps.sent in
+        let f = retired-below tx tx_own tx_lists tx_facts in
+        record {
+          chosen = omega arith;
+          sent = omega arith;
+          replied = omega arith;
+          received = λ done.
+              (let g = sum_same (delivered_count rx rx_own) (retired_count rx rx_own) rx.lanes
+              done in
+              (omega arith, omega arith));
+        }
 
 pub one_count_suffices : OneCountSuffices
 one_count_suffices h rx rx_seats rx_lists queues tx tx_seats tx_lists applications n rx_ended

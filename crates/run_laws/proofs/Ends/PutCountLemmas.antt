@@ -1,10 +1,11 @@
 -- Not more packets were accepted or dropped than choices were made.
-use Rattle.std.proofs.Common.{◌≡◌, ◌≢◌, inl, inr, ℕ, zero, suc, ◌+◌, ◌<◌, ◌≤◌, Bool, true, false}
-use Rattle.std.proofs.Common.{List, [], ◌∷◌, ◌++◌, Option, Some, None, length, All, sym, refl, ap}
-use Rattle.std.proofs.Common.{◌∙◌, arith, length-append}
+use Rattle.std.proofs.Common.{◌≡◌, ◌≢◌, inl, inr, ℕ, zero, suc, ◌+◌, ◌<◌, ◌≤◌}
+use Rattle.std.proofs.Common.{List, [], ◌∷◌, ◌++◌, Some, None, length, All, sym, refl, ap}
+use Rattle.std.proofs.Common.{◌∙◌, arith}
 use Rattle.std.specs.List.{cons_option}
 use Rattle.std.proofs.lemmas.Bool.{cases_eq}
-use Rattle.std.proofs.lemmas.List.Elements.{All-cons, All-head, All-nil, All-tail, filter_map-append}
+use Rattle.std.proofs.lemmas.List.Elements.{All-cons, All-head, All-nil, All-tail}
+use Rattle.std.proofs.lemmas.List.Elements.{filter_map-append}
 use Rattle.linearization.specs.Orders.{StepBy, steps_of}
 use Rattle.linearization.proofs.ListLemmas.{if_same, if_other}
 use Rattle.steer_base.specs.declared.choice.Chosen.{Chosen}
@@ -20,7 +21,7 @@ use Rattle.hop_rule.specs.declared.step.Change.TheVariants.{Nothing, Offered, Pu
 use Rattle.hop_rule.specs.declared.step.GateStep.TheVariants.{Entered}
 use Rattle.hop_rule.specs.declared.step.LaneStep.TheVariants.{Freed, Given, Held, Missed, OutFreed}
 use Rattle.hop_rule.specs.declared.step.LaneStep.TheVariants.{OutHeld, OutMissed, Retired}
-use Rattle.board_api.specs.OwnSteps.{accepted_by, accepted_in, dropped_by, dropped_in}
+use Rattle.board_api.specs.OwnSteps.{accepted_by, dropped_by}
 use Rattle.hop_delivery.specs.Orders.Runs.{Story, turns_of}
 use Rattle.hop_delivery.specs.Orders.Turns.{Explained, Turn, turn_put, visit_with}
 use Rattle.run_laws.specs.Laws.OneCount.{ChoicesAreOfTurns, choice_count, dropped_count}

@@ -1,9 +1,8 @@
 -- The words that the threads share, as codes of hint words.
-use Rattle.std.proofs.Common.{◌≡◌, ℕ, ◌+◌, ◌*◌, ◌^◌, ◌<◌, ◌≤◌, Option, None, Some, sym, refl, ap}
+use Rattle.std.proofs.Common.{◌≡◌, ℕ, ◌^◌, ◌<◌, Option, None, Some, sym, refl, ap}
 use Rattle.std.proofs.Common.{◌∙◌, arith}
 use Rattle.steer_base.specs.declared.filter.Filter.{Filter}
-use Rattle.run_words.specs.Codes.{HintWordsApart}
-use Rattle.run_words.specs.Numbers.{IsHintWord, hint_number}
+use Rattle.run_words.specs.Numbers.{hint_number}
 use Rattle.run_words.specs.Values.{filter_in, filter_word, place_word}
 use Rattle.run_words.specs.declared.hint_word.HintWord.{HintWord}
 use Rattle.run_words.specs.declared.hint_word.HintWord.TheVariants as word
@@ -12,7 +11,7 @@ use Rattle.run_words.proofs.WordNumbers.{hint_words_apart}
 use Rattle.run_laws.specs.Laws.SharedCodes.{AreShared, SharedCodesExist, TellApart, code_of}
 use Rattle.run_laws.specs.Ties.Hints.{HintCodes}
 
-abbrev shared : HintCodes
+abbrev pub shared : HintCodes
 shared = record {
   socket = λ place. hint_number (word.Socket place);
   entry = λ place. hint_number (word.Redirection place);

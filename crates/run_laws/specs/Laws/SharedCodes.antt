@@ -1,6 +1,6 @@
 -- The numbers and values of the hint words that the threads share (`run_words`) are such codes as
 -- the ties ask for.
-use Rattle.std.specs.Prelude.{◌≡◌, ℕ, ◌<◌, ◌≤◌, ◌^◌, Some}
+use Rattle.std.specs.Prelude.{◌≡◌, ℕ, ◌<◌, ◌^◌, Some}
 use Rattle.steer_base.specs.declared.filter.Filter.{Filter}
 use Rattle.run_words.specs.Numbers.{IsHintWord, hint_number}
 use Rattle.run_words.specs.Values.{filter_in, filter_word, place_in, place_word}
