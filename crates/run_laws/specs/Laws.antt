@@ -13,5 +13,6 @@ pub mod GoodRuns
 pub mod EmptyRuns
 pub mod SharedCodes
 pub mod OneCount
+pub mod EmptyHands
 pub mod OneRun
 pub mod Unretired

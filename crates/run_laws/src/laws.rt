@@ -7,6 +7,7 @@ ghost use Rattle.run_laws.specs.Laws.Choices.{ChoicesFollow};
 ghost use Rattle.run_laws.specs.Laws.Commands.{CommandsFollow};
 ghost use Rattle.run_laws.specs.Laws.Drops.{DropsFollow};
 ghost use Rattle.run_laws.specs.Laws.EmptiedLanes.{TriesFindEmpty};
+ghost use Rattle.run_laws.specs.Laws.EmptyHands.{DeliveriesAreCounted, EmptyHandsRetired};
 ghost use Rattle.run_laws.specs.Laws.EmptyRuns.{EmptyRunsExist};
 ghost use Rattle.run_laws.specs.Laws.Ends.{AllAreSent, ChoicesSuffice, LanesAreDone, PutsEnd};
 ghost use Rattle.run_laws.specs.Laws.Ends.{RepliesSuffice};
@@ -86,6 +87,13 @@ pub fn equal_counts_end_a_run()
 /// receive board, the totals of a run's end are equal.
 pub fn one_count_suffices()
     ensures { OneCountSuffices }
+{}
+
+/// Lemma: of each lane its seat has retired what it delivered, but for a packet that it has just
+/// delivered. So if all hands are empty, each delivery is retired.
+pub fn empty_hands_have_retired()
+    ensures counted { AtEachClosing DeliveriesAreCounted }
+    ensures retired { AtEachClosing EmptyHandsRetired }
 {}
 
 /// Lemma: each choice for a reply is by the rule with the maps after the commands up to the opening
