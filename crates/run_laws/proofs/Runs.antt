@@ -2,6 +2,7 @@ pub mod ApplicationLemmas
 pub mod CodeLemmas
 pub mod EmptyLemmas
 pub mod FactLemmas
+pub mod FrameLemmas
 pub mod GoodLemmas
 pub mod HintLemmas
 pub mod OneRunLemmas
@@ -12,4 +13,7 @@ pub mod RunLemmas
 pub mod StandLemmas
 pub mod TransmitLemmas
 pub mod TurnListLemmas
+pub mod TwoQueueBoards
+pub mod TwoQueueLemmas
+pub mod TwoQueueTries
 pub mod UnretiredLemmas

@@ -15,4 +15,5 @@ pub mod SharedCodes
 pub mod OneCount
 pub mod EmptyHands
 pub mod OneRun
+pub mod TwoQueueRun
 pub mod Unretired

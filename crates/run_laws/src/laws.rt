@@ -20,6 +20,7 @@ ghost use Rattle.run_laws.specs.Laws.Orders.{InboxesFollow};
 ghost use Rattle.run_laws.specs.Laws.OwnTables.{TablesAreEntries, TablesRule};
 ghost use Rattle.run_laws.specs.Laws.Replies.{RepliesFollow};
 ghost use Rattle.run_laws.specs.Laws.SharedCodes.{SharedCodesExist};
+ghost use Rattle.run_laws.specs.Laws.TwoQueueRun.{TwoQueueRunExists};
 ghost use Rattle.run_laws.specs.Laws.Unretired.{OneCountIsNotAll};
 
 /// Lemma: a table that was told of each of its producer's turns has the entries of the lists, so a
@@ -123,6 +124,12 @@ pub fn shared_codes_exist()
 /// Lemma: the ties can be kept with a packet, from its arrival to the port.
 pub fn one_run_exists()
     ensures { OneRunExists }
+{}
+
+/// Lemma: the ties can be kept with two queues on one seat, a drop, a command that is done after a
+/// failed try, and a class that moves.
+pub fn two_queue_run_exists()
+    ensures { TwoQueueRunExists }
 {}
 
 /// Lemma: one count is not all. It may be full while a receive lane is not yet retired, and then
