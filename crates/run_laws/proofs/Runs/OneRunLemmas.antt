@@ -63,6 +63,7 @@ use Rattle.run_laws.specs.Ties.Tries.{oldest_first}
 use Rattle.run_laws.specs.Ties.Turns.{KeepsTurns}
 use Rattle.run_laws.proofs.Lists.PlaceLemmas.{if_there, split-arrivals}
 use Rattle.run_laws.proofs.Runs.CodeLemmas.{shared}
+use Rattle.run_laws.proofs.Runs.FrameLemmas.{MayEnd, run_of}
 
 -- ---- the plan
 
@@ -443,22 +444,6 @@ applications-kept =
 
 -- ---- hint words: no thread made a step there
 
-nobody : {A : Type 0} (x : A) → Contains [] x → ⊥
-nobody x (k, less, is) = absurd (omega arith)
-
-not-stored : (word value : ℕ) → IsStoredBy [] word value → ⊥
-not-stored word value s = nobody s.seat s.among
-
-meant : StoresAreMeant i one_history shared [] rx_story
-meant =
-    record {
-      sockets = λ place cpu less s. absurd (not-stored _ _ s);
-      entries = λ place q less s. absurd (not-stored _ _ s);
-      stands = λ a cpu less s. absurd (not-stored _ _ s);
-      filters = λ place f less q c s. absurd (not-stored _ _ s);
-      packets = λ x q less s. absurd (not-stored _ _ s);
-    }
-
 used : LoadsAreUsed i one_history shared [] rx_own rx_story rx_seen
 used =
     record {
@@ -560,61 +545,43 @@ sent =
         (delivered_by 0 (tx_own (puller one_tx 0))) (refl, tt)
     right (suc l) less = absurd (omega arith)
 
-runs : TableId → IsRun i one_history
-runs table =
-    let rx_ended = each_order_closes table one_rx rx_order
-    (record {
-      room = omega arith;
-      start = omega arith;
-      lanes = omega arith;
-      some_seat = omega arith;
-      seats = omega arith;
-    }) rx-lawful in
-    let tx_ended = each_order_closes table one_tx tx_order
-    (record {
-      room = omega arith;
-      start = omega arith;
-      lanes = omega arith;
-      some_seat = omega arith;
-      seats = omega arith;
-    }) tx-lawful in
+rx-ends : MayEnd one_rx rx_order
+rx-ends =
     record {
-      input = record { hashes = hashes; arrived = refl; total = refl; cut = refl; start = refl };
-      tries = [];
-      commands = record { given = refl; answered = tt };
-      rx = one_rx;
-      rx_seats = seats_in table one_rx rx_order;
-      rx_lists = lists_of one_rx rx_order;
-      rx_ended = rx_ended.0;
-      queues = rx_story;
-      queues_seen = rx_seen;
-      received = subst
-          (λ own. ReceiveTies i one_history one_rx own (lists_of one_rx rx_order) [] rx_story
-          rx_seen) (sym rx_ended.1) received;
-      tx = one_tx;
-      tx_seats = seats_in table one_tx tx_order;
-      tx_lists = lists_of one_tx tx_order;
-      tx_ended = tx_ended.0;
-      applications = tx_story;
-      maps_seen = tx_seen;
-      sent = subst
-          (λ own. TransmitTies i one_history own one_tx (own_in (seats_in table one_tx tx_order))
-          (lists_of one_tx tx_order) [] tx_story tx_seen) (sym rx_ended.1)
-          (subst
-          (λ own. TransmitTies i one_history rx_own one_tx own (lists_of one_tx tx_order) []
-          tx_story tx_seen) (sym tx_ended.1) sent);
-      replied = subst (λ own. TotalsReplied one_rx own one_history) (sym rx_ended.1) refl;
-      codes = shared;
-      hint_seats = [];
-      stored = All-nil _;
-      meant = meant;
-      used = subst (λ own. LoadsAreUsed i one_history shared [] own rx_story rx_seen)
-          (sym rx_ended.1) used;
+      fit = record {
+        room = omega arith;
+        start = omega arith;
+        lanes = omega arith;
+        some_seat = omega arith;
+        seats = omega arith;
+      };
+      lawful = rx-lawful;
     }
-  where
-    hashes : FlowsHaveOneHash i
-    hashes zero less = refl
-    hashes (suc x) less = absurd (omega arith)
+
+tx-ends : MayEnd one_tx tx_order
+tx-ends =
+    record {
+      fit = record {
+        room = omega arith;
+        start = omega arith;
+        lanes = omega arith;
+        some_seat = omega arith;
+        seats = omega arith;
+      };
+      lawful = tx-lawful;
+    }
+
+hashes : FlowsHaveOneHash i
+hashes zero less = refl
+hashes (suc x) less = absurd (omega arith)
 
 pub one_run_exists : OneRunExists
-one_run_exists = record { within = within; runs = runs; port = refl }
+one_run_exists =
+    record {
+      within = within;
+      runs = run_of i one_history one_rx rx_order rx-ends one_tx tx_order tx-ends [] rx_story
+          tx_story rx_seen tx_seen
+          (record { hashes = hashes; arrived = refl; total = refl; cut = refl; start = refl })
+          (record { given = refl; answered = tt }) received sent refl used;
+      port = refl;
+    }

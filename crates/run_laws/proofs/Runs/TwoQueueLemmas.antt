@@ -606,5 +606,6 @@ two_queue_run_exists =
           (record { hashes = hashes; arrived = refl; total = refl; cut = refl; start = refl })
           commands-kept received sent refl used;
       drop = refl;
+      moved = refl;
       port = refl;
     }

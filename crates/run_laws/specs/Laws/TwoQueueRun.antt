@@ -236,11 +236,12 @@ two_queue_history = record {
   start = 0;
 }
 
--- The settings are those of a plan, this is a run, packet 1 was dropped, and the replies to all
--- others are on the port.
+-- The settings are those of a plan, this is a run, packet 1 was dropped, packet 3 moved to
+-- processor 1, and the replies to all but the dropped packet are on the port.
 pub record TwoQueueRunExists : Type 0 where
   pub within : IsWithin two_queues
   pub runs : TableId → IsRun (two_queue_input within) two_queue_history
   pub drop : (lane_at two_queue_history.lanes 0).drops
       ≡ record { id = 1; accepted = 1; pulled = 0; cause = Full } ∷ []
+  pub moved : (lane_at two_queue_history.lanes 1).accepted ≡ 3 ∷ []
   pub port : two_queue_history.port ≡ 0 ∷ 2 ∷ 3 ∷ []
