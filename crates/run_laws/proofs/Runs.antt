@@ -5,6 +5,7 @@ pub mod FactLemmas
 pub mod FrameLemmas
 pub mod GoodLemmas
 pub mod HintLemmas
+pub mod LeftOutLemmas
 pub mod OneRunLemmas
 pub mod PutTurnLemmas
 pub mod QueueLemmas
@@ -16,4 +17,5 @@ pub mod TurnListLemmas
 pub mod TwoQueueBoards
 pub mod TwoQueueLemmas
 pub mod TwoQueueTries
+pub mod TwoQueueTurns
 pub mod UnretiredLemmas

@@ -17,3 +17,4 @@ pub mod EmptyHands
 pub mod OneRun
 pub mod TwoQueueRun
 pub mod Unretired
+pub mod LeftOut

@@ -14,6 +14,7 @@ ghost use Rattle.run_laws.specs.Laws.Ends.{RepliesSuffice};
 ghost use Rattle.run_laws.specs.Laws.Ends.{TotalsSuffice};
 ghost use Rattle.run_laws.specs.Laws.GoodRuns.{RunsAreGood};
 ghost use Rattle.run_laws.specs.Laws.Heads.{HeadsFollow};
+ghost use Rattle.run_laws.specs.Laws.LeftOut.{CausesMatter, InboxesMatter, OwnTablesMatter};
 ghost use Rattle.run_laws.specs.Laws.OneCount.{OneCountSuffices};
 ghost use Rattle.run_laws.specs.Laws.OneRun.{OneRunExists};
 ghost use Rattle.run_laws.specs.Laws.Orders.{InboxesFollow};
@@ -136,4 +137,12 @@ pub fn two_queue_run_exists()
 /// the history is not good.
 pub fn one_count_is_not_all()
     ensures { (table : TableId) → OneCountIsNotAll table }
+{}
+
+/// Lemma: ties are needed. Without the tie of choices to the own tables, of inboxes to the board, or
+/// of an answer to its cause, a history may keep all else and fail a clause.
+pub fn ties_are_needed()
+    ensures tables { OwnTablesMatter }
+    ensures inboxes { InboxesMatter }
+    ensures causes { CausesMatter }
 {}

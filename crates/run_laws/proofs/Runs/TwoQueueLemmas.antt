@@ -9,6 +9,7 @@ use Rattle.linearization.specs.Orders.{StepBy, step_by}
 use Rattle.steer_base.specs.Commands.{is_affected}
 use Rattle.steer_base.specs.Sets.{has, those_below}
 use Rattle.steer_base.specs.declared.choice.Chosen.{Chosen}
+use Rattle.steer_base.specs.declared.choice.Why.TheVariants.{Passed}
 use Rattle.steer_base.specs.declared.command.Answer.TheVariants.{Busy, Done}
 use Rattle.steer_base.specs.declared.command.Busy.TheVariants.{NotEmpty}
 use Rattle.steer_base.specs.declared.put.DropCause.TheVariants.{Full}
@@ -39,6 +40,7 @@ use Rattle.hop_delivery.specs.Orders.Turns.{Explained, Turn}
 use Rattle.hop_delivery.proofs.Orders.ExampleLemmas.{Each, all_of_each, nth_of_all, own_empty}
 use Rattle.steer_model.specs.Good.Inputs.{setup_in}
 use Rattle.steer_model.specs.State.Setup.{app_for, flow_number_of, packet_hash}
+use Rattle.run_laws.specs.Laws.LeftOut.{KeepsButTables}
 use Rattle.run_laws.specs.Laws.TwoQueueRun.{TwoQueueRunExists, first_choices, reply_choices}
 use Rattle.run_laws.specs.Laws.TwoQueueRun.{second_choices, two_queue_history, two_rx, two_rx_order}
 use Rattle.run_laws.specs.Laws.TwoQueueRun.{two_tx, two_tx_order}
@@ -56,38 +58,34 @@ use Rattle.run_laws.proofs.Runs.CodeLemmas.{shared}
 use Rattle.run_laws.proofs.Runs.FrameLemmas.{run_of}
 use Rattle.run_laws.proofs.Runs.TwoQueueBoards.{first-maps, first-words, i, rx-lawful, rx-ends}
 use Rattle.run_laws.proofs.Runs.TwoQueueBoards.{tx-lawful, tx-ends, within}
+use Rattle.run_laws.proofs.Runs.TwoQueueTurns as turns
+use Rattle.run_laws.proofs.Runs.TwoQueueTurns.{rx_own, rx_seen}
 use Rattle.run_laws.proofs.Runs.TwoQueueTries.{commands-kept, finds, rx-tries, tries, tx-tries}
-
-abbrev rx_own : ℕ → List BoardStep
-rx_own = own_of two_rx_order
 
 abbrev tx_own : ℕ → List BoardStep
 tx_own = own_of two_tx_order
 
 -- ---- the turns
 
-abbrev second_opening : ℕ
-second_opening = 2 * 2 ^ 32
-
 abbrev turn_first : Turn
-turn_first = (turn two_rx_order (chosen_at first_choices 0) 0 0 6 (Some 2) (At 1)).step
-
-abbrev turn_dropped : Turn
-turn_dropped =
-    (turn two_rx_order (chosen_at second_choices 0) 0 8 14 (Some 1) (Dropped 1 1 0 Full)).step
-
-abbrev turn_second : Turn
-turn_second =
-    (turn two_rx_order (chosen_at second_choices 1) second_opening 21 27 (Some 1) (At 2)).step
+turn_first = turns.turn_first (Some 1) 1 Passed
 
 abbrev turn_moved : Turn
-turn_moved =
-    (turn two_rx_order (chosen_at first_choices 1) second_opening 29 36 (Some 2) (At 1)).step
+turn_moved = turns.turn_moved (Some 1) 1 Passed
 
-abbrev rx_turns : List (StepBy Turn)
-rx_turns =
-    step_by 0 turn_moved ∷ step_by 1 turn_second ∷ step_by 1 turn_dropped ∷ step_by 0 turn_first
-    ∷ []
+abbrev turn_dropped : Turn
+turn_dropped = turns.turn_dropped (Some 1) 1 Passed
+
+abbrev turn_second : Turn
+turn_second = turns.turn_second (Some 1) 1 Passed
+
+abbrev rx_story : Story
+rx_story = turns.rx_story (Some 1) 1 Passed
+
+rx-each : (P : ℕ → ℕ → Turn → Type 0) → P 0 0 turn_first → P 0 1 turn_moved
+    → P 1 0 turn_dropped → P 1 1 turn_second
+    → (p k : ℕ) (u : Turn) → nth_step (turns_of rx_story p) k ≡ Some u → P p k u
+rx-each = turns.rx-each (Some 1) 1 Passed
 
 abbrev reply_first : Turn
 reply_first = (turn two_tx_order (chosen_at reply_choices 0) 0 0 4 None (At 1)).step
@@ -101,21 +99,6 @@ reply_same = (turn two_tx_order (chosen_at reply_choices 2) 0 12 16 None (At 3))
 abbrev tx_turns : List (StepBy Turn)
 tx_turns = step_by 0 reply_same ∷ step_by 0 reply_second ∷ step_by 0 reply_first ∷ []
 
--- x for the first, y for the second, z for all others
-abbrev of_two : {X : Type 0} → X → X → X → ℕ → X
-of_two x y z zero = x
-of_two x y z (suc zero) = y
-of_two x y z (suc (suc p)) = z
-
--- producers that there are not have no seat
-abbrev rx_story : Story
-rx_story = record {
-  arrivals = of_two (0 ∷ 3 ∷ []) (1 ∷ 2 ∷ []) [];
-  choices = of_two first_choices second_choices [];
-  seat = of_two 0 0 2;
-  turns = of_first rx_turns [];
-}
-
 abbrev tx_story : Story
 tx_story = record {
   arrivals = of_first (0 ∷ 2 ∷ 3 ∷ []) [];
@@ -123,48 +106,6 @@ tx_story = record {
   seat = of_first 0 2;
   turns = of_first tx_turns [];
 }
-
-rx-explained : (q : ℕ) → Explained (rx_own q) (rx_story.turns q)
-rx-explained zero = (
-  take 12 (rx_own 0),
-  [],
-  past 29 (rx_own 0),
-  refl,
-  refl,
-  record { puts = refl; visits = refl },
-  record { puts = refl; visits = refl },
-  (
-    [],
-    [],
-    past 21 (rx_own 0),
-    refl,
-    refl,
-    record { puts = refl; visits = refl },
-    record { puts = refl; visits = refl },
-    (
-      take 5 (past 21 (rx_own 0)),
-      [],
-      past 8 (rx_own 0),
-      refl,
-      refl,
-      record { puts = refl; visits = refl },
-      record { puts = refl; visits = refl },
-      (
-        [],
-        [],
-        past 0 (rx_own 0),
-        refl,
-        refl,
-        record { puts = refl; visits = refl },
-        record { puts = refl; visits = refl },
-        refl,
-      ),
-    ),
-  ),
-)
-rx-explained (suc zero) = refl
-rx-explained (suc (suc q)) =
-    ap puts_of (own_empty two_rx two_rx_order rx-lawful (suc (suc q)) (omega arith))
 
 tx-explained : (q : ℕ) → Explained (tx_own q) (tx_story.turns q)
 tx-explained zero = (
@@ -199,40 +140,11 @@ tx-explained (suc zero) = refl
 tx-explained (suc (suc q)) =
     ap puts_of (own_empty two_tx two_tx_order tx-lawful (suc (suc q)) (omega arith))
 
--- what holds of the turns of both queues holds of each
-rx-each : (P : ℕ → ℕ → Turn → Type 0) → P 0 0 turn_first → P 0 1 turn_moved
-    → P 1 0 turn_dropped → P 1 1 turn_second
-    → (p k : ℕ) (u : Turn) → nth_step (turns_of rx_story p) k ≡ Some u → P p k u
-rx-each P a b c d zero k u at = nth_of_all (P 0) (turns_of rx_story 0) k u (b, (a, tt)) at
-rx-each P a b c d (suc zero) k u at = nth_of_all (P 1) (turns_of rx_story 1) k u (d, (c, tt)) at
-rx-each P a b c d (suc (suc p)) k u at = none-some u at
-
 tx-each : (P : ℕ → ℕ → Turn → Type 0) → P 0 0 reply_first → P 0 1 reply_second
     → P 0 2 reply_same
     → (p k : ℕ) (u : Turn) → nth_step (turns_of tx_story p) k ≡ Some u → P p k u
 tx-each P a b c zero k u at = nth_of_all (P 0) (turns_of tx_story 0) k u (c, (b, (a, tt))) at
 tx-each P a b c (suc p) k u at = none-some u at
-
-rx-kept : KeepsTurns rx_own rx_story
-rx-kept =
-    record { explained = rx-explained; by_seat = by-seat; journal = journal; all_chosen = chosen }
-  where
-    by-seat : (q : ℕ) → All (λ (e : StepBy Turn). rx_story.seat e.by ≡ q) (rx_story.turns q)
-    by-seat zero =
-        all_of_each (λ (e : StepBy Turn). rx_story.seat e.by ≡ 0) rx_turns
-        (refl, (refl, (refl, (refl, tt))))
-    by-seat (suc q) = All-nil _
-
-    journal : (p : ℕ) → rx_story.choices p
-        ≡ map (λ (u : Turn). u.chosen) (oldest_first (turns_of rx_story p))
-    journal zero = refl
-    journal (suc zero) = refl
-    journal (suc (suc p)) = refl
-
-    chosen : (p : ℕ) → map (λ c. c.id) (rx_story.choices p) ≡ rx_story.arrivals p
-    chosen zero = refl
-    chosen (suc zero) = refl
-    chosen (suc (suc p)) = refl
 
 tx-kept : KeepsTurns tx_own tx_story
 tx-kept =
@@ -254,11 +166,6 @@ tx-kept =
     chosen (suc p) = refl
 
 -- ---- what queues and applications keep
-
--- the settings before the command and after it
-abbrev rx_seen : ℕ → ℕ → ℕ → ℕ
-rx_seen p zero w = slice_index two_rx.settings w
-rx_seen p (suc k) w = slice_index (2 ∷ drop 1 two_rx.settings) w
 
 abbrev tx_seen : ℕ → ℕ → ℕ → ℕ
 tx_seen p k w = slice_index two_tx.settings w
@@ -353,75 +260,23 @@ reply-same-by-table = record {
   loaded = λ k l class lane looked. none-some 0 looked;
 }
 
--- no arrival is at another queue
-none-arrived : (xs : List Arrival) (p : ℕ) → Each (λ (a : Arrival). a.queue < 2) xs
-    → arrivals_at xs (suc (suc p)) ≡ []
-none-arrived [] p each = refl
-none-arrived (a ∷ xs) p each =
-    let few = each.0 in
-    split-arrivals a xs (suc (suc p))
-    ∙ (ap (λ b. if_there b a.id (arrivals_at xs (suc (suc p))))
-    (ne_eqb a.queue (suc (suc p)) (λ e. absurd (omega arith)))
-    ∙ none-arrived xs p each.1)
-
 queues-kept : KeepsQueues i two_queue_history two_rx rx_own rx_story rx_seen
 queues-kept =
+    let j : KeepsButTables i two_queue_history rx_own rx_story rx_seen =
+    turns.journals (Some 1) 1 Passed in
     record {
-      turns = rx-kept;
-      choice_lists = refl;
-      taken_lists = refl;
-      arrivals = arrivals;
-      choices = choices;
-      taken = taken;
-      hashes = rx-each
-          (λ p k u. u.hash
-          ≡ packet_hash (setup_in i) u.chosen.id) refl refl refl refl;
-      knows = rx-each (λ p k u. HasSeen (rx_own (rx_story.seat p)) (receive_queues i) p u
-          (rx_seen p k))
-          (record {
-            mask = inl (4, omega arith, refl);
-            flows = inl (3, omega arith, refl);
-            online = inl (1, omega arith, refl);
-          })
-          (record {
-            mask = inl (5, omega arith, refl);
-            flows = inl (4, omega arith, refl);
-            online = inl (2, omega arith, refl);
-          })
-          (record {
-            mask = inl (4, omega arith, refl);
-            flows = inl (3, omega arith, refl);
-            online = inl (1, omega arith, refl);
-          })
-          (record {
-            mask = inl (4, omega arith, refl);
-            flows = inl (3, omega arith, refl);
-            online = inl (1, omega arith, refl);
-          });
-      knows_sock = rx-each (λ p k u. Knows (rx_own (rx_story.seat p)) u
-          (socket_word (receive_queues i)) (rx_seen p k (socket_word (receive_queues i))))
-          (inl (2, omega arith, refl)) (inl (3, omega arith, refl)) (inl (2, omega arith, refl))
-          (inl (2, omega arith, refl));
+      turns = j.turns;
+      choice_lists = j.choice_lists;
+      taken_lists = j.taken_lists;
+      arrivals = j.arrivals;
+      choices = j.choices;
+      taken = j.taken;
+      hashes = j.hashes;
+      knows = j.knows;
+      knows_sock = j.knows_sock;
       by_table = λ p k u at fit.
           rx-each RxByTable first-by-table moved-by-table dropped-by-table second-by-table p k u at;
     }
-  where
-    arrivals : (p : ℕ) → rx_story.arrivals p ≡ arrivals_at two_queue_history.arrivals p
-    arrivals zero = refl
-    arrivals (suc zero) = refl
-    arrivals (suc (suc p)) =
-        sym (none-arrived two_queue_history.arrivals p
-        (omega arith, (omega arith, (omega arith, (omega arith, tt)))))
-
-    choices : (p : ℕ) → list_at two_queue_history.choices p ≡ rx_story.choices p
-    choices zero = refl
-    choices (suc zero) = refl
-    choices (suc (suc p)) = refl
-
-    taken : (p : ℕ) → slice_index two_queue_history.taken p ≡ length (rx_story.choices p)
-    taken zero = refl
-    taken (suc zero) = refl
-    taken (suc (suc p)) = refl
 
 abbrev sent_first : Sent
 sent_first = record { id = 0; rxq = 0; cpu = 0 }
@@ -545,8 +400,8 @@ received =
         lanes = refl;
         inboxes = refl;
       };
-      tries_are = rx-tries;
-      finds = finds;
+      tries_are = rx-tries (NotEmpty 0 0 1);
+      finds = finds (NotEmpty 0 0 1);
       queues = queues-kept;
       right = right;
       retired = refl;
@@ -577,7 +432,7 @@ sent =
         lanes = refl;
         port = refl;
       };
-      tries_are = tx-tries;
+      tries_are = tx-tries (NotEmpty 0 0 1);
       applications = applications-kept;
       right = right;
       retired = refl;

@@ -5,10 +5,12 @@ use Rattle.std.specs.Prelude.{drop, slice_get, take}
 use Rattle.std.proofs.lemmas.List.Elements.{All-cons, All-nil}
 use Rattle.steer_base.specs.Commands.{is_affected}
 use Rattle.steer_base.specs.Sets.{has, those_below}
-use Rattle.steer_base.specs.declared.command.Answer.TheVariants.{Busy, Done}
+use Rattle.steer_base.specs.declared.command.Answer.TheVariants as says
+use Rattle.steer_base.specs.declared.command.Busy.{Busy}
 use Rattle.steer_base.specs.declared.command.Busy.TheVariants.{NotEmpty}
 use Rattle.steer_base.specs.declared.command.Command.{Command}
 use Rattle.history.specs.declared.commanded.Commanded.{Commanded}
+use Rattle.history.specs.declared.history.History.{History}
 use Rattle.hop_rule.specs.Moments.{past}
 use Rattle.hop_rule.specs.Owns.{own_of}
 use Rattle.hop_rule.specs.declared.step.BoardStep.{BoardStep}
@@ -31,31 +33,42 @@ rx_own = own_of two_rx_order
 abbrev tx_own : ℕ → List BoardStep
 tx_own = own_of two_tx_order
 
-abbrev given_busy : Commanded
-given_busy = record { command = to_cpu_one; answer = Busy (NotEmpty 0 0 1) }
+-- the first try with this answer
+abbrev given_busy : Busy → Commanded
+given_busy why = record { command = to_cpu_one; answer = says.Busy why }
 
 abbrev given_done : Commanded
-given_done = record { command = to_cpu_one; answer = Done }
+given_done = record { command = to_cpu_one; answer = says.Done }
 
-abbrev try_busy : Try
-try_busy = record { given = given_busy; rx_steps = past 4 (rx_own 1); tx_steps = [] }
+abbrev try_busy : Busy → Try
+try_busy why = record { given = given_busy why; rx_steps = past 4 (rx_own 1); tx_steps = [] }
 
 abbrev try_done : Try
 try_done = record { given = given_done; rx_steps = take 7 (rx_own 1); tx_steps = [] }
 
-abbrev pub tries : List Try
-tries = try_done ∷ try_busy ∷ []
+-- the tries, whatever the first one answers
+abbrev pub tries_with : Busy → List Try
+tries_with why = try_done ∷ try_busy why ∷ []
 
-pub rx-tries : KeepsReceiveTries i two_queue_history two_rx rx_own tries
-rx-tries =
+abbrev pub tries : List Try
+tries = tries_with (NotEmpty 0 0 1)
+
+-- a history with these tries
+abbrev history_with : Busy → History
+history_with why = record two_queue_history { commands = given_busy why ∷ given_done ∷ [] }
+
+pub rx-tries : (why : Busy)
+    → KeepsReceiveTries i (history_with why) two_rx rx_own (tries_with why)
+rx-tries why =
     record {
       commands = refl;
       own_list = refl;
       are = (inl (refl, made 0 2, refl, refl), (inr (inr (refl, inr refl)), tt));
     }
 
-pub tx-tries : KeepsTransmitTries i two_queue_history two_tx tx_own tries 1
-tx-tries =
+pub tx-tries : (why : Busy)
+    → KeepsTransmitTries i (history_with why) two_tx tx_own (tries_with why) 1
+tx-tries why =
     record {
       commands = refl;
       own_list = refl;
@@ -68,9 +81,10 @@ looked_first = record { lane = 0; head = 1; tail = 2 }
 abbrev looked_second : Looked
 looked_second = record { lane = 1; head = 0; tail = 0 }
 
-pub finds : AllFindLanes two_rx (receive_queues i) 2 1 at_receive tries
+pub finds : (why : Busy)
+    → AllFindLanes two_rx (receive_queues i) 2 1 at_receive (tries_with why)
 unfolding those_below
-finds = (
+finds why = (
   inr (
     made 0 2,
     refl,
@@ -123,15 +137,15 @@ answered = (
   ),
 )
 
-given : AreGiven 2 (to_cpu_one ∷ []) two_queue_history.commands
-given = (
-  given_busy ∷ given_done ∷ [],
+pub given : (why : Busy) → AreGiven 2 (to_cpu_one ∷ []) (history_with why).commands
+given why = (
+  given_busy why ∷ given_done ∷ [],
   [],
   refl,
   record {
     some = omega arith;
     few = omega arith;
-    same = All-cons (λ (c : Commanded). c.command ≡ to_cpu_one) given_busy (given_done ∷ []) refl
+    same = All-cons (λ (c : Commanded). c.command ≡ to_cpu_one) (given_busy why) (given_done ∷ []) refl
         (All-cons (λ (c : Commanded). c.command ≡ to_cpu_one) given_done [] refl
         (All-nil (λ (c : Commanded). c.command ≡ to_cpu_one)));
     again = again;
@@ -141,11 +155,11 @@ given = (
 )
   where
     again : (k : ℕ) (c : Commanded) → k + 1 < 2
-        → slice_get two_queue_history.commands k ≡ Some c → is_busy c.answer ≡ true
+        → slice_get (history_with why).commands k ≡ Some c → is_busy c.answer ≡ true
     again zero c less at =
         subst (λ (c : Commanded). is_busy c.answer ≡ true)
-        (some-is given_busy c at) refl
+        (some-is (given_busy why) c at) refl
     again (suc k) c less at = absurd (omega arith)
 
 pub commands-kept : KeepsCommands i two_queue_history tries
-commands-kept = record { given = given; answered = answered }
+commands-kept = record { given = given (NotEmpty 0 0 1); answered = answered }
