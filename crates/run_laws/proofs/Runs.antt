@@ -18,4 +18,5 @@ pub mod TwoQueueBoards
 pub mod TwoQueueLemmas
 pub mod TwoQueueTries
 pub mod TwoQueueTurns
+pub mod UnemptiedLemmas
 pub mod UnretiredLemmas

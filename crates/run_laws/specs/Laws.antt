@@ -18,3 +18,4 @@ pub mod OneRun
 pub mod TwoQueueRun
 pub mod Unretired
 pub mod LeftOut
+pub mod Unemptied

@@ -22,6 +22,7 @@ ghost use Rattle.run_laws.specs.Laws.OwnTables.{TablesAreEntries, TablesRule};
 ghost use Rattle.run_laws.specs.Laws.Replies.{RepliesFollow};
 ghost use Rattle.run_laws.specs.Laws.SharedCodes.{SharedCodesExist};
 ghost use Rattle.run_laws.specs.Laws.TwoQueueRun.{TwoQueueRunExists};
+ghost use Rattle.run_laws.specs.Laws.Unemptied.{EmptyLanesMatter};
 ghost use Rattle.run_laws.specs.Laws.Unretired.{OneCountIsNotAll};
 
 /// Lemma: a table that was told of each of its producer's turns has the entries of the lists, so a
@@ -139,10 +140,12 @@ pub fn one_count_is_not_all()
     ensures { (table : TableId) → OneCountIsNotAll table }
 {}
 
-/// Lemma: ties are needed. Without the tie of choices to the own tables, of inboxes to the board, or
-/// of an answer to its cause, a history may keep all else and fail a clause.
+/// Lemma: ties are needed. Without the tie of choices to the own tables, of settings to empty lanes,
+/// of inboxes to the board, or of an answer to its cause, a history may keep all else and fail a
+/// clause.
 pub fn ties_are_needed()
     ensures tables { OwnTablesMatter }
+    ensures lanes { EmptyLanesMatter }
     ensures inboxes { InboxesMatter }
     ensures causes { CausesMatter }
 {}

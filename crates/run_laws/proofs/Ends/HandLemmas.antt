@@ -1,9 +1,7 @@
 -- A seat's deliveries are those that it retired, and one more if it is just between the two.
-use Rattle.std.proofs.Common.{◌≡◌, ℕ, ◌+◌, List, length, sym, refl, ap, ◌∙◌, arith}
-use Rattle.std.specs.Prelude.{◌<◌}
+use Rattle.std.proofs.Common.{◌≡◌, ◌+◌, List, length, sym, refl, ap, ◌∙◌, arith}
 use Rattle.linearization.specs.Orders.{StepBy, steps_of}
-use Rattle.hop_rule.specs.Boards.{IsLawful, lane_steps, lanes_of, retired}
-use Rattle.hop_rule.specs.Deliveries.{delivered_from}
+use Rattle.hop_rule.specs.Boards.{IsLawful, lanes_of, retired}
 use Rattle.hop_rule.specs.Lanes.{Phase, gave, has_pulled, idle, phase}
 use Rattle.hop_rule.specs.Owns.{own_of}
 use Rattle.hop_rule.specs.Sizes.{FitSizes, puller}
@@ -14,13 +12,10 @@ use Rattle.hop_rule.proofs.Deliveries.{facts, gone}
 use Rattle.hop_rule.proofs.Owns.{lanes_own}
 use Rattle.board_api.specs.Closings.Closings.{AtEachClosing}
 use Rattle.board_api.specs.Closings.Finals.{lists_of}
-use Rattle.board_api.specs.OwnSteps.{delivered_by, retired_by}
-use Rattle.board_api.specs.declared.lists.BoardLists.{BoardLists}
 use Rattle.board_api.proofs.Endings.{at_closings}
 use Rattle.board_api.proofs.Owners.{given_own, retired_own, retires}
 use Rattle.run_laws.specs.Laws.EmptyHands.{DeliveriesAreCounted, EmptyHandsRetired, hand_for}
 use Rattle.run_laws.specs.Laws.EmptyHands.{unretired}
-use Rattle.run_laws.specs.Laws.OneCount.{delivered_count}
 use Rattle.run_laws.specs.Ties.Ends.{retired_count}
 
 module _ (about : BoardSizes) where

@@ -1,6 +1,6 @@
 -- Histories of which a tie was left out, and the clauses that they fail.
-use Rattle.std.proofs.Common.{◌≡◌, ℕ, zero, suc, ◌+◌, ◌<◌, ◌≤◌, inl, inr, true, false, List, []}
-use Rattle.std.proofs.Common.{◌∷◌, Some, None, length, sym, refl, ap, ◌∙◌, subst, arith}
+use Rattle.std.proofs.Common.{◌≡◌, ℕ, zero, suc, ◌≤◌, inl, inr, List}
+use Rattle.std.proofs.Common.{None, sym, refl, ap, arith}
 use Rattle.std.specs.Prelude.{drop, slice_index, take, if◌then◌else◌}
 use Rattle.std.specs.List.{list_any}
 use Rattle.steer_base.specs.Choices.{has_moved}
@@ -9,7 +9,7 @@ use Rattle.steer_base.specs.Sets.{those_below}
 use Rattle.steer_base.specs.declared.choice.Choice.{Choice}
 use Rattle.steer_base.specs.declared.choice.Why.TheVariants.{Unset}
 use Rattle.steer_base.specs.declared.command.Answer.{Answer}
-use Rattle.steer_base.specs.declared.command.Answer.TheVariants.{Busy, Done}
+use Rattle.steer_base.specs.declared.command.Answer.TheVariants.{Busy}
 use Rattle.steer_base.specs.declared.command.Busy.TheVariants.{Inside, NotEmpty}
 use Rattle.steer_model.specs.Good.Choices.{ChoicesAreByRule, IsByRule}
 use Rattle.steer_model.specs.Good.Commands.{IsAnswer}

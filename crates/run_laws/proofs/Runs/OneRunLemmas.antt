@@ -3,16 +3,13 @@ use Rattle.std.proofs.Common.{◌≡◌, ◌⊎◌, ℕ, zero, suc, ◌+◌, ◌
 use Rattle.std.proofs.Common.{List, [], ◌∷◌, Some}
 use Rattle.std.proofs.Common.{None, length, map, All, sym, refl, ap, ◌∙◌, subst, arith}
 use Rattle.std.specs.Prelude.{slice_get, slice_index, slice_index_or, take}
-use Rattle.std.specs.List.{Contains}
 use Rattle.std.proofs.lemmas.Bool.{ne_eqb}
 use Rattle.std.proofs.lemmas.List.Elements.{All-cons, All-nil, All-replicate}
-use Rattle.atomic_table.specs.Seated.{TableId}
 use Rattle.linearization.specs.Orders.{StepBy, steps_of}
 use Rattle.steer_base.specs.Sets.{those_below}
 use Rattle.steer_base.specs.declared.put.Put.TheVariants.{At}
 use Rattle.steer_base.specs.declared.step.Step.{Step}
 use Rattle.dev_flow_table.specs.Walks.{since_resize}
-use Rattle.hint_words.specs.Loads.{IsStoredBy}
 use Rattle.history.specs.Lists.{arrivals_at, list_at}
 use Rattle.history.specs.declared.arrival.Arrival.{Arrival}
 use Rattle.history.specs.declared.sent.Sent.{Sent}
@@ -26,10 +23,8 @@ use Rattle.hop_rule.specs.Owns.{own_of, puts_of}
 use Rattle.hop_rule.specs.Sizes.{puller}
 use Rattle.hop_rule.specs.declared.step.BoardStep.{BoardStep}
 use Rattle.hop_rule.proofs.Lists.{none-some, some-is}
-use Rattle.board_api.specs.Closings.Closings.{own_in, seats_in}
 use Rattle.board_api.specs.Closings.Finals.{lists_of}
 use Rattle.board_api.specs.OwnSteps.{delivered_by}
-use Rattle.board_api.proofs.Endings.{each_order_closes}
 use Rattle.hop_delivery.specs.Closings.TurnReads.{HasSeen, Knows, KnowsMaps}
 use Rattle.hop_delivery.specs.Orders.Examples.{of_first, turn}
 use Rattle.hop_delivery.specs.Orders.Plays as play
@@ -51,14 +46,13 @@ use Rattle.run_laws.specs.Laws.OneRun.{OneRunExists, one_history, one_input, one
 use Rattle.run_laws.specs.Laws.OneRun.{one_tx, rx_chosen, rx_order, rx_rows, tx_chosen, tx_order}
 use Rattle.run_laws.specs.Laws.OneRun.{tx_rows}
 use Rattle.run_laws.specs.Ties.Applications.{KeepsApplications, WasFoundAt}
-use Rattle.run_laws.specs.Ties.Ends.{TotalsReplied}
 use Rattle.run_laws.specs.Ties.Hints.{AreRecorded, CameBy, IsRouted, LoadsAreUsed}
-use Rattle.run_laws.specs.Ties.Hints.{Stands, StoresAreMeant}
+use Rattle.run_laws.specs.Ties.Hints.{Stands}
 use Rattle.run_laws.specs.Ties.Inputs.{AreReceiveWords, AreTransmitWords, FlowsHaveOneHash}
 use Rattle.run_laws.specs.Ties.Inputs.{receive_queues}
 use Rattle.run_laws.specs.Ties.OwnTables.{IsByTable}
 use Rattle.run_laws.specs.Ties.Queues.{KeepsQueues}
-use Rattle.run_laws.specs.Ties.Runs.{IsRun, ReceiveTies, TransmitTies}
+use Rattle.run_laws.specs.Ties.Runs.{ReceiveTies, TransmitTies}
 use Rattle.run_laws.specs.Ties.Tries.{oldest_first}
 use Rattle.run_laws.specs.Ties.Turns.{KeepsTurns}
 use Rattle.run_laws.proofs.Lists.PlaceLemmas.{if_there, split-arrivals}

@@ -1,5 +1,5 @@
 -- The plan and the boards of the run with two queues.
-use Rattle.std.proofs.Common.{◌≡◌, ◌⊎◌, ℕ, zero, suc, ◌+◌, ◌*◌, ◌^◌, ◌<◌, inl, true, List, []}
+use Rattle.std.proofs.Common.{◌≡◌, ℕ, zero, suc, ◌+◌, ◌*◌, ◌^◌, ◌<◌, true, List, []}
 use Rattle.std.proofs.Common.{◌∷◌, Some, refl, arith}
 use Rattle.std.specs.Prelude.{slice_index, replicate, slice_index_or, take}
 use Rattle.std.proofs.lemmas.List.Elements.{All-cons, All-nil, All-replicate}

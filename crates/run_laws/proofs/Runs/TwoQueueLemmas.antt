@@ -1,24 +1,18 @@
 -- The run with two queues keeps all ties.
-use Rattle.std.proofs.Common.{◌≡◌, ℕ, zero, suc, ◌+◌, ◌<◌, inl, inr, List, [], ◌∷◌, Some, None}
-use Rattle.std.proofs.Common.{◌*◌, false, length, map, All, sym, refl, ap, ◌∙◌, subst, arith, true}
-use Rattle.std.specs.Prelude.{◌%◌, ◌^◌, slice_get, slice_index, drop, take}
+use Rattle.std.proofs.Common.{◌≡◌, ℕ, zero, suc, ◌<◌, inl, inr, List, [], ◌∷◌, Some, None}
+use Rattle.std.proofs.Common.{false, map, All, sym, refl, ap, ◌∙◌, subst, arith, true}
+use Rattle.std.specs.Prelude.{◌%◌, ◌^◌, slice_get, slice_index, take}
 use Rattle.std.specs.List.{Contains}
-use Rattle.std.proofs.lemmas.Bool.{ne_eqb}
 use Rattle.std.proofs.lemmas.List.Elements.{All-nil}
 use Rattle.linearization.specs.Orders.{StepBy, step_by}
-use Rattle.steer_base.specs.Commands.{is_affected}
-use Rattle.steer_base.specs.Sets.{has, those_below}
-use Rattle.steer_base.specs.declared.choice.Chosen.{Chosen}
+use Rattle.steer_base.specs.Sets.{those_below}
 use Rattle.steer_base.specs.declared.choice.Why.TheVariants.{Passed}
-use Rattle.steer_base.specs.declared.command.Answer.TheVariants.{Busy, Done}
 use Rattle.steer_base.specs.declared.command.Busy.TheVariants.{NotEmpty}
-use Rattle.steer_base.specs.declared.put.DropCause.TheVariants.{Full}
-use Rattle.steer_base.specs.declared.put.Put.TheVariants.{At, Dropped}
+use Rattle.steer_base.specs.declared.put.Put.TheVariants.{At}
 use Rattle.dev_flow_table.specs.Tables.{entries}
 use Rattle.dev_flow_table.specs.Walks.{since_resize}
-use Rattle.history.specs.Lists.{arrivals_at, list_at}
+use Rattle.history.specs.Lists.{list_at}
 use Rattle.history.specs.declared.arrival.Arrival.{Arrival}
-use Rattle.history.specs.declared.commanded.Commanded.{Commanded}
 use Rattle.history.specs.declared.sent.Sent.{Sent}
 use Rattle.hop_core.specs.Hop.{chosen_at}
 use Rattle.hop_rule.specs.Deliveries.{Delivery}
@@ -31,18 +25,18 @@ use Rattle.hop_rule.specs.declared.step.GateStep.TheVariants.{Read}
 use Rattle.hop_rule.proofs.Lists.{none-some, some-is}
 use Rattle.board_api.specs.Closings.Finals.{lists_of}
 use Rattle.board_api.specs.OwnSteps.{delivered_by}
-use Rattle.hop_delivery.specs.Closings.TurnReads.{HasSeen, Knows, KnowsMaps}
+use Rattle.hop_delivery.specs.Closings.TurnReads.{KnowsMaps}
 use Rattle.hop_delivery.specs.Orders.Examples.{of_first, turn}
-use Rattle.hop_delivery.specs.Orders.ReceiveSettings.{receive_steering, socket_word}
+use Rattle.hop_delivery.specs.Orders.ReceiveSettings.{receive_steering}
 use Rattle.hop_delivery.specs.Orders.Runs.{Story, turns_of}
 use Rattle.hop_delivery.specs.Orders.TransmitSettings.{pick_by, transmit_steering}
 use Rattle.hop_delivery.specs.Orders.Turns.{Explained, Turn}
-use Rattle.hop_delivery.proofs.Orders.ExampleLemmas.{Each, all_of_each, nth_of_all, own_empty}
+use Rattle.hop_delivery.proofs.Orders.ExampleLemmas.{all_of_each, nth_of_all, own_empty}
 use Rattle.steer_model.specs.Good.Inputs.{setup_in}
 use Rattle.steer_model.specs.State.Setup.{app_for, flow_number_of, packet_hash}
 use Rattle.run_laws.specs.Laws.LeftOut.{KeepsButTables}
-use Rattle.run_laws.specs.Laws.TwoQueueRun.{TwoQueueRunExists, first_choices, reply_choices}
-use Rattle.run_laws.specs.Laws.TwoQueueRun.{second_choices, two_queue_history, two_rx, two_rx_order}
+use Rattle.run_laws.specs.Laws.TwoQueueRun.{TwoQueueRunExists, reply_choices}
+use Rattle.run_laws.specs.Laws.TwoQueueRun.{two_queue_history, two_rx, two_rx_order}
 use Rattle.run_laws.specs.Laws.TwoQueueRun.{two_tx, two_tx_order}
 use Rattle.run_laws.specs.Ties.Applications.{KeepsApplications, WasFoundAt}
 use Rattle.run_laws.specs.Ties.Hints.{AreRecorded, CameBy, IsRouted, LoadsAreUsed, Stands}
@@ -53,10 +47,9 @@ use Rattle.run_laws.specs.Ties.Queues.{KeepsQueues}
 use Rattle.run_laws.specs.Ties.Runs.{ReceiveTies, TransmitTies}
 use Rattle.run_laws.specs.Ties.Tries.{oldest_first}
 use Rattle.run_laws.specs.Ties.Turns.{KeepsTurns}
-use Rattle.run_laws.proofs.Lists.PlaceLemmas.{if_there, split-arrivals}
 use Rattle.run_laws.proofs.Runs.CodeLemmas.{shared}
 use Rattle.run_laws.proofs.Runs.FrameLemmas.{run_of}
-use Rattle.run_laws.proofs.Runs.TwoQueueBoards.{first-maps, first-words, i, rx-lawful, rx-ends}
+use Rattle.run_laws.proofs.Runs.TwoQueueBoards.{first-maps, first-words, i, rx-ends}
 use Rattle.run_laws.proofs.Runs.TwoQueueBoards.{tx-lawful, tx-ends, within}
 use Rattle.run_laws.proofs.Runs.TwoQueueTurns as turns
 use Rattle.run_laws.proofs.Runs.TwoQueueTurns.{rx_own, rx_seen}
@@ -344,9 +337,16 @@ used =
     record {
       arrivals = all_of_each
           (λ (a : Arrival). IsRouted i two_queue_history shared [] (packet_hash (setup_in i) a.id)
-          a) two_queue_history.arrivals
-          (inl (0, refl, inl refl), (inl (1, refl, inl refl), (inl (1, refl, inl refl),
-          (inl (0, refl, inl refl), tt))));
+          a) two_queue_history.arrivals (
+            inl (0, refl, inl refl),
+            (
+              inl (1, refl, inl refl),
+              (
+                inl (1, refl, inl refl),
+                (inl (0, refl, inl refl), tt),
+              ),
+            ),
+          );
       wants = λ p k want u at is.
           none-some want
           (sym (rx-each (λ p k u. u.chosen.choice.want ≡ None) refl refl refl refl p k u at) ∙ is);
@@ -378,9 +378,21 @@ used =
         (map (λ (s : Sent). s.id) (list_at two_queue_history.sent a))
         (list_at two_queue_history.writes a)
     writes zero =
-        inr (inr (2, 0, refl, read, (λ few. refl),
-        inr (inr (1, 0, refl, read, (λ few. refl),
-        inr (inr (2, 0, refl, read, (λ few. refl), refl))))))
+        inr (inr (
+          2,
+          0,
+          refl,
+          read,
+          (λ few. refl),
+          inr (inr (
+            1,
+            0,
+            refl,
+            read,
+            (λ few. refl),
+            inr (inr (2, 0, refl, read, (λ few. refl), refl)),
+          )),
+        ))
     writes (suc a) = refl
 
 -- ---- all together

@@ -1,14 +1,13 @@
 -- The tries of the run with two queues, and its hint words.
-use Rattle.std.proofs.Common.{◌≡◌, ℕ, zero, suc, ◌+◌, ◌*◌, ◌^◌, ◌<◌, inl, inr, true, List, []}
-use Rattle.std.proofs.Common.{◌∷◌, Some, None, length, map, All, subst, refl, arith}
-use Rattle.std.specs.Prelude.{drop, slice_get, take}
+use Rattle.std.proofs.Common.{◌≡◌, ℕ, zero, suc, ◌+◌, ◌^◌, ◌<◌, inl, inr, true, List, []}
+use Rattle.std.proofs.Common.{◌∷◌, Some, subst, refl, arith}
+use Rattle.std.specs.Prelude.{slice_get, take}
 use Rattle.std.proofs.lemmas.List.Elements.{All-cons, All-nil}
 use Rattle.steer_base.specs.Commands.{is_affected}
 use Rattle.steer_base.specs.Sets.{has, those_below}
 use Rattle.steer_base.specs.declared.command.Answer.TheVariants as says
 use Rattle.steer_base.specs.declared.command.Busy.{Busy}
 use Rattle.steer_base.specs.declared.command.Busy.TheVariants.{NotEmpty}
-use Rattle.steer_base.specs.declared.command.Command.{Command}
 use Rattle.history.specs.declared.commanded.Commanded.{Commanded}
 use Rattle.history.specs.declared.history.History.{History}
 use Rattle.hop_rule.specs.Moments.{past}

@@ -1,66 +1,39 @@
 -- The turns of the run with two queues, whatever the choice of packet 3 says of its head, its tail
 -- and its case.
-use Rattle.std.proofs.Common.{Option, ◌≡◌, ℕ, zero, suc, ◌+◌, ◌<◌, inl, inr, List, [], ◌∷◌, Some, None}
-use Rattle.std.proofs.Common.{◌*◌, false, length, map, All, sym, refl, ap, ◌∙◌, subst, arith, true}
-use Rattle.std.specs.Prelude.{◌%◌, ◌^◌, slice_get, slice_index, drop, take}
-use Rattle.std.specs.List.{Contains}
+use Rattle.std.proofs.Common.{Option, ◌≡◌, ℕ, zero, suc, ◌<◌, ◌≤◌, inl, List, [], ◌∷◌, Some, None}
+use Rattle.std.proofs.Common.{◌*◌, length, map, All, sym, refl, ap, ◌∙◌, arith}
+use Rattle.std.specs.Prelude.{◌^◌, slice_index, drop, take}
 use Rattle.std.proofs.lemmas.Bool.{ne_eqb}
 use Rattle.std.proofs.lemmas.List.Elements.{All-nil}
 use Rattle.linearization.specs.Orders.{StepBy, step_by}
-use Rattle.steer_base.specs.Commands.{is_affected}
-use Rattle.steer_base.specs.Sets.{has, those_below}
 use Rattle.steer_base.specs.declared.choice.Chosen.{Chosen}
 use Rattle.steer_base.specs.declared.choice.Why.{Why}
-use Rattle.steer_base.specs.declared.command.Answer.TheVariants.{Busy, Done}
-use Rattle.steer_base.specs.declared.command.Busy.TheVariants.{NotEmpty}
 use Rattle.steer_base.specs.declared.put.DropCause.TheVariants.{Full}
 use Rattle.steer_base.specs.declared.put.Put.TheVariants.{At, Dropped}
-use Rattle.dev_flow_table.specs.Tables.{entries}
-use Rattle.dev_flow_table.specs.Walks.{since_resize}
 use Rattle.history.specs.Lists.{arrivals_at, list_at}
 use Rattle.history.specs.declared.arrival.Arrival.{Arrival}
-use Rattle.history.specs.declared.commanded.Commanded.{Commanded}
 use Rattle.history.specs.declared.history.History.{History}
-use Rattle.history.specs.declared.sent.Sent.{Sent}
 use Rattle.hop_core.specs.Hop.{chosen_at}
-use Rattle.hop_rule.specs.Deliveries.{Delivery}
 use Rattle.hop_rule.specs.Moments.{nth_step, past}
 use Rattle.hop_rule.specs.Owns.{own_of, puts_of}
-use Rattle.hop_rule.specs.Sizes.{puller}
 use Rattle.hop_rule.specs.declared.step.BoardStep.{BoardStep}
-use Rattle.hop_rule.specs.declared.step.BoardStep.TheVariants.{Gate, Weighed}
-use Rattle.hop_rule.specs.declared.step.GateStep.TheVariants.{Read}
-use Rattle.hop_rule.proofs.Lists.{none-some, some-is}
-use Rattle.board_api.specs.Closings.Finals.{lists_of}
-use Rattle.board_api.specs.OwnSteps.{delivered_by}
-use Rattle.hop_delivery.specs.Closings.TurnReads.{HasSeen, Knows, KnowsMaps}
+use Rattle.hop_rule.proofs.Lists.{none-some}
+use Rattle.hop_delivery.specs.Closings.TurnReads.{HasSeen, Knows}
 use Rattle.hop_delivery.specs.Orders.Examples.{choice_for, of_first, turn}
-use Rattle.hop_delivery.specs.Orders.ReceiveSettings.{receive_steering, socket_word}
+use Rattle.hop_delivery.specs.Orders.ReceiveSettings.{socket_word}
 use Rattle.hop_delivery.specs.Orders.Runs.{Story, turns_of}
-use Rattle.hop_delivery.specs.Orders.TransmitSettings.{pick_by, transmit_steering}
 use Rattle.hop_delivery.specs.Orders.Turns.{Explained, Turn}
 use Rattle.hop_delivery.proofs.Orders.ExampleLemmas.{Each, all_of_each, nth_of_all, own_empty}
 use Rattle.steer_model.specs.Good.Inputs.{setup_in}
-use Rattle.steer_model.specs.State.Setup.{app_for, flow_number_of, packet_hash}
+use Rattle.steer_model.specs.State.Setup.{packet_hash}
 use Rattle.run_laws.specs.Laws.LeftOut.{KeepsButTables}
-use Rattle.run_laws.specs.Laws.TwoQueueRun.{TwoQueueRunExists, first_choices, reply_choices}
+use Rattle.run_laws.specs.Laws.TwoQueueRun.{first_choices}
 use Rattle.run_laws.specs.Laws.TwoQueueRun.{second_choices, two_queue_history, two_rx, two_rx_order}
-use Rattle.run_laws.specs.Laws.TwoQueueRun.{two_tx, two_tx_order}
-use Rattle.run_laws.specs.Ties.Applications.{KeepsApplications, WasFoundAt}
-use Rattle.run_laws.specs.Ties.Hints.{AreRecorded, CameBy, IsRouted, LoadsAreUsed, Stands}
-use Rattle.run_laws.specs.Ties.Hints.{WasRead}
-use Rattle.run_laws.specs.Ties.Inputs.{FlowsHaveOneHash, receive_queues}
-use Rattle.run_laws.specs.Ties.OwnTables.{IsByTable, table_before}
-use Rattle.run_laws.specs.Ties.Queues.{KeepsQueues}
-use Rattle.run_laws.specs.Ties.Runs.{ReceiveTies, TransmitTies}
+use Rattle.run_laws.specs.Ties.Inputs.{receive_queues}
 use Rattle.run_laws.specs.Ties.Tries.{oldest_first}
 use Rattle.run_laws.specs.Ties.Turns.{KeepsTurns}
 use Rattle.run_laws.proofs.Lists.PlaceLemmas.{if_there, split-arrivals}
-use Rattle.run_laws.proofs.Runs.CodeLemmas.{shared}
-use Rattle.run_laws.proofs.Runs.FrameLemmas.{run_of}
-use Rattle.run_laws.proofs.Runs.TwoQueueBoards.{first-maps, first-words, i, rx-lawful, rx-ends}
-use Rattle.run_laws.proofs.Runs.TwoQueueBoards.{tx-lawful, tx-ends, within}
-use Rattle.run_laws.proofs.Runs.TwoQueueTries.{commands-kept, finds, rx-tries, tries, tx-tries}
+use Rattle.run_laws.proofs.Runs.TwoQueueBoards.{i, rx-lawful}
 
 abbrev pub rx_own : ℕ → List BoardStep
 rx_own = own_of two_rx_order
@@ -79,16 +52,16 @@ abbrev pub rx_seen : ℕ → ℕ → ℕ → ℕ
 rx_seen p zero w = slice_index two_rx.settings w
 rx_seen p (suc k) w = slice_index (2 ∷ drop 1 two_rx.settings) w
 
--- no arrival is at another queue
-none-arrived : (xs : List Arrival) (p : ℕ) → Each (λ (a : Arrival). a.queue < 2) xs
-    → arrivals_at xs (suc (suc p)) ≡ []
-none-arrived [] p each = refl
-none-arrived (a ∷ xs) p each =
+-- no arrival is at a queue beyond the first n
+pub none-arrived : (n p : ℕ) (xs : List Arrival) → n ≤ p → Each (λ (a : Arrival). a.queue < n) xs
+    → arrivals_at xs p ≡ []
+none-arrived n p [] past each = refl
+none-arrived n p (a ∷ xs) past each =
     let few = each.0 in
-    split-arrivals a xs (suc (suc p))
-    ∙ (ap (λ b. if_there b a.id (arrivals_at xs (suc (suc p))))
-    (ne_eqb a.queue (suc (suc p)) (λ e. absurd (omega arith)))
-    ∙ none-arrived xs p each.1)
+    split-arrivals a xs p
+    ∙ (ap (λ b. if_there b a.id (arrivals_at xs p))
+    (ne_eqb a.queue p (λ e. absurd (omega arith)))
+    ∙ none-arrived n p xs past each.1)
 
 module _ (head : Option ℕ) (tail : ℕ) (why : Why) where
   -- the choices of queue 0
@@ -242,7 +215,7 @@ module _ (head : Option ℕ) (tail : ℕ) (why : Why) where
       arrivals zero = refl
       arrivals (suc zero) = refl
       arrivals (suc (suc p)) =
-          sym (none-arrived history.arrivals p
+          sym (none-arrived 2 (suc (suc p)) history.arrivals (omega arith)
           (omega arith, (omega arith, (omega arith, (omega arith, tt)))))
 
       choices : (p : ℕ) → list_at history.choices p ≡ rx_story.choices p

@@ -1,7 +1,6 @@
 -- Without a tie a history need not be good: the run with two queues with one change each. All ties
 -- that name what was changed hold but one, and a clause fails.
 use Rattle.std.specs.Prelude.{◌≡◌, ℕ, List, [], ◌∷◌, Some, None, length, slice_index}
-use Rattle.linearization.specs.Orders.{StepBy}
 use Rattle.steer_base.specs.declared.choice.Chosen.{Chosen}
 use Rattle.steer_base.specs.declared.choice.Why.TheVariants.{Unset}
 use Rattle.steer_base.specs.declared.command.Answer.TheVariants.{Busy, Done}

@@ -12,7 +12,6 @@ use Rattle.steer_base.specs.declared.command.Command.TheVariants.{Mask}
 use Rattle.steer_base.specs.declared.flow.Flow.TheVariants.{Bare}
 use Rattle.steer_base.specs.declared.packet.Packet.{Packet}
 use Rattle.steer_base.specs.declared.put.DropCause.TheVariants.{Full}
-use Rattle.steer_base.specs.declared.put.LaneDrop.{LaneDrop}
 use Rattle.steer_base.specs.declared.step.Step.TheVariants.{Give}
 use Rattle.hop_core.specs.declared.shape.TheConstants.{MAX_HOP_ROOM}
 use Rattle.history.specs.Lists.{lane_at, list_at}
