@@ -1,5 +1,6 @@
 pub mod ChoiceCountLemmas
 pub mod EndLemmas
+pub mod HandLemmas
 pub mod InboxLemmas
 pub mod OutLemmas
 pub mod PutCountLemmas

@@ -2,8 +2,10 @@ pub mod ApplicationLemmas
 pub mod CodeLemmas
 pub mod EmptyLemmas
 pub mod FactLemmas
+pub mod FrameLemmas
 pub mod GoodLemmas
 pub mod HintLemmas
+pub mod LeftOutLemmas
 pub mod OneRunLemmas
 pub mod PutTurnLemmas
 pub mod QueueLemmas
@@ -12,4 +14,9 @@ pub mod RunLemmas
 pub mod StandLemmas
 pub mod TransmitLemmas
 pub mod TurnListLemmas
+pub mod TwoQueueBoards
+pub mod TwoQueueLemmas
+pub mod TwoQueueTries
+pub mod TwoQueueTurns
+pub mod UnemptiedLemmas
 pub mod UnretiredLemmas

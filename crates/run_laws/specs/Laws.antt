@@ -13,5 +13,9 @@ pub mod GoodRuns
 pub mod EmptyRuns
 pub mod SharedCodes
 pub mod OneCount
+pub mod EmptyHands
 pub mod OneRun
+pub mod TwoQueueRun
 pub mod Unretired
+pub mod LeftOut
+pub mod Unemptied

@@ -7,18 +7,22 @@ ghost use Rattle.run_laws.specs.Laws.Choices.{ChoicesFollow};
 ghost use Rattle.run_laws.specs.Laws.Commands.{CommandsFollow};
 ghost use Rattle.run_laws.specs.Laws.Drops.{DropsFollow};
 ghost use Rattle.run_laws.specs.Laws.EmptiedLanes.{TriesFindEmpty};
+ghost use Rattle.run_laws.specs.Laws.EmptyHands.{DeliveriesAreCounted, EmptyHandsRetired};
 ghost use Rattle.run_laws.specs.Laws.EmptyRuns.{EmptyRunsExist};
 ghost use Rattle.run_laws.specs.Laws.Ends.{AllAreSent, ChoicesSuffice, LanesAreDone, PutsEnd};
 ghost use Rattle.run_laws.specs.Laws.Ends.{RepliesSuffice};
 ghost use Rattle.run_laws.specs.Laws.Ends.{TotalsSuffice};
 ghost use Rattle.run_laws.specs.Laws.GoodRuns.{RunsAreGood};
 ghost use Rattle.run_laws.specs.Laws.Heads.{HeadsFollow};
+ghost use Rattle.run_laws.specs.Laws.LeftOut.{CausesMatter, InboxesMatter, OwnTablesMatter};
 ghost use Rattle.run_laws.specs.Laws.OneCount.{OneCountSuffices};
 ghost use Rattle.run_laws.specs.Laws.OneRun.{OneRunExists};
 ghost use Rattle.run_laws.specs.Laws.Orders.{InboxesFollow};
 ghost use Rattle.run_laws.specs.Laws.OwnTables.{TablesAreEntries, TablesRule};
 ghost use Rattle.run_laws.specs.Laws.Replies.{RepliesFollow};
 ghost use Rattle.run_laws.specs.Laws.SharedCodes.{SharedCodesExist};
+ghost use Rattle.run_laws.specs.Laws.TwoQueueRun.{TwoQueueRunExists};
+ghost use Rattle.run_laws.specs.Laws.Unemptied.{EmptyLanesMatter};
 ghost use Rattle.run_laws.specs.Laws.Unretired.{OneCountIsNotAll};
 
 /// Lemma: a table that was told of each of its producer's turns has the entries of the lists, so a
@@ -88,6 +92,13 @@ pub fn one_count_suffices()
     ensures { OneCountSuffices }
 {}
 
+/// Lemma: of each lane its seat has retired what it delivered, but for a packet that it has just
+/// delivered. So if all hands are empty, each delivery is retired.
+pub fn empty_hands_have_retired()
+    ensures counted { AtEachClosing DeliveriesAreCounted }
+    ensures retired { AtEachClosing EmptyHandsRetired }
+{}
+
 /// Lemma: each choice for a reply is by the rule with the maps after the commands up to the opening
 /// of the transmit gate that its visit counts.
 pub fn replies_are_by_rule()
@@ -117,8 +128,24 @@ pub fn one_run_exists()
     ensures { OneRunExists }
 {}
 
+/// Lemma: the ties can be kept with two queues on one seat, a drop, a command that is done after a
+/// failed try, and a class that moves.
+pub fn two_queue_run_exists()
+    ensures { TwoQueueRunExists }
+{}
+
 /// Lemma: one count is not all. It may be full while a receive lane is not yet retired, and then
 /// the history is not good.
 pub fn one_count_is_not_all()
     ensures { (table : TableId) → OneCountIsNotAll table }
+{}
+
+/// Lemma: ties are needed. Without the tie of choices to the own tables, of settings to empty lanes,
+/// of inboxes to the board, or of an answer to its cause, a history may keep all else and fail a
+/// clause.
+pub fn ties_are_needed()
+    ensures tables { OwnTablesMatter }
+    ensures lanes { EmptyLanesMatter }
+    ensures inboxes { InboxesMatter }
+    ensures causes { CausesMatter }
 {}

@@ -3,16 +3,13 @@ use Rattle.std.proofs.Common.{◌≡◌, ◌⊎◌, ℕ, zero, suc, ◌+◌, ◌
 use Rattle.std.proofs.Common.{List, [], ◌∷◌, Some}
 use Rattle.std.proofs.Common.{None, length, map, All, sym, refl, ap, ◌∙◌, subst, arith}
 use Rattle.std.specs.Prelude.{slice_get, slice_index, slice_index_or, take}
-use Rattle.std.specs.List.{Contains}
 use Rattle.std.proofs.lemmas.Bool.{ne_eqb}
 use Rattle.std.proofs.lemmas.List.Elements.{All-cons, All-nil, All-replicate}
-use Rattle.atomic_table.specs.Seated.{TableId}
 use Rattle.linearization.specs.Orders.{StepBy, steps_of}
 use Rattle.steer_base.specs.Sets.{those_below}
 use Rattle.steer_base.specs.declared.put.Put.TheVariants.{At}
 use Rattle.steer_base.specs.declared.step.Step.{Step}
 use Rattle.dev_flow_table.specs.Walks.{since_resize}
-use Rattle.hint_words.specs.Loads.{IsStoredBy}
 use Rattle.history.specs.Lists.{arrivals_at, list_at}
 use Rattle.history.specs.declared.arrival.Arrival.{Arrival}
 use Rattle.history.specs.declared.sent.Sent.{Sent}
@@ -26,10 +23,8 @@ use Rattle.hop_rule.specs.Owns.{own_of, puts_of}
 use Rattle.hop_rule.specs.Sizes.{puller}
 use Rattle.hop_rule.specs.declared.step.BoardStep.{BoardStep}
 use Rattle.hop_rule.proofs.Lists.{none-some, some-is}
-use Rattle.board_api.specs.Closings.Closings.{own_in, seats_in}
 use Rattle.board_api.specs.Closings.Finals.{lists_of}
 use Rattle.board_api.specs.OwnSteps.{delivered_by}
-use Rattle.board_api.proofs.Endings.{each_order_closes}
 use Rattle.hop_delivery.specs.Closings.TurnReads.{HasSeen, Knows, KnowsMaps}
 use Rattle.hop_delivery.specs.Orders.Examples.{of_first, turn}
 use Rattle.hop_delivery.specs.Orders.Plays as play
@@ -51,18 +46,18 @@ use Rattle.run_laws.specs.Laws.OneRun.{OneRunExists, one_history, one_input, one
 use Rattle.run_laws.specs.Laws.OneRun.{one_tx, rx_chosen, rx_order, rx_rows, tx_chosen, tx_order}
 use Rattle.run_laws.specs.Laws.OneRun.{tx_rows}
 use Rattle.run_laws.specs.Ties.Applications.{KeepsApplications, WasFoundAt}
-use Rattle.run_laws.specs.Ties.Ends.{TotalsReplied}
 use Rattle.run_laws.specs.Ties.Hints.{AreRecorded, CameBy, IsRouted, LoadsAreUsed}
-use Rattle.run_laws.specs.Ties.Hints.{Stands, StoresAreMeant}
+use Rattle.run_laws.specs.Ties.Hints.{Stands}
 use Rattle.run_laws.specs.Ties.Inputs.{AreReceiveWords, AreTransmitWords, FlowsHaveOneHash}
 use Rattle.run_laws.specs.Ties.Inputs.{receive_queues}
 use Rattle.run_laws.specs.Ties.OwnTables.{IsByTable}
 use Rattle.run_laws.specs.Ties.Queues.{KeepsQueues}
-use Rattle.run_laws.specs.Ties.Runs.{IsRun, ReceiveTies, TransmitTies}
+use Rattle.run_laws.specs.Ties.Runs.{ReceiveTies, TransmitTies}
 use Rattle.run_laws.specs.Ties.Tries.{oldest_first}
 use Rattle.run_laws.specs.Ties.Turns.{KeepsTurns}
 use Rattle.run_laws.proofs.Lists.PlaceLemmas.{if_there, split-arrivals}
 use Rattle.run_laws.proofs.Runs.CodeLemmas.{shared}
+use Rattle.run_laws.proofs.Runs.FrameLemmas.{MayEnd, run_of}
 
 -- ---- the plan
 
@@ -443,22 +438,6 @@ applications-kept =
 
 -- ---- hint words: no thread made a step there
 
-nobody : {A : Type 0} (x : A) → Contains [] x → ⊥
-nobody x (k, less, is) = absurd (omega arith)
-
-not-stored : (word value : ℕ) → IsStoredBy [] word value → ⊥
-not-stored word value s = nobody s.seat s.among
-
-meant : StoresAreMeant i one_history shared [] rx_story
-meant =
-    record {
-      sockets = λ place cpu less s. absurd (not-stored _ _ s);
-      entries = λ place q less s. absurd (not-stored _ _ s);
-      stands = λ a cpu less s. absurd (not-stored _ _ s);
-      filters = λ place f less q c s. absurd (not-stored _ _ s);
-      packets = λ x q less s. absurd (not-stored _ _ s);
-    }
-
 used : LoadsAreUsed i one_history shared [] rx_own rx_story rx_seen
 used =
     record {
@@ -560,61 +539,43 @@ sent =
         (delivered_by 0 (tx_own (puller one_tx 0))) (refl, tt)
     right (suc l) less = absurd (omega arith)
 
-runs : TableId → IsRun i one_history
-runs table =
-    let rx_ended = each_order_closes table one_rx rx_order
-    (record {
-      room = omega arith;
-      start = omega arith;
-      lanes = omega arith;
-      some_seat = omega arith;
-      seats = omega arith;
-    }) rx-lawful in
-    let tx_ended = each_order_closes table one_tx tx_order
-    (record {
-      room = omega arith;
-      start = omega arith;
-      lanes = omega arith;
-      some_seat = omega arith;
-      seats = omega arith;
-    }) tx-lawful in
+rx-ends : MayEnd one_rx rx_order
+rx-ends =
     record {
-      input = record { hashes = hashes; arrived = refl; total = refl; cut = refl; start = refl };
-      tries = [];
-      commands = record { given = refl; answered = tt };
-      rx = one_rx;
-      rx_seats = seats_in table one_rx rx_order;
-      rx_lists = lists_of one_rx rx_order;
-      rx_ended = rx_ended.0;
-      queues = rx_story;
-      queues_seen = rx_seen;
-      received = subst
-          (λ own. ReceiveTies i one_history one_rx own (lists_of one_rx rx_order) [] rx_story
-          rx_seen) (sym rx_ended.1) received;
-      tx = one_tx;
-      tx_seats = seats_in table one_tx tx_order;
-      tx_lists = lists_of one_tx tx_order;
-      tx_ended = tx_ended.0;
-      applications = tx_story;
-      maps_seen = tx_seen;
-      sent = subst
-          (λ own. TransmitTies i one_history own one_tx (own_in (seats_in table one_tx tx_order))
-          (lists_of one_tx tx_order) [] tx_story tx_seen) (sym rx_ended.1)
-          (subst
-          (λ own. TransmitTies i one_history rx_own one_tx own (lists_of one_tx tx_order) []
-          tx_story tx_seen) (sym tx_ended.1) sent);
-      replied = subst (λ own. TotalsReplied one_rx own one_history) (sym rx_ended.1) refl;
-      codes = shared;
-      hint_seats = [];
-      stored = All-nil _;
-      meant = meant;
-      used = subst (λ own. LoadsAreUsed i one_history shared [] own rx_story rx_seen)
-          (sym rx_ended.1) used;
+      fit = record {
+        room = omega arith;
+        start = omega arith;
+        lanes = omega arith;
+        some_seat = omega arith;
+        seats = omega arith;
+      };
+      lawful = rx-lawful;
     }
-  where
-    hashes : FlowsHaveOneHash i
-    hashes zero less = refl
-    hashes (suc x) less = absurd (omega arith)
+
+tx-ends : MayEnd one_tx tx_order
+tx-ends =
+    record {
+      fit = record {
+        room = omega arith;
+        start = omega arith;
+        lanes = omega arith;
+        some_seat = omega arith;
+        seats = omega arith;
+      };
+      lawful = tx-lawful;
+    }
+
+hashes : FlowsHaveOneHash i
+hashes zero less = refl
+hashes (suc x) less = absurd (omega arith)
 
 pub one_run_exists : OneRunExists
-one_run_exists = record { within = within; runs = runs; port = refl }
+one_run_exists =
+    record {
+      within = within;
+      runs = run_of i one_history one_rx rx_order rx-ends one_tx tx_order tx-ends [] rx_story
+          tx_story rx_seen tx_seen
+          (record { hashes = hashes; arrived = refl; total = refl; cut = refl; start = refl })
+          (record { given = refl; answered = tt }) received sent refl used;
+      port = refl;
+    }
