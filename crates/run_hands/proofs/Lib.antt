@@ -4,5 +4,6 @@ pub mod DrainLemmas
 pub mod GateLemmas
 pub mod PollerLemmas
 pub mod PutLemmas
+pub mod ServerLemmas
 pub mod StayLemmas
 pub mod VisitLemmas

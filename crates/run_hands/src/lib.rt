@@ -6,6 +6,7 @@ mod gate;
 mod holding;
 mod laws;
 mod poller;
+mod server;
 mod shared;
 
 pub use drain::{Drain, Exit};
@@ -13,4 +14,5 @@ pub use gate::{close_empty, set_and_open};
 pub use holding::hold;
 pub use laws::{drains_stay_beside_others, polls_stay_at_their_seats, turns_go_on};
 pub use poller::{Poller, Reading};
+pub use server::Server;
 pub use shared::Shared;
