@@ -4,6 +4,7 @@ pub mod DrainLemmas
 pub mod GateLemmas
 pub mod PollerLemmas
 pub mod PutLemmas
+pub mod ReplyLemmas
 pub mod ServerLemmas
 pub mod StayLemmas
 pub mod VisitLemmas

@@ -2,16 +2,22 @@
 -- it runs in the socket flow table (kernel scaling chapter, section RFS), and replies by the maps
 -- of the transmit queues (section XPS).
 use Rattle.std.specs.Prelude.{◌≡◌, ◌⊎◌, ℕ, ◌+◌, ◌*◌, ◌<◌, ◌≤◌, ◌==◌, Bool, true, false}
-use Rattle.std.specs.Prelude.{List, [], ◌∷◌, Option, None, Some, IfSome, length, unwrap_or}
-use Rattle.std.specs.Prelude.{slice_get, slice_index, slice_index_or, if◌then◌else◌}
+use Rattle.std.specs.Prelude.{List, [], ◌∷◌, Option, None, Some, IfSome, IsSome, length, unwrap_or}
+use Rattle.std.specs.Prelude.{slice_get, slice_index, slice_index_or, slice_set, if◌then◌else◌}
 use Rattle.std.specs.List.{Contains}
+use Rattle.std.specs.Option.{is_some}
 use Rattle.linearization.specs.Seats.{SeatView}
-use Rattle.steer_base.specs.Choices.{class_of}
+use Rattle.steer_base.specs.Choices.{class_of, looks_at_head, migrate}
 use Rattle.steer_base.specs.Journals.{Journal, grown}
+use Rattle.steer_base.specs.declared.choice.Choice.{Choice}
 use Rattle.steer_base.specs.declared.limits.TheConstants.{MAX_PACKETS}
+use Rattle.steer_base.specs.declared.put.Put.{Put}
 use Rattle.history.specs.declared.arrival.Arrival.{Arrival}
+use Rattle.history.specs.declared.sent.Sent.{Sent}
 use Rattle.history.specs.declared.sock_write.SockWrite.{SockWrite}
-use Rattle.xps_map.specs.Maps.{Maps, no_cpus}
+use Rattle.dev_flow_table.specs.Folds.{after_turn, table_after}
+use Rattle.dev_flow_table.specs.Tables.{Table, entries, weighed}
+use Rattle.xps_map.specs.Maps.{Maps, no_cpus, picked}
 use Rattle.hint_words.specs.declared.step.HintStep.{HintStep}
 use Rattle.hint_words.specs.declared.step.HintStep.TheVariants.{Load, Store}
 use Rattle.hop_rule.specs.OutLanes.{OutList}
@@ -22,11 +28,12 @@ use Rattle.hop_rule.specs.declared.step.GateStep.TheVariants.{Entered, Left, Rea
 use Rattle.hop_rule.specs.declared.step.LaneStep.TheVariants.{OutHeld}
 use Rattle.board_api.specs.Seats.{BoardSeatView, Adds}
 use Rattle.board_api.specs.StepWords.{is_marked}
+use Rattle.hop_delivery.specs.Orders.Turns.{AreQuiet, Turn, visit_with}
 use Rattle.steer_model.specs.State.Setup.{Setup, flow_number_of, packet_hash}
 use Rattle.run_words.specs.Values.{cpus_in, place_in, place_word, queues_in, socket_size_in}
 use Rattle.run_words.specs.declared.hint_word.TheConstants.{QUEUE_WORDS, STAND_WORDS}
-use Rattle.run_hands.specs.Deltas.{OnlyServes, Serves, no_lane}
-use Rattle.run_hands.specs.Pollers.{HasLanesBelow}
+use Rattle.run_hands.specs.Deltas.{HoldsNoMore, LeavesLane, OnlyServes, Serves, no_lane}
+use Rattle.run_hands.specs.Pollers.{HasLanesBelow, LoadedHead, LoadsHead, as_told, put_of}
 use Rattle.run_hands.specs.declared.server.Server.{Server}
 
 -- what contracts see of a seat at the hint words
@@ -128,19 +135,17 @@ abbrev pub queue_if : ℕ → Option Arrival → Option ℕ
 queue_if id None = None
 queue_if id (Some a) = if a.id == id then Some a.queue else None
 
--- the queue of a packet in a list that has the arrivals in the order of the packets, if there is a
--- list
-abbrev pub late_queue : Option (List Arrival) → ℕ → Option ℕ
-late_queue None id = None
-late_queue (Some arrivals) id = queue_if id (slice_get arrivals id)
+-- the queue of a packet in a list that has the arrivals in the order of the packets
+abbrev pub late_queue : List Arrival → ℕ → Option ℕ
+late_queue arrivals id = queue_if id (slice_get arrivals id)
 
 -- the queue that a word says, or else a list
-abbrev pub queue_by : Option ℕ → Option (List Arrival) → ℕ → Option ℕ
+abbrev pub queue_by : Option ℕ → List Arrival → ℕ → Option ℕ
 queue_by (Some queue) late id = Some queue
 queue_by None late id = late_queue late id
 
 -- The word of the packet's queue was loaded, and the queue is by it, or else by the list.
-abbrev pub Queued : ℕ → ℕ → Option (List Arrival) → HintView → HintView → Option ℕ → Type 0
+abbrev pub Queued : ℕ → ℕ → List Arrival → HintView → HintView → Option ℕ → Type 0
 Queued queues id late old new queue =
     (word : ℕ) × (queue ≡ queue_by (place_in word queues) late id)
     × (new ≡ record old { steps = Load (QUEUE_WORDS + id) word ∷ old.steps })
@@ -158,12 +163,149 @@ pub record MapRead (cpus queues count tx : ℕ) (maps : Maps) (steps : List Boar
   pub cpus_are : slice_index_or maps.cpus tx no_cpus ≡ cpus_in cpu_word cpus
   pub queues_are : slice_index maps.queues tx ≡ queues_in queue_word queues
 
+-- ---- the reply
+
+-- The board has the settings of a transmit board, two for each queue, and a lane for each.
+pub record HasTransmitSettings (about : BoardSizes) (given : Setup) : Type 0 where
+  pub settings : length about.settings ≡ 2 * given.txs
+  pub lanes : about.lanes ≡ given.txs
+
+-- the maps with what the two words of a transmit queue say
+abbrev pub with_map : ℕ → ℕ → Maps → ℕ → ℕ → ℕ → Maps
+with_map cpus queues maps tx cpu_word queue_word = record {
+  count = maps.count;
+  cpus = slice_set maps.cpus tx (cpus_in cpu_word cpus);
+  queues = slice_set maps.queues tx (queues_in queue_word queues);
+}
+
+-- The two words of a transmit queue were read, and its maps set by them.
+abbrev pub ReadsMap : Setup → ℕ → Maps → Maps → BoardSeatView → BoardSeatView → Type 0
+ReadsMap given tx before after old new =
+    (cpu_word : ℕ) × (queue_word : ℕ)
+    × Adds (Gate (Read (given.txs + tx) queue_word) ∷ Gate (Read tx cpu_word) ∷ []) old new
+    × (after ≡ with_map given.cpus (length given.homes) before tx cpu_word queue_word)
+
+-- The words of the first n transmit queues were read, and nothing else was done.
+pub record MapsRead (given : Setup) (n : ℕ) (maps : Maps) (old new : BoardSeatView)
+    : Type 0 where
+  pub added : List BoardStep
+  pub adds : Adds added old new
+  pub quiet : AreQuiet added
+  pub holds : HoldsNoMore added
+  pub leaves : (l : ℕ) → LeavesLane l added
+  pub reads : (tx : ℕ) → tx < n
+      → MapRead given.cpus (length given.homes) given.txs tx maps added
+  pub count : maps.count ≡ given.txs
+  pub cpu_sets : length maps.cpus ≡ given.txs
+  pub queue_sets : length maps.queues ≡ given.txs
+
+-- A lane for a packet of this flow was chosen by the migration rule over this table, with the pick
+-- as the desired lane and no lane offline. The head that the rule looks at was loaded.
+pub record ChoosesLane (flow pick : ℕ) (before after : Table) (choice : Choice)
+    (old new : BoardSeatView) : Type 0 where
+  pub head : Option ℕ
+  pub loads : LoadsHead before (Some flow) old new head
+  pub looked : is_some head ≡ looks_at_head (Some flow) (entries before) pick (λ _. true)
+  pub rule : choice
+      ≡ migrate (Some flow) (Some pick) pick (entries before) (λ _. unwrap_or head 0) (λ _. true)
+  pub table : after ≡ weighed before (Some flow) choice
+
+-- A packet was put to the lane of its choice with its hash, and the table was told of the answer.
+pub record PutsReply (given : Setup) (id : ℕ) (choice : Choice) (answer : Put)
+    (before after : Table) (old new : BoardSeatView) : Type 0 where
+  pub early : List BoardStep
+  pub quiet : AreQuiet early
+  pub holds : HoldsNoMore (put_of given choice.lane id answer ∷ early)
+  pub leaves : (l : ℕ) → LeavesLane l (put_of given choice.lane id answer ∷ early)
+  pub adds : Adds (put_of given choice.lane id answer ∷ early) old new
+  pub table : after ≡ table_after before choice.class (Some answer)
+
+-- A reply was made, in a visit: all maps were read, the choice was made by the pick of these, and
+-- the packet was put there.
+pub record Sends (given : Setup) (sent : Sent) (choice : Choice) (before after : Table)
+    (old new : BoardSeatView) : Type 0 where
+  pub maps : Maps
+  pub between : Table
+  pub read : BoardSeatView
+  pub mid : BoardSeatView
+  pub answer : Put
+  pub reads : MapsRead given given.txs maps old read
+  pub chooses : ChoosesLane (flow_number_of given sent.id)
+      (picked maps sent.rxq sent.cpu (packet_hash given sent.id)) before between choice read mid
+  pub puts : PutsReply given sent.id choice answer between after mid new
+
+-- The seat made one visit of the transmit board with one put, as this turn says, and what the turn
+-- says is by the maps that were read in the visit, the application's processor, and the head that
+-- was loaded in the visit.
+pub record Replies (given : Setup) (app home : ℕ) (sent : Sent) (before after : Table)
+    (turn : Turn) (old new : BoardSeatView) (hint_old hint_new : HintView) : Type 0 where
+  pub adds : Adds (visit_with turn [] []) old new
+  pub gate : is_marked turn.word ≡ false
+  pub quiet : AreQuiet turn.early
+  pub holds : HoldsNoMore (visit_with turn [] [])
+  pub leaves : (l : ℕ) → LeavesLane l (visit_with turn [] [])
+  pub id_is : turn.chosen.id ≡ sent.id
+  pub hash : turn.hash ≡ packet_hash given sent.id
+  pub maps : Maps
+  pub count : maps.count ≡ given.txs
+  pub reads : (tx : ℕ) → tx < given.txs
+      → MapRead given.cpus (length given.homes) given.txs tx maps turn.early
+  pub stands : Stands given.cpus app home hint_old hint_new sent.cpu
+  pub head : Option ℕ
+  pub loads : IfSome head (LoadedHead before (Some (flow_number_of given sent.id)) turn.early)
+  pub looked : is_some head
+      ≡ looks_at_head (Some (flow_number_of given sent.id)) (entries before)
+      (picked maps sent.rxq sent.cpu (packet_hash given sent.id)) (λ _. true)
+  pub rule : turn.chosen.choice
+      ≡ migrate (Some (flow_number_of given sent.id))
+      (Some (picked maps sent.rxq sent.cpu (packet_hash given sent.id)))
+      (picked maps sent.rxq sent.cpu (packet_hash given sent.id)) (entries before)
+      (λ _. unwrap_or head 0) (λ _. true)
+  pub table : after ≡ after_turn before (as_told turn)
+
+-- An application replied to nothing: its hand was empty, or no queue of its packet was known, or
+-- the gate was closed. At most the word of the packet's queue was loaded.
+pub record KeepsHand (queues : ℕ) (late : List Arrival) (s t : Server)
+    (old new : BoardSeatView) (hint_old hint_new : HintView) : Type 0 where
+  pub same : t ≡ s
+  pub queue : Option ℕ
+  pub hint : IfSome s.hand (λ id. Queued queues id late hint_old hint_new queue)
+  pub untouched : s.hand ≡ None → hint_new ≡ hint_old
+  pub gate : (new ≡ old) ⊎ ((IsSome queue) × BacksOut old new)
+
+-- An application replied to the packet in its hand in one visit, with the queue of this packet, and
+-- noted the reply and the choice.
+pub record RepliesToHand (given : Setup) (late : List Arrival) (s t : Server)
+    (old new : BoardSeatView) (hint_old hint_new : HintView) : Type 0 where
+  pub sent : Sent
+  pub turn : Turn
+  pub hint_mid : HintView
+  pub hand : s.hand ≡ Some sent.id
+  pub queued : Queued (length given.homes) sent.id late hint_old hint_mid (Some sent.rxq)
+  pub replies : Replies given s.app s.home sent s.table t.table turn old new hint_mid hint_new
+  pub notes_sent : t.sent ≡ grown s.sent sent
+  pub notes_choice : t.choices ≡ grown s.choices turn.chosen
+  pub same : t ≡ record s { hand = None; table = t.table; sent = t.sent; choices = t.choices }
+
+-- what an application did, by whether it replied
+abbrev pub RepliesOrKeeps : Setup → List Arrival → Server → Server → BoardSeatView
+    → BoardSeatView → HintView → HintView → Bool → Type 0
+RepliesOrKeeps given late s t old new hint_old hint_new true =
+    RepliesToHand given late s t old new hint_old hint_new
+RepliesOrKeeps given late s t old new hint_old hint_new false =
+    KeepsHand (length given.homes) late s t old new hint_old hint_new
+
 -- ---- what an application keeps of itself
 
 -- the number of packets in a hand
 abbrev pub in_hand : Option ℕ → ℕ
 in_hand None = 0
 in_hand (Some id) = 1
+
+-- The flows of the first packets have numbers below so many.
+abbrev pub HasFlowsBelow : Setup → ℕ → ℕ → Type 0
+HasFlowsBelow given packets flows =
+    (id : ℕ) → id < packets → flow_number_of given id < flows
 
 -- What an application keeps of itself: its journals are of one room, which its hand counts against;
 -- there is a choice for each reply, at most one write for each packet that was taken, and a class
@@ -177,5 +319,5 @@ pub record IsServer (given : Setup) (s : Server) : Type 0 where
   pub room : length s.sent.items + in_hand s.hand ≤ s.sent.room
   pub choices : length s.choices.items ≡ length s.sent.items
   pub writes : length s.writes.items ≤ length s.sent.items + in_hand s.hand
-  pub classes : (id : ℕ) → id < s.sent.room → flow_number_of given id < length s.table.rows
+  pub classes : HasFlowsBelow given s.sent.room (length s.table.rows)
   pub lanes : HasLanesBelow given.txs s.table

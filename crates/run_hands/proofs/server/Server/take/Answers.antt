@@ -5,7 +5,6 @@ use Rattle.hop_rule.specs.Gates.{closed}
 use Rattle.board_api.specs.Seats.{BoardSeatView}
 use Rattle.run_hands.specs.Deltas.{no_lane}
 use Rattle.run_hands.specs.Servers.{IsServer}
-use Rattle.run_hands.specs.declared.server.Server.{Server}
 use Rattle.run_hands.proofs.DeltaLemmas.{stays}
 use Rattle.run_hands.proofs.ServerLemmas.{quiet_gate, quiet_place, taken_is}
 use Rattle.run_hands.proofs.server.Server.take.Goals as goal
@@ -69,8 +68,7 @@ returns-in-Ok-clause-is g c =
     let few = c.if-len-room.false in
     let len = c.len.ensures.len in
     let room = c.room.ensures in
-    subst (λ (s : Server). IsServer c.args.shared.now.given
-    (record s { hand = Some c.in-Some.id })) (sym c.record.ensures.same)
+    subst (IsServer c.args.shared.now.given) (sym c.record.ensures.same)
     (taken_is c.args.shared.now.given c.args.self.now c.in-Some.id c.record.new.self.writes
     c.enter.new.seat c.record.new.seat c.args.hint.now c.record.new.hint c.requires.is
     (none-unless c.args.self.now.hand (sym c.is_some.ensures ∙ c.if-is_some.false))
