@@ -5,6 +5,7 @@ pub mod GateLemmas
 pub mod PollerLemmas
 pub mod PutLemmas
 pub mod ReplyLemmas
+pub mod ServerLaws
 pub mod ServerLemmas
 pub mod StayLemmas
 pub mod VisitLemmas

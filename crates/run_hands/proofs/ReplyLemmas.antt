@@ -111,7 +111,8 @@ module _ (given : Setup) (old : BoardSeatView) where
                 (Contains-append_right (Gate (Read (given.txs + n) queue_word) ∷ [])
                 (Gate (Read n cpu_word) ∷ []) (Gate (Read n cpu_word))
                 (Contains-push [] (Gate (Read n cpu_word))));
-            reads_queues = Contains-append_left pair m.added (Gate (Read (given.txs + n) queue_word))
+            reads_queues = Contains-append_left pair m.added
+                (Gate (Read (given.txs + n) queue_word))
                 (Contains-append_left (Gate (Read (given.txs + n) queue_word) ∷ [])
                 (Gate (Read n cpu_word) ∷ []) (Gate (Read (given.txs + n) queue_word))
                 (Contains-push [] (Gate (Read (given.txs + n) queue_word))));
@@ -128,7 +129,8 @@ module _ (given : Setup) (old : BoardSeatView) where
           record {
             cpu_word = r.cpu_word;
             queue_word = r.queue_word;
-            reads_cpus = Contains-append_right pair m.added (Gate (Read tx r.cpu_word)) r.reads_cpus;
+            reads_cpus = Contains-append_right pair m.added (Gate (Read tx r.cpu_word))
+                r.reads_cpus;
             reads_queues = Contains-append_right pair m.added
                 (Gate (Read (given.txs + tx) r.queue_word)) r.reads_queues;
             cpus_are = get_or-set_other maps.cpus n tx cpu_set no_cpus apart ∙ r.cpus_are;

@@ -1,4 +1,4 @@
-use Rattle.std.proofs.Common.{◌<◌, ℕ, Some, inl, inr, refl, ap, subst, sym, ◌∙◌, arith}
+use Rattle.std.proofs.Common.{◌<◌, ℕ, inl, inr, refl, ap, subst, sym, ◌∙◌, arith}
 use Rattle.history.proofs.OwnLemmas.{none-unless}
 use Rattle.hop_rule.specs.Boards.{gate_steps}
 use Rattle.hop_rule.specs.Gates.{closed}
