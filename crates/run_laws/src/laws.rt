@@ -140,9 +140,9 @@ pub fn one_count_is_not_all()
     ensures { (table : TableId) → OneCountIsNotAll table }
 {}
 
-/// Lemma: ties are needed. Without the tie of choices to the own tables, of settings to empty lanes,
-/// of inboxes to the board, or of an answer to its cause, a history may keep all else and fail a
-/// clause.
+/// Lemma: ties are needed. Without the tie of choices to own tables, of settings to empty lanes, of
+/// inboxes to the board, or of an answer to its cause, the same threads may keep all else and a
+/// clause fail.
 pub fn ties_are_needed()
     ensures tables { OwnTablesMatter }
     ensures lanes { EmptyLanesMatter }

@@ -303,7 +303,8 @@ applications-kept =
           (record { seat = 0; step = 48; word = _; found = _; does = refl; there = refl })
           (record { seat = 0; step = 48; word = _; found = _; does = refl; there = refl })
           (record { seat = 0; step = 48; word = _; found = _; does = refl; there = refl });
-      knows = tx-each (λ p k u. KnowsMaps (tx_own (tx_story.seat p)) 1 u (tx_seen p k)) (maps reply_first (2, omega arith, refl) (1, omega arith, refl))
+      knows = tx-each (λ p k u. KnowsMaps (tx_own (tx_story.seat p)) 1 u (tx_seen p k))
+          (maps reply_first (2, omega arith, refl) (1, omega arith, refl))
           (maps reply_second (2, omega arith, refl) (1, omega arith, refl))
           (maps reply_same (2, omega arith, refl) (1, omega arith, refl));
       picks = λ a k u s at there fit.
@@ -468,8 +469,8 @@ pub two_queue_run_exists : TwoQueueRunExists
 two_queue_run_exists =
     record {
       within = within;
-      runs = run_of i two_queue_history two_rx two_rx_order rx-ends two_tx two_tx_order tx-ends tries
-          rx_story tx_story rx_seen tx_seen
+      runs = run_of i two_queue_history two_rx two_rx_order rx-ends two_tx two_tx_order tx-ends
+          tries rx_story tx_story rx_seen tx_seen
           (record { hashes = hashes; arrived = refl; total = refl; cut = refl; start = refl })
           commands-kept received sent refl used;
       drop = refl;

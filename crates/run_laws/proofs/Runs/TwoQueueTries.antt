@@ -144,7 +144,8 @@ given why = (
   record {
     some = omega arith;
     few = omega arith;
-    same = All-cons (λ (c : Commanded). c.command ≡ to_cpu_one) (given_busy why) (given_done ∷ []) refl
+    same = All-cons (λ (c : Commanded). c.command ≡ to_cpu_one) (given_busy why)
+        (given_done ∷ []) refl
         (All-cons (λ (c : Commanded). c.command ≡ to_cpu_one) given_done [] refl
         (All-nil (λ (c : Commanded). c.command ≡ to_cpu_one)));
     again = again;

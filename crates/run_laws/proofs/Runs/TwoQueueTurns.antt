@@ -81,7 +81,8 @@ module _ (head : Option ℕ) (tail : ℕ) (why : Why) where
 
   abbrev pub turn_moved : Turn
   turn_moved =
-      (turn two_rx_order (choice_for 3 0 None head tail 1 why) second_opening 29 36 (Some 2) (At 1)).step
+      (turn two_rx_order (choice_for 3 0 None head tail 1 why) second_opening 29 36 (Some 2)
+      (At 1)).step
 
   abbrev rx_turns : List (StepBy Turn)
   rx_turns =

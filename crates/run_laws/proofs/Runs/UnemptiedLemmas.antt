@@ -236,7 +236,8 @@ queues-kept =
       taken = taken;
       hashes = each (λ p k u. u.hash ≡ packet_hash (setup_in i) u.chosen.id) refl refl;
       knows = each
-          (λ p k u. HasSeen (own (story.seat p)) (receive_queues i) p u (seen p k)) reads reads-late;
+          (λ p k u. HasSeen (own (story.seat p)) (receive_queues i) p u (seen p k)) reads
+          reads-late;
       knows_sock = each
           (λ p k u. Knows (own (story.seat p)) u (socket_word (receive_queues i))
           (seen p k (socket_word (receive_queues i))))

@@ -1,5 +1,5 @@
--- Without a tie a history need not be good: the run with two queues with one change each. All ties
--- that name what was changed hold but one, and a clause fails.
+-- Without a tie a history need not be good: the run with two queues with one change each. The
+-- queues, the board or the controller keep all else, and a clause fails.
 use Rattle.std.specs.Prelude.{◌≡◌, ℕ, List, [], ◌∷◌, Some, None, length, slice_index}
 use Rattle.steer_base.specs.declared.choice.Chosen.{Chosen}
 use Rattle.steer_base.specs.declared.choice.Why.TheVariants.{Unset}
@@ -60,7 +60,7 @@ forgetful_history = record two_queue_history {
   choices = forgetful_choices ∷ second_choices ∷ [];
 }
 
--- All else is kept, and the choices are not by the rule.
+-- The queues keep all else, and the choices are not by the rule.
 pub record OwnTablesMatter : Type 0 where
   pub within : IsWithin two_queues
   pub queues : Story
@@ -93,7 +93,7 @@ equal_history = record two_queue_history {
       ∷ record { command = to_cpu_one; answer = Done } ∷ [];
 }
 
--- All else that the controller keeps holds, and the commands are not as in a good history.
+-- The controller keeps all else, and the commands are not as in a good history.
 pub record CausesMatter : Type 0 where
   pub within : IsWithin two_queues
   pub tries : List Try

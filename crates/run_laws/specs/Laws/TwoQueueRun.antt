@@ -38,11 +38,12 @@ use Rattle.run_laws.specs.Ties.Runs.{IsRun}
 abbrev pub to_cpu_one : Command
 to_cpu_one = Mask 0 (record { 0 = 2 })
 
--- Two queues at processor 0, the first with processor 0 in its mask and a flow table with two
--- entries.
+-- Both queues have processor 0 as home. The first has it in its mask too, and a flow table with
+-- two entries.
 abbrev pub first_queue : QueuePlan
 first_queue = record { home = 0; mask = record { 0 = 1 }; flows = 2 }
 
+-- No processor in its mask and no flow table.
 abbrev pub second_queue : QueuePlan
 second_queue = record { home = 0; mask = record { 0 = 0 }; flows = 0 }
 
@@ -69,10 +70,11 @@ two_queues =
       steps = steps.List (Give to_cpu_one ∷ []);
     }
 
--- A packet of the flow 0, with the hash 2, or of the flow 1, with the hash 1.
+-- A packet of the flow 0, with the hash 2.
 abbrev pub of_first_flow : Packet
 of_first_flow = record { flow = Bare; hash = Some 2; len = 0; flow_number = 0 }
 
+-- A packet of the flow 1, with the hash 1.
 abbrev pub of_second_flow : Packet
 of_second_flow = record { flow = Bare; hash = Some 1; len = 0; flow_number = 1 }
 
