@@ -1,12 +1,12 @@
 //! An application, which takes the packets of its inbox, records its flows and replies.
 ghost use Rattle.std.specs.Prelude.{◌≡◌, ◌<◌, ◌≤◌, ◌+◌, ◌*◌, ◌==◌, None, Some, length, IfSome};
-ghost use Rattle.std.specs.Prelude.{IfOk, IsSome, true, ℕ};
+ghost use Rattle.std.specs.Prelude.{IfOk, IsSome, [], true, ℕ};
 ghost use Rattle.std.specs.Option.{is_some};
 ghost use Rattle.steer_base.specs.Choices.{class_of, looks_at_head};
-ghost use Rattle.steer_base.specs.Journals.{grown};
+ghost use Rattle.steer_base.specs.Journals.{grown, journal};
 ghost use Rattle.steer_base.specs.declared.limits.TheConstants.{MAX_PACKETS, MAX_SOCKET_SIZE};
 ghost use Rattle.dev_flow_table.specs.Folds.{table_after};
-ghost use Rattle.dev_flow_table.specs.Tables.{IsClassOf, entries};
+ghost use Rattle.dev_flow_table.specs.Tables.{IsClassOf, cleared, entries};
 ghost use Rattle.dev_flow_table.specs.declared.table.TheConstants.{MAX_EXACT_CLASSES};
 ghost use Rattle.board_api.specs.Calls.Rights.{HasOpen, IsInside, IsOutside};
 ghost use Rattle.steer_model.specs.State.Setup.{Setup, packet_hash};
@@ -87,7 +87,11 @@ impl Server {
         requires room { room ≤ MAX_PACKETS }
         ensures app { IfOk result (λ s. s.app ≡ app) }
         ensures home { IfOk result (λ s. s.home ≡ home) }
-        ensures room { IfOk result (λ s. s.sent.room ≡ room) }
+        ensures hand { IfOk result (λ s. s.hand ≡ None) }
+        ensures table { IfOk result (λ s. s.table ≡ cleared flows start true) }
+        ensures sent { IfOk result (λ s. s.sent ≡ journal [] room) }
+        ensures choices { IfOk result (λ s. s.choices ≡ journal [] room) }
+        ensures writes { IfOk result (λ s. s.writes ≡ journal [] room) }
         ensures is { IfOk result (λ s. (given : Setup) → HasFlowsBelow given room flows
             → IsServer given s) }
     {
