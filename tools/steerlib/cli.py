@@ -1,7 +1,7 @@
 """What all companion programs share: words, notes, refusals, statuses, input, and steer itself.
 
-Statuses: 0 done, 1 two things differ, 2 wrong words, 3 refused with the value and the reason,
-4 a file that is not of the wanted kind.
+Statuses: 0 done, 1 two things differ (steer-diff alone), 2 wrong words, 3 refused with the value
+and the reason, as steer itself ends for a plan, 4 a file that is not of the wanted kind.
 """
 
 import argparse
@@ -18,8 +18,8 @@ DONE, DIFFERS, WRONG_WORDS, REFUSED, NOT_THAT_FILE = 0, 1, 2, 3, 4
 
 APART = "This program is a companion of steer; it is not part of the proved program."
 
-STATUSES = ("Statuses: 0 done, 1 differs, 2 wrong words, 3 refused with the value and the reason, "
-            "4 not that kind of file.")
+STATUSES = ("Statuses: 0 done, 1 differs (steer-diff), 2 wrong words, 3 refused with the value and the "
+            "reason, 4 not that kind of file.")
 
 GZIP_MAGIC = b"\x1f\x8b"
 
@@ -163,8 +163,18 @@ def run(main):
     sys.exit(status)
 
 
+class _Available:
+    """What `gzip` reads: as many bytes of `stream` as are there, at most so many."""
+
+    def __init__(self, stream):
+        self.read = stream.read1
+
+
 class _Guarded(io.RawIOBase):
-    """A stream whose faults of reading name their source; closing it closes `plain` too."""
+    """The bytes of `stream` as they come, with faults of reading that name their source.
+
+    A read waits only where nothing is there; closing it closes `plain` too.
+    """
 
     def __init__(self, stream, source, plain):
         super().__init__()
@@ -177,7 +187,7 @@ class _Guarded(io.RawIOBase):
 
     def readinto(self, buffer):
         try:
-            data = self.stream.read(len(buffer))
+            data = self.stream.read1(len(buffer))
         except EOFError:
             raise NotThatFile(self.source, "the gz data is cut short") from None
         except (OSError, ValueError, zlib.error) as fault:
@@ -201,6 +211,7 @@ def source_name(name):
 def open_bytes(name, unpacked=True):
     """A buffered binary stream of the file `name`; `-` is standard input; gz is opened through.
 
+    A line, or a `peek`, of a pipe is there as soon as its bytes are, before the pipe ends.
     With `unpacked` false a gz file is given as it is. Raises NotThatFile where the file cannot
     be opened, and the stream does where it cannot be read.
     """
@@ -216,7 +227,7 @@ def open_bytes(name, unpacked=True):
     except (OSError, ValueError, AttributeError) as fault:
         raise NotThatFile(source, getattr(fault, "strerror", None) or str(fault)) from None
     packed = unpacked and start == GZIP_MAGIC
-    stream = gzip.GzipFile(fileobj=plain, mode="rb") if packed else plain
+    stream = gzip.GzipFile(fileobj=_Available(plain), mode="rb") if packed else plain
     return io.BufferedReader(_Guarded(stream, source, plain), 1 << 18)
 
 

@@ -8,6 +8,7 @@ import signal
 import subprocess
 import sys
 import tempfile
+import threading
 import unittest
 
 from running import ENVIRONMENT, STEER, TOOLS, example, inside, run, run_all, sample
@@ -156,6 +157,23 @@ class Shared(unittest.TestCase):
                                stderr=subprocess.PIPE)
         self.assertEqual((found.returncode, found.stderr),
                          (4, b"steer-lint: standard input: it is closed\n"))
+
+    def test_a_line_of_a_pipe_is_there_before_its_end(self):
+        first = b"first\n" + bytes(range(256)) * 40
+        for front, whole in ((first, first + b"last"), (gzip.compress(first), first)):
+            out, into = os.pipe()
+            ended_late = threading.Timer(20, os.close, [into])
+            ended_late.start()
+            os.write(into, front)
+            with cli.open_bytes("/dev/fd/%d" % out) as stream:
+                self.assertEqual(stream.readline(), b"first\n")
+                self.assertTrue(ended_late.is_alive(), "the line came with the end of the pipe")
+                ended_late.cancel()
+                if whole is not first:
+                    os.write(into, whole[len(first):])
+                os.close(into)
+                self.assertEqual(b"first\n" + stream.read(), whole)
+            os.close(out)
 
     def test_where_steer_is_found(self):
         before = dict(os.environ)

@@ -263,7 +263,7 @@ class Lint(unittest.TestCase):
 
     def test_the_line_is_shown_where_it_is_no_json(self):
         status, out, err = run("steer-lint", "-", data='{"cpus": 4,\n "sock": 0x4}\n')
-        self.assertEqual((status, out, err), (3, (
+        self.assertEqual((status, out, err), (4, (
             "standard input:2:11: neither a comma nor `}`; numbers are decimal; if `0x4` is a "
             "mask, that is [2]\n"
             '   "sock": 0x4}\n'
@@ -280,7 +280,7 @@ class Lint(unittest.TestCase):
 
     def test_other_files(self):
         for path, status, text in (
-                (example("web.pcap"), 3, "a capture stands in the plan's place"),
+                (example("web.pcap"), 4, "a capture stands in the plan's place"),
                 (os.path.join(TOP, "nosuch.json"), 4, "No such file or directory"),
                 (TOP, 4, "Is a directory")):
             found, out, err = run("steer-lint", path)

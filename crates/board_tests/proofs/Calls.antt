@@ -10,6 +10,7 @@ use Rattle.hop_rule.specs.Lanes.{phase}
 use Rattle.hop_rule.specs.declared.sizes.BoardSizes.{BoardSizes}
 use Rattle.hop_rule.specs.declared.step.BoardStep.{BoardStep}
 use Rattle.hop_rule.specs.declared.step.BoardStep.TheVariants.{Lane, Gate, Weighed, Counted, LaneIn}
+use Rattle.hop_rule.specs.declared.step.BoardStep.TheVariants.{OutCounted}
 use Rattle.hop_rule.specs.declared.step.Change.{Change}
 use Rattle.hop_rule.specs.declared.step.Change.TheVariants.{Nothing, Offered, Pulled}
 use Rattle.hop_rule.specs.declared.step.GateStep.TheVariants.{Entered, Turned, Left, Read, Shut}
@@ -27,7 +28,8 @@ use Rattle.board_api.specs.Calls.Results.{TookMiddle, TookOut, released, BackTel
 use Rattle.board_api.specs.Calls.Results.{DeliverTells}
 use Rattle.board_api.specs.Calls.Results.{EmptiedTells, EnterTells, Looked, MissedAt, OpenTells}
 use Rattle.board_api.specs.Calls.Results.{PullTells}
-use Rattle.board_api.specs.Calls.Results.{PutTells, RetireTells, Took, WeighTells, looking}
+use Rattle.board_api.specs.Calls.Results.{PutTells, RetireTells, TailTells, Took, WeighTells}
+use Rattle.board_api.specs.Calls.Results.{looking}
 use Rattle.board_api.specs.Views.{BoardView}
 use Rattle.board_api.specs.declared.answers.CloseAnswer.TheVariants as close
 use Rattle.board_api.specs.declared.answers.Emptied.{Emptied}
@@ -171,6 +173,15 @@ module _ (board : BoardView) (number : ℕ) where
         → WeighTells lane old new head → SeatIs board number place gate hand new
     weighed place gate lane head s t =
         at_gate place place gate gate hand old new (Weighed lane t.0 ∷ old.steps) old.has_emptied s
+        t.2 refl s.place_is s.gate_is
+
+    pub counted : (lane : LaneId) (tail : ℕ) → SeatIs board number outside 0 hand old
+        → TailTells lane old new tail → SeatIs board number outside 0 hand new
+    counted (id.Middle l) tail s t =
+        at_gate outside outside 0 0 hand old new (Counted l t.0 ∷ old.steps) old.has_emptied s t.2
+        refl s.place_is s.gate_is
+    counted (id.Out o) tail s t =
+        at_gate outside outside 0 0 hand old new (OutCounted o t.0 ∷ old.steps) old.has_emptied s
         t.2 refl s.place_is s.gate_is
 
     pub has_left : SeatIs board number inside 0 hand old → Adds (Gate Left ∷ []) old new

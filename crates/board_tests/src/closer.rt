@@ -4,7 +4,7 @@ ghost use Rattle.board_api.specs.Calls.Rights.{IsCloser};
 ghost use Rattle.board_tests.specs.Stands.{IsBehind, SeatIsOutside, opened_by};
 ghost use Rattle.hop_rule.specs.declared.sizes.TheConstants.{MAX_OPENINGS};
 
-use board_api::{Board, BoardSeat, CloseAnswer, Emptied};
+use board_api::{Board, BoardSeat, CloseAnswer, Emptied, EnterAnswer};
 use steer_base::CpuMask;
 
 /// How often the gate is closed, or found with somebody inside.
@@ -48,6 +48,21 @@ pub fn change<B: Board>(board: &B, seat: &mut BoardSeat, lanes: CpuMask, value: 
     let has_changed = change_behind(board, seat, lanes, value);
     board.open_gate(seat);
     has_changed
+}
+
+/// One visit of the thread of the gate, with its number.
+pub fn look_in<B: Board>(board: &B, seat: &mut BoardSeat) -> u32
+    requires closer { IsCloser (B.view board.now).sizes seat.old.number }
+    requires stands { SeatIsOutside (B.view board.now) seat.old.number seat.old }
+    ensures { SeatIsOutside (B.view board.now) seat.old.number seat.new }
+{
+    match board.enter(seat) {
+        EnterAnswer::Ok => {}
+        EnterAnswer::Closed { word: _ } => unreachable!(),
+    }
+    let number = seat.visit_number();
+    board.leave(seat);
+    number
 }
 
 // Closes the gate, if nobody is inside.

@@ -2,6 +2,7 @@
 ghost use Rattle.std.specs.Prelude.{◌≡◌, ◌<◌, IfOk, length, Some};
 ghost use Rattle.hop_rule.specs.Gates.{outside};
 ghost use Rattle.hop_rule.specs.Lanes.{gave};
+ghost use Rattle.board_api.specs.Calls.HeldLanes.{FitsLane};
 ghost use Rattle.board_api.specs.Calls.Rights.{Pulls};
 ghost use Rattle.board_tests.specs.Stands.{HasGiven, HasTaken, IsIn, SeatIsOutside, SeatIs};
 ghost use Rattle.board_tests.specs.Stands.{hand_of};
@@ -162,6 +163,15 @@ fn raise<B: Board>(board: &B, seat: &mut BoardSeat, lane: u8)
     ensures { SeatIsOutside (B.view board.now) seat.old.number seat.new }
 {
     board.retire(seat, lane);
+}
+
+/// The tail of a lane, which may be held.
+pub fn tail_of<B: Board>(board: &B, seat: &mut BoardSeat, lane: LaneId) -> u32
+    requires lane { FitsLane (B.view board.now).sizes lane }
+    requires stands { SeatIsOutside (B.view board.now) seat.old.number seat.old }
+    ensures { SeatIsOutside (B.view board.now) seat.old.number seat.new }
+{
+    board.tail(seat, lane)
 }
 
 /// How many packets more fit a lane, where it is free.

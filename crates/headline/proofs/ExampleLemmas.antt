@@ -8,14 +8,16 @@ use Rattle.plan_reader.specs.Settings.{IsWithin}
 use Rattle.plan_reader.specs.declared.plan.QueuePlan.{QueuePlan}
 use Rattle.plan_reader.specs.declared.settings.sizes.Sizes.{Sizes}
 use Rattle.steer_base.specs.declared.step.Step.{Step}
-use Rattle.headline.specs.Forged.{ExamplesAreWithin, drained_steps, example_settings, waiting_steps}
+use Rattle.headline.specs.Forged.{ExamplesAreWithin, drained_steps, full_steps, settings_with}
+use Rattle.headline.specs.Forged.{waiting_steps}
 
 abbrev sizes : Sizes
 sizes = record { cpus = 2; queues = 2; apps = 1; tx = 1 }
 
-example-within : (list : List Step) → length list ≤ 1000000 → AllPass (step_is_within sizes) list
-    → IsWithin (example_settings list)
-example-within list few named =
+settings-within : (backlog : ℕ) → 1 ≤ backlog → backlog ≤ 4 → (list : List Step)
+    → length list ≤ 1000000 → AllPass (step_is_within sizes) list
+    → IsWithin (settings_with backlog list)
+settings-within backlog some most list few named =
     let at : ℕ → QueuePlan = λ home. record { home = home; mask = record { 0 = 2 }; flows = 1 } in
     let first : QueueIsWithin 2 (at 0) =
     record { home = omega arith; mask = omega arith; flows = omega arith } in
@@ -35,8 +37,8 @@ example-within list few named =
       reta_within = All-replicate (λ q. q < 2) 128 0 (omega arith);
       sock_within = omega arith;
       filters_within = omega arith;
-      some_backlog = omega arith;
-      backlog_within = omega arith;
+      some_backlog = some;
+      backlog_within = omega (arith, most);
       limited_within = omega arith;
       apps_length = record { at_least = omega arith; at_most = omega arith };
       apps_within = All-cons (λ cpu. cpu < 2) 0 [] (omega arith) (All-nil (λ cpu. cpu < 2));
@@ -56,9 +58,12 @@ pub examples-within : ExamplesAreWithin
 examples-within =
     record {
       drained =
-          example-within drained_steps (omega arith)
+          settings-within 4 (omega arith) (omega arith) drained_steps (omega arith)
           (All-from_recursion (λ s. step_is_within sizes s ≡ true) drained_steps assumption);
       waiting =
-          example-within waiting_steps (omega arith)
+          settings-within 4 (omega arith) (omega arith) waiting_steps (omega arith)
           (All-from_recursion (λ s. step_is_within sizes s ≡ true) waiting_steps assumption);
+      full =
+          settings-within 1 (omega arith) (omega arith) full_steps (omega arith)
+          (All-from_recursion (λ s. step_is_within sizes s ≡ true) full_steps assumption);
     }

@@ -1,33 +1,47 @@
 -- Forged histories are none of the run, on the examples of two packets.
-use Rattle.std.proofs.Common.{ℕ, ◌≡◌, List, [], Option, Some, None, refl, ap, ◌∙◌}
-use Rattle.std.proofs.Common.{sym, subst, arith, inl, inr, zero, suc}
+use Rattle.std.proofs.Common.{ℕ, ◌-◌, ◌≡◌, List, [], Option, Some, None, length, drop, refl, ap}
+use Rattle.std.proofs.Common.{◌∙◌, sym, subst, arith, inl, inr, zero, suc}
 use Rattle.std.specs.Prelude.{slice_get}
 use Rattle.std.specs.List.{All}
+use Rattle.std.proofs.lemmas.Bool.{eq-eqb}
 use Rattle.std.proofs.lemmas.List.Elements.{All-get_or}
 use Rattle.std.proofs.lemmas.Option.{get_or_from_slice_get, slice_get_within}
 use Rattle.history.specs.Lists.{list_at, packet_at}
 use Rattle.history.specs.declared.arrival.Arrival.{Arrival}
 use Rattle.history.specs.declared.history.History.{History}
 use Rattle.history.specs.declared.sock_write.SockWrite.{SockWrite}
+use Rattle.hop_core.specs.Hop.{Bare, Fixed, accepted_at, lane_of, pulled_at}
 use Rattle.plan_reader.specs.Settings.{IsWithin}
 use Rattle.steer_base.specs.Arrivals.{Route}
 use Rattle.steer_base.specs.Counters as counters
+use Rattle.steer_base.specs.Drops.{lane_drop_cause}
 use Rattle.steer_base.specs.Sets as sets
 use Rattle.steer_base.specs.declared.choice.Chosen.{Chosen}
 use Rattle.steer_base.specs.declared.choice.Why.{Why}
 use Rattle.steer_base.specs.declared.choice.Why.TheVariants.{Kept, Passed}
 use Rattle.steer_base.specs.declared.command.Command.{Command}
+use Rattle.steer_base.specs.declared.put.DropCause.{DropCause}
+use Rattle.steer_base.specs.declared.put.DropCause.TheVariants.{Full}
 use Rattle.steer_base.specs.declared.step.Step.{Step}
 use Rattle.steer_model.specs.Good.Arrivals.{SeenBy}
-use Rattle.steer_model.specs.Good.Inputs.{WasDone}
+use Rattle.steer_model.specs.Good.Inputs.{Input, WasDone, setup_in}
 use Rattle.steer_model.specs.Good.Writes.{StoodAt}
-use Rattle.steer_model.specs.State.Start.{replayed}
+use Rattle.steer_model.specs.Origins.TableWrites.{after_events}
+use Rattle.steer_model.specs.State.Machine.{Machine}
+use Rattle.steer_model.specs.State.Setup.{packet_hash}
+use Rattle.steer_model.specs.State.Start.{fresh_rx, replayed, steps_of}
+use Rattle.steer_model.specs.Steps.CompoundSteps.{after}
 use Rattle.steer_properties.specs.Commands.Answered.{IsWriteFor}
-use Rattle.headline.specs.Forged.{drained_steps, example_of, example_settings, waiting_steps}
-use Rattle.headline.specs.Forged.{AnotherCommandIsForged, AnotherQueueIsForged}
+use Rattle.headline.specs.Forged.{drained_steps, example_of, example_settings, full_settings}
+use Rattle.headline.specs.Forged.{input_with, waiting_steps}
+use Rattle.headline.specs.Forged.{AcceptingAtFullIsForged, AnotherCommandIsForged}
+use Rattle.headline.specs.Forged.{AnotherDropIsForged, AnotherQueueIsForged}
 use Rattle.headline.specs.Forged.{AnotherWriteIsForged, EmptyIsForged, MovingAtOnceIsForged}
 use Rattle.headline.specs.Forged.{NeverMovingIsForged, NoWantIsForged}
 use Rattle.headline.specs.Headline.{IsOfTheRun}
+use Rattle.headline.specs.Moments.{run_events, start_of, state_at}
+use Rattle.headline.proofs.EventLemmas.{steps-come}
+use Rattle.headline.proofs.RunLemmas.{events-split, pulled-after}
 
 -- what two ways of reading one element give is one
 same_element : {A : Type 0} (a b : A) (found : Option A) → found ≡ Some a → found ≡ Some b → a ≡ b
@@ -167,3 +181,53 @@ module _ (within : IsWithin (example_settings drained_steps)) (h : History) (k :
 pub another-write-forged : AnotherWriteIsForged
 another-write-forged within h a k w is one run =
     stood-on-1 within h k w a run.given (write-of within h k w a is run).write.stood one
+
+-- ---- a full backlog
+
+module _ (within : IsWithin full_settings) where
+  abbrev full : Input
+  full = input_with full_settings within
+
+  -- at the end processor 1 has pulled nothing
+  nothing-pulled : pulled_at (after (steps_of full.plan) (start_of full)).rx.bare 1 ≡ 0
+  unfolding counters.first_power sets.those_below
+  nothing-pulled = refl
+
+  -- so it had at any state of the run
+  none-yet : (n : ℕ) → pulled_at (state_at full (run_events full) n).rx.bare 1 ≡ 0
+  none-yet n =
+      let events : List Step = run_events full in
+      let all : after_events (drop n events) (state_at full events n)
+      ≡ after (steps_of full.plan) (start_of full) =
+      sym (events-split n events (start_of full))
+      ∙ steps-come (steps_of full.plan) (start_of full) in
+      let last : pulled_at (after_events (drop n events) (state_at full events n)).rx.bare 1 ≡ 0 =
+      ap (λ (m : Machine). pulled_at m.rx.bare 1) all ∙ nothing-pulled in
+      let up = pulled-after (drop n events) (state_at full events n) 1 in
+      omega (arith, last, up)
+
+-- a lane of one packet, of which one waits, is full
+full-then : (f : Fixed) (b : Bare) (c : ℕ) (hash : Option ℕ) → f.limit ≡ 1
+    → length (accepted_at b c) ≡ 1 → pulled_at b c ≡ 0
+    → lane_drop_cause (lane_of f b c) hash ≡ None → ⊥
+full-then f b c hash limit one none free =
+    let waiting : length (accepted_at b c) - pulled_at b c ≡ f.limit =
+    omega (arith, limit, one, none) in
+    let is : lane_drop_cause (lane_of f b c) hash ≡ Some Full =
+    rw (eq-eqb _ _ waiting) refl in
+    let bad : ◌≡◌ {A = Option DropCause} None (Some Full) = sym free ∙ is in absurd (cc)
+
+pub accepting-at-full-forged : AcceptingAtFullIsForged
+accepting-at-full-forged within h x is run =
+    let w = run.accepted 1 1 x is in
+    let did = w.did in
+    let s : Machine = state_at (full within) (run_events (full within)) w.before in
+    full-then (fresh_rx (full within).plan (full within).packets).fixed s.rx.bare 1
+    (packet_hash (setup_in (full within)) x) refl (sym did.next)
+    (none-yet within w.before) did.no_drop
+
+pub another-drop-forged : AnotherDropIsForged
+another-drop-forged within h j d is other run =
+    let w = run.drops 1 j d is in
+    let did = w.did in
+    other (did.pulled ∙ none-yet within w.before)

@@ -2,6 +2,10 @@ pub mod Places
 pub mod Rules
 pub mod Rights
 pub mod Reports
+pub mod EventLemmas
+pub mod RunLemmas
 pub mod MomentLemmas
+pub mod PutMomentLemmas
+pub mod ReplayMomentLemmas
 mod ExampleLemmas
 mod ForgedLemmas

@@ -21,7 +21,7 @@ use Rattle.steer_model.specs.State.Start.{replayed}
 use Rattle.toeplitz.specs.Toeplitz.{number_of}
 use Rattle.headline.specs.Forged.{HeadlinesAreOfTheRun, plan_with}
 use Rattle.headline.specs.Headline.{IsOfTheRun, IsRight, Reports, Says}
-use Rattle.headline.proofs.MomentLemmas.{replays-have-moments}
+use Rattle.headline.proofs.ReplayMomentLemmas.{replays-have-moments}
 use Rattle.headline.specs.Laws.{ReplaysAreOfTheirRuns, ReportsHaveTheHeadline}
 
 -- ---- one plan and one list of packets

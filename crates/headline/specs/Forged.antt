@@ -3,7 +3,7 @@
 -- records that between the two packets. So the second packet goes to processor 0, unless the first
 -- one is still outstanding when it is weighed.
 use Rattle.std.specs.Prelude.{ℕ, ◌≡◌, refl, List, [], ◌∷◌, ◌++◌, Some, None, replicate, slice_get}
-use Rattle.history.specs.Lists.{list_at}
+use Rattle.history.specs.Lists.{lane_at, list_at}
 use Rattle.history.specs.declared.arrival.Arrival.{Arrival}
 use Rattle.history.specs.declared.history.History.{History}
 use Rattle.history.specs.declared.sock_write.SockWrite.{SockWrite}
@@ -16,11 +16,13 @@ use Rattle.steer_base.specs.declared.choice.Chosen.{Chosen}
 use Rattle.steer_base.specs.declared.choice.Why.TheVariants.{Kept, Passed}
 use Rattle.steer_base.specs.declared.flow.Flow.TheVariants.{Bare}
 use Rattle.steer_base.specs.declared.packet.Packet.{Packet}
+use Rattle.steer_base.specs.declared.put.LaneDrop.{LaneDrop}
 use Rattle.steer_base.specs.declared.step.Step.{Step}
 use Rattle.steer_base.specs.declared.step.Step.TheVariants as act
 use Rattle.steer_invariant.specs.InvariantLaws.{MayStart}
 use Rattle.steer_model.specs.Good.Inputs.{Input}
 use Rattle.headline.specs.Headline.{Headline, IsOfTheRun, Reports, Says}
+use Rattle.headline.specs.Moments.{HaveMomentsOfTheRun}
 
 -- The plan with these settings, which are within their ranges.
 abbrev pub plan_with : (s : PlanSettings) → IsWithin s → Plan
@@ -63,9 +65,10 @@ abbrev pub drain_steps : List Step
 drain_steps = act.Pull 1 ∷ act.Deliver 1 ∷ act.Retire 1 ∷ []
 
 -- Two processors and two receive queues; all hashes lead to queue 0, and its packets to processor
--- 1. There is one flow entry, one socket entry, and one application on processor 0.
-abbrev pub example_settings : List Step → PlanSettings
-example_settings list =
+-- 1. There is one flow entry, one socket entry, one application on processor 0, and a backlog of so
+-- many packets.
+abbrev pub settings_with : ℕ → List Step → PlanSettings
+settings_with backlog list =
     record {
       cpus = 2;
       queues =
@@ -76,7 +79,7 @@ example_settings list =
       reta = replicate 128 0;
       sock = 1;
       filters = 0;
-      backlog = 4;
+      backlog = backlog;
       start = 0;
       limited = record { 0 = 0 };
       apps = 0 ∷ [];
@@ -87,18 +90,26 @@ example_settings list =
       steps = steps.List list;
     }
 
+-- The same with a backlog of four packets.
+abbrev pub example_settings : List Step → PlanSettings
+example_settings list = settings_with 4 list
+
 -- A packet of the one flow of the examples.
 abbrev pub example_packet : Packet
 example_packet = record { flow = Bare; hash = Some 5; len = 60; flow_number = 0 }
 
--- The example with these steps: its plan and two packets of the flow.
-abbrev pub example_of : (list : List Step) → IsWithin (example_settings list) → Input
-example_of list within =
+-- A plan with two packets of the flow.
+abbrev pub input_with : (s : PlanSettings) → IsWithin s → Input
+input_with s within =
     record {
-      plan = plan_with (example_settings list) within;
+      plan = plan_with s within;
       packets = example_packet ∷ example_packet ∷ [];
       cut = None;
     }
+
+-- The example with these steps.
+abbrev pub example_of : (list : List Step) → IsWithin (example_settings list) → Input
+example_of list within = input_with (example_settings list) within
 
 -- The steps of the first run, in which the first packet is retired before the second one is
 -- weighed.
@@ -109,10 +120,19 @@ drained_steps = first_steps ++ (drain_steps ++ second_steps)
 abbrev pub waiting_steps : List Step
 waiting_steps = first_steps ++ second_steps
 
--- The settings of both examples are within the ranges of a plan.
+-- The steps of a third run: the second packet is put to processor 1 while the first one still waits
+-- there. With a backlog of one packet it is dropped.
+abbrev pub full_steps : List Step
+full_steps = waiting_steps ++ act.Put 0 ∷ []
+
+abbrev pub full_settings : PlanSettings
+full_settings = settings_with 1 full_steps
+
+-- The settings of all examples are within the ranges of a plan.
 pub record ExamplesAreWithin : Type 0 where
   pub drained : IsWithin (example_settings drained_steps)
   pub waiting : IsWithin (example_settings waiting_steps)
+  pub full : IsWithin full_settings
 
 -- ---- what is forged
 
@@ -162,6 +182,24 @@ abbrev pub AnotherCommandIsForged : Type 0
 AnotherCommandIsForged =
     (within : IsWithin (example_settings drained_steps)) (h : History)
     → (h.commands ≡ [] → ⊥) → IsOfTheRun (example_of drained_steps within) h → ⊥
+
+-- ---- what has no moment in the run
+
+-- In the third run the backlog of processor 1 is full when the second packet is put there: no
+-- history whose moments are of it shows that the processor accepted it.
+abbrev pub AcceptingAtFullIsForged : Type 0
+AcceptingAtFullIsForged =
+    (within : IsWithin full_settings) (h : History) (x : ℕ)
+    → slice_get (lane_at h.lanes 1).accepted 1 ≡ Some x
+    → HaveMomentsOfTheRun (input_with full_settings within) h → ⊥
+
+-- Processor 1 had pulled nothing when it dropped the second packet: no history whose moments are of
+-- the third run has a drop of it that keeps another count.
+abbrev pub AnotherDropIsForged : Type 0
+AnotherDropIsForged =
+    (within : IsWithin full_settings) (h : History) (j : ℕ) (d : LaneDrop)
+    → slice_get (lane_at h.lanes 1).drops j ≡ Some d → (d.pulled ≡ 0 → ⊥)
+    → HaveMomentsOfTheRun (input_with full_settings within) h → ⊥
 
 -- ---- what a text is refused for
 

@@ -53,8 +53,9 @@ pub record IsRight (i : Input) (h : History) : Type 0 where
 -- the capture's number of packets and its cut record, and the plan's start and sizes. It meets each
 -- clause of a good history that does not ask that the run is over: each arrival is at the queue of
 -- a table entry or of a filter, wants were written, heads never fall, and writes, answers and
--- replies are those of the rules. Its commands are the plan's, each given once. Each arrival and
--- each choice was made at a state of the run, with the heads, entries, tables and settings of it.
+-- replies are those of the rules. Its commands are the plan's, each given once. Each arrival,
+-- choice, drop and accepted packet is what one event of the run did, by the rules for the state
+-- before it.
 pub record IsOfTheRun (i : Input) (h : History) : Type 0 where
   pub made : h ≡ replayed i.plan i.packets i.cut
   pub of_input : IsOfItsInput i h

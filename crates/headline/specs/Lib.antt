@@ -3,6 +3,7 @@ pub mod Orders
 pub mod Drops
 pub mod Processors
 pub mod Replies
+pub mod Events
 pub mod Moments
 pub mod Headline
 pub mod Forged

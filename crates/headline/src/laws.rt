@@ -1,5 +1,7 @@
 //! The promises of a replay, as contracts of lemmas: functions with empty bodies.
-ghost use Rattle.headline.specs.Forged.{AnotherCommandIsForged, AnotherQueueIsForged};
+ghost use Rattle.headline.specs.Events.{EventsAreTheSteps};
+ghost use Rattle.headline.specs.Forged.{AcceptingAtFullIsForged, AnotherCommandIsForged};
+ghost use Rattle.headline.specs.Forged.{AnotherDropIsForged, AnotherQueueIsForged};
 ghost use Rattle.headline.specs.Forged.{AnotherWriteIsForged, EmptyIsForged, ExamplesAreWithin};
 ghost use Rattle.headline.specs.Forged.{HeadlinesAreOfTheRun, MovingAtOnceIsForged};
 ghost use Rattle.headline.specs.Forged.{NeverMovingIsForged, NoWantIsForged};
@@ -41,6 +43,12 @@ pub fn every_replay_is_of_its_run()
     commands_are_given_once();
 }
 
+/// Lemma: the events of a step lead to the state that the step leaves, and the events of some steps
+/// to the state after them; so a run is its events, one by one.
+pub fn the_events_of_steps_do_the_steps()
+    ensures { EventsAreTheSteps }
+{}
+
 /// Lemma: the report of a replay of these bytes is that of just one history, which is the one of
 /// the run, and all that is promised of a replay holds of it.
 pub fn a_report_has_the_headline()
@@ -56,7 +64,9 @@ pub fn a_report_has_the_headline()
 /// Lemma: forged reports are refused, on an example of two packets of one flow. Each of these is no
 /// history of the run: one of no packets; one in which the flow never moves, or moves while its
 /// first packet is outstanding; one with a packet in a queue that no entry names; one in which the
-/// second packet finds no want; and ones with a write or a command that the plan does not give.
+/// second packet finds no want; and ones with a write or a command that the plan does not give. No
+/// moments of a run are in a history with a packet that was accepted where the backlog was full, or
+/// with a drop that keeps other counts than those of its moment.
 pub fn forged_histories_are_not_of_the_run()
     ensures examples { ExamplesAreWithin }
     ensures empty { EmptyIsForged }
@@ -66,6 +76,8 @@ pub fn forged_histories_are_not_of_the_run()
     ensures no_want { NoWantIsForged }
     ensures another_write { AnotherWriteIsForged }
     ensures another_command { AnotherCommandIsForged }
+    ensures accepting_at_full { AcceptingAtFullIsForged }
+    ensures another_drop { AnotherDropIsForged }
 {}
 
 /// Lemma: a text with the headline is the report of no other history than the one of the run, so

@@ -6,5 +6,5 @@ mod laws;
 
 pub use laws::{
     a_headline_is_of_the_run, a_report_has_the_headline, every_replay_is_of_its_run,
-    every_replay_is_right, forged_histories_are_not_of_the_run,
+    every_replay_is_right, forged_histories_are_not_of_the_run, the_events_of_steps_do_the_steps,
 };

@@ -8,7 +8,7 @@ use Rattle.std.proofs.lemmas.Bool.{cases_eq}
 use Rattle.steer_base.specs.Apps.{app_of}
 use Rattle.steer_base.specs.Orders.{Apart, IsPrefix}
 use Rattle.steer_base.specs.declared.packet.Packet.{Packet}
-use Rattle.history.specs.Examples.{one_packet}
+use Rattle.history.proofs.Examples.{one_packet}
 use Rattle.history.specs.Finding.{is_in, Once}
 use Rattle.history.specs.Lines.{choice_in}
 use Rattle.history.specs.Lists.{accepted_lists, app_at, arrival_of, arrivals_at, drop_ids}

@@ -1,6 +1,7 @@
 pub mod BoundLemmas
 mod CountLemmas
 pub mod ExampleLemmas
+pub mod Examples
 pub mod FindingLemmas
 pub mod FoundAgain
 mod IndexLemmas

@@ -1,5 +1,4 @@
 pub mod Counted
-pub mod Examples
 pub mod Finding
 pub mod Index
 pub mod Known

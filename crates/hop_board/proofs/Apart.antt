@@ -1,12 +1,16 @@
 -- Each word and each slot of a board has a place of its own.
-use Rattle.std.proofs.Common.{◌≡◌, ◌<◌, refl, ap, arith}
+use Rattle.std.proofs.Common.{◌≡◌, ◌≢◌, ℕ, ◌+◌, ◌*◌, ◌/◌, ◌<◌, ◌≤◌, inl, inr, refl, sym, ap, ◌∙◌}
+use Rattle.std.proofs.Common.{arith}
+use Rattle.std.proofs.lemmas.Bool.{cases_order}
 use Rattle.hop_rule.specs.declared.sizes.BoardSizes.{BoardSizes}
 use Rattle.board_api.specs.Calls.HeldLanes.{FitsLane}
 use Rattle.board_api.specs.declared.held_lane.LaneId.{LaneId}
 use Rattle.board_api.specs.declared.held_lane.LaneId.TheVariants as id
+use Rattle.hop_board.specs.CacheLines.{AreALineApart, ContendedWordsLieApart, IsContended}
+use Rattle.hop_board.specs.declared.places.TheConstants.{WORDS_PER_LINE}
 use Rattle.hop_board.specs.declared.places.Word.{Word}
 use Rattle.hop_board.specs.declared.places.Word.TheVariants as kind
-use Rattle.hop_board.specs.Tables.{slot_of, slots, place}
+use Rattle.hop_board.specs.Tables.{slot_at, slot_of, slots, place}
 use Rattle.hop_board.specs.Tables.{width, IsWord}
 
 module _ (about : BoardSizes) where
@@ -21,6 +25,11 @@ module _ (about : BoardSizes) where
   same_lane (id.Out o1) (id.Middle l2) f g e = absurd (omega arith)
   same_lane (id.Out o1) (id.Out o2) f g e =
       let same : o1 ≡ o2 = omega arith in ap (λ z. id.Out z) same
+
+  -- the slot of a lane, by the place of its word
+  pub slot_is_at : (x : LaneId) → slot_of about x ≡ slot_at (place about (kind.Lane x))
+  slot_is_at (id.Middle l) = omega arith
+  slot_is_at (id.Out o) = omega arith
 
   pub place_inside : (w : Word) → IsWord about w → place about w < width about
   place_inside (kind.Lane (id.Middle l)) f = omega arith
@@ -60,3 +69,43 @@ module _ (about : BoardSizes) where
   same_word (kind.Setting i1) kind.Gate f g e = absurd (omega arith)
   same_word (kind.Setting i1) (kind.Setting i2) f g e =
       let same : i1 ≡ i2 = omega arith in ap (λ z. kind.Setting z) same
+
+  -- ---- cache lines
+
+  -- the number of the line of a contended word
+  abbrev line_number : Word → ℕ
+  line_number w = place about w / WORDS_PER_LINE
+
+  line_begins : (w : Word) → IsContended w → place about w ≡ WORDS_PER_LINE * line_number w
+  line_begins (kind.Lane (id.Middle l)) c = omega arith
+  line_begins (kind.Lane (id.Out o)) c = omega arith
+  line_begins (kind.Head l) c = omega arith
+  line_begins kind.Gate c = omega arith
+  line_begins (kind.Setting i) c = absurd c
+
+  before_settings : (w : Word) (i : ℕ) → IsWord about w → IsContended w
+      → place about w + WORDS_PER_LINE ≤ place about (kind.Setting i)
+  before_settings (kind.Lane (id.Middle l)) i f c = omega arith
+  before_settings (kind.Lane (id.Out o)) i f c = omega arith
+  before_settings (kind.Head l) i f c = omega arith
+  before_settings kind.Gate i f c = omega arith
+  before_settings (kind.Setting k) i f c = absurd c
+
+  both_contended : (v w : Word) → IsWord about v → IsWord about w → IsContended v → IsContended w
+      → v ≢ w → AreALineApart (place about v) (place about w)
+  both_contended v w f g c d ne =
+      let a = line_begins v c in let b = line_begins w d in
+      elim (cases_order (line_number v) (line_number w)) [
+        | inl same ↦ absurd (ne (same_word v w f g (a ∙ (ap (λ k. WORDS_PER_LINE * k) same
+            ∙ sym b))))
+        | inr other ↦ elim other [
+          | inl below ↦ inl (omega arith)
+          | inr above ↦ inr (omega arith)
+        ]
+      ]
+
+  pub lie_apart : ContendedWordsLieApart about
+  lie_apart v (kind.Lane x) f g c ne = both_contended v (kind.Lane x) f g c tt ne
+  lie_apart v (kind.Head l) f g c ne = both_contended v (kind.Head l) f g c tt ne
+  lie_apart v kind.Gate f g c ne = both_contended v kind.Gate f g c tt ne
+  lie_apart v (kind.Setting i) f g c ne = let a = before_settings v i f c in inl (omega arith)

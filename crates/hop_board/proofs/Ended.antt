@@ -31,8 +31,8 @@ use Rattle.board_api.specs.declared.held_lane.LaneId.{LaneId}
 use Rattle.board_api.specs.declared.held_lane.LaneId.TheVariants as id
 use Rattle.board_api.specs.declared.lists.BoardLists.{BoardLists}
 use Rattle.hop_board.specs.Left.{AllLie, LiesIn, lists_left, middle_left, out_left}
-use Rattle.hop_board.specs.Tables.{HasBoard, InSlot, content, holder_of, slot_of}
-use Rattle.hop_board.proofs.Keeps.{home_is}
+use Rattle.hop_board.specs.Tables.{HasBoard, InSlot, content, slot_of}
+use Rattle.hop_board.proofs.Keeps.{holder_of, home_is}
 use Rattle.hop_board.proofs.Taking.{at_or}
 
 -- ---- lists
@@ -104,7 +104,7 @@ module _ (about : BoardSizes) where
     at_rest q = rests_as order q seats e.parts.each rest
         (none_of (map ordered_seat seats) q order e.parts.whole)
 
-    free_as : (x : LaneId) (h : ℕ) → FitsLane about x → holder_of about ls x ≡ h → h ≡ 0
+    free_as : (x : LaneId) (h : ℕ) → FitsLane about x → holder_of ls x ≡ h → h ≡ 0
     free_as x zero fits is = refl
     free_as (id.Middle l) (suc p) fits is =
         none-some (lanes.lane about l ls)
@@ -123,7 +123,7 @@ module _ (about : BoardSizes) where
         at_or items (slot_of about x) (Some (content about ls x)) None
         (e.at_home (slot_of about x) (Some (content about ls x))
         (e.lawfully.homes_are x fits
-        ∙ ap some (home_is about x order fits lawful (free_as x (holder_of about ls x) fits refl))))
+        ∙ ap some (home_is about x order fits lawful (free_as x (holder_of ls x) fits refl))))
 
     pub all_lie : AllLie about items
     all_lie (id.Middle l) fits = subst (LiesIn about (id.Middle l)) (sym (item (id.Middle l) fits))

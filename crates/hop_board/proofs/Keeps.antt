@@ -39,12 +39,12 @@ use Rattle.board_api.specs.declared.held_lane.LaneId.TheVariants as id
 use Rattle.hop_board.specs.declared.places.Word.{Word}
 use Rattle.hop_board.specs.declared.places.Word.TheVariants as kind
 use Rattle.hop_board.specs.Tables.{InSlot, slot_of}
-use Rattle.hop_board.specs.Tables.{slots, place, IsWord, holder_of, content, lane_value}
+use Rattle.hop_board.specs.Tables.{slots, place, IsWord, content, lane_value}
 use Rattle.hop_board.specs.Tables.{value, home_by, home_after, HomesAre, HasBoard}
-use Rattle.hop_board.specs.Steps.{IsAt, MayAct, MayGive, released_word}
+use Rattle.hop_board.specs.Steps.{MayAct, MayGive, released_word}
 use Rattle.hop_board.specs.Plays.{HeldAt, Carried, HoldsThen, EmptiesThen, FillsThen}
 use Rattle.hop_board.specs.Plays.{GivesThen}
-use Rattle.hop_board.proofs.Apart.{same_lane, same_word, slot_inside, place_inside}
+use Rattle.hop_board.proofs.Apart.{same_lane, same_word, slot_inside, slot_is_at, place_inside}
 
 abbrev Order : Type 0
 Order = List (StepBy BoardStep)
@@ -55,6 +55,15 @@ Seated = Me InSlot (Hands BoardStep)
 -- the one hand of a seat, which has taken nothing
 abbrev pub Alone : Seated → Type 0
 Alone me = me ≡ (one (number_in me.0) (steps_in me.0), [])
+
+-- the holder of a lane after an order: 0 for nobody, otherwise the holder's number plus 1
+abbrev pub holder_of : List (StepBy LaneStep) → LaneId → ℕ
+holder_of ls (id.Middle l) = lanes.holder l ls
+holder_of ls (id.Out o) = lanes.out_holder o ls
+
+-- the word is at this place of the table
+abbrev pub IsAt : BoardSizes → Word → ℕ → Type 0
+IsAt about w i = IsWord about w × (i ≡ place about w)
 
 module _ (about : BoardSizes) where
   -- a step that leaves m in the word w
@@ -171,7 +180,7 @@ module _ (about : BoardSizes) where
 
   -- a free lane is in its slot
   pub home_is : (x : LaneId) (order : Order) → FitsLane about x → IsLawful about order
-      → holder_of about (lanes_of order) x ≡ 0
+      → holder_of (lanes_of order) x ≡ 0
       → home_after about order x ≡ some (Some (content about (lanes_of order) x))
   home_is (id.Middle l) order inside lawful free =
       ap (λ s. home_by about s (content about (lanes_of order) (id.Middle l)))
@@ -193,7 +202,7 @@ module _ (about : BoardSizes) where
   tail_of ls (id.Out o) = about.start + length (lanes.out o ls)
 
   pub lane_is : (ls : List (StepBy LaneStep)) (x : LaneId)
-      → lane_value about ls x ≡ 2 * tail_of ls x + lanes.bit (holder_of about ls x)
+      → lane_value about ls x ≡ 2 * tail_of ls x + lanes.bit (holder_of ls x)
   lane_is ls (id.Middle l) = refl
   lane_is ls (id.Out o) = refl
 
@@ -207,7 +216,7 @@ module _ (about : BoardSizes) where
   held_at (id.Out o) w ls = refl
 
   held_may : (x : LaneId) (w p : ℕ) (order : Order) → FitsLane about x
-      → w ≡ lane_value about (lanes_of order) x → holder_of about (lanes_of order) x ≡ 0
+      → w ≡ lane_value about (lanes_of order) x → holder_of (lanes_of order) x ≡ 0
       → MayCome about p order (held_step x w (lanes_of order))
   held_may (id.Middle l) w p order inside is free = ((inside, is, free, refl), tt, tt)
   held_may (id.Out o) w p order inside is free = ((inside, is, free, refl), tt, tt)
@@ -274,7 +283,7 @@ module _ (about : BoardSizes) where
       (state_else (id.Out o) u taken (slot_state about (slot_of about u) order) inside fits ne)
 
   missed_may : (x : LaneId) (w p : ℕ) (order : Order) → FitsLane about x
-      → w ≡ lane_value about (lanes_of order) x → 0 < holder_of about (lanes_of order) x
+      → w ≡ lane_value about (lanes_of order) x → 0 < holder_of (lanes_of order) x
       → MayCome about p order (MissedAt x w)
   missed_may (id.Middle l) w p order inside is held = ((inside, is, held), tt, tt)
   missed_may (id.Out o) w p order inside is held = ((inside, is, held), tt, tt)
@@ -337,7 +346,7 @@ module _ (about : BoardSizes) where
         × HasBoard about (step_by (number_in me.0) d ∷ order) (set words (place about (kind.Lane x))
         (f k))
         (homes_after homes me.1 act)
-        × goes_so (step n (slot_of about x) a 0 none) k d me.1
+        × goes_so (step n (place about (kind.Lane x)) a 0 none) k d me.1
         (Rattle.atomic_table.specs.Table.carried_after me.1 act))
         → Allows (Ordered about.seats (HasBoard about)) n id me i f
         (Moved goes_so (step n i a 0 none) me)
@@ -345,8 +354,8 @@ module _ (about : BoardSizes) where
         subst (λ (k : ℕ). Allows (Ordered about.seats (HasBoard about)) n id me k f
         (Moved goes_so (step n k a 0 none) me))
         (sym at.1)
-        (moves_taking about.seats (HasBoard about) goes_so (step n (slot_of about x) a 0 none) n id
-        me (slot_of about x) f alone
+        (moves_taking about.seats (HasBoard about) goes_so
+        (step n (place about (kind.Lane x)) a 0 none) n id me (place about (kind.Lane x)) f alone
         (λ order words homes all wide by few own h.
         on order words homes (all ∙ many) few own h (h.words_are (kind.Lane x) at.0) wide))
 
@@ -357,8 +366,8 @@ module _ (about : BoardSizes) where
         (λ order words homes all few own h word wide.
         let p : ℕ = number_in me.0 in
         let ls : List (StepBy LaneStep) = lanes_of order in
-        let k : ℕ = slice_index words (slot_of about x) in
-        let holder : ℕ = holder_of about ls x in
+        let k : ℕ = slice_index words (place about (kind.Lane x)) in
+        let holder : ℕ = holder_of ls x in
         let t : ℕ = tail_of ls x in
         let is : k ≡ 2 * t + lanes.bit holder = word ∙ lane_is ls x in
         let none_carried : me.1 ≡ [] = ap (λ m. m.1) alone in
@@ -381,7 +390,7 @@ module _ (about : BoardSizes) where
             (λ e. record {
               found = content about ls x;
               held = held_at x k ls;
-              carries = ap (λ cs. (slot_of about x, Some (content about ls x)) ∷ cs) none_carried;
+              carries = λ j. (slot_is_at about x j, Some (content about ls x)) ∷ none_carried j;
             }),
             λ odd. absurd (let z : Rattle.std.proofs.Common.true ≡ false = sym odd ∙ even in cc),
           ),
@@ -414,13 +423,14 @@ module _ (about : BoardSizes) where
         (λ order words homes all few own h word wide.
         let p : ℕ = number_in me.0 in
         let s : ℕ = slot_of about x in
-        let k : ℕ = slice_index words s in
+        let at_word : ℕ = place about (kind.Lane x) in
+        let k : ℕ = slice_index words at_word in
         let d : BoardStep = LaneOut s in
         let inside = slot_inside about x at.0 in (
           d,
           gives,
           tt,
-          subst (λ (cs : Carried). HasBoard about (step_by p d ∷ order) (set words s k)
+          subst (λ (cs : Carried). HasBoard about (step_by p d ∷ order) (set words at_word k)
               (homes_after homes cs gives))
               (sym carried)
               (kept order words homes (set homes s (some None)) p k (kind.Lane x) d few at.0 h
@@ -430,7 +440,7 @@ module _ (about : BoardSizes) where
               (if_same s s empty (slot_state about s order) refl))
               (λ u fits ne. ap (λ z. home_by about z (content about (lanes_of order) u))
               (state_else x u empty (slot_state about (slot_of about u) order) at.0 fits ne)))),
-          (refl, refl),
+          (ap (λ z. LaneOut z) (slot_is_at about x), refl),
         ))
 
     -- the emptied slot is taken again
@@ -441,7 +451,8 @@ module _ (about : BoardSizes) where
         (λ order words homes all few own h word wide.
         let p : ℕ = number_in me.0 in
         let s : ℕ = slot_of about x in
-        let k : ℕ = slice_index words s in
+        let at_word : ℕ = place about (kind.Lane x) in
+        let k : ℕ = slice_index words at_word in
         let d : BoardStep = LaneIn s in
         let inside = slot_inside about x at.0 in
         let mine : own_state about s (steps_of p order) ≡ empty = ap (own_state about s) (sym own)
@@ -459,7 +470,10 @@ module _ (about : BoardSizes) where
               (if_same s s taken (slot_state about s order) refl))
               (λ u fits ne. ap (λ z. home_by about z (content about (lanes_of order) u))
               (state_else x u taken (slot_state about (slot_of about u) order) at.0 fits ne))),
-          (refl, refl),
+          (
+            ap (λ z. LaneIn z) (slot_is_at about x),
+            ap (λ z. (z, None) ∷ me.1) (slot_is_at about x),
+          ),
         ))
 
     -- the slot is given back with a lane in it
@@ -477,7 +491,8 @@ module _ (about : BoardSizes) where
         (λ order words homes all few own h word wide.
         let p : ℕ = number_in me.0 in
         let s : ℕ = slot_of about x in
-        let k : ℕ = slice_index words s in
+        let at_word : ℕ = place about (kind.Lane x) in
+        let k : ℕ = slice_index words at_word in
         let t = may fit order few (sym (ap steps_in alone) ∙ own) h.lawful
         (subst (λ (z : ℕ). z < 18446744073709551616) word wide) in
         let here : f k ≡ value about (step_by p given ∷ order) (kind.Lane x) =
@@ -485,8 +500,8 @@ module _ (about : BoardSizes) where
           given,
           gives,
           tt,
-          subst (λ (cs : Carried). HasBoard about (step_by p given ∷ order) (set words s (f k))
-              (homes_after homes cs gives))
+          subst (λ (cs : Carried). HasBoard about (step_by p given ∷ order)
+              (set words at_word (f k)) (homes_after homes cs gives))
               (sym carried)
               (kept order words homes (set homes s (some (Some c))) p (f k)
               (kind.Lane x) given few at.0 h
@@ -524,7 +539,7 @@ module _ (about told : BoardSizes) (told_is : told ≡ about) (fit : FitSizes ab
       (subst (λ (s : SeatView BoardStep). MayAct about s w (λ _. v) (λ _. makes v) (λ _. says v))
       (sym seen) may))
 
-  module _ (x : LaneId) (within : FitsLane about x) (here : i ≡ slot_of about x)
+  module _ (x : LaneId) (within : FitsLane about x) (here : i ≡ place about (kind.Lane x))
       (many : n ≡ slots about) where
     pub holds_in : (y : LaneId) → y ≡ x → Alone me
         → Allows (Ordered told.seats (HasBoard told)) n id me i (λ k. bit_or k 1)

@@ -6,7 +6,9 @@ use Rattle.std.proofs.Common.{arith, length-append}
 use Rattle.std.proofs.lemmas.List.{get_or_append_left, get_or-append_right}
 use Rattle.std.proofs.lemmas.List.Elements.{All-nil, All-cons, All-head, All-tail}
 use Rattle.std.proofs.lemmas.List.FromFn.{get_or-map-range_with_len, length-map-range_with_len}
+use mathlib.Core.Logic.{dite}
 use mathlib.Core.Option.{some}
+use native.Mathlib.Decide.{ℕ_discrete}
 use lib.ListN.{get_or-replicate, length-replicate}
 use Rattle.atomic_table.specs.Seated.{TableId}
 use Rattle.atomic_table.specs.Table.{opening}
@@ -21,78 +23,99 @@ use Rattle.board_api.specs.Calls.HeldLanes.{FitsLane}
 use Rattle.board_api.specs.Seats.{BoardSeatView}
 use Rattle.board_api.specs.declared.held_lane.LaneId.{LaneId}
 use Rattle.board_api.specs.declared.held_lane.LaneId.TheVariants as id
-use Rattle.hop_board.specs.Made.{head_words, lane_words, new_middle, new_middles, new_outs}
-use Rattle.hop_board.specs.Made.{new_slots}
-use Rattle.hop_board.specs.Made.{new_words}
+use Rattle.hop_board.specs.Made.{head_words, lane_words, line_of, lines_of, new_middle}
+use Rattle.hop_board.specs.Made.{new_middles, new_outs, new_slots, new_words}
 use Rattle.hop_board.specs.Named.{HasNoSteps, board_seat}
 use Rattle.hop_board.specs.Tables.{HasBoard, HomesAre, InSlot, WordsAre, content, slot_of}
-use Rattle.hop_board.specs.Tables.{slots, width}
+use Rattle.hop_board.specs.Tables.{lines, slots, width}
+use Rattle.hop_board.specs.declared.places.TheConstants.{WORDS_PER_LINE}
 use Rattle.hop_board.specs.declared.places.Word.TheVariants as kind
 
+-- ---- lines, and the first words of each
+
+line_long : (n : ℕ) → length (line_of n) ≡ WORDS_PER_LINE
+line_long n = refl
+
+lines_long : (n count : ℕ) → length (lines_of n count) ≡ WORDS_PER_LINE * count
+lines_long n zero = refl
+lines_long n (suc count) = let a = lines_long n count in
+    length-append (lines_of n count) (line_of n) ∙ omega arith
+
+line_at : (n count i : ℕ) → i < count → get_or (lines_of n count) (WORDS_PER_LINE * i) 0 ≡ n
+line_at n zero i less = absurd (omega arith)
+line_at n (suc count) i less = let a = lines_long n count in
+    dite (ℕ_discrete i count)
+    (λ last. let index : WORDS_PER_LINE * i - WORDS_PER_LINE * count ≡ 0 = omega arith in
+    get_or-append_right (lines_of n count) (line_of n) (WORDS_PER_LINE * count)
+    (WORDS_PER_LINE * i) 0 a (omega arith) ∙ ap (λ k. get_or (line_of n) k 0) index)
+    (λ earlier. let before : i < count = omega arith in
+    get_or_append_left (lines_of n count) (line_of n) 0 (WORDS_PER_LINE * i) (omega arith)
+    ∙ line_at n count i before)
+
 module _ (about : BoardSizes) where
-  lanes_long : length (lane_words about) ≡ about.lanes + about.outs
-  lanes_long = length-replicate (about.lanes + about.outs) (2 * (about.start + 0))
+  lanes_long : length (lane_words about) ≡ WORDS_PER_LINE * (about.lanes + about.outs)
+  lanes_long = lines_long (2 * (about.start + 0)) (about.lanes + about.outs)
 
-  heads_long : length (head_words about) ≡ about.lanes
-  heads_long = length-replicate about.lanes about.start
+  heads_long : length (head_words about) ≡ WORDS_PER_LINE * about.lanes
+  heads_long = lines_long about.start about.lanes
 
-  both_long : length (lane_words about ++ head_words about) ≡ about.lanes + about.outs + about.lanes
-  both_long = let a = lanes_long in let b = heads_long in
+  -- the lines of the lanes and the heads, and those with the gate's
+  abbrev front : List ℕ
+  front = lane_words about ++ head_words about
+
+  abbrev own_lines : List ℕ
+  own_lines = front ++ lines_of 0 1
+
+  front_long : length front ≡ WORDS_PER_LINE * (about.lanes + about.outs + about.lanes)
+  front_long = let a = lanes_long in let b = heads_long in
       length-append (lane_words about) (head_words about) ∙ omega arith
 
-  gate_long : length ((lane_words about ++ head_words about) ++ 0
-      ∷ []) ≡ about.lanes + about.outs + about.lanes + 1
-  gate_long = let a = both_long in length-append (lane_words about ++ head_words about) (0 ∷ [])
-      ∙ omega arith
+  own_long : length own_lines ≡ WORDS_PER_LINE * lines about
+  own_long = let a = front_long in length-append front (lines_of 0 1) ∙ omega arith
 
   pub words_long : length (new_words about) ≡ width about
-  words_long = let a = gate_long in
-      length-append ((lane_words about ++ head_words about) ++ 0 ∷ []) about.settings ∙ omega arith
+  words_long = let a = own_long in length-append own_lines about.settings ∙ omega arith
 
   -- a word below the settings, below the gate, and among those of the lanes
-  below_settings : (i : ℕ) → i < about.lanes + about.outs + about.lanes + 1
-      → get_or (new_words about) i 0 ≡ get_or ((lane_words about ++ head_words about) ++ 0 ∷ []) i 0
-  below_settings i less = let a = gate_long in
-      get_or_append_left ((lane_words about ++ head_words about) ++ 0 ∷ []) about.settings 0 i
-      (omega arith)
+  below_settings : (i : ℕ) → i < WORDS_PER_LINE * lines about
+      → get_or (new_words about) i 0 ≡ get_or own_lines i 0
+  below_settings i less = let a = own_long in
+      get_or_append_left own_lines about.settings 0 i (omega arith)
 
-  below_gate : (i : ℕ) → i < about.lanes + about.outs + about.lanes
-      → get_or (new_words about) i 0 ≡ get_or (lane_words about ++ head_words about) i 0
-  below_gate i less = let a = both_long in
-      below_settings i (omega arith)
-      ∙ get_or_append_left (lane_words about ++ head_words about) (0 ∷ []) 0 i (omega arith)
+  below_gate : (i : ℕ) → i < WORDS_PER_LINE * (about.lanes + about.outs + about.lanes)
+      → get_or (new_words about) i 0 ≡ get_or front i 0
+  below_gate i less = let a = front_long in
+      below_settings i (omega arith) ∙ get_or_append_left front (lines_of 0 1) 0 i (omega arith)
 
   lane_word : (i : ℕ) → i < about.lanes + about.outs
-      → get_or (new_words about) i 0 ≡ 2 * (about.start + 0) + 0
+      → get_or (new_words about) (WORDS_PER_LINE * i) 0 ≡ 2 * (about.start + 0) + 0
   lane_word i less = let a = lanes_long in
-      below_gate i (omega arith)
-      ∙ (get_or_append_left (lane_words about) (head_words about) 0 i (omega arith)
-      ∙ (get_or-replicate (about.lanes + about.outs) i (2 * (about.start + 0)) 0 less
-      ∙ omega arith))
+      below_gate (WORDS_PER_LINE * i) (omega arith)
+      ∙ (get_or_append_left (lane_words about) (head_words about) 0 (WORDS_PER_LINE * i)
+      (omega arith)
+      ∙ (line_at (2 * (about.start + 0)) (about.lanes + about.outs) i less ∙ omega arith))
 
   first_words_are : WordsAre about [] (new_words about)
   first_words_are (kind.Lane (id.Middle l)) inside = lane_word l (omega arith)
   first_words_are (kind.Lane (id.Out o)) inside = lane_word (about.lanes + o) (omega arith)
   first_words_are (kind.Head l) inside =
-      let n : ℕ = about.lanes + about.outs in
-      let index : n + l - n ≡ l = omega arith in
-      below_gate (n + l) (omega arith)
-      ∙ (get_or-append_right (lane_words about) (head_words about) n (n + l) 0 lanes_long
-      (omega arith)
-      ∙ (ap (λ i. get_or (head_words about) i 0) index
-      ∙ (get_or-replicate about.lanes l about.start 0 inside ∙ omega arith)))
+      let n : ℕ = WORDS_PER_LINE * (about.lanes + about.outs) in
+      let i : ℕ = WORDS_PER_LINE * (about.lanes + about.outs + l) in
+      let index : i - n ≡ WORDS_PER_LINE * l = omega arith in
+      below_gate i (omega arith)
+      ∙ (get_or-append_right (lane_words about) (head_words about) n i 0 lanes_long (omega arith)
+      ∙ (ap (λ k. get_or (head_words about) k 0) index
+      ∙ (line_at about.start about.lanes l inside ∙ omega arith)))
   first_words_are kind.Gate inside =
-      let n : ℕ = about.lanes + about.outs + about.lanes in
+      let n : ℕ = WORDS_PER_LINE * (about.lanes + about.outs + about.lanes) in
       let index : n - n ≡ 0 = omega arith in
       below_settings n (omega arith)
-      ∙ (get_or-append_right (lane_words about ++ head_words about) (0 ∷ []) n n 0 both_long
-      (omega arith)
-      ∙ ap (λ i. get_or (0 ∷ []) i 0) index)
+      ∙ (get_or-append_right front (lines_of 0 1) n n 0 front_long (omega arith)
+      ∙ ap (λ k. get_or (lines_of 0 1) k 0) index)
   first_words_are (kind.Setting i) inside =
-      let n : ℕ = about.lanes + about.outs + about.lanes + 1 in
+      let n : ℕ = WORDS_PER_LINE * lines about in
       let index : n + i - n ≡ i = omega arith in
-      get_or-append_right ((lane_words about ++ head_words about) ++ 0 ∷ []) about.settings n
-      (n + i) 0 gate_long (omega arith)
+      get_or-append_right own_lines about.settings n (n + i) 0 own_long (omega arith)
       ∙ ap (λ k. get_or about.settings k 0) index
 
   middles_long : length (new_middles about) ≡ about.lanes

@@ -1,3 +1,4 @@
+pub mod CacheLines
 pub mod Closed
 pub mod Emptying
 pub mod Left

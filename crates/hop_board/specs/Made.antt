@@ -1,5 +1,6 @@
 -- A board before any step.
-use Rattle.std.specs.Prelude.{ℕ, ◌+◌, ◌*◌, false, List, [], ◌∷◌, ◌++◌, Some, map, replicate}
+use Rattle.std.specs.Prelude.{ℕ, zero, suc, ◌+◌, ◌*◌, ◌-◌, false, List, [], ◌∷◌, ◌++◌, Some, map}
+use Rattle.std.specs.Prelude.{replicate}
 use Rattle.std.specs.List.{range_with_len}
 use Rattle.steer_base.specs.Sets.{has}
 use Rattle.atomic_table.specs.Seated.{TableId}
@@ -12,6 +13,7 @@ use Rattle.hop_rule.specs.declared.step.Slot.TheVariants as slot
 use Rattle.board_api.specs.Seats.{BoardSeatView}
 use Rattle.hop_board.specs.Named.{board_seat}
 use Rattle.hop_board.specs.Tables.{InSlot}
+use Rattle.hop_board.specs.declared.places.TheConstants.{WORDS_PER_LINE}
 
 -- The sizes of a board of this shape, with these settings and this many seats.
 abbrev pub sizes_of : HopShape → List ℕ → ℕ → BoardSizes
@@ -31,19 +33,28 @@ sizes_of shape settings seats =
 abbrev pub new_board_seats : TableId → ℕ → List BoardSeatView
 new_board_seats table seats = map (λ s. board_seat s false) (new_seats table 0 seats)
 
+-- This value, with zeros behind it to the length of a cache line.
+abbrev pub line_of : ℕ → List ℕ
+line_of n = n ∷ replicate (WORDS_PER_LINE - 1) 0
+
+-- So many of these, with one value.
+abbrev pub lines_of : ℕ → ℕ → List ℕ
+lines_of n zero = []
+lines_of n (suc count) = lines_of n count ++ line_of n
+
 module _ (about : BoardSizes) where
   -- The words of the lanes before any step: each lane is free and without packets.
   abbrev pub lane_words : List ℕ
-  lane_words = replicate (about.lanes + about.outs) (2 * (about.start + 0))
+  lane_words = lines_of (2 * (about.start + 0)) (about.lanes + about.outs)
 
   -- The words of the heads before any step.
   abbrev pub head_words : List ℕ
-  head_words = replicate about.lanes about.start
+  head_words = lines_of about.start about.lanes
 
   -- The words of a board before any step: lanes, heads, an open gate with nobody inside, and
   -- settings.
   abbrev pub new_words : List ℕ
-  new_words = ((lane_words ++ head_words) ++ 0 ∷ []) ++ about.settings
+  new_words = ((lane_words ++ head_words) ++ lines_of 0 1) ++ about.settings
 
   -- The slot of the middle lane l before any step.
   abbrev pub new_middle : ℕ → InSlot

@@ -14,7 +14,7 @@ use Rattle.board_api.specs.Calls.HeldLanes.{FitsLane}
 use Rattle.board_api.specs.declared.held_lane.LaneId.{LaneId}
 use Rattle.hop_board.specs.declared.places.Word.{Word}
 use Rattle.hop_board.specs.declared.places.Word.TheVariants as kind
-use Rattle.hop_board.specs.Tables.{IsWord, place, slot_of, value, home_after}
+use Rattle.hop_board.specs.Tables.{slot_of, value, home_after}
 
 -- The word of a lane after a release: one more if its tail rises, otherwise one less.
 abbrev pub released_word : Bool → ℕ → ℕ
@@ -22,10 +22,6 @@ released_word true n = (n + 1) % 2 ^ 64
 released_word false n = (n + (2 ^ 64 - 1)) % 2 ^ 64
 
 module _ (about : BoardSizes) where
-  -- The word is at this place of the table.
-  abbrev pub IsAt : Word → ℕ → Type 0
-  IsAt w i = IsWord about w × (i ≡ place about w)
-
   -- After these steps the seat p may make the step d, which leaves m in the word w, and all other
   -- words and all slots as they were.
   pub record IsStepAt (order : List (StepBy BoardStep)) (p : ℕ) (w : Word) (m : ℕ) (d : BoardStep)

@@ -1,5 +1,5 @@
 -- The rule of a board: its words and its slots are what one lawful order of steps leaves there.
-use Rattle.std.specs.Prelude.{◌≡◌, ℕ, ◌+◌, ◌*◌, ◌<◌, List, length, slice_index, Some, None}
+use Rattle.std.specs.Prelude.{◌≡◌, ℕ, ◌+◌, ◌*◌, ◌/◌, ◌<◌, List, length, slice_index, Some, None}
 use Rattle.std.specs.Prelude as prelude
 use mathlib.Core.Option.{Option, none, some}
 use lib.ListN.{get_elem?}
@@ -17,6 +17,7 @@ use Rattle.hop_rule.specs.Boards.{empty, slot_state}
 use Rattle.board_api.specs.Calls.HeldLanes.{FitsLane}
 use Rattle.board_api.specs.declared.held_lane.LaneId.{LaneId}
 use Rattle.board_api.specs.declared.held_lane.LaneId.TheVariants as id
+use Rattle.hop_board.specs.declared.places.TheConstants.{WORDS_PER_LINE}
 use Rattle.hop_board.specs.declared.places.Word.{Word}
 use Rattle.hop_board.specs.declared.places.Word.TheVariants as kind
 
@@ -24,10 +25,14 @@ use Rattle.hop_board.specs.declared.places.Word.TheVariants as kind
 abbrev pub InSlot : Type 0
 InSlot = prelude.Option Slot
 
+-- The number of the slot of the lane whose word is at this place.
+abbrev pub slot_at : ℕ → ℕ
+slot_at place = place / WORDS_PER_LINE
+
 module _ (about : BoardSizes) where
   -- ---- the places of the words and the slots: lanes, out lanes, heads, the gate, settings
 
-  -- The number of a lane's slot, which is also the place of its word.
+  -- The number of a lane's slot.
   abbrev pub slot_of : LaneId → ℕ
   slot_of (id.Middle l) = l
   slot_of (id.Out o) = out_slot about o
@@ -36,16 +41,21 @@ module _ (about : BoardSizes) where
   abbrev pub slots : ℕ
   slots = about.lanes + about.outs
 
-  -- The place of a word in the table.
-  abbrev pub place : Word → ℕ
-  place (kind.Lane x) = slot_of x
-  place (kind.Head l) = about.lanes + about.outs + l
-  place kind.Gate = about.lanes + about.outs + about.lanes
-  place (kind.Setting i) = about.lanes + about.outs + about.lanes + 1 + i
+  -- The number of words that lie a cache line apart.
+  abbrev pub lines : ℕ
+  lines = about.lanes + about.outs + about.lanes + 1
 
-  -- The number of words.
+  -- The place of a word in the table: those of lanes, heads and the gate lie a cache line apart,
+  -- and behind them are the settings in a row.
+  abbrev pub place : Word → ℕ
+  place (kind.Lane x) = WORDS_PER_LINE * slot_of x
+  place (kind.Head l) = WORDS_PER_LINE * (about.lanes + about.outs + l)
+  place kind.Gate = WORDS_PER_LINE * (about.lanes + about.outs + about.lanes)
+  place (kind.Setting i) = WORDS_PER_LINE * lines + i
+
+  -- The number of words of the table, with those between that no call uses.
   abbrev pub width : ℕ
-  width = about.lanes + about.outs + about.lanes + 1 + length about.settings
+  width = WORDS_PER_LINE * lines + length about.settings
 
   -- The word is one of this board.
   abbrev pub IsWord : Word → Type 0
@@ -55,11 +65,6 @@ module _ (about : BoardSizes) where
   IsWord (kind.Setting i) = i < length about.settings
 
   -- ---- what an order leaves
-
-  -- The holder of a lane after an order: 0 for nobody, otherwise the holder's number plus 1.
-  abbrev pub holder_of : List (StepBy LaneStep) → LaneId → ℕ
-  holder_of ls (id.Middle l) = lanes.holder l ls
-  holder_of ls (id.Out o) = lanes.out_holder o ls
 
   -- The lane after an order, as the content of its slot.
   abbrev pub content : List (StepBy LaneStep) → LaneId → Slot

@@ -6,6 +6,7 @@ mod calls;
 mod closer;
 mod closing;
 mod holds;
+mod laws;
 mod left;
 mod making;
 mod packets;
@@ -19,3 +20,4 @@ mod steps;
 mod visits;
 
 pub use board::Board;
+pub use laws::contended_words_lie_apart;

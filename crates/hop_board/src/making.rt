@@ -1,12 +1,13 @@
 //! Making a board.
-ghost use Rattle.std.specs.Prelude.{◌≡◌, ◌<◌, ◌≤◌, ◌^◌, false, All, IfOk, map};
+ghost use Rattle.std.specs.Prelude.{◌≡◌, ◌<◌, ◌≤◌, ◌^◌, ◌++◌, false, All, IfOk, OnOk, map};
 ghost use Rattle.std.specs.Vec.{vec_len};
 ghost use Rattle.hop_rule.specs.declared.sizes.TheConstants.{MAX_BOARD_ROOM};
-ghost use Rattle.hop_board.specs.Made.{new_board_seats, new_middles, new_slots, new_words};
-ghost use Rattle.hop_board.specs.Made.{sizes_of};
+ghost use Rattle.hop_board.specs.Made.{lines_of, new_board_seats, new_middles, new_slots};
+ghost use Rattle.hop_board.specs.Made.{new_words, sizes_of};
 ghost use Rattle.hop_board.specs.Named.{HasNoSteps, board_seat};
 
 use crate::board::{Board, WordSeat};
+use crate::places::WORDS_PER_LINE;
 use crate::spare::Spare;
 use atomic_table::Table;
 use backlog::Lane;
@@ -96,12 +97,23 @@ fn first_words(alloc: Global, sizes: &BoardSizes) -> Result<Vec<u64>, OutOfMemor
 {
     let lanes = sizes.lanes as usize;
     let free = LaneWord::resting(sizes.start, 0).0;
-    let mut words = Vec::from_elem(alloc, free, lanes + sizes.outs as usize)?;
-    let heads = Vec::from_elem(alloc, sizes.start as u64, lanes)?;
-    words.extend_from_slice(&heads)?;
-    words.push(0)?;
+    let mut words = Vec::new(alloc);
+    push_lines(&mut words, free, lanes + sizes.outs as usize)?;
+    push_lines(&mut words, sizes.start as u64, lanes)?;
+    push_lines(&mut words, 0, 1)?;
     words.extend_from_slice(sizes.settings.as_slice())?;
     Ok(words)
+}
+
+// So many words more of this value, each with zeros behind it to the length of a cache line.
+fn push_lines(words: &mut Vec<u64>, value: u64, count: usize) -> Result<(), OutOfMemory>
+    ensures { OnOk result (words.new.items ≡ words.old.items ++ lines_of value count) }
+{
+    for _ in 0..count {
+        words.push(value)?;
+        words.extend_from_slice(&[0; WORDS_PER_LINE - 1])?;
+    }
+    Ok(())
 }
 
 // The slots before any step.

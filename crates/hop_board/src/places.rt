@@ -6,10 +6,13 @@ ghost use Rattle.hop_board.specs.Tables.{place, slot_of};
 use crate::board::Board;
 use board_api::LaneId;
 
+/// The words of a cache line: a line of x86-64 has 64 bytes, a word 8.
+pub const WORDS_PER_LINE: usize = 8;
+
 /// A word of a board.
 #[derive(Clone, Copy)]
 pub enum Word {
-    /// The word of a lane, with the same number as its slot.
+    /// The word of a lane.
     Lane(LaneId),
     /// The head of a middle lane.
     Head(u8),
@@ -28,21 +31,22 @@ impl Board {
         let _ = &self.sizes;
     }
 
-    // The place of a word in the table: middle lanes, out lanes, heads, the gate, settings.
+    // The place of a word in the table: those of middle lanes, out lanes, heads and the gate, a
+    // cache line apart since threads change them beside each other; then the settings in a row.
     pub(crate) fn place(&self, word: Word) -> usize
         ensures { result ≡ place self.now.sizes word }
     {
         let lanes = self.sizes.lanes as usize;
         let outs = self.sizes.outs as usize;
         match word {
-            Word::Lane(lane) => self.slot_of(lane),
-            Word::Head(lane) => lanes + outs + lane as usize,
-            Word::Gate => lanes + outs + lanes,
-            Word::Setting(i) => lanes + outs + lanes + 1 + i as usize,
+            Word::Lane(lane) => WORDS_PER_LINE * self.slot_of(lane),
+            Word::Head(lane) => WORDS_PER_LINE * (lanes + outs + lane as usize),
+            Word::Gate => WORDS_PER_LINE * (lanes + outs + lanes),
+            Word::Setting(i) => WORDS_PER_LINE * (lanes + outs + lanes + 1) + i as usize,
         }
     }
 
-    // The number of a lane's slot, which is also the place of its word.
+    // The number of a lane's slot.
     pub(crate) fn slot_of(&self, lane: LaneId) -> usize
         ensures { result ≡ slot_of self.now.sizes lane }
     {

@@ -8,6 +8,7 @@ ghost use Rattle.hop_board.specs.Steps.{MayGive};
 ghost use Rattle.hop_board.specs.Tables.{slot_of};
 
 use crate::board::{Board, WordSeat};
+use crate::places::Word;
 use crate::plays::{Empties, Fills, Frees, Given, Holds, Taken};
 use crate::release::Release;
 use board_api::LaneId;
@@ -34,13 +35,14 @@ impl Board {
             (λ word. MissedSlot lane seat.old seat.new word) }
     {
         let slot = self.slot_of(lane);
+        let place = self.place(Word::Lane(lane));
         let shared = &self.table.shared;
-        let word = shared.fetch_or::<Moves<Holds<J>>>(&mut seat.seat, slot, 1);
+        let word = shared.fetch_or::<Moves<Holds<J>>>(&mut seat.seat, place, 1);
         if word % 2 == 1 {
             return Err(word);
         }
         let found = shared.exchange(&mut seat.seat, slot, None);
-        shared.load::<Moves<Empties>>(&mut seat.seat, slot);
+        shared.load::<Moves<Empties>>(&mut seat.seat, place);
         Ok(found.unwrap())
     }
 
@@ -77,14 +79,16 @@ impl Board {
         } }
         ensures says { J.says }
     {
-        let slot = self.slot_of(release.lane());
+        let id = release.lane();
+        let slot = self.slot_of(id);
+        let place = self.place(Word::Lane(id));
         let shared = &self.table.shared;
-        shared.load::<Moves<Fills>>(&mut seat.seat, slot);
+        shared.load::<Moves<Fills>>(&mut seat.seat, place);
         shared.exchange(&mut seat.seat, slot, Some(lane));
         if release.rises() {
-            shared.fetch_add::<Moves<Frees<J>>>(&mut seat.seat, slot, 1);
+            shared.fetch_add::<Moves<Frees<J>>>(&mut seat.seat, place, 1);
         } else {
-            shared.fetch_sub::<Moves<Frees<J>>>(&mut seat.seat, slot, 1);
+            shared.fetch_sub::<Moves<Frees<J>>>(&mut seat.seat, place, 1);
         }
     }
 }

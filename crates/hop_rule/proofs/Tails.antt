@@ -1,11 +1,10 @@
 -- What the loaded word of a lane counts.
-use Rattle.std.proofs.Common.{◌≡◌, ℕ, zero, suc, ◌≤◌, List, length, ap, subst, arith}
+use Rattle.std.proofs.Common.{ℕ, zero, suc, ◌≤◌, List, length, subst, arith}
 use Rattle.linearization.specs.Orders.{StepBy}
-use Rattle.hop_rule.specs.Boards.{IsLawful, accepted, lanes_of, out}
+use Rattle.hop_rule.specs.Boards.{accepted, lanes_of, out}
 use Rattle.hop_rule.specs.Lanes as lanes
 use Rattle.hop_rule.specs.Moments.{past}
 use Rattle.hop_rule.specs.TailLaws.{LoadedTailsAreAccepted, LoadedTailsAreDelivered}
-use Rattle.hop_rule.specs.declared.sizes.BoardSizes.{BoardSizes}
 use Rattle.hop_rule.specs.declared.step.BoardStep.{BoardStep}
 use Rattle.hop_rule.specs.declared.step.BoardStep.TheVariants.{Counted, OutCounted}
 use Rattle.hop_rule.proofs.Boards.{step_lawful}

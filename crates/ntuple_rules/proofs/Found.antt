@@ -6,7 +6,6 @@ use Rattle.std.proofs.Common.{◌+◌, Bor, Result, Ok, Err, subst, length-appen
 use Rattle.std.specs.Prelude.{OnOk, is_some}
 use Rattle.std.specs.Option.{option_copied}
 use Rattle.std.specs.Option.{option_or, option_and_then}
-use Rattle.std.specs.List.{slice_get}
 use Rattle.std.proofs.lemmas.Option.{get_or_from_slice_get, slice_get_read, slice_get_within}
 use Rattle.std.proofs.Math.Seq.{get_or-append_seam}
 use Rattle.std.proofs.lemmas.Bool.{and_parts, eqb-true}
@@ -17,7 +16,7 @@ use Rattle.ntuple_rules.specs.Groups.{IsAt}
 use Rattle.ntuple_rules.specs.declared.rule.Rule.{Rule}
 use Rattle.ntuple_rules.specs.declared.fields.Fields.{Fields}
 use Rattle.ntuple_rules.specs.declared.group.Group.{Group}
-use Rattle.ntuple_rules.specs.Groups.{Adds, AddsAt, Finds, FindsAsBefore, IsNew, lesser, found_in}
+use Rattle.ntuple_rules.specs.Groups.{Adds, AddsAt, FindsAsBefore, IsNew, lesser, found_in}
 use Rattle.ntuple_rules.specs.Groups.{found_among, significant_bits, looked_at, masked, same_fields}
 use Rattle.ntuple_rules.specs.Groups.{shape_of}
 use Rattle.ntuple_rules.specs.Matches.{first_match, matches}
@@ -135,9 +134,10 @@ adds_at old groups place group d rule number within same shaped adds rules finds
     ∙ sym (first_match-push rules rule flow)
 
 -- a new group finds nothing
-found_in-new : (group : Group) (shape : Shape) (flow : Flow) → IsNew group shape
+found_in-new : (group : Group) (shape : Shape) (first : ℕ) (flow : Flow)
+    → IsNew group shape first
     → found_in group flow ≡ None
-found_in-new group shape flow new = by (looked_at group.shape.kind flow)
+found_in-new group shape first flow new = by (looked_at group.shape.kind flow)
   where
     by : (looked : Option Fields)
         → option_and_then
@@ -145,12 +145,12 @@ found_in-new group shape flow new = by (looked_at group.shape.kind flow)
     by None = refl
     by (Some fields) = new.empty (masked group.shape.mask fields)
 
-pub found_among-new : (groups : List Group) (group : Group) (shape : Shape) → IsNew group shape
-    → FindsAsBefore groups (groups ++ group ∷ [])
-found_among-new [] group shape new flow =
-    lesser-None (found_in group flow) ∙ found_in-new group shape flow new
-found_among-new (g ∷ gs) group shape new flow =
-    ap (lesser (found_in g flow)) (found_among-new gs group shape new flow)
+pub found_among-new : (groups : List Group) (group : Group) (shape : Shape) (first : ℕ)
+    → IsNew group shape first → FindsAsBefore groups (groups ++ group ∷ [])
+found_among-new [] group shape first new flow =
+    lesser-None (found_in group flow) ∙ found_in-new group shape first flow new
+found_among-new (g ∷ gs) group shape first new flow =
+    ap (lesser (found_in g flow)) (found_among-new gs group shape first new flow)
 
 -- a key that had no number has it
 option_or-None : (a : Option ℕ) → option_or a None ≡ a

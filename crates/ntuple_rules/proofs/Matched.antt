@@ -1,11 +1,11 @@
 -- Whether a rule matches a flow, by the fields that its kind looks at, and the first match of a
 -- list.
 use Rattle.std.proofs.Common.{◌≡◌, ◌<◌, ◌≤◌, ℕ, ◌+◌, List, [], ◌∷◌, ◌++◌, length, get_or, Bool}
-use Rattle.std.proofs.Common.{true, false, cond, ltb, eqb, ◌&&◌, All}
-use Rattle.std.proofs.Common.{Option, Some, None, bit_and, refl, sym, ap, subst, ◌∙◌, arith}
+use Rattle.std.proofs.Common.{true, false, cond, ltb, eqb, ◌&&◌}
+use Rattle.std.proofs.Common.{Option, Some, None, refl, ap, subst, arith}
 use Rattle.std.proofs.Common.{length-append}
 use Rattle.std.specs.Int.Bits.{and_zero_r}
-use Rattle.std.specs.List.{position, position_or_len}
+use Rattle.std.specs.List.{position_or_len}
 use Rattle.std.specs.Option.{option_map_or, option_or}
 use Rattle.std.proofs.lemmas.Bool.{eq-eqb, ne_eqb, ltb-true, ltb-false, lt-ltb, le-ltb}
 use Rattle.std.proofs.lemmas.List.Folds.{position_or_len_push}
@@ -16,14 +16,12 @@ use Rattle.std.proofs.lemmas.Option.{get_or_from_slice_get, slice_get-get_or}
 use Rattle.steer_base.specs.declared.flow.Pair.{Pair}
 use Rattle.steer_base.specs.declared.flow.Pair.TheVariants.{V4, V6}
 use Rattle.steer_base.specs.declared.flow.Proto.{Proto}
-use Rattle.steer_base.specs.declared.flow.Proto.TheVariants.{Tcp, Udp}
 use Rattle.steer_base.specs.declared.flow.Flow.{Flow}
 use Rattle.steer_base.specs.declared.flow.Flow.TheVariants.{Bare, Two, Four}
 use Rattle.ntuple_rules.specs.declared.rule.RuleKind.{RuleKind}
 use Rattle.ntuple_rules.specs.declared.rule.RuleKind.TheVariants.{Tcp4, Udp4, Tcp6, Udp6, Ip4, Ip6}
 use Rattle.ntuple_rules.specs.declared.rule.Rule.{Rule}
 use Rattle.ntuple_rules.specs.declared.fields.Fields.{Fields}
-use Rattle.ntuple_rules.specs.Folds.{fold_of, swapped}
 use Rattle.ntuple_rules.specs.Groups.{fields_with, has_ports, significant_bits, looked_at, masked}
 use Rattle.ntuple_rules.specs.Groups.{same_fields, shape_of}
 use Rattle.ntuple_rules.specs.Laws.{FindsTheFirst, FindsNoneOfNone, FoldsAlike}

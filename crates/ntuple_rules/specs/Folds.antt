@@ -1,5 +1,5 @@
 -- Folding a flow, so that both of its directions become equal.
-use Rattle.std.specs.Prelude.{ℕ, bit_xor}
+use Rattle.std.specs.Prelude.{bit_xor}
 use Rattle.steer_base.specs.declared.flow.Pair.{Pair}
 use Rattle.steer_base.specs.declared.flow.Pair.TheVariants.{V4, V6}
 use Rattle.steer_base.specs.declared.flow.Flow.{Flow}

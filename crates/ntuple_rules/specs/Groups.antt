@@ -1,7 +1,8 @@
 -- How a classifier finds the first match: rules of the same kind with the same masks form a group,
 -- in which the masked bits are looked up at once.
-use Rattle.std.specs.Prelude.{◌≡◌, ℕ, List, [], ◌∷◌, ◌++◌, length, Bool, true, false, ◌==◌, ◌&&◌}
-use Rattle.std.specs.Prelude.{Option, Some, None, option_and_then, bit_and, min, if◌then◌else◌}
+use Rattle.std.specs.Prelude.{◌≡◌, ◌≤◌, ℕ, List, [], ◌∷◌, ◌++◌, length, Bool, true, false}
+use Rattle.std.specs.Prelude.{Option, Some, None, option_and_then, bit_and, min, ◌==◌, ◌&&◌}
+use Rattle.std.specs.Prelude.{if◌then◌else◌}
 use Rattle.std.specs.List.{slice_get}
 use Rattle.std.specs.Option.{option_or}
 use Rattle.indexmap.specs.IndexMap.{get}
@@ -92,6 +93,27 @@ found_among (group ∷ groups) flow = lesser (found_in group flow) (found_among 
 abbrev pub Finds : List Group → List Rule → Type 0
 Finds groups rules = (flow : Flow) → found_among groups flow ≡ first_match rules flow
 
+-- no number of a group is less than that of its first rule
+abbrev pub StartsAtFirst : Group → Type 0
+StartsAtFirst group =
+    (key : Fields) (n : ℕ) → get same_fields group.numbers key ≡ Some n → group.first ≤ n
+
+-- groups stand in the order of their first rules, whose numbers are `low` to `high`
+abbrev pub InOrder : ℕ → List Group → ℕ → Type 0
+InOrder low [] high = low ≤ high
+InOrder low (group ∷ groups) high =
+    (low ≤ group.first) × StartsAtFirst group × InOrder group.first groups high
+
+-- groups in the order of their first rules, which find for every flow the first match of these
+-- rules
+pub record Serves (groups : List Group) (rules : List Rule) : Type 0 where
+  pub finds : Finds groups rules
+  pub order : InOrder 0 groups (length rules)
+
+-- where those groups stood in the order of their first rules, these stand so
+abbrev pub KeepsOrder : List Group → ℕ → List Group → ℕ → Type 0
+KeepsOrder old before new now = InOrder 0 old before → InOrder 0 new now
+
 -- these groups find for every flow what those did
 abbrev pub FindsAsBefore : List Group → List Group → Type 0
 FindsAsBefore old new = (flow : Flow) → found_among new flow ≡ found_among old flow
@@ -102,14 +124,16 @@ pub record IsAt (groups : List Group) (place : ℕ) (shape : Shape) : Type 0 whe
   pub stands : slice_get groups place ≡ Some group
   pub shaped : group.shape ≡ shape
 
--- a group of this shape that finds nothing
-pub record IsNew (group : Group) (shape : Shape) : Type 0 where
+-- a group of this shape and with this first rule that finds nothing
+pub record IsNew (group : Group) (shape : Shape) (number : ℕ) : Type 0 where
   pub shaped : group.shape ≡ shape
+  pub starts : group.first ≡ number
   pub empty : (key : Fields) → get same_fields group.numbers key ≡ None
 
 -- a group after a number was added at a key that had none
 pub record Adds (old new : Group) (key : Fields) (number : ℕ) : Type 0 where
   pub shaped : new.shape ≡ old.shape
+  pub starts : new.first ≡ old.first
   pub numbers : (other : Fields) → get same_fields new.numbers other
       ≡ option_or (get same_fields old.numbers other)
       (if same_fields key other then Some number else None)

@@ -1,6 +1,5 @@
 -- Lemmas about rules and folds.
-use Rattle.std.specs.Prelude.{◌≡◌, ◌<◌, ℕ, List, Bool, true, false, Option, Some, None, slice_get}
-use Rattle.std.specs.Prelude.{length}
+use Rattle.std.specs.Prelude.{◌≡◌, ◌<◌, ℕ, List, true, false, Some, None, slice_get}
 use Rattle.std.specs.Prelude.{All}
 use Rattle.steer_base.specs.declared.flow.Flow.{Flow}
 use Rattle.ntuple_rules.specs.declared.rule.Rule.{Rule}

@@ -1,5 +1,5 @@
 -- The ranges of rules.
-use Rattle.std.specs.Prelude.{◌<◌, ◌≤◌, ℕ, All, length}
+use Rattle.std.specs.Prelude.{◌<◌, ◌≤◌, All, length}
 use Rattle.ntuple_rules.specs.declared.rules.Rules.{Rules}
 use Rattle.ntuple_rules.specs.declared.rules.TheConstants.{MAX_RULES}
 

@@ -11,8 +11,10 @@ use std::alloc::Global;
 use std::marker::Model;
 use steer_base::{Flow, OutOfMemory};
 
-/// Finds the first rule that matches a flow. Rules of the same kind with the same masks form a
-/// group, and a flow is looked up once in each group. Contracts see the list of the rules.
+/// Finds the first of some rules that matches a flow. Rules of the same kind with the same masks
+/// form a group, in which a flow is looked up once, whatever the number of its rules. The groups
+/// stand in the order of their first rules, so that a match before the first rule of a group makes
+/// an end. Contracts see the list of the rules.
 #[derive(Drop)]
 pub struct Classifier {
     rules: Vec<Rule>,
@@ -22,13 +24,13 @@ pub struct Classifier {
 impl Model for Classifier {
     ghost use Rattle.std.specs.Prelude.{List};
     ghost use Rattle.ntuple_rules.specs.declared.rule.Rule.{Rule as ARule};
-    ghost use Rattle.ntuple_rules.specs.Groups.{Finds};
+    ghost use Rattle.ntuple_rules.specs.Groups.{Serves};
 
     ghost Value = { List ARule };
 
     ghost view = { λ c. c.rules.items };
 
-    ghost invariant = { λ c. Finds c.groups.items c.rules.items };
+    ghost invariant = { λ c. Serves c.groups.items c.rules.items };
 }
 
 /// The lesser of two optional numbers.
@@ -43,7 +45,8 @@ fn lesser(first: Option<u32>, second: Option<u32>) -> Option<u32>
 }
 
 impl Classifier {
-    /// Builds the groups of the rules. Allocates memory for the rules and their groups.
+    /// A classifier of these rules, in their order. Allocates memory for a copy of the rules and
+    /// for their groups; `OutOfMemory` is the only error.
     pub fn make(alloc: Global, rules: &Rules) -> Result<Classifier, OutOfMemory>
         requires few { length rules.now.rules ≤ MAX_RULES }
         ensures { IfOk result (λ classifier. classifier ≡ rules.now.rules) }
@@ -56,13 +59,17 @@ impl Classifier {
         Ok(Classifier { rules, groups })
     }
 
-    /// The index of the first rule that matches the flow. Allocates nothing.
+    /// The index, from 0, of the first rule that matches the flow, or `None` if no rule does; a
+    /// `Flow::Bare` matches none. Allocates nothing.
     pub fn find(&self, flow: &Flow) -> Option<u32>
         ensures { result ≡ first_match self.now flow.now }
     {
         let mut found = None;
         for group in &self.groups {
-            found = lesser(found, group.find(*flow));
+            match found {
+                Some(number) if number < group.first => return found,
+                _ => found = lesser(found, group.find(*flow)),
+            }
         }
         found
     }

@@ -7,23 +7,29 @@ ghost use Rattle.ntuple_rules.specs.Matches.{fits_proto, fits_version};
 use crate::rule::{Rule, RuleKind};
 use steer_base::{Flow, Pair, Proto};
 
-/// The fields that rules look at. Ports that are not looked at are 0.
+/// The fields that rules look at, or a mask of each.
 #[derive(Clone, Copy, Debug, PartialEq, Eq, Hash)]
 pub struct Fields {
+    /// The source address. An IPv4 address is in the low 32 bits, and the other bits are 0.
     pub src: u128,
+    /// The destination address, likewise.
     pub dst: u128,
+    /// The source port, 0 if ports are not looked at.
     pub sport: u16,
+    /// The destination port, 0 if ports are not looked at.
     pub dport: u16,
 }
 
 /// What the rules of a group have in common: their kind, and the mask of each field.
 #[derive(Clone, Copy, Debug, PartialEq, Eq)]
 pub struct Shape {
+    /// The packets that the rules are for.
     pub kind: RuleKind,
+    /// The bits of each field that the rules compare.
     pub mask: Fields,
 }
 
-/// The bits of the fields that count.
+/// The fields with each bit cleared that the mask does not have.
 pub fn masked(mask: Fields, fields: Fields) -> Fields
     ensures { result ≡ masked mask fields }
 {
@@ -79,7 +85,8 @@ fn fits_proto(kind: RuleKind, pair: Pair, proto: Proto) -> bool
     }
 }
 
-/// What a kind looks at in a flow, where it fits.
+/// The fields of a flow that a rule of this kind looks at, with ports 0 for `Ip4` and `Ip6`. `None`
+/// if the kind is not for this flow's version of IP and protocol.
 pub fn looked_at(kind: RuleKind, flow: Flow) -> Option<Fields>
     ensures { result ≡ looked_at kind flow }
 {
@@ -104,7 +111,7 @@ pub fn looked_at(kind: RuleKind, flow: Flow) -> Option<Fields>
     }
 }
 
-/// The kind and the masks of a rule.
+/// The kind and the masks of a rule. The masks of the ports are 0 for `Ip4` and `Ip6`.
 pub fn shape_of(rule: &Rule) -> Shape
     ensures { result ≡ shape_of rule.now }
 {
@@ -120,7 +127,8 @@ pub fn shape_of(rule: &Rule) -> Shape
     }
 }
 
-/// The bits of a rule's fields that count.
+/// The fields of a rule under its masks. A flow of the rule's kind matches if its fields under the
+/// same masks are equal to them.
 pub fn key_of(rule: &Rule) -> Fields
     ensures { result ≡ significant_bits rule.now }
 {

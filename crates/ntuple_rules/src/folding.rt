@@ -20,8 +20,9 @@ fn fold_pair(pair: Pair) -> Pair
     }
 }
 
-/// The flow whose addresses are both the XOR of this one's addresses, and whose ports are both the
-/// XOR of its ports. A flow and its other direction have the same fold. Allocates nothing.
+/// The symmetric form of a flow: both addresses are the XOR of the flow's addresses, and both ports
+/// the XOR of its ports, as `xfrm symmetric-xor` of ethtool. A flow and its other direction have
+/// the same fold. Allocates nothing.
 pub fn fold(flow: &Flow) -> Flow
     ensures { result ≡ fold_of flow.now }
 {

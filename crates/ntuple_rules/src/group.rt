@@ -1,6 +1,6 @@
 //! Rules of one kind and with the same masks.
-ghost use Rattle.std.specs.Prelude.{◌≡◌, IfOk, IfSome, OnOk};
-ghost use Rattle.ntuple_rules.specs.Groups.{AddsAt, FindsAsBefore, IsAt};
+ghost use Rattle.std.specs.Prelude.{◌≡◌, ◌+◌, IfOk, IfSome, OnOk};
+ghost use Rattle.ntuple_rules.specs.Groups.{AddsAt, FindsAsBefore, IsAt, KeepsOrder};
 
 use crate::fields::{Fields, Shape, key_of, looked_at, masked, shape_of};
 use crate::rule::Rule;
@@ -8,22 +8,26 @@ use indexmap::IndexMap;
 use std::alloc::Global;
 use steer_base::{Flow, OutOfMemory};
 
-/// The rules of one shape: the least number of a rule for each key.
+/// The rules of one shape: for each key, the number of the first rule that has it.
 #[derive(Drop)]
 pub struct Group {
     shape: Shape,
+    /// The number of the group's first rule; no number of the group is less.
+    pub first: u32,
     numbers: IndexMap<Fields, u32>,
 }
 
 impl Group {
     ghost use Rattle.ntuple_rules.specs.Groups.{Adds, IsNew, found_in};
 
-    /// A group without rules, which takes no memory.
-    fn new(alloc: Global, shape: Shape) -> Group
-        ensures { IsNew result shape }
+    /// A group that has no rules yet, which takes no memory. The rule with this number will be its
+    /// first.
+    fn new(alloc: Global, shape: Shape, first: u32) -> Group
+        ensures { IsNew result shape first }
     {
         Group {
             shape,
+            first,
             numbers: IndexMap::new(alloc),
         }
     }
@@ -41,7 +45,7 @@ impl Group {
         }
     }
 
-    /// The least number of a rule of the group that matches the flow.
+    /// The number of the first rule of the group that matches the flow, or `None`.
     pub fn find(&self, flow: Flow) -> Option<u32>
         ensures { result ≡ found_in self.now flow }
     {
@@ -62,33 +66,42 @@ fn find_shape(groups: &[Group], shape: Shape) -> Option<usize>
     None
 }
 
-/// The place of the group of a shape, which is a new one where there was none.
-fn place_of(alloc: Global, groups: &mut Vec<Group>, shape: Shape) -> Result<usize, OutOfMemory>
+/// The place of the group of a shape. Where there was none it is a new one at the end, whose first
+/// rule will be that with this number.
+fn place_of(
+    alloc: Global,
+    groups: &mut Vec<Group>,
+    shape: Shape,
+    number: u32,
+) -> Result<usize, OutOfMemory>
     ensures same { OnOk result (FindsAsBefore groups.old.items groups.new.items) }
+    ensures order { OnOk result (KeepsOrder groups.old.items number groups.new.items number) }
     ensures at { IfOk result (λ place. IsAt groups.new.items place shape) }
 {
     match find_shape(groups, shape) {
         Some(place) => Ok(place),
         None => {
             let place = groups.len();
-            let group = Group::new(alloc, shape);
+            let group = Group::new(alloc, shape, number);
             groups.push(group)?;
             Ok(place)
         }
     }
 }
 
-/// Adds a rule behind those that the groups find.
+/// Adds a rule with this number, which is greater than those of the rules that the groups have.
+/// Allocates memory for the rule, and for a group if it is the first of its shape.
 pub fn add(
     alloc: Global,
     groups: &mut Vec<Group>,
     number: u32,
     rule: &Rule,
 ) -> Result<(), OutOfMemory>
-    ensures { OnOk result (AddsAt groups.old.items groups.new.items number rule.now) }
+    ensures finds { OnOk result (AddsAt groups.old.items groups.new.items number rule.now) }
+    ensures order { OnOk result (KeepsOrder groups.old.items number groups.new.items (number + 1)) }
 {
     let shape = shape_of(rule);
     let key = key_of(rule);
-    let place = place_of(alloc, groups, shape)?;
+    let place = place_of(alloc, groups, shape, number)?;
     groups[place].add(key, number)
 }

@@ -29,7 +29,8 @@ fn kind_named(text: &str) -> Option<RuleKind>
     }
 }
 
-/// The kind of a rule.
+/// The kind that a JSON string names: `tcp4`, `udp4`, `tcp6`, `udp6`, `ip4` or `ip6`. Every other
+/// value is `Cause::WrongKind`.
 #[tactic(auto, unfolding(crate::specs::Readings::kind_of))]
 pub fn kind_of(value: &Value) -> Result<RuleKind, Cause>
     ensures { result ≡ kind_of (view value.now) }
@@ -38,7 +39,7 @@ pub fn kind_of(value: &Value) -> Result<RuleKind, Cause>
     kind_named(text).ok_or(Cause::WrongKind)
 }
 
-/// Whether the addresses of a kind are those of IPv4.
+/// Whether rules of this kind have IPv4 addresses; the others have IPv6 addresses.
 pub fn is_ipv4(kind: RuleKind) -> bool
     ensures { result ≡ is_ipv4 kind }
 {
@@ -48,7 +49,7 @@ pub fn is_ipv4(kind: RuleKind) -> bool
     }
 }
 
-/// The kind at the key `kind`.
+/// The kind at the key `kind` of a rule, which must have it.
 #[tactic(auto, using(plan_reader::proofs::Placed::gives_placed))]
 pub fn required_kind(alloc: Global, object: &Value) -> Result<RuleKind, Refusal>
     ensures { Gives result (required (codes "kind") (λ v. here (kind_of v)) (view object.now)) }

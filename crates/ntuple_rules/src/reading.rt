@@ -69,7 +69,8 @@ fn port_at(alloc: Global, object: &Value, key: &str) -> Result<u16, Refusal>
     Ok(port as u16)
 }
 
-/// `true` or `false` at a key, `false` if it is absent.
+/// The JSON `true` or `false` at a key, `false` if the key is absent. Every other value is
+/// `Cause::WrongKind`.
 #[tactic(auto, using(plan_reader::proofs::Placed::gives_placed))]
 pub fn truth_or_false(alloc: Global, object: &Value, key: &str) -> Result<bool, Refusal>
     ensures { Gives result (optional key.now (λ v. here (truth v)) false (view object.now)) }
@@ -106,7 +107,9 @@ fn only_known(alloc: Global, value: &Value) -> Result<(), Refusal>
     only(alloc, value, &keys)
 }
 
-/// Reads a rule over this many receive queues.
+/// Reads a rule of a card with this many receive queues: a JSON object with a kind, addresses and
+/// ports with their masks, which are 0 if absent, and a queue. The error is the first fault in this
+/// order; a key that a rule does not have comes last.
 #[tactic(auto, unfolding(crate::specs::Readings::rule_of))]
 pub fn rule_of(alloc: Global, queues: u8, value: &Value) -> Result<Rule, Refusal>
     ensures gives { Gives result (rule_of queues (view value.now)) }

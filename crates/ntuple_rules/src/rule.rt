@@ -18,13 +18,14 @@ pub enum RuleKind {
     Ip6,
 }
 
-/// The packets of a kind whose fields agree with these under their masks, and their receive queue.
-/// A bit of a field counts where the bit of its mask is 1.
+/// An n-tuple filter: the packets of a kind whose fields agree with these under their masks go to a
+/// receive queue. A bit of a field is compared if the bit of its mask is 1, so a mask of 0 accepts
+/// each value.
 #[derive(Clone, Copy, Debug, PartialEq, Eq)]
 pub struct Rule {
-    /// The kind.
+    /// The version of IP and the protocol.
     pub kind: RuleKind,
-    /// The source address. An IPv4 address or mask stands in the low 32 bits.
+    /// The source address. An IPv4 address or mask is in the low 32 bits, and the others are 0.
     pub src: u128,
     /// The mask of the source address.
     pub srcmask: u128,
@@ -32,14 +33,14 @@ pub struct Rule {
     pub dst: u128,
     /// The mask of the destination address.
     pub dstmask: u128,
-    /// The source port. The kinds `Ip4` and `Ip6` do not look at the ports.
+    /// The source port. It is not compared if the kind is `Ip4` or `Ip6`.
     pub sport: u16,
     /// The mask of the source port.
     pub sportmask: u16,
-    /// The destination port.
+    /// The destination port, likewise.
     pub dport: u16,
     /// The mask of the destination port.
     pub dportmask: u16,
-    /// The queue of the packets.
+    /// The receive queue that the packets go to, below the number of queues.
     pub queue: RxQueue,
 }

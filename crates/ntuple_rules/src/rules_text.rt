@@ -56,10 +56,12 @@ fn rules_of_bytes(alloc: Global, bytes: &[u8]) -> Result<Rules, Refusal>
     rules_in(alloc, &value)
 }
 
-/// Reads the rules of a JSON text (RFC 8259), or returns the first thing that is wrong with it.
+/// Reads the rules of a JSON text (RFC 8259): an object with the number of queues, the hash kinds
+/// and the list of rules. The error is the first fault of the text, with its path.
 ///
-/// Memory may run out for any text; the result then says nothing about the rules. The memory of the
-/// text's JSON value is freed once the rules are read.
+/// Memory may run out for any text; `OutOfMemory` says nothing about the rules. The JSON value of
+/// the text, which can take a hundred times its bytes, is freed once the rules are read. The result
+/// for a text with more than 2,500,000 opening braces is `OutOfMemory`.
 #[tactic(auto, unfolding(crate::specs::Readings::rules_of))]
 pub fn read_rules(alloc: Global, bytes: &[u8]) -> Result<Rules, PlanFault>
     ensures rules { IfOk result (λ rules. rules_of bytes.now ≡ Ok rules) }

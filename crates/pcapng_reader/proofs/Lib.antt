@@ -5,3 +5,8 @@ pub mod Verdicts
 pub mod Pieces
 pub mod Wants
 pub mod Written
+pub mod Fields
+pub mod Assembled
+pub mod Taken
+pub mod Files
+pub mod Examples

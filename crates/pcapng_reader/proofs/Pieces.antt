@@ -25,7 +25,8 @@ number_of-take true bytes = big_from-take 0 4 4 bytes (omega arith)
 number_of-take false bytes = little_from-take 0 4 4 bytes (omega arith)
 
 -- the next m bytes behind n
-next_piece : (n m : ℕ) (bytes : List ℕ) → drop n bytes ≡ take m (drop n bytes) ++ drop (n + m) bytes
+pub next_piece : (n m : ℕ) (bytes : List ℕ)
+    → drop n bytes ≡ take m (drop n bytes) ++ drop (n + m) bytes
 next_piece n m bytes = sym (take-append-drop m (drop n bytes)) ∙ ap (λ l. take m (drop n bytes)
     ++ l) (drop-drop m n bytes)
 

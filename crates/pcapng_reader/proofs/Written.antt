@@ -70,7 +70,7 @@ fields len more few =
     )
 
 -- a block whose length, order, tail and content are these
-block_is : (section : Section) (place : Place) (rest : List ℕ) (big : Bool) (len kind : ℕ)
+pub block_is : (section : Section) (place : Place) (rest : List ℕ) (big : Bool) (len kind : ℕ)
     (c : Content) → 12 ≤ length rest → len ≤ length rest
     → order_of section rest ≡ Some big → u32_at big 4 rest ≡ len → kind_of section rest ≡ kind
     → is_len kind len ≡ true

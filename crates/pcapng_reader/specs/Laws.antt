@@ -1,6 +1,6 @@
 -- Lemmas about captures and faults.
-use Rattle.std.specs.Prelude.{◌≡◌, ◌≤◌, ◌⊎◌, ℕ, ◌+◌, ◌%◌, Bool, Some, Ok, List, [], ◌∷◌, ◌++◌}
-use Rattle.std.specs.Prelude.{length, map, All}
+use Rattle.std.specs.Prelude.{◌≡◌, ◌≤◌, ◌<◌, ◌⊎◌, ℕ, ◌+◌, ◌%◌, Bool, Some, None, Ok, List, [], ◌∷◌}
+use Rattle.std.specs.Prelude.{◌++◌, length, drop, map, All}
 use Rattle.steer_base.specs.declared.limits.TheConstants.{MAX_PACKETS}
 use Rattle.pcap_reader.specs.declared.limits.TheConstants.{MAX_FRAME}
 use Rattle.pcap_reader.specs.declared.capture.Capture.{Capture}
@@ -9,10 +9,16 @@ use Rattle.pcap_reader.specs.Numbers.{number_of}
 use Rattle.pcapng_reader.specs.declared.section.Section.{Section}
 use Rattle.pcapng_reader.specs.declared.place.Place.{Place}
 use Rattle.pcapng_reader.specs.declared.block.Block.{Block}
+use Rattle.pcapng_reader.specs.declared.content.Content.TheVariants as content
 use Rattle.pcapng_reader.specs.Blocks.{order_of, block_at}
 use Rattle.pcapng_reader.specs.declared.fault.NgFault.{NgFault}
 use Rattle.pcapng_reader.specs.declared.fault.NgFault.TheVariants as fault
+use Rattle.pcapng_reader.specs.Format.{IsWritten, IsTruncated}
 use Rattle.pcapng_reader.specs.Captures.{BeginsNg, HasNgCapture, HasNgFault}
+use Rattle.pcapng_reader.specs.Files.{IsNgFile}
+use Rattle.pcapng_reader.specs.Examples.{big_section, little_section, example_place}
+use Rattle.pcapng_reader.specs.Examples.{enhanced_example, enhanced_packet, simple_example}
+use Rattle.pcapng_reader.specs.Examples.{simple_packet}
 use Rattle.pcapng_reader.specs.Writing.{section_bytes, enhanced_bytes, ng_bytes, ng_capture}
 
 -- bytes have at most one capture
@@ -87,3 +93,41 @@ KeepsNgFrames =
 -- running out of memory is not a fault of bytes
 abbrev pub IsNoWant : Type 0
 IsNoWant = (bytes : List ℕ) → HasNgFault bytes fault.OutOfMemory → ⊥
+
+-- a block that was put together after the format is read, and says what was said
+abbrev pub ReadsWritten : Type 0
+ReadsWritten =
+    (section : Section) (place : Place) (bytes more : List ℕ) (b : Block)
+    → IsWritten section place bytes b more
+    → (block_at section place bytes ≡ Ok (Some b)) × (more ≡ drop b.len bytes)
+
+-- a block that is read was put together after the format and says this; a list of bytes is one of
+-- numbers below 256
+abbrev pub ReadsWrittenOnly : Type 0
+ReadsWrittenOnly =
+    (section : Section) (place : Place) (bytes : List ℕ) (b : Block) → All (λ x. x < 256) bytes
+    → block_at section place bytes ≡ Ok (Some b)
+    → IsWritten section place bytes b (drop b.len bytes)
+
+-- a block is truncated if and only if it is the beginning of one that was put together
+abbrev pub TruncatesWritten : Type 0
+TruncatesWritten =
+    (section : Section) (place : Place) (bytes : List ℕ) → All (λ x. x < 256) bytes
+    → (IsTruncated section bytes → block_at section place bytes ≡ Ok None)
+    × (block_at section place bytes ≡ Ok None → IsTruncated section bytes)
+
+-- a file has a capture if and only if it was put together so that its blocks say this capture
+abbrev pub ReadsWrittenFiles : Type 0
+ReadsWrittenFiles =
+    (bytes : List ℕ) (capture : Capture) → All (λ x. x < 256) bytes
+    → (IsNgFile bytes capture → HasNgCapture bytes capture)
+    × (HasNgCapture bytes capture → IsNgFile bytes capture)
+
+-- two blocks that are written out byte by byte are read as worked out by hand, whatever follows
+abbrev pub ReadsExamples : Type 0
+ReadsExamples =
+    (more : List ℕ)
+    → (block_at big_section example_place (enhanced_example ++ more)
+    ≡ Ok (Some (record { len = 52; content = content.Packet enhanced_packet })))
+    × (block_at little_section example_place (simple_example ++ more)
+    ≡ Ok (Some (record { len = 24; content = content.Packet simple_packet })))

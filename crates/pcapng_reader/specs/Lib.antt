@@ -2,6 +2,9 @@ pub mod Numbers
 pub mod Contents
 pub mod Blocks
 pub mod Captures
+pub mod Format
+pub mod Files
 pub mod Readers
 pub mod Writing
+pub mod Examples
 pub mod Laws

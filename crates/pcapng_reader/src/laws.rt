@@ -3,6 +3,8 @@ ghost use Rattle.pcapng_reader.specs.Laws.{HasOneNgCapture, HasOneNgFault, HasNo
 ghost use Rattle.pcapng_reader.specs.Laws.{HasOneOfBothNg};
 ghost use Rattle.pcapng_reader.specs.Laws.{IsNoWant, HasFourPieces, BeginsWithSection};
 ghost use Rattle.pcapng_reader.specs.Laws.{GrowsByFrame, ReadsNgBack, KeepsNgFrames};
+ghost use Rattle.pcapng_reader.specs.Laws.{ReadsWritten, ReadsWrittenOnly, TruncatesWritten};
+ghost use Rattle.pcapng_reader.specs.Laws.{ReadsWrittenFiles, ReadsExamples};
 
 /// Lemma: a file's bytes have exactly one capture or exactly one fault, and never both. Running out
 /// of memory is not a fault of bytes.
@@ -18,6 +20,22 @@ pub fn one_capture_or_fault()
 /// length minus 12, and 4 bytes; the length is a multiple of 4.
 pub fn a_block_is_four_pieces()
     ensures { HasFourPieces }
+{}
+
+/// Lemma: a block is read, with what it says, if and only if the bytes are this block as a writer
+/// puts it together after the format; likewise a truncated block. Two blocks that are written out
+/// byte by byte are read as worked out by hand.
+pub fn a_block_is_read_as_written()
+    ensures read { ReadsWritten }
+    ensures only { ReadsWrittenOnly }
+    ensures truncated { TruncatesWritten }
+    ensures examples { ReadsExamples }
+{}
+
+/// Lemma: a file has a capture if and only if its bytes were put together after the format so that
+/// its blocks say this capture.
+pub fn a_file_is_read_as_written()
+    ensures { ReadsWrittenFiles }
 {}
 
 /// Lemma: what `put_section` and then one `put_enhanced` for each frame write is read back with

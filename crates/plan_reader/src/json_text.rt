@@ -39,7 +39,8 @@ fn value_of(alloc: Global, bytes: &[u8]) -> Result<Value, Refusal>
     }
 }
 
-/// The JSON value of bytes; a text that may have too many objects gives `OutOfMemory`.
+/// The JSON value of bytes (RFC 8259), or `Cause::NotJson`. A text with more than `MOST_BRACES`
+/// opening braces is refused as if memory had run out, before its value is made.
 pub fn bounded_value(alloc: Global, bytes: &[u8]) -> Result<Value, Refusal>
     ensures { GivesAs view result (json_of (value_of bytes.now)) }
 {
@@ -60,7 +61,7 @@ fn without_slash(path: List<u8>) -> List<u8>
     List::from_vec(bytes)
 }
 
-/// A refusal by its name.
+/// The public fault of a refusal, whose path has no slash in front.
 pub fn named(refusal: Refusal) -> PlanFault
     ensures { IsNamedOutside refusal result }
 {

@@ -51,9 +51,9 @@ pub struct Plan {
     pub queues: List<QueuePlan>,
     /// The key of the receive hash. The default key is `toeplitz`'s `VERIFICATION_KEY`.
     pub key: [u8; 40],
-    /// The enabled hash kinds, a set of six bits.
+    /// The enabled hash kinds (`toeplitz::Kinds`), one bit for each, 0 to 63.
     pub kinds: u8,
-    /// The 128 entries of the redirection table.
+    /// The 128 entries of the redirection table, each a receive queue of the plan.
     pub reta: List<RxQueue>,
     /// The size of the socket flow table (`rps_sock_flow_entries`), at most `MAX_SOCKET_SIZE`, as
     /// given: not rounded up to a power of two.
@@ -63,7 +63,8 @@ pub struct Plan {
     /// The most packets that may wait in the backlog of a processor (`netdev_max_backlog`), from 1
     /// to `MAX_PLAN_BACKLOG`.
     pub backlog: u32,
-    /// The number at which the counters of all lanes start, before their first packet.
+    /// The value at which the counters of all lanes start, before their first packet; they wrap at
+    /// 2^32.
     pub start: u32,
     /// The processors that have the flow limit (`flow_limit_cpu_bitmap`).
     pub limited: CpuMask,

@@ -55,12 +55,13 @@ fn plan_with(alloc: Global, parts: Parts) -> Result<Plan, AllocError>
     })
 }
 
-/// The plan of a JSON text (RFC 8259), or the first that is wrong with it.
+/// Reads the plan of a JSON text (RFC 8259). The error is the first fault of the text in the order
+/// of a plan's keys, with its path.
 ///
-/// Memory may run out at any text; then the answer says nothing of the plan. The
-/// JSON value of the text, which can take a hundred times its bytes, is given up
-/// once the fields are read out of it, before the commands are listed. A text with
-/// more than 2,500,000 opening braces gives `OutOfMemory`.
+/// Memory may run out for any text; `OutOfMemory` says nothing about the plan. The JSON value of
+/// the text, which can take a hundred times its bytes, is freed once the fields are read, before
+/// the commands are listed. A text with more than 2,500,000 opening braces has the result
+/// `OutOfMemory`.
 #[tactic(auto, unfolding(crate::specs::PlanTexts::plan_of))]
 pub fn read_plan(alloc: Global, bytes: &[u8]) -> Result<Plan, PlanFault>
     ensures plan { IfOk result (λ plan. plan_of bytes.now ≡ Ok (settings_of plan)) }

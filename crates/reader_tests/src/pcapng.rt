@@ -2,8 +2,8 @@
 use crate::pieces::{SEGMENT, joined, same, same_items};
 use pcap_reader::{Capture, PcapRecord};
 use pcapng_reader::{
-    NgFault, a_block_is_four_pieces, frames_are_read_back, is_pcapng, one_capture_or_fault,
-    put_enhanced, put_section, read_ng,
+    NgFault, a_block_is_four_pieces, a_block_is_read_as_written, a_file_is_read_as_written,
+    frames_are_read_back, is_pcapng, one_capture_or_fault, put_enhanced, put_section, read_ng,
 };
 use std::process::Abort;
 use std::test::Fail;
@@ -292,5 +292,7 @@ fn counts_at_most_262144_packets(rt: HostRuntime) -> Result<(), Fail> {
 fn laws_may_be_called() {
     one_capture_or_fault();
     a_block_is_four_pieces();
+    a_block_is_read_as_written();
+    a_file_is_read_as_written();
     frames_are_read_back();
 }

@@ -186,6 +186,31 @@ fn the_first_match_is_found(rt: HostRuntime) -> Result<(), Fail> {
     Ok(())
 }
 
+/// Three rules, of which the first and the last have the same masks.
+const THREE: &[u8] = b"{\"queues\":4,\"rules\":[\
+{\"kind\":\"tcp4\",\"dport\":80,\"dportmask\":65535,\"queue\":1},\
+{\"kind\":\"ip4\",\"src\":\"0a000000\",\"srcmask\":\"ff000000\",\"queue\":2},\
+{\"kind\":\"tcp4\",\"dport\":443,\"dportmask\":65535,\"queue\":3}]}";
+
+#[test]
+fn a_match_between_two_of_the_same_masks_is_found(rt: HostRuntime) -> Result<(), Fail> {
+    let rules = read_rules(rt.alloc(), THREE)?;
+    let classifier = Classifier::make(rt.alloc(), &rules)?;
+    let inside = pair4(0x0a01_0203, 2);
+    let outside = pair4(0x0b01_0203, 2);
+    let cases: [(Flow, Option<u32>); 5] = [
+        (Flow::Four(inside, Proto::Tcp, 9, 80), Some(0)),
+        (Flow::Four(inside, Proto::Tcp, 9, 443), Some(1)),
+        (Flow::Four(outside, Proto::Tcp, 9, 80), Some(0)),
+        (Flow::Four(outside, Proto::Tcp, 9, 443), Some(2)),
+        (Flow::Four(outside, Proto::Udp, 9, 443), None),
+    ];
+    for (i, (flow, wanted)) in cases.iter().enumerate() {
+        same(&rt, &first_match(&classifier, flow), wanted, i);
+    }
+    Ok(())
+}
+
 #[test]
 fn both_directions_have_one_fold(rt: HostRuntime) {
     both_directions_fold_alike();

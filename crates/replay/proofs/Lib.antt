@@ -1,6 +1,5 @@
 mod StepsLemmas
 mod CountsLemmas
-mod FlowsLemmas
 mod TextsLemmas
 mod WrittenLemmas
 mod SummariesLemmas

@@ -3,7 +3,7 @@ use Rattle.std.proofs.Common.{◌≡◌, ℕ, List, ap, ◌∙◌}
 use Rattle.history.specs.declared.history.History.{History}
 use Rattle.steer_base.specs.declared.packet.Packet.{Packet}
 use Rattle.replay.specs.Counts.{counts_of}
-use Rattle.replay.specs.FlowCounts.{flow_count}
+use Rattle.steer_model.specs.Capture.FlowCounts.{flow_count}
 use Rattle.replay.specs.declared.counts.Counts.{Counts}
 use Rattle.replay.specs.declared.summary.Summary.{Summary}
 

@@ -3,5 +3,4 @@ pub mod Replays
 pub mod Reports
 pub mod Headlines
 pub mod Counts
-pub mod FlowCounts
 pub mod Summaries

@@ -10,7 +10,7 @@ use Rattle.serde_json.specs.Written.{compact_text}
 use Rattle.steer_base.specs.declared.packet.Packet.{Packet}
 use Rattle.steer_model.specs.State.Start.{replayed}
 use Rattle.replay.specs.Counts.{counts_of}
-use Rattle.replay.specs.FlowCounts.{flow_count}
+use Rattle.steer_model.specs.Capture.FlowCounts.{flow_count}
 use Rattle.replay.specs.Reports.{ArePacketsBy, HasPlan}
 use Rattle.replay.specs.declared.counts.Counts.{Counts}
 use Rattle.replay.specs.declared.summary.Summary.{Summary}

@@ -3,7 +3,6 @@
 #![tactic(auto)]
 
 mod counts;
-mod flows;
 mod laws;
 mod packets;
 mod play;
@@ -11,8 +10,7 @@ mod replay;
 mod summary;
 
 pub use counts::Counts;
-pub use flows::flow_count;
-pub use laws::{every_report_has_the_headline, flows_are_counted};
+pub use laws::every_report_has_the_headline;
 pub use packets::packets_by;
 pub use replay::Replay;
 pub use summary::Summary;

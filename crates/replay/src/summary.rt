@@ -1,13 +1,13 @@
 //! The replay of generated input in two lines.
 ghost use Rattle.std.specs.Prelude.{◌≡◌, ◌≤◌, ◌+◌, ◌++◌, [], length, IfOk, OnErr, OnOk};
 ghost use Rattle.std.specs.Io.KnownBytes.{Appends};
+ghost use Rattle.cap_gen.specs.declared.frame.TheConstants.{MAX_FLOWS};
 ghost use Rattle.outside_io.specs.Counts.{Rose};
 ghost use Rattle.outside_io.specs.Sink.{AppendsSome};
 ghost use Rattle.replay.specs.Summaries.{after_drops, counts_line, input_line, up_to_drops};
 ghost use Rattle.steer_base.specs.declared.limits.TheConstants.{MAX_PACKETS};
 
 use crate::counts::Counts;
-use crate::flows::flow_count;
 use crate::packets::packets_by;
 use crate::play::{play, tell_countable};
 use cap_gen::{Generated, generate};
@@ -17,6 +17,7 @@ use plan_reader::read_plan;
 use report::LineBuf;
 use std::alloc::Global;
 use steer_base::OutOfMemory;
+use steer_model::flow_count;
 
 /// What the replay of generated input comes to.
 #[derive(Clone, Copy, Debug, PartialEq, Eq)]
@@ -39,7 +40,7 @@ impl Summary {
     pub fn make(alloc: Global, seed: u64, packets: u32, flows: u32) -> Result<Summary, OutOfMemory>
         requires few_packets { packets ≤ MAX_PACKETS }
         requires some_flow { 1 ≤ flows }
-        requires few_flows { flows ≤ 65536 }
+        requires few_flows { flows ≤ MAX_FLOWS }
         ensures { IfOk result (IsSummaryOf seed packets flows) }
     {
         let Generated {

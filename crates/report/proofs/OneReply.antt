@@ -12,7 +12,7 @@ use Rattle.steer_base.specs.declared.flow.Flow.TheVariants.{Four}
 use Rattle.steer_base.specs.declared.flow.Pair.TheVariants.{V4}
 use Rattle.steer_base.specs.declared.flow.Proto.TheVariants.{Tcp}
 use Rattle.steer_base.specs.declared.packet.Packet.{Packet}
-use Rattle.history.specs.Examples.{one_packet}
+use Rattle.history.proofs.Examples.{one_packet}
 use Rattle.history.specs.Lists.{no_lane, packet_at}
 use Rattle.history.specs.Ranges.{HistoryFits, ArrivalFits, ChosenFits, LaneFits, SentFits}
 use Rattle.history.specs.Ranges.{WriteFits, CommandedFits, DropFits}

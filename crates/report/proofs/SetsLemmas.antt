@@ -6,7 +6,12 @@ use Rattle.std.proofs.lemmas.Fmt.{length-decimal-le}
 use Rattle.steer_base.proofs.SetsLemmas.{those_below-more}
 use Rattle.steer_base.specs.Sets.{is_empty, those_below}
 use Rattle.report.specs.Commands.{with_commas}
-use Rattle.report.specs.Pieces.{members_text, separator}
+use Rattle.report.specs.Pieces.{separator}
+
+-- the text of the first members of a set, as a field
+abbrev pub members_text : List ℕ → List ℕ
+members_text [] = []
+members_text (n ∷ ns) = 32 ∷ (decimal n ++ with_commas ns)
 
 pub decimal-short : (n : ℕ) → n < 32 → length (decimal n) ≤ 2
 decimal-short n small = length-decimal-le 2 n (omega arith) (omega arith) (omega arith)

@@ -5,7 +5,13 @@ use Rattle.std.specs.Io.KnownBytes.{Appends}
 use Rattle.std.proofs.KnownBytes.{Appends-trans}
 use Rattle.std.proofs.lemmas.List.{take-append-le}
 use Rattle.outside_io.specs.Sink.{AppendsSome}
-use Rattle.report.specs.Written.{Goes, Stopped, Wrote}
+use Rattle.report.specs.Written.{Stopped, Wrote}
+
+-- the sink took all of a text but the rest
+pub record Goes (old new : Option (List ℕ)) (before now : ℕ) (all rest : List ℕ) : Type 0 where
+  pub done : List ℕ
+  pub wrote : Wrote old new before now done
+  pub left : done ++ rest ≡ all
 
 -- one text and then another
 pub Wrote-then : {a b c : Option (List ℕ)} {n m k : ℕ} {s t : List ℕ} → Wrote a b n m s

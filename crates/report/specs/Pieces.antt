@@ -4,7 +4,6 @@ use Rattle.std.specs.Prelude.{decimal}
 use Rattle.steer_base.specs.declared.choice.Choice.{Choice}
 use Rattle.history.specs.declared.packet_line.PacketLine.{PacketLine}
 use Rattle.history.specs.declared.reply_line.ReplyLine.{ReplyLine}
-use Rattle.report.specs.Commands.{with_commas}
 use Rattle.report.specs.Lines.{or_dash, via_word, class_in, want_in, head_in, tail_in, lane_in}
 use Rattle.report.specs.Lines.{why_in, why_word, reply_row}
 use Rattle.report.specs.Texts.{row_text}
@@ -52,8 +51,3 @@ reply_text (Some line) = row_text (reply_row line)
 abbrev pub separator : Bool → ℕ
 separator true = 32
 separator false = 44
-
--- the text of the first members of a set, as a field
-abbrev pub members_text : List ℕ → List ℕ
-members_text [] = []
-members_text (n ∷ ns) = 32 ∷ (decimal n ++ with_commas ns)

@@ -1,5 +1,5 @@
 -- What a sink took of a text, by the bytes that it observes and its count of faults.
-use Rattle.std.specs.Prelude.{ℕ, ◌≡◌, ◌≤◌, ◌++◌, List, Option}
+use Rattle.std.specs.Prelude.{ℕ, ◌≤◌, List, Option}
 use Rattle.std.specs.Io.KnownBytes.{Appends}
 use Rattle.outside_io.specs.Counts.{Rose}
 use Rattle.outside_io.specs.Sink.{AppendsSome}
@@ -13,9 +13,3 @@ pub record Wrote (old new : Option (List ℕ)) (before now : ℕ) (text : List �
 pub record Stopped (old new : Option (List ℕ)) (before now : ℕ) (text : List ℕ) : Type 0 where
   pub part : AppendsSome old new text
   pub fault : Rose before now
-
--- the sink took all of a text but the rest
-pub record Goes (old new : Option (List ℕ)) (before now : ℕ) (all rest : List ℕ) : Type 0 where
-  pub done : List ℕ
-  pub wrote : Wrote old new before now done
-  pub left : done ++ rest ≡ all

@@ -39,7 +39,7 @@ abbrev pub out_held_steps : ℕ → ℕ → ℕ → OutList → List BoardStep
 out_held_steps slot o w x = LaneOut slot ∷ Lane (OutHeld o w x) ∷ []
 
 -- steps with one list of lanes in which nothing was done
-leaves_each : (added : List BoardStep)
+pub leaves_each : (added : List BoardStep)
     → ((l : ℕ) (own : List BoardStep)
     → phase l (lane_steps (added ++ own)) ≡ phase l (lane_steps own))
     → ((l : ℕ) → retired_by l added ≡ []) → ((l : ℕ) → delivered_by l added ≡ [])

@@ -4,5 +4,8 @@ pub mod DrainLemmas
 pub mod GateLemmas
 pub mod PollerLemmas
 pub mod PutLemmas
+pub mod ReplyLemmas
+pub mod ServerLaws
+pub mod ServerLemmas
 pub mod StayLemmas
 pub mod VisitLemmas

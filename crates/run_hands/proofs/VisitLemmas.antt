@@ -41,14 +41,14 @@ pub record AreIdle (added : List BoardStep) : Type 0 where
   pub holds : HoldsNoMore added
   pub leaves : (l : ℕ) → LeavesLane l added
 
-idle_both : (ds es : List BoardStep) → AreIdle ds → AreIdle es → AreIdle (ds ++ es)
+pub idle_both : (ds es : List BoardStep) → AreIdle ds → AreIdle es → AreIdle (ds ++ es)
 idle_both ds es d e =
     record {
       holds = holds_both ds es d.holds e.holds;
       leaves = λ l. leaves_both l ds es (d.leaves l) (e.leaves l);
     }
 
-idle_none : AreIdle []
+pub idle_none : AreIdle []
 idle_none =
     record {
       holds = record { lanes = λ l own e. e; outs = λ o own e. e };
@@ -69,14 +69,14 @@ idle_reads queues q r =
       leaves = λ i. record { hand = λ own. refl; retires = refl; deliveries = refl };
     }
 
-idle_entered : (w : ℕ) → AreIdle (Gate (Entered w) ∷ [])
+pub idle_entered : (w : ℕ) → AreIdle (Gate (Entered w) ∷ [])
 idle_entered w =
     record {
       holds = record { lanes = λ i own e. e; outs = λ o own e. e };
       leaves = λ i. record { hand = λ own. refl; retires = refl; deliveries = refl };
     }
 
-idle_left : AreIdle (Gate Left ∷ [])
+pub idle_left : AreIdle (Gate Left ∷ [])
 idle_left =
     record {
       holds = record { lanes = λ i own e. e; outs = λ o own e. e };
@@ -93,7 +93,7 @@ pub record HeadSteps (table : Table) (class head : Option ℕ) (old new : BoardS
   pub idle : AreIdle added
   pub loads : IfSome head (LoadedHead table class added)
 
-head_steps : (table : Table) (class head : Option ℕ) (old new : BoardSeatView)
+pub head_steps : (table : Table) (class head : Option ℕ) (old new : BoardSeatView)
     → LoadsHead table class old new head → HeadSteps table class head old new
 head_steps table class None old new is =
     record {
@@ -125,7 +125,7 @@ loads_more table (Some k) front xs back n is = (
       (Contains-append_left xs back (Weighed is.0 is.1) is.4),
 )
 
-loads_if : (table : Table) (class head : Option ℕ) (front xs back : List BoardStep)
+pub loads_if : (table : Table) (class head : Option ℕ) (front xs back : List BoardStep)
     → IfSome head (LoadedHead table class xs)
     → IfSome head (LoadedHead table class (front ++ (xs ++ back)))
 loads_if table class None front xs back is = tt

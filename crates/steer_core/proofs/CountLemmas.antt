@@ -1,6 +1,6 @@
 -- There is room for every step that a run may make.
-use Rattle.std.proofs.Common.{ℕ, Option, ◌+◌, ◌<◌, ◌≤◌, ◌≡◌, List, [], length, refl, ap, ◌∙◌, sym}
-use Rattle.std.proofs.Common.{subst, arith, replicate}
+use Rattle.std.proofs.Common.{ℕ, Option, ◌+◌, ◌<◌, ◌≡◌, List, [], length, refl, ap, ◌∙◌, sym}
+use Rattle.std.proofs.Common.{arith, replicate}
 use Rattle.steer_base.specs.declared.packet.Packet.{Packet}
 use Rattle.steer_base.specs.declared.step.Step.{Step}
 use Rattle.steer_base.specs.declared.step.Step.TheVariants as act

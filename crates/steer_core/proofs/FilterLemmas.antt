@@ -1,7 +1,7 @@
 -- Filters by their numbers, and lists of them that are changed one by one.
-use Rattle.std.proofs.Common.{ℕ, ◌+◌, ◌<◌, ◌≤◌, ◌≡◌, List, [], ◌∷◌, ◌++◌, Option, Some, None}
+use Rattle.std.proofs.Common.{ℕ, ◌+◌, ◌<◌, ◌≡◌, List, [], ◌∷◌, ◌++◌, Option, None}
 use Rattle.std.proofs.Common.{length, take, drop, map}
-use Rattle.std.proofs.Common.{refl, ap, ◌∙◌, sym, arith, zero, suc, get_or, add-one}
+use Rattle.std.proofs.Common.{refl, ap, arith, zero, suc, get_or, add-one}
 use Rattle.std.specs.Prelude.{slice_index_or, slice_set}
 use Rattle.std.specs.Prelude.{◌%◌, nat_lt, true}
 use Rattle.std.proofs.Math.Nat.{mod-eq_of_lt}

@@ -1,6 +1,6 @@
 -- Arrivals in the order of their numbers, found by their places; and lists that are copied one by
 -- one.
-use Rattle.std.proofs.Common.{ℕ, ◌+◌, ◌<◌, ◌≡◌, ◌≢◌, List, [], ◌∷◌, ◌++◌, Some, length, refl, ap}
+use Rattle.std.proofs.Common.{ℕ, ◌+◌, ◌≡◌, ◌≢◌, List, [], ◌∷◌, ◌++◌, Some, refl, ap}
 use Rattle.std.proofs.Common.{◌∙◌, sym, arith, take, zero, suc}
 use Rattle.std.specs.Prelude.{slice_get}
 use Rattle.std.proofs.lemmas.List.{take_more}

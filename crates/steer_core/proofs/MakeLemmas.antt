@@ -1,13 +1,13 @@
 -- The machine of a plan in memory is that of its definition.
-use Rattle.std.proofs.Common.{ℕ, ◌+◌, ◌≤◌, ◌≡◌, Bool, true, false, List, [], ◌∷◌, Option, length}
+use Rattle.std.proofs.Common.{ℕ, ◌+◌, ◌≡◌, true, false, List, [], ◌∷◌, Option, length}
 use Rattle.std.proofs.Common.{map, max, replicate, suc, zero}
 use Rattle.std.proofs.Common.{refl, ap, ◌∙◌, sym, subst}
 use Rattle.std.specs.Prelude.{Result, Ok, Err, IfOk}
 use Rattle.steer_base.specs.Counters.{rounded_up}
-use Rattle.steer_base.specs.Journals.{Journal, Journals, journal, journals, new_journals}
+use Rattle.steer_base.specs.Journals.{Journal, Journals, journal, new_journals}
 use Rattle.steer_base.specs.declared.filter.Filter.{Filter}
 use Rattle.steer_base.specs.declared.packet.Packet.{Packet}
-use Rattle.hop_core.specs.Hop.{Fixed, HopState}
+use Rattle.hop_core.specs.Hop.{HopState}
 use Rattle.hop_core.specs.Shape.{classes_for, fresh_hop}
 use Rattle.accel_filter.specs.Table as table
 use Rattle.sock_flow_table.specs.Sockets as sockets
@@ -18,6 +18,7 @@ use Rattle.history.specs.declared.sock_write.SockWrite.{SockWrite}
 use Rattle.plan_reader.specs.Plans.{step_count}
 use Rattle.plan_reader.specs.declared.plan.Plan.{Plan}
 use Rattle.plan_reader.specs.declared.plan.QueuePlan.{QueuePlan}
+use Rattle.steer_model.specs.Capture.FlowCounts.{flow_count}
 use Rattle.steer_model.specs.State.Settings.{Settings}
 use Rattle.steer_model.specs.State.Setup.{Setup}
 use Rattle.steer_model.specs.State.Start.{fresh_rx, fresh_tx, initial_settings, setup_of}
@@ -62,7 +63,7 @@ pub rx-is : (plan : Plan) (packets : List Packet) (counts : List ℕ) (apps room
 rx-is plan packets counts apps room c a r = rw (c, a, r, rounded-flows plan.queues) refl
 
 pub tx-is : (plan : Plan) (packets : List Packet) (counts : List ℕ) (txs room : ℕ)
-    → counts ≡ replicate (length plan.apps) (max 1 (length packets)) → txs ≡ length plan.tx
+    → counts ≡ replicate (length plan.apps) (max 1 (flow_count packets)) → txs ≡ length plan.tx
     → room ≡ length packets
     → fresh_hop
     (record {
@@ -75,7 +76,7 @@ pub tx-is : (plan : Plan) (packets : List Packet) (counts : List ℕ) (txs room 
     (map (classes_for true) counts) 0 txs 1
     ≡ fresh_tx plan packets
 tx-is plan packets counts txs room c t r =
-    rw (c, t, r, exact-counts (length plan.apps) (max 1 (length packets))) refl
+    rw (c, t, r, exact-counts (length plan.apps) (max 1 (flow_count packets))) refl
 
 -- ---- the machine
 

@@ -1,8 +1,7 @@
 -- Every step is paced: it lets the lists of writes and of commands grow by one at most.
-use Rattle.std.proofs.Common.{ℕ, ◌+◌, ◌<◌, ◌≤◌, ◌≡◌, Bool, true, false, cond, List, [], ◌∷◌, ◌++◌}
-use Rattle.std.proofs.Common.{Option, Some, None, length}
+use Rattle.std.proofs.Common.{ℕ, ◌+◌, ◌<◌, ◌≤◌, ◌≡◌, Bool, true, false, List, [], ◌∷◌, ◌++◌}
+use Rattle.std.proofs.Common.{length}
 use Rattle.std.proofs.Common.{refl, ap, ◌∙◌, sym, subst, arith, zero, suc}
-use Rattle.std.specs.Prelude.{if◌then◌else◌}
 use Rattle.std.proofs.lemmas.Bool.{ltb-true}
 use Rattle.steer_base.specs.declared.command.Answer.{Answer}
 use Rattle.steer_base.specs.declared.command.Command.{Command}
@@ -17,7 +16,7 @@ use Rattle.steer_model.specs.Steps.Commands.{answer_to, given, is_done, listed, 
 use Rattle.steer_model.specs.State.Machine.{Machine}
 use Rattle.steer_model.specs.State.Setup.{Setup, flow_hash, flow_number_of}
 use Rattle.steer_model.specs.Steps.SingleSteps.{simple}
-use Rattle.steer_model.specs.Steps.CompoundSteps.{Progress, drain, for_each, most_rounds, one_round}
+use Rattle.steer_model.specs.Steps.CompoundSteps.{Progress, drain, for_each, one_round}
 use Rattle.steer_model.specs.Steps.CompoundSteps.{poll, rounds, serve, ship, step, tried}
 use Rattle.steer_invariant.specs.Invariant.{Invariant}
 use Rattle.steer_invariant.specs.StepInvariant.{IsNamed}

@@ -1,8 +1,8 @@
 -- Steps of one event that are neither a record nor a command write nothing to the socket flow table
 -- and list no command, and no put is undone.
-use Rattle.std.proofs.Common.{ℕ, ◌+◌, ◌<◌, ◌≤◌, ◌≡◌, ◌≢◌, Bool, true, false, not, cond, List, []}
-use Rattle.std.proofs.Common.{◌∷◌, ◌++◌, Option, Some, None, length}
-use Rattle.std.proofs.Common.{refl, ap, ◌∙◌, sym, arith, inl, inr, get_or}
+use Rattle.std.proofs.Common.{ℕ, ◌+◌, ◌≤◌, ◌≡◌, Bool, true, false, not, cond, List}
+use Rattle.std.proofs.Common.{Option, Some, None, length}
+use Rattle.std.proofs.Common.{refl, ap, ◌∙◌, arith, inl, inr, get_or}
 use Rattle.std.specs.Prelude.{nat_lt, slice_set}
 use Rattle.std.proofs.Math.ListN.{get_or-eq_default}
 use Rattle.std.proofs.lemmas.Bool.{cases_eq, cases_lt}

@@ -2,7 +2,6 @@
 use Rattle.std.proofs.Common.{ℕ, ◌≡◌, true, List, [], ◌∷◌, refl, suc, zero}
 use Rattle.steer_base.specs.declared.step.Step.{Step}
 use Rattle.steer_base.specs.declared.step.Step.TheVariants as act
-use Rattle.steer_model.specs.State.Machine.{Machine}
 use Rattle.steer_model.specs.Steps.CompoundSteps.{Progress, again, drain, drain_one, for_each, poll}
 use Rattle.steer_model.specs.Steps.CompoundSteps.{reply, ship, ship_one, tried, tries}
 use Rattle.steer_core.proofs.QuietLemmas.{Quiet, is_quiet, quiet-refl, quiet-simple, quiet-trans}

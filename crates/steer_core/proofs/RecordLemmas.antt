@@ -2,7 +2,7 @@
 use Rattle.std.proofs.Common.{ℕ, ◌+◌, ◌<◌, ◌≤◌, ◌≡◌, ◌≢◌, List, [], ◌∷◌, ◌++◌, Option, Some, None}
 use Rattle.std.proofs.Common.{length, refl, ap, ◌∙◌, sym, subst}
 use Rattle.std.proofs.Common.{arith, get_or, inl, inr, zero, suc}
-use Rattle.std.specs.Prelude.{◌%◌, nat_lt, slice_index, slice_index_or, slice_set}
+use Rattle.std.specs.Prelude.{◌%◌, nat_lt, slice_set}
 use Rattle.std.specs.Option.{option_map}
 use Rattle.std.proofs.Math.ListN.{get_or-eq_default, length-set}
 use Rattle.std.proofs.lemmas.Bool.{cases_eq, cases_lt}
@@ -17,7 +17,7 @@ use Rattle.hop_core.specs.Leaves.{Field}
 use Rattle.hop_core.proofs.Leaves.{each_leaves}
 use Rattle.hop_core.proofs.Lists.{length-push}
 use Rattle.history.specs.Finding.{found}
-use Rattle.history.specs.Lists.{list_at, no_packet, packet_at}
+use Rattle.history.specs.Lists.{list_at, no_packet}
 use Rattle.history.specs.declared.sock_write.SockWrite.{SockWrite}
 use Rattle.history.proofs.FindingLemmas.{found-here, found-past}
 use Rattle.steer_model.specs.Steps.Applications.{record_by, record_hash, visited, write_of, wrote}

@@ -1,22 +1,19 @@
 -- What the five events of a reply do to the hand of their application in the transmit hop.
-use Rattle.std.proofs.Common.{ℕ, ◌+◌, ◌<◌, ◌≤◌, ◌≡◌, Bool, true, false, not, cond, [], ◌∷◌, ◌++◌}
+use Rattle.std.proofs.Common.{ℕ, ◌+◌, ◌<◌, ◌≤◌, ◌≡◌, true, false, not, [], ◌∷◌, ◌++◌}
 use Rattle.std.proofs.Common.{Option, length}
-use Rattle.std.proofs.Common.{refl, ap, ◌∙◌, sym, arith, get_or}
+use Rattle.std.proofs.Common.{ap, ◌∙◌, sym, arith}
 use Rattle.std.specs.Prelude.{nat_lt}
 use Rattle.std.proofs.lemmas.Bool.{ltb-false, ltb-true}
 use Rattle.std.proofs.lemmas.List.{get_or-set_same}
 use Rattle.steer_base.specs.declared.choice.Chosen.{Chosen}
 use Rattle.steer_base.specs.declared.cpu_mask.CpuMask.{CpuMask}
 use Rattle.steer_base.specs.declared.idle.Idle.TheVariants as idle
-use Rattle.steer_base.specs.declared.put.Put.{Put}
 use Rattle.hop_core.specs.declared.event.HopAnswer.TheVariants as answer
 use Rattle.hop_core.specs.declared.event.HopEvent.TheVariants as event
 use Rattle.hop_core.specs.Events.{Outcome, happens, idles}
-use Rattle.hop_core.specs.Hop.{HopState, arrivals_of, arrived, choice_of, choices_of, chose}
-use Rattle.hop_core.specs.Hop.{in_hand, inside_of}
-use Rattle.hop_core.specs.Hop.{lane_of, next_of, placed_of, put_one, taken_of, took, with_visit}
-use Rattle.hop_core.specs.Leaves.{Field}
-use Rattle.hop_core.proofs.Leaves.{each_leaves}
+use Rattle.hop_core.specs.Hop.{HopState, arrivals_of, choice_of, choices_of, chose}
+use Rattle.hop_core.specs.Hop.{inside_of}
+use Rattle.hop_core.specs.Hop.{next_of, placed_of, put_one, taken_of, took, with_visit}
 use Rattle.hop_core.proofs.Lists.{length-push}
 use Rattle.steer_invariant.proofs.EitherLemmas.{either}
 

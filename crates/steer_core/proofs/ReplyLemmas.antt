@@ -1,6 +1,6 @@
 -- An application with a packet to reply to puts one reply more.
-use Rattle.std.proofs.Common.{ℕ, ◌+◌, ◌<◌, ◌≤◌, ◌≡◌, Bool, true, false, cond, List, [], ◌∷◌, ◌++◌}
-use Rattle.std.proofs.Common.{Option, Some, None, length}
+use Rattle.std.proofs.Common.{ℕ, ◌+◌, ◌<◌, ◌≤◌, ◌≡◌, Bool, true, false, List, [], ◌∷◌, ◌++◌}
+use Rattle.std.proofs.Common.{Option, Some, length}
 use Rattle.std.proofs.Common.{refl, ap, ◌∙◌, sym, subst, arith}
 use Rattle.std.specs.Prelude.{nat_lt, slice_index, slice_index_or}
 use Rattle.std.proofs.lemmas.Bool.{ltb-false, ltb-true}
@@ -22,7 +22,7 @@ use Rattle.steer_model.specs.State.Machine.{Machine, last_chosen}
 use Rattle.steer_model.specs.Steps.Outcomes.{StepOutcome, idle_step}
 use Rattle.steer_model.specs.State.Setup.{flow_number_of, packet_hash}
 use Rattle.steer_model.specs.Steps.SingleSteps.{simple}
-use Rattle.steer_model.specs.Steps.CompoundSteps.{Progress, reply, replying}
+use Rattle.steer_model.specs.Steps.CompoundSteps.{reply, replying}
 use Rattle.steer_invariant.specs.StepInvariant.{StepInvariant}
 use Rattle.steer_invariant.proofs.EitherLemmas.{either}
 use Rattle.steer_core.proofs.ReplyHops.{enters, puts, takes, weighs}

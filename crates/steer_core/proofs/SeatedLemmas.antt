@@ -1,5 +1,5 @@
 -- Each filter that is set names a processor and a queue that there are.
-use Rattle.std.proofs.Common.{ℕ, ◌<◌, ◌≡◌, Option, Some, None, length, refl, ap, ◌∙◌, sym}
+use Rattle.std.proofs.Common.{ℕ, ◌≡◌, Option, Some, None}
 use Rattle.std.specs.Prelude.{slice_index_or}
 use Rattle.std.specs.List.{All}
 use Rattle.std.proofs.lemmas.List.{get_or_default}

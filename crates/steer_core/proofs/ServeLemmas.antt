@@ -1,7 +1,7 @@
 -- An application writes no more to the socket flow table than it puts replies, where it is served.
-use Rattle.std.proofs.Common.{ℕ, ◌+◌, ◌<◌, ◌≤◌, ◌≡◌, ◌≢◌, Bool, true, false, cond, List, Option}
+use Rattle.std.proofs.Common.{ℕ, ◌+◌, ◌<◌, ◌≡◌, Bool, List, Option}
 use Rattle.std.proofs.Common.{Some, None, length, map, refl, ap, ◌∙◌}
-use Rattle.std.proofs.Common.{sym, subst, arith, inl, inr, get_or}
+use Rattle.std.proofs.Common.{sym, subst, arith, inl, inr}
 use Rattle.std.specs.Prelude.{◌%◌, nat_lt, slice_index, slice_index_or}
 use Rattle.std.proofs.Math.ListN.{length-map}
 use Rattle.std.proofs.lemmas.Bool.{cases_eq, lt-ltb, ltb-true}
@@ -12,10 +12,9 @@ use Rattle.hop_core.specs.Hop.{HopState, accepted_at, arrivals_of, out_at, place
 use Rattle.hop_core.proofs.Fits.{put_below}
 use Rattle.history.specs.Lists.{app_at, list_at}
 use Rattle.history.specs.declared.sent.Sent.{Sent}
-use Rattle.steer_model.specs.Steps.Applications.{next_in, nothing_sent, record_by, sent_of}
+use Rattle.steer_model.specs.Steps.Applications.{next_in, nothing_sent, sent_of}
 use Rattle.steer_model.specs.State.Machine.{Machine}
 use Rattle.steer_model.specs.State.Setup.{flow_hash, flow_number_of, packet_hash}
-use Rattle.steer_model.specs.Steps.SingleSteps.{simple}
 use Rattle.steer_model.specs.Steps.CompoundSteps.{Progress, with_record, reply, replying, serve}
 use Rattle.steer_model.specs.Steps.CompoundSteps.{tried}
 use Rattle.steer_invariant.specs.Invariant.{Invariant}

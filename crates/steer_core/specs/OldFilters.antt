@@ -1,5 +1,5 @@
 -- The filters that the command `expire` clears.
-use Rattle.std.specs.Prelude.{ℕ, ◌<◌, ◌≤◌, Bool, false, List, Option, Some, None, length}
+use Rattle.std.specs.Prelude.{◌<◌, ◌≤◌, Bool, false, Option, Some, None, length}
 use Rattle.std.specs.Prelude.{slice_index, if◌then◌else◌}
 use Rattle.steer_base.specs.Filters.{may_expire}
 use Rattle.steer_base.specs.declared.filter.Filter.{Filter}

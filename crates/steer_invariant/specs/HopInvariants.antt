@@ -8,6 +8,7 @@ use Rattle.hop_core.specs.Laws.{Ample}
 use Rattle.hop_core.specs.NothingLost.{NothingLost}
 use Rattle.hop_core.specs.Settled.{SettledIn}
 use Rattle.hop_core.specs.Sound.{Sound}
+use Rattle.steer_model.specs.Capture.FlowCounts.{flow_count}
 use Rattle.steer_model.specs.State.Settings.{Settings, class_at, plain_lane}
 use Rattle.steer_model.specs.State.Setup.{Setup}
 use Rattle.steer_model.specs.declared.note.Note.{Note}
@@ -68,7 +69,7 @@ pub record TxSizes (p : Setup) (s : HopState) : Type 0 where
   pub txs : length s.bare.accepted ≡ p.txs
   pub port : length s.bare.outs ≡ 1
   pub room : s.fixed.room ≡ length p.packets
-  pub classes : s.counts ≡ replicate p.apps (max 1 (length p.packets))
+  pub classes : s.counts ≡ replicate p.apps (max 1 (flow_count p.packets))
 
 -- Each application took all replies that it began.
 abbrev pub AllTaken : HopState → Type 0

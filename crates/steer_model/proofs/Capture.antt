@@ -3,3 +3,4 @@ pub mod HashLemmas
 pub mod FlowNumberLemmas
 pub mod PacketLemmas
 pub mod PlanLemmas
+pub mod FlowLemmas

@@ -1,2 +1,3 @@
 pub mod FlowNumbers
 pub mod Packets
+pub mod FlowCounts

@@ -2,6 +2,7 @@
 ghost use Rattle.plan_reader.specs.Plans.{sizes_of};
 ghost use Rattle.plan_reader.specs.Ranges.{step_is_within};
 ghost use Rattle.std.specs.List.{AllPass};
+ghost use Rattle.steer_model.specs.Capture.FlowCounts.{FlowsAreCounted};
 ghost use Rattle.steer_model.specs.Origins.FilterOrigins.{FiltersAreFromChoices};
 ghost use Rattle.steer_model.specs.Laws.GoodHistories.{GoodByClauses};
 ghost use Rattle.steer_model.specs.Origins.SettingWrites.{ValuesAreLastWrites};
@@ -54,6 +55,12 @@ pub fn a_capture_has_one_list_of_packets()
 /// packets of a flow have one hash.
 pub fn packets_are_of_flows()
     ensures { PacketsAreOfFlows }
+{}
+
+/// Lemma: packets whose flows are numbered have as many flows as `flow_count` says: each has one of
+/// the numbers below it, and each of these is the number of some packet's flow.
+pub fn flows_are_counted()
+    ensures { FlowsAreCounted }
 {}
 
 /// Lemma: each setting in force is what the last done command for it wrote, otherwise its first

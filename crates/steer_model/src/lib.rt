@@ -2,6 +2,7 @@
 #![tactic(auto)]
 
 mod desired;
+mod flow_counts;
 mod flow_hashes;
 mod gate;
 mod hop_answers;
@@ -13,13 +14,14 @@ mod setup;
 mod turns;
 
 pub use desired::{desired_cpu, filter_for, socket_seen};
+pub use flow_counts::flow_count;
 pub use gate::{gate_answer, is_done, refused_answer};
 pub use hop_answers::{last_of, position_of, told};
 pub use laws::{
     a_capture_has_one_list_of_packets, a_hand_has_one_packet, a_history_is_good_by_its_clauses,
     a_refused_command_leaves_all, a_step_is_idle_for_its_first_reason,
     a_table_in_force_is_the_last_writes, a_value_in_force_is_the_last_write,
-    an_idle_step_leaves_all, packets_are_of_flows, settings_follow_the_commands,
+    an_idle_step_leaves_all, flows_are_counted, packets_are_of_flows, settings_follow_the_commands,
     steps_of_a_plan_are_within,
 };
 pub use note::Note;

@@ -1,3 +1,4 @@
+pub mod HopDelivery
 pub mod EventLemmas
 pub mod StepLemmas
 pub mod HistoryLemmas

@@ -1,2 +1,1 @@
-pub mod HopDelivery
 pub mod DeliveryLaws

@@ -1,6 +1,5 @@
 -- What is true of a replay that was made, and of its text.
-use Rattle.std.proofs.Common.{◌≡◌, ◌≤◌, ℕ, List, Option, Result, Ok, Err, IfOk, length, subst}
-use Rattle.headline.specs.Headline.{Headline}
+use Rattle.std.proofs.Common.{◌≡◌, ◌≤◌, ℕ, List, Result, Ok, Err, IfOk, length}
 use Rattle.pcap_reader.specs.declared.capture.Capture.{Capture}
 use Rattle.plan_reader.specs.declared.plan.Plan.{Plan}
 use Rattle.replay.specs.Headlines.{EveryReportHasTheHeadline}

@@ -6,6 +6,7 @@ use Rattle.std.specs.declared.alloc.Global.{Global}
 use Rattle.std.specs.Option.{option_map}
 use Rattle.steer_base.specs.Decimals.{decimal_number}
 use Rattle.steer_base.specs.declared.limits.TheConstants.{MAX_PACKETS}
+use Rattle.cap_gen.specs.declared.frame.TheConstants.{MAX_FLOWS}
 
 -- A word that names a file: it is neither empty nor begins with a dash.
 abbrev pub is_name : List ℕ → Bool
@@ -87,7 +88,7 @@ gen_arguments (seed ∷ []) = None
 gen_arguments (seed ∷ packets ∷ []) = None
 gen_arguments (seed ∷ packets ∷ flows ∷ []) =
     gen_with (number_within 0 18446744073709551615 seed) (number_within 0 MAX_PACKETS packets)
-    (number_within 1 65536 flows)
+    (number_within 1 MAX_FLOWS flows)
 gen_arguments (seed ∷ packets ∷ flows ∷ more ∷ rest) = None
 
 -- The command `place`: the names of the rules and of a capture.

@@ -1,5 +1,6 @@
 //! The commands of the program.
 ghost use Rattle.std.specs.Prelude.{◌≤◌};
+ghost use Rattle.cap_gen.specs.declared.frame.TheConstants.{MAX_FLOWS};
 ghost use Rattle.steer_base.specs.declared.limits.TheConstants.{MAX_PACKETS};
 
 /// A command with its arguments.
@@ -48,7 +49,7 @@ pub struct GenCommand {
     pub flows: u32,
     ghost few_packets: { packets ≤ MAX_PACKETS },
     ghost some_flow: { 1 ≤ flows },
-    ghost few_flows: { flows ≤ 65536 },
+    ghost few_flows: { flows ≤ MAX_FLOWS },
 }
 
 /// The command `place` with its arguments.

@@ -1,6 +1,7 @@
 //! The words of the command line.
 ghost use Rattle.std.specs.Prelude.{◌≡◌, ◌≤◌, ◌<◌, ◌^◌, Some, None, IfSome, map, string_bytes};
 ghost use Rattle.std.specs.Option.{option_map};
+ghost use Rattle.cap_gen.specs.declared.frame.TheConstants.{MAX_FLOWS};
 ghost use Rattle.steer_base.specs.declared.limits.TheConstants.{MAX_PACKETS};
 ghost use Rattle.steer_top.specs.Commands.{gen_words_of, hash_words_of, place_words_of};
 ghost use Rattle.steer_top.specs.Commands.{replay_words_of, words_of};
@@ -15,6 +16,7 @@ ghost use Rattle.steer_top.specs.Words.{is_name as names_a_file};
 ghost use Rattle.steer_top.specs.Words.{word_number, number_within as the_number_within};
 
 use crate::command::{Command, GenCommand, HashCommand, PlaceCommand, ReplayCommand};
+use cap_gen::MAX_FLOWS;
 use steer_base::{MAX_PACKETS, decimal_number};
 
 /// The most digits that a number may have.
@@ -117,7 +119,7 @@ fn replay_arguments(words: &[String]) -> Option<ReplayCommand<'_>>
 fn gen_with(seed: Option<u128>, packets: Option<u128>, flows: Option<u128>) -> Option<GenCommand>
     requires seed { IfSome seed (λ n. n < 2 ^ 64) }
     requires packets { IfSome packets (λ n. n ≤ MAX_PACKETS) }
-    requires flows { IfSome flows (λ n. (1 ≤ n) × (n ≤ 65536)) }
+    requires flows { IfSome flows (λ n. (1 ≤ n) × (n ≤ MAX_FLOWS)) }
     ensures { option_map gen_words_of result ≡ gen_words seed packets flows }
 {
     let seed = seed? as u64;
@@ -140,7 +142,7 @@ fn gen_arguments(words: &[String]) -> Option<GenCommand>
         [seed, packets, flows] => gen_with(
             number_within(seed.as_str(), 0, MAX_SEED),
             number_within(packets.as_str(), 0, MAX_PACKETS as u128),
-            number_within(flows.as_str(), 1, 65_536),
+            number_within(flows.as_str(), 1, u128::from(MAX_FLOWS)),
         ),
         _ => None,
     }

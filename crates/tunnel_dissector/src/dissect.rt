@@ -11,9 +11,11 @@ use steer_base::Flow;
 /// The most levels that are entered.
 const MAX_LEVELS: u8 = 4;
 
-/// The flow of the innermost packet of an Ethernet frame, through IPv4 and IPv6 in IP (RFC 2003,
-/// RFC 2473), GRE (RFC 2784, RFC 2890) and VXLAN (RFC 7348), over at most four levels. A level that
-/// shows no whole IP header is not entered.
+/// Returns the flow of the innermost packet of an Ethernet frame, and how many levels of tunnels
+/// were entered to reach it: IPv4 and IPv6 in IP (RFC 2003, RFC 2473), GRE (RFC 2784, RFC 2890) and
+/// VXLAN (RFC 7348), at most four. A level without a complete IP header is not entered; the flow is
+/// then that of the packet around it. `Flow::Bare` if the frame itself has no such header. Lengths
+/// and checksums in headers are not verified. Allocates nothing.
 #[tactic(auto, unfolding(crate::specs::Inner::inner_of))]
 pub fn dissect_inner(frame: &[u8]) -> Inner
     ensures { result ≡ inner_of frame.now }

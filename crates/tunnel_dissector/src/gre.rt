@@ -51,8 +51,11 @@ fn typed(kind: u16, bytes: &[u8]) -> Option<IpAt>
     }
 }
 
-/// Where the IP packet begins that is encapsulated in these bytes: an IP packet or an Ethernet
-/// frame behind a whole header.
+/// Finds the IP packet that a GRE header encapsulates (RFC 2784, with the key and the sequence
+/// number of RFC 2890), either directly or in a bridged Ethernet frame (EtherType 0x6558). `bytes`
+/// is the payload of an IP packet, and the result counts from its front. `None` if the header is
+/// incomplete, has a version other than 0 or the routing flag, or encapsulates anything else. The
+/// checksum is not verified.
 #[tactic(auto, unfolding(crate::specs::Gre::is_gre, crate::specs::Gre::gre_held))]
 pub fn gre_held(bytes: &[u8]) -> Option<IpAt>
     ensures packet { option_map (packet_from bytes.now) result ≡ gre_held bytes.now }

@@ -58,7 +58,9 @@ fn held_in(packet: &[u8], kind: u16) -> Option<IpAt>
     behind(packet, payload.start, held)
 }
 
-/// Where the level begins that is entered from an IP packet: what it holds, where that has a flow.
+/// Finds the next level of a tunnel: the IP packet that the payload of an IP packet holds. `kind`
+/// is the EtherType of `packet`, and the result counts from its front. `None` if the payload is of
+/// no tunnel protocol that is entered, or what it holds has no complete IP header.
 #[tactic(auto, unfolding(crate::specs::Levels::entered))]
 pub fn entered(packet: &[u8], kind: u16) -> Option<IpAt>
     ensures packet { option_map (packet_from packet.now) result ≡ entered kind packet.now }

@@ -6,8 +6,8 @@ ghost use Rattle.flow_dissector.specs.Places.{packet_from};
 
 use flow_dissector::IpAt;
 
-/// The same packet, counted from the first of all bytes, where it was counted from behind a header
-/// of `len` of them.
+/// Translates a place that was found after a header of `len` bytes into one that counts from the
+/// front of `bytes`, where the header begins.
 #[tactic(auto, using(crate::proofs::Places::place_steps))]
 pub fn behind(bytes: &[u8], len: usize, found: Option<IpAt>) -> Option<IpAt>
     requires header { len ≤ length bytes.now }

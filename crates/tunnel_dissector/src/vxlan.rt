@@ -12,9 +12,10 @@ use flow_dissector::{IpAt, ip_of};
 /// The UDP port to which VXLAN segments are sent.
 const PORT: u16 = 4789;
 
-/// The bytes of a UDP header, and of a VXLAN header.
+/// The number of bytes of a UDP header.
 const UDP_HEADER: usize = 8;
 
+/// The number of bytes of a VXLAN header.
 const VXLAN_HEADER: usize = 8;
 
 /// Whether a UDP segment begins with whole headers, is sent to the port of VXLAN, and has the flag
@@ -28,7 +29,10 @@ fn is_vxlan(segment: &[u8]) -> bool
         && segment[UDP_HEADER] / 8 % 2 == 1
 }
 
-/// Where the IP packet begins of the Ethernet frame in a UDP segment of a VXLAN.
+/// Finds the IP packet in the Ethernet frame that a UDP segment carries for a VXLAN (RFC 7348). The
+/// result counts from the front of `segment`, which is the payload of an IP packet. `None` if the
+/// UDP or the VXLAN header is incomplete, the destination port is not 4789, the flag of a valid
+/// network identifier is not set, or the frame has no IP packet. The identifier is not looked at.
 #[tactic(auto, unfolding(crate::specs::Vxlan::is_vxlan, crate::specs::Vxlan::vxlan_held))]
 pub fn vxlan_held(segment: &[u8]) -> Option<IpAt>
     ensures packet { option_map (packet_from segment.now) result ≡ vxlan_held segment.now }

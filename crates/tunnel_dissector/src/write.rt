@@ -24,8 +24,10 @@ const HEADERS: [u8; 50] = [
     0x08, 0, 0, 0, 0, 0, 0, 0, // VXLAN
 ];
 
-/// Appends an Ethernet frame that carries this one in a VXLAN: from one IPv4 address to another, in
-/// the network `vni`. On an error `out` is unchanged. Allocates nothing if `out` has room.
+/// Appends an Ethernet frame that carries `frame`, of at most 65,000 bytes, in a VXLAN (RFC 7348):
+/// 50 bytes of headers, and then `frame`. `src` and `dst` are the outer IPv4 addresses, whose first
+/// byte is the most significant; `vni` is the network identifier, of 24 bits. On an error `out` is
+/// unchanged. Allocates nothing if `out` has room.
 pub fn put_vxlan(
     out: &mut Vec<u8>,
     src: u32,

@@ -1,27 +1,26 @@
 -- Puts are of turns, one for each packet, and their answers are places.
-use Rattle.std.proofs.Common.{◌≡◌, ◌≢◌, inl, inr, ℕ, zero, suc, ◌+◌, ◌-◌, List, [], ◌∷◌, ◌++◌}
+use Rattle.std.proofs.Common.{◌≡◌, ◌≢◌, ℕ, zero, suc, ◌+◌, ◌-◌, List, [], ◌∷◌, ◌++◌}
 use Rattle.std.proofs.Common.{Option, Some, None, length, if◌then◌else◌, sym, refl, ap, ◌∙◌}
 use Rattle.std.proofs.Common.{subst, arith, eq-eqb, ne_eqb}
-use Rattle.std.specs.Prelude.{slice_get, slice_index}
+use Rattle.std.specs.Prelude.{slice_get}
 use Rattle.std.specs.Option.{option_map}
 use Rattle.std.proofs.lemmas.Option.{get_or_from_slice_get, slice_get_within}
-use Rattle.linearization.specs.Orders.{StepBy, step_by, steps_of}
+use Rattle.linearization.specs.Orders.{StepBy, steps_of}
 use Rattle.steer_base.specs.Counters.{number}
 use Rattle.steer_base.specs.Drops.{bucket_of, lane_drop_cause}
 use Rattle.steer_base.specs.Entries.{place_in}
 use Rattle.steer_base.specs.Lanes.{LaneLists}
 use Rattle.steer_base.specs.declared.put.DropCause.{DropCause}
-use Rattle.steer_base.specs.declared.put.LaneDrop.{LaneDrop}
 use Rattle.steer_base.specs.declared.put.Put.{Put}
 use Rattle.backlog.specs.Puts.{answer_by, put_by}
 use Rattle.dev_flow_table.specs.Folds.{IsPutAt}
 use Rattle.history.specs.Lists.{lane_at}
-use Rattle.hop_rule.specs.Moments.{IsStep, moment_of, nth_step, past}
+use Rattle.hop_rule.specs.Moments.{IsStep, moment_of, nth_step}
 use Rattle.hop_rule.specs.Owns.{PutMade, put_in, put_made}
 use Rattle.hop_rule.specs.declared.sizes.BoardSizes.{BoardSizes}
 use Rattle.hop_rule.specs.declared.step.BoardStep.{BoardStep}
 use Rattle.hop_rule.proofs.Lists.{none-some, some-is}
-use Rattle.hop_rule.proofs.Moments.{nth-some, past-next, step-inside}
+use Rattle.hop_rule.proofs.Moments.{nth-some, past-next}
 use Rattle.hop_rule.proofs.Parts.{from_moment}
 use Rattle.board_api.specs.Lists.{IsFrontOf}
 use Rattle.board_api.specs.Laws.Puts.{AcceptedWerePut, DropsWerePut, PutsStand}
@@ -166,7 +165,8 @@ answers_are_places about own lists stand were once q k l id hash answer does =
         let n : ℕ = length found.accepted in (
           n + 1,
           place-first id n (accepted_left lists l)
-              (ap (λ xs. slice_get xs n) front.accepted.1 ∙ at-end found.accepted id front.accepted.0)
+              (ap (λ xs. slice_get xs n) front.accepted.1
+              ∙ at-end found.accepted id front.accepted.0)
               (λ m at. sym (other m at).0),
           ap (λ z. number z (n + 1)) (sym start),
         )

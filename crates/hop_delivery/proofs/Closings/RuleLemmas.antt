@@ -1,18 +1,19 @@
 -- A choice by what a queue's turns know is a choice by the settings of their visits.
-use Rattle.std.proofs.Common.{◌≡◌, ℕ, zero, suc, ◌≤◌, ◌==◌, List}
+use Rattle.std.proofs.Common.{◌≡◌, ℕ, zero, suc, ◌+◌, ◌*◌, ◌<◌, ◌≤◌, ◌==◌, List, [], ◌∷◌, ◌++◌}
+use Rattle.std.proofs.Common.{Bool, true, cond}
 use Rattle.std.proofs.Common.{Option, Some, None, take, drop, if◌then◌else◌, sym, refl, ap, ◌∙◌}
 use Rattle.std.proofs.Common.{arith}
-use Rattle.std.specs.Prelude.{nat_lt, slice_index}
-use Rattle.std.specs.List.{Contains}
+use Rattle.std.specs.Prelude.{nat_lt, slice_index, unwrap_or}
 use Rattle.steer_base.specs.Choices.{desired_cpu, migrate, rps_choice_of}
 use Rattle.steer_base.specs.Entries.{entry, of_class, current_lane}
-use Rattle.steer_base.specs.Sets.{has}
+use Rattle.steer_base.specs.Sends.{first_filled}
+use Rattle.steer_base.specs.Sets.{at_hash, has, has_queue, those_below}
 use Rattle.steer_base.specs.declared.choice.Chosen.{Chosen}
+use Rattle.steer_base.proofs.SetsLemmas.{those_below-more}
 use Rattle.dev_flow_table.specs.Walks.{since_resize}
 use Rattle.hop_rule.specs.Moments.{nth_step}
 use Rattle.hop_rule.specs.declared.sizes.BoardSizes.{BoardSizes}
 use Rattle.hop_rule.specs.declared.step.BoardStep.{BoardStep}
-use Rattle.hop_rule.specs.declared.step.BoardStep.TheVariants.{Weighed}
 use Rattle.hop_rule.proofs.Moments.{nth-inside, nth-some}
 use Rattle.board_api.specs.declared.lists.BoardLists.{BoardLists}
 use Rattle.hop_delivery.specs.Orders.ReceiveSettings.{Queues, flows_word, mask, mask_word}
@@ -24,7 +25,7 @@ use Rattle.hop_delivery.specs.Orders.Runs.{settings_at, word_of}
 use Rattle.hop_delivery.specs.Orders.Turns.{Turn, Explained}
 use Rattle.hop_delivery.specs.Closings.FlowLaw.{accepted_left}
 use Rattle.hop_delivery.specs.Closings.TurnReads.{HasSeen, IsBySeen, Knows, RulesAreByReads}
-use Rattle.hop_delivery.specs.Closings.TurnReads.{TurnsKnowSettings}
+use Rattle.hop_delivery.specs.Closings.TurnReads.{PicksAreByReads, TurnsKnowSettings}
 
 -- the last resize before a choice, by the shapes up to it
 since-same : (f g : ℕ → ℕ) (i : ℕ) → ((j : ℕ) → j ≤ i → f j ≡ g j)
@@ -139,3 +140,36 @@ pub rules_by_reads : (about : BoardSizes) (own : ℕ → List BoardStep) (lists 
     → TurnsKnowSettings about own lists → RulesAreByReads about own lists
 rules_by_reads about own lists law q t seen p i u less explained at sees b =
     by_reads about own lists law q t seen p i explained sees u at b
+
+-- ---- picks of transmit queues
+
+those-same : (f g : ℕ → Bool) (n : ℕ) → ((k : ℕ) → k < n → f k ≡ g k)
+    → those_below n f ≡ those_below n g
+unfolding those_below
+those-same f g zero same = refl
+those-same f g (suc n) same =
+    let next : suc n ≡ n + 1 = omega arith in
+    let before = those-same f g n (λ k less. same k (omega arith)) in
+    let last = same n (omega arith) in
+    ap (λ m. those_below m f) next
+    ∙ (those_below-more n f
+    ∙ ((λ i. before i ++ cond (last i) (n ∷ []) [])
+    ∙ sym (ap (λ m. those_below m g) next ∙ those_below-more n g)))
+
+pub picks_by_reads : (about : BoardSizes) (own : ℕ → List BoardStep) (lists : BoardLists)
+    → TurnsKnowSettings about own lists → PicksAreByReads about own lists
+picks_by_reads about own lists law t p i count u s explained at knows rxq cpu hash =
+    let z : ℕ → ℕ = settings_of_visit about own u.word in
+    let by_queue : those_below count (λ tx. has_queue (s (count + tx)) rxq)
+    ≡ those_below count (λ tx. has_queue (z (count + tx)) rxq) =
+    those-same (λ tx. has_queue (s (count + tx)) rxq) (λ tx. has_queue (z (count + tx)) rxq) count
+    (λ tx less. ap (λ w. has_queue w rxq) (same (count + tx) (omega arith))) in
+    let by_cpu : those_below count (λ tx. has (mask (s tx)) cpu)
+    ≡ those_below count (λ tx. has (mask (z tx)) cpu) =
+    those-same (λ tx. has (mask (s tx)) cpu) (λ tx. has (mask (z tx)) cpu) count
+    (λ tx less. ap (λ w. has (mask w) cpu) (same tx (omega arith))) in
+    λ j. at_hash (first_filled (by_queue j) (by_cpu j) (those_below count (λ tx. true)))
+    (unwrap_or hash 0)
+  where
+    same : (word : ℕ) → word < 2 * count → s word ≡ settings_of_visit about own u.word word
+    same word less = law t p i word (s word) u explained at (knows word less)

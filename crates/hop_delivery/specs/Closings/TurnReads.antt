@@ -1,5 +1,5 @@
 -- The settings that a turn knows, and choices by what it knows.
-use Rattle.std.specs.Prelude.{◌≡◌, ◌⊎◌, ℕ, ◌%◌, ◌^◌, ◌<◌, ◌≤◌, true, List, Option, Some, take}
+use Rattle.std.specs.Prelude.{◌≡◌, ◌⊎◌, ℕ, ◌*◌, ◌%◌, ◌^◌, ◌<◌, ◌≤◌, true, List, Option, Some, take}
 use Rattle.std.specs.Prelude.{drop}
 use Rattle.std.specs.List.{Contains}
 use Rattle.steer_base.specs.Choices.{migrate}
@@ -18,6 +18,7 @@ use Rattle.hop_delivery.specs.Orders.ReceiveSettings.{Queues, queues, receive_st
 use Rattle.hop_delivery.specs.Orders.ReceiveSettings.{flows_word, mask_word, online_word}
 use Rattle.hop_delivery.specs.Orders.Runs.{Story, Steering, IsByRule, goal_of, settings_of_visit}
 use Rattle.hop_delivery.specs.Orders.Runs.{turns_of}
+use Rattle.hop_delivery.specs.Orders.TransmitSettings.{pick_by}
 use Rattle.hop_delivery.specs.Orders.Turns.{Turn, Explained}
 use Rattle.hop_delivery.specs.Closings.FlowLaw.{accepted_left}
 
@@ -93,3 +94,21 @@ module _ (about : BoardSizes) (own : ℕ → List BoardStep) (lists : BoardLists
       → HasSeen (own (t.seat p)) q p v (seen j))
       → IsBySeen about (accepted_left lists) t (receive_steering q) seen p i u
       → IsByRule about own (accepted_left lists) t (receive_steering q) p i u
+
+-- ---- transmit boards
+
+-- A turn of a seat with these steps knows the maps of so many transmit queues, and these are as in
+-- s.
+abbrev pub KnowsMaps : List BoardStep → ℕ → Turn → (ℕ → ℕ) → Type 0
+KnowsMaps own count u s = (word : ℕ) → word < 2 * count → Knows own u word (s word)
+
+module _ (about : BoardSizes) (own : ℕ → List BoardStep) (lists : BoardLists) where
+  -- The transmit queue that is picked by the maps that a turn knows is the one that is picked by
+  -- those of its visit.
+  abbrev pub PicksAreByReads : Type 0
+  PicksAreByReads =
+      (t : Story) (p i count : ℕ) (u : Turn) (s : ℕ → ℕ)
+      → Explained (own (t.seat p)) (t.turns (t.seat p)) → nth_step (turns_of t p) i ≡ Some u
+      → KnowsMaps (own (t.seat p)) count u s → (rxq cpu : ℕ) (hash : Option ℕ)
+      → pick_by count s rxq cpu hash
+      ≡ pick_by count (settings_of_visit about own u.word) rxq cpu hash

@@ -6,17 +6,21 @@ use crate::faults::path::joined;
 use std::alloc::{AllocError, AllocFailed, Global};
 use steer_base::List;
 
-/// What is wrong, and where: each segment of the path stands behind a slash.
+/// What is wrong with a text, and where.
 #[derive(Drop)]
 pub struct Fault {
+    /// The keys and positions that lead to the value, each after a slash; empty for the whole text.
     pub path: List<u8>,
+    /// What is wrong with the value at the path.
     pub cause: Cause,
 }
 
 /// Why a value was not read.
 #[derive(Drop)]
 pub enum Refusal {
+    /// There was not enough memory, which says nothing about the value.
     Memory,
+    /// The value has a fault.
     Fault(Fault),
 }
 
@@ -45,7 +49,7 @@ impl<T: Drop> From<AllocFailed<T>> for Refusal {
 impl Refusal {
     ghost use Rattle.plan_reader.specs.Faults.{IsUnder};
 
-    /// What is wrong with the value that is looked at.
+    /// A fault of the value that is read, with an empty path. Allocates nothing.
     pub fn here(alloc: Global, cause: Cause) -> Refusal
         ensures { result ≡ Refusal.Fault (record { path = []; cause = cause }) }
     {
@@ -55,7 +59,8 @@ impl Refusal {
         })
     }
 
-    /// The same at a segment of the path.
+    /// The refusal of the value that has the refused one at this key or position: the path with the
+    /// segment in front. `Memory` if the path cannot be allocated.
     pub fn under(self, alloc: Global, segment: &str) -> Refusal
         ensures { IsUnder segment.now self result }
     {

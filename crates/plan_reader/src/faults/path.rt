@@ -4,7 +4,7 @@ ghost use Rattle.std.specs.Prelude.{◌≡◌, ◌∷◌, ◌++◌, IfOk};
 use std::alloc::{AllocError, Global};
 use steer_base::List;
 
-/// A slash, a segment, and the path behind it.
+/// A path with a slash and a segment in front.
 pub fn joined(alloc: Global, segment: &str, path: &[u8]) -> Result<List<u8>, AllocError>
     ensures { IfOk result (λ joined. joined ≡ 47 ∷ (segment.now ++ path.now)) }
 {

@@ -7,7 +7,7 @@ use crate::faults::cause::Cause;
 use crate::faults::fault::Refusal;
 use std::alloc::Global;
 
-/// The answer for the value that is looked at.
+/// The result of reading a value, with a cause as a fault at an empty path.
 pub fn here<T>(alloc: Global, answer: Result<T, Cause>) -> Result<T, Refusal>
     ensures { Gives result (here answer) }
 {
@@ -17,7 +17,7 @@ pub fn here<T>(alloc: Global, answer: Result<T, Cause>) -> Result<T, Refusal>
     }
 }
 
-/// The answer for the value at a segment of the path.
+/// The result of reading the value at a key, with the key in front of the path of a fault.
 pub fn placed<T>(alloc: Global, segment: &str, answer: Result<T, Refusal>) -> Result<T, Refusal>
     ensures { IsPlaced segment.now answer result }
 {
@@ -27,7 +27,8 @@ pub fn placed<T>(alloc: Global, segment: &str, answer: Result<T, Refusal>) -> Re
     }
 }
 
-/// The answer for the member of a list at a position.
+/// The result of reading the member of a list at a position, from 0, with the position in front of
+/// the path of a fault.
 pub fn numbered<T>(alloc: Global, position: usize, answer: Result<T, Refusal>) -> Result<T, Refusal>
     ensures { IsPlaced (decimal position) answer result }
 {

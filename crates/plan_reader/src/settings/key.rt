@@ -24,7 +24,8 @@ fn key_of(value: &Value) -> Result<[u8; 40], Cause>
         .ok_or(Cause::WrongKind)
 }
 
-/// The key of a plan, or the default key if the plan has none.
+/// The key of the receive hash at the key `key` of a plan: 80 hexadecimal digits. If it is absent,
+/// the key of Microsoft's verification suite (`toeplitz::VERIFICATION_KEY`).
 #[tactic(auto, using(crate::proofs::Placed::gives_placed))]
 pub fn key_or_default(alloc: Global, object: &Value) -> Result<[u8; 40], Refusal>
     ensures { Gives result

@@ -15,39 +15,58 @@ use steer_base::{Cpu, CpuMask, Detach, List, MAX_SOCKET_SIZE, RxQueue};
 /// The processors, the receive queues, and how packets are spread over them.
 #[derive(Drop)]
 pub struct Receive {
+    /// The number of processors, 1 to 32.
     pub cpus: u8,
+    /// The receive queues, 1 to 16.
     pub queues: List<QueuePlan>,
+    /// The key of the receive hash.
     pub key: [u8; 40],
+    /// The enabled hash kinds, 0 to 63.
     pub kinds: u8,
+    /// The 128 entries of the redirection table.
     pub reta: List<RxQueue>,
 }
 
 /// The sizes of tables, the backlog limit, the counter start, and who has the flow limit.
 #[derive(Clone, Copy)]
 pub struct Tables {
+    /// The size of the socket flow table.
     pub sock: u32,
+    /// The number of hardware filters.
     pub filters: u32,
+    /// The most packets in a processor's backlog, at least 1.
     pub backlog: u32,
+    /// The value of the counters before the first packet.
     pub start: u32,
+    /// The processors that have the flow limit.
     pub limited: CpuMask,
 }
 
 /// The applications, the transmit queues, and how the replay is run.
 #[derive(Drop)]
 pub struct Sends {
+    /// The processor of each application, 1 to 32.
     pub apps: List<Cpu>,
+    /// The transmit queues, 1 to 32.
     pub tx: List<TxPlan>,
+    /// The number of threads, 1 to 32.
     pub workers: u32,
+    /// How often a command is tried, 1 to 64.
     pub tries: u32,
+    /// The taps that are detached, at most 32.
     pub detach: List<Detach>,
 }
 
 /// All fields of a plan.
 #[derive(Drop)]
 pub struct Parts {
+    /// The fields from `cpus` to `reta`.
     pub receive: Receive,
+    /// The fields from `sock` to `limited`.
     pub tables: Tables,
+    /// The fields from `apps` to `detach`.
     pub sends: Sends,
+    /// The field `steps`.
     pub steps: Steps,
 }
 

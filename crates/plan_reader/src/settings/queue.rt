@@ -13,7 +13,7 @@ use serde_json::Value;
 use std::alloc::Global;
 use steer_base::{Cpu, CpuMask, Detach, MAX_FLOW_COUNT, MAX_PACKETS};
 
-/// Reads a receive queue.
+/// Reads a receive queue of a plan with this many processors.
 #[tactic(auto, unfolding(crate::specs::Readings::queue_plan))]
 pub fn queue_of(alloc: Global, cpus: u8, value: &Value) -> Result<QueuePlan, Refusal>
     requires { cpus ≤ 32 }
@@ -32,7 +32,7 @@ pub fn queue_of(alloc: Global, cpus: u8, value: &Value) -> Result<QueuePlan, Ref
     })
 }
 
-/// Reads a transmit queue.
+/// Reads a transmit queue of a plan with this many processors and receive queues.
 #[tactic(auto, unfolding(crate::specs::Readings::tx_of))]
 pub fn tx_of(alloc: Global, cpus: u8, queues: u8, value: &Value) -> Result<TxPlan, Refusal>
     requires cpus { cpus ≤ 32 }
@@ -50,7 +50,7 @@ pub fn tx_of(alloc: Global, cpus: u8, queues: u8, value: &Value) -> Result<TxPla
     })
 }
 
-/// Reads the detachment of a tap.
+/// Reads which tap is detached, and after how many steps.
 #[tactic(auto, unfolding(crate::specs::Readings::detach_of))]
 pub fn detach_of(alloc: Global, value: &Value) -> Result<Detach, Refusal>
     ensures gives { Gives result (detach_of (view value.now)) }

@@ -14,7 +14,8 @@ use serde_json::Value;
 use std::alloc::{AllocError, Global};
 use steer_base::{List, RxQueue, even_entries};
 
-/// The redirection table of a plan with these queues, or the default.
+/// The redirection table of a plan with these queues: 128 numbers of queues. If it is absent, entry
+/// i is queue i modulo the number of queues.
 pub fn reta_or_even(
     alloc: Global,
     queues: &List<QueuePlan>,

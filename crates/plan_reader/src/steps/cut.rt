@@ -9,7 +9,8 @@ fn place_of(text: &[u8], byte: u8) -> Option<usize>
     text.iter().position(|b| *b == byte)
 }
 
-/// What stands before the first such byte, and what follows it.
+/// The text before the first such byte, and what follows that byte; the whole text and `None` if it
+/// has no such byte.
 pub fn cut(text: &[u8], byte: u8) -> (&[u8], Option<&[u8]>)
     ensures front { result.0.now ≡ before byte text.now }
     ensures rest { option_map (λ rest. rest.now) result.1 ≡ after_byte byte text.now }

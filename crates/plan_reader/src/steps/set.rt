@@ -49,7 +49,7 @@ fn bits_of_list(token: &[u8], limit: u8) -> Result<u32, Cause>
     }
 }
 
-/// Whether a token is numbers with commas between them, or a dash for none.
+/// Whether a token is a set: numbers with commas between them, or a dash for none.
 #[tactic(auto, unfolding(crate::specs::Texts::set_of))]
 pub fn is_set(token: &[u8]) -> bool
     ensures { result ≡ is_some (set_of token.now) }
@@ -57,7 +57,8 @@ pub fn is_set(token: &[u8]) -> bool
     is(token, "-") || is_list(token)
 }
 
-/// The bits of a set, whose numbers are all to be below the limit.
+/// The set of a token as bits: bit n is number n. `Cause::Range` with the first number that is not
+/// below the limit.
 #[tactic(auto, unfolding(crate::specs::Texts::set_of))]
 pub fn bits_of(token: &[u8], limit: u8) -> Result<u32, Cause>
     requires width { limit ≤ 32 }

@@ -7,7 +7,7 @@ ghost use Rattle.plan_reader.specs.Words.{bare_step, queue_step, cpu_step, app_s
 use crate::faults::cause::Cause;
 use steer_base::{Command, Cpu, Step};
 
-/// Whether the word is this name.
+/// Whether the bytes of a word spell this name.
 pub fn is(word: &[u8], name: &str) -> bool
     ensures { result ≡ bytes_eq word.now name.now }
 {
@@ -31,7 +31,7 @@ pub fn bare_step(word: &[u8]) -> Result<Step, Cause>
     }
 }
 
-/// The step of a word with a receive queue.
+/// The step of a word with a receive queue; `None` if no step has this word with a queue.
 #[tactic(auto, unfolding(crate::specs::Words::queue_step))]
 pub fn queue_step(word: &[u8], queue: u8) -> Option<Step>
     ensures step { result ≡ queue_step word.now queue }
@@ -59,7 +59,7 @@ pub fn queue_step(word: &[u8], queue: u8) -> Option<Step>
     }
 }
 
-/// The step of a word with a processor.
+/// The step of a word with a processor; `None` if no step has this word with a processor.
 #[tactic(auto, unfolding(crate::specs::Words::cpu_step))]
 pub fn cpu_step(word: &[u8], cpu: u8) -> Option<Step>
     ensures step { result ≡ cpu_step word.now cpu }
@@ -83,7 +83,7 @@ pub fn cpu_step(word: &[u8], cpu: u8) -> Option<Step>
     }
 }
 
-/// The step of a word with an application.
+/// The step of a word with an application; `None` if no step has this word with an application.
 #[tactic(auto, unfolding(crate::specs::Words::app_step))]
 pub fn app_step(word: &[u8], app: u8) -> Option<Step>
     ensures step { result ≡ app_step word.now app }
@@ -109,7 +109,7 @@ pub fn app_step(word: &[u8], app: u8) -> Option<Step>
     }
 }
 
-/// The step of a word with a transmit queue.
+/// The step of a word with a transmit queue; `None` if no step has this word with such a queue.
 #[tactic(auto, unfolding(crate::specs::Words::tx_step))]
 pub fn tx_step(word: &[u8], tx: u8) -> Option<Step>
     ensures step { result ≡ tx_step word.now tx }

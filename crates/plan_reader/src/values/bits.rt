@@ -11,7 +11,8 @@ use crate::values::number::{in_range, number_below};
 use serde_json::Value;
 use std::alloc::Global;
 
-/// The members of a list, of which there are from `low` to `high`.
+/// The members of a JSON list. `Cause::WrongKind` for another value, and `Cause::Range` with their
+/// number if it is not from `low` to `high`.
 #[tactic(auto, using(crate::proofs::Views::lens))]
 pub fn items(value: &Value, low: u64, high: u64) -> Result<&Vec<Value>, Cause>
     ensures gives { MapsTo (λ list. items_view list.now.items) result
@@ -24,7 +25,7 @@ pub fn items(value: &Value, low: u64, high: u64) -> Result<&Vec<Value>, Cause>
     Ok(list)
 }
 
-/// A list of at most `most` numbers below `limit`, as a set: bit n is number n.
+/// A JSON list of at most `most` numbers below `limit`, as a set: bit n is number n.
 pub fn set(alloc: Global, value: &Value, most: u64, limit: u8) -> Result<u32, Refusal>
     requires { limit ≤ 32 }
     ensures gives { Gives result (set most limit (view value.now)) }

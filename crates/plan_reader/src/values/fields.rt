@@ -110,7 +110,7 @@ pub fn set_or_empty(
     }
 }
 
-/// The answer for an object without a required key.
+/// The fault `Cause::Missing` at a required key that an object does not have.
 #[tactic(auto, using(crate::proofs::Placed::gives_placed))]
 pub fn missing<T>(alloc: Global, key: &str) -> Result<T, Refusal>
     ensures { Gives result (under key.now (here (Err Cause.Missing))) }

@@ -9,14 +9,14 @@ use crate::faults::cause::Cause;
 use serde_json::Value;
 use steer_base::decimal_number;
 
-/// One to ten decimal digits without a sign.
+/// The number of a token of one to ten decimal digits without a sign; `None` for any other token.
 pub fn number_of(token: &[u8]) -> Option<u64>
     ensures { result ≡ plain_number token.now }
 {
     Some(decimal_number(token, 10)? as u64)
 }
 
-/// A number from `low` to `high`.
+/// The number, if it is from `low` to `high`; otherwise `Cause::Range`.
 pub fn in_range(low: u64, high: u64, number: u64) -> Result<u64, Cause>
     ensures gives { result ≡ in_range low high number }
     ensures within { IfOk result (λ n. (low ≤ n) × (n ≤ high)) }
@@ -28,7 +28,7 @@ pub fn in_range(low: u64, high: u64, number: u64) -> Result<u64, Cause>
     }
 }
 
-/// A number below a size.
+/// The number as an index, if it is below the size; otherwise `Cause::Range`.
 pub fn index_below(size: u8, number: u64) -> Result<u8, Cause>
     ensures gives { result ≡ below size number }
     ensures within { IfOk result (λ n. n < size) }
@@ -40,7 +40,7 @@ pub fn index_below(size: u8, number: u64) -> Result<u8, Cause>
     }
 }
 
-/// A number below a limit.
+/// The number as a count, if it is below the limit; otherwise `Cause::Range`.
 pub fn count_below(limit: u32, number: u64) -> Result<u32, Cause>
     ensures gives { result ≡ below limit number }
     ensures within { IfOk result (λ n. n < limit) }
@@ -52,7 +52,7 @@ pub fn count_below(limit: u32, number: u64) -> Result<u32, Cause>
     }
 }
 
-/// A whole number from 0 to 2^64 - 1.
+/// A JSON number that is a whole number from 0 to 2^64 - 1; otherwise `Cause::WrongKind`.
 pub fn whole(value: &Value) -> Result<u64, Cause>
     ensures { result ≡ whole (view value.now) }
 {

@@ -11,7 +11,7 @@ use crate::faults::placed::{here, placed};
 use serde_json::{Map, Value};
 use std::alloc::Global;
 
-/// Refuses a value that is no object.
+/// Refuses a JSON value that is not an object, as `Cause::WrongKind`.
 pub fn an_object(alloc: Global, value: &Value) -> Result<(), Refusal>
     ensures { Gives result (an_object (view value.now)) }
 {
@@ -49,7 +49,8 @@ fn unknown_key<'m>(object: &'m Map<String, Value>, keys: &[&str]) -> Option<&'m 
     None
 }
 
-/// Refuses an object that has a key beside these.
+/// Refuses an object with a key that is none of these, as `Cause::UnknownKey` at the first such
+/// key.
 #[tactic(auto, using(crate::proofs::Placed::gives_placed))]
 pub fn only(alloc: Global, value: &Value, keys: &[&str]) -> Result<(), Refusal>
     ensures { Gives result (only (map (λ known. known.now) keys.now) (view value.now)) }

@@ -17,7 +17,7 @@ use plan_reader::{Plan, QueuePlan};
 use sock_flow_table::SockTable;
 use std::alloc::Global;
 use steer_base::{CpuMask, Journal, Journals, OutOfMemory, Packet};
-use steer_model::{Given, InForce, Note};
+use steer_model::{Given, InForce, Note, flow_count};
 
 impl Actors {
     /// The machine of a plan before its first step: open gates, empty lists, and room for all that
@@ -102,7 +102,8 @@ struct Hops {
 impl Hops {
     // Both of them empty.
     fn make(alloc: Global, plan: &Plan, packets: &[Packet]) -> Result<Hops, OutOfMemory>
-        requires { length packets.now ≤ MAX_PACKETS }
+        requires few { length packets.now ≤ MAX_PACKETS }
+        requires flows { AreOfFlows packets.now }
         ensures rx { IfOk result (λ hops. hops.rx ≡ fresh_rx plan.now packets.now) }
         ensures tx { IfOk result (λ hops. hops.tx ≡ fresh_tx plan.now packets.now) }
     {
@@ -177,12 +178,12 @@ fn receive_hop(alloc: Global, plan: &Plan, packets: &[Packet]) -> Result<Hop, Ou
 // The transmit hop: from the applications over the transmit queues to the port, with a class for
 // each flow number and one at least, and lanes that are never full.
 fn transmit_hop(alloc: Global, plan: &Plan, packets: &[Packet]) -> Result<Hop, OutOfMemory>
-    requires { length packets.now ≤ MAX_PACKETS }
+    requires few { length packets.now ≤ MAX_PACKETS }
+    requires flows { AreOfFlows packets.now }
     ensures { IfOk result (λ hop. hop ≡ fresh_tx plan.now packets.now) }
 {
-    let room = packets.len() as u32;
     let apps = plan.apps.len() as u8;
-    let counts = for_each_app(alloc, apps, room.max(1))?;
+    let counts = for_each_app(alloc, apps, flow_count(packets).max(1) as u32)?;
     Hop::make(
         alloc,
         HopShape {
@@ -191,7 +192,7 @@ fn transmit_hop(alloc: Global, plan: &Plan, packets: &[Packet]) -> Result<Hop, O
             lanes: plan.tx.len() as u8,
             outs: 1,
             limit: MAX_HOP_ROOM,
-            room,
+            room: packets.len() as u32,
             counts,
             exact: true,
             start: plan.start,

@@ -28,6 +28,7 @@ use Rattle.history.specs.declared.commanded.Commanded.{Commanded}
 use Rattle.history.specs.declared.sent.Sent.{Sent}
 use Rattle.history.specs.declared.sock_write.SockWrite.{SockWrite}
 use Rattle.plan_reader.specs.declared.plan.Plan.{Plan}
+use Rattle.steer_model.specs.Capture.FlowCounts.{flow_count}
 use Rattle.steer_model.specs.State.Ranges.{IsGiven}
 use Rattle.steer_model.specs.State.Settings.{Settings, class_at, plain_lane}
 use Rattle.steer_model.specs.State.Setup.{Setup}
@@ -153,10 +154,10 @@ module _ (plan : Plan) (packets : List Packet) (cut : Option ℕ) (may : MayStar
   tx = fresh_tx plan packets
 
   abbrev classes : List ℕ
-  classes = replicate (length plan.apps) (max 1 (length packets))
+  classes = replicate (length plan.apps) (max 1 (flow_count packets))
 
   classes-many : length classes ≡ length plan.apps
-  classes-many = length-replicate (length plan.apps) (max 1 (length packets))
+  classes-many = length-replicate (length plan.apps) (max 1 (flow_count packets))
 
   tx-new : TxInvariant setup tx
   tx-new =

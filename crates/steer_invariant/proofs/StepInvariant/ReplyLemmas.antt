@@ -23,7 +23,9 @@ use Rattle.history.specs.Lists.{list_at, no_packet}
 use Rattle.history.specs.declared.sent.Sent.{Sent}
 use Rattle.xps_map.specs.Maps.{serves_cpu, serves_queue}
 use Rattle.xps_map.proofs.CandidatesLemmas.{within}
+use Rattle.steer_model.proofs.Capture.FlowLemmas.{below_count}
 use Rattle.steer_model.specs.Steps.Applications.{everyone, next_in, pick_for, sending, sent_of}
+use Rattle.steer_model.specs.Capture.FlowCounts.{flow_count}
 use Rattle.steer_model.specs.State.Ranges.{IsGiven}
 use Rattle.steer_model.specs.State.Machine.{Machine}
 use Rattle.steer_model.specs.State.Setup.{Setup, flow_number_of, packet_hash}
@@ -98,10 +100,10 @@ everyone-has : (c : ℕ) → c < 32 → has everyone c ≡ true
 everyone-has c lt = let bit = bit_at_ones 32 c lt in rw (lt-ltb c 32 lt, bit) refl
 
 -- the flow of every packet has a class, also of one that the capture has not
-pub flow_below : (p : Setup) (x : ℕ) → IsGiven p → flow_number_of p x < max 1 (length p.packets)
+pub flow_below : (p : Setup) (x : ℕ) → IsGiven p → flow_number_of p x < max 1 (flow_count p.packets)
 flow_below p x g =
     elim (cases_lt x (length p.packets)) [
-      | inl lt ↦ (let f = g.flows.below x lt in omega (arith, f))
+      | inl lt ↦ (let f = below_count p.packets x lt in omega (arith, f))
       | inr le ↦ (
           let e : flow_number_of p x ≡ 0 =
           ap (λ (y : Packet). y.flow_number) (get_or-eq_default p.packets no_packet le) in
@@ -125,9 +127,9 @@ may_tweigh m a r named k =
     let z = k.tx.sizes in let few = k.given.few_txs in
     let pick = pick_below m r k in
     let flow = flow_below m.setup r.id k.given in
-    let is : slice_index m.tx.counts a ≡ max 1 (length m.setup.packets) =
+    let is : slice_index m.tx.counts a ≡ max 1 (flow_count m.setup.packets) =
     ap (λ (l : List ℕ). slice_index l a) z.classes
-    ∙ get_or-replicate m.setup.apps a (max 1 (length m.setup.packets)) 0 named in
+    ∙ get_or-replicate m.setup.apps a (max 1 (flow_count m.setup.packets)) 0 named in
     record {
       producer = omega (arith, named, z.apps);
       lane = omega (arith, pick, z.txs);

@@ -1,6 +1,7 @@
 -- What the machine's invariant says in other words, and that all steps keep it.
 use Rattle.std.proofs.Common.{ℕ, ◌<◌, ◌≡◌, List, refl, ◌∙◌, arith}
 use Rattle.steer_base.specs.declared.step.Step.{Step}
+use Rattle.steer_model.proofs.Capture.FlowLemmas.{count_within}
 use Rattle.steer_model.specs.State.Ranges.{IsGiven}
 use Rattle.steer_model.specs.State.Machine.{Machine}
 use Rattle.steer_model.specs.State.Setup.{Setup, flow_number_of}
@@ -33,7 +34,10 @@ kept_of-simple p m s named k =
 
 -- flow numbers are below those that a step may name
 pub flow_small : (p : Setup) (x : ℕ) → IsGiven p → flow_number_of p x < 262144
-flow_small p x g = let f = flow_below p x g in let few = g.few_packets in omega (arith, f, few)
+flow_small p x g =
+    let f = flow_below p x g in let few = g.few_packets in
+    let within = count_within p.packets g.flows in
+    omega (arith, f, few, within)
 
 kept-step : (m : Machine) (s : Step) → IsNamed m.setup s → StepInvariant m → KeptOf m.setup
     (step m s).0

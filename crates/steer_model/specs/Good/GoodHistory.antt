@@ -1,7 +1,7 @@
 -- When a history is one of a plan and a capture, whoever made it: eleven clauses, each under its
--- own name, and the first that a history fails. Where a clause needs to know which commands a
--- choice was made after, it takes their number as `at`: of each list, for each choice.
-use Rattle.std.specs.Prelude.{ℕ, ◌≤◌, ◌<◌, ◌≡◌}
+-- own name. Where a clause needs to know which commands a choice was made after, it takes their
+-- number as `at`: of each list, for each choice.
+use Rattle.std.specs.Prelude.{ℕ, ◌≡◌}
 use Rattle.history.specs.declared.history.History.{History}
 use Rattle.steer_model.specs.Good.Arrivals.{HasArrived, QueuesAreSeen}
 use Rattle.steer_model.specs.Good.Choices.{ChoicesAreByRule, HeadsAreRising, WantsAreWritten}
@@ -47,9 +47,3 @@ pub record Clause (n : ℕ) (i : Input) (h : History) : Type 0 where
   pub writes : n ≡ 9 → WritesAreRight i h
   pub commands : n ≡ 10 → CommandsAreGiven i h
   pub replies : n ≡ 11 → RepliesAreByRule i h never
-
--- A history fails the clause of this number, and none before it.
-pub record FirstFault (n : ℕ) (i : Input) (h : History) : Type 0 where
-  pub within : (1 ≤ n) × (n ≤ 11)
-  pub before : (k : ℕ) → 1 ≤ k → k < n → Clause k i h
-  pub fault : Clause n i h → ⊥

@@ -15,6 +15,7 @@ use Rattle.plan_reader.specs.Plans.{nth_step, step_count}
 use Rattle.plan_reader.specs.declared.plan.Plan.{Plan}
 use Rattle.plan_reader.specs.declared.plan.TxPlan.{TxPlan}
 use Rattle.xps_map.specs.Maps.{Maps}
+use Rattle.steer_model.specs.Capture.FlowCounts.{flow_count}
 use Rattle.steer_model.specs.State.Machine.{Machine, history_of}
 use Rattle.steer_model.specs.State.Settings.{Settings}
 use Rattle.steer_model.specs.State.Setup.{Setup}
@@ -81,7 +82,7 @@ fresh_tx plan packets =
       exact = true;
       limited = record { 0 = 0 };
     })
-    (replicate (length plan.apps) (max 1 (length packets))) 0 (length plan.tx) 1
+    (replicate (length plan.apps) (max 1 (flow_count packets))) 0 (length plan.tx) 1
 
 -- the machine before its first step: the plan's settings, open gates and empty lists
 abbrev pub new_machine : Plan → List Packet → Option ℕ → Machine

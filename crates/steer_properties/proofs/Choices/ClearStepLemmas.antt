@@ -7,6 +7,7 @@ use Rattle.steer_base.specs.Choices.{desired_cpu}
 use Rattle.steer_base.specs.declared.step.Step.{Step}
 use Rattle.steer_model.specs.Steps.Applications.{everyone, in_reply, pick_for}
 use Rattle.steer_model.specs.Good.Inputs.{Input}
+use Rattle.steer_model.specs.Capture.FlowCounts.{flow_count}
 use Rattle.steer_model.specs.State.Machine.{Machine}
 use Rattle.steer_model.specs.State.Settings.{class_at, plain_lane}
 use Rattle.steer_model.specs.State.Setup.{flow_number_of}
@@ -85,5 +86,5 @@ clear-new_machine i =
       rx = clear-fresh (fresh_rx i.plan i.packets).fixed (initial_settings i.plan).counts
           (length i.plan.apps + 1) i.plan.cpus (length i.plan.apps);
       tx = clear-fresh (fresh_tx i.plan i.packets).fixed
-          (replicate (length i.plan.apps) (max 1 (length i.packets))) 0 (length i.plan.tx) 1;
+          (replicate (length i.plan.apps) (max 1 (flow_count i.packets))) 0 (length i.plan.tx) 1;
     }

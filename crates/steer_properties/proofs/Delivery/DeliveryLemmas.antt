@@ -12,7 +12,7 @@ use Rattle.steer_model.specs.State.Setup.{Setup, packet_hash}
 use Rattle.steer_model.specs.State.Start.{fresh_rx, new_machine, steps_of}
 use Rattle.steer_model.specs.Steps.SingleSteps.{simple}
 use Rattle.steer_model.specs.Steps.CompoundSteps.{after}
-use Rattle.steer_properties.specs.Delivery.HopDelivery.{Delivers}
+use Rattle.steer_properties.proofs.Delivery.HopDelivery.{Delivers}
 use Rattle.steer_properties.specs.Delivery.DeliveryLaws.{DeliversInOrder, ReplaysDeliverInOrder}
 use Rattle.steer_properties.specs.Delivery.DeliveryLaws.{RunsDeliverInOrder}
 use Rattle.steer_invariant.specs.Invariant.{Invariant}

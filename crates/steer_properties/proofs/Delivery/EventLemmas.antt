@@ -28,7 +28,7 @@ use Rattle.steer_model.specs.State.Ranges.{IsGiven}
 use Rattle.steer_model.specs.State.Machine.{last_chosen}
 use Rattle.steer_model.specs.State.Settings.{Settings, class_at, mask_of, plain_lane}
 use Rattle.steer_model.specs.State.Setup.{Setup, app_for, flow_number_of, packet_hash}
-use Rattle.steer_properties.specs.Delivery.HopDelivery.{DeliversRx, DeliversTx, is_of}
+use Rattle.steer_properties.proofs.Delivery.HopDelivery.{DeliversRx, DeliversTx, is_of}
 use Rattle.steer_invariant.specs.RecordedLists.{AreWeighed}
 
 -- ---- packets of one flow
@@ -151,7 +151,7 @@ tx-run p (e ∷ es) s plain may h d =
 -- ---- a put of the receive hop
 
 -- the last choice is the one in hand, where one is
-last-hand : (s : HopState) (q : ℕ) → Sound s → placed_of s q < length (choices_of s q)
+pub last-hand : (s : HopState) (q : ℕ) → Sound s → placed_of s q < length (choices_of s q)
     → last_chosen s q ≡ in_hand s q
 last-hand s q h more =
     let cs : List Chosen = choices_of s q in

@@ -31,7 +31,7 @@ use Rattle.steer_model.specs.Good.Drops as good
 use Rattle.steer_model.specs.Good.Replies.{AreInOneTxPlace, replies_of}
 use Rattle.steer_model.specs.State.Machine.{Machine, history_of, lane_list, history_lanes}
 use Rattle.steer_model.specs.State.Setup.{Setup, app_for, flow_number_of, packet_hash}
-use Rattle.steer_properties.specs.Delivery.HopDelivery.{Delivers, is_of}
+use Rattle.steer_properties.proofs.Delivery.HopDelivery.{Delivers, is_of}
 use Rattle.steer_invariant.specs.Invariant.{Invariant}
 use Rattle.steer_properties.proofs.Delivery.EventLemmas.{app-same}
 use Rattle.steer_invariant.proofs.LaneLemmas.{accepted-apart, delivered-by, lane-is, lists-long}

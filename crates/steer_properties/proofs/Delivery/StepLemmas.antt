@@ -26,6 +26,7 @@ use Rattle.steer_model.specs.Steps.Applications.{in_lane, in_reply, next_in, rec
 use Rattle.steer_model.specs.Steps.Applications.{sending}
 use Rattle.steer_model.specs.Steps.Applications.{visited, wrote}
 use Rattle.steer_model.specs.Steps.Commands.{answer_to, is_done, set_by}
+use Rattle.steer_model.specs.Capture.FlowCounts.{flow_count}
 use Rattle.steer_model.specs.State.Machine.{Machine, last_chosen, note_of}
 use Rattle.steer_model.specs.State.Notes.{is_asking, is_nothing}
 use Rattle.steer_model.specs.Steps.Outcomes.{StepOutcome, by_rx, by_tx, idle_step}
@@ -38,7 +39,7 @@ use Rattle.steer_model.specs.Steps.SingleSteps.{simple}
 use Rattle.steer_model.specs.declared.note.Note.{Note}
 use Rattle.steer_model.specs.declared.note.Note.TheVariants as note
 use Rattle.steer_invariant.specs.EventPremises.{AsksRx, AsksTx}
-use Rattle.steer_properties.specs.Delivery.HopDelivery.{Delivers}
+use Rattle.steer_properties.proofs.Delivery.HopDelivery.{Delivers}
 use Rattle.steer_invariant.specs.Invariant.{Invariant}
 use Rattle.steer_invariant.specs.StepInvariant.{IsCommandNamed, IsNamed}
 use Rattle.steer_invariant.proofs.BelowLemmas.{both-below}
@@ -275,7 +276,7 @@ delivers-new plan packets cut =
     let t : HopState = fresh_tx plan packets in
     let counts : List ℕ = (initial_settings plan).counts in
     let apps : ℕ = length plan.apps in
-    let classes : List ℕ = replicate apps (max 1 (length packets)) in
+    let classes : List ℕ = replicate apps (max 1 (flow_count packets)) in
     let m : Machine = new_machine plan packets cut in
     record {
       rx = record {

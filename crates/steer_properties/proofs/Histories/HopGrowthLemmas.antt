@@ -56,7 +56,8 @@ grown-same s t a c b r =
           omega (arith, e));
     }
 
-count-risen : (xs : List ℕ) (c d : ℕ) → get_or xs d 0 ≤ get_or (set xs c (get_or xs c 0 + 1)) d 0
+pub count-risen : (xs : List ℕ) (c d : ℕ)
+    → get_or xs d 0 ≤ get_or (set xs c (get_or xs c 0 + 1)) d 0
 count-risen [] c d = omega arith
 count-risen (x ∷ xs) zero zero = omega arith
 count-risen (x ∷ xs) zero (suc d) = omega arith

@@ -7,7 +7,7 @@ use Rattle.board_tests.proofs.rounds.visit.Goals as goal
 pub returns-in-Closed : goal.returns-in-Closed
 returns-in-Closed g c =
     refused (g.B.Board.view c.args.board.now) c.args.seat.now.number no_hand c.args.seat.now
-    c.enter.new.seat c.in-Closed.word c.requires.stands c.in-Closed.ensures
+    c.enter.new.seat c.in-Closed.word c.requires.stands c.in-Closed.ensures.step
 
 pub offer-answer-requires-clause-stands : goal.offer-answer-requires-clause-stands
 offer-answer-requires-clause-stands g c =
@@ -15,7 +15,7 @@ offer-answer-requires-clause-stands g c =
     let seat = c.weigh-head.new.seat in
     let seen =
     has_seen board c.args.seat.now c.enter.new.seat c.setting-setting.new.seat seat
-    c.setting-setting.result c.args.lane c.weigh-head.result c.requires.stands c.in-Ok.ensures
+    c.setting-setting.result c.args.lane c.weigh-head.result c.requires.stands c.in-Ok.ensures.step
     c.setting-setting.ensures c.weigh-head.ensures in
     by_number board c.args.seat.now.number seat.number inside 0 no_hand seat (sym seen.number_is)
     seen
@@ -28,7 +28,7 @@ returns g c =
     let after = c.offer-answer.new.seat in
     let seen =
     has_seen board c.args.seat.now c.enter.new.seat c.setting-setting.new.seat seat
-    c.setting-setting.result c.args.lane c.weigh-head.result c.requires.stands c.in-Ok.ensures
+    c.setting-setting.result c.args.lane c.weigh-head.result c.requires.stands c.in-Ok.ensures.step
     c.setting-setting.ensures c.weigh-head.ensures in
     has_left board number no_hand after c.leave.new.seat
     (by_number board seat.number number inside 0 no_hand after seen.number_is

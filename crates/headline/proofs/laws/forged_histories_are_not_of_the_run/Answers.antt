@@ -1,5 +1,6 @@
 use Rattle.headline.proofs.ExampleLemmas.{examples-within}
-use Rattle.headline.proofs.ForgedLemmas.{another-command-forged, another-queue-forged}
+use Rattle.headline.proofs.ForgedLemmas.{accepting-at-full-forged, another-command-forged}
+use Rattle.headline.proofs.ForgedLemmas.{another-drop-forged, another-queue-forged}
 use Rattle.headline.proofs.ForgedLemmas.{another-write-forged, empty-forged, moving-at-once-forged}
 use Rattle.headline.proofs.ForgedLemmas.{never-moving-forged, no-want-forged}
 use Rattle.headline.proofs.laws.forged_histories_are_not_of_the_run.Goals as goal
@@ -27,3 +28,9 @@ returns-clause-another_write c = another-write-forged
 
 pub returns-clause-another_command : goal.returns-clause-another_command
 returns-clause-another_command c = another-command-forged
+
+pub returns-clause-accepting_at_full : goal.returns-clause-accepting_at_full
+returns-clause-accepting_at_full c = accepting-at-full-forged
+
+pub returns-clause-another_drop : goal.returns-clause-another_drop
+returns-clause-another_drop c = another-drop-forged

@@ -1,9 +1,9 @@
-use Rattle.ntuple_rules.specs.Groups.{Adds, AddsAt, IsAt}
 use Rattle.ntuple_rules.proofs.Found.{adds_here, on_ok}
+use Rattle.ntuple_rules.proofs.Ordered.{order-here}
 use Rattle.ntuple_rules.proofs.group.add.Goals as goal
 
-pub returns : goal.returns
-returns c =
+pub returns-clause-finds : goal.returns-clause-finds
+returns-clause-finds c =
     let rule = c.args.rule.now in
     let at = rw c.shape_of-shape.ensures at c.in_ok-place.ensures.at in
     let adds = rw c.key_of-key.ensures at c.add.ensures in
@@ -12,3 +12,11 @@ returns c =
     c.index_mut.result.now c.add.new.self rule c.args.number
     c.index_mut.ensures.value c.in_ok-place.ensures.same at)
     adds
+
+pub returns-clause-order : goal.returns-clause-order
+returns-clause-order c =
+    on_ok c.add.result _ _
+    (λ adds order. order-here c.place_of.new.groups.items c.args.number c.in_ok-place.place
+    c.shape_of-shape.result c.index_mut.result.now c.add.new.self c.key_of-key.result
+    c.index_mut.ensures.value c.in_ok-place.ensures.at adds (c.in_ok-place.ensures.order order))
+    c.add.ensures

@@ -1,6 +1,6 @@
 use Rattle.std.proofs.Common.{◌≡◌, ◌++◌, ◌∙◌, true, false, length, refl, sym, ap, arith, append-nil}
 use Rattle.steer_base.specs.Sets.{in_bits, is_empty, those_below}
-use Rattle.report.specs.Pieces.{members_text}
+use Rattle.report.proofs.SetsLemmas.{members_text}
 use Rattle.report.proofs.SetsLemmas.{member_more, no_member, some_member}
 use Rattle.report.proofs.commands.push_set.Goals as goal
 use Rattle.report.proofs.commands.push_set.Goals.{then-is_member, else-is_member}

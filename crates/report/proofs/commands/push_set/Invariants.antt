@@ -1,6 +1,6 @@
 use Rattle.std.proofs.Common.{◌≡◌, ◌+◌, ◌*◌, ◌≤◌, ◌++◌, length}
 use Rattle.steer_base.specs.Sets.{in_bits, is_empty, those_below}
-use Rattle.report.specs.Pieces.{members_text}
+use Rattle.report.proofs.SetsLemmas.{members_text}
 use Rattle.report.proofs.commands.push_set.Given as goal
 
 -- the members so far are written

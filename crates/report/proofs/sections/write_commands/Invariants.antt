@@ -2,7 +2,7 @@ use Rattle.std.proofs.Common.{drop}
 use Rattle.report.specs.Commands.{command_row}
 use Rattle.report.specs.Report.{command_rows, numbered}
 use Rattle.report.specs.Texts.{text_of}
-use Rattle.report.specs.Written.{Goes}
+use Rattle.report.proofs.WrittenLemmas.{Goes}
 use Rattle.report.proofs.sections.write_commands.Given as goal
 
 -- the rows of the commands from this one on are left

@@ -2,7 +2,7 @@ use Rattle.std.proofs.Common.{drop}
 use Rattle.report.specs.Lines.{cpu_row}
 use Rattle.report.specs.Report.{cpu_rows, numbered}
 use Rattle.report.specs.Texts.{text_of}
-use Rattle.report.specs.Written.{Goes}
+use Rattle.report.proofs.WrittenLemmas.{Goes}
 use Rattle.report.proofs.sections.write_cpus.Given as goal
 
 -- the rows of the processors from this one on are left

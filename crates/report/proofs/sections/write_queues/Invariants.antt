@@ -3,7 +3,7 @@ use Rattle.std.specs.Prelude.{slice_index}
 use Rattle.report.specs.Lines.{queue_row}
 use Rattle.report.specs.Report.{numbered, queue_rows}
 use Rattle.report.specs.Texts.{text_of}
-use Rattle.report.specs.Written.{Goes}
+use Rattle.report.proofs.WrittenLemmas.{Goes}
 use Rattle.report.proofs.sections.write_queues.Given as goal
 
 -- the rows of the queues from this one on are left

@@ -1,7 +1,7 @@
 use Rattle.std.proofs.Common.{drop}
 use Rattle.report.specs.Report.{write_rows}
 use Rattle.report.specs.Texts.{text_of}
-use Rattle.report.specs.Written.{Goes}
+use Rattle.report.proofs.WrittenLemmas.{Goes}
 use Rattle.report.proofs.sections.write_sock_writes.Given as goal
 
 -- the rows of the applications from this one on are left

@@ -2,7 +2,7 @@ use Rattle.std.proofs.Common.{drop}
 use Rattle.report.specs.Report.{numbered, tap_rows}
 use Rattle.report.specs.Texts.Row.{Tap}
 use Rattle.report.specs.Texts.{text_of}
-use Rattle.report.specs.Written.{Goes}
+use Rattle.report.proofs.WrittenLemmas.{Goes}
 use Rattle.report.proofs.sections.write_taps.Given as goal
 
 -- the rows of the taps from this one on are left

@@ -2,7 +2,7 @@ use Rattle.std.proofs.Common.{drop}
 use Rattle.report.specs.Lines.{tx_row}
 use Rattle.report.specs.Report.{numbered, tx_rows}
 use Rattle.report.specs.Texts.{text_of}
-use Rattle.report.specs.Written.{Goes}
+use Rattle.report.proofs.WrittenLemmas.{Goes}
 use Rattle.report.proofs.sections.write_txs.Given as goal
 
 -- the rows of the transmit queues from this one on are left

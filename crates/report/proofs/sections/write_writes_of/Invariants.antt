@@ -1,7 +1,7 @@
 use Rattle.std.proofs.Common.{drop, map}
 use Rattle.report.specs.Lines.{write_row}
 use Rattle.report.specs.Texts.{text_of}
-use Rattle.report.specs.Written.{Goes}
+use Rattle.report.proofs.WrittenLemmas.{Goes}
 use Rattle.report.proofs.sections.write_writes_of.Given as goal
 
 -- the rows of the writes from this one on are left

@@ -1,4 +1,5 @@
 use Rattle.run_hands.proofs.DrainLemmas.{serves_leave, stays_drain}
+use Rattle.run_hands.proofs.ServerLaws.{applications_leave_drains}
 use Rattle.run_hands.proofs.VisitLemmas.{polls_leave}
 use Rattle.run_hands.proofs.laws.drains_stay_beside_others.Goals as goal
 
@@ -10,3 +11,6 @@ returns-clause-serves c = serves_leave
 
 pub returns-clause-polls : goal.returns-clause-polls
 returns-clause-polls c = polls_leave
+
+pub returns-clause-applications : goal.returns-clause-applications
+returns-clause-applications c = applications_leave_drains

@@ -1,3 +1,4 @@
+use Rattle.run_hands.proofs.ServerLaws.{applications_explain}
 use Rattle.run_hands.proofs.VisitLemmas.{serves_explain, visits_explain}
 use Rattle.run_hands.proofs.laws.turns_go_on.Goals as goal
 
@@ -6,3 +7,6 @@ returns-clause-serves c = serves_explain
 
 pub returns-clause-visits : goal.returns-clause-visits
 returns-clause-visits c = visits_explain
+
+pub returns-clause-applications : goal.returns-clause-applications
+returns-clause-applications c = applications_explain

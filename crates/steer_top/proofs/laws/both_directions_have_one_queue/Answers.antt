@@ -1,4 +1,4 @@
-use Rattle.std.proofs.Common.{◌≡◌, true, [], ap}
+use Rattle.std.proofs.Common.{◌≡◌, ap}
 use Rattle.ntuple_rules.specs.Folds.{swapped}
 use Rattle.ntuple_rules.specs.Laws.{FoldsAlike}
 use Rattle.rss_table.specs.Redirection.{even_table, queue_of}

@@ -7,8 +7,9 @@ use Rattle.hop_rule.specs.Sizes.{FitSizes}
 use Rattle.board_api.specs.StepWords.{is_odd}
 use Rattle.board_api.specs.Views.{BoardView}
 use Rattle.hop_board.specs.Plays.{HeldAt}
-use Rattle.hop_board.specs.Tables.{slots, slot_of, width}
-use Rattle.hop_board.proofs.Apart.{slot_inside}
+use Rattle.hop_board.specs.Tables.{slots, slot_at, slot_of, width}
+use Rattle.hop_board.specs.declared.places.Word.TheVariants as kind
+use Rattle.hop_board.proofs.Apart.{place_inside, slot_is_at}
 use Rattle.hop_board.proofs.Keeps.{holds_in, empties_in, even_is, held_state}
 use Rattle.hop_board.proofs.board.Board.take_as.Goals as goal
 
@@ -19,8 +20,8 @@ fetch_or-word-requires g c =
     let seat = c.seat.inside.seat in
     let about = c.args.self.now.sizes in
     let sizes : c.self.inside.sizes ≡ about = ap (λ (h : BoardView). h.sizes) c.self.view_is in
-    let inside = slot_inside about c.args.lane c.requires.within in
-    let here = c.slot_of-slot.ensures in
+    let inside = place_inside about (kind.Lane c.args.lane) c.requires.within in
+    let here = c.place-place.ensures in
     let words : shared.table_id.words ≡ width about = board.words ∙ ap width sizes in (
       ap (λ s. s.table) c.seat.view_is
           ∙ (c.requires.table ∙ sym (ap (λ (h : BoardView). h.table) c.self.view_is)),
@@ -28,7 +29,7 @@ fetch_or-word-requires g c =
       holds_in about shared.key (board.told_is ∙ sizes)
           (subst FitSizes sizes board.fit) c.args.seat.now seat.table_id shared.table_id.slots
           seat.id seat.me
-          c.seat.view_is c.slot_of-slot.result c.args.lane c.requires.within here
+          c.seat.view_is c.place-place.result c.args.lane c.requires.within here
           (board.slots ∙ ap slots sizes)
           g.J.Taken.lane c.requires.lane c.seat.invariant,
     )
@@ -39,13 +40,16 @@ exchange-found-requires g c =
     let odd = c.if-word-eq1.false in
     let even : is_odd c.fetch_or-word.result ≡ false =
     even_is c.self.inside.sizes c.fetch_or-word.result (omega arith) in
-    let t = e.2.as_told.0 even in (
+    let t = e.2.as_told.0 even in
+    let about = c.args.self.now.sizes in
+    let slot_is : slot_at c.place-place.result ≡ c.slot_of-slot.result =
+    ap slot_at c.place-place.ensures ∙ (sym (slot_is_at about c.args.lane)
+    ∙ sym c.slot_of-slot.ensures) in (
       e.0 ∙ (ap (λ s. s.table) c.seat.view_is
           ∙ (c.requires.table ∙ sym (ap (λ (h : BoardView). h.table) c.self.view_is))),
       (
         Some t.found,
-        t.carries ∙ ap (λ cs. (c.slot_of-slot.result, Some t.found) ∷ rest cs)
-            (sym t.carries),
+        t.carries ∙ (λ j. (slot_is j, Some t.found) ∷ rest (sym t.carries j)),
       ),
     )
 
@@ -55,8 +59,8 @@ load-requires g c =
     let board = c.self.invariant in
     let about = c.args.self.now.sizes in
     let sizes : c.self.inside.sizes ≡ about = ap (λ (h : BoardView). h.sizes) c.self.view_is in
-    let inside = slot_inside about c.args.lane c.requires.within in
-    let here = c.slot_of-slot.ensures in
+    let inside = place_inside about (kind.Lane c.args.lane) c.requires.within in
+    let here = c.place-place.ensures in
     let words : shared.table_id.words ≡ width about = board.words ∙ ap width sizes in
     let e = c.fetch_or-word.ensures in
     let odd = c.if-word-eq1.false in
@@ -69,7 +73,7 @@ load-requires g c =
     let ds = steps_in c.seat.inside.seat.me.0 in
     let me_is : seat.me.0 ≡ one p (e.2.added ∷ ds) = ap (λ m. m.0) x.3 ∙ e.2.adds in
     let carried : seat.me.1 ≡ (slot_of about c.args.lane, None) ∷ [] =
-    ap (λ m. m.1) x.3 ∙ (λ j. (here j, None) ∷ rest (t.carries j)) in (
+    ap (λ m. m.1) x.3 ∙ (λ j. (c.slot_of-slot.ensures j, None) ∷ rest (t.carries j)) in (
       x.0 ∙ (e.0 ∙ (ap (λ s. s.table) c.seat.view_is
           ∙ (c.requires.table ∙ sym (ap (λ (h : BoardView). h.table) c.self.view_is)))),
       omega arith,
@@ -77,7 +81,7 @@ load-requires g c =
           (seat_view seat.table_id (number_in seat.me.0) (steps_in seat.me.0)) seat.table_id
           shared.table_id.slots seat.id seat.me
           refl
-          c.slot_of-slot.result c.args.lane c.requires.within here (board.slots ∙ ap slots sizes)
+          c.place-place.result c.args.lane c.requires.within here (board.slots ∙ ap slots sizes)
           (me_is ∙ sym (λ j. one (number_in (me_is j)) (steps_in (me_is j)))) carried
           (ap (λ v. own_state about (slot_of about c.args.lane) (steps_in v)) me_is
           ∙ held_state about c.args.lane c.fetch_or-word.result t.found e.2.added ds

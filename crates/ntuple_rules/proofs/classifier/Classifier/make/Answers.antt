@@ -15,5 +15,8 @@ loop-number-preserved c =
     let more : take (n + 1) rules ≡ take n rules ++ rule ∷ [] =
     take_more rules n rule within
     ∙ ap (λ r. take n rules ++ r ∷ []) (sym (rw items at c.rule-item.is)) in
-    subst (Finds c.add.new.groups.items) (sym more)
-    (c.in_ok-add.ensures (take n rules) c.loop-number.invariant (sym len))
+    record {
+      finds = subst (Finds c.add.new.groups.items) (sym more)
+          (c.in_ok-add.ensures.finds (take n rules) c.loop-number.invariant.finds (sym len));
+      order = c.in_ok-add.ensures.order c.loop-number.invariant.order;
+    }

@@ -14,6 +14,7 @@ returns-in-Ok c =
     let updates = c.in-Ok.ensures.updates in
     record {
       shaped = refl;
+      starts = refl;
       numbers = λ other. number_more was (now other) c.args.key other c.args.number none
           (updates.0 other);
     }

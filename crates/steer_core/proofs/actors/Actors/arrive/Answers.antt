@@ -1,4 +1,4 @@
-use Rattle.std.proofs.Common.{◌<◌, ap, arith, length, sym}
+use Rattle.std.proofs.Common.{◌<◌, ap, arith, length}
 use Rattle.history.specs.declared.arrival.Arrival.{Arrival}
 use Rattle.steer_core.proofs.ArriveLemmas.{held_come, may_come}
 use Rattle.steer_core.proofs.actors.Actors.arrive.Goals as goal

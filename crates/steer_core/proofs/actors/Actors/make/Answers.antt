@@ -1,5 +1,4 @@
-use Rattle.std.proofs.Common.{◌<◌, ◌^◌, arith}
-use Rattle.std.specs.Prelude.{Option}
+use Rattle.std.proofs.Common.{arith}
 use Rattle.steer_invariant.specs.InvariantLaws.{MayStart}
 use Rattle.steer_core.proofs.MakeLemmas.{are_new, is_made}
 use Rattle.steer_core.proofs.actors.Actors.make.Goals as goal

@@ -1,7 +1,7 @@
 use Rattle.std.proofs.Common.{refl, ◌∙◌}
 use Rattle.steer_model.specs.Steps.CompoundSteps.{serve}
 use Rattle.steer_core.proofs.TurnLemmas.{each-start, each-then}
-use Rattle.std.proofs.Common.{◌≡◌, ◌≤◌, ap, arith, subst, sym}
+use Rattle.std.proofs.Common.{◌≤◌, ap, arith, subst}
 use Rattle.steer_invariant.specs.Invariant.{Invariant}
 use Rattle.steer_model.specs.State.Machine.{Machine}
 use Rattle.steer_model.specs.Steps.CompoundSteps.{Progress, for_each}

@@ -1,6 +1,6 @@
-use Rattle.std.proofs.Common.{ℕ, ◌≡◌, false, length, refl, ap, ◌∙◌}
+use Rattle.std.proofs.Common.{◌≡◌, false, length, refl, ap, ◌∙◌}
 use Rattle.steer_model.specs.State.Machine.{Machine}
-use Rattle.steer_model.specs.Steps.CompoundSteps.{Progress, most_rounds, rounds}
+use Rattle.steer_model.specs.Steps.CompoundSteps.{most_rounds, rounds}
 use Rattle.steer_core.specs.Running.{Running}
 use Rattle.steer_core.proofs.TurnLemmas.{rounds-end, rounds-off, rounds-on, rounds-start}
 use Rattle.steer_core.proofs.actors.Actors.sweep.Goals as goal

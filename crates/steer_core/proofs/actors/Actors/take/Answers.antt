@@ -1,4 +1,4 @@
-use Rattle.std.proofs.Common.{false, sym, ap, ◌∙◌}
+use Rattle.std.proofs.Common.{sym, ap, ◌∙◌}
 use Rattle.steer_model.specs.State.Notes.{is_asking}
 use Rattle.steer_invariant.proofs.Invariant.RowLemmas.{held_take}
 use Rattle.steer_invariant.proofs.StepInvariant.PollerLemmas.{read-note}

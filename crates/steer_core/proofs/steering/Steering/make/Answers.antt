@@ -1,6 +1,3 @@
-use Rattle.std.proofs.Common.{subst, sym}
-use Rattle.steer_core.specs.Running.{Running}
-use Rattle.steer_core.specs.Runs.{HaveRoomForSteps}
 use Rattle.steer_core.proofs.CountLemmas.{counted_new}
 use Rattle.steer_core.proofs.steering.Steering.make.Goals as goal
 
