@@ -9,7 +9,8 @@ use Rattle.steer_base.specs.Counters.{number}
 use Rattle.steer_base.specs.Sets.{has, those_below}
 use Rattle.steer_base.specs.declared.command.Busy.TheVariants.{NotEmpty}
 use Rattle.steer_base.specs.declared.cpu_mask.CpuMask.{CpuMask}
-use Rattle.steer_base.proofs.SetsLemmas.{those_below-more, those_below-zero, those_below_fail}
+use Rattle.steer_base.proofs.SetsLemmas.{those_below-more, those_below-same, those_below-zero}
+use Rattle.steer_base.proofs.SetsLemmas.{those_below_fail}
 use Rattle.hop_core.specs.Emptied.{AreEmptiedOf, EmptiedIsExact, SetIsAsked, emptied_of, first_busy}
 use Rattle.hop_core.specs.Emptied.{is_waiting, waiting}
 use Rattle.hop_core.specs.Events.{IsEmptied}
@@ -109,18 +110,6 @@ none-each n test none c lt =
           let both = length-append (those_below c test) (c ∷ s.0) in omega arith)
       | inr fails ↦ fails
     ]
-
--- tests that agree below n leave the same numbers
-those_below-same : (n : ℕ) (f g : ℕ → Bool) → ((c : ℕ) → c < n → f c ≡ g c)
-    → those_below n f ≡ those_below n g
-those_below-same zero f g same = those_below-zero f ∙ sym (those_below-zero g)
-those_below-same (suc n) f g same =
-    let e : suc n ≡ n + 1 = omega arith in
-    ap (λ k. those_below k f) e ∙ those_below-more n f
-    ∙ ap (λ xs. xs ++ cond (f n) (n ∷ []) [])
-    (those_below-same n f g (λ c lt. same c (omega arith)))
-    ∙ ap (λ b. those_below n g ++ cond b (n ∷ []) []) (same n (omega arith))
-    ∙ sym (those_below-more n g) ∙ ap (λ k. those_below k g) (sym e)
 
 each-none : (n : ℕ) (test : ℕ → Bool) → ((c : ℕ) → c < n → test c ≡ false) → those_below n test ≡ []
 each-none zero test each = those_below-zero test
