@@ -1,5 +1,4 @@
 pub mod ExplainedLemmas
 pub mod OffersLemmas
-pub mod PagesLemmas
 pub mod WindowLemmas
 pub mod RisingLemmas

@@ -6,7 +6,6 @@ mod lane;
 mod laws;
 mod limits;
 mod offers;
-mod pages;
 mod queue;
 mod window;
 

@@ -6,17 +6,16 @@ ghost use Rattle.steer_base.specs.Journals.{grown, journal};
 ghost use Rattle.steer_base.specs.declared.limits.TheConstants.{FLOW_LIMIT_BUCKETS};
 ghost use Rattle.backlog.specs.declared.limits.TheConstants.{MAX_LANE_ROOM};
 
-use crate::pages::Pages;
 use crate::window::Window;
 use std::alloc::Global;
 use std::marker::Model;
-use steer_base::OutOfMemory;
+use steer_base::{Journal, OutOfMemory};
 
 /// The offers to a lane in order: the bucket of each, or none for an offer without a hash. It also
 /// counts the buckets of the last 256 offers that have one.
 #[derive(Drop)]
 pub struct Offers {
-    buckets: Pages<Option<u16>>,
+    buckets: Journal<Option<u16>>,
     window: Window,
 }
 
@@ -38,7 +37,7 @@ impl Offers {
         requires { room ≤ MAX_LANE_ROOM }
         ensures { IfOk result (λ offers. offers ≡ journal [] room) }
     {
-        let buckets = Pages::make(alloc, room)?;
+        let buckets = Journal::make(alloc, room)?;
         let window = Window::make(alloc)?;
         Ok(Offers { buckets, window })
     }
@@ -51,7 +50,7 @@ impl Offers {
         ensures items { self.new ≡ grown self.old bucket }
         ensures count { result ≡ option_map (bucket_count self.old.items) bucket }
     {
-        self.buckets.push_reserved(bucket);
+        self.buckets.push(bucket);
         let bucket = bucket?;
         self.window.push(bucket);
         Some(self.window.count(bucket))

@@ -5,16 +5,15 @@ ghost use Rattle.steer_base.specs.Journals.{journal};
 ghost use Rattle.backlog.specs.Queues.{QueueLists, queue_lists};
 ghost use Rattle.backlog.specs.declared.limits.TheConstants.{MAX_LANE_ROOM};
 
-use crate::pages::Pages;
 use circular_buffer::HeapCircularBuffer;
 use std::alloc::Global;
 use std::marker::Model;
-use steer_base::{OutOfMemory, PacketId};
+use steer_base::{Journal, OutOfMemory, PacketId};
 
 /// The accepted packets and how many of them were pulled. Those that wait are also in a ring.
 #[derive(Drop)]
 pub struct Queue {
-    accepted: Pages<PacketId>,
+    accepted: Journal<PacketId>,
     waiting: HeapCircularBuffer<PacketId>,
     pulled: u32,
     limit: u32,
@@ -36,7 +35,7 @@ impl Queue {
         requires { room ≤ MAX_LANE_ROOM }
         ensures { IfOk result (λ queue. queue ≡ queue_lists (journal [] room) 0 limit) }
     {
-        let accepted = Pages::make(alloc, room)?;
+        let accepted = Journal::make(alloc, room)?;
         let waiting = HeapCircularBuffer::with_capacity(alloc, limit.min(room.max(1)) as usize)?;
         Ok(Queue {
             accepted,
@@ -52,7 +51,7 @@ impl Queue {
         requires limit { length self.old.accepted - self.old.pulled < self.old.limit }
         ensures { self.new ≡ record self.old { accepted = self.old.accepted ++ id ∷ [] } }
     {
-        self.accepted.push_reserved(id);
+        self.accepted.push(id);
         self.waiting.try_push_back(id).unwrap();
     }
 

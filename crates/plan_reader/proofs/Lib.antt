@@ -4,3 +4,4 @@ pub mod Loops
 mod Views
 mod BitsOfItems
 mod Bytes
+pub mod SeedLemmas

@@ -4,6 +4,7 @@ pub mod Words
 pub mod StepTexts
 pub mod Seeds
 pub mod Plans
+pub mod Cursors
 pub mod Ranges
 pub mod Faults
 pub mod Readings

@@ -16,3 +16,4 @@ pub use plan::{Plan, QueuePlan, Steps, TxPlan};
 pub use plan_fault::PlanFault;
 pub use plan_text::read_plan;
 pub use settings::sizes::Sizes;
+pub use steps::cursor::StepCursor;

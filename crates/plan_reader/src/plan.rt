@@ -108,7 +108,7 @@ impl Plan {
     ghost use Rattle.plan_reader.specs.Ranges.{commands_of, step_is_within};
 
     /// The numbers of processors, queues and applications of the plan.
-    fn sizes(&self) -> Sizes
+    pub(crate) fn sizes(&self) -> Sizes
         ensures { result ≡ sizes_of self.now }
     {
         Sizes {

@@ -26,8 +26,10 @@ pub fn play(
     ensures { IfOk result (λ history. history ≡ replayed plan.now packets.now cut) }
 {
     let mut steering = Steering::make(alloc, plan, packets, cut)?;
-    for i in 0..plan.step_count() {
-        let _answer = steering.step(&plan.step_at(i));
+    let mut cursor = plan.first_step();
+    for _ in 0..plan.step_count() {
+        let step = plan.next_step(&mut cursor);
+        let _answer = steering.step(&step);
     }
     steering.history(alloc)
 }

@@ -27,7 +27,7 @@ use history::{Arrival, Commanded, Sent, SockWrite};
 use hop_core::Hop;
 use sock_flow_table::SockTable;
 use std::marker::Model;
-use steer_base::{Answer, Idle, Journal, Journals, Step};
+use steer_base::{Answer, CpuMask, Idle, Journal, Journals, Step};
 use steer_model::{Given, InForce, Note};
 
 /// The wire, the pollers, the processors, the applications, the transmit queues and the controller:
@@ -59,6 +59,14 @@ impl Model for Actors {
 
     ghost invariant = { λ m. IsRunning (running_parts m.given m.settings m.socket m.filters
         m.notes.items m.rx m.tx m.arrivals m.sent m.writes m.commands) };
+}
+
+// What a hop chooses a lane with: the class, the wanted and the desired lane, and those online.
+struct Weighing {
+    class: Option<u32>,
+    want: Option<u8>,
+    desired: u8,
+    online: CpuMask,
 }
 
 impl Actors {

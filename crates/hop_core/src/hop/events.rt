@@ -1,4 +1,4 @@
-//! The events of a hop, one by one.
+//! The events of a hop, each as a call of its own. [`Hop::step`] makes any of them.
 ghost use Rattle.std.specs.Prelude.{◌≡◌, ◌<◌, false, length};
 ghost use Rattle.steer_base.specs.Counters.{rounded_up};
 ghost use Rattle.hop_core.specs.Events.{MayArrive, MayDeliver, MayResize, MayWeigh};
@@ -12,7 +12,8 @@ use crate::hop::Hop;
 use steer_base::{Chosen, CpuMask, Idle, PacketId, round_up};
 
 impl Hop {
-    pub(super) fn arrive(&mut self, p: u8, id: PacketId) -> HopAnswer
+    /// A packet arrives in a producer's ring.
+    pub fn arrive(&mut self, p: u8, id: PacketId) -> HopAnswer
         requires { MayArrive self.old p id }
         ensures state { self.new ≡ arrived self.old p id }
         ensures answer { result ≡ answer.Done }
@@ -21,7 +22,8 @@ impl Hop {
         HopAnswer::Done
     }
 
-    pub(super) fn take(&mut self, p: u8) -> HopAnswer
+    /// A producer takes the oldest packet of its ring in hand.
+    pub fn take(&mut self, p: u8) -> HopAnswer
         requires producer { p < length self.old.arrivals }
         ensures state { self.new ≡ (take self.old p).0 }
         ensures answer { result ≡ (take self.old p).1 }
@@ -38,7 +40,8 @@ impl Hop {
         }
     }
 
-    pub(super) fn enter(&mut self, a: u8) -> HopAnswer
+    /// An actor enters the gate, unless it is closed.
+    pub fn enter(&mut self, a: u8) -> HopAnswer
         requires actor { a < length self.old.visits }
         ensures state { self.new ≡ (enter self.old a).0 }
         ensures answer { result ≡ (enter self.old a).1 }
@@ -54,7 +57,8 @@ impl Hop {
         HopAnswer::Done
     }
 
-    pub(super) fn leave(&mut self, a: u8) -> HopAnswer
+    /// An actor leaves the gate. A producer stays inside until its choice is put.
+    pub fn leave(&mut self, a: u8) -> HopAnswer
         requires actor { a < length self.old.visits }
         ensures state { self.new ≡ (leave self.old a).0 }
         ensures answer { result ≡ (leave self.old a).1 }
@@ -72,7 +76,8 @@ impl Hop {
         HopAnswer::Done
     }
 
-    pub(super) fn weigh(
+    /// A producer, inside, chooses the lane of the packet in hand by the migration rule.
+    pub fn weigh(
         &mut self,
         p: u8,
         class: Option<u32>,
@@ -97,7 +102,8 @@ impl Hop {
         HopAnswer::Chose(choice)
     }
 
-    pub(super) fn put(&mut self, p: u8, hash: Option<u32>) -> HopAnswer
+    /// A producer, inside, puts the packet in hand to the lane of its choice.
+    pub fn put(&mut self, p: u8, hash: Option<u32>) -> HopAnswer
         requires producer { p < length self.old.arrivals }
         ensures state { self.new ≡ (put self.old p hash).0 }
         ensures answer { result ≡ (put self.old p hash).1 }
@@ -116,7 +122,8 @@ impl Hop {
         HopAnswer::Went(went)
     }
 
-    pub(super) fn pull(&mut self, lane: u8) -> HopAnswer
+    /// The server of a lane pulls the oldest packet that waits there.
+    pub fn pull(&mut self, lane: u8) -> HopAnswer
         requires lane { lane < length self.old.bare.accepted }
         ensures state { self.new ≡ (pull self.old lane).0 }
         ensures answer { result ≡ (pull self.old lane).1 }
@@ -130,7 +137,8 @@ impl Hop {
         }
     }
 
-    pub(super) fn deliver(&mut self, lane: u8, to: u8) -> HopAnswer
+    /// The server of a lane delivers the packet in its hand to an out lane.
+    pub fn deliver(&mut self, lane: u8, to: u8) -> HopAnswer
         requires { MayDeliver self.old lane to }
         ensures state { self.new ≡ (deliver self.old lane to).0 }
         ensures answer { result ≡ (deliver self.old lane to).1 }
@@ -149,7 +157,8 @@ impl Hop {
         }
     }
 
-    pub(super) fn retire(&mut self, lane: u8) -> HopAnswer
+    /// The server of a lane retires the packet that it delivered: the head rises.
+    pub fn retire(&mut self, lane: u8) -> HopAnswer
         requires lane { lane < length self.old.bare.accepted }
         ensures state { self.new ≡ (retire self.old lane).0 }
         ensures answer { result ≡ (retire self.old lane).1 }
@@ -165,7 +174,8 @@ impl Hop {
         }
     }
 
-    pub(super) fn resize(&mut self, p: u8, count: u32) -> HopAnswer
+    /// A producer's classes become `count`, rounded up, and all of them are cleared.
+    pub fn resize(&mut self, p: u8, count: u32) -> HopAnswer
         requires { MayResize self.old p count }
         ensures state { self.new ≡ resized self.old p (rounded_up count) }
         ensures answer { result ≡ answer.Done }
@@ -176,7 +186,8 @@ impl Hop {
         HopAnswer::Done
     }
 
-    pub(super) fn close(&mut self) -> HopAnswer
+    /// The gate is closed, if no actor is inside.
+    pub fn close(&mut self) -> HopAnswer
         requires { self.old.bare.closed ≡ false }
         ensures state { self.new ≡ (close self.old).0 }
         ensures answer { result ≡ (close self.old).1 }
@@ -189,7 +200,8 @@ impl Hop {
         }
     }
 
-    pub(super) fn reopen(&mut self) -> HopAnswer
+    /// The gate is opened again.
+    pub fn reopen(&mut self) -> HopAnswer
         ensures state { self.new ≡ with_bare self.old (with_closed self.old.bare false) }
         ensures answer { result ≡ answer.Done }
     {

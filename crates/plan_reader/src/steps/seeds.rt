@@ -1,7 +1,9 @@
 //! The steps of a seed.
-ghost use Rattle.std.specs.Prelude.{◌≡◌, ◌≤◌, ◌%◌, true};
+ghost use Rattle.std.specs.Prelude.{◌≡◌, ◌≤◌, ◌%◌, ◌+◌, true};
+ghost use Rattle.rand_pcg.specs.Lcg.{advance};
+ghost use Rattle.rand_pcg.specs.Pcg.{multiplier_64};
 ghost use Rattle.plan_reader.specs.Ranges.{step_is_within};
-ghost use Rattle.plan_reader.specs.Seeds.{event_of, seeded_step, seeded_word};
+ghost use Rattle.plan_reader.specs.Seeds.{event_of, generator, seeded_step, seeded_word};
 
 use crate::settings::sizes::Sizes;
 use rand_core::utils::NextWord;
@@ -9,13 +11,32 @@ use rand_pcg::Lcg64Xsh32;
 use steer_base::Step;
 
 /// Word `i` of a seed, from 0, in a logarithmic number of steps.
-#[tactic(auto, unfolding(crate::specs::Seeds::seeded_word, crate::specs::Seeds::generator))]
+#[tactic(auto, unfolding(crate::specs::Seeds::seeded_word))]
 pub fn word_of(seed: u64, i: u32) -> u32
     ensures { result ≡ seeded_word seed i }
 {
-    let mut generator = Lcg64Xsh32::new(seed, 54);
-    generator.advance(u64::from(i));
-    generator.next_word()
+    let mut words = generator(seed);
+    words.advance(u64::from(i));
+    words.next_word()
+}
+
+/// The generator of a seed, which has given no word.
+#[tactic(auto, unfolding(crate::specs::Seeds::generator))]
+pub fn generator(seed: u64) -> Lcg64Xsh32
+    ensures value { result ≡ generator seed }
+    ensures given { result ≡ advance 64 multiplier_64 0 (generator seed) }
+{
+    Lcg64Xsh32::new(seed, 54)
+}
+
+/// The next word of a generator that has given `i` words of a seed.
+#[tactic(auto, unfolding(crate::specs::Seeds::seeded_word))]
+pub fn next_word(words: &mut Lcg64Xsh32, seed: u64, i: u32) -> u32
+    requires { words.old ≡ advance 64 multiplier_64 i (generator seed) }
+    ensures word { result ≡ seeded_word seed i }
+    ensures next { words.new ≡ advance 64 multiplier_64 (i + 1) (generator seed) }
+{
+    words.next_word()
 }
 
 /// A number modulo a size.

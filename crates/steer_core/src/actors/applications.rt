@@ -8,9 +8,8 @@ ghost use Rattle.steer_model.specs.Steps.Applications.{sending, tput, tweigh};
 ghost use Rattle.steer_model.specs.Steps.Outcomes.{by_tx};
 ghost use Rattle.steer_model.specs.Steps.CompoundSteps.{replying};
 
-use crate::actors::Actors;
+use crate::actors::{Actors, Weighing};
 use history::Sent;
-use hop_core::HopEvent;
 use steer_base::{Answer, Cpu, CpuMask, Idle, PacketId, RxQueue};
 use steer_model::{last_of, told};
 
@@ -39,8 +38,8 @@ impl Actors {
             return Answer::Idle(Idle::InboxDone);
         };
         let reply = self.reply_to(a, id);
-        self.tx.step(HopEvent::Arrive { p: a, id });
-        self.tx.step(HopEvent::Take { p: a });
+        self.tx.arrive(a, id);
+        self.tx.take(a);
         self.sent.push(a, reply);
         Answer::Done
     }
@@ -96,7 +95,7 @@ impl Actors {
         ensures answer { result ≡ (by_tx self.old.machine (event.Enter a)).1 }
         ensures rooms { self.new.rooms ≡ self.old.rooms }
     {
-        told(self.tx.step(HopEvent::Enter { p: a }))
+        told(self.tx.enter(a))
     }
 
     /// Lets the application leave the transmit gate.
@@ -106,7 +105,7 @@ impl Actors {
         ensures answer { result ≡ (by_tx self.old.machine (event.Leave a)).1 }
         ensures rooms { self.new.rooms ≡ self.old.rooms }
     {
-        told(self.tx.step(HopEvent::Leave { p: a }))
+        told(self.tx.leave(a))
     }
 
     /// Chooses the transmit queue of the reply in hand by the migration rule.
@@ -116,28 +115,32 @@ impl Actors {
         ensures answer { result ≡ (tweigh self.old.machine a).1 }
         ensures rooms { self.new.rooms ≡ self.old.rooms }
     {
-        let event = self.next_sending(a);
-        told(self.tx.step(event))
+        let with = self.next_sending(a);
+        told(
+            self.tx
+                .weigh(a, with.class, with.want, with.desired, with.online),
+        )
     }
 
     // What the reply in hand is weighed with.
-    fn next_sending(&self, a: u8) -> HopEvent
+    fn next_sending(&self, a: u8) -> Weighing
         requires { a < self.now.machine.setup.apps }
-        ensures { result ≡ sending self.now.machine a (in_reply self.now.machine a) }
+        ensures { event.Weigh a result.class result.want result.desired result.online
+            ≡ sending self.now.machine a (in_reply self.now.machine a) }
     {
         let reply = sent_at(self.sent.list(a), self.tx.choices(a).len());
-        self.sending(a, reply)
+        self.sending(reply)
     }
 
     // What a reply is weighed with: its flow number as class, and the pick of the maps as want and
     // as desired queue.
-    fn sending(&self, a: u8, reply: Sent) -> HopEvent
-        ensures { result ≡ sending self.now.machine a reply }
+    fn sending(&self, reply: Sent) -> Weighing
+        ensures { (a : ℕ) → event.Weigh a result.class result.want result.desired result.online
+            ≡ sending self.now.machine a reply }
     {
         let hash = self.given.hash_of(reply.id);
         let pick = self.settings.pick(reply.rxq, reply.cpu, hash);
-        HopEvent::Weigh {
-            p: a,
+        Weighing {
             class: Some(self.given.flow_of(reply.id)),
             want: Some(pick),
             desired: pick,
@@ -154,7 +157,7 @@ impl Actors {
     {
         let id = last_of(&self.tx, a).id;
         let hash = self.given.hash_of(id);
-        told(self.tx.step(HopEvent::Put { p: a, hash }))
+        told(self.tx.put(a, hash))
     }
 }
 

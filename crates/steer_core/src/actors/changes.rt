@@ -6,7 +6,6 @@ ghost use Rattle.steer_model.specs.Steps.Commands.{answer_to, is_done, set_by, w
 
 use crate::actors::Actors;
 use crate::actors::old_filters::clear_old;
-use hop_core::HopEvent;
 use steer_base::{Command, RxQueue};
 
 impl Actors {
@@ -50,9 +49,9 @@ impl Actors {
         ensures rooms { self.new.rooms ≡ self.old.rooms }
     {
         self.settings.change(&Command::Flows(RxQueue(q), count));
-        self.rx.step(HopEvent::Close);
-        self.rx.step(HopEvent::Resize { p: q, count });
-        self.rx.step(HopEvent::Reopen);
+        self.rx.close();
+        self.rx.resize(q, count);
+        self.rx.reopen();
     }
 
     // Gives the socket flow table another size, which clears it.

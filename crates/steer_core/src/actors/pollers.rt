@@ -9,9 +9,8 @@ ghost use Rattle.steer_model.specs.Steps.Pollers.{poller_takes, poller_weighs};
 ghost use Rattle.steer_model.specs.Steps.Pollers.{weighing};
 ghost use Rattle.steer_model.specs.Steps.Pollers.{with_filter};
 
-use crate::actors::Actors;
+use crate::actors::{Actors, Weighing};
 use accel_filter::FilterTable;
-use hop_core::HopEvent;
 use steer_base::{Answer, Filter, Idle, PacketId};
 use steer_model::{Note, desired_cpu, filter_for, last_of, position_of, socket_seen, told};
 
@@ -27,7 +26,7 @@ impl Actors {
         if self.notes[q as usize].is_asking() {
             return Answer::Idle(Idle::HandFull);
         }
-        told(self.rx.step(HopEvent::Take { p: q }))
+        told(self.rx.take(q))
     }
 
     /// Lets the poller enter the receive gate.
@@ -37,7 +36,7 @@ impl Actors {
         ensures answer { result ≡ (by_rx self.old.machine (event.Enter q)).1 }
         ensures rooms { self.new.rooms ≡ self.old.rooms }
     {
-        told(self.rx.step(HopEvent::Enter { p: q }))
+        told(self.rx.enter(q))
     }
 
     /// Reads the socket flow table for the packet in hand, and keeps what was read.
@@ -84,16 +83,20 @@ impl Actors {
         let Note::Looked(want) = self.notes[q as usize] else {
             return Answer::Idle(Idle::WrongStage);
         };
-        let event = self.weighing(q, want);
+        let with = self.weighing(q, want);
         self.notes[q as usize] = Note::Nothing;
-        told(self.rx.step(event))
+        told(
+            self.rx
+                .weigh(q, with.class, with.want, with.desired, with.online),
+        )
     }
 
     // What the packet in hand is weighed with, if this was read in the socket flow table.
-    fn weighing(&self, q: u8, want: Option<u8>) -> HopEvent
+    fn weighing(&self, q: u8, want: Option<u8>) -> Weighing
         requires queue { q < length self.now.machine.setup.homes }
         requires looked { note_of self.now.machine q ≡ Note.Looked want }
-        ensures { result ≡ weighing self.now.machine q (next_of self.now.machine.rx q) want }
+        ensures { event.Weigh q result.class result.want result.desired result.online
+            ≡ weighing self.now.machine q (next_of self.now.machine.rx q) want }
     {
         let next = self.rx.to_weigh(q);
         let id = next.unwrap();
@@ -102,8 +105,7 @@ impl Actors {
         let online = self.settings.online();
         let plain = self.settings.plain_lane(&self.given, q, id).0;
         let desired = desired_cpu(class, want, online, plain);
-        HopEvent::Weigh {
-            p: q,
+        Weighing {
             class,
             want,
             desired,
@@ -120,7 +122,7 @@ impl Actors {
     {
         let id = last_of(&self.rx, q).id;
         let hash = self.given.hash_of(id);
-        let answer = self.rx.step(HopEvent::Put { p: q, hash });
+        let answer = self.rx.put(q, hash);
         if let Some(position) = position_of(&answer) {
             let choice = last_of(&self.rx, q).choice;
             let filter = filter_for(self.given.homes(), self.filters.count(), choice, position);
@@ -162,7 +164,7 @@ impl Actors {
         if !self.notes[q as usize].is_nothing() {
             return Answer::Idle(Idle::MidPacket);
         }
-        told(self.rx.step(HopEvent::Leave { p: q }))
+        told(self.rx.leave(q))
     }
 }
 

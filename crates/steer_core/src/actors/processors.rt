@@ -6,7 +6,6 @@ ghost use Rattle.steer_model.specs.Steps.Outcomes.{by_rx};
 ghost use Rattle.steer_model.specs.State.Setup.{app_for};
 
 use crate::actors::Actors;
-use hop_core::HopEvent;
 use steer_base::{Answer, PacketId};
 use steer_model::told;
 
@@ -18,7 +17,7 @@ impl Actors {
         ensures answer { result ≡ (by_rx self.old.machine (event.Pull c)).1 }
         ensures rooms { self.new.rooms ≡ self.old.rooms }
     {
-        told(self.rx.step(HopEvent::Pull { lane: c }))
+        told(self.rx.pull(c))
     }
 
     /// Delivers the packet in hand to the inbox of its application.
@@ -28,24 +27,20 @@ impl Actors {
         ensures answer { result ≡ (cpu_delivers self.old.machine c).1 }
         ensures rooms { self.new.rooms ≡ self.old.rooms }
     {
-        let event = self.delivering(c);
-        told(self.rx.step(event))
+        let to = self.destination(c);
+        told(self.rx.deliver(c, to))
     }
 
     // Where the packet in hand is delivered.
-    fn delivering(&self, c: u8) -> HopEvent
+    fn destination(&self, c: u8) -> u8
         requires { c < self.now.machine.setup.cpus }
-        ensures { result ≡ event.Deliver c
-            (app_for self.now.machine.setup (in_lane self.now.machine.rx c)) }
+        ensures { result ≡ app_for self.now.machine.setup (in_lane self.now.machine.rx c) }
     {
         let id = match self.rx.to_deliver(c) {
             Some(id) => id,
             None => PacketId(0),
         };
-        HopEvent::Deliver {
-            lane: c,
-            to: self.given.app_of(id).0,
-        }
+        self.given.app_of(id).0
     }
 
     /// Raises the head of the processor past the packet that it delivered.
@@ -55,6 +50,6 @@ impl Actors {
         ensures answer { result ≡ (by_rx self.old.machine (event.Retire c)).1 }
         ensures rooms { self.new.rooms ≡ self.old.rooms }
     {
-        told(self.rx.step(HopEvent::Retire { lane: c }))
+        told(self.rx.retire(c))
     }
 }

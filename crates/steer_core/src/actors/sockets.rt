@@ -5,7 +5,6 @@ ghost use Rattle.steer_model.specs.Steps.Applications.{record_flow, record_hash,
 
 use crate::actors::Actors;
 use history::SockWrite;
-use hop_core::HopEvent;
 use steer_base::{Answer, Idle, app_of};
 
 impl Actors {
@@ -48,8 +47,8 @@ impl Actors {
         ensures rooms { self.new.rooms ≡ self.old.rooms }
     {
         let guest = self.given.queues() + a;
-        self.rx.step(HopEvent::Enter { p: guest });
-        self.rx.step(HopEvent::Leave { p: guest });
+        self.rx.enter(guest);
+        self.rx.leave(guest);
     }
 
     // An application writes its processor to the entry of a hash.

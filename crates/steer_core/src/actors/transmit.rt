@@ -4,7 +4,6 @@ ghost use Rattle.hop_core.specs.declared.event.HopEvent.TheVariants as event;
 ghost use Rattle.steer_model.specs.Steps.Outcomes.{by_tx};
 
 use crate::actors::Actors;
-use hop_core::HopEvent;
 use steer_base::Answer;
 use steer_model::told;
 
@@ -16,7 +15,7 @@ impl Actors {
         ensures answer { result ≡ (by_tx self.old.machine (event.Pull t)).1 }
         ensures rooms { self.new.rooms ≡ self.old.rooms }
     {
-        told(self.tx.step(HopEvent::Pull { lane: t }))
+        told(self.tx.pull(t))
     }
 
     /// Sends the reply in hand out by the port.
@@ -26,7 +25,7 @@ impl Actors {
         ensures answer { result ≡ (by_tx self.old.machine (event.Deliver t 0)).1 }
         ensures rooms { self.new.rooms ≡ self.old.rooms }
     {
-        told(self.tx.step(HopEvent::Deliver { lane: t, to: 0 }))
+        told(self.tx.deliver(t, 0))
     }
 
     /// Raises the head of the transmit queue past the reply that it delivered.
@@ -36,6 +35,6 @@ impl Actors {
         ensures answer { result ≡ (by_tx self.old.machine (event.Retire t)).1 }
         ensures rooms { self.new.rooms ≡ self.old.rooms }
     {
-        told(self.tx.step(HopEvent::Retire { lane: t }))
+        told(self.tx.retire(t))
     }
 }

@@ -5,7 +5,6 @@ ghost use Rattle.steer_model.specs.State.Setup.{packet_hash};
 
 use crate::actors::Actors;
 use history::Arrival;
-use hop_core::HopEvent;
 use steer_base::{Answer, Idle, PacketId, RxQueue};
 
 impl Actors {
@@ -22,7 +21,7 @@ impl Actors {
         let id = PacketId(next);
         let arrival = self.arriving(id);
         let queue = arrival.queue.0;
-        self.rx.step(HopEvent::Arrive { p: queue, id });
+        self.rx.arrive(queue, id);
         self.arrivals.push(arrival);
         Answer::Done
     }

@@ -6,12 +6,12 @@ use Rattle.backlog.proofs.offers.Offers.note.Goals as goal
 
 pub invariant_of-self : goal.invariant_of-self
 invariant_of-self c =
-    rw (c.push_reserved.ensures, c.in_err-bucket.was) (c.self.invariant
+    rw (c.push.ensures, c.in_err-bucket.was) (c.self.invariant
     ∙ sym (window-plain c.self.inside.buckets.items))
 
 pub invariant_of-self-2 : goal.invariant_of-self-2
 invariant_of-self-2 c =
-    rw (c.push_reserved.ensures, c.in_ok-bucket.was, c.push.ensures, c.self.invariant)
+    rw (c.push.ensures, c.in_ok-bucket.was, c.push-2.ensures, c.self.invariant)
     (sym (window-hashed c.self.inside.buckets.items c.in_ok-bucket.bucket))
 
 pub returns-clause-count : goal.returns-clause-count
@@ -20,6 +20,6 @@ returns-clause-count c =
     (ap (λ n. Some n)
     (c.count.ensures
     ∙ ap (count_by (λ b. b == c.in_ok-bucket.bucket))
-    (c.push.ensures
+    (c.push-2.ensures
     ∙ ap (λ w. last_of 256 (w ++ c.in_ok-bucket.bucket ∷ [])) c.self.invariant
     ∙ sym (window-hashed c.self.inside.buckets.items c.in_ok-bucket.bucket))))

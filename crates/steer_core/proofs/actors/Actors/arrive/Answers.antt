@@ -3,8 +3,8 @@ use Rattle.history.specs.declared.arrival.Arrival.{Arrival}
 use Rattle.steer_core.proofs.ArriveLemmas.{held_come, may_come}
 use Rattle.steer_core.proofs.actors.Actors.arrive.Goals as goal
 
-pub step-requires : goal.step-requires
-step-requires c =
+pub arrive-requires : goal.arrive-requires
+arrive-requires c =
     let next = c.len-next.ensures.len in
     let many = c.packet_count.ensures.value in
     let more = c.if-next-packet_count.false in
@@ -33,7 +33,7 @@ invariant_of-self c =
       held_come _ c.arriving-arrival.result _ _
           (rw (← c.self.view_is, next) at c.arriving-arrival.ensures)
           (ap (λ (a : Arrival). a.queue) c.arrival.view_is) next few c.self.invariant.0
-          c.step.new.self
-          c.step.ensures.state,
+          c.arrive.new.self
+          c.arrive.ensures.state,
       c.self.invariant.1,
     )

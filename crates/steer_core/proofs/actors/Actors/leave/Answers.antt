@@ -3,7 +3,7 @@ use Rattle.steer_core.proofs.actors.Actors.leave.Goals as goal
 
 pub invariant_of-self : goal.invariant_of-self
 invariant_of-self c = (
-  held_leave _ c.args.q c.step.new.self (rw (← c.self.view_is) at c.requires) c.step.ensures.state
+  held_leave _ c.args.q c.leave.new.self (rw (← c.self.view_is) at c.requires) c.leave.ensures.state
       c.self.invariant.0,
   c.self.invariant.1,
 )

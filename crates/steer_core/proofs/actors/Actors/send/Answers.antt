@@ -4,8 +4,8 @@ use Rattle.steer_invariant.proofs.Invariant.RowLemmas.{held_send}
 use Rattle.steer_invariant.proofs.StepInvariant.ReplyLemmas.{may_send, room_send}
 use Rattle.steer_core.proofs.actors.Actors.send.Goals as goal
 
-pub step-requires : goal.step-requires
-step-requires c =
+pub arrive-requires : goal.arrive-requires
+arrive-requires c =
     may_send _ c.args.a c.in-Some.id (rw (← c.self.view_is) at c.requires)
     (rw (← c.self.view_is) at (sym c.next_in.ensures ∙ c.in-Some.is)) c.self.invariant.0.kept
 
@@ -21,11 +21,11 @@ invariant_of-self c =
     (let p = c.placed.ensures in let t = c.taken.ensures in let f = c.if-placed-taken.false in
     omega arith) in
     rw c.push.ensures (
-      held_send _ c.args.a c.in-Some.id c.reply_to-reply.result c.step.new.self c.step-2.new.self
+      held_send _ c.args.a c.in-Some.id c.reply_to-reply.result c.arrive.new.self c.take.new.self
           (rw (← c.self.view_is) at c.requires) free
           (rw (← c.self.view_is) at (sym c.next_in.ensures ∙ c.in-Some.is))
-          (rw (← c.self.view_is) at c.reply_to-reply.ensures) c.step.ensures.state
-          c.step-2.ensures.state
+          (rw (← c.self.view_is) at c.reply_to-reply.ensures) c.arrive.ensures.state
+          c.take.ensures.state
           c.self.invariant.0,
       c.self.invariant.1,
     )

@@ -10,6 +10,6 @@ invariant_of-self c =
     let is = read-note _ c.args.q c.index.result.now named c.self.invariant.0.kept
     c.index.ensures in
     let quiet = sym (ap is_asking is) ∙ sym c.is_asking.ensures ∙ c.if-is_asking.false in (
-      held_take _ c.args.q c.step.new.self named quiet c.step.ensures.state c.self.invariant.0,
+      held_take _ c.args.q c.take.new.self named quiet c.take.ensures.state c.self.invariant.0,
       c.self.invariant.1,
     )

@@ -1,29 +1,34 @@
 use Rattle.std.proofs.Common.{subst, sym}
 use Rattle.hop_core.specs.Events.{MayAsk}
 use Rattle.hop_core.specs.declared.event.HopEvent.{HopEvent}
+use Rattle.hop_core.specs.declared.event.HopEvent.TheVariants as event
 use Rattle.steer_core.proofs.ChangeLemmas.{by_tx-is}
 use Rattle.steer_invariant.proofs.Invariant.RowLemmas.{held_tweigh}
 use Rattle.steer_invariant.proofs.StepInvariant.ReplyLemmas.{may_tweigh}
 use Rattle.steer_core.proofs.actors.Actors.tweigh.Goals as goal
 
-pub step-requires : goal.step-requires
-step-requires c =
+pub weigh-requires : goal.weigh-requires
+weigh-requires c =
     let P : HopEvent → Type 0 = MayAsk c.self.inside.tx in
-    let e = rw (← c.self.view_is) at c.next_sending-event.ensures in
+    let e = rw (← c.self.view_is) at c.next_sending-with.ensures in
     subst P (sym e) (may_tweigh _ c.args.a _ (rw (← c.self.view_is) at c.requires)
     c.self.invariant.0.kept)
 
 pub invariant_of-self : goal.invariant_of-self
 invariant_of-self c =
-    let e = rw (← c.self.view_is) at c.next_sending-event.ensures in (
-      held_tweigh _ c.args.a c.next_sending-event.result c.step.new.self
+    let e = rw (← c.self.view_is) at c.next_sending-with.ensures in (
+      held_tweigh _ c.args.a (event.Weigh c.args.a c.next_sending-with.result.class
+          c.next_sending-with.result.want
+          c.next_sending-with.result.desired c.next_sending-with.result.online) c.weigh.new.self
           (rw (← c.self.view_is) at c.requires) e
-          c.step.ensures.state c.self.invariant.0,
+          c.weigh.ensures.state c.self.invariant.0,
       c.self.invariant.1,
     )
 
 pub returns-clause-state : goal.returns-clause-state
 returns-clause-state c =
-    let e = rw (← c.self.view_is) at c.next_sending-event.ensures in
+    let e = rw (← c.self.view_is) at c.next_sending-with.ensures in
     rw (← c.self.view_is)
-    (by_tx-is _ c.next_sending-event.result _ c.step.new.self e c.step.ensures.state)
+    (by_tx-is _ (event.Weigh c.args.a c.next_sending-with.result.class
+    c.next_sending-with.result.want
+    c.next_sending-with.result.desired c.next_sending-with.result.online) _ c.weigh.new.self e c.weigh.ensures.state)
