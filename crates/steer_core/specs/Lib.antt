@@ -1,6 +1,7 @@
 pub mod Running
 pub mod Rooms
 pub mod Changes
+pub mod Weighings
 pub mod OldFilters
 pub mod Starting
 pub mod Runs

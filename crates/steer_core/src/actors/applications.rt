@@ -1,7 +1,8 @@
 //! The steps of an application, from its inbox to a transmit queue.
-ghost use Rattle.std.specs.Prelude.{◌≡◌, ◌<◌, slice_index_or};
+ghost use Rattle.std.specs.Prelude.{ℕ, ◌≡◌, ◌<◌, slice_index_or};
 ghost use Rattle.history.specs.Lists.{arrival_of};
 ghost use Rattle.hop_core.specs.declared.event.HopEvent.TheVariants as event;
+ghost use Rattle.steer_core.specs.Weighings.{weigh_event};
 ghost use Rattle.steer_model.specs.Steps.Applications.{in_reply, next_in, nothing_sent, reply_to};
 ghost use Rattle.steer_model.specs.Steps.Applications.{send};
 ghost use Rattle.steer_model.specs.Steps.Applications.{sending, tput, tweigh};
@@ -125,8 +126,7 @@ impl Actors {
     // What the reply in hand is weighed with.
     fn next_sending(&self, a: u8) -> Weighing
         requires { a < self.now.machine.setup.apps }
-        ensures { event.Weigh a result.class result.want result.desired result.online
-            ≡ sending self.now.machine a (in_reply self.now.machine a) }
+        ensures { weigh_event a result ≡ sending self.now.machine a (in_reply self.now.machine a) }
     {
         let reply = sent_at(self.sent.list(a), self.tx.choices(a).len());
         self.sending(reply)
@@ -135,8 +135,7 @@ impl Actors {
     // What a reply is weighed with: its flow number as class, and the pick of the maps as want and
     // as desired queue.
     fn sending(&self, reply: Sent) -> Weighing
-        ensures { (a : ℕ) → event.Weigh a result.class result.want result.desired result.online
-            ≡ sending self.now.machine a reply }
+        ensures { (a : ℕ) → weigh_event a result ≡ sending self.now.machine a reply }
     {
         let hash = self.given.hash_of(reply.id);
         let pick = self.settings.pick(reply.rxq, reply.cpu, hash);

@@ -2,6 +2,7 @@
 ghost use Rattle.std.specs.Prelude.{◌≡◌, ◌<◌, length};
 ghost use Rattle.hop_core.specs.declared.event.HopEvent.TheVariants as event;
 ghost use Rattle.hop_core.specs.Hop.{next_of};
+ghost use Rattle.steer_core.specs.Weighings.{weigh_event};
 ghost use Rattle.steer_model.specs.State.Machine.{note_of};
 ghost use Rattle.steer_model.specs.Steps.Outcomes.{by_rx};
 ghost use Rattle.steer_model.specs.Steps.Pollers.{ask, poller_leaves, look, poller_puts, seen_by};
@@ -95,7 +96,7 @@ impl Actors {
     fn weighing(&self, q: u8, want: Option<u8>) -> Weighing
         requires queue { q < length self.now.machine.setup.homes }
         requires looked { note_of self.now.machine q ≡ Note.Looked want }
-        ensures { event.Weigh q result.class result.want result.desired result.online
+        ensures { weigh_event q result
             ≡ weighing self.now.machine q (next_of self.now.machine.rx q) want }
     {
         let next = self.rx.to_weigh(q);

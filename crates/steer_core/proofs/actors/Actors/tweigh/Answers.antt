@@ -1,7 +1,7 @@
 use Rattle.std.proofs.Common.{subst, sym}
 use Rattle.hop_core.specs.Events.{MayAsk}
 use Rattle.hop_core.specs.declared.event.HopEvent.{HopEvent}
-use Rattle.hop_core.specs.declared.event.HopEvent.TheVariants as event
+use Rattle.steer_core.specs.Weighings.{weigh_event}
 use Rattle.steer_core.proofs.ChangeLemmas.{by_tx-is}
 use Rattle.steer_invariant.proofs.Invariant.RowLemmas.{held_tweigh}
 use Rattle.steer_invariant.proofs.StepInvariant.ReplyLemmas.{may_tweigh}
@@ -17,9 +17,7 @@ weigh-requires c =
 pub invariant_of-self : goal.invariant_of-self
 invariant_of-self c =
     let e = rw (← c.self.view_is) at c.next_sending-with.ensures in (
-      held_tweigh _ c.args.a (event.Weigh c.args.a c.next_sending-with.result.class
-          c.next_sending-with.result.want
-          c.next_sending-with.result.desired c.next_sending-with.result.online) c.weigh.new.self
+      held_tweigh _ c.args.a (weigh_event c.args.a c.next_sending-with.result) c.weigh.new.self
           (rw (← c.self.view_is) at c.requires) e
           c.weigh.ensures.state c.self.invariant.0,
       c.self.invariant.1,
@@ -29,6 +27,5 @@ pub returns-clause-state : goal.returns-clause-state
 returns-clause-state c =
     let e = rw (← c.self.view_is) at c.next_sending-with.ensures in
     rw (← c.self.view_is)
-    (by_tx-is _ (event.Weigh c.args.a c.next_sending-with.result.class
-    c.next_sending-with.result.want
-    c.next_sending-with.result.desired c.next_sending-with.result.online) _ c.weigh.new.self e c.weigh.ensures.state)
+    (by_tx-is _ (weigh_event c.args.a c.next_sending-with.result) _ c.weigh.new.self e
+    c.weigh.ensures.state)

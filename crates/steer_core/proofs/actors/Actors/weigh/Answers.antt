@@ -1,7 +1,7 @@
 use Rattle.std.proofs.Common.{subst, sym}
 use Rattle.hop_core.specs.Events.{MayAsk}
 use Rattle.hop_core.specs.declared.event.HopEvent.{HopEvent}
-use Rattle.hop_core.specs.declared.event.HopEvent.TheVariants as event
+use Rattle.steer_core.specs.Weighings.{weigh_event}
 use Rattle.steer_invariant.proofs.Invariant.RowLemmas.{held_weigh}
 use Rattle.steer_invariant.proofs.StepInvariant.WeighLemmas.{may_weigh}
 use Rattle.steer_core.proofs.actors.Actors.weigh.Goals as goal
@@ -17,8 +17,8 @@ weigh-requires c =
 pub invariant_of-self : goal.invariant_of-self
 invariant_of-self c =
     let e = rw (← c.self.view_is) at c.weighing-with.ensures in (
-      held_weigh _ c.args.q c.in-Looked.want (event.Weigh c.args.q c.weighing-with.result.class c.weighing-with.result.want
-          c.weighing-with.result.desired c.weighing-with.result.online) c.weigh.new.self
+      held_weigh _ c.args.q c.in-Looked.want (weigh_event c.args.q c.weighing-with.result)
+          c.weigh.new.self
           (rw (← c.self.view_is) at c.requires) e c.weigh.ensures.state c.self.invariant.0,
       c.self.invariant.1,
     )
