@@ -6,6 +6,9 @@ pub mod FrameLemmas
 pub mod GoodLemmas
 pub mod HintLemmas
 pub mod LeftOutLemmas
+pub mod MovingBoards
+pub mod MovingLemmas
+pub mod MovingTurns
 pub mod OneRunLemmas
 pub mod PutTurnLemmas
 pub mod QueueLemmas

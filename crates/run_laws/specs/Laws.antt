@@ -14,8 +14,10 @@ pub mod EmptyRuns
 pub mod SharedCodes
 pub mod OneCount
 pub mod EmptyHands
+pub mod Plans
 pub mod OneRun
 pub mod TwoQueueRun
+pub mod MovingRun
 pub mod Unretired
 pub mod LeftOut
 pub mod Unemptied

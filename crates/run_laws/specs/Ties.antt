@@ -1,3 +1,4 @@
+pub mod Left
 pub mod Inputs
 pub mod Boards
 pub mod Tries

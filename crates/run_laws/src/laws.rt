@@ -10,11 +10,12 @@ ghost use Rattle.run_laws.specs.Laws.EmptiedLanes.{TriesFindEmpty};
 ghost use Rattle.run_laws.specs.Laws.EmptyHands.{DeliveriesAreCounted, EmptyHandsRetired};
 ghost use Rattle.run_laws.specs.Laws.EmptyRuns.{EmptyRunsExist};
 ghost use Rattle.run_laws.specs.Laws.Ends.{AllAreSent, ChoicesSuffice, LanesAreDone, PutsEnd};
-ghost use Rattle.run_laws.specs.Laws.Ends.{RepliesSuffice};
+ghost use Rattle.run_laws.specs.Laws.Ends.{RepliesKeepChoices, RepliesSuffice};
 ghost use Rattle.run_laws.specs.Laws.Ends.{TotalsSuffice};
 ghost use Rattle.run_laws.specs.Laws.GoodRuns.{RunsAreGood};
 ghost use Rattle.run_laws.specs.Laws.Heads.{HeadsFollow};
-ghost use Rattle.run_laws.specs.Laws.LeftOut.{CausesMatter, InboxesMatter, OwnTablesMatter};
+ghost use Rattle.run_laws.specs.Laws.LeftOut.{TiesMatter};
+ghost use Rattle.run_laws.specs.Laws.MovingRun.{MovingRunExists};
 ghost use Rattle.run_laws.specs.Laws.OneCount.{OneCountSuffices};
 ghost use Rattle.run_laws.specs.Laws.OneRun.{OneRunExists};
 ghost use Rattle.run_laws.specs.Laws.Orders.{InboxesFollow};
@@ -76,11 +77,13 @@ pub fn inboxes_are_in_order()
 {}
 
 /// Lemma: if the counts are equal, all lanes are done, each packet that was put was delivered or
-/// dropped, and each application replied to its whole inbox.
+/// dropped, and each application replied to its whole inbox. Each reply has its choice at any time,
+/// since an application notes the two together.
 pub fn equal_counts_end_a_run()
     ensures choices { ChoicesSuffice }
     ensures totals { AtEachClosing TotalsSuffice }
     ensures replies { AtEachClosing RepliesSuffice }
+    ensures keeps { RepliesKeepChoices }
     ensures done { AtEachClosing LanesAreDone }
     ensures puts { AtEachClosing PutsEnd }
     ensures sent { AtEachClosing AllAreSent }
@@ -140,12 +143,16 @@ pub fn one_count_is_not_all()
     ensures { (table : TableId) → OneCountIsNotAll table }
 {}
 
-/// Lemma: ties are needed. Without the tie of choices to own tables, of settings to empty lanes, of
-/// inboxes to the board, or of an answer to its cause, the same threads may keep all else and a
-/// clause fail.
+/// Lemma: the ties can be kept with loads of hint words, a resize between two choices of a queue,
+/// and a flow that moves to another transmit queue.
+pub fn moving_run_exists()
+    ensures { MovingRunExists }
+{}
+
+/// Lemma: ties are needed. For each clause but the eighth there is a tie without which a history
+/// may keep all else and the clause fail; and so for the tie of settings to empty lanes, at a
+/// receive board.
 pub fn ties_are_needed()
-    ensures tables { OwnTablesMatter }
+    ensures ties { TiesMatter }
     ensures lanes { EmptyLanesMatter }
-    ensures inboxes { InboxesMatter }
-    ensures causes { CausesMatter }
 {}

@@ -1,10 +1,11 @@
 -- A run with one packet keeps all ties.
 use Rattle.std.proofs.Common.{◌≡◌, ◌⊎◌, ℕ, zero, suc, ◌+◌, ◌*◌, ◌^◌, ◌<◌, inl, inr, true, false}
-use Rattle.std.proofs.Common.{List, [], ◌∷◌, Some}
+use Rattle.std.proofs.Common.{List, [], ◌∷◌, Option, Some}
 use Rattle.std.proofs.Common.{None, length, map, All, sym, refl, ap, ◌∙◌, subst, arith}
 use Rattle.std.specs.Prelude.{slice_get, slice_index, slice_index_or, take}
 use Rattle.std.proofs.lemmas.Bool.{ne_eqb}
 use Rattle.std.proofs.lemmas.List.Elements.{All-cons, All-nil, All-replicate}
+use Rattle.atomic_table.specs.Seated.{TableId}
 use Rattle.linearization.specs.Orders.{StepBy, steps_of}
 use Rattle.steer_base.specs.Sets.{those_below}
 use Rattle.steer_base.specs.declared.put.Put.TheVariants.{At}
@@ -12,7 +13,10 @@ use Rattle.steer_base.specs.declared.step.Step.{Step}
 use Rattle.dev_flow_table.specs.Walks.{since_resize}
 use Rattle.history.specs.Lists.{arrivals_at, list_at}
 use Rattle.history.specs.declared.arrival.Arrival.{Arrival}
+use Rattle.history.specs.declared.history.History.{History}
+use Rattle.history.specs.declared.lane_list.LaneList.{LaneList}
 use Rattle.history.specs.declared.sent.Sent.{Sent}
+use Rattle.history.specs.declared.sock_write.SockWrite.{SockWrite}
 use Rattle.hop_rule.specs.Boards.{IsLawful, lanes_of}
 use Rattle.hop_rule.specs.Deliveries.{Delivery}
 use Rattle.hop_rule.specs.Gates.{inside}
@@ -46,25 +50,27 @@ use Rattle.run_laws.specs.Laws.OneRun.{OneRunExists, one_history, one_input, one
 use Rattle.run_laws.specs.Laws.OneRun.{one_tx, rx_chosen, rx_order, rx_rows, tx_chosen, tx_order}
 use Rattle.run_laws.specs.Laws.OneRun.{tx_rows}
 use Rattle.run_laws.specs.Ties.Applications.{KeepsApplications, WasFoundAt}
-use Rattle.run_laws.specs.Ties.Hints.{AreRecorded, CameBy, IsRouted, LoadsAreUsed}
+use Rattle.run_laws.specs.Ties.Hints.{AreRecorded, CameBy, IsRouted, LoadsAreUsedBut}
 use Rattle.run_laws.specs.Ties.Hints.{Stands}
 use Rattle.run_laws.specs.Ties.Inputs.{AreReceiveWords, AreTransmitWords, FlowsHaveOneHash}
 use Rattle.run_laws.specs.Ties.Inputs.{receive_queues}
-use Rattle.run_laws.specs.Ties.OwnTables.{IsByTable}
-use Rattle.run_laws.specs.Ties.Queues.{KeepsQueues}
-use Rattle.run_laws.specs.Ties.Runs.{ReceiveTies, TransmitTies}
+use Rattle.run_laws.specs.Ties.Left.{LeftOut, Unless}
+use Rattle.run_laws.specs.Ties.Left as tie
+use Rattle.run_laws.specs.Ties.OwnTables.{IsByTable, IsByTableBut}
+use Rattle.run_laws.specs.Ties.Queues.{KeepsQueuesBut}
+use Rattle.run_laws.specs.Ties.Runs.{IsRunBut, ReceiveTiesBut, TransmitTies}
 use Rattle.run_laws.specs.Ties.Tries.{oldest_first}
 use Rattle.run_laws.specs.Ties.Turns.{KeepsTurns}
 use Rattle.run_laws.proofs.Lists.PlaceLemmas.{if_there, split-arrivals}
 use Rattle.run_laws.proofs.Runs.CodeLemmas.{shared}
-use Rattle.run_laws.proofs.Runs.FrameLemmas.{MayEnd, run_of}
+use Rattle.run_laws.proofs.Runs.FrameLemmas.{MayEnd, ends_with, keep, keep_by, no_steps, run_of}
 
 -- ---- the plan
 
 abbrev sizes : Sizes
 sizes = record { cpus = 1; queues = 1; apps = 1; tx = 1 }
 
-within : IsWithin one_of_each
+pub within : IsWithin one_of_each
 within =
     record {
       some_cpu = omega arith;
@@ -102,7 +108,7 @@ within =
       };
     }
 
-abbrev i : Input
+abbrev pub i : Input
 i = one_input within
 
 -- ---- the boards
@@ -127,6 +133,12 @@ rx-lawful = rows_lawfully one_rx rx_rows [] (assumption (by-visit 0, one-out, in
 
 pub tx-lawful : IsLawful one_tx tx_order
 tx-lawful = rows_lawfully one_tx tx_rows [] (assumption (by-visit 0)) tt
+
+rx-ends : MayEnd one_rx rx_order
+rx-ends = ends_with one_rx rx_order refl rx-lawful
+
+tx-ends : MayEnd one_tx tx_order
+tx-ends = ends_with one_tx tx_order refl tx-lawful
 
 abbrev rx_own : ℕ → List BoardStep
 rx_own = own_of rx_order
@@ -311,16 +323,17 @@ rx_seen p k w = slice_index one_rx.settings w
 abbrev tx_seen : ℕ → ℕ → ℕ → ℕ
 tx_seen p k w = slice_index one_tx.settings w
 
-rx-by-table : IsByTable 0 rx_story (receive_steering (receive_queues i)) (rx_seen 0) 0 0
+rx-by-table : (left : LeftOut)
+    → IsByTableBut 0 rx_story (receive_steering (receive_queues i)) (rx_seen 0) left 0 0
     rx_turn.step
 unfolding since_resize those_below
-rx-by-table = record {
+rx-by-table left = record {
   head = 0;
   count = 1;
   exact = false;
   rule = refl;
   rows = λ k class. none-some k class;
-  loaded = λ k l class lane looked. none-some k class;
+  loaded = keep left tie.heads (λ k l class lane looked. none-some k class);
 }
 
 tx-by-table : IsByTable 0 tx_story (transmit_steering (flow_number_of (setup_in i))) (tx_seen 0) 0 0
@@ -335,247 +348,277 @@ tx-by-table = record {
   loaded = λ k l class lane looked. none-some 0 looked;
 }
 
-abbrev the_arrival : Arrival
-the_arrival = record { id = 0; queue = 0; filter = None; entry = Some 0 }
-
-abbrev the_reply : Sent
-the_reply = record { id = 0; rxq = 0; cpu = 0 }
-
-queues-kept : KeepsQueues i one_history one_rx rx_own rx_story rx_seen
-queues-kept =
-    record {
-      turns = rx-turns;
-      choice_lists = refl;
-      taken_lists = refl;
-      arrivals = arrivals;
-      choices = choices;
-      taken = taken;
-      hashes = rx-each
-          (λ p k u. u.hash
-          ≡ packet_hash (setup_in i) u.chosen.id) refl;
-      knows = rx-each (λ p k u. HasSeen (rx_own 0) (receive_queues i) p u (rx_seen p k))
-          (record {
-            mask = inl (4, omega arith, refl);
-            flows = inl (3, omega arith, refl);
-            online = inl (1, omega arith, refl);
-          });
-      knows_sock = rx-each (λ p k u. Knows (rx_own 0) u 2 0) (inl (2, omega arith, refl));
-      by_table = λ p k u at fit.
-          rx-each
-          (λ p k u. IsByTable 0 rx_story (receive_steering (receive_queues i)) (rx_seen p) p k u)
-          rx-by-table p k u at;
-    }
-  where
-    arrivals : (p : ℕ) → rx_story.arrivals p
-        ≡ arrivals_at one_history.arrivals p
-    arrivals zero = refl
-    arrivals (suc p) =
-        sym (split-arrivals the_arrival [] (suc p)
-        ∙ ap (λ b. if_there b 0 []) (ne_eqb 0 (suc p) (λ e. absurd (omega arith))))
-
-    choices : (p : ℕ) → list_at one_history.choices p ≡ rx_story.choices p
-    choices zero = refl
-    choices (suc p) = refl
-
-    taken : (p : ℕ) → slice_index one_history.taken p ≡ length (rx_story.choices p)
-    taken zero = refl
-    taken (suc p) = refl
-
-applications-kept : KeepsApplications i one_history rx_own one_tx tx_own tx_story tx_seen
-unfolding those_below
-applications-kept =
-    record {
-      turns = tx-turns;
-      sent_lists = refl;
-      choice_lists = refl;
-      write_lists = refl;
-      replies = replies;
-      choices = choices;
-      found = found;
-      knows = tx-each (λ p k u. KnowsMaps (tx_own 0) 1 u (tx_seen p k)) maps;
-      picks = λ a k u s at there fit. picks a k u s at there;
-      by_table = tx-each
-          (λ p k u. IsByTable 0 tx_story (transmit_steering (flow_number_of (setup_in i)))
-          (tx_seen p) p k u) tx-by-table;
-    }
-  where
-    replies : (a : ℕ) → tx_story.arrivals a
-        ≡ map (λ (s : Sent). s.id) (list_at one_history.sent a)
-    replies zero = refl
-    replies (suc a) = refl
-
-    choices : (a : ℕ) → list_at one_history.tx_choices a ≡ tx_story.choices a
-    choices zero = refl
-    choices (suc a) = refl
-
-    found : (a k : ℕ) (s : Sent) → slice_get (list_at one_history.sent a) k ≡ Some s
-        → WasFoundAt rx_own a k s.id
-    found zero zero s at =
-        subst (λ (x : Sent). WasFoundAt rx_own 0 0 x.id)
-        (some-is (record { id = 0; rxq = 0; cpu = 0 }) s at)
-        (record { seat = 0; step = 13; word = _; found = _; does = refl; there = refl })
-    found zero (suc k) s at = none-some s at
-    found (suc a) k s at = none-some s at
-
-    maps : KnowsMaps (tx_own 0) 1 tx_turn.step (tx_seen 0 0)
-    maps zero less = inl (2, omega arith, refl)
-    maps (suc zero) less = inl (1, omega arith, refl)
-    maps (suc (suc w)) less = absurd (omega arith)
-
-    picks : (a k : ℕ) (u : Turn) (s : Sent) → nth_step (turns_of tx_story a) k ≡ Some u
-        → slice_get (list_at one_history.sent a) k ≡ Some s
-        → u.chosen.choice.want
-        ≡ Some (pick_by 1 (tx_seen a k) s.rxq
-        s.cpu (packet_hash (setup_in i) s.id))
-    picks zero zero u s at there =
-        subst (λ (x : Sent). u.chosen.choice.want
-        ≡ Some (pick_by 1 (tx_seen 0 0) x.rxq
-        x.cpu (packet_hash (setup_in i) x.id)))
-        (some-is (record { id = 0; rxq = 0; cpu = 0 }) s there)
-        (tx-each (λ p k u. u.chosen.choice.want ≡ Some 0) refl 0 0 u at)
-    picks zero (suc k) u s at there = none-some s there
-    picks (suc a) k u s at there = none-some s there
-
--- ---- hint words: no thread made a step there
-
-used : LoadsAreUsed i one_history shared [] rx_own rx_story rx_seen
-used =
-    record {
-      arrivals = All-cons
-          (λ (a : Arrival). IsRouted i one_history shared [] (packet_hash (setup_in i) a.id) a)
-          the_arrival [] (inl (0, refl, inl refl))
-          (All-nil
-          (λ (a : Arrival). IsRouted i one_history shared [] (packet_hash (setup_in i) a.id) a));
-      wants = λ p k want u at is.
-          none-some want
-          (sym (rx-each (λ p k u. u.chosen.choice.want ≡ None) refl p k u at) ∙ is);
-      queues = queues;
-      stands = stands;
-      writes = writes;
-    }
-  where
-    queues : (a : ℕ) → All (λ (s : Sent). CameBy i one_history shared [] s.id s.rxq)
-        (list_at one_history.sent a)
-    queues zero =
-        All-cons (λ (s : Sent). CameBy i one_history shared [] s.id s.rxq) the_reply [] (inl refl)
-        (All-nil (λ (s : Sent). CameBy i one_history shared [] s.id s.rxq))
-    queues (suc a) = All-nil (λ (s : Sent). CameBy i one_history shared [] s.id s.rxq)
-
-    stands : (a : ℕ) → All (λ (s : Sent). Stands i one_history shared [] a s.cpu)
-        (list_at one_history.sent a)
-    stands zero =
-        All-cons (λ (s : Sent). Stands i one_history shared [] 0 s.cpu) the_reply [] (inl refl)
-        (All-nil (λ (s : Sent). Stands i one_history shared [] 0 s.cpu))
-    stands (suc a) = All-nil (λ (s : Sent). Stands i one_history shared [] (suc a) s.cpu)
-
-    writes : (a : ℕ) → AreRecorded i one_history shared [] rx_own a
-        (map (λ (s : Sent). s.id) (list_at one_history.sent a)) (list_at one_history.writes a)
-    writes zero =
-        inr (inr (
-          5,
-          0,
-          refl,
-          record { seat = 0; step = 3; does = refl; in_visit = refl },
-          (λ few. refl),
-          refl,
-        ))
-    writes (suc a) = refl
-
--- ---- all together
-
-received : ReceiveTies i one_history one_rx rx_own (lists_of one_rx rx_order) [] rx_story rx_seen
-received =
-    record {
-      board = record {
-        start = refl;
-        lane_count = refl;
-        out_count = refl;
-        limit = refl;
-        room = refl;
-        limited = refl;
-        settings = first-words;
-        lanes = refl;
-        inboxes = refl;
-      };
-      tries_are = record { commands = refl; own_list = refl; are = tt };
-      finds = tt;
-      queues = queues-kept;
-      right = right;
-      retired = refl;
-    }
-  where
-    right : (l : ℕ) → l < 1
-        → All (λ (g : Delivery). g.to ≡ app_for (setup_in i) g.id)
-        (delivered_by l (rx_own (puller one_rx l)))
-    right zero less =
-        all_of_each (λ (g : Delivery). g.to ≡ app_for (setup_in i) g.id)
-        (delivered_by 0 (rx_own (puller one_rx 0))) (refl, tt)
-    right (suc l) less = absurd (omega arith)
-
-sent : TransmitTies i one_history rx_own one_tx tx_own (lists_of one_tx tx_order) [] tx_story
-    tx_seen
-sent =
-    record {
-      board = record {
-        start = refl;
-        lane_count = refl;
-        out_count = refl;
-        limit = refl;
-        limited = refl;
-        settings = first-maps;
-        lanes = refl;
-        port = refl;
-      };
-      tries_are = record { commands = refl; own_list = refl; are = tt };
-      applications = applications-kept;
-      right = right;
-      retired = refl;
-    }
-  where
-    right : (l : ℕ) → l < 1 → All (λ (g : Delivery). g.to ≡ 0)
-        (delivered_by l (tx_own (puller one_tx l)))
-    right zero less =
-        all_of_each (λ (g : Delivery). g.to ≡ 0)
-        (delivered_by 0 (tx_own (puller one_tx 0))) (refl, tt)
-    right (suc l) less = absurd (omega arith)
-
-rx-ends : MayEnd one_rx rx_order
-rx-ends =
-    record {
-      fit = record {
-        room = omega arith;
-        start = omega arith;
-        lanes = omega arith;
-        some_seat = omega arith;
-        seats = omega arith;
-      };
-      lawful = rx-lawful;
-    }
-
-tx-ends : MayEnd one_tx tx_order
-tx-ends =
-    record {
-      fit = record {
-        room = omega arith;
-        start = omega arith;
-        lanes = omega arith;
-        some_seat = omega arith;
-        seats = omega arith;
-      };
-      lawful = tx-lawful;
-    }
-
 hashes : FlowsHaveOneHash i
 hashes zero less = refl
 hashes (suc x) less = absurd (omega arith)
 
+-- ---- histories of the run that differ in what one tie ties
+
+pub record Told : Type 0 where
+  pub total : ℕ
+  pub filter : Option ℕ
+  pub entry : Option ℕ
+  pub lanes : List LaneList
+  pub rxq : ℕ
+  pub writes : List SockWrite
+
+-- what the threads of the run tell
+abbrev pub truly : Told
+truly = record {
+  total = 1;
+  filter = None;
+  entry = Some 0;
+  lanes = (lists_of one_rx rx_order).lanes;
+  rxq = 0;
+  writes = [];
+}
+
+module _ (left : LeftOut) (told : Told) where
+  abbrev the_arrival : Arrival
+  the_arrival = record { id = 0; queue = 0; filter = told.filter; entry = told.entry }
+
+  abbrev the_reply : Sent
+  the_reply = record { id = 0; rxq = told.rxq; cpu = 0 }
+
+  abbrev history : History
+  history = record one_history {
+    total = told.total;
+    arrivals = the_arrival ∷ [];
+    lanes = told.lanes;
+    sent = (the_reply ∷ []) ∷ [];
+    writes = told.writes ∷ [];
+  }
+
+  queues-kept : KeepsQueuesBut i history one_rx rx_own left rx_story rx_seen
+  queues-kept =
+      record {
+        turns = rx-turns;
+        choice_lists = refl;
+        taken_lists = refl;
+        arrivals = arrivals;
+        choices = choices;
+        taken = taken;
+        hashes = rx-each (λ p k u. u.hash ≡ packet_hash (setup_in i) u.chosen.id) refl;
+        knows = rx-each (λ p k u. HasSeen (rx_own 0) (receive_queues i) p u (rx_seen p k))
+            (record {
+              mask = inl (4, omega arith, refl);
+              flows = inl (3, omega arith, refl);
+              online = inl (1, omega arith, refl);
+            });
+        knows_sock = rx-each (λ p k u. Knows (rx_own 0) u 2 0) (inl (2, omega arith, refl));
+        by_table = keep left tie.tables (λ p k u at fit.
+            rx-each
+            (λ p k u. IsByTableBut 0 rx_story (receive_steering (receive_queues i)) (rx_seen p)
+            left p k u)
+            (rx-by-table left) p k u at);
+      }
+    where
+      arrivals : (p : ℕ) → rx_story.arrivals p ≡ arrivals_at history.arrivals p
+      arrivals zero = refl
+      arrivals (suc p) =
+          sym (split-arrivals the_arrival [] (suc p)
+          ∙ ap (λ b. if_there b 0 []) (ne_eqb 0 (suc p) (λ e. absurd (omega arith))))
+
+      choices : (p : ℕ) → list_at history.choices p ≡ rx_story.choices p
+      choices zero = refl
+      choices (suc p) = refl
+
+      taken : (p : ℕ) → slice_index history.taken p ≡ length (rx_story.choices p)
+      taken zero = refl
+      taken (suc p) = refl
+
+  -- the one transmit queue is picked whatever the reply says
+  module _ (picked : 0 ≡ pick_by 1 (tx_seen 0 0) told.rxq 0 (Some 5)) where
+    applications-kept : KeepsApplications i history rx_own one_tx tx_own tx_story tx_seen
+    unfolding those_below
+    applications-kept =
+        record {
+          turns = tx-turns;
+          sent_lists = refl;
+          choice_lists = refl;
+          write_lists = refl;
+          replies = replies;
+          choices = choices;
+          found = found;
+          knows = tx-each (λ p k u. KnowsMaps (tx_own 0) 1 u (tx_seen p k)) maps;
+          picks = λ a k u s at there fit. picks a k u s at there;
+          by_table = tx-each
+              (λ p k u. IsByTable 0 tx_story (transmit_steering (flow_number_of (setup_in i)))
+              (tx_seen p) p k u) tx-by-table;
+        }
+      where
+        replies : (a : ℕ) → tx_story.arrivals a
+            ≡ map (λ (s : Sent). s.id) (list_at history.sent a)
+        replies zero = refl
+        replies (suc a) = refl
+
+        choices : (a : ℕ) → list_at history.tx_choices a ≡ tx_story.choices a
+        choices zero = refl
+        choices (suc a) = refl
+
+        found : (a k : ℕ) (s : Sent) → slice_get (list_at history.sent a) k ≡ Some s
+            → WasFoundAt rx_own a k s.id
+        found zero zero s at =
+            subst (λ (x : Sent). WasFoundAt rx_own 0 0 x.id) (some-is the_reply s at)
+            (record { seat = 0; step = 13; word = _; found = _; does = refl; there = refl })
+        found zero (suc k) s at = none-some s at
+        found (suc a) k s at = none-some s at
+
+        maps : KnowsMaps (tx_own 0) 1 tx_turn.step (tx_seen 0 0)
+        maps zero less = inl (2, omega arith, refl)
+        maps (suc zero) less = inl (1, omega arith, refl)
+        maps (suc (suc w)) less = absurd (omega arith)
+
+        picks : (a k : ℕ) (u : Turn) (s : Sent) → nth_step (turns_of tx_story a) k ≡ Some u
+            → slice_get (list_at history.sent a) k ≡ Some s
+            → u.chosen.choice.want
+            ≡ Some (pick_by 1 (tx_seen a k) s.rxq s.cpu (packet_hash (setup_in i) s.id))
+        picks zero zero u s at there =
+            subst (λ (x : Sent). u.chosen.choice.want
+            ≡ Some (pick_by 1 (tx_seen 0 0) x.rxq x.cpu (packet_hash (setup_in i) x.id)))
+            (some-is the_reply s there)
+            (tx-each (λ p k u. u.chosen.choice.want ≡ Some 0) refl 0 0 u at
+            ∙ ap (λ n. Some n) picked)
+        picks zero (suc k) u s at there = none-some s there
+        picks (suc a) k u s at there = none-some s there
+
+    -- ---- all together
+
+    received : Unless left tie.lanes (told.lanes ≡ (lists_of one_rx rx_order).lanes)
+        → ReceiveTiesBut left i history one_rx rx_own (lists_of one_rx rx_order) [] rx_story
+        rx_seen
+    received lanes =
+        record {
+          board = record {
+            start = refl;
+            lane_count = refl;
+            out_count = refl;
+            limit = refl;
+            room = refl;
+            limited = refl;
+            settings = first-words;
+            lanes = lanes;
+            inboxes = keep left tie.inboxes refl;
+          };
+          tries_are = record { commands = refl; own_list = refl; are = tt };
+          finds = tt;
+          queues = queues-kept;
+          right = right;
+          retired = refl;
+        }
+      where
+        right : (l : ℕ) → l < 1
+            → All (λ (g : Delivery). g.to ≡ app_for (setup_in i) g.id)
+            (delivered_by l (rx_own (puller one_rx l)))
+        right zero less =
+            all_of_each (λ (g : Delivery). g.to ≡ app_for (setup_in i) g.id)
+            (delivered_by 0 (rx_own (puller one_rx 0))) (refl, tt)
+        right (suc l) less = absurd (omega arith)
+
+    sent : TransmitTies i history rx_own one_tx tx_own (lists_of one_tx tx_order) [] tx_story
+        tx_seen
+    sent =
+        record {
+          board = record {
+            start = refl;
+            lane_count = refl;
+            out_count = refl;
+            limit = refl;
+            limited = refl;
+            settings = first-maps;
+            lanes = refl;
+            port = refl;
+          };
+          tries_are = record { commands = refl; own_list = refl; are = tt };
+          applications = applications-kept;
+          right = right;
+          retired = refl;
+        }
+      where
+        right : (l : ℕ) → l < 1 → All (λ (g : Delivery). g.to ≡ 0)
+            (delivered_by l (tx_own (puller one_tx l)))
+        right zero less =
+            all_of_each (λ (g : Delivery). g.to ≡ 0)
+            (delivered_by 0 (tx_own (puller one_tx 0))) (refl, tt)
+        right (suc l) less = absurd (omega arith)
+
+    abbrev Routed : Arrival → Type 0
+    Routed a = IsRouted i history shared [] (packet_hash (setup_in i) a.id) a
+
+    -- no thread made a step at a hint word
+    used : Unless left tie.routes (IsRouted i history shared [] (Some 5) the_arrival)
+        → Unless left tie.reply_queues (CameBy i history shared [] 0 told.rxq)
+        → Unless left tie.writes (AreRecorded i history shared [] rx_own 0 (0 ∷ []) told.writes)
+        → LoadsAreUsedBut i history shared [] rx_own left rx_story rx_seen
+    used routed came recorded =
+        record {
+          arrivals =
+              keep_by left tie.routes (λ r. All-cons Routed the_arrival [] r (All-nil Routed))
+              routed;
+          wants = keep left tie.wants (λ p k want u at is.
+              none-some want
+              (sym (rx-each (λ p k u. u.chosen.choice.want ≡ None) refl p k u at) ∙ is));
+          queues = keep_by left tie.reply_queues queues came;
+          stands = stands;
+          writes = keep_by left tie.writes writes recorded;
+        }
+      where
+        queues : CameBy i history shared [] 0 told.rxq → (a : ℕ)
+            → All (λ (s : Sent). CameBy i history shared [] s.id s.rxq) (list_at history.sent a)
+        queues came zero =
+            All-cons (λ (s : Sent). CameBy i history shared [] s.id s.rxq) the_reply [] came
+            (All-nil (λ (s : Sent). CameBy i history shared [] s.id s.rxq))
+        queues came (suc a) = All-nil (λ (s : Sent). CameBy i history shared [] s.id s.rxq)
+
+        stands : (a : ℕ) → All (λ (s : Sent). Stands i history shared [] a s.cpu)
+            (list_at history.sent a)
+        stands zero =
+            All-cons (λ (s : Sent). Stands i history shared [] 0 s.cpu) the_reply [] (inl refl)
+            (All-nil (λ (s : Sent). Stands i history shared [] 0 s.cpu))
+        stands (suc a) = All-nil (λ (s : Sent). Stands i history shared [] (suc a) s.cpu)
+
+        writes : AreRecorded i history shared [] rx_own 0 (0 ∷ []) told.writes → (a : ℕ)
+            → AreRecorded i history shared [] rx_own a
+            (map (λ (s : Sent). s.id) (list_at history.sent a)) (list_at history.writes a)
+        writes recorded zero = recorded
+        writes recorded (suc a) = refl
+
+    pub run_told : Unless left tie.total (told.total ≡ 1)
+        → Unless left tie.lanes (told.lanes ≡ (lists_of one_rx rx_order).lanes)
+        → Unless left tie.routes (IsRouted i history shared [] (Some 5) the_arrival)
+        → Unless left tie.reply_queues (CameBy i history shared [] 0 told.rxq)
+        → Unless left tie.writes (AreRecorded i history shared [] rx_own 0 (0 ∷ []) told.writes)
+        → TableId → IsRunBut left i history
+    run_told total lanes routed came recorded =
+        run_of left i history one_rx rx_order rx-ends one_tx tx_order tx-ends [] rx_story tx_story
+        rx_seen tx_seen []
+        (record { hashes = hashes; arrived = refl; total = total; cut = refl; start = refl })
+        (record { given = refl; answered = keep left tie.causes tt }) (received lanes) sent refl
+        (no_steps left i history rx_own rx_story rx_seen (used routed came recorded))
+
+-- the packet came by its entry of the plan's table
+pub routed : (h : History)
+    → IsRouted i h shared [] (Some 5) (record { id = 0; queue = 0; filter = None; entry = Some 0 })
+routed h = inl (0, refl, inl refl)
+
+-- with the socket size 0 nothing is written
+pub none_written : (h : History) → AreRecorded i h shared [] rx_own 0 (0 ∷ []) []
+none_written h =
+    inr (inr (
+      5,
+      0,
+      refl,
+      record { seat = 0; step = 3; does = refl; in_visit = refl },
+      (λ few. refl),
+      refl,
+    ))
+
 pub one_run_exists : OneRunExists
+unfolding those_below
 one_run_exists =
     record {
       within = within;
-      runs = run_of i one_history one_rx rx_order rx-ends one_tx tx_order tx-ends [] rx_story
-          tx_story rx_seen tx_seen
-          (record { hashes = hashes; arrived = refl; total = refl; cut = refl; start = refl })
-          (record { given = refl; answered = tt }) received sent refl used;
+      runs = run_told tie.nothing truly refl refl refl (routed one_history) (inl refl)
+          (none_written one_history);
       port = refl;
     }

@@ -37,7 +37,7 @@ use Rattle.hop_rule.proofs.Moments.{nth-inside}
 use Rattle.board_api.specs.declared.lists.BoardLists.{BoardLists}
 use Rattle.hop_delivery.specs.Closings.FlowLaw.{accepted_left}
 use Rattle.hop_delivery.specs.Closings.TurnReads.{Knows}
-use Rattle.hop_delivery.specs.Orders.Commands.{received_sets}
+use Rattle.hop_delivery.specs.Orders.Commands.{NamesCpu, received_sets}
 use Rattle.hop_delivery.specs.Orders.Premises.{AllFindEmpty, GoesRight, MeetsPremises}
 use Rattle.hop_delivery.specs.Orders.ReceiveSettings.{Queues, flows_word, mask, mask_word, online}
 use Rattle.hop_delivery.specs.Orders.ReceiveSettings.{online_word, queues, receive_steering}
@@ -116,6 +116,33 @@ all_name_queues i (t ∷ ts) all =
     (names-queues i t.given.command
     (All-head (λ (t : Try). IsWithinPlan i.plan t.given.command) t ts all))
     (all_name_queues i ts (All-tail (λ (t : Try). IsWithinPlan i.plan t.given.command) t ts all))
+
+-- a command of the plan names a processor below 32, if any
+names-cpu : (i : Input) (c : Command) → IsWithinPlan i.plan c → NamesCpu c
+names-cpu i (give.Offline cpu) within =
+    let few = i.plan.within.cpus_within in
+    let named = ltb-true cpu i.plan.cpus within in omega arith
+names-cpu i (give.Online cpu) within =
+    let few = i.plan.within.cpus_within in
+    let named = ltb-true cpu i.plan.cpus within in omega arith
+names-cpu i (give.Mask q mask) within = tt
+names-cpu i (give.Flows q count) within = tt
+names-cpu i (give.Sock size) within = tt
+names-cpu i (give.XCpus tx mask) within = tt
+names-cpu i (give.XQueues tx rxqs) within = tt
+names-cpu i (give.Reta place q) within = tt
+names-cpu i (give.Stand app cpu) within = tt
+names-cpu i give.Expire within = tt
+
+all_name_cpus : (i : Input) (ts : List Try)
+    → All (λ (t : Try). IsWithinPlan i.plan t.given.command) ts
+    → All (λ (t : Try). NamesCpu t.given.command) ts
+all_name_cpus i [] all = All-nil (λ (t : Try). NamesCpu t.given.command)
+all_name_cpus i (t ∷ ts) all =
+    All-cons (λ (t : Try). NamesCpu t.given.command) t ts
+    (names-cpu i t.given.command
+    (All-head (λ (t : Try). IsWithinPlan i.plan t.given.command) t ts all))
+    (all_name_cpus i ts (All-tail (λ (t : Try). IsWithinPlan i.plan t.given.command) t ts all))
 
 answered-back : (i : Input) (h : History) (more ts : List Try) → AllAnswered i h (more ++ ts)
     → AllAnswered i h ts
@@ -370,5 +397,5 @@ module _ (i : Input) (h : History) (about : BoardSizes) (own : ℕ → List Boar
         emptied =
             subst (AllFindEmpty about r) (sym kept.own_list)
             (tries_find_empty about q i.plan.cpus (length i.plan.tx) at_receive tries
-            board.lane_count finds);
+            board.lane_count (all_name_cpus i tries within) finds);
       }

@@ -26,7 +26,7 @@ use Rattle.run_laws.specs.Laws.TwoQueueRun.{to_cpu_one, two_queue_input, two_que
 use Rattle.run_laws.specs.Laws.TwoQueueRun.{two_rx_order, two_rx_rows, two_tx, two_tx_order}
 use Rattle.run_laws.specs.Laws.TwoQueueRun.{two_tx_rows}
 use Rattle.run_laws.specs.Ties.Inputs.{AreReceiveWords, AreTransmitWords, receive_queues}
-use Rattle.run_laws.proofs.Runs.FrameLemmas.{MayEnd}
+use Rattle.run_laws.proofs.Runs.FrameLemmas.{MayEnd, ends_with}
 use Rattle.run_laws.proofs.Runs.OneRunLemmas.{by-visit}
 
 abbrev sizes : Sizes
@@ -101,30 +101,10 @@ pub tx-lawful : IsLawful two_tx two_tx_order
 tx-lawful = rows_lawfully two_tx two_tx_rows [] (assumption (by-visit 0)) tt
 
 pub rx-ends : MayEnd two_rx two_rx_order
-rx-ends =
-    record {
-      fit = record {
-        room = omega arith;
-        start = omega arith;
-        lanes = omega arith;
-        some_seat = omega arith;
-        seats = omega arith;
-      };
-      lawful = rx-lawful;
-    }
+rx-ends = ends_with two_rx two_rx_order refl rx-lawful
 
 pub tx-ends : MayEnd two_tx two_tx_order
-tx-ends =
-    record {
-      fit = record {
-        room = omega arith;
-        start = omega arith;
-        lanes = omega arith;
-        some_seat = omega arith;
-        seats = omega arith;
-      };
-      lawful = tx-lawful;
-    }
+tx-ends = ends_with two_tx two_tx_order refl tx-lawful
 
 -- ---- the first settings
 

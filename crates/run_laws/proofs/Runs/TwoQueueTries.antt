@@ -21,7 +21,6 @@ use Rattle.run_laws.specs.Laws.TwoQueueRun.{two_tx, two_tx_order}
 use Rattle.run_laws.specs.Ties.Answers.{AllAnswered}
 use Rattle.run_laws.specs.Ties.EmptiedLanes.{AllFindLanes}
 use Rattle.run_laws.specs.Ties.Inputs.{receive_queues}
-use Rattle.run_laws.specs.Ties.Runs.{KeepsCommands}
 use Rattle.run_laws.specs.Ties.Tries.{KeepsReceiveTries, KeepsTransmitTries, Try, at_receive}
 use Rattle.hop_rule.proofs.Lists.{some-is}
 use Rattle.run_laws.proofs.Runs.TwoQueueBoards.{i}
@@ -52,22 +51,23 @@ tries_with why = try_done ∷ try_busy why ∷ []
 abbrev pub tries : List Try
 tries = tries_with (NotEmpty 0 0 1)
 
--- a history with these tries
-abbrev history_with : Busy → History
-history_with why = record two_queue_history { commands = given_busy why ∷ given_done ∷ [] }
+-- the commands with these answers
+abbrev pub commands_with : Busy → List Commanded
+commands_with why = given_busy why ∷ given_done ∷ []
 
-pub rx-tries : (why : Busy)
-    → KeepsReceiveTries i (history_with why) two_rx rx_own (tries_with why)
-rx-tries why =
+pub rx-tries : (h : History) (why : Busy)
+    → KeepsReceiveTries i (record h { commands = commands_with why }) two_rx rx_own (tries_with why)
+rx-tries h why =
     record {
       commands = refl;
       own_list = refl;
       are = (inl (refl, made 0 2, refl, refl), (inr (inr (refl, inr refl)), tt));
     }
 
-pub tx-tries : (why : Busy)
-    → KeepsTransmitTries i (history_with why) two_tx tx_own (tries_with why) 1
-tx-tries why =
+pub tx-tries : (h : History) (why : Busy)
+    → KeepsTransmitTries i (record h { commands = commands_with why }) two_tx tx_own
+    (tries_with why) 1
+tx-tries h why =
     record {
       commands = refl;
       own_list = refl;
@@ -95,7 +95,6 @@ finds why = (
       empty = All-cons IsEmpty looked_first (looked_second ∷ []) refl
           (All-cons IsEmpty looked_second [] refl (All-nil IsEmpty));
       wanted = wanted;
-      names = tt;
       are = refl;
     },
   ),
@@ -108,8 +107,9 @@ finds why = (
     wanted (suc zero) less affected = refl
     wanted (suc (suc l)) less affected = absurd (omega arith)
 
-answered : AllAnswered i two_queue_history tries
-answered = (
+pub answered : (h : History)
+    → AllAnswered i (record h { lanes = two_queue_history.lanes }) tries
+answered h = (
   inl refl,
   (
     inr (inr (inl (
@@ -136,7 +136,7 @@ answered = (
   ),
 )
 
-pub given : (why : Busy) → AreGiven 2 (to_cpu_one ∷ []) (history_with why).commands
+pub given : (why : Busy) → AreGiven 2 (to_cpu_one ∷ []) (commands_with why)
 given why = (
   given_busy why ∷ given_done ∷ [],
   [],
@@ -155,11 +155,8 @@ given why = (
 )
   where
     again : (k : ℕ) (c : Commanded) → k + 1 < 2
-        → slice_get (history_with why).commands k ≡ Some c → is_busy c.answer ≡ true
+        → slice_get (commands_with why) k ≡ Some c → is_busy c.answer ≡ true
     again zero c less at =
         subst (λ (c : Commanded). is_busy c.answer ≡ true)
         (some-is (given_busy why) c at) refl
     again (suc k) c less at = absurd (omega arith)
-
-pub commands-kept : KeepsCommands i two_queue_history tries
-commands-kept = record { given = given (NotEmpty 0 0 1); answered = answered }

@@ -1,5 +1,5 @@
--- The turns of the run with two queues, whatever the choice of packet 3 says of its head, its tail
--- and its case.
+-- The turns of the run with two queues, whatever the choice of packet 0 says of what was wanted,
+-- and that of packet 3 of its head, its tail and its case.
 use Rattle.std.proofs.Common.{Option, ◌≡◌, ℕ, zero, suc, ◌<◌, ◌≤◌, inl, List, [], ◌∷◌, Some, None}
 use Rattle.std.proofs.Common.{◌*◌, length, map, All, sym, refl, ap, ◌∙◌, arith}
 use Rattle.std.specs.Prelude.{◌^◌, slice_index, drop, take}
@@ -8,10 +8,12 @@ use Rattle.std.proofs.lemmas.List.Elements.{All-nil}
 use Rattle.linearization.specs.Orders.{StepBy, step_by}
 use Rattle.steer_base.specs.declared.choice.Chosen.{Chosen}
 use Rattle.steer_base.specs.declared.choice.Why.{Why}
+use Rattle.steer_base.specs.declared.choice.Why.TheVariants.{Unset}
 use Rattle.steer_base.specs.declared.put.DropCause.TheVariants.{Full}
 use Rattle.steer_base.specs.declared.put.Put.TheVariants.{At, Dropped}
 use Rattle.history.specs.Lists.{arrivals_at, list_at}
 use Rattle.history.specs.declared.arrival.Arrival.{Arrival}
+use Rattle.history.specs.declared.commanded.Commanded.{Commanded}
 use Rattle.history.specs.declared.history.History.{History}
 use Rattle.hop_core.specs.Hop.{chosen_at}
 use Rattle.hop_rule.specs.Moments.{nth_step, past}
@@ -20,16 +22,18 @@ use Rattle.hop_rule.specs.declared.step.BoardStep.{BoardStep}
 use Rattle.hop_rule.proofs.Lists.{none-some}
 use Rattle.hop_delivery.specs.Closings.TurnReads.{HasSeen, Knows}
 use Rattle.hop_delivery.specs.Orders.Examples.{choice_for, of_first, turn}
-use Rattle.hop_delivery.specs.Orders.ReceiveSettings.{socket_word}
+use Rattle.hop_delivery.specs.Orders.ReceiveSettings.{receive_steering, socket_word}
 use Rattle.hop_delivery.specs.Orders.Runs.{Story, turns_of}
 use Rattle.hop_delivery.specs.Orders.Turns.{Explained, Turn}
 use Rattle.hop_delivery.proofs.Orders.ExampleLemmas.{Each, all_of_each, nth_of_all, own_empty}
 use Rattle.steer_model.specs.Good.Inputs.{setup_in}
 use Rattle.steer_model.specs.State.Setup.{packet_hash}
-use Rattle.run_laws.specs.Laws.LeftOut.{KeepsButTables}
-use Rattle.run_laws.specs.Laws.TwoQueueRun.{first_choices}
 use Rattle.run_laws.specs.Laws.TwoQueueRun.{second_choices, two_queue_history, two_rx, two_rx_order}
 use Rattle.run_laws.specs.Ties.Inputs.{receive_queues}
+use Rattle.run_laws.specs.Ties.Left.{LeftOut, Unless}
+use Rattle.run_laws.specs.Ties.Left as tie
+use Rattle.run_laws.specs.Ties.OwnTables.{IsByTableBut}
+use Rattle.run_laws.specs.Ties.Queues.{FitReceiveWords, KeepsQueuesBut}
 use Rattle.run_laws.specs.Ties.Tries.{oldest_first}
 use Rattle.run_laws.specs.Ties.Turns.{KeepsTurns}
 use Rattle.run_laws.proofs.Lists.PlaceLemmas.{if_there, split-arrivals}
@@ -63,13 +67,16 @@ none-arrived n p (a ∷ xs) past each =
     (ne_eqb a.queue p (λ e. absurd (omega arith)))
     ∙ none-arrived n p xs past each.1)
 
-module _ (head : Option ℕ) (tail : ℕ) (why : Why) where
+module _ (want head : Option ℕ) (tail : ℕ) (why : Why) where
+  abbrev chosen_first : Chosen
+  chosen_first = choice_for 0 0 want None 0 0 Unset
+
   -- the choices of queue 0
-  abbrev choices_first : List Chosen
-  choices_first = chosen_at first_choices 0 ∷ choice_for 3 0 None head tail 1 why ∷ []
+  abbrev pub choices_first : List Chosen
+  choices_first = chosen_first ∷ choice_for 3 0 None head tail 1 why ∷ []
 
   abbrev pub turn_first : Turn
-  turn_first = (turn two_rx_order (chosen_at first_choices 0) 0 0 6 (Some 2) (At 1)).step
+  turn_first = (turn two_rx_order chosen_first 0 0 6 (Some 2) (At 1)).step
 
   abbrev pub turn_dropped : Turn
   turn_dropped =
@@ -169,11 +176,20 @@ module _ (head : Option ℕ) (tail : ℕ) (why : Why) where
       chosen (suc zero) = refl
       chosen (suc (suc p)) = refl
 
-  abbrev history : History
-  history = record two_queue_history { choices = choices_first ∷ second_choices ∷ [] }
+  -- the history with these inboxes and commands
+  abbrev pub history : List (List ℕ) → List Commanded → History
+  history inboxes commands = record two_queue_history {
+    choices = choices_first ∷ second_choices ∷ [];
+    inboxes = inboxes;
+    commands = commands;
+  }
 
-  pub journals : KeepsButTables i history rx_own rx_story rx_seen
-  journals =
+  pub queues-kept : (left : LeftOut) (inboxes : List (List ℕ)) (commands : List Commanded)
+      → Unless left tie.tables ((p k : ℕ) (u : Turn) → nth_step (turns_of rx_story p) k ≡ Some u
+      → FitReceiveWords (receive_queues i) 2 p (rx_seen p k)
+      → IsByTableBut 0 rx_story (receive_steering (receive_queues i)) (rx_seen p) left p k u)
+      → KeepsQueuesBut i (history inboxes commands) two_rx rx_own left rx_story rx_seen
+  queues-kept left inboxes commands by_table =
       record {
         turns = rx-kept;
         choice_lists = refl;
@@ -210,21 +226,22 @@ module _ (head : Option ℕ) (tail : ℕ) (why : Why) where
             (socket_word (receive_queues i)) (rx_seen p k (socket_word (receive_queues i))))
             (inl (2, omega arith, refl)) (inl (3, omega arith, refl)) (inl (2, omega arith, refl))
             (inl (2, omega arith, refl));
+        by_table = by_table;
       }
     where
-      arrivals : (p : ℕ) → rx_story.arrivals p ≡ arrivals_at history.arrivals p
+      arrivals : (p : ℕ) → rx_story.arrivals p ≡ arrivals_at two_queue_history.arrivals p
       arrivals zero = refl
       arrivals (suc zero) = refl
       arrivals (suc (suc p)) =
-          sym (none-arrived 2 (suc (suc p)) history.arrivals (omega arith)
+          sym (none-arrived 2 (suc (suc p)) two_queue_history.arrivals (omega arith)
           (omega arith, (omega arith, (omega arith, (omega arith, tt)))))
 
-      choices : (p : ℕ) → list_at history.choices p ≡ rx_story.choices p
+      choices : (p : ℕ) → list_at (history inboxes commands).choices p ≡ rx_story.choices p
       choices zero = refl
       choices (suc zero) = refl
       choices (suc (suc p)) = refl
 
-      taken : (p : ℕ) → slice_index history.taken p ≡ length (rx_story.choices p)
+      taken : (p : ℕ) → slice_index two_queue_history.taken p ≡ length (rx_story.choices p)
       taken zero = refl
       taken (suc zero) = refl
       taken (suc (suc p)) = refl

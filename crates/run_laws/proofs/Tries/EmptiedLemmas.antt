@@ -18,7 +18,8 @@ use Rattle.hop_rule.specs.declared.step.BoardStep.TheVariants.{OutCounted, LaneO
 use Rattle.hop_rule.specs.declared.step.GateStep.TheVariants.{Entered, Turned, Left, Shut, NotShut}
 use Rattle.hop_rule.specs.declared.step.GateStep.TheVariants.{Opened, Set, Read}
 use Rattle.board_api.specs.Calls.Results.{IsEmpty, Looked, looking}
-use Rattle.hop_delivery.specs.Orders.Commands.{AreAffected, SettingChange, received_sets}
+use Rattle.hop_delivery.specs.Orders.Commands.{AreAffected, NamesCpu, SettingChange}
+use Rattle.hop_delivery.specs.Orders.Commands.{received_sets}
 use Rattle.hop_delivery.specs.Orders.Premises.{AllFindEmpty, FindsEmpty, WasFoundEmpty}
 use Rattle.hop_delivery.specs.Orders.ReceiveSettings.{Queues, receive_steering}
 use Rattle.hop_delivery.specs.Orders.Runs.{Steering}
@@ -164,10 +165,11 @@ module _ (about : BoardSizes) (q : Queues) (cpus txs : ℕ) (f : Try → List Bo
 
   found_one : (t : Try) (ts : List Try) (m : SettingChange)
       → received_sets q (words_after about (received_sets q) f ts) t.given.command ≡ m ∷ []
+      → NamesCpu t.given.command
       → FindsAllEmpty about q.homes cpus txs t.given.command m (f t)
       → AllFindEmpty about r (steps_of_tries f ts)
       → AllFindEmpty about r (steps_of_tries f (t ∷ ts))
-  found_one t ts m one e all =
+  found_one t ts m one names e all =
       let older : List BoardStep = steps_of_tries f ts in
       let c : Command = t.given.command in
       let looks : List BoardStep = looking e.looked (Gate (Shut e.word) ∷ []) in
@@ -186,7 +188,7 @@ module _ (about : BoardSizes) (q : Queues) (cpus txs : ℕ) (f : Try → List Bo
       m []
       (subst (AreAffected r s c q.homes cpus txs l)
       (ap (λ w. received_sets q w c) words ∙ one)
-      (received_commands_empty q s c cpus txs l e.names few)) affects in
+      (received_commands_empty q s c cpus txs l names few)) affects in
       let b = below-has about.lanes (has e.mask) l less (e.wanted l less affected) in
       found_at about e.looked e.word l older b.0 b.1 (e.lanes ∙ b.2) e.empty) in
       subst (λ ds. AllFindEmpty about r (ds ++ older)) (sym e.are) (
@@ -198,16 +200,21 @@ module _ (about : BoardSizes) (q : Queues) (cpus txs : ℕ) (f : Try → List Bo
         ),
       )
 
-  found_by : (t : Try) (ts : List Try) → FindsLanes about q cpus txs f t ts
+  found_by : (t : Try) (ts : List Try) → NamesCpu t.given.command
+      → FindsLanes about q cpus txs f t ts
       → AllFindEmpty about r (steps_of_tries f ts)
       → AllFindEmpty about r (steps_of_tries f (t ∷ ts))
-  found_by t ts (inl none) all = all-quiet about r (f t) (steps_of_tries f ts) none all
-  found_by t ts (inr (m, one, e)) all = found_one t ts m one e all
+  found_by t ts names (inl none) all = all-quiet about r (f t) (steps_of_tries f ts) none all
+  found_by t ts names (inr (m, one, e)) all = found_one t ts m one names e all
 
-  found_all : (ts : List Try) → AllFindLanes about q cpus txs f ts
+  found_all : (ts : List Try) → All (λ (t : Try). NamesCpu t.given.command) ts
+      → AllFindLanes about q cpus txs f ts
       → AllFindEmpty about r (steps_of_tries f ts)
-  found_all [] are = tt
-  found_all (t ∷ ts) are = found_by t ts are.0 (found_all ts are.1)
+  found_all [] names are = tt
+  found_all (t ∷ ts) names are =
+      found_by t ts (All-head (λ (t : Try). NamesCpu t.given.command) t ts names) are.0
+      (found_all ts (All-tail (λ (t : Try). NamesCpu t.given.command) t ts names) are.1)
 
 pub tries_find_empty : TriesFindEmpty
-tries_find_empty about q cpus txs f ts lanes are = found_all about q cpus txs f lanes ts are
+tries_find_empty about q cpus txs f ts lanes names are =
+    found_all about q cpus txs f lanes ts names are

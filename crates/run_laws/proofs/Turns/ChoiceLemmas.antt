@@ -2,7 +2,7 @@
 -- commands up to the visit's opening.
 use Rattle.std.proofs.Common.{◌≡◌, inl, inr, ℕ, zero, suc, ◌+◌, ◌*◌, ◌/◌, ◌%◌, ◌^◌, ◌<◌, ◌≤◌, ◌==◌}
 use Rattle.std.proofs.Common.{not, true, List, [], ◌∷◌, ◌++◌, Option, Some, None, length, take}
-use Rattle.std.proofs.Common.{drop, All, if◌then◌else◌, sym, ap, ◌∙◌, subst, arith, length-append}
+use Rattle.std.proofs.Common.{drop, All, if◌then◌else◌, sym, ap, ◌∙◌, subst, arith}
 use Rattle.std.specs.Prelude.{nat_lt, slice_get, slice_index, slice_index_or, unwrap_or}
 use Rattle.std.specs.List.{list_any}
 use Rattle.std.proofs.lemmas.Bool.{cases_lt, lt-ltb}
@@ -16,7 +16,7 @@ use Rattle.history.specs.Lists.{list_at}
 use Rattle.history.specs.declared.history.History.{History}
 use Rattle.hop_core.specs.Hop.{chosen_at, nobody}
 use Rattle.hop_rule.specs.Boards.{gate_steps}
-use Rattle.hop_rule.specs.Gates.{opened, openings, own_settings}
+use Rattle.hop_rule.specs.Gates.{opened, own_settings}
 use Rattle.hop_rule.specs.Moments.{nth_step}
 use Rattle.hop_rule.specs.Sizes.{closer}
 use Rattle.hop_rule.specs.declared.sizes.BoardSizes.{BoardSizes}
@@ -36,17 +36,17 @@ use Rattle.steer_model.specs.Good.Inputs.{Input, is_resize, settings_at, setup_i
 use Rattle.steer_model.specs.State.Settings.{Settings, class_at, plain_lane}
 use Rattle.steer_model.specs.State.Setup.{Setup, flow_number_of, packet_hash}
 use Rattle.steer_model.specs.State.Start.{initial_settings}
-use Rattle.run_laws.proofs.Turns.EntryLemmas.{entries-rise, entry-at}
+use Rattle.run_laws.proofs.Turns.NumberLemmas as numbers
 use Rattle.run_laws.proofs.Turns.OwnHeadLemmas.{migrate_own}
 use Rattle.run_laws.proofs.Tries.ResizeLemmas.{flow_word, resized_between, since_same}
-use Rattle.run_laws.proofs.Tries.TryLemmas.{drop-given, given_by, openings-makings, tries-grow}
+use Rattle.run_laws.proofs.Tries.TryLemmas.{drop-given, given_by}
 use Rattle.run_laws.specs.Laws.Choices.{ChoicesFollow, ChoicesHaveTurns, commands_before}
 use Rattle.run_laws.specs.Ties.Boards.{IsReceiveBoard}
 use Rattle.run_laws.specs.Ties.Inputs.{AreReceiveWords, FlowsHaveOneHash, NamesReceiveQueues}
 use Rattle.run_laws.specs.Ties.Inputs.{hash_of_flow, receive_queues}
-use Rattle.run_laws.specs.Ties.Tries.{KeepsReceiveTries, Try, at_receive, openings_by}
+use Rattle.run_laws.specs.Ties.Tries.{KeepsReceiveTries, Try, at_receive}
 use Rattle.run_laws.proofs.Tries.ResizeLemmas.{resizes_by}
-use Rattle.run_laws.specs.Ties.Tries.{settings_by, steps_of_tries, tries_up_to}
+use Rattle.run_laws.specs.Ties.Tries.{settings_by, tries_up_to}
 use Rattle.run_laws.proofs.Tries.OpeningLemmas.{settings_of_opening, words_of_opening}
 use Rattle.run_laws.proofs.Tries.OpeningLemmas as opening_lemmas
 
@@ -154,33 +154,10 @@ module _ (i : Input) (h : History) (about : BoardSizes) (own : ℕ → List Boar
   abbrev number : ℕ → ℕ → ℕ
   number p k = word_of (nth_step (turns_of t p) k) / 2 ^ 32
 
-  below-all : (p k : ℕ) → k < length (turns_of t p) → number p k ≤ openings_by at_receive tries
-  below-all p k less =
-      let u = nth-some (turns_of t p) k less in
-      let e = entry-at (own (t.seat p)) (t.turns (t.seat p)) (keeps.explained p) p k u.0 u.1 in
-      let made = law.made (t.seat p) e.0 u.0.word e.1 in
-      let is : openings (gate_steps (own (closer about))) ≡ openings_by at_receive tries =
-      ap (λ ds. openings (gate_steps ds)) kept.own_list
-      ∙ openings-makings (gate_steps (steps_of_tries at_receive tries)) in
-      let n : number p k ≡ u.0.word / 2 ^ 32 = ap (λ o. word_of o / 2 ^ 32) u.1 in
-      omega arith
-
-  numbers-rise : (p k : ℕ) → k + 1 < length (turns_of t p) → number p k ≤ number p (suc k)
-  numbers-rise p k less =
-      let u = nth-some (turns_of t p) k (omega arith) in
-      let v = nth-some (turns_of t p) (suc k) (omega arith) in
-      let e = entries-rise (own (t.seat p)) (t.turns (t.seat p)) (keeps.explained p) p k (suc k)
-      u.0 v.0 (omega arith) u.1 v.1 in
-      let rises = law.rise (t.seat p) e.0 e.1 u.0.word v.0.word e.2 e.3 e.4 in
-      let m : number p k ≡ u.0.word / 2 ^ 32 = ap (λ o. word_of o / 2 ^ 32) u.1 in
-      let n : number p (suc k) ≡ v.0.word / 2 ^ 32 = ap (λ o. word_of o / 2 ^ 32) v.1 in
-      omega arith
-
   grows : (p k : ℕ) → k + 1 < length (turns_of t p)
       → (more : List Try) × (upto (number p (suc k)) ≡ more ++ upto (number p k))
-  grows p k less =
-      tries-grow about sets at_receive (number p k) (number p (suc k)) tries kept.are
-      (numbers-rise p k less) (below-all p (suc k) (omega arith))
+  grows = numbers.grows about own lists law sets at_receive tries kept.own_list kept.are t
+      keeps.explained
 
   -- ---- the choice
 
@@ -287,19 +264,12 @@ module _ (i : Input) (h : History) (about : BoardSizes) (own : ℕ → List Boar
   pub choices_follow : AreByRule i h (commands_before tries t)
   choices_follow =
       record {
-        prefixes = λ p. (record {
-          within = λ k less. length-upto (number p k);
-          grow = λ k less.
-              let size = ap length (keeps.journals p) in
-              let many = keeps.counted p in
-              let g = grows p k (omega arith) in
-              let a = ap length g.1 in
-              let b = length-append g.0 (upto (number p k)) in
-              let fewer : commands_before tries t p k
-              ≤ commands_before tries t p (suc k) = omega arith in
-              let next : suc k ≡ k + 1 = omega arith in
-              subst (λ n. commands_before tries t p k ≤ commands_before tries t p n) next fewer;
-        });
+        prefixes = λ p.
+            (let size = ap length (keeps.journals p) in
+            let many = keeps.counted p in
+            numbers.prefixes about own lists law sets at_receive tries kept.own_list kept.are t
+            keeps.explained p (length h.commands) (list_at h.choices p) (omega arith)
+            length-upto);
         each = by_rule;
       }
 

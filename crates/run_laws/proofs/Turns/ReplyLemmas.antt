@@ -1,8 +1,7 @@
 -- A choice for a reply by the rule of its visit is by the rule of a good history.
-use Rattle.std.proofs.Common.{◌≡◌, ℕ, zero, suc, ◌+◌, ◌/◌, ◌^◌, ◌<◌, ◌≤◌, ◌==◌, not, Bool, true}
-use Rattle.std.proofs.Common.{false, List, [], ◌∷◌, ◌++◌, Option, Some, None, length, map, take}
+use Rattle.std.proofs.Common.{◌≡◌, ℕ, zero, suc, ◌/◌, ◌^◌, ◌<◌, ◌≤◌, ◌==◌, not, Bool, true}
+use Rattle.std.proofs.Common.{false, List, [], ◌∷◌, Option, Some, None, length, map, take}
 use Rattle.std.proofs.Common.{drop, All, if◌then◌else◌, sym, refl, ap, ◌∙◌, subst, arith}
-use Rattle.std.proofs.Common.{length-append}
 use Rattle.std.specs.Prelude.{unwrap_or}
 use Rattle.std.proofs.lemmas.Bool.{lt-ltb}
 use Rattle.std.proofs.lemmas.List.Elements.{All-head, All-nil, All-cons, All-tail}
@@ -24,7 +23,7 @@ use Rattle.history.specs.declared.history.History.{History}
 use Rattle.history.specs.declared.sent.Sent.{Sent}
 use Rattle.hop_core.specs.Hop.{chosen_at, nobody}
 use Rattle.hop_rule.specs.Boards.{gate_steps}
-use Rattle.hop_rule.specs.Gates.{opened, openings, own_settings}
+use Rattle.hop_rule.specs.Gates.{opened, own_settings}
 use Rattle.hop_rule.specs.Moments.{nth_step}
 use Rattle.hop_rule.specs.Sizes.{closer}
 use Rattle.hop_rule.specs.declared.sizes.BoardSizes.{BoardSizes}
@@ -45,16 +44,15 @@ use Rattle.steer_model.specs.Good.Inputs.{Input, settings_at, setup_in}
 use Rattle.steer_model.specs.State.Settings.{Settings}
 use Rattle.steer_model.specs.State.Setup.{flow_number_of, packet_hash}
 use Rattle.steer_model.specs.State.Start.{initial_settings}
-use Rattle.run_laws.proofs.Turns.EntryLemmas.{entries-rise, entry-at}
+use Rattle.run_laws.proofs.Turns.NumberLemmas as numbers
 use Rattle.run_laws.proofs.Turns.OwnHeadLemmas.{migrate_own}
 use Rattle.run_laws.proofs.Turns.ChoiceLemmas.{get-or}
-use Rattle.run_laws.proofs.Tries.TryLemmas.{openings-makings, tries-grow}
 use Rattle.run_laws.specs.Laws.Replies.{RepliesAreBy, RepliesFollow, RepliesHaveTurns}
 use Rattle.run_laws.specs.Laws.Replies.{commands_before_reply}
 use Rattle.run_laws.specs.Ties.Boards.{IsTransmitBoard}
 use Rattle.run_laws.specs.Ties.Inputs.{AreTransmitWords, NamesTransmitQueues}
-use Rattle.run_laws.specs.Ties.Tries.{KeepsTransmitTries, Try, at_transmit, openings_by}
-use Rattle.run_laws.specs.Ties.Tries.{settings_by, steps_of_tries, tries_up_to}
+use Rattle.run_laws.specs.Ties.Tries.{KeepsTransmitTries, Try, at_transmit}
+use Rattle.run_laws.specs.Ties.Tries.{settings_by, tries_up_to}
 use Rattle.run_laws.proofs.Tries.MapLemmas.{pick-is}
 use Rattle.run_laws.proofs.Tries.MapOpeningLemmas as map_openings
 
@@ -152,34 +150,6 @@ module _ (i : Input) (h : History) (about : BoardSizes) (own : ℕ → List Boar
   abbrev number : ℕ → ℕ → ℕ
   number a k = word_of (nth_step (turns_of t a) k) / 2 ^ 32
 
-  below-all : (a k : ℕ) → k < length (turns_of t a) → number a k ≤ openings_by at_transmit tries
-  below-all a k less =
-      let u = nth-some (turns_of t a) k less in
-      let e = entry-at (own (t.seat a)) (t.turns (t.seat a)) (keeps.explained a) a k u.0 u.1 in
-      let made = law.made (t.seat a) e.0 u.0.word e.1 in
-      let is : openings (gate_steps (own (closer about))) ≡ openings_by at_transmit tries =
-      ap (λ ds. openings (gate_steps ds)) kept.own_list
-      ∙ openings-makings (gate_steps (steps_of_tries at_transmit tries)) in
-      let n : number a k ≡ u.0.word / 2 ^ 32 = ap (λ o. word_of o / 2 ^ 32) u.1 in
-      omega arith
-
-  numbers-rise : (a k : ℕ) → k + 1 < length (turns_of t a) → number a k ≤ number a (suc k)
-  numbers-rise a k less =
-      let u = nth-some (turns_of t a) k (omega arith) in
-      let v = nth-some (turns_of t a) (suc k) (omega arith) in
-      let e = entries-rise (own (t.seat a)) (t.turns (t.seat a)) (keeps.explained a) a k (suc k)
-      u.0 v.0 (omega arith) u.1 v.1 in
-      let rises = law.rise (t.seat a) e.0 e.1 u.0.word v.0.word e.2 e.3 e.4 in
-      let m : number a k ≡ u.0.word / 2 ^ 32 = ap (λ o. word_of o / 2 ^ 32) u.1 in
-      let n : number a (suc k) ≡ v.0.word / 2 ^ 32 = ap (λ o. word_of o / 2 ^ 32) v.1 in
-      omega arith
-
-  grows : (a k : ℕ) → k + 1 < length (turns_of t a)
-      → (more : List Try) × (upto (number a (suc k)) ≡ more ++ upto (number a k))
-  grows a k less =
-      tries-grow about ss at_transmit (number a k) (number a (suc k)) tries kept.are
-      (numbers-rise a k less) (below-all a (suc k) (omega arith))
-
   -- what a good history says of a choice for this reply
   abbrev Says : ℕ → List Chosen → Chosen → Settings → Sent → Type 0
   Says k cs x s r =
@@ -258,22 +228,12 @@ module _ (i : Input) (h : History) (about : BoardSizes) (own : ℕ → List Boar
   replies_follow : RepliesAreBy i h (commands_before_reply tries t)
   replies_follow =
       record {
-        prefixes = λ a. (record {
-          within = λ k less. length-upto (number a k);
-          grow = λ k less.
-              let size = ap length (keeps.journals a) in
-              let many = keeps.counted a in
-              let g = grows a k (omega arith) in
-              let x = ap length g.1 in
-              let y = length-append g.0 (upto (number a k)) in
-              let fewer : commands_before_reply tries t a k
-              ≤ commands_before_reply tries t a (suc k) =
-              omega arith in
-              let next : suc k ≡ k + 1 = omega arith in
-              subst (λ n. commands_before_reply tries t a k ≤ commands_before_reply tries t a n)
-              next
-              fewer;
-        });
+        prefixes = λ a.
+            (let size = ap length (keeps.journals a) in
+            let many = keeps.counted a in
+            numbers.prefixes about own lists law ss at_transmit tries kept.own_list kept.are t
+            keeps.explained a (length h.commands) (list_at h.tx_choices a) (omega arith)
+            length-upto);
         each = by_rule;
       }
 

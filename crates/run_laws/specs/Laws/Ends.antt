@@ -1,5 +1,6 @@
 -- The end of a run by equal counts, for the eighth clause of a good history.
-use Rattle.std.specs.Prelude.{◌≡◌, ◌⊎◌, ℕ, ◌<◌, true, List, Option, Some, length, map, slice_get}
+use Rattle.std.specs.Prelude.{◌≡◌, ◌⊎◌, ℕ, ◌<◌, ◌++◌, true, List, [], ◌∷◌, Option, Some, length}
+use Rattle.std.specs.Prelude.{map, slice_get}
 use Rattle.std.specs.Prelude.{All}
 use Rattle.steer_base.specs.Orders.{IsPrefix}
 use Rattle.steer_base.specs.declared.choice.Chosen.{Chosen}
@@ -8,6 +9,7 @@ use Rattle.history.specs.Finding.{is_in}
 use Rattle.history.specs.Lists.{arrivals_at, drop_ids, lane_at, list_at}
 use Rattle.history.specs.declared.arrival.Arrival.{Arrival}
 use Rattle.history.specs.declared.history.History.{History}
+use Rattle.history.specs.declared.sent.Sent.{Sent}
 use Rattle.hop_rule.specs.Events.{sum_below}
 use Rattle.hop_rule.specs.Sizes.{puller}
 use Rattle.hop_rule.specs.declared.sizes.BoardSizes.{BoardSizes}
@@ -75,3 +77,11 @@ ChoicesSuffice =
     → ((p : ℕ) → IsPrefix (map (λ c. c.id) (choices p)) (arrivals_at arrivals p))
     → sum_below (λ p. length (choices p)) count ≡ length arrivals
     → (p : ℕ) → p < count → map (λ c. c.id) (choices p) ≡ arrivals_at arrivals p
+
+-- If an application notes a reply and its choice together, each of its replies has its choice, in
+-- order.
+abbrev pub RepliesKeepChoices : Type 0
+RepliesKeepChoices =
+    (sent : List Sent) (choices : List Chosen) (s : Sent) (c : Chosen) → c.id ≡ s.id
+    → map (λ c. c.id) choices ≡ map (λ s. s.id) sent
+    → map (λ c. c.id) (choices ++ c ∷ []) ≡ map (λ s. s.id) (sent ++ s ∷ [])

@@ -1,6 +1,6 @@
 -- The ties can be kept with a packet: a run with one receive queue, one processor, one application
 -- and one transmit queue.
-use Rattle.std.specs.Prelude.{◌≡◌, ℕ, refl, List, [], ◌∷◌, Some, None, replicate}
+use Rattle.std.specs.Prelude.{◌≡◌, ℕ, List, [], ◌∷◌, Some, None, replicate}
 use Rattle.atomic_table.specs.Seated.{TableId}
 use Rattle.linearization.specs.Orders.{StepBy, step_by}
 use Rattle.steer_base.specs.declared.choice.Chosen.{Chosen}
@@ -20,10 +20,10 @@ use Rattle.board_api.specs.Closings.Finals.{lists_of}
 use Rattle.hop_delivery.specs.Orders.Examples.{drains}
 use Rattle.hop_delivery.specs.Orders.Plays as play
 use Rattle.hop_delivery.specs.Orders.Plays.{Move, plays_rows}
-use Rattle.plan_reader.specs.Ranges.{commands_of}
 use Rattle.plan_reader.specs.Settings.{IsWithin, PlanSettings}
 use Rattle.plan_reader.specs.declared.plan.Steps.TheVariants as steps
 use Rattle.steer_model.specs.Good.Inputs.{Input}
+use Rattle.run_laws.specs.Laws.Plans.{plan_with}
 use Rattle.run_laws.specs.Ties.Runs.{IsRun}
 
 -- ---- the input
@@ -58,27 +58,7 @@ the_packet = record { flow = Bare; hash = Some 5; len = 0; flow_number = 0 }
 abbrev pub one_input : IsWithin one_of_each → Input
 one_input within =
     record {
-      plan = record {
-        cpus = one_of_each.cpus;
-        queues = one_of_each.queues;
-        key = one_of_each.key;
-        kinds = one_of_each.kinds;
-        reta = one_of_each.reta;
-        sock = one_of_each.sock;
-        filters = one_of_each.filters;
-        backlog = one_of_each.backlog;
-        start = one_of_each.start;
-        limited = one_of_each.limited;
-        apps = one_of_each.apps;
-        tx = one_of_each.tx;
-        workers = one_of_each.workers;
-        tries = one_of_each.tries;
-        detach = one_of_each.detach;
-        steps = one_of_each.steps;
-        commands = commands_of one_of_each.steps;
-        commands_are = refl;
-        within = within;
-      };
+      plan = plan_with one_of_each within;
       packets = the_packet ∷ [];
       cut = None;
     }

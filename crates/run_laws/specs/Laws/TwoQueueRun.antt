@@ -1,6 +1,6 @@
 -- The ties can be kept with more in it: two receive queues on one seat, a drop, a command that is
 -- done after a failed try, and a class that moves.
-use Rattle.std.specs.Prelude.{◌≡◌, ℕ, ◌+◌, refl, ◌++◌, List, [], ◌∷◌, Option, Some, None, replicate}
+use Rattle.std.specs.Prelude.{◌≡◌, ℕ, ◌+◌, ◌++◌, List, [], ◌∷◌, Option, Some, None, replicate}
 use Rattle.atomic_table.specs.Seated.{TableId}
 use Rattle.linearization.specs.Orders.{StepBy, step_by}
 use Rattle.steer_base.specs.declared.choice.Chosen.{Chosen}
@@ -24,12 +24,12 @@ use Rattle.board_api.specs.Closings.Finals.{lists_of}
 use Rattle.hop_delivery.specs.Orders.Examples.{choice_for, drains, resizes, the_closer}
 use Rattle.hop_delivery.specs.Orders.Plays as play
 use Rattle.hop_delivery.specs.Orders.Plays.{Move, plays_rows}
-use Rattle.plan_reader.specs.Ranges.{commands_of}
 use Rattle.plan_reader.specs.Settings.{IsWithin, PlanSettings}
 use Rattle.plan_reader.specs.declared.plan.QueuePlan.{QueuePlan}
 use Rattle.plan_reader.specs.declared.plan.Steps.TheVariants as steps
 use Rattle.steer_model.specs.Good.Inputs.{Input}
 use Rattle.run_laws.specs.Laws.OneRun.{reads}
+use Rattle.run_laws.specs.Laws.Plans.{plan_with}
 use Rattle.run_laws.specs.Ties.Runs.{IsRun}
 
 -- ---- the input
@@ -82,27 +82,7 @@ of_second_flow = record { flow = Bare; hash = Some 1; len = 0; flow_number = 1 }
 abbrev pub two_queue_input : IsWithin two_queues → Input
 two_queue_input within =
     record {
-      plan = record {
-        cpus = two_queues.cpus;
-        queues = two_queues.queues;
-        key = two_queues.key;
-        kinds = two_queues.kinds;
-        reta = two_queues.reta;
-        sock = two_queues.sock;
-        filters = two_queues.filters;
-        backlog = two_queues.backlog;
-        start = two_queues.start;
-        limited = two_queues.limited;
-        apps = two_queues.apps;
-        tx = two_queues.tx;
-        workers = two_queues.workers;
-        tries = two_queues.tries;
-        detach = two_queues.detach;
-        steps = two_queues.steps;
-        commands = commands_of two_queues.steps;
-        commands_are = refl;
-        within = within;
-      };
+      plan = plan_with two_queues within;
       packets = of_first_flow ∷ of_second_flow ∷ of_second_flow ∷ of_first_flow ∷ [];
       cut = None;
     }

@@ -1,6 +1,6 @@
 -- A setting that is made before the lanes are empty may turn packets: of what a receive board keeps
 -- all else holds, and a flow is not in order in its inbox.
-use Rattle.std.specs.Prelude.{ℕ, refl, List, [], ◌∷◌, Some, None}
+use Rattle.std.specs.Prelude.{ℕ, List, [], ◌∷◌, Some, None}
 use Rattle.linearization.specs.Orders.{StepBy}
 use Rattle.steer_base.specs.declared.choice.Chosen.{Chosen}
 use Rattle.steer_base.specs.declared.choice.Why.TheVariants.{Plain}
@@ -16,13 +16,13 @@ use Rattle.hop_delivery.specs.Orders.Examples.{drains, the_closer}
 use Rattle.hop_delivery.specs.Orders.Plays as play
 use Rattle.hop_delivery.specs.Orders.Plays.{Move, plays_rows}
 use Rattle.hop_delivery.specs.Orders.Runs.{Story}
-use Rattle.plan_reader.specs.Ranges.{commands_of}
 use Rattle.plan_reader.specs.Settings.{IsWithin, PlanSettings}
 use Rattle.plan_reader.specs.declared.plan.Steps.TheVariants as steps
 use Rattle.steer_model.specs.Good.Deliveries.{IsDeliveredInOrder}
 use Rattle.steer_model.specs.Good.Inputs.{Input, setup_in}
 use Rattle.steer_model.specs.State.Setup.{app_for}
 use Rattle.run_laws.specs.Laws.OneRun.{one_of_each, reads, the_packet}
+use Rattle.run_laws.specs.Laws.Plans.{plan_with}
 use Rattle.run_laws.specs.Laws.TwoQueueRun.{to_cpu_one}
 use Rattle.run_laws.specs.Ties.Boards.{IsReceiveBoard}
 use Rattle.run_laws.specs.Ties.Deliveries.{AllDeliverTo}
@@ -39,27 +39,7 @@ hasty = record one_of_each { cpus = 2; steps = steps.List (Give to_cpu_one ∷ [
 abbrev pub hasty_input : IsWithin hasty → Input
 hasty_input within =
     record {
-      plan = record {
-        cpus = hasty.cpus;
-        queues = hasty.queues;
-        key = hasty.key;
-        kinds = hasty.kinds;
-        reta = hasty.reta;
-        sock = hasty.sock;
-        filters = hasty.filters;
-        backlog = hasty.backlog;
-        start = hasty.start;
-        limited = hasty.limited;
-        apps = hasty.apps;
-        tx = hasty.tx;
-        workers = hasty.workers;
-        tries = hasty.tries;
-        detach = hasty.detach;
-        steps = hasty.steps;
-        commands = commands_of hasty.steps;
-        commands_are = refl;
-        within = within;
-      };
+      plan = plan_with hasty within;
       packets = the_packet ∷ the_packet ∷ [];
       cut = None;
     }

@@ -10,11 +10,13 @@ use Rattle.board_api.specs.declared.lists.BoardLists.{BoardLists}
 use Rattle.steer_model.specs.Good.Inputs.{Input}
 use Rattle.steer_model.specs.State.Start.{initial_settings}
 use Rattle.run_laws.specs.Ties.Inputs.{AreReceiveWords, AreTransmitWords, receive_queues}
+use Rattle.run_laws.specs.Ties.Left.{LeftOut, Unless}
+use Rattle.run_laws.specs.Ties.Left as tie
 
 module _ (i : Input) (h : History) (about : BoardSizes) (lists : BoardLists) where
   -- The receive board: a middle lane for each processor and an out lane for each application, with
   -- the plan's limits and settings.
-  pub record IsReceiveBoard : Type 0 where
+  pub record IsReceiveBoardBut (left : LeftOut) : Type 0 where
     pub start : about.start ≡ h.start
     pub lane_count : about.lanes ≡ i.plan.cpus
     pub out_count : about.outs ≡ length i.plan.apps
@@ -23,8 +25,12 @@ module _ (i : Input) (h : History) (about : BoardSizes) (lists : BoardLists) whe
     pub limited : about.limited ≡ i.plan.limited
     pub settings : AreReceiveWords (receive_queues i) (initial_settings i.plan) (λ p. 0)
         (own_settings about [])
-    pub lanes : h.lanes ≡ lists.lanes
-    pub inboxes : h.inboxes ≡ lists.outs
+    pub lanes : Unless left tie.lanes (h.lanes ≡ lists.lanes)
+    pub inboxes : Unless left tie.inboxes (h.inboxes ≡ lists.outs)
+
+  -- The same with no tie left out.
+  abbrev pub IsReceiveBoard : Type 0
+  IsReceiveBoard = IsReceiveBoardBut tie.nothing
 
   -- The transmit board: a middle lane for each transmit queue and one out lane, the port, with
   -- lanes that are never full and the plan's maps.

@@ -9,7 +9,7 @@ use Rattle.hop_rule.specs.declared.step.BoardStep.{BoardStep}
 use Rattle.hop_rule.specs.declared.step.BoardStep.TheVariants.{Gate}
 use Rattle.hop_rule.specs.declared.step.GateStep.TheVariants.{Opened, Set, Shut}
 use Rattle.board_api.specs.Calls.Results.{IsEmpty, Looked, lanes_in, looking}
-use Rattle.hop_delivery.specs.Orders.Commands.{NamesCpu, SettingChange, received_sets}
+use Rattle.hop_delivery.specs.Orders.Commands.{SettingChange, received_sets}
 use Rattle.hop_delivery.specs.Orders.ReceiveSettings.{Queues}
 use Rattle.run_laws.specs.Ties.Tries.{Try, words_after}
 
@@ -34,7 +34,6 @@ pub record FindsAllEmpty (about : BoardSizes) (homes : List ℕ) (cpus txs : ℕ
   pub lanes : map (λ (x : Looked). x.lane) looked ≡ lanes_in about mask
   pub empty : All IsEmpty looked
   pub wanted : (l : ℕ) → l < about.lanes → is_affected c homes cpus txs l ≡ true → has mask l ≡ true
-  pub names : NamesCpu c
   pub are : steps
       ≡ Gate Opened ∷ Gate (Set m.word m.value) ∷ looking looked (Gate (Shut word) ∷ [])
 

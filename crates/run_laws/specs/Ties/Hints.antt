@@ -36,6 +36,8 @@ use Rattle.steer_model.specs.Good.Inputs.{Input, setup_in}
 use Rattle.steer_model.specs.Good.Writes.{StoodAt}
 use Rattle.steer_model.specs.State.Setup.{packet_hash}
 use Rattle.run_laws.specs.Ties.Inputs.{receive_queues}
+use Rattle.run_laws.specs.Ties.Left.{LeftOut, Unless}
+use Rattle.run_laws.specs.Ties.Left as tie
 
 -- The numbers of the hint words, by what they are about, and their values for a processor or queue
 -- and for a filter. No such value is 0.
@@ -149,10 +151,17 @@ module _ (i : Input) (h : History) (c : HintCodes) (seats : List (SeatView HintS
         × (size ≤ MAX_SOCKET_SIZE → size ≡ 0) × AreRecorded a xs ws)
 
     -- How the threads used what they loaded.
-    pub record LoadsAreUsed (t : Story) (seen : ℕ → ℕ → ℕ → ℕ) : Type 0 where
-      pub arrivals : All (λ (a : Arrival). IsRouted (packet_hash (setup_in i) a.id) a) h.arrivals
-      pub wants : WantsAreLoaded t seen
-      pub queues : (a : ℕ) → All (λ (s : Sent). CameBy s.id s.rxq) (list_at h.sent a)
+    pub record LoadsAreUsedBut (left : LeftOut) (t : Story) (seen : ℕ → ℕ → ℕ → ℕ)
+        : Type 0 where
+      pub arrivals : Unless left tie.routes
+          (All (λ (a : Arrival). IsRouted (packet_hash (setup_in i) a.id) a) h.arrivals)
+      pub wants : Unless left tie.wants (WantsAreLoaded t seen)
+      pub queues : Unless left tie.reply_queues
+          ((a : ℕ) → All (λ (s : Sent). CameBy s.id s.rxq) (list_at h.sent a))
       pub stands : (a : ℕ) → All (λ (s : Sent). Stands a s.cpu) (list_at h.sent a)
-      pub writes : (a : ℕ)
-          → AreRecorded a (map (λ (s : Sent). s.id) (list_at h.sent a)) (list_at h.writes a)
+      pub writes : Unless left tie.writes ((a : ℕ)
+          → AreRecorded a (map (λ (s : Sent). s.id) (list_at h.sent a)) (list_at h.writes a))
+
+    -- The same with no tie left out.
+    abbrev pub LoadsAreUsed : Story → (ℕ → ℕ → ℕ → ℕ) → Type 0
+    LoadsAreUsed t seen = LoadsAreUsedBut tie.nothing t seen

@@ -9,6 +9,8 @@ use Rattle.dev_flow_table.specs.Walks.{since_resize}
 use Rattle.hop_rule.specs.declared.step.BoardStep.TheVariants.{Weighed}
 use Rattle.hop_delivery.specs.Orders.Runs.{Story, Steering, goal_of, turns_of}
 use Rattle.hop_delivery.specs.Orders.Turns.{Turn}
+use Rattle.run_laws.specs.Ties.Left.{LeftOut, Unless}
+use Rattle.run_laws.specs.Ties.Left as tie
 use Rattle.run_laws.specs.Ties.Tries.{oldest_first}
 
 -- A turn as its producer's flow table is told of it.
@@ -38,7 +40,7 @@ module _ (start : ℕ) (t : Story) (r : Steering) (seen : ℕ → ℕ → ℕ) w
   -- The choice of a producer's i-th turn is by the migration rule over its own table, with the
   -- settings that its turns have seen. A head that it keeps was loaded in the visit, before the
   -- put, from the lane in the row of its class.
-  pub record IsByTable (p i : ℕ) (u : Turn) : Type 0 where
+  pub record IsByTableBut (left : LeftOut) (p i : ℕ) (u : Turn) : Type 0 where
     pub head : ℕ
     pub count : ℕ
     pub exact : Bool
@@ -46,7 +48,11 @@ module _ (start : ℕ) (t : Story) (r : Steering) (seen : ℕ → ℕ → ℕ) w
         ≡ migrate (class_by p i u) u.chosen.choice.want (goal_by p i u)
         (entries (table_before count exact p i)) (λ _. head) (r.online (seen i))
     pub rows : (k : ℕ) → class_by p i u ≡ Some k → k < count
-    pub loaded : (k l : ℕ) → class_by p i u ≡ Some k
+    pub loaded : Unless left tie.heads ((k l : ℕ) → class_by p i u ≡ Some k
         → (entries (table_before count exact p i) k).lane ≡ Some l → u.chosen.choice.head
         ≡ Some head
-        → (w : ℕ) × Contains u.early (Weighed l w) × (w % 2 ^ 32 ≡ head)
+        → (w : ℕ) × Contains u.early (Weighed l w) × (w % 2 ^ 32 ≡ head))
+
+  -- The same with no tie left out.
+  abbrev pub IsByTable : ℕ → ℕ → Turn → Type 0
+  IsByTable p i u = IsByTableBut tie.nothing p i u

@@ -15,7 +15,9 @@ use Rattle.hop_delivery.specs.Orders.Turns.{Turn}
 use Rattle.steer_model.specs.Good.Inputs.{Input, setup_in}
 use Rattle.steer_model.specs.State.Setup.{packet_hash}
 use Rattle.run_laws.specs.Ties.Inputs.{receive_queues}
-use Rattle.run_laws.specs.Ties.OwnTables.{IsByTable}
+use Rattle.run_laws.specs.Ties.Left.{LeftOut, Unless}
+use Rattle.run_laws.specs.Ties.Left as tie
+use Rattle.run_laws.specs.Ties.OwnTables.{IsByTableBut}
 use Rattle.run_laws.specs.Ties.Turns.{KeepsTurns}
 
 -- The words of a receive queue are within the ranges of what they say: a set of processors, a
@@ -33,7 +35,8 @@ module _ (i : Input) (h : History) (about : BoardSizes) (own : ℕ → List Boar
   -- turn of a queue knows its settings; if they are within their ranges, its choice is by the
   -- queue's
   -- own table. Each packet is put with its hash.
-  pub record KeepsQueues (t : Story) (seen : ℕ → ℕ → ℕ → ℕ) : Type 0 where
+  pub record KeepsQueuesBut (left : LeftOut) (t : Story) (seen : ℕ → ℕ → ℕ → ℕ)
+      : Type 0 where
     pub turns : KeepsTurns own t
     pub choice_lists : length h.choices ≡ length i.plan.queues
     pub taken_lists : length h.taken ≡ length i.plan.queues
@@ -47,6 +50,11 @@ module _ (i : Input) (h : History) (about : BoardSizes) (own : ℕ → List Boar
     pub knows_sock : (p k : ℕ) (u : Turn) → nth_step (turns_of t p) k ≡ Some u
         → Knows (own (t.seat p)) u (socket_word (receive_queues i))
         (seen p k (socket_word (receive_queues i)))
-    pub by_table : (p k : ℕ) (u : Turn) → nth_step (turns_of t p) k ≡ Some u
+    pub by_table : Unless left tie.tables
+        ((p k : ℕ) (u : Turn) → nth_step (turns_of t p) k ≡ Some u
         → FitReceiveWords (receive_queues i) i.plan.cpus p (seen p k)
-        → IsByTable about.start t (receive_steering (receive_queues i)) (seen p) p k u
+        → IsByTableBut about.start t (receive_steering (receive_queues i)) (seen p) left p k u)
+
+  -- The same with no tie left out.
+  abbrev pub KeepsQueues : Story → (ℕ → ℕ → ℕ → ℕ) → Type 0
+  KeepsQueues t seen = KeepsQueuesBut tie.nothing t seen

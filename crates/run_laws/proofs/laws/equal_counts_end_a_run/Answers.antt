@@ -11,7 +11,7 @@ use Rattle.run_laws.specs.Laws.Ends.{AllAreSent, LanesAreDone, PutsEnd, TotalsSu
 use Rattle.run_laws.proofs.Ends.EndLemmas.{lanes_done, puts_end, totals_suffice}
 use Rattle.run_laws.specs.Laws.Ends.{RepliesSuffice}
 use Rattle.run_laws.proofs.Ends.ChoiceCountLemmas.{choices_suffice}
-use Rattle.run_laws.proofs.Ends.OutLemmas.{all_are_sent}
+use Rattle.run_laws.proofs.Ends.OutLemmas.{all_are_sent, replies_keep_choices}
 use Rattle.run_laws.proofs.Ends.TotalLemmas.{replies_suffice}
 use Rattle.run_laws.proofs.Runs.FactLemmas.{gives_within}
 use Rattle.run_laws.proofs.laws.equal_counts_end_a_run.Goals as goal
@@ -62,3 +62,6 @@ returns-clause-sent c =
     (λ about order fit lawful.
     all_are_sent about (own_of order) (lists_of about order)
     (outs_are_sums about order lawful))
+
+pub returns-clause-keeps : goal.returns-clause-keeps
+returns-clause-keeps c = replies_keep_choices
