@@ -62,6 +62,7 @@ impl Model for Actors {
 }
 
 // What a hop chooses a lane with: the class, the wanted and the desired lane, and those online.
+#[derive(Clone, Copy)]
 struct Weighing {
     class: Option<u32>,
     want: Option<u8>,
