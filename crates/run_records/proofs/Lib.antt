@@ -8,5 +8,6 @@ pub mod PollingLemmas
 pub mod QueueTieLemmas
 pub mod ReplyingLemmas
 pub mod RuleLemmas
+pub mod StoringLemmas
 pub mod TurnListLemmas
 pub mod WordLemmas

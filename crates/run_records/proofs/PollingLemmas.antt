@@ -27,6 +27,8 @@ use Rattle.run_records.specs.Growth.{Grows, TurnsGrow, held}
 use Rattle.run_records.specs.Polling.{AllPolled, IsPolled, IsPolling, PolledTurn, choices_in}
 use Rattle.run_records.specs.Polling.{last_flows, packet_of_number, ring_packets, polled_table}
 use Rattle.run_records.specs.PollingLaws.{PollersBegin, PollersGoOn, PollersStay, PollsOn}
+use Rattle.run_records.specs.Storing.{StoresAreFor}
+use Rattle.run_records.proofs.StoringLemmas.{visit_stores}
 use Rattle.run_records.proofs.HintLemmas.{asks_stay, looked_stays, looked_up, polls_keep_hints}
 use Rattle.run_records.proofs.ListLemmas.{append_none, noted_more, own_turn}
 
@@ -215,7 +217,7 @@ module _ (given : Setup) (filters first start id : ℕ) (mid q : Poller) (turns 
         );
       }
 
-  pub steers_on : Explained old.steps turns → PollsOn given first start mid q turns new hint_new
+  pub steers_on : Explained old.steps turns → PollsOn given filters first start mid q turns new hint_old hint_new
   steers_on explained =
       record {
         more = step_by mid.queue turn ∷ turns;
@@ -232,15 +234,18 @@ module _ (given : Setup) (filters first start id : ℕ) (mid q : Poller) (turns 
               accepted = q.accepted;
             })))
             steered_is;
+        stores = λ noted before. visit_stores given filters mid.queue mid.flows q.flows mid.table
+            q.table mid.accepted q.accepted turn old new hint_old hint_new steers.visit turns noted
+            before;
       }
 
 -- ---- a poll
 
-waits_on : (given : Setup) (first start : ℕ) (mid q : Poller) (turns : List (StepBy Turn))
+waits_on : (given : Setup) (filters first start : ℕ) (mid q : Poller) (turns : List (StepBy Turn))
     (old new : BoardSeatView) (hint_old hint_new : Hint) → Waits mid q old new hint_old hint_new
     → Explained old.steps turns → IsPolling given first start mid turns hint_old.steps
-    → PollsOn given first start mid q turns new hint_new
-waits_on given first start mid q turns old new hint_old hint_new waits explained x =
+    → PollsOn given filters first start mid q turns new hint_old hint_new
+waits_on given filters first start mid q turns old new hint_old hint_new waits explained x =
     record {
       more = turns;
       grow = inl refl;
@@ -250,6 +255,8 @@ waits_on given first start mid q turns old new hint_old hint_new waits explained
             sym waits.same i,
             sym (ap (λ (h : Hint). h.steps) waits.hint) i,
           )) x;
+      stores = λ noted before. subst (StoresAreFor given filters turns noted)
+          (sym (ap (λ (h : Hint). h.steps) waits.hint)) before;
     }
   where
     still : (new ≡ old) ⊎ ((word : ℕ) × Adds (Gate Left ∷ Gate (Turned word) ∷ []) old new)
@@ -295,20 +302,21 @@ pollers_go_on given cpus filters first start p q turns old new hint_old hint_new
     by_case : Waits polls.mid q old new hint_old hint_new
         ⊎ ((id : ℕ) × (polls.mid.hand ≡ Some id)
         × SteersHand given filters id polls.mid q old new hint_old hint_new)
-        → PollsOn given first start polls.mid q turns new hint_new
+        → PollsOn given filters first start polls.mid q turns new hint_old hint_new
     by_case (inl waits) =
-        waits_on given first start polls.mid q turns old new hint_old hint_new waits explained
+        waits_on given filters first start polls.mid q turns old new hint_old hint_new waits explained
         mid_is
     by_case (inr (id, hand, steers)) =
         steers_on given filters first start id polls.mid q turns old new hint_old hint_new hand
         (within id hand) steers mid_is explained
 
-    from_mid : PollsOn given first start polls.mid q turns new hint_new
-        → PollsOn given first start p q turns new hint_new
+    from_mid : PollsOn given filters first start polls.mid q turns new hint_old hint_new
+        → PollsOn given filters first start p q turns new hint_old hint_new
     from_mid on =
         record {
           more = on.more;
           grow = subst (λ a. TurnsGrow a turns on.more) queue on.grow;
           explained = on.explained;
           keeps = on.keeps;
+          stores = on.stores;
         }

@@ -1,5 +1,6 @@
 pub mod Growth
 pub mod Polling
+pub mod Storing
 pub mod PollingLaws
 pub mod Replying
 pub mod ReplyingLaws

@@ -5,6 +5,7 @@ use Rattle.linearization.specs.Orders.{StepBy, steps_of}
 use Rattle.linearization.specs.Seats.{SeatView}
 use Rattle.steer_base.specs.Counters.{rounded_up}
 use Rattle.dev_flow_table.specs.Tables.{cleared}
+use Rattle.history.specs.declared.sock_write.SockWrite.{SockWrite}
 use Rattle.hint_words.specs.declared.step.HintStep.{HintStep}
 use Rattle.board_api.specs.Seats.{BoardSeatView}
 use Rattle.hop_delivery.specs.Orders.Turns.{Explained, Turn}
@@ -14,6 +15,7 @@ use Rattle.run_hands.specs.Pollers.{IsPoller, Polls}
 use Rattle.run_hands.specs.declared.poller.Poller.{Poller}
 use Rattle.run_records.specs.Growth.{Grows, TurnsGrow}
 use Rattle.run_records.specs.Polling.{IsPolling}
+use Rattle.run_records.specs.Storing.{StoresAreFor}
 
 -- A poller that was made for a flow word and an empty ring keeps the record of no turns.
 abbrev pub PollersBegin : Type 0
@@ -25,13 +27,16 @@ PollersBegin =
     → steps_of p.queue turns ≡ [] → IsPolling given first start p turns hints
 
 -- What a poll leaves: the turns that explain the seat's list, with at most one more of the queue,
--- and the poller's record over them.
-pub record PollsOn (given : Setup) (first start : ℕ) (p q : Poller) (turns : List (StepBy Turn))
-    (new : BoardSeatView) (hint_new : SeatView HintStep) : Type 0 where
+-- and the poller's record over them. If stores before were for these turns, so they are after.
+pub record PollsOn (given : Setup) (filters first start : ℕ) (p q : Poller)
+    (turns : List (StepBy Turn)) (new : BoardSeatView) (hint_old hint_new : SeatView HintStep)
+    : Type 0 where
   pub more : List (StepBy Turn)
   pub grow : TurnsGrow p.queue turns more
   pub explained : Explained new.steps more
   pub keeps : IsPolling given first start q more hint_new.steps
+  pub stores : (noted : List SockWrite) → StoresAreFor given filters turns noted hint_old.steps
+      → StoresAreFor given filters more noted hint_new.steps
 
 -- A poll keeps the record of its poller.
 abbrev pub PollersGoOn : Type 0
@@ -40,7 +45,7 @@ PollersGoOn =
     (old new : BoardSeatView) (hint_old hint_new : SeatView HintStep)
     → Polls given filters p q old new hint_old hint_new → IsPoller cpus p
     → Explained old.steps turns → IsPolling given first start p turns hint_old.steps
-    → PollsOn given first start p q turns new hint_new
+    → PollsOn given filters first start p q turns new hint_old hint_new
 
 -- A turn of one producer leaves the turns of another.
 abbrev pub OtherTurnsStay : Type 0

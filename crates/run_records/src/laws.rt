@@ -5,6 +5,7 @@ ghost use Rattle.run_records.specs.PollingLaws.{PollersStay};
 ghost use Rattle.run_records.specs.QueueTies.{PollersAreTied};
 ghost use Rattle.run_records.specs.ReplyingLaws.{ArrivalsComeLate, CallsAddSteps, RepliesGoOn};
 ghost use Rattle.run_records.specs.ReplyingLaws.{ServersBegin, ServersStay, TakesGoOn};
+ghost use Rattle.run_records.specs.Storing.{ApplicationsStoreWrites};
 
 /// Lemma: a poller that was made for a flow word and an empty ring has the record of no turns.
 pub fn pollers_begin()
@@ -40,6 +41,12 @@ pub fn servers_keep_their_turns()
 /// away.
 pub fn calls_add_steps()
     ensures { CallsAddSteps }
+{}
+
+/// Lemma: an application stores what it notes as a write, when it takes a packet, and nothing when
+/// it replies. (That a poll stores the filter that its turn asks for stands with its record.)
+pub fn applications_store_writes()
+    ensures { ApplicationsStoreWrites }
 {}
 
 /// Lemma: the record of a poller over the turns of its seat gives the ties of its queue at the
