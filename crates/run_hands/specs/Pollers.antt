@@ -257,17 +257,19 @@ pub record IsPoller (cpus : ℕ) (p : Poller) : Type 0 where
   pub rounded : p.table.exact ≡ false
   pub count : p.accepted ≤ length p.choices.items
 
--- A poller took a number from its ring, which is in its hand if it names a packet; or it took none.
+-- A poller with an empty hand took a number from its ring, which is in its hand if it names a
+-- packet; or it took none.
 abbrev pub Takes : Poller → Poller → Bool → Type 0
 Takes p q false = (received q.ring ≡ received p.ring) × (q.hand ≡ p.hand)
 Takes p q true =
-    (x : ℕ) × (received q.ring ≡ received p.ring ++ x ∷ [])
+    (x : ℕ) × (p.hand ≡ None) × (received q.ring ≡ received p.ring ++ x ∷ [])
     × (q.hand ≡ (if nat_lt x p.choices.room then Some x else None))
 
--- A poller steered nothing: its seat did nothing, or found the gate closed and backed out.
+-- A poller steered nothing and keeps its hand: its seat did nothing, or found the gate closed and
+-- backed out.
 pub record Waits (p q : Poller) (old new : BoardSeatView) (hint_old hint_new : SeatView HintStep)
     : Type 0 where
-  pub same : q ≡ record p { hand = q.hand; ring = q.ring }
+  pub same : q ≡ p
   pub hint : hint_new ≡ hint_old
   pub steps : (new ≡ old) ⊎ ((word : ℕ) × Adds (Gate Left ∷ Gate (Turned word) ∷ []) old new)
 

@@ -1,20 +1,22 @@
 //! The poller of a receive queue.
 ghost use Rattle.std.specs.Prelude.{◌≡◌, ◌<◌, ◌≤◌, ◌+◌, ◌*◌, None, Some, false, length, IfSome};
-ghost use Rattle.std.specs.Prelude.{IfOk, IsSome, ℕ};
+ghost use Rattle.std.specs.Prelude.{[], IfOk, IsSome, ℕ};
 ghost use Rattle.std.specs.Option.{is_some};
 ghost use Rattle.steer_base.specs.Arrivals.{filter_place};
 ghost use Rattle.steer_base.specs.Choices.{looks_at_head};
-ghost use Rattle.steer_base.specs.Journals.{grown};
+ghost use Rattle.steer_base.specs.Counters.{rounded_up};
+ghost use Rattle.steer_base.specs.Journals.{grown, journal};
 ghost use Rattle.steer_base.specs.Sets.{has};
 ghost use Rattle.steer_base.specs.declared.limits.TheConstants.{MAX_FLOW_COUNT, MAX_PACKETS};
 ghost use Rattle.steer_base.specs.declared.limits.TheConstants.{MAX_SOCKET_SIZE};
 ghost use Rattle.plan_reader.specs.declared.limits.TheConstants.{MAX_PLAN_FILTERS};
 ghost use Rattle.dev_flow_table.specs.Folds.{table_after};
-ghost use Rattle.dev_flow_table.specs.Tables.{IsClassOf, entries};
+ghost use Rattle.dev_flow_table.specs.Tables.{IsClassOf, cleared, entries};
 ghost use Rattle.rtrb.specs.Ring.{SameConsumer};
 ghost use Rattle.board_api.specs.Calls.Rights.{HasOpen, IsInside, IsOutside};
 ghost use Rattle.board_api.specs.Seats.{Adds};
 ghost use Rattle.steer_model.specs.Steps.Pollers.{filter_for as filter_after};
+ghost use Rattle.run_words.specs.Values.{flows_word as word_of};
 ghost use Rattle.run_words.specs.declared.hint_word.TheConstants.{FILTER_WORDS};
 ghost use Rattle.run_hands.specs.Pollers.{HasQueueSettings};
 ghost use Rattle.run_hands.specs.Pollers.{Chooses, HasLanesBelow, IsPoller, LoadsHead, LooksUp};
@@ -111,7 +113,11 @@ impl Poller {
         requires room { room ≤ MAX_PACKETS }
         ensures queue { IfOk result (λ p. p.queue ≡ queue) }
         ensures ring { IfOk result (λ p. p.ring ≡ ring) }
-        ensures room { IfOk result (λ p. p.choices.room ≡ room) }
+        ensures hand { IfOk result (λ p. p.hand ≡ None) }
+        ensures flows { IfOk result (λ p. p.flows ≡ word_of (rounded_up flows) 0) }
+        ensures table { IfOk result (λ p. p.table ≡ cleared (rounded_up flows) start false) }
+        ensures choices { IfOk result (λ p. p.choices ≡ journal [] room) }
+        ensures accepted { IfOk result (λ p. p.accepted ≡ 0) }
         ensures is { IfOk result (λ p. (cpus : ℕ) → IsPoller cpus p) }
     {
         Ok(Poller {

@@ -1,0 +1,13 @@
+pub mod AddedLemmas
+pub mod ApplicationTieLemmas
+pub mod HeldLemmas
+pub mod HintLemmas
+pub mod ListLemmas
+pub mod OwnTableLemmas
+pub mod PollingLemmas
+pub mod QueueTieLemmas
+pub mod ReplyingLemmas
+pub mod RuleLemmas
+pub mod StoringLemmas
+pub mod TurnListLemmas
+pub mod WordLemmas
