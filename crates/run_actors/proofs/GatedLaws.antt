@@ -13,19 +13,20 @@ use Rattle.steer_base.specs.declared.cpu_mask.CpuMask.{CpuMask}
 use Rattle.steer_base.proofs.SetsLemmas.{those_below-below, those_below-passes}
 use Rattle.history.specs.declared.lane_list.LaneList.{LaneList}
 use Rattle.hop_rule.specs.Boards.{gate_steps}
-use Rattle.hop_rule.specs.Gates.{openings}
+use Rattle.hop_rule.specs.Gates.{openings, visit}
 use Rattle.hop_rule.specs.declared.sizes.BoardSizes.{BoardSizes}
 use Rattle.hop_rule.specs.declared.step.BoardStep.{BoardStep}
 use Rattle.hop_rule.specs.declared.step.BoardStep.TheVariants.{Counted, Gate, Weighed}
 use Rattle.hop_rule.specs.declared.step.GateStep.TheVariants.{NotShut, Opened, Set, Shut}
 use Rattle.board_api.specs.Calls.Results.{Looked, lanes_in, looking}
+use Rattle.board_api.specs.Calls.Rights.{IsOutside}
 use Rattle.board_api.specs.Seats.{BoardSeatView}
 use Rattle.hop_delivery.specs.Orders.Commands.{SettingChange}
 use Rattle.steer_model.specs.Good.Inputs.{Input, setup_in}
 use Rattle.run_laws.specs.Laws.Calls.{busy_steps}
 use Rattle.run_laws.specs.Ties.EmptiedLanes.{FindsAllEmpty}
 use Rattle.run_laws.proofs.Tries.CallLemmas.{busy_calls, done_calls, inside_calls}
-use Rattle.run_laws.proofs.Tries.EmptiedLemmas.{looking-append}
+use Rattle.run_laws.proofs.Tries.EmptiedLemmas.{gates-looking, looking-append}
 use Rattle.run_actors.specs.Gated.{GatedTriesKeep, HasAffected, IsGated, KeepsTry}
 
 -- the cases of an answer
@@ -191,6 +192,49 @@ module _ (i : Input) (about : BoardSizes) (left : List LaneList) (lanes : CpuMas
   kept (says.Idle why) old new gated = absurd gated
   kept (says.CpuInUse user) old new gated = absurd gated
   kept says.CpuOffline old new gated = absurd gated
+
+-- ---- the seat behind a try
+
+-- a seat that closed a gate, looked, set and opened it is where it was
+outside-again : (xs : List Looked) (w : ℕ) (newer older all : List BoardStep)
+    → all ≡ Gate Opened ∷ (newer ++ looking xs (Gate (Shut w) ∷ older))
+    → ((ds : List BoardStep) → visit (gate_steps (newer ++ ds)) ≡ visit (gate_steps ds))
+    → IsOutside older → IsOutside all
+outside-again xs w newer older all is quiet before =
+    ap (λ ds. visit (gate_steps ds)) is
+    ∙ (quiet (looking xs (Gate (Shut w) ∷ older))
+    ∙ (ap visit (gates-looking xs (Gate (Shut w) ∷ older)) ∙ before))
+
+pub gated_outside : (about : BoardSizes) (lanes : CpuMask) (number value : ℕ) (answer : Answer)
+    (old new : BoardSeatView) → IsOutside old.steps
+    → IsGated about lanes number value old new answer → IsOutside new.steps
+gated_outside about lanes number value says.Done old new before
+    (mid, (shut, closes, all), (set, sets, opens)) =
+    outside-again all.looked (openings (gate_steps old.steps) * 2 ^ 32)
+    (Gate (Set number value) ∷ []) old.steps new.steps
+    (ap (λ (s : BoardSeatView). s.steps) opens
+    ∙ ap (λ ds. Gate Opened ∷ ds)
+    (ap (λ (s : BoardSeatView). s.steps) sets
+    ∙ ap (λ ds. Gate (Set number value) ∷ ds)
+    (ap (λ (s : BoardSeatView). s.steps) all.step
+    ∙ ap (λ (s : BoardSeatView). looking all.looked s.steps) closes)))
+    (λ ds. refl) before
+gated_outside about lanes number value (says.Busy (Inside n)) old new before
+    (word, is, some, few, adds) =
+    ap (λ (s : BoardSeatView). visit (gate_steps s.steps)) adds ∙ before
+gated_outside about lanes number value (says.Busy (NotEmpty lane head tail)) old new before
+    (mid, looked, closes, found, opens) =
+    outside-again (found.looked ++ found.last ∷ []) (openings (gate_steps old.steps) * 2 ^ 32) []
+    old.steps new.steps
+    (ap (λ (s : BoardSeatView). s.steps) opens
+    ∙ ap (λ ds. Gate Opened ∷ ds)
+    (ap (λ (s : BoardSeatView). s.steps) found.step
+    ∙ ap (λ (s : BoardSeatView). looking (found.looked ++ found.last ∷ []) s.steps) closes))
+    (λ ds. refl) before
+gated_outside about lanes number value (says.Expired n) old new before gated = absurd gated
+gated_outside about lanes number value (says.Idle why) old new before gated = absurd gated
+gated_outside about lanes number value (says.CpuInUse user) old new before gated = absurd gated
+gated_outside about lanes number value says.CpuOffline old new before gated = absurd gated
 
 pub gated_tries_keep : GatedTriesKeep
 gated_tries_keep i about left lanes c m answer old new counted affected gated =

@@ -1,10 +1,12 @@
 -- What the wire did gives its ties.
 use Rattle.std.proofs.Common.{◌≡◌, ◌⊎◌, inl, inr, ℕ, zero, suc, ◌%◌, ◌<◌, ◌==◌, Bool, true, false}
-use Rattle.std.proofs.Common.{List, [], ◌∷◌, ◌++◌, Option, Some, None, length, All}
+use Rattle.std.proofs.Common.{List, [], ◌∷◌, ◌++◌, Option, Some, None, length, map, All, ◌+◌, ◌≤◌}
 use Rattle.std.proofs.Common.{refl, sym, ap, subst, ◌∙◌, arith, leb-false}
-use Rattle.std.specs.Prelude.{◌||◌, ◌-◌, ◌/◌, ◌^◌, if◌then◌else◌, nat_le, unwrap_or}
-use Rattle.std.specs.List.{Contains}
+use Rattle.std.specs.Prelude.{◌||◌, ◌-◌, ◌/◌, ◌^◌, drop, if◌then◌else◌, nat_le, slice_index}
+use Rattle.std.specs.Prelude.{unwrap_or}
+use Rattle.std.specs.List.{Contains, range_with_len}
 use Rattle.std.proofs.lemmas.List.{length-map}
+use Rattle.std.proofs.lemmas.List.FromFn.{length-range_with_len}
 use Rattle.std.proofs.lemmas.List.Elements.{All-nil, Contains-append_left, Contains-push}
 use Rattle.std.proofs.lemmas.List.Elements.{All-push}
 use Rattle.steer_base.specs.Arrivals.{filter_place, route, table_place}
@@ -12,7 +14,10 @@ use Rattle.steer_base.specs.declared.filter.Filter.{Filter}
 use Rattle.rss_table.specs.Redirection.{Redirection, queue_of}
 use Rattle.hint_words.specs.declared.step.HintStep.{HintStep}
 use Rattle.hint_words.specs.declared.step.HintStep.TheVariants.{ClearIf, Load, Store}
+use Rattle.history.specs.Finding.{found}
+use Rattle.history.specs.Lists.{arrival_of, no_arrival}
 use Rattle.history.specs.Regular.{route_of}
+use Rattle.history.proofs.FindingLemmas.{found-here, found-past}
 use Rattle.history.specs.declared.arrival.Arrival.{Arrival}
 use Rattle.history.specs.declared.history.History.{History}
 use Rattle.hop_rule.proofs.Lists.{none-some, some-is}
@@ -27,9 +32,10 @@ use Rattle.steer_model.specs.State.Setup.{Setup, packet_hash}
 use Rattle.run_laws.specs.Laws.SharedCodes.{AreShared}
 use Rattle.run_laws.specs.Ties.Hints.{HintCodes, IsRouted, WasLoaded}
 use Rattle.run_laws.specs.Ties.Tries.{oldest_first}
+use Rattle.run_laws.proofs.Lists.PlaceLemmas.{AreNumbered}
 use Rattle.run_actors.specs.Laws.{WireKeepsTies}
 use Rattle.run_actors.specs.Wires.{ByFilter, HintView, Leads, LooksUpFilter}
-use Rattle.run_actors.specs.Wires.{Routes, announcement}
+use Rattle.run_actors.specs.Wires.{Routes, after_step, announcement}
 
 -- ---- members of a list of steps
 
@@ -127,7 +133,8 @@ module _ (given : Setup) (filters : ℕ) (reta : Redirection) where
       subst (λ (s : HintView). Contains s.steps d) (sym by.1) c
   by-filter-grows hash None a old new (queue, way, (value, is, same)) d c =
       subst (λ (s : HintView). Contains s.steps d) (sym same)
-      (contains-later (Load (hint_number (word.Redirection (table_place hash))) value) old.steps d c)
+      (contains-later (Load (hint_number (word.Redirection (table_place hash))) value) old.steps d
+      c)
 
   routes-grow : (hash : Option ℕ) (a : Arrival) (old new : HintView)
       → Routes given filters reta hash a old new → (d : HintStep) → Contains old.steps d
@@ -231,7 +238,8 @@ module _ (i : Input) (h : History) (c : HintCodes) (seats : List HintView) (fina
         there,
         loaded (c.filter place) number (c.filter_value f) value (shared.filter place)
             (shared.filter_value f
-            ∙ sym (only_coded.filter value (length (setup_in i).homes) (setup_in i).cpus f (sym is)))
+            ∙ sym (only_coded.filter value (length (setup_in i).homes) (setup_in i).cpus f
+            (sym is)))
             (sub (Load number value)
             (subst (λ (s : HintView). Contains s.steps (Load number value)) (sym same)
             (contains-first (Load number value) old.steps))),
@@ -300,36 +308,107 @@ contains-oldest (y ∷ ys) x c = elim (contains-cases y ys x c) [
       Contains-append_left (oldest_first ys) (y ∷ []) x (contains-oldest ys x later)
 ]
 
+-- ---- the arrival of a packet
+
+at-least : (arrivals : List Arrival) (n : ℕ) (a : Arrival) → AreNumbered n arrivals
+    → Contains arrivals a → n ≤ a.id
+at-least [] n a numbered (k, less, is) = absurd (omega arith)
+at-least (b ∷ rest) n a numbered c =
+    let first : b.id ≡ n = ap (λ zs. slice_index zs 0) numbered in
+    elim (contains-cases b rest a c) [
+      | inl e ↦ (let same : b.id ≡ a.id = ap (λ (a : Arrival). a.id) e in omega arith)
+      | inr later ↦
+          (let more = at-least rest (n + 1) a (ap (λ zs. drop 1 zs) numbered) later in omega arith)
+    ]
+
+arrival-is : (arrivals : List Arrival) (n : ℕ) (a : Arrival) → AreNumbered n arrivals
+    → Contains arrivals a → found (λ (a : Arrival). a.id) a.id arrivals ≡ Some a
+arrival-is [] n a numbered (k, less, is) = absurd (omega arith)
+arrival-is (b ∷ rest) n a numbered c =
+    let first : b.id ≡ n = ap (λ zs. slice_index zs 0) numbered in
+    let older : AreNumbered (n + 1) rest = ap (λ zs. drop 1 zs) numbered in
+    elim (contains-cases b rest a c) [
+      | inl e ↦
+          subst (λ (z : Arrival). found (λ (a : Arrival). a.id) z.id (b ∷ rest) ≡ Some z) e
+          (found-here (λ (a : Arrival). a.id) b.id b rest refl)
+      | inr later ↦
+          (let high = at-least rest (n + 1) a older later in
+          found-past (λ (a : Arrival). a.id) a.id b rest (λ e. absurd (omega arith))
+          ∙ arrival-is rest (n + 1) a older later)
+    ]
+
+module _ (i : Input) (h : History) (c : HintCodes) (shared : AreShared c)
+    (all : map (λ (a : Arrival). a.id) h.arrivals ≡ range_with_len 0 (length i.packets)) where
+  numbered : AreNumbered 0 h.arrivals
+  numbered =
+      let same : length h.arrivals ≡ length i.packets =
+      sym (length-map h.arrivals (λ (a : Arrival). a.id))
+      ∙ (ap length all ∙ length-range_with_len 0 (length i.packets)) in
+      all ∙ ap (range_with_len 0) (sym same)
+
+  queue-is : (x q : ℕ)
+      → ((c.packet x ≡ hint_number word.Done)
+      ⊎ ((a : Arrival) × Contains h.arrivals a × (c.packet x ≡ c.packet a.id)
+      × (c.place q ≡ c.place a.queue))) → (arrival_of h.arrivals x).queue ≡ q
+  queue-is x q (inl e) =
+      let z : 69793 + x ≡ 69792 = sym (shared.packet x) ∙ e in absurd (omega arith)
+  queue-is x q (inr (a, has, number, value)) =
+      let n : 69793 + x ≡ 69793 + a.id =
+      sym (shared.packet x) ∙ (number ∙ shared.packet a.id) in
+      let v : q + 1 ≡ a.queue + 1 = sym (shared.place q) ∙ (value ∙ shared.place a.queue) in
+      let id : x ≡ a.id = omega arith in
+      let queue : a.queue ≡ q = omega arith in
+      ap (λ z. (arrival_of h.arrivals z).queue) id
+      ∙ (ap (λ (o : Option Arrival). (unwrap_or o no_arrival).queue)
+      (arrival-is h.arrivals 0 a numbered has)
+      ∙ queue)
+
+module _ (i : Input) (h : History) (c : HintCodes) (old new : HintView) (shared : AreShared c)
+    (none : old.steps ≡ []) (late : List Arrival) (mid : HintView)
+    (are : h.arrivals ≡ oldest_first late) where
+  abbrev plan_table : Redirection
+  plan_table = record { queues = length i.plan.queues; entries = i.plan.reta }
+
+  abbrev last : HintStep
+  last = Store (hint_number word.Done) DONE
+
+  nobody : (n v : ℕ) → Contains [] (Store n v) → ⊥
+  nobody n v (k, less, is) = absurd (omega arith)
+
+  stored-are : Leads (setup_in i) i.plan.filters plan_table late old mid
+      → new ≡ after_step last mid → (n v : ℕ) → Contains new.steps (Store n v)
+      → (n ≡ hint_number word.Done)
+      ⊎ ((a : Arrival) × Contains h.arrivals a × (n ≡ c.packet a.id) × (v ≡ c.place a.queue))
+  unfolding number_of
+  stored-are leads done n v has =
+      elim (contains-cases last mid.steps (Store n v)
+      (subst (λ (s : HintView). Contains s.steps (Store n v)) done has)) [
+        | inl e ↦ inl (sym (ap number_of e))
+        | inr older ↦ elim (leads-stores (setup_in i) i.plan.filters plan_table late old mid leads n
+            v older) [
+              | inl oldest ↦ absurd (nobody n v
+                  (subst (λ steps. Contains steps (Store n v)) none oldest))
+              | inr found ↦ inr (
+                found.0,
+                subst (λ xs. Contains xs found.0) (sym are)
+                    (contains-oldest late found.0 found.1),
+                found.2 ∙ sym (shared.packet found.0.id),
+                found.3 ∙ sym (shared.place found.0.queue),
+              )
+            ]
+      ]
+
 pub wire_keeps_ties : WireKeepsTies
-unfolding number_of
 wire_keeps_ties i h c seats old new shared among none all (late, mid, are, leads, done) =
     let last : HintStep = Store (hint_number word.Done) DONE in
-    let reta : Redirection = record { queues = length i.plan.queues; entries = i.plan.reta } in
     let grows : (d : HintStep) → Contains mid.steps d → Contains new.steps d =
     λ d has. subst (λ (s : HintView). Contains s.steps d) (sym done)
     (contains-later last mid.steps d has) in
+    let stored = stored-are i h c old new shared none late mid are leads done in
     record {
       arrived = all;
       routed = subst (All (IsLed i h c seats new shared among)) (sym are)
           (all-led i h c seats new shared among late old mid leads grows);
-      stored = λ n v has.
-          elim (contains-cases last mid.steps (Store n v)
-          (subst (λ (s : HintView). Contains s.steps (Store n v)) done has)) [
-            | inl e ↦ inl (sym (ap number_of e))
-            | inr older ↦ elim (leads-stores (setup_in i) i.plan.filters reta late old mid leads n v
-                older) [
-                  | inl oldest ↦ absurd (nobody n v
-                      (subst (λ steps. Contains steps (Store n v)) none oldest))
-                  | inr found ↦ inr (
-                    found.0,
-                    subst (λ xs. Contains xs found.0) (sym are)
-                        (contains-oldest late found.0 found.1),
-                    found.2 ∙ sym (shared.packet found.0.id),
-                    found.3 ∙ sym (shared.place found.0.queue),
-                  )
-                ]
-          ];
+      stored = stored;
+      packets = λ x q has. queue-is i h c shared all x q (stored (c.packet x) (c.place q) has);
     }
-  where
-    nobody : (n v : ℕ) → Contains [] (Store n v) → ⊥
-    nobody n v (k, less, is) = absurd (omega arith)

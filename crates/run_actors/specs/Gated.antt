@@ -35,9 +35,9 @@ HasAffected i about c lanes =
     (l : ℕ) → l < about.lanes → has lanes l ≡ affects (setup_in i) c l
 
 -- What a try of a command with this one setting keeps of the ties: it sets and opens as its answer
--- says; if it was done the lanes were found empty, and else it made no setting; if it was busy there
--- were as many visits open as it says, but for the closer's seat, or there are the two loads of the
--- lane that it names.
+-- says; if it was done the lanes were found empty, and else it made no setting; if it was busy
+-- there were visits open, of as many seats as it says and not the closer's, or there are the two
+-- loads of the lane that it names.
 pub record KeepsTry (i : Input) (about : BoardSizes) (lanes : List LaneList) (c : Command)
     (m : SettingChange) (answer : Answer) (steps : List BoardStep) : Type 0 where
   pub sets : (words : ℕ → ℕ) (changes : (ℕ → ℕ) → Command → List SettingChange)

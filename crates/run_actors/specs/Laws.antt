@@ -2,6 +2,7 @@
 use Rattle.std.specs.Prelude.{◌≡◌, ◌⊎◌, ℕ, List, [], length, map, All}
 use Rattle.std.specs.List.{Contains, range_with_len}
 use Rattle.hint_words.specs.declared.step.HintStep.TheVariants.{Store}
+use Rattle.history.specs.Lists.{arrival_of}
 use Rattle.history.specs.declared.arrival.Arrival.{Arrival}
 use Rattle.history.specs.declared.history.History.{History}
 use Rattle.run_words.specs.Numbers.{hint_number}
@@ -13,8 +14,9 @@ use Rattle.run_laws.specs.Ties.Ends.{AllArrived}
 use Rattle.run_laws.specs.Ties.Hints.{HintCodes, IsRouted}
 use Rattle.run_actors.specs.Wires.{Ends, HintView}
 
--- The ties of the wire: all packets arrived; each came by what was loaded; and each store of its
--- seat is the queue of an arrival in its word, but for the word that says that all have arrived.
+-- The ties of the wire: all packets arrived; each came by what was loaded; each store of its seat
+-- is the queue of an arrival in its word, but for the word that says that all have arrived; and so
+-- what it stored in a packet's word is the queue of the packet's arrival.
 pub record ArrivalsAreTied (i : Input) (h : History) (c : HintCodes) (seats : List HintView)
     (seat : HintView) : Type 0 where
   pub arrived : AllArrived i h
@@ -24,6 +26,8 @@ pub record ArrivalsAreTied (i : Input) (h : History) (c : HintCodes) (seats : Li
       → (number ≡ hint_number word.Done)
       ⊎ ((a : Arrival) × Contains h.arrivals a × (number ≡ c.packet a.id)
       × (value ≡ c.place a.queue))
+  pub packets : (x q : ℕ) → Contains seat.steps (Store (c.packet x) (c.place q))
+      → (arrival_of h.arrivals x).queue ≡ q
 
 -- If a wire without steps let these arrivals arrive and all packets did, its ties hold at the closing
 -- of seats among which its own is.

@@ -27,6 +27,8 @@ pub fn try_gated<B: Board>(
     requires few { openings (gate_steps seat.old.steps) < MAX_OPENINGS }
     requires within { number < length (B.view board.now).sizes.settings }
     ensures gated { IsGated (B.view board.now).sizes lanes number value seat.old seat.new result }
+    ensures outside { IsOutside seat.new.steps }
+    ensures open { HasOpen seat.new.steps }
 {
     match close_empty(board, seat, lanes) {
         Some(busy) => Answer::Busy(busy),
