@@ -29,8 +29,8 @@ pub record ArrivalsAreTied (i : Input) (h : History) (c : HintCodes) (seats : Li
   pub packets : (x q : ℕ) → Contains seat.steps (Store (c.packet x) (c.place q))
       → (arrival_of h.arrivals x).queue ≡ q
 
--- If a wire without steps let these arrivals arrive and all packets did, its ties hold at the closing
--- of seats among which its own is.
+-- If a wire without steps let these arrivals arrive and all packets did, its ties hold at the
+-- closing of seats among which its own is.
 abbrev pub WireKeepsTies : Type 0
 WireKeepsTies =
     (i : Input) (h : History) (c : HintCodes) (seats : List HintView) (old new : HintView)

@@ -6,8 +6,8 @@ ghost use Rattle.steer_base.specs.Journals.{grown};
 ghost use Rattle.plan_reader.specs.declared.limits.TheConstants.{MAX_PLAN_FILTERS};
 ghost use Rattle.steer_model.specs.State.Setup.{packet_hash};
 ghost use Rattle.run_words.specs.Numbers.{word_count};
-ghost use Rattle.run_actors.specs.Wires.{ArePushed, Arrives, Ends, HasAnnounced, HasRings, KeepsRings};
-ghost use Rattle.run_actors.specs.Wires.{LooksUpEntry, LooksUpFilter, Routes};
+ghost use Rattle.run_actors.specs.Wires.{ArePushed, Arrives, Ends, HasAnnounced, HasRings};
+ghost use Rattle.run_actors.specs.Wires.{KeepsRings, LooksUpEntry, LooksUpFilter, Routes};
 
 use crate::pace::Pace;
 use hint_words::HintSeat;
@@ -31,10 +31,10 @@ pub struct Wire {
 }
 
 impl Wire {
-    /// Lets all packets arrive, in their order: each at the queue of the filter that its hash finds,
-    /// or else of the entry of the redirection table; without a hash at queue 0. Its queue is
-    /// announced in its word before it is given to the queue's ring. In the end the word is written
-    /// that says that all packets have arrived.
+    /// Lets all packets arrive, in their order: each at the queue of the filter that its hash
+    /// finds, or else of the entry of the redirection table; without a hash at queue 0. Its queue
+    /// is announced in its word before it is given to the queue's ring. In the end the word is
+    /// written that says that all packets have arrived.
     ///
     /// The rings have room for all packets, so the wire never waits.
     pub fn run<P: Pace>(&mut self, shared: &Shared, seat: &mut HintSeat, pace: &P, number: u32)
