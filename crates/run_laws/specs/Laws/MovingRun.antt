@@ -244,8 +244,9 @@ moving_history = record {
   start = 0;
 }
 
--- The settings are those of a plan, this is a run, packet 1 is the first of its class again and goes
--- where it was wanted, the last reply moved to transmit queue 1, and all replies are on the port.
+-- The settings are those of a plan, this is a run, packet 1 is the first of its class again and
+-- goes where it was wanted, the last reply moved to transmit queue 1, and all replies are on the
+-- port.
 pub record MovingRunExists : Type 0 where
   pub within : IsWithin moving
   pub runs : TableId → IsRun (moving_input within) moving_history

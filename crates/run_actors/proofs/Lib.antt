@@ -1,0 +1,3 @@
+mod WireLemmas
+mod WireLaws
+mod GatedLaws

@@ -1,0 +1,12 @@
+//! The threads of a run beside its workers: the wire and the controller.
+#![tactic(auto)]
+
+mod gated;
+mod laws;
+mod pace;
+mod wire;
+
+pub use gated::try_gated;
+pub use laws::{gated_tries_keep_their_ties, the_wire_keeps_its_ties};
+pub use pace::Pace;
+pub use wire::Wire;
