@@ -117,6 +117,7 @@ impl Poller {
         ensures flows { IfOk result (λ p. p.flows ≡ word_of (rounded_up flows) 0) }
         ensures table { IfOk result (λ p. p.table ≡ cleared (rounded_up flows) start false) }
         ensures choices { IfOk result (λ p. p.choices ≡ journal [] room) }
+        ensures room { IfOk result (λ p. p.choices.room ≡ room) }
         ensures accepted { IfOk result (λ p. p.accepted ≡ 0) }
         ensures is { IfOk result (λ p. (cpus : ℕ) → IsPoller cpus p) }
     {

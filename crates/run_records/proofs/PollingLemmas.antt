@@ -217,7 +217,8 @@ module _ (given : Setup) (filters first start id : ℕ) (mid q : Poller) (turns 
         );
       }
 
-  pub steers_on : Explained old.steps turns → PollsOn given filters first start mid q turns new hint_old hint_new
+  pub steers_on : Explained old.steps turns
+      → PollsOn given filters first start mid q turns new hint_old hint_new
   steers_on explained =
       record {
         more = step_by mid.queue turn ∷ turns;
@@ -304,7 +305,8 @@ pollers_go_on given cpus filters first start p q turns old new hint_old hint_new
         × SteersHand given filters id polls.mid q old new hint_old hint_new)
         → PollsOn given filters first start polls.mid q turns new hint_old hint_new
     by_case (inl waits) =
-        waits_on given filters first start polls.mid q turns old new hint_old hint_new waits explained
+        waits_on given filters first start polls.mid q turns old new hint_old hint_new waits
+        explained
         mid_is
     by_case (inr (id, hand, steers)) =
         steers_on given filters first start id polls.mid q turns old new hint_old hint_new hand

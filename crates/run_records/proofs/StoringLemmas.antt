@@ -1,5 +1,6 @@
 -- What was stored at the hint words was for a turn or a write.
-use Rattle.std.proofs.Common.{◌≡◌, ◌⊎◌, inl, inr, ℕ, zero, suc, ◌+◌, ◌<◌, Bool, true, false, List, []}
+use Rattle.std.proofs.Common.{◌≡◌, ◌⊎◌, inl, inr, ℕ, zero, suc, ◌+◌, ◌<◌, Bool, true, false, List}
+use Rattle.std.proofs.Common.{[]}
 use Rattle.std.proofs.Common.{◌∷◌, ◌++◌, Option, None, Some, IfSome, sym, refl, ap, ◌∙◌, subst}
 use Rattle.std.proofs.Common.{arith, length}
 use Rattle.std.specs.List.{Contains}
@@ -199,10 +200,12 @@ takes_store : (about : BoardSizes) (given : Setup) (filters : ℕ) (s t : Server
     → ((write : SockWrite) → Contains t.writes.items write → Contains more write)
     → StoresAreFor given filters turns noted hint_old.steps
     → StoresAreFor given filters turns more hint_new.steps
-takes_store about given filters s t true turns noted more old new hint_old hint_new x all mine are =
+takes_store about given filters s t true turns noted more old new hint_old hint_new x all mine
+    are =
     writes_store given filters turns noted more all given.cpus s.app s.home _ s.writes t.writes
     hint_old hint_new x.records.writes mine are
-takes_store about given filters s t false turns noted more old new hint_old hint_new x all mine are =
+takes_store about given filters s t false turns noted more old new hint_old hint_new x all mine
+    are =
     same_stores given filters turns more hint_old hint_new x.hint
     (more_noted given filters turns noted more all hint_old.steps are)
 
