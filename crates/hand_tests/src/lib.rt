@@ -4,6 +4,8 @@
 #[cfg(test)]
 mod bench;
 #[cfg(test)]
+mod desks;
+#[cfg(test)]
 mod drains;
 #[cfg(test)]
 mod first_words;
@@ -15,5 +17,7 @@ mod gates;
 mod hands;
 #[cfg(test)]
 mod pollers;
+#[cfg(test)]
+mod servers;
 #[cfg(test)]
 mod threads;
