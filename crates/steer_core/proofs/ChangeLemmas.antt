@@ -5,6 +5,7 @@ use Rattle.steer_base.specs.declared.command.Command.TheVariants as give
 use Rattle.hop_core.specs.declared.event.HopEvent.{HopEvent}
 use Rattle.hop_core.specs.Events.{happens}
 use Rattle.hop_core.specs.Hop.{HopState}
+use Rattle.steer_invariant.specs.Invariant.{Invariant}
 use Rattle.steer_model.specs.State.Machine.{Machine}
 use Rattle.steer_model.specs.Steps.Outcomes.{by_tx}
 use Rattle.steer_invariant.proofs.Invariant.CommandLemmas.{SetsAlone}
@@ -23,7 +24,8 @@ sets_alone (give.Stand app cpu) e = tt
 sets_alone give.Expire e = absurd (cc)
 
 -- the state after an event of the transmit hop that is known by its value
-pub by_tx-is : (m : Machine) (e f : HopEvent) (t : HopState) → e ≡ f → t ≡ (happens m.tx e).0
+pub by_tx-is : (m : Machine) → Invariant m → (e f : HopEvent) (t : HopState) → e ≡ f
+    → t ≡ (happens m.tx e).0
     → record m { tx = t } ≡ (by_tx m f).0
-by_tx-is m e f t same is =
+by_tx-is m held e f t same is =
     ap (λ (s : HopState). record m { tx = s }) (is ∙ ap (λ (e : HopEvent). (happens m.tx e).0) same)

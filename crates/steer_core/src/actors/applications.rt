@@ -1,5 +1,5 @@
 //! The steps of an application, from its inbox to a transmit queue.
-ghost use Rattle.std.specs.Prelude.{ℕ, ◌≡◌, ◌<◌, slice_index_or};
+ghost use Rattle.std.specs.Prelude.{◌≡◌, ◌<◌, slice_index_or};
 ghost use Rattle.history.specs.Lists.{arrival_of};
 ghost use Rattle.hop_core.specs.declared.event.HopEvent.TheVariants as event;
 ghost use Rattle.steer_core.specs.Weighings.{weigh_event};
@@ -123,20 +123,13 @@ impl Actors {
         )
     }
 
-    // What the reply in hand is weighed with.
+    // What the reply in hand is weighed with: its flow number as class, and the pick of the maps as
+    // want and as desired queue.
     fn next_sending(&self, a: u8) -> Weighing
         requires { a < self.now.machine.setup.apps }
         ensures { weigh_event a result ≡ sending self.now.machine a (in_reply self.now.machine a) }
     {
         let reply = sent_at(self.sent.list(a), self.tx.choices(a).len());
-        self.sending(reply)
-    }
-
-    // What a reply is weighed with: its flow number as class, and the pick of the maps as want and
-    // as desired queue.
-    fn sending(&self, reply: Sent) -> Weighing
-        ensures { (a : ℕ) → weigh_event a result ≡ sending self.now.machine a reply }
-    {
         let hash = self.given.hash_of(reply.id);
         let pick = self.settings.pick(reply.rxq, reply.cpu, hash);
         Weighing {

@@ -27,5 +27,5 @@ pub returns-clause-state : goal.returns-clause-state
 returns-clause-state c =
     let e = rw (← c.self.view_is) at c.next_sending-with.ensures in
     rw (← c.self.view_is)
-    (by_tx-is _ (weigh_event c.args.a c.next_sending-with.result) _ c.weigh.new.self e
-    c.weigh.ensures.state)
+    (by_tx-is _ c.self.invariant.0 (weigh_event c.args.a c.next_sending-with.result) _
+    c.weigh.new.self e c.weigh.ensures.state)
