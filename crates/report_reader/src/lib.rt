@@ -1,0 +1,23 @@
+//! The sections of a report, read back without a test whether the bytes are one.
+#![tactic(auto)]
+
+mod bodies;
+mod ends;
+mod fields;
+mod last;
+mod packets;
+mod puts;
+mod sections;
+mod seen;
+pub mod shelf;
+mod slots;
+mod sums;
+mod values;
+
+pub use bodies::read_texts;
+pub use fields::Fields;
+pub use last::{LastLine, read_last};
+pub use packets::{Packets, Replies, SeenPacket, SeenReply};
+pub use sections::{Part, Section, read_section};
+pub use slots::{Kind, Seen, Slot, slot_of_kind};
+pub use sums::{AppWrite, Cpus, LaneSums, Queues, Txs, Writes};
