@@ -102,7 +102,15 @@ pub fn read_report(
 {
     match only_one(alloc, bytes, packets, apps, start) {
         Ok(printed) => {
-            match is_report(alloc, bytes, packets, apps, start, &printed.history, &printed.texts) {
+            match is_report(
+                alloc,
+                bytes,
+                packets,
+                apps,
+                start,
+                &printed.history,
+                &printed.texts,
+            ) {
                 Ok(true) => Ok(printed),
                 Ok(false) => Err(ReportFault::NoReport),
                 Err(_) => Err(ReportFault::OutOfMemory),

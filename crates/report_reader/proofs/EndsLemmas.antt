@@ -2,7 +2,7 @@
 use Rattle.std.proofs.Common.{ℕ, zero, suc, ◌≡◌, ◌≢◌, ◌≤◌, ◌<◌, ◌+◌, ◌-◌, ◌++◌, ◌⊎◌, List, [], ◌∷◌}
 use Rattle.std.proofs.Common.{length, take, drop, refl, ap, ◌∙◌, sym, arith, get_or, inl, inr}
 use Rattle.std.proofs.Common.{subst, append_assoc, map}
-use Rattle.std.proofs.Math.Seq.{get_or-append_seam, take-append_seam, drop-append_seam}
+use Rattle.std.proofs.Math.Seq.{get_or-append_seam, take-append_seam}
 use Rattle.std.proofs.Math.ListN.{get_or-append}
 use Rattle.std.proofs.lemmas.List.{get_or-drop, length-append, length-drop, length-map}
 use Rattle.std.proofs.lemmas.Bool.{cases_lt}
@@ -28,7 +28,7 @@ module _ (bytes next tail : List ℕ) (start end s : ℕ) (is : IsEnd bytes star
   long : start + (length next + suc (length tail)) ≤ length bytes
   long =
       let n : length (drop start bytes) ≡ length next + suc (length tail) = ap length text
-          ∙ length-append next (s ∷ tail) in
+      ∙ length-append next (s ∷ tail) in
       omega (arith, n, length-drop start bytes)
 
   early : end < start + length next → ⊥
@@ -38,8 +38,8 @@ module _ (bytes next tail : List ℕ) (start end s : ℕ) (is : IsEnd bytes star
       let e : start + (end - start) ≡ end = omega (arith, behind) in
       let f = field-at next field (end - start) j in
       let here : get_or bytes end 0 ≡ get_or next (end - start) 0 =
-          ap (λ k. get_or bytes k 0) (sym e) ∙ at (end - start) ∙ get_or-append next (s ∷ tail) 0
-              (end - start) j in
+      ap (λ k. get_or bytes k 0) (sym e) ∙ at (end - start) ∙ get_or-append next (s ∷ tail) 0
+      (end - start) j in
       not_cut (get_or next (end - start) 0) f.0 f.1
       (subst (λ x. (x ≡ 32) ⊎ (x ≡ 10)) here (is.stop (omega (arith, l, long))))
 
@@ -47,7 +47,7 @@ module _ (bytes next tail : List ℕ) (start end s : ℕ) (is : IsEnd bytes star
   late l =
       let p = is.plain (start + length next) (omega arith) l in
       let here : get_or bytes (start + length next) 0 ≡ s = at (length next)
-          ∙ get_or-append_seam next s tail 0 in
+      ∙ get_or-append_seam next s tail 0 in
       not_cut s (λ e. p.0 (here ∙ e)) (λ e. p.1 (here ∙ e)) cut
 
   pub end-is : end ≡ start + length next
@@ -61,14 +61,17 @@ module _ (bytes next tail : List ℕ) (start end s : ℕ) (is : IsEnd bytes star
 
   -- the byte there, and what stands before and behind it
   pub cut-is : (end < length bytes) × (get_or bytes end 0 ≡ s)
-  cut-is = (omega (arith, end-is, long), ap (λ k. get_or bytes k 0) end-is ∙ at (length next)
-      ∙ get_or-append_seam next s tail 0)
+  cut-is = (
+    omega (arith, end-is, long),
+    ap (λ k. get_or bytes k 0) end-is ∙ at (length next)
+        ∙ get_or-append_seam next s tail 0,
+  )
 
   pub piece-is : take (end - start) (drop start bytes) ≡ next
   piece-is =
       let n : end - start ≡ length next = omega (arith, end-is) in
       ap (λ k. take k (drop start bytes)) n ∙ ap (take (length next)) text
-          ∙ take-append_seam next (s ∷ tail)
+      ∙ take-append_seam next (s ∷ tail)
 
 drop-none : (n : ℕ) (l : List ℕ) → l ≡ [] → drop n l ≡ []
 drop-none zero l e = e
@@ -90,7 +93,7 @@ follows : (bytes next tail : List ℕ) (start end s : ℕ) → end ≡ start + l
     → drop start bytes ≡ next ++ (s ∷ tail) → drop (end + 1) bytes ≡ tail
 follows bytes next tail start end s e t =
     drop-plus start (suc (length next)) (end + 1) bytes (omega (arith, e))
-        ∙ ap (drop (suc (length next))) t ∙ behind next tail s
+    ∙ ap (drop (suc (length next))) t ∙ behind next tail s
 
 parts-on : (done : List (List ℕ)) (x : List ℕ) (more : List (List ℕ)) → (done ++ (x ∷ [])) ++ more ≡
     done ++ (x ∷ more)
@@ -106,11 +109,11 @@ pub going-in : (bytes : List ℕ) (start end : ℕ) (done all : List (List ℕ))
     → IsEnd bytes start end → Going bytes start done all rest → end < length bytes
 going-in bytes start end done all rest is g = by g.more g.text
   where
-  by : (more : List (List ℕ)) → drop start bytes ≡ g.next ++ (further more ++ rest)
-      → end < length bytes
-  by [] t = going-whole bytes g.next rest start end 10 is t g.is_field (inr refl)
-  by (f ∷ fs) t = going-whole bytes g.next ((f ++ further fs) ++ rest) start end 32 is t g.is_field
-      (inl refl)
+    by : (more : List (List ℕ)) → drop start bytes ≡ g.next ++ (further more ++ rest)
+        → end < length bytes
+    by [] t = going-whole bytes g.next rest start end 10 is t g.is_field (inr refl)
+    by (f ∷ fs) t = going-whole bytes g.next ((f ++ further fs) ++ rest) start end 32 is t g.is_field
+        (inl refl)
 
 abbrev pub Piece : List ℕ → ℕ → ℕ → List ℕ
 Piece bytes start end = take (end - start) (drop start bytes)
@@ -121,26 +124,27 @@ ten x a b = omega (arith, a, b)
 last-by : (bytes : List ℕ) (start end : ℕ) (done all : List (List ℕ)) (rest next : List ℕ)
     (more : List (List ℕ)) → IsEnd bytes start end
     → done ++ (next ∷ more) ≡ all → drop start bytes ≡ next ++ (further more ++ rest) → IsField next
-        → get_or bytes end 0 ≡ 10
+    → get_or bytes end 0 ≡ 10
     → (done ++ (Piece bytes start end ∷ []) ≡ all) × (drop (end + 1) bytes ≡ rest)
-last-by bytes start end done all rest next [] is p t f e =
-    (ap (λ x. done ++ (x ∷ [])) (piece-is bytes next rest start end 10 is t f (inr refl)) ∙ p,
-    follows bytes next rest start end 10 (end-is bytes next rest start end 10 is t f (inr refl)) t)
+last-by bytes start end done all rest next [] is p t f e = (
+  ap (λ x. done ++ (x ∷ [])) (piece-is bytes next rest start end 10 is t f (inr refl)) ∙ p,
+  follows bytes next rest start end 10 (end-is bytes next rest start end 10 is t f (inr refl)) t,
+)
 last-by bytes start end done all rest next (g ∷ gs) is p t f e =
     absurd (ten (get_or bytes end 0) e (cut-is bytes next ((g ++ further gs) ++ rest) start end 32
-        is t f (inl refl)).1)
+    is t f (inl refl)).1)
 
 pub going-last : (bytes : List ℕ) (start end : ℕ) (done all : List (List ℕ)) (rest : List ℕ)
     → IsEnd bytes start end → Going bytes start done all rest
     → get_or bytes end 0 ≡ 10 → (done ++ (Piece bytes start end ∷ []) ≡ all)
-        × (drop (end + 1) bytes ≡ rest)
+    × (drop (end + 1) bytes ≡ rest)
 going-last bytes start end done all rest is g e = last-by bytes start end done all rest g.next
     g.more is g.parts g.text g.is_field e
 
 next-by : (bytes : List ℕ) (start end : ℕ) (done all : List (List ℕ)) (rest next : List ℕ)
     (more : List (List ℕ)) → IsEnd bytes start end
     → done ++ (next ∷ more) ≡ all → drop start bytes ≡ next ++ (further more ++ rest) → IsField next
-        → AreFields more → (get_or bytes end 0 ≡ 10 → ⊥)
+    → AreFields more → (get_or bytes end 0 ≡ 10 → ⊥)
     → Going bytes (end + 1) (done ++ (Piece bytes start end ∷ [])) all rest
 next-by bytes start end done all rest next [] is p t f fs e =
     absurd (e (cut-is bytes next rest start end 10 is t f (inr refl)).1)
@@ -161,7 +165,7 @@ next-by bytes start end done all rest next (g ∷ gs) is p t f fs e =
 pub going-next : (bytes : List ℕ) (start end : ℕ) (done all : List (List ℕ)) (rest : List ℕ)
     → IsEnd bytes start end → Going bytes start done all rest
     → (get_or bytes end 0 ≡ 10 → ⊥) → Going bytes (end + 1) (done ++ (Piece bytes start end ∷ []))
-        all rest
+    all rest
 going-next bytes start end done all rest is g e = next-by bytes start end done all rest g.next
     g.more is g.parts g.text g.is_field g.are_fields e
 
@@ -173,9 +177,9 @@ pub going-none : (bytes : List ℕ) (start : ℕ) (done all : List (List ℕ)) (
     → drop start bytes ≡ [] → Going bytes start done all rest → ⊥
 going-none bytes start done all rest n g = by g.more g.text
   where
-  by : (more : List (List ℕ)) → drop start bytes ≡ g.next ++ (further more ++ rest) → ⊥
-  by [] t = some-text g.next rest 10 (sym n ∙ t)
-  by (f ∷ fs) t = some-text g.next ((f ++ further fs) ++ rest) 32 (sym n ∙ t)
+    by : (more : List (List ℕ)) → drop start bytes ≡ g.next ++ (further more ++ rest) → ⊥
+    by [] t = some-text g.next rest 10 (sym n ∙ t)
+    by (f ∷ fs) t = some-text g.next ((f ++ further fs) ++ rest) 32 (sym n ∙ t)
 
 mapped : {A : Type 0} (f : A → List ℕ) (x : A) (xs : List A) → map f (xs ++ (x ∷ [])) ≡ map f xs ++
     (f x ∷ [])
@@ -193,6 +197,6 @@ pub full-line : {A : Type 0} (f : A → List ℕ) (bytes : List ℕ) (start : �
 full-line f bytes start done all rest g few n =
     let m : length (map f done) ≡ length done = length-map done f in
     let l : length (map f done ++ (g.next ∷ g.more)) ≡ length (map f done) + suc (length g.more) =
-        length-append (map f done) (g.next ∷ g.more) in
+    length-append (map f done) (g.next ∷ g.more) in
     let e = ap length g.parts in
     omega (arith, m, l, e, few, n)

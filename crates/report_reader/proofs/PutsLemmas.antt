@@ -1,5 +1,5 @@
 -- What the fields of a packet show of its put.
-use Rattle.std.proofs.Common.{ℕ, ◌≡◌, ◌<◌, ◌^◌, List, Option, Some, None, refl, ap, ◌∙◌, sym, arith}
+use Rattle.std.proofs.Common.{ℕ, ◌≡◌, ◌<◌, ◌^◌, List, Option, Some, None, refl, ◌∙◌, sym, arith}
 use Rattle.std.proofs.Common.{decimal, inr}
 use Rattle.std.specs.Prelude.{codes}
 use Rattle.report.proofs.Digits.{no_number}

@@ -1,9 +1,9 @@
 -- The rows of a section are read one after the other.
-use Rattle.std.proofs.Common.{ℕ, suc, ◌≡◌, ◌≢◌, ◌≤◌, ◌<◌, ◌+◌, ◌++◌, List, [], ◌∷◌, length, drop}
+use Rattle.std.proofs.Common.{ℕ, ◌≡◌, ◌≢◌, ◌≤◌, ◌++◌, List, [], ◌∷◌, length, drop}
 use Rattle.std.proofs.Common.{refl, ap, ◌∙◌, sym, subst, append_assoc, append-nil, length-append}
 use Rattle.std.proofs.Common.{arith}
 use Rattle.std.specs.Prelude.{slice_index_or}
-use Rattle.report.specs.Texts.{AreFields, IsField, Row, body, fields, further, row_text, text_of}
+use Rattle.report.specs.Texts.{AreFields, IsField, Row, body, fields, text_of}
 use Rattle.report.specs.Texts.{word}
 use Rattle.report.specs.Texts.Row.{Line}
 use Rattle.report_reader.specs.Ends.{Going}
@@ -31,7 +31,7 @@ KeepsReading {T} first shows bytes at most done next =
 pub going-row : (bytes : List ℕ) (next : ℕ) (r : Row) (rows : List Row) → IsField (word r)
     → AreFields (fields r)
     → drop next bytes ≡ text_of (r ∷ rows) → Going bytes next [] (word r ∷ fields r)
-        (body r ++ text_of rows)
+    (body r ++ text_of rows)
 going-row bytes next r rows f fs t = record {
   next = word r;
   more = fields r;
@@ -53,10 +53,9 @@ append-one (y ∷ done) x left = ap (λ l. y ∷ l) (append-one done x left)
 module _ {T : Type 0} (first : List ℕ) (shows : T → List (List ℕ) → Type 0) (bytes : List ℕ)
     (next : ℕ) (done items : List T)
     (rest : List Row) (other : IsOther first rest) where
-
   line-other : drop next bytes ≡ text_of rest
       → Going bytes next [] (word other.next ∷ fields other.next)
-          (body other.next ++ text_of other.more)
+      (body other.next ++ text_of other.more)
   line-other t = going-row bytes next other.next other.more other.is_field other.are_fields
       (t ∙ ap text_of other.is)
 
@@ -69,10 +68,9 @@ module _ {T : Type 0} (first : List ℕ) (shows : T → List (List ℕ) → Type
 
   module _ (after : ℕ) (found : List (List ℕ))
       (hf : (all : List (List ℕ)) (r : List ℕ) → length all ≤ 40 → Going bytes next [] all r
-          → found ≡ all)
+      → found ≡ all)
       (hn : (all : List (List ℕ)) (r : List ℕ) → length all ≤ 40 → Going bytes next [] all r
-          → drop after bytes ≡ r) where
-
+      → drop after bytes ≡ r) where
     goes-by : (left : List T) (rows : List Row) → done ++ left ≡ items
         → AreShown first shows left rows
         → drop next bytes ≡ text_of (rows ++ rest) → slice_index_or found 0 [] ≡ first
@@ -80,7 +78,7 @@ module _ {T : Type 0} (first : List ℕ) (shows : T → List (List ℕ) → Type
     goes-by [] [] j s t e =
         let few : length (word other.next ∷ fields other.next) ≤ 40 = omega (arith, other.few) in
         let f = hf (word other.next ∷ fields other.next) (body other.next ++ text_of other.more) few
-            (line-other t) in
+        (line-other t) in
         absurd (other.other (sym (front-is found (word other.next) (fields other.next) f) ∙ e))
     goes-by [] (r ∷ rows) j s t e = absurd s
     goes-by (x ∷ left) [] j s t e = absurd s

@@ -1,5 +1,5 @@
 -- What the fields of a line show.
-use Rattle.std.proofs.Common.{ℕ, ◌≡◌, Option, Some, None, List, [], ◌∷◌, refl, ap, ◌∙◌, sym, arith}
+use Rattle.std.proofs.Common.{ℕ, ◌≡◌, Option, Some, None, refl, sym}
 use Rattle.steer_base.specs.declared.choice.Choice.{Choice}
 use Rattle.steer_base.specs.declared.choice.Why.{Why}
 use Rattle.history.specs.Ranges.{ChoiceFits, FitsIn}
@@ -39,7 +39,7 @@ pub some-choice : (o : Option Choice) (class want head tail : Option ℕ) (lane 
     → class_in o ≡ class → want ≡ want_in o
     → head ≡ head_in o → tail ≡ tail_in o → Some lane ≡ lane_in o → Some why ≡ why_in o
     → Some (record { class = class; head = head; tail = tail; want = want; lane = lane; why = why })
-        ≡ o
+    ≡ o
 some-choice None class want head tail lane why a b c d e f = absurd (cc)
 some-choice (Some o) class want head tail lane why a b c d e f =
     let l : lane ≡ o.lane = some_same lane o.lane e in

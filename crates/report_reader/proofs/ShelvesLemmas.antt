@@ -25,13 +25,16 @@ place-at x p (y ∷ ys) h = elim (cases_eq x y) [
   | inl e ↦
       let g : p ≡ 1 = some_same p 1 (sym h ∙ place-here x y ys e) in
       subst (λ q. (0 < q) × (q ≤ length (y ∷ ys)) × (get_or (y ∷ ys) (q - 1) 0 ≡ x)) (sym g)
-          (omega arith, omega arith, sym e)
+      (omega arith, omega arith, sym e)
   | inr ne ↦
       let m = map_some suc (place_in x ys) p (sym (place-past x y ys ne) ∙ h) in
       let i = place-at x m.0 ys m.1 in
-      let w : (0 < suc m.0) × (suc m.0 ≤ length (y ∷ ys)) × (get_or (y ∷ ys) (suc m.0 - 1) 0 ≡ x) =
-          (omega arith, omega (arith, i.1), at-back x (y ∷ ys) (suc (m.0 - 1)) (suc m.0 - 1)
-              (omega (arith, i.0)) i.2) in
+      let w : (0 < suc m.0) × (suc m.0 ≤ length (y ∷ ys)) × (get_or (y ∷ ys) (suc m.0 - 1) 0 ≡ x) = (
+        omega arith,
+        omega (arith, i.1),
+        at-back x (y ∷ ys) (suc (m.0 - 1)) (suc m.0 - 1)
+            (omega (arith, i.0)) i.2,
+      ) in
       subst (λ q. (0 < q) × (q ≤ length (y ∷ ys)) × (get_or (y ∷ ys) (q - 1) 0 ≡ x)) (sym m.2) w
 ]
 
@@ -46,9 +49,9 @@ has-place (y ∷ ys) (suc j) l h = elim (cases_eq (get_or ys j 0) y) [
       (sym (place-past (get_or ys j 0) y ys ne) ∙ h))
 ]
   where
-  none-back : (o : Option ℕ) → option_map suc o ≡ None → o ≡ None
-  none-back None e = refl
-  none-back (Some k) e = absurd (cc)
+    none-back : (o : Option ℕ) → option_map suc o ≡ None → o ≡ None
+    none-back None e = refl
+    none-back (Some k) e = absurd (cc)
 
 -- 1 for what holds
 abbrev one_if : Bool → ℕ
@@ -83,7 +86,7 @@ below-lacks x (y ∷ ys) h = elim (cases_eq x y) [
   | inr ne ↦
       let a = one-other y x ne in
       let b = below-lacks x ys (none-suc (place_in x ys) (sym (place-past x y ys ne) ∙ h)) in
-          omega (arith, a, b)
+      omega (arith, a, b)
 ]
 
 pub below-has : (x p : ℕ) (xs : List ℕ) → Once xs → place_in x xs ≡ Some p
@@ -164,7 +167,7 @@ up-has x p built list once h u =
       has = λ j l s. elim (cases_eq j (p - 1)) [
         | inl e ↦
             ap (λ k. get_or (slice_set built (p - 1) x) k 0) e ∙ get_or-set_same built (p - 1) x 0 i
-                ∙ sym a.2
+            ∙ sym a.2
             ∙ sym (ap (λ k. get_or list k 0) e)
         | inr ne ↦
             let k : p - 1 < length list = omega (arith, a.0, a.1) in
@@ -177,7 +180,7 @@ pub up-all : (n : ℕ) (built list : List ℕ) → ((j : ℕ) → j < length lis
     → IsUpTo n built list → built ≡ list
 up-all n built list low u =
     same_lists 0 built list u.long (λ j l. let k : j < length list = omega (arith, l, u.long) in
-        u.has j k (low j k))
+    u.has j k (low j k))
 
 some-or-none : (o : Option ℕ) → ((p : ℕ) × (o ≡ Some p)) ⊎ (o ≡ None)
 some-or-none None = inr refl
@@ -186,7 +189,6 @@ some-or-none (Some p) = inl (p, refl)
 module _ (start : ℕ) (kind : Kind) (seen : List Seen) (number : ℕ) (list : List ℕ)
     (s : IsShelved start kind seen number list)
     (x : ℕ) (v : Seen) (l : x < length seen) (is : get_or seen x v ≡ v) where
-
   at-x : (o : Option ℕ) → o ≡ place_for number (slot_of start kind v) → place_in x list ≡ o
   at-x o e = s.places x v l ∙ ap (λ w. place_for number (slot_of start kind w)) is ∙ sym e
 
@@ -196,14 +198,14 @@ module _ (start : ℕ) (kind : Kind) (seen : List Seen) (number : ℕ) (list : L
   count-step o e k n m = elim (some-or-none o) [
     | inl p ↦
         let a = below-has x p.0 list s.once (at-x o e ∙ p.1) in let b = m p.0 p.1 in
-            omega (arith, a, b)
+        omega (arith, a, b)
     | inr z ↦
         let a = below-lacks x list (at-x o e ∙ z) in let b = n z in omega (arith, a, b)
   ]
 
   pub up-step : (o : Option ℕ) → o ≡ place_for number (slot_of start kind v) → (old new : List ℕ)
       → ((p : ℕ) → o ≡ Some p → 0 < p → p ≤ length old → new ≡ slice_set old (p - 1) x)
-          → (o ≡ None → new ≡ old)
+      → (o ≡ None → new ≡ old)
       → IsUpTo x old list → IsUpTo (x + 1) new list
   up-step o e old new set same u = elim (some-or-none o) [
     | inl p ↦

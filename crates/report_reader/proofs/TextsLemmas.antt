@@ -1,12 +1,12 @@
 -- The rows of taps are read one after the other.
 use Rattle.std.proofs.Common.{ℕ, suc, ◌≡◌, ◌≢◌, ◌≤◌, ◌<◌, ◌+◌, ◌^◌, ◌++◌, List, [], ◌∷◌, length}
-use Rattle.std.proofs.Common.{drop, take, decimal, refl, ap, ◌∙◌, sym, subst, append-nil}
+use Rattle.std.proofs.Common.{drop, take, decimal, refl, ap, ◌∙◌, sym, append-nil}
 use Rattle.std.proofs.Common.{length-append, length-drop, ◌-◌, arith}
 use Rattle.std.proofs.Math.Seq.{drop-append_seam, take-append_seam}
 use Rattle.std.proofs.lemmas.List.{drop-drop}
 use Rattle.std.specs.Prelude.{codes, slice_index_or}
 use Rattle.report.specs.Report.{numbered}
-use Rattle.report.specs.Texts.{AreFields, IsField, Row, body, fields, text_of, word}
+use Rattle.report.specs.Texts.{AreFields, Row, body, fields, text_of, word}
 use Rattle.report.specs.Texts.Row.{Tap}
 use Rattle.report.proofs.Cuts.{word-IsField}
 use Rattle.report.proofs.Digits.{decimal-IsField}
@@ -53,10 +53,9 @@ append-one (y ∷ done) x left = ap (λ l. y ∷ l) (append-one done x left)
 
 module _ (bytes : List ℕ) (next : ℕ) (done texts : List (List ℕ)) (rest : List Row)
     (other : IsOther (codes "tap") rest) where
-
   line-other : drop next bytes ≡ text_of rest
       → Going bytes next [] (word other.next ∷ fields other.next)
-          (body other.next ++ text_of other.more)
+      (body other.next ++ text_of other.more)
   line-other t = going-row bytes next other.next other.more other.is_field other.are_fields
       (t ∙ ap text_of other.is)
 
@@ -67,18 +66,17 @@ module _ (bytes : List ℕ) (next : ℕ) (done texts : List (List ℕ)) (rest : 
 
   module _ (after : ℕ) (found : List (List ℕ))
       (hf : (all : List (List ℕ)) (r : List ℕ) → length all ≤ 40 → Going bytes next [] all r
-          → found ≡ all)
+      → found ≡ all)
       (hn : (all : List (List ℕ)) (r : List ℕ) → length all ≤ 40 → Going bytes next [] all r
-          → drop after bytes ≡ r) where
-
+      → drop after bytes ≡ r) where
     goes-by : (left : List (List ℕ)) (i : ℕ) → done ++ left ≡ texts → HaveLengths left
         → drop next bytes ≡ text_of (numbered Tap i left ++ rest)
-            → slice_index_or found 0 [] ≡ codes "tap"
+        → slice_index_or found 0 [] ≡ codes "tap"
         → NextText bytes after found done texts rest
     goes-by [] i j s t e =
         let few : length (word other.next ∷ fields other.next) ≤ 40 = omega (arith, other.few) in
         let f = hf (word other.next ∷ fields other.next) (body other.next ++ text_of other.more) few
-            (line-other t) in
+        (line-other t) in
         absurd (other.other (sym (ap (λ l. slice_index_or l 0 []) f) ∙ e))
     goes-by (x ∷ left) i j s t e =
         let rows = numbered Tap (suc i) left ++ rest in
@@ -101,7 +99,7 @@ module _ (bytes : List ℕ) (next : ℕ) (done texts : List (List ℕ)) (rest : 
 
     stops-by : (left : List (List ℕ)) (i : ℕ) → done ++ left ≡ texts
         → drop next bytes ≡ text_of (numbered Tap i left ++ rest)
-            → slice_index_or found 0 [] ≢ codes "tap"
+        → slice_index_or found 0 [] ≢ codes "tap"
         → (done ≡ texts) × (drop next bytes ≡ text_of rest)
     stops-by [] i j t ne = (sym (append-nil done) ∙ j, t)
     stops-by (x ∷ left) i j t ne =
@@ -137,14 +135,14 @@ text-fits bytes this tail after l t =
 pub text-goes : (bytes : List ℕ) (after : ℕ) (found done texts : List (List ℕ)) (rest : List Row)
     (n : NextText bytes after found done texts rest)
     → (long next : ℕ) (copy : List ℕ) (new : List (List ℕ)) → long ≡ length n.this
-        → next ≡ after + long
+    → next ≡ after + long
     → copy ≡ take (next - after) (drop after bytes) → new ≡ done ++ (copy ∷ [])
-        → LeftTexts bytes next new texts rest
+    → LeftTexts bytes next new texts rest
 text-goes bytes after found done texts rest n long next copy new l e k w =
     let tail = text_of (numbered Tap n.number n.left ++ rest) in
     let m : next - after ≡ length n.this = omega (arith, l, e) in
     let same : copy ≡ n.this = k ∙ ap (λ i. take i (drop after bytes)) m
-        ∙ ap (take (length n.this)) n.text ∙ take-append_seam n.this tail in
+    ∙ ap (take (length n.this)) n.text ∙ take-append_seam n.this tail in
     let at : next ≡ after + length n.this = omega (arith, l, e) in
     record {
       left = n.left;

@@ -1,7 +1,7 @@
 -- The values of fields.
-use Rattle.std.proofs.Common.{ℕ, zero, suc, ◌≡◌, ◌≤◌, ◌<◌, ◌+◌, ◌-◌, ◌*◌, ◌^◌, Bool, true, false}
+use Rattle.std.proofs.Common.{ℕ, ◌≡◌, ◌≤◌, ◌<◌, ◌+◌, ◌-◌, ◌*◌, ◌^◌, true}
 use Rattle.std.proofs.Common.{List, [], ◌∷◌, Option, Some, None, length, refl, ap, ◌∙◌, sym, arith}
-use Rattle.std.proofs.Common.{decimal, inl, inr, lit<}
+use Rattle.std.proofs.Common.{decimal, inl, lit<}
 use Rattle.std.specs.Prelude.{nat_le, nat_lt, codes, ◌&&◌, unwrap_or}
 use Rattle.std.proofs.lemmas.Bool.{le-leb, lt-ltb}
 use Rattle.std.proofs.lemmas.Fmt.{decimal_nonempty, length-decimal-le, digits_value-decimal}
@@ -24,8 +24,10 @@ goes : (n c : ℕ) (cs : List ℕ) → 48 ≤ c → c ≤ 57 → digits_from n (
 goes n c cs a b = rw (in_range c a b) refl
 
 folds : FoldsDigits folded
-folds = record { empty = λ n. refl; more = λ n c cs k. ap (λ o. unwrap_or o 0) (goes n c cs k.0 k.1)
-    }
+folds = record {
+  empty = λ n. refl;
+  more = λ n c cs k. ap (λ o. unwrap_or o 0) (goes n c cs k.0 k.1);
+}
 
 is-number : (n : ℕ) (ds : List ℕ) → AreDigits ds → digits_from n ds ≡ Some (folded n ds)
 is-number n [] h = refl
@@ -38,13 +40,13 @@ pub read-decimal : (n : ℕ) → n < 2 ^ 64 → decimal_number 20 (decimal n) �
 unfolding decimal_number
 read-decimal n h =
     let long : length (decimal n) ≤ 20 = length-decimal-le 20 n (omega arith) (omega (arith, h)) h
-        in
+    in
     let s : nat_lt 0 (length (decimal n)) ≡ true = lt-ltb 0 (length (decimal n))
-        (decimal_nonempty n h) in
+    (decimal_nonempty n h) in
     let t : nat_le (length (decimal n)) 20 ≡ true = le-leb (length (decimal n)) 20 long in
     rw (s, t) (is-number 0 (decimal n) (decimal-AreDigits n)
-        ∙ ap (λ m. Some m) (digits_value-decimal (numerals_by_fold _ tells_digits folded folds) n
-        h))
+    ∙ ap (λ m. Some m) (digits_value-decimal (numerals_by_fold _ tells_digits folded folds) n
+    h))
 
 pub read-number : (n : ℕ) (field : List ℕ) (o : Option ℕ) → n < 2 ^ 64 → field ≡ decimal n
     → o ≡ decimal_number 20 field → o ≡ Some n

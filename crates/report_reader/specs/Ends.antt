@@ -13,10 +13,10 @@ pub record IsEnd (bytes : List ℕ) (at end : ℕ) : Type 0 where
 
 -- A line that is being read: the fields so far, the next one, those behind it, and what follows.
 pub record Going (bytes : List ℕ) (start : ℕ) (done all : List (List ℕ)) (rest : List ℕ) : Type 0
-    where
-  pub next : List ℕ
-  pub more : List (List ℕ)
-  pub parts : done ++ (next ∷ more) ≡ all
-  pub text : drop start bytes ≡ next ++ (further more ++ rest)
-  pub is_field : IsField next
-  pub are_fields : AreFields more
+  where
+    pub next : List ℕ
+    pub more : List (List ℕ)
+    pub parts : done ++ (next ∷ more) ≡ all
+    pub text : drop start bytes ≡ next ++ (further more ++ rest)
+    pub is_field : IsField next
+    pub are_fields : AreFields more

@@ -1,4 +1,7 @@
+pub mod Commands
 pub mod Ends
+pub mod Members
+pub mod Parts
 pub mod Sections
 pub mod Seen
 pub mod Slots

@@ -7,7 +7,7 @@ use Rattle.steer_base.specs.declared.put.DropCause.{DropCause}
 use Rattle.steer_base.specs.declared.put.DropCause.TheVariants.{Full, Flow}
 use Rattle.steer_base.specs.declared.put.Put.{Put}
 use Rattle.steer_base.specs.declared.put.Put.TheVariants.{At, Dropped}
-use Rattle.history.specs.Ranges.{ChoiceFits, FitsIn, PutFits}
+use Rattle.history.specs.Ranges.{ChoiceFits, FitsIn}
 use Rattle.report.specs.Lines.{class_in, head_in, lane_in, or_dash, tail_in, via_word, want_in}
 use Rattle.report.specs.Lines.{why_in, why_word}
 use Rattle.report_reader.specs.declared.packets.SeenPacket.{SeenPacket}

@@ -7,4 +7,5 @@ abbrev pub invariant-loop-x : goal.invariant-loop-x
 invariant-loop-x l = record {
   few : l.count ≤ l.x;
   counted : (wanted : List ℕ) → IsShelved l.start l.kind l.seen l.list wanted
-      → l.count ≡ below l.x wanted }
+      → l.count ≡ below l.x wanted;
+}

@@ -1,4 +1,4 @@
-use Rattle.std.proofs.Common.{◌≡◌, ◌<◌, ℕ, Some, None, sym, ◌∙◌, arith, true}
+use Rattle.std.proofs.Common.{sym, ◌∙◌, arith}
 use Rattle.std.proofs.lemmas.Slice.Eq.{bytes_eq-Decides}
 use Rattle.report_reader.proofs.ValuesLemmas.{none-option}
 use Rattle.report_reader.proofs.values.maybe_word.Goals as goal
