@@ -82,9 +82,9 @@ fn only_one(
 }
 
 /// The history and the texts of taps that the bytes are the report of, for the packets of a
-/// capture, `apps` applications and counters that begin at `start`. There is at most one such history: it is
-/// regular, and each arrival is at the queue that its filter and table entry lead to. The answer is
-/// `NoReport` only if there is none, and `OutOfMemory` only for want of memory.
+/// capture, `apps` applications and counters that begin at `start`. There is at most one such
+/// history: it is regular, and each arrival is at the queue that its filter and table entry lead
+/// to. The answer is `NoReport` only if there is none, and `OutOfMemory` only for want of memory.
 pub fn read_report(
     alloc: Global,
     bytes: &[u8],

@@ -112,8 +112,8 @@ going-in bytes start end done all rest is g = by g.more g.text
     by : (more : List (List ℕ)) → drop start bytes ≡ g.next ++ (further more ++ rest)
         → end < length bytes
     by [] t = going-whole bytes g.next rest start end 10 is t g.is_field (inr refl)
-    by (f ∷ fs) t = going-whole bytes g.next ((f ++ further fs) ++ rest) start end 32 is t g.is_field
-        (inl refl)
+    by (f ∷ fs) t = going-whole bytes g.next ((f ++ further fs) ++ rest) start end 32 is t
+        g.is_field (inl refl)
 
 abbrev pub Piece : List ℕ → ℕ → ℕ → List ℕ
 Piece bytes start end = take (end - start) (drop start bytes)

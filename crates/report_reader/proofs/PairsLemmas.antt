@@ -16,7 +16,8 @@ differ v w f e = let t : bytes_eq v w ≡ true = (bytes_eq-Decides v w).1 e in c
 module _ (fs : List (List ℕ)) (q : ℕ) (hq : (n : ℕ) → n < 2 ^ 8 → field_at fs 3 ≡ decimal n → q ≡ n)
   where
     pub pair-mask : (c : Command) (m : CpuMask) → ShowsCommand fs c → field_at fs 2 ≡ codes "mask"
-        → ((k : CpuMask) → k.0 < 2 ^ 32 → field_at fs 4 ≡ cpus_field k → m ≡ k) → command.Mask q m ≡ c
+        → ((k : CpuMask) → k.0 < 2 ^ 32 → field_at fs 4 ≡ cpus_field k → m ≡ k)
+        → command.Mask q m ≡ c
     pair-mask (command.Mask p k) m s e h = let x : q ≡ p = hq p s.2 s.1 in let y : m ≡ k =
         h k s.4 s.3 in λ i. command.Mask (x i) (y i)
     pair-mask (command.Flows p k) m s e h =
@@ -90,8 +91,10 @@ module _ (fs : List (List ℕ)) (q : ℕ) (hq : (n : ℕ) → n < 2 ^ 8 → fiel
         → (field_at fs 2 ≡ codes "xcpus" → ⊥)
         → (field_at fs 2 ≡ codes "xqueues" → ⊥) → (field_at fs 2 ≡ codes "reta" → ⊥)
         → ((k : ℕ) → k < 2 ^ 8 → field_at fs 4 ≡ decimal k → m ≡ k) → command.Stand q m ≡ c
-    pair-stand (command.Stand p k) m s e a b d f g h = let x : q ≡ p = hq p s.2 s.1 in let y : m ≡ k =
-        h k s.4 s.3 in λ i. command.Stand (x i) (y i)
+    pair-stand (command.Stand p k) m s e a b d f g h =
+        let x : q ≡ p = hq p s.2 s.1 in
+        let y : m ≡ k = h k s.4 s.3 in
+        λ i. command.Stand (x i) (y i)
     pair-stand (command.Mask p k) m s e a b d f g h = absurd (a s.0)
     pair-stand (command.Flows p k) m s e a b d f g h = absurd (b s.0)
     pair-stand (command.XCpus p k) m s e a b d f g h = absurd (d s.0)

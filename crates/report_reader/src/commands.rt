@@ -4,8 +4,9 @@ ghost use Rattle.steer_base.specs.declared.command.Answer.{Answer as AnAnswer};
 ghost use Rattle.steer_base.specs.declared.command.Busy.{Busy as ABusy};
 ghost use Rattle.steer_base.specs.declared.command.Command.{Command as ACommand};
 ghost use Rattle.steer_base.specs.declared.command.User.{User as AUser};
-ghost use Rattle.report_reader.specs.Commands.{ShowsAnswer, ShowsBusy, ShowsCommand, ShowsCommanded};
-ghost use Rattle.report_reader.specs.Commands.{ShowsUser, answer_start as start_of, has_pair};
+ghost use Rattle.report_reader.specs.Commands.{ShowsAnswer, ShowsBusy, ShowsCommand};
+ghost use Rattle.report_reader.specs.Commands.{ShowsCommanded, ShowsUser, has_pair};
+ghost use Rattle.report_reader.specs.Commands.{answer_start as start_of};
 
 use crate::fields::Fields;
 use crate::sections::Section;
