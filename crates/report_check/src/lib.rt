@@ -1,4 +1,4 @@
-//! Reads a report back: whether bytes are one, and of which history.
+//! Whether bytes are the report of a history, with the texts of taps.
 #![tactic(auto)]
 
 mod comparing;
@@ -6,4 +6,4 @@ mod reading;
 mod routing;
 mod showing;
 
-pub use reading::{Printed, ReportFault, is_report, read_report};
+pub use reading::is_report;
