@@ -1,0 +1,14 @@
+pub mod CommandsLemmas
+pub mod EndsLemmas
+pub mod LastLemmas
+pub mod MembersLemmas
+pub mod OthersLemmas
+pub mod PairsLemmas
+pub mod PartsLemmas
+pub mod PutsLemmas
+pub mod SectionsLemmas
+pub mod SeenLemmas
+pub mod ShelvesLemmas
+pub mod ShownLemmas
+pub mod TextsLemmas
+pub mod ValuesLemmas

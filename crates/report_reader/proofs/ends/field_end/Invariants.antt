@@ -1,0 +1,13 @@
+use Rattle.std.proofs.Common.{◌≤◌, ◌<◌, ◌≢◌, ◌-◌, ℕ, length, slice_index}
+use Rattle.report_reader.proofs.ends.field_end.Given as goal
+
+abbrev pub invariant-loop-end : goal.invariant-loop-end
+invariant-loop-end l = record {
+  behind : l.at ≤ l.end;
+  within : l.end ≤ length l.bytes;
+  plain : (j : ℕ) → l.at ≤ j → j < l.end → (slice_index l.bytes j ≢ 32)
+      × (slice_index l.bytes j ≢ 10);
+}
+
+abbrev pub decreases-loop-end : goal.decreases-loop-end
+decreases-loop-end l = length l.bytes - l.end

@@ -1,0 +1,42 @@
+//! The last line of a report.
+ghost use Rattle.std.specs.Prelude.{◌≡◌, ◌≤◌, ℕ, Option, IfOk, length};
+ghost use Rattle.report_reader.specs.Sections.{IsLast, ShowsCut};
+
+use crate::fields::Fields;
+use crate::values::word;
+use std::alloc::Global;
+use steer_base::OutOfMemory;
+
+/// What the last line shows.
+#[derive(Clone, Copy, Debug, PartialEq, Eq, Drop)]
+pub struct LastLine {
+    /// The number of packets in the capture.
+    pub total: u32,
+    /// The length of a truncated last record, if there is one.
+    pub cut: Option<u32>,
+}
+
+// The length of a truncated last record that the last line shows, if there is one.
+fn cut_of(fields: &Fields<'_>) -> Option<u32>
+    ensures { (o : Option ℕ) → ShowsCut fields.now o → result ≡ o }
+{
+    if fields.at(4) == b"cut".as_slice() {
+        Some(word(fields.at(5)))
+    } else {
+        None
+    }
+}
+
+/// What the last line shows, from a place on.
+pub fn read_last(alloc: Global, bytes: &[u8], at: usize) -> Result<LastLine, OutOfMemory>
+    requires { at ≤ length bytes.now }
+    ensures { IfOk result (λ last. (arrived total : ℕ) (cut : Option ℕ)
+        → IsLast bytes.now at arrived total cut → (last.total ≡ total) × (last.cut ≡ cut)) }
+{
+    let mut fields = Fields::make(alloc);
+    fields.read(bytes, at)?;
+    Ok(LastLine {
+        total: word(fields.at(3)),
+        cut: cut_of(&fields),
+    })
+}

@@ -1,0 +1,28 @@
+//! The sections of a report, read back without a test whether the bytes are one.
+#![tactic(auto)]
+
+mod bodies;
+mod commands;
+mod ends;
+mod fields;
+mod last;
+mod packets;
+mod parts;
+mod puts;
+mod sections;
+mod seen;
+mod sets;
+pub mod shelf;
+mod slots;
+mod sums;
+mod values;
+
+pub use bodies::read_texts;
+pub use commands::Commands;
+pub use fields::Fields;
+pub use last::{LastLine, read_last};
+pub use packets::{Packets, Replies, SeenPacket, SeenReply};
+pub use parts::{Parts, read_parts};
+pub use sections::{Part, Section, read_section};
+pub use slots::{Kind, Seen, Slot, slot_of_kind};
+pub use sums::{AppWrite, Cpus, LaneSums, Queues, Txs, Writes};

@@ -1,0 +1,95 @@
+//! The lines of packets and of replies.
+ghost use Rattle.std.specs.Prelude.{codes};
+ghost use Rattle.report_reader.specs.Seen.{ShowsPacket, ShowsReply};
+
+use crate::fields::Fields;
+use crate::puts::{put, put_end};
+use crate::sections::Section;
+use crate::seen::choice;
+use crate::values::{byte, maybe_word, via, word};
+use history::Via;
+use steer_base::{AppId, Choice, Cpu, PacketId, Put, RxQueue};
+
+/// What the line of a packet shows that is kept of it.
+#[derive(Clone, Copy, Debug, PartialEq, Eq, Drop)]
+pub struct SeenPacket {
+    /// Its receive queue.
+    pub queue: RxQueue,
+    /// What led to this queue.
+    pub via: Via,
+    /// The choice of a processor, if there was one.
+    pub choice: Option<Choice>,
+    /// The result of the put, if there was one.
+    pub put: Option<Put>,
+    /// Its application.
+    pub app: AppId,
+    /// Its place in the application's inbox, from 1, if it is there.
+    pub inbox: Option<u32>,
+}
+
+/// What the line of a reply shows that is kept of it.
+#[derive(Clone, Copy, Debug, PartialEq, Eq, Drop)]
+pub struct SeenReply {
+    /// The packet that was replied to.
+    pub id: PacketId,
+    /// The receive queue of this packet.
+    pub rxq: RxQueue,
+    /// The processor of the application.
+    pub cpu: Cpu,
+    /// The choice of a transmit queue, without its class, if there was one.
+    pub choice: Option<Choice>,
+    /// The position at the transmit queue, if it was put there.
+    pub put: Option<u32>,
+    /// The place among the packets that left by the port, from 1, if it did.
+    pub port: Option<u32>,
+}
+
+/// The lines of packets.
+pub struct Packets;
+
+/// The lines of replies.
+pub struct Replies;
+
+impl Section<SeenPacket> for Packets {
+    ghost first = { codes "p" };
+
+    ghost shows = { ShowsPacket };
+
+    fn word(&self) -> &'static [u8] {
+        b"p".as_slice()
+    }
+
+    fn item(&self, fields: &Fields<'_>) -> SeenPacket {
+        let put = put(fields);
+        let behind = put_end(put);
+        SeenPacket {
+            queue: RxQueue(byte(fields.at(3))),
+            via: via(fields.at(5)),
+            choice: choice(fields, maybe_word(fields.at(7))),
+            put,
+            app: AppId(byte(fields.at(behind + 1))),
+            inbox: maybe_word(fields.at(behind + 3)),
+        }
+    }
+}
+
+impl Section<SeenReply> for Replies {
+    ghost first = { codes "r" };
+
+    ghost shows = { ShowsReply };
+
+    fn word(&self) -> &'static [u8] {
+        b"r".as_slice()
+    }
+
+    fn item(&self, fields: &Fields<'_>) -> SeenReply {
+        SeenReply {
+            id: PacketId(word(fields.at(1))),
+            rxq: RxQueue(byte(fields.at(5))),
+            cpu: Cpu(byte(fields.at(7))),
+            choice: choice(fields, None),
+            put: maybe_word(fields.at(19)),
+            port: maybe_word(fields.at(21)),
+        }
+    }
+}

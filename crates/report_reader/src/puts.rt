@@ -1,0 +1,53 @@
+//! What became of a packet at its lane.
+ghost use Rattle.std.specs.Prelude.{◌≡◌, Option};
+ghost use Rattle.steer_base.specs.declared.put.DropCause.{DropCause as ACause};
+ghost use Rattle.steer_base.specs.declared.put.Put.{Put as APut};
+ghost use Rattle.report_reader.specs.Seen.{ShowsCause, ShowsPut, put_end as end_of};
+
+use crate::fields::Fields;
+use crate::values::word;
+use steer_base::{DropCause, Put};
+
+// Why a packet was dropped.
+fn cause(fields: &Fields<'_>) -> DropCause
+    ensures { (c : ACause) → ShowsCause fields.now c → result ≡ c }
+{
+    if fields.at(23) == b"flow".as_slice() {
+        DropCause::Flow(word(fields.at(24)))
+    } else {
+        DropCause::Full
+    }
+}
+
+/// The result of the put that the line of a packet shows, if there was one.
+pub fn put(fields: &Fields<'_>) -> Option<Put>
+    ensures { (o : Option APut) → ShowsPut fields.now o → result ≡ o }
+{
+    let first = fields.at(19);
+    if first == b"-".as_slice() {
+        return None;
+    }
+    if first == b"drop".as_slice() {
+        return Some(Put::Dropped {
+            number: word(fields.at(20)),
+            accepted: word(fields.at(21)),
+            pulled: word(fields.at(22)),
+            cause: cause(fields),
+        });
+    }
+    Some(Put::At(word(first)))
+}
+
+/// How many fields there are before those of the application.
+pub fn put_end(put: Option<Put>) -> usize
+    ensures { result ≡ end_of put }
+{
+    match put {
+        None => 20,
+        Some(Put::At(_)) => 20,
+        Some(Put::Dropped { cause, .. }) => match cause {
+            DropCause::Full => 23,
+            DropCause::Flow(_) => 25,
+        },
+    }
+}

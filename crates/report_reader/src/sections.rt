@@ -1,0 +1,64 @@
+//! The sections of a report: lines of one kind, one after the other.
+ghost use Rattle.std.specs.Prelude.{◌≡◌, ◌≤◌, ℕ, List, length, IfOk};
+ghost use Rattle.report_reader.specs.Sections.{Reads};
+
+use crate::fields::Fields;
+use std::alloc::Global;
+use steer_base::OutOfMemory;
+
+/// A kind of lines.
+pub trait Section<T> {
+    /// The first field of each line.
+    ghost first: { List ℕ };
+
+    /// Whether the fields of a line show an item.
+    ghost shows: { T → List (List ℕ) → Type 0 };
+
+    /// The first field of each line.
+    fn word(&self) -> &'static [u8]
+        ensures { result.now ≡ first };
+
+    /// What a line with these fields shows.
+    fn item(&self, fields: &Fields<'_>) -> T
+        ensures { (item : T) → shows item fields.now → result ≡ item };
+}
+
+/// What the lines of a section show, and where the next section begins.
+#[derive(Drop)]
+pub struct Part<T: Drop> {
+    /// What was read.
+    pub items: Vec<T>,
+    /// Where the next section begins.
+    pub next: usize,
+}
+
+/// Reads the lines of a section, at most so many, from a place on.
+pub fn read_section<T: Drop, S: Section<T>>(
+    alloc: Global,
+    bytes: &[u8],
+    at: usize,
+    most: usize,
+    of: &S,
+) -> Result<Part<T>, OutOfMemory>
+    requires { at ≤ length bytes.now }
+    ensures within { IfOk result (λ part. part.next ≤ length bytes.now) }
+    ensures reads { IfOk result
+        (λ part. Reads S.first S.shows bytes.now at most part.items.items part.next) }
+{
+    let mut fields = Fields::make(alloc);
+    let mut items = Vec::new(alloc);
+    let mut next = at;
+    while next < bytes.len() {
+        if items.len() == most {
+            return Ok(Part { items, next });
+        }
+        let after = fields.read(bytes, next)?;
+        if fields.at(0) == of.word() {
+            items.push(of.item(&fields))?;
+            next = after;
+        } else {
+            return Ok(Part { items, next });
+        }
+    }
+    Ok(Part { items, next })
+}

@@ -1,0 +1,115 @@
+//! The lines of receive queues, processors and transmit queues, and of socket writes.
+ghost use Rattle.std.specs.Prelude.{◌≡◌, codes};
+ghost use Rattle.report_reader.specs.declared.sums.LaneSums.{LaneSums as ASums};
+ghost use Rattle.report_reader.specs.Sums.{ShowsSums, ShowsTaken, ShowsWrite};
+
+use crate::fields::Fields;
+use crate::sections::Section;
+use crate::values::{byte, word};
+use history::SockWrite;
+use steer_base::{AppId, Cpu};
+
+/// How many packets of a lane were pulled, delivered and retired.
+#[derive(Clone, Copy, Debug, PartialEq, Eq, Drop)]
+pub struct LaneSums {
+    /// The number of packets that were pulled.
+    pub pulled: u32,
+    /// The number of packets that were delivered.
+    pub delivered: u32,
+    /// The number of packets that were retired.
+    pub retired: u32,
+}
+
+/// A write of the socket flow table with its application.
+#[derive(Clone, Copy, Debug, PartialEq, Eq, Drop)]
+pub struct AppWrite {
+    /// The application.
+    pub app: AppId,
+    /// Its write.
+    pub write: SockWrite,
+}
+
+/// The lines of receive queues: the number of packets that were taken.
+pub struct Queues;
+
+/// The lines of processors.
+pub struct Cpus;
+
+/// The lines of transmit queues.
+pub struct Txs;
+
+/// The lines of socket writes.
+pub struct Writes;
+
+// The sums that the line of a lane shows.
+fn sums(fields: &Fields<'_>) -> LaneSums
+    ensures { (s : ASums) → ShowsSums s fields.now → result ≡ s }
+{
+    LaneSums {
+        pulled: word(fields.at(5)),
+        delivered: word(fields.at(7)),
+        retired: word(fields.at(9)),
+    }
+}
+
+impl Section<u32> for Queues {
+    ghost first = { codes "queue" };
+
+    ghost shows = { ShowsTaken };
+
+    fn word(&self) -> &'static [u8] {
+        b"queue".as_slice()
+    }
+
+    fn item(&self, fields: &Fields<'_>) -> u32 {
+        word(fields.at(5))
+    }
+}
+
+impl Section<LaneSums> for Cpus {
+    ghost first = { codes "cpu" };
+
+    ghost shows = { ShowsSums };
+
+    fn word(&self) -> &'static [u8] {
+        b"cpu".as_slice()
+    }
+
+    fn item(&self, fields: &Fields<'_>) -> LaneSums {
+        sums(fields)
+    }
+}
+
+impl Section<LaneSums> for Txs {
+    ghost first = { codes "tx" };
+
+    ghost shows = { ShowsSums };
+
+    fn word(&self) -> &'static [u8] {
+        b"tx".as_slice()
+    }
+
+    fn item(&self, fields: &Fields<'_>) -> LaneSums {
+        sums(fields)
+    }
+}
+
+impl Section<AppWrite> for Writes {
+    ghost first = { codes "w" };
+
+    ghost shows = { ShowsWrite };
+
+    fn word(&self) -> &'static [u8] {
+        b"w".as_slice()
+    }
+
+    fn item(&self, fields: &Fields<'_>) -> AppWrite {
+        AppWrite {
+            app: AppId(byte(fields.at(2))),
+            write: SockWrite {
+                entry: word(fields.at(4)),
+                cpu: Cpu(byte(fields.at(6))),
+            },
+        }
+    }
+}
