@@ -1,0 +1,2 @@
+mod SweptLemmas
+mod WritesLemmas

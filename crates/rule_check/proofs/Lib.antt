@@ -1,0 +1,4 @@
+pub mod ChainsLemmas
+pub mod EntriesLemmas
+mod RulesLemmas
+mod TurnsLemmas

@@ -1,0 +1,4 @@
+pub mod Chains
+pub mod Pairs
+pub mod Rules
+pub mod Turns
