@@ -6,6 +6,7 @@ use Rattle.std.specs.Prelude.{◌==◌, filter}
 use Rattle.std.specs.Option.{option_map}
 use Rattle.std.proofs.lemmas.Bool.{cases_Bool, cases_eq, eq-eqb, ne_eqb}
 use Rattle.std.proofs.lemmas.List.{append_cancel_left, get_or-set_other, get_or-set_same}
+use Rattle.std.proofs.lemmas.List.{length-set}
 use Rattle.std.proofs.lemmas.List.{take_more}
 use Rattle.std.proofs.Math.Seq.{drop-cons}
 use Rattle.std.proofs.lemmas.List.Elements.{filter-append}
@@ -74,52 +75,63 @@ chain-kept next id v from (x ∷ xs) n h = elim (cases_eq id x) [
       )
 ]
 
--- no packets have no chain
-pub chained-none : (classes : List (Option ℕ)) (chains : Chains)
-    → ((class : ℕ) → get_or chains.first.items class None ≡ None)
-    → AreChained classes chains []
-chained-none classes chains h class l = h class
+-- the chains of packets and what has left of them, over lists
+abbrev pub Chained : (classes first next : List (Option ℕ)) → List ℕ → Type 0
+Chained classes first next xs =
+    (class : ℕ) → class < length first → IsChain next (get_or first class None) (of classes class xs)
+
+abbrev pub Left : (classes first next : List (Option ℕ)) → List ℕ → List ℕ → Type 0
+Left classes first next came gone =
+    (class : ℕ) → class < length first
+    → (rest : List ℕ) × IsChain next (get_or first class None) rest
+    × (of classes class gone ++ rest ≡ of classes class came)
 
 -- the chains with a packet of a class put first
-module _ (classes : List (Option ℕ)) (old new : Chains) (id k : ℕ)
-    (is : get_or classes id None ≡ Some k) (within : id < length old.next.items)
-    (class : k < length old.first.items)
-    (next : new.next.items ≡ set old.next.items id (get_or old.first.items k None))
-    (first : new.first.items ≡ set old.first.items k (Some id)) where
-  first-at : (c : ℕ) → c ≢ k → get_or new.first.items c None ≡ get_or old.first.items c None
-  first-at c ne = ap (λ l. get_or l c None) first
-      ∙ get_or-set_other old.first.items k c (Some id) None ne
+module _ (classes first next : List (Option ℕ)) (id k : ℕ)
+    (is : get_or classes id None ≡ Some k) (within : id < length next)
+    (class : k < length first) where
+  abbrev later : List (Option ℕ)
+  later = set next id (get_or first k None)
 
-  pub chained-first : (xs : List ℕ) → length new.first.items ≡ length old.first.items
-      → AreChained classes old xs → place_in id xs ≡ None → AreChained classes new (id ∷ xs)
-  chained-first xs size h n c l = elim (cases_eq c k) [
-    | inl same ↦
-        let own : of classes c (id ∷ xs) ≡ id ∷ of classes c xs = of-own classes c id xs
-        (is ∙ ap (λ j. Some j) (sym same)) in
-        let f : get_or new.first.items c None ≡ Some id =
-        ap (λ l. get_or l c None) first ∙ ap (λ j. get_or (set old.first.items k (Some id)) j None)
-        same ∙ get_or-set_same old.first.items k (Some id) None class in
-        let m : get_or new.next.items id None ≡ get_or old.first.items c None =
-        ap (λ l. get_or l id None) next
-        ∙ get_or-set_same old.next.items id (get_or old.first.items k None) None within
-        ∙ ap (λ j. get_or old.first.items j None) (sym same) in
-        let kept : IsChain new.next.items (get_or old.first.items c None) (of classes c xs) =
-        subst (λ l. IsChain l (get_or old.first.items c None) (of classes c xs)) (sym next)
-        (chain-kept old.next.items id (get_or old.first.items k None)
-        (get_or old.first.items c None) (of classes c xs) (lacks-of classes c id xs n)
-        (h c (omega (arith, l, size)))) in
-        subst (λ ys. IsChain new.next.items (get_or new.first.items c None) ys) (sym own)
-        (f, subst (λ o. IsChain new.next.items o (of classes c xs)) (sym m) kept)
-    | inr ne ↦
-        let kept : IsChain new.next.items (get_or old.first.items c None) (of classes c xs) =
-        subst (λ l. IsChain l (get_or old.first.items c None) (of classes c xs)) (sym next)
-        (chain-kept old.next.items id (get_or old.first.items k None)
-        (get_or old.first.items c None) (of classes c xs) (lacks-of classes c id xs n)
-        (h c (omega (arith, l, size)))) in
-        subst (λ ys. IsChain new.next.items (get_or new.first.items c None) ys)
-        (sym (of-other classes c k id xs is ne))
-        (subst (λ o. IsChain new.next.items o (of classes c xs)) (sym (first-at c ne)) kept)
-  ]
+  abbrev firsts : List (Option ℕ)
+  firsts = set first k (Some id)
+
+  chained-first : (xs : List ℕ) → Chained classes first next xs → place_in id xs ≡ None
+      → Chained classes firsts later (id ∷ xs)
+  chained-first xs h n c l =
+      let l' : c < length first = omega (arith, l, length-set first k (Some id)) in
+      let kept : IsChain later (get_or first c None) (of classes c xs) =
+      chain-kept next id (get_or first k None) (get_or first c None) (of classes c xs)
+      (lacks-of classes c id xs n) (h c l') in
+      elim (cases_eq c k) [
+        | inl same ↦
+            let own : of classes c (id ∷ xs) ≡ id ∷ of classes c xs = of-own classes c id xs
+            (is ∙ ap (λ j. Some j) (sym same)) in
+            let f : get_or firsts c None ≡ Some id =
+            ap (λ j. get_or firsts j None) same ∙ get_or-set_same first k (Some id) None class in
+            let m : get_or later id None ≡ get_or first c None =
+            get_or-set_same next id (get_or first k None) None within
+            ∙ ap (λ j. get_or first j None) (sym same) in
+            subst (λ ys. IsChain later (get_or firsts c None) ys) (sym own)
+            (f, subst (λ o. IsChain later o (of classes c xs)) (sym m) kept)
+        | inr ne ↦
+            let f : get_or firsts c None ≡ get_or first c None =
+            get_or-set_other first k c (Some id) None ne in
+            subst (λ ys. IsChain later (get_or firsts c None) ys)
+            (sym (of-other classes c k id xs is ne))
+            (subst (λ o. IsChain later o (of classes c xs)) (sym f) kept)
+      ]
+
+pub put-first : (classes first next : List (Option ℕ)) (at id k : ℕ) (v : Option ℕ) → at ≡ id
+    → v ≡ get_or first k None → get_or classes at None ≡ Some k → at < length next
+    → k < length first → (xs : List ℕ) → Chained classes first next xs → place_in id xs ≡ None
+    → Chained classes (set first k (Some id)) (set next at v) (id ∷ xs)
+put-first classes first next at id k v same value is within class xs h n =
+    let is' : get_or classes id None ≡ Some k = ap (λ a. get_or classes a None) (sym same) ∙ is in
+    let e : set next id (get_or first k None) ≡ set next at v =
+    ap (λ a. set next a (get_or first k None)) (sym same) ∙ ap (set next at) (sym value) in
+    subst (λ later. Chained classes (set first k (Some id)) later (id ∷ xs)) e
+    (chained-first classes first next id k is' (omega (arith, same, within)) class xs h n)
 
 -- a packet without a class changes nothing
 pub chained-plain : (classes : List (Option ℕ)) (chains : Chains) (id : ℕ) (xs : List ℕ)
@@ -159,47 +171,36 @@ chain-head next from id (x ∷ xs) e h =
     (xs, ap (λ y. y ∷ xs) same, subst (λ y. IsChain next (get_or next y None) xs) same h.1)
 
 -- the first packet of a class leaves
-module _ (classes : List (Option ℕ)) (old new : Chains) (id k : ℕ)
-    (is : get_or classes id None ≡ Some k) (class : k < length old.first.items)
-    (began : get_or old.first.items k None ≡ Some id)
-    (next : new.next.items ≡ old.next.items)
-    (first : new.first.items ≡ set old.first.items k (get_or old.next.items id None)) where
-  pub left-first : (came gone : List ℕ) → length new.first.items ≡ length old.first.items
-      → AreLeft classes old came gone → AreLeft classes new came (gone ++ id ∷ [])
-  left-first came gone size h c l =
-      let w = h c (omega (arith, l, size)) in
-      elim (cases_eq c k) [
-        | inl same ↦
-            let own : get_or classes id None ≡ Some c = is ∙ ap (λ j. Some j) (sym same) in
-            let r = chain-head old.next.items (get_or old.first.items c None) id w.0
-            (ap (λ j. get_or old.first.items j None) same ∙ began) w.1 in
-            let f : get_or new.first.items c None ≡ get_or old.next.items id None =
-            ap (λ l. get_or l c None) first
-            ∙ ap (λ j. get_or (set old.first.items k (get_or old.next.items id None)) j None) same
-            ∙ get_or-set_same old.first.items k (get_or old.next.items id None) None class in
-            let chain : IsChain new.next.items (get_or new.first.items c None) r.0 =
-            subst (λ o. IsChain new.next.items o r.0) (sym f)
-            (subst (λ l. IsChain l (get_or old.next.items id None) r.0) (sym next) r.2) in
-            let grown : of classes c (gone ++ id ∷ []) ≡ of classes c gone ++ id ∷ [] =
-            of-append classes c gone (id ∷ []) ∙ ap (λ ys. of classes c gone ++ ys)
-            (of-own classes c id [] own) in (
-              r.0,
-              chain,
-              ap (λ ys. ys ++ r.0) grown ∙ append_assoc (of classes c gone) (id ∷ []) r.0
-                  ∙ ap (λ ys. of classes c gone ++ ys) (sym r.1) ∙ w.2,
-            )
-        | inr ne ↦
-            let f : get_or new.first.items c None ≡ get_or old.first.items c None =
-            ap (λ l. get_or l c None) first
-            ∙ get_or-set_other old.first.items k c (get_or old.next.items id None) None ne in
-            let chain : IsChain new.next.items (get_or new.first.items c None) w.0 =
-            subst (λ o. IsChain new.next.items o w.0) (sym f)
-            (subst (λ l. IsChain l (get_or old.first.items c None) w.0) (sym next) w.1) in
-            let same : of classes c (gone ++ id ∷ []) ≡ of classes c gone =
-            of-append classes c gone (id ∷ []) ∙ ap (λ ys. of classes c gone ++ ys)
-            (of-other classes c k id [] is ne) ∙ append-nil (of classes c gone) in
-            (w.0, chain, ap (λ ys. ys ++ w.0) same ∙ w.2)
-      ]
+pub left-first : (classes first next : List (Option ℕ)) (id k : ℕ) (v : Option ℕ)
+    → v ≡ get_or next id None → get_or classes id None ≡ Some k → k < length first
+    → get_or first k None ≡ Some id → (came gone : List ℕ) → Left classes first next came gone
+    → Left classes (set first k v) next came (gone ++ id ∷ [])
+left-first classes first next id k v value is class began came gone h c l =
+    let w = h c (omega (arith, l, length-set first k v)) in
+    elim (cases_eq c k) [
+      | inl same ↦
+          let own : get_or classes id None ≡ Some c = is ∙ ap (λ j. Some j) (sym same) in
+          let r = chain-head next (get_or first c None) id w.0
+          (ap (λ j. get_or first j None) same ∙ began) w.1 in
+          let f : get_or (set first k v) c None ≡ get_or next id None =
+          ap (λ j. get_or (set first k v) j None) same ∙ get_or-set_same first k v None class
+          ∙ value in
+          let grown : of classes c (gone ++ id ∷ []) ≡ of classes c gone ++ id ∷ [] =
+          of-append classes c gone (id ∷ []) ∙ ap (λ ys. of classes c gone ++ ys)
+          (of-own classes c id [] own) in (
+            r.0,
+            subst (λ o. IsChain next o r.0) (sym f) r.2,
+            ap (λ ys. ys ++ r.0) grown ∙ append_assoc (of classes c gone) (id ∷ []) r.0
+                ∙ ap (λ ys. of classes c gone ++ ys) (sym r.1) ∙ w.2,
+          )
+      | inr ne ↦
+          let f : get_or (set first k v) c None ≡ get_or first c None =
+          get_or-set_other first k c v None ne in
+          let same : of classes c (gone ++ id ∷ []) ≡ of classes c gone =
+          of-append classes c gone (id ∷ []) ∙ ap (λ ys. of classes c gone ++ ys)
+          (of-other classes c k id [] is ne) ∙ append-nil (of classes c gone) in
+          (w.0, subst (λ o. IsChain next o w.0) (sym f) w.1, ap (λ ys. ys ++ w.0) same ∙ w.2)
+    ]
 
 chain-front : (next : List (Option ℕ)) (from : Option ℕ) (id : ℕ) (rest more : List ℕ)
     → rest ≡ id ∷ more → IsChain next from rest → from ≡ Some id

@@ -1,9 +1,8 @@
-use Rattle.std.proofs.Common.{ℕ, ◌≡◌, ◌<◌, ◌∷◌, Some, None, arith, length, refl, subst, sym}
+use Rattle.std.proofs.Common.{ℕ, ◌≡◌, ◌<◌, ◌∷◌, ◌∙◌, Some, None, arith, length, refl, subst, sym}
 use Rattle.std.specs.Prelude.{slice_index_or}
 use Rattle.std.specs.Option.{ForSome}
-use Rattle.steer_base.specs.Entries.{place_in}
-use Rattle.rule_check.specs.Chains.{AreChained}
-use Rattle.rule_check.proofs.ChainsLemmas.{chained-first}
+use Rattle.std.proofs.lemmas.List.{get_or_default}
+use Rattle.rule_check.proofs.ChainsLemmas.{put-first}
 use Rattle.rule_check.proofs.chains.Chains.put_first.Goals as goal
 
 pub returns-in-Some-clause-chained : goal.returns-in-Some-clause-chained
@@ -16,10 +15,10 @@ returns-in-Some-clause-chained c = λ xs h n.
     let own : ForSome (slice_index_or classes x None) (λ k. k < length old.first.items) =
     subst (λ y. ForSome (slice_index_or classes y None) (λ k. k < length old.first.items)) (sym v)
     c.requires.classes in
-    let class : c.in-Some.class < length old.first.items =
-    own c.in-Some.class is in
+    let class : c.in-Some.class < length old.first.items = own c.in-Some.class is in
     let within : x < length old.next.items =
     omega (arith, v, c.requires.within, c.requires.packets) in
-    subst (λ y. AreChained classes c.index_mut-in-Some.new.self (y ∷ xs)) v
-    (chained-first classes old c.index_mut-in-Some.new.self x c.in-Some.class is within class
-    refl refl xs (grind arith) h (subst (λ y. place_in y xs ≡ None) (sym v) n))
+    put-first classes old.first.items old.next.items x c.args.id c.in-Some.class c.index.result.now
+    v (c.index.ensures
+    ∙ get_or_default old.first.items c.in-Some.class c.index.result.now None class)
+    is within class xs h n
