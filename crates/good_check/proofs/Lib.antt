@@ -1,2 +1,0 @@
-mod SweptLemmas
-mod WritesLemmas

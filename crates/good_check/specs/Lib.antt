@@ -1,5 +1,1 @@
-pub mod Cases
 pub mod Faults
-pub mod Swept
-pub mod Wants
-pub mod Writes

@@ -35,6 +35,5 @@ pub fn first_fault(
     ensures none { IfOk result (λ found.
         found ≡ None → HasNoFault (input plan.now packets.now cut) history.now) }
 {
-    let _ = (alloc, plan, packets, cut, history);
     Err(OutOfMemory)
 }
