@@ -1,6 +1,16 @@
-//! Decides whether a history is good, and which clause it fails first.
+//! Decides clauses of a good history, for a plan without commands.
 #![tactic(auto)]
 
-mod faults;
+mod arrived;
+mod case;
+mod choices;
+mod drops;
+mod heads;
+mod places;
+mod positions;
+mod queues;
+mod swept;
+mod wants;
+mod writes;
 
-pub use faults::first_fault;
+pub use case::Case;

@@ -1,6 +1,8 @@
 -- Chains of packets, as packets are put before them and taken out of them.
-use Rattle.std.proofs.Common.{ℕ, zero, suc, ◌≡◌, ◌≢◌, ◌<◌, ◌≤◌, ◌+◌, ◌++◌, Bool, true, false, List, []}
-use Rattle.std.proofs.Common.{◌∷◌, Option, Some, None, drop, length, set, take, refl, ap, ◌∙◌, sym, arith}
+use Rattle.std.proofs.Common.{ℕ, zero, suc, ◌≡◌, ◌≢◌, ◌<◌, ◌≤◌, ◌+◌, ◌++◌, Bool, true, false}
+use Rattle.std.proofs.Common.{List, []}
+use Rattle.std.proofs.Common.{◌∷◌, Option, Some, None, drop, length, set, take, refl, ap, ◌∙◌}
+use Rattle.std.proofs.Common.{sym, arith}
 use Rattle.std.proofs.Common.{get_or, inl, inr, subst, append_assoc, append-nil}
 use Rattle.std.specs.Prelude.{◌==◌, filter}
 use Rattle.std.specs.Option.{option_map}
@@ -13,7 +15,8 @@ use Rattle.std.proofs.lemmas.List.Elements.{filter-append}
 use Rattle.steer_base.specs.Entries.{is_class, place_in}
 use Rattle.steer_base.specs.Orders.{IsPrefix}
 use Rattle.history.specs.Finding.{Once}
-use Rattle.history.proofs.SamePlaces.{Once-head, Once-tail, front_or, place-here, place-past, some_same}
+use Rattle.history.proofs.SamePlaces.{Once-head, Once-tail, front_or, place-here, place-past}
+use Rattle.history.proofs.SamePlaces.{some_same}
 use Rattle.rule_check.specs.Chains.{AreChained, AreLeft, IsChain, is_of, of}
 use Rattle.rule_check.specs.declared.chains.Chains.{Chains}
 
@@ -78,7 +81,8 @@ chain-kept next id v from (x ∷ xs) n h = elim (cases_eq id x) [
 -- the chains of packets and what has left of them, over lists
 abbrev pub Chained : (classes first next : List (Option ℕ)) → List ℕ → Type 0
 Chained classes first next xs =
-    (class : ℕ) → class < length first → IsChain next (get_or first class None) (of classes class xs)
+    (class : ℕ) → class < length first
+    → IsChain next (get_or first class None) (of classes class xs)
 
 abbrev pub Left : (classes first next : List (Option ℕ)) → List ℕ → List ℕ → Type 0
 Left classes first next came gone =

@@ -89,8 +89,7 @@ module _ (law : TableIsEntries) (start count : ℕ) (exact : Bool) (accepted : �
       (h 0 c (omega arith)) in
       let rest : AreByTurns asks (table-after (before ++ (c ∷ []))) cs =
       all-from-to (before ++ (c ∷ [])) cs (λ k d l. subst (λ b. ByEntry b (get_or cs k d))
-      (sym (append_assoc before (c ∷ []) (take k cs))) (h (suc k) d (omega (arith, l)))) in
-      (
+      (sym (append_assoc before (c ∷ []) (take k cs))) (h (suc k) d (omega (arith, l)))) in (
         first ∙ sym (at_entry before c),
         subst (λ t. AreByTurns asks t cs) (next before c) rest,
       )

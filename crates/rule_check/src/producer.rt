@@ -23,17 +23,18 @@ pub trait Producer {
 }
 
 // Whether all choices of a producer are by the rule, from a table on.
-pub fn are_by_rule<P: Producer>(
-    table: &mut DevTable,
-    choices: &[Chosen],
-    producer: &P,
-) -> bool
+pub fn are_by_rule<P: Producer>(table: &mut DevTable, choices: &[Chosen], producer: &P) -> bool
     requires { (c : AChosen) → IsClassOf table.old ((P.questions producer.now).class c) }
     ensures yes { result ≡ true → AreByTurns (P.questions producer.now) table.old choices.now }
     ensures no { AreByTurns (P.questions producer.now) table.old choices.now → result ≡ true }
 {
     for chosen in choices {
-        if !is_turn(table, *chosen, producer.question(*chosen), producer.online()) {
+        if !is_turn(
+            table,
+            *chosen,
+            producer.question(*chosen),
+            producer.online(),
+        ) {
             return false;
         }
     }

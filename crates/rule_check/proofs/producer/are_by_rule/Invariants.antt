@@ -9,4 +9,5 @@ invariant-loop-chosen g l = record {
   back : AreByTurns (g.P.Producer.questions l.producer) l.table (drop l.chosen-index l.choices)
       → AreByTurns (g.P.Producer.questions l.producer) l.initial.table l.choices;
   on : AreByTurns (g.P.Producer.questions l.producer) l.initial.table l.choices
-      → AreByTurns (g.P.Producer.questions l.producer) l.table (drop l.chosen-index l.choices) }
+      → AreByTurns (g.P.Producer.questions l.producer) l.table (drop l.chosen-index l.choices);
+}

@@ -7,4 +7,5 @@ invariant-loop-id l = record {
   left : (came gone : List ℕ) → AreLeft l.classes l.initial.self came gone
       → AreLeft l.classes l.self came (gone ++ take l.id-index l.leaving);
   first : length l.self.first.items ≡ length l.initial.self.first.items;
-  next : length l.self.next.items ≡ length l.initial.self.next.items }
+  next : length l.self.next.items ≡ length l.initial.self.next.items;
+}

@@ -7,7 +7,8 @@ invariant-loop-left l = record {
   within : l.left ≤ length l.came;
   chained : AreChained l.classes l.chains (drop l.left l.came);
   first : length l.chains.first.items ≡ l.count;
-  next : length l.chains.next.items ≡ length l.classes }
+  next : length l.chains.next.items ≡ length l.classes;
+}
 
 abbrev pub decreases-loop-left : goal.decreases-loop-left
 decreases-loop-left l = l.left
