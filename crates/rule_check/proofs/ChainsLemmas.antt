@@ -1,10 +1,9 @@
 -- Chains of packets, as packets are put before them and taken out of them.
-use Rattle.std.proofs.Common.{ℕ, zero, suc, ◌≡◌, ◌≢◌, ◌<◌, ◌≤◌, ◌+◌, ◌++◌, Bool, true, false}
+use Rattle.std.proofs.Common.{ℕ, zero, suc, ◌≡◌, ◌≢◌, ◌<◌, ◌+◌, ◌++◌, true, false}
 use Rattle.std.proofs.Common.{List, []}
 use Rattle.std.proofs.Common.{◌∷◌, Option, Some, None, drop, length, set, take, refl, ap, ◌∙◌}
 use Rattle.std.proofs.Common.{sym, arith}
 use Rattle.std.proofs.Common.{get_or, inl, inr, subst, append_assoc, append-nil}
-use Rattle.std.specs.Prelude.{◌==◌, filter}
 use Rattle.std.specs.Option.{option_map}
 use Rattle.std.proofs.lemmas.Bool.{cases_Bool, cases_eq, eq-eqb, ne_eqb}
 use Rattle.std.proofs.lemmas.List.{append_cancel_left, get_or-set_other, get_or-set_same}

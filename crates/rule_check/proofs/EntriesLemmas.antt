@@ -1,5 +1,5 @@
 -- Turn by turn over a table, or each by the entries of the lists before it: the same.
-use Rattle.std.proofs.Common.{ℕ, zero, suc, ◌≡◌, ◌<◌, ◌++◌, Bool, List, [], ◌∷◌, Option, Some}
+use Rattle.std.proofs.Common.{ℕ, zero, suc, ◌≡◌, ◌<◌, ◌++◌, Bool, List, [], ◌∷◌, Some}
 use Rattle.std.proofs.Common.{length, take, map, refl, ap, ◌∙◌, sym, arith, get_or, subst}
 use Rattle.std.proofs.Common.{append_assoc, append-nil}
 use Rattle.std.specs.Prelude.{unwrap_or}

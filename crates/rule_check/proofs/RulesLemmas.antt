@@ -1,5 +1,5 @@
 -- What a choice by the rule has: a head exactly where the rule looks at one, and its class.
-use Rattle.std.proofs.Common.{ℕ, ◌≡◌, Bool, true, false, ◌==◌, Option, Some, None, refl, ap, ◌∙◌}
+use Rattle.std.proofs.Common.{ℕ, ◌≡◌, Bool, ◌==◌, Option, Some, None, refl, ap, ◌∙◌}
 use Rattle.std.proofs.Common.{sym, inl, inr}
 use Rattle.std.specs.Prelude.{unwrap_or}
 use Rattle.std.specs.Option.{is_some, option_map}

@@ -1,4 +1,4 @@
-use Rattle.std.proofs.Common.{◌≡◌, ◌∙◌, ap}
+use Rattle.std.proofs.Common.{◌∙◌, ap}
 use Rattle.dev_flow_table.specs.Tables.{recorded}
 use Rattle.rule_check.proofs.RulesLemmas.{class-is, placed-nowhere, placed-there}
 use Rattle.rule_check.proofs.weighing.is_turn.Goals as goal

@@ -1,4 +1,3 @@
-use Rattle.std.proofs.Common.{ℕ, ◌≡◌, Some, None}
 use Rattle.rule_check.specs.Currents.{lane_in}
 use Rattle.rule_check.proofs.CurrentsLemmas.{current-noted}
 use Rattle.rule_check.proofs.currents.CurrentLanes.note.Goals as goal
