@@ -30,7 +30,7 @@ place-at x p (y ∷ ys) h = elim (cases_eq x y) [
       let m = map_some suc (place_in x ys) p (sym (place-past x y ys ne) ∙ h) in
       let i = place-at x m.0 ys m.1 in
       let w : (0 < suc m.0) × (suc m.0 ≤ length (y ∷ ys))
-          × (get_or (y ∷ ys) (suc m.0 - 1) 0 ≡ x) = (
+      × (get_or (y ∷ ys) (suc m.0 - 1) 0 ≡ x) = (
         omega arith,
         omega (arith, i.1),
         at-back x (y ∷ ys) (suc (m.0 - 1)) (suc m.0 - 1)

@@ -1,0 +1,11 @@
+mod HeadsLemmas
+mod ListLemmas
+mod PlacesLemmas
+mod PositionsLemmas
+mod QueuesLemmas
+mod SweptLemmas
+mod ArrivedLemmas
+mod ChoicesLemmas
+mod DropsLemmas
+mod WantsLemmas
+mod WritesLemmas

@@ -1,0 +1,11 @@
+pub mod Cases
+pub mod Choices
+pub mod Drops
+pub mod Faults
+pub mod Heads
+pub mod Places
+pub mod Positions
+pub mod Queues
+pub mod Swept
+pub mod Wants
+pub mod Writes

@@ -1,0 +1,16 @@
+//! Decides clauses of a good history, for a plan without commands.
+#![tactic(auto)]
+
+mod arrived;
+mod case;
+mod choices;
+mod drops;
+mod heads;
+mod places;
+mod positions;
+mod queues;
+mod swept;
+mod wants;
+mod writes;
+
+pub use case::Case;

@@ -1,0 +1,5 @@
+pub mod ChainsLemmas
+pub mod EntriesLemmas
+mod CurrentsLemmas
+mod RulesLemmas
+mod TurnsLemmas
