@@ -1,4 +1,4 @@
-//! The threads of a run beside its workers: the wire and the controller.
+//! The threads of a run beside its workers: the wire, and one try of a command of the controller.
 #![tactic(auto)]
 
 mod gated;
