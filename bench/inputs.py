@@ -76,6 +76,7 @@ def main():
     inputs = {
         "generated": (generated(7, PACKETS), capture(7, PACKETS, 512)),
         "wide": (wide(7), capture(7, PACKETS, 20_000)),
+        "swept": (dict(wide(7), steps=["sweep"]), capture(7, PACKETS, 20_000)),
     }
     for name, (plan, frames) in inputs.items():
         text = json.dumps(plan, sort_keys=True, separators=(",", ":"))
