@@ -27,7 +27,7 @@ returns c =
     let plan = c.args.plan.now in
     let packets = c.args.packets.now in
     let all : c.loop.counter ≡ step_count plan =
-    omega (arith, c.loop.auto.counter-end, c.loop-test.false, c.step_count-counter-end.ensures) in
+    omega (arith, c.loop.auto.counter-end, c.loop-test.false, c.step_count-end.ensures) in
     let last = c.loop.invariant.run ∙ ap (run_at plan packets c.args.cut) all in
     subst (λ (r : Run). IfOk c.history.result (λ history. history ≡ history_of r.machine)) last
     c.history.ensures
