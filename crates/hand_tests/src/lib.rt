@@ -4,8 +4,6 @@
 #[cfg(test)]
 mod bench;
 #[cfg(test)]
-mod desks;
-#[cfg(test)]
 mod drains;
 #[cfg(test)]
 mod first_words;
@@ -17,7 +15,5 @@ mod gates;
 mod hands;
 #[cfg(test)]
 mod pollers;
-#[cfg(test)]
-mod servers;
 #[cfg(test)]
 mod threads;
