@@ -16,7 +16,7 @@ use Rattle.steer_base.specs.Orders.{IsPrefix}
 use Rattle.history.specs.Finding.{Once}
 use Rattle.history.proofs.SamePlaces.{Once-head, Once-tail, front_or, place-here, place-past}
 use Rattle.history.proofs.SamePlaces.{some_same}
-use Rattle.rule_check.specs.Chains.{AreChained, AreLeft, IsChain, is_of, of}
+use Rattle.rule_check.specs.Chains.{AreChained, AreLeft, IsChain, is_in_class, in_class}
 use Rattle.rule_check.specs.declared.chains.Chains.{Chains}
 
 -- a packet's own class, and no other
@@ -26,36 +26,36 @@ own-class k = eq-eqb k k refl
 other-class : (c k : ℕ) → c ≢ k → is_class c (Some k) ≡ false
 other-class c k ne = ne_eqb c k ne
 
-pub of-own : (classes : List (Option ℕ)) (k x : ℕ) (xs : List ℕ) → get_or classes x None ≡ Some k
-    → of classes k (x ∷ xs) ≡ x ∷ of classes k xs
-of-own classes k x xs e =
-    let t : is_of classes k x ≡ true = ap (is_class k) e ∙ own-class k in rw t refl
+pub in_class-own : (classes : List (Option ℕ)) (k x : ℕ) (xs : List ℕ)
+    → get_or classes x None ≡ Some k → in_class classes k (x ∷ xs) ≡ x ∷ in_class classes k xs
+in_class-own classes k x xs e =
+    let t : is_in_class classes k x ≡ true = ap (is_class k) e ∙ own-class k in rw t refl
 
-pub of-other : (classes : List (Option ℕ)) (c k x : ℕ) (xs : List ℕ)
-    → get_or classes x None ≡ Some k → c ≢ k → of classes c (x ∷ xs) ≡ of classes c xs
-of-other classes c k x xs e ne =
-    let t : is_of classes c x ≡ false = ap (is_class c) e ∙ other-class c k ne in rw t refl
+pub in_class-other : (classes : List (Option ℕ)) (c k x : ℕ) (xs : List ℕ)
+    → get_or classes x None ≡ Some k → c ≢ k → in_class classes c (x ∷ xs) ≡ in_class classes c xs
+in_class-other classes c k x xs e ne =
+    let t : is_in_class classes c x ≡ false = ap (is_class c) e ∙ other-class c k ne in rw t refl
 
-pub of-none : (classes : List (Option ℕ)) (c x : ℕ) (xs : List ℕ)
-    → get_or classes x None ≡ None → of classes c (x ∷ xs) ≡ of classes c xs
-of-none classes c x xs e =
-    let t : is_of classes c x ≡ false = ap (is_class c) e in rw t refl
+pub in_class-none : (classes : List (Option ℕ)) (c x : ℕ) (xs : List ℕ)
+    → get_or classes x None ≡ None → in_class classes c (x ∷ xs) ≡ in_class classes c xs
+in_class-none classes c x xs e =
+    let t : is_in_class classes c x ≡ false = ap (is_class c) e in rw t refl
 
 -- what is not in a list is not among those of a class there
 some-suc : (o : Option ℕ) → option_map suc o ≡ None → o ≡ None
 some-suc None e = refl
 some-suc (Some n) e = absurd (cc)
 
-lacks-of : (classes : List (Option ℕ)) (c x : ℕ) (xs : List ℕ) → place_in x xs ≡ None
-    → place_in x (of classes c xs) ≡ None
-lacks-of classes c x [] e = refl
-lacks-of classes c x (y ∷ ys) e = elim (cases_eq x y) [
+lacks-in_class : (classes : List (Option ℕ)) (c x : ℕ) (xs : List ℕ) → place_in x xs ≡ None
+    → place_in x (in_class classes c xs) ≡ None
+lacks-in_class classes c x [] e = refl
+lacks-in_class classes c x (y ∷ ys) e = elim (cases_eq x y) [
   | inl same ↦ let f : place_in x (y ∷ ys) ≡ Some 1 = place-here x y ys same in absurd (cc)
   | inr ne ↦
-      let rest : place_in x (of classes c ys) ≡ None =
-      lacks-of classes c x ys (some-suc (place_in x ys) (sym (place-past x y ys ne) ∙ e)) in
-      elim (cases_Bool (is_of classes c y)) [
-        | inl t ↦ rw t (place-past x y (of classes c ys) ne ∙ ap (option_map suc) rest)
+      let rest : place_in x (in_class classes c ys) ≡ None =
+      lacks-in_class classes c x ys (some-suc (place_in x ys) (sym (place-past x y ys ne) ∙ e)) in
+      elim (cases_Bool (is_in_class classes c y)) [
+        | inl t ↦ rw t (place-past x y (in_class classes c ys) ne ∙ ap (option_map suc) rest)
         | inr f ↦ rw f rest
       ]
 ]
@@ -81,13 +81,13 @@ chain-kept next id v from (x ∷ xs) n h = elim (cases_eq id x) [
 abbrev pub Chained : (classes first next : List (Option ℕ)) → List ℕ → Type 0
 Chained classes first next xs =
     (class : ℕ) → class < length first
-    → IsChain next (get_or first class None) (of classes class xs)
+    → IsChain next (get_or first class None) (in_class classes class xs)
 
 abbrev pub Left : (classes first next : List (Option ℕ)) → List ℕ → List ℕ → Type 0
 Left classes first next came gone =
     (class : ℕ) → class < length first
     → (rest : List ℕ) × IsChain next (get_or first class None) rest
-    × (of classes class gone ++ rest ≡ of classes class came)
+    × (in_class classes class gone ++ rest ≡ in_class classes class came)
 
 -- the chains with a packet of a class put first
 module _ (classes first next : List (Option ℕ)) (id k : ℕ)
@@ -103,26 +103,26 @@ module _ (classes first next : List (Option ℕ)) (id k : ℕ)
       → Chained classes firsts later (id ∷ xs)
   chained-first xs h n c l =
       let l' : c < length first = omega (arith, l, length-set first k (Some id)) in
-      let kept : IsChain later (get_or first c None) (of classes c xs) =
-      chain-kept next id (get_or first k None) (get_or first c None) (of classes c xs)
-      (lacks-of classes c id xs n) (h c l') in
+      let kept : IsChain later (get_or first c None) (in_class classes c xs) =
+      chain-kept next id (get_or first k None) (get_or first c None) (in_class classes c xs)
+      (lacks-in_class classes c id xs n) (h c l') in
       elim (cases_eq c k) [
         | inl same ↦
-            let own : of classes c (id ∷ xs) ≡ id ∷ of classes c xs = of-own classes c id xs
-            (is ∙ ap (λ j. Some j) (sym same)) in
+            let own : in_class classes c (id ∷ xs) ≡ id ∷ in_class classes c xs =
+            in_class-own classes c id xs (is ∙ ap (λ j. Some j) (sym same)) in
             let f : get_or firsts c None ≡ Some id =
             ap (λ j. get_or firsts j None) same ∙ get_or-set_same first k (Some id) None class in
             let m : get_or later id None ≡ get_or first c None =
             get_or-set_same next id (get_or first k None) None within
             ∙ ap (λ j. get_or first j None) (sym same) in
             subst (λ ys. IsChain later (get_or firsts c None) ys) (sym own)
-            (f, subst (λ o. IsChain later o (of classes c xs)) (sym m) kept)
+            (f, subst (λ o. IsChain later o (in_class classes c xs)) (sym m) kept)
         | inr ne ↦
             let f : get_or firsts c None ≡ get_or first c None =
             get_or-set_other first k c (Some id) None ne in
             subst (λ ys. IsChain later (get_or firsts c None) ys)
-            (sym (of-other classes c k id xs is ne))
-            (subst (λ o. IsChain later o (of classes c xs)) (sym f) kept)
+            (sym (in_class-other classes c k id xs is ne))
+            (subst (λ o. IsChain later o (in_class classes c xs)) (sym f) kept)
       ]
 
 pub put-first : (classes first next : List (Option ℕ)) (at id k : ℕ) (v : Option ℕ) → at ≡ id
@@ -142,16 +142,16 @@ pub chained-plain : (classes : List (Option ℕ)) (chains : Chains) (id : ℕ) (
     → AreChained classes chains (id ∷ xs)
 chained-plain classes chains id xs e h c l =
     subst (λ ys. IsChain chains.next.items (get_or chains.first.items c None) ys)
-    (sym (of-none classes c id xs e)) (h c l)
+    (sym (in_class-none classes c id xs e)) (h c l)
 
 -- before any leaves, the chains have all that came
 pub none-left : (classes : List (Option ℕ)) (chains : Chains) (came : List ℕ)
     → AreChained classes chains came → AreLeft classes chains came []
-none-left classes chains came h c l = (of classes c came, h c l, refl)
+none-left classes chains came h c l = (in_class classes c came, h c l, refl)
 
-of-append : (classes : List (Option ℕ)) (c : ℕ) (xs ys : List ℕ)
-    → of classes c (xs ++ ys) ≡ of classes c xs ++ of classes c ys
-of-append classes c xs ys = filter-append (is_of classes c) xs ys
+in_class-append : (classes : List (Option ℕ)) (c : ℕ) (xs ys : List ℕ)
+    → in_class classes c (xs ++ ys) ≡ in_class classes c xs ++ in_class classes c ys
+in_class-append classes c xs ys = filter-append (is_in_class classes c) xs ys
 
 -- a packet without a class leaves
 pub left-plain : (classes : List (Option ℕ)) (chains : Chains) (id : ℕ) (came gone : List ℕ)
@@ -159,9 +159,9 @@ pub left-plain : (classes : List (Option ℕ)) (chains : Chains) (id : ℕ) (cam
     → AreLeft classes chains came (gone ++ id ∷ [])
 left-plain classes chains id came gone e h c l =
     let w = h c l in
-    let same : of classes c (gone ++ id ∷ []) ≡ of classes c gone =
-    of-append classes c gone (id ∷ []) ∙ ap (λ ys. of classes c gone ++ ys)
-    (of-none classes c id [] e) ∙ append-nil (of classes c gone) in
+    let same : in_class classes c (gone ++ id ∷ []) ≡ in_class classes c gone =
+    in_class-append classes c gone (id ∷ []) ∙ ap (λ ys. in_class classes c gone ++ ys)
+    (in_class-none classes c id [] e) ∙ append-nil (in_class classes c gone) in
     (w.0, w.1, ap (λ ys. ys ++ w.0) same ∙ w.2)
 
 -- the chain of a class that begins with a packet
@@ -188,20 +188,20 @@ left-first classes first next id k v value is class began came gone h c l =
           let f : get_or (set first k v) c None ≡ get_or next id None =
           ap (λ j. get_or (set first k v) j None) same ∙ get_or-set_same first k v None class
           ∙ value in
-          let grown : of classes c (gone ++ id ∷ []) ≡ of classes c gone ++ id ∷ [] =
-          of-append classes c gone (id ∷ []) ∙ ap (λ ys. of classes c gone ++ ys)
-          (of-own classes c id [] own) in (
+          let grown : in_class classes c (gone ++ id ∷ []) ≡ in_class classes c gone ++ id ∷ [] =
+          in_class-append classes c gone (id ∷ []) ∙ ap (λ ys. in_class classes c gone ++ ys)
+          (in_class-own classes c id [] own) in (
             r.0,
             subst (λ o. IsChain next o r.0) (sym f) r.2,
-            ap (λ ys. ys ++ r.0) grown ∙ append_assoc (of classes c gone) (id ∷ []) r.0
-                ∙ ap (λ ys. of classes c gone ++ ys) (sym r.1) ∙ w.2,
+            ap (λ ys. ys ++ r.0) grown ∙ append_assoc (in_class classes c gone) (id ∷ []) r.0
+                ∙ ap (λ ys. in_class classes c gone ++ ys) (sym r.1) ∙ w.2,
           )
       | inr ne ↦
           let f : get_or (set first k v) c None ≡ get_or first c None =
           get_or-set_other first k c v None ne in
-          let same : of classes c (gone ++ id ∷ []) ≡ of classes c gone =
-          of-append classes c gone (id ∷ []) ∙ ap (λ ys. of classes c gone ++ ys)
-          (of-other classes c k id [] is ne) ∙ append-nil (of classes c gone) in
+          let same : in_class classes c (gone ++ id ∷ []) ≡ in_class classes c gone =
+          in_class-append classes c gone (id ∷ []) ∙ ap (λ ys. in_class classes c gone ++ ys)
+          (in_class-other classes c k id [] is ne) ∙ append-nil (in_class classes c gone) in
           (w.0, subst (λ o. IsChain next o w.0) (sym f) w.1, ap (λ ys. ys ++ w.0) same ∙ w.2)
     ]
 
@@ -216,19 +216,21 @@ pub not-first : (classes : List (Option ℕ)) (chains : Chains) (id k : ℕ)
     → get_or classes id None ≡ Some k → k < length chains.first.items
     → get_or chains.first.items k None ≢ Some id
     → (came gone more : List ℕ) → AreLeft classes chains came gone
-    → IsPrefix (of classes k (gone ++ id ∷ more)) (of classes k came) → ⊥
+    → IsPrefix (in_class classes k (gone ++ id ∷ more)) (in_class classes k came) → ⊥
 not-first classes chains id k is l ne came gone more h p =
     let w = h k l in
-    let grown : of classes k (gone ++ id ∷ more) ≡ of classes k gone ++ id ∷ of classes k more =
-    of-append classes k gone (id ∷ more) ∙ ap (λ ys. of classes k gone ++ ys)
-    (of-own classes k id more is) in
-    let whole : of classes k gone ++ w.0 ≡ of classes k gone ++ id ∷ (of classes k more ++ p.0) =
+    let grown : in_class classes k (gone ++ id ∷ more)
+    ≡ in_class classes k gone ++ id ∷ in_class classes k more =
+    in_class-append classes k gone (id ∷ more) ∙ ap (λ ys. in_class classes k gone ++ ys)
+    (in_class-own classes k id more is) in
+    let whole : in_class classes k gone ++ w.0
+    ≡ in_class classes k gone ++ id ∷ (in_class classes k more ++ p.0) =
     w.2 ∙ sym p.1 ∙ ap (λ ys. ys ++ p.0) grown
-    ∙ append_assoc (of classes k gone) (id ∷ of classes k more) p.0 in
-    let rest : w.0 ≡ id ∷ (of classes k more ++ p.0) = append_cancel_left (of classes k gone) _ _
-    whole in
+    ∙ append_assoc (in_class classes k gone) (id ∷ in_class classes k more) p.0 in
+    let rest : w.0 ≡ id ∷ (in_class classes k more ++ p.0) =
+    append_cancel_left (in_class classes k gone) _ _ whole in
     ne (chain-front chains.next.items (get_or chains.first.items k None) id w.0
-    (of classes k more ++ p.0) rest w.1)
+    (in_class classes k more ++ p.0) rest w.1)
 
 -- a packet of a list without repeats is not among those after it
 pub once-after : (xs : List ℕ) (i : ℕ) → Once xs → i < length xs

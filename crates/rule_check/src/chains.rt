@@ -31,7 +31,7 @@ impl Chains {
     ghost use Rattle.steer_base.specs.Entries.{place_in};
     ghost use Rattle.steer_base.specs.Orders.{IsPrefix};
     ghost use Rattle.history.specs.Finding.{Once};
-    ghost use Rattle.rule_check.specs.Chains.{AreChained, AreLeft, of};
+    ghost use Rattle.rule_check.specs.Chains.{AreChained, AreLeft, in_class};
 
     // The chains of no packets.
     fn empty(alloc: Global, classes: usize, packets: usize) -> Result<Chains, OutOfMemory>
@@ -102,7 +102,8 @@ impl Chains {
         ensures no { result ≡ false → (came gone more : List ℕ)
             → AreLeft classes.now self.old came gone
             → ((class : ℕ) → class < length self.old.first.items
-            → IsPrefix (of classes.now class (gone ++ id ∷ more)) (of classes.now class came)) → ⊥ }
+            → IsPrefix (in_class classes.now class (gone ++ id ∷ more))
+            (in_class classes.now class came)) → ⊥ }
         ensures classes { length self.new.first.items ≡ length self.old.first.items }
         ensures packets { length self.new.next.items ≡ length self.old.next.items }
     {
@@ -128,8 +129,8 @@ impl Chains {
         ensures no { result ≡ false → (came gone more : List ℕ)
             → AreLeft classes.now self.old came gone
             → ((class : ℕ) → class < length self.old.first.items
-            → IsPrefix (of classes.now class (gone ++ (leaving.now ++ more)))
-            (of classes.now class came)) → ⊥ }
+            → IsPrefix (in_class classes.now class (gone ++ (leaving.now ++ more)))
+            (in_class classes.now class came)) → ⊥ }
         ensures classes { length self.new.first.items ≡ length self.old.first.items }
         ensures packets { length self.new.next.items ≡ length self.old.next.items }
     {

@@ -34,7 +34,7 @@ use Rattle.history.proofs.FoundAgain.Traces.{tx_choice-replied, tx_accepted-lane
 use Rattle.history.proofs.FoundAgain.Traces.{tx_accepted-replied, port-replied}
 
 -- a reply that was begun is of an arrived packet, and names it
-sent-arrived : (packets : List Packet) (apps : ℕ) (h : History) (x : ℕ) (s : Sent)
+pub sent-arrived : (packets : List Packet) (apps : ℕ) (h : History) (x : ℕ) (s : Sent)
     → Regular packets apps h → first_reply_to h x ≡ Some s
     → (x < length h.arrivals) × (s.id ≡ x)
 sent-arrived packets apps h x s r e =
@@ -133,7 +133,7 @@ same_sent packets apps h k b =
     (same_sent_of packets apps h k b x) a))
 
 -- The transmit choices: their class, which the report does not show, is the flow number.
-tx_choice-class : (packets : List Packet) (apps : ℕ) (h : History) (x : ℕ) (c : Choice)
+pub tx_choice-class : (packets : List Packet) (apps : ℕ) (h : History) (x : ℕ) (c : Choice)
     → Regular packets apps h → tx_choice_of h x ≡ Some c
     → c.class ≡ Some (packet_at packets x).flow_number
 tx_choice-class packets apps h x c r e =
@@ -166,7 +166,7 @@ same_class (Some c) (Some d) n a b e =
     })
 
 -- without a reply there is no choice for it
-unreplied : (packets : List Packet) (apps : ℕ) (h : History) (x : ℕ) → Regular packets apps h
+pub unreplied : (packets : List Packet) (apps : ℕ) (h : History) (x : ℕ) → Regular packets apps h
     → first_reply_to h x ≡ None → tx_choice_of h x ≡ None
 unreplied packets apps h x r e = no_value (tx_choice_of h x) (λ c f.
     let s : is_some (first_reply_to h x) ≡ true = tx_choice-replied packets apps h r x c f in
@@ -211,27 +211,27 @@ same_tx_choices packets apps h k b =
     (same_tx_choice packets apps h k b x) a)))
 
 -- The transmit lanes.
-once-tx : (lanes : List LaneList) → Apart (accepted_lists lanes) → (t : ℕ)
+pub once-tx : (lanes : List LaneList) → Apart (accepted_lists lanes) → (t : ℕ)
     → Once (lane_at lanes t).accepted
 once-tx lanes apart t = subst Once (list-accepted lanes t)
     (once-apart (accepted_lists lanes) t apart)
 
 -- A packet stands at no other lane than that of its reply's choice.
-tx_accepted-elsewhere : (packets : List Packet) (apps : ℕ) (h : History) (x t : ℕ)
+pub tx_accepted-elsewhere : (packets : List Packet) (apps : ℕ) (h : History) (x t : ℕ)
     → Regular packets apps h → t ≢ lane_or (tx_choice_of h x)
     → place_in x (lane_at h.tx_lanes t).accepted ≡ None
 tx_accepted-elsewhere packets apps h x t r ne =
     no_value (place_in x (lane_at h.tx_lanes t).accepted) (λ n e.
     ne (tx_accepted-lane packets apps h r t x (ap is_some e)))
 
-tx_accepted-at : (packets : List Packet) (apps : ℕ) (h : History) (x : ℕ) → Regular packets apps h
-    → accepted_place h.tx_lanes x ≡ place_in x
+pub tx_accepted-at : (packets : List Packet) (apps : ℕ) (h : History) (x : ℕ)
+    → Regular packets apps h → accepted_place h.tx_lanes x ≡ place_in x
     (lane_at h.tx_lanes (lane_or (tx_choice_of h x))).accepted
 tx_accepted-at packets apps h x r =
     first_some-only (λ lane. place_in x lane.accepted) no_lane refl h.tx_lanes
     (lane_or (tx_choice_of h x)) (λ t ne. tx_accepted-elsewhere packets apps h x t r ne)
 
-tx_accepted-bound : (packets : List Packet) (apps : ℕ) (h : History) (x n : ℕ)
+pub tx_accepted-bound : (packets : List Packet) (apps : ℕ) (h : History) (x n : ℕ)
     → Regular packets apps h → length packets ≤ 262144
     → accepted_place h.tx_lanes x ≡ Some n → n < 2 ^ 32
 tx_accepted-bound packets apps h x n r small e =
@@ -242,7 +242,7 @@ tx_accepted-bound packets apps h x n r small e =
     omega (arith, p.1, few)
 
 -- nor at any, where no reply was begun
-tx_accepted-unreplied : (packets : List Packet) (apps : ℕ) (h : History) (x : ℕ)
+pub tx_accepted-unreplied : (packets : List Packet) (apps : ℕ) (h : History) (x : ℕ)
     → Regular packets apps h → first_reply_to h x ≡ None → accepted_place h.tx_lanes x ≡ None
 tx_accepted-unreplied packets apps h x r e =
     first_some-none (λ lane. place_in x lane.accepted) no_lane h.tx_lanes (λ t.
@@ -290,8 +290,8 @@ same_tx_lanes packets apps h k b = same_lists no_lane h.tx_lanes k.tx_lanes
     (sums-at h.tx_lanes k.tx_lanes t b.shown.tx_lanes l))
 
 -- The port.
-port-unreplied : (packets : List Packet) (apps : ℕ) (h : History) (x : ℕ) → Regular packets apps h
-    → first_reply_to h x ≡ None → place_in x h.port ≡ None
+pub port-unreplied : (packets : List Packet) (apps : ℕ) (h : History) (x : ℕ)
+    → Regular packets apps h → first_reply_to h x ≡ None → place_in x h.port ≡ None
 port-unreplied packets apps h x r e = no_value (place_in x h.port) (λ n f.
     let s : is_some (first_reply_to h x) ≡ true = port-replied packets apps h r x (ap is_some f) in
     let n : is_some (first_reply_to h x) ≡ false = ap is_some e in cc)

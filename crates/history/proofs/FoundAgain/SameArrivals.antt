@@ -45,7 +45,7 @@ apart : Filter ≡ Reta → ⊥
 apart e = cc
 
 -- an arrival by its number, its queue and what led to it
-same_way : (a b : Arrival) (hash : Option ℕ) (f : Option ℕ) (n : ℕ) (g : Option ℕ) (m : ℕ)
+pub same_way : (a b : Arrival) (hash : Option ℕ) (f : Option ℕ) (n : ℕ) (g : Option ℕ) (m : ℕ)
     → a.id ≡ b.id → a.queue ≡ b.queue → via_of a ≡ via_of b
     → route_of a ≡ route hash f n → route_of b ≡ route hash g m → a ≡ b
 same_way a b None f n g m i q v s t =
@@ -215,7 +215,7 @@ abbrev SameFate : History → History → ℕ → Type 0
 SameFate h k x = (accepted_place h.lanes x ≡ accepted_place k.lanes x)
     × (first_some (drop_in x) h.lanes ≡ first_some (drop_in x) k.lanes)
 
-fate_drop : (packets : List Packet) (apps : ℕ) (h k : History) → Both packets apps h k
+pub fate_drop : (packets : List Packet) (apps : ℕ) (h k : History) → Both packets apps h k
     → (x : ℕ) (o : Option ℕ) → accepted_place h.lanes x ≡ o
     → accepted_place h.lanes x ≡ accepted_place k.lanes x
     → (position_of h x ≡ None → first_some (drop_in x) h.lanes ≡ first_some (drop_in x) k.lanes)

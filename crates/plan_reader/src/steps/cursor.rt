@@ -9,8 +9,7 @@ use crate::steps::seeds::{generator, next_word, seeded_step};
 use rand_pcg::Lcg64Xsh32;
 use steer_base::Step;
 
-/// A place among the steps of a plan. It keeps the generator of a seed, so that each step takes
-/// the same time.
+/// A place among the steps of a plan. It keeps the generator of a seed from one step to the next.
 #[derive(Drop)]
 pub struct StepCursor {
     words: Lcg64Xsh32,

@@ -1,7 +1,7 @@
 use Rattle.std.proofs.Common.{ℕ, ◌<◌}
 use Rattle.history.specs.Lists.{list_at}
 use Rattle.steer_model.specs.Good.Writes.{AreWrites}
-use Rattle.good_check.specs.Faults.{input}
+use Rattle.good_check.specs.Cases.{input}
 use Rattle.good_check.proofs.case.Case.has_writes.Given as goal
 
 abbrev pub invariant-loop-a : goal.invariant-loop-a

@@ -3,7 +3,7 @@ use Rattle.std.proofs.Common.{drop, get_or, length, subst, suc, sym, take}
 use Rattle.std.proofs.lemmas.Grind.{get_or_default_zero}
 use Rattle.std.proofs.lemmas.List.{take_all}
 use Rattle.steer_base.specs.Orders.{IsPrefix}
-use Rattle.rule_check.specs.Chains.{AreLeft, of}
+use Rattle.rule_check.specs.Chains.{AreLeft, in_class}
 use Rattle.rule_check.proofs.ChainsLemmas.{rest-from, taken-more}
 use Rattle.rule_check.proofs.chains.Chains.leave.Goals as goal
 

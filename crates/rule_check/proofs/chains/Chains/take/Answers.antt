@@ -4,7 +4,7 @@ use Rattle.std.specs.Prelude.{slice_index_or, slice_set}
 use Rattle.std.specs.Option.{ForSome}
 use Rattle.std.proofs.lemmas.List.{get_or_default}
 use Rattle.steer_base.specs.Orders.{IsPrefix}
-use Rattle.rule_check.specs.Chains.{AreLeft, of}
+use Rattle.rule_check.specs.Chains.{AreLeft, in_class}
 use Rattle.rule_check.proofs.ChainsLemmas.{Left, left-first, left-plain, not-first}
 use Rattle.rule_check.proofs.chains.Chains.take.Goals as goal
 
@@ -33,8 +33,8 @@ returns-then-not-is_packet-clause-no c = λ f came gone more h p.
     let t : c.is_packet.result ≡ true = c.is_packet.ensures.no there in
     let f : c.is_packet.result ≡ false = c.if-not-is_packet.true in cc)
     came gone more h
-    (subst (λ y. IsPrefix (of classes c.in-Some.class (gone ++ y ∷ more))
-    (of classes c.in-Some.class came)) (sym v) (p c.in-Some.class class))
+    (subst (λ y. IsPrefix (in_class classes c.in-Some.class (gone ++ y ∷ more))
+    (in_class classes c.in-Some.class came)) (sym v) (p c.in-Some.class class))
 
 pub returns-clause-yes : goal.returns-clause-yes
 returns-clause-yes c = λ t came gone h.
