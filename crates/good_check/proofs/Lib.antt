@@ -1,8 +1,11 @@
 mod HeadsLemmas
+mod LeavingLemmas
 mod ListLemmas
+mod OrderLemmas
 mod PlacesLemmas
 mod PositionsLemmas
 mod QueuesLemmas
+mod SteeredLemmas
 mod SweptLemmas
 mod ArrivedLemmas
 mod ChoicesLemmas

@@ -3,6 +3,7 @@ pub mod Choices
 pub mod Drops
 pub mod Faults
 pub mod Heads
+pub mod Order
 pub mod Places
 pub mod Positions
 pub mod Queues
