@@ -1,3 +1,4 @@
+mod FaultLemmas
 mod HeadsLemmas
 mod LeavingLemmas
 mod ListLemmas

@@ -4,11 +4,15 @@ use Rattle.history.specs.declared.history.History.{History}
 use Rattle.steer_model.specs.Good.GoodHistory.{Clause}
 use Rattle.steer_model.specs.Good.Inputs.{Input}
 
+-- Each clause before this one holds.
+abbrev pub HoldBefore : ℕ → Input → History → Type 0
+HoldBefore n i h = (m : ℕ) → 1 ≤ m → m < n → Clause m i h
+
 -- Clause n fails, and each one before it holds.
 pub record FirstFault (n : ℕ) (i : Input) (h : History) : Type 0 where
   pub within : (1 ≤ n) × (n ≤ 11)
   pub fault : Clause n i h → ⊥
-  pub before : (m : ℕ) → 1 ≤ m → m < n → Clause m i h
+  pub before : HoldBefore n i h
 
 -- For a plan without commands: 10 if the history has a command, otherwise the first clause that it
 -- fails.

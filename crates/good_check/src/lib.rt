@@ -5,15 +5,18 @@ mod arrived;
 mod case;
 mod choices;
 mod drops;
+mod faults;
 mod heads;
 mod leaving;
 mod order;
 mod places;
 mod positions;
 mod queues;
+mod replies;
 mod steered;
 mod swept;
 mod wants;
 mod writes;
 
 pub use case::Case;
+pub use faults::first_fault;
