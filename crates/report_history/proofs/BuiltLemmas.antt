@@ -1,25 +1,21 @@
 -- The history that is built from the parts of a report of a history is that history.
 use Rattle.std.proofs.Common.{ℕ, ◌≡◌, ◌≤◌, ◌<◌, ◌^◌, List, length, map, refl, ap, ◌∙◌, sym, arith}
-use Rattle.std.proofs.Common.{subst}
+use Rattle.std.proofs.Common.{subst, Err, IfOk, Ok, Result}
 use Rattle.std.specs.List.{filter_map, range_with_len}
 use Rattle.std.proofs.lemmas.List.{length-map}
 use Rattle.std.proofs.lemmas.List.FromFn.{length-map-range_with_len}
-use Rattle.steer_base.specs.declared.choice.Chosen.{Chosen}
 use Rattle.steer_base.specs.declared.packet.Packet.{Packet}
 use Rattle.history.specs.Lines.{lines_of, packet_line}
 use Rattle.history.specs.Lists.{list_at}
+use Rattle.history.specs.Ranges.{HaveLinesThatFit}
 use Rattle.history.specs.declared.history.History.{History}
-use Rattle.history.specs.declared.lane_list.LaneList.{LaneList}
 use Rattle.report_reader.specs.Parts.{seen_packet}
-use Rattle.report_reader.specs.Slots.{IsShelved}
 use Rattle.report_reader.specs.declared.parts.Parts.{Parts}
-use Rattle.report_reader.specs.declared.slots.Kind.TheVariants.{Port}
 use Rattle.report_reader.specs.declared.slots.Seen.{Seen}
 use Rattle.report_history.specs.Joined.{AreJoined}
-use Rattle.report_history.specs.Lists.{AreChoices, AreChosen, AreInboxes, AreLanes, IsBacklog}
-use Rattle.report_history.specs.Lists.{IsTxQueue}
-use Rattle.report_history.specs.Printed.{IsHistoryOf}
-use Rattle.report_history.specs.Shown.{arrivals_from, sent_for, tx_chosen_for, write_of}
+use Rattle.report_history.specs.Lists.{AreChosen}
+use Rattle.report_history.specs.Printed.{IsBuilt, IsHistoryOf}
+use Rattle.report_history.specs.Shown.{sent_for, tx_chosen_for, write_of}
 use Rattle.report_history.proofs.ListsLemmas.{arrivals-shown, choices-shown, drops-shown}
 use Rattle.report_history.proofs.ListsLemmas.{replies-shown, tx-choices-shown}
 use Rattle.report_history.proofs.SeenLemmas.{joined, seen_of}
@@ -27,49 +23,28 @@ use Rattle.report_history.proofs.ShelvedLemmas.{accepted-shelved, dropped-shelve
 use Rattle.report_history.proofs.ShelvedLemmas.{port-shelved, tx-shelved}
 use Rattle.report_history.proofs.WritesLemmas.{map-lists, writes-shown}
 
--- a history whose lists were made of the lines of packets, and of the parts of a report
-pub record IsBuilt (packets : List Packet) (apps start : ℕ) (p : Parts) (seen : List Seen)
-    (k : History) : Type 0 where
-  pub arrivals : k.arrivals ≡ arrivals_from 0 seen
-  pub taken : k.taken ≡ p.taken.items
-  pub choices : (lists : List (List Chosen))
-      → AreChoices seen k.arrivals (length p.taken.items) lists → k.choices ≡ lists
-  pub lanes : (lanes : List LaneList) → AreLanes (IsBacklog start seen) p.cpus.items lanes
-      → k.lanes ≡ lanes
-  pub inboxes : (lists : List (List ℕ)) → AreInboxes start seen apps lists → k.inboxes ≡ lists
-  pub sent : k.sent ≡ map (filter_map (sent_for seen)) k.inboxes
-  pub tx_choices : k.tx_choices ≡ map (filter_map (tx_chosen_for seen packets)) k.sent
-  pub tx_lanes : (lanes : List LaneList) → AreLanes (IsTxQueue start seen) p.txs.items lanes
-      → k.tx_lanes ≡ lanes
-  pub port : (list : List ℕ) → IsShelved start Port seen 0 list → k.port ≡ list
-  pub writes : k.writes
-      ≡ map (λ a. filter_map (write_of a) p.writes.items) (range_with_len 0 apps)
-  pub commands : k.commands ≡ p.commands.items
-  pub total : k.total ≡ p.last.total
-  pub cut : k.cut ≡ p.last.cut
-  pub starts : k.start ≡ start
-
 module _ (packets : List Packet) (apps start : ℕ) (p : Parts) (h : History)
     (texts : List (List ℕ)) (f : IsHistoryOf packets apps start p h texts)
-    (small : length packets ≤ 262144) (few : apps < 2 ^ 8) (k : History)
+    (small : length packets ≤ 262144) (lines_fit : HaveLinesThatFit) (few : apps < 2 ^ 8)
+    (k : History)
     (b : IsBuilt packets apps h.start p (seen_of packets apps h) k) where
   same_arrivals : k.arrivals ≡ h.arrivals
-  same_arrivals = b.arrivals ∙ arrivals-shown packets apps h f.regular f.numbers small f.queued
+  same_arrivals = b.arrivals ∙ arrivals-shown packets apps h f.regular f.numbers small lines_fit f.queued
 
   same_choices : k.choices ≡ h.choices
   same_choices = b.choices h.choices (record {
     long = f.regular.matched.choices ∙ ap length (sym f.parts.taken);
-    each = λ q l. subst (λ as. AreChosen (seen_of packets apps h) as q (list_at h.choices q))
-        (sym same_arrivals) (choices-shown packets apps h f.regular f.numbers small q);
+    each = λ q l. subst (λ way. AreChosen (seen_of packets apps h) way q (list_at h.choices q))
+        (sym same_arrivals) (choices-shown packets apps h f.regular f.numbers small lines_fit q);
   })
 
   same_lanes : k.lanes ≡ h.lanes
   same_lanes = b.lanes h.lanes (record {
     of_sums = sym f.parts.cpus;
     each = λ c l. record {
-      of_accepted = accepted-shelved packets apps h f.regular f.numbers small c;
-      of_dropped = dropped-shelved packets apps h f.regular f.numbers small c;
-      of_drops = drops-shown packets apps h f.regular f.numbers small c;
+      of_accepted = accepted-shelved packets apps h f.regular f.numbers small lines_fit c;
+      of_dropped = dropped-shelved packets apps h f.regular f.numbers small lines_fit c;
+      of_drops = drops-shown packets apps h f.regular f.numbers small lines_fit c;
       of_sums = refl;
     };
   })
@@ -77,7 +52,7 @@ module _ (packets : List Packet) (apps start : ℕ) (p : Parts) (h : History)
   same_inboxes : k.inboxes ≡ h.inboxes
   same_inboxes = b.inboxes h.inboxes (record {
     long = f.regular.matched.inboxes;
-    each = λ a l. inbox-shelved packets apps h f.regular f.numbers small a few;
+    each = λ a l. inbox-shelved packets apps h f.regular f.numbers small lines_fit a few;
   })
 
   same_sent : k.sent ≡ h.sent
@@ -85,20 +60,20 @@ module _ (packets : List Packet) (apps start : ℕ) (p : Parts) (h : History)
       b.sent ∙ ap (map (filter_map (sent_for (seen_of packets apps h)))) same_inboxes
       ∙ map-lists (filter_map (sent_for (seen_of packets apps h))) h.inboxes h.sent
       (f.regular.matched.inboxes ∙ sym f.regular.matched.sent)
-      (replies-shown packets apps h f.regular f.numbers small)
+      (replies-shown packets apps h f.regular f.numbers small lines_fit)
 
   same_tx_choices : k.tx_choices ≡ h.tx_choices
   same_tx_choices =
       b.tx_choices ∙ ap (map (filter_map (tx_chosen_for (seen_of packets apps h) packets))) same_sent
       ∙ map-lists (filter_map (tx_chosen_for (seen_of packets apps h) packets)) h.sent h.tx_choices
       (f.regular.matched.sent ∙ sym f.regular.matched.tx_choices)
-      (tx-choices-shown packets apps h f.regular f.numbers small)
+      (tx-choices-shown packets apps h f.regular f.numbers small lines_fit)
 
   same_tx_lanes : k.tx_lanes ≡ h.tx_lanes
   same_tx_lanes = b.tx_lanes h.tx_lanes (record {
     of_sums = sym f.parts.txs;
     each = λ t l. record {
-      of_accepted = tx-shelved packets apps h f.regular f.numbers small t;
+      of_accepted = tx-shelved packets apps h f.regular f.numbers small lines_fit t;
       of_drops = f.regular.shipped.no_drops t;
       of_sums = refl;
     };
@@ -121,7 +96,7 @@ module _ (packets : List Packet) (apps start : ℕ) (p : Parts) (h : History)
       let tx_choices = same_tx_choices in
       let tx_lanes = same_tx_lanes in
       let port : k.port ≡ h.port =
-      b.port h.port (port-shelved packets apps h f.regular f.numbers small) in
+      b.port h.port (port-shelved packets apps h f.regular f.numbers small lines_fit) in
       let writes = same_writes in
       let commands : k.commands ≡ h.commands = b.commands ∙ f.parts.commands in
       let total : k.total ≡ h.total = b.total ∙ f.parts.total in
@@ -148,12 +123,13 @@ module _ (packets : List Packet) (apps start : ℕ) (p : Parts) (h : History)
 pub built-is : (packets : List Packet) (apps start : ℕ) (p : Parts) (seen : List Seen) (k h : History)
     (texts : List (List ℕ))
     → ((lines : List Seen) → AreJoined p.packets.items p.replies.items lines → seen ≡ lines)
-    → IsBuilt packets apps start p seen k → length packets ≤ 262144 → apps < 2 ^ 8
+    → IsBuilt packets apps start p seen k → length packets ≤ 262144 → HaveLinesThatFit
+    → apps < 2 ^ 8
     → IsHistoryOf packets apps start p h texts → k ≡ h
-built-is packets apps start p seen k h texts join b small few f =
+built-is packets apps start p seen k h texts join b small lines_fit few f =
     let lines : seen ≡ seen_of packets apps h =
     join (seen_of packets apps h) (joined packets apps h texts p f.parts) in
-    same_history packets apps start p h texts f small few k
+    same_history packets apps start p h texts f small lines_fit few k
     (subst (λ s. IsBuilt packets apps s p (seen_of packets apps h) k) (sym f.starts)
     (subst (λ s. IsBuilt packets apps start p s k) lines b))
 
@@ -171,3 +147,9 @@ too-many packets apps start p h texts l f =
     let n : length p.packets.items ≡ length h.arrivals =
     ap length f.parts.packets ∙ length-lines packets apps h in
     omega (arith, l, n, f.regular.arrived.of_the_capture)
+
+-- a call that yields both has what both together say
+pub if-both : {A E : Type 0} (P Q R : A → Type 0) (r : Result A E) → IfOk r P → IfOk r Q
+    → ((a : A) → P a → Q a → R a) → IfOk r R
+if-both P Q R (Ok a) p q f = f a p q
+if-both P Q R (Err e) p q f = tt

@@ -25,17 +25,20 @@ own-tail : (n : ℕ) (s : Seen) (lines : List Seen) → AreOwn n (s ∷ lines) �
 own-tail n s lines own x d r l e = let f = own (suc x) d r (omega (arith, l)) e in omega (arith, f)
 
 -- what is left begins with no earlier reply
+later-one : (m n : ℕ) (o : Option SeenReply) (left : List SeenReply)
+    → ((r : SeenReply) → o ≡ Some r → r.id ≡ n) → m < n → first_of m left ≡ None
+    → first_of m (cons_option o left) ≡ None
+later-one m n None left own l e = e
+later-one m n (Some r) left own l e =
+    let f : r.id ≡ n = own r refl in rw (ne_eqb r.id m (λ g. omega (arith, f, g, l))) refl
+
 later : (m n : ℕ) (lines : List Seen) → AreOwn n lines → m < n
     → first_of m (filter_map (λ s. s.reply) lines) ≡ None
 later m n [] own l = refl
-later m n (s ∷ lines) own l = from s.reply refl
-  where
-    from : (o : Option SeenReply) → s.reply ≡ o
-        → first_of m (cons_option o (filter_map (λ t. t.reply) lines)) ≡ None
-    from None e = later m (n + 1) lines (own-tail n s lines own) (omega (arith, l))
-    from (Some r) e =
-        let f : r.id ≡ n + 0 = own 0 s r (omega arith) e in
-        rw (ne_eqb r.id m (λ g. omega (arith, f, g, l))) refl
+later m n (s ∷ lines) own l =
+    later-one m n s.reply (filter_map (λ t. t.reply) lines)
+    (λ r e. let f = own 0 s r (omega arith) e in omega (arith, f)) l
+    (later m (n + 1) lines (own-tail n s lines own) (omega (arith, l)))
 
 -- the next reply is that of the next packet
 pub record Next (m : ℕ) (own found : Option SeenReply) (left rest : List SeenReply) : Type 0 where
@@ -43,22 +46,30 @@ pub record Next (m : ℕ) (own found : Option SeenReply) (left rest : List SeenR
   pub kept : found ≡ None → left ≡ rest
   pub gone : (r : SeenReply) → found ≡ Some r → drop 1 left ≡ rest
 
+next-one : (n : ℕ) (o : Option SeenReply) (left : List SeenReply)
+    → ((r : SeenReply) → o ≡ Some r → r.id ≡ n) → first_of n left ≡ None
+    → Next n o (first_of n (cons_option o left)) (cons_option o left) left
+next-one n None left own e = record {
+  same = e;
+  kept = λ g. refl;
+  gone = λ r g. absurd (let f : None ≡ Some r = sym e ∙ g in cc);
+}
+next-one n (Some r) left own e =
+    let f : r.id ≡ n = own r refl in
+    let g : first_of n (r ∷ left) ≡ Some r = rw (eq-eqb r.id n f) refl in
+    record {
+      same = g;
+      kept = λ h. absurd (let k : Some r ≡ None = sym g ∙ h in cc);
+      gone = λ q h. refl;
+    }
+
 pub next-reply : (n : ℕ) (s : Seen) (lines : List Seen) → AreOwn n (s ∷ lines)
     → Next n s.reply (first_of n (filter_map (λ t. t.reply) (s ∷ lines)))
     (filter_map (λ t. t.reply) (s ∷ lines)) (filter_map (λ t. t.reply) lines)
-next-reply n s lines own = from s.reply refl
-  where
-    from : (o : Option SeenReply) → s.reply ≡ o
-        → Next n o (first_of n (cons_option o (filter_map (λ t. t.reply) lines)))
-        (cons_option o (filter_map (λ t. t.reply) lines)) (filter_map (λ t. t.reply) lines)
-    from None e =
-        let f = later n (n + 1) lines (own-tail n s lines own) (omega arith) in
-        record { same = f; kept = λ g. refl; gone = λ r g. absurd (let h = sym f ∙ g in cc) }
-    from (Some r) e =
-        let f : r.id ≡ n + 0 = own 0 s r (omega arith) e in
-        let g : first_of n (r ∷ filter_map (λ t. t.reply) lines) ≡ Some r =
-        rw (eq-eqb r.id n (omega (arith, f))) refl in
-        record { same = g; kept = λ h. absurd (let k = sym g ∙ h in cc); gone = λ q h. refl }
+next-reply n s lines own =
+    next-one n s.reply (filter_map (λ t. t.reply) lines)
+    (λ r e. let f = own 0 s r (omega arith) e in omega (arith, f))
+    (later n (n + 1) lines (own-tail n s lines own) (omega arith))
 
 some-or-none : {A : Type 0} (o : Option A) → ((a : A) × (o ≡ Some a)) ⊎ (o ≡ None)
 some-or-none None = inr refl
@@ -76,8 +87,8 @@ own-drop x lines own k d r l e =
 
 module _ (packets : List SeenPacket) (replies : List SeenReply) (lines : List Seen)
     (joined : AreJoined packets replies lines) where
-  pub join-none : IsJoinedTo 0 lines [] (drop 0 replies)
-  join-none = record { done = refl; rest = joined.of_replies }
+  pub join-none : (built : List Seen) → built ≡ [] → IsJoinedTo 0 lines built (drop 0 replies)
+  join-none built e = record { done = e; rest = joined.of_replies }
 
   as-many : length packets ≡ length lines
   as-many = ap length joined.of_packets ∙ length-map lines (λ s. s.packet)
@@ -96,13 +107,13 @@ module _ (packets : List SeenPacket) (replies : List SeenReply) (lines : List Se
       let front : drop x lines ≡ s ∷ drop (x + 1) lines = drop_more lines x v n in
       let own : AreOwn x (s ∷ drop (x + 1) lines) =
       subst (AreOwn x) front (own-drop x lines joined.own) in
-      let next-one = next-reply x s (drop (x + 1) lines) own in
+      let next-is = next-reply x s (drop (x + 1) lines) own in
       let left : drop next replies
       ≡ filter_map (λ t. t.reply) (s ∷ drop (x + 1) lines) =
       inv.rest ∙ ap (filter_map (λ t. t.reply)) front in
       let found : reply ≡ first_of x (filter_map (λ t. t.reply) (s ∷ drop (x + 1) lines)) =
       is ∙ ap (first_of x) left in
-      let of_reply : reply ≡ s.reply = found ∙ next-one.same in
+      let of_reply : reply ≡ s.reply = found ∙ next-is.same in
       let of_packet : p ≡ s.packet =
       at ∙ ap (λ ps. get_or ps x p) joined.of_packets
       ∙ get_or-map (λ t. t.packet) lines x v p n in
@@ -112,10 +123,10 @@ module _ (packets : List SeenPacket) (replies : List SeenReply) (lines : List Se
         | inl r ↦
             let m : more ≡ 1 = some r.0 r.1 in
             ap (λ k. drop (next + k) replies) m ∙ sym (drop-drop 1 next replies)
-            ∙ ap (drop 1) left ∙ next-one.gone r.0 (sym found ∙ r.1)
+            ∙ ap (drop 1) left ∙ next-is.gone r.0 (sym found ∙ r.1)
         | inr z ↦
             let m : next + more ≡ next = omega (arith, none z) in
-            ap (λ k. drop k replies) m ∙ left ∙ next-one.kept (sym found ∙ z)
+            ap (λ k. drop k replies) m ∙ left ∙ next-is.kept (sym found ∙ z)
       ] in
       record {
         done =

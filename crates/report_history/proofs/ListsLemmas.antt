@@ -21,7 +21,7 @@ use Rattle.history.specs.Lines.{first_reply_to, line_of_sent, position_of, put_o
 use Rattle.history.specs.Lines.{via_of}
 use Rattle.history.specs.Lists.{app_at, arrival_of, arrivals_at, drop_ids, lane_at, list_at}
 use Rattle.history.specs.Lists.{no_arrival, packet_at}
-use Rattle.history.specs.Ranges.{HistoryFits}
+use Rattle.history.specs.Ranges.{HaveLinesThatFit, HistoryFits}
 use Rattle.history.specs.Regular.{AreQueued, Regular, route_of}
 use Rattle.history.specs.Shown.{without_class}
 use Rattle.history.specs.declared.arrival.Arrival.{Arrival}
@@ -32,11 +32,10 @@ use Rattle.history.proofs.FindingLemmas.{is_in-here, is_in-past}
 use Rattle.history.proofs.FoundAgain.Arrivals.{arrival-id, arrivals-once}
 use Rattle.history.proofs.FoundAgain.Histories.{tx_choice-class, unreplied}
 use Rattle.history.proofs.FoundAgain.Traces.{dropped-lane, lane_or}
-use Rattle.history.proofs.LinesFit.{lines_fit}
 use Rattle.history.proofs.RegularLemmas.{arrival-at, arrived-dropped, arrived-inbox, choice-own}
 use Rattle.history.proofs.RegularLemmas.{choice-queue, found-key, is_some-choice_in, is_some-found}
 use Rattle.history.proofs.RegularLemmas.{sent-inbox, tx_choice-own}
-use Rattle.history.proofs.ReplyLemmas.{sent-own}
+use Rattle.history.proofs.OwnLemmas.{own-first}
 use Rattle.history.proofs.SamePlaces.{Once-front, no_value, same_lists}
 use Rattle.report_reader.specs.Parts.{seen_reply}
 use Rattle.report_reader.specs.declared.slots.Seen.{Seen}
@@ -122,7 +121,7 @@ abbrev no_sent : Sent
 no_sent = record { id = 0; rxq = 0; cpu = 0 }
 
 module _ (packets : List Packet) (apps : ℕ) (h : History) (regular : Regular packets apps h)
-    (fits : HistoryFits h) (small : length packets ≤ 262144) where
+    (fits : HistoryFits h) (small : length packets ≤ 262144) (lines_fit : HaveLinesThatFit) where
   pub arrivals-shown : AreQueued packets h
       → arrivals_from 0 (seen_of packets apps h) ≡ h.arrivals
   arrivals-shown queued =
@@ -221,9 +220,9 @@ module _ (packets : List Packet) (apps : ℕ) (h : History) (regular : Regular p
       let l : x < length h.arrivals = arrived-dropped packets apps h regular c x s in
       let own : c ≡ lane_or (choice_of h x) = dropped-lane packets apps h regular c x s in
       let none : accepted_place h.lanes x ≡ None = no_value (accepted_place h.lanes x)
-      (λ n e. dropped-not_accepted packets apps h regular fits small c x n s e) in
+      (λ n e. dropped-not_accepted packets apps h regular fits small lines_fit c x n s e) in
       let here : first_some (drop_in x) h.lanes ≡ drop_in x lane =
-      fallen-at packets apps h regular fits small x
+      fallen-at packets apps h regular fits small lines_fit x
       ∙ ap (λ k. drop_in x (lane_at h.lanes k)) (sym own) in
       ap (option_and_then (drop_by x)) (put-shown packets apps h x l)
       ∙ ap (λ o. option_and_then (drop_by x)
@@ -250,12 +249,18 @@ module _ (packets : List Packet) (apps : ℕ) (h : History) (regular : Regular p
       let i : x ≡ s.id = sym (key s refl) in
       λ w. Some (record { id = i w; rxq = s.rxq; cpu = s.cpu })
 
+  sent-own : (x : ℕ) → first_reply_to h x ≡ found (λ s. s.id) x
+      (list_at h.sent (app_at packets apps x))
+  sent-own x = own-first (found (λ s. s.id) x) [] h.sent (Some (app_at packets apps x)) refl
+      (λ a s. ap (λ n. Some n) (regular.delivered.own a x (sent-inbox packets apps h regular a x
+      (sym (is_some-found (λ d. d.id) x (list_at h.sent a)) ∙ s))))
+
   sent-shown : (a x : ℕ) → is_in x (list_at h.inboxes a) ≡ true
       → sent_for (seen_of packets apps h) x ≡ found (λ s. s.id) x (list_at h.sent a)
   sent-shown a x s =
       let l : x < length h.arrivals = arrived-inbox packets apps h regular a x s in
       let own : first_reply_to h x ≡ found (λ t. t.id) x (list_at h.sent a) =
-      sent-own packets apps h regular x
+      sent-own x
       ∙ ap (λ b. found (λ t. t.id) x (list_at h.sent b)) (regular.delivered.own a x s) in
       ap (option_map (sent_by x)) (reply-shown packets apps h x l)
       ∙ sent-again x (first_reply_to h x) (λ t e.

@@ -12,7 +12,7 @@ use Rattle.history.specs.Finding.{found, first_some, is_in, Once}
 use Rattle.history.specs.Lines.{accepted_place, choice_of, drop_in, dropped_as, first_reply_to}
 use Rattle.history.specs.Lines.{inbox_place_of, line_of_sent, position_of, put_of, tx_choice_of}
 use Rattle.history.specs.Lists.{app_at, drop_ids, lane_at, list_at, no_lane}
-use Rattle.history.specs.Ranges.{ChoiceFits, HistoryFits, ReplyFits}
+use Rattle.history.specs.Ranges.{ChoiceFits, HaveLinesThatFit, HistoryFits, ReplyFits}
 use Rattle.history.specs.Regular.{Regular}
 use Rattle.history.specs.declared.history.History.{History}
 use Rattle.history.specs.declared.lane_list.LaneList.{LaneList}
@@ -26,12 +26,11 @@ use Rattle.history.proofs.FoundAgain.SameArrivals.{inbox-elsewhere}
 use Rattle.history.proofs.FoundAgain.SamePuts.{drop-no_position}
 use Rattle.history.proofs.FoundAgain.Traces.{dropped-lane, lane_or, never_both}
 use Rattle.history.proofs.FoundAgain.Traces.{tx_accepted-replied}
-use Rattle.history.proofs.LinesFit.{lines_fit}
 use Rattle.history.proofs.OwnLemmas.{own-first}
 use Rattle.history.proofs.RegularLemmas.{arrived-accepted, arrived-dropped, arrived-inbox}
 use Rattle.history.proofs.RegularLemmas.{arrived-port, arrived-shipped, is_some-found}
 use Rattle.history.proofs.RegularLemmas.{lane-accepted, lane-dropped, tx_lane-accepted}
-use Rattle.history.proofs.SamePlaces.{map_some, no_value}
+use Rattle.history.proofs.SamePlaces.{no_value, some_same}
 use Rattle.report_reader.specs.Parts.{seen_reply}
 use Rattle.report_reader.specs.Slots.{IsShelved, accepted_slot, dropped_slot, in_list, place_for}
 use Rattle.report_reader.specs.Slots.{reply_slot, shipped_slot, slot_of}
@@ -51,8 +50,8 @@ no-members (x ∷ xs) h = absurd (h x (is_in-here x x xs refl))
 lane-low : (o : Option Choice) (c : ℕ) → IfSome o ChoiceFits → option_map (λ d. d.lane) o ≡ Some c
     → c < 2 ^ 8
 lane-low None c f e = absurd (cc)
-lane-low (Some d) c f e = let g : d.lane ≡ c = (map_some (λ q. q.lane) (Some d) c e).2 in
-    omega (arith, f.lane, g)
+lane-low (Some d) c f e =
+    let g : d.lane ≡ c = some_same d.lane c e in omega (arith, f.lane, g)
 
 -- a lane that has the drop of a packet dropped it
 fell-place : (o : Option LaneDrop) (p : Option ℕ) → is_some o ≡ is_some p
@@ -66,7 +65,7 @@ fell-in x lane s = fell-place (found (λ d. d.id) x lane.drops) (place_in x (dro
     (is_some-found (λ d. d.id) x lane.drops) s
 
 module _ (packets : List Packet) (apps : ℕ) (h : History) (regular : Regular packets apps h)
-    (fits : HistoryFits h) (small : length packets ≤ 262144) where
+    (fits : HistoryFits h) (small : length packets ≤ 262144) (lines_fit : HaveLinesThatFit) where
   -- a list with each packet at its place has each where the line shows it
   shelved : (kind : Kind) (number : ℕ) (list : List ℕ) → Once list
       → ((x : ℕ) → place_in x list
@@ -107,8 +106,8 @@ module _ (packets : List Packet) (apps : ℕ) (h : History) (regular : Regular p
       (ap is_some (sym (accepted-at packets apps h x regular) ∙ e)))
 
   choice-low : (x c : ℕ) → option_map (λ d. d.lane) (choice_of h x) ≡ Some c → c < 2 ^ 8
-  choice-low x c e = lane-low (choice_of h x) c (lines_fit packets apps h small regular fits x).0.choice
-      e
+  choice-low x c e =
+      lane-low (choice_of h x) c (lines_fit packets apps h small regular fits x).0.choice e
 
   pub accepted-shelved : (c : ℕ)
       → IsShelved h.start Accepted (seen_of packets apps h) c (lane_at h.lanes c).accepted

@@ -1,5 +1,5 @@
 //! The lines of packets and of replies, put together.
-ghost use Rattle.std.specs.Prelude.{◌≡◌, ◌≤◌, List, IfOk, None, Some, drop};
+ghost use Rattle.std.specs.Prelude.{◌≡◌, ◌≤◌, List, IfOk, None, Some, drop, length};
 ghost use Rattle.report_reader.specs.declared.packets.SeenReply.{SeenReply as ReplyLines};
 ghost use Rattle.report_reader.specs.declared.slots.Seen.{Seen as SeenLines};
 ghost use Rattle.report_history.specs.Joined.{AreJoined, first_of};
@@ -12,17 +12,21 @@ use steer_base::OutOfMemory;
 fn reply_at(replies: &[SeenReply], next: usize, packet: usize) -> Option<SeenReply>
     ensures { result ≡ first_of packet (drop next replies.now) }
 {
-    if next < replies.len() && replies[next].id.0 as usize == packet {
-        Some(replies[next])
+    if next >= replies.len() {
+        return None;
+    }
+    let reply = replies[next];
+    if reply.id.0 as usize == packet {
+        Some(reply)
     } else {
         None
     }
 }
 
 // 1 for a reply.
-fn one_if(reply: Option<SeenReply>) -> usize
-    ensures none { reply ≡ None → result ≡ 0 }
-    ensures some { (r : ReplyLines) → reply ≡ Some r → result ≡ 1 }
+fn one_if(reply: &Option<SeenReply>) -> usize
+    ensures none { reply.now ≡ None → result ≡ 0 }
+    ensures some { (r : ReplyLines) → reply.now ≡ Some r → result ≡ 1 }
     ensures most { result ≤ 1 }
 {
     match reply {
@@ -37,18 +41,17 @@ pub fn join(
     packets: &[SeenPacket],
     replies: &[SeenReply],
 ) -> Result<Vec<Seen>, OutOfMemory>
-    ensures { IfOk result (λ seen. (lines : List SeenLines)
+    ensures long { IfOk result (λ seen. length seen.items ≡ length packets.now) }
+    ensures joined { IfOk result (λ seen. (lines : List SeenLines)
         → AreJoined packets.now replies.now lines → seen.items ≡ lines) }
 {
     let mut seen = Vec::with_capacity(alloc, packets.len())?;
     let mut next = 0;
     for x in 0..packets.len() {
+        let packet = packets[x];
         let reply = reply_at(replies, next, x);
-        next += one_if(reply);
-        seen.push(Seen {
-            packet: packets[x],
-            reply,
-        })?;
+        next += one_if(&reply);
+        seen.push(Seen { packet, reply })?;
     }
     Ok(seen)
 }

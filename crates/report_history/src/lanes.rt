@@ -90,7 +90,8 @@ pub fn backlogs(
 {
     let mut lanes = Vec::with_capacity(alloc, sums.len())?;
     for c in 0..sums.len() {
-        lanes.push(backlog(alloc, seen, c, sums[c], start)?)?;
+        let own = sums[c];
+        lanes.push(backlog(alloc, seen, c, own, start)?)?;
     }
     Ok(lanes)
 }
@@ -108,7 +109,8 @@ pub fn tx_queues(
 {
     let mut lanes = Vec::with_capacity(alloc, sums.len())?;
     for t in 0..sums.len() {
-        lanes.push(tx_queue(alloc, seen, t, sums[t], start)?)?;
+        let own = sums[t];
+        lanes.push(tx_queue(alloc, seen, t, own, start)?)?;
     }
     Ok(lanes)
 }
