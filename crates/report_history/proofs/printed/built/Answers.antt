@@ -13,7 +13,7 @@ returns-clause-history c =
       taken = c.from_vec-2.ensures;
       choices = λ lists a. c.from_vec-3.ensures ∙ c.in_ok-choices.ensures lists
           (subst₂ (λ way n. AreChoices seen way n lists)
-          (c.from_vec.ensures ∙ sym c.deref.ensures.value) (sym c.len.ensures) a);
+          (c.from_vec.ensures ∙ sym c.deref.ensures.value) (sym (c.len.ensures ∙ c.args.parts.taken.ok.0)) a);
       lanes = λ lanes a. c.from_vec-4.ensures ∙ c.in_ok-lanes.ensures lanes
           (subst (λ sums. AreLanes (IsBacklog start seen) sums lanes)
           (sym c.deref-4.ensures.value) a);
