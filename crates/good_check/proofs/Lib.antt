@@ -3,6 +3,7 @@ mod ListLemmas
 mod PlacesLemmas
 mod PositionsLemmas
 mod QueuesLemmas
+mod RepliesLemmas
 mod SweptLemmas
 mod ArrivedLemmas
 mod ChoicesLemmas
