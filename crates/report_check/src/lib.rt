@@ -2,8 +2,10 @@
 #![tactic(auto)]
 
 mod comparing;
+mod printed;
 mod reading;
 mod routing;
 mod showing;
 
+pub use printed::{Printed, ReportFault, read_report};
 pub use reading::is_report;
