@@ -5,6 +5,7 @@ mod arrived;
 mod case;
 mod choices;
 mod drops;
+mod faults;
 mod heads;
 mod places;
 mod positions;
@@ -14,3 +15,4 @@ mod wants;
 mod writes;
 
 pub use case::Case;
+pub use faults::first_fault;
