@@ -5,6 +5,7 @@ mod arrived;
 mod case;
 mod choices;
 mod drops;
+mod faults;
 mod heads;
 mod leaving;
 mod places;
@@ -16,3 +17,4 @@ mod wants;
 mod writes;
 
 pub use case::Case;
+pub use faults::first_fault;
