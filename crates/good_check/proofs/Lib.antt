@@ -6,6 +6,7 @@ mod OrderLemmas
 mod PlacesLemmas
 mod PositionsLemmas
 mod QueuesLemmas
+mod RepliesLemmas
 mod SteeredLemmas
 mod SweptLemmas
 mod ArrivedLemmas

@@ -22,14 +22,14 @@ use Rattle.history.proofs.SamePlaces.{no_place, some_same}
 use Rattle.good_check.specs.Choices.{rx_position}
 use Rattle.good_check.specs.Positions.{position_by}
 
-nowhere : (x : ℕ) (xs : List ℕ) → (is_in x xs ≡ true → ⊥) → place_in x xs ≡ None
+pub nowhere : (x : ℕ) (xs : List ℕ) → (is_in x xs ≡ true → ⊥) → place_in x xs ≡ None
 nowhere x xs h = elim (cases_Bool (is_in x xs)) [
   | inl t ↦ absurd (h t)
   | inr f ↦ no_place x xs f
 ]
 
 -- with the own choice of a packet, and its place at the lane of that choice
-at-own : (start lane : ℕ) (own : Option Choice) (places : ℕ → Option ℕ)
+pub at-own : (start lane : ℕ) (own : Option Choice) (places : ℕ → Option ℕ)
     → ((c : ℕ) (n : ℕ) → places c ≡ Some n → option_map (λ d. d.lane) own ≡ Some c)
     → position_by start own (option_and_then places (option_map (λ d. d.lane) own)) lane
     ≡ option_map (number start) (places lane)

@@ -7,6 +7,7 @@ pub mod Order
 pub mod Places
 pub mod Positions
 pub mod Queues
+pub mod Replies
 pub mod Swept
 pub mod Wants
 pub mod Writes

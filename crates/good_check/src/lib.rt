@@ -1,4 +1,4 @@
-//! Decides clauses of a good history, for a plan without commands.
+//! Finds the first clause of a good history that a history fails, for a plan without commands.
 #![tactic(auto)]
 
 mod arrived;

@@ -17,7 +17,8 @@ returns-then-not-take-clause-no c = λ f came gone more h p.
     c.id-item.is ∙ get_or_default_zero xs i c.id-item.result here in
     c.take.ensures.no c.if-not-take.true came (gone ++ take i xs) (drop (suc i) xs ++ more)
     (v.left came gone h)
-    (λ k l. subst (λ ys. IsPrefix (of c.args.classes.now k ys) (of c.args.classes.now k came))
+    (λ k l. subst (λ ys. IsPrefix (in_class c.args.classes.now k ys)
+    (in_class c.args.classes.now k came))
     (rest-from gone xs more i here
     ∙ ap (λ y. (gone ++ take i xs) ++ y ∷ (drop (suc i) xs ++ more)) (sym is))
     (p k (omega (arith, l, v.first))))

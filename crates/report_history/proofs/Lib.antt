@@ -1,0 +1,9 @@
+pub mod BuiltLemmas
+pub mod JoinedLemmas
+pub mod ListsLemmas
+pub mod LoopsLemmas
+pub mod PickedLemmas
+pub mod SeenLemmas
+pub mod ShelvedLemmas
+pub mod SlotLemmas
+pub mod WritesLemmas

@@ -1,0 +1,3 @@
+pub mod VerdictLemmas
+pub mod NoCommandLemmas
+pub mod ReplayLemmas

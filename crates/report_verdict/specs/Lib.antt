@@ -1,0 +1,4 @@
+pub mod Verdicts
+pub mod VerdictText
+pub mod Laws
+pub mod Replays

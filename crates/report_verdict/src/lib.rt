@@ -1,0 +1,10 @@
+//! The verdict on a report: whether a run of a plan over the packets of a capture may have it.
+#![tactic(auto)]
+
+mod judging;
+mod laws;
+mod verdict;
+
+pub use judging::judge;
+pub use laws::{a_verdict_is_one, good_is_said_of_good_histories, replays_are_judged};
+pub use verdict::Verdict;
