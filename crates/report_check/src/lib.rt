@@ -2,11 +2,11 @@
 #![tactic(auto)]
 
 mod comparing;
+mod printed;
 mod reading;
-mod report;
 mod routing;
 mod showing;
 
+pub use printed::{ReportFault, read_report};
 pub use reading::is_report;
-pub use report::{ReportFault, read_report};
 pub use report_history::Printed;

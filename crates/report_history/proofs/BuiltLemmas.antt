@@ -29,7 +29,9 @@ module _ (packets : List Packet) (apps start : ℕ) (p : Parts) (h : History)
     (k : History)
     (b : IsBuilt packets apps h.start p (seen_of packets apps h) k) where
   same_arrivals : k.arrivals ≡ h.arrivals
-  same_arrivals = b.arrivals ∙ arrivals-shown packets apps h f.regular f.numbers small lines_fit f.queued
+  same_arrivals =
+      b.arrivals
+      ∙ arrivals-shown packets apps h f.regular f.numbers small lines_fit f.queued
 
   same_choices : k.choices ≡ h.choices
   same_choices = b.choices h.choices (record {
@@ -64,7 +66,8 @@ module _ (packets : List Packet) (apps start : ℕ) (p : Parts) (h : History)
 
   same_tx_choices : k.tx_choices ≡ h.tx_choices
   same_tx_choices =
-      b.tx_choices ∙ ap (map (filter_map (tx_chosen_for (seen_of packets apps h) packets))) same_sent
+      b.tx_choices
+      ∙ ap (map (filter_map (tx_chosen_for (seen_of packets apps h) packets))) same_sent
       ∙ map-lists (filter_map (tx_chosen_for (seen_of packets apps h) packets)) h.sent h.tx_choices
       (f.regular.matched.sent ∙ sym f.regular.matched.tx_choices)
       (tx-choices-shown packets apps h f.regular f.numbers small lines_fit)
@@ -120,8 +123,8 @@ module _ (packets : List Packet) (apps start : ℕ) (p : Parts) (h : History)
       }
 
 -- whatever history has the parts, what was built is it
-pub built-is : (packets : List Packet) (apps start : ℕ) (p : Parts) (seen : List Seen) (k h : History)
-    (texts : List (List ℕ))
+pub built-is : (packets : List Packet) (apps start : ℕ) (p : Parts) (seen : List Seen)
+    (k h : History) (texts : List (List ℕ))
     → ((lines : List Seen) → AreJoined p.packets.items p.replies.items lines → seen ≡ lines)
     → IsBuilt packets apps start p seen k → length packets ≤ 262144 → HaveLinesThatFit
     → apps < 2 ^ 8

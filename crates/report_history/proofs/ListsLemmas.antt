@@ -147,8 +147,8 @@ module _ (packets : List Packet) (apps : ℕ) (h : History) (regular : Regular p
   chosen-here : (q k : ℕ) → k < length h.arrivals
       → chosen_at (seen_of packets apps h) q (get_or h.arrivals k no_arrival)
       ≡ (if (get_or h.arrivals k no_arrival).queue == q
-         then found (λ c. c.id) (get_or h.arrivals k no_arrival).id (list_at h.choices q)
-         else None)
+      then found (λ c. c.id) (get_or h.arrivals k no_arrival).id (list_at h.choices q)
+      else None)
   chosen-here q k l =
       let a = get_or h.arrivals k no_arrival in
       let seen = seen_of packets apps h in

@@ -62,7 +62,7 @@ pub picked-at : {B : Type 0} (q : ℕ) (f : Arrival → Option B) (g : ℕ → O
     (arrivals : List Arrival)
     → ((k : ℕ) → k < length arrivals → f (get_or arrivals k no_arrival)
     ≡ (if (get_or arrivals k no_arrival).queue == q then g (get_or arrivals k no_arrival).id
-      else None))
+    else None))
     → filter_map f arrivals ≡ filter_map g (arrivals_at arrivals q)
 picked-at q f g [] h = refl
 picked-at q f g (a ∷ rest) h =
@@ -115,7 +115,8 @@ firsts key (i ∷ ids) (x ∷ xs) o p =
     let t : map key xs ++ p.0 ≡ ids = ap rear p.1 in
     let here : found key i (x ∷ xs) ≡ Some x = found-here key i x xs (sym kx) in
     let n : place_in (key x) ids ≡ None = ap (λ k. place_in k ids) kx ∙ Once-head i ids o in
-    ap₂ cons_option here (past-front key ids x xs n ∙ firsts key ids xs (Once-tail i ids o) (p.0, t))
+    ap₂ cons_option here
+    (past-front key ids x xs n ∙ firsts key ids xs (Once-tail i ids o) (p.0, t))
 
 -- an item of a list, by its index
 pub get-at : {A : Type 0} (xs : List A) (i : ℕ) (d : A) → i < length xs

@@ -39,7 +39,8 @@ use Rattle.report_reader.specs.declared.slots.Kind.TheVariants.{Accepted, Droppe
 use Rattle.report_reader.specs.declared.slots.Kind.TheVariants.{Port}
 use Rattle.report_reader.specs.declared.slots.Seen.{Seen}
 use Rattle.report_history.proofs.SeenLemmas.{seen_at, seen_of, seen-is, seen-long}
-use Rattle.report_history.proofs.SlotLemmas.{IsOwn, own-accepted, own-dropped, own-list, own-shipped}
+use Rattle.report_history.proofs.SlotLemmas.{IsOwn, own-accepted, own-dropped, own-list}
+use Rattle.report_history.proofs.SlotLemmas.{own-shipped}
 
 -- a list without members
 pub no-members : (xs : List ℕ) → ((x : ℕ) → is_in x xs ≡ true → ⊥) → xs ≡ []

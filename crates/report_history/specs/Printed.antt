@@ -32,8 +32,8 @@ IsOnlyHistory packets apps start p found shown =
     → (found ≡ h) × (shown ≡ texts)
 
 -- A history whose lists are built of the lines of packets and of the parts of a report: its
--- arrivals, replies and writes are just these, and its choices, lanes, inboxes and port are the lists
--- that the lines show, if there are any.
+-- arrivals, replies and writes are just these, and its choices, lanes, inboxes and port are the
+-- lists that the lines show, if there are any.
 pub record IsBuilt (packets : List Packet) (apps start : ℕ) (p : Parts) (seen : List Seen)
     (k : History) : Type 0 where
   pub arrivals : k.arrivals ≡ arrivals_from 0 seen

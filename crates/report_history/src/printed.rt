@@ -69,8 +69,6 @@ fn built(
     let tx_choices = tx_choices(alloc, seen, packets, &sent)?;
     let lanes = backlogs(alloc, seen, &parts.cpus, start)?;
     let tx_lanes = tx_queues(alloc, seen, &parts.txs, start)?;
-    let port = shelf(alloc, seen, Kind::Port, 0, start)?;
-    let writes = all_writes(alloc, &parts.writes, apps)?;
     Ok(Printed {
         history: History {
             total: parts.last.total,
@@ -83,8 +81,8 @@ fn built(
             sent: List::from_vec(sent),
             tx_choices: List::from_vec(tx_choices),
             tx_lanes: List::from_vec(tx_lanes),
-            port: List::from_vec(port),
-            writes: List::from_vec(writes),
+            port: List::from_vec(shelf(alloc, seen, Kind::Port, 0, start)?),
+            writes: List::from_vec(all_writes(alloc, &parts.writes, apps)?),
             commands: List::from_vec(parts.commands),
             start,
         },

@@ -13,7 +13,8 @@ returns-clause-history c =
       taken = c.from_vec-2.ensures;
       choices = λ lists a. c.from_vec-3.ensures ∙ c.in_ok-choices.ensures lists
           (subst₂ (λ way n. AreChoices seen way n lists)
-          (c.from_vec.ensures ∙ sym c.deref.ensures.value) (sym (c.len.ensures ∙ c.args.parts.taken.ok.0)) a);
+          (c.from_vec.ensures ∙ sym c.deref.ensures.value)
+          (sym (c.len.ensures ∙ c.args.parts.taken.ok.0)) a);
       lanes = λ lanes a. c.from_vec-4.ensures ∙ c.in_ok-lanes.ensures lanes
           (subst (λ sums. AreLanes (IsBacklog start seen) sums lanes)
           (sym c.deref-4.ensures.value) a);
@@ -27,8 +28,8 @@ returns-clause-history c =
       tx_lanes = λ lanes a. c.from_vec-8.ensures ∙ c.in_ok-tx_lanes.ensures lanes
           (subst (λ sums. AreLanes (IsTxQueue start seen) sums lanes)
           (sym c.deref-5.ensures.value) a);
-      port = λ list a. c.from_vec-9.ensures ∙ c.in_ok-port.ensures list a;
-      writes = c.from_vec-10.ensures ∙ c.in_ok-writes.ensures
+      port = λ list a. c.from_vec-9.ensures ∙ c.in_ok-shelf.ensures list a;
+      writes = c.from_vec-10.ensures ∙ c.in_ok-all_writes.ensures
           ∙ ap (λ ws. map (λ a. filter_map (write_of a) ws) (range_with_len 0 c.args.apps))
           c.deref-6.ensures.value;
       commands = c.from_vec-11.ensures;

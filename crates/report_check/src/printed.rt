@@ -1,9 +1,9 @@
 //! The history that bytes are the report of.
-ghost use Rattle.std.specs.Prelude.{◌≡◌, ◌≤◌, IfOk, IsErrOf, length};
+ghost use Rattle.std.specs.Prelude.{◌≡◌, ◌≤◌, Err, IfOk, length};
 ghost use Rattle.steer_base.specs.declared.limits.TheConstants.{MAX_PACKETS};
 ghost use Rattle.report.specs.Laws.{IsReportOf};
 ghost use Rattle.report_check.specs.Reading.{IsNoReport, IsOnlyReport};
-ghost use Rattle.report_check.specs.declared.report.ReportFault.TheVariants as fault;
+ghost use Rattle.report_check.specs.declared.printed.ReportFault.TheVariants as fault;
 
 use crate::reading::is_report;
 use report_history::{Printed, history_of};
@@ -44,11 +44,19 @@ pub fn read_report(
         (λ p. IsReportOf packets.now apps start p.history p.texts.items bytes.now) }
     ensures only { IfOk result
         (λ p. IsOnlyReport packets.now apps start p.history p.texts.items bytes.now) }
-    ensures none { IsErrOf result fault.NoReport → IsNoReport packets.now apps start bytes.now }
+    ensures none { result ≡ Err fault.NoReport → IsNoReport packets.now apps start bytes.now }
 {
     let parts = read_parts(alloc, bytes, packets.len())?;
     let printed = history_of(alloc, parts, packets, apps, start)?;
-    if is_report(alloc, bytes, packets, apps, start, &printed.history, &printed.texts)? {
+    if is_report(
+        alloc,
+        bytes,
+        packets,
+        apps,
+        start,
+        &printed.history,
+        &printed.texts,
+    )? {
         Ok(printed)
     } else {
         Err(ReportFault::NoReport)
