@@ -4,6 +4,8 @@
 #[cfg(test)]
 mod calls;
 #[cfg(test)]
+mod check_command;
+#[cfg(test)]
 mod files;
 #[cfg(test)]
 mod gen_command;

@@ -60,6 +60,15 @@ fn frame_of(letter: u8) -> &'static [u8] {
     }
 }
 
+/// A capture of the frames of these letters.
+pub fn capture_of(alloc: Global, letters: &[u8]) -> Result<Vec<u8>, Fail> {
+    let mut frames = Vec::new(alloc);
+    for letter in letters {
+        frames.push(frame_of(*letter))?;
+    }
+    file(alloc, &frames)
+}
+
 /// What the replay of a plan with these settings and steps on the frames of these letters comes to.
 pub fn replayed(
     alloc: Global,
@@ -68,11 +77,7 @@ pub fn replayed(
     letters: &[u8],
 ) -> Result<Outcome, Fail> {
     let plan = plan_of(alloc, settings, steps)?;
-    let mut frames = Vec::new(alloc);
-    for letter in letters {
-        frames.push(frame_of(*letter))?;
-    }
-    let capture = file(alloc, &frames)?;
+    let capture = capture_of(alloc, letters)?;
     let desk = desk_of(alloc, &[("p.json", &plan), ("a.pcap", &capture)], &[])?;
     called(alloc, &["replay", "p.json", "a.pcap"], desk)
 }

@@ -1,7 +1,7 @@
 -- What is true where the commands end.
 use Rattle.std.proofs.Common.{◌≡◌, ◌≢◌, ◌≤◌, ◌<◌, zero, suc, ℕ, List, [], ◌∷◌, ◌++◌, length, take}
 use Rattle.std.proofs.Common.{Option, Some, None, unwrap_or, inl, inr, refl, sym, ap, subst, ◌∙◌}
-use Rattle.std.proofs.Common.{arith, IfSome}
+use Rattle.std.proofs.Common.{arith, IfErr, IfSome, Result, Ok, Err}
 use Rattle.std.specs.Io.KnownBytes.{Keeps, Appends}
 use Rattle.std.proofs.KnownBytes.{Appends-kept, Keeps-trans}
 use Rattle.std.proofs.lemmas.List.{take_all}
@@ -9,8 +9,9 @@ use Rattle.outside_io.specs.Counts.{Rose}
 use Rattle.outside_io.specs.Sink.{AppendsSome}
 use Rattle.steer_top.specs.Files.{Accepted, Files, IsBad, IsNot, Refused, limit_of}
 use Rattle.steer_top.specs.Outcomes.{Writes, name_of, roles_of, file_bytes}
-use Rattle.steer_top.specs.Words.{GenWords, HashWords, PlaceWords, ReplayWords, CommandWords}
-use Rattle.steer_top.specs.Words.CommandWords.{Gen, Hash, Place, Replay}
+use Rattle.steer_top.specs.Words.{CheckWords, CommandWords, GenWords, HashWords, PlaceWords}
+use Rattle.steer_top.specs.Words.{ReplayWords}
+use Rattle.steer_top.specs.Words.CommandWords.{Check, Gen, Hash, Place, Replay}
 use Rattle.steer_top.specs.Endings.{Course, Gave, NothingOut, EndsAs, EndsAt, EndsBy, EndsCommand}
 use Rattle.steer_top.specs.Endings.{EndsUnfit, EndsUnread, EndsWriting, Flushes, StopsAt}
 use Rattle.steer_top.specs.declared.ending.Role.{Role}
@@ -57,6 +58,15 @@ stops_unread (ending.Refuses (refusal.Plan f)) r name held before after asked h 
 stops_unread (ending.Refuses (refusal.Rules f)) r name held before after asked h = absurd h
 stops_unread (ending.Refuses (refusal.Capture f)) r name held before after asked h = absurd h
 stops_unread (ending.Refuses (refusal.Pcapng f)) r name held before after asked h = absurd h
+
+-- a command stops at a file if that was not read
+pub stops_all_unread : {T : Type 0} (result : Result T Ending) (r : Role) (name : List ℕ)
+    (held : Option (List ℕ)) (before after : ℕ) (asked : Option (List ℕ))
+    → IfErr result (λ e. EndsUnread e r name held before after asked)
+    → IfErr result (λ e. EndsAt e r name held before after asked)
+stops_all_unread (Ok x) r name held before after asked h = tt
+stops_all_unread (Err e) r name held before after asked h =
+    stops_unread e r name held before after asked h
 
 -- a command stops at a file that was read, and is not what it is read as
 pub stops_unfit : (e : Ending) (r : Role) (name : List ℕ) (bytes : List ℕ) (held : Option (List ℕ))
@@ -172,6 +182,14 @@ abbrev pub files_of : List ℕ → List ℕ → Files
 files_of first capture role.Plan = first
 files_of first capture role.Rules = first
 files_of first capture role.Capture = capture
+files_of first capture role.Report = []
+
+-- the files of the command `check`
+abbrev pub check_files : List ℕ → List ℕ → List ℕ → Files
+check_files plan capture report role.Plan = plan
+check_files plan capture report role.Rules = []
+check_files plan capture report role.Capture = capture
+check_files plan capture report role.Report = report
 
 -- the one file of the command `hash`
 pub hash_gave : (words : HashWords) (held : List ℕ → Option (List ℕ)) (rules capture : List ℕ)
@@ -180,6 +198,7 @@ pub hash_gave : (words : HashWords) (held : List ℕ → Option (List ℕ)) (rul
 hash_gave words held rules capture told role.Plan = tt
 hash_gave words held rules capture told role.Rules = tt
 hash_gave words held rules capture told role.Capture = told
+hash_gave words held rules capture told role.Report = tt
 
 -- the two files of the command `place`
 pub place_gave : (words : PlaceWords) (held : List ℕ → Option (List ℕ)) (rules capture : List ℕ)
@@ -189,6 +208,7 @@ pub place_gave : (words : PlaceWords) (held : List ℕ → Option (List ℕ)) (r
 place_gave words held rules capture first second role.Plan = tt
 place_gave words held rules capture first second role.Rules = first
 place_gave words held rules capture first second role.Capture = second
+place_gave words held rules capture first second role.Report = tt
 
 -- the two files of the command `replay`
 pub replay_gave : (words : ReplayWords) (held : List ℕ → Option (List ℕ)) (plan capture : List ℕ)
@@ -198,6 +218,18 @@ pub replay_gave : (words : ReplayWords) (held : List ℕ → Option (List ℕ)) 
 replay_gave words held plan capture first second role.Plan = first
 replay_gave words held plan capture first second role.Rules = tt
 replay_gave words held plan capture first second role.Capture = second
+replay_gave words held plan capture first second role.Report = tt
+
+-- the three files of the command `check`
+pub check_gave : (words : CheckWords) (held : List ℕ → Option (List ℕ))
+    (plan capture report : List ℕ)
+    → Keeps (held words.plan) (Some plan) → Keeps (held words.capture) (Some capture)
+    → Keeps (held words.report) (Some report)
+    → Gave (file_bytes held (Check words)) (check_files plan capture report)
+check_gave words held plan capture report first second third role.Plan = first
+check_gave words held plan capture report first second third role.Rules = tt
+check_gave words held plan capture report first second third role.Capture = second
+check_gave words held plan capture report first second third role.Report = third
 
 -- the command `gen` has no file
 pub gen_gave : (words : GenWords) (held : List ℕ → Option (List ℕ))
@@ -205,6 +237,7 @@ pub gen_gave : (words : GenWords) (held : List ℕ → Option (List ℕ))
 gen_gave words held role.Plan = tt
 gen_gave words held role.Rules = tt
 gen_gave words held role.Capture = tt
+gen_gave words held role.Report = tt
 
 -- a file of which nothing is told, or just what is told
 pub told_bytes : (told : Option (List ℕ)) → (bytes : List ℕ) × Keeps told (Some bytes)

@@ -65,6 +65,7 @@ module _ (law : OneCapture) where
       | inr (fault, is) ↦ inr (refusal.Capture fault, (other, is))
     ]
   ]
+  is_either role.Report bytes = inl tt
 
   not_both : (r : Role) (bytes : List ℕ) (reason : Refusal) → IsRead r bytes → IsNot r bytes reason
       → ⊥
@@ -91,6 +92,11 @@ module _ (law : OneCapture) where
   not_both role.Rules bytes (refusal.Plan fault) good is = is
   not_both role.Rules bytes (refusal.Capture fault) good is = is
   not_both role.Rules bytes (refusal.Pcapng fault) good is = is
+  not_both role.Report bytes (refusal.TooLong other) good is = is
+  not_both role.Report bytes (refusal.Plan fault) good is = is
+  not_both role.Report bytes (refusal.Rules fault) good is = is
+  not_both role.Report bytes (refusal.Capture fault) good is = is
+  not_both role.Report bytes (refusal.Pcapng fault) good is = is
 
   is_one : (r : Role) (bytes : List ℕ) (a b : Refusal) → IsNot r bytes a → IsNot r bytes b → a ≡ b
   is_one role.Capture bytes (refusal.Capture f) (refusal.Capture g) is was =
@@ -128,6 +134,11 @@ module _ (law : OneCapture) where
   is_one role.Capture bytes (refusal.TooLong other) b is was = absurd is
   is_one role.Capture bytes (refusal.Capture f) (refusal.TooLong other) is was = absurd was
   is_one role.Capture bytes (refusal.Pcapng f) (refusal.TooLong other) is was = absurd was
+  is_one role.Report bytes (refusal.TooLong other) b is was = absurd is
+  is_one role.Report bytes (refusal.Plan f) b is was = absurd is
+  is_one role.Report bytes (refusal.Rules f) b is was = absurd is
+  is_one role.Report bytes (refusal.Capture f) b is was = absurd is
+  is_one role.Report bytes (refusal.Pcapng f) b is was = absurd is
 
   good_or_bad : (r : Role) (bytes : List ℕ)
       → IsGood r bytes ⊎ ((reason : Refusal) × IsBad r bytes reason)

@@ -1,3 +1,5 @@
+pub mod Checks
+pub mod CheckedReplays
 pub mod Commands
 pub mod Decided
 pub mod Lines

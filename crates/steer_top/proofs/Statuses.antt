@@ -5,6 +5,7 @@ use Rattle.std.specs.Prelude.{⊤}
 use Rattle.std.specs.Io.KnownBytes.{Keeps, Appends}
 use Rattle.outside_io.specs.Sink.{AppendsSome}
 use Rattle.steer_top.specs.Captures.{HasAnyCapture}
+use Rattle.steer_top.specs.Checks.{IsVerdictLine}
 use Rattle.steer_top.specs.Files.{Files, IsGood, IsBad, Accepted, Refused, IsRefusedOnce, IsNotBoth}
 use Rattle.steer_top.specs.HashText.{capture_text}
 use Rattle.steer_top.specs.PlaceText.{place_text}
@@ -13,7 +14,7 @@ use Rattle.replay.specs.Meanings.{Meaning}
 use Rattle.replay.specs.Reports.{IsReportOfPlan}
 use Rattle.steer_top.specs.Outcomes.{FilesAreKnown, Writes, roles_of, file_bytes}
 use Rattle.steer_top.specs.Words.{CommandWords}
-use Rattle.steer_top.specs.Words.CommandWords.{Gen, Hash, Place, Replay}
+use Rattle.steer_top.specs.Words.CommandWords.{Check, Gen, Hash, Place, Replay}
 use Rattle.steer_top.specs.Endings.{Course, DeskFailed, OutFailed, Gave, EndsCommand, IsRefusal}
 use Rattle.steer_top.specs.Endings.{IsUnread}
 use Rattle.steer_top.specs.Endings.{status_of, status_of_refusal}
@@ -97,6 +98,16 @@ same_writes taps (Replay words) given told text (first, (second, rest)) (capture
       (subst (λ bytes. IsReportOfPlan (given role.Plan) bytes capture taps text) second report),
 )
 same_writes taps (Gen words) given told text same writes = writes
+same_writes taps (Check words) given told text (first, (second, (third, rest)))
+    (capture, has, line) = (
+      capture,
+      subst (λ bytes. HasAnyCapture bytes capture) second has,
+      subst (λ bytes. IsVerdictLine bytes (told role.Capture) capture (told role.Report) text) first
+          (subst (λ bytes. IsVerdictLine (given role.Plan) bytes capture (told role.Report) text)
+          second
+          (subst (λ bytes. IsVerdictLine (given role.Plan) (given role.Capture) capture bytes text)
+          third line)),
+    )
 same_writes taps (Place words) given told text (first, (second, rest))
     (rules, capture, reads, has, is) = (
       rules,

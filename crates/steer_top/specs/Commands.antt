@@ -1,6 +1,8 @@
 -- What the program's commands say of the words.
-use Rattle.steer_top.specs.Words.{GenWords, HashWords, PlaceWords, ReplayWords, CommandWords}
-use Rattle.steer_top.specs.Words.CommandWords.{Gen, Hash, Place, Replay}
+use Rattle.steer_top.specs.Words.{CheckWords, CommandWords, GenWords, HashWords, PlaceWords}
+use Rattle.steer_top.specs.Words.{ReplayWords}
+use Rattle.steer_top.specs.Words.CommandWords.{Check, Gen, Hash, Place, Replay}
+use Rattle.steer_top.specs.declared.command.CheckCommand.{CheckCommand}
 use Rattle.steer_top.specs.declared.command.GenCommand.{GenCommand}
 use Rattle.steer_top.specs.declared.command.HashCommand.{HashCommand}
 use Rattle.steer_top.specs.declared.command.PlaceCommand.{PlaceCommand}
@@ -20,6 +22,11 @@ replay_words_of replay = record { plan = replay.plan.now; capture = replay.captu
 abbrev pub gen_words_of : GenCommand → GenWords
 gen_words_of gen = record { seed = gen.seed; packets = gen.packets; flows = gen.flows }
 
+-- The words of the command `check`.
+abbrev pub check_words_of : CheckCommand → CheckWords
+check_words_of check =
+    record { plan = check.plan.now; capture = check.capture.now; report = check.report.now }
+
 -- The words of the command `place`.
 abbrev pub place_words_of : PlaceCommand → PlaceWords
 place_words_of place = record { rules = place.rules.now; capture = place.capture.now }
@@ -29,4 +36,5 @@ abbrev pub words_of : Command → CommandWords
 words_of (command.Hash hash) = Hash (hash_words_of hash)
 words_of (command.Replay replay) = Replay (replay_words_of replay)
 words_of (command.Gen gen) = Gen (gen_words_of gen)
+words_of (command.Check check) = Check (check_words_of check)
 words_of (command.Place place) = Place (place_words_of place)

@@ -108,6 +108,7 @@ abbrev pub name_of_role : Role → List ℕ
 name_of_role role.Plan = codes "plan"
 name_of_role role.Rules = codes "rules"
 name_of_role role.Capture = codes "capture"
+name_of_role role.Report = codes "report"
 
 -- The line that names a refusal.
 abbrev pub line_of_refusal : Refusal → List ℕ

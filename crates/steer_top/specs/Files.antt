@@ -20,12 +20,14 @@ abbrev pub limit_of : Role → ℕ
 limit_of role.Plan = MAX_TEXT_FILE
 limit_of role.Rules = MAX_TEXT_FILE
 limit_of role.Capture = MAX_FILE
+limit_of role.Report = MAX_FILE
 
--- The bytes are what they are read as.
+-- The bytes are what they are read as. Any bytes may be read as a report.
 abbrev pub IsRead : Role → List ℕ → Type 0
 IsRead role.Plan bytes = (plan : PlanSettings) × (plan_of bytes ≡ Ok plan)
 IsRead role.Rules bytes = (rules : Rules) × (rules_of bytes ≡ Ok rules)
 IsRead role.Capture bytes = (capture : Capture) × HasAnyCapture bytes capture
+IsRead role.Report bytes = ⊤
 
 -- The bytes are not what they are read as, for this reason.
 abbrev pub IsNot : Role → List ℕ → Refusal → Type 0

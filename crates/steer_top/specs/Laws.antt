@@ -1,8 +1,14 @@
 -- What holds of the texts of the commands.
-use Rattle.std.specs.Prelude.{◌≡◌, true, []}
+use Rattle.std.specs.Prelude.{◌≡◌, ◌⊎◌, ℕ, true, List, []}
 use Rattle.steer_base.specs.declared.flow.Flow.{Flow}
 use Rattle.ntuple_rules.specs.Folds.{swapped}
 use Rattle.ntuple_rules.specs.declared.rules.Rules.{Rules}
+use Rattle.pcap_reader.specs.declared.capture.Capture.{Capture}
+use Rattle.replay.specs.Meanings.{Meaning}
+use Rattle.replay.specs.Reports.{IsReportOfPlan}
+use Rattle.report_verdict.specs.Replays.{MayBeSaid}
+use Rattle.report_verdict.specs.declared.verdict.Verdict.TheVariants as verdict
+use Rattle.steer_top.specs.Checks.{IsVerdictLine}
 use Rattle.steer_top.specs.PlaceText.{hash_for, queue_for}
 
 -- By symmetric rules a flow and its other direction have one hash.
@@ -16,3 +22,12 @@ abbrev pub HasOneQueue : Type 0
 HasOneQueue =
     (rules : Rules) (flow : Flow) → rules.symmetric ≡ true → rules.rules ≡ []
     → queue_for rules (swapped flow) ≡ queue_for rules flow
+
+-- Of a report that `replay` may write, `check` says by the same plan and capture that it is not
+-- checked, or what may be said of the report of a replay.
+abbrev pub ReplaysAreChecked : Type 0
+ReplaysAreChecked =
+    (plan_bytes capture_bytes : List ℕ) (capture : Capture) (taps : List Meaning)
+    (report line : List ℕ) → IsReportOfPlan plan_bytes capture_bytes capture taps report
+    → (check : IsVerdictLine plan_bytes capture_bytes capture report line)
+    → (check.verdict ≡ verdict.NotChecked) ⊎ MayBeSaid check.verdict

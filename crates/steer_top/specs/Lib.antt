@@ -4,6 +4,7 @@ pub mod Captures
 pub mod Files
 pub mod HashText
 pub mod PlaceText
+pub mod Checks
 pub mod Taken
 pub mod Outcomes
 pub mod Headlines

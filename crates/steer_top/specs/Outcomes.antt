@@ -10,11 +10,12 @@ use Rattle.replay.specs.Reports.{IsReportOfPlan}
 use Rattle.replay.specs.Summaries.{IsSummaryOf, summary_text}
 use Rattle.replay.specs.declared.summary.Summary.{Summary}
 use Rattle.steer_top.specs.Captures.{HasAnyCapture}
+use Rattle.steer_top.specs.Checks.{IsVerdictLine}
 use Rattle.steer_top.specs.Files.{Files}
 use Rattle.steer_top.specs.HashText.{capture_text}
 use Rattle.steer_top.specs.PlaceText.{place_text}
 use Rattle.steer_top.specs.Words.{CommandWords, command_of}
-use Rattle.steer_top.specs.Words.CommandWords.{Gen, Hash, Place, Replay}
+use Rattle.steer_top.specs.Words.CommandWords.{Check, Gen, Hash, Place, Replay}
 use Rattle.steer_top.specs.declared.ending.Role.{Role}
 use Rattle.steer_top.specs.declared.ending.Role.TheVariants as role
 
@@ -23,6 +24,7 @@ abbrev pub roles_of : CommandWords → List Role
 roles_of (Hash words) = role.Capture ∷ []
 roles_of (Replay words) = role.Plan ∷ role.Capture ∷ []
 roles_of (Gen words) = []
+roles_of (Check words) = role.Plan ∷ role.Capture ∷ role.Report ∷ []
 roles_of (Place words) = role.Rules ∷ role.Capture ∷ []
 
 -- The name of a command's file of a role, where it reads one.
@@ -30,6 +32,9 @@ abbrev pub name_of : CommandWords → Role → Option (List ℕ)
 name_of (Hash words) role.Capture = Some words.capture
 name_of (Replay words) role.Plan = Some words.plan
 name_of (Replay words) role.Capture = Some words.capture
+name_of (Check words) role.Plan = Some words.plan
+name_of (Check words) role.Capture = Some words.capture
+name_of (Check words) role.Report = Some words.report
 name_of (Place words) role.Rules = Some words.rules
 name_of (Place words) role.Capture = Some words.capture
 name_of _ _ = None
@@ -45,6 +50,9 @@ Writes taps (Replay words) files text =
 Writes taps (Gen words) files text =
     (summary : Summary) × IsSummaryOf words.seed words.packets words.flows summary
     × (text ≡ summary_text summary)
+Writes taps (Check words) files text =
+    (capture : Capture) × HasAnyCapture (files role.Capture) capture
+    × IsVerdictLine (files role.Plan) (files role.Capture) capture (files role.Report) text
 Writes taps (Place words) files text =
     (rules : Rules) × (capture : Capture) × (rules_of (files role.Rules) ≡ Ok rules)
     × HasAnyCapture (files role.Capture) capture

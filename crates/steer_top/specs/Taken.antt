@@ -2,15 +2,18 @@
 use Rattle.std.specs.Prelude.{◌≡◌, ◌≤◌, ℕ, List, All, length, Option, Some, Ok}
 use Rattle.std.specs.Io.KnownBytes.{Keeps}
 use Rattle.plan_reader.specs.declared.plan.Plan.{Plan}
-use Rattle.replay.specs.Reports.{HasPlan}
+use Rattle.replay.specs.Reports.{ArePacketsBy, HasPlan}
 use Rattle.ntuple_rules.specs.Ranges.{RulesAreWithin as AreWithin}
 use Rattle.ntuple_rules.specs.Readings.{rules_of}
 use Rattle.ntuple_rules.specs.declared.rules.Rules.{Rules}
 use Rattle.pcap_reader.specs.Captures.{FrameIsWithin}
+use Rattle.pcap_reader.specs.declared.capture.Capture.{Capture}
 use Rattle.steer_base.specs.declared.limits.TheConstants.{MAX_PACKETS}
+use Rattle.steer_model.specs.State.Ranges.{AreOfFlows}
 use Rattle.steer_top.specs.Captures.{HasAnyCapture}
 use Rattle.steer_top.specs.Files.{limit_of}
 use Rattle.steer_top.specs.declared.ending.Role.TheVariants as role
+use Rattle.steer_top.specs.declared.file.CapturedPackets.{CapturedPackets}
 use Rattle.steer_top.specs.declared.file.CaptureFile.{CaptureFile}
 
 -- The bytes are those of the file, within the limit, and the capture is theirs.
@@ -20,6 +23,20 @@ pub record IsCaptureOf (held : Option (List ℕ)) (file : CaptureFile) : Type 0 
   pub has : HasAnyCapture file.bytes.items file.capture
   pub few_records : length file.capture.records ≤ MAX_PACKETS
   pub within : All (FrameIsWithin file.bytes.items) file.capture.records
+
+-- The packets are those that a plan makes of the capture in some bytes that the file may have,
+-- within the limit, and the cut is that of this capture.
+pub record ArePacketsOf (plan : Plan) (held : Option (List ℕ)) (captured : CapturedPackets)
+    : Type 0 where
+  pub bytes : List ℕ
+  pub whole : Keeps held (Some bytes)
+  pub few : length bytes ≤ limit_of role.Capture
+  pub capture : Capture
+  pub has : HasAnyCapture bytes capture
+  pub are_packets : ArePacketsBy plan bytes capture captured.packets.items
+  pub cut : captured.cut ≡ capture.cut
+  pub few_packets : length captured.packets.items ≤ MAX_PACKETS
+  pub flows : AreOfFlows captured.packets.items
 
 -- The plan is that of some bytes that the file may have, within the limit.
 pub record IsPlanOf (held : Option (List ℕ)) (plan : Plan) : Type 0 where

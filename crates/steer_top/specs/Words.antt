@@ -91,6 +91,23 @@ gen_arguments (seed ∷ packets ∷ flows ∷ []) =
     (number_within 1 MAX_FLOWS flows)
 gen_arguments (seed ∷ packets ∷ flows ∷ more ∷ rest) = None
 
+-- The command `check`: the names of a plan, of a capture and of a report.
+pub record CheckWords : Type 0 where
+  pub plan : List ℕ
+  pub capture : List ℕ
+  pub report : List ℕ
+
+-- The arguments after the word `check`: PLAN CAPTURE REPORT.
+unfoldable pub check_arguments : List (List ℕ) → Option CheckWords
+check_arguments [] = None
+check_arguments (plan ∷ []) = None
+check_arguments (plan ∷ capture ∷ []) = None
+check_arguments (plan ∷ capture ∷ report ∷ []) =
+    if (is_name plan && is_name capture) && is_name report
+    then Some (record { plan = plan; capture = capture; report = report })
+    else None
+check_arguments (plan ∷ capture ∷ report ∷ more ∷ rest) = None
+
 -- The command `place`: the names of the rules and of a capture.
 pub record PlaceWords : Type 0 where
   pub rules : List ℕ
@@ -111,6 +128,7 @@ pub data CommandWords : Type 0 where
   Hash : HashWords → CommandWords
   Replay : ReplayWords → CommandWords
   Gen : GenWords → CommandWords
+  Check : CheckWords → CommandWords
   Place : PlaceWords → CommandWords
 
 -- The command of this name with these arguments, if there is one.
@@ -119,6 +137,7 @@ command_named name arguments =
     if bytes_eq name (codes "hash") then option_map Hash (hash_arguments arguments) else
     if bytes_eq name (codes "replay") then option_map Replay (replay_arguments arguments) else
     if bytes_eq name (codes "gen") then option_map Gen (gen_arguments arguments) else
+    if bytes_eq name (codes "check") then option_map Check (check_arguments arguments) else
     if bytes_eq name (codes "place") then option_map Place (place_arguments arguments) else None
 
 -- The command that the words are, if they are one.

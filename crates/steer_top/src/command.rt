@@ -12,6 +12,8 @@ pub enum Command<'a> {
     Replay(ReplayCommand<'a>),
     /// The sums of the replay of generated input.
     Gen(GenCommand),
+    /// The verdict on a report of a plan and a capture.
+    Check(CheckCommand<'a>),
     /// The same as `hash` by rules, with the rule that matched and the depth of its tunnel.
     Place(PlaceCommand<'a>),
 }
@@ -50,6 +52,17 @@ pub struct GenCommand {
     ghost few_packets: { packets ≤ MAX_PACKETS },
     ghost some_flow: { 1 ≤ flows },
     ghost few_flows: { flows ≤ MAX_FLOWS },
+}
+
+/// The command `check` with its arguments.
+#[derive(Drop)]
+pub struct CheckCommand<'a> {
+    /// The name of the plan.
+    pub plan: &'a str,
+    /// The name of the capture.
+    pub capture: &'a str,
+    /// The name of the report.
+    pub report: &'a str,
 }
 
 /// The command `place` with its arguments.

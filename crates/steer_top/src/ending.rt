@@ -21,6 +21,8 @@ pub enum Role {
     Rules,
     /// A capture of packets.
     Capture,
+    /// A report, which may have any bytes.
+    Report,
 }
 
 impl Role {
@@ -31,7 +33,7 @@ impl Role {
     {
         match self {
             Role::Plan | Role::Rules => MAX_TEXT_FILE,
-            Role::Capture => MAX_FILE,
+            Role::Capture | Role::Report => MAX_FILE,
         }
     }
 
@@ -43,6 +45,7 @@ impl Role {
             Role::Plan => b"plan",
             Role::Rules => b"rules",
             Role::Capture => b"capture",
+            Role::Report => b"report",
         }
     }
 }

@@ -4,7 +4,7 @@ ghost use Rattle.std.specs.Io.KnownBytes.{Keeps};
 ghost use Rattle.outside_io.specs.Desk.{GoesOnTelling};
 ghost use Rattle.steer_top.specs.Files.{limit_of};
 ghost use Rattle.steer_top.specs.Endings.{EndsAt, EndsUnread};
-ghost use Rattle.steer_top.specs.Taken.{IsCaptureOf, IsPlanOf, IsRulesOf};
+ghost use Rattle.steer_top.specs.Taken.{ArePacketsOf, IsCaptureOf, IsPlanOf, IsRulesOf};
 
 use crate::capture::read_any;
 use crate::ending::{Ending, Refusal, Role};
@@ -12,13 +12,22 @@ use ntuple_rules::{Rules, read_rules};
 use outside_io::{Desk, ReadWhole, read_whole};
 use pcap_reader::Capture;
 use plan_reader::{Plan, read_plan};
+use replay::packets_by;
 use std::alloc::Global;
+use steer_base::{OutOfMemory, Packet};
 
 /// The bytes of a file, and the capture that they are.
 #[derive(Drop)]
 pub struct CaptureFile {
     pub bytes: Vec<u8>,
     pub capture: Capture,
+}
+
+/// The packets of a capture, and the length of its cut record.
+#[derive(Drop)]
+pub struct CapturedPackets {
+    pub packets: Vec<Packet>,
+    pub cut: Option<u32>,
 }
 
 /// All bytes of a file within the limit of its role, or how the command ends without them.
@@ -65,6 +74,35 @@ pub fn take_capture<D: Desk>(alloc: Global, name: &str, desk: &mut D) -> Result<
     }
 }
 
+/// The packets that a plan makes of the capture of a file, or how the command ends without them.
+/// The bytes of the file are given up.
+pub fn take_packets<D: Desk>(
+    alloc: Global,
+    plan: &Plan,
+    name: &str,
+    desk: &mut D,
+) -> Result<CapturedPackets, Ending>
+    ensures taken { IfOk result (ArePacketsOf plan.now (D.held desk.old name.now)) }
+    ensures ends { IfErr result (λ ending. EndsAt ending Role.Capture name.now
+        (D.held desk.old name.now) (D.faults desk.old) (D.faults desk.new) (D.asked desk.new)) }
+
+    ensures held { D.held desk.new ≡ D.held desk.old }
+    ensures told { GoesOnTelling (D.left desk.old) (D.left desk.new) }
+    ensures later { D.faults desk.old ≤ D.faults desk.new }
+{
+    let file = match take_capture(alloc, name, desk) {
+        Ok(file) => file,
+        Err(ending) => return Err(ending),
+    };
+    match packets_by(alloc, plan, &file.capture, &file.bytes) {
+        Ok(packets) => Ok(CapturedPackets {
+            packets,
+            cut: file.capture.cut,
+        }),
+        Err(OutOfMemory) => Err(Ending::OutOfMemory),
+    }
+}
+
 /// The plan of a file, or how the command ends without it. Its bytes are given up.
 pub fn take_plan<D: Desk>(alloc: Global, name: &str, desk: &mut D) -> Result<Plan, Ending>
     ensures taken { IfOk result (IsPlanOf (D.held desk.old name.now)) }
@@ -103,4 +141,19 @@ pub fn take_rules<D: Desk>(alloc: Global, name: &str, desk: &mut D) -> Result<Ru
         Ok(rules) => Ok(rules),
         Err(fault) => Err(Ending::of_rules_fault(fault)),
     }
+}
+
+/// The bytes of a file that is to be a report, or how the command ends without them. Any bytes may
+/// be read so.
+pub fn take_report<D: Desk>(alloc: Global, name: &str, desk: &mut D) -> Result<Vec<u8>, Ending>
+    ensures whole { IfOk result (λ bytes. Keeps (D.held desk.old name.now) (Some bytes.items)) }
+    ensures few { IfOk result (λ bytes. length bytes.items ≤ limit_of Role.Report) }
+    ensures ends { IfErr result (λ ending. EndsAt ending Role.Report name.now
+        (D.held desk.old name.now) (D.faults desk.old) (D.faults desk.new) (D.asked desk.new)) }
+
+    ensures held { D.held desk.new ≡ D.held desk.old }
+    ensures told { GoesOnTelling (D.left desk.old) (D.left desk.new) }
+    ensures later { D.faults desk.old ≤ D.faults desk.new }
+{
+    read_file(alloc, Role::Report, name, desk)
 }

@@ -1,10 +1,12 @@
 //! Laws of files and texts, as functions that do nothing: their contracts are the laws.
 ghost use Rattle.steer_top.specs.Files.{IsDecided, IsRefusedOnce, IsNotBoth};
-ghost use Rattle.steer_top.specs.Laws.{HasOneHash, HasOneQueue};
+ghost use Rattle.steer_top.specs.Laws.{HasOneHash, HasOneQueue, ReplaysAreChecked};
 
 use ntuple_rules::both_directions_fold_alike;
 use pcap_reader::one_capture_or_fault;
 use pcapng_reader::one_capture_or_fault as one_pcapng_capture_or_fault;
+use report_verdict::replays_are_judged;
+use steer_model::{a_capture_has_one_list_of_packets, packets_are_of_flows};
 
 /// The files of a call are accepted or refused, and never both, and refused for one reason at most.
 pub fn a_call_is_decided()
@@ -14,6 +16,16 @@ pub fn a_call_is_decided()
 {
     one_capture_or_fault();
     one_pcapng_capture_or_fault();
+}
+
+/// The report that `replay` writes of some files is, by the same files, not checked, good, or fails
+/// one of the clauses first that speak of all packets of the capture: 1, 3, 8 or 9.
+pub fn a_replay_is_checked()
+    ensures { ReplaysAreChecked }
+{
+    replays_are_judged();
+    a_capture_has_one_list_of_packets();
+    packets_are_of_flows();
 }
 
 /// By symmetric rules a flow and its other direction have one hash, and where there is no rule one

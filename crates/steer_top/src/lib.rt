@@ -2,6 +2,7 @@
 #![tactic(auto)]
 
 mod capture;
+mod check_command;
 mod command;
 mod ending;
 mod file;
@@ -19,5 +20,5 @@ mod top;
 mod words;
 mod writing;
 
-pub use laws::{a_call_is_decided, both_directions_have_one_queue};
+pub use laws::{a_call_is_decided, a_replay_is_checked, both_directions_have_one_queue};
 pub use top::steer_still;

@@ -9,6 +9,7 @@ ghost use Rattle.steer_top.specs.Commands.{words_of};
 ghost use Rattle.steer_top.specs.Endings.{Ends, EndsCommand, Flushes};
 ghost use Rattle.steer_top.specs.Words.{command_of};
 
+use crate::check_command::check_file;
 use crate::command::Command;
 use crate::ending::Ending;
 use crate::gen_command::gen_input;
@@ -129,6 +130,7 @@ fn perform<D: Desk, K: Sink>(
         Command::Hash(hash) => hash_file(alloc, hash, desk, out),
         Command::Replay(replay) => replay_file(alloc, replay, desk, out, taps),
         Command::Gen(input) => gen_input(alloc, input, out),
+        Command::Check(check) => check_file(alloc, check, desk, out),
         Command::Place(place) => place_file(alloc, place, desk, out),
     }
 }

@@ -3,10 +3,11 @@ ghost use Rattle.std.specs.Prelude.{◌≡◌, ◌≤◌, ◌<◌, ◌^◌, Some
 ghost use Rattle.std.specs.Option.{option_map};
 ghost use Rattle.cap_gen.specs.declared.frame.TheConstants.{MAX_FLOWS};
 ghost use Rattle.steer_base.specs.declared.limits.TheConstants.{MAX_PACKETS};
-ghost use Rattle.steer_top.specs.Commands.{gen_words_of, hash_words_of, place_words_of};
-ghost use Rattle.steer_top.specs.Commands.{replay_words_of, words_of};
+ghost use Rattle.steer_top.specs.Commands.{check_words_of, gen_words_of, hash_words_of};
+ghost use Rattle.steer_top.specs.Commands.{place_words_of, replay_words_of, words_of};
 ghost use Rattle.steer_top.specs.Words.{command_of, gen_with as gen_words};
 ghost use Rattle.steer_top.specs.Words.{hash_with as hash_words};
+ghost use Rattle.steer_top.specs.Words.{check_arguments as the_check_arguments};
 ghost use Rattle.steer_top.specs.Words.{command_named as the_command_named};
 ghost use Rattle.steer_top.specs.Words.{gen_arguments as the_gen_arguments};
 ghost use Rattle.steer_top.specs.Words.{hash_arguments as the_hash_arguments};
@@ -15,7 +16,7 @@ ghost use Rattle.steer_top.specs.Words.{replay_arguments as the_replay_arguments
 ghost use Rattle.steer_top.specs.Words.{is_name as names_a_file};
 ghost use Rattle.steer_top.specs.Words.{word_number, number_within as the_number_within};
 
-use crate::command::{Command, GenCommand, HashCommand, PlaceCommand, ReplayCommand};
+use crate::command::{CheckCommand, Command, GenCommand, HashCommand, PlaceCommand, ReplayCommand};
 use cap_gen::MAX_FLOWS;
 use steer_base::{MAX_PACKETS, decimal_number};
 
@@ -148,6 +149,25 @@ fn gen_arguments(words: &[String]) -> Option<GenCommand>
     }
 }
 
+// The arguments after the word `check`.
+#[tactic(auto, unfolding(crate::specs::Words::check_arguments))]
+fn check_arguments(words: &[String]) -> Option<CheckCommand<'_>>
+    ensures { option_map check_words_of result ≡
+        the_check_arguments (map (λ word. string_bytes word) words.now) }
+{
+    match words {
+        [plan, capture, report]
+            if is_name(plan.as_str()) && is_name(capture.as_str()) && is_name(report.as_str()) => {
+            Some(CheckCommand {
+                plan: plan.as_str(),
+                capture: capture.as_str(),
+                report: report.as_str(),
+            })
+        }
+        _ => None,
+    }
+}
+
 // The arguments after the word `place`.
 #[tactic(auto, unfolding(crate::specs::Words::place_arguments))]
 fn place_arguments(words: &[String]) -> Option<PlaceCommand<'_>>
@@ -189,6 +209,9 @@ fn command_named<'a>(name: &str, arguments: &'a [String]) -> Option<Command<'a>>
     }
     if name == "gen" {
         return Some(Command::Gen(gen_arguments(arguments)?));
+    }
+    if name == "check" {
+        return Some(Command::Check(check_arguments(arguments)?));
     }
     if name == "place" {
         return Some(Command::Place(place_arguments(arguments)?));

@@ -9,5 +9,8 @@ returns-in-Replay-clause-ends g c = rw c.in-Replay.is c.replay_file.ensures.ends
 pub returns-in-Gen-clause-ends : goal.returns-in-Gen-clause-ends
 returns-in-Gen-clause-ends g c = rw c.in-Gen.is (c.gen_input.ensures.ends _ _ _ _ _)
 
+pub returns-in-Check-clause-ends : goal.returns-in-Check-clause-ends
+returns-in-Check-clause-ends g c = rw c.in-Check.is (c.check_file.ensures.ends _)
+
 pub returns-in-Place-clause-ends : goal.returns-in-Place-clause-ends
 returns-in-Place-clause-ends g c = rw c.in-Place.is (c.place_file.ensures.ends _)
