@@ -3,23 +3,22 @@
 ghost use Rattle.std.specs.Prelude.{◌≤◌, length};
 ghost use Rattle.steer_base.specs.declared.limits.TheConstants.{MAX_PACKETS};
 ghost use Rattle.steer_model.specs.State.Ranges.{AreOfFlows};
-ghost use Rattle.good_check.specs.Cases.{IsPlain};
 
 use crate::equal::same;
 use crate::histories::{
     FULL, arrival, first, first_sent, good, lanes, list, one, reply, second, second_sent, third,
     write,
 };
-use good_check::Case;
-use history::{Arrival, History, Known};
+use good_check::first_fault;
+use history::{Arrival, Commanded, History};
 use history_check::is_regular;
 use pcap_reader::{put_header, put_packet, read_capture};
 use plan_reader::{Plan, read_plan};
 use std::alloc::Global;
 use std::process::Abort;
 use std::test::Fail;
-use steer_base::{Choice, Chosen, LaneDrop, List, OutOfMemory, Packet, Why};
-use steer_model::{Given, InForce, packets};
+use steer_base::{Answer, Choice, Chosen, Command, LaneDrop, List, OutOfMemory, Packet, Why};
+use steer_model::packets;
 use toeplitz::{Kinds, verification_key};
 
 // A TCP frame of a published verification flow: 66.9.149.187 port 2794 to 161.142.100.80 port
@@ -47,6 +46,7 @@ enum Change {
     NotDelivered,
     NotRetired,
     OtherWriter,
+    Commanded,
     OtherSender,
     OtherPick,
 }
@@ -102,6 +102,13 @@ fn changed(rt: &impl Abort, alloc: Global, change: Change) -> History {
         Change::OtherWriter => {
             h.writes = one(rt, alloc, list(rt, alloc, &[write(0), write(1)]));
         }
+        Change::Commanded => {
+            let given = Commanded {
+                command: Command::Expire,
+                answer: Answer::Expired(0),
+            };
+            h.commands = list(rt, alloc, &[given]);
+        }
         Change::OtherSender => {
             h.sent = one(rt, alloc, list(rt, alloc, &[reply(0, 0), reply(1, 1)]));
         }
@@ -113,45 +120,8 @@ fn changed(rt: &impl Abort, alloc: Global, change: Change) -> History {
     h
 }
 
-// The first clause that fails.
-fn first_failed(alloc: Global, case: &Case<'_>) -> Result<Option<u8>, OutOfMemory>
-    requires plain { IsPlain case.now }
-{
-    if !case.has_arrived() {
-        return Ok(Some(1));
-    }
-    if !case.has_queues(alloc)? {
-        return Ok(Some(2));
-    }
-    if !case.has_choices(alloc)? {
-        return Ok(Some(3));
-    }
-    if !case.has_wants(alloc)? {
-        return Ok(Some(4));
-    }
-    if !case.has_rising_heads(alloc)? {
-        return Ok(Some(5));
-    }
-    if !case.has_explained_drops(alloc)? {
-        return Ok(Some(6));
-    }
-    if !case.has_places() {
-        return Ok(Some(7));
-    }
-    if !case.is_swept() {
-        return Ok(Some(8));
-    }
-    if !case.has_writes() {
-        return Ok(Some(9));
-    }
-    if !case.has_replies(alloc)? {
-        return Ok(Some(11));
-    }
-    Ok(None)
-}
-
-// The same of a history that has to be regular, and has no command.
-fn first_failed_of(
+// The first clause that a history fails, which has to be regular.
+fn first_failed(
     rt: &impl Abort,
     alloc: Global,
     plan: &Plan,
@@ -161,20 +131,10 @@ fn first_failed_of(
     requires few { length packets.now ≤ MAX_PACKETS }
     requires flows { AreOfFlows packets.now }
 {
-    let given = Given::of_plan(alloc, plan, packets, None).expect(rt, "memory");
-    let settings = InForce::of_plan(alloc, plan).expect(rt, "memory");
-    let regular = is_regular(alloc, h, packets, given.apps()).expect(rt, "memory");
-    assert!(rt; regular);
-    assert!(rt; h.commands.len() == 0);
-    let known = Known::make(alloc, h).expect(rt, "memory");
-    let case = Case {
-        plan,
-        given: &given,
-        settings: &settings,
-        h,
-        known: &known,
-    };
-    first_failed(alloc, &case).expect(rt, "memory")
+    let apps = plan.apps.len() as u8;
+    assert!(rt; is_regular(alloc, h, packets, apps).expect(rt, "memory"));
+    assert!(rt; plan.commands().is_empty());
+    first_fault(alloc, plan, packets, None, h).expect(rt, "memory")
 }
 
 // The bytes of a capture of so many of these frames.
@@ -204,13 +164,14 @@ fn each_clause_fails_for_its_own_reason(rt: HostRuntime) -> Result<(), Fail> {
         (Change::NotDelivered, Some(7)),
         (Change::NotRetired, Some(8)),
         (Change::OtherWriter, Some(9)),
+        (Change::Commanded, Some(10)),
         (Change::OtherSender, Some(11)),
         (Change::OtherPick, Some(11)),
         (Change::Nothing, None),
     ];
     for (change, wanted) in cases {
         let h = changed(&rt, alloc, change);
-        let failed = first_failed_of(&rt, alloc, &plan, &found, &h);
+        let failed = first_failed(&rt, alloc, &plan, &found, &h);
         same(&rt, &failed, &wanted, usize::from(wanted.unwrap_or(0)));
     }
     Ok(())

@@ -4,7 +4,7 @@ ghost use Rattle.std.specs.Prelude.{◌≤◌, length};
 use crate::equal::{same, same_items};
 use crate::histories::replied;
 use history::{History, Via};
-use report_check::is_report;
+use report_check::{ReportFault, is_report, read_report};
 use report_reader::{LaneSums, LastLine, read_parts};
 use std::alloc::Global;
 use std::process::Abort;
@@ -99,6 +99,29 @@ fn a_report_is_its_bytes(rt: HostRuntime) {
     }
     // The counters of the history begin at 0.
     same(&rt, &is_of(&rt, alloc, REPORT, 1, &h), &false, cases.len());
+}
+
+#[test]
+fn a_report_is_read_back(rt: HostRuntime) -> Result<(), Fail> {
+    let alloc = rt.alloc();
+    let printed = read_report(alloc, REPORT, &[SEGMENT], 1, 0)
+        .ok()
+        .expect(&rt, "a report");
+    same(
+        &rt,
+        &is_of(&rt, alloc, REPORT, 0, &printed.history),
+        &true,
+        0,
+    );
+    same(&rt, &printed.texts.len(), &0, 1);
+    for (case, bytes) in [UNENDED, LONGER, ELSEWHERE].iter().enumerate() {
+        let none = match read_report(alloc, bytes, &[SEGMENT], 1, 0) {
+            Ok(_) => false,
+            Err(fault) => fault == ReportFault::NoReport,
+        };
+        same(&rt, &none, &true, case);
+    }
+    Ok(())
 }
 
 #[test]
