@@ -13,9 +13,9 @@ use Rattle.report_reader.specs.Parts.{seen_packet}
 use Rattle.report_reader.specs.declared.parts.Parts.{Parts}
 use Rattle.report_reader.specs.declared.slots.Seen.{Seen}
 use Rattle.report_history.specs.Joined.{AreJoined}
-use Rattle.report_history.specs.Lists.{AreChosen}
+use Rattle.report_history.specs.Lists.{AreQueueChoices}
 use Rattle.report_history.specs.Printed.{IsBuilt, IsHistoryOf}
-use Rattle.report_history.specs.Shown.{sent_for, tx_chosen_for, write_of}
+use Rattle.report_history.specs.Shown.{shown_sent, shown_tx_choice, own_write}
 use Rattle.report_history.proofs.ListsLemmas.{arrivals-shown, choices-shown, drops-shown}
 use Rattle.report_history.proofs.ListsLemmas.{replies-shown, tx-choices-shown}
 use Rattle.report_history.proofs.SeenLemmas.{joined, seen_of}
@@ -36,7 +36,8 @@ module _ (packets : List Packet) (apps start : ℕ) (p : Parts) (h : History)
   same_choices : k.choices ≡ h.choices
   same_choices = b.choices h.choices (record {
     long = f.regular.matched.choices ∙ ap length (sym f.parts.taken);
-    each = λ q l. subst (λ way. AreChosen (seen_of packets apps h) way q (list_at h.choices q))
+    each = λ q l.
+        subst (λ way. AreQueueChoices (seen_of packets apps h) way q (list_at h.choices q))
         (sym same_arrivals) (choices-shown packets apps h f.regular f.numbers small lines_fit q);
   })
 
@@ -59,16 +60,17 @@ module _ (packets : List Packet) (apps start : ℕ) (p : Parts) (h : History)
 
   same_sent : k.sent ≡ h.sent
   same_sent =
-      b.sent ∙ ap (map (filter_map (sent_for (seen_of packets apps h)))) same_inboxes
-      ∙ map-lists (filter_map (sent_for (seen_of packets apps h))) h.inboxes h.sent
+      b.sent ∙ ap (map (filter_map (shown_sent (seen_of packets apps h)))) same_inboxes
+      ∙ map-lists (filter_map (shown_sent (seen_of packets apps h))) h.inboxes h.sent
       (f.regular.matched.inboxes ∙ sym f.regular.matched.sent)
       (replies-shown packets apps h f.regular f.numbers small lines_fit)
 
   same_tx_choices : k.tx_choices ≡ h.tx_choices
   same_tx_choices =
       b.tx_choices
-      ∙ ap (map (filter_map (tx_chosen_for (seen_of packets apps h) packets))) same_sent
-      ∙ map-lists (filter_map (tx_chosen_for (seen_of packets apps h) packets)) h.sent h.tx_choices
+      ∙ ap (map (filter_map (shown_tx_choice (seen_of packets apps h) packets))) same_sent
+      ∙ map-lists (filter_map (shown_tx_choice (seen_of packets apps h) packets)) h.sent
+      h.tx_choices
       (f.regular.matched.sent ∙ sym f.regular.matched.tx_choices)
       (tx-choices-shown packets apps h f.regular f.numbers small lines_fit)
 
@@ -85,7 +87,7 @@ module _ (packets : List Packet) (apps start : ℕ) (p : Parts) (h : History)
   same_writes : k.writes ≡ h.writes
   same_writes =
       b.writes
-      ∙ ap (λ ws. map (λ a. filter_map (write_of a) ws) (range_with_len 0 apps)) f.parts.writes
+      ∙ ap (λ ws. map (λ a. filter_map (own_write a) ws) (range_with_len 0 apps)) f.parts.writes
       ∙ writes-shown apps h.writes f.regular.matched.writes
 
   pub same_history : k ≡ h

@@ -1,9 +1,9 @@
 -- Lines that are put together one packet after the other.
-use Rattle.std.proofs.Common.{ℕ, zero, suc, ◌+◌, ◌≤◌, ◌<◌, ◌≡◌, ◌≢◌, true, false, List, [], ◌∷◌}
-use Rattle.std.proofs.Common.{◌++◌, Option, Some, None, map, length, drop, take, refl, ap, ◌∙◌, sym}
+use Rattle.std.proofs.Common.{ℕ, suc, ◌+◌, ◌≤◌, ◌<◌, ◌≡◌, List, [], ◌∷◌}
+use Rattle.std.proofs.Common.{◌++◌, Option, Some, None, length, drop, take, refl, ap, ◌∙◌, sym}
 use Rattle.std.proofs.Common.{arith, inl, inr, get_or, subst, ◌⊎◌}
 use Rattle.std.specs.List.{cons_option, filter_map}
-use Rattle.std.proofs.lemmas.Bool.{cases_eq, eq-eqb, ne_eqb}
+use Rattle.std.proofs.lemmas.Bool.{eq-eqb, ne_eqb}
 use Rattle.std.proofs.lemmas.List.{drop_more, drop-drop, get_or-drop, get_or-map, length-drop}
 use Rattle.std.proofs.lemmas.List.{length-map, take_all, take_more}
 use Rattle.report_reader.specs.declared.packets.SeenPacket.{SeenPacket}

@@ -1,5 +1,5 @@
 -- Lists that are built item by item.
-use Rattle.std.proofs.Common.{ℕ, ◌+◌, ◌≤◌, ◌<◌, ◌≡◌, List, [], ◌∷◌, ◌++◌, map, length, take, ap}
+use Rattle.std.proofs.Common.{ℕ, ◌+◌, ◌<◌, ◌≡◌, List, [], ◌∷◌, ◌++◌, length, take, ap}
 use Rattle.std.proofs.Common.{◌∙◌, sym, get_or, arith, subst}
 use Rattle.std.proofs.lemmas.List.{get_or-map, length-map, length_push, take_more}
 use Rattle.history.specs.Lists.{lane_at, no_lane}

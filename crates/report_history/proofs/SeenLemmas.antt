@@ -1,12 +1,11 @@
 -- The lines of a report of a history, packet by packet, and what they show.
-use Rattle.std.proofs.Common.{ℕ, zero, suc, ◌+◌, ◌<◌, ◌≡◌, List, [], ◌∷◌, Option, Some, None, map}
-use Rattle.std.proofs.Common.{length, refl, ap, ◌∙◌, sym, arith, get_or}
-use Rattle.std.specs.List.{filter_map, range_with_len, slice_get}
+use Rattle.std.proofs.Common.{ℕ, ◌<◌, ◌≡◌, List, Option, Some, None, map}
+use Rattle.std.proofs.Common.{length, ap, ◌∙◌, sym, arith, get_or}
+use Rattle.std.specs.List.{range_with_len, slice_get}
 use Rattle.std.specs.Option.{option_and_then, option_map}
 use Rattle.std.proofs.lemmas.List.FromFn.{get_or-map-range_with_len, length-map-range_with_len}
-use Rattle.steer_base.specs.Entries.{place_in}
 use Rattle.steer_base.specs.declared.packet.Packet.{Packet}
-use Rattle.history.specs.Lines.{choice_of, first_reply_to, line_of_sent, lines_of, packet_line}
+use Rattle.history.specs.Lines.{choice_of, first_reply_to, line_of_sent, packet_line}
 use Rattle.history.specs.Lines.{put_of, reply_line}
 use Rattle.history.specs.declared.history.History.{History}
 use Rattle.history.specs.declared.reply_line.ReplyLine.{ReplyLine}
@@ -17,7 +16,7 @@ use Rattle.report_reader.specs.declared.packets.SeenReply.{SeenReply}
 use Rattle.report_reader.specs.declared.parts.Parts.{Parts}
 use Rattle.report_reader.specs.declared.slots.Seen.{Seen}
 use Rattle.report_history.specs.Joined.{AreJoined}
-use Rattle.report_history.specs.Shown.{choice_for, put_for, reply_for}
+use Rattle.report_history.specs.Shown.{shown_choice, shown_put, shown_reply}
 use Rattle.report_history.proofs.PickedLemmas.{get-at, map-map, picked-map}
 
 -- what a report shows of a packet
@@ -54,15 +53,15 @@ module _ (packets : List Packet) (apps : ℕ) (h : History) where
       ∙ ap (λ s. Some s) (seen-is x d l)
 
   pub choice-shown : (x : ℕ) → x < length h.arrivals
-      → choice_for (seen_of packets apps h) x ≡ choice_of h x
+      → shown_choice (seen_of packets apps h) x ≡ choice_of h x
   choice-shown x l = ap (option_and_then (λ s. s.packet.choice)) (seen-got x l)
 
   pub put-shown : (x : ℕ) → x < length h.arrivals
-      → put_for (seen_of packets apps h) x ≡ put_of h x
+      → shown_put (seen_of packets apps h) x ≡ put_of h x
   put-shown x l = ap (option_and_then (λ s. s.packet.put)) (seen-got x l)
 
   pub reply-shown : (x : ℕ) → x < length h.arrivals
-      → reply_for (seen_of packets apps h) x ≡ option_map seen_reply (reply_line packets apps h x)
+      → shown_reply (seen_of packets apps h) x ≡ option_map seen_reply (reply_line packets apps h x)
   reply-shown x l = ap (option_and_then (λ s. s.reply)) (seen-got x l)
 
   -- a reply is that to its packet

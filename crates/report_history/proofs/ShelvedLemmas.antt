@@ -1,6 +1,6 @@
 -- The lists of a regular history have each packet where its line shows it.
-use Rattle.std.proofs.Common.{ℕ, ◌+◌, ◌≤◌, ◌<◌, ◌≡◌, ◌≢◌, ◌^◌, true, false, List, [], ◌∷◌, Option}
-use Rattle.std.proofs.Common.{Some, None, length, refl, ap, ◌∙◌, sym, arith, subst, get_or, IfSome}
+use Rattle.std.proofs.Common.{ℕ, ◌≤◌, ◌<◌, ◌≡◌, ◌^◌, true, false, List, [], ◌∷◌, Option}
+use Rattle.std.proofs.Common.{Some, None, length, refl, ap, ◌∙◌, sym, arith, IfSome}
 use Rattle.std.specs.Option.{is_some, option_and_then, option_map, option_or}
 use Rattle.std.proofs.Math.ListN.{get_or-eq_default}
 use Rattle.steer_base.specs.Entries.{place_in}
@@ -20,7 +20,7 @@ use Rattle.history.specs.declared.sent.Sent.{Sent}
 use Rattle.history.proofs.BoundLemmas.{once-accepted, once-dropped}
 use Rattle.history.proofs.FindingLemmas.{is_in-here}
 use Rattle.history.proofs.FoundAgain.Histories.{once-tx, port-unreplied, tx_accepted-at}
-use Rattle.history.proofs.FoundAgain.Histories.{tx_accepted-bound, tx_accepted-elsewhere, unreplied}
+use Rattle.history.proofs.FoundAgain.Histories.{tx_accepted-bound, tx_accepted-elsewhere}
 use Rattle.history.proofs.FoundAgain.SameArrivals.{accepted-at, accepted-bound, accepted-elsewhere}
 use Rattle.history.proofs.FoundAgain.SameArrivals.{inbox-elsewhere}
 use Rattle.history.proofs.FoundAgain.SamePuts.{drop-no_position}
@@ -32,12 +32,11 @@ use Rattle.history.proofs.RegularLemmas.{arrived-port, arrived-shipped, is_some-
 use Rattle.history.proofs.RegularLemmas.{lane-accepted, lane-dropped, tx_lane-accepted}
 use Rattle.history.proofs.SamePlaces.{no_value, some_same}
 use Rattle.report_reader.specs.Parts.{seen_reply}
-use Rattle.report_reader.specs.Slots.{IsShelved, accepted_slot, dropped_slot, in_list, place_for}
+use Rattle.report_reader.specs.Slots.{IsShelved, dropped_slot, in_list, place_for}
 use Rattle.report_reader.specs.Slots.{reply_slot, shipped_slot, slot_of}
 use Rattle.report_reader.specs.declared.slots.Kind.{Kind}
 use Rattle.report_reader.specs.declared.slots.Kind.TheVariants.{Accepted, Dropped, Inbox, Shipped}
 use Rattle.report_reader.specs.declared.slots.Kind.TheVariants.{Port}
-use Rattle.report_reader.specs.declared.slots.Seen.{Seen}
 use Rattle.report_history.proofs.SeenLemmas.{seen_at, seen_of, seen-is, seen-long}
 use Rattle.report_history.proofs.SlotLemmas.{IsOwn, own-accepted, own-dropped, own-list}
 use Rattle.report_history.proofs.SlotLemmas.{own-shipped}

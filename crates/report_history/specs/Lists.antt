@@ -10,20 +10,20 @@ use Rattle.report_reader.specs.Slots.{IsShelved}
 use Rattle.report_reader.specs.declared.slots.Kind.TheVariants.{Accepted, Dropped, Inbox, Shipped}
 use Rattle.report_reader.specs.declared.slots.Seen.{Seen}
 use Rattle.report_reader.specs.declared.sums.LaneSums.{LaneSums}
-use Rattle.report_history.specs.Shown.{chosen_at, drop_for}
+use Rattle.report_history.specs.Shown.{queue_choice, shown_drop}
 
 -- The choices of a receive queue are those for the packets that arrived there, in order. There are
 -- no queues from 256 on.
-pub record AreChosen (seen : List Seen) (arrivals : List Arrival) (queue : ℕ) (list : List Chosen)
-    : Type 0 where
-  pub each : filter_map (chosen_at seen queue) arrivals ≡ list
+pub record AreQueueChoices (seen : List Seen) (arrivals : List Arrival) (queue : ℕ)
+    (list : List Chosen) : Type 0 where
+  pub each : filter_map (queue_choice seen queue) arrivals ≡ list
   pub low : 256 ≤ queue → list ≡ []
 
 -- the same of each of so many queues
 pub record AreChoices (seen : List Seen) (arrivals : List Arrival) (queues : ℕ)
     (lists : List (List Chosen)) : Type 0 where
   pub long : length lists ≡ queues
-  pub each : (q : ℕ) → q < length lists → AreChosen seen arrivals q (list_at lists q)
+  pub each : (q : ℕ) → q < length lists → AreQueueChoices seen arrivals q (list_at lists q)
 
 -- The lines show the packets of the processor with this number where it has them, and the sums are
 -- its own.
@@ -31,7 +31,7 @@ pub record IsBacklog (start : ℕ) (seen : List Seen) (number : ℕ) (sums : Lan
     : Type 0 where
   pub of_accepted : IsShelved start Accepted seen number lane.accepted
   pub of_dropped : IsShelved start Dropped seen number (drop_ids lane)
-  pub of_drops : filter_map (drop_for seen) (drop_ids lane) ≡ lane.drops
+  pub of_drops : filter_map (shown_drop seen) (drop_ids lane) ≡ lane.drops
   pub of_sums : lane_sums lane ≡ sums
 
 -- The same of a transmit queue, which drops nothing.

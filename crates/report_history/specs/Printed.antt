@@ -13,7 +13,7 @@ use Rattle.report_reader.specs.declared.parts.Parts.{Parts}
 use Rattle.report_reader.specs.declared.slots.Kind.TheVariants.{Port}
 use Rattle.report_reader.specs.declared.slots.Seen.{Seen}
 use Rattle.report_history.specs.Lists.{AreChoices, AreInboxes, AreLanes, IsBacklog, IsTxQueue}
-use Rattle.report_history.specs.Shown.{arrivals_from, sent_for, tx_chosen_for, write_of}
+use Rattle.report_history.specs.Shown.{arrivals_from, shown_sent, shown_tx_choice, own_write}
 
 -- A regular history with this counter start and texts of taps has these parts; each arrival is at
 -- the queue that its filter and table entry lead to, and numbers are within their types.
@@ -43,13 +43,13 @@ pub record IsBuilt (packets : List Packet) (apps start : ℕ) (p : Parts) (seen 
   pub lanes : (lanes : List LaneList) → AreLanes (IsBacklog start seen) p.cpus.items lanes
       → k.lanes ≡ lanes
   pub inboxes : (lists : List (List ℕ)) → AreInboxes start seen apps lists → k.inboxes ≡ lists
-  pub sent : k.sent ≡ map (filter_map (sent_for seen)) k.inboxes
-  pub tx_choices : k.tx_choices ≡ map (filter_map (tx_chosen_for seen packets)) k.sent
+  pub sent : k.sent ≡ map (filter_map (shown_sent seen)) k.inboxes
+  pub tx_choices : k.tx_choices ≡ map (filter_map (shown_tx_choice seen packets)) k.sent
   pub tx_lanes : (lanes : List LaneList) → AreLanes (IsTxQueue start seen) p.txs.items lanes
       → k.tx_lanes ≡ lanes
   pub port : (list : List ℕ) → IsShelved start Port seen 0 list → k.port ≡ list
   pub writes : k.writes
-      ≡ map (λ a. filter_map (write_of a) p.writes.items) (range_with_len 0 apps)
+      ≡ map (λ a. filter_map (own_write a) p.writes.items) (range_with_len 0 apps)
   pub commands : k.commands ≡ p.commands.items
   pub total : k.total ≡ p.last.total
   pub cut : k.cut ≡ p.last.cut

@@ -1,25 +1,25 @@
 //! The processor choices of the receive queues.
 ghost use Rattle.std.specs.Prelude.{◌≡◌, ◌<◌, List, IfOk};
 ghost use Rattle.steer_base.specs.declared.choice.Chosen.{Chosen as PacketChoice};
-ghost use Rattle.report_history.specs.Shown.{chosen_at};
-ghost use Rattle.report_history.specs.Lists.{AreChoices, AreChosen};
+ghost use Rattle.report_history.specs.Shown.{queue_choice};
+ghost use Rattle.report_history.specs.Lists.{AreChoices, AreQueueChoices};
 
-use crate::lookup::choice_for;
+use crate::lookup::shown_choice;
 use history::Arrival;
 use report_reader::Seen;
 use std::alloc::Global;
 use steer_base::{Chosen, List, OutOfMemory};
 
 // The choice for a packet that arrived at this queue.
-fn chosen_at(seen: &[Seen], queue: usize, arrival: Arrival) -> Option<Chosen>
-    ensures { result ≡ chosen_at seen.now queue arrival }
+fn queue_choice(seen: &[Seen], queue: usize, arrival: Arrival) -> Option<Chosen>
+    ensures { result ≡ queue_choice seen.now queue arrival }
 {
     if arrival.queue.0 as usize != queue {
         return None;
     }
     Some(Chosen {
         id: arrival.id,
-        choice: choice_for(seen, arrival.id)?,
+        choice: shown_choice(seen, arrival.id)?,
     })
 }
 
@@ -31,14 +31,14 @@ fn chosen(
     queue: usize,
 ) -> Result<Vec<Chosen>, OutOfMemory>
     ensures { IfOk result (λ v. (list : List PacketChoice)
-        → AreChosen seen.now arrivals.now queue list → v.items ≡ list) }
+        → AreQueueChoices seen.now arrivals.now queue list → v.items ≡ list) }
 {
     let mut chosen = Vec::new(alloc);
     if queue > 255 {
         return Ok(chosen);
     }
     for arrival in arrivals {
-        if let Some(choice) = chosen_at(seen, queue, *arrival) {
+        if let Some(choice) = queue_choice(seen, queue, *arrival) {
             chosen.push(choice)?;
         }
     }

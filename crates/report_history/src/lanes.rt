@@ -4,9 +4,9 @@ ghost use Rattle.std.specs.List.{filter_map};
 ghost use Rattle.steer_base.specs.declared.limits.TheConstants.{MAX_PACKETS};
 ghost use Rattle.history.specs.declared.lane_list.LaneList.{LaneList as Lane};
 ghost use Rattle.report_history.specs.Lists.{AreInboxes, AreLanes, IsBacklog, IsTxQueue};
-ghost use Rattle.report_history.specs.Shown.{drop_for};
+ghost use Rattle.report_history.specs.Shown.{shown_drop};
 
-use crate::lookup::drop_for;
+use crate::lookup::shown_drop;
 use history::LaneList;
 use report_reader::shelf::shelf;
 use report_reader::{Kind, LaneSums, Seen};
@@ -15,11 +15,11 @@ use steer_base::{LaneDrop, List, OutOfMemory, PacketId};
 
 // The drops of these packets.
 fn drops(alloc: Global, seen: &[Seen], ids: &[PacketId]) -> Result<Vec<LaneDrop>, OutOfMemory>
-    ensures { IfOk result (λ v. v.items ≡ filter_map (drop_for seen.now) ids.now) }
+    ensures { IfOk result (λ v. v.items ≡ filter_map (shown_drop seen.now) ids.now) }
 {
     let mut drops = Vec::with_capacity(alloc, ids.len())?;
     for id in ids {
-        if let Some(fallen) = drop_for(seen, *id) {
+        if let Some(fallen) = shown_drop(seen, *id) {
             drops.push(fallen)?;
         }
     }

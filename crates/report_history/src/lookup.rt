@@ -1,36 +1,36 @@
 //! What the lines of a report show of a packet.
 ghost use Rattle.std.specs.Prelude.{◌≡◌};
-ghost use Rattle.report_history.specs.Shown.{choice_for, drop_by, drop_for, put_for, reply_for};
-ghost use Rattle.report_history.specs.Shown.{sent_for};
+ghost use Rattle.report_history.specs.Shown.{put_drop, shown_choice, shown_drop, shown_put};
+ghost use Rattle.report_history.specs.Shown.{shown_reply, shown_sent};
 
 use history::Sent;
 use report_reader::{Seen, SeenReply};
 use steer_base::{Choice, LaneDrop, PacketId, Put};
 
 // The choice for a packet.
-pub(crate) fn choice_for(seen: &[Seen], id: PacketId) -> Option<Choice>
-    ensures { result ≡ choice_for seen.now id }
+pub(crate) fn shown_choice(seen: &[Seen], id: PacketId) -> Option<Choice>
+    ensures { result ≡ shown_choice seen.now id }
 {
     seen.get(id.0 as usize)?.packet.choice
 }
 
 // What became of it at its lane.
-fn put_for(seen: &[Seen], id: PacketId) -> Option<Put>
-    ensures { result ≡ put_for seen.now id }
+fn shown_put(seen: &[Seen], id: PacketId) -> Option<Put>
+    ensures { result ≡ shown_put seen.now id }
 {
     seen.get(id.0 as usize)?.packet.put
 }
 
 // The line of its reply.
-pub(crate) fn reply_for(seen: &[Seen], id: PacketId) -> Option<SeenReply>
-    ensures { result ≡ reply_for seen.now id }
+pub(crate) fn shown_reply(seen: &[Seen], id: PacketId) -> Option<SeenReply>
+    ensures { result ≡ shown_reply seen.now id }
 {
     seen.get(id.0 as usize)?.reply
 }
 
 // The drop of a packet, by the result of its put.
-fn drop_by(id: PacketId, put: Put) -> Option<LaneDrop>
-    ensures { result ≡ drop_by id put }
+fn put_drop(id: PacketId, put: Put) -> Option<LaneDrop>
+    ensures { result ≡ put_drop id put }
 {
     match put {
         Put::At(_) => None,
@@ -49,17 +49,17 @@ fn drop_by(id: PacketId, put: Put) -> Option<LaneDrop>
 }
 
 // The drop of a packet.
-pub(crate) fn drop_for(seen: &[Seen], id: PacketId) -> Option<LaneDrop>
-    ensures { result ≡ drop_for seen.now id }
+pub(crate) fn shown_drop(seen: &[Seen], id: PacketId) -> Option<LaneDrop>
+    ensures { result ≡ shown_drop seen.now id }
 {
-    drop_by(id, put_for(seen, id)?)
+    put_drop(id, shown_put(seen, id)?)
 }
 
 // The reply to a packet.
-pub(crate) fn sent_for(seen: &[Seen], id: PacketId) -> Option<Sent>
-    ensures { result ≡ sent_for seen.now id }
+pub(crate) fn shown_sent(seen: &[Seen], id: PacketId) -> Option<Sent>
+    ensures { result ≡ shown_sent seen.now id }
 {
-    let reply = reply_for(seen, id)?;
+    let reply = shown_reply(seen, id)?;
     Some(Sent {
         id,
         rxq: reply.rxq,

@@ -2,9 +2,9 @@
 ghost use Rattle.std.specs.Prelude.{◌≡◌, IfOk, map};
 ghost use Rattle.std.specs.List.{filter_map};
 ghost use Rattle.history.specs.Lists.{packet_at};
-ghost use Rattle.report_history.specs.Shown.{sent_for, tx_chosen_for, with_class};
+ghost use Rattle.report_history.specs.Shown.{shown_sent, shown_tx_choice, with_class};
 
-use crate::lookup::{reply_for, sent_for};
+use crate::lookup::{shown_reply, shown_sent};
 use history::Sent;
 use report_reader::Seen;
 use std::alloc::Global;
@@ -33,10 +33,10 @@ fn with_class(flow: u32, choice: Choice) -> Choice
 }
 
 // The transmit queue choice for a reply.
-fn tx_chosen_for(seen: &[Seen], packets: &[Packet], sent: Sent) -> Option<Chosen>
-    ensures { result ≡ tx_chosen_for seen.now packets.now sent }
+fn shown_tx_choice(seen: &[Seen], packets: &[Packet], sent: Sent) -> Option<Chosen>
+    ensures { result ≡ shown_tx_choice seen.now packets.now sent }
 {
-    let choice = reply_for(seen, sent.id)?.choice?;
+    let choice = shown_reply(seen, sent.id)?.choice?;
     Some(Chosen {
         id: sent.id,
         choice: with_class(flow_of(packets, sent.id), choice),
@@ -45,11 +45,11 @@ fn tx_chosen_for(seen: &[Seen], packets: &[Packet], sent: Sent) -> Option<Chosen
 
 // The replies to these packets, as far as they were begun.
 fn replies(alloc: Global, seen: &[Seen], ids: &[PacketId]) -> Result<Vec<Sent>, OutOfMemory>
-    ensures { IfOk result (λ v. v.items ≡ filter_map (sent_for seen.now) ids.now) }
+    ensures { IfOk result (λ v. v.items ≡ filter_map (shown_sent seen.now) ids.now) }
 {
     let mut replies = Vec::with_capacity(alloc, ids.len())?;
     for id in ids {
-        if let Some(sent) = sent_for(seen, *id) {
+        if let Some(sent) = shown_sent(seen, *id) {
             replies.push(sent)?;
         }
     }
@@ -63,12 +63,12 @@ fn chosen(
     packets: &[Packet],
     replies: &[Sent],
 ) -> Result<Vec<Chosen>, OutOfMemory>
-    ensures { IfOk result (λ v. v.items ≡ filter_map (tx_chosen_for seen.now packets.now)
+    ensures { IfOk result (λ v. v.items ≡ filter_map (shown_tx_choice seen.now packets.now)
         replies.now) }
 {
     let mut chosen = Vec::with_capacity(alloc, replies.len())?;
     for sent in replies {
-        if let Some(choice) = tx_chosen_for(seen, packets, *sent) {
+        if let Some(choice) = shown_tx_choice(seen, packets, *sent) {
             chosen.push(choice)?;
         }
     }
@@ -82,7 +82,7 @@ pub fn all_replies(
     inboxes: &[List<PacketId>],
 ) -> Result<Vec<List<Sent>>, OutOfMemory>
     ensures { IfOk result
-        (λ v. v.items ≡ map (filter_map (sent_for seen.now)) inboxes.now) }
+        (λ v. v.items ≡ map (filter_map (shown_sent seen.now)) inboxes.now) }
 {
     let mut lists = Vec::with_capacity(alloc, inboxes.len())?;
     for inbox in inboxes {
@@ -99,7 +99,7 @@ pub fn tx_choices(
     sent: &[List<Sent>],
 ) -> Result<Vec<List<Chosen>>, OutOfMemory>
     ensures { IfOk result
-        (λ v. v.items ≡ map (filter_map (tx_chosen_for seen.now packets.now)) sent.now) }
+        (λ v. v.items ≡ map (filter_map (shown_tx_choice seen.now packets.now)) sent.now) }
 {
     let mut lists = Vec::with_capacity(alloc, sent.len())?;
     for replies in sent {

@@ -1,4 +1,4 @@
-use Rattle.std.proofs.Common.{◌≡◌, ap, arith, length}
+use Rattle.std.proofs.Common.{ap, arith, length}
 use Rattle.report_history.proofs.JoinedLemmas.{join-all, join-none, join-step}
 use Rattle.report_history.proofs.LoopsLemmas.{one-longer}
 use Rattle.report_history.proofs.joining.join.Goals as goal

@@ -1,8 +1,8 @@
 use Rattle.std.proofs.Common.{◌≡◌, ◌++◌, drop}
 use Rattle.std.specs.List.{filter_map}
-use Rattle.report_history.specs.Shown.{drop_for}
+use Rattle.report_history.specs.Shown.{shown_drop}
 use Rattle.report_history.proofs.lanes.drops.Given as goal
 
 abbrev pub invariant-loop-id : goal.invariant-loop-id
-invariant-loop-id l = l.drops.items ++ filter_map (drop_for l.seen) (drop l.id-index l.ids)
-    ≡ filter_map (drop_for l.seen) l.ids
+invariant-loop-id l = l.drops.items ++ filter_map (shown_drop l.seen) (drop l.id-index l.ids)
+    ≡ filter_map (shown_drop l.seen) l.ids

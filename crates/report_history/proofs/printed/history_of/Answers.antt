@@ -1,4 +1,4 @@
-use Rattle.std.proofs.Common.{◌≡◌, ◌∙◌, ap, arith, length, subst₂, sym}
+use Rattle.std.proofs.Common.{◌∙◌, ap, arith, length, subst₂, sym}
 use Rattle.report_history.specs.Joined.{AreJoined}
 use Rattle.report_history.proofs.BuiltLemmas.{built-is, if-both}
 use Rattle.report_history.proofs.printed.history_of.Goals as goal

@@ -1,10 +1,10 @@
 use Rattle.std.proofs.Common.{◌≡◌, ◌++◌, drop, map}
 use Rattle.std.specs.List.{filter_map}
-use Rattle.report_history.specs.Shown.{tx_chosen_for}
+use Rattle.report_history.specs.Shown.{shown_tx_choice}
 use Rattle.report_history.proofs.replies.tx_choices.Given as goal
 
 abbrev pub invariant-loop-replies : goal.invariant-loop-replies
 invariant-loop-replies l =
     l.lists.items
-    ++ map (filter_map (tx_chosen_for l.seen l.packets)) (drop l.replies-index l.sent)
-    ≡ map (filter_map (tx_chosen_for l.seen l.packets)) l.sent
+    ++ map (filter_map (shown_tx_choice l.seen l.packets)) (drop l.replies-index l.sent)
+    ≡ map (filter_map (shown_tx_choice l.seen l.packets)) l.sent

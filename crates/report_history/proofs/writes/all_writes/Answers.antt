@@ -2,12 +2,12 @@ use Rattle.std.proofs.Common.{ℕ, ◌++◌, ◌∷◌, [], List, map, ap, sym, 
 use Rattle.std.specs.List.{filter_map, range_with_len}
 use Rattle.std.proofs.lemmas.List.FromFn.{map-range_with_len_more}
 use Rattle.history.specs.declared.sock_write.SockWrite.{SockWrite}
-use Rattle.report_history.specs.Shown.{write_of}
+use Rattle.report_history.specs.Shown.{own_write}
 use Rattle.report_history.proofs.writes.all_writes.Goals as goal
 
 pub loop-app-preserved : goal.loop-app-preserved
 loop-app-preserved c =
-    let f : ℕ → List SockWrite = λ a. filter_map (write_of a) c.args.writes.now in
+    let f : ℕ → List SockWrite = λ a. filter_map (own_write a) c.args.writes.now in
     let app = c.loop-app.app in
     let before : List (List SockWrite) = map f (range_with_len 0 app) in
     c.in_ok-push.ensures.items

@@ -1,8 +1,8 @@
 use Rattle.std.proofs.Common.{◌≡◌, map}
 use Rattle.std.specs.List.{filter_map, range_with_len}
-use Rattle.report_history.specs.Shown.{write_of}
+use Rattle.report_history.specs.Shown.{own_write}
 use Rattle.report_history.proofs.writes.all_writes.Given as goal
 
 abbrev pub invariant-loop-app : goal.invariant-loop-app
 invariant-loop-app l =
-    l.lists.items ≡ map (λ a. filter_map (write_of a) l.writes) (range_with_len 0 l.app)
+    l.lists.items ≡ map (λ a. filter_map (own_write a) l.writes) (range_with_len 0 l.app)
