@@ -30,7 +30,8 @@ use Rattle.steer_model.specs.Good.Deliveries.{IsDeliveredInOrder, of_flow}
 use Rattle.steer_model.specs.Good.Inputs.{Input, setup_in}
 use Rattle.steer_model.specs.State.Ranges.{AreOfFlows}
 use Rattle.steer_model.specs.State.Setup.{app_for, flow_number_of}
-use Rattle.good_check.specs.Order.{LeftInOrder, class_in, is_kept, kept_arrivals, arrival_classes}
+use Rattle.good_check.specs.Order.{LeftInOrder, arrival_classes, kept_arrivals, queue_and_flow}
+use Rattle.good_check.specs.Order.{was_kept}
 use Rattle.good_check.proofs.OrderLemmas.{all-in, filter-agree, filter-alike}
 use Rattle.good_check.proofs.OrderLemmas.{filter-both, filter-concat, filter-mapped, filter-some}
 use Rattle.good_check.proofs.OrderLemmas.{in-concat, in-filter, once-filter, prefix-none}
@@ -68,18 +69,20 @@ dropped-is y (lane ∷ lanes) =
 
 -- two classes are equal exactly if their queues and flows are
 pub class-test : (flows q f r g : ℕ) → f < flows → g < flows
-    → (class_in flows q f == class_in flows r g) ≡ ((r == q) && (g == f))
+    → (queue_and_flow flows q f == queue_and_flow flows r g) ≡ ((r == q) && (g == f))
 class-test flows q f r g l m = elim (cases_eq r q) [
   | inl e ↦ elim (cases_eq g f) [
     | inl u ↦
-        rw (eq-eqb r q e, eq-eqb g f u) (eq-eqb (class_in flows q f) (class_in flows r g)
-        (ap (λ n. class_in flows n f) (sym e) ∙ ap (class_in flows r) (sym u)))
+        rw (eq-eqb r q e, eq-eqb g f u)
+        (eq-eqb (queue_and_flow flows q f) (queue_and_flow flows r g)
+        (ap (λ n. queue_and_flow flows n f) (sym e) ∙ ap (queue_and_flow flows r) (sym u)))
     | inr ne ↦
-        rw (eq-eqb r q e, ne_eqb g f ne) (ne_eqb (class_in flows q f) (class_in flows r g)
+        rw (eq-eqb r q e, ne_eqb g f ne)
+        (ne_eqb (queue_and_flow flows q f) (queue_and_flow flows r g)
         (λ t. ne (sym (same_from_place q f r g flows l m t).1)))
   ]
   | inr ne ↦
-      rw (ne_eqb r q ne) (ne_eqb (class_in flows q f) (class_in flows r g)
+      rw (ne_eqb r q ne) (ne_eqb (queue_and_flow flows q f) (queue_and_flow flows r g)
       (λ t. ne (sym (same_from_place q f r g flows l m t).0)))
 ]
 
@@ -158,7 +161,7 @@ module _ (i : Input) (h : History) (flows : AreOfFlows i.packets)
   queue x = (arrival_of h.arrivals x).queue
 
   abbrev class : ℕ → ℕ → ℕ
-  class q x = class_in count q (flow x)
+  class q x = queue_and_flow count q (flow x)
 
   abbrev drops : List (List LaneDrop)
   drops = map (λ lane. lane.drops) h.lanes
@@ -174,9 +177,9 @@ module _ (i : Input) (h : History) (flows : AreOfFlows i.packets)
 
   slot-is : (y : ℕ) → y < length h.arrivals → get_or classes y None ≡ Some (class (queue y) y)
   slot-is y l =
-      get_or-map (λ (a : Arrival). Some (class_in count a.queue (flow a.id))) h.arrivals y
+      get_or-map (λ (a : Arrival). Some (queue_and_flow count a.queue (flow a.id))) h.arrivals y
       no_arrival None l
-      ∙ ap (λ (a : Arrival). Some (class_in count a.queue (flow a.id)))
+      ∙ ap (λ (a : Arrival). Some (queue_and_flow count a.queue (flow a.id)))
       (sym (arrival-at y h.arrivals regular.arrived.numbered l))
       ∙ ap (λ z. Some (class (queue y) z))
       (ap (λ (a : Arrival). a.id) (arrival-at y h.arrivals regular.arrived.numbered l)
@@ -192,7 +195,7 @@ module _ (i : Input) (h : History) (flows : AreOfFlows i.packets)
       ∙ ap (λ b. b && (flow y == flow x))
       (sym (in-queue h.arrivals regular.arrived.numbered q y m))
 
-  kept-is : (y : ℕ) → y < length h.arrivals → is_kept known y ≡ not (was_dropped drops y)
+  kept-is : (y : ℕ) → y < length h.arrivals → was_kept known y ≡ not (was_dropped drops y)
   kept-is y l =
       ap (λ o. not (is_some o)) (is.drops.slot y l) ∙ ap not (dropped-is y h.lanes)
 
@@ -204,8 +207,8 @@ module _ (i : Input) (h : History) (flows : AreOfFlows i.packets)
       let all = map (λ a. a.id) h.arrivals in
       let s = at_queue h.arrivals n q in
       let kept = λ (y : ℕ). not (was_dropped drops y) in
-      filter-both (is_in_class classes (class q x)) (is_kept known) all
-      ∙ filter-agree (λ y. is_kept known y && is_in_class classes (class q x) y)
+      filter-both (is_in_class classes (class q x)) (was_kept known) all
+      ∙ filter-agree (λ y. was_kept known y && is_in_class classes (class q x) y)
       (λ y. s y && (of_flow i h q x y && kept y)) all (λ y j.
       let m : y < length h.arrivals = id-below h.arrivals n y j in
       let there : is_in y (arrivals_at h.arrivals q) ≡ s y = in-queue h.arrivals n q y m in
@@ -292,14 +295,14 @@ module _ (i : Input) (h : History) (flows : AreOfFlows i.packets)
   pub came-arrived : AreArrived came
   came-arrived y j =
       let all = map (λ a. a.id) h.arrivals in
-      let both : (is_kept known y && is_in y all) ≡ true =
-      sym (in-filter (is_kept known) y all) ∙ j in
+      let both : (was_kept known y && is_in y all) ≡ true =
+      sym (in-filter (was_kept known) y all) ∙ j in
       id-below h.arrivals regular.arrived.numbered y
-      (and_parts (is_kept known y) (is_in y all) both).1
+      (and_parts (was_kept known y) (is_in y all) both).1
 
   pub came-once : Once came
   came-once =
-      once-filter (is_kept known) (map (λ a. a.id) h.arrivals)
+      once-filter (was_kept known) (map (λ a. a.id) h.arrivals)
       (once-ids h.arrivals regular.arrived.numbered)
 
   pub within-classes : (xs : List ℕ) → AreArrived xs → All (λ x. x < length classes) xs
@@ -307,5 +310,5 @@ module _ (i : Input) (h : History) (flows : AreOfFlows i.packets)
       omega (
         arith,
         arrived y j,
-        length-map h.arrivals (λ a. Some (class_in count a.queue (flow a.id))),
+        length-map h.arrivals (λ a. Some (queue_and_flow count a.queue (flow a.id))),
       ))

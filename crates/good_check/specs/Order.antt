@@ -15,25 +15,25 @@ LeftInOrder classes came left =
     (class : ℕ) → IsPrefix (in_class classes class left) (in_class classes class came)
 
 -- a receive queue and a flow as one class, where there are `flows` flow numbers
-abbrev pub class_in : ℕ → ℕ → ℕ → ℕ
-class_in flows queue flow = queue * flows + flow
+abbrev pub queue_and_flow : ℕ → ℕ → ℕ → ℕ
+queue_and_flow flows queue flow = queue * flows + flow
 
 -- the class of each packet that arrived, by its receive queue and its flow
 abbrev pub arrival_classes : Setup → List Arrival → List (Option ℕ)
 arrival_classes p arrivals =
-    map (λ a. Some (class_in (length p.packets) a.queue (flow_number_of p a.id))) arrivals
+    map (λ a. Some (queue_and_flow (length p.packets) a.queue (flow_number_of p a.id))) arrivals
 
 -- the class of each packet that arrived, by its flow alone
 abbrev pub reply_classes : Setup → List Arrival → List (Option ℕ)
 reply_classes p arrivals = map (λ a. Some (flow_number_of p a.id)) arrivals
 
 -- whether no processor dropped a packet, by what is known of it
-abbrev pub is_kept : Known → ℕ → Bool
-is_kept known x = not (is_some (slice_index_or known.drops x None))
+abbrev pub was_kept : Known → ℕ → Bool
+was_kept known x = not (is_some (slice_index_or known.drops x None))
 
 -- the packets that arrived and were not dropped, in their order
 abbrev pub kept_arrivals : Known → List Arrival → List ℕ
-kept_arrivals known arrivals = filter (is_kept known) (map (λ a. a.id) arrivals)
+kept_arrivals known arrivals = filter (was_kept known) (map (λ a. a.id) arrivals)
 
 -- the packets of all replies, application after application
 abbrev pub all_replies : List (List Sent) → List ℕ

@@ -1,7 +1,7 @@
 //! Clause 7: each packet is at one place, and the packets of each flow are in order.
 ghost use Rattle.std.specs.Prelude.{◌≡◌, ◌<◌, ◌≤◌};
 ghost use Rattle.steer_base.specs.declared.limits.TheConstants.{MAX_PACKETS};
-ghost use Rattle.good_check.specs.Order.{class_in};
+ghost use Rattle.good_check.specs.Order.{queue_and_flow};
 
 use crate::case::Case;
 use crate::order::{joined, leave_in_order};
@@ -9,10 +9,10 @@ use std::alloc::Global;
 use steer_base::{OutOfMemory, PacketId, RxQueue};
 
 // A receive queue and a flow as one number, where there are `flows` flow numbers.
-fn class_in(flows: u32, queue: RxQueue, flow: u32) -> u32
+fn queue_and_flow(flows: u32, queue: RxQueue, flow: u32) -> u32
     requires few { flows ≤ MAX_PACKETS }
     requires below { flow < flows }
-    ensures { result ≡ class_in flows queue flow }
+    ensures { result ≡ queue_and_flow flows queue flow }
 {
     u32::from(queue.0) * flows + flow
 }
@@ -33,7 +33,7 @@ impl Case<'_> {
         let mut classes = Vec::with_capacity(alloc, self.h.arrivals.len())?;
         for arrival in self.h.arrivals.as_slice() {
             let flow = self.given.flow_of(arrival.id);
-            classes.push(Some(class_in(flows, arrival.queue, flow)))?;
+            classes.push(Some(queue_and_flow(flows, arrival.queue, flow)))?;
         }
         Ok(classes)
     }
