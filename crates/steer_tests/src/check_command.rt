@@ -9,7 +9,7 @@ use crate::files::{HEADER, front};
 use crate::plans::{
     FOUR_LINES, FOUR_STEPS, ONE_FLOW, SWEPT, capture_of, four_packets, plan_of, replayed,
 };
-use outside_io::{Begin, Desk, Got};
+use outside_io::{Begin, Desk, Got, MemoryDesk};
 use std::alloc::Global;
 use std::test::Fail;
 
@@ -32,6 +32,21 @@ const PLAIN: &[u8] =
     br#""cpus":4,"queues":[{"home":0,"mask":[1],"flows":0}],"sock":0,"apps":[2],"tx":[{"cpus":[],
         "queues":[]}]"#;
 
+/// A desk with a plan, a capture and a report, whose calls with these numbers fail.
+fn desk_with(
+    alloc: Global,
+    plan: &[u8],
+    capture: &[u8],
+    report: &[u8],
+    failing: &[u64],
+) -> Result<MemoryDesk, Fail> {
+    let mut held = Vec::new(alloc);
+    held.push((String::from_str(alloc, "p.json")?, plan.to_vec(alloc)?))?;
+    held.push((String::from_str(alloc, "a.pcap")?, capture.to_vec(alloc)?))?;
+    held.push((String::from_str(alloc, "r.txt")?, report.to_vec(alloc)?))?;
+    Ok(MemoryDesk::make(held, failing.to_vec(alloc)?))
+}
+
 /// What `check` comes to with a plan of these settings and steps, the frames of these letters, and
 /// this report.
 fn checked(
@@ -43,8 +58,7 @@ fn checked(
 ) -> Result<Outcome, Fail> {
     let plan = plan_of(alloc, settings, steps)?;
     let capture = capture_of(alloc, letters)?;
-    let files: [(&str, &[u8]); 3] = [("p.json", &plan), ("a.pcap", &capture), ("r.txt", report)];
-    let desk = desk_of(alloc, &files, &[])?;
+    let desk = desk_with(alloc, &plan, &capture, report, &[])?;
     called(alloc, &["check", "p.json", "a.pcap", "r.txt"], desk)
 }
 
@@ -187,8 +201,7 @@ fn reports_of_replays_are_judged(rt: HostRuntime) -> Result<(), Fail> {
 /// writes fail.
 fn failing(alloc: Global, capture: &[u8], reads: &[u64], writes: &[u64]) -> Result<Outcome, Fail> {
     let (plan, _) = four_packets(alloc)?;
-    let files: [(&str, &[u8]); 3] = [("p.json", &plan), ("a.pcap", capture), ("r.txt", b"")];
-    let desk = desk_of(alloc, &files, reads)?;
+    let desk = desk_with(alloc, &plan, capture, b"", reads)?;
     called_failing(
         alloc,
         &["check", "p.json", "a.pcap", "r.txt"],
