@@ -6,8 +6,8 @@ ghost use Rattle.steer_model.specs.State.Ranges.{AreOfFlows};
 
 use crate::equal::same;
 use crate::histories::{
-    FULL, arrival, first, first_sent, good, lanes, list, one, reply, second, second_sent, third,
-    write,
+    FULL, arrival, first, first_sent, good, ids, lanes, list, one, reply, second, second_sent,
+    third, turned, write,
 };
 use good_check::first_fault;
 use history::{Arrival, Commanded, History};
@@ -44,11 +44,13 @@ enum Change {
     HeadBeyondRetired,
     PulledBeforeDrop,
     NotDelivered,
+    InboxTurned,
     NotRetired,
     OtherWriter,
     Commanded,
     OtherSender,
     OtherPick,
+    PortTurned,
 }
 
 // A choice that keeps another want.
@@ -98,6 +100,7 @@ fn changed(rt: &impl Abort, alloc: Global, change: Change) -> History {
             h.lanes = lanes(rt, alloc, LaneDrop { pulled: 1, ..FULL }, 1, 1);
         }
         Change::NotDelivered => h.lanes = lanes(rt, alloc, FULL, 1, 0),
+        Change::InboxTurned => h = turned(rt, alloc),
         Change::NotRetired => h.lanes = lanes(rt, alloc, FULL, 0, 1),
         Change::OtherWriter => {
             h.writes = one(rt, alloc, list(rt, alloc, &[write(0), write(1)]));
@@ -116,6 +119,7 @@ fn changed(rt: &impl Abort, alloc: Global, change: Change) -> History {
             let sent = [first_sent(), wanting(second_sent(), 1)];
             h.tx_choices = one(rt, alloc, list(rt, alloc, &sent));
         }
+        Change::PortTurned => h.port = ids(rt, alloc, &[1, 0]),
     }
     h
 }
@@ -162,11 +166,13 @@ fn each_clause_fails_for_its_own_reason(rt: HostRuntime) -> Result<(), Fail> {
         (Change::HeadBeyondRetired, Some(5)),
         (Change::PulledBeforeDrop, Some(6)),
         (Change::NotDelivered, Some(7)),
+        (Change::InboxTurned, Some(7)),
         (Change::NotRetired, Some(8)),
         (Change::OtherWriter, Some(9)),
         (Change::Commanded, Some(10)),
         (Change::OtherSender, Some(11)),
         (Change::OtherPick, Some(11)),
+        (Change::PortTurned, Some(11)),
         (Change::Nothing, None),
     ];
     for (change, wanted) in cases {

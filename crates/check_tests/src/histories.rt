@@ -208,3 +208,20 @@ pub(crate) fn good(rt: &impl Abort, alloc: Global) -> History {
         start: 0,
     }
 }
+
+// The same with the two packets of the inbox in the other order, and so their replies.
+pub(crate) fn turned(rt: &impl Abort, alloc: Global) -> History {
+    let mut h = good(rt, alloc);
+    let later = Chosen {
+        id: PacketId(1),
+        ..first_sent()
+    };
+    let earlier = Chosen {
+        id: PacketId(0),
+        ..second_sent()
+    };
+    h.inboxes = one(rt, alloc, ids(rt, alloc, &[1, 0]));
+    h.sent = one(rt, alloc, list(rt, alloc, &[reply(1, 0), reply(0, 0)]));
+    h.tx_choices = one(rt, alloc, list(rt, alloc, &[later, earlier]));
+    h
+}
