@@ -34,7 +34,7 @@ fn chosen(
         → AreQueueChoices seen.now arrivals.now queue list → v.items ≡ list) }
 {
     let mut chosen = Vec::new(alloc);
-    if queue > 255 {
+    if queue > usize::from(u8::MAX) {
         return Ok(chosen);
     }
     for arrival in arrivals {

@@ -22,6 +22,8 @@ use Rattle.report.specs.Report.{numbered}
 use Rattle.report.specs.Texts.{AreRows}
 use Rattle.report_reader.specs.Commands.{ShowsAnswer, ShowsCommand, ShowsCommanded, answer_start}
 use Rattle.report_reader.specs.Sections.{AreShown, IsShown}
+use Rattle.report_reader.specs.declared.shortest.TheConstants.{SHORTEST_COMMAND}
+use Rattle.report_reader.proofs.ShortestLemmas.{command-long}
 
 command-shows : (number : ℕ) (c : Command) (rest : List (List ℕ)) → CommandFits c
     → ShowsCommand (codes "c" ∷ decimal number ∷ (command_fields c ++ rest)) c
@@ -131,18 +133,20 @@ few-commanded c =
 
 pub commands-shown : (i : ℕ) (commands : List Commanded) → All CommandedFits commands
     → All (λ c. has_text c.answer ≡ true) commands
-    → AreRows (numbered command_row i commands) → AreShown (codes "c") ShowsCommanded commands
+    → AreRows (numbered command_row i commands)
+    → AreShown (codes "c") SHORTEST_COMMAND ShowsCommanded commands
     (numbered command_row i commands)
 commands-shown i [] f t r = tt
 commands-shown i (c ∷ commands) f t r =
     let h = All-head CommandedFits c commands f in
     let few = few-commanded c in
-    let s : IsShown (codes "c") ShowsCommanded c (command_row i c) = record {
+    let s : IsShown (codes "c") SHORTEST_COMMAND ShowsCommanded c (command_row i c) = record {
       further = decimal i ∷ (command_fields c.command ++ answer_fields c.answer);
       is = refl;
       is_field = r.0.0;
       are_fields = r.0.1;
       few = omega (arith, few);
+      long = command-long i c;
       shown = record {
         command = command-shows i c.command (answer_fields c.answer) h.command;
         answer = answer-shows i c.command c.answer h.answer

@@ -9,6 +9,7 @@ pub mod PutsLemmas
 pub mod SectionsLemmas
 pub mod SeenLemmas
 pub mod ShelvesLemmas
+pub mod ShortestLemmas
 pub mod ShownLemmas
 pub mod TextsLemmas
 pub mod ValuesLemmas

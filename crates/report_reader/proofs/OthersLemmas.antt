@@ -72,11 +72,11 @@ rows-short (r ∷ rows) =
     let b = length-append (row_text r) (text_of rows) in
     let i = rows-short rows in omega (arith, a, b, i)
 
-pub shown-as_many : {T : Type 0} (first : List ℕ) (shows : T → List (List ℕ) → Type 0)
+pub shown-as_many : {T : Type 0} (first : List ℕ) (least : ℕ) (shows : T → List (List ℕ) → Type 0)
     (items : List T) (rows : List Row)
-    → AreShown first shows items rows → length items ≡ length rows
-shown-as_many first shows [] [] s = refl
-shown-as_many first shows [] (r ∷ rows) s = absurd s
-shown-as_many first shows (x ∷ items) [] s = absurd s
-shown-as_many first shows (x ∷ items) (r ∷ rows) s =
-    ap suc (shown-as_many first shows items rows s.1)
+    → AreShown first least shows items rows → length items ≡ length rows
+shown-as_many first least shows [] [] s = refl
+shown-as_many first least shows [] (r ∷ rows) s = absurd s
+shown-as_many first least shows (x ∷ items) [] s = absurd s
+shown-as_many first least shows (x ∷ items) (r ∷ rows) s =
+    ap suc (shown-as_many first least shows items rows s.1)

@@ -34,6 +34,10 @@ use Rattle.report_reader.specs.Sections.{AreShown, HaveLengths, IsLast, IsOther,
 use Rattle.report_reader.specs.Seen.{ShowsPacket, ShowsReply}
 use Rattle.report_reader.specs.Sums.{ShowsSums, ShowsTaken, ShowsWrite}
 use Rattle.report_reader.specs.declared.parts.Parts.{Parts}
+use Rattle.report_reader.specs.declared.shortest.TheConstants.{SHORTEST_COMMAND, SHORTEST_CPU}
+use Rattle.report_reader.specs.declared.shortest.TheConstants.{SHORTEST_PACKET, SHORTEST_QUEUE}
+use Rattle.report_reader.specs.declared.shortest.TheConstants.{SHORTEST_REPLY, SHORTEST_TX}
+use Rattle.report_reader.specs.declared.shortest.TheConstants.{SHORTEST_WRITE}
 use Rattle.report_reader.proofs.CommandsLemmas.{commands-shown, few-commanded}
 use Rattle.report_reader.proofs.LastLemmas.{last-few}
 use Rattle.report_reader.proofs.SectionsLemmas.{going-row}
@@ -100,12 +104,12 @@ kept-short : (lines : List (Option ReplyLine)) → length (seen_replies lines) �
 kept-short [] = omega arith
 kept-short (o ∷ lines) = kept-first o lines (kept-short lines)
 
-section-short : {T : Type 0} (first : List ℕ) (shows : T → List (List ℕ) → Type 0) (bytes : List ℕ)
-    (at : ℕ) (items : List T) (rows rest : List Row)
-    → AreShown first shows items rows → drop at bytes ≡ text_of (rows ++ rest)
+section-short : {T : Type 0} (first : List ℕ) (least : ℕ) (shows : T → List (List ℕ) → Type 0)
+    (bytes : List ℕ) (at : ℕ) (items : List T) (rows rest : List Row)
+    → AreShown first least shows items rows → drop at bytes ≡ text_of (rows ++ rest)
     → length items ≤ length bytes
-section-short first shows bytes at items rows rest s t =
-    let a = shown-as_many first shows items rows s in
+section-short first least shows bytes at items rows rest s t =
+    let a = shown-as_many first least shows items rows s in
     let b = rows-short (rows ++ rest) in
     let d = length-append rows rest in
     let e = ap length t in
@@ -214,7 +218,8 @@ module _ (packets : List Packet) (apps start : ℕ) (h : History) (texts : List 
     few : length h.arrivals ≤ length packets
     few = r.regular.arrived.of_the_capture
 
-    shown1 : AreShown (codes "p") ShowsPacket (map seen_packet (lines_of packets apps h).packets)
+    shown1 : AreShown (codes "p") SHORTEST_PACKET ShowsPacket
+        (map seen_packet (lines_of packets apps h).packets)
         (packet_rows (lines_of packets apps h).packets)
     shown1 = packets-shown (packet_line packets apps h) (range_with_len 0 (length h.arrivals))
         packet-fits
@@ -222,7 +227,8 @@ module _ (packets : List Packet) (apps start : ℕ) (h : History) (texts : List 
         (rows-first (packet_rows (lines_of packets apps h).packets)
         (from_replies (lines_of packets apps h) h texts) are1)
 
-    shown2 : AreShown (codes "r") ShowsReply (seen_replies (lines_of packets apps h).replies)
+    shown2 : AreShown (codes "r") SHORTEST_REPLY ShowsReply
+        (seen_replies (lines_of packets apps h).replies)
         (reply_rows (lines_of packets apps h).replies)
     shown2 = replies-shown (reply_line packets apps h) 0 (length h.arrivals) reply-fits
         (λ x l. reply-low packets apps h x _ (omega (arith, l, few, small)))
@@ -246,13 +252,14 @@ module _ (packets : List Packet) (apps start : ℕ) (h : History) (texts : List 
     -- the parts that were read, section by section
     pub parts-are : (p : Parts) (most n0 n1 n2 n3 n4 n5 n6 n7 n8 : ℕ) → length packets ≤ most
         → drop n0 bytes ≡ text_of (from_packets (lines_of packets apps h) h texts)
-        → Reads (codes "p") ShowsPacket bytes n0 most p.packets.items n1
-        → Reads (codes "r") ShowsReply bytes n1 most p.replies.items n2
-        → Reads (codes "queue") ShowsTaken bytes n2 (length bytes) p.taken.items n3
-        → Reads (codes "cpu") ShowsSums bytes n3 (length bytes) p.cpus.items n4
-        → Reads (codes "tx") ShowsSums bytes n4 (length bytes) p.txs.items n5
-        → Reads (codes "w") ShowsWrite bytes n5 (length bytes) p.writes.items n6
-        → Reads (codes "c") ShowsCommanded bytes n6 (length bytes) p.commands.items n7
+        → Reads (codes "p") SHORTEST_PACKET ShowsPacket bytes n0 most p.packets.items n1
+        → Reads (codes "r") SHORTEST_REPLY ShowsReply bytes n1 most p.replies.items n2
+        → Reads (codes "queue") SHORTEST_QUEUE ShowsTaken bytes n2 (length bytes) p.taken.items n3
+        → Reads (codes "cpu") SHORTEST_CPU ShowsSums bytes n3 (length bytes) p.cpus.items n4
+        → Reads (codes "tx") SHORTEST_TX ShowsSums bytes n4 (length bytes) p.txs.items n5
+        → Reads (codes "w") SHORTEST_WRITE ShowsWrite bytes n5 (length bytes) p.writes.items n6
+        → Reads (codes "c") SHORTEST_COMMAND ShowsCommanded bytes n6 (length bytes)
+        p.commands.items n7
         → ReadsTexts bytes n7 p.texts.items n8
         → ((arrived total : ℕ) (cut : Option ℕ) → IsLast bytes n8 arrived total cut
         → (p.last.total ≡ total) × (p.last.cut ≡ cut))
@@ -271,29 +278,34 @@ module _ (packets : List Packet) (apps start : ℕ) (h : History) (texts : List 
         are3) in
         let s3 = r3 h.taken (queue_rows (lines_of packets apps h).arrived h.taken)
         (from_cpus h texts) h3
-        (section-short (codes "queue") ShowsTaken bytes n2 _ _ (from_cpus h texts) h3 s2.1)
+        (section-short (codes "queue") SHORTEST_QUEUE ShowsTaken bytes n2 _ _ (from_cpus h texts)
+        h3 s2.1)
         (other4 3 (codes "queue") refl (omega arith)) s2.1 in
         let h4 = cpus-shown 0 h.lanes r.numbers.lanes
         (rows-first (cpu_rows h.lanes) (from_txs h texts) are4) in
         let s4 = r4 (map lane_sums h.lanes) (cpu_rows h.lanes) (from_txs h texts) h4
-        (section-short (codes "cpu") ShowsSums bytes n3 _ _ (from_txs h texts) h4 s3.1)
+        (section-short (codes "cpu") SHORTEST_CPU ShowsSums bytes n3 _ _ (from_txs h texts) h4
+        s3.1)
         (other5 4 (codes "cpu") refl (omega arith)) s3.1 in
         let h5 = txs-shown 0 h.tx_lanes r.numbers.tx_lanes
         (rows-first (tx_rows h.tx_lanes) (from_writes h texts) are5) in
         let s5 = r5 (map lane_sums h.tx_lanes) (tx_rows h.tx_lanes) (from_writes h texts) h5
-        (section-short (codes "tx") ShowsSums bytes n4 _ _ (from_writes h texts) h5 s4.1)
+        (section-short (codes "tx") SHORTEST_TX ShowsSums bytes n4 _ _ (from_writes h texts) h5
+        s4.1)
         (other6 5 (codes "tx") refl (omega arith)) s4.1 in
         let w8 : 0 + length h.writes ≤ 2 ^ 8 =
         (let m = r.regular.matched.writes in omega (arith, m, low)) in
         let h6 = writes-shown 0 h.writes w8 r.numbers.writes
         (rows-first (write_rows 0 h.writes) (from_commands h texts) are6) in
         let s6 = r6 (writes_from 0 h.writes) (write_rows 0 h.writes) (from_commands h texts) h6
-        (section-short (codes "w") ShowsWrite bytes n5 _ _ (from_commands h texts) h6 s5.1)
+        (section-short (codes "w") SHORTEST_WRITE ShowsWrite bytes n5 _ _ (from_commands h texts)
+        h6 s5.1)
         (other7 6 (codes "w") refl (omega arith)) s5.1 in
         let h7 = commands-shown 0 h.commands r.numbers.commands r.regular.answers
         (rows-first (command_rows h.commands) (from_taps h texts) are7) in
         let s7 = r7 h.commands (command_rows h.commands) (from_taps h texts) h7
-        (section-short (codes "c") ShowsCommanded bytes n6 _ _ (from_taps h texts) h7 s6.1)
+        (section-short (codes "c") SHORTEST_COMMAND ShowsCommanded bytes n6 _ _
+        (from_taps h texts) h7 s6.1)
         (other8 7 (codes "c") refl (omega arith)) s6.1 in
         let s8 = r8 texts 0 (last_row h ∷ []) (have-lengths texts r.taps.bytes)
         (other9 8 (codes "tap") refl (omega arith)) s7.1 in

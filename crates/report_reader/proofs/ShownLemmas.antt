@@ -24,6 +24,11 @@ use Rattle.report.specs.Report.{numbered, write_rows}
 use Rattle.report.specs.Texts.{AreRows, IsRow, Row}
 use Rattle.report_reader.specs.Parts.{lane_sums, seen_packet, seen_reply, writes_from}
 use Rattle.report_reader.specs.Sections.{AreShown, IsShown}
+use Rattle.report_reader.specs.declared.shortest.TheConstants.{SHORTEST_CPU, SHORTEST_PACKET}
+use Rattle.report_reader.specs.declared.shortest.TheConstants.{SHORTEST_QUEUE, SHORTEST_REPLY}
+use Rattle.report_reader.specs.declared.shortest.TheConstants.{SHORTEST_TX, SHORTEST_WRITE}
+use Rattle.report_reader.proofs.ShortestLemmas.{cpu-long, packet-long, queue-long, reply-long}
+use Rattle.report_reader.proofs.ShortestLemmas.{tx-long, write-long}
 use Rattle.report_reader.specs.Seen.{ShowsChoice, ShowsPacket, ShowsPut, ShowsReply, field_at}
 use Rattle.report_reader.specs.Seen.{put_end}
 use Rattle.report_reader.specs.Sums.{ShowsSums, ShowsTaken, ShowsWrite}
@@ -93,7 +98,7 @@ packet-shows l f a = record {
 }
 
 pub packet-shown : (l : PacketLine) → PacketFits l → l.app < 2 ^ 8 → IsRow (packet_row l)
-    → IsShown (codes "p") ShowsPacket (seen_packet l) (packet_row l)
+    → IsShown (codes "p") SHORTEST_PACKET ShowsPacket (seen_packet l) (packet_row l)
 packet-shown l f a r =
     let few = few-put l l.put in
     record {
@@ -101,14 +106,14 @@ packet-shown l f a r =
       is = refl;
       is_field = r.0;
       are_fields = r.1;
-      few =
-          few;
+      few = few;
+      long = packet-long l;
       shown = packet-shows l f a;
     }
 
 pub packets-shown : {A : Type 0} (line : A → PacketLine) (xs : List A)
     → ((x : A) → PacketFits (line x)) → ((x : A) → (line x).app < 2 ^ 8)
-    → AreRows (map packet_row (map line xs)) → AreShown (codes "p") ShowsPacket
+    → AreRows (map packet_row (map line xs)) → AreShown (codes "p") SHORTEST_PACKET ShowsPacket
     (map seen_packet (map line xs)) (map packet_row (map line xs))
 packets-shown line [] f a r = tt
 packets-shown line (x ∷ xs) f a r = (
@@ -143,13 +148,14 @@ bare-shown fs (Some k) f a b c d e = record {
 }
 
 pub reply-shown : (r : ReplyLine) → ReplyFits r → r.id < 2 ^ 32 → IsRow (reply_row r)
-    → IsShown (codes "r") ShowsReply (seen_reply r) (reply_row r)
+    → IsShown (codes "r") SHORTEST_REPLY ShowsReply (seen_reply r) (reply_row r)
 reply-shown r f i w = record {
   further = reply_fields r;
   is = refl;
   is_field = w.0;
   are_fields = w.1;
   few = omega arith;
+  long = reply-long r;
   shown = record {
     id_fits = i;
     id = refl;
@@ -174,9 +180,11 @@ reply_rows_of lines = filter_map (λ line. option_map reply_row line) lines
 reply-first : (o : Option ReplyLine) (lines : List (Option ReplyLine)) → IfSome o ReplyFits
     → IfSome o (λ r. r.id < 2 ^ 32)
     → AreRows (cons_option (option_map reply_row o) (reply_rows_of lines))
-    → (AreRows (reply_rows_of lines) → AreShown (codes "r") ShowsReply (seen_replies lines)
+    → (AreRows (reply_rows_of lines) → AreShown (codes "r") SHORTEST_REPLY ShowsReply
+    (seen_replies lines)
     (reply_rows_of lines))
-    → AreShown (codes "r") ShowsReply (cons_option (option_map seen_reply o) (seen_replies lines))
+    → AreShown (codes "r") SHORTEST_REPLY ShowsReply (cons_option (option_map seen_reply o)
+    (seen_replies lines))
     (cons_option (option_map reply_row o) (reply_rows_of lines))
 reply-first None lines f i r more = more r
 reply-first (Some l) lines f i r more = (reply-shown l f i r.0, more r.1)
@@ -184,7 +192,7 @@ reply-first (Some l) lines f i r more = (reply-shown l f i r.0, more r.1)
 pub replies-shown : (line : ℕ → Option ReplyLine) (i n : ℕ) → ((x : ℕ) → IfSome (line x) ReplyFits)
     → ((x : ℕ) → x < i + n → IfSome (line x) (λ r. r.id < 2 ^ 32))
     → AreRows (reply_rows_of (map line (range_with_len i n)))
-    → AreShown (codes "r") ShowsReply (seen_replies (map line (range_with_len i n)))
+    → AreShown (codes "r") SHORTEST_REPLY ShowsReply (seen_replies (map line (range_with_len i n)))
     (reply_rows_of (map line (range_with_len i n)))
 replies-shown line i zero f g r = tt
 replies-shown line i (suc n) f g r =
@@ -193,33 +201,37 @@ replies-shown line i (suc n) f g r =
 
 pub queues-shown : (arrived : List ℕ) (i : ℕ) (taken : List ℕ) → All (λ n. n < 2 ^ 32) taken
     → AreRows (numbered (λ queue count. queue_row queue (slice_index arrived queue) count) i taken)
-    → AreShown (codes "queue") ShowsTaken taken
+    → AreShown (codes "queue") SHORTEST_QUEUE ShowsTaken taken
     (numbered (λ queue count. queue_row queue (slice_index arrived queue) count) i taken)
 queues-shown arrived i [] f r = tt
 queues-shown arrived i (t ∷ taken) f r =
-    let s : IsShown (codes "queue") ShowsTaken t (queue_row i (slice_index arrived i) t) = record {
+    let s : IsShown (codes "queue") SHORTEST_QUEUE ShowsTaken t
+    (queue_row i (slice_index arrived i) t) = record {
       further = decimal i ∷ codes "arrived" ∷ decimal (slice_index arrived i) ∷ codes "taken" ∷
           decimal t ∷ [];
       is = refl;
       is_field = r.0.0;
       are_fields = r.0.1;
       few = omega arith;
+      long = queue-long i (slice_index arrived i) t;
       shown = record { fits = All-head (λ n. n < 2 ^ 32) t taken f; taken_at = refl };
     } in
     (s, queues-shown arrived (suc i) taken (All-tail (λ n. n < 2 ^ 32) t taken f) r.1)
 
 pub cpus-shown : (i : ℕ) (lanes : List LaneList) → All LaneFits lanes
     → AreRows (numbered cpu_row i lanes)
-    → AreShown (codes "cpu") ShowsSums (map lane_sums lanes) (numbered cpu_row i lanes)
+    → AreShown (codes "cpu") SHORTEST_CPU ShowsSums (map lane_sums lanes)
+    (numbered cpu_row i lanes)
 cpus-shown i [] f r = tt
 cpus-shown i (l ∷ lanes) f r =
     let h = All-head LaneFits l lanes f in
-    let s : IsShown (codes "cpu") ShowsSums (lane_sums l) (cpu_row i l) = record {
+    let s : IsShown (codes "cpu") SHORTEST_CPU ShowsSums (lane_sums l) (cpu_row i l) = record {
       further = decimal i ∷ (lane_fields l ++ codes "dropped" ∷ decimal (length l.drops) ∷ []);
       is = refl;
       is_field = r.0.0;
       are_fields = r.0.1;
       few = omega arith;
+      long = cpu-long i l;
       shown = record {
         pulled_fits = h.pulled;
         pulled = refl;
@@ -234,16 +246,17 @@ cpus-shown i (l ∷ lanes) f r =
 
 pub txs-shown : (i : ℕ) (lanes : List LaneList) → All LaneFits lanes
     → AreRows (numbered tx_row i lanes)
-    → AreShown (codes "tx") ShowsSums (map lane_sums lanes) (numbered tx_row i lanes)
+    → AreShown (codes "tx") SHORTEST_TX ShowsSums (map lane_sums lanes) (numbered tx_row i lanes)
 txs-shown i [] f r = tt
 txs-shown i (l ∷ lanes) f r =
     let h = All-head LaneFits l lanes f in
-    let s : IsShown (codes "tx") ShowsSums (lane_sums l) (tx_row i l) = record {
+    let s : IsShown (codes "tx") SHORTEST_TX ShowsSums (lane_sums l) (tx_row i l) = record {
       further = decimal i ∷ lane_fields l;
       is = refl;
       is_field = r.0.0;
       are_fields = r.0.1;
       few = omega arith;
+      long = tx-long i l;
       shown = record {
         pulled_fits = h.pulled;
         pulled = refl;
@@ -259,15 +272,17 @@ txs-shown i (l ∷ lanes) f r =
 abbrev of_app : ℕ → SockWrite → AppWrite
 of_app a w = record { app = a; write = w }
 
-shown-append : {T : Type 0} (first : List ℕ) (shows : T → List (List ℕ) → Type 0) (xs ys : List T)
+shown-append : {T : Type 0} (first : List ℕ) (least : ℕ) (shows : T → List (List ℕ) → Type 0)
+    (xs ys : List T)
     (rs ss : List Row)
-    → AreShown first shows xs rs → AreShown first shows ys ss → AreShown first shows (xs ++ ys)
+    → AreShown first least shows xs rs → AreShown first least shows ys ss
+    → AreShown first least shows (xs ++ ys)
     (rs ++ ss)
-shown-append first shows [] ys [] ss a b = b
-shown-append first shows [] ys (r ∷ rs) ss a b = absurd a
-shown-append first shows (x ∷ xs) ys [] ss a b = absurd a
-shown-append first shows (x ∷ xs) ys (r ∷ rs) ss a b =
-    (a.0, shown-append first shows xs ys rs ss a.1 b)
+shown-append first least shows [] ys [] ss a b = b
+shown-append first least shows [] ys (r ∷ rs) ss a b = absurd a
+shown-append first least shows (x ∷ xs) ys [] ss a b = absurd a
+shown-append first least shows (x ∷ xs) ys (r ∷ rs) ss a b =
+    (a.0, shown-append first least shows xs ys rs ss a.1 b)
 
 pub rows-first : (rs ss : List Row) → AreRows (rs ++ ss) → AreRows rs
 rows-first [] ss a = tt
@@ -279,17 +294,19 @@ rows-rest (r ∷ rs) ss a = rows-rest rs ss a.1
 
 app-writes-shown : (a : ℕ) (writes : List SockWrite) → a < 2 ^ 8 → All WriteFits writes
     → AreRows (map (write_row a) writes)
-    → AreShown (codes "w") ShowsWrite (map (of_app a) writes) (map (write_row a) writes)
+    → AreShown (codes "w") SHORTEST_WRITE ShowsWrite (map (of_app a) writes)
+    (map (write_row a) writes)
 app-writes-shown a [] l f r = tt
 app-writes-shown a (w ∷ writes) l f r =
     let h = All-head WriteFits w writes f in
-    let s : IsShown (codes "w") ShowsWrite (of_app a w) (write_row a w) = record {
+    let s : IsShown (codes "w") SHORTEST_WRITE ShowsWrite (of_app a w) (write_row a w) = record {
       further = codes "app" ∷ decimal a ∷ codes "entry" ∷ decimal w.entry ∷ codes "cpu" ∷ decimal
           w.cpu ∷ [];
       is = refl;
       is_field = r.0.0;
       are_fields = r.0.1;
       few = omega arith;
+      long = write-long a w;
       shown = record {
         app_fits = l;
         app = refl;
@@ -304,11 +321,13 @@ app-writes-shown a (w ∷ writes) l f r =
 
 pub writes-shown : (a : ℕ) (writes : List (List SockWrite)) → a + length writes ≤ 2 ^ 8
     → All (All WriteFits) writes
-    → AreRows (write_rows a writes) → AreShown (codes "w") ShowsWrite (writes_from a writes)
+    → AreRows (write_rows a writes) → AreShown (codes "w") SHORTEST_WRITE ShowsWrite
+    (writes_from a writes)
     (write_rows a writes)
 writes-shown a [] l f r = tt
 writes-shown a (ws ∷ rest) l f r =
-    shown-append (codes "w") ShowsWrite (map (of_app a) ws) (writes_from (suc a) rest)
+    shown-append (codes "w") SHORTEST_WRITE ShowsWrite (map (of_app a) ws)
+    (writes_from (suc a) rest)
     (map (write_row a) ws) (write_rows (suc a) rest)
     (app-writes-shown a ws (omega (arith, l)) (All-head (All WriteFits) ws rest f)
     (rows-first (map (write_row a) ws) (write_rows (suc a) rest) r))

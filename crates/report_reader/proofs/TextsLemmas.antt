@@ -6,7 +6,7 @@ use Rattle.std.proofs.Math.Seq.{drop-append_seam, take-append_seam}
 use Rattle.std.proofs.lemmas.List.{drop-drop}
 use Rattle.std.specs.Prelude.{codes, slice_index_or}
 use Rattle.report.specs.Report.{numbered}
-use Rattle.report.specs.Texts.{AreFields, Row, body, fields, text_of, word}
+use Rattle.report.specs.Texts.{AreFields, Row, body, fields, row_text, text_of, word}
 use Rattle.report.specs.Texts.Row.{Tap}
 use Rattle.report.proofs.Cuts.{word-IsField}
 use Rattle.report.proofs.Digits.{decimal-IsField}
@@ -14,6 +14,8 @@ use Rattle.report_reader.specs.Ends.{Going}
 use Rattle.report_reader.specs.Sections.{HaveLengths, IsOther}
 use Rattle.report_reader.proofs.EndsLemmas.{going-none}
 use Rattle.report_reader.proofs.SectionsLemmas.{going-row}
+use Rattle.report_reader.proofs.ShortestLemmas.{tap-long}
+use Rattle.report_reader.specs.declared.shortest.TheConstants.{SHORTEST_TAP}
 
 -- what is left of the texts behind those that were read
 pub record LeftTexts (bytes : List ℕ) (next : ℕ) (done texts : List (List ℕ)) (rest : List Row) :
@@ -96,6 +98,30 @@ module _ (bytes : List ℕ) (next : ℕ) (done texts : List (List ℕ)) (rest : 
     pub texts-go : LeftTexts bytes next done texts rest → slice_index_or found 0 [] ≡ codes "tap"
         → NextText bytes after found done texts rest
     texts-go l e = goes-by l.left l.number l.joins l.lengths l.text e
+
+    room-by : (left : List (List ℕ)) (i : ℕ)
+        → drop next bytes ≡ text_of (numbered Tap i left ++ rest)
+        → slice_index_or found 0 [] ≡ codes "tap"
+        → SHORTEST_TAP + length (drop after bytes) ≤ length (drop next bytes)
+    room-by [] i t e =
+        let few : length (word other.next ∷ fields other.next) ≤ 40 = omega (arith, other.few) in
+        let f = hf (word other.next ∷ fields other.next) (body other.next ++ text_of other.more) few
+        (line-other t) in
+        absurd (other.other (sym (ap (λ l. slice_index_or l 0 []) f) ∙ e))
+    room-by (x ∷ left) i t e =
+        let rows = numbered Tap (suc i) left ++ rest in
+        let g = line-tap i x rows t in
+        let s = ap length (hn (codes "tap" ∷ fields (Tap i x)) (x ++ text_of rows) (omega arith) g)
+        in
+        let a = length-append x (text_of rows) in
+        let b = length-append (row_text (Tap i x)) (text_of rows) in
+        let l = tap-long i x in
+        let n = ap length t in omega (arith, s, a, b, l, n)
+
+    -- the row of the next text is not shorter than any
+    pub texts-room : LeftTexts bytes next done texts rest → slice_index_or found 0 [] ≡ codes "tap"
+        → SHORTEST_TAP + length (drop after bytes) ≤ length (drop next bytes)
+    texts-room l e = room-by l.left l.number l.text e
 
     stops-by : (left : List (List ℕ)) (i : ℕ) → done ++ left ≡ texts
         → drop next bytes ≡ text_of (numbered Tap i left ++ rest)

@@ -1,5 +1,5 @@
 -- What the sections of a report of a history show.
-use Rattle.std.specs.Prelude.{ℕ, suc, ◌≡◌, ◌≤◌, ◌<◌, ◌^◌, List, [], ◌∷◌, ◌++◌, length}
+use Rattle.std.specs.Prelude.{ℕ, suc, ◌≡◌, ◌≤◌, ◌<◌, ◌^◌, ◌*◌, ◌+◌, List, [], ◌∷◌, ◌++◌, length}
 use Rattle.std.specs.Prelude.{map}
 use Rattle.std.specs.List.{filter_map}
 use Rattle.std.specs.Option.{option_map}
@@ -16,6 +16,10 @@ use Rattle.report.specs.Laws.{IsReportOf}
 use Rattle.report_reader.specs.declared.packets.SeenPacket.{SeenPacket}
 use Rattle.report_reader.specs.declared.packets.SeenReply.{SeenReply}
 use Rattle.report_reader.specs.declared.parts.Parts.{Parts}
+use Rattle.report_reader.specs.declared.shortest.TheConstants.{SHORTEST_COMMAND, SHORTEST_CPU}
+use Rattle.report_reader.specs.declared.shortest.TheConstants.{SHORTEST_PACKET, SHORTEST_QUEUE}
+use Rattle.report_reader.specs.declared.shortest.TheConstants.{SHORTEST_REPLY, SHORTEST_TAP}
+use Rattle.report_reader.specs.declared.shortest.TheConstants.{SHORTEST_TX, SHORTEST_WRITE}
 use Rattle.report_reader.specs.declared.sums.AppWrite.{AppWrite}
 use Rattle.report_reader.specs.declared.sums.LaneSums.{LaneSums}
 
@@ -75,3 +79,11 @@ AreParts bytes most p =
     (packets : List Packet) (apps start : ℕ) (h : History) (texts : List (List ℕ)) → 1 ≤ apps
     → apps < 2 ^ 8 → length packets ≤ most → length packets ≤ MAX_PACKETS
     → IsReportOf packets apps start h texts bytes → ArePartsOf packets apps h texts p
+
+-- so many bytes hold the rows of these parts, even if each is the shortest of its kind
+abbrev pub FitInto : ℕ → Parts → Type 0
+FitInto bytes p =
+    length p.packets.items * SHORTEST_PACKET + length p.replies.items * SHORTEST_REPLY
+    + length p.taken.items * SHORTEST_QUEUE + length p.cpus.items * SHORTEST_CPU
+    + length p.txs.items * SHORTEST_TX + length p.writes.items * SHORTEST_WRITE
+    + length p.commands.items * SHORTEST_COMMAND + length p.texts.items * SHORTEST_TAP ≤ bytes

@@ -5,27 +5,28 @@ use Rattle.history.specs.Ranges.{FitsIn}
 use Rattle.report.specs.Lines.{end_row}
 use Rattle.report.specs.Report.{numbered}
 use Rattle.report_reader.specs.Seen.{field_at}
-use Rattle.report.specs.Texts.{AreFields, IsField, Row, fields, text_of, word}
+use Rattle.report.specs.Texts.{AreFields, IsField, Row, fields, row_text, text_of, word}
 use Rattle.report.specs.Texts.Row.{Line, Tap}
 
--- a row with this first word shows an item
-pub record IsShown {T : Type 0} (first : List ℕ) (shows : T → List (List ℕ) → Type 0) (item : T)
-    (row : Row) : Type 0 where
+-- a row with this first word and at least so many bytes shows an item
+pub record IsShown {T : Type 0} (first : List ℕ) (least : ℕ) (shows : T → List (List ℕ) → Type 0)
+    (item : T) (row : Row) : Type 0 where
   pub further : List (List ℕ)
   pub is : row ≡ Line first further
   pub is_field : IsField first
   pub are_fields : AreFields further
   pub few : length further < 40
+  pub long : least ≤ length (row_text row)
   pub shown : shows item (first ∷ further)
 
 -- the rows show these items, one each
-abbrev pub AreShown : {T : Type 0} → List ℕ → (T → List (List ℕ) → Type 0) → List T → List Row
+abbrev pub AreShown : {T : Type 0} → List ℕ → ℕ → (T → List (List ℕ) → Type 0) → List T → List Row
     → Type 0
-AreShown first shows [] [] = ⊤
-AreShown first shows [] (row ∷ rows) = ⊥
-AreShown first shows (item ∷ items) [] = ⊥
-AreShown first shows (item ∷ items) (row ∷ rows) =
-    IsShown first shows item row × AreShown first shows items rows
+AreShown first least shows [] [] = ⊤
+AreShown first least shows [] (row ∷ rows) = ⊥
+AreShown first least shows (item ∷ items) [] = ⊥
+AreShown first least shows (item ∷ items) (row ∷ rows) =
+    IsShown first least shows item row × AreShown first least shows items rows
 
 -- the next row begins with another word
 pub record IsOther (first : List ℕ) (rows : List Row) : Type 0 where
@@ -39,10 +40,10 @@ pub record IsOther (first : List ℕ) (rows : List Row) : Type 0 where
 
 -- Bytes from a place on are the text of a section with these items and of further rows; then what
 -- was read is just these items, and from the next place on there is the text of the further rows.
-abbrev pub Reads : {T : Type 0} → List ℕ → (T → List (List ℕ) → Type 0) → List ℕ → ℕ → ℕ → List T
-    → ℕ → Type 0
-Reads {T} first shows bytes at most found next =
-    (items : List T) (rows rest : List Row) → AreShown first shows items rows
+abbrev pub Reads : {T : Type 0} → List ℕ → ℕ → (T → List (List ℕ) → Type 0) → List ℕ → ℕ → ℕ
+    → List T → ℕ → Type 0
+Reads {T} first least shows bytes at most found next =
+    (items : List T) (rows rest : List Row) → AreShown first least shows items rows
     → length items ≤ most → IsOther first rest → drop at bytes ≡ text_of (rows ++ rest)
     → (found ≡ items) × (drop next bytes ≡ text_of rest)
 

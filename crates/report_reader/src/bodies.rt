@@ -1,9 +1,11 @@
 //! The texts of taps.
-ghost use Rattle.std.specs.Prelude.{◌≡◌, ◌≤◌, length, IfOk};
+ghost use Rattle.std.specs.Prelude.{◌≡◌, ◌≤◌, ◌+◌, ◌*◌, length, IfOk};
 ghost use Rattle.report_reader.specs.Sections.{ReadsTexts};
+ghost use Rattle.report_reader.specs.declared.shortest.TheConstants.{SHORTEST_TAP};
 
 use crate::fields::Fields;
 use crate::sections::Part;
+use crate::shortest::SHORTEST_TAP;
 use crate::values::number;
 use std::alloc::Global;
 use steer_base::OutOfMemory;
@@ -22,6 +24,8 @@ fn copy_of(alloc: Global, bytes: &[u8]) -> Result<TapText, OutOfMemory>
 pub fn read_texts(alloc: Global, bytes: &[u8], at: usize) -> Result<Part<TapText>, OutOfMemory>
     requires { at ≤ length bytes.now }
     ensures within { IfOk result (λ part. part.next ≤ length bytes.now) }
+    ensures fit { IfOk result
+        (λ part. length part.items.items * SHORTEST_TAP + at ≤ part.next) }
     ensures reads { IfOk result (λ part. ReadsTexts bytes.now at part.items.items part.next) }
 {
     let mut fields = Fields::make(alloc);
@@ -31,6 +35,9 @@ pub fn read_texts(alloc: Global, bytes: &[u8], at: usize) -> Result<Part<TapText
         let after = fields.read(bytes, next)?;
         let is_tap = fields.at(0) == b"tap".as_slice();
         if !is_tap {
+            return Ok(Part { items, next });
+        }
+        if after - next < SHORTEST_TAP {
             return Ok(Part { items, next });
         }
         let long = number(fields.at(3));

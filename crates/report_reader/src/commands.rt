@@ -7,10 +7,12 @@ ghost use Rattle.steer_base.specs.declared.command.User.{User as AUser};
 ghost use Rattle.report_reader.specs.Commands.{ShowsAnswer, ShowsBusy, ShowsCommand};
 ghost use Rattle.report_reader.specs.Commands.{ShowsCommanded, ShowsUser, has_pair};
 ghost use Rattle.report_reader.specs.Commands.{answer_start as start_of};
+ghost use Rattle.report_reader.specs.declared.shortest.TheConstants.{SHORTEST_COMMAND};
 
 use crate::fields::Fields;
 use crate::sections::Section;
 use crate::sets::members;
+use crate::shortest::SHORTEST_COMMAND;
 use crate::values::{byte, word};
 use history::Commanded;
 use steer_base::{Answer, AppId, Busy, Command, Cpu, Idle, RxQueue, TxQueue, User};
@@ -128,10 +130,16 @@ fn answer(fields: &Fields<'_>, from: usize) -> Answer
 impl Section<Commanded> for Commands {
     ghost first = { codes "c" };
 
+    ghost least = { SHORTEST_COMMAND };
+
     ghost shows = { ShowsCommanded };
 
     fn word(&self) -> &'static [u8] {
         b"c".as_slice()
+    }
+
+    fn shortest(&self) -> usize {
+        SHORTEST_COMMAND
     }
 
     fn item(&self, fields: &Fields<'_>) -> Commanded {

@@ -13,6 +13,7 @@ mod sections;
 mod seen;
 mod sets;
 pub mod shelf;
+mod shortest;
 mod slots;
 mod sums;
 mod values;

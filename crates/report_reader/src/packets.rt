@@ -1,11 +1,14 @@
 //! The lines of packets and of replies.
 ghost use Rattle.std.specs.Prelude.{codes};
 ghost use Rattle.report_reader.specs.Seen.{ShowsPacket, ShowsReply};
+ghost use Rattle.report_reader.specs.declared.shortest.TheConstants.{SHORTEST_PACKET};
+ghost use Rattle.report_reader.specs.declared.shortest.TheConstants.{SHORTEST_REPLY};
 
 use crate::fields::Fields;
 use crate::puts::{put, put_end};
 use crate::sections::Section;
 use crate::seen::choice;
+use crate::shortest::{SHORTEST_PACKET, SHORTEST_REPLY};
 use crate::values::{byte, maybe_word, via, word};
 use history::Via;
 use steer_base::{AppId, Choice, Cpu, PacketId, Put, RxQueue};
@@ -53,10 +56,16 @@ pub struct Replies;
 impl Section<SeenPacket> for Packets {
     ghost first = { codes "p" };
 
+    ghost least = { SHORTEST_PACKET };
+
     ghost shows = { ShowsPacket };
 
     fn word(&self) -> &'static [u8] {
         b"p".as_slice()
+    }
+
+    fn shortest(&self) -> usize {
+        SHORTEST_PACKET
     }
 
     fn item(&self, fields: &Fields<'_>) -> SeenPacket {
@@ -76,10 +85,16 @@ impl Section<SeenPacket> for Packets {
 impl Section<SeenReply> for Replies {
     ghost first = { codes "r" };
 
+    ghost least = { SHORTEST_REPLY };
+
     ghost shows = { ShowsReply };
 
     fn word(&self) -> &'static [u8] {
         b"r".as_slice()
+    }
+
+    fn shortest(&self) -> usize {
+        SHORTEST_REPLY
     }
 
     fn item(&self, fields: &Fields<'_>) -> SeenReply {

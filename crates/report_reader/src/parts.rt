@@ -1,6 +1,6 @@
 //! What the sections of a report show.
-ghost use Rattle.std.specs.Prelude.{IfOk};
-ghost use Rattle.report_reader.specs.Parts.{AreParts};
+ghost use Rattle.std.specs.Prelude.{◌≤◌, IfOk, length};
+ghost use Rattle.report_reader.specs.Parts.{AreParts, FitInto};
 
 use crate::bodies::read_texts;
 use crate::commands::Commands;
@@ -37,9 +37,12 @@ pub struct Parts {
     pub last: LastLine,
 }
 
-/// Reads the sections of a report with at most so many packets.
+/// Reads the sections of a report with at most so many packets. Of bytes that are no report too,
+/// no more is kept than rows of a report would fit into them.
 pub fn read_parts(alloc: Global, bytes: &[u8], most: usize) -> Result<Parts, OutOfMemory>
-    ensures { IfOk result (λ p. AreParts bytes.now most p) }
+    ensures parts { IfOk result (λ p. AreParts bytes.now most p) }
+    ensures fit { IfOk result (λ p. FitInto (length bytes.now) p) }
+    ensures few { IfOk result (λ p. length p.packets.items ≤ most) }
 {
     lines_fit();
     let mut fields = Fields::make(alloc);

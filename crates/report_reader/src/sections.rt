@@ -1,5 +1,5 @@
 //! The sections of a report: lines of one kind, one after the other.
-ghost use Rattle.std.specs.Prelude.{◌≡◌, ◌≤◌, ℕ, List, length, IfOk};
+ghost use Rattle.std.specs.Prelude.{◌≡◌, ◌≤◌, ◌+◌, ◌*◌, ℕ, List, length, IfOk};
 ghost use Rattle.report_reader.specs.Sections.{Reads};
 
 use crate::fields::Fields;
@@ -11,12 +11,19 @@ pub trait Section<T> {
     /// The first field of each line.
     ghost first: { List ℕ };
 
+    /// The fewest bytes of a line.
+    ghost least: { ℕ };
+
     /// Whether the fields of a line show an item.
     ghost shows: { T → List (List ℕ) → Type 0 };
 
     /// The first field of each line.
     fn word(&self) -> &'static [u8]
         ensures { result.now ≡ first };
+
+    /// The fewest bytes of a line, with its line feed.
+    fn shortest(&self) -> usize
+        ensures { result ≡ least };
 
     /// What a line with these fields shows.
     fn item(&self, fields: &Fields<'_>) -> T
@@ -32,7 +39,8 @@ pub struct Part<T: Drop> {
     pub next: usize,
 }
 
-/// Reads the lines of a section, at most so many, from a place on.
+/// Reads the lines of a section, at most so many, from a place on. A line with fewer bytes than
+/// the shortest of its kind ends the section.
 pub fn read_section<T: Drop, S: Section<T>>(
     alloc: Global,
     bytes: &[u8],
@@ -42,8 +50,11 @@ pub fn read_section<T: Drop, S: Section<T>>(
 ) -> Result<Part<T>, OutOfMemory>
     requires { at ≤ length bytes.now }
     ensures within { IfOk result (λ part. part.next ≤ length bytes.now) }
+    ensures few { IfOk result (λ part. length part.items.items ≤ most) }
+    ensures fit { IfOk result
+        (λ part. length part.items.items * S.least + at ≤ part.next) }
     ensures reads { IfOk result
-        (λ part. Reads S.first S.shows bytes.now at most part.items.items part.next) }
+        (λ part. Reads S.first S.least S.shows bytes.now at most part.items.items part.next) }
 {
     let mut fields = Fields::make(alloc);
     let mut items = Vec::new(alloc);
@@ -53,12 +64,15 @@ pub fn read_section<T: Drop, S: Section<T>>(
             return Ok(Part { items, next });
         }
         let after = fields.read(bytes, next)?;
-        if fields.at(0) == of.word() {
-            items.push(of.item(&fields))?;
-            next = after;
-        } else {
+        let is_own = fields.at(0) == of.word();
+        if !is_own {
             return Ok(Part { items, next });
         }
+        if after - next < of.shortest() {
+            return Ok(Part { items, next });
+        }
+        items.push(of.item(&fields))?;
+        next = after;
     }
     Ok(Part { items, next })
 }

@@ -1,6 +1,7 @@
 //! A list of packets that is filled by their places.
 ghost use Rattle.std.specs.Prelude.{ℕ, ◌≡◌, ◌≤◌, ◌<◌, ◌-◌, List, None, Some, IfOk, length};
 ghost use Rattle.std.specs.Prelude.{slice_set};
+ghost use Rattle.steer_base.specs.declared.limits.TheConstants.{MAX_PACKETS};
 ghost use Rattle.report_reader.specs.Slots.{IsShelved, place_for, slot_of};
 
 use crate::slots::{Kind, Seen, slot_of_kind};
@@ -78,11 +79,11 @@ pub fn shelf(
     list: usize,
     start: u32,
 ) -> Result<Vec<PacketId>, OutOfMemory>
-    requires { length seen.now ≤ 262144 }
+    requires { length seen.now ≤ MAX_PACKETS }
     ensures { IfOk result (λ ids. (wanted : List ℕ)
         → IsShelved start kind seen.now list wanted → ids.items ≡ wanted) }
 {
-    if list > 255 {
+    if list > usize::from(u8::MAX) {
         return Ok(Vec::new(alloc));
     }
     let mut ids = zeros(alloc, count_in(seen, kind, list, start))?;

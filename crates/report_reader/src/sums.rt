@@ -1,10 +1,15 @@
 //! The lines of receive queues, processors and transmit queues, and of socket writes.
 ghost use Rattle.std.specs.Prelude.{◌≡◌, codes};
+ghost use Rattle.report_reader.specs.declared.shortest.TheConstants.{SHORTEST_CPU};
+ghost use Rattle.report_reader.specs.declared.shortest.TheConstants.{SHORTEST_QUEUE};
+ghost use Rattle.report_reader.specs.declared.shortest.TheConstants.{SHORTEST_TX};
+ghost use Rattle.report_reader.specs.declared.shortest.TheConstants.{SHORTEST_WRITE};
 ghost use Rattle.report_reader.specs.declared.sums.LaneSums.{LaneSums as ASums};
 ghost use Rattle.report_reader.specs.Sums.{ShowsSums, ShowsTaken, ShowsWrite};
 
 use crate::fields::Fields;
 use crate::sections::Section;
+use crate::shortest::{SHORTEST_CPU, SHORTEST_QUEUE, SHORTEST_TX, SHORTEST_WRITE};
 use crate::values::{byte, word};
 use history::SockWrite;
 use steer_base::{AppId, Cpu};
@@ -55,10 +60,16 @@ fn sums(fields: &Fields<'_>) -> LaneSums
 impl Section<u32> for Queues {
     ghost first = { codes "queue" };
 
+    ghost least = { SHORTEST_QUEUE };
+
     ghost shows = { ShowsTaken };
 
     fn word(&self) -> &'static [u8] {
         b"queue".as_slice()
+    }
+
+    fn shortest(&self) -> usize {
+        SHORTEST_QUEUE
     }
 
     fn item(&self, fields: &Fields<'_>) -> u32 {
@@ -69,10 +80,16 @@ impl Section<u32> for Queues {
 impl Section<LaneSums> for Cpus {
     ghost first = { codes "cpu" };
 
+    ghost least = { SHORTEST_CPU };
+
     ghost shows = { ShowsSums };
 
     fn word(&self) -> &'static [u8] {
         b"cpu".as_slice()
+    }
+
+    fn shortest(&self) -> usize {
+        SHORTEST_CPU
     }
 
     fn item(&self, fields: &Fields<'_>) -> LaneSums {
@@ -83,10 +100,16 @@ impl Section<LaneSums> for Cpus {
 impl Section<LaneSums> for Txs {
     ghost first = { codes "tx" };
 
+    ghost least = { SHORTEST_TX };
+
     ghost shows = { ShowsSums };
 
     fn word(&self) -> &'static [u8] {
         b"tx".as_slice()
+    }
+
+    fn shortest(&self) -> usize {
+        SHORTEST_TX
     }
 
     fn item(&self, fields: &Fields<'_>) -> LaneSums {
@@ -97,10 +120,16 @@ impl Section<LaneSums> for Txs {
 impl Section<AppWrite> for Writes {
     ghost first = { codes "w" };
 
+    ghost least = { SHORTEST_WRITE };
+
     ghost shows = { ShowsWrite };
 
     fn word(&self) -> &'static [u8] {
         b"w".as_slice()
+    }
+
+    fn shortest(&self) -> usize {
+        SHORTEST_WRITE
     }
 
     fn item(&self, fields: &Fields<'_>) -> AppWrite {

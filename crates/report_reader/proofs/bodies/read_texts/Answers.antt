@@ -1,8 +1,9 @@
 use Rattle.std.proofs.Common.{rules, ◌≡◌, true}
-use Rattle.std.proofs.Common.{sym, ◌∙◌, arith, length, refl}
+use Rattle.std.proofs.Common.{sym, ◌∙◌, arith, length, refl, length-drop}
 use Rattle.std.proofs.Math.ListN.{drop_of_length-le}
 use Rattle.std.proofs.lemmas.Slice.Eq.{bytes_eq-Decides}
-use Rattle.report_reader.proofs.TextsLemmas.{text-fits, text-goes, texts-end, texts-go, texts-stop}
+use Rattle.report_reader.proofs.TextsLemmas.{text-fits, text-goes, texts-end, texts-go, texts-room}
+use Rattle.report_reader.proofs.TextsLemmas.{texts-stop}
 use Rattle.report_reader.proofs.bodies.read_texts.Goals as goal
 
 pub returns-then-not-is_tap-clause-reads : goal.returns-then-not-is_tap-clause-reads
@@ -15,6 +16,25 @@ returns-then-not-is_tap-clause-reads c = λ texts i rest s o t.
     let test : c.eq-is_tap.result ≡ true = c.eq-is_tap.ensures
     ∙ (bytes_eq-Decides c.at.result.now c.as_slice.result.now).1 same in
     let no' = c.if-not-is_tap.true in cc)
+
+pub returns-then-after-next-lt-SHORTEST_TAP-clause-reads :
+    goal.returns-then-after-next-lt-SHORTEST_TAP-clause-reads
+returns-then-after-next-lt-SHORTEST_TAP-clause-reads c = λ texts i rest s o t.
+    let same = (bytes_eq-Decides c.at.result.now c.as_slice.result.now).0 (sym c.eq-is_tap.ensures
+    ∙ c.if-not-is_tap.false) in
+    let room = texts-room _ _ _ _ _ o _ _ c.in_ok-after.ensures.fields c.in_ok-after.ensures.next
+    (c.loop-next.invariant.reading texts i rest s o t) (sym c.at.ensures ∙ same
+    ∙ c.as_slice.ensures) in
+    let a = length-drop c.in_ok-after.after c.args.bytes.now in
+    let b = length-drop c.loop-next.next c.args.bytes.now in
+    absurd (omega (
+      arith,
+      room,
+      a,
+      b,
+      c.in_ok-after.ensures.within,
+      c.if-after-next-lt-SHORTEST_TAP.true,
+    ))
 
 pub returns-then-long-bytes-clause-reads : goal.returns-then-long-bytes-clause-reads
 returns-then-long-bytes-clause-reads c = λ texts i rest s o t.
@@ -31,6 +51,7 @@ returns-then-long-bytes-clause-reads c = λ texts i rest s o t.
 pub loop-next-preserved : goal.loop-next-preserved
 loop-next-preserved c = record {
   within = search rules;
+  fit = search rules;
   reading = λ texts i rest s o t.
       let same = (bytes_eq-Decides c.at.result.now c.as_slice.result.now).0 (sym c.eq-is_tap.ensures
       ∙ c.if-not-is_tap.false) in

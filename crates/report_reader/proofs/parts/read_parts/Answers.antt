@@ -2,8 +2,8 @@ use Rattle.std.proofs.Common.{arith}
 use Rattle.report_reader.proofs.PartsLemmas.{first-line, parts-are}
 use Rattle.report_reader.proofs.parts.read_parts.Goals as goal
 
-pub returns : goal.returns
-returns c = λ packets apps start h texts some low l small r.
+pub returns-clause-parts : goal.returns-clause-parts
+returns-clause-parts c = λ packets apps start h texts some low l small r.
     parts-are packets apps start h texts c.args.bytes.now r c.lines_fit.ensures small some low _
     c.args.most _ _ _ _ _ _ _ _ _ l
     (c.in_ok-first.ensures.next _ _ (omega arith)
@@ -13,3 +13,18 @@ returns c = λ packets apps start h texts some low l small r.
     c.in_ok-txs.ensures.reads c.in_ok-writes.ensures.reads c.in_ok-commands.ensures.reads
     c.in_ok-texts.ensures.reads
     c.in_ok-last.ensures
+
+pub returns-clause-fit : goal.returns-clause-fit
+returns-clause-fit c =
+    omega (
+      arith,
+      c.in_ok-packets.ensures.fit,
+      c.in_ok-replies.ensures.fit,
+      c.in_ok-queues.ensures.fit,
+      c.in_ok-cpus.ensures.fit,
+      c.in_ok-txs.ensures.fit,
+      c.in_ok-writes.ensures.fit,
+      c.in_ok-commands.ensures.fit,
+      c.in_ok-texts.ensures.fit,
+      c.in_ok-texts.ensures.within,
+    )
