@@ -14,7 +14,7 @@ returns-else-branch-clause-none c = λ e.
     let texts = c.in_ok-printed.printed.texts.items in
     no-report packets apps start bytes k texts
     (only-report packets apps start bytes k texts c.in_ok-parts.parts c.requires.apps
-    (omega (arith, c.ranges.apps.fits)) c.requires.few (omega arith) c.in_ok-parts.ensures
+    (omega (arith, c.ranges.apps.fits)) c.requires.few (omega arith) c.in_ok-parts.ensures.parts
     c.in_ok-printed.ensures.only)
     (λ r.
     let is = c.in_ok-is_report.ensures.no
