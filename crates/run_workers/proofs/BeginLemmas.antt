@@ -1,0 +1,190 @@
+-- A new worker, and one that knows the arrivals.
+use Rattle.std.proofs.Common.{◌≡◌, ℕ, ◌<◌, List, [], None, All, arith, refl, sym, subst}
+use Rattle.std.proofs.Common.{length}
+use Rattle.std.specs.List.{Contains}
+use Rattle.std.proofs.lemmas.List.Elements.{All-nil}
+use Rattle.linearization.specs.Orders.{StepBy, steps_of}
+use Rattle.linearization.specs.Seats.{SeatView}
+use Rattle.history.specs.declared.arrival.Arrival.{Arrival}
+use Rattle.history.specs.declared.sock_write.SockWrite.{SockWrite}
+use Rattle.hint_words.specs.declared.step.HintStep.{HintStep}
+use Rattle.hint_words.specs.declared.step.HintStep.TheVariants.{Store}
+use Rattle.hop_rule.specs.Boards.{gate_steps, lane_steps}
+use Rattle.hop_rule.specs.Gates.{closed, outside, visit}
+use Rattle.hop_rule.specs.Lanes.{holding, idle, out_holding, phase}
+use Rattle.hop_rule.specs.Owns.{puts_of}
+use Rattle.hop_rule.specs.declared.sizes.BoardSizes.{BoardSizes}
+use Rattle.hop_rule.specs.declared.step.BoardStep.{BoardStep}
+use Rattle.board_api.specs.Calls.Rights.{HasOpen, IsOutside}
+use Rattle.board_api.specs.Seats.{BoardSeatView}
+use Rattle.board_api.specs.Views.{BoardView}
+use Rattle.hop_delivery.specs.Orders.Turns.{Explained, Turn}
+use Rattle.steer_model.specs.State.Setup.{Setup}
+use Rattle.run_hands.specs.Drains.{IsDrain}
+use Rattle.run_hands.specs.declared.drain.Drain.{Drain}
+use Rattle.run_hands.specs.declared.drain.Exit.{Exit}
+use Rattle.run_hands.specs.declared.drain.Exit.TheVariants.{Inboxes, Port}
+use Rattle.run_hands.specs.declared.poller.Poller.{Poller}
+use Rattle.run_hands.specs.declared.server.Server.{Server}
+use Rattle.run_hands.specs.declared.shared.Shared.{Shared}
+use Rattle.run_records.specs.Storing.{StoresAreFor}
+use Rattle.run_records.proofs.PollingLemmas.{pollers_begin}
+use Rattle.run_records.proofs.ReplyingLemmas.{arrivals_come, servers_begin}
+use Rattle.run_workers.specs.Actors.{Each, IsForeign, KeepsDrain, KeepsPoller, KeepsServer}
+use Rattle.run_workers.specs.Laws.{ArrivalsBecomeKnown, IsNew, IsNewDrain, IsNewPoller}
+use Rattle.run_workers.specs.Laws.{IsNewServer, WorkersBegin}
+use Rattle.run_workers.specs.Stages.{HasSizes, StageView, stage_view}
+use Rattle.run_workers.specs.Workers.{IsBetween, IsNotedBy, IsWorking}
+use Rattle.run_workers.specs.declared.seats.WorkerSeats.{WorkerSeats}
+use Rattle.run_workers.specs.declared.worker.Worker.{Worker}
+
+-- ---- the beginning
+
+between_at_first : (board : BoardView) (count : ℕ) (seat : BoardSeatView)
+    → seat.table ≡ board.table → seat.steps ≡ [] → IsBetween board count seat
+between_at_first board count seat table none =
+    record {
+      table = table;
+      outside = subst IsOutside (sym none) refl;
+      gate = subst HasOpen (sym none) refl;
+      lanes = λ l. subst (λ ds. holding l (lane_steps ds) ≡ None) (sym none) refl;
+      outs = λ o. subst (λ ds. out_holding o (lane_steps ds) ≡ None) (sym none) refl;
+      others = λ l far. subst (λ ds. phase l (lane_steps ds) ≡ idle) (sym none) refl;
+    }
+
+explained_at_first : (seat : BoardSeatView) → seat.steps ≡ [] → Explained seat.steps []
+explained_at_first seat none = subst (λ ds. Explained ds []) (sym none) refl
+
+nothing_stored : (given : Setup) (filters : ℕ) (hints : List HintStep) → hints ≡ []
+    → StoresAreFor given filters [] [] hints
+nothing_stored given filters hints none =
+    subst (StoresAreFor given filters [] []) (sym none)
+    (λ word value has. absurd (omega (arith, has.1)))
+
+drain_begins : (about : BoardSizes) (given : Setup) (exit : Exit) (seat : BoardSeatView) (k : ℕ)
+    (d : Drain) → seat.steps ≡ [] → IsNewDrain about given exit seat.number k d
+    → KeepsDrain about given exit seat k d
+drain_begins about given exit seat k d none x =
+    record {
+      own = x.own;
+      within = x.within;
+      mine = x.mine;
+      exit_is = x.exit_is;
+      is = subst (IsDrain given d) (sym none) x.is;
+    }
+
+poller_begins : (t : StageView) (s : WorkerSeats) (first : ℕ → ℕ) (k : ℕ) (p : Poller)
+    → IsNewPoller t s.rx.number first k p → KeepsPoller t s first [] k p
+poller_begins t s first k p x =
+    record {
+      own = x.own;
+      within = x.within;
+      room = x.room;
+      is = x.is;
+      keeps = pollers_begin t.shared.given (first p.queue) t.rx.sizes.start p [] s.hint.steps
+          x.hand x.flows x.choices x.accepted x.table x.ring refl;
+    }
+
+server_begins : (t : StageView) (s : WorkerSeats) (rows k : ℕ) (v : Server)
+    → IsNewServer t s.tx.number rows k v → KeepsServer t s rows [] k v
+server_begins t s rows k v x =
+    record {
+      own = x.own;
+      within = x.within;
+      room = x.room;
+      is = x.is;
+      keeps = servers_begin t.shared.given rows t.tx.sizes.start t.late v [] s.rx.steps
+          s.hint.steps x.hand x.table x.sent x.choices x.writes refl;
+    }
+
+pub workers_begin : WorkersBegin
+workers_begin t w s x =
+    record {
+      sizes = x.sizes;
+      rx = between_at_first t.rx (length w.drains.items) s.rx x.rx_table x.rx_steps;
+      tx = between_at_first t.tx (length w.ships.items) s.tx x.tx_table x.tx_steps;
+      hint_table = x.hint_table;
+      first = x.first;
+      rows = x.rows;
+      flows = x.flows;
+      turns = [];
+      steered = explained_at_first s.rx x.rx_steps;
+      by_pollers = All-nil _;
+      replies = [];
+      replied = explained_at_first s.tx x.tx_steps;
+      by_servers = All-nil _;
+      noted = [];
+      noted_by = λ write has. absurd (omega (arith, has.1));
+      stores = nothing_stored t.shared.given t.shared.filters s.hint.steps x.hint_steps;
+      pollers = λ k p got. poller_begins t s x.first k p (x.pollers k p got);
+      drains = λ k d got.
+          drain_begins t.rx.sizes t.shared.given Inboxes s.rx k d x.rx_steps (x.drains k d got);
+      servers = λ k v got. server_begins t s x.rows k v (x.servers k v got);
+      ships = λ k d got.
+          drain_begins t.tx.sizes t.shared.given Port s.tx k d x.tx_steps (x.ships k d got);
+    }
+
+-- ---- the arrivals
+
+module _ (rx tx : BoardView) (shared : Shared) (arrivals : List Arrival) (s : WorkerSeats) where
+  abbrev before : StageView
+  before = stage_view rx tx shared []
+
+  abbrev after : StageView
+  after = stage_view rx tx shared arrivals
+
+  same_sizes : HasSizes before → HasSizes after
+  same_sizes x =
+      record {
+        queue_settings = x.queue_settings;
+        cpus = x.cpus;
+        apps = x.apps;
+        maps = x.maps;
+        port = x.port;
+        room = x.room;
+        words = x.words;
+        filters = x.filters;
+      }
+
+  same_poller : (first : ℕ → ℕ) (turns : List (StepBy Turn)) (k : ℕ) (p : Poller)
+      → KeepsPoller before s first turns k p → KeepsPoller after s first turns k p
+  same_poller first turns k p x =
+      record { own = x.own; within = x.within; room = x.room; is = x.is; keeps = x.keeps }
+
+  later_server : (rows : ℕ) (replies : List (StepBy Turn)) (k : ℕ) (v : Server)
+      → KeepsServer before s rows replies k v → KeepsServer after s rows replies k v
+  later_server rows replies k v x =
+      record {
+        own = x.own;
+        within = x.within;
+        room = x.room;
+        is = x.is;
+        keeps = arrivals_come shared.given rows tx.sizes.start arrivals v replies s.rx.steps
+            s.hint.steps x.keeps;
+      }
+
+pub arrivals_become_known : ArrivalsBecomeKnown
+arrivals_become_known rx tx shared arrivals w s x =
+    record {
+      sizes = same_sizes rx tx shared arrivals s x.sizes;
+      rx = x.rx;
+      tx = x.tx;
+      hint_table = x.hint_table;
+      first = x.first;
+      rows = x.rows;
+      flows = x.flows;
+      turns = x.turns;
+      steered = x.steered;
+      by_pollers = x.by_pollers;
+      replies = x.replies;
+      replied = x.replied;
+      by_servers = x.by_servers;
+      noted = x.noted;
+      noted_by = x.noted_by;
+      stores = x.stores;
+      pollers = λ k p got. same_poller rx tx shared arrivals s x.first x.turns k p (x.pollers k p got);
+      drains = x.drains;
+      servers = λ k v got.
+          later_server rx tx shared arrivals s x.rows x.replies k v (x.servers k v got);
+      ships = x.ships;
+    }

@@ -1,0 +1,124 @@
+-- A worker stays the same while it goes on.
+use Rattle.std.proofs.Common.{◌≡◌, ℕ, ◌<◌, List, refl, sym, ap, subst, ◌∙◌, length}
+use Rattle.std.proofs.Common.{[], Some, slice_get, slice_set}
+use Rattle.std.proofs.lemmas.Option.{slice_get_within}
+use Rattle.rtrb.specs.Ring.{SameConsumer}
+use Rattle.run_hands.specs.declared.poller.Poller.{Poller}
+use Rattle.run_hands.specs.declared.server.Server.{Server}
+use Rattle.run_records.proofs.ListLemmas.{grows_both}
+use Rattle.run_workers.specs.Actors.{Each}
+use Rattle.run_workers.specs.Stages.{StageView}
+use Rattle.run_workers.specs.Workers.{GoesOn, HasHomes, HasRings, IsSame, IsWorking}
+use Rattle.run_workers.specs.declared.seats.WorkerSeats.{WorkerSeats}
+use Rattle.run_workers.specs.declared.worker.Worker.{Worker}
+use Rattle.run_workers.proofs.EachLemmas.{each_same, each_set, item_at, one_there}
+
+-- ---- rings
+
+abbrev SameRing : Poller → Poller → Type 0
+SameRing p q = SameConsumer p.ring q.ring
+
+one_ring : (p q : Poller) → p ≡ q → SameRing p q
+one_ring p q same = subst (SameRing p) same ((refl, refl, refl, refl), refl)
+
+two_rings : (p q r : Poller) → SameRing p q → SameRing q r → SameRing p r
+two_rings p q r x y =
+    ((y.0.0 ∙ x.0.0, y.0.1 ∙ x.0.1, y.0.2 ∙ x.0.2, y.0.3 ∙ x.0.3), y.1 ∙ x.1)
+
+pub rings_stay : (before after : List Poller) → after ≡ before → HasRings before after
+rings_stay before after same =
+    each_same (λ k q. (p : Poller) → slice_get before k ≡ Some p → SameRing p q) before after same
+    (λ k q got p there. one_ring p q (one_there before k p q there got))
+
+-- one poller was set, with the ring that it had
+pub rings_set : (before : List Poller) (i : ℕ) (p q : Poller) → slice_get before i ≡ Some p
+    → SameConsumer p.ring q.ring → HasRings before (slice_set before i q)
+rings_set before i p q there ring =
+    each_set (λ k y. (x : Poller) → slice_get before k ≡ Some x → SameRing x y)
+    (λ k y. slice_get before k ≡ Some y) before i q
+    (λ x got. subst (λ (z : Poller). SameRing z q) (one_there before i p x there got) ring)
+    (λ k y apart got x found. one_ring x y (one_there before k x y found got))
+    (λ k y got. got)
+
+rings_both : (a b c : List Poller) → length b ≡ length a → HasRings a b → HasRings b c
+    → HasRings a c
+rings_both a b c many first second k z got p there =
+    let within = slice_get_within a k p there in
+    let mid = item_at b k (subst (λ n. k < n) (sym many) within) in
+    two_rings p mid.0 z (first k mid.0 mid.1 p there) (second k z got mid.0 mid.1)
+
+-- ---- homes
+
+pub homes_stay : (before after : List Server) → after ≡ before → HasHomes before after
+homes_stay before after same =
+    each_same (λ k u. (v : Server) → slice_get before k ≡ Some v → u.home ≡ v.home) before after
+    same (λ k u got v there. ap (λ (z : Server). z.home) (one_there before k u v got there))
+
+-- one application was set, with the home that it had
+pub homes_set : (before : List Server) (i : ℕ) (v u : Server) → slice_get before i ≡ Some v
+    → u.home ≡ v.home → HasHomes before (slice_set before i u)
+homes_set before i v u there home =
+    each_set (λ k y. (x : Server) → slice_get before k ≡ Some x → y.home ≡ x.home)
+    (λ k y. slice_get before k ≡ Some y) before i u
+    (λ x got. home ∙ ap (λ (z : Server). z.home) (one_there before i v x there got))
+    (λ k y apart got x found. ap (λ (z : Server). z.home) (one_there before k y x got found))
+    (λ k y got. got)
+
+homes_both : (a b c : List Server) → length b ≡ length a → HasHomes a b → HasHomes b c
+    → HasHomes a c
+homes_both a b c many first second k z got v there =
+    let within = slice_get_within a k v there in
+    let mid = item_at b k (subst (λ n. k < n) (sym many) within) in
+    second k z got mid.0 mid.1 ∙ first k mid.0 mid.1 v there
+
+-- ---- workers
+
+pub goes_first : (t : StageView) (w : Worker) (s : WorkerSeats) → IsWorking t w s
+    → GoesOn t w w s s
+goes_first t w s x =
+    record {
+      is = x;
+      same = record {
+        pollers = refl;
+        drains = refl;
+        servers = refl;
+        ships = refl;
+        rings = rings_stay w.pollers.items w.pollers.items refl;
+        homes = homes_stay w.servers.items w.servers.items refl;
+        rx_table = refl;
+        rx_number = refl;
+        tx_table = refl;
+        tx_number = refl;
+        hint_table = refl;
+        rx_steps = ([], refl);
+        tx_steps = ([], refl);
+        hint_steps = ([], refl);
+      };
+    }
+
+pub goes_both : (t : StageView) (a b c : Worker) (r s u : WorkerSeats) → GoesOn t a b r s
+    → GoesOn t b c s u → GoesOn t a c r u
+goes_both t a b c r s u first second =
+    let x = first.same in
+    let y = second.same in
+    record {
+      is = second.is;
+      same = record {
+        pollers = y.pollers ∙ x.pollers;
+        drains = y.drains ∙ x.drains;
+        servers = y.servers ∙ x.servers;
+        ships = y.ships ∙ x.ships;
+        rings = rings_both a.pollers.items b.pollers.items c.pollers.items x.pollers x.rings
+            y.rings;
+        homes = homes_both a.servers.items b.servers.items c.servers.items x.servers x.homes
+            y.homes;
+        rx_table = y.rx_table ∙ x.rx_table;
+        rx_number = y.rx_number ∙ x.rx_number;
+        tx_table = y.tx_table ∙ x.tx_table;
+        tx_number = y.tx_number ∙ x.tx_number;
+        hint_table = y.hint_table ∙ x.hint_table;
+        rx_steps = grows_both r.rx.steps s.rx.steps u.rx.steps x.rx_steps y.rx_steps;
+        tx_steps = grows_both r.tx.steps s.tx.steps u.tx.steps x.tx_steps y.tx_steps;
+        hint_steps = grows_both r.hint.steps s.hint.steps u.hint.steps x.hint_steps y.hint_steps;
+      };
+    }

@@ -1,0 +1,70 @@
+-- What a worker keeps of its actors while another one goes on.
+use Rattle.std.proofs.Common.{◌≡◌, ℕ, ◌<◌, List, ap, sym, subst, refl, ◌∙◌}
+use Rattle.linearization.specs.Orders.{StepBy, steps_of}
+use Rattle.hop_rule.specs.declared.sizes.BoardSizes.{BoardSizes}
+use Rattle.board_api.specs.Calls.Rights.{Pulls}
+use Rattle.board_api.specs.Seats.{BoardSeatView}
+use Rattle.hop_delivery.specs.Orders.Turns.{Turn}
+use Rattle.steer_model.specs.State.Setup.{Setup}
+use Rattle.run_hands.specs.Drains.{IsDrain}
+use Rattle.run_hands.specs.declared.drain.Drain.{Drain}
+use Rattle.run_hands.specs.declared.drain.Exit.{Exit}
+use Rattle.run_hands.specs.declared.poller.Poller.{Poller}
+use Rattle.run_hands.specs.declared.server.Server.{Server}
+use Rattle.run_records.specs.Growth.{Grows}
+use Rattle.run_records.proofs.PollingLemmas.{pollers_stay}
+use Rattle.run_records.proofs.ReplyingLemmas.{servers_stay}
+use Rattle.run_workers.specs.Actors.{KeepsDrain, KeepsPoller, KeepsServer, actor_at}
+use Rattle.run_workers.specs.Stages.{StageView}
+use Rattle.run_workers.specs.declared.seats.WorkerSeats.{WorkerSeats}
+
+module _ (t : StageView) (s r : WorkerSeats) where
+  pub poller_stays : (first : ℕ → ℕ) (turns more : List (StepBy Turn)) (k : ℕ) (p : Poller)
+      → r.rx.number ≡ s.rx.number → steps_of p.queue more ≡ steps_of p.queue turns
+      → Grows s.hint.steps r.hint.steps → KeepsPoller t s first turns k p
+      → KeepsPoller t r first more k p
+  poller_stays first turns more k p number same hints x =
+      record {
+        own = x.own ∙ ap (λ n. actor_at t.rx.sizes n k) (sym number);
+        within = x.within;
+        room = x.room;
+        is = x.is;
+        keeps = pollers_stay t.shared.given (first p.queue) t.rx.sizes.start p turns more
+            s.hint.steps r.hint.steps same hints x.keeps;
+      }
+
+  pub server_stays : (rows : ℕ) (replies more : List (StepBy Turn)) (k : ℕ) (v : Server)
+      → r.tx.number ≡ s.tx.number → steps_of v.app more ≡ steps_of v.app replies
+      → Grows s.rx.steps r.rx.steps → Grows s.hint.steps r.hint.steps
+      → KeepsServer t s rows replies k v → KeepsServer t r rows more k v
+  server_stays rows replies more k v number same steps hints x =
+      record {
+        own = x.own ∙ ap (λ n. actor_at t.tx.sizes n k) (sym number);
+        within = x.within;
+        room = x.room;
+        is = x.is;
+        keeps = servers_stay t.shared.given rows t.tx.sizes.start t.late v replies more s.rx.steps
+            r.rx.steps s.hint.steps r.hint.steps same steps hints x.keeps;
+      }
+
+-- a drain with the record of its seat's steps after a call
+pub drain_keeps : (about : BoardSizes) (given : Setup) (exit : Exit) (old new : BoardSeatView)
+    (k : ℕ) (d e : Drain) → new.number ≡ old.number → e.lane ≡ d.lane → e.exit ≡ d.exit
+    → IsDrain given e new.steps → KeepsDrain about given exit old k d
+    → KeepsDrain about given exit new k e
+drain_keeps about given exit old new k d e number lane way is x =
+    record {
+      own = lane ∙ (x.own ∙ ap (λ n. actor_at about n k) (sym number));
+      within = subst (λ n. n < about.lanes) (sym lane) x.within;
+      mine = subst (λ (z : ℕ × ℕ). Pulls about z.0 z.1) (λ j. (sym number j, sym lane j)) x.mine;
+      exit_is = way ∙ x.exit_is;
+      is = is;
+    }
+
+-- a drain that another call has left as it was
+pub drain_stays : (about : BoardSizes) (given : Setup) (exit : Exit) (old new : BoardSeatView)
+    (k : ℕ) (d : Drain) → new.number ≡ old.number
+    → (IsDrain given d old.steps → IsDrain given d new.steps)
+    → KeepsDrain about given exit old k d → KeepsDrain about given exit new k d
+drain_stays about given exit old new k d number stays x =
+    drain_keeps about given exit old new k d d number refl refl (stays x.is) x

@@ -1,0 +1,190 @@
+-- A worker after one of its applications took a packet or none.
+use Rattle.std.proofs.Common.{◌≡◌, ◌≢◌, ℕ, ◌<◌, ◌==◌, ◌⊎◌, inl, inr, Bool, true, false, Option, None, Some, refl, sym, ap, subst, ◌∙◌}
+use Rattle.std.proofs.Common.{[], length, length-set, slice_get, slice_set}
+use Rattle.std.proofs.lemmas.Option.{slice_get_within}
+use Rattle.std.proofs.Common.{◌++◌}
+use Rattle.std.specs.List.{Contains}
+use Rattle.std.proofs.lemmas.List.Elements.{Contains-append_cases, Contains-append_left}
+use Rattle.std.proofs.lemmas.List.Elements.{Contains-append_right}
+use Rattle.linearization.specs.Seats.{SeatView}
+use Rattle.linearization.specs.Orders.{steps_of}
+use Rattle.steer_base.specs.Journals.{Journal}
+use Rattle.history.specs.declared.sock_write.SockWrite.{SockWrite}
+use Rattle.hint_words.specs.declared.step.HintStep.{HintStep}
+use Rattle.hop_rule.specs.declared.sizes.BoardSizes.{BoardSizes}
+use Rattle.board_api.specs.Calls.Rights.{HasOpen, IsOutside}
+use Rattle.board_api.specs.Seats.{BoardSeatView}
+use Rattle.hop_delivery.specs.Orders.Turns.{Explained}
+use Rattle.steer_model.specs.State.Setup.{Setup}
+use Rattle.run_hands.specs.Laws.{StaysApplication}
+use Rattle.run_hands.specs.Servers.{IsServer, TakesOrLeaves, Writes}
+use Rattle.run_hands.specs.declared.drain.Exit.TheVariants.{Inboxes, Port}
+use Rattle.run_hands.specs.declared.server.Server.{Server}
+use Rattle.run_hands.proofs.ServerLaws.{applications_explain, applications_leave_drains}
+use Rattle.run_hands.proofs.ServerLaws.{applications_stay}
+use Rattle.run_records.specs.Growth.{Grows}
+use Rattle.run_records.specs.Storing.{StoresAreFor}
+use Rattle.run_records.proofs.AddedLemmas.{calls_add_steps}
+use Rattle.run_records.proofs.ReplyingLemmas.{takes_go_on}
+use Rattle.run_records.proofs.StoringLemmas.{applications_store}
+use Rattle.run_workers.specs.Actors.{Each, KeepsDrain, KeepsPoller, KeepsServer, actor_at}
+use Rattle.run_workers.specs.Stages.{StageView}
+use Rattle.run_workers.specs.Workers.{GoesOn, HasHomes, IsBetween, IsNotedBy, IsWorking}
+use Rattle.run_workers.specs.declared.seats.WorkerSeats.{WorkerSeats}
+use Rattle.run_workers.specs.declared.worker.Worker.{Worker}
+use Rattle.run_workers.proofs.EachLemmas.{each_more, each_same, each_set, one_kept, set_there}
+use Rattle.run_workers.proofs.EachLemmas.{turns_stay}
+use Rattle.run_workers.proofs.SameLemmas.{homes_set, rings_stay}
+use Rattle.run_workers.proofs.SeatLemmas.{between_calls, takes_move}
+use Rattle.run_workers.proofs.StayLemmas.{drain_stays, poller_stays, server_stays}
+
+abbrev Hint : Type 0
+Hint = SeatView HintStep
+
+-- ---- writes that were noted stay noted
+
+write_stays : (cpus app home : ℕ) (entry : Option ℕ) (before after : Journal SockWrite)
+    (old new : Hint) → Writes cpus app home entry before after old new → (write : SockWrite)
+    → Contains before.items write → Contains after.items write
+write_stays cpus app home None before after old new is write has =
+    subst (λ (j : Journal SockWrite). Contains j.items write) (sym is.0) has
+write_stays cpus app home (Some entry) before after old new is write has =
+    subst (λ (j : Journal SockWrite). Contains j.items write) (sym is.4)
+    (Contains-append_left before.items _ write has)
+
+takes_note : (about : BoardSizes) (given : Setup) (y u : Server) (took : Bool)
+    (old new : BoardSeatView) (hint_old hint_new : Hint)
+    → TakesOrLeaves about given y u old new hint_old hint_new took → (write : SockWrite)
+    → Contains y.writes.items write → Contains u.writes.items write
+takes_note about given y u true old new hint_old hint_new x write has =
+    write_stays given.cpus y.app y.home _ y.writes u.writes hint_old hint_new x.records.writes
+    write has
+takes_note about given y u false old new hint_old hint_new x write has =
+    subst (λ (z : Server). Contains z.writes.items write) (sym x.same) has
+
+-- ---- the worker
+
+-- the application y at index i of a worker has become u, and its seats r
+module _ (t : StageView) (w v : Worker) (s r : WorkerSeats) (i : ℕ) (y u : Server) (took : Bool)
+    (pollers : v.pollers.items ≡ w.pollers.items) (drains : v.drains.items ≡ w.drains.items)
+    (servers : v.servers.items ≡ slice_set w.servers.items i u)
+    (ships : v.ships.items ≡ w.ships.items) (tx : r.tx ≡ s.tx)
+    (there : slice_get w.servers.items i ≡ Some y) (x : IsWorking t w s)
+    (takes : TakesOrLeaves t.rx.sizes t.shared.given y u s.rx r.rx s.hint r.hint took)
+    (is : IsServer t.shared.given u) (outside : IsOutside r.rx.steps) (gate : HasOpen r.rx.steps)
+  where
+    abbrev given : Setup
+    given = t.shared.given
+
+    was : KeepsServer t s x.rows x.replies i y
+    was = x.servers i y there
+
+    stay : StaysApplication y u s.rx r.rx s.hint r.hint
+    stay = applications_stay.takes t.rx.sizes given y u took s.rx r.rx s.hint r.hint takes
+
+    grow : Grows s.rx.steps r.rx.steps × Grows s.hint.steps r.hint.steps
+    grow = calls_add_steps.takes t.rx.sizes given y u took s.rx r.rx s.hint r.hint takes
+
+    many : length v.servers.items ≡ length w.servers.items
+    many = ap length servers ∙ length-set w.servers.items i u
+
+    tx_number : r.tx.number ≡ s.tx.number
+    tx_number = ap (λ (z : BoardSeatView). z.number) tx
+
+    this_server : KeepsServer t r x.rows x.replies i u
+    this_server =
+        record {
+          own = stay.app ∙ (was.own ∙ ap (λ n. actor_at t.tx.sizes n i) (sym tx_number));
+          within = subst (λ n. n < t.rx.sizes.outs) (sym stay.app) was.within;
+          room = stay.room ∙ was.room;
+          is = is;
+          keeps = takes_go_on t.rx.sizes given x.rows t.tx.sizes.start t.late y u took x.replies
+              s.rx r.rx s.hint r.hint takes was.keeps;
+        }
+
+    kept_note : (write : SockWrite) → IsNotedBy w.servers.items write
+        → IsNotedBy (slice_set w.servers.items i u) write
+    kept_note write (k, z, got, has) =
+        one_kept (λ (a : Server). Contains a.writes.items write) w.servers.items i y u there
+        (takes_note t.rx.sizes given y u took s.rx r.rx s.hint r.hint takes write) k z got has
+
+    notes : (write : SockWrite) → Contains (u.writes.items ++ x.noted) write
+        → IsNotedBy (slice_set w.servers.items i u) write
+    notes write has =
+        elim (Contains-append_cases u.writes.items x.noted write has) [
+          | inl new ↦ (i, u, set_there w.servers.items i y u there, new)
+          | inr old ↦ kept_note write (x.noted_by write old)
+        ]
+
+    taken : IsWorking t v r
+    taken =
+        record {
+          sizes = x.sizes;
+          rx = between_calls t.rx (length v.drains.items) (length w.drains.items) _ s.rx r.rx
+              (ap length drains)
+              (takes_move t.rx.sizes given y u took s.rx r.rx s.hint r.hint takes)
+              (λ l far. refl) outside gate x.rx;
+          tx = subst (λ (z : ℕ × BoardSeatView). IsBetween t.tx z.0 z.1)
+              (λ j. (sym (ap length ships) j, sym tx j)) x.tx;
+          hint_table = stay.hint_table ∙ x.hint_table;
+          first = x.first;
+          rows = x.rows;
+          flows = x.flows;
+          turns = x.turns;
+          steered = applications_explain.takes t.rx.sizes given y u took s.rx r.rx s.hint r.hint
+              takes x.turns x.steered;
+          by_pollers = turns_stay t.rx.sizes r.rx.number s.rx.number (length v.pollers.items)
+              (length w.pollers.items) x.turns stay.number (ap length pollers) x.by_pollers;
+          replies = x.replies;
+          replied = subst (λ (z : BoardSeatView). Explained z.steps x.replies) (sym tx) x.replied;
+          by_servers = turns_stay t.tx.sizes r.tx.number s.tx.number (length v.servers.items)
+              (length w.servers.items) x.replies tx_number many x.by_servers;
+          noted = u.writes.items ++ x.noted;
+          noted_by = λ write has.
+              subst (λ vs. IsNotedBy vs write) (sym servers) (notes write has);
+          stores = applications_store.takes t.rx.sizes given t.shared.filters y u took x.turns
+              x.noted (u.writes.items ++ x.noted) s.rx r.rx s.hint r.hint takes
+              (Contains-append_right u.writes.items x.noted)
+              (Contains-append_left u.writes.items x.noted) x.stores;
+          pollers = each_more (KeepsPoller t r x.first x.turns) (KeepsPoller t s x.first x.turns)
+              w.pollers.items v.pollers.items pollers
+              (λ k p kept. poller_stays t s r x.first x.turns x.turns k p stay.number refl grow.1
+              kept) x.pollers;
+          drains = each_more (KeepsDrain t.rx.sizes given Inboxes r.rx)
+              (KeepsDrain t.rx.sizes given Inboxes s.rx) w.drains.items v.drains.items drains
+              (λ k d kept. drain_stays t.rx.sizes given Inboxes s.rx r.rx k d stay.number
+              (applications_leave_drains.takes t.rx.sizes given d y u took s.rx r.rx s.hint r.hint
+              takes) kept) x.drains;
+          servers = each_same (KeepsServer t r x.rows x.replies) (slice_set w.servers.items i u)
+              v.servers.items servers
+              (each_set (KeepsServer t r x.rows x.replies) (KeepsServer t s x.rows x.replies)
+              w.servers.items i u this_server
+              (λ k z apart kept. server_stays t s r x.rows x.replies x.replies k z tx_number refl
+              grow.0 grow.1 kept) x.servers);
+          ships = each_same (KeepsDrain t.tx.sizes given Port r.tx) w.ships.items v.ships.items ships
+              (subst (λ (z : BoardSeatView). Each (KeepsDrain t.tx.sizes given Port z) w.ships.items)
+              (sym tx) x.ships);
+        }
+
+    pub take_goes_on : GoesOn t w v s r
+    take_goes_on =
+        record {
+          is = taken;
+          same = record {
+            pollers = ap length pollers;
+            drains = ap length drains;
+            servers = many;
+            ships = ap length ships;
+            rings = rings_stay w.pollers.items v.pollers.items pollers;
+            homes = subst (HasHomes w.servers.items) (sym servers)
+                (homes_set w.servers.items i y u there stay.home);
+            rx_table = stay.table;
+            rx_number = stay.number;
+            tx_table = ap (λ (z : BoardSeatView). z.table) tx;
+            tx_number = tx_number;
+            hint_table = stay.hint_table;
+            rx_steps = grow.0;
+            tx_steps = ([], ap (λ (z : BoardSeatView). z.steps) tx);
+            hint_steps = grow.1;
+          };
+        }

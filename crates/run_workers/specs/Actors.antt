@@ -1,0 +1,68 @@
+-- What a worker keeps of each of its actors.
+use Rattle.std.specs.Prelude.{◌≡◌, ◌≢◌, ℕ, ◌+◌, ◌-◌, ◌*◌, ◌<◌, max, List, Some, length, slice_get}
+use Rattle.linearization.specs.Orders.{StepBy}
+use Rattle.hop_rule.specs.declared.sizes.BoardSizes.{BoardSizes}
+use Rattle.board_api.specs.Calls.Rights.{Pulls}
+use Rattle.board_api.specs.Seats.{BoardSeatView}
+use Rattle.hop_delivery.specs.Orders.Turns.{Turn}
+use Rattle.steer_model.specs.State.Setup.{Setup}
+use Rattle.run_hands.specs.Drains.{IsDrain}
+use Rattle.run_hands.specs.Pollers.{IsPoller}
+use Rattle.run_hands.specs.Servers.{IsServer}
+use Rattle.run_hands.specs.declared.drain.Drain.{Drain}
+use Rattle.run_hands.specs.declared.drain.Exit.{Exit}
+use Rattle.run_hands.specs.declared.poller.Poller.{Poller}
+use Rattle.run_hands.specs.declared.server.Server.{Server}
+use Rattle.run_records.specs.Polling.{IsPolling}
+use Rattle.run_records.specs.Replying.{IsReplying}
+use Rattle.run_workers.specs.Stages.{StageView}
+use Rattle.run_workers.specs.declared.seats.WorkerSeats.{WorkerSeats}
+
+-- Each item of a list is so at its index.
+abbrev pub Each : {A : Type 0} → (ℕ → A → Type 0) → List A → Type 0
+Each {A} Is xs = (k : ℕ) (x : A) → slice_get xs k ≡ Some x → Is k x
+
+-- The actor that a seat's worker plays at index k of its kind: of so many workers each plays every
+-- so-manieth one, from that of its own number on. The last seat is no worker's.
+abbrev pub actor_at : BoardSizes → ℕ → ℕ → ℕ
+actor_at about number k = number + max 1 (about.seats - 1) * k
+
+-- The turn is of one of the first so many actors of a seat.
+abbrev pub IsTurnOfOne : BoardSizes → ℕ → ℕ → StepBy Turn → Type 0
+IsTurnOfOne about number count e =
+    (k : ℕ) × (k < count) × (e.by ≡ actor_at about number k)
+
+-- The lane is none of the first so many that a seat serves.
+abbrev pub IsForeign : BoardSizes → ℕ → ℕ → ℕ → Type 0
+IsForeign about number count lane = (k : ℕ) → k < count → lane ≢ actor_at about number k
+
+-- A poller has its own queue, room for all packets, and its record over the turns of its seat.
+-- `first` has the flow word of each queue at the start.
+pub record KeepsPoller (t : StageView) (s : WorkerSeats) (first : ℕ → ℕ)
+    (turns : List (StepBy Turn)) (k : ℕ) (p : Poller) : Type 0 where
+  pub own : p.queue ≡ actor_at t.rx.sizes s.rx.number k
+  pub within : p.queue < length t.shared.given.homes
+  pub room : p.choices.room ≡ t.rx.sizes.room
+  pub is : IsPoller t.shared.given.cpus p
+  pub keeps : IsPolling t.shared.given (first p.queue) t.rx.sizes.start p turns s.hint.steps
+
+-- A drain has its own lane, from which its seat may pull, and this exit, and its record over the
+-- steps of its seat.
+pub record KeepsDrain (about : BoardSizes) (given : Setup) (exit : Exit) (seat : BoardSeatView)
+    (k : ℕ) (d : Drain) : Type 0 where
+  pub own : d.lane ≡ actor_at about seat.number k
+  pub within : d.lane < about.lanes
+  pub mine : Pulls about seat.number d.lane
+  pub exit_is : d.exit ≡ exit
+  pub is : IsDrain given d seat.steps
+
+-- An application is one of its worker's own, has room for all packets, and has its record over the
+-- turns of its seat at the transmit board. `rows` is the number of classes of its flow table.
+pub record KeepsServer (t : StageView) (s : WorkerSeats) (rows : ℕ)
+    (replies : List (StepBy Turn)) (k : ℕ) (v : Server) : Type 0 where
+  pub own : v.app ≡ actor_at t.tx.sizes s.tx.number k
+  pub within : v.app < t.rx.sizes.outs
+  pub room : v.sent.room ≡ t.rx.sizes.room
+  pub is : IsServer t.shared.given v
+  pub keeps : IsReplying t.shared.given rows t.tx.sizes.start t.late v replies s.rx.steps
+      s.hint.steps

@@ -1,0 +1,4 @@
+pub mod Stages
+pub mod Actors
+pub mod Workers
+pub mod Laws

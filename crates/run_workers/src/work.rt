@@ -1,0 +1,87 @@
+//! The turns of a worker, from its first to its last.
+ghost use Rattle.std.specs.Prelude.{◌≡◌, true};
+ghost use Rattle.std.specs.List.{Contains};
+ghost use Rattle.hint_words.specs.declared.step.HintStep.TheVariants.{Load};
+ghost use Rattle.run_words.specs.declared.hint_word.TheConstants.{DONE_WORD};
+ghost use Rattle.run_words.specs.declared.values.TheConstants.{DONE as DONE_VALUE};
+ghost use Rattle.run_workers.specs.Stages.{stage_view};
+ghost use Rattle.run_workers.specs.Workers.{GoesOn, IsWorking, is_free};
+
+use crate::seats::WorkerSeats;
+use crate::stage::Stage;
+use crate::worker::Worker;
+use board_api::Board;
+use run_actors::Pace;
+use run_words::{HintWord, is_done};
+use std::sync::Wait;
+
+/// After this many turns in a row that did nothing a worker ends.
+pub const MAX_IDLE_TURNS: u32 = 1_048_576;
+
+/// Why a worker has ended.
+#[derive(Clone, Copy, Debug, PartialEq, Eq)]
+pub enum Ended {
+    /// All packets had arrived before its last turn, which did nothing.
+    Arrived,
+    /// Its last `MAX_IDLE_TURNS` turns did nothing.
+    Idle,
+}
+
+impl Worker {
+    /// Works in turns, and calls `pace` before each, with the worker's number and that of the turn,
+    /// counted from 1. Ends after a turn that did nothing and that began after all packets had
+    /// arrived, and after `MAX_IDLE_TURNS` turns in a row that did nothing. Then no packet is in a
+    /// hand. Takes no memory.
+    pub fn work<R: Wait, B: Board, P: Pace>(
+        &mut self,
+        rt: &R,
+        stage: &Stage<B>,
+        seats: &mut WorkerSeats,
+        pace: &P,
+        number: u32,
+    ) -> Ended
+        requires is { IsWorking (stage_view (B.view stage.now.rx) (B.view stage.now.tx)
+            stage.now.shared stage.now.late.items) self.old seats.old }
+        ensures goes { GoesOn (stage_view (B.view stage.now.rx) (B.view stage.now.tx)
+            stage.now.shared stage.now.late.items) self.old self.new seats.old seats.new }
+        ensures free { is_free self.new ≡ true }
+        ensures arrived { result ≡ Ended.Arrived
+            → Contains seats.new.hint.steps (Load DONE_WORD DONE_VALUE) }
+    {
+        let mut idle = 0;
+        let mut turns: u64 = 0;
+        for _ in rt.forever() {
+            turns = turns.saturating_add(1);
+            pace.turn(number, turns);
+            let arrived = self.looks(stage, seats);
+            if self.turn(rt, stage, seats) {
+                idle = 0;
+                continue;
+            }
+            if arrived {
+                return Ended::Arrived;
+            }
+            idle += 1;
+            if idle == MAX_IDLE_TURNS {
+                return Ended::Idle;
+            }
+        }
+        unreachable!()
+    }
+
+    // Whether all packets have arrived, by one look at the word that says so.
+    fn looks<B: Board>(&self, stage: &Stage<B>, seats: &mut WorkerSeats) -> bool
+        requires is { IsWorking (stage_view (B.view stage.now.rx) (B.view stage.now.tx)
+            stage.now.shared stage.now.late.items) self.now seats.old }
+        ensures goes { GoesOn (stage_view (B.view stage.now.rx) (B.view stage.now.tx)
+            stage.now.shared stage.now.late.items) self.now self.now seats.old seats.new }
+        ensures arrived { result ≡ true
+            → Contains seats.new.hint.steps (Load DONE_WORD DONE_VALUE) }
+    {
+        let word = stage
+            .shared
+            .hints
+            .load(&mut seats.hint, HintWord::Done.number());
+        is_done(word)
+    }
+}
