@@ -1,20 +1,13 @@
 -- A new worker, and one that knows the arrivals.
-use Rattle.std.proofs.Common.{◌≡◌, ℕ, ◌<◌, List, [], None, All, arith, refl, sym, subst}
+use Rattle.std.proofs.Common.{◌≡◌, ℕ, List, [], None, arith, refl, sym, subst}
 use Rattle.std.proofs.Common.{length}
-use Rattle.std.specs.List.{Contains}
 use Rattle.std.proofs.lemmas.List.Elements.{All-nil}
-use Rattle.linearization.specs.Orders.{StepBy, steps_of}
-use Rattle.linearization.specs.Seats.{SeatView}
+use Rattle.linearization.specs.Orders.{StepBy}
 use Rattle.history.specs.declared.arrival.Arrival.{Arrival}
-use Rattle.history.specs.declared.sock_write.SockWrite.{SockWrite}
 use Rattle.hint_words.specs.declared.step.HintStep.{HintStep}
-use Rattle.hint_words.specs.declared.step.HintStep.TheVariants.{Store}
-use Rattle.hop_rule.specs.Boards.{gate_steps, lane_steps}
-use Rattle.hop_rule.specs.Gates.{closed, outside, visit}
+use Rattle.hop_rule.specs.Boards.{lane_steps}
 use Rattle.hop_rule.specs.Lanes.{holding, idle, out_holding, phase}
-use Rattle.hop_rule.specs.Owns.{puts_of}
 use Rattle.hop_rule.specs.declared.sizes.BoardSizes.{BoardSizes}
-use Rattle.hop_rule.specs.declared.step.BoardStep.{BoardStep}
 use Rattle.board_api.specs.Calls.Rights.{HasOpen, IsOutside}
 use Rattle.board_api.specs.Seats.{BoardSeatView}
 use Rattle.board_api.specs.Views.{BoardView}
@@ -30,13 +23,12 @@ use Rattle.run_hands.specs.declared.shared.Shared.{Shared}
 use Rattle.run_records.specs.Storing.{StoresAreFor}
 use Rattle.run_records.proofs.PollingLemmas.{pollers_begin}
 use Rattle.run_records.proofs.ReplyingLemmas.{arrivals_come, servers_begin}
-use Rattle.run_workers.specs.Actors.{Each, IsForeign, KeepsDrain, KeepsPoller, KeepsServer}
-use Rattle.run_workers.specs.Laws.{ArrivalsBecomeKnown, IsNew, IsNewDrain, IsNewPoller}
+use Rattle.run_workers.specs.Actors.{KeepsDrain, KeepsPoller, KeepsServer}
+use Rattle.run_workers.specs.Laws.{ArrivalsBecomeKnown, IsNewDrain, IsNewPoller}
 use Rattle.run_workers.specs.Laws.{IsNewServer, WorkersBegin}
 use Rattle.run_workers.specs.Stages.{HasSizes, StageView, stage_view}
-use Rattle.run_workers.specs.Workers.{IsBetween, IsNotedBy, IsWorking}
+use Rattle.run_workers.specs.Workers.{IsBetween}
 use Rattle.run_workers.specs.declared.seats.WorkerSeats.{WorkerSeats}
-use Rattle.run_workers.specs.declared.worker.Worker.{Worker}
 
 -- ---- the beginning
 
@@ -182,7 +174,8 @@ arrivals_become_known rx tx shared arrivals w s x =
       noted = x.noted;
       noted_by = x.noted_by;
       stores = x.stores;
-      pollers = λ k p got. same_poller rx tx shared arrivals s x.first x.turns k p (x.pollers k p got);
+      pollers = λ k p got.
+          same_poller rx tx shared arrivals s x.first x.turns k p (x.pollers k p got);
       drains = x.drains;
       servers = λ k v got.
           later_server rx tx shared arrivals s x.rows x.replies k v (x.servers k v got);

@@ -1,5 +1,5 @@
 -- A worker after one of its drains at the receive board went on.
-use Rattle.std.proofs.Common.{◌≡◌, ◌≢◌, ℕ, ◌<◌, ◌==◌, Bool, false, Some, refl, sym, ap, subst, ◌∙◌}
+use Rattle.std.proofs.Common.{◌≡◌, ◌≢◌, ℕ, ◌==◌, false, Some, refl, sym, ap, subst, ◌∙◌}
 use Rattle.std.proofs.Common.{[], length, length-set, slice_get, slice_set}
 use Rattle.std.proofs.lemmas.Option.{slice_get_within}
 use Rattle.board_api.specs.Seats.{BoardSeatView}
@@ -122,9 +122,9 @@ module _ (t : StageView) (w v : Worker) (s r : WorkerSeats) (i : ℕ) (d e : Dra
               w.servers.items v.servers.items servers
               (λ k u kept. server_stays t s r x.rows x.replies x.replies k u tx_number refl rx_grow
               hint_grow kept) x.servers;
-          ships = each_same (KeepsDrain t.tx.sizes given Port r.tx) w.ships.items v.ships.items ships
-              (subst (λ (z : BoardSeatView). Each (KeepsDrain t.tx.sizes given Port z) w.ships.items)
-              (sym tx) x.ships);
+          ships = each_same (KeepsDrain t.tx.sizes given Port r.tx) w.ships.items v.ships.items
+              ships (subst (λ (z : BoardSeatView). Each (KeepsDrain t.tx.sizes given Port z)
+              w.ships.items) (sym tx) x.ships);
         }
 
     pub drain_goes_on : GoesOn t w v s r

@@ -1,21 +1,16 @@
 -- A worker after a poll of one of its pollers.
-use Rattle.std.proofs.Common.{◌≡◌, ◌≢◌, ℕ, ◌<◌, ◌==◌, false, Some, refl, sym, ap, subst, ◌∙◌}
+use Rattle.std.proofs.Common.{◌≡◌, ◌≢◌, ℕ, ◌<◌, Some, refl, sym, ap, subst, ◌∙◌}
 use Rattle.std.proofs.Common.{[], length, length-set, slice_get, slice_set}
 use Rattle.std.proofs.lemmas.Option.{slice_get_within}
 use Rattle.rtrb.specs.Ring.{SameConsumer}
-use Rattle.linearization.specs.Orders.{steps_of}
-use Rattle.linearization.specs.Seats.{SeatView}
-use Rattle.hint_words.specs.declared.step.HintStep.{HintStep}
 use Rattle.board_api.specs.Calls.Rights.{HasOpen, IsOutside}
 use Rattle.board_api.specs.Seats.{BoardSeatView}
 use Rattle.hop_delivery.specs.Orders.Turns.{Explained}
 use Rattle.steer_model.specs.State.Setup.{Setup}
 use Rattle.run_hands.specs.Laws.{Stays}
 use Rattle.run_hands.specs.Pollers.{IsPoller, Polls}
-use Rattle.run_hands.specs.declared.drain.Drain.{Drain}
 use Rattle.run_hands.specs.declared.drain.Exit.TheVariants.{Inboxes, Port}
 use Rattle.run_hands.specs.declared.poller.Poller.{Poller}
-use Rattle.run_hands.specs.declared.server.Server.{Server}
 use Rattle.run_hands.proofs.StayLemmas.{polls_stay}
 use Rattle.run_hands.proofs.VisitLemmas.{polls_leave}
 use Rattle.run_records.specs.Growth.{Grows}
@@ -26,7 +21,7 @@ use Rattle.run_records.proofs.ListLemmas.{others_stay}
 use Rattle.run_records.proofs.PollingLemmas.{pollers_go_on}
 use Rattle.run_workers.specs.Actors.{Each, KeepsDrain, KeepsPoller, KeepsServer, actor_at}
 use Rattle.run_workers.specs.Stages.{StageView}
-use Rattle.run_workers.specs.Workers.{GoesOn, HasRings, IsBetween, IsNotedBy, IsSame, IsWorking}
+use Rattle.run_workers.specs.Workers.{GoesOn, HasRings, IsBetween, IsNotedBy, IsWorking}
 use Rattle.run_workers.specs.declared.seats.WorkerSeats.{WorkerSeats}
 use Rattle.run_workers.specs.declared.worker.Worker.{Worker}
 use Rattle.run_workers.proofs.EachLemmas.{actors_differ, each_more, each_same, each_set}
@@ -111,7 +106,8 @@ module _ (t : StageView) (w v : Worker) (s r : WorkerSeats) (i : ℕ) (p q : Pol
         by_servers = turns_stay t.tx.sizes r.tx.number s.tx.number (length v.servers.items)
             (length w.servers.items) x.replies tx_number (ap length servers) x.by_servers;
         noted = x.noted;
-        noted_by = λ write has. subst (λ vs. IsNotedBy vs write) (sym servers) (x.noted_by write has);
+        noted_by = λ write has.
+            subst (λ vs. IsNotedBy vs write) (sym servers) (x.noted_by write has);
         stores = on.stores x.noted x.stores;
         pollers = each_same (KeepsPoller t r x.first on.more) (slice_set w.pollers.items i q)
             v.pollers.items pollers

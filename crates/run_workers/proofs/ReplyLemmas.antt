@@ -1,5 +1,6 @@
 -- A worker after one of its applications replied or kept its packet.
-use Rattle.std.proofs.Common.{◌≡◌, ◌≢◌, ℕ, ◌<◌, ◌==◌, ◌⊎◌, inr, Bool, true, false, [], Some, refl, sym, ap, subst, ◌∙◌}
+use Rattle.std.proofs.Common.{◌≡◌, ◌≢◌, ℕ, ◌<◌, inr, Bool, true, false, [], Some, refl, sym}
+use Rattle.std.proofs.Common.{ap, subst, ◌∙◌}
 use Rattle.std.proofs.Common.{length, length-set, slice_get, slice_set}
 use Rattle.std.proofs.lemmas.Option.{slice_get_within}
 use Rattle.std.specs.List.{Contains}
@@ -134,7 +135,8 @@ module _ (t : StageView) (w v : Worker) (s r : WorkerSeats) (i : ℕ) (y u : Ser
               on.more (slice_get_within w.servers.items i y there) was.own on.grow x.by_servers);
           noted = x.noted;
           noted_by = λ write has.
-              subst (λ vs. IsNotedBy vs write) (sym servers) (kept_note write (x.noted_by write has));
+              subst (λ vs. IsNotedBy vs write) (sym servers)
+              (kept_note write (x.noted_by write has));
           stores = applications_store.replies given t.shared.filters t.late y u sent x.turns x.noted
               s.tx r.tx s.hint r.hint replies x.stores;
           pollers = each_more (KeepsPoller t r x.first x.turns) (KeepsPoller t s x.first x.turns)

@@ -1,8 +1,8 @@
 -- A worker with no packet in a hand.
 use Rattle.std.proofs.Common.{◌≡◌, ◌≢◌, ◌⊎◌, inl, inr, ℕ, zero, suc, ◌<◌, ◌==◌, Bool, true, false}
-use Rattle.std.proofs.Common.{◌&&◌, List, [], ◌∷◌, Option, None, Some, is_none, length, slice_get, refl}
+use Rattle.std.proofs.Common.{◌&&◌, List, [], ◌∷◌, Option, None, Some, is_none, length}
+use Rattle.std.proofs.Common.{slice_get, refl}
 use Rattle.std.proofs.Common.{sym, ap, subst, ◌∙◌, arith}
-use Rattle.std.specs.List.{list_all}
 use Rattle.std.proofs.lemmas.Bool.Decides.{eqb_tells}
 use Rattle.hop_rule.proofs.Lists.{none-some, some-is}
 use Rattle.hop_rule.specs.Boards.{lane_steps}
@@ -18,8 +18,7 @@ use Rattle.run_hands.specs.declared.drain.Exit.{Exit}
 use Rattle.run_hands.specs.declared.drain.Exit.TheVariants.{Inboxes, Port}
 use Rattle.run_workers.specs.Actors.{Each, IsForeign, KeepsDrain, actor_at}
 use Rattle.run_workers.specs.Laws.{FreeWorkersRest}
-use Rattle.run_workers.specs.Stages.{StageView}
-use Rattle.run_workers.specs.Workers.{IsBetween, IsWorking, drains_are_free, pollers_are_free}
+use Rattle.run_workers.specs.Workers.{IsBetween, drains_are_free, pollers_are_free}
 use Rattle.run_workers.specs.Workers.{servers_are_free}
 use Rattle.run_workers.proofs.EachLemmas.{item_at}
 

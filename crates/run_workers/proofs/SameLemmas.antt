@@ -6,9 +6,8 @@ use Rattle.rtrb.specs.Ring.{SameConsumer}
 use Rattle.run_hands.specs.declared.poller.Poller.{Poller}
 use Rattle.run_hands.specs.declared.server.Server.{Server}
 use Rattle.run_records.proofs.ListLemmas.{grows_both}
-use Rattle.run_workers.specs.Actors.{Each}
 use Rattle.run_workers.specs.Stages.{StageView}
-use Rattle.run_workers.specs.Workers.{GoesOn, HasHomes, HasRings, IsSame, IsWorking}
+use Rattle.run_workers.specs.Workers.{GoesOn, HasHomes, HasRings, IsWorking}
 use Rattle.run_workers.specs.declared.seats.WorkerSeats.{WorkerSeats}
 use Rattle.run_workers.specs.declared.worker.Worker.{Worker}
 use Rattle.run_workers.proofs.EachLemmas.{each_same, each_set, item_at, one_there}

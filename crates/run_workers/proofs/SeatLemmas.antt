@@ -1,6 +1,6 @@
 -- A seat between two calls.
 use Rattle.std.proofs.Common.{◌≡◌, ◌⊎◌, inl, inr, ℕ, ◌*◌, Bool, true, false, List, [], ◌∷◌, ◌++◌}
-use Rattle.std.proofs.Common.{Some, IsSome, refl, sym, ap, subst, ◌∙◌, length}
+use Rattle.std.proofs.Common.{Some, refl, ap, subst, ◌∙◌, length}
 use Rattle.linearization.specs.Seats.{SeatView}
 use Rattle.history.specs.declared.arrival.Arrival.{Arrival}
 use Rattle.hint_words.specs.declared.step.HintStep.{HintStep}

@@ -1,5 +1,5 @@
 -- A worker after one of its drains at the transmit board went on.
-use Rattle.std.proofs.Common.{◌≡◌, ◌≢◌, ℕ, ◌<◌, ◌==◌, Bool, false, [], Some, refl, sym, ap, subst, ◌∙◌}
+use Rattle.std.proofs.Common.{◌≡◌, ◌≢◌, ℕ, ◌==◌, false, [], Some, refl, sym, ap, subst, ◌∙◌}
 use Rattle.std.proofs.Common.{length, length-set, slice_get, slice_set}
 use Rattle.std.proofs.lemmas.Option.{slice_get_within}
 use Rattle.board_api.specs.Seats.{BoardSeatView}

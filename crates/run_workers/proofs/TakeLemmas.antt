@@ -1,13 +1,12 @@
 -- A worker after one of its applications took a packet or none.
-use Rattle.std.proofs.Common.{◌≡◌, ◌≢◌, ℕ, ◌<◌, ◌==◌, ◌⊎◌, inl, inr, Bool, true, false, Option, None, Some, refl, sym, ap, subst, ◌∙◌}
+use Rattle.std.proofs.Common.{◌≡◌, ℕ, ◌<◌, inl, inr, Bool, true, false, Option, None, Some}
+use Rattle.std.proofs.Common.{refl, sym, ap, subst, ◌∙◌}
 use Rattle.std.proofs.Common.{[], length, length-set, slice_get, slice_set}
-use Rattle.std.proofs.lemmas.Option.{slice_get_within}
 use Rattle.std.proofs.Common.{◌++◌}
 use Rattle.std.specs.List.{Contains}
 use Rattle.std.proofs.lemmas.List.Elements.{Contains-append_cases, Contains-append_left}
 use Rattle.std.proofs.lemmas.List.Elements.{Contains-append_right}
 use Rattle.linearization.specs.Seats.{SeatView}
-use Rattle.linearization.specs.Orders.{steps_of}
 use Rattle.steer_base.specs.Journals.{Journal}
 use Rattle.history.specs.declared.sock_write.SockWrite.{SockWrite}
 use Rattle.hint_words.specs.declared.step.HintStep.{HintStep}
@@ -23,7 +22,6 @@ use Rattle.run_hands.specs.declared.server.Server.{Server}
 use Rattle.run_hands.proofs.ServerLaws.{applications_explain, applications_leave_drains}
 use Rattle.run_hands.proofs.ServerLaws.{applications_stay}
 use Rattle.run_records.specs.Growth.{Grows}
-use Rattle.run_records.specs.Storing.{StoresAreFor}
 use Rattle.run_records.proofs.AddedLemmas.{calls_add_steps}
 use Rattle.run_records.proofs.ReplyingLemmas.{takes_go_on}
 use Rattle.run_records.proofs.StoringLemmas.{applications_store}
@@ -161,9 +159,9 @@ module _ (t : StageView) (w v : Worker) (s r : WorkerSeats) (i : ℕ) (y u : Ser
               w.servers.items i u this_server
               (λ k z apart kept. server_stays t s r x.rows x.replies x.replies k z tx_number refl
               grow.0 grow.1 kept) x.servers);
-          ships = each_same (KeepsDrain t.tx.sizes given Port r.tx) w.ships.items v.ships.items ships
-              (subst (λ (z : BoardSeatView). Each (KeepsDrain t.tx.sizes given Port z) w.ships.items)
-              (sym tx) x.ships);
+          ships = each_same (KeepsDrain t.tx.sizes given Port r.tx) w.ships.items v.ships.items
+              ships (subst (λ (z : BoardSeatView). Each (KeepsDrain t.tx.sizes given Port z)
+              w.ships.items) (sym tx) x.ships);
         }
 
     pub take_goes_on : GoesOn t w v s r

@@ -31,7 +31,7 @@ impl Worker {
     /// Works in turns, and calls `pace` before each, with the worker's number and that of the turn,
     /// counted from 1. Ends after a turn that did nothing and that began after all packets had
     /// arrived, and after `MAX_IDLE_TURNS` turns in a row that did nothing. Then no packet is in a
-    /// hand. Takes no memory.
+    /// hand. Allocates nothing.
     pub fn work<R: Wait, B: Board, P: Pace>(
         &mut self,
         rt: &R,

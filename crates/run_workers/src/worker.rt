@@ -10,8 +10,8 @@ use board_api::Board;
 use run_hands::{Drain, Poller, Server};
 use std::sync::Wait;
 
-/// A worker, which plays the actors of a run whose numbers are its own number, or that of all
-/// workers or a multiple of it more. Each list is ascending.
+/// A worker. Of so many workers, worker `w` plays the actors whose number is `w` modulo the number of
+/// workers. Each list has them in ascending order.
 #[derive(Drop)]
 pub struct Worker {
     /// The pollers of its receive queues.
@@ -27,8 +27,8 @@ pub struct Worker {
 impl Worker {
     /// Plays each of its actors once: polls its receive queues, empties the backlogs of its
     /// processors, lets each of its applications take a packet and reply, and empties its transmit
-    /// queues; of each kind in ascending order. Returns whether a packet was taken, steered, pulled,
-    /// delivered or replied to, or is left in a hand. Takes no memory.
+    /// queues; of each kind in ascending order. Returns whether a packet was taken, steered,
+    /// pulled, delivered or replied to, or is left in a hand. Allocates nothing.
     pub fn turn<R: Wait, B: Board>(
         &mut self,
         rt: &R,
@@ -38,8 +38,7 @@ impl Worker {
         requires is { IsWorking (stage_view (B.view stage.now.rx) (B.view stage.now.tx)
             stage.now.shared stage.now.late.items) self.old seats.old }
         ensures goes { GoesOn (stage_view (B.view stage.now.rx) (B.view stage.now.tx)
-            stage.now.shared stage.now.late.items) self.old self.new
-            seats.old seats.new }
+            stage.now.shared stage.now.late.items) self.old self.new seats.old seats.new }
         ensures idle { result ≡ false → is_free self.new ≡ true }
     {
         let polled = self.poll_each(rt, stage, seats);
@@ -70,8 +69,7 @@ impl Worker {
         requires is { IsWorking (stage_view (B.view stage.now.rx) (B.view stage.now.tx)
             stage.now.shared stage.now.late.items) self.old seats.old }
         ensures goes { GoesOn (stage_view (B.view stage.now.rx) (B.view stage.now.tx)
-            stage.now.shared stage.now.late.items) self.old self.new
-            seats.old seats.new }
+            stage.now.shared stage.now.late.items) self.old self.new seats.old seats.new }
     {
         let mut did = false;
         for i in 0..self.pollers.len() {
@@ -93,8 +91,7 @@ impl Worker {
         requires is { IsWorking (stage_view (B.view stage.now.rx) (B.view stage.now.tx)
             stage.now.shared stage.now.late.items) self.old seats.old }
         ensures goes { GoesOn (stage_view (B.view stage.now.rx) (B.view stage.now.tx)
-            stage.now.shared stage.now.late.items) self.old self.new
-            seats.old seats.new }
+            stage.now.shared stage.now.late.items) self.old self.new seats.old seats.new }
     {
         self.pollers[i].poll(rt, &stage.rx, &stage.shared, &mut seats.rx, &mut seats.hint)
     }
@@ -104,8 +101,7 @@ impl Worker {
         requires is { IsWorking (stage_view (B.view stage.now.rx) (B.view stage.now.tx)
             stage.now.shared stage.now.late.items) self.old seats.old }
         ensures goes { GoesOn (stage_view (B.view stage.now.rx) (B.view stage.now.tx)
-            stage.now.shared stage.now.late.items) self.old self.new
-            seats.old seats.new }
+            stage.now.shared stage.now.late.items) self.old self.new seats.old seats.new }
     {
         let mut did = false;
         for i in 0..self.drains.len() {
@@ -121,8 +117,7 @@ impl Worker {
         requires is { IsWorking (stage_view (B.view stage.now.rx) (B.view stage.now.tx)
             stage.now.shared stage.now.late.items) self.old seats.old }
         ensures goes { GoesOn (stage_view (B.view stage.now.rx) (B.view stage.now.tx)
-            stage.now.shared stage.now.late.items) self.old self.new
-            seats.old seats.new }
+            stage.now.shared stage.now.late.items) self.old self.new seats.old seats.new }
     {
         self.drains[i].drain(&stage.rx, &stage.shared.given, &mut seats.rx)
     }
@@ -137,8 +132,7 @@ impl Worker {
         requires is { IsWorking (stage_view (B.view stage.now.rx) (B.view stage.now.tx)
             stage.now.shared stage.now.late.items) self.old seats.old }
         ensures goes { GoesOn (stage_view (B.view stage.now.rx) (B.view stage.now.tx)
-            stage.now.shared stage.now.late.items) self.old self.new
-            seats.old seats.new }
+            stage.now.shared stage.now.late.items) self.old self.new seats.old seats.new }
     {
         let mut did = false;
         for i in 0..self.servers.len() {
@@ -160,8 +154,7 @@ impl Worker {
         requires is { IsWorking (stage_view (B.view stage.now.rx) (B.view stage.now.tx)
             stage.now.shared stage.now.late.items) self.old seats.old }
         ensures goes { GoesOn (stage_view (B.view stage.now.rx) (B.view stage.now.tx)
-            stage.now.shared stage.now.late.items) self.old self.new
-            seats.old seats.new }
+            stage.now.shared stage.now.late.items) self.old self.new seats.old seats.new }
     {
         let took = self.take(stage, seats, i);
         let replied = self.reply(rt, stage, seats, i);
@@ -174,8 +167,7 @@ impl Worker {
         requires is { IsWorking (stage_view (B.view stage.now.rx) (B.view stage.now.tx)
             stage.now.shared stage.now.late.items) self.old seats.old }
         ensures goes { GoesOn (stage_view (B.view stage.now.rx) (B.view stage.now.tx)
-            stage.now.shared stage.now.late.items) self.old self.new
-            seats.old seats.new }
+            stage.now.shared stage.now.late.items) self.old self.new seats.old seats.new }
     {
         self.servers[i].take(&stage.rx, &stage.shared, &mut seats.rx, &mut seats.hint)
     }
@@ -192,8 +184,7 @@ impl Worker {
         requires is { IsWorking (stage_view (B.view stage.now.rx) (B.view stage.now.tx)
             stage.now.shared stage.now.late.items) self.old seats.old }
         ensures goes { GoesOn (stage_view (B.view stage.now.rx) (B.view stage.now.tx)
-            stage.now.shared stage.now.late.items) self.old self.new
-            seats.old seats.new }
+            stage.now.shared stage.now.late.items) self.old self.new seats.old seats.new }
     {
         self.servers[i].reply(
             rt,
@@ -210,8 +201,7 @@ impl Worker {
         requires is { IsWorking (stage_view (B.view stage.now.rx) (B.view stage.now.tx)
             stage.now.shared stage.now.late.items) self.old seats.old }
         ensures goes { GoesOn (stage_view (B.view stage.now.rx) (B.view stage.now.tx)
-            stage.now.shared stage.now.late.items) self.old self.new
-            seats.old seats.new }
+            stage.now.shared stage.now.late.items) self.old self.new seats.old seats.new }
     {
         let mut did = false;
         for i in 0..self.ships.len() {
@@ -227,8 +217,7 @@ impl Worker {
         requires is { IsWorking (stage_view (B.view stage.now.rx) (B.view stage.now.tx)
             stage.now.shared stage.now.late.items) self.old seats.old }
         ensures goes { GoesOn (stage_view (B.view stage.now.rx) (B.view stage.now.tx)
-            stage.now.shared stage.now.late.items) self.old self.new
-            seats.old seats.new }
+            stage.now.shared stage.now.late.items) self.old self.new seats.old seats.new }
     {
         self.ships[i].drain(&stage.tx, &stage.shared.given, &mut seats.tx)
     }

@@ -35,7 +35,7 @@ returns g c =
           c.index_mut.ensures.value)
           c.requires.is
           (subst (λ xs. RepliesOrKeeps c.args.stage.now.shared.given xs c.index_mut.result.now
-          c.reply.new.self c.args.seats.now.tx c.reply.new.seat c.args.seats.now.hint c.reply.new.hint
-          c.reply.result) c.as_slice.ensures c.reply.ensures.replies) c.reply.ensures.is c.reply.ensures.outside
-          c.reply.ensures.open;
+          c.reply.new.self c.args.seats.now.tx c.reply.new.seat c.args.seats.now.hint
+          c.reply.new.hint c.reply.result) c.as_slice.ensures c.reply.ensures.replies)
+          c.reply.ensures.is c.reply.ensures.outside c.reply.ensures.open;
     }
