@@ -10,8 +10,8 @@ use board_api::Board;
 use run_hands::{Drain, Poller, Server};
 use std::sync::Wait;
 
-/// A worker. Of so many workers, worker `w` plays the actors whose number is `w` modulo the number of
-/// workers. Each list has them in ascending order.
+/// A worker. Of so many workers, worker `w` plays the actors whose number is `w` modulo the number
+/// of workers. Each list has them in ascending order.
 #[derive(Drop)]
 pub struct Worker {
     /// The pollers of its receive queues.
