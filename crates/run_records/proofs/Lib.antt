@@ -8,6 +8,7 @@ pub mod PollingLemmas
 pub mod QueueTieLemmas
 pub mod ReplyingLemmas
 pub mod RuleLemmas
+pub mod StoreTieLemmas
 pub mod StoringLemmas
 pub mod TurnListLemmas
 pub mod WordLemmas

@@ -1,16 +1,13 @@
 -- What was stored at the hint words was for a turn or a write.
-use Rattle.std.proofs.Common.{◌≡◌, ◌⊎◌, inl, inr, ℕ, zero, suc, ◌+◌, ◌<◌, Bool, true, false, List}
-use Rattle.std.proofs.Common.{[]}
-use Rattle.std.proofs.Common.{◌∷◌, ◌++◌, Option, None, Some, IfSome, sym, refl, ap, ◌∙◌, subst}
+use Rattle.std.proofs.Common.{◌≡◌, ◌⊎◌, inl, inr, ℕ, zero, suc, ◌+◌, Bool, true, false, List}
+use Rattle.std.proofs.Common.{◌∷◌, Option, None, Some, IfSome, sym, refl, ap, subst}
 use Rattle.std.proofs.Common.{arith, length}
 use Rattle.std.specs.List.{Contains}
 use Rattle.std.proofs.lemmas.List.Elements.{Contains-push}
 use Rattle.linearization.specs.Orders.{StepBy, step_by}
 use Rattle.linearization.specs.Seats.{SeatView}
 use Rattle.steer_base.specs.Arrivals.{filter_place}
-use Rattle.steer_base.specs.Choices.{class_of}
 use Rattle.steer_base.specs.Journals.{Journal}
-use Rattle.steer_base.specs.declared.choice.Choice.{Choice}
 use Rattle.steer_base.specs.declared.filter.Filter.{Filter}
 use Rattle.steer_base.specs.declared.put.Put.{Put}
 use Rattle.steer_base.specs.declared.put.Put.TheVariants.{At, Dropped}
@@ -29,7 +26,7 @@ use Rattle.run_words.specs.declared.hint_word.TheConstants.{FILTER_WORDS, QUEUE_
 use Rattle.run_hands.specs.Pollers.{AsksFilter, LooksUp, StoresFilter, Visits}
 use Rattle.run_hands.specs.Servers.{Queued, RepliesOrKeeps, TakesOrLeaves, Writes}
 use Rattle.run_hands.specs.declared.server.Server.{Server}
-use Rattle.run_records.specs.Storing.{ApplicationsStoreWrites, IsFilterOf, StoresAreFor}
+use Rattle.run_records.specs.Storing.{ApplicationsStoreWrites, StoresAreFor}
 use Rattle.run_records.proofs.ListLemmas.{contains_first}
 
 abbrev Hint : Type 0
@@ -46,7 +43,8 @@ stored_value (Store word value) = value
 stored_value _ = 0
 
 module _ {A : Type 0} where
-  contains_split : (y : A) (xs : List A) (x : A) → Contains (y ∷ xs) x → (y ≡ x) ⊎ Contains xs x
+  pub contains_split : (y : A) (xs : List A) (x : A) → Contains (y ∷ xs) x
+      → (y ≡ x) ⊎ Contains xs x
   contains_split y xs x (zero, less, is) = inl is
   contains_split y xs x (suc k, less, is) = inr (k, omega (arith, less), is)
 

@@ -6,3 +6,4 @@ pub mod Replying
 pub mod ReplyingLaws
 pub mod QueueTies
 pub mod ApplicationTies
+pub mod StoreTies

@@ -1,5 +1,5 @@
 -- What each store of a seat at the hint words was for.
-use Rattle.std.specs.Prelude.{◌≡◌, ◌⊎◌, ℕ, ◌+◌, Bool, List, Option, Some}
+use Rattle.std.specs.Prelude.{◌≡◌, ◌⊎◌, ℕ, ◌+◌, Bool, List, Some}
 use Rattle.std.specs.List.{Contains}
 use Rattle.linearization.specs.Orders.{StepBy}
 use Rattle.linearization.specs.Seats.{SeatView}

@@ -5,6 +5,7 @@ ghost use Rattle.run_records.specs.PollingLaws.{PollersStay};
 ghost use Rattle.run_records.specs.QueueTies.{PollersAreTied};
 ghost use Rattle.run_records.specs.ReplyingLaws.{ArrivalsComeLate, CallsAddSteps, RepliesGoOn};
 ghost use Rattle.run_records.specs.ReplyingLaws.{ServersBegin, ServersStay, TakesGoOn};
+ghost use Rattle.run_records.specs.StoreTies.{StoresAreMeantByEach, WorkersStoresAreMeant};
 ghost use Rattle.run_records.specs.Storing.{ApplicationsStoreWrites};
 
 /// Lemma: a poller that was made for a flow word and an empty ring has the record of no turns.
@@ -61,4 +62,12 @@ pub fn pollers_are_tied()
 /// choices by its own table, and the queues, processors and writes by what was loaded and read.
 pub fn applications_are_tied()
     ensures { ApplicationsAreTied }
+{}
+
+/// Lemma: the stores of a worker's seat, which were for turns of the seat and for writes of
+/// applications that keep their records, give the tie of stores for this seat; the ties for each
+/// seat give that for all.
+pub fn stores_are_meant()
+    ensures worker { WorkersStoresAreMeant }
+    ensures each { StoresAreMeantByEach }
 {}
