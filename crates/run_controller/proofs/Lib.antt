@@ -1,0 +1,9 @@
+mod ListLemmas
+mod LoopLemmas
+mod SeatLemmas
+mod KnownLemmas
+mod TryLemmas
+mod GivingLemmas
+mod AgreeLemmas
+mod OneTryLemmas
+mod ControllerLaws

@@ -1,0 +1,412 @@
+-- What one try of the controller keeps of the ties.
+use Rattle.std.proofs.Common.{◌≡◌, ◌⊎◌, inl, inr, ℕ, zero, suc, ◌+◌, ◌<◌, ◌≤◌, Bool, true, false}
+use Rattle.std.proofs.Common.{List, [], ◌∷◌, ◌++◌, Option, Some, None, length, refl, sym, ap, subst}
+use Rattle.std.proofs.Common.{◌∙◌, arith, append_assoc, if◌then◌else◌}
+use Rattle.std.specs.List.{Contains}
+use Rattle.steer_base.specs.Sets.{has}
+use Rattle.steer_base.specs.declared.command.Answer.{Answer}
+use Rattle.steer_base.specs.declared.command.Answer.TheVariants as says
+use Rattle.steer_base.specs.declared.command.Busy.TheVariants.{Inside, NotEmpty}
+use Rattle.steer_base.specs.declared.command.Command.{Command}
+use Rattle.steer_base.specs.declared.command.Command.TheVariants as give
+use Rattle.steer_base.specs.declared.command.Refused.{Refused}
+use Rattle.steer_base.specs.declared.command.Refused.TheVariants as refused
+use Rattle.hint_words.specs.declared.step.HintStep.{HintStep}
+use Rattle.hint_words.specs.declared.step.HintStep.TheVariants.{ClearIf, Load, Store}
+use Rattle.history.specs.declared.commanded.Commanded.{Commanded}
+use Rattle.history.specs.declared.history.History.{History}
+use Rattle.history.specs.declared.lane_list.LaneList.{LaneList}
+use Rattle.hop_rule.specs.declared.sizes.BoardSizes.{BoardSizes}
+use Rattle.hop_rule.specs.declared.step.BoardStep.{BoardStep}
+use Rattle.hop_rule.specs.declared.step.BoardStep.TheVariants.{Gate, Weighed}
+use Rattle.hop_rule.specs.declared.step.GateStep.{GateStep}
+use Rattle.hop_rule.specs.declared.step.GateStep.TheVariants.{Entered, Left, Read}
+use Rattle.board_api.specs.Seats.{BoardSeatView}
+use Rattle.board_api.specs.Views.{BoardView}
+use Rattle.hop_delivery.specs.Orders.Commands.{SettingChange, received_sets, sent_sets}
+use Rattle.hop_delivery.specs.Orders.ReceiveSettings.{Queues, queues}
+use Rattle.steer_model.specs.Good.Commands.{IsEnd, gate_lanes}
+use Rattle.steer_model.specs.Good.Inputs.{Input, setup_in}
+use Rattle.steer_model.specs.Steps.Commands.{affects, is_done, refused_answer}
+use Rattle.run_words.specs.Numbers.{hint_number}
+use Rattle.run_words.specs.Values.{place_word}
+use Rattle.run_words.specs.declared.hint_word.HintWord.TheVariants as word
+use Rattle.run_hands.specs.declared.shared.Shared.{Shared}
+use Rattle.run_laws.specs.Ties.Answers.{FindsOneBusy, IsAnswered, IsBusy}
+use Rattle.run_laws.specs.Ties.EmptiedLanes.{FindsAllEmpty, NoSets}
+use Rattle.run_laws.specs.Ties.Inputs.{NamesReceiveQueues, receive_queues}
+use Rattle.run_laws.specs.Ties.Tries.{SetsByAnswer, Try, sets_and_openings}
+use Rattle.run_actors.specs.Gated.{GatedTriesKeep, IsGated, KeepsTry}
+use Rattle.run_actors.specs.Wires.{HintView, after_step}
+use Rattle.run_controller.specs.Attempts.{AreClears, ClearsByAnswer, DoesAtOnce, HintsBehind}
+use Rattle.run_controller.specs.Attempts.{TriesAtReceive, TriesAtTransmit, TriesBy, TriesUnless}
+use Rattle.run_controller.specs.Expiries.{cleared_in}
+use Rattle.run_controller.specs.Laws.{AreBoards}
+use Rattle.run_controller.specs.Settings.{KnownSettings, receive_change, transmit_change}
+use Rattle.run_controller.specs.Stages.{Stage, stage}
+use Rattle.run_controller.specs.declared.change.Change.{Change}
+use Rattle.run_controller.specs.declared.seats.Seats.{Seats}
+use Rattle.run_controller.proofs.AgreeLemmas.{Agrees, as_set, at-receive, at-transmit, receive-none}
+use Rattle.run_controller.proofs.AgreeLemmas.{receive-set, sent-set}
+use Rattle.run_controller.proofs.ListLemmas.{append-none, contains-cases}
+use Rattle.run_controller.proofs.SeatLemmas.{Glance, expired_steps, first_glances, glances}
+
+-- ---- what a try may store
+
+-- a done command stored this value in this word, or an entry of the socket flow table was cleared
+abbrev pub IsStoredBy : Commanded → ℕ → ℕ → Type 0
+IsStoredBy g number value =
+    ((entry : ℕ) × (q : ℕ) × (number ≡ hint_number (word.Redirection entry))
+    × (value ≡ place_word q) × (g ≡ record { command = give.Reta entry q; answer = says.Done }))
+    ⊎ ((app : ℕ) × (cpu : ℕ) × (number ≡ hint_number (word.Stand app))
+    × (value ≡ place_word cpu) × (g ≡ record { command = give.Stand app cpu; answer = says.Done }))
+    ⊎ ((place : ℕ) × (number ≡ hint_number (word.Socket place)) × (value ≡ 0))
+
+-- each store of the seat is an older one or one of the try
+abbrev pub StoresFor : Commanded → HintView → HintView → Type 0
+StoresFor g old new =
+    (n v : ℕ) → Contains new.steps (Store n v) → Contains old.steps (Store n v) ⊎ IsStoredBy g n v
+
+stores-none : (g : Commanded) (old new : HintView) → new ≡ old → StoresFor g old new
+stores-none g old new same n v has =
+    inl (subst (λ (s : HintView). Contains s.steps (Store n v)) same has)
+
+word_of : HintStep → ℕ
+word_of (Load n v) = n
+word_of (Store n v) = n
+word_of (ClearIf n v done) = n
+
+value_of : HintStep → ℕ
+value_of (Load n v) = v
+value_of (Store n v) = v
+value_of (ClearIf n v done) = v
+
+among-clears : (stores older : List HintStep) (n v : ℕ) → AreClears stores
+    → Contains (stores ++ older) (Store n v)
+    → Contains older (Store n v)
+    ⊎ ((place : ℕ) × (n ≡ hint_number (word.Socket place)) × (v ≡ 0))
+unfolding word_of value_of
+among-clears [] older n v are has = inl has
+among-clears (d ∷ ds) older n v are has =
+    elim (contains-cases d (ds ++ older) (Store n v) has) [
+      | inl e ↦
+          inr (length ds, ap word_of (sym e ∙ are.0), ap value_of (sym e ∙ are.0))
+      | inr more ↦ among-clears ds older n v are.1 more
+    ]
+
+clears-store : (g : Commanded) (answer : Answer) (old new : HintView)
+    → ClearsByAnswer answer old new → StoresFor g old new
+clears-store g says.Done old new (stores, are, all, is) n v has =
+    elim (among-clears stores old.steps n v are
+    (subst (λ (s : HintView). Contains s.steps (Store n v)) is has)) [
+      | inl older ↦ inl older
+      | inr clear ↦ inr (inr (inr clear))
+    ]
+clears-store g (says.Busy why) old new is = stores-none g old new is
+clears-store g (says.Expired n) old new is = stores-none g old new is
+clears-store g (says.Idle why) old new is = stores-none g old new is
+clears-store g (says.CpuInUse user) old new is = stores-none g old new is
+clears-store g says.CpuOffline old new is = stores-none g old new is
+
+behind-store : (c : Command) (g : Commanded) (answer : Answer) (old new : HintView)
+    → HintsBehind c answer old new → StoresFor g old new
+behind-store (give.Sock size) g answer old new is = clears-store g answer old new is
+behind-store (give.Mask q mask) g answer old new is = stores-none g old new is
+behind-store (give.Flows q count) g answer old new is = stores-none g old new is
+behind-store (give.Offline cpu) g answer old new is = stores-none g old new is
+behind-store (give.Online cpu) g answer old new is = stores-none g old new is
+behind-store (give.XCpus tx mask) g answer old new is = stores-none g old new is
+behind-store (give.XQueues tx rxqs) g answer old new is = stores-none g old new is
+behind-store (give.Reta entry q) g answer old new is = stores-none g old new is
+behind-store (give.Stand app cpu) g answer old new is = stores-none g old new is
+behind-store give.Expire g answer old new is = stores-none g old new is
+
+-- ---- steps that set nothing
+
+-- a try without steps, where its command makes no setting or it was not done
+sets-none : (w : ℕ → ℕ) (sets : (ℕ → ℕ) → Command → List SettingChange) (g : Commanded)
+    → (is_done g.answer ≡ false) ⊎ (sets w g.command ≡ []) → (ds : List GateStep) → ds ≡ []
+    → SetsByAnswer w sets g ds
+sets-none w sets g why ds none = by_done (is_done g.answer) refl
+  where
+    by_done : (b : Bool) → is_done g.answer ≡ b → SetsByAnswer w sets g ds
+    by_done false is = inr (inr (is, inl none))
+    by_done true is = elim why [
+      | inl fails ↦ absurd (apart (sym is ∙ fails))
+      | inr quiet ↦ inr (inl (is, quiet, none))
+    ]
+      where
+        apart : true ≡ false → ⊥
+        apart e = absurd (cc)
+
+glances-set : (xs : List Glance) (ds : List BoardStep)
+    → sets_and_openings (glances xs ++ ds) ≡ sets_and_openings ds
+glances-set [] ds = refl
+glances-set (x ∷ xs) ds = glances-set xs ds
+
+glances-none : (xs : List Glance) (ds : List BoardStep) → NoSets ds → NoSets (glances xs ++ ds)
+glances-none [] ds none = none
+glances-none (x ∷ xs) ds none = (refl, (refl, glances-none xs ds none))
+
+few-cleared : (outcomes : List Bool) → cleared_in outcomes ≤ length outcomes
+few-cleared [] = omega arith
+few-cleared (b ∷ bs) = by_one b (few-cleared bs)
+  where
+    by_one : (b : Bool) → cleared_in bs ≤ length bs
+        → (if b then cleared_in bs + 1 else cleared_in bs) ≤ suc (length bs)
+    by_one true few = omega arith
+    by_one false few = omega arith
+
+-- ---- one try
+
+module _ (i : Input) (h : History) (hints : Shared) (rx tx : BoardView) where
+  abbrev q : Queues
+  q = receive_queues i
+
+  abbrev txs : ℕ
+  txs = length i.plan.tx
+
+  -- the stage of this input
+  abbrev pub stage_in : Stage
+  stage_in =
+      stage (record hints { given = setup_in i; filters = i.plan.filters }) rx tx
+
+  -- what one try keeps, by the words of the receive board and the reason to refuse it
+  pub record Kept (words : ℕ → ℕ) (why : Option Refused) (g : Commanded) (old new : Seats)
+      : Type 0 where
+    pub rx_steps : List BoardStep
+    pub tx_steps : List BoardStep
+    pub rx_are : new.rx.steps ≡ rx_steps ++ old.rx.steps
+    pub tx_are : new.tx.steps ≡ tx_steps ++ old.tx.steps
+    pub rx_sets : SetsByAnswer words (received_sets q) g (sets_and_openings rx_steps)
+    pub tx_sets : (w : ℕ → ℕ)
+        → SetsByAnswer w (λ w c. sent_sets txs c) g (sets_and_openings tx_steps)
+    pub finds : NoSets rx_steps
+        ⊎ ((m : SettingChange) × (received_sets q words g.command ≡ m ∷ [])
+        × FindsAllEmpty rx.sizes q.homes i.plan.cpus txs g.command m rx_steps)
+    pub answered : IsAnswered i h
+        (record { given = g; rx_steps = rx_steps; tx_steps = tx_steps }) why
+    pub stored : StoresFor g old.hint new.hint
+
+  -- a try that did nothing
+  refused_kept : (words : ℕ → ℕ) (c : Command) (why : Refused) (answer : Answer) (old new : Seats)
+      → answer ≡ refused_answer why → new ≡ old
+      → Kept words (Some why) (record { command = c; answer = answer }) old new
+  refused_kept words c why answer old new is same =
+      record {
+        rx_steps = [];
+        tx_steps = [];
+        rx_are = ap (λ (s : Seats). s.rx.steps) same;
+        tx_are = ap (λ (s : Seats). s.tx.steps) same;
+        rx_sets = sets-none words (received_sets q) _ (inl fails) [] refl;
+        tx_sets = λ w. sets-none w (λ w c. sent_sets txs c) _ (inl fails) [] refl;
+        finds = inl tt;
+        answered = is;
+        stored = stores-none _ old.hint new.hint (ap (λ (s : Seats). s.hint) same);
+      }
+    where
+      none-done : (why : Refused) → is_done (refused_answer why) ≡ false
+      none-done (refused.CpuInUse user) = refl
+      none-done refused.CpuOffline = refl
+      none-done refused.AlreadyOnline = refl
+
+      fails : is_done answer ≡ false
+      fails = ap is_done is ∙ none-done why
+
+  module _ (boards : AreBoards i h rx.sizes tx.sizes) (keep : GatedTriesKeep) where
+    few-lanes : (about : BoardSizes) (lanes : ℕ) → about.lanes ≡ lanes → lanes ≤ 32
+        → (c : Command) (m : _)
+        → ((lane : ℕ) → lane < 32 → has m lane ≡ affects (setup_in i) c lane)
+        → (lane : ℕ) → lane < about.lanes → has m lane ≡ affects (setup_in i) c lane
+    few-lanes about lanes is few c m all lane less = all lane (omega arith)
+
+    -- the answer of a gated try at the receive board
+    rx_answered : (c : Command) (lanes : _) (m : SettingChange) (answer : Answer)
+        (old new : BoardSeatView) (steps tx_steps : List BoardStep)
+        → gate_lanes h c ≡ Some h.lanes → IsEnd i c says.Done
+        → IsGated rx.sizes lanes m.word m.value old new answer
+        → KeepsTry i rx.sizes h.lanes c m answer steps
+        → IsAnswered i h (record {
+          given = record { command = c; answer = answer };
+          rx_steps = steps;
+          tx_steps = tx_steps;
+        }) None
+    rx_answered c lanes m says.Done old new steps tx_steps at ends gated k = inl ends
+    rx_answered c lanes m (says.Busy (Inside n)) old new steps tx_steps at ends gated k =
+        let is = k.inside n refl in
+        let seats = boards.rx_seats in
+        let few = is.1 in
+        inr (inl (h.lanes, n, at, refl, is.0, omega (arith, seats, few)))
+    rx_answered c lanes m (says.Busy (NotEmpty lane head tail)) old new steps tx_steps at ends gated
+        k = inr (inr (inl (lane, head, tail, at, refl, k.busy lane head tail refl)))
+    rx_answered c lanes m (says.Expired n) old new steps tx_steps at ends gated k = absurd gated
+    rx_answered c lanes m (says.Idle why) old new steps tx_steps at ends gated k = absurd gated
+    rx_answered c lanes m (says.CpuInUse user) old new steps tx_steps at ends gated k = absurd gated
+    rx_answered c lanes m says.CpuOffline old new steps tx_steps at ends gated k = absurd gated
+
+    tx_answered : (c : Command) (lanes : _) (m : SettingChange) (answer : Answer)
+        (old new : BoardSeatView) (rx_steps steps : List BoardStep)
+        → gate_lanes h c ≡ Some h.tx_lanes → IsEnd i c says.Done
+        → IsGated tx.sizes lanes m.word m.value old new answer
+        → KeepsTry i tx.sizes h.tx_lanes c m answer steps
+        → IsAnswered i h (record {
+          given = record { command = c; answer = answer };
+          rx_steps = rx_steps;
+          tx_steps = steps;
+        }) None
+    tx_answered c lanes m says.Done old new rx_steps steps at ends gated k = inl ends
+    tx_answered c lanes m (says.Busy (Inside n)) old new rx_steps steps at ends gated k =
+        let is = k.inside n refl in
+        let seats = boards.tx_seats in
+        let few = is.1 in
+        inr (inl (h.tx_lanes, n, at, refl, is.0, omega (arith, seats, few)))
+    tx_answered c lanes m (says.Busy (NotEmpty lane head tail)) old new rx_steps steps at ends gated
+        k = inr (inr (inr (lane, head, tail, at, refl, k.busy lane head tail refl)))
+    tx_answered c lanes m (says.Expired n) old new rx_steps steps at ends gated k = absurd gated
+    tx_answered c lanes m (says.Idle why) old new rx_steps steps at ends gated k = absurd gated
+    tx_answered c lanes m (says.CpuInUse user) old new rx_steps steps at ends gated k =
+        absurd gated
+    tx_answered c lanes m says.CpuOffline old new rx_steps steps at ends gated k = absurd gated
+
+    module _ (words : ℕ → ℕ) (k : KnownSettings) (agree : Agrees q words k) where
+      receive_kept : (c : Command) (m : Change) (answer : Answer) (old new : Seats)
+          → NamesReceiveQueues (queues q) c → receive_change (queues q) k c ≡ Some m
+          → TriesAtReceive (setup_in i) rx.sizes c m answer old new
+          → Kept words None (record { command = c; answer = answer }) old new
+      receive_kept c m answer old new names is a =
+          let one = receive-set q words k agree c m names is in
+          let at = at-receive h (queues q) txs k c m is in
+          let few = i.plan.within.cpus_within in
+          let t = keep i rx.sizes h.lanes a.gated.0 c (as_set m) answer old.rx new.rx
+              boards.rx_left
+              (few-lanes rx.sizes i.plan.cpus boards.rx_lanes few c a.gated.0 a.gated.1)
+              a.gated.2 in
+          record {
+            rx_steps = t.0;
+            tx_steps = [];
+            rx_are = t.1;
+            tx_are = ap (λ (s : BoardSeatView). s.steps) a.tx;
+            rx_sets = t.2.sets words (received_sets q) one;
+            tx_sets = λ w. sets-none w (λ w c. sent_sets txs c) _ (inr at.sent) [] refl;
+            finds = elim t.2.finds [
+              | inl none ↦ inl none
+              | inr found ↦ inr (as_set m, one, found)
+            ];
+            answered = rx_answered c a.gated.0 (as_set m) answer old.rx new.rx t.0 [] at.lanes
+                (at.ends i) a.gated.2 t.2;
+            stored = behind-store c _ answer old.hint new.hint a.hint;
+          }
+
+      transmit_kept : (c : Command) (m : Change) (answer : Answer) (old new : Seats)
+          → receive_change (queues q) k c ≡ None → transmit_change txs c ≡ Some m
+          → TriesAtTransmit (setup_in i) tx.sizes c m answer old new
+          → Kept words None (record { command = c; answer = answer }) old new
+      transmit_kept c m answer old new none is a =
+          let one = sent-set txs c m is in
+          let at = at-transmit h txs c m is in
+          let few = i.plan.within.tx_length.at_most in
+          let t = keep i tx.sizes h.tx_lanes a.gated.0 c (as_set m) answer old.tx new.tx
+              boards.tx_left
+              (few-lanes tx.sizes txs boards.tx_lanes few c a.gated.0 a.gated.1) a.gated.2 in
+          record {
+            rx_steps = [];
+            tx_steps = t.0;
+            rx_are = ap (λ (s : BoardSeatView). s.steps) a.rx;
+            tx_are = t.1;
+            rx_sets = sets-none words (received_sets q) _
+                (inr (receive-none q words k agree c none)) [] refl;
+            tx_sets = λ w. t.2.sets w (λ w c. sent_sets txs c) one;
+            finds = inl tt;
+            answered = tx_answered c a.gated.0 (as_set m) answer old.tx new.tx [] t.0 at.lanes
+                (at.ends i) a.gated.2 t.2;
+            stored = stores-none _ old.hint new.hint a.hint;
+          }
+
+      -- a command that one store does
+      store_kept : (c : Command) (number value : ℕ) (answer : Answer) (old new : Seats)
+          → received_sets q words c ≡ [] → sent_sets txs c ≡ [] → IsEnd i c answer
+          → ((n v : ℕ) → n ≡ number → v ≡ value
+          → IsStoredBy (record { command = c; answer = answer }) n v)
+          → new ≡ record old { hint = after_step (Store number value) old.hint }
+          → Kept words None (record { command = c; answer = answer }) old new
+      unfolding word_of value_of
+      store_kept c number value answer old new received sent ends by is =
+          record {
+            rx_steps = [];
+            tx_steps = [];
+            rx_are = ap (λ (s : Seats). s.rx.steps) is;
+            tx_are = ap (λ (s : Seats). s.tx.steps) is;
+            rx_sets = sets-none words (received_sets q) _ (inr received) [] refl;
+            tx_sets = λ w. sets-none w (λ w c. sent_sets txs c) _ (inr sent) [] refl;
+            finds = inl tt;
+            answered = inl ends;
+            stored = λ n v has.
+                elim (contains-cases (Store number value) old.hint.steps (Store n v)
+                (subst (λ (s : Seats). Contains s.hint.steps (Store n v)) is has)) [
+                  | inl e ↦ inr (by n v (sym (ap word_of e)) (sym (ap value_of e)))
+                  | inr older ↦ inl older
+                ];
+          }
+
+      at_once_kept : (c : Command) (answer : Answer) (old new : Seats)
+          → DoesAtOnce stage_in.shared c answer old new
+          → Kept words None (record { command = c; answer = answer }) old new
+      at_once_kept (give.Reta entry r) answer old new (done, is) =
+          store_kept (give.Reta entry r) (hint_number (word.Redirection entry)) (place_word r)
+          answer old new refl refl done
+          (λ n v number value. inl (entry, r, number, value,
+          ap (λ (a : Answer). record { command = give.Reta entry r; answer = a }) done)) is
+      at_once_kept (give.Stand app cpu) answer old new (done, is) =
+          store_kept (give.Stand app cpu) (hint_number (word.Stand app)) (place_word cpu)
+          answer old new refl refl done
+          (λ n v number value. inr (inl (app, cpu, number, value,
+          ap (λ (a : Answer). record { command = give.Stand app cpu; answer = a }) done))) is
+      at_once_kept give.Expire answer old new (count, done, same, e) =
+          let x = expired_steps stage_in.shared old.rx new.rx old.hint new.hint count e in
+          let entered : List BoardStep = Gate (Entered x.1) ∷ [] in
+          let g = first_glances stage_in.shared e.all.outcomes e.first e.last old.hint new.hint
+              e.all.expires in
+          let few = few-cleared e.all.outcomes in
+          let all = e.all.all in
+          let is = e.all.counted in
+          record {
+            rx_steps = Gate Left ∷ (glances x.0 ++ entered);
+            tx_steps = [];
+            rx_are = x.2 ∙ ap (λ ds. Gate Left ∷ ds)
+                (sym (append_assoc (glances x.0) entered old.rx.steps));
+            tx_are = ap (λ (s : BoardSeatView). s.steps) same;
+            rx_sets = sets-none words (received_sets q) _ (inr refl)
+                (sets_and_openings (Gate Left ∷ (glances x.0 ++ entered)))
+                (glances-set x.0 entered);
+            tx_sets = λ w. sets-none w (λ w c. sent_sets txs c) _ (inr refl) [] refl;
+            finds = inl (refl, glances-none x.0 entered (refl, tt));
+            answered = inl (count, done, omega (arith, few, all, is));
+            stored = λ n v has. inl (g.stored n v has);
+          }
+      at_once_kept (give.Mask r mask) answer old new none = absurd none
+      at_once_kept (give.Flows r count) answer old new none = absurd none
+      at_once_kept (give.Sock size) answer old new none = absurd none
+      at_once_kept (give.Offline cpu) answer old new none = absurd none
+      at_once_kept (give.Online cpu) answer old new none = absurd none
+      at_once_kept (give.XCpus t mask) answer old new none = absurd none
+      at_once_kept (give.XQueues t rxqs) answer old new none = absurd none
+
+      tries_kept : (c : Command) (r t : Option Change) (answer : Answer) (old new : Seats)
+          → NamesReceiveQueues (queues q) c → receive_change (queues q) k c ≡ r
+          → transmit_change txs c ≡ t → TriesBy stage_in c r t answer old new
+          → Kept words None (record { command = c; answer = answer }) old new
+      tries_kept c (Some m) t answer old new names is other a =
+          receive_kept c m answer old new names is a
+      tries_kept c None (Some m) answer old new names none is a =
+          transmit_kept c m answer old new none is a
+      tries_kept c None None answer old new names none other a =
+          at_once_kept c answer old new a
+
+      pub attempt_kept : (c : Command) (why : Option Refused) (answer : Answer) (old new : Seats)
+          → NamesReceiveQueues (queues q) c → TriesUnless stage_in k c why answer old new
+          → Kept words why (record { command = c; answer = answer }) old new
+      attempt_kept c (Some why) answer old new names (is, same) =
+          refused_kept words c why answer old new is same
+      attempt_kept c None answer old new names a =
+          tries_kept c (receive_change (queues q) k c) (transmit_change txs c) answer old new names
+          refl refl a

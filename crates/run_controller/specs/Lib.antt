@@ -1,0 +1,6 @@
+pub mod Stages
+pub mod Settings
+pub mod Expiries
+pub mod Attempts
+pub mod Journals
+pub mod Laws
