@@ -111,12 +111,13 @@ zero-at (suc n) zero = refl
 zero-at (suc n) (suc p) = zero-at n p
 
 module _ (plan : Plan) (p : ℕ) where
-  abbrev first : KnownSettings
-  first = first_known plan
+  -- what is known after these tries
+  abbrev known_at : List Try → KnownSettings
+  known_at ts = known_from (first_known plan) (given_in ts)
 
   pub known-generations : (ts : List Try)
       → All (λ (t : Try). NamesReceiveQueues (length plan.queues) t.given.command) ts
-      → slice_index (known_from first (given_in ts)).generations p ≡ resizes_by p ts
+      → slice_index (known_at ts).generations p ≡ resizes_by p ts
   known-generations [] names = zero-at (length plan.queues) p
   known-generations (t ∷ ts) names =
       by_done (is_done t.given.answer)
@@ -124,15 +125,13 @@ module _ (plan : Plan) (p : ℕ) where
       (All-tail (λ (t : Try). NamesReceiveQueues (length plan.queues) t.given.command) t ts names))
       (All-head (λ (t : Try). NamesReceiveQueues (length plan.queues) t.given.command) t ts names)
     where
-      abbrev before : KnownSettings
-      before = known_from (first_known plan) (given_in ts)
-
-      by_done : (b : Bool) → slice_index before.generations p ≡ resizes_by p ts
+      by_done : (b : Bool) → slice_index (known_at ts).generations p ≡ resizes_by p ts
           → NamesReceiveQueues (length plan.queues) t.given.command
-          → slice_index (if b then known_after before t.given.command else before).generations p
+          → slice_index (if b then known_after (known_at ts) t.given.command else known_at ts).generations
+          p
           ≡ (if is_flows p t.given.command && b then suc (resizes_by p ts) else resizes_by p ts)
       by_done true older named =
-          done-raises t.given.command before.generations p (resizes_by p ts)
+          done-raises t.given.command (known_at ts).generations p (resizes_by p ts)
           (subst (λ n. NamesReceiveQueues n t.given.command)
           (sym (known-size (first_known plan) (given_in ts) ∙ length-zeros (length plan.queues)))
           named) older
@@ -235,23 +234,23 @@ pub record AtReceive (h : History) (txs : ℕ) (c : Command) : Type 0 where
   pub lanes : gate_lanes h c ≡ Some h.lanes
   pub ends : (i : Input) → IsEnd i c says.Done
 
-pub at-receive : (h : History) (queues txs : ℕ) (k : KnownSettings) (c : Command) (m : Change)
-    → receive_change queues k c ≡ Some m → AtReceive h txs c
-at-receive h queues txs k (give.Mask r cpus) m is =
+pub at-receive : (h : History) (count txs : ℕ) (k : KnownSettings) (c : Command) (m : Change)
+    → receive_change count k c ≡ Some m → AtReceive h txs c
+at-receive h count txs k (give.Mask r cpus) m is =
     record { sent = refl; lanes = refl; ends = λ i. refl }
-at-receive h queues txs k (give.Flows r count) m is =
+at-receive h count txs k (give.Flows r flows) m is =
     record { sent = refl; lanes = refl; ends = λ i. refl }
-at-receive h queues txs k (give.Sock size) m is =
+at-receive h count txs k (give.Sock size) m is =
     record { sent = refl; lanes = refl; ends = λ i. refl }
-at-receive h queues txs k (give.Offline cpu) m is =
+at-receive h count txs k (give.Offline cpu) m is =
     record { sent = refl; lanes = refl; ends = λ i. refl }
-at-receive h queues txs k (give.Online cpu) m is =
+at-receive h count txs k (give.Online cpu) m is =
     record { sent = refl; lanes = refl; ends = λ i. refl }
-at-receive h queues txs k (give.XCpus tx cpus) m is = none-some m is
-at-receive h queues txs k (give.XQueues tx rxqs) m is = none-some m is
-at-receive h queues txs k (give.Reta entry r) m is = none-some m is
-at-receive h queues txs k (give.Stand app cpu) m is = none-some m is
-at-receive h queues txs k give.Expire m is = none-some m is
+at-receive h count txs k (give.XCpus tx cpus) m is = none-some m is
+at-receive h count txs k (give.XQueues tx rxqs) m is = none-some m is
+at-receive h count txs k (give.Reta entry r) m is = none-some m is
+at-receive h count txs k (give.Stand app cpu) m is = none-some m is
+at-receive h count txs k give.Expire m is = none-some m is
 
 pub record AtTransmit (h : History) (c : Command) : Type 0 where
   pub lanes : gate_lanes h c ≡ Some h.tx_lanes

@@ -49,19 +49,19 @@ use Rattle.run_controller.proofs.OneTryLemmas.{IsStoredBy, Kept, attempt_kept, s
 
 -- ---- lists
 
-contains-oldest : {A : Type 0} (xs : List A) (x : A) → Contains xs x
+contains-oldest : (xs : List Commanded) (x : Commanded) → Contains xs x
     → (j : ℕ) × (slice_get (oldest_first xs) j ≡ Some x)
 contains-oldest [] x (k, less, is) = absurd (omega arith)
 contains-oldest (y ∷ xs) x (zero, less, is) = behind (oldest_first xs) is
   where
-    behind : (zs : List A) → y ≡ x → (j : ℕ) × (slice_get (zs ++ y ∷ []) j ≡ Some x)
+    behind : (zs : List Commanded) → y ≡ x → (j : ℕ) × (slice_get (zs ++ y ∷ []) j ≡ Some x)
     behind [] e = (0, ap (λ z. Some z) e)
     behind (z ∷ zs) e = let b = behind zs e in (suc b.0, b.1)
 contains-oldest (y ∷ xs) x (suc k, less, is) =
     let b = contains-oldest xs x (k, omega arith, is) in
     (b.0, front (oldest_first xs) (y ∷ []) b.0 b.1)
   where
-    front : (zs more : List A) (j : ℕ) → slice_get zs j ≡ Some x
+    front : (zs more : List Commanded) (j : ℕ) → slice_get zs j ≡ Some x
         → slice_get (zs ++ more) j ≡ Some x
     front [] more j at = none-some x at
     front (z ∷ zs) more zero at = at

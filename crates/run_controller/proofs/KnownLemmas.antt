@@ -193,7 +193,7 @@ zeros zero p = omega arith
 zeros (suc n) zero = omega arith
 zeros (suc n) (suc p) = zeros n p
 
-pub length-zeros : (n : ℕ) → length (replicate n 0) ≡ n
+pub length-zeros : (n : ℕ) → length {A = ℕ} (replicate n 0) ≡ n
 length-zeros zero = refl
 length-zeros (suc n) = ap suc (length-zeros n)
 

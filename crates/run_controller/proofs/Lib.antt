@@ -4,6 +4,8 @@ mod SeatLemmas
 mod KnownLemmas
 mod TryLemmas
 mod GivingLemmas
+mod WaitLemmas
+mod RoomLemmas
 mod AgreeLemmas
 mod OneTryLemmas
 mod ControllerLaws

@@ -96,9 +96,9 @@ among-clears (d ∷ ds) older n v are has =
 
 clears-store : (g : Commanded) (answer : Answer) (old new : HintView)
     → ClearsByAnswer answer old new → StoresFor g old new
-clears-store g says.Done old new (stores, are, all, is) n v has =
+clears-store g says.Done old new (stores, are, all, is) = λ n v among.
     elim (among-clears stores old.steps n v are
-    (subst (λ (s : HintView). Contains s.steps (Store n v)) is has)) [
+    (subst (λ (s : HintView). Contains s.steps (Store n v)) is among)) [
       | inl older ↦ inl older
       | inr clear ↦ inr (inr (inr clear))
     ]
@@ -362,6 +362,7 @@ module _ (i : Input) (h : History) (hints : Shared) (rx tx : BoardView) where
           (λ n v number value. inr (inl (app, cpu, number, value,
           ap (λ (a : Answer). record { command = give.Stand app cpu; answer = a }) done))) is
       at_once_kept give.Expire answer old new (count, done, same, e) =
+          let given : Commanded = record { command = give.Expire; answer = answer } in
           let x = expired_steps stage_in.shared old.rx new.rx old.hint new.hint count e in
           let entered : List BoardStep = Gate (Entered x.1) ∷ [] in
           let g = first_glances stage_in.shared e.all.outcomes e.first e.last old.hint new.hint
@@ -375,10 +376,10 @@ module _ (i : Input) (h : History) (hints : Shared) (rx tx : BoardView) where
             rx_are = x.2 ∙ ap (λ ds. Gate Left ∷ ds)
                 (sym (append_assoc (glances x.0) entered old.rx.steps));
             tx_are = ap (λ (s : BoardSeatView). s.steps) same;
-            rx_sets = sets-none words (received_sets q) _ (inr refl)
+            rx_sets = sets-none words (received_sets q) given (inr refl)
                 (sets_and_openings (Gate Left ∷ (glances x.0 ++ entered)))
                 (glances-set x.0 entered);
-            tx_sets = λ w. sets-none w (λ w c. sent_sets txs c) _ (inr refl) [] refl;
+            tx_sets = λ w. sets-none w (λ w c. sent_sets txs c) given (inr refl) [] refl;
             finds = inl (refl, glances-none x.0 entered (refl, tt));
             answered = inl (count, done, omega (arith, few, all, is));
             stored = λ n v has. inl (g.stored n v has);

@@ -128,37 +128,3 @@ module _ (s : Stage) (most : ℕ) (old new : Seats) (seated : AreSeated s most o
         rx_opened = omega (arith, rx_few, rx_most);
         tx_opened = omega (arith, tx_few, tx_most);
       }
-
--- ---- the command of a try
-
--- a command without a change at either board needs no gate
-pub has_no_gate : (queues txs : ℕ) (k : KnownSettings) (c : Command)
-    → receive_change queues k c ≡ None → transmit_change txs c ≡ None → HasNoGate c
-has_no_gate queues txs k (give.Reta entry q) r t = tt
-has_no_gate queues txs k (give.Stand app cpu) r t = tt
-has_no_gate queues txs k give.Expire r t = tt
-has_no_gate queues txs k (give.Mask q mask) r t = absurd (cc)
-has_no_gate queues txs k (give.Flows q count) r t = absurd (cc)
-has_no_gate queues txs k (give.Sock size) r t = absurd (cc)
-has_no_gate queues txs k (give.Offline cpu) r t = absurd (cc)
-has_no_gate queues txs k (give.Online cpu) r t = absurd (cc)
-has_no_gate queues txs k (give.XCpus tx mask) r t = absurd (cc)
-has_no_gate queues txs k (give.XQueues tx rxqs) r t = absurd (cc)
-
-pub tries_receive : (s : Stage) (k : KnownSettings) (c : Command) (m : Change) (answer : Answer)
-    (old new : Seats) → receive_change (length s.shared.given.homes) k c ≡ Some m
-    → TriesBy s c (Some m) None answer old new
-    → TriesBy s c (receive_change (length s.shared.given.homes) k c)
-    (transmit_change s.shared.given.txs c) answer old new
-tries_receive s k c m answer old new is a =
-    subst (λ r. TriesBy s c r (transmit_change s.shared.given.txs c) answer old new) (sym is) a
-
-pub tries_other : (s : Stage) (k : KnownSettings) (c : Command) (t : Option Change)
-    (answer : Answer) (old new : Seats)
-    → receive_change (length s.shared.given.homes) k c ≡ None
-    → transmit_change s.shared.given.txs c ≡ t → TriesBy s c None t answer old new
-    → TriesBy s c (receive_change (length s.shared.given.homes) k c)
-    (transmit_change s.shared.given.txs c) answer old new
-tries_other s k c t answer old new none is a =
-    subst (λ r. TriesBy s c r (transmit_change s.shared.given.txs c) answer old new) (sym none)
-    (subst (λ z. TriesBy s c None z answer old new) (sym is) a)

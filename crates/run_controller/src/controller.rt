@@ -77,8 +77,8 @@ impl Controller {
             self.new.commands.items (first_known plan.now) self.new.known seats.old seats.new }
     {
         let commands = plan.commands();
-        for i in 0..commands.len() {
-            self.give(plan.tries, commands[i], shared, rx, tx, seats, pace, number);
+        for command in commands {
+            self.give(plan.tries, *command, shared, rx, tx, seats, pace, number);
         }
         pace.turn(number, self.commands.len() as u64 + 1);
     }
