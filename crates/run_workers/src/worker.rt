@@ -49,8 +49,8 @@ impl Worker {
         polled | drained | served | shipped | !free
     }
 
-    // Whether no actor has a packet in hand.
-    fn is_free(&self) -> bool
+    /// Whether no actor has a packet in hand.
+    pub fn is_free(&self) -> bool
         ensures { result ≡ is_free self.now }
     {
         pollers_are_free(&self.pollers)

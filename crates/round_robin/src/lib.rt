@@ -1,0 +1,7 @@
+//! Items that are dealt out in turn: hand h has those whose numbers leave h when divided by the number
+//! of hands.
+#![tactic(auto)]
+
+mod hands;
+
+pub use hands::gather;
