@@ -1,6 +1,7 @@
 -- What the controller knows agrees with the words of its settings.
-use Rattle.std.proofs.Common.{◌≡◌, ◌≢◌, ℕ, zero, suc, ◌+◌, ◌*◌, ◌/◌, ◌^◌, ◌<◌, ◌==◌, ◌&&◌, Bool, true}
-use Rattle.std.proofs.Common.{false, List, [], ◌∷◌, Option, Some, None, length, map, All}
+use Rattle.std.proofs.Common.{◌≡◌, ℕ, zero, suc, ◌+◌, ◌*◌, ◌/◌, ◌^◌, ◌<◌, ◌==◌, ◌&&◌}
+use Rattle.std.proofs.Common.{Bool, true}
+use Rattle.std.proofs.Common.{false, List, [], ◌∷◌, Some, None, length, map, All}
 use Rattle.std.proofs.Common.{if◌then◌else◌, refl, sym, ap, subst, ◌∙◌, arith}
 use Rattle.std.specs.Prelude.{replicate, slice_index, slice_set}
 use Rattle.std.proofs.lemmas.List.{get_or-set_same, get_or-set_other}
@@ -15,7 +16,6 @@ use Rattle.steer_base.specs.declared.command.Command.{Command}
 use Rattle.steer_base.specs.declared.command.Command.TheVariants as give
 use Rattle.history.specs.declared.commanded.Commanded.{Commanded}
 use Rattle.history.specs.declared.history.History.{History}
-use Rattle.history.specs.declared.lane_list.LaneList.{LaneList}
 use Rattle.hop_rule.proofs.Lists.{none-some, some-is}
 use Rattle.hop_delivery.specs.Orders.Commands.{SettingChange, made, next_flows, received_sets}
 use Rattle.hop_delivery.specs.Orders.Commands.{sent_sets}
@@ -29,7 +29,7 @@ use Rattle.run_words.specs.Values.{flows_word}
 use Rattle.run_laws.specs.Ties.Inputs.{AreReceiveWords, NamesReceiveQueues}
 use Rattle.run_laws.specs.Ties.Tries.{Try, settings_by}
 use Rattle.run_laws.proofs.Tries.ResizeLemmas.{resizes_by}
-use Rattle.run_controller.specs.Journals.{known_by, known_from}
+use Rattle.run_controller.specs.Journals.{known_from}
 use Rattle.run_controller.specs.Settings.{KnownSettings, first_known, generations_after}
 use Rattle.run_controller.specs.Settings.{known_after, receive_change, transmit_change}
 use Rattle.run_controller.specs.declared.change.Change.{Change}
@@ -127,8 +127,8 @@ module _ (plan : Plan) (p : ℕ) where
     where
       by_done : (b : Bool) → slice_index (known_at ts).generations p ≡ resizes_by p ts
           → NamesReceiveQueues (length plan.queues) t.given.command
-          → slice_index (if b then known_after (known_at ts) t.given.command else known_at ts).generations
-          p
+          → slice_index
+          (if b then known_after (known_at ts) t.given.command else known_at ts).generations p
           ≡ (if is_flows p t.given.command && b then suc (resizes_by p ts) else resizes_by p ts)
       by_done true older named =
           done-raises t.given.command (known_at ts).generations p (resizes_by p ts)

@@ -1,7 +1,7 @@
 -- What the controller did gives its ties.
-use Rattle.std.proofs.Common.{◌≡◌, ◌⊎◌, inl, inr, ℕ, zero, suc, ◌+◌, ◌<◌, List, [], ◌∷◌, ◌++◌, Some}
+use Rattle.std.proofs.Common.{◌≡◌, ◌⊎◌, inl, inr, ℕ, zero, suc, List, [], ◌∷◌, ◌++◌, Some}
 use Rattle.std.proofs.Common.{length, map, All, refl, sym, ap, subst, ◌∙◌, arith, append_assoc}
-use Rattle.std.specs.Prelude.{slice_get, slice_index}
+use Rattle.std.specs.Prelude.{slice_get}
 use Rattle.std.specs.List.{Contains}
 use Rattle.std.proofs.lemmas.List.{length-map}
 use Rattle.std.proofs.lemmas.List.Elements.{All-cons, All-head, All-nil, All-tail}
@@ -11,19 +11,18 @@ use Rattle.hint_words.specs.declared.step.HintStep.TheVariants.{Store}
 use Rattle.history.specs.declared.commanded.Commanded.{Commanded}
 use Rattle.history.specs.declared.history.History.{History}
 use Rattle.hop_rule.proofs.Lists.{none-some}
-use Rattle.hop_rule.specs.declared.step.BoardStep.{BoardStep}
 use Rattle.board_api.specs.Views.{BoardView}
 use Rattle.hop_delivery.specs.Orders.Commands.{received_sets, sent_sets}
 use Rattle.hop_delivery.specs.Orders.ReceiveSettings.{Queues, queues}
 use Rattle.plan_reader.specs.declared.plan.QueuePlan.{QueuePlan}
 use Rattle.steer_base.specs.Commands.{refusal}
-use Rattle.steer_model.specs.Good.Inputs.{Input, WasDone, setup_in}
+use Rattle.steer_model.specs.Good.Inputs.{Input, setup_in}
 use Rattle.steer_model.specs.State.Settings.{Settings}
 use Rattle.steer_model.specs.State.Setup.{Setup}
 use Rattle.steer_model.specs.State.Start.{initial_settings}
 use Rattle.run_hands.specs.declared.shared.Shared.{Shared}
 use Rattle.run_laws.specs.Laws.SharedCodes.{AreShared}
-use Rattle.run_laws.specs.Ties.Answers.{AllAnswered, IsAnswered}
+use Rattle.run_laws.specs.Ties.Answers.{AllAnswered}
 use Rattle.run_laws.specs.Ties.EmptiedLanes.{AllFindLanes}
 use Rattle.run_laws.specs.Ties.Hints.{HintCodes}
 use Rattle.run_laws.specs.Ties.Inputs.{NamesReceiveQueues, receive_queues}
@@ -35,7 +34,6 @@ use Rattle.run_laws.proofs.Tries.RangeLemmas.{IsWithinPlan}
 use Rattle.run_laws.proofs.Tries.ResizeLemmas.{resizes_by}
 use Rattle.run_laws.proofs.Tries.WordLemmas.{words_are}
 use Rattle.run_actors.specs.Gated.{GatedTriesKeep}
-use Rattle.run_actors.specs.Wires.{HintView}
 use Rattle.run_controller.specs.Attempts.{TriesUnless}
 use Rattle.run_controller.specs.Journals.{AllAttempted, known_from}
 use Rattle.run_controller.specs.Laws.{AreBoards, ControllerKeepsTies, IsStoredFor}
@@ -205,8 +203,8 @@ module _ (i : Input) (h : History) (hints : Shared) (rx tx : BoardView)
       let head = All-head (Within i) g rest within in
       let k : KnownSettings = known_from first (given_in a.tries) in
       let tried : TriesUnless z k g.command
-          (refusal k.settings.online g.command (setup_in i).homes k.settings.stands)
-          g.answer mid new =
+      (refusal k.settings.online g.command (setup_in i).homes k.settings.stands)
+      g.answer mid new =
       subst (λ (gs : List Commanded). TriesUnless z (known_from first gs) g.command
       (refusal (known_from first gs).settings.online g.command (setup_in i).homes
       (known_from first gs).settings.stands) g.answer mid new) (sym a.givens) attempt in
@@ -226,11 +224,21 @@ stored_for : (h : History) (c : HintCodes) (late : List Commanded) (g : Commande
 stored_for h c late g n v shared journal among by =
     elim by [
       | inl (entry, r, number, value, is) ↦
-          inl (entry, r, number ∙ sym (shared.entry entry), value ∙ sym (shared.place r),
-          done (record { command = give.Reta entry r; answer = says.Done }) is)
+          inl (
+            entry,
+            r,
+            number ∙ sym (shared.entry entry),
+            value ∙ sym (shared.place r),
+            done (record { command = give.Reta entry r; answer = says.Done }) is,
+          )
       | inr (inl (app, cpu, number, value, is)) ↦
-          inr (inl (app, cpu, number ∙ sym (shared.stand app), value ∙ sym (shared.place cpu),
-          done (record { command = give.Stand app cpu; answer = says.Done }) is))
+          inr (inl (
+            app,
+            cpu,
+            number ∙ sym (shared.stand app),
+            value ∙ sym (shared.place cpu),
+            done (record { command = give.Stand app cpu; answer = says.Done }) is,
+          ))
       | inr (inr (place, number, value)) ↦
           inr (inr (place, number ∙ sym (shared.socket place), value))
     ]
@@ -246,10 +254,10 @@ controller_keeps_ties keep i h s rx_own tx_own c last old new shared boards give
     let late : List Commanded = a.late in
     let journal : h.commands ≡ oldest_first late = a.journal in
     let within = within-bare i late
-        (all_within i.plan (bare late) h.commands
-        (journal ∙ ap oldest_first (sym (given-bare late))) gives) in
+    (all_within i.plan (bare late) h.commands
+    (journal ∙ ap oldest_first (sym (given-bare late))) gives) in
     let attempted : AllAttempted (stage_in i h s.shared s.rx s.tx) (first_known i.plan) late old
-        new =
+    new =
     subst (λ (p : Setup × ℕ).
     AllAttempted (stage (record s.shared { given = p.0; filters = p.1 }) s.rx s.tx)
     (first_known i.plan) late old new) (λ j. (given j, filters j)) a.attempted in

@@ -1,7 +1,7 @@
 -- What the controller knows stays in its ranges.
-use Rattle.std.proofs.Common.{◌≡◌, ℕ, zero, suc, ◌+◌, ◌<◌, ◌≤◌, ◌==◌, ◌&&◌, Bool, true, false, List}
-use Rattle.std.proofs.Common.{[], ◌∷◌, length, map, if◌then◌else◌, refl, sym, ap, subst, ◌∙◌, arith}
-use Rattle.std.specs.Prelude.{nat_lt, replicate, slice_index, slice_set}
+use Rattle.std.proofs.Common.{◌≡◌, ℕ, zero, suc, ◌+◌, ◌<◌, ◌≤◌, ◌&&◌, Bool, true, false, List}
+use Rattle.std.proofs.Common.{length, if◌then◌else◌, refl, sym, ap, subst, ◌∙◌, arith}
+use Rattle.std.specs.Prelude.{replicate, slice_index, slice_set}
 use Rattle.std.proofs.lemmas.Bool.{lt-ltb}
 use Rattle.std.proofs.lemmas.List.{get_or-set_same, get_or-set_other, length-set, length-map}
 use mathlib.Core.Logic.{dite}
@@ -129,22 +129,46 @@ sizes_stay given s (give.Stand app cpu) is =
       stands = length-set s.stands app cpu ∙ is.stands;
     }
 sizes_stay given s (give.Sock size) is = record {
-  masks = is.masks; counts = is.counts; maps = is.maps; reta = is.reta; stands = is.stands;
+  masks = is.masks;
+  counts = is.counts;
+  maps = is.maps;
+  reta = is.reta;
+  stands = is.stands;
 }
 sizes_stay given s (give.Offline cpu) is = record {
-  masks = is.masks; counts = is.counts; maps = is.maps; reta = is.reta; stands = is.stands;
+  masks = is.masks;
+  counts = is.counts;
+  maps = is.maps;
+  reta = is.reta;
+  stands = is.stands;
 }
 sizes_stay given s (give.Online cpu) is = record {
-  masks = is.masks; counts = is.counts; maps = is.maps; reta = is.reta; stands = is.stands;
+  masks = is.masks;
+  counts = is.counts;
+  maps = is.maps;
+  reta = is.reta;
+  stands = is.stands;
 }
 sizes_stay given s (give.XCpus tx mask) is = record {
-  masks = is.masks; counts = is.counts; maps = is.maps; reta = is.reta; stands = is.stands;
+  masks = is.masks;
+  counts = is.counts;
+  maps = is.maps;
+  reta = is.reta;
+  stands = is.stands;
 }
 sizes_stay given s (give.XQueues tx rxqs) is = record {
-  masks = is.masks; counts = is.counts; maps = is.maps; reta = is.reta; stands = is.stands;
+  masks = is.masks;
+  counts = is.counts;
+  maps = is.maps;
+  reta = is.reta;
+  stands = is.stands;
 }
 sizes_stay given s (give.Reta entry q) is = record {
-  masks = is.masks; counts = is.counts; maps = is.maps; reta = is.reta; stands = is.stands;
+  masks = is.masks;
+  counts = is.counts;
+  maps = is.maps;
+  reta = is.reta;
+  stands = is.stands;
 }
 sizes_stay given s give.Expire is = is
 
@@ -152,7 +176,11 @@ pub known_done : (given : Setup) (most : ℕ) (k : KnownSettings) (c : Command) 
     → IsKnown given most k → IsKnown given (most + 1) (known_after k c)
 known_done given most k c named is =
     let sizes = sizes_stay given k.settings c (record {
-      masks = is.masks; counts = is.counts; maps = is.maps; reta = is.reta; stands = is.stands;
+      masks = is.masks;
+      counts = is.counts;
+      maps = is.maps;
+      reta = is.reta;
+      stands = is.stands;
     }) in
     record {
       masks = sizes.masks;

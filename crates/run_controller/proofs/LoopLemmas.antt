@@ -1,5 +1,5 @@
 -- What the loops of an expiry and of a clear of the socket flow table have done so far.
-use Rattle.std.proofs.Common.{◌≡◌, ℕ, zero, suc, ◌+◌, ◌≤◌, Bool, true, false, List, [], ◌∷◌, ◌++◌}
+use Rattle.std.proofs.Common.{◌≡◌, ℕ, suc, ◌+◌, ◌≤◌, Bool, true, false, List, [], ◌∷◌, ◌++◌}
 use Rattle.std.proofs.Common.{length}
 use Rattle.std.proofs.Common.{if◌then◌else◌, refl, sym, ap, subst, ◌∙◌, arith}
 use Rattle.hint_words.specs.declared.step.HintStep.{HintStep}
@@ -14,7 +14,7 @@ use Rattle.run_words.specs.declared.hint_word.HintWord.TheVariants as word
 use Rattle.run_hands.specs.declared.shared.Shared.{Shared}
 use Rattle.run_actors.specs.Wires.{HintView, after_step}
 use Rattle.run_controller.specs.Attempts.{AreClears, ClearsSockets}
-use Rattle.run_controller.specs.Expiries.{ExpiresAll, ExpiresFirst, ExpiresOne, cleared_in}
+use Rattle.run_controller.specs.Expiries.{ExpiresAll, ExpiresOne, cleared_in}
 
 -- ---- the socket flow table
 

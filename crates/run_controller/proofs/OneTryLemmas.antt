@@ -1,5 +1,5 @@
 -- What one try of the controller keeps of the ties.
-use Rattle.std.proofs.Common.{◌≡◌, ◌⊎◌, inl, inr, ℕ, zero, suc, ◌+◌, ◌<◌, ◌≤◌, Bool, true, false}
+use Rattle.std.proofs.Common.{◌≡◌, ◌⊎◌, inl, inr, ℕ, suc, ◌+◌, ◌<◌, ◌≤◌, Bool, true, false}
 use Rattle.std.proofs.Common.{List, [], ◌∷◌, ◌++◌, Option, Some, None, length, refl, sym, ap, subst}
 use Rattle.std.proofs.Common.{◌∙◌, arith, append_assoc, if◌then◌else◌}
 use Rattle.std.specs.List.{Contains}
@@ -15,12 +15,11 @@ use Rattle.hint_words.specs.declared.step.HintStep.{HintStep}
 use Rattle.hint_words.specs.declared.step.HintStep.TheVariants.{ClearIf, Load, Store}
 use Rattle.history.specs.declared.commanded.Commanded.{Commanded}
 use Rattle.history.specs.declared.history.History.{History}
-use Rattle.history.specs.declared.lane_list.LaneList.{LaneList}
 use Rattle.hop_rule.specs.declared.sizes.BoardSizes.{BoardSizes}
 use Rattle.hop_rule.specs.declared.step.BoardStep.{BoardStep}
-use Rattle.hop_rule.specs.declared.step.BoardStep.TheVariants.{Gate, Weighed}
+use Rattle.hop_rule.specs.declared.step.BoardStep.TheVariants.{Gate}
 use Rattle.hop_rule.specs.declared.step.GateStep.{GateStep}
-use Rattle.hop_rule.specs.declared.step.GateStep.TheVariants.{Entered, Left, Read}
+use Rattle.hop_rule.specs.declared.step.GateStep.TheVariants.{Entered, Left}
 use Rattle.board_api.specs.Seats.{BoardSeatView}
 use Rattle.board_api.specs.Views.{BoardView}
 use Rattle.hop_delivery.specs.Orders.Commands.{SettingChange, received_sets, sent_sets}
@@ -32,10 +31,10 @@ use Rattle.run_words.specs.Numbers.{hint_number}
 use Rattle.run_words.specs.Values.{place_word}
 use Rattle.run_words.specs.declared.hint_word.HintWord.TheVariants as word
 use Rattle.run_hands.specs.declared.shared.Shared.{Shared}
-use Rattle.run_laws.specs.Ties.Answers.{FindsOneBusy, IsAnswered, IsBusy}
+use Rattle.run_laws.specs.Ties.Answers.{IsAnswered}
 use Rattle.run_laws.specs.Ties.EmptiedLanes.{FindsAllEmpty, NoSets}
 use Rattle.run_laws.specs.Ties.Inputs.{NamesReceiveQueues, receive_queues}
-use Rattle.run_laws.specs.Ties.Tries.{SetsByAnswer, Try, sets_and_openings}
+use Rattle.run_laws.specs.Ties.Tries.{SetsByAnswer, sets_and_openings}
 use Rattle.run_actors.specs.Gated.{GatedTriesKeep, IsGated, KeepsTry}
 use Rattle.run_actors.specs.Wires.{HintView, after_step}
 use Rattle.run_controller.specs.Attempts.{AreClears, ClearsByAnswer, DoesAtOnce, HintsBehind}
@@ -48,7 +47,7 @@ use Rattle.run_controller.specs.declared.change.Change.{Change}
 use Rattle.run_controller.specs.declared.seats.Seats.{Seats}
 use Rattle.run_controller.proofs.AgreeLemmas.{Agrees, as_set, at-receive, at-transmit, receive-none}
 use Rattle.run_controller.proofs.AgreeLemmas.{receive-set, sent-set}
-use Rattle.run_controller.proofs.ListLemmas.{append-none, contains-cases}
+use Rattle.run_controller.proofs.ListLemmas.{contains-cases}
 use Rattle.run_controller.proofs.SeatLemmas.{Glance, expired_steps, first_glances, glances}
 
 -- ---- what a try may store
@@ -278,9 +277,9 @@ module _ (i : Input) (h : History) (hints : Shared) (rx tx : BoardView) where
           let at = at-receive h (queues q) txs k c m is in
           let few = i.plan.within.cpus_within in
           let t = keep i rx.sizes h.lanes a.gated.0 c (as_set m) answer old.rx new.rx
-              boards.rx_left
-              (few-lanes rx.sizes i.plan.cpus boards.rx_lanes few c a.gated.0 a.gated.1)
-              a.gated.2 in
+          boards.rx_left
+          (few-lanes rx.sizes i.plan.cpus boards.rx_lanes few c a.gated.0 a.gated.1)
+          a.gated.2 in
           record {
             rx_steps = t.0;
             tx_steps = [];
@@ -306,8 +305,8 @@ module _ (i : Input) (h : History) (hints : Shared) (rx tx : BoardView) where
           let at = at-transmit h txs c m is in
           let few = i.plan.within.tx_length.at_most in
           let t = keep i tx.sizes h.tx_lanes a.gated.0 c (as_set m) answer old.tx new.tx
-              boards.tx_left
-              (few-lanes tx.sizes txs boards.tx_lanes few c a.gated.0 a.gated.1) a.gated.2 in
+          boards.tx_left
+          (few-lanes tx.sizes txs boards.tx_lanes few c a.gated.0 a.gated.1) a.gated.2 in
           record {
             rx_steps = [];
             tx_steps = t.0;
@@ -354,19 +353,29 @@ module _ (i : Input) (h : History) (hints : Shared) (rx tx : BoardView) where
       at_once_kept (give.Reta entry r) answer old new (done, is) =
           store_kept (give.Reta entry r) (hint_number (word.Redirection entry)) (place_word r)
           answer old new refl refl done
-          (λ n v number value. inl (entry, r, number, value,
-          ap (λ (a : Answer). record { command = give.Reta entry r; answer = a }) done)) is
+          (λ n v number value. inl (
+            entry,
+            r,
+            number,
+            value,
+            ap (λ (a : Answer). record { command = give.Reta entry r; answer = a }) done,
+          )) is
       at_once_kept (give.Stand app cpu) answer old new (done, is) =
           store_kept (give.Stand app cpu) (hint_number (word.Stand app)) (place_word cpu)
           answer old new refl refl done
-          (λ n v number value. inr (inl (app, cpu, number, value,
-          ap (λ (a : Answer). record { command = give.Stand app cpu; answer = a }) done))) is
+          (λ n v number value. inr (inl (
+            app,
+            cpu,
+            number,
+            value,
+            ap (λ (a : Answer). record { command = give.Stand app cpu; answer = a }) done,
+          ))) is
       at_once_kept give.Expire answer old new (count, done, same, e) =
           let given : Commanded = record { command = give.Expire; answer = answer } in
           let x = expired_steps stage_in.shared old.rx new.rx old.hint new.hint count e in
           let entered : List BoardStep = Gate (Entered x.1) ∷ [] in
           let g = first_glances stage_in.shared e.all.outcomes e.first e.last old.hint new.hint
-              e.all.expires in
+          e.all.expires in
           let few = few-cleared e.all.outcomes in
           let all = e.all.all in
           let is = e.all.counted in

@@ -1,7 +1,8 @@
 -- The room that the commands of a plan need, and what a run over them keeps.
-use Rattle.std.proofs.Common.{◌≡◌, ℕ, zero, suc, ◌+◌, ◌*◌, ◌^◌, ◌<◌, ◌≤◌, List, [], ◌∷◌, ◌++◌, Option}
+use Rattle.std.proofs.Common.{◌≡◌, ℕ, zero, suc, ◌+◌, ◌*◌, ◌<◌, ◌≤◌, List, [], ◌∷◌}
+use Rattle.std.proofs.Common.{◌++◌, Option}
 use Rattle.std.proofs.Common.{Some, None, length, take, refl, sym, ap, subst, ◌∙◌, arith, All, map}
-use Rattle.std.proofs.Common.{◌&&◌, ◌-◌, Bool, true, false, length-append}
+use Rattle.std.proofs.Common.{◌&&◌, Bool, true, false, length-append}
 use Rattle.std.specs.Prelude.{drop, nat_lt, slice_index_or}
 use Rattle.std.proofs.Math.Nat.{mul-le-mul_right}
 use Rattle.std.proofs.Math.Seq.{take-add}
@@ -33,7 +34,7 @@ use Rattle.run_controller.specs.declared.controller.TheConstants.{MAX_TRIES}
 use Rattle.run_controller.specs.declared.seats.Seats.{Seats}
 use Rattle.run_controller.proofs.GivingLemmas.{given-more}
 use Rattle.run_controller.proofs.KnownLemmas.{first_is_known}
-use Rattle.run_controller.proofs.WaitLemmas.{attempted_joined, attempted_none}
+use Rattle.run_controller.proofs.WaitLemmas.{attempted_joined}
 
 -- no more commands than steps
 fewer : (ss : List Step) → length (filter_map command_in ss) ≤ length ss
@@ -233,7 +234,7 @@ ran_more s plan cs count d now after old seats new ran less once attempted ready
     let size = ran.size in
     let next = next-times count plan.tries in
     let few = tries-few plan.tries (slice_index_or cs count d) now.commands.items
-        after.commands.items once in
+    after.commands.items once in
     record {
       given = subst (λ (z : List Command × List Commanded). AreGiven plan.tries z.0 z.1)
           (λ j. (sym (take-next cs count d less) j, sym once.journal j))

@@ -1,5 +1,5 @@
 -- The controller's seats after a try.
-use Rattle.std.proofs.Common.{◌≡◌, ◌⊎◌, inl, inr, ℕ, zero, suc, ◌+◌, ◌*◌, ◌^◌, ◌<◌, ◌≤◌, Bool, true}
+use Rattle.std.proofs.Common.{◌≡◌, inl, inr, ℕ, ◌+◌, ◌*◌, ◌^◌, ◌≤◌, Bool, true}
 use Rattle.std.proofs.Common.{false, List, [], ◌∷◌, ◌++◌, Option, Some, None, length, refl, sym, ap}
 use Rattle.std.proofs.Common.{subst, ◌∙◌, arith}
 use Rattle.std.specs.List.{Contains}
@@ -7,7 +7,6 @@ use Rattle.steer_base.specs.Filters.{may_expire}
 use Rattle.steer_base.specs.declared.command.Answer.{Answer}
 use Rattle.steer_base.specs.declared.command.Answer.TheVariants as says
 use Rattle.steer_base.specs.declared.command.Busy.TheVariants.{Inside, NotEmpty}
-use Rattle.steer_base.specs.declared.command.Command.{Command}
 use Rattle.steer_base.specs.declared.cpu_mask.CpuMask.{CpuMask}
 use Rattle.steer_base.specs.declared.filter.Filter.{Filter}
 use Rattle.hint_words.specs.declared.step.HintStep.{HintStep}
@@ -17,7 +16,7 @@ use Rattle.hop_rule.specs.Gates.{closed, openings, visit}
 use Rattle.hop_rule.specs.declared.sizes.BoardSizes.{BoardSizes}
 use Rattle.hop_rule.specs.declared.step.BoardStep.{BoardStep}
 use Rattle.hop_rule.specs.declared.step.BoardStep.TheVariants.{Gate, Weighed}
-use Rattle.hop_rule.specs.declared.step.GateStep.TheVariants.{Entered, Left, NotShut, Opened, Read}
+use Rattle.hop_rule.specs.declared.step.GateStep.TheVariants.{Entered, Left, Opened, Read}
 use Rattle.hop_rule.specs.declared.step.GateStep.TheVariants.{Set, Shut}
 use Rattle.board_api.specs.Calls.Results.{Looked, looking}
 use Rattle.board_api.specs.Calls.Rights.{HasOpen, IsOutside}
@@ -234,7 +233,7 @@ looks_glance shared place value (Some f) old new hint_old hint_new cleared
     (head, flows, adds, clear) =
     let index : ℕ = receive_number (length shared.given.homes) (receive.Flows f.queue) in
     let hints = clears (may_expire f (low_half head) (flows_in flows))
-        (hint_number (word.Filter place)) value hint_old hint_new cleared clear in
+    (hint_number (word.Filter place)) value hint_old hint_new cleared clear in
     record {
       seen = record { index = index; value = flows; lane = f.cpu; word = head } ∷ [];
       steps = ap (λ (s : BoardSeatView). s.steps) adds;
@@ -250,8 +249,8 @@ one_glance : (shared : Shared) (place : ℕ) (old new : BoardSeatView) (hint_old
 one_glance shared place old new hint_old hint_new cleared (value, looks) =
     let number : ℕ = hint_number (word.Filter place) in
     let g = looks_glance shared place value
-        (filter_in value (length shared.given.homes) shared.given.cpus) old new
-        (after_step (Load number value) hint_old) hint_new cleared looks in
+    (filter_in value (length shared.given.homes) shared.given.cpus) old new
+    (after_step (Load number value) hint_old) hint_new cleared looks in
     record {
       seen = g.seen;
       steps = g.steps;

@@ -1,7 +1,7 @@
 -- The controller's seats and its journal after tries.
-use Rattle.std.proofs.Common.{◌≡◌, ℕ, zero, suc, ◌+◌, ◌*◌, ◌<◌, ◌≤◌, ◌==◌, Bool, true, false, List, []}
-use Rattle.std.proofs.Common.{◌∷◌, ◌++◌, Option, Some, None, length, All, refl, sym, ap, subst, ◌∙◌}
-use Rattle.std.proofs.Common.{arith, length-append}
+use Rattle.std.proofs.Common.{◌≡◌, ℕ, ◌+◌}
+use Rattle.std.proofs.Common.{◌∷◌, Option, Some, None, length, ap, ◌∙◌}
+use Rattle.std.proofs.Common.{arith}
 use Rattle.steer_base.specs.Commands.{refusal}
 use Rattle.steer_base.specs.declared.command.Answer.{Answer}
 use Rattle.steer_base.specs.declared.command.Answer.TheVariants as says
@@ -10,7 +10,7 @@ use Rattle.steer_base.specs.declared.command.Command.TheVariants as give
 use Rattle.steer_base.specs.declared.command.Refused.{Refused}
 use Rattle.hint_words.specs.declared.step.HintStep.TheVariants.{Store}
 use Rattle.run_actors.specs.Wires.{HintView}
-use Rattle.run_controller.specs.Attempts.{Attempts, ClearsByAnswer, DoesAtOnce, HasNoGate}
+use Rattle.run_controller.specs.Attempts.{Attempts, ClearsByAnswer, DoesAtOnce}
 use Rattle.run_controller.specs.Attempts.{HintsBehind, TriesBy, TriesUnless}
 use Rattle.run_controller.specs.Settings.{KnownSettings, receive_change, transmit_change}
 use Rattle.run_controller.specs.Stages.{AreSeated, Stage}
@@ -116,7 +116,7 @@ module _ (s : Stage) (most : ℕ) (old new : Seats) (seated : AreSeated s most o
       → Attempts s k c answer old new → AreSeated s (most + 1) new
   attempt_seated k c answer a =
       let stay = unless_stay k c
-          (refusal k.settings.online c s.shared.given.homes k.settings.stands) answer a in
+      (refusal k.settings.online c s.shared.given.homes k.settings.stands) answer a in
       let rx_few = stay.rx.opened in
       let tx_few = stay.tx.opened in
       let rx_most = seated.rx_opened in

@@ -44,9 +44,8 @@ pub record IsGivenOnce (tries : ℕ) (c : Command) (before after : List Commande
   pub journal : after ≡ before ++ block
   pub tried : AreTries tries c block
 
--- The controller has room for a try more: its seats have opened each gate, and it knows of changes
--- of a flow count, no more often than it has noted tries; and the journal has room for as many tries
--- as a plan may ask for.
+-- The seats have opened each gate no more often than tries were noted, no flow count was changed
+-- more often, and the journal has room for as many tries as a plan may ask for at most.
 pub record IsReady (s : Stage) (controller : Controller) (seats : Seats) : Type 0 where
   pub seated : AreSeated s (length controller.commands.items) seats
   pub known : IsKnown s.shared.given (length controller.commands.items) controller.known

@@ -1,5 +1,5 @@
 -- What the controller knows of the settings, and the change that a command makes by it.
-use Rattle.std.specs.Prelude.{◌≡◌, ℕ, ◌+◌, ◌<◌, ◌≤◌, List, Option, None, Some, length, replicate}
+use Rattle.std.specs.Prelude.{◌≡◌, ℕ, ◌+◌, ◌≤◌, List, Option, None, Some, length, replicate}
 use Rattle.std.specs.Prelude.{slice_index, slice_set}
 use Rattle.steer_base.specs.Counters.{rounded_up}
 use Rattle.steer_base.specs.Sets.{with_cpu, without_cpu}

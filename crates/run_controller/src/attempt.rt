@@ -128,12 +128,7 @@ fn affected_lanes(given: &Given, command: &Command) -> CpuMask
 }
 
 // Does a command that needs no gate.
-fn do_at_once<B: Board>(
-    shared: &Shared,
-    board: &B,
-    seats: &mut Seats,
-    command: &Command,
-) -> Answer
+fn do_at_once<B: Board>(shared: &Shared, board: &B, seats: &mut Seats, command: &Command) -> Answer
     requires named { IsNamed shared.now.given command.now }
     requires no_gate { HasNoGate command.now }
     requires seated { IsSeated (B.view board.now) seats.old.rx }
@@ -149,7 +144,9 @@ fn do_at_once<B: Board>(
     match *command {
         Command::Reta(entry, queue) => {
             let word = HintWord::Redirection(entry).number();
-            shared.hints.store(&mut seats.hint, word, place_word(queue.0));
+            shared
+                .hints
+                .store(&mut seats.hint, word, place_word(queue.0));
             Answer::Done
         }
         Command::Stand(app, cpu) => {

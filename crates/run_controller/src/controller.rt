@@ -1,15 +1,12 @@
 //! The controller.
 ghost use Rattle.std.specs.Prelude.{◌≡◌, ◌+◌, ◌-◌, ◌*◌, ◌^◌, ◌<◌, ◌≤◌, [], IfOk, length};
 ghost use Rattle.steer_base.specs.Journals.{grown, journal};
-ghost use Rattle.hop_rule.specs.declared.sizes.TheConstants.{MAX_OPENINGS};
 ghost use Rattle.plan_reader.specs.Ranges.{commands_of};
 ghost use Rattle.steer_model.specs.Good.Commands.{AreGiven, is_busy as was_busy};
 ghost use Rattle.steer_model.specs.State.Start.{setup_of};
-ghost use Rattle.run_controller.specs.Attempts.{Attempts};
-ghost use Rattle.run_controller.specs.Journals.{Attempted, IsGivenOnce, known_by};
+ghost use Rattle.run_controller.specs.Journals.{Attempted, IsGivenOnce, IsReady, known_by};
 ghost use Rattle.run_controller.specs.Settings.{IsKnown, first_known};
 ghost use Rattle.run_controller.specs.Stages.{AreSeated, IsNamed, IsStage, stage};
-ghost use Rattle.run_controller.specs.Journals.{IsReady};
 
 use crate::attempt::attempt;
 use crate::known::Known;

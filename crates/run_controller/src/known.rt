@@ -1,10 +1,10 @@
 //! What the controller knows of the settings.
-ghost use Rattle.std.specs.Prelude.{◌≡◌, ◌+◌, ◌-◌, ◌*◌, ◌<◌, ◌≤◌, ◌^◌, IfOk, IfSome, length, slice_index};
+ghost use Rattle.std.specs.Prelude.{◌≡◌, ◌+◌, ◌-◌, ◌*◌, ◌<◌, ◌≤◌, ◌^◌, IfOk, IfSome, length};
+ghost use Rattle.std.specs.Prelude.{slice_index};
 ghost use Rattle.steer_base.specs.Commands.{refusal};
 ghost use Rattle.steer_base.specs.Counters.{rounded_up};
 ghost use Rattle.steer_base.specs.declared.limits.TheConstants.{MAX_FLOW_COUNT};
 ghost use Rattle.run_words.specs.Values.{flows_word as word_of};
-ghost use Rattle.steer_model.specs.State.Setup.{Setup};
 ghost use Rattle.run_controller.specs.Settings.{IsKnown, first_known, known_after};
 ghost use Rattle.run_controller.specs.Settings as settings;
 ghost use Rattle.run_controller.specs.Stages.{IsNamed};
@@ -17,7 +17,7 @@ use run_words::{
 };
 use std::alloc::Global;
 use std::marker::Model;
-use steer_base::{Command, Cpu, OutOfMemory, Refused, RxQueue, round_up};
+use steer_base::{Command, OutOfMemory, Refused, RxQueue, round_up};
 use steer_model::{Given, InForce};
 
 /// What the controller knows of the settings without reading them, since it alone changes them.

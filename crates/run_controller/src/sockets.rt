@@ -53,6 +53,8 @@ fn clear_sockets(shared: &Shared, seat: &BoardSeat, hint: &mut HintSeat)
     ensures { ClearsSockets hint.old hint.new }
 {
     for entry in 0..MAX_SOCKET_SIZE {
-        shared.hints.store(hint, HintWord::Socket(entry).number(), 0);
+        shared
+            .hints
+            .store(hint, HintWord::Socket(entry).number(), 0);
     }
 }

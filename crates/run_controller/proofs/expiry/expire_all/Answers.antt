@@ -1,4 +1,4 @@
-use Rattle.std.proofs.Common.{◌≡◌, ◌≤◌, ◌+◌, ◌∙◌, ℕ, refl, ap, sym, subst, arith, if◌then◌else◌}
+use Rattle.std.proofs.Common.{◌≡◌, ◌+◌, ◌∙◌, ℕ, refl, ap, sym, subst, arith, if◌then◌else◌}
 use Rattle.run_controller.specs.Expiries.{ExpiresAll}
 use Rattle.run_controller.proofs.LoopLemmas.{expires_more, expires_none, few_expired}
 use Rattle.run_controller.proofs.expiry.expire_all.Given as given
@@ -45,7 +45,7 @@ loop-place-preserved g c =
 pub overflow_add-count : goal.overflow_add-count
 overflow_add-count g c =
     let few = few_expired c.args.shared.now c.loop-place.place c.loop-place.count c.args.seat.now
-        c.loop-place.seat c.args.hint.now c.loop-place.hint c.loop-place.invariant.all in
+    c.loop-place.seat c.args.hint.now c.loop-place.hint c.loop-place.invariant.all in
     let less = c.loop-place-test.true in
     let filters = c.requires.filters in
     omega (arith, few, less, filters)

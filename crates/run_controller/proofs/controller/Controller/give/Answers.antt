@@ -6,7 +6,8 @@ use Rattle.run_controller.proofs.controller.Controller.give.Goals as goal
 
 pub loop-init : goal.loop-init
 loop-init g c =
-    waits_none (stage c.args.shared.now (g.B.Board.view c.args.rx.now) (g.B.Board.view c.args.tx.now))
+    waits_none
+    (stage c.args.shared.now (g.B.Board.view c.args.rx.now) (g.B.Board.view c.args.tx.now))
     c.args.command c.args.self.now c.args.seats.now c.requires.ready
 
 pub attempt-answer-requires-clause-seated : goal.attempt-answer-requires-clause-seated
@@ -90,7 +91,7 @@ returns-then-not-is_busy-clause-ready g c =
 pub returns-clause-once : goal.returns-clause-once
 returns-clause-once g c =
     let s = stage c.args.shared.now (g.B.Board.view c.args.rx.now)
-        (g.B.Board.view c.args.tx.now) in
+    (g.B.Board.view c.args.tx.now) in
     let past = c.loop-test.false in
     let within = c.loop.auto.counter-end in
     let all : c.loop.counter ≡ c.args.tries = omega (arith, past, within) in

@@ -1,4 +1,4 @@
-use Rattle.std.proofs.Common.{◌≡◌, ◌≤◌, ◌*◌, ℕ, List, length, subst, arith, ap}
+use Rattle.std.proofs.Common.{◌≡◌, ◌*◌, List, length, arith, ap}
 use Rattle.plan_reader.specs.Ranges.{commands_of}
 use Rattle.steer_base.specs.declared.command.Command.{Command}
 use Rattle.run_controller.proofs.RoomLemmas.{few_commands, few_tries}
@@ -15,6 +15,6 @@ pub overflow_mul-room : goal.overflow_mul-room
 overflow_mul-room c =
     let few = few_tries c.args.plan.now in
     let is : length c.commands.result.now * c.args.plan.now.tries
-        ≡ length (commands_of c.args.plan.now.steps) * c.args.plan.now.tries =
+    ≡ length (commands_of c.args.plan.now.steps) * c.args.plan.now.tries =
     ap (λ (cs : List Command). length cs * c.args.plan.now.tries) c.commands.ensures in
     omega (arith, few, is)

@@ -1,4 +1,4 @@
-use Rattle.std.proofs.Common.{◌≡◌, ◌∙◌, ℕ, length, ap, sym, subst, arith}
+use Rattle.std.proofs.Common.{◌≡◌, ℕ, length, ap, sym, subst, arith}
 use Rattle.steer_base.specs.Journals.{Journal}
 use Rattle.steer_base.specs.declared.command.Command.{Command}
 use Rattle.history.specs.declared.commanded.Commanded.{Commanded}
@@ -46,7 +46,7 @@ loop-command-preserved g c =
 pub returns-clause-given : goal.returns-clause-given
 returns-clause-given g c =
     let s = stage c.args.shared.now (g.B.Board.view c.args.rx.now)
-        (g.B.Board.view c.args.tx.now) in
+    (g.B.Board.view c.args.tx.now) in
     let past = c.loop-command-test.false in
     let within = c.loop-command.auto.command-index-end in
     let all : c.loop-command.command-index ≡ length c.commands-commands.result.now =
