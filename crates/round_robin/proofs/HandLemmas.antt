@@ -1,6 +1,7 @@
 -- The last item of all is the last of its hand.
 use Rattle.std.proofs.Common.{◌≡◌, ◌≢◌, inl, inr, ℕ, zero, suc, ◌+◌, ◌*◌, ◌/◌, ◌%◌, ◌<◌, ◌≤◌}
-use Rattle.std.proofs.Common.{true, false, ◌⊎◌, nat_lt, List, [], ◌∷◌, ◌++◌, Option, Some, None, length, map, take, drop}
+use Rattle.std.proofs.Common.{true, false, ◌⊎◌, nat_lt, List, [], ◌∷◌, ◌++◌, Option, Some, None}
+use Rattle.std.proofs.Common.{length, map, take, drop}
 use Rattle.std.proofs.Common.{reverse, sym, refl, ap, ◌∙◌, subst, arith, slice_index_or, slice_set}
 use Rattle.std.specs.List.{slice_get}
 use Rattle.std.proofs.lemmas.Grind.{reverse_onto}
@@ -210,7 +211,8 @@ module _ {A : Type 0} (items : List A) (hs : List (List A)) (n left : ℕ) (is :
     an-item : (x : A) × (slice_get items n ≡ Some x)
     an-item = at (slice_get_cases items n).1
       where
-        at : ((x : A) × (n < length items) × (slice_get items n ≡ Some x) × (slice_index_or items n x ≡ x))
+        at : ((x : A) × (n < length items) × (slice_get items n ≡ Some x)
+            × (slice_index_or items n x ≡ x))
             ⊎ ((length items ≤ n) × (slice_get items n ≡ None))
             → (x : A) × (slice_get items n ≡ Some x)
         at (inl (x, less, there, same)) = (x, there)

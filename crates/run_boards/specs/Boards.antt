@@ -32,8 +32,8 @@ receive_sizes plan packets =
       seats = plan.workers + 1;
     }
 
--- The transmit board of a plan, for so many packets: a middle lane for each transmit queue, which is
--- never full, one out lane, and seats as at the receive board.
+-- The transmit board of a plan, for so many packets: a middle lane for each transmit queue, which
+-- is never full, one out lane, and seats as at the receive board.
 abbrev pub transmit_sizes : Plan → ℕ → BoardSizes
 transmit_sizes plan packets =
     record {

@@ -42,8 +42,8 @@ pub struct AllSeats {
 
 impl RunBoards {
     /// Makes the boards and the words for a plan and the packets of a capture, and all their seats.
-    /// `cut` is the length of the capture's cut record in bytes, if it has one. Allocates all memory
-    /// that the boards and the words ever use; the only error is out of memory.
+    /// `cut` is the length of the capture's cut record in bytes, if it has one. Allocates all
+    /// memory that the boards and the words ever use; the only error is out of memory.
     pub fn make(
         alloc: Global,
         plan: &Plan,
