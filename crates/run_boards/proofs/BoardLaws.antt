@@ -1,15 +1,11 @@
 -- The boards that a plan begins with have its settings.
-use Rattle.std.proofs.Common.{◌≡◌, ℕ, zero, suc, ◌+◌, ◌*◌, ◌^◌, ◌<◌, ◌≤◌, List, [], ◌∷◌, Option}
-use Rattle.std.proofs.Common.{Some, None, length, map, sym, refl, ap, ◌∙◌, subst, arith, ◌++◌}
+use Rattle.std.proofs.Common.{◌≡◌, ℕ, zero, suc, ◌+◌, ◌*◌, ◌^◌, ◌<◌, List, [], ◌∷◌, Option}
+use Rattle.std.proofs.Common.{length, map, sym, refl, ap, ◌∙◌, arith, ◌++◌}
 use Rattle.std.specs.Prelude.{slice_get, slice_index, slice_index_or, unwrap_or}
 use Rattle.std.specs.Option.{option_map}
 use Rattle.std.proofs.lemmas.List.{length-append, length-map}
 use Rattle.steer_base.specs.Counters.{rounded_up}
 use Rattle.steer_base.specs.Sets.{first_cpus}
-use Rattle.steer_base.specs.declared.packet.Packet.{Packet}
-use Rattle.history.specs.Lists.{list_at}
-use Rattle.history.specs.declared.history.History.{History}
-use Rattle.board_api.specs.declared.lists.BoardLists.{BoardLists}
 use Rattle.plan_reader.specs.declared.plan.Plan.{Plan}
 use Rattle.plan_reader.specs.declared.plan.QueuePlan.{QueuePlan}
 use Rattle.plan_reader.specs.declared.plan.TxPlan.{TxPlan}
@@ -20,12 +16,9 @@ use Rattle.run_words.specs.First.{FirstValuesStand, first_receive_settings}
 use Rattle.run_words.specs.First.{first_transmit_settings}
 use Rattle.run_words.specs.declared.setting.ReceiveSetting.TheVariants as receive
 use Rattle.run_words.specs.declared.setting.TransmitSetting.TheVariants as transmit
-use Rattle.run_laws.specs.Ties.Boards.{IsReceiveBoard, IsTransmitBoard}
 use Rattle.run_laws.specs.Ties.Inputs.{AreReceiveWords, AreTransmitWords, receive_queues}
 use Rattle.run_laws.proofs.Tries.RangeLemmas.{fit_first}
-use Rattle.run_boards.specs.Boards.{AreBoardsOf, receive_sizes, transmit_sizes}
-use Rattle.run_boards.specs.Laws.{HasItsSettings, PlansFitBoards, BoardsHaveSettings}
-use Rattle.run_boards.specs.declared.boards.RunBoards.{RunBoards}
+use Rattle.run_boards.specs.Laws.{PlansFitBoards, BoardsHaveSettings}
 
 -- ---- values of lists
 

@@ -13,7 +13,6 @@ use Rattle.plan_reader.specs.declared.plan.Plan.{Plan}
 use Rattle.steer_model.specs.State.Start.{setup_of}
 use Rattle.run_words.specs.First.{first_receive_settings, first_transmit_settings}
 use Rattle.run_words.specs.Numbers.{word_count}
-use Rattle.run_hands.specs.declared.shared.Shared.{Shared}
 use Rattle.run_boards.specs.declared.boards.RunBoards.{RunBoards}
 use Rattle.run_boards.specs.declared.boards.AllSeats.{AllSeats}
 

@@ -1,13 +1,12 @@
 -- Laws of the boards that a plan begins with.
-use Rattle.std.specs.Prelude.{◌≡◌, ℕ, ◌+◌, ◌≤◌, List, Option, length}
+use Rattle.std.specs.Prelude.{◌≡◌, ℕ, ◌≤◌, List, Option, length}
 use Rattle.steer_base.specs.declared.packet.Packet.{Packet}
-use Rattle.steer_base.specs.declared.limits.TheConstants.{MAX_SOCKET_SIZE}
 use Rattle.history.specs.Lists.{list_at}
 use Rattle.history.specs.declared.history.History.{History}
 use Rattle.board_api.specs.declared.lists.BoardLists.{BoardLists}
 use Rattle.plan_reader.specs.declared.plan.Plan.{Plan}
 use Rattle.steer_model.specs.Good.Inputs.{Input}
-use Rattle.run_words.specs.declared.hint_word.TheConstants.{FILTER_WORDS, QUEUE_WORDS}
+use Rattle.run_words.specs.declared.hint_word.TheConstants.{QUEUE_WORDS}
 use Rattle.run_hands.specs.Pollers.{HasQueueSettings}
 use Rattle.run_hands.specs.Servers.{HasTransmitSettings}
 use Rattle.run_laws.specs.Ties.Boards.{IsReceiveBoard, IsTransmitBoard}

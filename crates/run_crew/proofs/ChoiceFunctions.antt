@@ -1,0 +1,38 @@
+-- Functions made of what each number below a bound has.
+use Rattle.std.proofs.Common.{◌≡◌, ◌⊎◌, inl, inr, ℕ, ◌<◌, ◌≤◌, List, [], ◌∷◌, Option, Some, zero}
+use Rattle.std.proofs.Common.{None, suc, length, refl, ap, arith}
+use Rattle.std.specs.Prelude.{slice_get}
+use Rattle.std.proofs.lemmas.Bool.{cases_lt}
+
+module _ {A : Type 0} (P : ℕ → A → Type 0) (n : ℕ) (other : A)
+    (below : (k : ℕ) → k < n → (a : A) × P k a) (beyond : (k : ℕ) → n ≤ k → P k other) where
+  by-cases : (k : ℕ) → (k < n) ⊎ (n ≤ k) → (a : A) × P k a
+  by-cases k (inl less) = below k less
+  by-cases k (inr more) = (other, beyond k more)
+
+  -- a function whose value at each number has the property
+  pub chosen : (f : ℕ → A) × ((k : ℕ) → P k (f k))
+  chosen = (λ k. (by-cases k (cases_lt k n)).0, λ k. (by-cases k (cases_lt k n)).1)
+
+abbrev or_else : {A : Type 0} → A → Option A → A
+or_else x None = x
+or_else x (Some z) = z
+
+pub some-is : {A : Type 0} (x y : A) → Some x ≡ Some y → x ≡ y
+some-is x y same = ap (or_else x) same
+
+pub none-some : {A B : Type 0} (x : A) → None ≡ Some x → B
+none-some x e = cc
+
+-- the item at a place within a list
+pub item-at : {A : Type 0} (xs : List A) (k : ℕ) → k < length xs
+    → (x : A) × (slice_get xs k ≡ Some x)
+item-at [] k less = absurd (omega arith)
+item-at (x ∷ xs) zero less = (x, refl)
+item-at (x ∷ xs) (suc k) less = item-at xs k (omega arith)
+
+pub is-within : {A : Type 0} (xs : List A) (k : ℕ) (x : A) → slice_get xs k ≡ Some x
+    → k < length xs
+is-within [] k x there = none-some x there
+is-within (y ∷ xs) zero x there = omega arith
+is-within (y ∷ xs) (suc k) x there = let rest = is-within xs k x there in omega (arith, rest)

@@ -1,0 +1,13 @@
+mod ChoiceFunctions
+mod StoryLemmas
+mod QueueTurnLemmas
+mod QueueLemmas
+mod ReplyTurnLemmas
+mod ReplyLemmas
+mod DrainLemmas
+mod AcceptedLemmas
+mod ArrivalLemmas
+mod CountLemmas
+mod StoreLemmas
+mod RunLemmas
+mod RoundLemmas

@@ -1,0 +1,138 @@
+-- The ties of the receive queues, from the records of their pollers.
+use Rattle.std.proofs.Common.{◌≡◌, ℕ, ◌%◌, ◌<◌, ◌≤◌, List}
+use Rattle.std.proofs.Common.{Some, length, map, sym, refl, ap, ◌∙◌, subst, arith}
+use Rattle.std.specs.Prelude.{slice_index}
+use Rattle.std.specs.List.{Contains}
+use Rattle.linearization.specs.Seats.{SeatView}
+use Rattle.steer_base.specs.declared.choice.Chosen.{Chosen}
+use Rattle.hint_words.specs.declared.step.HintStep.{HintStep}
+use Rattle.history.specs.Lists.{arrivals_at, list_at}
+use Rattle.history.specs.declared.history.History.{History}
+use Rattle.hop_rule.specs.Moments.{nth_step}
+use Rattle.hop_rule.specs.declared.step.BoardStep.{BoardStep}
+use Rattle.hop_rule.proofs.Lists.{none-some}
+use Rattle.hop_delivery.specs.Orders.Runs.{Story, turns_of}
+use Rattle.hop_delivery.specs.Orders.Turns.{Turn}
+use Rattle.steer_model.specs.Good.Inputs.{Input, setup_in}
+use Rattle.run_laws.specs.Laws.SharedCodes.{AreShared}
+use Rattle.run_laws.specs.Ties.Hints.{HintCodes}
+use Rattle.run_records.specs.Polling.{IsPolling}
+use Rattle.run_records.specs.QueueTies.{IsQueueTied, PollersAreTied, words_seen}
+use Rattle.run_workers.specs.Actors.{Each}
+use Rattle.run_workers.specs.Stages.{StageView}
+use Rattle.run_crew.specs.Crews.{IsPlayed, pollers_of}
+use Rattle.run_crew.specs.declared.seated.Seated.{Seated}
+use Rattle.run_crew.specs.QueueLaws.{QueuesAreTied, QueuesKeepTies, ReceiveEnds}
+use Rattle.run_crew.specs.Stories.{SeatTurns, queue_story}
+use Rattle.run_crew.proofs.ChoiceFunctions.{chosen}
+use Rattle.run_crew.proofs.QueueTurnLemmas.{board-turns, has, home-count, keeps-poller}
+use Rattle.run_crew.proofs.QueueTurnLemmas.{queue-is}
+use Rattle.run_crew.proofs.StoryLemmas.{keep-turns, none-beyond}
+
+module _ (law : PollersAreTied) (i : Input) (h : History) (t : StageView) (crew : List Seated)
+    (turns : ℕ → SeatTurns) (own : ℕ → List BoardStep) (c : HintCodes)
+    (seats : List (SeatView HintStep)) (e : ReceiveEnds i t crew turns own h.choices)
+    (codes : AreShared c) (among : Each (λ w x. Contains seats x.seats.hint) crew) where
+  abbrev W : ℕ
+  W = length crew
+
+  abbrev Q : ℕ
+  Q = length i.plan.queues
+
+  abbrev story : Story
+  story = queue_story crew turns h.choices (arrivals_at h.arrivals)
+
+  -- the ties of queue p at the seat that steers it
+  abbrev IsTied : ℕ → (ℕ → ℕ → ℕ) → Type 0
+  IsTied p seen = IsQueueTied i t.rx.sizes (own (p % W)) c seats story p seen
+
+  module _ (q : ℕ) (less : q < Q) where
+    abbrev p : IsPlayed crew pollers_of q
+    p = e.work.pollers q less
+
+    polling : IsPolling (setup_in i) ((has i t crew turns own h.choices e (q % W) p.by p.worker).is.first q)
+        t.rx.sizes.start p.actor (turns (q % W)).steered p.by.seats.hint.steps
+    polling =
+        let y = has i t crew turns own h.choices e (q % W) p.by p.worker in
+        let k = keeps-poller i t crew turns own h.choices e q p in
+        let same = queue-is i t crew turns own h.choices e q p in
+        subst (λ g. IsPolling g (y.is.first q) t.rx.sizes.start p.actor (turns (q % W)).steered
+        p.by.seats.hint.steps) e.given
+        (subst (λ ts. IsPolling t.shared.given (y.is.first q) t.rx.sizes.start p.actor ts
+        p.by.seats.hint.steps) y.steered
+        (subst (λ n. IsPolling t.shared.given (y.is.first n) t.rx.sizes.start p.actor y.is.turns
+        p.by.seats.hint.steps) same k.keeps))
+
+    tied : (seen : ℕ → ℕ → ℕ) × IsTied q seen
+    tied =
+        let y = has i t crew turns own h.choices e (q % W) p.by p.worker in
+        let k = keeps-poller i t crew turns own h.choices e q p in
+        let same = queue-is i t crew turns own h.choices e q p in
+        let room = k.room in
+        let most = e.room in
+        let homes = home-count i t crew turns own h.choices e in
+        let x : IsPolling (setup_in i) (y.is.first q) t.rx.sizes.start p.actor
+        (turns (p.actor.queue % W)).steered p.by.seats.hint.steps =
+        subst (λ n. IsPolling (setup_in i) (y.is.first q) t.rx.sizes.start p.actor
+        (turns (n % W)).steered p.by.seats.hint.steps) (sym same) polling in
+        let within : p.actor.queue < length (setup_in i).homes =
+        subst (λ g. p.actor.queue < length g.homes) e.given k.within in
+        let is : IsQueueTied i t.rx.sizes (own (p.actor.queue % W)) c seats story p.actor.queue
+        (words_seen (length (setup_in i).homes) p.actor.queue x.polled) =
+        law i t.rx.sizes (own (p.actor.queue % W)) c seats p.by.seats.hint story
+        (y.is.first q) p.actor x e.hashes (omega (arith, room, most)) within codes
+        (among (q % W) p.by p.worker) in (
+          words_seen (length (setup_in i).homes) p.actor.queue x.polled,
+          subst (λ n. IsTied n (words_seen (length (setup_in i).homes) p.actor.queue x.polled))
+              same is,
+        )
+
+  -- without turns there is nothing to tie
+  untied : (p : ℕ) → Q ≤ p → IsTied p (λ k w. 0)
+  untied p more =
+      record {
+        hashes = λ k u at. nothing k u at;
+        knows = λ k u at. nothing k u at;
+        knows_sock = λ k u at. nothing k u at;
+        by_table = λ k u at fit. nothing k u at;
+        wants = λ k want u at is. nothing k u at;
+      }
+    where
+      nothing : {B : Type 0} (k : ℕ) (u : Turn) → nth_step (turns_of story p) k ≡ Some u → B
+      nothing k u at =
+          none-some u
+          (sym (ap (λ us. nth_step us k) (none-beyond W Q own (λ w. (turns w).steered) h.choices
+          (board-turns i t crew turns own h.choices e) p more))
+          ∙ at)
+
+  all-tied : (seen : ℕ → ℕ → ℕ → ℕ) × ((p : ℕ) → IsTied p (seen p))
+  all-tied = chosen IsTied Q (λ k w. 0) tied untied
+
+  module _ (taken_count : length h.taken ≡ length i.plan.queues)
+      (taken : (q : ℕ) → slice_index h.taken q ≡ length (list_at h.choices q))
+      (all : (q : ℕ)
+      → map (λ (c : Chosen). c.id) (list_at h.choices q) ≡ arrivals_at h.arrivals q) where
+    keep-ties : QueuesAreTied i h t own c seats story
+    keep-ties =
+        let y = all-tied in
+        record {
+          seen = y.0;
+          keeps = record {
+            turns = keep-turns W Q own (λ w. (turns w).steered) h.choices
+                (board-turns i t crew turns own h.choices e) (arrivals_at h.arrivals) all;
+            choice_lists = e.choices_are.count;
+            taken_lists = taken_count;
+            arrivals = λ p. refl;
+            choices = λ p. refl;
+            taken = taken;
+            hashes = λ p. (y.1 p).hashes;
+            knows = λ p. (y.1 p).knows;
+            knows_sock = λ p. (y.1 p).knows_sock;
+            by_table = λ p. (y.1 p).by_table;
+          };
+          wants = λ p k want u. (y.1 p).wants k want u;
+        }
+
+pub queues_keep_ties : PollersAreTied → QueuesKeepTies
+queues_keep_ties law i h t crew turns own c seats e codes among taken_count taken all =
+    keep-ties law i h t crew turns own c seats e codes among taken_count taken all

@@ -1,0 +1,160 @@
+-- The ties of the applications, from their records.
+use Rattle.std.proofs.Common.{◌≡◌, ℕ, ◌%◌, ◌<◌, ◌≤◌, List, [], Some}
+use Rattle.std.proofs.Common.{All, length, map, sym, refl, ap, ◌∙◌, subst, arith}
+use Rattle.std.specs.Prelude.{slice_get}
+use Rattle.std.specs.List.{Contains}
+use Rattle.std.proofs.lemmas.List.{get_or_past}
+use Rattle.std.proofs.lemmas.List.Elements.{All-nil}
+use Rattle.linearization.specs.Seats.{SeatView}
+use Rattle.hint_words.specs.declared.step.HintStep.{HintStep}
+use Rattle.history.specs.Lists.{list_at}
+use Rattle.history.specs.declared.history.History.{History}
+use Rattle.history.specs.declared.sent.Sent.{Sent}
+use Rattle.hop_rule.specs.Moments.{nth_step}
+use Rattle.hop_rule.specs.declared.step.BoardStep.{BoardStep}
+use Rattle.hop_rule.proofs.Lists.{none-some}
+use Rattle.hop_delivery.specs.Orders.Runs.{Story, turns_of}
+use Rattle.hop_delivery.specs.Orders.Turns.{Turn}
+use Rattle.steer_model.specs.Good.Inputs.{Input, setup_in}
+use Rattle.run_hands.specs.Servers.{HasFlowsBelow}
+use Rattle.run_laws.specs.Laws.SharedCodes.{AreShared}
+use Rattle.run_laws.specs.Ties.Hints.{AreRecorded, CameBy, HintCodes, Stands}
+use Rattle.run_records.specs.ApplicationTies.{ApplicationsAreTied, IsApplicationTied, maps_seen}
+use Rattle.run_records.specs.Replying.{IsReplying}
+use Rattle.run_workers.specs.Actors.{Each}
+use Rattle.run_workers.specs.Stages.{StageView}
+use Rattle.run_crew.specs.Crews.{IsPlayed, servers_of}
+use Rattle.run_crew.specs.declared.seated.Seated.{Seated}
+use Rattle.run_crew.specs.ReplyLaws.{ApplicationsKeepTies, ApplicationsTied, TransmitEnds}
+use Rattle.run_crew.specs.Stories.{SeatTurns, reply_story}
+use Rattle.run_crew.proofs.ChoiceFunctions.{chosen}
+use Rattle.run_crew.proofs.ReplyTurnLemmas.{all-chosen, app-is, board-turns, has, keeps-server}
+use Rattle.run_crew.proofs.StoryLemmas.{keep-turns, none-beyond}
+
+module _ (law : ApplicationsAreTied) (i : Input) (h : History) (t : StageView)
+    (crew : List Seated) (turns : ℕ → SeatTurns) (rx_own own : ℕ → List BoardStep) (c : HintCodes)
+    (seats : List (SeatView HintStep)) (e : TransmitEnds i h t crew turns rx_own own)
+    (codes : AreShared c) (among : Each (λ w x. Contains seats x.seats.hint) crew) where
+  abbrev W : ℕ
+  W = length crew
+
+  abbrev A : ℕ
+  A = length i.plan.apps
+
+  abbrev story : Story
+  story =
+      reply_story crew turns h.tx_choices (λ a. map (λ (s : Sent). s.id) (list_at h.sent a))
+
+  -- the ties of application a at the seat that plays it
+  abbrev IsTied : ℕ → (ℕ → ℕ → ℕ) → Type 0
+  IsTied a seen =
+      IsApplicationTied i h rx_own t.tx.sizes (own (a % W)) c seats story a (list_at h.sent a)
+      (list_at h.writes a) seen
+
+  module _ (a : ℕ) (less : a < A) where
+    abbrev p : IsPlayed crew servers_of a
+    p = e.work.servers a less
+
+    tied : (seen : ℕ → ℕ → ℕ) × IsTied a seen
+    tied =
+        let y = has i h t crew turns rx_own own e (a % W) p.by p.worker in
+        let k = keeps-server i h t crew turns rx_own own e a p in
+        let same = app-is i h t crew turns rx_own own e a p in
+        let j = e.journals a less p in
+        let rx_is = e.rx_lists (a % W) p.by p.worker in
+        let x : IsReplying (setup_in i) y.is.rows t.tx.sizes.start h.arrivals p.actor
+        (turns (p.actor.app % W)).replied (rx_own (a % W)) p.by.seats.hint.steps =
+        subst (λ g. IsReplying g y.is.rows t.tx.sizes.start h.arrivals p.actor
+        (turns (p.actor.app % W)).replied (rx_own (a % W)) p.by.seats.hint.steps) e.given
+        (subst (λ late. IsReplying t.shared.given y.is.rows t.tx.sizes.start late p.actor
+        (turns (p.actor.app % W)).replied (rx_own (a % W)) p.by.seats.hint.steps) e.late
+        (subst (λ n. IsReplying t.shared.given y.is.rows t.tx.sizes.start t.late p.actor
+        (turns (n % W)).replied (rx_own (a % W)) p.by.seats.hint.steps) (sym same)
+        (subst (λ ts. IsReplying t.shared.given y.is.rows t.tx.sizes.start t.late p.actor ts
+        (rx_own (a % W)) p.by.seats.hint.steps) y.replied
+        (subst (λ ds. IsReplying t.shared.given y.is.rows t.tx.sizes.start t.late p.actor
+        y.is.replies ds p.by.seats.hint.steps) (sym rx_is) k.keeps)))) in
+        let flows : HasFlowsBelow (setup_in i) p.actor.sent.room y.is.rows =
+        subst (λ g. HasFlowsBelow g p.actor.sent.room y.is.rows) e.given
+        (subst (λ n. HasFlowsBelow t.shared.given n y.is.rows) (sym k.room) y.is.flows) in
+        let home : slice_get i.plan.apps p.actor.app ≡ Some p.actor.home =
+        ap (slice_get i.plan.apps) same ∙ j.home in
+        let is =
+        law i h rx_own (a % W) t.tx.sizes (own (p.actor.app % W)) c seats p.by.seats.hint
+        story y.is.rows p.actor x e.arrived flows home codes
+        (among (a % W) p.by p.worker) j.hand in (
+          maps_seen x.replied,
+          subst (λ n. IsApplicationTied i h rx_own t.tx.sizes (own (n % W)) c seats story n
+              (list_at h.sent a) (list_at h.writes a) (maps_seen x.replied)) same
+              (subst (λ ws. IsApplicationTied i h rx_own t.tx.sizes (own (p.actor.app % W)) c seats story
+              p.actor.app (list_at h.sent a) ws (maps_seen x.replied)) (sym j.writes)
+              (subst (λ ss. IsApplicationTied i h rx_own t.tx.sizes (own (p.actor.app % W)) c seats story
+              p.actor.app ss p.actor.writes.items (maps_seen x.replied)) (sym j.sent) is)),
+        )
+
+  -- without replies there is nothing to tie
+  untied : (a : ℕ) → A ≤ a → IsTied a (λ k w. 0)
+  untied a more =
+      record {
+        found = λ k s at. nothing k s at;
+        knows = λ k u at. no-turn k u at;
+        picks = λ k u s at. no-turn k u at;
+        by_table = λ k u at. no-turn k u at;
+        queues =
+            subst (λ ss. All (λ (s : Sent). CameBy i h c seats s.id s.rxq) ss) (sym none)
+            (All-nil (λ (s : Sent). CameBy i h c seats s.id s.rxq));
+        stands =
+            subst (λ ss. All (λ (s : Sent). Stands i h c seats a s.cpu) ss) (sym none)
+            (All-nil (λ (s : Sent). Stands i h c seats a s.cpu));
+        writes_are =
+            subst (λ ss. AreRecorded i h c seats rx_own a (map (λ (s : Sent). s.id) ss)
+            (list_at h.writes a)) (sym none) unwritten;
+      }
+    where
+      none : list_at h.sent a ≡ []
+      none = let count = e.sent_count in get_or_past h.sent a [] (omega (arith, more, count))
+
+      unwritten : list_at h.writes a ≡ []
+      unwritten =
+          let count = e.write_count in get_or_past h.writes a [] (omega (arith, more, count))
+
+      nothing : {B : Type 0} (k : ℕ) (s : Sent) → slice_get (list_at h.sent a) k ≡ Some s → B
+      nothing k s at = none-some s (sym (ap (λ ss. slice_get ss k) none) ∙ at)
+
+      no-turn : {B : Type 0} (k : ℕ) (u : Turn) → nth_step (turns_of story a) k ≡ Some u → B
+      no-turn k u at =
+          none-some u
+          (sym (ap (λ us. nth_step us k) (none-beyond W A own (λ w. (turns w).replied)
+          h.tx_choices (board-turns i h t crew turns rx_own own e) a more))
+          ∙ at)
+
+  all-tied : (seen : ℕ → ℕ → ℕ → ℕ) × ((a : ℕ) → IsTied a (seen a))
+  all-tied = chosen IsTied A (λ k w. 0) tied untied
+
+  keep-ties : ApplicationsTied i h t rx_own own c seats story
+  keep-ties =
+      let y = all-tied in
+      record {
+        seen = y.0;
+        keeps = record {
+          turns = keep-turns W A own (λ w. (turns w).replied) h.tx_choices
+              (board-turns i h t crew turns rx_own own e) _
+              (all-chosen i h t crew turns rx_own own e);
+          sent_lists = e.sent_count;
+          choice_lists = e.choice_count;
+          write_lists = e.write_count;
+          replies = λ a. refl;
+          choices = λ a. refl;
+          found = λ a. (y.1 a).found;
+          knows = λ a. (y.1 a).knows;
+          picks = λ a. (y.1 a).picks;
+          by_table = λ a. (y.1 a).by_table;
+        };
+        queues = λ a. (y.1 a).queues;
+        stands = λ a. (y.1 a).stands;
+        writes = λ a. (y.1 a).writes_are;
+      }
+
+pub applications_keep_ties : ApplicationsAreTied → ApplicationsKeepTies
+applications_keep_ties law i h t crew turns rx_own own c seats e codes among =
+    keep-ties law i h t crew turns rx_own own c seats e codes among

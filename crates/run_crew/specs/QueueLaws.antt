@@ -1,0 +1,78 @@
+-- What the workers' records say of the receive queues at the closing of the receive board.
+use Rattle.std.specs.Prelude.{◌≡◌, ℕ, ◌≤◌, ◌<◌, List, [], length, map, slice_index}
+use Rattle.std.specs.List.{Contains}
+use Rattle.linearization.specs.Seats.{SeatView}
+use Rattle.steer_base.specs.declared.choice.Chosen.{Chosen}
+use Rattle.hint_words.specs.declared.step.HintStep.{HintStep}
+use Rattle.history.specs.Lists.{arrivals_at, list_at}
+use Rattle.history.specs.declared.history.History.{History}
+use Rattle.hop_rule.specs.Owns.{puts_of}
+use Rattle.hop_rule.specs.declared.step.BoardStep.{BoardStep}
+use Rattle.hop_delivery.specs.Orders.Runs.{Story}
+use Rattle.steer_model.specs.Good.Inputs.{Input, setup_in}
+use Rattle.run_laws.specs.Laws.SharedCodes.{AreShared}
+use Rattle.run_laws.specs.Ties.Hints.{HintCodes, WantsAreLoaded}
+use Rattle.run_laws.specs.Ties.Inputs.{FlowsHaveOneHash}
+use Rattle.run_laws.specs.Ties.Queues.{KeepsQueues}
+use Rattle.run_laws.specs.Ties.Turns.{KeepsTurns}
+use Rattle.run_workers.specs.Actors.{Each}
+use Rattle.run_workers.specs.Stages.{StageView}
+use Rattle.run_crew.specs.Crews.{AreReceiveLists, AreWorking, IsPlayed, pollers_of}
+use Rattle.run_crew.specs.declared.seated.Seated.{Seated}
+use Rattle.run_crew.specs.Stories.{AreTurnsOf, SeatTurns, queue_story}
+
+-- Each crew has turns.
+abbrev pub CrewsHaveTurns : Type 0
+CrewsHaveTurns =
+    (t : StageView) (crew : List Seated) (queues apps : ℕ) → AreWorking t crew queues apps
+    → (turns : ℕ → SeatTurns) × AreTurnsOf t crew turns
+
+-- The lists of choices are the journals of the pollers, by queue.
+pub record AreChoicesOf (crew : List Seated) (queues : ℕ) (choices : List (List Chosen))
+    : Type 0 where
+  pub count : length choices ≡ queues
+  pub are : (q : ℕ) → q < queues → (p : IsPlayed crew pollers_of q)
+      → list_at choices q ≡ p.actor.choices.items
+
+-- What is given at the closing of the receive board: the workers, their turns and lists, and that no
+-- other seat has put anything.
+pub record ReceiveEnds (i : Input) (t : StageView) (crew : List Seated) (turns : ℕ → SeatTurns)
+    (own : ℕ → List BoardStep) (choices : List (List Chosen)) : Type 0 where
+  pub given : t.shared.given ≡ setup_in i
+  pub hashes : FlowsHaveOneHash i
+  pub room : t.rx.sizes.room ≤ length i.packets
+  pub work : AreWorking t crew (length i.plan.queues) (length i.plan.apps)
+  pub turns_are : AreTurnsOf t crew turns
+  pub lists : AreReceiveLists crew own
+  pub others : (w : ℕ) → length crew ≤ w → puts_of (own w) ≡ []
+  pub choices_are : AreChoicesOf crew (length i.plan.queues) choices
+
+-- The turns of the queues and their choices agree, for any arrivals that are the packets that were
+-- chosen for.
+abbrev pub QueuesKeepTurns : Type 0
+QueuesKeepTurns =
+    (i : Input) (t : StageView) (crew : List Seated) (turns : ℕ → SeatTurns)
+    (own : ℕ → List BoardStep) (choices : List (List Chosen)) (arrivals : ℕ → List ℕ)
+    → ReceiveEnds i t crew turns own choices
+    → ((q : ℕ) → map (λ (c : Chosen). c.id) (list_at choices q) ≡ arrivals q)
+    → KeepsTurns own (queue_story crew turns choices arrivals)
+
+-- What the turns of the queues have seen, and the ties of the queues with it.
+pub record QueuesAreTied (i : Input) (h : History) (t : StageView) (own : ℕ → List BoardStep)
+    (c : HintCodes) (seats : List (SeatView HintStep)) (story : Story) : Type 0 where
+  pub seen : ℕ → ℕ → ℕ → ℕ
+  pub keeps : KeepsQueues i h t.rx.sizes own story seen
+  pub wants : WantsAreLoaded i h c seats story seen
+
+-- If each arrival has its choice, the queues keep their ties with a history that has their choices.
+abbrev pub QueuesKeepTies : Type 0
+QueuesKeepTies =
+    (i : Input) (h : History) (t : StageView) (crew : List Seated) (turns : ℕ → SeatTurns)
+    (own : ℕ → List BoardStep) (c : HintCodes) (seats : List (SeatView HintStep))
+    → ReceiveEnds i t crew turns own h.choices → AreShared c
+    → Each (λ w x. Contains seats x.seats.hint) crew
+    → length h.taken ≡ length i.plan.queues
+    → ((q : ℕ) → slice_index h.taken q ≡ length (list_at h.choices q))
+    → ((q : ℕ) → map (λ (c : Chosen). c.id) (list_at h.choices q) ≡ arrivals_at h.arrivals q)
+    → QueuesAreTied i h t own c seats
+    (queue_story crew turns h.choices (arrivals_at h.arrivals))

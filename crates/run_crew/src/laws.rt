@@ -1,0 +1,62 @@
+//! Lemmas on the workers of a run together: functions without code whose contracts state them.
+ghost use Rattle.run_crew.specs.CountLaws.{FullCountsSuffice};
+ghost use Rattle.run_crew.specs.DrainLaws.{DrainsKeepTies};
+ghost use Rattle.run_crew.specs.QueueLaws.{CrewsHaveTurns, QueuesKeepTies, QueuesKeepTurns};
+ghost use Rattle.run_crew.specs.ReplyLaws.{ApplicationsKeepTies};
+ghost use Rattle.run_crew.specs.RunLaws.{EndedRunsAreRuns};
+ghost use Rattle.run_crew.specs.Sweeps.{CrewsGoOn};
+
+use run_records::{applications_are_tied, pollers_are_tied, stores_are_meant};
+
+/// Lemma: the records of all workers say turns of all seats.
+pub fn crews_have_turns()
+    ensures { CrewsHaveTurns }
+{}
+
+/// Lemma: workers that go on keep what they keep together.
+pub fn crews_go_on()
+    ensures { CrewsGoOn }
+{}
+
+/// Lemma: at the closing of the receive board the turns of the pollers explain the seats' lists and
+/// are those of the journals of choices. If each arrival has its choice, the queues keep their ties,
+/// and each processor that was wanted was loaded.
+pub fn queues_keep_their_ties()
+    ensures turns { QueuesKeepTurns }
+    ensures ties { QueuesKeepTies }
+{
+    pollers_are_tied();
+}
+
+/// Lemma: at the closing of the boards the applications keep their ties: where each packet was
+/// found, the maps that the turns know, choices by the own table, and queues, processors and writes
+/// by what was loaded and read.
+pub fn applications_keep_their_ties()
+    ensures { ApplicationsKeepTies }
+{
+    applications_are_tied();
+}
+
+/// Lemma: at the closing of a board each packet of a lane was delivered to its application's inbox
+/// or to the port, no seat has a packet in hand, and as many packets were retired as the workers
+/// counted.
+pub fn drains_keep_their_ties()
+    ensures { DrainsKeepTies }
+{}
+
+/// Lemma: if not more choices were made than there are packets, and as many packets as there are were
+/// retired at the transmit board or dropped, by the workers' counts, the totals of a run's end are
+/// equal.
+pub fn full_counts_suffice()
+    ensures { FullCountsSuffice }
+{}
+
+/// Lemma: a run has a history that keeps all ties, if its workers, its controller and its wire kept
+/// their records, its boards and hint words have ended, and the count of its sweep is full.
+pub fn ended_runs_are_runs()
+    ensures { EndedRunsAreRuns }
+{
+    pollers_are_tied();
+    applications_are_tied();
+    stores_are_meant();
+}

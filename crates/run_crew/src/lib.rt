@@ -1,0 +1,14 @@
+//! All workers of a run: the sweep that ends it, and what their records say together at the closing.
+#![tactic(auto)]
+
+mod counts;
+mod laws;
+mod rounds;
+mod seated;
+
+pub use laws::{
+    applications_keep_their_ties, crews_go_on, crews_have_turns, drains_keep_their_ties,
+    ended_runs_are_runs, full_counts_suffice, queues_keep_their_ties,
+};
+pub use rounds::sweep;
+pub use seated::Seated;
