@@ -70,7 +70,8 @@ accepted-fit lanes [] = let none = zeros lanes in omega (arith, none)
 accepted-fit lanes (Lane (Freed i (Offered id hash (At n))) ∷ ds) =
     let d : BoardStep = Lane (Freed i (Offered id hash (At n))) in
     let rest = accepted-fit lanes ds in
-    let more = one-more (λ l. length (accepted_by l (d ∷ ds))) (λ l. length (accepted_by l ds)) lanes
+    let more = one-more (λ l. length (accepted_by l (d ∷ ds)))
+    (λ l. length (accepted_by l ds)) lanes
     i (ap (λ o. length (cons_option o (accepted_by i ds))) (if_same i i (Some id) None refl))
     (λ p ne. ap (λ o. length (cons_option o (accepted_by p ds))) (if_other i p (Some id) None ne))
     in

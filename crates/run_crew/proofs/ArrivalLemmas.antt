@@ -23,7 +23,8 @@ arrivals-below n (a ∷ rest) =
     ap length (split-arrivals a rest a.queue)
     ∙ ap (λ b. length (if_there b a.id (arrivals_at rest a.queue))) (eq-eqb a.queue a.queue refl)
     in
-    let more = one-more (λ q. length (arrivals_at (a ∷ rest) q)) (λ q. length (arrivals_at rest q)) n
+    let more = one-more (λ q. length (arrivals_at (a ∷ rest) q))
+    (λ q. length (arrivals_at rest q)) n
     a.queue here
     (λ q other.
     ap length (split-arrivals a rest q)

@@ -241,7 +241,8 @@ module _ (i : Input) (h : History) (t : StageView) (crew : List Seated) (turns :
   retired-counted : (l : ℕ) → l < t.tx.sizes.lanes
       → retired_of (played crew ships_of l) ≡ retired_count t.tx.sizes own l
   retired-counted l less =
-      let tied = drains_keep_ties.transmits t crew Q (length i.plan.apps) own ships e.work e.lists in
+      let tied = drains_keep_ties.transmits t crew Q (length i.plan.apps) own ships e.work
+      e.lists in
       ap retired_of (played-is crew ships_of l (ships.each l less)) ∙ sym (tied.retired l less)
 
   queue-turns : ChoicesAreOfTurns t.rx.sizes rx_own
@@ -293,8 +294,8 @@ module _ (i : Input) (h : History) (t : StageView) (crew : List Seated) (turns :
       }
 
 pub full_counts_suffice : FullCountsSuffice
-full_counts_suffice i h t crew turns rx_seats tx_seats rx_lists tx_lists n rx_ended tx_ended received
-    e ships found inboxes few full =
+full_counts_suffice i h t crew turns rx_seats tx_seats rx_lists tx_lists n rx_ended tx_ended
+    received e ships found inboxes few full =
     full-count i h t crew turns (own_in rx_seats) (own_in tx_seats) rx_lists tx_lists n
     (facts_at_closings t.rx.sizes rx_seats rx_lists rx_ended)
     (facts_at_closings t.tx.sizes tx_seats tx_lists tx_ended) received e ships found inboxes few

@@ -50,7 +50,8 @@ module _ (law : PollersAreTied) (i : Input) (h : History) (t : StageView) (crew 
     abbrev p : IsPlayed crew pollers_of q
     p = e.work.pollers q less
 
-    polling : IsPolling (setup_in i) ((has i t crew turns own h.choices e (q % W) p.by p.worker).is.first q)
+    polling : IsPolling (setup_in i)
+        ((has i t crew turns own h.choices e (q % W) p.by p.worker).is.first q)
         t.rx.sizes.start p.actor (turns (q % W)).steered p.by.seats.hint.steps
     polling =
         let y = has i t crew turns own h.choices e (q % W) p.by p.worker in

@@ -86,10 +86,10 @@ module _ (law : ApplicationsAreTied) (i : Input) (h : History) (t : StageView)
           maps_seen x.replied,
           subst (λ n. IsApplicationTied i h rx_own t.tx.sizes (own (n % W)) c seats story n
               (list_at h.sent a) (list_at h.writes a) (maps_seen x.replied)) same
-              (subst (λ ws. IsApplicationTied i h rx_own t.tx.sizes (own (p.actor.app % W)) c seats story
-              p.actor.app (list_at h.sent a) ws (maps_seen x.replied)) (sym j.writes)
-              (subst (λ ss. IsApplicationTied i h rx_own t.tx.sizes (own (p.actor.app % W)) c seats story
-              p.actor.app ss p.actor.writes.items (maps_seen x.replied)) (sym j.sent) is)),
+              (subst (λ ws. IsApplicationTied i h rx_own t.tx.sizes (own (p.actor.app % W)) c seats
+              story p.actor.app (list_at h.sent a) ws (maps_seen x.replied)) (sym j.writes)
+              (subst (λ ss. IsApplicationTied i h rx_own t.tx.sizes (own (p.actor.app % W)) c seats
+              story p.actor.app ss p.actor.writes.items (maps_seen x.replied)) (sym j.sent) is)),
         )
 
   -- without replies there is nothing to tie

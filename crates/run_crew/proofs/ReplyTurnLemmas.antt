@@ -161,5 +161,7 @@ module _ (i : Input) (h : History) (t : StageView) (crew : List Seated) (turns :
       at (inr more) =
           let chosen = e.choice_count in
           let sent = e.sent_count in
-          ap (map (λ (c : Chosen). c.id)) (get_or_past h.tx_choices a [] (omega (arith, more, chosen)))
-          ∙ sym (ap (map (λ (s : Sent). s.id)) (get_or_past h.sent a [] (omega (arith, more, sent))))
+          ap (map (λ (c : Chosen). c.id))
+          (get_or_past h.tx_choices a [] (omega (arith, more, chosen)))
+          ∙ sym (ap (map (λ (s : Sent). s.id))
+          (get_or_past h.sent a [] (omega (arith, more, sent))))

@@ -204,7 +204,8 @@ module _ (laws : RecordLaws) (i : Input) (h : History) (e : RunEnds i h) where
       x.seats.hint.steps) y.noted y.is.stores))))
 
   stores-meant : StoresAreMeant i h e.codes e.hint_seats story
-  stores-meant = laws.each i h e.codes story e.hint_seats (λ seat has. at seat (e.hints.each seat has))
+  stores-meant =
+      laws.each i h e.codes story e.hint_seats (λ seat has. at seat (e.hints.each seat has))
     where
       at : (seat : SeatView HintStep)
           → ((w : ℕ) × (x : Seated) × (slice_get e.crew w ≡ Some x) × (x.seats.hint ≡ seat))

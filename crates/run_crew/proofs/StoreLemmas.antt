@@ -61,7 +61,8 @@ all-given : (plan : Plan) (ts : List Try)
     → All (λ (g : Commanded). IsWithinPlan plan g.command) (map (λ (t : Try). t.given) ts)
 all-given plan [] all = All-nil (λ (g : Commanded). IsWithinPlan plan g.command)
 all-given plan (t ∷ ts) all =
-    All-cons (λ (g : Commanded). IsWithinPlan plan g.command) t.given (map (λ (t : Try). t.given) ts)
+    All-cons (λ (g : Commanded). IsWithinPlan plan g.command) t.given
+    (map (λ (t : Try). t.given) ts)
     (All-head (λ (t : Try). IsWithinPlan plan t.given.command) t ts all)
     (all-given plan ts (All-tail (λ (t : Try). IsWithinPlan plan t.given.command) t ts all))
 

@@ -77,7 +77,8 @@ pub actor-is : (about : BoardSizes) (count w k : ℕ) → about.seats ≡ count 
     → actor_at about w k ≡ k * count + w
 actor-is about count w k seats some =
     let whole : max 1 (about.seats - 1) ≡ count = omega (arith, seats, some) in
-    ap (λ m. w + m * k) whole ∙ (ap (λ m. w + m) (nat.mul_comm count k) ∙ nat.add_comm w (k * count))
+    ap (λ m. w + m * k) whole
+    ∙ (ap (λ m. w + m) (nat.mul_comm count k) ∙ nat.add_comm w (k * count))
 
 pub actor-seat : (about : BoardSizes) (count w k : ℕ) → about.seats ≡ count + 1 → w < count
     → actor_at about w k % count ≡ w

@@ -30,8 +30,8 @@ actor_of kind (Some x) k = slice_get (kind x) k
 abbrev pub played : {A : Type 0} → List Seated → (Seated → List A) → ℕ → Option A
 played crew kind n = actor_of kind (slice_get crew (n % length crew)) (n / length crew)
 
--- How many packets a queue has accepted, how many a transmit queue has retired, and how many a queue
--- has chosen for; 0 if no worker plays it.
+-- How many packets a queue has accepted, how many a transmit queue has retired, and how many a
+-- queue has chosen for; 0 if no worker plays it.
 abbrev pub accepted_of : Option Poller → ℕ
 accepted_of None = 0
 accepted_of (Some p) = p.accepted

@@ -17,7 +17,8 @@ abbrev pub servers_of : Seated → List Server
 servers_of x = x.worker.servers.items
 
 -- Where an actor is played: by this worker, as this one of its kind.
-pub record IsPlayed {A : Type 0} (crew : List Seated) (kind : Seated → List A) (n : ℕ) : Type 0 where
+pub record IsPlayed {A : Type 0} (crew : List Seated) (kind : Seated → List A) (n : ℕ)
+    : Type 0 where
   pub by : Seated
   pub actor : A
   pub worker : slice_get crew (n % length crew) ≡ Some by

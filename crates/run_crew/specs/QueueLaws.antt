@@ -34,8 +34,8 @@ pub record AreChoicesOf (crew : List Seated) (queues : ℕ) (choices : List (Lis
   pub are : (q : ℕ) → q < queues → (p : IsPlayed crew pollers_of q)
       → list_at choices q ≡ p.actor.choices.items
 
--- What is given at the closing of the receive board: the workers, their turns and lists, and that no
--- other seat has put anything.
+-- What is given at the closing of the receive board: the workers, their turns and lists, and that
+-- no other seat has put anything.
 pub record ReceiveEnds (i : Input) (t : StageView) (crew : List Seated) (turns : ℕ → SeatTurns)
     (own : ℕ → List BoardStep) (choices : List (List Chosen)) : Type 0 where
   pub given : t.shared.given ≡ setup_in i

@@ -10,7 +10,8 @@ use Rattle.run_workers.specs.Stages.{StageView}
 use Rattle.run_workers.specs.Workers.{IsWorking}
 use Rattle.run_crew.specs.declared.seated.Seated.{Seated}
 
--- What a worker's record says of its seats: the turns at each board, and the writes that were noted.
+-- What a worker's record says of its seats: the turns at each board, and the writes that were
+-- noted.
 pub record SeatTurns : Type 0 where
   pub steered : List (StepBy Turn)
   pub replied : List (StepBy Turn)

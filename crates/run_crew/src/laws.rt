@@ -19,8 +19,8 @@ pub fn crews_go_on()
 {}
 
 /// Lemma: at the closing of the receive board the turns of the pollers explain the seats' lists and
-/// are those of the journals of choices. If each arrival has its choice, the queues keep their ties,
-/// and each processor that was wanted was loaded.
+/// are those of the journals of choices. If each arrival has its choice, the queues keep their
+/// ties, and each processor that was wanted was loaded.
 pub fn queues_keep_their_ties()
     ensures turns { QueuesKeepTurns }
     ensures ties { QueuesKeepTies }
@@ -44,9 +44,9 @@ pub fn drains_keep_their_ties()
     ensures { DrainsKeepTies }
 {}
 
-/// Lemma: if not more choices were made than there are packets, and as many packets as there are were
-/// retired at the transmit board or dropped, by the workers' counts, the totals of a run's end are
-/// equal.
+/// Lemma: if not more choices were made than there are packets, and as many packets as there are
+/// were retired at the transmit board or dropped, by the workers' counts, the totals of a run's end
+/// are equal.
 pub fn full_counts_suffice()
     ensures { FullCountsSuffice }
 {}

@@ -1,4 +1,5 @@
-//! All workers of a run: the sweep that ends it, and what their records say together at the closing.
+//! All workers of a run: the sweep that ends it, and what their records say together at the
+//! closing.
 #![tactic(auto)]
 
 mod counts;
