@@ -1,8 +1,7 @@
 -- What the controller knows stays in its ranges.
-use Rattle.std.proofs.Common.{◌≡◌, ℕ, zero, suc, ◌+◌, ◌<◌, ◌≤◌, ◌&&◌, Bool, true, false, List}
+use Rattle.std.proofs.Common.{◌≡◌, ℕ, zero, suc, ◌+◌, ◌<◌, ◌≤◌, Bool, true, false, List}
 use Rattle.std.proofs.Common.{length, if◌then◌else◌, refl, sym, ap, subst, ◌∙◌, arith}
 use Rattle.std.specs.Prelude.{replicate, slice_index, slice_set}
-use Rattle.std.proofs.lemmas.Bool.{lt-ltb}
 use Rattle.std.proofs.lemmas.List.{get_or-set_same, get_or-set_other, length-set, length-map}
 use mathlib.Core.Logic.{dite}
 use native.Mathlib.Decide.{ℕ_discrete}
@@ -11,8 +10,7 @@ use Rattle.steer_base.specs.declared.command.Command.TheVariants as give
 use Rattle.history.specs.declared.commanded.Commanded.{Commanded}
 use Rattle.plan_reader.specs.declared.plan.Plan.{Plan}
 use Rattle.plan_reader.specs.declared.plan.QueuePlan.{QueuePlan}
-use Rattle.rss_table.specs.declared.reta.TheConstants.{RETA_ENTRIES}
-use Rattle.steer_model.specs.State.Settings.{Settings, changed, IsInRange}
+use Rattle.steer_model.specs.State.Settings.{Settings, changed}
 use Rattle.steer_model.specs.State.Setup.{Setup}
 use Rattle.steer_model.specs.State.Start.{setup_of}
 use Rattle.steer_model.specs.Steps.Commands.{is_done}
@@ -20,28 +18,6 @@ use Rattle.run_controller.specs.Journals.{known_by}
 use Rattle.run_controller.specs.Settings.{IsKnown, KnownSettings, first_known, generations_after}
 use Rattle.run_controller.specs.Settings.{known_after}
 use Rattle.run_controller.specs.Stages.{IsNamed}
-
--- ---- a command in range
-
-pub in_range : (given : Setup) (most : ℕ) (k : KnownSettings) (c : Command) → given.cpus ≤ 32
-    → IsKnown given most k → IsNamed given c → IsInRange k.settings c
-in_range given most k (give.Mask q mask) few is named = subst (λ n. q < n) (sym is.masks) named
-in_range given most k (give.Flows q count) few is named =
-    (subst (λ n. q < n) (sym is.counts) named.0, named.1)
-in_range given most k (give.Sock size) few is named = named
-in_range given most k (give.Offline cpu) few is named = omega (arith, few, named)
-in_range given most k (give.Online cpu) few is named = omega (arith, few, named)
-in_range given most k (give.XCpus tx mask) few is named = subst (λ n. tx < n) (sym is.maps) named
-in_range given most k (give.XQueues tx rxqs) few is named = subst (λ n. tx < n) (sym is.maps) named
-in_range given most k (give.Reta entry q) few is named =
-    both (lt-ltb entry RETA_ENTRIES named.0)
-    (lt-ltb q k.settings.reta.queues (subst (λ n. q < n) (sym is.reta) named.1))
-  where
-    both : {a b : Bool} → a ≡ true → b ≡ true → (a && b) ≡ true
-    both e f = λ j. e j && f j
-in_range given most k (give.Stand app cpu) few is named =
-    subst (λ n. app < n) (sym is.stands) named
-in_range given most k give.Expire few is named = tt
 
 -- ---- a done command
 

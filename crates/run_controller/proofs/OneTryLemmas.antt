@@ -1,7 +1,7 @@
 -- What one try of the controller keeps of the ties.
-use Rattle.std.proofs.Common.{◌≡◌, ◌⊎◌, inl, inr, ℕ, suc, ◌+◌, ◌<◌, ◌≤◌, Bool, true, false}
+use Rattle.std.proofs.Common.{◌≡◌, ◌⊎◌, inl, inr, ℕ, ◌<◌, ◌≤◌, Bool, true, false}
 use Rattle.std.proofs.Common.{List, [], ◌∷◌, ◌++◌, Option, Some, None, length, refl, sym, ap, subst}
-use Rattle.std.proofs.Common.{◌∙◌, arith, append_assoc, if◌then◌else◌}
+use Rattle.std.proofs.Common.{◌∙◌, arith, append_assoc}
 use Rattle.std.specs.List.{Contains}
 use Rattle.steer_base.specs.Sets.{has}
 use Rattle.steer_base.specs.declared.command.Answer.{Answer}
@@ -39,7 +39,6 @@ use Rattle.run_actors.specs.Gated.{GatedTriesKeep, IsGated, KeepsTry}
 use Rattle.run_actors.specs.Wires.{HintView, after_step}
 use Rattle.run_controller.specs.Attempts.{AreClears, ClearsByAnswer, DoesAtOnce, HintsBehind}
 use Rattle.run_controller.specs.Attempts.{TriesAtReceive, TriesAtTransmit, TriesBy, TriesUnless}
-use Rattle.run_controller.specs.Expiries.{cleared_in}
 use Rattle.run_controller.specs.Laws.{AreBoards}
 use Rattle.run_controller.specs.Settings.{KnownSettings, receive_change, transmit_change}
 use Rattle.run_controller.specs.Stages.{Stage, stage}
@@ -48,6 +47,7 @@ use Rattle.run_controller.specs.declared.seats.Seats.{Seats}
 use Rattle.run_controller.proofs.AgreeLemmas.{Agrees, as_set, at-receive, at-transmit, receive-none}
 use Rattle.run_controller.proofs.AgreeLemmas.{receive-set, sent-set}
 use Rattle.run_controller.proofs.ListLemmas.{contains-cases}
+use Rattle.run_controller.proofs.LoopLemmas.{few_expired}
 use Rattle.run_controller.proofs.SeatLemmas.{Glance, expired_steps, first_glances, glances}
 
 -- ---- what a try may store
@@ -146,15 +146,6 @@ glances-set (x ∷ xs) ds = glances-set xs ds
 glances-none : (xs : List Glance) (ds : List BoardStep) → NoSets ds → NoSets (glances xs ++ ds)
 glances-none [] ds none = none
 glances-none (x ∷ xs) ds none = (refl, (refl, glances-none xs ds none))
-
-few-cleared : (outcomes : List Bool) → cleared_in outcomes ≤ length outcomes
-few-cleared [] = omega arith
-few-cleared (b ∷ bs) = by_one b (few-cleared bs)
-  where
-    by_one : (b : Bool) → cleared_in bs ≤ length bs
-        → (if b then cleared_in bs + 1 else cleared_in bs) ≤ suc (length bs)
-    by_one true few = omega arith
-    by_one false few = omega arith
 
 -- ---- one try
 
@@ -376,9 +367,8 @@ module _ (i : Input) (h : History) (hints : Shared) (rx tx : BoardView) where
           let entered : List BoardStep = Gate (Entered x.1) ∷ [] in
           let g = first_glances stage_in.shared e.all.outcomes e.first e.last old.hint new.hint
           e.all.expires in
-          let few = few-cleared e.all.outcomes in
-          let all = e.all.all in
-          let is = e.all.counted in
+          let few = few_expired stage_in.shared i.plan.filters count e.first e.last old.hint
+          new.hint e.all in
           record {
             rx_steps = Gate Left ∷ (glances x.0 ++ entered);
             tx_steps = [];
@@ -390,7 +380,7 @@ module _ (i : Input) (h : History) (hints : Shared) (rx tx : BoardView) where
                 (glances-set x.0 entered);
             tx_sets = λ w. sets-none w (λ w c. sent_sets txs c) given (inr refl) [] refl;
             finds = inl (refl, glances-none x.0 entered (refl, tt));
-            answered = inl (count, done, omega (arith, few, all, is));
+            answered = inl (count, done, few);
             stored = λ n v has. inl (g.stored n v has);
           }
       at_once_kept (give.Mask r mask) answer old new none = absurd none

@@ -47,6 +47,11 @@ attempted_more s before now after first mid last old seats new g a journal tried
     }
 
 -- tries behind tries
+known-joined : (first : KnownSettings) (older newer : List Commanded)
+    → known_from first (newer ++ older) ≡ known_from (known_from first older) newer
+known-joined first older [] = refl
+known-joined first older (g ∷ gs) = ap (λ k. known_by k g) (known-joined first older gs)
+
 all_joined : (s : Stage) (first : KnownSettings) (older newer : List Commanded)
     (old mid new : Seats) → AllAttempted s first older old mid
     → AllAttempted s (known_from first older) newer mid new
@@ -56,13 +61,9 @@ all_joined s first older [] old mid new a same =
 all_joined s first older (g ∷ newer) old mid new a (seats, b, tried) = (
   seats,
   all_joined s first older newer old mid seats a b,
-  subst (λ k. Attempts s k g.command g.answer seats new) (sym (known-joined newer)) tried,
+  subst (λ k. Attempts s k g.command g.answer seats new) (sym (known-joined first older newer))
+      tried,
 )
-  where
-    known-joined : (newer : List Commanded)
-        → known_from first (newer ++ older) ≡ known_from (known_from first older) newer
-    known-joined [] = refl
-    known-joined (g ∷ gs) = ap (λ k. known_by k g) (known-joined gs)
 
 oldest-append : (xs ys : List Commanded)
     → oldest_first (xs ++ ys) ≡ oldest_first ys ++ oldest_first xs
@@ -86,13 +87,9 @@ attempted_joined s before now after first mid last old seats new a b =
       attempted =
           all_joined s first a.late b.late old seats new a.attempted
           (subst (λ k. AllAttempted s k b.late seats new) a.known b.attempted);
-      known = b.known ∙ (ap (λ k. known_from k b.late) a.known ∙ sym (joined b.late));
+      known = b.known
+          ∙ (ap (λ k. known_from k b.late) a.known ∙ sym (known-joined first a.late b.late));
     }
-  where
-    joined : (newer : List Commanded)
-        → known_from first (newer ++ a.late) ≡ known_from (known_from first a.late) newer
-    joined [] = refl
-    joined (g ∷ gs) = ap (λ k. known_by k g) (joined gs)
 
 -- ---- one command
 
