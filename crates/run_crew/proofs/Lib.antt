@@ -11,3 +11,6 @@ mod CountLemmas
 mod StoreLemmas
 mod RunLemmas
 mod RoundLemmas
+mod QuietLemmas
+mod WithinLemmas
+mod FrontLemmas

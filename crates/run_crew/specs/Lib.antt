@@ -4,5 +4,6 @@ pub mod QueueLaws
 pub mod ReplyLaws
 pub mod DrainLaws
 pub mod CountLaws
+pub mod ThreadLaws
 pub mod RunLaws
 pub mod Sweeps

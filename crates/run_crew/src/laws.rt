@@ -5,6 +5,8 @@ ghost use Rattle.run_crew.specs.QueueLaws.{CrewsHaveTurns, QueuesKeepTies, Queue
 ghost use Rattle.run_crew.specs.ReplyLaws.{ApplicationsKeepTies};
 ghost use Rattle.run_crew.specs.RunLaws.{EndedRunsAreRuns};
 ghost use Rattle.run_crew.specs.Sweeps.{CrewsGoOn};
+ghost use Rattle.run_crew.specs.ThreadLaws.{ArrivalsAreWithin, ControllersPutNothing};
+ghost use Rattle.run_crew.specs.ThreadLaws.{FrontsAreChosen};
 
 use run_records::{applications_are_tied, pollers_are_tied, stores_are_meant};
 
@@ -49,6 +51,15 @@ pub fn drains_keep_their_ties()
 /// are equal.
 pub fn full_counts_suffice()
     ensures { FullCountsSuffice }
+{}
+
+/// Lemma: what the contracts of the controller, of the wire and of a ring say of what the end of a
+/// run asks for. A controller puts nothing, arrivals are at queues of the plan, and a poller with
+/// an empty hand has chosen for a front of what arrived at its queue.
+pub fn threads_keep_their_parts()
+    ensures puts { ControllersPutNothing }
+    ensures within { ArrivalsAreWithin }
+    ensures fronts { FrontsAreChosen }
 {}
 
 /// Lemma: a run has a history that keeps all ties, if its workers, its controller and its wire kept
