@@ -1,107 +1,18 @@
 -- The last item of all is the last of its hand.
-use Rattle.std.proofs.Common.{◌≡◌, ◌≢◌, inl, inr, ℕ, zero, suc, ◌+◌, ◌*◌, ◌/◌, ◌%◌, ◌<◌, ◌≤◌}
-use Rattle.std.proofs.Common.{true, false, ◌⊎◌, nat_lt, List, [], ◌∷◌, ◌++◌, Option, Some, None}
-use Rattle.std.proofs.Common.{length, map, take, drop}
-use Rattle.std.proofs.Common.{reverse, sym, refl, ap, ◌∙◌, subst, arith, slice_index_or, slice_set}
+use Rattle.std.proofs.Common.{◌≡◌, inl, inr, ℕ, suc, ◌+◌, ◌-◌, ◌/◌, ◌%◌, ◌<◌, ◌≤◌, ◌⊎◌}
+use Rattle.std.proofs.Common.{true, false, nat_lt, List, [], ◌∷◌, ◌++◌, Some, None}
+use Rattle.std.proofs.Common.{length, map, take, drop, reverse, sym, refl, ap, ◌∙◌, subst, arith}
+use Rattle.std.proofs.Common.{slice_index_or, slice_set}
 use Rattle.std.specs.List.{slice_get}
 use Rattle.std.proofs.lemmas.Grind.{reverse_onto}
+use Rattle.std.proofs.lemmas.List.{length-map, length-set}
 use Rattle.std.proofs.lemmas.Option.{slice_get_cases}
 use Rattle.std.proofs.lemmas.Bool.{cases_Bool, cases_eq, ltb-false, ltb-true}
 use native.Mathlib.Nat as nat
 use Rattle.round_robin.specs.Hands.{AreDealt, hand_at}
-
-module _ {A : Type 0} where
-  none-some : {x : A} → None ≡ Some x → ⊥
-  none-some e = cc
-
-  get-below : (n k : ℕ) (xs : List A) → k < n → slice_get (take n xs) k ≡ slice_get xs k
-  get-below zero k xs less = absurd (omega arith)
-  get-below (suc n) k [] less = refl
-  get-below (suc n) zero (x ∷ xs) less = refl
-  get-below (suc n) (suc k) (x ∷ xs) less = get-below n k xs (omega arith)
-
-  get-past : (n k : ℕ) (xs : List A) → n ≤ k → slice_get (take n xs) k ≡ None
-  get-past zero k xs more = refl
-  get-past (suc n) k [] more = refl
-  get-past (suc n) zero (x ∷ xs) more = absurd (omega arith)
-  get-past (suc n) (suc k) (x ∷ xs) more = get-past n k xs (omega arith)
-
-  -- an item that is not the last of a front is in the front without it
-  get-not-last : (n k : ℕ) (xs : List A) → k ≢ n
-      → slice_get (take (suc n) xs) k ≡ slice_get (take n xs) k
-  get-not-last zero zero xs other = absurd (other refl)
-  get-not-last (suc n) k [] other = refl
-  get-not-last zero (suc k) [] other = refl
-  get-not-last zero (suc k) (x ∷ xs) other = refl
-  get-not-last (suc n) zero (x ∷ xs) other = refl
-  get-not-last (suc n) (suc k) (x ∷ xs) other =
-      get-not-last n k xs (λ same. other (ap suc same))
-
-  get-end : (xs : List A) (x : A) → slice_get (xs ++ x ∷ []) (length xs) ≡ Some x
-  get-end [] x = refl
-  get-end (y ∷ xs) x = get-end xs x
-
-  get-front : (xs ys : List A) (k : ℕ) → k < length xs → slice_get (xs ++ ys) k ≡ slice_get xs k
-  get-front [] ys k less = absurd (omega arith)
-  get-front (x ∷ xs) ys zero less = refl
-  get-front (x ∷ xs) ys (suc k) less = get-front xs ys k (omega arith)
-
-  get-beyond : (xs : List A) (k : ℕ) → length xs ≤ k → slice_get xs k ≡ None
-  get-beyond [] k more = refl
-  get-beyond (x ∷ xs) zero more = absurd (omega arith)
-  get-beyond (x ∷ xs) (suc k) more = get-beyond xs k (omega arith)
-
-  -- a list with an item at a place and none behind it ends there
-  size-by-end : (xs : List A) (k : ℕ) (x : A) → slice_get xs k ≡ Some x
-      → slice_get xs (suc k) ≡ None → length xs ≡ suc k
-  size-by-end [] k x there beyond = absurd (none-some there)
-  size-by-end (y ∷ []) zero x there beyond = refl
-  size-by-end (y ∷ z ∷ ys) zero x there beyond = absurd (none-some (sym beyond))
-  size-by-end (y ∷ ys) (suc k) x there beyond = ap suc (size-by-end ys k x there beyond)
-
-  abbrev onto : List A → Option A → List A
-  onto xs None = []
-  onto xs (Some z) = z ∷ xs
-
-  drop-one : (n : ℕ) (xs : List A) (x : A) → slice_get xs n ≡ Some x
-      → drop n xs ≡ x ∷ drop (suc n) xs
-  drop-one zero [] x there = absurd (none-some there)
-  drop-one (suc n) [] x there = absurd (none-some there)
-  drop-one zero (y ∷ xs) x there = ap (onto xs) there
-  drop-one (suc n) (y ∷ xs) x there = drop-one n xs x there
-
-  -- ---- one hand replaced
-
-  hand-set : (hs : List (List A)) (w : ℕ) (ys : List A) → w < length hs
-      → hand_at (slice_set hs w ys) w ≡ ys
-  hand-set [] w ys less = absurd (omega arith)
-  hand-set (h ∷ hs) zero ys less = refl
-  hand-set (h ∷ hs) (suc w) ys less = hand-set hs w ys (omega arith)
-
-  hand-other : (hs : List (List A)) (w v : ℕ) (ys : List A) → v ≢ w
-      → hand_at (slice_set hs w ys) v ≡ hand_at hs v
-  hand-other [] w v ys other = refl
-  hand-other (h ∷ hs) zero zero ys other = absurd (other refl)
-  hand-other (h ∷ hs) zero (suc v) ys other = refl
-  hand-other (h ∷ hs) (suc w) zero ys other = refl
-  hand-other (h ∷ hs) (suc w) (suc v) ys other =
-      hand-other hs w v ys (λ same. other (ap suc same))
-
-  size-set : (hs : List (List A)) (w : ℕ) (ys : List A)
-      → length (slice_set hs w ys) ≡ length hs
-  size-set [] w ys = refl
-  size-set (h ∷ hs) zero ys = refl
-  size-set (h ∷ hs) (suc w) ys = ap suc (size-set hs w ys)
-
--- ---- quotients
-
--- a number with the same rest as n and no lower quotient is not below n
-not-below : (m n j : ℕ) → j % m ≡ n % m → n / m ≤ j / m → n ≤ j
-not-below m n j rest more =
-    let whole = nat.mod-add-div' n m in
-    let other = nat.mod-add-div' j m in
-    let product : n / m * m ≤ j / m * m = nat.mul-le-mul_right m more in
-    omega (arith, whole, other, product, rest)
+use Rattle.round_robin.proofs.ListLemmas.{drop-one, get-below, get-beyond, get-end, get-front}
+use Rattle.round_robin.proofs.ListLemmas.{get-not-last, get-past, hand-of, hand-other, hand-set}
+use Rattle.round_robin.proofs.ListLemmas.{map-set, not-below, size-by-end, size-set}
 
 module _ {A : Type 0} (items : List A) (hs : List (List A)) (n : ℕ) (some : 0 < length hs)
     (dealt : AreDealt (take (suc n) items) hs) where
@@ -190,23 +101,33 @@ module _ {A : Type 0} (items : List A) (hs : List (List A)) (n : ℕ) (some : 0 
 -- ---- the same by a step of the loop
 
 module _ {A V : Type 0} (f : V → List A) where
-  pub map-set : (xs : List V) (k : ℕ) (v : V)
-      → map f (slice_set xs k v) ≡ slice_set (map f xs) k (f v)
-  map-set [] k v = refl
-  map-set (x ∷ xs) zero v = refl
-  map-set (x ∷ xs) (suc k) v = ap (λ ys. f x ∷ ys) (map-set xs k v)
+  -- Of the items so many are left in the hands, and the others are in all, the last first.
+  pub record AreLeft (items : List A) (hands : List V) (all : List A) (left : ℕ) : Type 0 where
+    pub few : left ≤ length items
+    pub some : 0 < length hands
+    pub dealt : AreDealt (take left items) (map f hands)
+    pub are : all ≡ reverse (drop left items)
 
-  pub hand-of : (xs : List V) (k : ℕ) (d : V) → k < length xs
-      → hand_at (map f xs) k ≡ f (slice_index_or xs k d)
-  hand-of [] k d less = absurd (omega arith)
-  hand-of (x ∷ xs) zero d less = refl
-  hand-of (x ∷ xs) (suc k) d less = hand-of xs k d (omega arith)
+  module _ (items : List A) (hands : List V) (all : List A) (left size : ℕ)
+      (are_left : AreLeft items hands all left) (more : 0 < left) (count : size ≡ length hands)
+      (v : V) (this : v ≡ slice_index_or hands ((left - 1) % size) v) where
+    abbrev n : ℕ
+    n = left - 1
 
-module _ {A : Type 0} (items : List A) (hs : List (List A)) (n left : ℕ) (is : left ≡ suc n)
-    (few : left ≤ length items) (some : 0 < length hs) (dealt : AreDealt (take left items) hs)
-  where
+    abbrev hs : List (List A)
+    hs = map f hands
+
+    is : left ≡ suc n
+    is = omega (arith, more)
+
+    many : length hs ≡ size
+    many = length-map hands f ∙ sym count
+
+    some : 0 < length hs
+    some = let s = are_left.some in omega (arith, s, many, count)
+
     all-dealt : AreDealt (take (suc n) items) hs
-    all-dealt = subst (λ l. AreDealt (take l items) hs) is dealt
+    all-dealt = subst (λ l. AreDealt (take l items) hs) is are_left.dealt
 
     an-item : (x : A) × (slice_get items n ≡ Some x)
     an-item = at (slice_get_cases items n).1
@@ -216,19 +137,47 @@ module _ {A : Type 0} (items : List A) (hs : List (List A)) (n left : ℕ) (is :
             ⊎ ((length items ≤ n) × (slice_get items n ≡ None))
             → (x : A) × (slice_get items n ≡ Some x)
         at (inl (x, less, there, same)) = (x, there)
-        at (inr (more, past)) = absurd (omega (arith, more, is, few))
+        at (inr (beyond, past)) = let f = are_left.few in absurd (omega (arith, beyond, is, f))
 
-    pub not-empty : 0 < length (hand_at hs (n % length hs))
+    is-hand : hand_at hs (n % length hs) ≡ f v
+    is-hand =
+        ap (λ m. hand_at hs (n % m)) many
+        ∙ (hand-of f hands (n % size) v within ∙ ap f (sym this))
+      where
+        within : n % size < length hands
+        within =
+            let below = nat.mod-lt n {m = size} (omega (arith, some, many)) in
+            omega (arith, below, count)
+
+    -- the hand of the last item is not empty
+    pub not-empty : 0 < length (f v)
     not-empty =
-        let size = hand-size items hs n some all-dealt an-item.0 an-item.1 in omega (arith, size)
+        let size = hand-size items hs n some all-dealt an-item.0 an-item.1 in
+        let same = ap length is-hand in omega (arith, size, same)
 
-    module _ (ys : List A) (y : A) (ends : hand_at hs (n % length hs) ≡ ys ++ y ∷ []) where
-      pub dealt-without : AreDealt (take n items) (slice_set hs (n % length hs) ys)
-      dealt-without = still-dealt items hs n some all-dealt an-item.0 an-item.1 ys y ends
+    -- the last item of that hand is the last of all
+    module _ (w : V) (y : A) (ends : f v ≡ f w ++ y ∷ []) where
+      last : Some y ≡ Some an-item.0
+      last =
+          last-is items hs n some all-dealt an-item.0 an-item.1 (f w) y (is-hand ∙ ends)
 
-      pub taken-back : reverse (drop left items) ++ y ∷ [] ≡ reverse (drop n items)
-      taken-back =
-          let same = last-is items hs n some all-dealt an-item.0 an-item.1 ys y ends in
-          ap (λ l. reverse (drop l items) ++ y ∷ []) is
-          ∙ (sym (reverse_onto (drop (suc n) items) y [])
-          ∙ sym (ap reverse (drop-one n items y (an-item.1 ∙ sym same))))
+      pub one-less : (after : List A) → after ≡ all ++ y ∷ []
+          → AreLeft items (slice_set hands (n % size) w) after n
+      one-less after pushed =
+          record {
+            few = let f = are_left.few in omega (arith, f, is);
+            some =
+                let same = length-set hands (n % size) w in
+                let s = are_left.some in omega (arith, same, s);
+            dealt =
+                subst (AreDealt (take n items))
+                (ap (λ m. slice_set hs (n % m) (f w)) many ∙ sym (map-set f hands (n % size) w))
+                (still-dealt items hs n some all-dealt an-item.0 an-item.1 (f w) y
+                (is-hand ∙ ends));
+            are =
+                pushed
+                ∙ (ap (λ xs. xs ++ y ∷ []) are_left.are
+                ∙ (ap (λ l. reverse (drop l items) ++ y ∷ []) is
+                ∙ (sym (reverse_onto (drop (suc n) items) y [])
+                ∙ sym (ap reverse (drop-one n items y (an-item.1 ∙ sym last))))));
+          }

@@ -1,1 +1,3 @@
+mod DealLemmas
 mod HandLemmas
+mod ListLemmas

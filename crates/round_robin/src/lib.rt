@@ -4,4 +4,4 @@
 
 mod hands;
 
-pub use hands::gather;
+pub use hands::{deal, gather};
