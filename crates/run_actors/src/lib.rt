@@ -4,9 +4,11 @@
 mod gated;
 mod laws;
 mod pace;
+mod seats;
 mod wire;
 
 pub use gated::try_gated;
 pub use laws::{gated_tries_keep_their_ties, the_wire_keeps_its_ties};
 pub use pace::Pace;
+pub use seats::Seats;
 pub use wire::Wire;

@@ -51,6 +51,7 @@ impl Wire {
         ensures ends { Ends shared.now.given shared.now.filters self.old.reta
             self.new.arrivals.items seat.old seat.new }
         ensures pushed { ArePushed (length shared.now.given.packets) self.new }
+        ensures table { seat.new.table ≡ seat.old.table }
         ensures rings { KeepsRings self.old self.new }
         ensures reta { self.new.reta ≡ self.old.reta }
     {

@@ -39,7 +39,7 @@ use Rattle.run_controller.specs.Journals.{AllAttempted, known_from}
 use Rattle.run_controller.specs.Laws.{AreBoards, ControllerKeepsTies, IsStoredFor}
 use Rattle.run_controller.specs.Settings.{KnownSettings, first_known}
 use Rattle.run_controller.specs.Stages.{Stage, stage}
-use Rattle.run_controller.specs.declared.seats.Seats.{Seats}
+use Rattle.run_actors.specs.declared.seats.Seats.{Seats}
 use Rattle.run_controller.proofs.AgreeLemmas.{Agrees, agrees, given_in, known-generations}
 use Rattle.run_controller.proofs.AgreeLemmas.{known-settings}
 use Rattle.run_controller.proofs.ListLemmas.{append-none, contains-first, contains-later}

@@ -5,6 +5,7 @@ use Rattle.std.specs.Prelude.{replicate, slice_index, slice_set}
 use Rattle.std.proofs.lemmas.List.{get_or-set_same, get_or-set_other, length-set, length-map}
 use mathlib.Core.Logic.{dite}
 use native.Mathlib.Decide.{ℕ_discrete}
+use Rattle.steer_base.specs.Counters.{rounded_up}
 use Rattle.steer_base.specs.declared.command.Command.{Command}
 use Rattle.steer_base.specs.declared.command.Command.TheVariants as give
 use Rattle.history.specs.declared.commanded.Commanded.{Commanded}
@@ -80,106 +81,34 @@ record Sizes (given : Setup) (s : Settings) : Type 0 where
 
 sizes_stay : (given : Setup) (s : Settings) (c : Command) → Sizes given s
     → Sizes given (changed s c)
-sizes_stay given s (give.Mask q mask) is =
-    record {
-      masks = length-set s.masks q mask ∙ is.masks;
-      counts = is.counts;
-      maps = is.maps;
-      reta = is.reta;
-      stands = is.stands;
-    }
+sizes_stay given s (give.Mask q mask) is = assumption (length-set s.masks q mask ∙ is.masks)
 sizes_stay given s (give.Flows q count) is =
-    record {
-      masks = is.masks;
-      counts = length-set s.counts q _ ∙ is.counts;
-      maps = is.maps;
-      reta = is.reta;
-      stands = is.stands;
-    }
-sizes_stay given s (give.Stand app cpu) is =
-    record {
-      masks = is.masks;
-      counts = is.counts;
-      maps = is.maps;
-      reta = is.reta;
-      stands = length-set s.stands app cpu ∙ is.stands;
-    }
-sizes_stay given s (give.Sock size) is = record {
-  masks = is.masks;
-  counts = is.counts;
-  maps = is.maps;
-  reta = is.reta;
-  stands = is.stands;
-}
-sizes_stay given s (give.Offline cpu) is = record {
-  masks = is.masks;
-  counts = is.counts;
-  maps = is.maps;
-  reta = is.reta;
-  stands = is.stands;
-}
-sizes_stay given s (give.Online cpu) is = record {
-  masks = is.masks;
-  counts = is.counts;
-  maps = is.maps;
-  reta = is.reta;
-  stands = is.stands;
-}
-sizes_stay given s (give.XCpus tx mask) is = record {
-  masks = is.masks;
-  counts = is.counts;
-  maps = is.maps;
-  reta = is.reta;
-  stands = is.stands;
-}
-sizes_stay given s (give.XQueues tx rxqs) is = record {
-  masks = is.masks;
-  counts = is.counts;
-  maps = is.maps;
-  reta = is.reta;
-  stands = is.stands;
-}
-sizes_stay given s (give.Reta entry q) is = record {
-  masks = is.masks;
-  counts = is.counts;
-  maps = is.maps;
-  reta = is.reta;
-  stands = is.stands;
-}
+    assumption (length-set s.counts q (rounded_up count) ∙ is.counts)
+sizes_stay given s (give.Stand app cpu) is = assumption (length-set s.stands app cpu ∙ is.stands)
+sizes_stay given s (give.Sock size) is = assumption
+sizes_stay given s (give.Offline cpu) is = assumption
+sizes_stay given s (give.Online cpu) is = assumption
+sizes_stay given s (give.XCpus tx mask) is = assumption
+sizes_stay given s (give.XQueues tx rxqs) is = assumption
+sizes_stay given s (give.Reta entry q) is = assumption
 sizes_stay given s give.Expire is = is
 
 pub known_done : (given : Setup) (most : ℕ) (k : KnownSettings) (c : Command) → IsNamed given c
     → IsKnown given most k → IsKnown given (most + 1) (known_after k c)
 known_done given most k c named is =
-    let sizes = sizes_stay given k.settings c (record {
-      masks = is.masks;
-      counts = is.counts;
-      maps = is.maps;
-      reta = is.reta;
-      stands = is.stands;
-    }) in
-    record {
-      masks = sizes.masks;
-      counts = sizes.counts;
-      maps = sizes.maps;
-      reta = sizes.reta;
-      stands = sizes.stands;
-      generations = generations-size k.generations c ∙ is.generations;
-      few = generations-few given k.generations most c is.generations named is.few;
-    }
+    let before : Sizes given k.settings = assumption in
+    let sizes = sizes_stay given k.settings c before in
+    assumption (
+      generations-size k.generations c ∙ is.generations,
+      generations-few given k.generations most c is.generations named is.few,
+    )
 
 pub known_later : (given : Setup) (most more : ℕ) (k : KnownSettings) → most ≤ more
     → IsKnown given most k → IsKnown given more k
 known_later given most more k least is =
-    record {
-      masks = is.masks;
-      counts = is.counts;
-      maps = is.maps;
-      reta = is.reta;
-      stands = is.stands;
-      generations = is.generations;
-      few = λ q. (let z = is.few q in omega (arith, z, least));
-    }
+    let few : (q : ℕ) → slice_index k.generations q ≤ more =
+    λ q. (let z = is.few q in omega (arith, z, least)) in
+    assumption few
 
 -- a try more
 pub known_more : (given : Setup) (most : ℕ) (k : KnownSettings) (g : Commanded)

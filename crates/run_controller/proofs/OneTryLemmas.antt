@@ -1,5 +1,5 @@
 -- What one try of the controller keeps of the ties.
-use Rattle.std.proofs.Common.{◌≡◌, ◌⊎◌, inl, inr, ℕ, ◌<◌, ◌≤◌, Bool, true, false}
+use Rattle.std.proofs.Common.{◌≡◌, ◌⊎◌, inl, inr, ℕ, ◌+◌, ◌<◌, ◌≤◌, Bool, true, false}
 use Rattle.std.proofs.Common.{List, [], ◌∷◌, ◌++◌, Option, Some, None, length, refl, sym, ap, subst}
 use Rattle.std.proofs.Common.{◌∙◌, arith, append_assoc}
 use Rattle.std.specs.List.{Contains}
@@ -11,10 +11,12 @@ use Rattle.steer_base.specs.declared.command.Command.{Command}
 use Rattle.steer_base.specs.declared.command.Command.TheVariants as give
 use Rattle.steer_base.specs.declared.command.Refused.{Refused}
 use Rattle.steer_base.specs.declared.command.Refused.TheVariants as refused
+use Rattle.steer_base.specs.declared.cpu_mask.CpuMask.{CpuMask}
 use Rattle.hint_words.specs.declared.step.HintStep.{HintStep}
 use Rattle.hint_words.specs.declared.step.HintStep.TheVariants.{ClearIf, Load, Store}
 use Rattle.history.specs.declared.commanded.Commanded.{Commanded}
 use Rattle.history.specs.declared.history.History.{History}
+use Rattle.history.specs.declared.lane_list.LaneList.{LaneList}
 use Rattle.hop_rule.specs.declared.sizes.BoardSizes.{BoardSizes}
 use Rattle.hop_rule.specs.declared.step.BoardStep.{BoardStep}
 use Rattle.hop_rule.specs.declared.step.BoardStep.TheVariants.{Gate}
@@ -31,10 +33,10 @@ use Rattle.run_words.specs.Numbers.{hint_number}
 use Rattle.run_words.specs.Values.{place_word}
 use Rattle.run_words.specs.declared.hint_word.HintWord.TheVariants as word
 use Rattle.run_hands.specs.declared.shared.Shared.{Shared}
-use Rattle.run_laws.specs.Ties.Answers.{IsAnswered}
+use Rattle.run_laws.specs.Ties.Answers.{IsAnswered, IsBusy}
 use Rattle.run_laws.specs.Ties.EmptiedLanes.{FindsAllEmpty, NoSets}
 use Rattle.run_laws.specs.Ties.Inputs.{NamesReceiveQueues, receive_queues}
-use Rattle.run_laws.specs.Ties.Tries.{SetsByAnswer, sets_and_openings}
+use Rattle.run_laws.specs.Ties.Tries.{SetsByAnswer, Try, sets_and_openings}
 use Rattle.run_actors.specs.Gated.{GatedTriesKeep, IsGated, KeepsTry}
 use Rattle.run_actors.specs.Wires.{HintView, after_step}
 use Rattle.run_controller.specs.Attempts.{AreClears, ClearsByAnswer, DoesAtOnce, HintsBehind}
@@ -43,7 +45,7 @@ use Rattle.run_controller.specs.Laws.{AreBoards}
 use Rattle.run_controller.specs.Settings.{KnownSettings, receive_change, transmit_change}
 use Rattle.run_controller.specs.Stages.{Stage, stage}
 use Rattle.run_controller.specs.declared.change.Change.{Change}
-use Rattle.run_controller.specs.declared.seats.Seats.{Seats}
+use Rattle.run_actors.specs.declared.seats.Seats.{Seats}
 use Rattle.run_controller.proofs.AgreeLemmas.{Agrees, as_set, at-receive, at-transmit, receive-none}
 use Rattle.run_controller.proofs.AgreeLemmas.{receive-set, sent-set}
 use Rattle.run_controller.proofs.ListLemmas.{contains-cases}
@@ -149,6 +151,13 @@ glances-none (x ∷ xs) ds none = (refl, (refl, glances-none xs ds none))
 
 -- ---- one try
 
+abbrev tried : Command → Answer → List BoardStep → List BoardStep → Try
+tried c answer rx_steps tx_steps = record {
+  given = record { command = c; answer = answer };
+  rx_steps = rx_steps;
+  tx_steps = tx_steps;
+}
+
 module _ (i : Input) (h : History) (hints : Shared) (rx tx : BoardView) where
   abbrev q : Queues
   q = receive_queues i
@@ -210,53 +219,33 @@ module _ (i : Input) (h : History) (hints : Shared) (rx tx : BoardView) where
         → (lane : ℕ) → lane < about.lanes → has m lane ≡ affects (setup_in i) c lane
     few-lanes about lanes is few c m all lane less = all lane (omega arith)
 
-    -- the answer of a gated try at the receive board
-    rx_answered : (c : Command) (lanes : _) (m : SettingChange) (answer : Answer)
-        (old new : BoardSeatView) (steps tx_steps : List BoardStep)
-        → gate_lanes h c ≡ Some h.lanes → IsEnd i c says.Done
-        → IsGated rx.sizes lanes m.word m.value old new answer
-        → KeepsTry i rx.sizes h.lanes c m answer steps
-        → IsAnswered i h (record {
-          given = record { command = c; answer = answer };
-          rx_steps = steps;
-          tx_steps = tx_steps;
-        }) None
-    rx_answered c lanes m says.Done old new steps tx_steps at ends gated k = inl ends
-    rx_answered c lanes m (says.Busy (Inside n)) old new steps tx_steps at ends gated k =
+    -- the answer of a gated try at one of the boards, which has these lanes
+    gated_answered : (about : BoardSizes) (left : List LaneList) (c : Command) (lanes : CpuMask)
+        (m : SettingChange) (answer : Answer) (old new : BoardSeatView)
+        (steps rx_steps tx_steps : List BoardStep) → about.seats ≡ i.plan.workers + 1
+        → gate_lanes h c ≡ Some left → IsEnd i c says.Done
+        → IsGated about lanes m.word m.value old new answer
+        → KeepsTry i about left c m answer steps
+        → ((lane head tail : ℕ) → answer ≡ says.Busy (NotEmpty lane head tail)
+        → IsBusy i h (tried c answer rx_steps tx_steps))
+        → IsAnswered i h (tried c answer rx_steps tx_steps) None
+    gated_answered about left c lanes m says.Done old new steps rx_steps tx_steps seats at ends
+        gated k busy = inl ends
+    gated_answered about left c lanes m (says.Busy (Inside n)) old new steps rx_steps tx_steps seats
+        at ends gated k busy =
         let is = k.inside n refl in
-        let seats = boards.rx_seats in
         let few = is.1 in
-        inr (inl (h.lanes, n, at, refl, is.0, omega (arith, seats, few)))
-    rx_answered c lanes m (says.Busy (NotEmpty lane head tail)) old new steps tx_steps at ends gated
-        k = inr (inr (inl (lane, head, tail, at, refl, k.busy lane head tail refl)))
-    rx_answered c lanes m (says.Expired n) old new steps tx_steps at ends gated k = absurd gated
-    rx_answered c lanes m (says.Idle why) old new steps tx_steps at ends gated k = absurd gated
-    rx_answered c lanes m (says.CpuInUse user) old new steps tx_steps at ends gated k = absurd gated
-    rx_answered c lanes m says.CpuOffline old new steps tx_steps at ends gated k = absurd gated
-
-    tx_answered : (c : Command) (lanes : _) (m : SettingChange) (answer : Answer)
-        (old new : BoardSeatView) (rx_steps steps : List BoardStep)
-        → gate_lanes h c ≡ Some h.tx_lanes → IsEnd i c says.Done
-        → IsGated tx.sizes lanes m.word m.value old new answer
-        → KeepsTry i tx.sizes h.tx_lanes c m answer steps
-        → IsAnswered i h (record {
-          given = record { command = c; answer = answer };
-          rx_steps = rx_steps;
-          tx_steps = steps;
-        }) None
-    tx_answered c lanes m says.Done old new rx_steps steps at ends gated k = inl ends
-    tx_answered c lanes m (says.Busy (Inside n)) old new rx_steps steps at ends gated k =
-        let is = k.inside n refl in
-        let seats = boards.tx_seats in
-        let few = is.1 in
-        inr (inl (h.tx_lanes, n, at, refl, is.0, omega (arith, seats, few)))
-    tx_answered c lanes m (says.Busy (NotEmpty lane head tail)) old new rx_steps steps at ends gated
-        k = inr (inr (inr (lane, head, tail, at, refl, k.busy lane head tail refl)))
-    tx_answered c lanes m (says.Expired n) old new rx_steps steps at ends gated k = absurd gated
-    tx_answered c lanes m (says.Idle why) old new rx_steps steps at ends gated k = absurd gated
-    tx_answered c lanes m (says.CpuInUse user) old new rx_steps steps at ends gated k =
-        absurd gated
-    tx_answered c lanes m says.CpuOffline old new rx_steps steps at ends gated k = absurd gated
+        inr (inl (left, n, at, refl, is.0, omega (arith, seats, few)))
+    gated_answered about left c lanes m (says.Busy (NotEmpty lane head tail)) old new steps rx_steps
+        tx_steps seats at ends gated k busy = inr (busy lane head tail refl)
+    gated_answered about left c lanes m (says.Expired n) old new steps rx_steps tx_steps seats at
+        ends gated k busy = absurd gated
+    gated_answered about left c lanes m (says.Idle why) old new steps rx_steps tx_steps seats at
+        ends gated k busy = absurd gated
+    gated_answered about left c lanes m (says.CpuInUse user) old new steps rx_steps tx_steps seats
+        at ends gated k busy = absurd gated
+    gated_answered about left c lanes m says.CpuOffline old new steps rx_steps tx_steps seats at
+        ends gated k busy = absurd gated
 
     module _ (words : ℕ → ℕ) (k : KnownSettings) (agree : Agrees q words k) where
       receive_kept : (c : Command) (m : Change) (answer : Answer) (old new : Seats)
@@ -282,8 +271,10 @@ module _ (i : Input) (h : History) (hints : Shared) (rx tx : BoardView) where
               | inl none ↦ inl none
               | inr found ↦ inr (as_set m, one, found)
             ];
-            answered = rx_answered c a.gated.0 (as_set m) answer old.rx new.rx t.0 [] at.lanes
-                (at.ends i) a.gated.2 t.2;
+            answered = gated_answered rx.sizes h.lanes c a.gated.0 (as_set m) answer old.rx new.rx
+                t.0 t.0 [] boards.rx_seats at.lanes (at.ends i) a.gated.2 t.2
+                (λ l head tail e.
+                inr (inl (l, head, tail, at.lanes, e, t.2.busy l head tail e)));
             stored = behind-store c _ answer old.hint new.hint a.hint;
           }
 
@@ -307,8 +298,10 @@ module _ (i : Input) (h : History) (hints : Shared) (rx tx : BoardView) where
                 (inr (receive-none q words k agree c none)) [] refl;
             tx_sets = λ w. t.2.sets w (λ w c. sent_sets txs c) one;
             finds = inl tt;
-            answered = tx_answered c a.gated.0 (as_set m) answer old.tx new.tx [] t.0 at.lanes
-                (at.ends i) a.gated.2 t.2;
+            answered = gated_answered tx.sizes h.tx_lanes c a.gated.0 (as_set m) answer old.tx
+                new.tx t.0 [] t.0 boards.tx_seats at.lanes (at.ends i) a.gated.2 t.2
+                (λ l head tail e.
+                inr (inr (l, head, tail, at.lanes, e, t.2.busy l head tail e)));
             stored = stores-none _ old.hint new.hint a.hint;
           }
 

@@ -216,11 +216,9 @@ clears false number value old new cleared is = (
   λ n v has. subst (λ (s : HintView). Contains s.steps (Store n v)) is.0 has,
 )
 
-looks_glance : (shared : Shared) (place value : ℕ) (f : Option Filter) (old new : BoardSeatView)
-    (hint_old hint_new : HintView) (cleared : Bool)
-    → LooksAt shared place value f old new hint_old hint_new cleared
-    → Glanced old new hint_old hint_new
-looks_glance shared place value None old new hint_old hint_new cleared (same, hint, is) =
+no_glance : (old new : BoardSeatView) (hint_old hint_new : HintView) → new ≡ old
+    → hint_new ≡ hint_old → Glanced old new hint_old hint_new
+no_glance old new hint_old hint_new same hint =
     record {
       seen = [];
       steps = ap (λ (s : BoardSeatView). s.steps) same;
@@ -229,6 +227,13 @@ looks_glance shared place value None old new hint_old hint_new cleared (same, hi
       hint_table = ap (λ (s : HintView). s.table) hint;
       stored = λ n v has. subst (λ (s : HintView). Contains s.steps (Store n v)) hint has;
     }
+
+looks_glance : (shared : Shared) (place value : ℕ) (f : Option Filter) (old new : BoardSeatView)
+    (hint_old hint_new : HintView) (cleared : Bool)
+    → LooksAt shared place value f old new hint_old hint_new cleared
+    → Glanced old new hint_old hint_new
+looks_glance shared place value None old new hint_old hint_new cleared (same, hint, is) =
+    no_glance old new hint_old hint_new same hint
 looks_glance shared place value (Some f) old new hint_old hint_new cleared
     (head, flows, adds, clear) =
     let index : ℕ = receive_number (length shared.given.homes) (receive.Flows f.queue) in
@@ -264,14 +269,7 @@ pub first_glances : (shared : Shared) (outcomes : List Bool) (old new : BoardSea
     (hint_old hint_new : HintView) → ExpiresFirst shared outcomes old new hint_old hint_new
     → Glanced old new hint_old hint_new
 first_glances shared [] old new hint_old hint_new (same, hint) =
-    record {
-      seen = [];
-      steps = ap (λ (s : BoardSeatView). s.steps) same;
-      table = ap (λ (s : BoardSeatView). s.table) same;
-      number = ap (λ (s : BoardSeatView). s.number) same;
-      hint_table = ap (λ (s : HintView). s.table) hint;
-      stored = λ n v has. subst (λ (s : HintView). Contains s.steps (Store n v)) hint has;
-    }
+    no_glance old new hint_old hint_new same hint
 first_glances shared (cleared ∷ rest) old new hint_old hint_new (mid, hint_mid, older, one) =
     let a = first_glances shared rest old mid hint_old hint_mid older in
     let b = one_glance shared (length rest) mid new hint_mid hint_new cleared one in

@@ -15,7 +15,7 @@ use Rattle.run_controller.specs.Attempts.{HintsBehind, TriesBy, TriesUnless}
 use Rattle.run_controller.specs.Settings.{KnownSettings, receive_change, transmit_change}
 use Rattle.run_controller.specs.Stages.{AreSeated, Stage}
 use Rattle.run_controller.specs.declared.change.Change.{Change}
-use Rattle.run_controller.specs.declared.seats.Seats.{Seats}
+use Rattle.run_actors.specs.declared.seats.Seats.{Seats}
 use Rattle.run_controller.proofs.SeatLemmas.{StaysOut, expired_stays, first_glances, gated_stays}
 use Rattle.run_controller.proofs.SeatLemmas.{same_stays, stays_seated}
 

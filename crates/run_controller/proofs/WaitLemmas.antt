@@ -15,7 +15,7 @@ use Rattle.run_controller.specs.Journals.{known_from}
 use Rattle.run_controller.specs.Settings.{IsKnown, KnownSettings}
 use Rattle.run_controller.specs.Stages.{AreSeated, IsNamed, Stage}
 use Rattle.run_controller.specs.declared.controller.Controller.{Controller}
-use Rattle.run_controller.specs.declared.seats.Seats.{Seats}
+use Rattle.run_actors.specs.declared.seats.Seats.{Seats}
 use Rattle.run_controller.proofs.GivingLemmas.{AllBusy, busy-more, ends_busy, ends_done}
 use Rattle.run_controller.proofs.KnownLemmas.{known_later, known_more}
 use Rattle.run_controller.proofs.ListLemmas.{append-none, journal-more}
@@ -105,6 +105,15 @@ pub record Waits (s : Stage) (c : Command) (count : ℕ) (before now : Controlle
   pub ready : IsReady s now new
   pub room : now.commands.room ≡ before.commands.room
 
+-- a command was given
+pub record IsGiven (s : Stage) (tries : ℕ) (c : Command) (before after : Controller)
+    (old new : Seats) : Type 0 where
+  pub once : IsGivenOnce tries c before.commands.items after.commands.items
+  pub attempted : Attempted s before.commands.items after.commands.items before.known after.known
+      old new
+  pub ready : IsReady s after new
+  pub room : after.commands.room ≡ before.commands.room
+
 pub waits_none : (s : Stage) (c : Command) (before : Controller) (old : Seats)
     → IsReady s before old → Waits s c 0 before before old old
 waits_none s c before old ready =
@@ -179,16 +188,16 @@ module _ (s : Stage) (c : Command) (count : ℕ) (before now after : Controller)
   abbrev items-are : after.commands.items ≡ now.commands.items ++ g ∷ []
   items-are = ap (λ (j : Journal Commanded). j.items) n.noted
 
-  pub noted_attempted : Attempted s before.commands.items after.commands.items before.known
+  noted_attempted : Attempted s before.commands.items after.commands.items before.known
       after.known old new
   noted_attempted =
       attempted_more s before.commands.items now.commands.items after.commands.items before.known
       now.known after.known old seats new g w.attempted items-are n.tried n.known
 
-  pub noted_room : after.commands.room ≡ before.commands.room
+  noted_room : after.commands.room ≡ before.commands.room
   noted_room = ap (λ (j : Journal Commanded). j.room) n.noted ∙ w.room
 
-  pub noted_ready : IsReady s after new
+  noted_ready : IsReady s after new
   noted_ready =
       let many = length-append now.commands.items (g ∷ []) in
       let is : length after.commands.items ≡ length (now.commands.items ++ g ∷ []) =
@@ -230,22 +239,32 @@ module _ (s : Stage) (c : Command) (count : ℕ) (before now after : Controller)
 
   -- the command is not busy any more
   pub given_done : (tries : ℕ) → count < tries → is_busy answer ≡ false
-      → IsGivenOnce tries c before.commands.items after.commands.items
+      → IsGiven s tries c before after old new
   given_done tries less ends =
       let size = w.size in
       record {
-        block = w.block ++ g ∷ [];
-        journal = noted_journal;
-        tried = ends_done tries c w.block g w.all (omega (arith, size, less)) refl ends;
+        once = record {
+          block = w.block ++ g ∷ [];
+          journal = noted_journal;
+          tried = ends_done tries c w.block g w.all (omega (arith, size, less)) refl ends;
+        };
+        attempted = noted_attempted;
+        ready = noted_ready;
+        room = noted_room;
       }
 
 -- its tries are used up
-pub given_busy : (s : Stage) (c : Command) (tries : ℕ) (before now : Controller) (old new : Seats)
-    → Waits s c tries before now old new → 1 ≤ tries
-    → IsGivenOnce tries c before.commands.items now.commands.items
-given_busy s c tries before now old new w some =
+pub given_busy : (s : Stage) (c : Command) (tries count : ℕ) (before now : Controller)
+    (old new : Seats) → Waits s c count before now old new → 1 ≤ tries → count ≡ tries
+    → IsGiven s tries c before now old new
+given_busy s c tries count before now old new w some all =
     record {
-      block = w.block;
-      journal = w.journal;
-      tried = ends_busy tries c w.block w.all some w.size;
+      once = record {
+        block = w.block;
+        journal = w.journal;
+        tried = ends_busy tries c w.block w.all some (w.size ∙ all);
+      };
+      attempted = w.attempted;
+      ready = w.ready;
+      room = w.room;
     }

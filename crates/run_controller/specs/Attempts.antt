@@ -25,7 +25,7 @@ use Rattle.run_controller.specs.Expiries.{Expires}
 use Rattle.run_controller.specs.Settings.{KnownSettings, receive_change, transmit_change}
 use Rattle.run_controller.specs.Stages.{Stage}
 use Rattle.run_controller.specs.declared.change.Change.{Change}
-use Rattle.run_controller.specs.declared.seats.Seats.{Seats}
+use Rattle.run_actors.specs.declared.seats.Seats.{Seats}
 
 -- ---- behind a gate
 

@@ -10,7 +10,7 @@ use Rattle.run_controller.specs.Settings.{IsKnown, KnownSettings, known_after}
 use Rattle.run_controller.specs.Stages.{AreSeated, Stage}
 use Rattle.run_controller.specs.declared.controller.Controller.{Controller}
 use Rattle.run_controller.specs.declared.controller.TheConstants.{MAX_TRIES}
-use Rattle.run_controller.specs.declared.seats.Seats.{Seats}
+use Rattle.run_actors.specs.declared.seats.Seats.{Seats}
 
 -- What is known after a try: a done command changed it.
 abbrev pub known_by : KnownSettings → Commanded → KnownSettings

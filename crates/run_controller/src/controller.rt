@@ -10,11 +10,10 @@ ghost use Rattle.run_controller.specs.Stages.{AreSeated, IsNamed, IsStage, stage
 
 use crate::attempt::attempt;
 use crate::known::Known;
-use crate::seats::Seats;
 use board_api::Board;
 use history::Commanded;
 use plan_reader::Plan;
-use run_actors::Pace;
+use run_actors::{Pace, Seats};
 use run_hands::Shared;
 use std::alloc::Global;
 use steer_base::{Answer, Command, Journal, OutOfMemory};
@@ -72,6 +71,8 @@ impl Controller {
             self.new.commands.items }
         ensures attempted { Attempted (stage shared.now (B.view rx.now) (B.view tx.now)) []
             self.new.commands.items (first_known plan.now) self.new.known seats.old seats.new }
+        ensures seated { AreSeated (stage shared.now (B.view rx.now) (B.view tx.now))
+            (length self.new.commands.items) seats.new }
     {
         let commands = plan.commands();
         for command in commands {

@@ -7,11 +7,9 @@ mod controller;
 mod expiry;
 mod known;
 mod laws;
-mod seats;
 mod sockets;
 
 pub use change::Change;
 pub use controller::{Controller, MAX_TRIES};
 pub use known::Known;
 pub use laws::the_controller_keeps_its_ties;
-pub use seats::Seats;

@@ -58,3 +58,6 @@ returns-clause-given g c =
 
 pub returns-clause-attempted : goal.returns-clause-attempted
 returns-clause-attempted g c = c.loop-command.invariant.attempted
+
+pub returns-clause-seated : goal.returns-clause-seated
+returns-clause-seated g c = c.loop-command.invariant.ready.seated

@@ -1,9 +1,9 @@
-//! The seats of the controller.
+//! The seats of a thread.
 use board_api::BoardSeat;
 use hint_words::HintSeat;
 
-/// The seats of the controller: at each board the last one, which closes the gate, and one at the
-/// hint words.
+/// The seats of a thread of a run: of a worker, or of the controller, which at each board has the
+/// last seat, that closes the gate.
 #[derive(Drop)]
 pub struct Seats {
     /// At the receive board.
