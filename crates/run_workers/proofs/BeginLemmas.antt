@@ -28,7 +28,7 @@ use Rattle.run_workers.specs.Laws.{ArrivalsBecomeKnown, IsNewDrain, IsNewPoller}
 use Rattle.run_workers.specs.Laws.{IsNewServer, WorkersBegin}
 use Rattle.run_workers.specs.Stages.{HasSizes, StageView, stage_view}
 use Rattle.run_workers.specs.Workers.{IsBetween}
-use Rattle.run_workers.specs.declared.seats.WorkerSeats.{WorkerSeats}
+use Rattle.run_actors.specs.declared.seats.Seats.{Seats}
 
 -- ---- the beginning
 
@@ -56,38 +56,21 @@ nothing_stored given filters hints none =
 drain_begins : (about : BoardSizes) (given : Setup) (exit : Exit) (seat : BoardSeatView) (k : ℕ)
     (d : Drain) → seat.steps ≡ [] → IsNewDrain about given exit seat.number k d
     → KeepsDrain about given exit seat k d
-drain_begins about given exit seat k d none x =
-    record {
-      own = x.own;
-      within = x.within;
-      mine = x.mine;
-      exit_is = x.exit_is;
-      is = subst (IsDrain given d) (sym none) x.is;
-    }
+drain_begins about given exit seat k d none x = assumption (subst (IsDrain given d) (sym none) x.is)
 
-poller_begins : (t : StageView) (s : WorkerSeats) (first : ℕ → ℕ) (k : ℕ) (p : Poller)
+poller_begins : (t : StageView) (s : Seats) (first : ℕ → ℕ) (k : ℕ) (p : Poller)
     → IsNewPoller t s.rx.number first k p → KeepsPoller t s first [] k p
 poller_begins t s first k p x =
-    record {
-      own = x.own;
-      within = x.within;
-      room = x.room;
-      is = x.is;
-      keeps = pollers_begin t.shared.given (first p.queue) t.rx.sizes.start p [] s.hint.steps
-          x.hand x.flows x.choices x.accepted x.table x.ring refl;
-    }
+    assumption (
+    pollers_begin t.shared.given (first p.queue) t.rx.sizes.start p [] s.hint.steps x.hand
+    x.flows x.choices x.accepted x.table x.ring refl)
 
-server_begins : (t : StageView) (s : WorkerSeats) (rows k : ℕ) (v : Server)
+server_begins : (t : StageView) (s : Seats) (rows k : ℕ) (v : Server)
     → IsNewServer t s.tx.number rows k v → KeepsServer t s rows [] k v
 server_begins t s rows k v x =
-    record {
-      own = x.own;
-      within = x.within;
-      room = x.room;
-      is = x.is;
-      keeps = servers_begin t.shared.given rows t.tx.sizes.start t.late v [] s.rx.steps
-          s.hint.steps x.hand x.table x.sent x.choices x.writes refl;
-    }
+    assumption (
+    servers_begin t.shared.given rows t.tx.sizes.start t.late v [] s.rx.steps s.hint.steps x.hand
+    x.table x.sent x.choices x.writes refl)
 
 pub workers_begin : WorkersBegin
 workers_begin t w s x =
@@ -118,7 +101,7 @@ workers_begin t w s x =
 
 -- ---- the arrivals
 
-module _ (rx tx : BoardView) (shared : Shared) (arrivals : List Arrival) (s : WorkerSeats) where
+module _ (rx tx : BoardView) (shared : Shared) (arrivals : List Arrival) (s : Seats) where
   abbrev before : StageView
   before = stage_view rx tx shared []
 
@@ -126,34 +109,18 @@ module _ (rx tx : BoardView) (shared : Shared) (arrivals : List Arrival) (s : Wo
   after = stage_view rx tx shared arrivals
 
   same_sizes : HasSizes before → HasSizes after
-  same_sizes x =
-      record {
-        queue_settings = x.queue_settings;
-        cpus = x.cpus;
-        apps = x.apps;
-        maps = x.maps;
-        port = x.port;
-        room = x.room;
-        words = x.words;
-        filters = x.filters;
-      }
+  same_sizes x = assumption
 
   same_poller : (first : ℕ → ℕ) (turns : List (StepBy Turn)) (k : ℕ) (p : Poller)
       → KeepsPoller before s first turns k p → KeepsPoller after s first turns k p
-  same_poller first turns k p x =
-      record { own = x.own; within = x.within; room = x.room; is = x.is; keeps = x.keeps }
+  same_poller first turns k p x = assumption
 
   later_server : (rows : ℕ) (replies : List (StepBy Turn)) (k : ℕ) (v : Server)
       → KeepsServer before s rows replies k v → KeepsServer after s rows replies k v
   later_server rows replies k v x =
-      record {
-        own = x.own;
-        within = x.within;
-        room = x.room;
-        is = x.is;
-        keeps = arrivals_come shared.given rows tx.sizes.start arrivals v replies s.rx.steps
-            s.hint.steps x.keeps;
-      }
+      assumption (
+      arrivals_come shared.given rows tx.sizes.start arrivals v replies s.rx.steps s.hint.steps
+      x.keeps)
 
 pub arrivals_become_known : ArrivalsBecomeKnown
 arrivals_become_known rx tx shared arrivals w s x =

@@ -2,12 +2,13 @@ pub mod AtLemmas
 pub mod BeginLemmas
 pub mod DrainLemmas
 pub mod EachLemmas
+pub mod KeepLemmas
+pub mod LaneLemmas
 pub mod LookLemmas
 pub mod PollLemmas
 pub mod ReplyLemmas
 pub mod RestLemmas
 pub mod SameLemmas
 pub mod SeatLemmas
-pub mod ShipLemmas
 pub mod StayLemmas
 pub mod TakeLemmas

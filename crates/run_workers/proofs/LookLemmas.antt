@@ -1,21 +1,22 @@
--- A worker after a look at a hint word.
-use Rattle.std.proofs.Common.{◌≡◌, ℕ, zero, suc, List, [], ◌∷◌, refl, sym, ap}
-use Rattle.std.proofs.Common.{subst, ◌∙◌, arith}
+-- A worker after a look at a hint word, and how often it has looked.
+use Rattle.std.proofs.Common.{◌≡◌, ℕ, zero, suc, ◌+◌, ◌≤◌, cond, List, [], ◌∷◌, ◌++◌, refl, sym}
+use Rattle.std.proofs.Common.{ap, subst, ◌∙◌, arith}
+use Rattle.std.proofs.lemmas.List.Sums.{sum_by-append, sum_by-cons}
 use Rattle.std.specs.List.{Contains}
 use Rattle.linearization.specs.Seats.{SeatView}
 use Rattle.hint_words.specs.declared.step.HintStep.{HintStep}
 use Rattle.hint_words.specs.declared.step.HintStep.TheVariants.{Load, Store}
+use Rattle.run_words.specs.declared.hint_word.TheConstants.{DONE_WORD}
 use Rattle.run_records.specs.Growth.{Grows}
 use Rattle.run_records.specs.Storing.{StoresAreFor}
 use Rattle.run_records.proofs.HintLemmas.{steps_one}
-use Rattle.run_workers.specs.Actors.{KeepsPoller, KeepsServer}
+use Rattle.run_workers.specs.Looks.{Looks, is_look, look_count}
 use Rattle.run_workers.specs.Stages.{StageView}
 use Rattle.run_workers.specs.Workers.{GoesOn, IsWorking}
-use Rattle.run_workers.specs.declared.seats.WorkerSeats.{WorkerSeats}
+use Rattle.run_actors.specs.declared.seats.Seats.{Seats}
 use Rattle.run_workers.specs.declared.worker.Worker.{Worker}
-use Rattle.run_workers.proofs.EachLemmas.{each_more}
-use Rattle.run_workers.proofs.SameLemmas.{homes_stay, rings_stay}
-use Rattle.run_workers.proofs.StayLemmas.{poller_stays, server_stays}
+use Rattle.run_workers.proofs.KeepLemmas.{receive_stays, transmit_stays, works}
+use Rattle.run_workers.proofs.SameLemmas.{same_worker}
 
 abbrev Hint : Type 0
 Hint = SeatView HintStep
@@ -29,66 +30,68 @@ later_store : (a b word value : ℕ) (ds : List HintStep)
 later_store a b word value ds (zero, less, is) = no_load a b word value is
 later_store a b word value ds (suc k, less, is) = (k, omega (arith, less), is)
 
-module _ (t : StageView) (w : Worker) (s : WorkerSeats) (word value : ℕ) (hint : Hint)
+-- the worker's seat at the hint words has made one step, a load
+module _ (t : StageView) (w : Worker) (s : Seats) (word value : ℕ) (hint : Hint)
     (step : hint ≡ record s.hint { steps = Load word value ∷ s.hint.steps })
     (x : IsWorking t w s) where
-  abbrev looked_seats : WorkerSeats
+  abbrev looked_seats : Seats
   looked_seats = record s { hint = hint }
 
   grow : Grows s.hint.steps hint.steps
   grow = steps_one (Load word value) s.hint hint step
 
-  looked : IsWorking t w looked_seats
-  looked =
-      record {
-        sizes = x.sizes;
-        rx = x.rx;
-        tx = x.tx;
-        hint_table = ap (λ (h : Hint). h.table) step ∙ x.hint_table;
-        first = x.first;
-        rows = x.rows;
-        flows = x.flows;
-        turns = x.turns;
-        steered = x.steered;
-        by_pollers = x.by_pollers;
-        replies = x.replies;
-        replied = x.replied;
-        by_servers = x.by_servers;
-        noted = x.noted;
-        noted_by = x.noted_by;
-        stores = subst (StoresAreFor t.shared.given t.shared.filters x.turns x.noted)
-            (sym (ap (λ (h : Hint). h.steps) step))
-            (λ a b has. x.stores a b (later_store word value a b s.hint.steps has));
-        pollers = each_more (KeepsPoller t looked_seats x.first x.turns)
-            (KeepsPoller t s x.first x.turns) w.pollers.items w.pollers.items refl
-            (λ k p kept. poller_stays t s looked_seats x.first x.turns x.turns k p refl refl grow
-            kept) x.pollers;
-        drains = x.drains;
-        servers = each_more (KeepsServer t looked_seats x.rows x.replies)
-            (KeepsServer t s x.rows x.replies) w.servers.items w.servers.items refl
-            (λ k v kept. server_stays t s looked_seats x.rows x.replies x.replies k v refl refl
-            ([], refl) grow kept) x.servers;
-        ships = x.ships;
-      }
+  table : hint.table ≡ s.hint.table
+  table = ap (λ (h : Hint). h.table) step
 
   pub look_goes_on : GoesOn t w w s looked_seats
   look_goes_on =
       record {
-        is = looked;
-        same = record {
-          pollers = refl;
-          drains = refl;
-          servers = refl;
-          ships = refl;
-          rings = rings_stay w.pollers.items w.pollers.items refl;
-          homes = homes_stay w.servers.items w.servers.items refl;
-          rx_table = refl;
-          rx_number = refl;
-          tx_table = refl;
-          tx_number = refl;
-          hint_table = ap (λ (h : Hint). h.table) step;
-          rx_steps = ([], refl);
-          tx_steps = ([], refl);
-          hint_steps = grow;
-        };
+        is = works t w w s looked_seats x x.turns x.replies
+            (receive_stays t w w s looked_seats x grow refl refl refl)
+            (transmit_stays t w w s looked_seats x grow refl refl refl ([], refl))
+            (record {
+              table = table ∙ x.hint_table;
+              noted = x.noted;
+              noted_by = x.noted_by;
+              stores = subst (StoresAreFor t.shared.given t.shared.filters x.turns x.noted)
+                  (sym (ap (λ (h : Hint). h.steps) step))
+                  (λ a b has. x.stores a b (later_store word value a b s.hint.steps has));
+            });
+        same = same_worker w s looked_seats refl refl table grow;
       }
+
+  pub look_is_one : word ≡ DONE_WORD → Looks s looked_seats
+  look_is_one done =
+      let at : ℕ → Seats =
+      λ n. record s { hint = record s.hint { steps = Load n value ∷ s.hint.steps } } in
+      (value, ap (λ (h : Hint). record s { hint = h }) step ∙ ap at done)
+
+-- ---- how often it looked
+
+-- the count of looks never falls
+looks_stay : (before after : List HintStep) → Grows before after
+    → look_count before ≤ look_count after
+looks_stay before after (newer, is) =
+    let sum = sum_by-append (λ (d : HintStep). cond (is_look d) 1 0) newer before in
+    let same : look_count after ≡ look_count (newer ++ before) = ap look_count is in
+    omega (arith, sum, same)
+
+-- and a look adds one
+looks_grow : (old new : Seats) → Looks old new
+    → look_count new.hint.steps ≡ look_count old.hint.steps + 1
+looks_grow old new (value, is) =
+    let sum =
+    sum_by-cons (λ (d : HintStep). cond (is_look d) 1 0) (Load DONE_WORD value) old.hint.steps in
+    let same : look_count new.hint.steps ≡ look_count (Load DONE_WORD value ∷ old.hint.steps) =
+    ap (λ (s : Seats). look_count s.hint.steps) is in
+    omega (arith, sum, same)
+
+-- by a look and what follows it the count has grown by one
+pub looks_more : (first old mid new : Seats) (idle : ℕ) → Looks old mid
+    → Grows mid.hint.steps new.hint.steps
+    → look_count first.hint.steps + idle ≤ look_count old.hint.steps
+    → look_count first.hint.steps + (idle + 1) ≤ look_count new.hint.steps
+looks_more first old mid new idle looks grow so_far =
+    let one = looks_grow old mid looks in
+    let more = looks_stay mid.hint.steps new.hint.steps grow in
+    omega (arith, so_far, one, more)

@@ -1,15 +1,13 @@
 -- A worker after a poll of one of its pollers.
-use Rattle.std.proofs.Common.{◌≡◌, ◌≢◌, ℕ, ◌<◌, Some, refl, sym, ap, subst, ◌∙◌}
-use Rattle.std.proofs.Common.{[], length, length-set, slice_get, slice_set}
+use Rattle.std.proofs.Common.{◌≡◌, ◌≢◌, ℕ, ◌<◌, Some, sym, ap, subst, ◌∙◌}
+use Rattle.std.proofs.Common.{length, length-set, slice_get, slice_set}
 use Rattle.std.proofs.lemmas.Option.{slice_get_within}
 use Rattle.rtrb.specs.Ring.{SameConsumer}
 use Rattle.board_api.specs.Calls.Rights.{HasOpen, IsOutside}
-use Rattle.board_api.specs.Seats.{BoardSeatView}
-use Rattle.hop_delivery.specs.Orders.Turns.{Explained}
 use Rattle.steer_model.specs.State.Setup.{Setup}
 use Rattle.run_hands.specs.Laws.{Stays}
 use Rattle.run_hands.specs.Pollers.{IsPoller, Polls}
-use Rattle.run_hands.specs.declared.drain.Exit.TheVariants.{Inboxes, Port}
+use Rattle.run_hands.specs.declared.drain.Exit.TheVariants.{Inboxes}
 use Rattle.run_hands.specs.declared.poller.Poller.{Poller}
 use Rattle.run_hands.proofs.StayLemmas.{polls_stay}
 use Rattle.run_hands.proofs.VisitLemmas.{polls_leave}
@@ -19,19 +17,20 @@ use Rattle.run_records.specs.PollingLaws.{PollsOn}
 use Rattle.run_records.proofs.AddedLemmas.{calls_add_steps}
 use Rattle.run_records.proofs.ListLemmas.{others_stay}
 use Rattle.run_records.proofs.PollingLemmas.{pollers_go_on}
-use Rattle.run_workers.specs.Actors.{Each, KeepsDrain, KeepsPoller, KeepsServer, actor_at}
+use Rattle.run_workers.specs.Actors.{KeepsPoller, actor_at}
 use Rattle.run_workers.specs.Stages.{StageView}
-use Rattle.run_workers.specs.Workers.{GoesOn, HasRings, IsBetween, IsNotedBy, IsWorking}
-use Rattle.run_workers.specs.declared.seats.WorkerSeats.{WorkerSeats}
+use Rattle.run_workers.specs.Workers.{GoesOn, HasRings, IsNotedBy, IsWorking}
+use Rattle.run_actors.specs.declared.seats.Seats.{Seats}
 use Rattle.run_workers.specs.declared.worker.Worker.{Worker}
-use Rattle.run_workers.proofs.EachLemmas.{actors_differ, each_more, each_same, each_set}
-use Rattle.run_workers.proofs.EachLemmas.{turns_of_ones, turns_stay}
-use Rattle.run_workers.proofs.SameLemmas.{homes_stay, rings_set}
-use Rattle.run_workers.proofs.SeatLemmas.{between_calls, polls_move}
-use Rattle.run_workers.proofs.StayLemmas.{drain_stays, poller_stays, server_stays}
+use Rattle.run_workers.proofs.EachLemmas.{actors_differ, each_same, each_set, turns_of_ones}
+use Rattle.run_workers.proofs.KeepLemmas.{KeepsReceive, board_calls, received, transmit_stays}
+use Rattle.run_workers.proofs.KeepLemmas.{works}
+use Rattle.run_workers.proofs.SameLemmas.{homes_stay, is_same, rings_set, seat_stays}
+use Rattle.run_workers.proofs.SeatLemmas.{polls_move}
+use Rattle.run_workers.proofs.StayLemmas.{poller_stays}
 
 -- the poller p at index i of a worker has become q, and its seats r
-module _ (t : StageView) (w v : Worker) (s r : WorkerSeats) (i : ℕ) (p q : Poller)
+module _ (t : StageView) (w v : Worker) (s r : Seats) (i : ℕ) (p q : Poller)
     (pollers : v.pollers.items ≡ slice_set w.pollers.items i q)
     (drains : v.drains.items ≡ w.drains.items) (servers : v.servers.items ≡ w.servers.items)
     (ships : v.ships.items ≡ w.ships.items) (tx : r.tx ≡ s.tx)
@@ -59,9 +58,6 @@ module _ (t : StageView) (w v : Worker) (s r : WorkerSeats) (i : ℕ) (p q : Pol
   many : length v.pollers.items ≡ length w.pollers.items
   many = ap length pollers ∙ length-set w.pollers.items i q
 
-  tx_number : r.tx.number ≡ s.tx.number
-  tx_number = ap (λ (z : BoardSeatView). z.number) tx
-
   this_poller : KeepsPoller t r x.first on.more i q
   this_poller =
       record {
@@ -81,71 +77,38 @@ module _ (t : StageView) (w v : Worker) (s r : WorkerSeats) (i : ℕ) (p q : Pol
       (actors_differ t.rx.sizes s.rx.number i k p.queue y.queue was.own kept.own apart) on.grow)
       grow.1 kept
 
-  polled : IsWorking t v r
+  polled : KeepsReceive t v r x.first on.more
   polled =
-      record {
-        sizes = x.sizes;
-        rx = between_calls t.rx (length v.drains.items) (length w.drains.items) _ s.rx r.rx
-            (ap length drains)
-            (polls_move given t.shared.filters p q s.rx r.rx s.hint r.hint polls)
-            (λ l far. refl) outside gate x.rx;
-        tx = subst (λ (z : ℕ × BoardSeatView). IsBetween t.tx z.0 z.1)
-            (λ j. (sym (ap length ships) j, sym tx j)) x.tx;
-        hint_table = stay.hint_table ∙ x.hint_table;
-        first = x.first;
-        rows = x.rows;
-        flows = x.flows;
-        turns = on.more;
-        steered = on.explained;
-        by_pollers = turns_stay t.rx.sizes r.rx.number s.rx.number (length v.pollers.items)
-            (length w.pollers.items) on.more stay.number many
-            (turns_of_ones t.rx.sizes s.rx.number (length w.pollers.items) p.queue i x.turns
-            on.more (slice_get_within w.pollers.items i p there) was.own on.grow x.by_pollers);
-        replies = x.replies;
-        replied = subst (λ (z : BoardSeatView). Explained z.steps x.replies) (sym tx) x.replied;
-        by_servers = turns_stay t.tx.sizes r.tx.number s.tx.number (length v.servers.items)
-            (length w.servers.items) x.replies tx_number (ap length servers) x.by_servers;
-        noted = x.noted;
-        noted_by = λ write has.
-            subst (λ vs. IsNotedBy vs write) (sym servers) (x.noted_by write has);
-        stores = on.stores x.noted x.stores;
-        pollers = each_same (KeepsPoller t r x.first on.more) (slice_set w.pollers.items i q)
-            v.pollers.items pollers
-            (each_set (KeepsPoller t r x.first on.more) (KeepsPoller t s x.first x.turns)
-            w.pollers.items i q this_poller other_poller x.pollers);
-        drains = each_more (KeepsDrain t.rx.sizes given Inboxes r.rx)
-            (KeepsDrain t.rx.sizes given Inboxes s.rx) w.drains.items v.drains.items drains
-            (λ k d kept. drain_stays t.rx.sizes given Inboxes s.rx r.rx k d stay.number
-            (polls_leave given d t.shared.filters p q s.rx r.rx s.hint r.hint polls) kept)
-            x.drains;
-        servers = each_more (KeepsServer t r x.rows x.replies) (KeepsServer t s x.rows x.replies)
-            w.servers.items v.servers.items servers
-            (λ k u kept. server_stays t s r x.rows x.replies x.replies k u tx_number refl grow.0
-            grow.1 kept) x.servers;
-        ships = each_same (KeepsDrain t.tx.sizes given Port r.tx) w.ships.items v.ships.items ships
-            (subst (λ (z : BoardSeatView). Each (KeepsDrain t.tx.sizes given Port z) w.ships.items)
-            (sym tx) x.ships);
-      }
+      board_calls t.rx given Inboxes s.rx r.rx w.drains.items v.drains.items w.pollers.items
+      v.pollers.items (KeepsPoller t s x.first x.turns) (KeepsPoller t r x.first on.more) x.turns
+      drains many
+      (each_same (KeepsPoller t r x.first on.more) (slice_set w.pollers.items i q)
+      v.pollers.items pollers
+      (each_set (KeepsPoller t r x.first on.more) (KeepsPoller t s x.first x.turns)
+      w.pollers.items i q this_poller other_poller x.pollers))
+      (received t w v s r x) on.more stay.number
+      (polls_move given t.shared.filters p q s.rx r.rx s.hint r.hint polls) outside gate
+      on.explained
+      (turns_of_ones t.rx.sizes s.rx.number (length w.pollers.items) p.queue i x.turns on.more
+      (slice_get_within w.pollers.items i p there) was.own on.grow x.by_pollers)
+      (λ d. polls_leave given d t.shared.filters p q s.rx r.rx s.hint r.hint polls)
 
   pub poll_goes_on : GoesOn t w v s r
   poll_goes_on =
       record {
-        is = polled;
-        same = record {
-          pollers = many;
-          drains = ap length drains;
-          servers = ap length servers;
-          ships = ap length ships;
-          rings = subst (HasRings w.pollers.items) (sym pollers)
-              (rings_set w.pollers.items i p q there ring);
-          homes = homes_stay w.servers.items v.servers.items servers;
-          rx_table = stay.table;
-          rx_number = stay.number;
-          tx_table = ap (λ (z : BoardSeatView). z.table) tx;
-          tx_number = tx_number;
-          hint_table = stay.hint_table;
-          rx_steps = grow.0;
-          tx_steps = ([], ap (λ (z : BoardSeatView). z.steps) tx);
-          hint_steps = grow.1;
-        };
+        is = works t w v s r x on.more x.replies polled
+            (transmit_stays t w v s r x grow.1 servers ships tx grow.0)
+            (record {
+              table = stay.hint_table ∙ x.hint_table;
+              noted = x.noted;
+              noted_by = λ write has.
+                  subst (λ vs. IsNotedBy vs write) (sym servers) (x.noted_by write has);
+              stores = on.stores x.noted x.stores;
+            });
+        same = is_same w v s r many (ap length drains) (ap length servers) (ap length ships)
+            (subst (HasRings w.pollers.items) (sym pollers)
+            (rings_set w.pollers.items i p q there ring))
+            (homes_stay w.servers.items v.servers.items servers)
+            (record { table = stay.table; number = stay.number; steps = grow.0 })
+            (seat_stays s.tx r.tx tx) stay.hint_table grow.1;
       }

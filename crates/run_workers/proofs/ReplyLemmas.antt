@@ -1,5 +1,5 @@
 -- A worker after one of its applications replied or kept its packet.
-use Rattle.std.proofs.Common.{◌≡◌, ◌≢◌, ℕ, ◌<◌, inr, Bool, true, false, [], Some, refl, sym}
+use Rattle.std.proofs.Common.{◌≡◌, ◌≢◌, ℕ, ◌<◌, inr, Bool, true, false, List, [], Some, refl, sym}
 use Rattle.std.proofs.Common.{ap, subst, ◌∙◌}
 use Rattle.std.proofs.Common.{length, length-set, slice_get, slice_set}
 use Rattle.std.proofs.lemmas.Option.{slice_get_within}
@@ -10,12 +10,10 @@ use Rattle.history.specs.declared.sock_write.SockWrite.{SockWrite}
 use Rattle.hint_words.specs.declared.step.HintStep.{HintStep}
 use Rattle.board_api.specs.Calls.Rights.{HasOpen, IsOutside}
 use Rattle.board_api.specs.Seats.{BoardSeatView}
-use Rattle.hop_delivery.specs.Orders.Turns.{Explained}
-use Rattle.std.proofs.Common.{List}
 use Rattle.steer_model.specs.State.Setup.{Setup}
 use Rattle.run_hands.specs.Laws.{StaysApplication}
 use Rattle.run_hands.specs.Servers.{IsServer, RepliesOrKeeps}
-use Rattle.run_hands.specs.declared.drain.Exit.TheVariants.{Inboxes, Port}
+use Rattle.run_hands.specs.declared.drain.Exit.TheVariants.{Port}
 use Rattle.run_hands.specs.declared.server.Server.{Server}
 use Rattle.run_hands.proofs.ServerLaws.{applications_leave_drains, applications_stay}
 use Rattle.run_records.specs.Growth.{Grows}
@@ -25,16 +23,18 @@ use Rattle.run_records.proofs.AddedLemmas.{calls_add_steps}
 use Rattle.run_records.proofs.ListLemmas.{others_stay}
 use Rattle.run_records.proofs.ReplyingLemmas.{replies_go_on}
 use Rattle.run_records.proofs.StoringLemmas.{applications_store}
-use Rattle.run_workers.specs.Actors.{Each, KeepsDrain, KeepsPoller, KeepsServer, actor_at}
+use Rattle.run_workers.specs.Actors.{KeepsServer, actor_at}
 use Rattle.run_workers.specs.Stages.{StageView}
-use Rattle.run_workers.specs.Workers.{GoesOn, HasHomes, IsBetween, IsNotedBy, IsWorking}
-use Rattle.run_workers.specs.declared.seats.WorkerSeats.{WorkerSeats}
+use Rattle.run_workers.specs.Workers.{GoesOn, HasHomes, IsNotedBy, IsWorking}
+use Rattle.run_actors.specs.declared.seats.Seats.{Seats}
 use Rattle.run_workers.specs.declared.worker.Worker.{Worker}
-use Rattle.run_workers.proofs.EachLemmas.{actors_differ, each_more, each_same, each_set}
-use Rattle.run_workers.proofs.EachLemmas.{one_kept, turns_of_ones, turns_stay}
-use Rattle.run_workers.proofs.SameLemmas.{homes_set, rings_stay}
-use Rattle.run_workers.proofs.SeatLemmas.{between_calls, replies_move}
-use Rattle.run_workers.proofs.StayLemmas.{drain_stays, poller_stays, server_stays}
+use Rattle.run_workers.proofs.EachLemmas.{actors_differ, each_same, each_set, one_kept}
+use Rattle.run_workers.proofs.EachLemmas.{turns_of_ones}
+use Rattle.run_workers.proofs.KeepLemmas.{KeepsTransmit, board_calls, receive_stays, transmitted}
+use Rattle.run_workers.proofs.KeepLemmas.{works}
+use Rattle.run_workers.proofs.SameLemmas.{homes_set, is_same, rings_stay, seat_stays}
+use Rattle.run_workers.proofs.SeatLemmas.{replies_move}
+use Rattle.run_workers.proofs.StayLemmas.{server_stays}
 
 abbrev Hint : Type 0
 Hint = SeatView HintStep
@@ -47,7 +47,7 @@ replies_note given late y u true old new hint_old hint_new x = ap (λ (z : Serve
 replies_note given late y u false old new hint_old hint_new x = ap (λ (z : Server). z.writes) x.same
 
 -- the application y at index i of a worker has become u, and its seats r
-module _ (t : StageView) (w v : Worker) (s r : WorkerSeats) (i : ℕ) (y u : Server) (sent : Bool)
+module _ (t : StageView) (w v : Worker) (s r : Seats) (i : ℕ) (y u : Server) (sent : Bool)
     (pollers : v.pollers.items ≡ w.pollers.items) (drains : v.drains.items ≡ w.drains.items)
     (servers : v.servers.items ≡ slice_set w.servers.items i u)
     (ships : v.ships.items ≡ w.ships.items) (rx : r.rx ≡ s.rx)
@@ -80,9 +80,6 @@ module _ (t : StageView) (w v : Worker) (s r : WorkerSeats) (i : ℕ) (y u : Ser
     many : length v.servers.items ≡ length w.servers.items
     many = ap length servers ∙ length-set w.servers.items i u
 
-    rx_number : r.rx.number ≡ s.rx.number
-    rx_number = ap (λ (z : BoardSeatView). z.number) rx
-
     this_server : KeepsServer t r x.rows on.more i u
     this_server =
         record {
@@ -109,74 +106,42 @@ module _ (t : StageView) (w v : Worker) (s r : WorkerSeats) (i : ℕ) (y u : Ser
         (subst (λ j. Contains j.items write)
         (sym (replies_note given t.late y u sent s.tx r.tx s.hint r.hint replies))) k z got has
 
-    answered : IsWorking t v r
+    answered : KeepsTransmit t v r x.rows on.more
     answered =
-        record {
-          sizes = x.sizes;
-          rx = subst (λ (z : ℕ × BoardSeatView). IsBetween t.rx z.0 z.1)
-              (λ j. (sym (ap length drains) j, sym rx j)) x.rx;
-          tx = between_calls t.tx (length v.ships.items) (length w.ships.items) _ s.tx r.tx
-              (ap length ships)
-              (replies_move given t.late y u sent s.tx r.tx s.hint r.hint replies)
-              (λ l far. refl) outside gate x.tx;
-          hint_table = stay.hint_table ∙ x.hint_table;
-          first = x.first;
-          rows = x.rows;
-          flows = x.flows;
-          turns = x.turns;
-          steered = subst (λ (z : BoardSeatView). Explained z.steps x.turns) (sym rx) x.steered;
-          by_pollers = turns_stay t.rx.sizes r.rx.number s.rx.number (length v.pollers.items)
-              (length w.pollers.items) x.turns rx_number (ap length pollers) x.by_pollers;
-          replies = on.more;
-          replied = on.explained;
-          by_servers = turns_stay t.tx.sizes r.tx.number s.tx.number (length v.servers.items)
-              (length w.servers.items) on.more stay.number many
-              (turns_of_ones t.tx.sizes s.tx.number (length w.servers.items) y.app i x.replies
-              on.more (slice_get_within w.servers.items i y there) was.own on.grow x.by_servers);
-          noted = x.noted;
-          noted_by = λ write has.
-              subst (λ vs. IsNotedBy vs write) (sym servers)
-              (kept_note write (x.noted_by write has));
-          stores = applications_store.replies given t.shared.filters t.late y u sent x.turns x.noted
-              s.tx r.tx s.hint r.hint replies x.stores;
-          pollers = each_more (KeepsPoller t r x.first x.turns) (KeepsPoller t s x.first x.turns)
-              w.pollers.items v.pollers.items pollers
-              (λ k p kept. poller_stays t s r x.first x.turns x.turns k p rx_number refl hint_grow
-              kept) x.pollers;
-          drains = each_same (KeepsDrain t.rx.sizes given Inboxes r.rx) w.drains.items
-              v.drains.items drains
-              (subst (λ (z : BoardSeatView). Each (KeepsDrain t.rx.sizes given Inboxes z)
-              w.drains.items) (sym rx) x.drains);
-          servers = each_same (KeepsServer t r x.rows on.more) (slice_set w.servers.items i u)
-              v.servers.items servers
-              (each_set (KeepsServer t r x.rows on.more) (KeepsServer t s x.rows x.replies)
-              w.servers.items i u this_server other_server x.servers);
-          ships = each_more (KeepsDrain t.tx.sizes given Port r.tx)
-              (KeepsDrain t.tx.sizes given Port s.tx) w.ships.items v.ships.items ships
-              (λ k d kept. drain_stays t.tx.sizes given Port s.tx r.tx k d stay.number
-              (applications_leave_drains.replies given t.late d y u sent s.tx r.tx s.hint r.hint
-              replies) kept) x.ships;
-        }
+        board_calls t.tx given Port s.tx r.tx w.ships.items v.ships.items w.servers.items
+        v.servers.items (KeepsServer t s x.rows x.replies) (KeepsServer t r x.rows on.more)
+        x.replies ships many
+        (each_same (KeepsServer t r x.rows on.more) (slice_set w.servers.items i u)
+        v.servers.items servers
+        (each_set (KeepsServer t r x.rows on.more) (KeepsServer t s x.rows x.replies)
+        w.servers.items i u this_server other_server x.servers))
+        (transmitted t w v s r x) on.more stay.number
+        (replies_move given t.late y u sent s.tx r.tx s.hint r.hint replies) outside gate
+        on.explained
+        (turns_of_ones t.tx.sizes s.tx.number (length w.servers.items) y.app i x.replies on.more
+        (slice_get_within w.servers.items i y there) was.own on.grow x.by_servers)
+        (λ d. applications_leave_drains.replies given t.late d y u sent s.tx r.tx s.hint r.hint
+        replies)
 
     pub reply_goes_on : GoesOn t w v s r
     reply_goes_on =
         record {
-          is = answered;
-          same = record {
-            pollers = ap length pollers;
-            drains = ap length drains;
-            servers = many;
-            ships = ap length ships;
-            rings = rings_stay w.pollers.items v.pollers.items pollers;
-            homes = subst (HasHomes w.servers.items) (sym servers)
-                (homes_set w.servers.items i y u there stay.home);
-            rx_table = ap (λ (z : BoardSeatView). z.table) rx;
-            rx_number = rx_number;
-            tx_table = stay.table;
-            tx_number = stay.number;
-            hint_table = stay.hint_table;
-            rx_steps = rx_grow;
-            tx_steps = tx_grow;
-            hint_steps = hint_grow;
-          };
+          is = works t w v s r x x.turns on.more
+              (receive_stays t w v s r x hint_grow pollers drains rx) answered
+              (record {
+                table = stay.hint_table ∙ x.hint_table;
+                noted = x.noted;
+                noted_by = λ write has.
+                    subst (λ vs. IsNotedBy vs write) (sym servers)
+                    (kept_note write (x.noted_by write has));
+                stores = applications_store.replies given t.shared.filters t.late y u sent x.turns
+                    x.noted s.tx r.tx s.hint r.hint replies x.stores;
+              });
+          same = is_same w v s r (ap length pollers) (ap length drains) many (ap length ships)
+              (rings_stay w.pollers.items v.pollers.items pollers)
+              (subst (HasHomes w.servers.items) (sym servers)
+              (homes_set w.servers.items i y u there stay.home))
+              (seat_stays s.rx r.rx rx)
+              (record { table = stay.table; number = stay.number; steps = tx_grow })
+              stay.hint_table hint_grow;
         }

@@ -3,12 +3,17 @@ use Rattle.std.proofs.Common.{◌≡◌, ℕ, ◌<◌, List, refl, sym, ap, subs
 use Rattle.std.proofs.Common.{[], Some, slice_get, slice_set}
 use Rattle.std.proofs.lemmas.Option.{slice_get_within}
 use Rattle.rtrb.specs.Ring.{SameConsumer}
+use Rattle.board_api.specs.Seats.{BoardSeatView}
 use Rattle.run_hands.specs.declared.poller.Poller.{Poller}
 use Rattle.run_hands.specs.declared.server.Server.{Server}
+use Rattle.run_records.specs.Growth.{Grows}
 use Rattle.run_records.proofs.ListLemmas.{grows_both}
+use Rattle.run_workers.specs.Parts.{actor_count}
 use Rattle.run_workers.specs.Stages.{StageView}
-use Rattle.run_workers.specs.Workers.{GoesOn, HasHomes, HasRings, IsWorking}
-use Rattle.run_workers.specs.declared.seats.WorkerSeats.{WorkerSeats}
+use Rattle.run_workers.specs.Workers.{GoesOn, HasHomes, HasRings, IsSame, IsWorking}
+use Rattle.run_actors.specs.declared.seats.Seats.{Seats}
+use Rattle.run_workers.specs.declared.worker.Part.{Part}
+use Rattle.run_workers.specs.declared.worker.Part.TheVariants as part
 use Rattle.run_workers.specs.declared.worker.Worker.{Worker}
 use Rattle.run_workers.proofs.EachLemmas.{each_same, each_set, item_at, one_there}
 
@@ -72,30 +77,49 @@ homes_both a b c many first second k z got v there =
 
 -- ---- workers
 
-pub goes_first : (t : StageView) (w : Worker) (s : WorkerSeats) → IsWorking t w s
-    → GoesOn t w w s s
-goes_first t w s x =
+-- a seat at a board stays the same, with more steps
+pub record SameSeat (old new : BoardSeatView) : Type 0 where
+  pub table : new.table ≡ old.table
+  pub number : new.number ≡ old.number
+  pub steps : Grows old.steps new.steps
+
+pub seat_stays : (old new : BoardSeatView) → new ≡ old → SameSeat old new
+seat_stays old new same =
     record {
-      is = x;
-      same = record {
-        pollers = refl;
-        drains = refl;
-        servers = refl;
-        ships = refl;
-        rings = rings_stay w.pollers.items w.pollers.items refl;
-        homes = homes_stay w.servers.items w.servers.items refl;
-        rx_table = refl;
-        rx_number = refl;
-        tx_table = refl;
-        tx_number = refl;
-        hint_table = refl;
-        rx_steps = ([], refl);
-        tx_steps = ([], refl);
-        hint_steps = ([], refl);
-      };
+      table = ap (λ (z : BoardSeatView). z.table) same;
+      number = ap (λ (z : BoardSeatView). z.number) same;
+      steps = ([], ap (λ (z : BoardSeatView). z.steps) same);
     }
 
-pub goes_both : (t : StageView) (a b c : Worker) (r s u : WorkerSeats) → GoesOn t a b r s
+pub is_same : (w v : Worker) (s r : Seats) → length v.pollers.items ≡ length w.pollers.items
+    → length v.drains.items ≡ length w.drains.items
+    → length v.servers.items ≡ length w.servers.items
+    → length v.ships.items ≡ length w.ships.items → HasRings w.pollers.items v.pollers.items
+    → HasHomes w.servers.items v.servers.items → SameSeat s.rx r.rx → SameSeat s.tx r.tx
+    → r.hint.table ≡ s.hint.table → Grows s.hint.steps r.hint.steps → IsSame w v s r
+is_same w v s r pollers drains servers ships rings homes rx tx table steps = assumption
+
+-- the same worker at the same seats, which has made more steps at the hint words
+pub same_worker : (w : Worker) (s r : Seats) → r.rx ≡ s.rx → r.tx ≡ s.tx
+    → r.hint.table ≡ s.hint.table → Grows s.hint.steps r.hint.steps → IsSame w w s r
+same_worker w s r rx tx =
+    is_same w w s r refl refl refl refl (rings_stay w.pollers.items w.pollers.items refl)
+    (homes_stay w.servers.items w.servers.items refl) (seat_stays s.rx r.rx rx)
+    (seat_stays s.tx r.tx tx)
+
+pub goes_first : (t : StageView) (w : Worker) (s : Seats) → IsWorking t w s
+    → GoesOn t w w s s
+goes_first t w s x = record { is = x; same = same_worker w s s refl refl refl ([], refl) }
+
+-- a worker has as many actors for each part of a turn
+pub as_many : (p : Part) (w v : Worker) (s r : Seats) → IsSame w v s r
+    → actor_count p v ≡ actor_count p w
+as_many part.Poll w v s r same = v.pollers.ok.0 ∙ (same.pollers ∙ sym w.pollers.ok.0)
+as_many part.Drain w v s r same = v.drains.ok.0 ∙ (same.drains ∙ sym w.drains.ok.0)
+as_many part.Serve w v s r same = v.servers.ok.0 ∙ (same.servers ∙ sym w.servers.ok.0)
+as_many part.Ship w v s r same = v.ships.ok.0 ∙ (same.ships ∙ sym w.ships.ok.0)
+
+pub goes_both : (t : StageView) (a b c : Worker) (r s u : Seats) → GoesOn t a b r s
     → GoesOn t b c s u → GoesOn t a c r u
 goes_both t a b c r s u first second =
     let x = first.same in
@@ -121,3 +145,9 @@ goes_both t a b c r s u first second =
         hint_steps = grows_both r.hint.steps s.hint.steps u.hint.steps x.hint_steps y.hint_steps;
       };
     }
+
+-- a worker that goes on, stays while its seats go on, and goes on
+pub goes_on_twice : (t : StageView) (a b c : Worker) (r s l u : Seats) → GoesOn t a b r s
+    → GoesOn t b b s l → GoesOn t b c l u → GoesOn t a c r u
+goes_on_twice t a b c r s l u first stay second =
+    goes_both t a b c r l u (goes_both t a b b r s l first stay) second

@@ -16,36 +16,30 @@ use Rattle.run_records.proofs.PollingLemmas.{pollers_stay}
 use Rattle.run_records.proofs.ReplyingLemmas.{servers_stay}
 use Rattle.run_workers.specs.Actors.{KeepsDrain, KeepsPoller, KeepsServer, actor_at}
 use Rattle.run_workers.specs.Stages.{StageView}
-use Rattle.run_workers.specs.declared.seats.WorkerSeats.{WorkerSeats}
+use Rattle.run_actors.specs.declared.seats.Seats.{Seats}
 
-module _ (t : StageView) (s r : WorkerSeats) where
+module _ (t : StageView) (s r : Seats) where
   pub poller_stays : (first : ℕ → ℕ) (turns more : List (StepBy Turn)) (k : ℕ) (p : Poller)
       → r.rx.number ≡ s.rx.number → steps_of p.queue more ≡ steps_of p.queue turns
       → Grows s.hint.steps r.hint.steps → KeepsPoller t s first turns k p
       → KeepsPoller t r first more k p
   poller_stays first turns more k p number same hints x =
-      record {
-        own = x.own ∙ ap (λ n. actor_at t.rx.sizes n k) (sym number);
-        within = x.within;
-        room = x.room;
-        is = x.is;
-        keeps = pollers_stay t.shared.given (first p.queue) t.rx.sizes.start p turns more
-            s.hint.steps r.hint.steps same hints x.keeps;
-      }
+      assumption (
+        x.own ∙ ap (λ n. actor_at t.rx.sizes n k) (sym number),
+        pollers_stay t.shared.given (first p.queue) t.rx.sizes.start p turns more s.hint.steps
+            r.hint.steps same hints x.keeps,
+      )
 
   pub server_stays : (rows : ℕ) (replies more : List (StepBy Turn)) (k : ℕ) (v : Server)
       → r.tx.number ≡ s.tx.number → steps_of v.app more ≡ steps_of v.app replies
       → Grows s.rx.steps r.rx.steps → Grows s.hint.steps r.hint.steps
       → KeepsServer t s rows replies k v → KeepsServer t r rows more k v
   server_stays rows replies more k v number same steps hints x =
-      record {
-        own = x.own ∙ ap (λ n. actor_at t.tx.sizes n k) (sym number);
-        within = x.within;
-        room = x.room;
-        is = x.is;
-        keeps = servers_stay t.shared.given rows t.tx.sizes.start t.late v replies more s.rx.steps
-            r.rx.steps s.hint.steps r.hint.steps same steps hints x.keeps;
-      }
+      assumption (
+        x.own ∙ ap (λ n. actor_at t.tx.sizes n k) (sym number),
+        servers_stay t.shared.given rows t.tx.sizes.start t.late v replies more s.rx.steps
+            r.rx.steps s.hint.steps r.hint.steps same steps hints x.keeps,
+      )
 
 -- a drain with the record of its seat's steps after a call
 pub drain_keeps : (about : BoardSizes) (given : Setup) (exit : Exit) (old new : BoardSeatView)

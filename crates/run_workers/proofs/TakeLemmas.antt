@@ -1,8 +1,7 @@
 -- A worker after one of its applications took a packet or none.
 use Rattle.std.proofs.Common.{◌≡◌, ℕ, ◌<◌, inl, inr, Bool, true, false, Option, None, Some}
 use Rattle.std.proofs.Common.{refl, sym, ap, subst, ◌∙◌}
-use Rattle.std.proofs.Common.{[], length, length-set, slice_get, slice_set}
-use Rattle.std.proofs.Common.{◌++◌}
+use Rattle.std.proofs.Common.{◌++◌, length, length-set, slice_get, slice_set}
 use Rattle.std.specs.List.{Contains}
 use Rattle.std.proofs.lemmas.List.Elements.{Contains-append_cases, Contains-append_left}
 use Rattle.std.proofs.lemmas.List.Elements.{Contains-append_right}
@@ -13,7 +12,6 @@ use Rattle.hint_words.specs.declared.step.HintStep.{HintStep}
 use Rattle.hop_rule.specs.declared.sizes.BoardSizes.{BoardSizes}
 use Rattle.board_api.specs.Calls.Rights.{HasOpen, IsOutside}
 use Rattle.board_api.specs.Seats.{BoardSeatView}
-use Rattle.hop_delivery.specs.Orders.Turns.{Explained}
 use Rattle.steer_model.specs.State.Setup.{Setup}
 use Rattle.run_hands.specs.Laws.{StaysApplication}
 use Rattle.run_hands.specs.Servers.{IsServer, TakesOrLeaves, Writes}
@@ -25,16 +23,17 @@ use Rattle.run_records.specs.Growth.{Grows}
 use Rattle.run_records.proofs.AddedLemmas.{calls_add_steps}
 use Rattle.run_records.proofs.ReplyingLemmas.{takes_go_on}
 use Rattle.run_records.proofs.StoringLemmas.{applications_store}
-use Rattle.run_workers.specs.Actors.{Each, KeepsDrain, KeepsPoller, KeepsServer, actor_at}
+use Rattle.run_workers.specs.Actors.{KeepsPoller, KeepsServer, actor_at}
 use Rattle.run_workers.specs.Stages.{StageView}
-use Rattle.run_workers.specs.Workers.{GoesOn, HasHomes, IsBetween, IsNotedBy, IsWorking}
-use Rattle.run_workers.specs.declared.seats.WorkerSeats.{WorkerSeats}
+use Rattle.run_workers.specs.Workers.{GoesOn, HasHomes, IsNotedBy, IsWorking}
+use Rattle.run_actors.specs.declared.seats.Seats.{Seats}
 use Rattle.run_workers.specs.declared.worker.Worker.{Worker}
-use Rattle.run_workers.proofs.EachLemmas.{each_more, each_same, each_set, one_kept, set_there}
-use Rattle.run_workers.proofs.EachLemmas.{turns_stay}
-use Rattle.run_workers.proofs.SameLemmas.{homes_set, rings_stay}
-use Rattle.run_workers.proofs.SeatLemmas.{between_calls, takes_move}
-use Rattle.run_workers.proofs.StayLemmas.{drain_stays, poller_stays, server_stays}
+use Rattle.run_workers.proofs.EachLemmas.{each_same, each_set, one_kept, set_there}
+use Rattle.run_workers.proofs.KeepLemmas.{KeepsReceive, KeepsTransmit, board_calls, board_stays}
+use Rattle.run_workers.proofs.KeepLemmas.{pollers_stay, received, transmitted, works}
+use Rattle.run_workers.proofs.SameLemmas.{homes_set, is_same, rings_stay, seat_stays}
+use Rattle.run_workers.proofs.SeatLemmas.{takes_move}
+use Rattle.run_workers.proofs.StayLemmas.{server_stays}
 
 abbrev Hint : Type 0
 Hint = SeatView HintStep
@@ -63,7 +62,7 @@ takes_note about given y u false old new hint_old hint_new x write has =
 -- ---- the worker
 
 -- the application y at index i of a worker has become u, and its seats r
-module _ (t : StageView) (w v : Worker) (s r : WorkerSeats) (i : ℕ) (y u : Server) (took : Bool)
+module _ (t : StageView) (w v : Worker) (s r : Seats) (i : ℕ) (y u : Server) (took : Bool)
     (pollers : v.pollers.items ≡ w.pollers.items) (drains : v.drains.items ≡ w.drains.items)
     (servers : v.servers.items ≡ slice_set w.servers.items i u)
     (ships : v.ships.items ≡ w.ships.items) (tx : r.tx ≡ s.tx)
@@ -114,75 +113,49 @@ module _ (t : StageView) (w v : Worker) (s r : WorkerSeats) (i : ℕ) (y u : Ser
           | inr old ↦ kept_note write (x.noted_by write old)
         ]
 
-    taken : IsWorking t v r
-    taken =
-        record {
-          sizes = x.sizes;
-          rx = between_calls t.rx (length v.drains.items) (length w.drains.items) _ s.rx r.rx
-              (ap length drains)
-              (takes_move t.rx.sizes given y u took s.rx r.rx s.hint r.hint takes)
-              (λ l far. refl) outside gate x.rx;
-          tx = subst (λ (z : ℕ × BoardSeatView). IsBetween t.tx z.0 z.1)
-              (λ j. (sym (ap length ships) j, sym tx j)) x.tx;
-          hint_table = stay.hint_table ∙ x.hint_table;
-          first = x.first;
-          rows = x.rows;
-          flows = x.flows;
-          turns = x.turns;
-          steered = applications_explain.takes t.rx.sizes given y u took s.rx r.rx s.hint r.hint
-              takes x.turns x.steered;
-          by_pollers = turns_stay t.rx.sizes r.rx.number s.rx.number (length v.pollers.items)
-              (length w.pollers.items) x.turns stay.number (ap length pollers) x.by_pollers;
-          replies = x.replies;
-          replied = subst (λ (z : BoardSeatView). Explained z.steps x.replies) (sym tx) x.replied;
-          by_servers = turns_stay t.tx.sizes r.tx.number s.tx.number (length v.servers.items)
-              (length w.servers.items) x.replies tx_number many x.by_servers;
-          noted = u.writes.items ++ x.noted;
-          noted_by = λ write has.
-              subst (λ vs. IsNotedBy vs write) (sym servers) (notes write has);
-          stores = applications_store.takes t.rx.sizes given t.shared.filters y u took x.turns
-              x.noted (u.writes.items ++ x.noted) s.rx r.rx s.hint r.hint takes
-              (Contains-append_right u.writes.items x.noted)
-              (Contains-append_left u.writes.items x.noted) x.stores;
-          pollers = each_more (KeepsPoller t r x.first x.turns) (KeepsPoller t s x.first x.turns)
-              w.pollers.items v.pollers.items pollers
-              (λ k p kept. poller_stays t s r x.first x.turns x.turns k p stay.number refl grow.1
-              kept) x.pollers;
-          drains = each_more (KeepsDrain t.rx.sizes given Inboxes r.rx)
-              (KeepsDrain t.rx.sizes given Inboxes s.rx) w.drains.items v.drains.items drains
-              (λ k d kept. drain_stays t.rx.sizes given Inboxes s.rx r.rx k d stay.number
-              (applications_leave_drains.takes t.rx.sizes given d y u took s.rx r.rx s.hint r.hint
-              takes) kept) x.drains;
-          servers = each_same (KeepsServer t r x.rows x.replies) (slice_set w.servers.items i u)
-              v.servers.items servers
-              (each_set (KeepsServer t r x.rows x.replies) (KeepsServer t s x.rows x.replies)
-              w.servers.items i u this_server
-              (λ k z apart kept. server_stays t s r x.rows x.replies x.replies k z tx_number refl
-              grow.0 grow.1 kept) x.servers);
-          ships = each_same (KeepsDrain t.tx.sizes given Port r.tx) w.ships.items v.ships.items
-              ships (subst (λ (z : BoardSeatView). Each (KeepsDrain t.tx.sizes given Port z)
-              w.ships.items) (sym tx) x.ships);
-        }
+    looked : KeepsReceive t v r x.first x.turns
+    looked =
+        board_calls t.rx given Inboxes s.rx r.rx w.drains.items v.drains.items w.pollers.items
+        v.pollers.items (KeepsPoller t s x.first x.turns) (KeepsPoller t r x.first x.turns) x.turns
+        drains (ap length pollers) (pollers_stay t w v s r x grow.1 pollers stay.number)
+        (received t w v s r x) x.turns stay.number
+        (takes_move t.rx.sizes given y u took s.rx r.rx s.hint r.hint takes) outside gate
+        (applications_explain.takes t.rx.sizes given y u took s.rx r.rx s.hint r.hint takes x.turns
+        x.steered) x.by_pollers
+        (λ d. applications_leave_drains.takes t.rx.sizes given d y u took s.rx r.rx s.hint r.hint
+        takes)
+
+    waits : KeepsTransmit t v r x.rows x.replies
+    waits =
+        board_stays t.tx given Port s.tx r.tx w.ships.items v.ships.items w.servers.items
+        v.servers.items (KeepsServer t s x.rows x.replies) (KeepsServer t r x.rows x.replies)
+        x.replies ships many
+        (each_same (KeepsServer t r x.rows x.replies) (slice_set w.servers.items i u)
+        v.servers.items servers
+        (each_set (KeepsServer t r x.rows x.replies) (KeepsServer t s x.rows x.replies)
+        w.servers.items i u this_server
+        (λ k z apart kept. server_stays t s r x.rows x.replies x.replies k z tx_number refl grow.0
+        grow.1 kept) x.servers))
+        (transmitted t w v s r x) tx
 
     pub take_goes_on : GoesOn t w v s r
     take_goes_on =
         record {
-          is = taken;
-          same = record {
-            pollers = ap length pollers;
-            drains = ap length drains;
-            servers = many;
-            ships = ap length ships;
-            rings = rings_stay w.pollers.items v.pollers.items pollers;
-            homes = subst (HasHomes w.servers.items) (sym servers)
-                (homes_set w.servers.items i y u there stay.home);
-            rx_table = stay.table;
-            rx_number = stay.number;
-            tx_table = ap (λ (z : BoardSeatView). z.table) tx;
-            tx_number = tx_number;
-            hint_table = stay.hint_table;
-            rx_steps = grow.0;
-            tx_steps = ([], ap (λ (z : BoardSeatView). z.steps) tx);
-            hint_steps = grow.1;
-          };
+          is = works t w v s r x x.turns x.replies looked waits
+              (record {
+                table = stay.hint_table ∙ x.hint_table;
+                noted = u.writes.items ++ x.noted;
+                noted_by = λ write has.
+                    subst (λ vs. IsNotedBy vs write) (sym servers) (notes write has);
+                stores = applications_store.takes t.rx.sizes given t.shared.filters y u took
+                    x.turns x.noted (u.writes.items ++ x.noted) s.rx r.rx s.hint r.hint takes
+                    (Contains-append_right u.writes.items x.noted)
+                    (Contains-append_left u.writes.items x.noted) x.stores;
+              });
+          same = is_same w v s r (ap length pollers) (ap length drains) many (ap length ships)
+              (rings_stay w.pollers.items v.pollers.items pollers)
+              (subst (HasHomes w.servers.items) (sym servers)
+              (homes_set w.servers.items i y u there stay.home))
+              (record { table = stay.table; number = stay.number; steps = grow.0 })
+              (seat_stays s.tx r.tx tx) stay.hint_table grow.1;
         }

@@ -16,7 +16,7 @@ use Rattle.run_hands.specs.declared.server.Server.{Server}
 use Rattle.run_records.specs.Polling.{IsPolling}
 use Rattle.run_records.specs.Replying.{IsReplying}
 use Rattle.run_workers.specs.Stages.{StageView}
-use Rattle.run_workers.specs.declared.seats.WorkerSeats.{WorkerSeats}
+use Rattle.run_actors.specs.declared.seats.Seats.{Seats}
 
 -- Each item of a list is so at its index.
 abbrev pub Each : {A : Type 0} → (ℕ → A → Type 0) → List A → Type 0
@@ -38,7 +38,7 @@ IsForeign about number count lane = (k : ℕ) → k < count → lane ≢ actor_a
 
 -- A poller has its own queue, room for all packets, and its record over the turns of its seat.
 -- `first` has the flow word of each queue at the start.
-pub record KeepsPoller (t : StageView) (s : WorkerSeats) (first : ℕ → ℕ)
+pub record KeepsPoller (t : StageView) (s : Seats) (first : ℕ → ℕ)
     (turns : List (StepBy Turn)) (k : ℕ) (p : Poller) : Type 0 where
   pub own : p.queue ≡ actor_at t.rx.sizes s.rx.number k
   pub within : p.queue < length t.shared.given.homes
@@ -58,7 +58,7 @@ pub record KeepsDrain (about : BoardSizes) (given : Setup) (exit : Exit) (seat :
 
 -- An application is one of its worker's own, has room for all packets, and has its record over the
 -- turns of its seat at the transmit board. `rows` is the number of classes of its flow table.
-pub record KeepsServer (t : StageView) (s : WorkerSeats) (rows : ℕ)
+pub record KeepsServer (t : StageView) (s : Seats) (rows : ℕ)
     (replies : List (StepBy Turn)) (k : ℕ) (v : Server) : Type 0 where
   pub own : v.app ≡ actor_at t.tx.sizes s.tx.number k
   pub within : v.app < t.rx.sizes.outs

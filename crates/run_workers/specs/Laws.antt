@@ -23,7 +23,7 @@ use Rattle.run_hands.specs.declared.shared.Shared.{Shared}
 use Rattle.run_workers.specs.Actors.{Each, actor_at}
 use Rattle.run_workers.specs.Stages.{HasSizes, StageView, stage_view}
 use Rattle.run_workers.specs.Workers.{IsWorking, is_free}
-use Rattle.run_workers.specs.declared.seats.WorkerSeats.{WorkerSeats}
+use Rattle.run_actors.specs.declared.seats.Seats.{Seats}
 use Rattle.run_workers.specs.declared.worker.Worker.{Worker}
 
 -- ---- the beginning
@@ -64,7 +64,7 @@ pub record IsNewServer (t : StageView) (number rows k : ℕ) (v : Server) : Type
   pub writes : v.writes.items ≡ []
 
 -- A worker of new actors, at seats that have made no step.
-pub record IsNew (t : StageView) (w : Worker) (s : WorkerSeats) : Type 0 where
+pub record IsNew (t : StageView) (w : Worker) (s : Seats) : Type 0 where
   pub sizes : HasSizes t
   pub rx_table : s.rx.table ≡ t.rx.table
   pub tx_table : s.tx.table ≡ t.tx.table
@@ -82,7 +82,7 @@ pub record IsNew (t : StageView) (w : Worker) (s : WorkerSeats) : Type 0 where
 
 -- A new worker keeps the records of no turns.
 abbrev pub WorkersBegin : Type 0
-WorkersBegin = (t : StageView) (w : Worker) (s : WorkerSeats) → IsNew t w s → IsWorking t w s
+WorkersBegin = (t : StageView) (w : Worker) (s : Seats) → IsNew t w s → IsWorking t w s
 
 -- ---- the arrivals
 
@@ -90,7 +90,7 @@ WorkersBegin = (t : StageView) (w : Worker) (s : WorkerSeats) → IsNew t w s �
 abbrev pub ArrivalsBecomeKnown : Type 0
 ArrivalsBecomeKnown =
     (rx tx : BoardView) (shared : Shared) (arrivals : List Arrival) (w : Worker)
-    (s : WorkerSeats) → IsWorking (stage_view rx tx shared []) w s
+    (s : Seats) → IsWorking (stage_view rx tx shared []) w s
     → IsWorking (stage_view rx tx shared arrivals) w s
 
 -- ---- the end
@@ -99,5 +99,5 @@ ArrivalsBecomeKnown =
 -- with no lane held and no packet in hand.
 abbrev pub FreeWorkersRest : Type 0
 FreeWorkersRest =
-    (t : StageView) (w : Worker) (s : WorkerSeats) → IsWorking t w s → is_free w ≡ true
+    (t : StageView) (w : Worker) (s : Seats) → IsWorking t w s → is_free w ≡ true
     → IsAtRest t.rx.sizes s.rx.steps × IsAtRest t.tx.sizes s.tx.steps

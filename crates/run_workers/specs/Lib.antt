@@ -1,4 +1,6 @@
 pub mod Stages
 pub mod Actors
 pub mod Workers
+pub mod Looks
+pub mod Parts
 pub mod Laws

@@ -22,7 +22,7 @@ use Rattle.run_records.specs.Storing.{StoresAreFor}
 use Rattle.run_workers.specs.Actors.{Each, IsForeign, IsTurnOfOne, KeepsDrain, KeepsPoller}
 use Rattle.run_workers.specs.Actors.{KeepsServer}
 use Rattle.run_workers.specs.Stages.{HasSizes, StageView}
-use Rattle.run_workers.specs.declared.seats.WorkerSeats.{WorkerSeats}
+use Rattle.run_actors.specs.declared.seats.Seats.{Seats}
 use Rattle.run_workers.specs.declared.worker.Worker.{Worker}
 
 -- Between the calls of its actors a seat of this board is outside its gate, has not closed it, and
@@ -45,7 +45,7 @@ IsNotedBy servers write =
 -- queues and applications, and each of its actors has its record over these turns and over the
 -- steps of its seats. What it stored at the hint words was the filter of a turn, or what one of its
 -- applications noted.
-pub record IsWorking (t : StageView) (w : Worker) (s : WorkerSeats) : Type 0 where
+pub record IsWorking (t : StageView) (w : Worker) (s : Seats) : Type 0 where
   pub sizes : HasSizes t
   pub rx : IsBetween t.rx (length w.drains.items) s.rx
   pub tx : IsBetween t.tx (length w.ships.items) s.tx
@@ -81,7 +81,7 @@ HasHomes before after =
 
 -- A worker has as many actors of each kind as before, with the same rings and homes, and its seats
 -- are the same seats, with more steps.
-pub record IsSame (before after : Worker) (old new : WorkerSeats) : Type 0 where
+pub record IsSame (before after : Worker) (old new : Seats) : Type 0 where
   pub pollers : length after.pollers.items ≡ length before.pollers.items
   pub drains : length after.drains.items ≡ length before.drains.items
   pub servers : length after.servers.items ≡ length before.servers.items
@@ -98,7 +98,7 @@ pub record IsSame (before after : Worker) (old new : WorkerSeats) : Type 0 where
   pub hint_steps : Grows old.hint.steps new.hint.steps
 
 -- A worker went on: it keeps its records, and is the same.
-pub record GoesOn (t : StageView) (before after : Worker) (old new : WorkerSeats) : Type 0 where
+pub record GoesOn (t : StageView) (before after : Worker) (old new : Seats) : Type 0 where
   pub is : IsWorking t after new
   pub same : IsSame before after old new
 

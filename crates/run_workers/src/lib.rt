@@ -3,13 +3,11 @@
 #![tactic(auto)]
 
 mod laws;
-mod seats;
 mod stage;
 mod work;
 mod worker;
 
 pub use laws::{arrivals_become_known, free_workers_rest, workers_begin};
-pub use seats::WorkerSeats;
 pub use stage::Stage;
 pub use work::{Ended, MAX_IDLE_TURNS};
 pub use worker::Worker;

@@ -1,17 +1,18 @@
 //! The turns of a worker, from its first to its last.
-ghost use Rattle.std.specs.Prelude.{◌≡◌, true};
+ghost use Rattle.std.specs.Prelude.{◌≡◌, ◌+◌, ◌≤◌, true};
 ghost use Rattle.std.specs.List.{Contains};
 ghost use Rattle.hint_words.specs.declared.step.HintStep.TheVariants.{Load};
 ghost use Rattle.run_words.specs.declared.hint_word.TheConstants.{DONE_WORD};
 ghost use Rattle.run_words.specs.declared.values.TheConstants.{DONE as DONE_VALUE};
+ghost use Rattle.run_workers.specs.Looks.{Looks, look_count};
 ghost use Rattle.run_workers.specs.Stages.{stage_view};
 ghost use Rattle.run_workers.specs.Workers.{GoesOn, IsWorking, is_free};
+ghost use Rattle.run_workers.specs.declared.work.TheConstants.{MAX_IDLE_TURNS};
 
-use crate::seats::WorkerSeats;
 use crate::stage::Stage;
 use crate::worker::Worker;
 use board_api::Board;
-use run_actors::Pace;
+use run_actors::{Pace, Seats};
 use run_words::{HintWord, is_done};
 use std::sync::Wait;
 
@@ -36,7 +37,7 @@ impl Worker {
         &mut self,
         rt: &R,
         stage: &Stage<B>,
-        seats: &mut WorkerSeats,
+        seats: &mut Seats,
         pace: &P,
         number: u32,
     ) -> Ended
@@ -47,6 +48,8 @@ impl Worker {
         ensures free { is_free self.new ≡ true }
         ensures arrived { result ≡ Ended.Arrived
             → Contains seats.new.hint.steps (Load DONE_WORD DONE_VALUE) }
+        ensures idle { result ≡ Ended.Idle
+            → look_count seats.old.hint.steps + MAX_IDLE_TURNS ≤ look_count seats.new.hint.steps }
     {
         let mut idle = 0;
         let mut turns: u64 = 0;
@@ -70,11 +73,12 @@ impl Worker {
     }
 
     // Whether all packets have arrived, by one look at the word that says so.
-    fn looks<B: Board>(&self, stage: &Stage<B>, seats: &mut WorkerSeats) -> bool
+    fn looks<B: Board>(&self, stage: &Stage<B>, seats: &mut Seats) -> bool
         requires is { IsWorking (stage_view (B.view stage.now.rx) (B.view stage.now.tx)
             stage.now.shared stage.now.late.items) self.now seats.old }
         ensures goes { GoesOn (stage_view (B.view stage.now.rx) (B.view stage.now.tx)
             stage.now.shared stage.now.late.items) self.now self.now seats.old seats.new }
+        ensures look { Looks seats.old seats.new }
         ensures arrived { result ≡ true
             → Contains seats.new.hint.steps (Load DONE_WORD DONE_VALUE) }
     {

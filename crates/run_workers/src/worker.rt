@@ -1,12 +1,13 @@
 //! A worker of a run.
 ghost use Rattle.std.specs.Prelude.{◌≡◌, ◌<◌, false, true, vec_len};
+ghost use Rattle.run_workers.specs.Parts.{actor_count};
 ghost use Rattle.run_workers.specs.Stages.{stage_view};
 ghost use Rattle.run_workers.specs.Workers.{GoesOn, IsWorking, drains_are_free, is_free};
 ghost use Rattle.run_workers.specs.Workers.{pollers_are_free, servers_are_free};
 
-use crate::seats::WorkerSeats;
 use crate::stage::Stage;
 use board_api::Board;
+use run_actors::Seats;
 use run_hands::{Drain, Poller, Server};
 use std::sync::Wait;
 
@@ -24,27 +25,31 @@ pub struct Worker {
     pub ships: Vec<Drain>,
 }
 
+// A part of a turn: a kind of actors, each of which does its work once.
+#[derive(Clone, Copy)]
+enum Part {
+    Poll,
+    Drain,
+    Serve,
+    Ship,
+}
+
 impl Worker {
     /// Plays each of its actors once: polls its receive queues, empties the backlogs of its
     /// processors, lets each of its applications take a packet and reply, and empties its transmit
     /// queues; of each kind in ascending order. Returns whether a packet was taken, steered,
     /// pulled, delivered or replied to, or is left in a hand. Allocates nothing.
-    pub fn turn<R: Wait, B: Board>(
-        &mut self,
-        rt: &R,
-        stage: &Stage<B>,
-        seats: &mut WorkerSeats,
-    ) -> bool
+    pub fn turn<R: Wait, B: Board>(&mut self, rt: &R, stage: &Stage<B>, seats: &mut Seats) -> bool
         requires is { IsWorking (stage_view (B.view stage.now.rx) (B.view stage.now.tx)
             stage.now.shared stage.now.late.items) self.old seats.old }
         ensures goes { GoesOn (stage_view (B.view stage.now.rx) (B.view stage.now.tx)
             stage.now.shared stage.now.late.items) self.old self.new seats.old seats.new }
         ensures idle { result ≡ false → is_free self.new ≡ true }
     {
-        let polled = self.poll_each(rt, stage, seats);
-        let drained = self.drain_each(stage, seats);
-        let served = self.serve_each(rt, stage, seats);
-        let shipped = self.ship_each(stage, seats);
+        let polled = self.play_each(rt, stage, seats, Part::Poll);
+        let drained = self.play_each(rt, stage, seats, Part::Drain);
+        let served = self.play_each(rt, stage, seats, Part::Serve);
+        let shipped = self.play_each(rt, stage, seats, Part::Ship);
         let free = self.is_free();
         polled | drained | served | shipped | !free
     }
@@ -59,12 +64,13 @@ impl Worker {
             && drains_are_free(&self.ships)
     }
 
-    // Polls each receive queue once. Returns whether a packet was taken or steered.
-    fn poll_each<R: Wait, B: Board>(
+    // Plays each actor of a part once. Returns whether one of them did something.
+    fn play_each<R: Wait, B: Board>(
         &mut self,
         rt: &R,
         stage: &Stage<B>,
-        seats: &mut WorkerSeats,
+        seats: &mut Seats,
+        part: Part,
     ) -> bool
         requires is { IsWorking (stage_view (B.view stage.now.rx) (B.view stage.now.tx)
             stage.now.shared stage.now.late.items) self.old seats.old }
@@ -72,19 +78,54 @@ impl Worker {
             stage.now.shared stage.now.late.items) self.old self.new seats.old seats.new }
     {
         let mut did = false;
-        for i in 0..self.pollers.len() {
-            let went = self.poll(rt, stage, seats, i);
+        for i in 0..self.count(part) {
+            let went = self.play(rt, stage, seats, part, i);
             did = did | went;
         }
         did
     }
 
-    // The same of the poller at an index.
+    // How many actors a part has.
+    fn count(&self, part: Part) -> usize
+        ensures { result ≡ actor_count part self.now }
+    {
+        match part {
+            Part::Poll => self.pollers.len(),
+            Part::Drain => self.drains.len(),
+            Part::Serve => self.servers.len(),
+            Part::Ship => self.ships.len(),
+        }
+    }
+
+    // Plays the actor of a part at an index. Returns whether it did something.
+    fn play<R: Wait, B: Board>(
+        &mut self,
+        rt: &R,
+        stage: &Stage<B>,
+        seats: &mut Seats,
+        part: Part,
+        i: usize,
+    ) -> bool
+        requires within { i < actor_count part self.old }
+        requires is { IsWorking (stage_view (B.view stage.now.rx) (B.view stage.now.tx)
+            stage.now.shared stage.now.late.items) self.old seats.old }
+        ensures goes { GoesOn (stage_view (B.view stage.now.rx) (B.view stage.now.tx)
+            stage.now.shared stage.now.late.items) self.old self.new seats.old seats.new }
+    {
+        match part {
+            Part::Poll => self.poll(rt, stage, seats, i),
+            Part::Drain => self.drain(stage, seats, i),
+            Part::Serve => self.serve(rt, stage, seats, i),
+            Part::Ship => self.ship(stage, seats, i),
+        }
+    }
+
+    // Polls a receive queue. Returns whether a packet was taken or steered.
     fn poll<R: Wait, B: Board>(
         &mut self,
         rt: &R,
         stage: &Stage<B>,
-        seats: &mut WorkerSeats,
+        seats: &mut Seats,
         i: usize,
     ) -> bool
         requires within { i < vec_len self.old.pollers }
@@ -96,23 +137,8 @@ impl Worker {
         self.pollers[i].poll(rt, &stage.rx, &stage.shared, &mut seats.rx, &mut seats.hint)
     }
 
-    // Empties each backlog. Returns whether a packet was pulled or delivered.
-    fn drain_each<B: Board>(&mut self, stage: &Stage<B>, seats: &mut WorkerSeats) -> bool
-        requires is { IsWorking (stage_view (B.view stage.now.rx) (B.view stage.now.tx)
-            stage.now.shared stage.now.late.items) self.old seats.old }
-        ensures goes { GoesOn (stage_view (B.view stage.now.rx) (B.view stage.now.tx)
-            stage.now.shared stage.now.late.items) self.old self.new seats.old seats.new }
-    {
-        let mut did = false;
-        for i in 0..self.drains.len() {
-            let went = self.drain(stage, seats, i);
-            did = did | went;
-        }
-        did
-    }
-
-    // The same of the processor at an index.
-    fn drain<B: Board>(&mut self, stage: &Stage<B>, seats: &mut WorkerSeats, i: usize) -> bool
+    // Empties a backlog. Returns whether a packet was pulled or delivered.
+    fn drain<B: Board>(&mut self, stage: &Stage<B>, seats: &mut Seats, i: usize) -> bool
         requires within { i < vec_len self.old.drains }
         requires is { IsWorking (stage_view (B.view stage.now.rx) (B.view stage.now.tx)
             stage.now.shared stage.now.late.items) self.old seats.old }
@@ -122,32 +148,13 @@ impl Worker {
         self.drains[i].drain(&stage.rx, &stage.shared.given, &mut seats.rx)
     }
 
-    // Serves each application once. Returns whether a packet was taken or replied to.
-    fn serve_each<R: Wait, B: Board>(
-        &mut self,
-        rt: &R,
-        stage: &Stage<B>,
-        seats: &mut WorkerSeats,
-    ) -> bool
-        requires is { IsWorking (stage_view (B.view stage.now.rx) (B.view stage.now.tx)
-            stage.now.shared stage.now.late.items) self.old seats.old }
-        ensures goes { GoesOn (stage_view (B.view stage.now.rx) (B.view stage.now.tx)
-            stage.now.shared stage.now.late.items) self.old self.new seats.old seats.new }
-    {
-        let mut did = false;
-        for i in 0..self.servers.len() {
-            let went = self.serve(rt, stage, seats, i);
-            did = did | went;
-        }
-        did
-    }
-
-    // The same of the application at an index: it takes a packet if its hand is empty, and replies.
+    // Lets an application take a packet, if its hand is empty, and reply. Returns whether it took a
+    // packet or replied to one.
     fn serve<R: Wait, B: Board>(
         &mut self,
         rt: &R,
         stage: &Stage<B>,
-        seats: &mut WorkerSeats,
+        seats: &mut Seats,
         i: usize,
     ) -> bool
         requires within { i < vec_len self.old.servers }
@@ -162,7 +169,7 @@ impl Worker {
     }
 
     // Lets the application at an index take a packet, if its hand is empty.
-    fn take<B: Board>(&mut self, stage: &Stage<B>, seats: &mut WorkerSeats, i: usize) -> bool
+    fn take<B: Board>(&mut self, stage: &Stage<B>, seats: &mut Seats, i: usize) -> bool
         requires within { i < vec_len self.old.servers }
         requires is { IsWorking (stage_view (B.view stage.now.rx) (B.view stage.now.tx)
             stage.now.shared stage.now.late.items) self.old seats.old }
@@ -177,7 +184,7 @@ impl Worker {
         &mut self,
         rt: &R,
         stage: &Stage<B>,
-        seats: &mut WorkerSeats,
+        seats: &mut Seats,
         i: usize,
     ) -> bool
         requires within { i < vec_len self.old.servers }
@@ -196,23 +203,8 @@ impl Worker {
         )
     }
 
-    // Empties each transmit queue. Returns whether a packet was pulled or delivered.
-    fn ship_each<B: Board>(&mut self, stage: &Stage<B>, seats: &mut WorkerSeats) -> bool
-        requires is { IsWorking (stage_view (B.view stage.now.rx) (B.view stage.now.tx)
-            stage.now.shared stage.now.late.items) self.old seats.old }
-        ensures goes { GoesOn (stage_view (B.view stage.now.rx) (B.view stage.now.tx)
-            stage.now.shared stage.now.late.items) self.old self.new seats.old seats.new }
-    {
-        let mut did = false;
-        for i in 0..self.ships.len() {
-            let went = self.ship(stage, seats, i);
-            did = did | went;
-        }
-        did
-    }
-
-    // The same of the transmit queue at an index.
-    fn ship<B: Board>(&mut self, stage: &Stage<B>, seats: &mut WorkerSeats, i: usize) -> bool
+    // Empties a transmit queue. Returns whether a packet was pulled or delivered.
+    fn ship<B: Board>(&mut self, stage: &Stage<B>, seats: &mut Seats, i: usize) -> bool
         requires within { i < vec_len self.old.ships }
         requires is { IsWorking (stage_view (B.view stage.now.rx) (B.view stage.now.tx)
             stage.now.shared stage.now.late.items) self.old seats.old }

@@ -1,42 +1,30 @@
-use Rattle.std.proofs.Common.{vec_len, refl}
-use Rattle.std.proofs.lemmas.Option.{slice_get_read}
-use Rattle.run_workers.proofs.AtLemmas.{drain_at, drain_outs}
+use Rattle.std.proofs.Common.{refl}
+use Rattle.run_hands.specs.declared.drain.Exit.TheVariants.{Inboxes}
+use Rattle.run_workers.proofs.AtLemmas.{outs_within, read_at}
 use Rattle.run_workers.proofs.DrainLemmas.{drain_goes_on}
 use Rattle.run_workers.proofs.worker.Worker.drain.Goals as goal
 
-pub drain-requires-clause-within : goal.drain-requires-clause-within
-drain-requires-clause-within g c =
-    (drain_at _ c.args.self.now c.args.seats.now c.requires.is (vec_len c.args.self.now.drains)
-    c.args.i c.index_mut.result.now c.args.self.now.drains.ok.0 c.requires.within
-    c.index_mut.ensures.value).within
-
-pub drain-requires-clause-mine : goal.drain-requires-clause-mine
-drain-requires-clause-mine g c =
-    (drain_at _ c.args.self.now c.args.seats.now c.requires.is (vec_len c.args.self.now.drains)
-    c.args.i c.index_mut.result.now c.args.self.now.drains.ok.0 c.requires.within
-    c.index_mut.ensures.value).mine
-
-pub drain-requires-clause-is : goal.drain-requires-clause-is
-drain-requires-clause-is g c =
-    (drain_at _ c.args.self.now c.args.seats.now c.requires.is (vec_len c.args.self.now.drains)
-    c.args.i c.index_mut.result.now c.args.self.now.drains.ok.0 c.requires.within
-    c.index_mut.ensures.value).is
-
-pub drain-requires-clause-outs : goal.drain-requires-clause-outs
-drain-requires-clause-outs g c =
-    drain_outs _ c.args.self.now c.args.seats.now c.requires.is 0 c.args.i c.index_mut.result.now
-    (drain_at _ c.args.self.now c.args.seats.now c.requires.is (vec_len c.args.self.now.drains)
-    c.args.i c.index_mut.result.now c.args.self.now.drains.ok.0 c.requires.within
-    c.index_mut.ensures.value)
+pub drain-requires : goal.drain-requires
+drain-requires g c =
+    let there =
+    read_at c.args.self.now.drains c.args.i c.index_mut.result.now c.requires.within
+    c.index_mut.ensures.value in
+    let at = c.requires.is.drains c.args.i c.index_mut.result.now there in
+    record {
+      table = c.requires.is.rx.table;
+      within = at.within;
+      mine = at.mine;
+      outs = outs_within _ _ Inboxes _ at.exit_is c.requires.is.sizes.apps;
+      is = at.is;
+    }
 
 pub returns : goal.returns
 returns g c =
+    let there =
+    read_at c.args.self.now.drains c.args.i c.index_mut.result.now c.requires.within
+    c.index_mut.ensures.value in
     record {
-      goes = drain_goes_on _ c.args.self.now _ c.args.seats.now _ c.args.i c.index_mut.result.now
-          c.drain.new.self refl refl refl refl refl refl
-          (slice_get_read c.args.self.now.drains.items (vec_len c.args.self.now.drains) c.args.i
-          c.index_mut.result.now c.args.self.now.drains.ok.0 c.requires.within
-          c.index_mut.ensures.value)
-          c.requires.is c.drain.ensures.serves c.drain.ensures.is c.drain.ensures.lane
-          c.drain.ensures.exit;
+      goes = drain_goes_on _ c.args.self.now _ c.args.seats.now _ refl refl refl c.requires.is
+          c.args.i c.index_mut.result.now c.drain.new.self refl refl refl there
+          c.drain.ensures.serves c.drain.ensures.is c.drain.ensures.lane c.drain.ensures.exit;
     }

@@ -1,35 +1,37 @@
-use Rattle.std.proofs.Common.{vec_len, refl}
-use Rattle.std.proofs.lemmas.Option.{slice_get_read}
-use Rattle.run_workers.proofs.AtLemmas.{poller_at}
+use Rattle.std.proofs.Common.{arith, refl}
+use Rattle.run_workers.proofs.AtLemmas.{read_at}
 use Rattle.run_workers.proofs.PollLemmas.{poll_goes_on}
 use Rattle.run_workers.proofs.worker.Worker.poll.Goals as goal
 
-pub poll-requires-clause-queue : goal.poll-requires-clause-queue
-poll-requires-clause-queue g c =
-    (poller_at _ c.args.self.now c.args.seats.now c.requires.is (vec_len c.args.self.now.pollers)
-    c.args.i c.index_mut.result.now c.args.self.now.pollers.ok.0 c.requires.within
-    c.index_mut.ensures.value).within
-
-pub poll-requires-clause-room : goal.poll-requires-clause-room
-poll-requires-clause-room g c =
-    (poller_at _ c.args.self.now c.args.seats.now c.requires.is (vec_len c.args.self.now.pollers)
-    c.args.i c.index_mut.result.now c.args.self.now.pollers.ok.0 c.requires.within
-    c.index_mut.ensures.value).room
-
-pub poll-requires-clause-is : goal.poll-requires-clause-is
-poll-requires-clause-is g c =
-    (poller_at _ c.args.self.now c.args.seats.now c.requires.is (vec_len c.args.self.now.pollers)
-    c.args.i c.index_mut.result.now c.args.self.now.pollers.ok.0 c.requires.within
-    c.index_mut.ensures.value).is
+pub poll-requires : goal.poll-requires
+poll-requires g c =
+    let there =
+    read_at c.args.self.now.pollers c.args.i c.index_mut.result.now c.requires.within
+    c.index_mut.ensures.value in
+    let at = c.requires.is.pollers c.args.i c.index_mut.result.now there in
+    let words = c.requires.is.sizes.words in
+    let filters = c.requires.is.sizes.filters in
+    record {
+      table = c.requires.is.rx.table;
+      hint_table = c.requires.is.hint_table;
+      words = omega (arith, words, filters);
+      filters = c.requires.is.sizes.filters;
+      outside = c.requires.is.rx.outside;
+      «open» = c.requires.is.rx.gate;
+      queue = at.within;
+      settings = c.requires.is.sizes.queue_settings;
+      cpus = c.requires.is.sizes.cpus;
+      room = at.room;
+      is = at.is;
+    }
 
 pub returns : goal.returns
 returns g c =
+    let there =
+    read_at c.args.self.now.pollers c.args.i c.index_mut.result.now c.requires.within
+    c.index_mut.ensures.value in
     record {
       goes = poll_goes_on _ c.args.self.now _ c.args.seats.now _ c.args.i c.index_mut.result.now
-          c.poll.new.self refl refl refl refl refl
-          (slice_get_read c.args.self.now.pollers.items (vec_len c.args.self.now.pollers) c.args.i
-          c.index_mut.result.now c.args.self.now.pollers.ok.0 c.requires.within
-          c.index_mut.ensures.value)
-          c.requires.is c.poll.ensures.polls c.poll.ensures.is c.poll.ensures.ring
-          c.poll.ensures.outside c.poll.ensures.open;
+          c.poll.new.self refl refl refl refl refl there c.requires.is c.poll.ensures.polls
+          c.poll.ensures.is c.poll.ensures.ring c.poll.ensures.outside c.poll.ensures.open;
     }

@@ -1,35 +1,34 @@
-use Rattle.std.proofs.Common.{vec_len, refl}
-use Rattle.std.proofs.lemmas.Option.{slice_get_read}
-use Rattle.run_workers.proofs.AtLemmas.{server_at}
+use Rattle.std.proofs.Common.{arith, refl}
+use Rattle.run_workers.proofs.AtLemmas.{read_at}
 use Rattle.run_workers.proofs.TakeLemmas.{take_goes_on}
 use Rattle.run_workers.proofs.worker.Worker.take.Goals as goal
 
-pub take-requires-clause-app : goal.take-requires-clause-app
-take-requires-clause-app g c =
-    (server_at _ c.args.self.now c.args.seats.now c.requires.is (vec_len c.args.self.now.servers)
-    c.args.i c.index_mut.result.now c.args.self.now.servers.ok.0 c.requires.within
-    c.index_mut.ensures.value).within
-
-pub take-requires-clause-room : goal.take-requires-clause-room
-take-requires-clause-room g c =
-    (server_at _ c.args.self.now c.args.seats.now c.requires.is (vec_len c.args.self.now.servers)
-    c.args.i c.index_mut.result.now c.args.self.now.servers.ok.0 c.requires.within
-    c.index_mut.ensures.value).room
-
-pub take-requires-clause-is : goal.take-requires-clause-is
-take-requires-clause-is g c =
-    (server_at _ c.args.self.now c.args.seats.now c.requires.is (vec_len c.args.self.now.servers)
-    c.args.i c.index_mut.result.now c.args.self.now.servers.ok.0 c.requires.within
-    c.index_mut.ensures.value).is
+pub take-requires : goal.take-requires
+take-requires g c =
+    let there =
+    read_at c.args.self.now.servers c.args.i c.index_mut.result.now c.requires.within
+    c.index_mut.ensures.value in
+    let at = c.requires.is.servers c.args.i c.index_mut.result.now there in
+    let words = c.requires.is.sizes.words in
+    record {
+      table = c.requires.is.rx.table;
+      hint_table = c.requires.is.hint_table;
+      words = omega (arith, words);
+      outside = c.requires.is.rx.outside;
+      «open» = c.requires.is.rx.gate;
+      app = at.within;
+      settings = c.requires.is.sizes.queue_settings;
+      room = at.room;
+      is = at.is;
+    }
 
 pub returns : goal.returns
 returns g c =
+    let there =
+    read_at c.args.self.now.servers c.args.i c.index_mut.result.now c.requires.within
+    c.index_mut.ensures.value in
     record {
       goes = take_goes_on _ c.args.self.now _ c.args.seats.now _ c.args.i c.index_mut.result.now
-          c.take.new.self c.take.result refl refl refl refl refl
-          (slice_get_read c.args.self.now.servers.items (vec_len c.args.self.now.servers) c.args.i
-          c.index_mut.result.now c.args.self.now.servers.ok.0 c.requires.within
-          c.index_mut.ensures.value)
-          c.requires.is c.take.ensures.takes c.take.ensures.is c.take.ensures.outside
-          c.take.ensures.open;
+          c.take.new.self c.take.result refl refl refl refl refl there c.requires.is
+          c.take.ensures.takes c.take.ensures.is c.take.ensures.outside c.take.ensures.open;
     }

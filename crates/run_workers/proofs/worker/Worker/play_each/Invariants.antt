@@ -1,6 +1,6 @@
 use Rattle.run_workers.specs.Stages.{stage_view}
 use Rattle.run_workers.specs.Workers.{GoesOn}
-use Rattle.run_workers.proofs.worker.Worker.poll_each.Given as goal
+use Rattle.run_workers.proofs.worker.Worker.play_each.Given as goal
 
 abbrev pub invariant-loop-i : goal.invariant-loop-i
 invariant-loop-i g l =

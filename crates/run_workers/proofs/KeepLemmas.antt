@@ -1,0 +1,194 @@
+-- What a worker keeps at the one board, at the other, and of its stores: what it keeps all in all,
+-- and what stays while it works elsewhere.
+use Rattle.std.proofs.Common.{◌≡◌, ℕ, List, All, refl, sym, ap, subst, ◌∙◌, length}
+use Rattle.std.specs.List.{Contains}
+use Rattle.linearization.specs.Orders.{StepBy}
+use Rattle.linearization.specs.Seats.{SeatView}
+use Rattle.history.specs.declared.sock_write.SockWrite.{SockWrite}
+use Rattle.hint_words.specs.declared.step.HintStep.{HintStep}
+use Rattle.board_api.specs.Calls.Rights.{HasOpen, IsOutside}
+use Rattle.board_api.specs.Seats.{BoardSeatView}
+use Rattle.board_api.specs.Views.{BoardView}
+use Rattle.hop_delivery.specs.Orders.Turns.{Explained, Turn}
+use Rattle.steer_model.specs.State.Setup.{Setup}
+use Rattle.run_hands.specs.Deltas.{no_lane}
+use Rattle.run_hands.specs.Drains.{IsDrain}
+use Rattle.run_hands.specs.declared.drain.Drain.{Drain}
+use Rattle.run_hands.specs.declared.drain.Exit.{Exit}
+use Rattle.run_hands.specs.declared.drain.Exit.TheVariants.{Inboxes, Port}
+use Rattle.run_records.specs.Growth.{Grows}
+use Rattle.run_records.specs.Storing.{StoresAreFor}
+use Rattle.run_workers.specs.Actors.{Each, IsTurnOfOne, KeepsDrain, KeepsPoller, KeepsServer}
+use Rattle.run_workers.specs.Stages.{StageView}
+use Rattle.run_workers.specs.Workers.{IsBetween, IsNotedBy, IsWorking}
+use Rattle.run_actors.specs.declared.seats.Seats.{Seats}
+use Rattle.run_workers.specs.declared.worker.Worker.{Worker}
+use Rattle.run_workers.proofs.EachLemmas.{each_more, turns_stay}
+use Rattle.run_workers.proofs.SeatLemmas.{Moves, between_calls}
+use Rattle.run_workers.proofs.StayLemmas.{drain_stays, poller_stays, server_stays}
+
+abbrev Hint : Type 0
+Hint = SeatView HintStep
+
+-- ---- one board
+
+-- what a worker keeps at a board: of its seat, of the actors that make turns there, and of its
+-- drains
+pub record KeepsBoard {A : Type 0} (board : BoardView) (given : Setup) (exit : Exit)
+    (seat : BoardSeatView) (drains : List Drain) (actors : List A) (Keeps : ℕ → A → Type 0)
+    (turns : List (StepBy Turn)) : Type 0 where
+  pub between : IsBetween board (length drains) seat
+  pub explained : Explained seat.steps turns
+  pub by_actors : All (IsTurnOfOne board.sizes seat.number (length actors)) turns
+  pub each : Each Keeps actors
+  pub each_drain : Each (KeepsDrain board.sizes given exit seat) drains
+
+-- a call leaves the drains ds of a board, now es; its actors were these before, and are these after
+module _ {A : Type 0} (board : BoardView) (given : Setup) (exit : Exit) (old new : BoardSeatView)
+    (ds es : List Drain) (before after : List A) (Was Is : ℕ → A → Type 0)
+    (turns : List (StepBy Turn)) (same_drains : es ≡ ds) (many : length after ≡ length before)
+    (each : Each Is after) (k : KeepsBoard board given exit old ds before Was turns) where
+  drains_stay : new.number ≡ old.number
+      → ((d : Drain) → IsDrain given d old.steps → IsDrain given d new.steps)
+      → Each (KeepsDrain board.sizes given exit new) es
+  drains_stay number leave =
+      each_more (KeepsDrain board.sizes given exit new) (KeepsDrain board.sizes given exit old) ds
+      es same_drains
+      (λ l d kept. drain_stays board.sizes given exit old new l d number (leave d) kept)
+      k.each_drain
+
+  -- the seat did nothing
+  pub board_stays : new ≡ old → KeepsBoard board given exit new es after Is turns
+  board_stays same =
+      let number : new.number ≡ old.number = ap (λ (z : BoardSeatView). z.number) same in
+      record {
+        between = subst (λ (z : ℕ × BoardSeatView). IsBetween board z.0 z.1)
+            (λ j. (sym (ap length same_drains) j, sym same j)) k.between;
+        explained = subst (λ (z : BoardSeatView). Explained z.steps turns) (sym same) k.explained;
+        by_actors = turns_stay board.sizes new.number old.number (length after) (length before)
+            turns number many k.by_actors;
+        each = each;
+        each_drain = drains_stay number
+            (λ d. subst (λ (z : BoardSeatView). IsDrain given d z.steps) (sym same));
+      }
+
+  -- the seat served no lane, and its list is explained by these turns
+  pub board_calls : (more : List (StepBy Turn)) → new.number ≡ old.number
+      → Moves no_lane old new → IsOutside new.steps → HasOpen new.steps
+      → Explained new.steps more → All (IsTurnOfOne board.sizes old.number (length before)) more
+      → ((d : Drain) → IsDrain given d old.steps → IsDrain given d new.steps)
+      → KeepsBoard board given exit new es after Is more
+  board_calls more number moves outside gate explained by leave =
+      record {
+        between = between_calls board (length es) (length ds) no_lane old new
+            (ap length same_drains) moves (λ l far. refl) outside gate k.between;
+        explained = explained;
+        by_actors = turns_stay board.sizes new.number old.number (length after) (length before)
+            more number many by;
+        each = each;
+        each_drain = drains_stay number leave;
+      }
+
+-- ---- the worker
+
+abbrev pub KeepsReceive : StageView → Worker → Seats → (ℕ → ℕ) → List (StepBy Turn) → Type 0
+KeepsReceive t w s first turns =
+    KeepsBoard t.rx t.shared.given Inboxes s.rx w.drains.items w.pollers.items
+    (KeepsPoller t s first turns) turns
+
+abbrev pub KeepsTransmit : StageView → Worker → Seats → ℕ → List (StepBy Turn) → Type 0
+KeepsTransmit t w s rows replies =
+    KeepsBoard t.tx t.shared.given Port s.tx w.ships.items w.servers.items
+    (KeepsServer t s rows replies) replies
+
+-- what a worker keeps of what it stored at the hint words
+pub record KeepsStores (t : StageView) (w : Worker) (s : Seats) (turns : List (StepBy Turn))
+    : Type 0 where
+  pub table : s.hint.table ≡ t.shared.hints.table
+  pub noted : List SockWrite
+  pub noted_by : (write : SockWrite) → Contains noted write → IsNotedBy w.servers.items write
+  pub stores : StoresAreFor t.shared.given t.shared.filters turns noted s.hint.steps
+
+-- the worker w has become v, and its seats r
+module _ (t : StageView) (w v : Worker) (s r : Seats) (x : IsWorking t w s) where
+  pub received : KeepsReceive t w s x.first x.turns
+  received = assumption
+
+  pub transmitted : KeepsTransmit t w s x.rows x.replies
+  transmitted = assumption
+
+  pub works : (turns replies : List (StepBy Turn)) → KeepsReceive t v r x.first turns
+      → KeepsTransmit t v r x.rows replies → KeepsStores t v r turns → IsWorking t v r
+  works turns replies receive transmit stores =
+      record {
+        sizes = x.sizes;
+        rx = receive.between;
+        tx = transmit.between;
+        hint_table = stores.table;
+        first = x.first;
+        rows = x.rows;
+        flows = x.flows;
+        turns = turns;
+        steered = receive.explained;
+        by_pollers = receive.by_actors;
+        replies = replies;
+        replied = transmit.explained;
+        by_servers = transmit.by_actors;
+        noted = stores.noted;
+        noted_by = stores.noted_by;
+        stores = stores.stores;
+        pollers = receive.each;
+        drains = receive.each_drain;
+        servers = transmit.each;
+        ships = transmit.each_drain;
+      }
+
+  -- ---- the actors that are left alone
+
+  module _ (hints : Grows s.hint.steps r.hint.steps) where
+    pub pollers_stay : v.pollers.items ≡ w.pollers.items → r.rx.number ≡ s.rx.number
+        → Each (KeepsPoller t r x.first x.turns) v.pollers.items
+    pollers_stay same number =
+        each_more (KeepsPoller t r x.first x.turns) (KeepsPoller t s x.first x.turns)
+        w.pollers.items v.pollers.items same
+        (λ k p kept. poller_stays t s r x.first x.turns x.turns k p number refl hints kept)
+        x.pollers
+
+    pub servers_stay : v.servers.items ≡ w.servers.items → r.tx.number ≡ s.tx.number
+        → Grows s.rx.steps r.rx.steps → Each (KeepsServer t r x.rows x.replies) v.servers.items
+    servers_stay same number steps =
+        each_more (KeepsServer t r x.rows x.replies) (KeepsServer t s x.rows x.replies)
+        w.servers.items v.servers.items same
+        (λ k u kept. server_stays t s r x.rows x.replies x.replies k u number refl steps hints
+        kept) x.servers
+
+    -- ---- the board that is left alone
+
+    pub receive_stays : v.pollers.items ≡ w.pollers.items → v.drains.items ≡ w.drains.items
+        → r.rx ≡ s.rx → KeepsReceive t v r x.first x.turns
+    receive_stays pollers drains rx =
+        board_stays t.rx t.shared.given Inboxes s.rx r.rx w.drains.items v.drains.items
+        w.pollers.items v.pollers.items (KeepsPoller t s x.first x.turns)
+        (KeepsPoller t r x.first x.turns) x.turns drains (ap length pollers)
+        (pollers_stay pollers (ap (λ (z : BoardSeatView). z.number) rx)) received rx
+
+    pub transmit_stays : v.servers.items ≡ w.servers.items → v.ships.items ≡ w.ships.items
+        → r.tx ≡ s.tx → Grows s.rx.steps r.rx.steps → KeepsTransmit t v r x.rows x.replies
+    transmit_stays servers ships tx steps =
+        board_stays t.tx t.shared.given Port s.tx r.tx w.ships.items v.ships.items
+        w.servers.items v.servers.items (KeepsServer t s x.rows x.replies)
+        (KeepsServer t r x.rows x.replies) x.replies ships (ap length servers)
+        (servers_stay servers (ap (λ (z : BoardSeatView). z.number) tx) steps) transmitted tx
+
+  -- nothing more was stored
+  pub stores_stay : v.servers.items ≡ w.servers.items → r.hint ≡ s.hint
+      → KeepsStores t v r x.turns
+  stores_stay servers hint =
+      record {
+        table = ap (λ (z : Hint). z.table) hint ∙ x.hint_table;
+        noted = x.noted;
+        noted_by = λ write has.
+            subst (λ vs. IsNotedBy vs write) (sym servers) (x.noted_by write has);
+        stores = subst (λ (z : Hint). StoresAreFor t.shared.given t.shared.filters x.turns x.noted
+            z.steps) (sym hint) x.stores;
+      }

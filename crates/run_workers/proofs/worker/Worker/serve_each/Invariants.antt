@@ -1,8 +1,0 @@
-use Rattle.run_workers.specs.Stages.{stage_view}
-use Rattle.run_workers.specs.Workers.{GoesOn}
-use Rattle.run_workers.proofs.worker.Worker.serve_each.Given as goal
-
-abbrev pub invariant-loop-i : goal.invariant-loop-i
-invariant-loop-i g l =
-    GoesOn (stage_view (g.B.Board.view l.fn.stage.rx) (g.B.Board.view l.fn.stage.tx)
-    l.fn.stage.shared l.fn.stage.late.items) l.fn.self l.self l.fn.seats l.seats
