@@ -31,9 +31,9 @@ use Rattle.run_laws.proofs.Runs.FactLemmas.{BoardFacts, facts_at_closings}
 use Rattle.run_workers.specs.Stages.{StageView}
 use Rattle.run_crew.specs.CountLaws.{FullCountsSuffice, IsFull, accepted_of, actor_of, played}
 use Rattle.run_crew.specs.CountLaws.{chosen_of, retired_of}
-use Rattle.run_crew.specs.Crews.{IsPlayed, pollers_of}
+use Rattle.run_crew.specs.Crews.{IsPlayed, pollers_of, ships_of}
 use Rattle.run_crew.specs.declared.seated.Seated.{Seated}
-use Rattle.run_crew.specs.DrainLaws.{AreDrained, ships_of}
+use Rattle.run_crew.specs.DrainLaws.{AreDrained}
 use Rattle.run_crew.specs.QueueLaws.{ReceiveEnds}
 use Rattle.run_crew.specs.ReplyLaws.{TransmitEnds}
 use Rattle.run_crew.specs.Stories.{SeatTurns, queue_story, reply_story}

@@ -17,10 +17,9 @@ use Rattle.run_hands.specs.declared.drain.Exit.{Exit}
 use Rattle.run_hands.specs.declared.drain.Exit.TheVariants.{Inboxes, Port}
 use Rattle.run_laws.specs.Ties.Ends.{retired_count}
 use Rattle.run_workers.specs.Actors.{KeepsDrain, actor_at}
-use Rattle.run_crew.specs.Crews.{IsPlayed}
+use Rattle.run_crew.specs.Crews.{IsPlayed, drains_of, ships_of}
 use Rattle.run_crew.specs.declared.seated.Seated.{Seated}
-use Rattle.run_crew.specs.DrainLaws.{AreDrained, DrainsAreTied, DrainsKeepTies, drains_of}
-use Rattle.run_crew.specs.DrainLaws.{ships_of}
+use Rattle.run_crew.specs.DrainLaws.{AreDrained, DrainsAreTied, DrainsKeepTies}
 use Rattle.run_crew.proofs.StoryLemmas.{actor-back}
 
 module _ (about : BoardSizes) (given : Setup) (exit : Exit) (crew : List Seated)

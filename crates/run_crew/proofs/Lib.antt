@@ -1,5 +1,5 @@
-mod ChoiceFunctions
-mod StoryLemmas
+pub mod ChoiceFunctions
+pub mod StoryLemmas
 mod QueueTurnLemmas
 mod QueueLemmas
 mod ReplyTurnLemmas

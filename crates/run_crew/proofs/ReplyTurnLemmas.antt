@@ -1,6 +1,6 @@
 -- The turns of the applications explain the workers' lists, and are those of their journals.
 use Rattle.std.proofs.Common.{◌≡◌, ◌⊎◌, inl, inr, ℕ, ◌/◌, ◌%◌, ◌<◌, ◌≤◌, List, [], ◌∷◌}
-use Rattle.std.proofs.Common.{◌++◌, Some, All, length, map, sym, refl, ap, ◌∙◌, subst, arith}
+use Rattle.std.proofs.Common.{◌++◌, Some, length, map, sym, refl, ap, ◌∙◌, subst, arith}
 use Rattle.std.specs.Prelude.{slice_get}
 use Rattle.std.proofs.lemmas.Bool.{cases_lt}
 use Rattle.std.proofs.lemmas.List.{get_or_past, map-append}
@@ -12,7 +12,7 @@ use Rattle.history.specs.declared.arrival.Arrival.{Arrival}
 use Rattle.history.specs.declared.history.History.{History}
 use Rattle.history.specs.declared.sent.Sent.{Sent}
 use Rattle.hop_rule.specs.declared.step.BoardStep.{BoardStep}
-use Rattle.hop_delivery.specs.Orders.Turns.{Explained, Turn}
+use Rattle.hop_delivery.specs.Orders.Turns.{Turn}
 use Rattle.steer_model.specs.Good.Inputs.{Input}
 use Rattle.steer_model.specs.State.Setup.{Setup}
 use Rattle.run_hands.specs.declared.server.Server.{Server}
@@ -20,14 +20,14 @@ use Rattle.run_laws.specs.Ties.Tries.{oldest_first}
 use Rattle.run_records.specs.Polling.{choices_in}
 use Rattle.run_records.specs.Replying.{EachReplied, IsReplying, RepliedTurn, replies_in}
 use Rattle.run_records.specs.Replying.{reply_turns}
-use Rattle.run_workers.specs.Actors.{IsTurnOfOne, KeepsServer, actor_at}
+use Rattle.run_workers.specs.Actors.{Each, KeepsServer}
 use Rattle.run_workers.specs.Stages.{StageView}
 use Rattle.run_crew.specs.Crews.{IsPlayed, servers_of}
 use Rattle.run_crew.specs.declared.seated.Seated.{Seated}
 use Rattle.run_crew.specs.ReplyLaws.{TransmitEnds}
 use Rattle.run_crew.specs.Stories.{HasTurns, SeatTurns}
-use Rattle.run_crew.proofs.ChoiceFunctions.{item-at}
-use Rattle.run_crew.proofs.StoryLemmas.{AreBoardTurns, IsAtSeat, actor-back, at-seat}
+use Rattle.run_crew.proofs.StoryLemmas.{AreBoardTurns, IsSeatOf, played-choices, played-number}
+use Rattle.run_crew.proofs.StoryLemmas.{seat-of, turns-of-board}
 
 -- ---- each choice is for the packet of its reply
 
@@ -72,19 +72,6 @@ module _ (i : Input) (h : History) (t : StageView) (crew : List Seated) (turns :
   pub has : (w : ℕ) (x : Seated) → slice_get crew w ≡ Some x → HasTurns t x (turns w)
   has = e.turns_are.workers
 
-  explained : (q : ℕ) → Explained (own q) (turns q).replied
-  explained q = at (cases_lt q W)
-    where
-      at : (q < W) ⊎ (W ≤ q) → Explained (own q) (turns q).replied
-      at (inl less) =
-          let x = item-at crew q less in
-          let y = has q x.0 x.1 in
-          subst (λ ts. Explained (own q) ts) y.replied
-          (subst (λ ds. Explained ds y.is.replies) (sym (e.lists q x.0 x.1)) y.is.replied)
-      at (inr more) =
-          subst (λ s. Explained (own q) s.replied) (sym (e.turns_are.others q more))
-          (e.others q more)
-
   -- ---- the record of an application
 
   pub keeps-server : (a : ℕ) (p : IsPlayed crew servers_of a)
@@ -94,9 +81,8 @@ module _ (i : Input) (h : History) (t : StageView) (crew : List Seated) (turns :
 
   pub app-is : (a : ℕ) (p : IsPlayed crew servers_of a) → p.actor.app ≡ a
   app-is a p =
-      (keeps-server a p).own
-      ∙ (ap (λ n. actor_at t.tx.sizes n (a / W)) (e.work.tx_numbers (a % W) p.by p.worker)
-      ∙ actor-back t.tx.sizes W a e.work.tx_count e.work.some)
+      played-number t.tx.sizes W a p.actor.app p.by.seats.tx.number e.work.tx_count e.work.some
+      (keeps-server a p).own (e.work.tx_numbers (a % W) p.by p.worker)
 
   journal-is : (a : ℕ) → a < A → list_at h.tx_choices a
       ≡ choices_in (steps_of a (turns (a % W)).replied)
@@ -105,43 +91,23 @@ module _ (i : Input) (h : History) (t : StageView) (crew : List Seated) (turns :
       let y = has (a % W) p.by p.worker in
       (e.journals a less p).choices
       ∙ ((keeps-server a p).keeps.choices
-      ∙ (ap (λ n. choices_in (steps_of n y.is.replies)) (app-is a p)
-      ∙ ap (λ ts. choices_in (steps_of a ts)) y.replied))
+      ∙ played-choices p.actor.app a y.is.replies (turns (a % W)).replied (app-is a p) y.replied)
 
-  -- the applications of a seat are applications of the plan
-  few : (w : ℕ) (x : Seated) → slice_get crew w ≡ Some x → (k : ℕ)
-      → k < length x.worker.servers.items → actor_at t.tx.sizes w k < A
-  few w x there k less =
-      let a = item-at x.worker.servers.items k less in
-      let keeps = (has w x there).is.servers k a.0 a.1 in
-      let app : a.0.app ≡ actor_at t.tx.sizes w k =
-      keeps.own ∙ ap (λ n. actor_at t.tx.sizes n k) (e.work.tx_numbers w x there) in
-      let within = keeps.within in
+  seat : Each (λ w x. IsSeatOf t.tx.sizes A w (own w) (turns w).replied) crew
+  seat w x there =
+      let y = has w x there in
       let count = e.out_count in
-      omega (arith, app, within, count)
-
-  -- the turns of a seat are of its own applications
-  mine : (w : ℕ) → w < W → All (IsAtSeat W A w) (turns w).replied
-  mine w less =
-      let x = item-at crew w less in
-      let y = has w x.0 x.1 in
-      let number = e.work.tx_numbers w x.0 x.1 in
-      at-seat t.tx.sizes W w (length x.0.worker.servers.items) A (turns w).replied
-      e.work.tx_count less (few w x.0 x.1)
-      (subst (λ ts. All (IsTurnOfOne t.tx.sizes w (length x.0.worker.servers.items)) ts) y.replied
-      (subst (λ n. All (IsTurnOfOne t.tx.sizes n (length x.0.worker.servers.items)) y.is.replies)
-      number y.is.by_servers))
+      seat-of t.tx.sizes A x.worker.servers.items (λ (v : Server). v.app) x.seats.tx.number w
+      x.seats.tx.steps (own w) y.is.replies (turns w).replied (e.work.tx_numbers w x there)
+      (e.lists w x there) y.replied y.is.replied y.is.by_servers
+      (λ k v got. (let keeps = y.is.servers k v got in
+      (keeps.own, subst (λ n. v.app < n) count keeps.within)))
 
   pub board-turns : AreBoardTurns W A own (λ w. (turns w).replied) h.tx_choices
   board-turns =
-      record {
-        some = e.work.some;
-        explained = explained;
-        mine = mine;
-        others = λ w more. ap (λ s. s.replied) (e.turns_are.others w more);
-        lists = e.choice_count;
-        journals = journal-is;
-      }
+      turns-of-board t.tx.sizes crew A own (λ w. (turns w).replied) h.tx_choices e.work.some
+      e.work.tx_count seat (λ w more. ap (λ s. s.replied) (e.turns_are.others w more)) e.others
+      e.choice_count journal-is
 
   -- each application has chosen for the packets of its replies
   pub all-chosen : (a : ℕ) → map (λ (c : Chosen). c.id) (list_at h.tx_choices a)

@@ -4,11 +4,12 @@ use Rattle.std.proofs.Common.{Some, length, sym, refl, ap, ◌∙◌, subst, ari
 use Rattle.std.specs.Prelude.{slice_get}
 use Rattle.std.proofs.lemmas.Bool.{cases_eq}
 use Rattle.std.proofs.lemmas.List.{length-set}
-use Rattle.run_workers.specs.Stages.{StageView}
+use Rattle.run_workers.specs.Laws.{ArrivalsBecomeKnown}
+use Rattle.run_workers.specs.Stages.{StageView, stage_view}
 use Rattle.run_workers.specs.Workers.{GoesOn}
 use Rattle.run_workers.proofs.SameLemmas.{goes_both, goes_first}
-use Rattle.run_crew.specs.Crews.{AreWorking, IsPlayed, pollers_of, servers_of}
-use Rattle.run_crew.specs.Sweeps.{AllWork, CrewsGoOn, GoOn}
+use Rattle.run_crew.specs.Crews.{AreWorking, IsPlayed, drains_of, pollers_of, servers_of, ships_of}
+use Rattle.run_crew.specs.Sweeps.{AllWork, CrewsGoOn, CrewsLearnArrivals, CrewsPlayOn, GoOn}
 use Rattle.run_crew.specs.declared.seated.Seated.{Seated}
 use Rattle.run_crew.proofs.ChoiceFunctions.{is-within, item-at, some-is}
 
@@ -130,7 +131,64 @@ module _ (t : StageView) where
           servers = λ a less.
               played-after servers_of (λ w x y was there. (go.each w y there x was).same.servers) a
               (are.servers a less);
+          drains = λ l less.
+              played-after drains_of (λ w x y was there. (go.each w y there x was).same.drains) l
+              (are.drains l less);
+          ships = λ l less.
+              played-after ships_of (λ w x y was there. (go.each w y there x was).same.ships) l
+              (are.ships l less);
         }
 
 pub crews_go_on : CrewsGoOn
 crews_go_on t before after queues apps are go = go_on t before after queues apps are go
+
+-- ---- what is played on
+
+module _ (t : StageView) (before after : List Seated) (go : GoOn t before after) where
+  -- an actor of a kind of which there are as many was played at the same place
+  played-before : {A : Type 0} (kind : Seated → List A)
+      → ((w : ℕ) (x y : Seated) → slice_get before w ≡ Some x → slice_get after w ≡ Some y
+      → length (kind y) ≡ length (kind x))
+      → (n : ℕ) (p : IsPlayed after kind n)
+      → (o : IsPlayed before kind n) × (slice_get before (n % length after) ≡ Some o.by)
+      × (slice_get (kind o.by) (n / length after) ≡ Some o.actor)
+  played-before kind same n p =
+      let count = go.count in
+      let x = before-at t before after go (n % length after) p.by p.worker in
+      let low = is-within (kind p.by) (n / length after) p.actor p.is in
+      let size = same (n % length after) x.0 p.by x.1 p.worker in
+      let a = item-at (kind x.0) (n / length after) (omega (arith, low, size)) in (
+        record {
+          by = x.0;
+          actor = a.0;
+          worker = ap (λ m. slice_get before (n % m)) (sym count) ∙ x.1;
+          is = ap (λ m. slice_get (kind x.0) (n / m)) (sym count) ∙ a.1;
+        },
+        x.1,
+        a.1,
+      )
+
+pub crews_play_on : CrewsPlayOn
+crews_play_on t before after go =
+    record {
+      rings = λ q p.
+          let o = played-before t before after go pollers_of
+          (λ w x y was there. (go.each w y there x was).same.pollers) q p in (
+            o.0,
+            (go.each (q % length after) p.by p.worker o.0.by o.1).same.rings
+                (q / length after) p.actor p.is o.0.actor o.2,
+          );
+      homes = λ a p.
+          let o = played-before t before after go servers_of
+          (λ w x y was there. (go.each w y there x was).same.servers) a p in (
+            o.0,
+            (go.each (a % length after) p.by p.worker o.0.by o.1).same.homes
+                (a / length after) p.actor p.is o.0.actor o.2,
+          );
+    }
+
+pub crews_learn_arrivals : ArrivalsBecomeKnown → CrewsLearnArrivals
+crews_learn_arrivals known rx tx shared arrivals crew queues apps are =
+    let work : AllWork (stage_view rx tx shared arrivals) crew =
+    λ w x there. known rx tx shared arrivals x.worker x.seats (are.work w x there) in
+    assumption work

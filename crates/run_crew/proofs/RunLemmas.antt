@@ -32,9 +32,9 @@ use Rattle.run_records.specs.QueueTies.{PollersAreTied}
 use Rattle.run_records.specs.Storing.{StoresAreFor}
 use Rattle.run_records.specs.StoreTies.{IsNoted, StoresAreMeantByEach, WorkersStoresAreMeant}
 use Rattle.run_workers.specs.Actors.{actor_at}
-use Rattle.run_crew.specs.Crews.{IsPlayed, servers_of}
+use Rattle.run_crew.specs.Crews.{IsPlayed, drains_of, servers_of, ships_of}
 use Rattle.run_crew.specs.declared.seated.Seated.{Seated}
-use Rattle.run_crew.specs.DrainLaws.{DrainsAreTied, drains_of, ships_of}
+use Rattle.run_crew.specs.DrainLaws.{DrainsAreTied}
 use Rattle.run_crew.specs.QueueLaws.{QueuesAreTied}
 use Rattle.run_crew.specs.ReplyLaws.{ApplicationsTied}
 use Rattle.run_crew.specs.RunLaws.{EndedRunsAreRuns, RunEnds}

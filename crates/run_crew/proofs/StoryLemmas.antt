@@ -11,12 +11,13 @@ use native.Mathlib.Nat as nat
 use Rattle.linearization.specs.Orders.{StepBy, steps_of}
 use Rattle.steer_base.specs.declared.choice.Chosen.{Chosen}
 use Rattle.history.specs.Lists.{list_at}
+use Rattle.hop_rule.specs.Owns.{puts_of}
 use Rattle.hop_rule.specs.declared.sizes.BoardSizes.{BoardSizes}
 use Rattle.hop_rule.specs.declared.step.BoardStep.{BoardStep}
 use Rattle.hop_delivery.specs.Orders.Turns.{Explained, Turn}
 use Rattle.run_laws.specs.Ties.Turns.{KeepsTurns}
 use Rattle.run_records.specs.Polling.{choices_in}
-use Rattle.run_workers.specs.Actors.{IsTurnOfOne, actor_at}
+use Rattle.run_workers.specs.Actors.{Each, IsTurnOfOne, actor_at}
 use Rattle.run_workers.specs.Stages.{StageView}
 use Rattle.run_crew.specs.Crews.{AreWorking}
 use Rattle.run_crew.specs.declared.seated.Seated.{Seated}
@@ -133,6 +134,73 @@ pub record AreBoardTurns (seats count : ℕ) (own : ℕ → List BoardStep)
   pub lists : length choices ≡ count
   pub journals : (p : ℕ) → p < count
       → list_at choices p ≡ choices_in (steps_of p (turns (p % seats)))
+
+-- What a worker's record says of its seat at a board: its turns explain the seat's list and are of
+-- its actors, each of which is one of so many.
+pub record IsSeatOf (about : BoardSizes) (count w : ℕ) (own : List BoardStep)
+    (turns : List (StepBy Turn)) : Type 0 where
+  pub explained : Explained own turns
+  pub actors : ℕ
+  pub by_actors : All (IsTurnOfOne about w actors) turns
+  pub few : (k : ℕ) → k < actors → actor_at about w k < count
+
+-- a seat whose worker has these actors, by the seat's number, list and turns in the worker's record
+pub seat-of : {A : Type 0} (about : BoardSizes) (count : ℕ) (actors : List A) (index : A → ℕ)
+    (number w : ℕ) (steps own : List BoardStep) (was turns : List (StepBy Turn)) → number ≡ w
+    → own ≡ steps → was ≡ turns → Explained steps was
+    → All (IsTurnOfOne about number (length actors)) was
+    → Each (λ k a. (index a ≡ actor_at about number k) × (index a < count)) actors
+    → IsSeatOf about count w own turns
+seat-of about count actors index number w steps own was turns is list same explained by each =
+    subst (λ (z : ℕ × List BoardStep × List (StepBy Turn)). IsSeatOf about count z.0 z.1 z.2)
+    (λ j. (is j, sym list j, same j))
+    (record { explained = explained; actors = length actors; by_actors = by; few = few })
+  where
+    few : (k : ℕ) → k < length actors → actor_at about number k < count
+    few k less =
+        let a = item-at actors k less in
+        let at = each k a.0 a.1 in
+        subst (λ n. n < count) at.0 at.1
+
+-- the number of an actor that is played at its place
+pub played-number : (about : BoardSizes) (count n number seat : ℕ) → about.seats ≡ count + 1
+    → 0 < count → number ≡ actor_at about seat (n / count) → seat ≡ n % count → number ≡ n
+played-number about count n number seat seats some own is =
+    own ∙ (ap (λ w. actor_at about w (n / count)) is ∙ actor-back about count n seats some)
+
+-- the choices of an actor's turns are those of its number
+pub played-choices : (number n : ℕ) (was turns : List (StepBy Turn)) → number ≡ n → was ≡ turns
+    → choices_in (steps_of number was) ≡ choices_in (steps_of n turns)
+played-choices number n was turns is same =
+    ap (λ (z : ℕ × List (StepBy Turn)). choices_in (steps_of z.0 z.1)) (λ j. (is j, same j))
+
+-- the turns of all seats, of workers whose records say so
+pub turns-of-board : (about : BoardSizes) (crew : List Seated) (count : ℕ)
+    (own : ℕ → List BoardStep) (turns : ℕ → List (StepBy Turn)) (choices : List (List Chosen))
+    → 0 < length crew → about.seats ≡ length crew + 1
+    → Each (λ w x. IsSeatOf about count w (own w) (turns w)) crew
+    → ((w : ℕ) → length crew ≤ w → turns w ≡ [])
+    → ((w : ℕ) → length crew ≤ w → puts_of (own w) ≡ []) → length choices ≡ count
+    → ((p : ℕ) → p < count
+    → list_at choices p ≡ choices_in (steps_of p (turns (p % length crew))))
+    → AreBoardTurns (length crew) count own turns choices
+turns-of-board about crew count own turns choices some seats each others quiet lists journals =
+    record {
+      some = some;
+      explained = λ w. explained w (cases_lt w (length crew));
+      mine = λ w less.
+          (let x = item-at crew w less in
+          let seat = each w x.0 x.1 in
+          at-seat about (length crew) w seat.actors count (turns w) seats less seat.few
+          seat.by_actors);
+      others = others;
+      lists = lists;
+      journals = journals;
+    }
+  where
+    explained : (w : ℕ) → (w < length crew) ⊎ (length crew ≤ w) → Explained (own w) (turns w)
+    explained w (inl less) = let x = item-at crew w less in (each w x.0 x.1).explained
+    explained w (inr more) = subst (Explained (own w)) (sym (others w more)) (quiet w more)
 
 module _ (seats count : ℕ) (own : ℕ → List BoardStep) (turns : ℕ → List (StepBy Turn))
     (choices : List (List Chosen)) (are : AreBoardTurns seats count own turns choices) where

@@ -14,9 +14,9 @@ use Rattle.history.specs.declared.sent.Sent.{Sent}
 use Rattle.run_laws.specs.Ties.Applications.{WasFoundAt}
 use Rattle.run_laws.specs.Laws.OneCount.{TotalsAreEqual, choice_count}
 use Rattle.run_workers.specs.Stages.{StageView}
-use Rattle.run_crew.specs.Crews.{pollers_of}
+use Rattle.run_crew.specs.Crews.{pollers_of, ships_of}
 use Rattle.run_crew.specs.declared.seated.Seated.{Seated}
-use Rattle.run_crew.specs.DrainLaws.{AreDrained, ships_of}
+use Rattle.run_crew.specs.DrainLaws.{AreDrained}
 use Rattle.run_crew.specs.QueueLaws.{ReceiveEnds}
 use Rattle.run_crew.specs.ReplyLaws.{TransmitEnds}
 use Rattle.run_crew.specs.Stories.{SeatTurns}

@@ -2,6 +2,7 @@
 -- number 0 first.
 use Rattle.std.specs.Prelude.{◌≡◌, ℕ, ◌+◌, ◌/◌, ◌%◌, ◌<◌, List, Some, length, slice_get}
 use Rattle.hop_rule.specs.declared.step.BoardStep.{BoardStep}
+use Rattle.run_hands.specs.declared.drain.Drain.{Drain}
 use Rattle.run_hands.specs.declared.poller.Poller.{Poller}
 use Rattle.run_hands.specs.declared.server.Server.{Server}
 use Rattle.run_workers.specs.Actors.{Each}
@@ -16,6 +17,13 @@ pollers_of x = x.worker.pollers.items
 abbrev pub servers_of : Seated → List Server
 servers_of x = x.worker.servers.items
 
+-- What empties the backlogs of a worker's processors, and what empties its transmit queues.
+abbrev pub drains_of : Seated → List Drain
+drains_of x = x.worker.drains.items
+
+abbrev pub ships_of : Seated → List Drain
+ships_of x = x.worker.ships.items
+
 -- Where an actor is played: by this worker, as this one of its kind.
 pub record IsPlayed {A : Type 0} (crew : List Seated) (kind : Seated → List A) (n : ℕ)
     : Type 0 where
@@ -25,8 +33,8 @@ pub record IsPlayed {A : Type 0} (crew : List Seated) (kind : Seated → List A)
   pub is : slice_get (kind by) (n / length crew) ≡ Some actor
 
 -- The workers of a stage: each has the seats of its number and keeps what a worker keeps, and
--- together they play so many queues and applications. At each board there is one seat more, the
--- closer's.
+-- together they play so many queues and applications, and each lane of both boards. At each board
+-- there is one seat more, the closer's.
 pub record AreWorking (t : StageView) (crew : List Seated) (queues apps : ℕ) : Type 0 where
   pub some : 0 < length crew
   pub rx_count : t.rx.sizes.seats ≡ length crew + 1
@@ -36,6 +44,8 @@ pub record AreWorking (t : StageView) (crew : List Seated) (queues apps : ℕ) :
   pub work : Each (λ w x. IsWorking t x.worker x.seats) crew
   pub pollers : (q : ℕ) → q < queues → IsPlayed crew pollers_of q
   pub servers : (a : ℕ) → a < apps → IsPlayed crew servers_of a
+  pub drains : (l : ℕ) → l < t.rx.sizes.lanes → IsPlayed crew drains_of l
+  pub ships : (l : ℕ) → l < t.tx.sizes.lanes → IsPlayed crew ships_of l
 
 -- The seats' own lists at the receive board, and at the transmit board, are those of the workers.
 abbrev pub AreReceiveLists : List Seated → (ℕ → List BoardStep) → Type 0

@@ -9,14 +9,8 @@ use Rattle.run_laws.specs.Ties.Deliveries.{AllDeliverTo}
 use Rattle.run_laws.specs.Ties.Ends.{retired_count}
 use Rattle.run_workers.specs.Stages.{StageView}
 use Rattle.run_crew.specs.Crews.{AreReceiveLists, AreTransmitLists, AreWorking, IsPlayed}
+use Rattle.run_crew.specs.Crews.{drains_of, ships_of}
 use Rattle.run_crew.specs.declared.seated.Seated.{Seated}
-
--- What empties the backlogs of a worker's processors, and what empties its transmit queues.
-abbrev pub drains_of : Seated → List Drain
-drains_of x = x.worker.drains.items
-
-abbrev pub ships_of : Seated → List Drain
-ships_of x = x.worker.ships.items
 
 -- Each lane of the board is emptied by a worker, which has no packet of it in hand.
 pub record AreDrained (about : BoardSizes) (crew : List Seated) (kind : Seated → List Drain)

@@ -4,6 +4,7 @@ pub mod QueueLaws
 pub mod ReplyLaws
 pub mod DrainLaws
 pub mod CountLaws
+pub mod Counts
 pub mod ThreadLaws
 pub mod RunLaws
 pub mod Sweeps

@@ -24,7 +24,8 @@ use Rattle.run_controller.specs.Laws.{CommandsAreTied}
 use Rattle.run_workers.specs.Stages.{StageView}
 use Rattle.run_crew.specs.declared.seated.Seated.{Seated}
 use Rattle.run_crew.specs.CountLaws.{IsFull}
-use Rattle.run_crew.specs.DrainLaws.{AreDrained, drains_of, ships_of}
+use Rattle.run_crew.specs.Crews.{drains_of, ships_of}
+use Rattle.run_crew.specs.DrainLaws.{AreDrained}
 use Rattle.run_crew.specs.QueueLaws.{ReceiveEnds}
 use Rattle.run_crew.specs.ReplyLaws.{TransmitEnds}
 use Rattle.run_crew.specs.Stories.{SeatTurns}

@@ -8,7 +8,9 @@ use Rattle.hint_words.specs.declared.step.HintStep.{HintStep}
 use Rattle.history.specs.Lists.{arrivals_at}
 use Rattle.history.specs.declared.arrival.Arrival.{Arrival}
 use Rattle.history.specs.declared.commanded.Commanded.{Commanded}
+use Rattle.hop_rule.specs.Boards.{lane_steps}
 use Rattle.hop_rule.specs.Owns.{puts_of}
+use Rattle.board_api.specs.Seats.{BoardSeatView}
 use Rattle.hop_delivery.specs.Orders.Turns.{Turn}
 use Rattle.steer_model.specs.Good.Inputs.{Input, setup_in}
 use Rattle.steer_model.specs.State.Setup.{Setup}
@@ -18,15 +20,19 @@ use Rattle.run_actors.specs.Wires.{Ends, HintView}
 use Rattle.run_controller.specs.Journals.{Attempted}
 use Rattle.run_controller.specs.Settings.{KnownSettings}
 use Rattle.run_controller.specs.Stages.{Stage}
-use Rattle.run_controller.specs.declared.seats.Seats.{Seats}
+use Rattle.run_actors.specs.declared.seats.Seats.{Seats}
 
--- The tries of a controller put no packet at either board.
-abbrev pub ControllersPutNothing : Type 0
-ControllersPutNothing =
+-- A seat has touched no lane since, so it put no packet.
+pub record TouchesNoLane (old new : BoardSeatView) : Type 0 where
+  pub lanes : lane_steps new.steps ≡ lane_steps old.steps
+  pub puts : puts_of new.steps ≡ puts_of old.steps
+
+-- The tries of a controller touch no lane at either board.
+abbrev pub ControllersTouchNoLane : Type 0
+ControllersTouchNoLane =
     (s : Stage) (before after : List Commanded) (first last : KnownSettings) (old new : Seats)
     → Attempted s before after first last old new
-    → (puts_of new.rx.steps ≡ puts_of old.rx.steps)
-    × (puts_of new.tx.steps ≡ puts_of old.tx.steps)
+    → TouchesNoLane old.rx new.rx × TouchesNoLane old.tx new.tx
 
 -- The wire sends each packet to a queue of the plan.
 abbrev pub ArrivalsAreWithin : Type 0

@@ -1,83 +1,53 @@
 //! The counts by which the sweep of a run sees that it has ended.
 ghost use Rattle.std.specs.Prelude.{◌≡◌, ◌≤◌, ◌<◌, ◌*◌, length};
 ghost use Rattle.hop_rule.specs.Events.{sum_below};
-ghost use Rattle.run_crew.specs.CountLaws.{accepted_of, chosen_of, played, retired_of};
-ghost use Rattle.run_crew.specs.Crews.{pollers_of};
-ghost use Rattle.run_crew.specs.DrainLaws.{ships_of};
+ghost use Rattle.run_crew.specs.Counts.{counted};
 
 use crate::seated::Seated;
 
-// How many packets a receive queue has chosen for; 0 if no worker plays it.
-fn chosen_at(crew: &[Seated], queue: usize) -> u32
-    requires some { 0 < length crew.now }
-    ensures { result ≡ chosen_of (played crew.now pollers_of queue) }
-{
-    let worker = &crew[queue % crew.len()].worker;
-    match worker.pollers.as_slice().get(queue / crew.len()) {
-        Some(poller) => poller.choices.len(),
-        None => 0,
-    }
+/// What workers count of each of their actors.
+#[derive(Clone, Copy)]
+pub(crate) enum Count {
+    /// The packets that a receive queue has chosen for.
+    Chosen,
+    /// Those of them that were accepted.
+    Accepted,
+    /// The packets that a transmit queue has retired.
+    Retired,
 }
 
-// How many of these were accepted.
-fn accepted_at(crew: &[Seated], queue: usize) -> u32
+/// The sum of this count over the actors whose numbers are below `end`.
+pub(crate) fn count_below(crew: &[Seated], count: Count, end: u8) -> u64
     requires some { 0 < length crew.now }
-    ensures { result ≡ accepted_of (played crew.now pollers_of queue) }
-{
-    let worker = &crew[queue % crew.len()].worker;
-    match worker.pollers.as_slice().get(queue / crew.len()) {
-        Some(poller) => poller.accepted,
-        None => 0,
-    }
-}
-
-// How many packets a transmit queue has retired; 0 if no worker empties it.
-fn retired_at(crew: &[Seated], lane: usize) -> u32
-    requires some { 0 < length crew.now }
-    ensures { result ≡ retired_of (played crew.now ships_of lane) }
-{
-    let worker = &crew[lane % crew.len()].worker;
-    match worker.ships.as_slice().get(lane / crew.len()) {
-        Some(ship) => ship.retired,
-        None => 0,
-    }
-}
-
-/// How many packets the first `queues` receive queues have chosen for.
-pub(crate) fn chosen(crew: &[Seated], queues: u8) -> u64
-    requires some { 0 < length crew.now }
-    ensures value { result ≡ sum_below (λ q. chosen_of (played crew.now pollers_of q)) queues }
-    ensures few { result ≤ queues * 4294967295 }
+    ensures value { result ≡ sum_below (counted count crew.now) end }
+    ensures few { result ≤ end * 4294967295 }
 {
     let mut sum = 0;
-    for queue in 0..queues {
-        sum += chosen_at(crew, queue as usize) as u64;
+    for actor in 0..end {
+        sum += count_at(crew, count, actor as usize) as u64;
     }
     sum
 }
 
-/// How many of these were accepted.
-pub(crate) fn accepted(crew: &[Seated], queues: u8) -> u64
+// This count of one actor; 0 if no worker plays it.
+fn count_at(crew: &[Seated], count: Count, actor: usize) -> u32
     requires some { 0 < length crew.now }
-    ensures value { result ≡ sum_below (λ q. accepted_of (played crew.now pollers_of q)) queues }
-    ensures few { result ≤ queues * 4294967295 }
+    ensures { result ≡ counted count crew.now actor }
 {
-    let mut sum = 0;
-    for queue in 0..queues {
-        sum += accepted_at(crew, queue as usize) as u64;
+    let worker = &crew[actor % crew.len()].worker;
+    let place = actor / crew.len();
+    match count {
+        Count::Chosen => match worker.pollers.as_slice().get(place) {
+            Some(poller) => poller.choices.len(),
+            None => 0,
+        },
+        Count::Accepted => match worker.pollers.as_slice().get(place) {
+            Some(poller) => poller.accepted,
+            None => 0,
+        },
+        Count::Retired => match worker.ships.as_slice().get(place) {
+            Some(ship) => ship.retired,
+            None => 0,
+        },
     }
-    sum
-}
-
-/// How many packets the first `lanes` transmit queues have retired.
-pub(crate) fn retired(crew: &[Seated], lanes: u8) -> u64
-    requires some { 0 < length crew.now }
-    ensures value { result ≡ sum_below (λ l. retired_of (played crew.now ships_of l)) lanes }
-    ensures few { result ≤ lanes * 4294967295 }
-{
-    let mut sum = 0;
-    for lane in 0..lanes {
-        sum += retired_at(crew, lane as usize) as u64;
-    }
-    sum
 }

@@ -4,21 +4,30 @@ ghost use Rattle.run_crew.specs.DrainLaws.{DrainsKeepTies};
 ghost use Rattle.run_crew.specs.QueueLaws.{CrewsHaveTurns, QueuesKeepTies, QueuesKeepTurns};
 ghost use Rattle.run_crew.specs.ReplyLaws.{ApplicationsKeepTies};
 ghost use Rattle.run_crew.specs.RunLaws.{EndedRunsAreRuns};
-ghost use Rattle.run_crew.specs.Sweeps.{CrewsGoOn};
-ghost use Rattle.run_crew.specs.ThreadLaws.{ArrivalsAreWithin, ControllersPutNothing};
+ghost use Rattle.run_crew.specs.Sweeps.{CrewsGoOn, CrewsLearnArrivals, CrewsPlayOn};
+ghost use Rattle.run_crew.specs.ThreadLaws.{ArrivalsAreWithin, ControllersTouchNoLane};
 ghost use Rattle.run_crew.specs.ThreadLaws.{FrontsAreChosen};
 
 use run_records::{applications_are_tied, pollers_are_tied, stores_are_meant};
+use run_workers::arrivals_become_known;
 
 /// Lemma: the records of all workers say turns of all seats.
 pub fn crews_have_turns()
     ensures { CrewsHaveTurns }
 {}
 
-/// Lemma: workers that go on keep what they keep together.
+/// Lemma: workers that go on keep what they keep together, and play the same rings and homes.
 pub fn crews_go_on()
-    ensures { CrewsGoOn }
+    ensures keep { CrewsGoOn }
+    ensures play { CrewsPlayOn }
 {}
+
+/// Lemma: what workers kept together before the arrivals were known, they keep with all of them.
+pub fn crews_learn_arrivals()
+    ensures { CrewsLearnArrivals }
+{
+    arrivals_become_known();
+}
 
 /// Lemma: at the closing of the receive board the turns of the pollers explain the seats' lists and
 /// are those of the journals of choices. If each arrival has its choice, the queues keep their
@@ -54,10 +63,10 @@ pub fn full_counts_suffice()
 {}
 
 /// Lemma: what the contracts of the controller, of the wire and of a ring say of what the end of a
-/// run asks for. A controller puts nothing, arrivals are at queues of the plan, and a poller with
-/// an empty hand has chosen for a front of what arrived at its queue.
+/// run asks for. A controller touches no lane, arrivals are at queues of the plan, and a poller
+/// with an empty hand has chosen for a front of what arrived at its queue.
 pub fn threads_keep_their_parts()
-    ensures puts { ControllersPutNothing }
+    ensures lanes { ControllersTouchNoLane }
     ensures within { ArrivalsAreWithin }
     ensures fronts { FrontsAreChosen }
 {}

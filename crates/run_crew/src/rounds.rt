@@ -5,7 +5,7 @@ ghost use Rattle.run_workers.specs.Workers.{GoesOn, IsWorking};
 ghost use Rattle.run_crew.specs.CountLaws.{IsFull};
 ghost use Rattle.run_crew.specs.Sweeps.{AllWork, GoOn, all_free};
 
-use crate::counts::{accepted, chosen, retired};
+use crate::counts::{Count, count_below};
 use crate::seated::Seated;
 use board_api::Board;
 use run_workers::Stage;
@@ -75,8 +75,9 @@ fn is_full(given: &Given, crew: &[Seated]) -> bool
         → IsFull crew.now (length given.now.homes) given.now.txs (length given.now.packets) }
 {
     let queues = given.queues();
-    let due = given.packet_count() as u64 + accepted(crew, queues);
-    let done = retired(crew, given.txs()) + chosen(crew, queues);
+    let due = given.packet_count() as u64 + count_below(crew, Count::Accepted, queues);
+    let shipped = count_below(crew, Count::Retired, given.txs());
+    let done = shipped + count_below(crew, Count::Chosen, queues);
     due == done
 }
 

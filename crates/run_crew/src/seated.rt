@@ -1,5 +1,6 @@
 //! A worker and its seats.
-use run_workers::{Worker, WorkerSeats};
+use run_actors::Seats;
+use run_workers::Worker;
 
 /// A worker and its seats.
 #[derive(Drop)]
@@ -7,5 +8,5 @@ pub struct Seated {
     /// The worker.
     pub worker: Worker,
     /// Its seats at both boards and at the hint words.
-    pub seats: WorkerSeats,
+    pub seats: Seats,
 }

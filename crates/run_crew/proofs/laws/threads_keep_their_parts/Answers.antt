@@ -1,10 +1,10 @@
 use Rattle.run_crew.proofs.FrontLemmas.{fronts_are_chosen}
-use Rattle.run_crew.proofs.QuietLemmas.{controllers_put_nothing}
+use Rattle.run_crew.proofs.QuietLemmas.{controllers_touch_no_lane}
 use Rattle.run_crew.proofs.WithinLemmas.{arrivals_are_within}
 use Rattle.run_crew.proofs.laws.threads_keep_their_parts.Goals as goal
 
-pub returns-clause-puts : goal.returns-clause-puts
-returns-clause-puts c = controllers_put_nothing
+pub returns-clause-lanes : goal.returns-clause-lanes
+returns-clause-lanes c = controllers_touch_no_lane
 
 pub returns-clause-within : goal.returns-clause-within
 returns-clause-within c = arrivals_are_within

@@ -1,5 +1,6 @@
 use Rattle.std.proofs.Common.{arith, slice_index_or}
 use Rattle.std.proofs.lemmas.Option.{slice_get-get_or}
+use Rattle.run_workers.specs.Stages.{stage_view}
 use Rattle.run_crew.proofs.RoundLemmas.{all_after, go_first, go_set}
 use Rattle.run_crew.proofs.rounds.play_each.Goals as goal
 
@@ -14,7 +15,9 @@ play-requires g c =
     slice_get-get_or c.loop-i.crew c.loop-i.i c.index-crew-i.result
     (omega (arith, test, count)) in
     record {
-      work = all_after _ c.args.crew.now c.loop-i.crew c.loop-i.invariant c.loop-i.i
+      work = all_after (stage_view (g.B.Board.view c.args.stage.now.rx)
+          (g.B.Board.view c.args.stage.now.tx) c.args.stage.now.shared
+          c.args.stage.now.late.items) c.args.crew.now c.loop-i.crew c.loop-i.invariant c.loop-i.i
           (slice_index_or c.loop-i.crew c.loop-i.i c.index-crew-i.result) there;
     }
 
@@ -25,6 +28,7 @@ loop-i-preserved g c =
     let there =
     slice_get-get_or c.loop-i.crew c.loop-i.i c.index-crew-i.result
     (omega (arith, test, count)) in
-    go_set _ c.args.crew.now c.loop-i.crew c.loop-i.i
+    go_set (stage_view (g.B.Board.view c.args.stage.now.rx) (g.B.Board.view c.args.stage.now.tx)
+    c.args.stage.now.shared c.args.stage.now.late.items) c.args.crew.now c.loop-i.crew c.loop-i.i
     (slice_index_or c.loop-i.crew c.loop-i.i c.index-crew-i.result) c.play.new.seated
     c.loop-i.invariant there c.play.ensures.goes
