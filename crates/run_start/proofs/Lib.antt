@@ -1,0 +1,7 @@
+mod BeginLemmas
+mod DealtLemmas
+mod DrainLemmas
+mod EachLemmas
+mod FirstLemmas
+mod SeatLemmas
+mod StartLemmas
