@@ -1,0 +1,10 @@
+mod ActorLemmas
+mod ArrivedLemmas
+mod EndLemmas
+mod FlowLemmas
+mod HandLemmas
+mod PlayedLemmas
+mod RestLemmas
+mod RingLemmas
+mod SeatLemmas
+mod TakenLemmas
