@@ -1,0 +1,2 @@
+mod BackLemmas
+mod CrewLemmas

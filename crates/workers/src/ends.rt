@@ -1,0 +1,78 @@
+//! The end of a run: its threads, and then its sweep.
+ghost use Rattle.std.specs.Prelude.{◌≡◌, [], length, true};
+ghost use Rattle.steer_model.specs.Good.Inputs.{Input};
+ghost use Rattle.steer_model.specs.State.Ranges.{AreOfFlows};
+ghost use Rattle.run_crew.specs.CountLaws.{IsFull};
+ghost use Rattle.run_crew.specs.Sweeps.{GoOn, all_free};
+ghost use Rattle.run_close.specs.Overs.{IsBack, IsOver};
+ghost use Rattle.run_start.specs.Starts.{IsStart};
+ghost use Rattle.workers.specs.Threads.{CrewCan, workers_stage};
+
+use crate::threads::run_beside;
+use hop_board::Board;
+use plan_reader::Plan;
+use run_actors::Pace;
+use run_boards::boards_have_their_settings;
+use run_crew::{Seated, crews_go_on, crews_learn_arrivals, sweep};
+use run_start::Run;
+use run_workers::Stage;
+use std::mem;
+use std::sync::Wait;
+use std::thread::Threads;
+
+/// Runs all threads of a run, and takes them back. No worker knows the arrivals yet.
+pub(crate) fn run_all<R: Threads + Wait + Sync, P: Pace + Sync>(
+    rt: &R,
+    plan: &Plan,
+    run: Run,
+    pace: &P,
+) -> Run
+    ghost i: { Input }
+    requires plan { i.plan ≡ plan.now }
+    requires flows { AreOfFlows i.packets }
+    requires start { IsStart i.plan i.packets i.cut run }
+    ensures back { IsBack i result result.wire.wire.arrivals.items }
+    ensures late { result.stage.late.items ≡ [] }
+{
+    crews_go_on();
+    boards_have_their_settings();
+    let Run {
+        stage,
+        crew,
+        wire,
+        controller,
+    } = run;
+    let (wire, (crew, controller)) = run_beside(rt, &stage, plan, crew, wire, controller, pace);
+    Run {
+        stage,
+        crew,
+        wire,
+        controller,
+    }
+}
+
+/// Ends a run, whose threads have been taken back, by the sweep on this thread: all workers know
+/// all arrivals now, and have turns until each packet is on the port or was dropped.
+pub(crate) fn sweep_all<R: Wait>(rt: &R, mut run: Run) -> Run
+    ghost i: { Input }
+    requires back { IsBack i run run.wire.wire.arrivals.items }
+    requires late { run.stage.late.items ≡ [] }
+    ensures { IsOver i result }
+{
+    crews_go_on();
+    crews_learn_arrivals();
+    mem::swap(&mut run.stage.late, &mut run.wire.wire.arrivals);
+    sweep_crew(rt, &run.stage, &mut run.crew);
+    run
+}
+
+// Sweeps with these workers.
+fn sweep_crew<R: Wait>(rt: &R, stage: &Stage<Board>, crew: &mut Vec<Seated>)
+    requires can { CrewCan (workers_stage stage.now) crew.old.items }
+    ensures goes { GoOn (workers_stage stage.now) crew.old.items crew.new.items }
+    ensures free { all_free crew.new.items ≡ true }
+    ensures full { IsFull crew.new.items (length stage.now.shared.given.homes)
+        stage.now.shared.given.txs (length stage.now.shared.given.packets) }
+{
+    sweep(rt, stage, crew.as_mut_slice());
+}
