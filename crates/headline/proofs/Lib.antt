@@ -2,6 +2,8 @@ pub mod Places
 pub mod Rules
 pub mod Rights
 pub mod Reports
+pub mod GoodLemmas
+pub mod LiveReports
 pub mod EventLemmas
 pub mod RunLemmas
 pub mod MomentLemmas

@@ -32,10 +32,10 @@ same_ok s t e = cc
 module _ (plan_bytes capture_bytes : List ℕ) (capture : Capture) (i j : Input)
     (said : Says plan_bytes capture_bytes capture i)
     (says : Says plan_bytes capture_bytes capture j) (one : PacketsAreOne) where
-  plans : settings_of j.plan ≡ settings_of i.plan
+  pub plans : settings_of j.plan ≡ settings_of i.plan
   plans = same_ok (settings_of j.plan) (settings_of i.plan) (sym says.plan ∙ said.plan)
 
-  same-packets : j.packets ≡ i.packets
+  pub same-packets : j.packets ≡ i.packets
   same-packets =
       let key : number_of j.plan.key ≡ number_of i.plan.key =
       ap (λ (s : PlanSettings). number_of s.key) plans in
@@ -49,7 +49,7 @@ module _ (plan_bytes capture_bytes : List ℕ) (capture : Capture) (i j : Input)
       said.packets
 
   -- so what is a report for the one is one for the other
-  reports-same : (h : History) (text : List ℕ) → Reports j h text → Reports i h text
+  pub reports-same : (h : History) (text : List ℕ) → Reports j h text → Reports i h text
   reports-same h text (taps, is) =
       let apps : length j.plan.apps ≡ length i.plan.apps =
       ap (λ (s : PlanSettings). length s.apps) plans in
@@ -116,7 +116,7 @@ module _ (packets : List Packet) (cut : Option ℕ) where
       → replayed (plan_with s w) packets cut ≡ replayed (plan_with u x) packets cut)
       same (λ x. refl) v
 
-  replayed-same : (p q : Plan) → settings_of p ≡ settings_of q
+  pub replayed-same : (p q : Plan) → settings_of p ≡ settings_of q
       → replayed p packets cut ≡ replayed q packets cut
   replayed-same p q same = by-settings (settings_of p) (settings_of q) p.within q.within same
 

@@ -1,4 +1,4 @@
--- The history of every replay is as it should be.
+-- A history of which the laws hold is as it should be, and so that of every replay.
 use Rattle.std.proofs.Common.{length}
 use Rattle.history.specs.declared.history.History.{History}
 use Rattle.steer_properties.specs.Histories.Always.{Always}
@@ -14,7 +14,7 @@ use Rattle.headline.specs.Headline.{IsRight}
 use Rattle.headline.proofs.Places.{stands-at_one}
 use Rattle.headline.proofs.Rules.{dropped-for, processors-chosen, queues-picked}
 
-right-of : (i : Input) (h : History) → AreChosen i h → AreReplied i h → NothingIsOutstanding h
+pub right-of : (i : Input) (h : History) → AreChosen i h → AreReplied i h → NothingIsOutstanding h
     → DeliversInOrder i h → IsRight i h
 right-of i h chosen replied clear delivers =
     let steered = delivers.steered in

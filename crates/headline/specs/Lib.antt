@@ -6,5 +6,6 @@ pub mod Replies
 pub mod Events
 pub mod Moments
 pub mod Headline
+pub mod Live
 pub mod Forged
 pub mod Laws

@@ -1,10 +1,12 @@
-//! The promises of a replay, as contracts of lemmas: functions with empty bodies.
+//! The promises of a replay and of a run with threads, as contracts of lemmas: functions with empty
+//! bodies.
 ghost use Rattle.headline.specs.Events.{EventsAreTheSteps};
 ghost use Rattle.headline.specs.Forged.{AcceptingAtFullIsForged, AnotherCommandIsForged};
 ghost use Rattle.headline.specs.Forged.{AnotherDropIsForged, AnotherQueueIsForged};
 ghost use Rattle.headline.specs.Forged.{AnotherWriteIsForged, EmptyIsForged, ExamplesAreWithin};
 ghost use Rattle.headline.specs.Forged.{HeadlinesAreOfTheRun, MovingAtOnceIsForged};
 ghost use Rattle.headline.specs.Forged.{NeverMovingIsForged, NoWantIsForged};
+ghost use Rattle.headline.specs.Laws.{GoodHistoriesAreRight, GoodReportsHaveTheHeadline};
 ghost use Rattle.headline.specs.Laws.{ReplaysAreOfTheirRuns, ReplaysAreRight};
 ghost use Rattle.headline.specs.Laws.{ReportsHaveTheHeadline};
 
@@ -86,5 +88,22 @@ pub fn a_headline_is_of_the_run()
     ensures { HeadlinesAreOfTheRun }
 {
     every_replay_is_of_its_run();
+    a_capture_has_one_list_of_packets();
+}
+
+/// Lemma: a history that meets the eleven clauses of a good one, whoever made it, is as it should
+/// be: one place for each packet, drops by their causes, delivery in order, and choices by the
+/// manual's three conditions.
+pub fn good_histories_are_right()
+    ensures { GoodHistoriesAreRight }
+{}
+
+/// Lemma: the report of a good history of these bytes is that of just one history, and all that is
+/// promised of a run with threads holds of it.
+pub fn a_good_report_has_the_headline()
+    ensures { GoodReportsHaveTheHeadline }
+{
+    good_histories_are_right();
+    a_report_has_one_history();
     a_capture_has_one_list_of_packets();
 }

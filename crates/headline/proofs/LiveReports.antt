@@ -1,0 +1,35 @@
+-- The report of a good history is that of just one history.
+use Rattle.std.proofs.Common.{ℕ, List, length, refl, arith}
+use Rattle.report.specs.Laws.{HasOneHistory, IsReportOf}
+use Rattle.report.specs.Report.{report}
+use Rattle.steer_model.specs.Laws.Packets.{PacketsAreOne}
+use Rattle.headline.specs.Laws.{GoodHistoriesAreRight, GoodReportsHaveTheHeadline}
+use Rattle.headline.proofs.GoodLemmas.{queued-of}
+use Rattle.headline.proofs.Reports.{reports-same}
+
+pub live-headline-of : GoodHistoriesAreRight → HasOneHistory → PacketsAreOne
+    → GoodReportsHaveTheHeadline
+live-headline-of right one_history one plan_bytes capture_bytes capture i h taps said few good
+    numbers fit =
+    let text : List ℕ = report i.packets (length i.plan.apps) h taps in
+    let is : IsReportOf i.packets (length i.plan.apps) i.plan.start h taps text = record {
+      regular = good.steered.regular;
+      queued = queued-of i h good.queues;
+      numbers = numbers;
+      taps = fit;
+      starts = good.arrived.start;
+      text = refl;
+    } in
+    let apps = i.plan.within.apps_length in
+    record {
+      input = i;
+      says = said;
+      history = h;
+      reports = (taps, is);
+      only = λ j k says other. (
+          let same = reports-same plan_bytes capture_bytes capture i j said says one k text other in
+          (one_history i.packets (length i.plan.apps) i.plan.start k h same.0 taps text few
+          (omega (arith, apps.at_most)) same.1 is).0);
+      good = good;
+      right = right i h good;
+    }
