@@ -1,9 +1,11 @@
 -- The report of bytes has the headline.
 use Rattle.std.proofs.Common.{ℕ, ◌≡◌, List, Option, length, refl, ◌∙◌, sym, subst}
 use Rattle.headline.specs.Headline.{Headline, Says}
-use Rattle.headline.specs.Laws.{ReportsHaveTheHeadline}
+use Rattle.headline.specs.Laws.{GoodReportsHaveTheHeadline, ReportsHaveTheHeadline}
+use Rattle.headline.specs.Live.{LiveHeadline}
 use Rattle.history.specs.Lines.{lines_of}
 use Rattle.history.specs.Ranges.{HistoryFits}
+use Rattle.history.specs.declared.history.History.{History}
 use Rattle.plan_reader.specs.declared.plan.Plan.{Plan}
 use Rattle.report.specs.Laws.{TextsFit}
 use Rattle.report.specs.Report.{report}
@@ -13,28 +15,28 @@ use Rattle.steer_model.specs.Good.Inputs.{Input}
 use Rattle.steer_model.specs.Laws.Packets.{PacketsAreOfFlows}
 use Rattle.steer_model.specs.State.Start.{replayed}
 use Rattle.toeplitz.specs.Toeplitz.{number_of}
-use Rattle.replay.specs.Headlines.{EveryReportHasTheHeadline}
+use Rattle.replay.specs.Headlines.{EveryReportHasTheHeadline, EveryRunHasTheHeadline}
 use Rattle.replay.specs.Meanings.{Meaning, texts_of}
-use Rattle.replay.specs.Replays.{IsWithinTypes, replay_of, replay_text}
+use Rattle.replay.specs.Replays.{IsWithinTypes, replay_of, shown_text, shown_with}
 
 module _ (plan : Plan) (packets : List Packet) (cut : Option ℕ) (taps : List Meaning) where
   -- the texts of the taps
-  abbrev shown : List (List ℕ)
+  abbrev pub shown : List (List ℕ)
   shown =
       texts_of taps plan.detach
       (lines_of packets (length plan.apps) (replayed plan packets cut)).packets
 
-  text-is : replay_text (replay_of plan packets cut taps)
+  pub text-is : shown_text (replay_of plan packets cut taps)
       ≡ report packets (length plan.apps) (replayed plan packets cut) shown
-  unfolding replay_of replay_text
+  unfolding replay_of shown_text
   text-is = refl
 
-  numbers-fit : IsWithinTypes plan (replay_of plan packets cut taps)
+  pub numbers-fit : IsWithinTypes plan (replay_of plan packets cut taps)
       → HistoryFits (replayed plan packets cut)
   unfolding replay_of
   numbers-fit fits = fits.numbers
 
-  shown-fit : IsWithinTypes plan (replay_of plan packets cut taps) → TextsFit shown
+  pub shown-fit : IsWithinTypes plan (replay_of plan packets cut taps) → TextsFit shown
   unfolding replay_of
   shown-fit fits = fits.texts
 
@@ -54,3 +56,23 @@ report_has_headline headline of_flows plan_bytes capture_bytes capture taps text
     (headline plan_bytes capture_bytes capture i (shown r.plan r.packets capture.cut taps) says may
     (numbers-fit r.plan r.packets capture.cut taps r.fits)
     (shown-fit r.plan r.packets capture.cut taps r.fits))
+
+-- ---- a run with threads
+
+pub shown-report : (plan : Plan) (packets : List Packet) (taps : List Meaning) (h : History)
+    → shown_text (shown_with plan packets taps h)
+    ≡ report packets (length plan.apps) h
+    (texts_of taps plan.detach (lines_of packets (length plan.apps) h).packets)
+unfolding shown_text
+shown-report plan packets taps h = refl
+
+pub run_has_headline : GoodReportsHaveTheHeadline → EveryRunHasTheHeadline
+run_has_headline headline plan_bytes capture_bytes capture taps text r =
+    let i : Input = record { plan = r.plan; packets = r.packets; cut = capture.cut } in
+    let says : Says plan_bytes capture_bytes capture i =
+    record { plan = r.has_plan; packets = r.are_packets; cut = refl } in
+    subst (LiveHeadline plan_bytes capture_bytes capture)
+    (sym (r.is ∙ shown-report r.plan r.packets taps r.history))
+    (headline plan_bytes capture_bytes capture i r.history
+    (texts_of taps r.plan.detach (lines_of r.packets (length r.plan.apps) r.history).packets) says
+    r.few r.good r.fits.numbers r.fits.texts)

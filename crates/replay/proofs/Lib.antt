@@ -3,4 +3,4 @@ mod CountsLemmas
 mod TextsLemmas
 mod WrittenLemmas
 mod SummariesLemmas
-mod HeadlineLemmas
+pub mod HeadlineLemmas

@@ -10,7 +10,7 @@ use Rattle.history.specs.Lines.{LineLists}
 use Rattle.history.specs.declared.history.History.{History}
 use Rattle.report.specs.Report.{rows_of}
 use Rattle.report.specs.Texts.{text_of}
-use Rattle.replay.specs.Replays.{ReplayLists, replay_text, replay_with}
+use Rattle.replay.specs.Replays.{ShownLists, shown_text, shown_lists}
 
 some_next : (a b c : Option (List ℕ)) (s t : List ℕ) → Appends a b s → AppendsSome b c t
     → AppendsSome a c (s ++ t)
@@ -26,13 +26,13 @@ pub part_next : {T E : Type 0} (r : Result T E) (a b c : Option (List ℕ)) (s t
 part_next (Ok x) a b c s t first part = tt
 part_next (Err e) a b c s t first part = some_next a b c s t first part
 
--- at an error a beginning of a replay's report went out, the report being that of its parts
-pub part_of_replay : {T E : Type 0} (r : Result T E) (a b : Option (List ℕ)) (h : History)
-    (lines : LineLists) (texts given : List (List ℕ)) (s : ReplayLists)
-    → given ≡ texts → replay_with h lines texts ≡ s
+-- at an error a beginning of the report went out, the report being that of its parts
+pub part_of_shown : {T E : Type 0} (r : Result T E) (a b : Option (List ℕ)) (h : History)
+    (lines : LineLists) (texts given : List (List ℕ)) (s : ShownLists)
+    → given ≡ texts → shown_lists h lines texts ≡ s
     → OnErr r (AppendsSome a b (text_of (rows_of lines h given)))
-    → OnErr r (AppendsSome a b (replay_text s))
-unfolding replay_text
-part_of_replay r a b h lines texts given s same is part =
+    → OnErr r (AppendsSome a b (shown_text s))
+unfolding shown_text
+part_of_shown r a b h lines texts given s same is part =
     let first = subst (λ ts. OnErr r (AppendsSome a b (text_of (rows_of lines h ts)))) same part in
-    subst (λ (x : ReplayLists). OnErr r (AppendsSome a b (replay_text x))) is first
+    subst (λ (x : ShownLists). OnErr r (AppendsSome a b (shown_text x))) is first

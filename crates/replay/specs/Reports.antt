@@ -2,13 +2,15 @@
 use Rattle.std.specs.Prelude.{◌≡◌, ◌≤◌, ℕ, List, Ok, length}
 use Rattle.steer_base.specs.declared.limits.TheConstants.{MAX_PACKETS}
 use Rattle.steer_base.specs.declared.packet.Packet.{Packet}
+use Rattle.history.specs.declared.history.History.{History}
 use Rattle.pcap_reader.specs.declared.capture.Capture.{Capture}
 use Rattle.plan_reader.specs.PlanTexts.{plan_of, settings_of}
 use Rattle.plan_reader.specs.declared.plan.Plan.{Plan}
 use Rattle.toeplitz.specs.Toeplitz.{number_of}
 use Rattle.steer_model.specs.Capture.Packets.{ArePackets}
+use Rattle.steer_model.specs.Good.GoodHistory.{Good}
 use Rattle.replay.specs.Meanings.{Meaning}
-use Rattle.replay.specs.Replays.{IsWithinTypes, ReplayLists, replay_of, replay_text}
+use Rattle.replay.specs.Replays.{IsWithinTypes, replay_of, shown_text, shown_with}
 
 -- Bytes are the text of a plan.
 abbrev pub HasPlan : List ℕ → Plan → Type 0
@@ -20,16 +22,6 @@ abbrev pub ArePacketsBy : Plan → List ℕ → Capture → List Packet → Type
 ArePacketsBy plan bytes capture packets =
     ArePackets (number_of plan.key) plan.kinds bytes capture.records packets
 
--- A replay is the one of all steps of a plan over the packets of a capture, with taps that mean
--- this.
-pub record IsReplayOf (plan : Plan) (bytes : List ℕ) (capture : Capture) (taps : List Meaning)
-    (r : ReplayLists) : Type 0 where
-  pub packets : List Packet
-  pub are_packets : ArePacketsBy plan bytes capture packets
-  pub few : length packets ≤ MAX_PACKETS
-  pub is : r ≡ replay_of plan packets capture.cut taps
-  pub fits : IsWithinTypes plan r
-
 -- A text is the report of the history that the steps of the plan give on the packets of the
 -- capture, with the texts of the taps.
 pub record IsReportOfPlan (plan_bytes capture_bytes : List ℕ) (capture : Capture)
@@ -40,5 +32,20 @@ pub record IsReportOfPlan (plan_bytes capture_bytes : List ℕ) (capture : Captu
   pub packets : List Packet
   pub are_packets : ArePacketsBy plan capture_bytes capture packets
   pub few : length packets ≤ MAX_PACKETS
-  pub is : text ≡ replay_text (replay_of plan packets capture.cut taps)
+  pub is : text ≡ shown_text (replay_of plan packets capture.cut taps)
   pub fits : IsWithinTypes plan (replay_of plan packets capture.cut taps)
+
+-- A text is the report of a history that is good for the plan and the packets of the capture, with
+-- the texts of the taps.
+pub record IsReportOfRun (plan_bytes capture_bytes : List ℕ) (capture : Capture)
+    (taps : List Meaning)
+    (text : List ℕ) : Type 0 where
+  pub plan : Plan
+  pub has_plan : HasPlan plan_bytes plan
+  pub packets : List Packet
+  pub are_packets : ArePacketsBy plan capture_bytes capture packets
+  pub few : length packets ≤ MAX_PACKETS
+  pub history : History
+  pub good : Good (record { plan = plan; packets = packets; cut = capture.cut }) history
+  pub is : text ≡ shown_text (shown_with plan packets taps history)
+  pub fits : IsWithinTypes plan (shown_with plan packets taps history)

@@ -1,5 +1,5 @@
 //! The steps of a plan, made one by one.
-ghost use Rattle.std.specs.Prelude.{◌≡◌, ◌≤◌, IfOk, length};
+ghost use Rattle.std.specs.Prelude.{◌≡◌, ◌≤◌, ◌<◌, ◌^◌, IfOk, length};
 ghost use Rattle.steer_base.specs.declared.limits.TheConstants.{MAX_PACKETS};
 ghost use Rattle.steer_invariant.specs.InvariantLaws.{MayStart};
 ghost use Rattle.steer_model.specs.State.Ranges.{AreOfFlows};
@@ -34,13 +34,20 @@ pub fn play(
     steering.history(alloc)
 }
 
+/// Lemma: the counters of a plan start within 32 bits.
+pub fn tell_counters(plan: &Plan)
+    ensures { plan.now.start < 2 ^ 32 }
+{
+    let _start = plan.start;
+}
+
 /// Lemma: a machine may start with this plan and these packets.
 pub fn tell_start(plan: &Plan, packets: &[Packet])
     requires few { length packets.now ≤ MAX_PACKETS }
     requires flows { AreOfFlows packets.now }
     ensures { MayStart plan.now packets.now }
 {
-    let _start = plan.start;
+    tell_counters(plan);
 }
 
 /// Lemma: the sums over the history of a plan are below 2^64.

@@ -1,13 +1,14 @@
-//! The replay of a plan.
+//! What is shown of a history.
 ghost use Rattle.std.specs.Prelude.{◌≡◌, ◌≤◌, IfOk, OnErr, OnOk, length, map};
 ghost use Rattle.std.specs.Io.KnownBytes.{Appends};
 ghost use Rattle.outside_io.specs.Counts.{Rose};
 ghost use Rattle.outside_io.specs.Sink.{AppendsSome};
 ghost use Rattle.steer_base.specs.declared.limits.TheConstants.{MAX_PACKETS};
 ghost use Rattle.steer_model.specs.State.Ranges.{AreOfFlows};
-ghost use Rattle.replay.specs.Replays.{IsWithinTypes, replay_of, replay_text};
+ghost use Rattle.history.specs.Regular.{Regular};
+ghost use Rattle.replay.specs.Replays.{IsWithinTypes, replay_of, shown_text, shown_with};
 
-use crate::play::{play, tell_start};
+use crate::play::{play, tell_counters, tell_start};
 use history::{History, Lines};
 use outside_io::{Sink, WriteFault};
 use plan_reader::Plan;
@@ -18,72 +19,91 @@ use steer_base::{OutOfMemory, Packet};
 use steer_invariant::every_replay_can_be_reported;
 use taps::{Tap, TapText, feed};
 
-/// What a plan made of the packets of a capture: the history of its steps, the lines of its
-/// packets, and the texts of the taps that were shown them.
+/// What is shown of a history: the history, the lines of its packets, and the texts of the taps that
+/// were shown them.
 #[derive(Drop)]
-pub struct Replay {
+pub struct Shown {
     history: History,
     lines: Lines,
     texts: Vec<TapText>,
 }
 
-impl Model for Replay {
+impl Model for Shown {
     ghost use Rattle.report.specs.Made.{AreLinesOf};
-    ghost use Rattle.replay.specs.Replays.{ReplayLists};
+    ghost use Rattle.replay.specs.Replays.{ShownLists};
 
-    ghost Value = { ReplayLists };
+    ghost Value = { ShownLists };
 
-    ghost view = { λ r. record {
-      history = r.history;
-      lines = r.lines;
-      texts = r.texts.items;
+    ghost view = { λ s. record {
+      history = s.history;
+      lines = s.lines;
+      texts = s.texts.items;
     } };
 
-    ghost invariant = { λ r. AreLinesOf r.lines r.history };
+    ghost invariant = { λ s. AreLinesOf s.lines s.history };
 }
 
-impl Replay {
-    /// Makes all steps of a plan over these packets, and shows the taps the lines of the packets
-    /// that arrived, each up to its detaching by the plan. There are at most
-    /// `MAX_PACKETS` packets, each flow number is below the number of packets, and all packets of a
-    /// flow have one hash. `cut` is the length of a cut record at the end of the capture. If memory
-    /// runs out all taps are dropped.
+impl Shown {
+    /// Makes the lines of a history of a plan and these packets, and shows the taps those of the
+    /// packets that arrived, each up to its detaching by the plan. The history is regular for these
+    /// packets, of which there are at most `MAX_PACKETS`. If memory runs out all taps are dropped.
     pub fn make(
         alloc: Global,
         plan: &Plan,
         packets: &[Packet],
-        cut: Option<u32>,
+        history: History,
         taps: Vec<Box<dyn Tap>>,
-    ) -> Result<Replay, OutOfMemory>
+    ) -> Result<Shown, OutOfMemory>
         requires few { length packets.now ≤ MAX_PACKETS }
-        requires flows { AreOfFlows packets.now }
-        ensures is { IfOk result (λ replay. replay
-            ≡ replay_of plan.now packets.now cut (map (λ tap lines. text tap lines) taps.items)) }
+        requires regular { Regular packets.now (length plan.now.apps) history }
+        ensures is { IfOk result (λ shown. shown ≡ shown_with plan.now packets.now
+            (map (λ tap lines. text tap lines) taps.items) history) }
         ensures fits { IfOk result (IsWithinTypes plan.now) }
     {
-        let history = play(alloc, plan, packets, cut)?;
-        tell_start(plan, packets);
-        every_replay_can_be_reported();
         let lines = Lines::make(alloc, &history, packets, plan.apps.len() as u8)?;
         let arrived = lines.len() as u32;
         let texts = feed(alloc, taps, &lines, arrived, plan.detach.as_slice())?;
+        tell_counters(plan);
         history.numbers_fit();
         texts_fit(&texts);
-        Ok(Replay {
+        Ok(Shown {
             history,
             lines,
             texts,
         })
     }
 
+    /// Makes all steps of a plan over these packets, and shows what came of it. There are at most
+    /// `MAX_PACKETS` packets, each flow number is below the number of packets, and all packets of a
+    /// flow have one hash. `cut` is the length of a cut record at the end of the capture. If memory
+    /// runs out all taps are dropped.
+    pub fn of_replay(
+        alloc: Global,
+        plan: &Plan,
+        packets: &[Packet],
+        cut: Option<u32>,
+        taps: Vec<Box<dyn Tap>>,
+    ) -> Result<Shown, OutOfMemory>
+        requires few { length packets.now ≤ MAX_PACKETS }
+        requires flows { AreOfFlows packets.now }
+        ensures is { IfOk result (λ shown. shown
+            ≡ replay_of plan.now packets.now cut (map (λ tap lines. text tap lines) taps.items)) }
+        ensures fits { IfOk result (IsWithinTypes plan.now) }
+    {
+        let history = play(alloc, plan, packets, cut)?;
+        tell_start(plan, packets);
+        every_replay_can_be_reported();
+        Shown::make(alloc, plan, packets, history, taps)
+    }
+
     /// Writes the report: each line, and each text of a tap, is one piece for the sink. It takes no
     /// memory.
-    #[tactic(auto, unfolding(crate::specs::Replays::replay_text))]
+    #[tactic(auto, unfolding(crate::specs::Replays::shown_text))]
     pub fn write<K: Sink>(&self, line: &mut LineBuf, out: &mut K) -> Result<(), WriteFault>
         ensures whole { OnOk result
-            (Appends (K.written out.old) (K.written out.new) (replay_text self.now)) }
+            (Appends (K.written out.old) (K.written out.new) (shown_text self.now)) }
         ensures part { OnErr result
-            (AppendsSome (K.written out.old) (K.written out.new) (replay_text self.now)) }
+            (AppendsSome (K.written out.old) (K.written out.new) (shown_text self.now)) }
         ensures fault { OnErr result (Rose (K.faults out.old) (K.faults out.new)) }
         ensures later { K.faults out.old ≤ K.faults out.new }
     {
