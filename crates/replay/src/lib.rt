@@ -1,5 +1,5 @@
-//! The replay of a plan over the packets of a capture; what is shown of a history, up to the written
-//! report; and the replay of generated input, of which two lines of sums are written.
+//! The replay of a plan over the packets of a capture; what is shown of a history, up to the
+//! written report; and the replay of generated input, of which two lines of sums are written.
 #![tactic(auto)]
 
 mod counts;

@@ -19,8 +19,8 @@ use steer_base::{OutOfMemory, Packet};
 use steer_invariant::every_replay_can_be_reported;
 use taps::{Tap, TapText, feed};
 
-/// What is shown of a history: the history, the lines of its packets, and the texts of the taps that
-/// were shown them.
+/// What is shown of a history: the history, the lines of its packets, and the texts of the taps
+/// that were shown them.
 #[derive(Drop)]
 pub struct Shown {
     history: History,

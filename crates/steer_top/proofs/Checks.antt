@@ -1,5 +1,5 @@
 -- The line of a verdict on what was taken of the files of the command `check`.
-use Rattle.std.proofs.Common.{ℕ, List, Option, refl, subst}
+use Rattle.std.proofs.Common.{ℕ, List, Option, refl}
 use Rattle.plan_reader.specs.declared.plan.Plan.{Plan}
 use Rattle.replay.specs.Reports.{HasPlan}
 use Rattle.report_verdict.specs.VerdictText.{verdict_text}

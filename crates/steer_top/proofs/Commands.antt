@@ -10,10 +10,11 @@ use Rattle.outside_io.specs.Sink.{AppendsSome}
 use Rattle.steer_top.specs.Files.{Accepted, Files, IsBad, IsNot, Refused, limit_of}
 use Rattle.steer_top.specs.Outcomes.{Writes, name_of, roles_of, file_bytes}
 use Rattle.steer_top.specs.Words.{CheckWords, CommandWords, GenWords, HashWords, PlaceWords}
-use Rattle.steer_top.specs.Words.{ReplayWords}
-use Rattle.steer_top.specs.Words.CommandWords.{Check, Gen, Hash, Place, Replay}
+use Rattle.steer_top.specs.Words.{PlanWords}
+use Rattle.steer_top.specs.Words.CommandWords.{Check, Gen, Hash, Place, Replay, Run}
 use Rattle.steer_top.specs.Endings.{Course, Gave, NothingOut, EndsAs, EndsAt, EndsBy, EndsCommand}
-use Rattle.steer_top.specs.Endings.{EndsUnfit, EndsUnread, EndsWriting, Flushes, StopsAt}
+use Rattle.steer_top.specs.Endings.{EndsAtInput, EndsUnfit, EndsUnread, EndsWriting, Flushes}
+use Rattle.steer_top.specs.Endings.{StopsAt}
 use Rattle.steer_top.specs.declared.ending.Role.{Role}
 use Rattle.steer_top.specs.declared.ending.Role.TheVariants as role
 use Rattle.steer_top.specs.declared.ending.Refusal.{Refusal}
@@ -210,8 +211,8 @@ place_gave words held rules capture first second role.Rules = first
 place_gave words held rules capture first second role.Capture = second
 place_gave words held rules capture first second role.Report = tt
 
--- the two files of the command `replay`
-pub replay_gave : (words : ReplayWords) (held : List ℕ → Option (List ℕ)) (plan capture : List ℕ)
+-- the two files of the commands `replay` and `run`
+pub replay_gave : (words : PlanWords) (held : List ℕ → Option (List ℕ)) (plan capture : List ℕ)
     → Keeps (held words.plan) (Some plan)
     → Keeps (held words.capture) (Some capture)
     → Gave (file_bytes held (Replay words)) (files_of plan capture)
@@ -219,6 +220,15 @@ replay_gave words held plan capture first second role.Plan = first
 replay_gave words held plan capture first second role.Rules = tt
 replay_gave words held plan capture first second role.Capture = second
 replay_gave words held plan capture first second role.Report = tt
+
+pub run_gave : (words : PlanWords) (held : List ℕ → Option (List ℕ)) (plan capture : List ℕ)
+    → Keeps (held words.plan) (Some plan)
+    → Keeps (held words.capture) (Some capture)
+    → Gave (file_bytes held (Run words)) (files_of plan capture)
+run_gave words held plan capture first second role.Plan = first
+run_gave words held plan capture first second role.Rules = tt
+run_gave words held plan capture first second role.Capture = second
+run_gave words held plan capture first second role.Report = tt
 
 -- the three files of the command `check`
 pub check_gave : (words : CheckWords) (held : List ℕ → Option (List ℕ))
@@ -322,4 +332,27 @@ ends_flushed command course faults written unsent e e' before (files, gave, by) 
             (fails command files course faults written flush.later flush.kept before rose
             (subst (λ x. By x course) done by)),
       )
+    ]
+
+-- a command over a plan and a capture that ends at one of the two
+pub ends_at_input : (command : CommandWords) (words : PlanWords) (course : Course) (e : Ending)
+    → roles_of command ≡ role.Plan ∷ role.Capture ∷ []
+    → name_of command role.Plan ≡ Some words.plan
+    → name_of command role.Capture ≡ Some words.capture
+    → ((plan capture : List ℕ) → Keeps (course.held words.plan) (Some plan)
+    → Keeps (course.held words.capture) (Some capture)
+    → Gave (file_bytes course.held command) (files_of plan capture))
+    → NothingOut course
+    → EndsAtInput e words course.held course.desk_before course.desk_after course.asked
+    → EndsCommand e command course
+ends_at_input command words course e roles plan capture gave kept at =
+    let files = files_of at.plan at.capture in
+    let told = gave at.plan at.capture at.gave_plan at.gave_capture in
+    elim at.at [
+      | inl stops ↦
+          ends_at command course files [] (role.Capture ∷ []) role.Plan words.plan e told roles
+          plan tt kept stops
+      | inr (good, stops) ↦
+          ends_at command course files (role.Plan ∷ []) [] role.Capture words.capture e told roles
+          capture (good, tt) kept stops
     ]

@@ -1,8 +1,10 @@
+pub mod Answered
 pub mod Checks
 pub mod CheckedReplays
 pub mod Commands
 pub mod Decided
+pub mod Headlines
+pub mod Inputs
 pub mod Lines
 pub mod Statuses
 pub mod Tellings
-pub mod Replays

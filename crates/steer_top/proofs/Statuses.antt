@@ -11,10 +11,10 @@ use Rattle.steer_top.specs.HashText.{capture_text}
 use Rattle.steer_top.specs.PlaceText.{place_text}
 use Rattle.ntuple_rules.specs.Readings.{rules_of}
 use Rattle.replay.specs.Meanings.{Meaning}
-use Rattle.replay.specs.Reports.{IsReportOfPlan}
+use Rattle.replay.specs.Reports.{IsReportOfPlan, IsReportOfRun}
 use Rattle.steer_top.specs.Outcomes.{FilesAreKnown, Writes, roles_of, file_bytes}
 use Rattle.steer_top.specs.Words.{CommandWords}
-use Rattle.steer_top.specs.Words.CommandWords.{Check, Gen, Hash, Place, Replay}
+use Rattle.steer_top.specs.Words.CommandWords.{Check, Gen, Hash, Place, Replay, Run}
 use Rattle.steer_top.specs.Endings.{Course, DeskFailed, OutFailed, Gave, EndsCommand, IsRefusal}
 use Rattle.steer_top.specs.Endings.{IsUnread}
 use Rattle.steer_top.specs.Endings.{status_of, status_of_refusal}
@@ -26,7 +26,7 @@ use Rattle.steer_top.specs.declared.ending.Ending.{Ending}
 use Rattle.steer_top.specs.declared.ending.Ending.TheVariants as ending
 
 -- a refusal has a status of refusals, and no other number is one
-is_refusal : (reason : Refusal) → IsRefusal (status_of_refusal reason)
+pub is_refusal : (reason : Refusal) → IsRefusal (status_of_refusal reason)
 is_refusal (refusal.Plan f) = inl refl
 is_refusal (refusal.Rules f) = inl refl
 is_refusal (refusal.Capture f) = inr (inl refl)
@@ -39,7 +39,7 @@ no_refusal n three four eight (inr (inl is)) = four is
 no_refusal n three four eight (inr (inr is)) = eight is
 
 -- a status that is none of refusals is no refusal's
-other_status : {A : Type 0} (reason : Refusal) (n : ℕ) → status_of_refusal reason ≡ n → n ≢ 3
+pub other_status : {A : Type 0} (reason : Refusal) (n : ℕ) → status_of_refusal reason ≡ n → n ≢ 3
     → n ≢ 4 → n ≢ 8 → A
 other_status (refusal.Plan f) n is three four eight = absurd (three (sym is))
 other_status (refusal.Rules f) n is three four eight = absurd (three (sym is))
@@ -96,6 +96,12 @@ same_writes taps (Replay words) given told text (first, (second, rest)) (capture
   subst (λ bytes. HasAnyCapture bytes capture) second has,
   subst (λ bytes. IsReportOfPlan bytes (told role.Capture) capture taps text) first
       (subst (λ bytes. IsReportOfPlan (given role.Plan) bytes capture taps text) second report),
+)
+same_writes taps (Run words) given told text (first, (second, rest)) (capture, has, report) = (
+  capture,
+  subst (λ bytes. HasAnyCapture bytes capture) second has,
+  subst (λ bytes. IsReportOfRun bytes (told role.Capture) capture taps text) first
+      (subst (λ bytes. IsReportOfRun (given role.Plan) bytes capture taps text) second report),
 )
 same_writes taps (Gen words) given told text same writes = writes
 same_writes taps (Check words) given told text (first, (second, (third, rest)))

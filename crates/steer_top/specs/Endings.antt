@@ -13,9 +13,9 @@ use Rattle.pcapng_reader.specs.declared.fault.NgFault.TheVariants as ng
 use Rattle.plan_reader.specs.declared.plan_fault.PlanFault.{PlanFault}
 use Rattle.plan_reader.specs.declared.plan_fault.PlanFault.TheVariants as plan
 use Rattle.replay.specs.Meanings.{Meaning}
-use Rattle.steer_top.specs.Files.{Files, Accepted, IsBad, IsNot, Refused, limit_of}
+use Rattle.steer_top.specs.Files.{Files, Accepted, IsBad, IsGood, IsNot, Refused, limit_of}
 use Rattle.steer_top.specs.Outcomes.{Writes, name_of, roles_of, file_bytes}
-use Rattle.steer_top.specs.Words.{CommandWords}
+use Rattle.steer_top.specs.Words.{CommandWords, PlanWords}
 use Rattle.steer_top.specs.declared.ending.Role.{Role}
 use Rattle.steer_top.specs.declared.ending.Role.TheVariants as role
 use Rattle.steer_top.specs.declared.ending.Refusal.{Refusal}
@@ -250,6 +250,18 @@ pub record EndsAt (e : Ending) (r : Role) (name : List ℕ) (held : Option (List
   pub bytes : List ℕ
   pub gave : Keeps held (Some bytes)
   pub stops : StopsAt e r name bytes before after asked
+
+-- How a command ends at its plan, or at its capture where the plan is good, by bytes that the desk
+-- may have given for the two.
+pub record EndsAtInput (e : Ending) (words : PlanWords) (held : List ℕ → Option (List ℕ))
+    (before after : ℕ) (asked : Option (List ℕ)) : Type 0 where
+  pub plan : List ℕ
+  pub capture : List ℕ
+  pub gave_plan : Keeps (held words.plan) (Some plan)
+  pub gave_capture : Keeps (held words.capture) (Some capture)
+  pub at : StopsAt e role.Plan words.plan plan before after asked
+      ⊎ (IsGood role.Plan plan
+      × StopsAt e role.Capture words.capture capture before after asked)
 
 -- How a command ends that writes this text: done, or the sink failed and took a prefix, or memory
 -- ran out and nothing went out.

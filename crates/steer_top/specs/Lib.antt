@@ -6,6 +6,7 @@ pub mod HashText
 pub mod PlaceText
 pub mod Checks
 pub mod Taken
+pub mod Runs
 pub mod Outcomes
 pub mod Headlines
 pub mod Endings

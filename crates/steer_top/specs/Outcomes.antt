@@ -1,12 +1,11 @@
 -- What each command reads and writes: an equation of each definition for a command.
-use Rattle.std.specs.Prelude.{◌≡◌, ℕ, List, [], ◌∷◌, ⊤, Ok, Option, Some, None, String}
+use Rattle.std.specs.Prelude.{◌≡◌, ℕ, List, [], ◌∷◌, ⊤, Ok, Option, Some, None}
 use Rattle.std.specs.Prelude.{option_and_then}
-use Rattle.std.specs.declared.alloc.Global.{Global}
 use Rattle.ntuple_rules.specs.Readings.{rules_of}
 use Rattle.ntuple_rules.specs.declared.rules.Rules.{Rules}
 use Rattle.pcap_reader.specs.declared.capture.Capture.{Capture}
 use Rattle.replay.specs.Meanings.{Meaning}
-use Rattle.replay.specs.Reports.{IsReportOfPlan}
+use Rattle.replay.specs.Reports.{IsReportOfPlan, IsReportOfRun}
 use Rattle.replay.specs.Summaries.{IsSummaryOf, summary_text}
 use Rattle.replay.specs.declared.summary.Summary.{Summary}
 use Rattle.steer_top.specs.Captures.{HasAnyCapture}
@@ -14,8 +13,8 @@ use Rattle.steer_top.specs.Checks.{IsVerdictLine}
 use Rattle.steer_top.specs.Files.{Files}
 use Rattle.steer_top.specs.HashText.{capture_text}
 use Rattle.steer_top.specs.PlaceText.{place_text}
-use Rattle.steer_top.specs.Words.{CommandWords, command_of}
-use Rattle.steer_top.specs.Words.CommandWords.{Check, Gen, Hash, Place, Replay}
+use Rattle.steer_top.specs.Words.{CommandWords}
+use Rattle.steer_top.specs.Words.CommandWords.{Check, Gen, Hash, Place, Replay, Run}
 use Rattle.steer_top.specs.declared.ending.Role.{Role}
 use Rattle.steer_top.specs.declared.ending.Role.TheVariants as role
 
@@ -23,6 +22,7 @@ use Rattle.steer_top.specs.declared.ending.Role.TheVariants as role
 abbrev pub roles_of : CommandWords → List Role
 roles_of (Hash words) = role.Capture ∷ []
 roles_of (Replay words) = role.Plan ∷ role.Capture ∷ []
+roles_of (Run words) = role.Plan ∷ role.Capture ∷ []
 roles_of (Gen words) = []
 roles_of (Check words) = role.Plan ∷ role.Capture ∷ role.Report ∷ []
 roles_of (Place words) = role.Rules ∷ role.Capture ∷ []
@@ -32,6 +32,8 @@ abbrev pub name_of : CommandWords → Role → Option (List ℕ)
 name_of (Hash words) role.Capture = Some words.capture
 name_of (Replay words) role.Plan = Some words.plan
 name_of (Replay words) role.Capture = Some words.capture
+name_of (Run words) role.Plan = Some words.plan
+name_of (Run words) role.Capture = Some words.capture
 name_of (Check words) role.Plan = Some words.plan
 name_of (Check words) role.Capture = Some words.capture
 name_of (Check words) role.Report = Some words.report
@@ -47,6 +49,9 @@ Writes taps (Hash words) files text =
 Writes taps (Replay words) files text =
     (capture : Capture) × HasAnyCapture (files role.Capture) capture
     × IsReportOfPlan (files role.Plan) (files role.Capture) capture taps text
+Writes taps (Run words) files text =
+    (capture : Capture) × HasAnyCapture (files role.Capture) capture
+    × IsReportOfRun (files role.Plan) (files role.Capture) capture taps text
 Writes taps (Gen words) files text =
     (summary : Summary) × IsSummaryOf words.seed words.packets words.flows summary
     × (text ≡ summary_text summary)
@@ -67,8 +72,8 @@ abbrev pub FilesAreKnown : (Role → Option (List ℕ)) → List Role → Files 
 FilesAreKnown told [] files = ⊤
 FilesAreKnown told (r ∷ roles) files = (told r ≡ Some (files r)) × FilesAreKnown told roles files
 
--- The words are this command, and these bytes of all its files are told.
-pub record Asks (held : List ℕ → Option (List ℕ)) (words : List (String Global))
+-- This command is asked for, and these bytes of all its files are told.
+pub record Asks (held : List ℕ → Option (List ℕ)) (asked : Option CommandWords)
     (command : CommandWords) (files : Files) : Type 0 where
-  pub is : command_of words ≡ Some command
+  pub is : asked ≡ Some command
   pub told : FilesAreKnown (file_bytes held command) (roles_of command) files

@@ -13,8 +13,10 @@ use Rattle.steer_model.specs.State.Ranges.{AreOfFlows}
 use Rattle.steer_top.specs.Captures.{HasAnyCapture}
 use Rattle.steer_top.specs.Files.{limit_of}
 use Rattle.steer_top.specs.declared.ending.Role.TheVariants as role
+use Rattle.steer_top.specs.Words.{PlanWords}
 use Rattle.steer_top.specs.declared.file.CapturedPackets.{CapturedPackets}
 use Rattle.steer_top.specs.declared.file.CaptureFile.{CaptureFile}
+use Rattle.steer_top.specs.declared.input.Input.{Input}
 
 -- The bytes are those of the file, within the limit, and the capture is theirs.
 pub record IsCaptureOf (held : Option (List ℕ)) (file : CaptureFile) : Type 0 where
@@ -52,3 +54,10 @@ pub record IsRulesOf (held : Option (List ℕ)) (rules : Rules) : Type 0 where
   pub few : length bytes ≤ limit_of role.Rules
   pub has : rules_of bytes ≡ Ok rules
   pub ranges : AreWithin rules
+
+-- The plan is that of the file under the first name, and the packets are those that it makes of the
+-- capture under the second.
+pub record IsInputOf (words : PlanWords) (held : List ℕ → Option (List ℕ)) (input : Input)
+    : Type 0 where
+  pub plan : IsPlanOf (held words.plan) input.plan
+  pub packets : ArePacketsOf input.plan (held words.capture) input.captured

@@ -52,20 +52,20 @@ hash_arguments (capture ∷ queues ∷ kinds ∷ []) =
     hash_with capture (number_within 1 16 queues) (number_within 0 63 kinds)
 hash_arguments (capture ∷ queues ∷ kinds ∷ more ∷ rest) = None
 
--- The command `replay`: the names of a plan and of a capture.
-pub record ReplayWords : Type 0 where
+-- A command over a plan and a capture: their names.
+pub record PlanWords : Type 0 where
   pub plan : List ℕ
   pub capture : List ℕ
 
--- The arguments after the word `replay`: PLAN CAPTURE.
-unfoldable pub replay_arguments : List (List ℕ) → Option ReplayWords
-replay_arguments [] = None
-replay_arguments (plan ∷ []) = None
-replay_arguments (plan ∷ capture ∷ []) =
+-- The arguments after the words `replay` and `run`: PLAN CAPTURE.
+unfoldable pub plan_arguments : List (List ℕ) → Option PlanWords
+plan_arguments [] = None
+plan_arguments (plan ∷ []) = None
+plan_arguments (plan ∷ capture ∷ []) =
     if is_name plan && is_name capture
     then Some (record { plan = plan; capture = capture })
     else None
-replay_arguments (plan ∷ capture ∷ more ∷ rest) = None
+plan_arguments (plan ∷ capture ∷ more ∷ rest) = None
 
 -- The command `gen`: a seed, a number of packets, and the most flows that they may have.
 pub record GenWords : Type 0 where
@@ -126,25 +126,45 @@ place_arguments (rules ∷ capture ∷ more ∷ rest) = None
 -- a command with its numbers and the names of its files
 pub data CommandWords : Type 0 where
   Hash : HashWords → CommandWords
-  Replay : ReplayWords → CommandWords
+  Replay : PlanWords → CommandWords
+  Run : PlanWords → CommandWords
   Gen : GenWords → CommandWords
   Check : CheckWords → CommandWords
   Place : PlaceWords → CommandWords
 
--- The command of this name with these arguments, if there is one.
-unfoldable pub command_named : List ℕ → List (List ℕ) → Option CommandWords
-command_named name arguments =
+-- The command of this name with these arguments that needs no threads, if there is one.
+unfoldable pub still_command_named : List ℕ → List (List ℕ) → Option CommandWords
+still_command_named name arguments =
     if bytes_eq name (codes "hash") then option_map Hash (hash_arguments arguments) else
-    if bytes_eq name (codes "replay") then option_map Replay (replay_arguments arguments) else
+    if bytes_eq name (codes "replay") then option_map Replay (plan_arguments arguments) else
     if bytes_eq name (codes "gen") then option_map Gen (gen_arguments arguments) else
     if bytes_eq name (codes "check") then option_map Check (check_arguments arguments) else
     if bytes_eq name (codes "place") then option_map Place (place_arguments arguments) else None
 
--- The command that the words are, if they are one.
-abbrev pub command_of_words : List (List ℕ) → Option CommandWords
-command_of_words [] = None
-command_of_words (word ∷ rest) = command_named word rest
+-- The command `run` with these arguments, if this is its name and they are its arguments.
+unfoldable pub live_command_named : List ℕ → List (List ℕ) → Option CommandWords
+live_command_named name arguments =
+    if bytes_eq name (codes "run") then option_map Run (plan_arguments arguments) else None
+
+-- The command of this name with these arguments, if there is one.
+abbrev pub command_named : List ℕ → List (List ℕ) → Option CommandWords
+command_named name arguments =
+    if bytes_eq name (codes "run") then live_command_named name arguments
+    else still_command_named name arguments
+
+-- What the first of some words names, with the others as its arguments.
+abbrev pub by_name : (List ℕ → List (List ℕ) → Option CommandWords) → List (List ℕ)
+    → Option CommandWords
+by_name named [] = None
+by_name named (word ∷ rest) = named word rest
 
 -- The command that words of a command line are, if they are one.
 abbrev pub command_of : List (String Global) → Option CommandWords
-command_of words = command_of_words (map (λ word. string_bytes word) words)
+command_of words = by_name command_named (map (λ word. string_bytes word) words)
+
+-- The same of the commands that need no threads, and of `run`.
+abbrev pub still_command_of : List (String Global) → Option CommandWords
+still_command_of words = by_name still_command_named (map (λ word. string_bytes word) words)
+
+abbrev pub live_command_of : List (String Global) → Option CommandWords
+live_command_of words = by_name live_command_named (map (λ word. string_bytes word) words)

@@ -3,13 +3,13 @@ ghost use Rattle.std.specs.Prelude.{◌≤◌};
 ghost use Rattle.cap_gen.specs.declared.frame.TheConstants.{MAX_FLOWS};
 ghost use Rattle.steer_base.specs.declared.limits.TheConstants.{MAX_PACKETS};
 
-/// A command with its arguments.
+/// A command that needs no threads, with its arguments.
 #[derive(Drop)]
-pub enum Command<'a> {
+pub enum StillCommand<'a> {
     /// The flow, the hash and the queue of each packet of a capture.
     Hash(HashCommand<'a>),
     /// The report of a plan's steps on the packets of a capture.
-    Replay(ReplayCommand<'a>),
+    Replay(PlanCommand<'a>),
     /// The sums of the replay of generated input.
     Gen(GenCommand),
     /// The verdict on a report of a plan and a capture.
@@ -31,9 +31,9 @@ pub struct HashCommand<'a> {
     ghost few_queues: { queues ≤ 16 },
 }
 
-/// The command `replay` with its arguments.
+/// A command over a plan and a capture, `replay` or `run`, with its arguments.
 #[derive(Drop)]
-pub struct ReplayCommand<'a> {
+pub struct PlanCommand<'a> {
     /// The name of the plan.
     pub plan: &'a str,
     /// The name of the capture.

@@ -1,24 +1,32 @@
 //! The words of the command line.
-ghost use Rattle.std.specs.Prelude.{◌≡◌, ◌≤◌, ◌<◌, ◌^◌, Some, None, IfSome, map, string_bytes};
+ghost use Rattle.std.specs.Prelude.{◌≡◌, ◌≤◌, ◌<◌, ◌^◌, true, false, Some, None, IfSome, map};
+ghost use Rattle.std.specs.Prelude.{string_bytes};
 ghost use Rattle.std.specs.Option.{option_map};
 ghost use Rattle.cap_gen.specs.declared.frame.TheConstants.{MAX_FLOWS};
 ghost use Rattle.steer_base.specs.declared.limits.TheConstants.{MAX_PACKETS};
 ghost use Rattle.steer_top.specs.Commands.{check_words_of, gen_words_of, hash_words_of};
-ghost use Rattle.steer_top.specs.Commands.{place_words_of, replay_words_of, words_of};
-ghost use Rattle.steer_top.specs.Words.{command_of, gen_with as gen_words};
+ghost use Rattle.steer_top.specs.Commands.{place_words_of, plan_words_of, words_of};
+ghost use Rattle.steer_top.specs.Words.CommandWords.{Run};
+ghost use Rattle.steer_top.specs.Words.{command_of, gen_with as gen_words, live_command_of};
+ghost use Rattle.steer_top.specs.Words.{still_command_of};
 ghost use Rattle.steer_top.specs.Words.{hash_with as hash_words};
 ghost use Rattle.steer_top.specs.Words.{check_arguments as the_check_arguments};
-ghost use Rattle.steer_top.specs.Words.{command_named as the_command_named};
 ghost use Rattle.steer_top.specs.Words.{gen_arguments as the_gen_arguments};
 ghost use Rattle.steer_top.specs.Words.{hash_arguments as the_hash_arguments};
 ghost use Rattle.steer_top.specs.Words.{place_arguments as the_place_arguments};
-ghost use Rattle.steer_top.specs.Words.{replay_arguments as the_replay_arguments};
+ghost use Rattle.steer_top.specs.Words.{plan_arguments as the_plan_arguments};
+ghost use Rattle.steer_top.specs.Words.{still_command_named as the_still_command_named};
 ghost use Rattle.steer_top.specs.Words.{is_name as names_a_file};
 ghost use Rattle.steer_top.specs.Words.{word_number, number_within as the_number_within};
 
-use crate::command::{CheckCommand, Command, GenCommand, HashCommand, PlaceCommand, ReplayCommand};
+use crate::command::{
+    CheckCommand, GenCommand, HashCommand, PlaceCommand, PlanCommand, StillCommand,
+};
 use cap_gen::MAX_FLOWS;
 use steer_base::{MAX_PACKETS, decimal_number};
+
+/// The name of the command that needs threads.
+const RUN: &str = "run";
 
 /// The most digits that a number may have.
 const MAX_DIGITS: u8 = 20;
@@ -99,15 +107,15 @@ fn hash_arguments(words: &[String]) -> Option<HashCommand<'_>>
     }
 }
 
-// The arguments after the word `replay`.
-#[tactic(auto, unfolding(crate::specs::Words::replay_arguments))]
-fn replay_arguments(words: &[String]) -> Option<ReplayCommand<'_>>
-    ensures { option_map replay_words_of result ≡
-        the_replay_arguments (map (λ word. string_bytes word) words.now) }
+// The arguments after the words `replay` and `run`.
+#[tactic(auto, unfolding(crate::specs::Words::plan_arguments))]
+fn plan_arguments(words: &[String]) -> Option<PlanCommand<'_>>
+    ensures { option_map plan_words_of result ≡
+        the_plan_arguments (map (λ word. string_bytes word) words.now) }
 {
     match words {
         [plan, capture] if is_name(plan.as_str()) && is_name(capture.as_str()) => {
-            Some(ReplayCommand {
+            Some(PlanCommand {
                 plan: plan.as_str(),
                 capture: capture.as_str(),
             })
@@ -185,36 +193,59 @@ fn place_arguments(words: &[String]) -> Option<PlaceCommand<'_>>
     }
 }
 
-/// The command that the words are, without the program's name, if they are one.
-pub fn command_of_words(words: &[String]) -> Option<Command<'_>>
-    ensures { option_map words_of result ≡ command_of words.now }
+/// The command that the words are, without the program's name, if they are one that needs no
+/// threads.
+pub fn still_command(words: &[String]) -> Option<StillCommand<'_>>
+    ensures { option_map words_of result ≡ still_command_of words.now }
 {
     match words {
-        [word, rest @ ..] => command_named(word.as_str(), rest),
+        [word, rest @ ..] => still_command_named(word.as_str(), rest),
         _ => None,
     }
 }
 
-// The command of this name with these arguments.
-#[tactic(auto, unfolding(crate::specs::Words::command_named))]
-fn command_named<'a>(name: &str, arguments: &'a [String]) -> Option<Command<'a>>
+// The command of this name with these arguments that needs no threads.
+#[tactic(auto, unfolding(crate::specs::Words::still_command_named))]
+fn still_command_named<'a>(name: &str, arguments: &'a [String]) -> Option<StillCommand<'a>>
     ensures { option_map words_of result ≡
-        the_command_named name.now (map (λ word. string_bytes word) arguments.now) }
+        the_still_command_named name.now (map (λ word. string_bytes word) arguments.now) }
 {
     if name == "hash" {
-        return Some(Command::Hash(hash_arguments(arguments)?));
+        return Some(StillCommand::Hash(hash_arguments(arguments)?));
     }
     if name == "replay" {
-        return Some(Command::Replay(replay_arguments(arguments)?));
+        return Some(StillCommand::Replay(plan_arguments(arguments)?));
     }
     if name == "gen" {
-        return Some(Command::Gen(gen_arguments(arguments)?));
+        return Some(StillCommand::Gen(gen_arguments(arguments)?));
     }
     if name == "check" {
-        return Some(Command::Check(check_arguments(arguments)?));
+        return Some(StillCommand::Check(check_arguments(arguments)?));
     }
     if name == "place" {
-        return Some(Command::Place(place_arguments(arguments)?));
+        return Some(StillCommand::Place(place_arguments(arguments)?));
     }
     None
+}
+
+/// The names of the plan and the capture, if the words are the command `run`.
+#[tactic(auto, unfolding(crate::specs::Words::live_command_named))]
+pub fn live_command(words: &[String]) -> Option<PlanCommand<'_>>
+    ensures { option_map (λ names. Run (plan_words_of names)) result ≡ live_command_of words.now }
+{
+    match words {
+        [word, rest @ ..] if word.as_str() == RUN => plan_arguments(rest),
+        _ => None,
+    }
+}
+
+/// Whether the first word is `run`, so that no other command can be meant.
+pub fn means_run(words: &[String]) -> bool
+    ensures live { result ≡ true → live_command_of words.now ≡ command_of words.now }
+    ensures still { result ≡ false → still_command_of words.now ≡ command_of words.now }
+{
+    match words {
+        [word, ..] => word.as_str() == RUN,
+        _ => false,
+    }
 }

@@ -5,7 +5,6 @@ use Rattle.report_verdict.specs.VerdictText.{verdict_text}
 use Rattle.steer_top.specs.Commands.{check_words_of}
 use Rattle.steer_top.specs.Endings.{Course, course_of}
 use Rattle.steer_top.specs.Words.CommandWords.{Check}
-use Rattle.steer_top.specs.declared.ending.Ending.TheVariants as ending
 use Rattle.steer_top.specs.declared.ending.Role.TheVariants as role
 use Rattle.steer_top.proofs.Checks.{line-is}
 use Rattle.steer_top.proofs.Commands.{check_files, check_gave, ends_at, ends_written}

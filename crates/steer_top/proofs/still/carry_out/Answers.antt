@@ -1,7 +1,7 @@
 use Rattle.steer_top.specs.Commands.{words_of}
 use Rattle.steer_top.specs.Endings.{Course, course_of}
 use Rattle.steer_top.proofs.Commands.{ends_flushed}
-use Rattle.steer_top.proofs.top.run.Goals as goal
+use Rattle.steer_top.proofs.still.carry_out.Goals as goal
 
 pub returns-in-Some-clause-ends : goal.returns-in-Some-clause-ends
 returns-in-Some-clause-ends g c =

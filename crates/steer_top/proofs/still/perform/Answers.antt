@@ -1,4 +1,4 @@
-use Rattle.steer_top.proofs.top.perform.Goals as goal
+use Rattle.steer_top.proofs.still.perform.Goals as goal
 
 pub returns-in-Hash-clause-ends : goal.returns-in-Hash-clause-ends
 returns-in-Hash-clause-ends g c = rw c.in-Hash.is (c.hash_file.ensures.ends _)

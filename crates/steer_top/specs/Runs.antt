@@ -1,0 +1,20 @@
+-- What is shown of a run with threads.
+use Rattle.std.specs.Prelude.{◌≡◌, List}
+use Rattle.history.specs.declared.history.History.{History}
+use Rattle.replay.specs.Meanings.{Meaning}
+use Rattle.replay.specs.Replays.{IsWithinTypes, ShownLists, shown_with}
+use Rattle.steer_model.specs.Good.GoodHistory.{Good}
+use Rattle.steer_top.specs.declared.input.Input.{Input}
+
+-- What is shown is a history that is good for a plan and its packets, with taps that mean this.
+pub record IsRunOf (input : Input) (taps : List Meaning) (shown : ShownLists) : Type 0 where
+  pub history : History
+  pub good : Good
+      (record {
+        plan = input.plan;
+        packets = input.captured.packets.items;
+        cut = input.captured.cut;
+      })
+      history
+  pub is : shown ≡ shown_with input.plan input.captured.packets.items taps history
+  pub fits : IsWithinTypes input.plan shown

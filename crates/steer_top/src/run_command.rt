@@ -1,0 +1,72 @@
+//! The command `run`: the plan is read, then the capture, then threads make a history of them, and
+//! its report goes out.
+ghost use Rattle.std.specs.Prelude.{◌≡◌, ◌≤◌, IfOk, length, map};
+ghost use Rattle.outside_io.specs.Desk.{GoesOnTelling};
+ghost use Rattle.steer_base.specs.declared.limits.TheConstants.{MAX_PACKETS};
+ghost use Rattle.steer_model.specs.State.Ranges.{AreOfFlows};
+ghost use Rattle.steer_top.specs.Calls.{course};
+ghost use Rattle.steer_top.specs.Commands.{plan_words_of};
+ghost use Rattle.steer_top.specs.Endings.{EndsCommand};
+ghost use Rattle.steer_top.specs.Runs.{IsRunOf};
+ghost use Rattle.steer_top.specs.Words.CommandWords.{Run};
+
+use crate::command::PlanCommand;
+use crate::ending::Ending;
+use crate::input::{Input, take_input};
+use crate::report_text::write_report;
+use outside_io::{Desk, Sink};
+use replay::Shown;
+use run_actors::Pace;
+use std::alloc::Global;
+use std::sync::Wait;
+use std::thread::Threads;
+use steer_base::OutOfMemory;
+use taps::Tap;
+use workers::run_threads;
+
+/// Reads the plan and the capture, runs the plan with threads, and writes the report. All memory is
+/// taken before the first byte goes out.
+pub fn run_file<R: Threads + Wait + Sync, D: Desk, K: Sink, P: Pace + Sync>(
+    rt: &R,
+    alloc: Global,
+    command: &PlanCommand,
+    desk: &mut D,
+    out: &mut K,
+    taps: Vec<Box<dyn Tap>>,
+    pace: &P,
+) -> Ending
+    ensures ends { EndsCommand result (Run (plan_words_of command.now))
+        (course D.held D.asked D.faults desk.old desk.new K.faults K.written out.old out.new
+        (map (λ tap lines. text tap lines) taps.items)) }
+
+    ensures held { D.held desk.new ≡ D.held desk.old }
+    ensures told { GoesOnTelling (D.left desk.old) (D.left desk.new) }
+    ensures desk_later { D.faults desk.old ≤ D.faults desk.new }
+    ensures out_later { K.faults out.old ≤ K.faults out.new }
+{
+    let input = match take_input(alloc, command, desk) {
+        Ok(input) => input,
+        Err(ending) => return ending,
+    };
+    match run_of(rt, alloc, &input, taps, pace) {
+        Ok(shown) => write_report(alloc, &shown, out),
+        Err(OutOfMemory) => Ending::OutOfMemory,
+    }
+}
+
+// What is shown of a run of a plan with threads.
+fn run_of<R: Threads + Wait + Sync, P: Pace + Sync>(
+    rt: &R,
+    alloc: Global,
+    input: &Input,
+    taps: Vec<Box<dyn Tap>>,
+    pace: &P,
+) -> Result<Shown, OutOfMemory>
+    requires few { length input.now.captured.packets.items ≤ MAX_PACKETS }
+    requires flows { AreOfFlows input.now.captured.packets.items }
+    ensures { IfOk result (IsRunOf input.now (map (λ tap lines. text tap lines) taps.items)) }
+{
+    let packets = input.captured.packets.as_slice();
+    let history = run_threads(rt, alloc, &input.plan, packets, input.captured.cut, pace)?;
+    Shown::make(alloc, &input.plan, packets, history, taps)
+}
