@@ -1,20 +1,30 @@
 //! The program `steer`: it replays a capture through packet steering, as the kernel's scaling
-//! chapter describes it, and reports what happened to each packet.
+//! chapter describes it, or runs it through with threads, and reports what happened to each packet.
 #![tactic(auto)]
 
 use outside_io::{Desk, FileDesk, Sink, StdSink};
+use run_actors::Pace;
 use std::alloc::Global;
 use std::io::BufWriter;
 use std::process::ExitCode;
+use std::sync::Wait;
+use std::thread::Threads;
 use std::{env, io};
 use steer_base::OutOfMemory;
-use steer_top::steer_still;
+use steer_top::steer;
 use taps::{Tap, standard_taps};
 
 const OUT_OF_MEMORY: u8 = 7;
 
 /// The bytes of text that are buffered before they go to standard output.
 const GATHERED: usize = 65_536;
+
+// The pace of a run: each thread goes on at once.
+struct Idle;
+
+impl Pace for Idle {
+    fn turn(&self, _worker: u32, _n: u64) {}
+}
 
 // The words after the program's name.
 fn words_of(rt: &HostRuntime) -> io::Result<Vec<String>> {
@@ -26,7 +36,8 @@ fn words_of(rt: &HostRuntime) -> io::Result<Vec<String>> {
 }
 
 // Carries out the command of the words with the standard taps, and returns its status.
-fn call<D: Desk, K: Sink, E: Sink>(
+fn call<R: Threads + Wait + Sync, D: Desk, K: Sink, E: Sink>(
+    rt: &R,
     alloc: Global,
     words: &[String],
     desk: &mut D,
@@ -38,7 +49,7 @@ fn call<D: Desk, K: Sink, E: Sink>(
         let tap: Box<dyn Tap> = Box::new(alloc, tap)?;
         taps.push(tap)?;
     }
-    Ok(steer_still(alloc, words, desk, out, err, taps))
+    Ok(steer(rt, alloc, words, desk, out, err, taps, &Idle))
 }
 
 fn main(rt: HostRuntime) -> ExitCode {
@@ -56,8 +67,11 @@ fn main(rt: HostRuntime) -> ExitCode {
         // A word that is no UTF-8 text: no words are a command.
         Err(_) => Vec::new(alloc),
     };
-    let mut desk = FileDesk::make(rt);
-    match call(alloc, &words, &mut desk, &mut out, &mut err) {
+    let Ok(files) = rt.clone() else {
+        return ExitCode::from(OUT_OF_MEMORY);
+    };
+    let mut desk = FileDesk::make(files);
+    match call(&rt, alloc, &words, &mut desk, &mut out, &mut err) {
         Ok(status) => ExitCode::from(status),
         Err(OutOfMemory) => ExitCode::from(OUT_OF_MEMORY),
     }
