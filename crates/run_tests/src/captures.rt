@@ -6,7 +6,7 @@ ghost use Rattle.steer_model.specs.State.Ranges.{AreOfFlows};
 
 use cap_gen::generate;
 use pcap_reader::{put_header, put_packet, read_capture};
-use plan_reader::{Plan, read_plan};
+use plan_reader::Plan;
 use std::alloc::Global;
 use std::test::Fail;
 use steer_base::{OutOfMemory, Packet};
@@ -54,14 +54,4 @@ pub fn generated(alloc: Global, plan: &Plan, count: u32, flows: u32) -> Result<V
 {
     let made = generate(alloc, SEED, count, flows)?;
     packets_of(alloc, plan, &made.capture)
-}
-
-/// The plan that is generated for these packets.
-pub fn generated_plan(alloc: Global, count: u32, flows: u32) -> Result<Plan, Fail>
-    requires count { count ≤ MAX_PACKETS }
-    requires some_flow { 1 ≤ flows }
-    requires few_flows { flows ≤ MAX_FLOWS }
-{
-    let made = generate(alloc, SEED, count, flows)?;
-    Ok(read_plan(alloc, &made.plan)?)
 }

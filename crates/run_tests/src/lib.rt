@@ -8,6 +8,8 @@ mod commands;
 #[cfg(test)]
 mod counts;
 #[cfg(test)]
+mod faults;
+#[cfg(test)]
 mod holds;
 #[cfg(test)]
 mod reports;

@@ -1,8 +1,14 @@
 //! Reports of small runs on packets of one flow, of hash 0x51ccc178.
-use crate::holds::{Hold, Thread, Until};
-use crate::runs::reported;
+use crate::captures::of_one_flow;
+use crate::holds::{Hold, Holding, Thread, Until};
+use crate::runs::run_of;
 use crate::texts::{have_lines, same_text};
+use plan_reader::read_plan;
+use std::alloc::Global;
+use std::process::Abort;
+use std::sync::Wait;
 use std::test::Fail;
+use std::thread::Threads;
 
 /// A plan, the number of its packets, and its report.
 type Whole = (&'static [u8], u32, &'static [u8]);
@@ -91,6 +97,22 @@ end 2 of 2
 ",
     ),
 ];
+
+// The report of a run of a plan with this text on so many packets of one flow, with these holds.
+fn reported<R: Threads + Wait + Sync + Abort>(
+    rt: &R,
+    alloc: Global,
+    plan: &[u8],
+    count: u32,
+    holds: &'static [Hold],
+) -> Result<Vec<u8>, Fail> {
+    let capture = of_one_flow(alloc, count)?;
+    let pace = Holding::make(holds, read_plan(alloc, plan)?.workers);
+    let got = run_of(rt, alloc, plan, &capture, Vec::new(alloc), &pace)?;
+    assert!(rt; got.status == 0 && got.err.is_empty());
+    assert!(rt; !pace.ran_out());
+    Ok(got.out)
+}
 
 #[test]
 fn a_run_of_one_way_has_one_report(rt: HostRuntime) -> Result<(), Fail> {

@@ -1,21 +1,21 @@
-//! Runs of plans, and their reports.
+//! Runs of plans, by the top call and by `run_threads`.
 ghost use Rattle.std.specs.Prelude.{◌≤◌, IfOk, length};
 ghost use Rattle.history.specs.Regular.{Regular};
 ghost use Rattle.steer_base.specs.declared.limits.TheConstants.{MAX_PACKETS};
 ghost use Rattle.steer_model.specs.State.Ranges.{AreOfFlows};
 
-use crate::captures::{of_one_flow, packets_of};
-use crate::holds::{Hold, Holding};
-use history::{History, Lines};
-use outside_io::MemorySink;
-use plan_reader::{Plan, read_plan};
-use report::{LineBuf, render};
+use crate::holds::Holding;
+use history::History;
+use outside_io::{MemoryDesk, MemorySink};
+use plan_reader::Plan;
 use std::alloc::Global;
 use std::process::Abort;
 use std::sync::Wait;
 use std::test::Fail;
 use std::thread::Threads;
 use steer_base::{OutOfMemory, Packet};
+use steer_top::steer;
+use taps::Tap;
 use workers::run_threads;
 
 /// The history of a run, in which no hold may run out.
@@ -35,35 +35,89 @@ pub fn ran<R: Threads + Wait + Sync + Abort>(
     Ok(history)
 }
 
-// The report of a history, without taps.
-fn report_of(
-    alloc: Global,
-    plan: &Plan,
-    packets: &[Packet],
-    history: &History,
-) -> Result<Vec<u8>, Fail>
-    requires few { length packets.now ≤ MAX_PACKETS }
-    requires regular { Regular packets.now (length plan.now.apps) history.now }
-{
-    let lines = Lines::make(alloc, history, packets, plan.apps.len() as u8)?;
-    let mut out = MemorySink::make(alloc, 65_536, Vec::new(alloc))?;
-    let mut buf = LineBuf::make(alloc)?;
-    render(history, &lines, &[], &mut buf, &mut out)?;
-    Ok(out.bytes().to_vec(alloc)?)
+/// The bytes for which a sink of a test has room.
+const ROOM: usize = 67_108_864;
+
+/// What a call of the program came to.
+#[derive(Drop)]
+pub struct Outcome {
+    /// Its status.
+    pub status: u8,
+    /// What went to standard output.
+    pub out: Vec<u8>,
+    /// What went to standard error.
+    pub err: Vec<u8>,
 }
 
-/// The report of a run of a plan with this text on so many packets of one flow, with these holds.
-pub fn reported<R: Threads + Wait + Sync + Abort>(
+/// The words of a call.
+pub fn words_of(alloc: Global, texts: &[&str]) -> Result<Vec<String>, Fail> {
+    let mut words = Vec::new(alloc);
+    for text in texts {
+        words.push(String::from_str(alloc, *text)?)?;
+    }
+    Ok(words)
+}
+
+/// A desk with these files, whose calls with these numbers fail.
+pub fn desk_of(
+    alloc: Global,
+    files: &[(&str, &[u8])],
+    failing: &[u64],
+) -> Result<MemoryDesk, Fail> {
+    let mut held = Vec::new(alloc);
+    for (name, bytes) in files {
+        held.push((String::from_str(alloc, *name)?, bytes.to_vec(alloc)?))?;
+    }
+    Ok(MemoryDesk::make(held, failing.to_vec(alloc)?))
+}
+
+/// What a call of these words comes to, over this desk, where the writes of these numbers fail,
+/// with these taps and this pace.
+pub fn called<R: Threads + Wait + Sync>(
     rt: &R,
     alloc: Global,
-    plan: &[u8],
-    count: u32,
-    holds: &'static [Hold],
-) -> Result<Vec<u8>, Fail> {
-    let plan = read_plan(alloc, plan)?;
-    let capture = of_one_flow(alloc, count)?;
-    let packets = packets_of(alloc, &plan, &capture)?;
-    let pace = Holding::make(holds, plan.workers);
-    let history = ran(rt, alloc, &plan, &packets, &pace)?;
-    report_of(alloc, &plan, &packets, &history)
+    texts: &[&str],
+    mut desk: MemoryDesk,
+    failing: &[u64],
+    taps: Vec<Box<dyn Tap>>,
+    pace: &Holding,
+) -> Result<Outcome, Fail> {
+    let words = words_of(alloc, texts)?;
+    let mut out = MemorySink::make(alloc, ROOM, failing.to_vec(alloc)?)?;
+    let mut err = MemorySink::make(alloc, ROOM, Vec::new(alloc))?;
+    let status = steer(rt, alloc, &words, &mut desk, &mut out, &mut err, taps, pace);
+    Ok(Outcome {
+        status,
+        out: out.bytes().to_vec(alloc)?,
+        err: err.bytes().to_vec(alloc)?,
+    })
+}
+
+/// What a run of this plan on this capture comes to, with these taps.
+pub fn run_of<'a, R: Threads + Wait + Sync>(
+    rt: &R,
+    alloc: Global,
+    plan: &'a [u8],
+    capture: &'a [u8],
+    taps: Vec<Box<dyn Tap>>,
+    pace: &Holding,
+) -> Result<Outcome, Fail> {
+    let desk = desk_of(alloc, &[("p.json", plan), ("a.pcap", capture)], &[])?;
+    let texts = ["run", "p.json", "a.pcap"];
+    called(rt, alloc, &texts, desk, &[], taps, pace)
+}
+
+/// What `check` comes to by this plan and this capture of this report.
+pub fn check_of<'a, R: Threads + Wait + Sync>(
+    rt: &R,
+    alloc: Global,
+    plan: &'a [u8],
+    capture: &'a [u8],
+    report: &'a [u8],
+) -> Result<Outcome, Fail> {
+    let files = [("p.json", plan), ("a.pcap", capture), ("report", report)];
+    let desk = desk_of(alloc, &files, &[])?;
+    let texts = ["check", "p.json", "a.pcap", "report"];
+    let pace = Holding::make(&[], 1);
+    called(rt, alloc, &texts, desk, &[], Vec::new(alloc), &pace)
 }

@@ -24,3 +24,22 @@ pub fn have_lines(rt: &impl Abort, got: &[u8], lines: &[u8], case: usize) {
         "case {case}: {got:?} lacks a line of {lines:?}"
     );
 }
+
+// How many lines of a text begin and end so.
+fn lines_with(text: &[u8], front: &[u8], back: &[u8]) -> usize {
+    text.split(|byte| *byte == b'\n')
+        .filter(|line| line.starts_with(front) && line.ends_with(back))
+        .count()
+}
+
+/// Asserts that a report has so many packets, each in an inbox or dropped, and a reply on the port
+/// for each one in an inbox.
+pub fn all_are_through(rt: &impl Abort, report: &[u8], packets: usize) {
+    let delivered = lines_with(report, b"p ", b" place inbox");
+    let dropped = lines_with(report, b"p ", b" place drop");
+    let begun = lines_with(report, b"r ", b"");
+    let waiting = lines_with(report, b"r ", b" port -");
+    assert!(rt; lines_with(report, b"p ", b"") == packets);
+    assert!(rt; delivered.saturating_add(dropped) == packets);
+    assert!(rt; (begun, waiting) == (delivered, 0));
+}

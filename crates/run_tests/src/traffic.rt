@@ -3,10 +3,12 @@ ghost use Rattle.std.specs.Prelude.{◌≤◌, length};
 ghost use Rattle.steer_base.specs.declared.limits.TheConstants.{MAX_PACKETS};
 ghost use Rattle.steer_model.specs.State.Ranges.{AreOfFlows};
 
-use crate::captures::{generated, generated_plan};
+use crate::captures::generated;
 use crate::counts::all_came_through;
 use crate::holds::{Hold, Holding, Thread, Until};
-use crate::runs::ran;
+use crate::runs::{check_of, ran, run_of};
+use crate::texts::{all_are_through, same_text};
+use cap_gen::{Generated, generate};
 use good_check::first_fault;
 use history::History;
 use history_check::is_regular;
@@ -61,15 +63,39 @@ fn runs_well<R: Threads + Wait + Sync + Abort>(
     is_good(rt, alloc, plan, packets, &history)
 }
 
+// The report of a run of generated input, of which `check` says that it is good.
+fn checked_report<R: Threads + Wait + Sync + Abort>(
+    rt: &R,
+    alloc: Global,
+    made: &Generated,
+    pace: &Holding,
+) -> Result<Vec<u8>, Fail> {
+    let got = run_of(rt, alloc, &made.plan, &made.capture, Vec::new(alloc), pace)?;
+    assert!(rt; got.status == 0 && got.err.is_empty());
+    assert!(rt; !pace.ran_out());
+    let verdict = check_of(rt, alloc, &made.plan, &made.capture, &got.out)?;
+    same_text(rt, &verdict.out, b"check good\n", 0);
+    Ok(got.out)
+}
+
 #[test]
 fn workers_run_beside_each_other(rt: HostRuntime) -> Result<(), Fail> {
     let alloc = rt.alloc();
-    let plan = generated_plan(alloc, 4096, 64)?;
-    let packets = generated(alloc, &plan, 4096, 64)?;
-    let pace = Holding::make(&EACH_OTHER, plan.workers);
-    assert!(rt; (plan.workers, packets.len()) == (4, 4096));
-    runs_well(&rt, alloc, &plan, &packets, &pace)?;
+    let made = generate(alloc, 7, 4096, 64)?;
+    let pace = Holding::make(&EACH_OTHER, 4);
+    let report = checked_report(&rt, alloc, &made, &pace)?;
     assert!(rt; pace.calls(Thread::Worker(1)) > 0 && pace.calls(Thread::Worker(2)) > 0);
+    all_are_through(&rt, &report, 4096);
+    Ok(())
+}
+
+#[test]
+fn a_large_run_ends(rt: HostRuntime) -> Result<(), Fail> {
+    let alloc = rt.alloc();
+    let made = generate(alloc, 9, 131_072, 512)?;
+    let pace = Holding::make(&[], 4);
+    let report = checked_report(&rt, alloc, &made, &pace)?;
+    all_are_through(&rt, &report, 131_072);
     Ok(())
 }
 

@@ -134,10 +134,11 @@ fn what_is_no_capture_is_named(rt: HostRuntime) -> Result<(), Fail> {
 fn words_that_are_no_command_get_the_usage(rt: HostRuntime) -> Result<(), Fail> {
     let alloc = rt.alloc();
     let bytes = file(alloc, &[&FRAME_A])?;
-    let cases: [&[&str]; 14] = [
+    let cases: [&[&str]; 15] = [
         &["hash"],
         &["hash", "a.pcap", "17"],
         &["replay", "p"],
+        &["run", "p", "a.pcap"],
         &[],
         &[""],
         &["hash", ""],
