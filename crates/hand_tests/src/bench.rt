@@ -3,7 +3,7 @@ ghost use Rattle.std.specs.Prelude.{◌≡◌, ◌<◌, ◌≤◌, ◌+◌, ◌-
 ghost use Rattle.std.specs.Vec.{vec_len};
 ghost use Rattle.steer_base.specs.declared.limits.TheConstants.{MAX_PACKETS};
 ghost use Rattle.steer_model.specs.State.Ranges.{AreOfFlows};
-ghost use Rattle.run_words.specs.declared.hint_word.TheConstants.{FILTER_WORDS};
+ghost use Rattle.run_words.specs.declared.hint_word.TheConstants.{FILTER_WORDS, QUEUE_WORDS};
 ghost use Rattle.run_hands.specs.Drains.{IsDrain};
 ghost use Rattle.run_hands.specs.Pollers.{IsPoller};
 ghost use Rattle.run_hands.specs.declared.drain.Exit.TheVariants.{Inboxes};
@@ -51,8 +51,8 @@ pub struct Bench {
     pub rings: Rings,
 }
 
-// The last of so many seats that have made no step.
-fn last_seat(board: &Board, seats: &mut Vec<BoardSeat>, count: u32) -> Option<BoardSeat>
+/// The last of so many seats that have made no step.
+pub fn last_seat(board: &Board, seats: &mut Vec<BoardSeat>, count: u32) -> Option<BoardSeat>
     requires some { 0 < count }
     requires seats { seats.old.items ≡ new_board_seats board.now.table count }
     requires all { vec_len seats.old ≡ count }
@@ -120,6 +120,8 @@ fn shared_of(
     ensures given { IfOk result (λ r. r.0.given ≡ given) }
     ensures filters { IfOk result (λ r. r.0.filters ≡ 8) }
     ensures words { IfOk result (λ r. FILTER_WORDS + r.0.filters ≤ r.0.hints.words) }
+    ensures queue_words { IfOk result
+        (λ r. QUEUE_WORDS + length given.packets ≤ r.0.hints.words) }
     ensures zero { IfOk result (λ r. r.1.table ≡ r.0.hints.table) }
     ensures one { IfOk result (λ r. r.2.table ≡ r.0.hints.table) }
 {
@@ -211,6 +213,9 @@ pub fn begun(rt: &impl Abort, alloc: Global, plan: &Plan, packets: &[Packet]) ->
     ensures visitor { IfOk result (λ b. Rests b.board 2 b.visitor) }
     ensures closer { IfOk result (λ b. Rests b.board 3 b.closer) }
     ensures opened { IfOk result (λ b. opened_by b.closer ≡ 0) }
+    ensures room { IfOk result (λ b. b.board.sizes.room ≡ length b.shared.given.packets) }
+    ensures words { IfOk result
+        (λ b. QUEUE_WORDS + length b.shared.given.packets ≤ b.shared.hints.words) }
 {
     let given = Given::of_plan(alloc, plan, packets, None)?;
     let (board, mut seats) = board_of(rt, alloc, plan, &given)?;

@@ -258,8 +258,12 @@ fn seat_of(rt: &impl Abort, board: &Board, shared: &Shared, worker: Worker) -> B
     }
 }
 
-// One seat more, which rests.
-fn add_seat(board: &Board, seats: &mut Vec<BoardSeat>, seat: BoardSeat) -> Result<(), OutOfMemory>
+/// One seat more, which rests.
+pub fn add_seat(
+    board: &Board,
+    seats: &mut Vec<BoardSeat>,
+    seat: BoardSeat,
+) -> Result<(), OutOfMemory>
     requires seats { All (IsDone board.now) seats.old.items }
     requires seat { IsDone board.now seat }
     ensures seats { OnOk result (All (IsDone board.now) seats.new.items) }
@@ -271,8 +275,8 @@ fn add_seat(board: &Board, seats: &mut Vec<BoardSeat>, seat: BoardSeat) -> Resul
     Ok(())
 }
 
-// The lists of a board with all of its seats, which rest.
-fn lists_of(board: Board, seats: Vec<BoardSeat>) -> BoardLists
+/// The lists of a board with all of its seats, which rest.
+pub fn lists_of(board: Board, seats: Vec<BoardSeat>) -> BoardLists
     requires seats { All (IsDone board) seats.items }
     requires all { vec_len seats ≡ board.sizes.seats }
 {
