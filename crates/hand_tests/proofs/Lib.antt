@@ -1,3 +1,4 @@
+pub mod Clerks
 pub mod Closing
 pub mod Fresh
 pub mod Resting

@@ -14,6 +14,12 @@ mod gates;
 #[cfg(test)]
 mod hands;
 #[cfg(test)]
+mod offices;
+#[cfg(test)]
 mod pollers;
+#[cfg(test)]
+mod servers;
+#[cfg(test)]
+mod serving;
 #[cfg(test)]
 mod threads;
