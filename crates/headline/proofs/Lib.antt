@@ -3,6 +3,7 @@ pub mod Rules
 pub mod Rights
 pub mod Reports
 pub mod GoodLemmas
+mod WholeLemmas
 pub mod LiveReports
 pub mod EventLemmas
 pub mod RunLemmas

@@ -2,15 +2,17 @@
 use Rattle.std.proofs.Common.{ℕ, List, length, refl, arith}
 use Rattle.report.specs.Laws.{HasOneHistory, IsReportOf}
 use Rattle.report.specs.Report.{report}
-use Rattle.steer_model.specs.Laws.Packets.{PacketsAreOne}
-use Rattle.headline.specs.Laws.{GoodHistoriesAreRight, GoodReportsHaveTheHeadline}
+use Rattle.steer_model.specs.Laws.Packets.{PacketsAreOfFlows, PacketsAreOne}
+use Rattle.headline.specs.Laws.{GoodHistoriesAreRight, GoodHistoriesAreWhole}
+use Rattle.headline.specs.Laws.{GoodReportsHaveTheHeadline}
+use Rattle.toeplitz.specs.Toeplitz.{number_of}
 use Rattle.headline.proofs.GoodLemmas.{queued-of}
 use Rattle.headline.proofs.Reports.{reports-same}
 
-pub live-headline-of : GoodHistoriesAreRight → HasOneHistory → PacketsAreOne
-    → GoodReportsHaveTheHeadline
-live-headline-of right one_history one plan_bytes capture_bytes capture i h taps said few good
-    numbers fit =
+pub live-headline-of : GoodHistoriesAreRight → GoodHistoriesAreWhole → HasOneHistory
+    → PacketsAreOne → PacketsAreOfFlows → GoodReportsHaveTheHeadline
+live-headline-of right whole one_history one of_flows plan_bytes capture_bytes capture i h taps
+    said few good numbers fit =
     let text : List ℕ = report i.packets (length i.plan.apps) h taps in
     let is : IsReportOf i.packets (length i.plan.apps) i.plan.start h taps text = record {
       regular = good.steered.regular;
@@ -32,4 +34,8 @@ live-headline-of right one_history one plan_bytes capture_bytes capture i h taps
           (omega (arith, apps.at_most)) same.1 is).0);
       good = good;
       right = right i h good;
+      whole = whole i h
+          (of_flows (number_of i.plan.key) i.plan.kinds capture_bytes capture.records i.packets
+          said.packets)
+          good;
     }

@@ -10,9 +10,10 @@ use Rattle.steer_properties.specs.Histories.Always.{Always}
 use Rattle.steer_invariant.specs.InvariantLaws.{MayStart}
 use Rattle.steer_model.specs.Good.GoodHistory.{Good}
 use Rattle.steer_model.specs.Good.Inputs.{Input}
+use Rattle.steer_model.specs.State.Ranges.{AreOfFlows}
 use Rattle.steer_model.specs.State.Start.{replayed}
 use Rattle.headline.specs.Headline.{Headline, IsOfTheRun, IsRight, Says}
-use Rattle.headline.specs.Live.{LiveHeadline}
+use Rattle.headline.specs.Live.{IsWhole, LiveHeadline}
 
 -- The history of every replay is as it should be, in every state.
 abbrev pub ReplaysAreRight : Type 0
@@ -36,6 +37,11 @@ ReportsHaveTheHeadline =
 -- A good history, whoever made it, is as it should be.
 abbrev pub GoodHistoriesAreRight : Type 0
 GoodHistoriesAreRight = (i : Input) (h : History) → Good i h → IsRight i h
+
+-- A good history over packets whose flows have one hash each is whole.
+abbrev pub GoodHistoriesAreWhole : Type 0
+GoodHistoriesAreWhole =
+    (i : Input) (h : History) → AreOfFlows i.packets → Good i h → IsWhole i h
 
 -- Where bytes say what was to be done, the report of each good history of it has the headline of a
 -- run with threads. The numbers of the history, and the texts of the taps, are such as a program

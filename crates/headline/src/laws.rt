@@ -6,13 +6,14 @@ ghost use Rattle.headline.specs.Forged.{AnotherDropIsForged, AnotherQueueIsForge
 ghost use Rattle.headline.specs.Forged.{AnotherWriteIsForged, EmptyIsForged, ExamplesAreWithin};
 ghost use Rattle.headline.specs.Forged.{HeadlinesAreOfTheRun, MovingAtOnceIsForged};
 ghost use Rattle.headline.specs.Forged.{NeverMovingIsForged, NoWantIsForged};
-ghost use Rattle.headline.specs.Laws.{GoodHistoriesAreRight, GoodReportsHaveTheHeadline};
+ghost use Rattle.headline.specs.Laws.{GoodHistoriesAreRight, GoodHistoriesAreWhole};
+ghost use Rattle.headline.specs.Laws.{GoodReportsHaveTheHeadline};
 ghost use Rattle.headline.specs.Laws.{ReplaysAreOfTheirRuns, ReplaysAreRight};
 ghost use Rattle.headline.specs.Laws.{ReportsHaveTheHeadline};
 
 use report::a_report_has_one_history;
 use steer_invariant::every_replay_can_be_reported;
-use steer_model::a_capture_has_one_list_of_packets;
+use steer_model::{a_capture_has_one_list_of_packets, packets_are_of_flows};
 use steer_properties::{
     a_flow_moves_only_where_nothing_of_it_is_outstanding, commands_are_given_once,
     every_choice_is_by_the_rule, every_history_is_of_its_input, every_replay_delivers_in_order,
@@ -93,9 +94,11 @@ pub fn a_headline_is_of_the_run()
 
 /// Lemma: a history that meets the eleven clauses of a good one, whoever made it, is as it should
 /// be: one place for each packet, drops by their causes, delivery in order, and choices by the
-/// manual's three conditions.
+/// manual's three conditions (`right`). In it all is done: of each flow from each receive queue all
+/// packets that no processor dropped are in the inbox, and on the port (`whole`).
 pub fn good_histories_are_right()
-    ensures { GoodHistoriesAreRight }
+    ensures right { GoodHistoriesAreRight }
+    ensures whole { GoodHistoriesAreWhole }
 {}
 
 /// Lemma: the report of a good history of these bytes is that of just one history, and all that is
@@ -106,4 +109,5 @@ pub fn a_good_report_has_the_headline()
     good_histories_are_right();
     a_report_has_one_history();
     a_capture_has_one_list_of_packets();
+    packets_are_of_flows();
 }

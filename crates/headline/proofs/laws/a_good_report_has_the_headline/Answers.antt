@@ -3,5 +3,6 @@ use Rattle.headline.proofs.laws.a_good_report_has_the_headline.Goals as goal
 
 pub returns : goal.returns
 returns c =
-    live-headline-of c.good_histories_are_right.ensures c.a_report_has_one_history.ensures
-    c.a_capture_has_one_list_of_packets.ensures
+    let good = c.good_histories_are_right.ensures in
+    live-headline-of good.right good.whole c.a_report_has_one_history.ensures
+    c.a_capture_has_one_list_of_packets.ensures c.packets_are_of_flows.ensures
