@@ -1,6 +1,7 @@
 pub mod Answered
 pub mod Checks
 pub mod CheckedReplays
+pub mod CheckedRuns
 pub mod Commands
 pub mod Decided
 pub mod Headlines

@@ -1,11 +1,12 @@
 //! Laws of files and texts, as functions that do nothing: their contracts are the laws.
 ghost use Rattle.steer_top.specs.Files.{IsDecided, IsRefusedOnce, IsNotBoth};
 ghost use Rattle.steer_top.specs.Laws.{HasOneHash, HasOneQueue, ReplaysAreChecked};
+ghost use Rattle.steer_top.specs.Laws.{RunsAreFoundGood};
 
 use ntuple_rules::both_directions_fold_alike;
 use pcap_reader::one_capture_or_fault;
 use pcapng_reader::one_capture_or_fault as one_pcapng_capture_or_fault;
-use report_verdict::replays_are_judged;
+use report_verdict::{good_is_said_of_good_histories, replays_are_judged};
 use steer_model::{a_capture_has_one_list_of_packets, packets_are_of_flows};
 
 /// The files of a call are accepted or refused, and never both, and refused for one reason at most.
@@ -26,6 +27,14 @@ pub fn a_replay_is_checked()
     replays_are_judged();
     a_capture_has_one_list_of_packets();
     packets_are_of_flows();
+}
+
+/// The report that `run` writes of some files, if the plan has no commands, is good by the same
+/// files.
+pub fn a_run_is_found_good()
+    ensures { RunsAreFoundGood }
+{
+    good_is_said_of_good_histories();
 }
 
 /// By symmetric rules a flow and its other direction have one hash, and where there is no rule one

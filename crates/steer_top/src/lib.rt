@@ -26,7 +26,9 @@ mod top;
 mod words;
 mod writing;
 
-pub use laws::{a_call_is_decided, a_replay_is_checked, both_directions_have_one_queue};
+pub use laws::{
+    a_call_is_decided, a_replay_is_checked, a_run_is_found_good, both_directions_have_one_queue,
+};
 pub use live::steer_live;
 pub use still::steer_still;
 pub use top::steer;
