@@ -3,7 +3,6 @@ use Rattle.std.proofs.KnownBytes.{Keeps-refl}
 use Rattle.plan_reader.specs.PlanTexts.{settings_of}
 use Rattle.report_verdict.specs.VerdictText.{verdict_text}
 use Rattle.steer_top.specs.Commands.{check_words_of}
-use Rattle.steer_top.specs.Endings.{Course, course_of}
 use Rattle.steer_top.specs.Words.CommandWords.{Check}
 use Rattle.steer_top.specs.declared.ending.Role.TheVariants as role
 use Rattle.steer_top.proofs.Checks.{line-is}
@@ -15,17 +14,13 @@ pub returns-in-Err-clause-ends : goal.returns-in-Err-clause-ends
 returns-in-Err-clause-ends g c = λ taps.
     let words = check_words_of c.args.command.now in
     let old = c.args.desk.now in
-    let new = c.take_plan.new.desk in
     let out = c.args.out.now in
     let held = g.D.Desk.held old in
     let written = g.K.Sink.written out in
-    let course : Course =
-    course_of held taps (g.D.Desk.asked new) (g.D.Desk.faults old) (g.D.Desk.faults new)
-    (g.K.Sink.faults out) (g.K.Sink.faults out) written written in
     let at = c.in-Err.ensures.ends in
     let (capture, told) = told_bytes (held words.capture) in
     let (report, shown) = told_bytes (held words.report) in
-    ends_at (Check words) course (check_files at.bytes capture report) []
+    ends_at (Check words) _ (check_files at.bytes capture report) []
     (role.Capture ∷ role.Report ∷ []) role.Plan words.plan c.in-Err.ending
     (check_gave words held at.bytes capture report at.gave told shown) refl refl tt
     (Keeps-refl written) at.stops
@@ -39,15 +34,12 @@ returns-in-Err-take_packets-clause-ends g c = λ taps.
     let out = c.args.out.now in
     let held = g.D.Desk.held old in
     let written = g.K.Sink.written out in
-    let course : Course =
-    course_of held taps (g.D.Desk.asked new) (g.D.Desk.faults old) (g.D.Desk.faults new)
-    (g.K.Sink.faults out) (g.K.Sink.faults out) written written in
     let plan = c.in-Ok.plan in
     let taken = c.in-Ok.ensures.taken in
     let at = c.in-Err-take_packets.ensures.ends in
     let ending = c.in-Err-take_packets.ending in
     let (report, shown) = told_bytes (held words.report) in
-    ends_at (Check words) course (check_files taken.bytes at.bytes report)
+    ends_at (Check words) _ (check_files taken.bytes at.bytes report)
     (role.Plan ∷ []) (role.Report ∷ []) role.Capture words.capture ending
     (check_gave words held taken.bytes at.bytes report taken.whole
     (rw c.take_plan.ensures.held at at.gave) shown) refl refl
@@ -66,15 +58,12 @@ returns-in-Err-take_report-clause-ends g c = λ taps.
     let out = c.args.out.now in
     let held = g.D.Desk.held old in
     let written = g.K.Sink.written out in
-    let course : Course =
-    course_of held taps (g.D.Desk.asked new) (g.D.Desk.faults old) (g.D.Desk.faults new)
-    (g.K.Sink.faults out) (g.K.Sink.faults out) written written in
     let plan = c.in-Ok.plan in
     let taken = c.in-Ok.ensures.taken in
     let has = c.in-Ok-take_packets.ensures.taken in
     let at = c.in-Err-take_report.ensures.ends in
     let ending = c.in-Err-take_report.ending in
-    ends_at (Check words) course (check_files taken.bytes has.bytes at.bytes)
+    ends_at (Check words) _ (check_files taken.bytes has.bytes at.bytes)
     (role.Plan ∷ role.Capture ∷ []) [] role.Report words.report ending
     (check_gave words held taken.bytes has.bytes at.bytes taken.whole
     (rw c.take_plan.ensures.held at has.whole)
@@ -92,19 +81,14 @@ returns-in-Ok-judge-clause-ends g c = λ taps.
     let words = check_words_of c.args.command.now in
     let old = c.args.desk.now in
     let new = c.take_report.new.desk in
-    let out = c.args.out.now in
-    let last = c.write_verdict.new.out in
     let held = g.D.Desk.held old in
-    let course : Course =
-    course_of held taps (g.D.Desk.asked new) (g.D.Desk.faults old) (g.D.Desk.faults new)
-    (g.K.Sink.faults out) (g.K.Sink.faults last) (g.K.Sink.written out) (g.K.Sink.written last) in
     let plan = c.in-Ok.plan in
     let taken = c.in-Ok.ensures.taken in
     let captured = c.in-Ok-take_packets.captured in
     let has = c.in-Ok-take_packets.ensures.taken in
     let report = c.in-Ok-take_report.report in
     let verdict = c.in-Ok-judge.verdict in
-    ends_written (Check words) course (check_files taken.bytes has.bytes report.items)
+    ends_written (Check words) _ (check_files taken.bytes has.bytes report.items)
     (verdict_text verdict) c.write_verdict.result
     (check_gave words held taken.bytes has.bytes report.items taken.whole
     (rw c.take_plan.ensures.held at has.whole)

@@ -1,19 +1,12 @@
 use Rattle.steer_top.specs.Commands.{words_of}
-use Rattle.steer_top.specs.Endings.{Course, course_of}
 use Rattle.steer_top.proofs.Commands.{ends_flushed}
 use Rattle.steer_top.proofs.still.carry_out.Goals as goal
 
 pub returns-in-Some-clause-ends : goal.returns-in-Some-clause-ends
 returns-in-Some-clause-ends g c =
-    let desk = c.args.desk.now in
     let out = c.args.out.now in
-    let done = c.perform-ending.new.out in
-    let course : Course =
-    course_of (g.D.Desk.held desk) _ (g.D.Desk.asked c.perform-ending.new.desk)
-    (g.D.Desk.faults desk) (g.D.Desk.faults c.perform-ending.new.desk)
-    (g.K.Sink.faults out) (g.K.Sink.faults done) (g.K.Sink.written out) (g.K.Sink.written done) in
     rw (← c.in-Some.ensures)
-    (ends_flushed (words_of c.in-Some.command) course (g.K.Sink.faults c.flush.new.out)
+    (ends_flushed (words_of c.in-Some.command) _ (g.K.Sink.faults c.flush.new.out)
     (g.K.Sink.written c.flush.new.out) (g.K.Sink.unsent c.flush.new.out)
     c.perform-ending.result c.flush.result c.perform-ending.ensures.out_later
     c.perform-ending.ensures.ends c.flush.ensures)
