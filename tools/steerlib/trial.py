@@ -135,8 +135,10 @@ def at_once(function, jobs, arguments):
     if jobs == 1 or len(arguments) < 2:
         return [function(*each) for each in arguments]
     with ProcessPoolExecutor(min(jobs, len(arguments)), initializer=_end_at_interrupt) as pool:
-        futures = [pool.submit(function, *each) for each in arguments]
+        futures = []
         try:
+            for each in arguments:
+                futures.append(pool.submit(function, *each))
             return [future.result() for future in futures]
         except BrokenProcessPool:
             raise cli.Refused("--jobs %d" % jobs, "a trial ended without a result, as where memory "
