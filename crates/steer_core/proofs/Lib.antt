@@ -1,7 +1,10 @@
 pub mod ArriveLemmas
+pub mod BusyLemmas
 pub mod ChangeLemmas
 pub mod CountLemmas
 pub mod FilterLemmas
+pub mod GateLemmas
+pub mod IdleTurns
 pub mod ListLemmas
 pub mod MakeLemmas
 pub mod Paced
@@ -13,6 +16,7 @@ pub mod ReplyHops
 pub mod ReplyLemmas
 pub mod RoomLemmas
 pub mod RoundLemmas
+pub mod SamePollers
 pub mod SeatedLemmas
 pub mod ServeLemmas
 pub mod TurnLemmas

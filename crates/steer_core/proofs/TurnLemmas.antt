@@ -1,10 +1,13 @@
 -- Steps that are tried again in a row and those of each actor, from the last one back; and rounds.
 use Rattle.std.proofs.Common.{ℕ, ◌+◌, ◌-◌, ◌<◌, ◌≤◌, ◌≡◌, zero, suc, Bool, true, false, cond, List}
 use Rattle.std.proofs.Common.{refl, ap, ◌∙◌, sym, add-one, arith}
+use Rattle.std.specs.Prelude.{◌&&◌, ◌||◌, not}
+use Rattle.steer_base.specs.declared.command.Answer.{Answer}
 use Rattle.steer_base.specs.declared.step.Step.{Step}
 use Rattle.steer_model.specs.State.Machine.{Machine}
 use Rattle.steer_model.specs.Steps.CompoundSteps.{Progress, again, for_each, one_round, rounds}
-use Rattle.steer_model.specs.Steps.CompoundSteps.{tries}
+use Rattle.steer_model.specs.Steps.CompoundSteps.{tried, tries}
+use Rattle.steer_model.specs.Steps.SingleSteps.{is_idle, is_work, simple}
 
 again-none : (ss : List Step) (t : Progress) → again 0 ss t ≡ t
 unfolding again
@@ -87,3 +90,24 @@ rounds-end most i t goal past before =
   where
     none-left : (most i : ℕ) → most ≤ i → most - i ≡ 0
     none-left most i past = omega (arith, past)
+
+-- ---- events that are tried
+
+or-unworked : (w work b : Bool) → work ≡ false → (w || (work && b)) ≡ w
+or-unworked true work b e = refl
+or-unworked false false b e = refl
+or-unworked false true b e = absurd (cc)
+
+-- an event that is no work was tried
+pub tried-idly : (m n : Machine) (w : Bool) (s : Step) → is_work s ≡ false
+    → n ≡ (simple m s).0 → ◌≡◌ {A = Progress} (n, w) (tried (m, w) s)
+tried-idly m n w s work to =
+    let none = or-unworked w (is_work s) (not (is_idle (simple m s).1)) work in
+    rw (to, none) refl
+
+-- an event that is work was tried, and this is whether any was done
+pub tried-with : (m n : Machine) (w v : Bool) (a : Answer) (s : Step) → is_work s ≡ true
+    → n ≡ (simple m s).0 → a ≡ (simple m s).1 → v ≡ (w || not (is_idle a))
+    → ◌≡◌ {A = Progress} (n, v) (tried (m, w) s)
+tried-with m n w v a s work to answer did =
+    rw (to, did, answer, work) refl

@@ -4,4 +4,5 @@ pub mod Changes
 pub mod Weighings
 pub mod OldFilters
 pub mod Starting
+pub mod Resting
 pub mod Runs

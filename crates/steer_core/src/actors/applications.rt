@@ -30,6 +30,7 @@ impl Actors {
         requires { a < self.old.machine.setup.apps }
         ensures state { self.new.machine ≡ (send self.old.machine a).0 }
         ensures answer { result ≡ (send self.old.machine a).1 }
+        ensures setup { self.new.machine.setup ≡ self.old.machine.setup }
         ensures rooms { self.new.rooms ≡ self.old.rooms }
     {
         if self.tx.placed(a) < self.tx.taken(a) {
@@ -94,6 +95,7 @@ impl Actors {
         requires { a < self.old.machine.setup.apps }
         ensures state { self.new.machine ≡ (by_tx self.old.machine (event.Enter a)).0 }
         ensures answer { result ≡ (by_tx self.old.machine (event.Enter a)).1 }
+        ensures setup { self.new.machine.setup ≡ self.old.machine.setup }
         ensures rooms { self.new.rooms ≡ self.old.rooms }
     {
         told(self.tx.enter(a))
@@ -104,6 +106,7 @@ impl Actors {
         requires { a < self.old.machine.setup.apps }
         ensures state { self.new.machine ≡ (by_tx self.old.machine (event.Leave a)).0 }
         ensures answer { result ≡ (by_tx self.old.machine (event.Leave a)).1 }
+        ensures setup { self.new.machine.setup ≡ self.old.machine.setup }
         ensures rooms { self.new.rooms ≡ self.old.rooms }
     {
         told(self.tx.leave(a))
@@ -114,6 +117,7 @@ impl Actors {
         requires { a < self.old.machine.setup.apps }
         ensures state { self.new.machine ≡ (tweigh self.old.machine a).0 }
         ensures answer { result ≡ (tweigh self.old.machine a).1 }
+        ensures setup { self.new.machine.setup ≡ self.old.machine.setup }
         ensures rooms { self.new.rooms ≡ self.old.rooms }
     {
         let with = self.next_sending(a);
@@ -145,6 +149,7 @@ impl Actors {
         requires { a < self.old.machine.setup.apps }
         ensures state { self.new.machine ≡ (tput self.old.machine a).0 }
         ensures answer { result ≡ (tput self.old.machine a).1 }
+        ensures setup { self.new.machine.setup ≡ self.old.machine.setup }
         ensures rooms { self.new.rooms ≡ self.old.rooms }
     {
         let id = last_of(&self.tx, a).id;

@@ -22,6 +22,7 @@ impl Actors {
         requires { q < length self.old.machine.setup.homes }
         ensures state { self.new.machine ≡ (poller_takes self.old.machine q).0 }
         ensures answer { result ≡ (poller_takes self.old.machine q).1 }
+        ensures setup { self.new.machine.setup ≡ self.old.machine.setup }
         ensures rooms { self.new.rooms ≡ self.old.rooms }
     {
         if self.notes[q as usize].is_asking() {
@@ -35,6 +36,7 @@ impl Actors {
         requires { q < length self.old.machine.setup.homes }
         ensures state { self.new.machine ≡ (by_rx self.old.machine (event.Enter q)).0 }
         ensures answer { result ≡ (by_rx self.old.machine (event.Enter q)).1 }
+        ensures setup { self.new.machine.setup ≡ self.old.machine.setup }
         ensures rooms { self.new.rooms ≡ self.old.rooms }
     {
         told(self.rx.enter(q))
@@ -45,6 +47,7 @@ impl Actors {
         requires { q < length self.old.machine.setup.homes }
         ensures state { self.new.machine ≡ (look self.old.machine q).0 }
         ensures answer { result ≡ (look self.old.machine q).1 }
+        ensures setup { self.new.machine.setup ≡ self.old.machine.setup }
         ensures rooms { self.new.rooms ≡ self.old.rooms }
     {
         if !self.rx.is_inside(q) {
@@ -76,6 +79,7 @@ impl Actors {
         requires { q < length self.old.machine.setup.homes }
         ensures state { self.new.machine ≡ (poller_weighs self.old.machine q).0 }
         ensures answer { result ≡ (poller_weighs self.old.machine q).1 }
+        ensures setup { self.new.machine.setup ≡ self.old.machine.setup }
         ensures rooms { self.new.rooms ≡ self.old.rooms }
     {
         if !self.rx.is_inside(q) {
@@ -119,6 +123,7 @@ impl Actors {
         requires { q < length self.old.machine.setup.homes }
         ensures state { self.new.machine ≡ (poller_puts self.old.machine q).0 }
         ensures answer { result ≡ (poller_puts self.old.machine q).1 }
+        ensures setup { self.new.machine.setup ≡ self.old.machine.setup }
         ensures rooms { self.new.rooms ≡ self.old.rooms }
     {
         let id = last_of(&self.rx, q).id;
@@ -137,6 +142,7 @@ impl Actors {
         requires { q < length self.old.machine.setup.homes }
         ensures state { self.new.machine ≡ (ask self.old.machine q).0 }
         ensures answer { result ≡ (ask self.old.machine q).1 }
+        ensures setup { self.new.machine.setup ≡ self.old.machine.setup }
         ensures rooms { self.new.rooms ≡ self.old.rooms }
     {
         if !self.rx.is_inside(q) {
@@ -157,6 +163,7 @@ impl Actors {
         requires { q < length self.old.machine.setup.homes }
         ensures state { self.new.machine ≡ (poller_leaves self.old.machine q).0 }
         ensures answer { result ≡ (poller_leaves self.old.machine q).1 }
+        ensures setup { self.new.machine.setup ≡ self.old.machine.setup }
         ensures rooms { self.new.rooms ≡ self.old.rooms }
     {
         if !self.rx.is_inside(q) {

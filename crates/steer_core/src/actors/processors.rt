@@ -15,6 +15,7 @@ impl Actors {
         requires { c < self.old.machine.setup.cpus }
         ensures state { self.new.machine ≡ (by_rx self.old.machine (event.Pull c)).0 }
         ensures answer { result ≡ (by_rx self.old.machine (event.Pull c)).1 }
+        ensures setup { self.new.machine.setup ≡ self.old.machine.setup }
         ensures rooms { self.new.rooms ≡ self.old.rooms }
     {
         told(self.rx.pull(c))
@@ -25,6 +26,7 @@ impl Actors {
         requires { c < self.old.machine.setup.cpus }
         ensures state { self.new.machine ≡ (cpu_delivers self.old.machine c).0 }
         ensures answer { result ≡ (cpu_delivers self.old.machine c).1 }
+        ensures setup { self.new.machine.setup ≡ self.old.machine.setup }
         ensures rooms { self.new.rooms ≡ self.old.rooms }
     {
         let to = self.destination(c);
@@ -48,6 +50,7 @@ impl Actors {
         requires { c < self.old.machine.setup.cpus }
         ensures state { self.new.machine ≡ (by_rx self.old.machine (event.Retire c)).0 }
         ensures answer { result ≡ (by_rx self.old.machine (event.Retire c)).1 }
+        ensures setup { self.new.machine.setup ≡ self.old.machine.setup }
         ensures rooms { self.new.rooms ≡ self.old.rooms }
     {
         told(self.rx.retire(c))

@@ -13,6 +13,7 @@ impl Actors {
         requires { HasSpare self.old.rooms self.old.machine }
         ensures state { self.new.machine ≡ (record_flow self.old.machine flow).0 }
         ensures answer { result ≡ (record_flow self.old.machine flow).1 }
+        ensures setup { self.new.machine.setup ≡ self.old.machine.setup }
         ensures rooms { self.new.rooms ≡ self.old.rooms }
     {
         let Some(hash) = self.given.flow_hash(flow) else {

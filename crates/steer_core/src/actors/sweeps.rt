@@ -1,13 +1,15 @@
 //! A sweep: rounds of all actors until one in which no work was done.
-ghost use Rattle.std.specs.Prelude.{◌≡◌, ◌≤◌, false, length};
+ghost use Rattle.std.specs.Prelude.{◌≡◌, ◌<◌, ◌≤◌, false, length, true};
+ghost use Rattle.steer_base.specs.declared.step.Step.TheVariants as act;
 ghost use Rattle.steer_base.specs.declared.limits.TheConstants.{MAX_PACKETS};
+ghost use Rattle.steer_core.specs.Resting.{OthersAreDone, SenderIsDone};
 ghost use Rattle.steer_core.specs.Rooms.{HasSpare};
 ghost use Rattle.steer_model.specs.Steps.CompoundSteps.{drain, for_each, most_rounds as the_most};
 ghost use Rattle.steer_model.specs.Steps.CompoundSteps.{one_round, poll};
-ghost use Rattle.steer_model.specs.Steps.CompoundSteps.{serve, ship, sweep};
+ghost use Rattle.steer_model.specs.Steps.CompoundSteps.{serve, ship, sweep, tried};
 
 use crate::actors::Actors;
-use steer_base::Step;
+use steer_base::{Cpu, CpuMask};
 
 impl Actors {
     /// Runs rounds until one does no work. The result says whether any work was done.
@@ -17,9 +19,11 @@ impl Actors {
         ensures setup { self.new.machine.setup ≡ self.old.machine.setup }
         ensures rooms { self.new.rooms ≡ self.old.rooms }
     {
+        // Any poller may have something to do.
+        let mut busy = CpuMask::first_n(self.given.queues());
         let mut worked = false;
         for _ in 0..most_rounds(self.given.packet_count()) {
-            if !self.round() {
+            if !self.round(&mut busy) {
                 return worked;
             }
             worked = true;
@@ -27,33 +31,77 @@ impl Actors {
         worked
     }
 
-    // One arrival, and one turn of every poller, processor, application and transmit queue.
-    fn round(&mut self) -> bool
-        requires { HasSpare self.old.rooms self.old.machine }
+    // One arrival, and one turn of every poller, processor, application and transmit queue. An
+    // actor at rest is passed over, since its turn would change nothing. Bit q of `busy` is poller
+    // q; the pollers that are not in it are at rest.
+    fn round(&mut self, busy: &mut CpuMask) -> bool
+        requires room { HasSpare self.old.rooms self.old.machine }
+        requires busy { OthersAreDone busy.old self.old.machine }
         ensures turn { (self.new.machine, result) ≡ one_round (self.old.machine, false) }
         ensures setup { self.new.machine.setup ≡ self.old.machine.setup }
         ensures rooms { self.new.rooms ≡ self.old.rooms }
         ensures spare { HasSpare self.new.rooms self.new.machine }
+        ensures busy { OthersAreDone busy.new self.new.machine }
     {
-        let worked = self.attempt(false, Step::Arrive);
-        let worked = self.poll_all(worked);
+        let worked = self.arrive_busy(busy);
+        let worked = self.poll_all(worked, busy);
         let worked = self.drain_all(worked);
         let worked = self.serve_all(worked);
         self.ship_all(worked)
     }
 
-    // One turn of each poller.
-    fn poll_all(&mut self, worked: bool) -> bool
+    // The next packet arrives, if there is one, and makes the poller of its queue busy.
+    fn arrive_busy(&mut self, busy: &mut CpuMask) -> bool
+        requires { OthersAreDone busy.old self.old.machine }
+        ensures turn { (self.new.machine, result) ≡ tried (self.old.machine, false) act.Arrive }
+        ensures setup { self.new.machine.setup ≡ self.old.machine.setup }
+        ensures rooms { self.new.rooms ≡ self.old.rooms }
+        ensures busy { OthersAreDone busy.new self.new.machine }
+    {
+        self.sound();
+        match self.arrive_next() {
+            Some(queue) => {
+                *busy = busy.with(Cpu(queue.0));
+                true
+            }
+            None => false,
+        }
+    }
+
+    // One turn of each busy poller.
+    fn poll_all(&mut self, worked: bool, busy: &mut CpuMask) -> bool
+        requires { OthersAreDone busy.old self.old.machine }
         ensures turn { (self.new.machine, result)
             ≡ for_each (length self.old.machine.setup.homes) poll (self.old.machine, worked) }
         ensures setup { self.new.machine.setup ≡ self.old.machine.setup }
         ensures rooms { self.new.rooms ≡ self.old.rooms }
+        ensures busy { OthersAreDone busy.new self.new.machine }
     {
         let mut done = worked;
         for q in 0..self.given.queues() {
-            done = self.poll(done, q);
+            done = self.poll_busy(done, q, busy);
         }
         done
+    }
+
+    // One turn of a poller, unless it is at rest. It is no longer busy if it did no work.
+    fn poll_busy(&mut self, worked: bool, q: u8, busy: &mut CpuMask) -> bool
+        requires queue { q < length self.old.machine.setup.homes }
+        requires busy { OthersAreDone busy.old self.old.machine }
+        ensures turn { (self.new.machine, result) ≡ poll q (self.old.machine, worked) }
+        ensures setup { self.new.machine.setup ≡ self.old.machine.setup }
+        ensures rooms { self.new.rooms ≡ self.old.rooms }
+        ensures busy { OthersAreDone busy.new self.new.machine }
+    {
+        self.sound();
+        if !busy.has(q) {
+            return worked;
+        }
+        if self.poll(false, q) {
+            return true;
+        }
+        *busy = busy.without(Cpu(q));
+        worked
     }
 
     // One turn of each processor.
@@ -70,7 +118,7 @@ impl Actors {
         done
     }
 
-    // One turn of each application.
+    // One turn of each application that is not at rest.
     fn serve_all(&mut self, worked: bool) -> bool
         requires { HasSpare self.old.rooms self.old.machine }
         ensures turn { (self.new.machine, result)
@@ -81,9 +129,35 @@ impl Actors {
     {
         let mut done = worked;
         for a in 0..self.given.apps() {
-            done = self.serve(done, a);
+            done = self.serve_busy(done, a);
         }
         done
+    }
+
+    // One turn of an application, unless it is at rest.
+    fn serve_busy(&mut self, worked: bool, a: u8) -> bool
+        requires app { a < self.old.machine.setup.apps }
+        requires room { HasSpare self.old.rooms self.old.machine }
+        ensures turn { (self.new.machine, result) ≡ serve a (self.old.machine, worked) }
+        ensures setup { self.new.machine.setup ≡ self.old.machine.setup }
+        ensures rooms { self.new.rooms ≡ self.old.rooms }
+    {
+        self.sound();
+        if self.is_sender_done(a) {
+            return worked;
+        }
+        self.serve(worked, a)
+    }
+
+    // Whether an application is at rest: it is outside the transmit gate, put all replies that it
+    // began, and began one to each packet of its inbox.
+    fn is_sender_done(&self, a: u8) -> bool
+        requires { a < self.now.machine.setup.apps }
+        ensures { result ≡ true → SenderIsDone a self.now.machine }
+    {
+        !self.tx.is_inside(a)
+            && self.tx.placed(a) == self.tx.taken(a)
+            && self.rx.out(a).len() == self.sent.len_of(a) as usize
     }
 
     // One turn of each transmit queue.

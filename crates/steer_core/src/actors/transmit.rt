@@ -13,6 +13,7 @@ impl Actors {
         requires { t < self.old.machine.setup.txs }
         ensures state { self.new.machine ≡ (by_tx self.old.machine (event.Pull t)).0 }
         ensures answer { result ≡ (by_tx self.old.machine (event.Pull t)).1 }
+        ensures setup { self.new.machine.setup ≡ self.old.machine.setup }
         ensures rooms { self.new.rooms ≡ self.old.rooms }
     {
         told(self.tx.pull(t))
@@ -23,6 +24,7 @@ impl Actors {
         requires { t < self.old.machine.setup.txs }
         ensures state { self.new.machine ≡ (by_tx self.old.machine (event.Deliver t 0)).0 }
         ensures answer { result ≡ (by_tx self.old.machine (event.Deliver t 0)).1 }
+        ensures setup { self.new.machine.setup ≡ self.old.machine.setup }
         ensures rooms { self.new.rooms ≡ self.old.rooms }
     {
         told(self.tx.deliver(t, 0))
@@ -33,6 +35,7 @@ impl Actors {
         requires { t < self.old.machine.setup.txs }
         ensures state { self.new.machine ≡ (by_tx self.old.machine (event.Retire t)).0 }
         ensures answer { result ≡ (by_tx self.old.machine (event.Retire t)).1 }
+        ensures setup { self.new.machine.setup ≡ self.old.machine.setup }
         ensures rooms { self.new.rooms ≡ self.old.rooms }
     {
         told(self.tx.retire(t))

@@ -1,16 +1,16 @@
 //! Steps of one event, and those of many events in a row.
-ghost use Rattle.std.specs.Prelude.{◌≡◌, ◌<◌, length, true};
+ghost use Rattle.std.specs.Prelude.{◌≡◌, ◌<◌, ◌||◌, length, not, true};
 ghost use Rattle.plan_reader.specs.Ranges.{step_is_within};
 ghost use Rattle.steer_core.specs.Rooms.{HasRoomFor, HasSpare};
 ghost use Rattle.steer_invariant.specs.StepInvariant.{sizes_in};
-ghost use Rattle.steer_model.specs.Steps.SingleSteps.{simple};
+ghost use Rattle.steer_model.specs.Steps.SingleSteps.{is_idle as was_idle, simple};
 ghost use Rattle.steer_model.specs.Steps.CompoundSteps.{drain, drain_one, poll, with_record, reply};
 ghost use Rattle.steer_model.specs.Steps.CompoundSteps.{replying, serve};
 ghost use Rattle.steer_model.specs.Steps.CompoundSteps.{ship, ship_one, tried, tries};
 
 use crate::actors::Actors;
 use steer_base::{Answer, Idle, Step};
-use steer_model::{is_idle, is_work};
+use steer_model::is_idle;
 
 impl Actors {
     /// Carries out a step of one event, or a command. A step of many events is idle here.
@@ -53,19 +53,6 @@ impl Actors {
         }
     }
 
-    /// Tries a step of one event. `worked` says whether work was done before it, and the result
-    /// whether work was done by its end.
-    pub(super) fn attempt(&mut self, worked: bool, step: Step) -> bool
-        requires within { step_is_within (sizes_in self.old.machine.setup) step ≡ true }
-        requires room { HasRoomFor self.old.rooms self.old.machine step }
-        ensures turn { (self.new.machine, result) ≡ tried (self.old.machine, worked) step }
-        ensures setup { self.new.machine.setup ≡ self.old.machine.setup }
-        ensures rooms { self.new.rooms ≡ self.old.rooms }
-    {
-        let answer = self.simple(step);
-        worked || (is_work(&step) && !is_idle(&answer))
-    }
-
     /// Tries all events of a poller in order.
     pub(super) fn poll(&mut self, worked: bool, q: u8) -> bool
         requires { q < length self.old.machine.setup.homes }
@@ -73,13 +60,14 @@ impl Actors {
         ensures setup { self.new.machine.setup ≡ self.old.machine.setup }
         ensures rooms { self.new.rooms ≡ self.old.rooms }
     {
-        let worked = self.attempt(worked, Step::Enter(q));
-        let worked = self.attempt(worked, Step::Take(q));
-        let worked = self.attempt(worked, Step::Look(q));
-        let worked = self.attempt(worked, Step::Weigh(q));
-        let worked = self.attempt(worked, Step::Put(q));
-        let worked = self.attempt(worked, Step::Ask(q));
-        self.attempt(worked, Step::Leave(q))
+        self.enter(q);
+        let worked = worked_by(worked, self.take(q));
+        let worked = worked_by(worked, self.look(q));
+        let worked = worked_by(worked, self.weigh(q));
+        let worked = worked_by(worked, self.put(q));
+        let worked = worked_by(worked, self.ask(q));
+        self.leave(q);
+        worked
     }
 
     /// Repeats the events of a processor until its hand is empty and nothing waits.
@@ -103,9 +91,9 @@ impl Actors {
         ensures setup { self.new.machine.setup ≡ self.old.machine.setup }
         ensures rooms { self.new.rooms ≡ self.old.rooms }
     {
-        let worked = self.attempt(worked, Step::Pull(c));
-        let worked = self.attempt(worked, Step::Deliver(c));
-        self.attempt(worked, Step::Retire(c))
+        let worked = worked_by(worked, self.pull(c));
+        let worked = worked_by(worked, self.deliver(c));
+        worked_by(worked, self.retire(c))
     }
 
     /// Tries all events of an application in order.
@@ -115,11 +103,12 @@ impl Actors {
         ensures setup { self.new.machine.setup ≡ self.old.machine.setup }
         ensures rooms { self.new.rooms ≡ self.old.rooms }
     {
-        let worked = self.attempt(worked, Step::TEnter(a));
-        let worked = self.attempt(worked, Step::Send(a));
-        let worked = self.attempt(worked, Step::TWeigh(a));
-        let worked = self.attempt(worked, Step::TPut(a));
-        self.attempt(worked, Step::TLeave(a))
+        self.tenter(a);
+        let worked = worked_by(worked, self.send(a));
+        let worked = worked_by(worked, self.tweigh(a));
+        let worked = worked_by(worked, self.tput(a));
+        self.tleave(a);
+        worked
     }
 
     /// Records the flow of the packet that an application replies to, then tries all its events.
@@ -143,13 +132,11 @@ impl Actors {
         ensures setup { self.new.machine.setup ≡ self.old.machine.setup }
         ensures rooms { self.new.rooms ≡ self.old.rooms }
     {
-        match self.replying(a) {
-            Some(id) => {
-                let flow = self.given.flow_of(id);
-                self.attempt(worked, Step::Record(flow))
-            }
-            None => worked,
+        if let Some(id) = self.replying(a) {
+            let flow = self.given.flow_of(id);
+            self.record(flow);
         }
+        worked
     }
 
     /// Repeats the events of a transmit queue until its hand is empty and nothing waits.
@@ -173,8 +160,15 @@ impl Actors {
         ensures setup { self.new.machine.setup ≡ self.old.machine.setup }
         ensures rooms { self.new.rooms ≡ self.old.rooms }
     {
-        let worked = self.attempt(worked, Step::TPull(t));
-        let worked = self.attempt(worked, Step::TDeliver(t));
-        self.attempt(worked, Step::TRetire(t))
+        let worked = worked_by(worked, self.tpull(t));
+        let worked = worked_by(worked, self.tdeliver(t));
+        worked_by(worked, self.tretire(t))
     }
+}
+
+// Whether work was done before an event or by it, as its answer says.
+fn worked_by(worked: bool, answer: Answer) -> bool
+    ensures { result ≡ (worked || not (was_idle answer)) }
+{
+    worked || !is_idle(&answer)
 }

@@ -13,8 +13,8 @@ use Rattle.steer_core.proofs.actors.Actors.serve_all.Goals as goal
 pub loop-a-init : goal.loop-a-init
 loop-a-init c = (each-start serve (c.args.self.now.machine, c.args.worked), refl, refl)
 
-pub serve-done-requires-clause-room : goal.serve-done-requires-clause-room
-serve-done-requires-clause-room c =
+pub serve_busy-done-requires-clause-room : goal.serve_busy-done-requires-clause-room
+serve_busy-done-requires-clause-room c =
     let m : Machine = c.args.self.now.machine in
     let held : Invariant m =
     subst (λ (r : Running). Invariant r.machine) c.self.view_is c.self.invariant.0 in
@@ -30,12 +30,12 @@ serve-done-requires-clause-room c =
 
 pub loop-a-preserved : goal.loop-a-preserved
 loop-a-preserved c =
-    let done = c.serve-done.ensures in
+    let done = c.serve_busy-done.ensures in
     let before = c.loop-a.invariant in (
       each-then c.loop-a.a serve (c.args.self.now.machine, c.args.worked)
           (c.loop-a.self.machine, c.loop-a.done) (
-            c.serve-done.new.self.machine,
-            c.serve-done.result,
+            c.serve_busy-done.new.self.machine,
+            c.serve_busy-done.result,
           )
           before.0 done.turn,
       done.setup ∙ before.1,

@@ -1,4 +1,6 @@
-use Rattle.std.proofs.Common.{◌≡◌, false, length, refl, ap, ◌∙◌}
+use Rattle.std.proofs.Common.{◌≡◌, true, false, length, refl, ap, sym, ◌∙◌, arith}
+use Rattle.std.specs.Prelude.{nat_lt}
+use Rattle.std.proofs.lemmas.Bool.{lt-ltb}
 use Rattle.steer_model.specs.State.Machine.{Machine}
 use Rattle.steer_model.specs.Steps.CompoundSteps.{most_rounds, rounds}
 use Rattle.steer_core.specs.Running.{Running}
@@ -11,10 +13,19 @@ loop-init c = (
   refl,
   refl,
   c.requires,
+  λ q lt free. (
+      let is = ap (λ (r : Running). length r.machine.setup.homes) c.self.view_is in
+      let many = c.queues.ensures.value in
+      let here : nat_lt q c.queues.result ≡ true =
+      lt-ltb q c.queues.result (omega (arith, lt, is, many)) in
+      absurd (let e : true ≡ false = sym (c.first_n-busy.ensures.members q ∙ here) ∙ free in cc)),
 )
 
-pub round-requires : goal.round-requires
-round-requires c = c.loop.invariant.3
+pub round-requires-clause-room : goal.round-requires-clause-room
+round-requires-clause-room c = c.loop.invariant.3
+
+pub round-requires-clause-busy : goal.round-requires-clause-busy
+round-requires-clause-busy c = c.loop.invariant.4
 
 pub returns-then-not-round-clause-turn : goal.returns-then-not-round-clause-turn
 returns-then-not-round-clause-turn c =
@@ -42,6 +53,7 @@ loop-preserved c =
       once.setup ∙ c.loop.invariant.1,
       once.rooms ∙ c.loop.invariant.2,
       once.spare,
+      once.busy,
     )
 
 pub returns-clause-turn : goal.returns-clause-turn

@@ -1,7 +1,6 @@
 use Rattle.std.proofs.Common.{◌<◌, ap, arith, length}
-use Rattle.history.specs.declared.arrival.Arrival.{Arrival}
 use Rattle.steer_core.proofs.ArriveLemmas.{held_come, may_come}
-use Rattle.steer_core.proofs.actors.Actors.arrive.Goals as goal
+use Rattle.steer_core.proofs.actors.Actors.arrive_next.Goals as goal
 
 pub arrive-requires : goal.arrive-requires
 arrive-requires c =
@@ -12,7 +11,7 @@ arrive-requires c =
     omega arith in
     may_come _ c.arriving-arrival.result _ _
     (rw (← c.self.view_is, next) at c.arriving-arrival.ensures)
-    (ap (λ (a : Arrival). a.queue) c.arrival.view_is) next few c.self.invariant.0
+    c.queue.view_is next few c.self.invariant.0
 
 pub push-requires : goal.push-requires
 push-requires c =
@@ -32,7 +31,7 @@ invariant_of-self c =
     rw c.push.ensures (
       held_come _ c.arriving-arrival.result _ _
           (rw (← c.self.view_is, next) at c.arriving-arrival.ensures)
-          (ap (λ (a : Arrival). a.queue) c.arrival.view_is) next few c.self.invariant.0
+          c.queue.view_is next few c.self.invariant.0
           c.arrive.new.self
           c.arrive.ensures.state,
       c.self.invariant.1,

@@ -1,0 +1,32 @@
+use Rattle.std.proofs.Common.{false, sym, ◌∙◌}
+use Rattle.steer_core.proofs.BusyLemmas.{done-after-none, done-after-work, poll-idled, poll-worked}
+use Rattle.steer_core.proofs.IdleTurns.{poll-of-done}
+use Rattle.steer_core.proofs.actors.Actors.poll_busy.Goals as goal
+
+pub returns-then-not-has-clause-turn : goal.returns-then-not-has-clause-turn
+returns-then-not-has-clause-turn c =
+    let done = c.requires.busy c.args.q c.requires.queue (sym c.has.ensures ∙ c.if-not-has.true) in
+    sym (poll-of-done c.args.self.now.machine c.args.q c.sound.ensures.kept c.requires.queue done
+    c.args.worked)
+
+pub returns-then-poll-clause-turn : goal.returns-then-poll-clause-turn
+returns-then-poll-clause-turn c =
+    poll-worked c.args.self.now.machine c.poll.new.self.machine c.args.q c.args.worked c.poll.result
+    c.poll.ensures.turn c.if-poll.true
+
+pub returns-then-poll-clause-busy : goal.returns-then-poll-clause-busy
+returns-then-poll-clause-busy c =
+    done-after-work c.args.self.now.machine c.poll.new.self.machine c.args.q c.poll.result
+    c.args.busy.now c.poll.ensures.turn c.poll.ensures.setup c.requires.busy
+    (sym c.has.ensures ∙ c.if-not-has.false)
+
+pub returns-clause-turn : goal.returns-clause-turn
+returns-clause-turn c =
+    poll-idled c.args.self.now.machine c.poll.new.self.machine c.args.q c.args.worked c.poll.result
+    c.poll.ensures.turn c.if-poll.false
+
+pub returns-clause-busy : goal.returns-clause-busy
+returns-clause-busy c =
+    done-after-none c.args.self.now.machine c.poll.new.self.machine c.args.q c.poll.result
+    c.args.busy.now c.poll.ensures.turn c.poll.ensures.setup c.requires.busy c.without.result
+    c.sound.ensures.kept c.requires.queue c.if-poll.false c.without.ensures.members
