@@ -19,4 +19,5 @@ pub mod RoundLemmas
 pub mod SamePollers
 pub mod SeatedLemmas
 pub mod ServeLemmas
+pub mod StillLemmas
 pub mod TurnLemmas

@@ -6,6 +6,7 @@ use Rattle.steer_base.specs.declared.cpu_mask.CpuMask.{CpuMask}
 use Rattle.hop_core.specs.Hop.{inside_of}
 use Rattle.steer_model.specs.State.Machine.{Machine}
 use Rattle.steer_model.specs.State.Setup.{packet_hash}
+use Rattle.steer_model.specs.Steps.CompoundSteps.{Progress, one_round}
 use Rattle.steer_model.specs.Steps.Pollers.{route_by}
 use Rattle.steer_properties.specs.Sweep.Rest.{PollerRests, SenderRests}
 
@@ -28,3 +29,7 @@ abbrev pub next_queue : Machine → Option ℕ
 next_queue m =
     if nat_lt (length m.arrivals) (length m.setup.packets)
     then Some (route_by m (packet_hash m.setup (length m.arrivals))).queue else None
+
+-- A round changes nothing, and does no work.
+abbrev pub IsStill : Machine → Type 0
+IsStill m = ◌≡◌ {A = Progress} (one_round (m, false)) (m, false)

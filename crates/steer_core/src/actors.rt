@@ -5,6 +5,7 @@ ghost use Rattle.steer_base.specs.declared.idle.Idle.TheVariants as idle;
 ghost use Rattle.steer_invariant.specs.Invariant.{Invariant};
 ghost use Rattle.steer_invariant.specs.StepInvariant.{sizes_in};
 ghost use Rattle.plan_reader.specs.Ranges.{step_is_within};
+ghost use Rattle.steer_core.specs.Resting.{IsStill};
 ghost use Rattle.steer_core.specs.Rooms.{HasRoomFor};
 ghost use Rattle.steer_model.specs.Steps.CompoundSteps.{step as step_of};
 
@@ -70,23 +71,39 @@ struct Weighing {
     online: CpuMask,
 }
 
+/// What came of a step.
+#[derive(Clone, Copy)]
+pub struct Stepped {
+    /// The answer of the step.
+    pub answer: Answer,
+    /// Whether it was a sweep and left nothing to do, so that a further sweep would change nothing.
+    pub at_rest: bool,
+}
+
 impl Actors {
-    /// Carries out any step: one of many events, one of one event, or a command.
-    pub fn step(&mut self, step: Step) -> Answer
+    /// Carries out any step: one of many events, one of one event, or a command. `at_rest` says
+    /// whether nothing was left to do, in which case a sweep is not walked.
+    pub fn step(&mut self, at_rest: bool, step: Step) -> Stepped
         requires within { step_is_within (sizes_in self.old.machine.setup) step ≡ true }
         requires room { HasRoomFor self.old.rooms self.old.machine step }
+        requires rest { at_rest ≡ true → IsStill self.old.machine }
         ensures state { self.new.machine ≡ (step_of self.old.machine step).0 }
-        ensures answer { result ≡ (step_of self.old.machine step).1 }
+        ensures answer { result.answer ≡ (step_of self.old.machine step).1 }
         ensures rooms { self.new.rooms ≡ self.old.rooms }
+        ensures rest { result.at_rest ≡ true → IsStill self.new.machine }
     {
-        match step {
+        let answer = match step {
             Step::Poll(q) => ended(self.poll(false, q)),
             Step::Drain(c) => ended(self.drain(false, c)),
             Step::Reply(a) => ended(self.reply(false, a)),
             Step::Serve(a) => ended(self.serve(false, a)),
             Step::Ship(t) => ended(self.ship(false, t)),
-            Step::Sweep => ended(self.sweep()),
+            Step::Sweep => return self.sweep_from(at_rest),
             _ => self.simple(step),
+        };
+        Stepped {
+            answer,
+            at_rest: false,
         }
     }
 

@@ -22,10 +22,14 @@ pub struct Steering {
     actors: Actors,
     made: u32,
     steps: u32,
+    // Whether the last step was a sweep that left nothing to do.
+    at_rest: bool,
 }
 
 impl Model for Steering {
+    ghost use Rattle.steer_core.specs.Resting.{IsStill};
     ghost use Rattle.steer_core.specs.Runs.{HaveRoomForSteps, Run};
+    ghost use Rattle.std.specs.Prelude.{◌≡◌, true};
 
     ghost Value = { Run };
 
@@ -35,7 +39,8 @@ impl Model for Steering {
       steps = s.steps;
     } };
 
-    ghost invariant = { λ s. HaveRoomForSteps s.actors s.made s.steps };
+    ghost invariant = { λ s. HaveRoomForSteps s.actors s.made s.steps
+        × (s.at_rest ≡ true → IsStill s.actors.machine) };
 }
 
 impl Steering {
@@ -57,6 +62,7 @@ impl Steering {
             actors,
             made: 0,
             steps: plan.step_count(),
+            at_rest: false,
         })
     }
 
@@ -72,9 +78,10 @@ impl Steering {
         ensures setup { self.new.machine.setup ≡ self.old.machine.setup }
     {
         self.actors.sound();
-        let answer = self.actors.step(*step);
+        let stepped = self.actors.step(self.at_rest, *step);
+        self.at_rest = stepped.at_rest;
         self.made += 1;
-        answer
+        stepped.answer
     }
 
     /// The number of steps made.

@@ -1,29 +1,54 @@
 //! A sweep: rounds of all actors until one in which no work was done.
-ghost use Rattle.std.specs.Prelude.{◌≡◌, ◌<◌, ◌≤◌, false, length, true};
+ghost use Rattle.std.specs.Prelude.{ℕ, ◌≡◌, ◌<◌, ◌≤◌, false, length, true};
 ghost use Rattle.steer_base.specs.declared.step.Step.TheVariants as act;
 ghost use Rattle.steer_base.specs.declared.limits.TheConstants.{MAX_PACKETS};
-ghost use Rattle.steer_core.specs.Resting.{OthersAreDone, SenderIsDone};
+ghost use Rattle.steer_base.specs.Sets.{has};
+ghost use Rattle.steer_core.specs.Resting.{IsStill, OthersAreDone, SenderIsDone};
 ghost use Rattle.steer_core.specs.Rooms.{HasSpare};
 ghost use Rattle.steer_model.specs.Steps.CompoundSteps.{drain, for_each, most_rounds as the_most};
 ghost use Rattle.steer_model.specs.Steps.CompoundSteps.{one_round, poll};
-ghost use Rattle.steer_model.specs.Steps.CompoundSteps.{serve, ship, sweep, tried};
+ghost use Rattle.steer_model.specs.Steps.CompoundSteps.{serve, ship, step as step_of, sweep, tried};
 
-use crate::actors::Actors;
+use crate::actors::{Actors, Stepped, ended};
 use steer_base::{Cpu, CpuMask};
 
 impl Actors {
-    /// Runs rounds until one does no work. The result says whether any work was done.
-    pub(super) fn sweep(&mut self) -> bool
-        requires { HasSpare self.old.rooms self.old.machine }
+    /// A sweep, which is not walked if nothing was left to do before it.
+    pub(super) fn sweep_from(&mut self, at_rest: bool) -> Stepped
+        requires room { HasSpare self.old.rooms self.old.machine }
+        requires rest { at_rest ≡ true → IsStill self.old.machine }
+        ensures state { self.new.machine ≡ (step_of self.old.machine act.Sweep).0 }
+        ensures answer { result.answer ≡ (step_of self.old.machine act.Sweep).1 }
+        ensures rooms { self.new.rooms ≡ self.old.rooms }
+        ensures rest { result.at_rest ≡ true → IsStill self.new.machine }
+    {
+        if at_rest {
+            return Stepped {
+                answer: ended(false),
+                at_rest,
+            };
+        }
+        // Any poller may have something to do.
+        let mut busy = CpuMask::first_n(self.given.queues());
+        let worked = self.sweep(&mut busy);
+        Stepped {
+            answer: ended(worked),
+            at_rest: self.is_at_rest(busy),
+        }
+    }
+
+    // Runs rounds until one does no work. The result says whether any work was done.
+    fn sweep(&mut self, busy: &mut CpuMask) -> bool
+        requires room { HasSpare self.old.rooms self.old.machine }
+        requires busy { OthersAreDone busy.old self.old.machine }
         ensures turn { (self.new.machine, result) ≡ sweep (self.old.machine, false) }
         ensures setup { self.new.machine.setup ≡ self.old.machine.setup }
         ensures rooms { self.new.rooms ≡ self.old.rooms }
+        ensures busy { OthersAreDone busy.new self.new.machine }
     {
-        // Any poller may have something to do.
-        let mut busy = CpuMask::first_n(self.given.queues());
         let mut worked = false;
         for _ in 0..most_rounds(self.given.packet_count()) {
-            if !self.round(&mut busy) {
+            if !self.round(busy) {
                 return worked;
             }
             worked = true;
@@ -173,6 +198,54 @@ impl Actors {
         }
         done
     }
+
+    // Whether nothing is left to do: every packet arrived, no poller is busy, no lane has a packet,
+    // and each application is at rest.
+    fn is_at_rest(&self, busy: CpuMask) -> bool
+        requires { OthersAreDone busy self.now.machine }
+        ensures { result ≡ true → IsStill self.now.machine }
+    {
+        self.sound();
+        if self.arrivals.len() != self.given.packet_count() {
+            return false;
+        }
+        if !is_none_below(busy, self.given.queues()) {
+            return false;
+        }
+        let (cpus, txs) = (self.given.cpus(), self.given.txs());
+        if !self.rx.emptied(CpuMask::first_n(cpus)).is_ok() {
+            return false;
+        }
+        if !self.tx.emptied(CpuMask::first_n(txs)).is_ok() {
+            return false;
+        }
+        self.are_senders_done()
+    }
+
+    // Whether each application is at rest.
+    fn are_senders_done(&self) -> bool
+        ensures { result ≡ true →
+            (a : ℕ) → a < self.now.machine.setup.apps → SenderIsDone a self.now.machine }
+    {
+        for a in 0..self.given.apps() {
+            if !self.is_sender_done(a) {
+                return false;
+            }
+        }
+        true
+    }
+}
+
+// Whether none of the numbers below `count` is in the set.
+fn is_none_below(set: CpuMask, count: u8) -> bool
+    ensures { result ≡ true → (n : ℕ) → n < count → has set n ≡ false }
+{
+    for n in 0..count {
+        if set.has(n) {
+            return false;
+        }
+    }
+    true
 }
 
 // More rounds than there is work for so many packets.

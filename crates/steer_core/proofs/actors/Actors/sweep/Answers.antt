@@ -1,6 +1,4 @@
-use Rattle.std.proofs.Common.{◌≡◌, true, false, length, refl, ap, sym, ◌∙◌, arith}
-use Rattle.std.specs.Prelude.{nat_lt}
-use Rattle.std.proofs.lemmas.Bool.{lt-ltb}
+use Rattle.std.proofs.Common.{◌≡◌, false, length, refl, ap, ◌∙◌}
 use Rattle.steer_model.specs.State.Machine.{Machine}
 use Rattle.steer_model.specs.Steps.CompoundSteps.{most_rounds, rounds}
 use Rattle.steer_core.specs.Running.{Running}
@@ -12,13 +10,8 @@ loop-init c = (
   rounds-start c.most_rounds-end.result (c.args.self.now.machine, false),
   refl,
   refl,
-  c.requires,
-  λ q lt free. (
-      let is = ap (λ (r : Running). length r.machine.setup.homes) c.self.view_is in
-      let many = c.queues.ensures.value in
-      let here : nat_lt q c.queues.result ≡ true =
-      lt-ltb q c.queues.result (omega (arith, lt, is, many)) in
-      absurd (let e : true ≡ false = sym (c.first_n-busy.ensures.members q ∙ here) ∙ free in cc)),
+  c.requires.room,
+  c.requires.busy,
 )
 
 pub round-requires-clause-room : goal.round-requires-clause-room
@@ -66,3 +59,6 @@ returns-clause-turn c =
     c.loop-test.false
     c.loop.invariant.0
     ∙ ap (λ k. rounds k (m, false)) most
+
+pub returns-then-not-round-clause-busy : goal.returns-then-not-round-clause-busy
+returns-then-not-round-clause-busy c = c.round.ensures.busy
