@@ -9,7 +9,7 @@ use Rattle.steer_base.specs.declared.step.Step.{Step}
 use Rattle.steer_base.specs.declared.step.Step.TheVariants as act
 use Rattle.steer_model.specs.State.Machine.{Machine}
 use Rattle.steer_model.specs.State.Setup.{Setup}
-use Rattle.steer_model.specs.Steps.CompoundSteps.{Progress, drain, for_each, poll, serve, ship, tried}
+use Rattle.steer_model.specs.Steps.CompoundSteps.{Progress, drain, for_each, poll, serve, ship}
 use Rattle.steer_model.specs.Steps.CompoundSteps.{tries}
 use Rattle.steer_model.specs.Steps.Pollers.{arrive}
 use Rattle.steer_model.specs.Steps.SingleSteps.{is_idle, is_work, simple}
@@ -109,7 +109,7 @@ module _ (m n : Machine) (q : ℕ) (did : Bool) (busy : CpuMask)
   pub done-after-work : has busy q ≡ true → OthersAreDone busy n
   done-after-work is p lt free =
       other-done p (λ e. absurd (let f : has busy p ≡ true = ap (λ x. has busy x) e ∙ is in
-          let g : true ≡ false = sym f ∙ free in cc)) lt free
+      let g : true ≡ false = sym f ∙ free in cc)) lt free
 
   still : (rest : CpuMask) → ((x : ℕ) → has rest x ≡ (has busy x && not (q == x))) → (p : ℕ)
       → p ≢ q → has rest p ≡ false → has busy p ≡ false
@@ -132,6 +132,7 @@ module _ (m n : Machine) (q : ℕ) (did : Bool) (busy : CpuMask)
             (subst (λ (o : Machine). PollerIsDone q o) (sym to) done))
         | inr other ↦ other-done p other lt (still rest is p other free)
       ]
+
 -- ---- the wire
 
 or-left : (a b : Bool) → (a || b) ≡ false → a ≡ false

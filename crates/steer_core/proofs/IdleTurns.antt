@@ -15,7 +15,6 @@ use Rattle.hop_core.specs.Hop.{taken_of}
 use Rattle.hop_core.specs.Leaves.{Field}
 use Rattle.hop_core.proofs.Leaves.{each_leaves}
 use Rattle.steer_model.specs.State.Machine.{Machine, note_of}
-use Rattle.steer_model.specs.State.Setup.{Setup}
 use Rattle.steer_model.specs.Steps.Applications.{next_in, sent_of}
 use Rattle.steer_model.specs.Steps.CompoundSteps.{Progress, poll, reply, replying, serve, tried}
 use Rattle.steer_model.specs.Steps.CompoundSteps.{tries, with_record}
@@ -26,10 +25,10 @@ use Rattle.steer_model.specs.Steps.IdleReasons as stage
 use Rattle.steer_model.specs.Steps.SingleSteps.{is_command, is_idle, is_work, simple}
 use Rattle.steer_model.specs.declared.note.Note.TheVariants as note
 use Rattle.steer_model.proofs.Steps.ReasonLemmas.{idle_for_first_reason}
-use Rattle.steer_invariant.specs.StepInvariant.{IsNamed, StepInvariant}
+use Rattle.steer_invariant.specs.StepInvariant.{StepInvariant}
 use Rattle.steer_invariant.proofs.StepInvariant.SingleStepLemmas.{goes-simple}
 use Rattle.steer_properties.proofs.Sweep.IdleTurnLemmas.{idle-leaves, idle-tries, tried-before}
-use Rattle.steer_properties.proofs.Sweep.RestLemmas.{poller-rests, sender-rests, staged}
+use Rattle.steer_properties.proofs.Sweep.RestLemmas.{poller-rests, staged}
 use Rattle.steer_properties.specs.Sweep.Rest.{PollerRests, SenderRests}
 use Rattle.steer_core.specs.Resting.{PollerIsDone, SenderIsDone}
 use Rattle.steer_core.proofs.GateLemmas.{enters, inside, is_inside, is_outside, leaves}
@@ -233,7 +232,9 @@ module _ (m : Machine) (a : ℕ) (k : StepInvariant m) (r : SenderRests a m) whe
       )
 
   none-next : next_in m a ≡ None
-  none-next = past-end (out_at m.rx.bare a) (length (sent_of m a)) (let b = r.begun in omega (arith, b))
+  none-next =
+      past-end (out_at m.rx.bare a) (length (sent_of m a))
+      (let b = r.begun in omega (arith, b))
 
   nothing-to-reply : replying m a ≡ None
   nothing-to-reply = rw sender-same.0 none-next

@@ -19,13 +19,13 @@ use Rattle.hop_core.specs.Others.{producer_of}
 use Rattle.hop_core.specs.Reads.{to_weigh}
 use Rattle.hop_core.proofs.Leaves.{each_leaves}
 use Rattle.hop_core.proofs.Others.{each_leaves_producers}
-use Rattle.steer_model.specs.State.Machine.{Machine, last_chosen, note_of}
+use Rattle.steer_model.specs.State.Machine.{Machine, note_of}
 use Rattle.steer_model.specs.State.Notes.{is_asking, is_nothing}
 use Rattle.steer_model.specs.State.Setup.{Setup, app_for, flow_hash, flow_number_of, packet_hash}
 use Rattle.steer_model.specs.Steps.Applications.{in_lane, next_in, record_by, send_by, visited}
 use Rattle.steer_model.specs.Steps.Applications.{wrote}
 use Rattle.steer_model.specs.Steps.CompoundSteps.{Progress, again, drain, drain_one, for_each, poll}
-use Rattle.steer_model.specs.Steps.CompoundSteps.{reply, replying, serve, ship, ship_one, tried}
+use Rattle.steer_model.specs.Steps.CompoundSteps.{replying, serve, ship, ship_one, tried}
 use Rattle.steer_model.specs.Steps.CompoundSteps.{tries, with_record}
 use Rattle.steer_model.specs.Steps.Outcomes.{StepOutcome, by_rx, idle_step}
 use Rattle.steer_model.specs.Steps.Pollers.{arrival_by, arrive, arrives, ask_by, look_by}
@@ -86,7 +86,8 @@ beside q s e other still =
     record {
       arrivals = p.arrivals;
       placed = p.placed;
-      inside = ap (λ (v : List Bool). slice_index_or v q false) (each_leaves s e Field.visits still);
+      inside =
+          ap (λ (v : List Bool). slice_index_or v q false) (each_leaves s e Field.visits still);
     }
 
 -- someone else enters or leaves
@@ -145,7 +146,8 @@ module _ (q : ℕ) (m : Machine) where
 
   sends : (a : ℕ) (x : Option ℕ) → Keeps (send_by m a x)
   sends a None = same-refl q m
-  sends a (Some x) = record { setup = refl; arrivals = refl; placed = refl; noted = refl; inside = refl }
+  sends a (Some x) =
+      record { setup = refl; arrivals = refl; placed = refl; noted = refl; inside = refl }
 
   records : q < length m.setup.homes → (hash : Option (Option ℕ)) → Keeps (record_by m hash)
   records lt None = same-refl q m
@@ -406,13 +408,13 @@ same-arrive q m other =
     let some : Bool = nat_lt next (length m.setup.packets) in
     either (Keeps q m) some (arrives m a, says.Done) (idle_step m idle.NothingLeft)
     (λ is. (
-      let s = beside q m.rx (event.Arrive a.queue next) (λ e. other (by-some a.queue some is ∙ e))
-      refl in
-      record {
-        setup = refl;
-        arrivals = s.arrivals;
-        placed = s.placed;
-        noted = refl;
-        inside = s.inside;
-      }))
+    let s = beside q m.rx (event.Arrive a.queue next) (λ e. other (by-some a.queue some is ∙ e))
+    refl in
+    record {
+      setup = refl;
+      arrivals = s.arrivals;
+      placed = s.placed;
+      noted = refl;
+      inside = s.inside;
+    }))
     (λ none. same-refl q m)

@@ -1,6 +1,6 @@
 -- Where nothing is left to do, a round and a sweep change nothing.
-use Rattle.std.proofs.Common.{ℕ, ◌+◌, ◌-◌, ◌*◌, ◌<◌, ◌≤◌, ◌≡◌, Bool, true, false, List, [], length}
-use Rattle.std.proofs.Common.{refl, ap, ◌∙◌, cond, arith, sym, suc, zero}
+use Rattle.std.proofs.Common.{ℕ, ◌<◌, ◌≡◌, true, false, List, length}
+use Rattle.std.proofs.Common.{refl, ap, ◌∙◌, cond, arith, suc, zero}
 use Rattle.std.specs.Prelude.{nat_lt}
 use Rattle.std.proofs.lemmas.Bool.{le-ltb, lt-ltb}
 use Rattle.steer_base.specs.Sets.{has}
@@ -11,11 +11,11 @@ use Rattle.steer_base.specs.declared.step.Step.{Step}
 use Rattle.steer_base.specs.declared.step.Step.TheVariants as act
 use Rattle.hop_core.specs.Events.{IsEmptied}
 use Rattle.hop_core.specs.Emptied.{AreEmptied}
-use Rattle.hop_core.specs.Hop.{Bare, HopState, accepted_at, retired_at}
+use Rattle.hop_core.specs.Hop.{Bare, HopState}
 use Rattle.steer_model.specs.State.Machine.{Machine}
 use Rattle.steer_model.specs.Steps.CompoundSteps.{Progress, again, drain, drain_one, for_each}
-use Rattle.steer_model.specs.Steps.CompoundSteps.{most_rounds, one_round, poll, rounds, serve, ship}
-use Rattle.steer_model.specs.Steps.CompoundSteps.{ship_one, step, sweep, tried, unretired}
+use Rattle.steer_model.specs.Steps.CompoundSteps.{most_rounds, poll, rounds, serve, ship}
+use Rattle.steer_model.specs.Steps.CompoundSteps.{ship_one, step, tried, unretired}
 use Rattle.steer_invariant.specs.StepInvariant.{StepInvariant}
 use Rattle.steer_core.specs.Resting.{IsStill, PollerIsDone, SenderIsDone}
 use Rattle.steer_core.proofs.IdleTurns.{poll-of-done, serve-of-done}

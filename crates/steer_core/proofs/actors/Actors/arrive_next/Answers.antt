@@ -1,4 +1,4 @@
-use Rattle.std.proofs.Common.{◌<◌, ap, arith, length}
+use Rattle.std.proofs.Common.{◌<◌, arith, length}
 use Rattle.steer_core.proofs.ArriveLemmas.{held_come, may_come}
 use Rattle.steer_core.proofs.actors.Actors.arrive_next.Goals as goal
 

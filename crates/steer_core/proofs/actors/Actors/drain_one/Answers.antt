@@ -1,20 +1,33 @@
-use Rattle.std.proofs.Common.{ap, refl, ◌∙◌}
+use Rattle.std.proofs.Common.{ℕ, Bool, ap, refl, ◌∙◌}
 use Rattle.steer_base.specs.declared.step.Step.TheVariants as act
+use Rattle.steer_model.specs.State.Machine.{Machine}
 use Rattle.steer_model.specs.Steps.CompoundSteps.{Progress, tried}
 use Rattle.steer_core.proofs.TurnLemmas.{tried-with}
 use Rattle.steer_core.proofs.actors.Actors.drain_one.Goals as goal
 
 pub returns-clause-turn : goal.returns-clause-turn
 returns-clause-turn c =
-    let pull = tried-with c.args.self.now.machine c.pull.new.self.machine c.args.worked
-    c.worked_by-worked.result c.pull.result (act.Pull c.args.c) refl
+    let x : ℕ = c.args.c in
+    let start : Machine = c.args.self.now.machine in
+    let before : Bool = c.args.worked in
+    let pull-new : Machine = c.pull.new.self.machine in
+    let pull-did : Bool = c.worked_by-worked.result in
+    let pull-tried =
+    tried-with start pull-new before pull-did c.pull.result
+    (act.Pull x) refl
     c.pull.ensures.state c.pull.ensures.answer c.worked_by-worked.ensures in
-    let deliver = tried-with c.pull.new.self.machine c.deliver.new.self.machine c.worked_by-worked.result
-    c.worked_by-worked-2.result c.deliver.result (act.Deliver c.args.c) refl
+    let deliver-new : Machine = c.deliver.new.self.machine in
+    let deliver-did : Bool = c.worked_by-worked-2.result in
+    let deliver-tried =
+    tried-with pull-new deliver-new pull-did deliver-did c.deliver.result
+    (act.Deliver x) refl
     c.deliver.ensures.state c.deliver.ensures.answer c.worked_by-worked-2.ensures in
-    let retire = tried-with c.deliver.new.self.machine c.retire.new.self.machine c.worked_by-worked-2.result
-    c.worked_by.result c.retire.result (act.Retire c.args.c) refl
+    let retire-new : Machine = c.retire.new.self.machine in
+    let retire-did : Bool = c.worked_by.result in
+    let retire-tried =
+    tried-with deliver-new retire-new deliver-did retire-did c.retire.result
+    (act.Retire x) refl
     c.retire.ensures.state c.retire.ensures.answer c.worked_by.ensures in
-    retire ∙ ap (λ (t : Progress). tried t (act.Retire c.args.c))
-    (deliver ∙ ap (λ (t : Progress). tried t (act.Deliver c.args.c))
-    pull)
+    retire-tried ∙ ap (λ (t : Progress). tried t (act.Retire x))
+    (deliver-tried ∙ ap (λ (t : Progress). tried t (act.Deliver x))
+    pull-tried)

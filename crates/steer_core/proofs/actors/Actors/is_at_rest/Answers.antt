@@ -1,4 +1,4 @@
-use Rattle.std.proofs.Common.{◌≡◌, ◌<◌, length, true, ap, sym, ◌∙◌, subst, arith}
+use Rattle.std.proofs.Common.{◌≡◌, length, ap, sym, ◌∙◌, subst, arith}
 use Rattle.hop_core.specs.Emptied.{AreEmptied}
 use Rattle.hop_core.specs.Hop.{HopState}
 use Rattle.steer_model.specs.State.Machine.{Machine}
@@ -34,10 +34,10 @@ returns c =
     subst (λ (s : HopState). AreEmptied s c.first_n-2.result) tx
     (c.emptied-2.ensures.ok.0 (sym c.if-not-is_ok-2.ensures.value)) in
     λ all.
-        still-round m k came
-        (λ q lt. c.requires q lt (none q (omega (arith, lt, queues))))
-        (λ x lt. all-emptied m.rx m.setup.cpus _ x _ k.rx.sizes.cpus cpus c.first_n.ensures.members
-        drained lt)
-        (c.are_senders_done.ensures all)
-        (λ x lt. all-emptied m.tx m.setup.txs _ x _ k.tx.sizes.txs txs c.first_n-2.ensures.members
-        shipped lt)
+    still-round m k came
+    (λ q lt. c.requires q lt (none q (omega (arith, lt, queues))))
+    (λ x lt. all-emptied m.rx m.setup.cpus _ x _ k.rx.sizes.cpus cpus c.first_n.ensures.members
+    drained lt)
+    (c.are_senders_done.ensures all)
+    (λ x lt. all-emptied m.tx m.setup.txs _ x _ k.tx.sizes.txs txs c.first_n-2.ensures.members
+    shipped lt)

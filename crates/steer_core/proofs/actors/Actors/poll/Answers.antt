@@ -1,34 +1,57 @@
-use Rattle.std.proofs.Common.{ap, refl, ◌∙◌}
+use Rattle.std.proofs.Common.{ℕ, Bool, ap, refl, ◌∙◌}
 use Rattle.steer_base.specs.declared.step.Step.TheVariants as act
+use Rattle.steer_model.specs.State.Machine.{Machine}
 use Rattle.steer_model.specs.Steps.CompoundSteps.{Progress, tried}
 use Rattle.steer_core.proofs.TurnLemmas.{tried-idly, tried-with}
 use Rattle.steer_core.proofs.actors.Actors.poll.Goals as goal
 
 pub returns-clause-turn : goal.returns-clause-turn
 returns-clause-turn c =
-    let enter = tried-idly c.args.self.now.machine c.enter.new.self.machine c.args.worked (act.Enter c.args.q)
-    refl c.enter.ensures.state in
-    let take = tried-with c.enter.new.self.machine c.take.new.self.machine c.args.worked
-    c.worked_by-worked.result c.take.result (act.Take c.args.q) refl
+    let q : ℕ = c.args.q in
+    let start : Machine = c.args.self.now.machine in
+    let before : Bool = c.args.worked in
+    let enter-new : Machine = c.enter.new.self.machine in
+    let enter-tried =
+    tried-idly start enter-new before
+    (act.Enter q) refl c.enter.ensures.state in
+    let take-new : Machine = c.take.new.self.machine in
+    let take-did : Bool = c.worked_by-worked.result in
+    let take-tried =
+    tried-with enter-new take-new before take-did c.take.result
+    (act.Take q) refl
     c.take.ensures.state c.take.ensures.answer c.worked_by-worked.ensures in
-    let look = tried-with c.take.new.self.machine c.look.new.self.machine c.worked_by-worked.result
-    c.worked_by-worked-2.result c.look.result (act.Look c.args.q) refl
+    let look-new : Machine = c.look.new.self.machine in
+    let look-did : Bool = c.worked_by-worked-2.result in
+    let look-tried =
+    tried-with take-new look-new take-did look-did c.look.result
+    (act.Look q) refl
     c.look.ensures.state c.look.ensures.answer c.worked_by-worked-2.ensures in
-    let weigh = tried-with c.look.new.self.machine c.weigh.new.self.machine c.worked_by-worked-2.result
-    c.worked_by-worked-3.result c.weigh.result (act.Weigh c.args.q) refl
+    let weigh-new : Machine = c.weigh.new.self.machine in
+    let weigh-did : Bool = c.worked_by-worked-3.result in
+    let weigh-tried =
+    tried-with look-new weigh-new look-did weigh-did c.weigh.result
+    (act.Weigh q) refl
     c.weigh.ensures.state c.weigh.ensures.answer c.worked_by-worked-3.ensures in
-    let put = tried-with c.weigh.new.self.machine c.put.new.self.machine c.worked_by-worked-3.result
-    c.worked_by-worked-4.result c.put.result (act.Put c.args.q) refl
+    let put-new : Machine = c.put.new.self.machine in
+    let put-did : Bool = c.worked_by-worked-4.result in
+    let put-tried =
+    tried-with weigh-new put-new weigh-did put-did c.put.result
+    (act.Put q) refl
     c.put.ensures.state c.put.ensures.answer c.worked_by-worked-4.ensures in
-    let ask = tried-with c.put.new.self.machine c.ask.new.self.machine c.worked_by-worked-4.result
-    c.worked_by-worked-5.result c.ask.result (act.Ask c.args.q) refl
+    let ask-new : Machine = c.ask.new.self.machine in
+    let ask-did : Bool = c.worked_by-worked-5.result in
+    let ask-tried =
+    tried-with put-new ask-new put-did ask-did c.ask.result
+    (act.Ask q) refl
     c.ask.ensures.state c.ask.ensures.answer c.worked_by-worked-5.ensures in
-    let leave = tried-idly c.ask.new.self.machine c.leave.new.self.machine c.worked_by-worked-5.result (act.Leave c.args.q)
-    refl c.leave.ensures.state in
-    leave ∙ ap (λ (t : Progress). tried t (act.Leave c.args.q))
-    (ask ∙ ap (λ (t : Progress). tried t (act.Ask c.args.q))
-    (put ∙ ap (λ (t : Progress). tried t (act.Put c.args.q))
-    (weigh ∙ ap (λ (t : Progress). tried t (act.Weigh c.args.q))
-    (look ∙ ap (λ (t : Progress). tried t (act.Look c.args.q))
-    (take ∙ ap (λ (t : Progress). tried t (act.Take c.args.q))
-    enter)))))
+    let leave-new : Machine = c.leave.new.self.machine in
+    let leave-tried =
+    tried-idly ask-new leave-new ask-did
+    (act.Leave q) refl c.leave.ensures.state in
+    leave-tried ∙ ap (λ (t : Progress). tried t (act.Leave q))
+    (ask-tried ∙ ap (λ (t : Progress). tried t (act.Ask q))
+    (put-tried ∙ ap (λ (t : Progress). tried t (act.Put q))
+    (weigh-tried ∙ ap (λ (t : Progress). tried t (act.Weigh q))
+    (look-tried ∙ ap (λ (t : Progress). tried t (act.Look q))
+    (take-tried ∙ ap (λ (t : Progress). tried t (act.Take q))
+    enter-tried)))))

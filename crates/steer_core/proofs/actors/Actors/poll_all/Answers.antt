@@ -11,7 +11,8 @@ loop-q-preserved c =
     let done = c.poll_busy-done.ensures in
     let before = c.loop-q.invariant in (
       each-then c.loop-q.q poll (c.args.self.now.machine, c.args.worked)
-          (c.loop-q.self.machine, c.loop-q.done) (c.poll_busy-done.new.self.machine, c.poll_busy-done.result)
+          (c.loop-q.self.machine, c.loop-q.done)
+          (c.poll_busy-done.new.self.machine, c.poll_busy-done.result)
           before.0 done.turn,
       done.setup ∙ before.1,
       done.rooms ∙ before.2,

@@ -1,4 +1,4 @@
-use Rattle.std.proofs.Common.{false, sym, ◌∙◌}
+use Rattle.std.proofs.Common.{sym, ◌∙◌}
 use Rattle.steer_core.proofs.BusyLemmas.{done-after-none, done-after-work, poll-idled, poll-worked}
 use Rattle.steer_core.proofs.IdleTurns.{poll-of-done}
 use Rattle.steer_core.proofs.actors.Actors.poll_busy.Goals as goal

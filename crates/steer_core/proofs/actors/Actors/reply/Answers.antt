@@ -1,26 +1,43 @@
-use Rattle.std.proofs.Common.{ap, refl, ◌∙◌}
+use Rattle.std.proofs.Common.{ℕ, Bool, ap, refl, ◌∙◌}
 use Rattle.steer_base.specs.declared.step.Step.TheVariants as act
+use Rattle.steer_model.specs.State.Machine.{Machine}
 use Rattle.steer_model.specs.Steps.CompoundSteps.{Progress, tried}
 use Rattle.steer_core.proofs.TurnLemmas.{tried-idly, tried-with}
 use Rattle.steer_core.proofs.actors.Actors.reply.Goals as goal
 
 pub returns-clause-turn : goal.returns-clause-turn
 returns-clause-turn c =
-    let tenter = tried-idly c.args.self.now.machine c.tenter.new.self.machine c.args.worked (act.TEnter c.args.a)
-    refl c.tenter.ensures.state in
-    let send = tried-with c.tenter.new.self.machine c.send.new.self.machine c.args.worked
-    c.worked_by-worked.result c.send.result (act.Send c.args.a) refl
+    let a : ℕ = c.args.a in
+    let start : Machine = c.args.self.now.machine in
+    let before : Bool = c.args.worked in
+    let tenter-new : Machine = c.tenter.new.self.machine in
+    let tenter-tried =
+    tried-idly start tenter-new before
+    (act.TEnter a) refl c.tenter.ensures.state in
+    let send-new : Machine = c.send.new.self.machine in
+    let send-did : Bool = c.worked_by-worked.result in
+    let send-tried =
+    tried-with tenter-new send-new before send-did c.send.result
+    (act.Send a) refl
     c.send.ensures.state c.send.ensures.answer c.worked_by-worked.ensures in
-    let tweigh = tried-with c.send.new.self.machine c.tweigh.new.self.machine c.worked_by-worked.result
-    c.worked_by-worked-2.result c.tweigh.result (act.TWeigh c.args.a) refl
+    let tweigh-new : Machine = c.tweigh.new.self.machine in
+    let tweigh-did : Bool = c.worked_by-worked-2.result in
+    let tweigh-tried =
+    tried-with send-new tweigh-new send-did tweigh-did c.tweigh.result
+    (act.TWeigh a) refl
     c.tweigh.ensures.state c.tweigh.ensures.answer c.worked_by-worked-2.ensures in
-    let tput = tried-with c.tweigh.new.self.machine c.tput.new.self.machine c.worked_by-worked-2.result
-    c.worked_by-worked-3.result c.tput.result (act.TPut c.args.a) refl
+    let tput-new : Machine = c.tput.new.self.machine in
+    let tput-did : Bool = c.worked_by-worked-3.result in
+    let tput-tried =
+    tried-with tweigh-new tput-new tweigh-did tput-did c.tput.result
+    (act.TPut a) refl
     c.tput.ensures.state c.tput.ensures.answer c.worked_by-worked-3.ensures in
-    let tleave = tried-idly c.tput.new.self.machine c.tleave.new.self.machine c.worked_by-worked-3.result (act.TLeave c.args.a)
-    refl c.tleave.ensures.state in
-    tleave ∙ ap (λ (t : Progress). tried t (act.TLeave c.args.a))
-    (tput ∙ ap (λ (t : Progress). tried t (act.TPut c.args.a))
-    (tweigh ∙ ap (λ (t : Progress). tried t (act.TWeigh c.args.a))
-    (send ∙ ap (λ (t : Progress). tried t (act.Send c.args.a))
-    tenter)))
+    let tleave-new : Machine = c.tleave.new.self.machine in
+    let tleave-tried =
+    tried-idly tput-new tleave-new tput-did
+    (act.TLeave a) refl c.tleave.ensures.state in
+    tleave-tried ∙ ap (λ (t : Progress). tried t (act.TLeave a))
+    (tput-tried ∙ ap (λ (t : Progress). tried t (act.TPut a))
+    (tweigh-tried ∙ ap (λ (t : Progress). tried t (act.TWeigh a))
+    (send-tried ∙ ap (λ (t : Progress). tried t (act.Send a))
+    tenter-tried)))

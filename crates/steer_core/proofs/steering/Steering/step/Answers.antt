@@ -12,15 +12,14 @@ step-stepped-requires-clause-room c =
     c.self.invariant.0 c.args.step.now
 
 pub invariant_of-self : goal.invariant_of-self
-invariant_of-self c =
-    (
-      counted_step c.self.inside.actors c.self.inside.made c.self.inside.steps
-          (rw (← c.self.view_is) at c.requires.left) c.self.invariant.0 c.step-stepped.new.self
-          c.args.step.now
-          (rw (← c.self.view_is) at c.requires.within) c.sound.ensures c.step-stepped.ensures.state
-          c.step-stepped.ensures.rooms,
-      c.step-stepped.ensures.rest,
-    )
+invariant_of-self c = (
+  counted_step c.self.inside.actors c.self.inside.made c.self.inside.steps
+      (rw (← c.self.view_is) at c.requires.left) c.self.invariant.0 c.step-stepped.new.self
+      c.args.step.now
+      (rw (← c.self.view_is) at c.requires.within) c.sound.ensures c.step-stepped.ensures.state
+      c.step-stepped.ensures.rooms,
+  c.step-stepped.ensures.rest,
+)
 
 pub returns-clause-setup : goal.returns-clause-setup
 returns-clause-setup c =
