@@ -5,9 +5,9 @@ ghost use Rattle.outside_io.specs.Desk.{Begins, GoesOnTelling, Reads, read_count
 ghost use Rattle.outside_io.specs.Desk.{has_failed, read_failed, untold};
 ghost use Rattle.outside_io.specs.FileDesk.{file_desk_faults, file_of};
 
+use crate::retrying::read_retrying;
 use crate::{Begin, Desk, Got};
 use std::fs;
-use std::io::Read;
 use std::rt::Files;
 
 /// The files of the operating system, by path. Its contracts say nothing about the bytes of a file,
@@ -88,7 +88,7 @@ impl<R: Files + Drop> Desk for FileDesk<R> {
         let Some(file) = &mut self.file else {
             return Got::End;
         };
-        match file.read(buf) {
+        match read_retrying(file, buf) {
             Ok(0) => Got::End,
             Ok(count) => Got::Bytes(count),
             Err(_) => {

@@ -9,6 +9,7 @@ mod folder;
 mod memory_desk;
 mod memory_sink;
 mod reading;
+mod retrying;
 mod sink;
 mod std_sink;
 mod sure_desk;

@@ -5,6 +5,7 @@ ghost use Rattle.outside_io.specs.Counts.{Rose, counted};
 ghost use Rattle.outside_io.specs.Sink.{Takes, write_failed};
 ghost use Rattle.outside_io.specs.StdSink.{std_sink_faults, writer_of};
 
+use crate::retrying::{flush_retrying, write_retrying};
 use crate::{Sink, Took, WriteFault};
 use std::io::Write;
 
@@ -45,7 +46,7 @@ impl<W: Write + Drop> Sink for StdSink<W> {
         ensures counted { std_sink_faults self.new ≡ counted (write_failed result)
             (std_sink_faults self.old) }
     {
-        match self.writer.write(bytes) {
+        match write_retrying(&mut self.writer, bytes) {
             Ok(count) if count > 0 => Took::Bytes(count),
             _ => {
                 self.faults = self.faults.saturating_add(1);
@@ -64,7 +65,7 @@ impl<W: Write + Drop> Sink for StdSink<W> {
         ensures counted { std_sink_faults self.new ≡ counted (is_err result)
             (std_sink_faults self.old) }
     {
-        match self.writer.flush() {
+        match flush_retrying(&mut self.writer) {
             Ok(()) => Ok(()),
             Err(_) => {
                 self.faults = self.faults.saturating_add(1);
