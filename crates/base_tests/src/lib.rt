@@ -7,6 +7,8 @@ mod desks;
 #[cfg(test)]
 mod hints;
 #[cfg(test)]
+mod interrupted;
+#[cfg(test)]
 mod seats;
 #[cfg(test)]
 mod shared;

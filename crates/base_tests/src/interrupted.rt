@@ -1,0 +1,175 @@
+//! Calls that a signal interrupts: they are made again, until they were made too often.
+use outside_io::{Begin, Desk, FileDesk, Got, Sink, StdSink, Took, WriteFault};
+use std::alloc::Allocator;
+use std::fs::{Files, Metadata, OpenFile, OpenOptions};
+use std::io;
+use std::io::{Empty, ErrorKind, Read, Seek, SeekFrom, Write};
+
+// More often than a call is made.
+const ALWAYS: u32 = 1_000_000;
+
+// A file of one byte. Each of its calls is interrupted this often before it is made.
+#[derive(Drop)]
+struct Disturbed {
+    often: u32,
+    interrupted: u32,
+    is_read: bool,
+}
+
+impl Disturbed {
+    fn make(often: u32) -> Disturbed {
+        Disturbed {
+            often,
+            interrupted: 0,
+            is_read: false,
+        }
+    }
+
+    fn next_call(&mut self) -> io::Result<()> {
+        if self.interrupted < self.often {
+            self.interrupted += 1;
+            return Err(io::Error::from(ErrorKind::Interrupted));
+        }
+        self.interrupted = 0;
+        Ok(())
+    }
+}
+
+impl Read for Disturbed {
+    fn read(&mut self, buf: &mut [u8]) -> io::Result<usize> {
+        self.next_call()?;
+        if self.is_read || buf.is_empty() {
+            return Ok(0);
+        }
+        self.is_read = true;
+        buf[0] = 7;
+        Ok(1)
+    }
+}
+
+impl Write for Disturbed {
+    fn write(&mut self, buf: &[u8]) -> io::Result<usize> {
+        self.next_call()?;
+        Ok(buf.len())
+    }
+
+    fn flush(&mut self) -> io::Result<()> {
+        self.next_call()
+    }
+}
+
+impl Seek for Disturbed {
+    fn seek(&mut self, _to: SeekFrom) -> io::Result<u64> {
+        unsupported()
+    }
+}
+
+impl OpenFile for Disturbed {
+    fn metadata(&self) -> io::Result<Metadata> {
+        unsupported()
+    }
+
+    fn set_len(&self, _size: u64) -> io::Result<()> {
+        unsupported()
+    }
+
+    fn sync_all(&self) -> io::Result<()> {
+        unsupported()
+    }
+
+    fn sync_data(&self) -> io::Result<()> {
+        unsupported()
+    }
+}
+
+// Every name is that of such a file.
+#[derive(Drop)]
+struct DisturbedFiles {
+    often: u32,
+}
+
+impl Files for DisturbedFiles {
+    type File = Disturbed;
+
+    type Dir = Empty;
+
+    fn open_file(&self, _how: &OpenOptions, _path: &str) -> io::Result<Disturbed> {
+        Ok(Disturbed::make(self.often))
+    }
+
+    fn open_dir(&self, _path: &str) -> io::Result<Empty> {
+        unsupported()
+    }
+
+    fn metadata(&self, _path: &str) -> io::Result<Metadata> {
+        unsupported()
+    }
+
+    fn symlink_metadata(&self, _path: &str) -> io::Result<Metadata> {
+        unsupported()
+    }
+
+    fn copy(&self, _from: &str, _to: &str) -> io::Result<u64> {
+        unsupported()
+    }
+
+    fn rename(&self, _from: &str, _to: &str) -> io::Result<()> {
+        unsupported()
+    }
+
+    fn remove_file(&self, _path: &str) -> io::Result<()> {
+        unsupported()
+    }
+
+    fn create_dir(&self, _path: &str) -> io::Result<()> {
+        unsupported()
+    }
+
+    fn remove_dir(&self, _path: &str) -> io::Result<()> {
+        unsupported()
+    }
+
+    fn remove_dir_all<B: Allocator>(&self, _alloc: B, _path: &str) -> io::Result<()> {
+        unsupported()
+    }
+}
+
+fn unsupported<T>() -> io::Result<T> {
+    Err(io::Error::from(ErrorKind::Unsupported))
+}
+
+#[test]
+fn an_interrupted_read_is_made_again(rt: HostRuntime) {
+    for (often, want) in [
+        (0, Got::Bytes(1)),
+        (1, Got::Bytes(1)),
+        (1_000, Got::Bytes(1)),
+        (ALWAYS, Got::Failed),
+    ] {
+        let mut desk = FileDesk::make(DisturbedFiles { often });
+        assert_eq!(rt; desk.begin("a"), Begin::Ok);
+        let mut buffer = [0; 2];
+        assert_eq!(rt; desk.read(&mut buffer), want, "interrupted {often} times");
+    }
+    let mut desk = FileDesk::make(DisturbedFiles { often: 1 });
+    assert_eq!(rt; desk.begin("a"), Begin::Ok);
+    let mut buffer = [0; 2];
+    assert_eq!(rt; desk.read(&mut buffer), Got::Bytes(1));
+    assert_eq!(rt; buffer, [7, 0]);
+    assert_eq!(rt; desk.read(&mut buffer), Got::End);
+}
+
+#[test]
+fn an_interrupted_write_or_flush_is_made_again(rt: HostRuntime) {
+    for (often, took, flushed) in [
+        (0, Took::Bytes(4), Ok(())),
+        (1, Took::Bytes(4), Ok(())),
+        (1_000, Took::Bytes(4), Ok(())),
+        (ALWAYS, Took::Failed, Err(WriteFault)),
+    ] {
+        let mut out = StdSink::make(Disturbed::make(often));
+        assert_eq!(rt; out.write(b"p 0\n"), took, "interrupted {often} times");
+        let mut out = StdSink::make(Disturbed::make(often));
+        assert_eq!(rt; out.flush(), flushed, "interrupted {often} times");
+    }
+}
