@@ -6,6 +6,7 @@ pub mod NeededPremises
 pub mod NumbersLemmas
 pub mod OneHistory
 pub mod OneReply
+pub mod PairsLemmas
 pub mod PiecesLemmas
 pub mod ReportRows
 pub mod RoomLemmas

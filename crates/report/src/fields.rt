@@ -6,6 +6,7 @@ ghost use Rattle.report.specs.Pieces.{spaced};
 use crate::line::LineBuf;
 
 /// Begins a line with a word and a number.
+#[inline(always)]
 pub(crate) fn begin(buf: &mut LineBuf, word: &[u8], number: u64)
     requires { length word.now ≤ 8 }
     ensures text { buf.new ≡ word.now ++ spaced (decimal number ∷ []) }
@@ -17,6 +18,7 @@ pub(crate) fn begin(buf: &mut LineBuf, word: &[u8], number: u64)
 }
 
 /// Appends a number to a line.
+#[inline(always)]
 pub(crate) fn push_number(buf: &mut LineBuf, number: u64)
     requires { length buf.old + 21 ≤ 512 }
     ensures text { buf.new ≡ buf.old ++ spaced (decimal number ∷ []) }
@@ -27,6 +29,7 @@ pub(crate) fn push_number(buf: &mut LineBuf, number: u64)
 }
 
 /// Appends a word to a line.
+#[inline(always)]
 pub(crate) fn push_word(buf: &mut LineBuf, word: &[u8])
     requires { length buf.old + length word.now + 1 ≤ 512 }
     ensures text { buf.new ≡ buf.old ++ spaced (word.now ∷ []) }
@@ -37,6 +40,7 @@ pub(crate) fn push_word(buf: &mut LineBuf, word: &[u8])
 }
 
 /// Appends a word and a number to a line.
+#[inline(always)]
 pub(crate) fn push_named(buf: &mut LineBuf, name: &[u8], number: u64)
     requires { length buf.old + length name.now + 22 ≤ 512 }
     ensures text { buf.new ≡ buf.old ++ spaced (name.now ∷ decimal number ∷ []) }
@@ -47,6 +51,7 @@ pub(crate) fn push_named(buf: &mut LineBuf, name: &[u8], number: u64)
 }
 
 /// Appends a word and a number to a line, a dash if there is no number.
+#[inline(always)]
 pub(crate) fn push_option(buf: &mut LineBuf, name: &[u8], number: Option<u32>)
     requires { length buf.old + length name.now + 22 ≤ 512 }
     ensures text { buf.new ≡ buf.old ++ spaced (name.now ∷ or_dash number ∷ []) }
@@ -60,6 +65,7 @@ pub(crate) fn push_option(buf: &mut LineBuf, name: &[u8], number: Option<u32>)
 }
 
 /// Appends a word and an 8-bit number to a line, a dash if there is no number.
+#[inline(always)]
 pub(crate) fn push_lane(buf: &mut LineBuf, name: &[u8], number: Option<u8>)
     requires { length buf.old + length name.now + 22 ≤ 512 }
     ensures text { buf.new ≡ buf.old ++ spaced (name.now ∷ or_dash number ∷ []) }

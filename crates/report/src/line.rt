@@ -6,7 +6,7 @@ ghost use Rattle.outside_io.specs.Counts.{Rose};
 ghost use Rattle.outside_io.specs.Sink.{AppendsSome};
 ghost use Rattle.report.specs.Numbers.{hex_digits};
 
-use crate::numbers::hex_digit;
+use crate::numbers::{decimal_pair, last_hex8};
 use itoa::Buffer;
 use outside_io::{Sink, WriteFault, write_whole};
 use std::alloc::Global;
@@ -54,6 +54,7 @@ impl LineBuf {
     }
 
     /// Appends a text to the line.
+    #[inline(always)]
     pub fn push(&mut self, text: &[u8])
         requires { length self.old + length text.now ≤ 512 }
         ensures { self.new ≡ self.old ++ text.now }
@@ -65,6 +66,55 @@ impl LineBuf {
 
     /// Appends the decimal digits of a number to the line, at most 20.
     pub fn push_decimal(&mut self, number: u64)
+        requires { length self.old + 20 ≤ 512 }
+        ensures value { self.new ≡ self.old ++ decimal number }
+        ensures grows { length self.new ≤ length self.old + 20 }
+    {
+        if number < 10_000 {
+            self.push_short(number);
+        } else if number < 100_000_000 {
+            self.push_short(number / 10_000);
+            self.push(&decimal_pair(number / 100 % 100));
+            self.push(&decimal_pair(number % 100));
+        } else {
+            self.push_long(number);
+        }
+    }
+
+    // Appends the decimal digits of a number below 10,000.
+    #[inline(always)]
+    fn push_short(&mut self, number: u64)
+        requires small { number < 10000 }
+        requires room { length self.old + 4 ≤ 512 }
+        ensures value { self.new ≡ self.old ++ decimal number }
+        ensures grows { length self.new ≤ length self.old + 4 }
+    {
+        if number < 100 {
+            self.push_first(number);
+        } else {
+            self.push_first(number / 100);
+            self.push(&decimal_pair(number % 100));
+        }
+    }
+
+    // Appends the decimal digits of a number below 100.
+    #[inline(always)]
+    fn push_first(&mut self, number: u64)
+        requires small { number < 100 }
+        requires room { length self.old + 2 ≤ 512 }
+        ensures value { self.new ≡ self.old ++ decimal number }
+        ensures grows { length self.new ≤ length self.old + 2 }
+    {
+        if number < 10 {
+            self.push(&[b'0' + number as u8]);
+        } else {
+            self.push(&decimal_pair(number));
+        }
+    }
+
+    // Appends the decimal digits of any number.
+    #[inline(never)]
+    fn push_long(&mut self, number: u64)
         requires { length self.old + 20 ≤ 512 }
         ensures value { self.new ≡ self.old ++ decimal number }
         ensures grows { length self.new ≤ length self.old + 20 }
@@ -82,12 +132,13 @@ impl LineBuf {
         ensures value { self.new ≡ self.old ++ hex_digits digits number }
         ensures grows { length self.new ≡ length self.old + digits }
     {
-        let mut text = [0; 32];
-        for place in 0..digits {
-            let digit = ((number >> (4 * (digits - 1 - place))) % 16) as u32;
-            text[place as usize] = hex_digit(digit);
+        let mut left = digits;
+        while left >= 8 {
+            left -= 8;
+            self.push(&last_hex8(number >> (4 * left)));
         }
-        self.push(&text[..digits as usize]);
+        let last = last_hex8(number);
+        self.push(&last[8 - left as usize..]);
     }
 
     /// Writes the line as one piece and clears it, even if the sink fails.

@@ -1,29 +1,62 @@
-//! Numbers in hexadecimal digits.
-ghost use Rattle.std.specs.Prelude.{◌≡◌, ◌<◌};
-ghost use Rattle.report.specs.Numbers.{hex_digit as the_digit, hex8_of};
+//! Numbers in decimal and hexadecimal digits, two at a time.
+ghost use Rattle.std.specs.Prelude.{◌≡◌, ◌<◌, ◌+◌, ◌/◌, ◌%◌, ◌∷◌, []};
+ghost use Rattle.report.specs.Numbers.{hex_digit, hex_digits, hex8_of};
 
-/// One lower case hexadecimal digit.
-pub(crate) fn hex_digit(digit: u32) -> u8
-    requires { digit < 16 }
-    ensures { result ≡ the_digit digit }
+/// The two decimal digits of each number below 100.
+static DECIMAL_PAIRS: [u8; 200] = *b"\
+    00010203040506070809101112131415161718192021222324\
+    25262728293031323334353637383940414243444546474849\
+    50515253545556575859606162636465666768697071727374\
+    75767778798081828384858687888990919293949596979899";
+
+/// The two lower case hexadecimal digits of each number below 256.
+static HEX_PAIRS: [u8; 512] = *b"\
+    000102030405060708090a0b0c0d0e0f101112131415161718191a1b1c1d1e1f\
+    202122232425262728292a2b2c2d2e2f303132333435363738393a3b3c3d3e3f\
+    404142434445464748494a4b4c4d4e4f505152535455565758595a5b5c5d5e5f\
+    606162636465666768696a6b6c6d6e6f707172737475767778797a7b7c7d7e7f\
+    808182838485868788898a8b8c8d8e8f909192939495969798999a9b9c9d9e9f\
+    a0a1a2a3a4a5a6a7a8a9aaabacadaeafb0b1b2b3b4b5b6b7b8b9babbbcbdbebf\
+    c0c1c2c3c4c5c6c7c8c9cacbcccdcecfd0d1d2d3d4d5d6d7d8d9dadbdcdddedf\
+    e0e1e2e3e4e5e6e7e8e9eaebecedeeeff0f1f2f3f4f5f6f7f8f9fafbfcfdfeff";
+
+/// The two decimal digits of a number below 100.
+#[inline(always)]
+pub(crate) fn decimal_pair(number: u64) -> [u8; 2]
+    requires { number < 100 }
+    ensures { result ≡ (48 + number / 10) ∷ (48 + number % 10) ∷ [] }
 {
-    let digit = digit as u8;
-    if digit < 10 { b'0' + digit } else { 87 + digit }
+    let from = number as usize * 2;
+    [DECIMAL_PAIRS[from], DECIMAL_PAIRS[from + 1]]
+}
+
+/// The two lower case hexadecimal digits of a number below 256.
+#[inline(always)]
+fn hex_pair(number: u32) -> (u8, u8)
+    requires { number < 256 }
+    ensures high { result.0 ≡ hex_digit (number / 16) }
+    ensures low { result.1 ≡ hex_digit (number % 16) }
+{
+    let from = number as usize * 2;
+    (HEX_PAIRS[from], HEX_PAIRS[from + 1])
 }
 
 /// The 8 lower case hexadecimal digits of a number.
-#[tactic(auto, unfolding(crate::specs::Numbers::hex_digits))]
+#[inline(always)]
 pub fn hex8(number: u32) -> [u8; 8]
     ensures { result ≡ hex8_of number }
 {
-    [
-        hex_digit((number >> 28) % 16),
-        hex_digit((number >> 24) % 16),
-        hex_digit((number >> 20) % 16),
-        hex_digit((number >> 16) % 16),
-        hex_digit((number >> 12) % 16),
-        hex_digit((number >> 8) % 16),
-        hex_digit((number >> 4) % 16),
-        hex_digit(number % 16),
-    ]
+    let (a, b) = hex_pair(number >> 24);
+    let (c, d) = hex_pair((number >> 16) % 256);
+    let (e, f) = hex_pair((number >> 8) % 256);
+    let (g, h) = hex_pair(number % 256);
+    [a, b, c, d, e, f, g, h]
+}
+
+/// The last 8 lower case hexadecimal digits of a number.
+#[inline(always)]
+pub(crate) fn last_hex8(number: u128) -> [u8; 8]
+    ensures { result ≡ hex8_of number }
+{
+    hex8((number % (1 << 32)) as u32)
 }

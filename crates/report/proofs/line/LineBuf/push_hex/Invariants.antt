@@ -1,11 +1,14 @@
-use Rattle.std.proofs.Common.{◌≡◌, ◌-◌, ◌++◌, length, take}
+use Rattle.std.proofs.Common.{◌≡◌, ◌+◌, ◌≤◌, ◌++◌, length}
 use Rattle.report.specs.Numbers.{hex_digits}
 use Rattle.report.proofs.line.LineBuf.push_hex.Given as goal
 
--- the digits so far and those of the places left are all digits
-abbrev pub invariant-loop-place : goal.invariant-loop-place
-invariant-loop-place l = record {
-  text : take l.place l.text ++ hex_digits (l.digits - l.place) l.number ≡ hex_digits l.digits
-      l.number;
-  size : length l.text ≡ 32;
+-- the line so far and the digits left are the line at first and all digits
+abbrev pub invariant-loop-left : goal.invariant-loop-left
+invariant-loop-left l = record {
+  text : l.self ++ hex_digits l.left l.number ≡ l.initial.self ++ hex_digits l.digits l.number;
+  size : length l.self + l.left ≡ length l.initial.self + l.digits;
+  few : l.left ≤ l.digits;
 }
+
+abbrev pub decreases-loop-left : goal.decreases-loop-left
+decreases-loop-left l = l.left
