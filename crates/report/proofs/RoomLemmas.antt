@@ -1,49 +1,43 @@
--- A text behind the first bytes of a room of fixed size.
-use Rattle.std.proofs.Common.{ℕ, ◌≤◌, ◌≡◌, ◌+◌, ◌-◌, List, ◌++◌, ◌∙◌, ap, arith, drop, length}
-use Rattle.std.proofs.Common.{length-append, sym, take, Vec}
-use Rattle.std.specs.Vec.{vec_len, with_items}
-use Rattle.std.proofs.lemmas.List.{length-drop, length-take-le, with_items_is}
-use Rattle.std.proofs.lemmas.Slice.{take-put_mid}
+-- A text behind the first bytes of a room.
+use Rattle.std.proofs.Common.{ℕ, ◌≤◌, ◌≡◌, ◌+◌, ◌-◌, List, [], ◌∷◌, ◌++◌, ◌∙◌, ap, arith, drop}
+use Rattle.std.proofs.Common.{append_assoc, drop_at, length, length-take-le, set, sym, take}
+use Rattle.std.proofs.Common.{take_all, take_at, take-add, take-append-drop, take-take}
+use Rattle.std.proofs.lemmas.List.{length-drop, length-set, take_more_set}
 
--- what a list is where k of its items, from an index on, are replaced
-abbrev pub replaced : List ℕ → ℕ → ℕ → List ℕ → List ℕ
-replaced xs i k ys = take i xs ++ (ys ++ drop k (drop i xs))
+-- the first bytes, up to some of a text behind them
+take-behind : (at n : ℕ) (a text : List ℕ) → at ≤ length a → take (at + n) (take at a ++ text)
+    ≡ take at a ++ take n text
+take-behind at n a text within =
+    let front = length-take-le at a within in
+    take-add at n (take at a ++ text)
+    ∙ (λ k. take_at (take at a) text at front k ++ take n (drop_at (take at a) text at front k))
 
--- as many bytes in their place leave the number of bytes
-length-replaced : (xs text : List ℕ) (before : ℕ) → before + length text ≤ length xs
-    → length (replaced xs before (before + length text - before) text) ≡ length xs
-length-replaced xs text before within =
-    let k = before + length text - before in
-    let rest = drop k (drop before xs) in
-    let front = length-take-le before xs (omega (arith, within)) in
-    let behind = length-drop k (drop before xs) in
-    let middle = length-drop before xs in
-    omega (
-      arith,
-      within,
-      front,
-      behind,
-      middle,
-      length-append text rest,
-      length-append (take before xs) (text ++ rest),
-    )
+-- a text laid down by its first and its last bytes, these over those
+pub ends-placed : (a b c text : List ℕ) (at half : ℕ) → at ≤ length a → half ≤ length text
+    → length text ≤ half + half → take (at + half) b ≡ take at a ++ take half text
+    → take (at + (length text - half) + half) c
+    ≡ take (at + (length text - half)) b ++ take half (drop (length text - half) text)
+    → take (at + length text) c ≡ take at a ++ text
+ends-placed a b c text at half within fits covers first second =
+    let last = length text - half in
+    let all : at + last + half ≡ at + length text = omega arith in
+    let front : take (at + last) b ≡ take at a ++ take last text =
+    sym (take-take (at + last) (at + half) b (omega arith)) ∙ ap (take (at + last)) first
+    ∙ take-behind at last a (take half text) within
+    ∙ ap (λ r. take at a ++ r) (take-take last half text (omega arith)) in
+    let rest = take_all half (drop last text) (omega (arith, length-drop last text)) in
+    rw all at second
+    ∙ ap (λ r. r ++ take half (drop last text)) front
+    ∙ append_assoc (take at a) (take last text) (take half (drop last text))
+    ∙ ap (λ r. take at a ++ (take last text ++ r)) rest
+    ∙ ap (λ r. take at a ++ r) (take-append-drop last text)
 
--- where a text is written behind the first bytes of a room, these and the text are first in it
-pub text-behind : {Z : Type 0} (room : Vec ℕ Z) (xs written text : List ℕ) (before : ℕ)
-    → xs ≡ room.items → written ≡ text → length xs ≡ vec_len room
-    → before + length text ≤ vec_len room
-    → take (before + length text)
-    (with_items room (replaced xs before (before + length text - before) written)).items
-    ≡ take before room.items ++ text
-text-behind room xs written text before is same size within =
-    let end = before + length text in
-    let fits = length-replaced xs text before (omega (arith, size, within)) in
-    rw same (ap (take end)
-    (with_items_is room (replaced xs before (end - before) text) (fits ∙ size))
-    ∙ take-put_mid before (end - before) xs text end (omega arith) (omega (arith, size, within))
-    ∙ ap (λ r. take before r ++ text) is)
-
--- a line is as long as the bytes of the room that are its own
-pub first-bytes : (room line : List ℕ) (n : ℕ) → take n room ≡ line → n ≤ length room
-    → n ≡ length line
-first-bytes room line n is within = sym (length-take-le n room within) ∙ ap length is
+-- two bytes, one behind the other
+pub pair-placed : (room : List ℕ) (at a b : ℕ) → at + 2 ≤ length room
+    → take (at + 2) (set (set room at a) (at + 1) b) ≡ take at room ++ a ∷ b ∷ []
+pair-placed room at a b within =
+    let two : at + 2 ≡ at + 1 + 1 = omega arith in
+    let second = take_more_set (set room at a) (at + 1) b
+    (omega (arith, within, length-set room at a)) in
+    rw two second ∙ ap (λ r. r ++ b ∷ []) (take_more_set room at a (omega (arith, within)))
+    ∙ append_assoc (take at room) (a ∷ []) (b ∷ [])

@@ -50,30 +50,41 @@ pub(crate) fn push_named(buf: &mut LineBuf, name: &[u8], number: u64)
     push_number(buf, number);
 }
 
-/// Appends a word and a number to a line, a dash if there is no number.
+/// Appends a text and the number after it to a line.
 #[inline(always)]
-pub(crate) fn push_option(buf: &mut LineBuf, name: &[u8], number: Option<u32>)
-    requires { length buf.old + length name.now + 22 ≤ 512 }
-    ensures text { buf.new ≡ buf.old ++ spaced (name.now ∷ or_dash number ∷ []) }
-    ensures grows { length buf.new ≤ length buf.old + length name.now + 22 }
+pub(crate) fn push_after(buf: &mut LineBuf, text: &[u8], number: u64)
+    requires { length buf.old + length text.now + 20 ≤ 512 }
+    ensures text { buf.new ≡ buf.old ++ text.now ++ decimal number }
+    ensures grows { length buf.new ≤ length buf.old + length text.now + 20 }
 {
-    push_word(buf, name);
+    buf.push(text);
+    buf.push_decimal(number);
+}
+
+/// Appends a text and the number after it to a line, a dash if there is no number.
+#[inline(always)]
+pub(crate) fn push_option(buf: &mut LineBuf, text: &[u8], number: Option<u32>)
+    requires { length buf.old + length text.now + 20 ≤ 512 }
+    ensures text { buf.new ≡ buf.old ++ text.now ++ or_dash number }
+    ensures grows { length buf.new ≤ length buf.old + length text.now + 20 }
+{
+    buf.push(text);
     match number {
-        Some(number) => push_number(buf, u64::from(number)),
-        None => push_word(buf, b"-"),
+        Some(number) => buf.push_decimal(u64::from(number)),
+        None => buf.push(b"-"),
     }
 }
 
-/// Appends a word and an 8-bit number to a line, a dash if there is no number.
+/// Appends a text and the 8-bit number after it to a line, a dash if there is no number.
 #[inline(always)]
-pub(crate) fn push_lane(buf: &mut LineBuf, name: &[u8], number: Option<u8>)
-    requires { length buf.old + length name.now + 22 ≤ 512 }
-    ensures text { buf.new ≡ buf.old ++ spaced (name.now ∷ or_dash number ∷ []) }
-    ensures grows { length buf.new ≤ length buf.old + length name.now + 22 }
+pub(crate) fn push_lane(buf: &mut LineBuf, text: &[u8], number: Option<u8>)
+    requires { length buf.old + length text.now + 20 ≤ 512 }
+    ensures text { buf.new ≡ buf.old ++ text.now ++ or_dash number }
+    ensures grows { length buf.new ≤ length buf.old + length text.now + 20 }
 {
-    push_word(buf, name);
+    buf.push(text);
     match number {
-        Some(number) => push_number(buf, u64::from(number)),
-        None => push_word(buf, b"-"),
+        Some(number) => buf.push_decimal(u64::from(number)),
+        None => buf.push(b"-"),
     }
 }

@@ -2,12 +2,14 @@
 #![tactic(auto)]
 
 mod commands;
+mod decimal;
 mod fields;
 mod fits;
 mod laws;
 mod line;
 mod numbers;
 mod packets;
+mod place;
 mod sections;
 mod sums;
 mod whole;

@@ -6,7 +6,9 @@ ghost use Rattle.outside_io.specs.Counts.{Rose};
 ghost use Rattle.outside_io.specs.Sink.{AppendsSome};
 ghost use Rattle.report.specs.Numbers.{hex_digits};
 
-use crate::numbers::{decimal_pair, last_hex8};
+use crate::decimal::place_decimal;
+use crate::numbers::last_hex8;
+use crate::place::place;
 use itoa::Buffer;
 use outside_io::{Sink, WriteFault, write_whole};
 use std::alloc::Global;
@@ -60,59 +62,38 @@ impl LineBuf {
         ensures { self.new ≡ self.old ++ text.now }
     {
         let end = self.length + text.len();
-        self.room[self.length..end].copy_from_slice(text);
+        place(&mut self.room, self.length, text);
         self.length = end;
     }
 
     /// Appends the decimal digits of a number to the line, at most 20.
+    #[inline(always)]
     pub fn push_decimal(&mut self, number: u64)
         requires { length self.old + 20 ≤ 512 }
         ensures value { self.new ≡ self.old ++ decimal number }
         ensures grows { length self.new ≤ length self.old + 20 }
     {
-        if number < 10_000 {
-            self.push_short(number);
-        } else if number < 100_000_000 {
-            self.push_short(number / 10_000);
-            self.push(&decimal_pair(number / 100 % 100));
-            self.push(&decimal_pair(number % 100));
+        if number < 10 {
+            self.push(&[b'0' + number as u8]);
+        } else {
+            self.push_digits(number);
+        }
+    }
+
+    // Appends the decimal digits of a number of any length.
+    fn push_digits(&mut self, number: u64)
+        requires { length self.old + 20 ≤ 512 }
+        ensures value { self.new ≡ self.old ++ decimal number }
+        ensures grows { length self.new ≤ length self.old + 20 }
+    {
+        if number < 100_000_000 {
+            self.length = place_decimal(&mut self.room, self.length, number);
         } else {
             self.push_long(number);
         }
     }
 
-    // Appends the decimal digits of a number below 10,000.
-    #[inline(always)]
-    fn push_short(&mut self, number: u64)
-        requires small { number < 10000 }
-        requires room { length self.old + 4 ≤ 512 }
-        ensures value { self.new ≡ self.old ++ decimal number }
-        ensures grows { length self.new ≤ length self.old + 4 }
-    {
-        if number < 100 {
-            self.push_first(number);
-        } else {
-            self.push_first(number / 100);
-            self.push(&decimal_pair(number % 100));
-        }
-    }
-
-    // Appends the decimal digits of a number below 100.
-    #[inline(always)]
-    fn push_first(&mut self, number: u64)
-        requires small { number < 100 }
-        requires room { length self.old + 2 ≤ 512 }
-        ensures value { self.new ≡ self.old ++ decimal number }
-        ensures grows { length self.new ≤ length self.old + 2 }
-    {
-        if number < 10 {
-            self.push(&[b'0' + number as u8]);
-        } else {
-            self.push(&decimal_pair(number));
-        }
-    }
-
-    // Appends the decimal digits of any number.
+    // Appends the decimal digits of any number, by way of a buffer.
     #[inline(never)]
     fn push_long(&mut self, number: u64)
         requires { length self.old + 20 ≤ 512 }

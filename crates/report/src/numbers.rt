@@ -1,13 +1,6 @@
-//! Numbers in decimal and hexadecimal digits, two at a time.
-ghost use Rattle.std.specs.Prelude.{◌≡◌, ◌<◌, ◌+◌, ◌/◌, ◌%◌, ◌∷◌, []};
+//! Numbers in hexadecimal digits, two at a time.
+ghost use Rattle.std.specs.Prelude.{◌≡◌, ◌<◌, ◌/◌, ◌%◌};
 ghost use Rattle.report.specs.Numbers.{hex_digit, hex_digits, hex8_of};
-
-/// The two decimal digits of each number below 100.
-static DECIMAL_PAIRS: [u8; 200] = *b"\
-    00010203040506070809101112131415161718192021222324\
-    25262728293031323334353637383940414243444546474849\
-    50515253545556575859606162636465666768697071727374\
-    75767778798081828384858687888990919293949596979899";
 
 /// The two lower case hexadecimal digits of each number below 256.
 static HEX_PAIRS: [u8; 512] = *b"\
@@ -19,16 +12,6 @@ static HEX_PAIRS: [u8; 512] = *b"\
     a0a1a2a3a4a5a6a7a8a9aaabacadaeafb0b1b2b3b4b5b6b7b8b9babbbcbdbebf\
     c0c1c2c3c4c5c6c7c8c9cacbcccdcecfd0d1d2d3d4d5d6d7d8d9dadbdcdddedf\
     e0e1e2e3e4e5e6e7e8e9eaebecedeeeff0f1f2f3f4f5f6f7f8f9fafbfcfdfeff";
-
-/// The two decimal digits of a number below 100.
-#[inline(always)]
-pub(crate) fn decimal_pair(number: u64) -> [u8; 2]
-    requires { number < 100 }
-    ensures { result ≡ (48 + number / 10) ∷ (48 + number % 10) ∷ [] }
-{
-    let from = number as usize * 2;
-    [DECIMAL_PAIRS[from], DECIMAL_PAIRS[from + 1]]
-}
 
 /// The two lower case hexadecimal digits of a number below 256.
 #[inline(always)]

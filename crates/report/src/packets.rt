@@ -1,12 +1,12 @@
 //! The lines of packets and of replies.
 ghost use Rattle.std.specs.Prelude.{◌≡◌, ◌≤◌, ◌+◌, ◌++◌, [], ◌∷◌, Some, codes, length};
-ghost use Rattle.report.specs.Lines.{cause_fields, last_fields, packet_row, place_word, put_fields};
-ghost use Rattle.report.specs.Lines.{reply_row, via_word, why_word};
+ghost use Rattle.report.specs.Lines.{cause_fields, last_fields, or_dash, packet_row, place_word};
+ghost use Rattle.report.specs.Lines.{put_fields, reply_row, via_word, why_word};
 ghost use Rattle.report.specs.Pieces.{choice_fields, front_fields, pick_fields, reply_front_fields};
 ghost use Rattle.report.specs.Pieces.{reply_last_fields, spaced};
 ghost use Rattle.report.specs.Texts.{row_text};
 
-use crate::fields::{begin, push_lane, push_named, push_number, push_option};
+use crate::fields::{push_after, push_lane, push_number, push_option};
 use crate::line::LineBuf;
 use history::{PacketLine, Place, ReplyLine, Via};
 use steer_base::{Choice, DropCause, Put, Why};
@@ -30,8 +30,9 @@ fn push_front(buf: &mut LineBuf, line: &PacketLine)
     ensures text { buf.new ≡ codes "p" ++ spaced (front_fields line.now) }
     ensures short { length buf.new ≤ 60 }
 {
-    begin(buf, b"p", u64::from(line.id.0));
-    push_named(buf, b"q", u64::from(line.queue.0));
+    buf.clear();
+    push_after(buf, b"p ", u64::from(line.id.0));
+    push_after(buf, b" q ", u64::from(line.queue.0));
     push_via(buf, line.via);
 }
 
@@ -54,17 +55,29 @@ fn push_choice(buf: &mut LineBuf, choice: Option<Choice>)
 {
     match choice {
         Some(choice) => {
-            push_option(buf, b"class", choice.class);
-            push_lane(buf, b"want", choice.want);
-            push_option(buf, b"head", choice.head);
-            push_option(buf, b"tail", choice.tail);
-            push_lane(buf, b"cpu", Some(choice.lane));
+            push_option(buf, b" class ", choice.class);
+            push_lane(buf, b" want ", choice.want);
+            push_numbers(buf, choice.head, choice.tail);
+            push_after(buf, b" cpu ", u64::from(choice.lane));
             push_why(buf, choice.why);
         }
         None => buf.push(b" class - want - head - tail - cpu - why -"),
     }
 }
 
+// The counter numbers that a choice noted.
+#[inline(always)]
+fn push_numbers(buf: &mut LineBuf, head: Option<u32>, tail: Option<u32>)
+    requires { length buf.old ≤ 200 }
+    ensures text { buf.new ≡ buf.old
+        ++ spaced (codes "head" ∷ or_dash head ∷ codes "tail" ∷ or_dash tail ∷ []) }
+    ensures grows { length buf.new ≤ length buf.old + 52 }
+{
+    push_option(buf, b" head ", head);
+    push_option(buf, b" tail ", tail);
+}
+
+#[inline(always)]
 fn push_why(buf: &mut LineBuf, why: Why)
     requires { length buf.old + 12 ≤ 512 }
     ensures text { buf.new ≡ buf.old ++ spaced (codes "why" ∷ why_word (Some why) ∷ []) }
@@ -96,7 +109,7 @@ fn push_put(buf: &mut LineBuf, put: Option<Put>)
                 cause,
             },
         ) => {
-            push_named(buf, b"drop", u64::from(number));
+            push_after(buf, b" drop ", u64::from(number));
             push_number(buf, u64::from(accepted));
             push_number(buf, u64::from(pulled));
             push_cause(buf, cause);
@@ -111,7 +124,7 @@ fn push_cause(buf: &mut LineBuf, cause: DropCause)
 {
     match cause {
         DropCause::Full => {}
-        DropCause::Flow(offers) => push_named(buf, b"flow", u64::from(offers)),
+        DropCause::Flow(offers) => push_after(buf, b" flow ", u64::from(offers)),
     }
 }
 
@@ -120,8 +133,8 @@ fn push_last(buf: &mut LineBuf, line: &PacketLine)
     ensures text { buf.new ≡ buf.old ++ spaced (last_fields line.now) }
     ensures grows { length buf.new ≤ length buf.old + 65 }
 {
-    push_named(buf, b"app", u64::from(line.app.0));
-    push_option(buf, b"in", line.inbox);
+    push_after(buf, b" app ", u64::from(line.app.0));
+    push_option(buf, b" in ", line.inbox);
     push_place(buf, line.place);
 }
 
@@ -154,10 +167,11 @@ fn push_reply_front(buf: &mut LineBuf, line: &ReplyLine)
     ensures text { buf.new ≡ codes "r" ++ spaced (reply_front_fields line.now) }
     ensures short { length buf.new ≤ 98 }
 {
-    begin(buf, b"r", u64::from(line.id.0));
-    push_named(buf, b"app", u64::from(line.app.0));
-    push_named(buf, b"rxq", u64::from(line.rxq.0));
-    push_named(buf, b"cpu", u64::from(line.cpu.0));
+    buf.clear();
+    push_after(buf, b"r ", u64::from(line.id.0));
+    push_after(buf, b" app ", u64::from(line.app.0));
+    push_after(buf, b" rxq ", u64::from(line.rxq.0));
+    push_after(buf, b" cpu ", u64::from(line.cpu.0));
 }
 
 fn push_pick(buf: &mut LineBuf, choice: Option<Choice>)
@@ -167,10 +181,9 @@ fn push_pick(buf: &mut LineBuf, choice: Option<Choice>)
 {
     match choice {
         Some(choice) => {
-            push_lane(buf, b"pick", choice.want);
-            push_option(buf, b"head", choice.head);
-            push_option(buf, b"tail", choice.tail);
-            push_lane(buf, b"tx", Some(choice.lane));
+            push_lane(buf, b" pick ", choice.want);
+            push_numbers(buf, choice.head, choice.tail);
+            push_after(buf, b" tx ", u64::from(choice.lane));
             push_why(buf, choice.why);
         }
         None => buf.push(b" pick - head - tail - tx - why -"),
@@ -182,6 +195,6 @@ fn push_reply_last(buf: &mut LineBuf, line: &ReplyLine)
     ensures text { buf.new ≡ buf.old ++ spaced (reply_last_fields line.now) }
     ensures grows { length buf.new ≤ length buf.old + 50 }
 {
-    push_option(buf, b"at", line.put);
-    push_option(buf, b"port", line.port);
+    push_option(buf, b" at ", line.put);
+    push_option(buf, b" port ", line.port);
 }

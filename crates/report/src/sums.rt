@@ -7,7 +7,7 @@ ghost use Rattle.report.specs.Report.{first_row};
 ghost use Rattle.report.specs.Texts.{fields, further, row_text};
 ghost use Rattle.report.specs.Texts.Row.{Tap};
 
-use crate::fields::{begin, push_named};
+use crate::fields::{begin, push_after, push_named};
 use crate::line::LineBuf;
 use history::{LaneList, SockWrite};
 
@@ -64,10 +64,9 @@ pub(crate) fn write_line(buf: &mut LineBuf, app: u64, write: &SockWrite)
     ensures { buf.new ≡ row_text (write_row app write.now) }
 {
     buf.clear();
-    buf.push(b"w");
-    push_named(buf, b"app", app);
-    push_named(buf, b"entry", u64::from(write.entry));
-    push_named(buf, b"cpu", u64::from(write.cpu.0));
+    push_after(buf, b"w app ", app);
+    push_after(buf, b" entry ", u64::from(write.entry));
+    push_after(buf, b" cpu ", u64::from(write.cpu.0));
     buf.push(b"\n");
 }
 
