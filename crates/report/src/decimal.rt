@@ -1,5 +1,6 @@
 //! Writes the decimal digits of a number into a room of bytes, two at a time.
-ghost use Rattle.std.specs.Prelude.{◌≡◌, ◌<◌, ◌≤◌, ◌+◌, ◌/◌, ◌%◌, ◌++◌, ◌∷◌, [], decimal, length, take};
+ghost use Rattle.std.specs.Prelude.{◌≡◌, ◌<◌, ◌≤◌, ◌+◌, ◌/◌, ◌%◌, ◌++◌, ◌∷◌, [], decimal, length};
+ghost use Rattle.std.specs.Prelude.{take};
 
 /// The two decimal digits of each number below 100.
 static PAIRS: [u8; 200] = *b"\
@@ -8,7 +9,8 @@ static PAIRS: [u8; 200] = *b"\
     50515253545556575859606162636465666768697071727374\
     75767778798081828384858687888990919293949596979899";
 
-/// Writes the digits of a number below 100,000,000 to a place in a room, and returns where they end.
+/// Writes the digits of a number below 100,000,000 to a place in a room, and returns where they
+/// end.
 #[inline(always)]
 pub(crate) fn place_decimal(room: &mut [u8], at: usize, number: u64) -> usize
     requires small { number < 100000000 }

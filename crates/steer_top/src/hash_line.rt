@@ -1,5 +1,5 @@
 //! The lines of the command `hash`.
-ghost use Rattle.std.specs.Prelude.{◌≡◌, ◌≤◌, ◌+◌, ◌++◌, ◌^◌, ◌<◌, [], length};
+ghost use Rattle.std.specs.Prelude.{◌≡◌, ◌≤◌, ◌+◌, ◌++◌, ◌^◌, ◌<◌, [], codes, length};
 ghost use Rattle.steer_top.specs.HashText.{version_text, pair_text, proto_text, flow_text};
 ghost use Rattle.steer_top.specs.HashText.{hash_text, packet_text, count_line};
 
@@ -7,17 +7,18 @@ use report::{LineBuf, hex8};
 use steer_base::{Flow, Pair, Proto, RxQueue};
 
 #[tactic(auto, unfolding(crate::specs::HashText::version_text))]
-fn push_version(line: &mut LineBuf, pair: Pair)
+fn push_two(line: &mut LineBuf, pair: Pair)
     requires { length line.old ≤ 400 }
-    ensures value { line.new ≡ line.old ++ version_text pair }
-    ensures grows { length line.new ≤ length line.old + 2 }
+    ensures value { line.new ≡ line.old ++ codes "two" ++ version_text pair }
+    ensures grows { length line.new ≤ length line.old + 5 }
 {
     match pair {
-        Pair::V4 { .. } => line.push(b"4 "),
-        Pair::V6 { .. } => line.push(b"6 "),
+        Pair::V4 { .. } => line.push(b"two4 "),
+        Pair::V6 { .. } => line.push(b"two6 "),
     }
 }
 
+#[inline(always)]
 #[tactic(auto, unfolding(crate::specs::HashText::pair_text))]
 fn push_pair(line: &mut LineBuf, pair: Pair)
     requires { length line.old ≤ 400 }
@@ -38,15 +39,17 @@ fn push_pair(line: &mut LineBuf, pair: Pair)
     }
 }
 
-#[tactic(auto, unfolding(crate::specs::HashText::proto_text))]
-fn push_proto(line: &mut LineBuf, proto: Proto)
+#[tactic(auto, unfolding(crate::specs::HashText::proto_text, crate::specs::HashText::version_text))]
+fn push_kind(line: &mut LineBuf, proto: Proto, pair: Pair)
     requires { length line.old ≤ 400 }
-    ensures value { line.new ≡ line.old ++ proto_text proto }
-    ensures grows { length line.new ≤ length line.old + 3 }
+    ensures value { line.new ≡ line.old ++ proto_text proto ++ version_text pair }
+    ensures grows { length line.new ≤ length line.old + 5 }
 {
-    match proto {
-        Proto::Tcp => line.push(b"tcp"),
-        Proto::Udp => line.push(b"udp"),
+    match (proto, pair) {
+        (Proto::Tcp, Pair::V4 { .. }) => line.push(b"tcp4 "),
+        (Proto::Tcp, Pair::V6 { .. }) => line.push(b"tcp6 "),
+        (Proto::Udp, Pair::V4 { .. }) => line.push(b"udp4 "),
+        (Proto::Udp, Pair::V6 { .. }) => line.push(b"udp6 "),
     }
 }
 
@@ -60,13 +63,11 @@ pub fn push_flow(line: &mut LineBuf, flow: Flow)
     match flow {
         Flow::Bare => line.push(b"none"),
         Flow::Two(pair) => {
-            line.push(b"two");
-            push_version(line, pair);
+            push_two(line, pair);
             push_pair(line, pair);
         }
         Flow::Four(pair, proto, sport, dport) => {
-            push_proto(line, proto);
-            push_version(line, pair);
+            push_kind(line, proto, pair);
             push_pair(line, pair);
             line.push(b" ");
             line.push_decimal(u64::from(sport));
