@@ -20,7 +20,6 @@ pub(crate) fn packet_line(buf: &mut LineBuf, line: &PacketLine)
 {
     push_front(buf, line);
     push_choice(buf, line.choice);
-    buf.push(b" at");
     push_put(buf, line.put);
     push_last(buf, line);
     buf.push(b"\n");
@@ -95,12 +94,12 @@ fn push_why(buf: &mut LineBuf, why: Why)
 
 fn push_put(buf: &mut LineBuf, put: Option<Put>)
     requires { length buf.old ≤ 260 }
-    ensures text { buf.new ≡ buf.old ++ spaced (put_fields put) }
+    ensures text { buf.new ≡ buf.old ++ spaced (codes "at" ∷ put_fields put) }
     ensures grows { length buf.new ≤ length buf.old + 100 }
 {
     match put {
-        None => buf.push(b" -"),
-        Some(Put::At(position)) => push_number(buf, u64::from(position)),
+        None => buf.push(b" at -"),
+        Some(Put::At(position)) => push_after(buf, b" at ", u64::from(position)),
         Some(
             Put::Dropped {
                 number,
@@ -109,7 +108,7 @@ fn push_put(buf: &mut LineBuf, put: Option<Put>)
                 cause,
             },
         ) => {
-            push_after(buf, b" drop ", u64::from(number));
+            push_after(buf, b" at drop ", u64::from(number));
             push_number(buf, u64::from(accepted));
             push_number(buf, u64::from(pulled));
             push_cause(buf, cause);
