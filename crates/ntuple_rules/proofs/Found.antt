@@ -86,7 +86,7 @@ module _ (flow : Flow) where
       (found_in g flow) (found_among gs flow) m is
 
   -- a group with one rule more finds it too
-  found_in-adds : (old new : Group) (rule : Rule) (number : ℕ) → old.shape ≡ shape_of rule
+  pub found_in-adds : (old new : Group) (rule : Rule) (number : ℕ) → old.shape ≡ shape_of rule
       → Adds old new (significant_bits rule) number
       → found_in new flow ≡ option_or (found_in old flow)
       (cond (matches rule flow) (Some number) None)
@@ -134,7 +134,7 @@ adds_at old groups place group d rule number within same shaped adds rules finds
     ∙ sym (first_match-push rules rule flow)
 
 -- a new group finds nothing
-found_in-new : (group : Group) (shape : Shape) (first : ℕ) (flow : Flow)
+pub found_in-new : (group : Group) (shape : Shape) (first : ℕ) (flow : Flow)
     → IsNew group shape first
     → found_in group flow ≡ None
 found_in-new group shape first flow new = by (looked_at group.shape.kind flow)
@@ -157,7 +157,7 @@ option_or-None : (a : Option ℕ) → option_or a None ≡ a
 option_or-None None = refl
 option_or-None (Some n) = refl
 
-same_key : (a b : Fields) → same_fields a b ≡ true → a ≡ b
+pub same_key : (a b : Fields) → same_fields a b ≡ true → a ≡ b
 same_key a b e =
     let src = and_parts _ _ e in
     let dst = and_parts _ _ src.1 in

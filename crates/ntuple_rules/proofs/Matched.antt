@@ -118,7 +118,8 @@ has_key rule looked =
     (masked (shape_of rule).mask fields)) looked
     false
 
-no_ports : (kind : RuleKind) (pair : Pair) → fits_version kind pair ≡ true → has_ports kind ≡ false
+pub no_ports : (kind : RuleKind) (pair : Pair) → fits_version kind pair ≡ true
+    → has_ports kind ≡ false
 no_ports Tcp4 pair e = cc
 no_ports Udp4 pair e = cc
 no_ports Tcp6 pair e = cc
@@ -126,7 +127,7 @@ no_ports Udp6 pair e = cc
 no_ports Ip4 pair e = refl
 no_ports Ip6 pair e = refl
 
-some_ports : (kind : RuleKind) (pair : Pair) (proto : Proto) → fits_proto kind pair proto ≡ true
+pub some_ports : (kind : RuleKind) (pair : Pair) (proto : Proto) → fits_proto kind pair proto ≡ true
     → has_ports kind ≡ true
 some_ports Ip4 pair proto e = cc
 some_ports Ip6 pair proto e = cc
@@ -150,25 +151,30 @@ and_last false true false = refl
 and_last false false true = refl
 and_last false false false = refl
 
-version_key : (rule : Rule) (pair : Pair) → has_ports rule.kind ≡ false
-    → addresses_agree rule pair ≡ has_key rule (Some (fields_with pair 0 0))
-version_key rule (V4 s d) e = rw (e, and_zero_r rule.sport, and_zero_r rule.dport) (and_true _ _)
-version_key rule (V6 s d) e = rw (e, and_zero_r rule.sport, and_zero_r rule.dport) (and_true _ _)
+pub version_key : (rule : Rule) (pair : Pair) (p q : ℕ) → has_ports rule.kind ≡ false
+    → addresses_agree rule pair ≡ has_key rule (Some (fields_with pair p q))
+version_key rule (V4 s d) p q e =
+    rw (e, and_zero_r rule.sport, and_zero_r rule.dport, and_zero_r p, and_zero_r q)
+    (and_true _ _)
+version_key rule (V6 s d) p q e =
+    rw (e, and_zero_r rule.sport, and_zero_r rule.dport, and_zero_r p, and_zero_r q)
+    (and_true _ _)
 
-proto_key : (rule : Rule) (pair : Pair) (p q : ℕ) → has_ports rule.kind ≡ true
+pub proto_key : (rule : Rule) (pair : Pair) (p q : ℕ) → has_ports rule.kind ≡ true
     → ports_agree rule p q && addresses_agree rule pair ≡ has_key rule (Some (fields_with pair p q))
 proto_key rule (V4 s d) p q e = rw e (and_last _ _ (ports_agree rule p q))
 proto_key rule (V6 s d) p q e = rw e (and_last _ _ (ports_agree rule p q))
 
 two_key : (rule : Rule) (pair : Pair) (b : Bool) → fits_version rule.kind pair ≡ b
     → matches rule (Two pair) ≡ has_key rule (looked_at rule.kind (Two pair))
-two_key rule pair true e = rw e (version_key rule pair (no_ports rule.kind pair e))
+two_key rule pair true e = rw e (version_key rule pair 0 0 (no_ports rule.kind pair e))
 two_key rule pair false e = rw e refl
 
 four_key : (rule : Rule) (pair : Pair) (proto : Proto) (p q : ℕ) (b c : Bool)
     → fits_version rule.kind pair ≡ b → fits_proto rule.kind pair proto ≡ c
     → matches rule (Four pair proto p q) ≡ has_key rule (looked_at rule.kind (Four pair proto p q))
-four_key rule pair proto p q true c e f = rw e (version_key rule pair (no_ports rule.kind pair e))
+four_key rule pair proto p q true c e f =
+    rw e (version_key rule pair 0 0 (no_ports rule.kind pair e))
 four_key rule pair proto p q false true e f =
     rw (e, f) (proto_key rule pair p q (some_ports rule.kind pair proto f))
 four_key rule pair proto p q false false e f = rw (e, f) refl

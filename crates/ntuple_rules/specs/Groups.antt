@@ -2,7 +2,7 @@
 -- in which the masked bits are looked up at once.
 use Rattle.std.specs.Prelude.{◌≡◌, ◌≤◌, ℕ, List, [], ◌∷◌, ◌++◌, length, Bool, true, false}
 use Rattle.std.specs.Prelude.{Option, Some, None, option_and_then, bit_and, min, ◌==◌, ◌&&◌}
-use Rattle.std.specs.Prelude.{if◌then◌else◌}
+use Rattle.std.specs.Prelude.{if◌then◌else◌, is_some, ◌⊎◌}
 use Rattle.std.specs.List.{slice_get}
 use Rattle.std.specs.Option.{option_or}
 use Rattle.indexmap.specs.IndexMap.{get}
@@ -16,7 +16,7 @@ use Rattle.ntuple_rules.specs.declared.rule.Rule.{Rule}
 use Rattle.ntuple_rules.specs.declared.fields.Fields.{Fields}
 use Rattle.ntuple_rules.specs.declared.fields.Shape.{Shape}
 use Rattle.ntuple_rules.specs.declared.group.Group.{Group}
-use Rattle.ntuple_rules.specs.Matches.{first_match, fits_version, fits_proto}
+use Rattle.ntuple_rules.specs.Matches.{first_match, fits_version, fits_proto, matches}
 
 -- the masked bits of some fields
 abbrev pub masked : Fields → Fields → Fields
@@ -104,15 +104,25 @@ InOrder low [] high = low ≤ high
 InOrder low (group ∷ groups) high =
     (low ≤ group.first) × StartsAtFirst group × InOrder group.first groups high
 
--- groups in the order of their first rules, which find for every flow the first match of these
--- rules
-pub record Serves (groups : List Group) (rules : List Rule) : Type 0 where
-  pub finds : Finds groups rules
-  pub order : InOrder 0 groups (length rules)
-
 -- where those groups stood in the order of their first rules, these stand so
 abbrev pub KeepsOrder : List Group → ℕ → List Group → ℕ → Type 0
 KeepsOrder old before new now = InOrder 0 old before → InOrder 0 new now
+
+-- the least number that the group at a place has for a flow
+abbrev pub found_at : List Group → ℕ → Flow → Option ℕ
+found_at groups place flow =
+    option_and_then (λ group. found_in group flow) (slice_get groups place)
+
+-- a group that has a rule for a flow is the one at this place, and that rule is this one, or it had
+-- a rule for it before
+abbrev pub FindsMoreAt : List Group → List Group → ℕ → Rule → Type 0
+FindsMoreAt old new place rule = (i : ℕ) (flow : Flow) → is_some (found_at new i flow) ≡ true
+    → is_some (found_at old i flow) ≡ true ⊎ ((i ≡ place) × (matches rule flow ≡ true))
+
+-- the groups at each place find nothing that they did not find before
+abbrev pub FindsNoMore : List Group → List Group → Type 0
+FindsNoMore old new = (i : ℕ) (flow : Flow) → is_some (found_at new i flow) ≡ true
+    → is_some (found_at old i flow) ≡ true
 
 -- these groups find for every flow what those did
 abbrev pub FindsAsBefore : List Group → List Group → Type 0

@@ -42,7 +42,7 @@ pub fn masked(mask: Fields, fields: Fields) -> Fields
 }
 
 /// The addresses of a pair, with these ports.
-fn fields_with(pair: Pair, sport: u16, dport: u16) -> Fields
+pub fn fields_with(pair: Pair, sport: u16, dport: u16) -> Fields
     ensures { result ≡ fields_with pair sport dport }
 {
     match pair {

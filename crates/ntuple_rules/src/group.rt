@@ -1,6 +1,7 @@
 //! Rules of one kind and with the same masks.
-ghost use Rattle.std.specs.Prelude.{◌≡◌, ◌+◌, IfOk, IfSome, OnOk};
-ghost use Rattle.ntuple_rules.specs.Groups.{AddsAt, FindsAsBefore, IsAt, KeepsOrder};
+ghost use Rattle.std.specs.Prelude.{◌≡◌, ◌+◌, All, IfOk, IfSome, OnOk};
+ghost use Rattle.ntuple_rules.specs.Groups.{found_at, lesser, AddsAt, FindsAsBefore, FindsMoreAt};
+ghost use Rattle.ntuple_rules.specs.Groups.{FindsNoMore, IsAt, KeepsOrder, StartsAtFirst};
 
 use crate::fields::{Fields, Shape, key_of, looked_at, masked, shape_of};
 use crate::rule::Rule;
@@ -54,6 +55,17 @@ impl Group {
     }
 }
 
+/// The lesser of two optional numbers.
+fn lesser(first: Option<u32>, second: Option<u32>) -> Option<u32>
+    ensures { result ≡ lesser first second }
+{
+    match (first, second) {
+        (None, other) => other,
+        (Some(number), None) => Some(number),
+        (Some(number), Some(other)) => Some(number.min(other)),
+    }
+}
+
 /// The place of the group of a shape, where there is one.
 fn find_shape(groups: &[Group], shape: Shape) -> Option<usize>
     ensures { IfSome result (λ place. IsAt groups.now place shape) }
@@ -74,6 +86,7 @@ fn place_of(
     shape: Shape,
     number: u32,
 ) -> Result<usize, OutOfMemory>
+    ensures no_more { OnOk result (FindsNoMore groups.old.items groups.new.items) }
     ensures same { OnOk result (FindsAsBefore groups.old.items groups.new.items) }
     ensures order { OnOk result (KeepsOrder groups.old.items number groups.new.items number) }
     ensures at { IfOk result (λ place. IsAt groups.new.items place shape) }
@@ -89,19 +102,36 @@ fn place_of(
     }
 }
 
-/// Adds a rule with this number, which is greater than those of the rules that the groups have.
-/// Allocates memory for the rule, and for a group if it is the first of its shape.
+/// Adds a rule with this number, which is greater than those of the rules that the groups have, and
+/// returns the place of its group. Allocates memory for the rule, and for a group if it is the
+/// first of its shape.
 pub fn add(
     alloc: Global,
     groups: &mut Vec<Group>,
     number: u32,
     rule: &Rule,
-) -> Result<(), OutOfMemory>
+) -> Result<usize, OutOfMemory>
+    ensures more { IfOk result (λ place.
+        FindsMoreAt groups.old.items groups.new.items place rule.now) }
     ensures finds { OnOk result (AddsAt groups.old.items groups.new.items number rule.now) }
     ensures order { OnOk result (KeepsOrder groups.old.items number groups.new.items (number + 1)) }
 {
     let shape = shape_of(rule);
     let key = key_of(rule);
     let place = place_of(alloc, groups, shape, number)?;
-    groups[place].add(key, number)
+    groups[place].add(key, number)?;
+    Ok(place)
+}
+
+/// The lesser of what was found and what the group at a place finds, if there is one. The group is
+/// not looked into if its first rule comes after what was found.
+pub fn find_at(groups: &[Group], place: usize, flow: Flow, found: Option<u32>) -> Option<u32>
+    requires { All StartsAtFirst groups.now }
+    ensures { result ≡ lesser found (found_at groups.now place flow) }
+{
+    match (groups.get(place), found) {
+        (Some(group), Some(number)) if number < group.first => found,
+        (Some(group), _) => lesser(found, group.find(flow)),
+        (None, _) => found,
+    }
 }

@@ -13,6 +13,8 @@ mod reading;
 mod rule;
 mod rules;
 mod rules_text;
+mod search;
+mod sieve;
 
 pub use classifier::Classifier;
 pub use folding::fold;

@@ -1,6 +1,7 @@
 use Rattle.std.proofs.Common.{◌≡◌, length, arith}
 use Rattle.ntuple_rules.proofs.Found.{at_end, found_among-new}
 use Rattle.ntuple_rules.proofs.Ordered.{order-new}
+use Rattle.ntuple_rules.proofs.Searched.{no_more-new}
 use Rattle.ntuple_rules.proofs.group.place_of.Goals as goal
 
 pub returns-in_ok-push-in-None-clause-same : goal.returns-in_ok-push-in-None-clause-same
@@ -21,4 +22,10 @@ pub returns-in_ok-push-in-None-clause-order : goal.returns-in_ok-push-in-None-cl
 returns-in_ok-push-in-None-clause-order c =
     rw c.in_ok-push-in-None.ensures.items
     (order-new c.args.groups.now.items 0 c.new-group.result c.args.shape c.args.number
+    c.new-group.ensures)
+
+pub returns-in_ok-push-in-None-clause-no_more : goal.returns-in_ok-push-in-None-clause-no_more
+returns-in_ok-push-in-None-clause-no_more c =
+    rw c.in_ok-push-in-None.ensures.items
+    (no_more-new c.args.groups.now.items c.new-group.result c.args.shape c.args.number
     c.new-group.ensures)

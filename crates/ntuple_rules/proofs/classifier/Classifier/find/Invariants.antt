@@ -1,9 +1,13 @@
-use Rattle.std.proofs.Common.{◌≡◌, drop}
-use Rattle.ntuple_rules.specs.Groups.{found_among, lesser}
+use Rattle.std.proofs.Common.{◌≡◌, ◌%◌, ◌-◌, length, None}
+use Rattle.ntuple_rules.specs.Sieves.{GoesOn}
 use Rattle.ntuple_rules.proofs.classifier.Classifier.find.Given as goal
 
--- what was found, or less in the groups that are left
-abbrev pub invariant-loop-group : goal.invariant-loop-group
-invariant-loop-group l =
-    lesser l.found (found_among (drop l.group-index l.group-items) l.flow)
-    ≡ found_among l.group-items l.flow
+-- what was found, or less in the groups that are left, whose first is the first of a sieve
+abbrev pub invariant-loop-place : goal.invariant-loop-place
+invariant-loop-place l = record {
+  first : l.place % 64 ≡ 0;
+  found : GoesOn l.groups l.flow None 0 l.found l.place;
+}
+
+abbrev pub decreases-loop-place : goal.decreases-loop-place
+decreases-loop-place l = length l.groups - l.place

@@ -2,6 +2,7 @@ use Rattle.std.proofs.Common.{◌≡◌, ◌<◌, ◌+◌, [], ◌∷◌, ◌++�
 use Rattle.std.proofs.Common.{arith}
 use Rattle.std.proofs.lemmas.List.{take_more, length-take-le}
 use Rattle.ntuple_rules.specs.Groups.{Finds}
+use Rattle.ntuple_rules.proofs.Searched.{sifts_more}
 use Rattle.ntuple_rules.proofs.classifier.Classifier.make.Goals as goal
 
 pub loop-number-preserved : goal.loop-number-preserved
@@ -17,6 +18,8 @@ loop-number-preserved c =
     ∙ ap (λ r. take n rules ++ r ∷ []) (sym (rw items at c.rule-item.is)) in
     record {
       finds = subst (Finds c.add.new.groups.items) (sym more)
-          (c.in_ok-add.ensures.finds (take n rules) c.loop-number.invariant.finds (sym len));
-      order = c.in_ok-add.ensures.order c.loop-number.invariant.order;
+          (c.in_ok-place.ensures.finds (take n rules) c.loop-number.invariant.finds (sym len));
+      order = c.in_ok-place.ensures.order c.loop-number.invariant.order;
+      sifts = sifts_more _ _ _ _ _ c.rule-item.result c.loop-number.invariant.sifts
+          c.in_ok-place.ensures.more c.in_ok-admit.ensures.more c.in_ok-admit.ensures.rule;
     }
