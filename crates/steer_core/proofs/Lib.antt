@@ -16,7 +16,9 @@ pub mod ReplyHops
 pub mod ReplyLemmas
 pub mod RoomLemmas
 pub mod RoundLemmas
+pub mod SameLanes
 pub mod SamePollers
+pub mod SameReplies
 pub mod SeatedLemmas
 pub mod ServeLemmas
 pub mod StillLemmas

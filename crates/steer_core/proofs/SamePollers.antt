@@ -1,6 +1,6 @@
 -- What a poller has to do stays the same through the turns of all other actors.
 use Rattle.std.proofs.Common.{ℕ, ◌+◌, ◌<◌, ◌≡◌, ◌≢◌, Bool, true, false, not, List, [], ◌∷◌, Option}
-use Rattle.std.proofs.Common.{Some, None, length, refl, ap, ◌∙◌, sym, subst, arith, suc, zero}
+use Rattle.std.proofs.Common.{Some, None, length, refl, ap, ◌∙◌, sym, arith, suc, zero}
 use Rattle.std.proofs.Common.{cond}
 use Rattle.std.specs.Prelude.{◌-◌, ◌%◌, nat_lt, slice_index_or, slice_set}
 use Rattle.std.proofs.lemmas.List.{get_or-set_other}
@@ -21,10 +21,10 @@ use Rattle.hop_core.proofs.Leaves.{each_leaves}
 use Rattle.hop_core.proofs.Others.{each_leaves_producers}
 use Rattle.steer_model.specs.State.Machine.{Machine, note_of}
 use Rattle.steer_model.specs.State.Notes.{is_asking, is_nothing}
-use Rattle.steer_model.specs.State.Setup.{Setup, app_for, flow_hash, flow_number_of, packet_hash}
+use Rattle.steer_model.specs.State.Setup.{app_for, flow_hash, flow_number_of, packet_hash}
 use Rattle.steer_model.specs.Steps.Applications.{in_lane, next_in, record_by, send_by, visited}
 use Rattle.steer_model.specs.Steps.Applications.{wrote}
-use Rattle.steer_model.specs.Steps.CompoundSteps.{Progress, again, drain, drain_one, for_each, poll}
+use Rattle.steer_model.specs.Steps.CompoundSteps.{Progress, again, drain, drain_one, poll}
 use Rattle.steer_model.specs.Steps.CompoundSteps.{replying, serve, ship, ship_one, tried}
 use Rattle.steer_model.specs.Steps.CompoundSteps.{tries, with_record}
 use Rattle.steer_model.specs.Steps.Outcomes.{StepOutcome, by_rx, idle_step}
@@ -73,13 +73,13 @@ stays-done q m n s d =
 -- ---- events of a hop
 
 -- an event of another producer, and of one who goes through the gate if it is one
-record SameIn (q : ℕ) (s t : HopState) : Type 0 where
-  arrivals : arrivals_of t q ≡ arrivals_of s q
-  placed : placed_of t q ≡ placed_of s q
-  inside : inside_of t q ≡ inside_of s q
+pub record SameIn (q : ℕ) (s t : HopState) : Type 0 where
+  pub arrivals : arrivals_of t q ≡ arrivals_of s q
+  pub placed : placed_of t q ≡ placed_of s q
+  pub inside : inside_of t q ≡ inside_of s q
 
 -- an event of another producer that leaves who is inside
-beside : (q : ℕ) (s : HopState) (e : HopEvent) → producer_of e ≢ Some q
+pub beside : (q : ℕ) (s : HopState) (e : HopEvent) → producer_of e ≢ Some q
     → changes e Field.visits ≡ false → SameIn q s (happens s e).0
 beside q s e other still =
     let p = each_leaves_producers s e q other in
@@ -95,7 +95,7 @@ visit-other : (q a : ℕ) (s : HopState) (b : Bool) (n : ℕ) → q ≢ a
     → inside_of (with_visit s a b n) q ≡ inside_of s q
 visit-other q a s b n other = get_or-set_other s.visits a q b false other
 
-enter-other : (q a : ℕ) (s : HopState) → q ≢ a → SameIn q s (happens s (event.Enter a)).0
+pub enter-other : (q a : ℕ) (s : HopState) → q ≢ a → SameIn q s (happens s (event.Enter a)).0
 enter-other q a s other =
     let Q : Outcome → Type 0 = λ o. inside_of o.0 q ≡ inside_of s q in
     let n : ℕ = s.bare.inside + 1 in
@@ -109,7 +109,7 @@ enter-other q a s other =
           (λ f. refl) (λ f. visit-other q a s true n other));
     }
 
-leave-other : (q a : ℕ) (s : HopState) → q ≢ a → SameIn q s (happens s (event.Leave a)).0
+pub leave-other : (q a : ℕ) (s : HopState) → q ≢ a → SameIn q s (happens s (event.Leave a)).0
 leave-other q a s other =
     let Q : Outcome → Type 0 = λ o. inside_of o.0 q ≡ inside_of s q in
     let n : ℕ = s.bare.inside - 1 in
@@ -352,10 +352,10 @@ same-again q (suc n) ss t all =
     same-trans q t.0 (tries t ss).0 (again n ss (tries t ss)).0 (same-tries q ss t all)
     (same-again q n ss (tries t ss) all)
 
-same-drain : (q c : ℕ) (t : Progress) → SamePoller q t.0 (drain c t).0
+pub same-drain : (q c : ℕ) (t : Progress) → SamePoller q t.0 (drain c t).0
 same-drain q c t = same-again q _ (drain_one c) t (refl, (refl, (refl, tt)))
 
-same-ship : (q x : ℕ) (t : Progress) → SamePoller q t.0 (ship x t).0
+pub same-ship : (q x : ℕ) (t : Progress) → SamePoller q t.0 (ship x t).0
 same-ship q x t = same-again q _ (ship_one x) t (refl, (refl, (refl, tt)))
 
 same-recorded : (q : ℕ) (o : Option ℕ) (t : Progress) → q < length t.0.setup.homes
@@ -364,38 +364,13 @@ same-recorded q None t lt = same-refl q t.0
 same-recorded q (Some x) t lt =
     records q t.0 lt (flow_hash t.0.setup (flow_number_of t.0.setup x))
 
-same-serve : (q a : ℕ) (t : Progress) → q < length t.0.setup.homes
+pub same-serve : (q a : ℕ) (t : Progress) → q < length t.0.setup.homes
     → SamePoller q t.0 (serve a t).0
 same-serve q a t lt =
     let u : Progress = with_record (replying t.0 a) t in
     same-trans q t.0 u.0 (serve a t).0 (same-recorded q (replying t.0 a) t lt)
     (same-tries q (act.TEnter a ∷ act.Send a ∷ act.TWeigh a ∷ act.TPut a ∷ act.TLeave a ∷ []) u
     (refl, (refl, (refl, (refl, (refl, tt))))))
-
--- a turn of each of some actors
-same-each : (q n : ℕ) (f : ℕ → Progress → Progress)
-    → ((i : ℕ) (t : Progress) → q < length t.0.setup.homes → SamePoller q t.0 (f i t).0)
-    → (t : Progress) → q < length t.0.setup.homes → SamePoller q t.0 (for_each n f t).0
-unfolding for_each
-same-each q zero f one t lt = same-refl q t.0
-same-each q (suc n) f one t lt =
-    let u : Progress = for_each n f t in
-    let before = same-each q n f one t lt in
-    let here : q < length u.0.setup.homes =
-    subst (λ (p : Setup). q < length p.homes) (sym before.setup) lt in
-    same-trans q t.0 u.0 (f n u).0 before (one n u here)
-
-pub same-drains : (q n : ℕ) (t : Progress) → q < length t.0.setup.homes
-    → SamePoller q t.0 (for_each n drain t).0
-same-drains q n t lt = same-each q n drain (λ i u here. same-drain q i u) t lt
-
-pub same-serves : (q n : ℕ) (t : Progress) → q < length t.0.setup.homes
-    → SamePoller q t.0 (for_each n serve t).0
-same-serves q n t lt = same-each q n serve (λ i u here. same-serve q i u here) t lt
-
-pub same-ships : (q n : ℕ) (t : Progress) → q < length t.0.setup.homes
-    → SamePoller q t.0 (for_each n ship t).0
-same-ships q n t lt = same-each q n ship (λ i u here. same-ship q i u) t lt
 
 -- the wire: a packet arrives at another queue
 by-some : (p : ℕ) (b : Bool) → b ≡ true → cond b (Some p) None ≡ Some p

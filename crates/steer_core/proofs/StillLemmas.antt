@@ -1,17 +1,15 @@
 -- Where nothing is left to do, a round and a sweep change nothing.
-use Rattle.std.proofs.Common.{ℕ, ◌<◌, ◌≡◌, true, false, List, length}
+use Rattle.std.proofs.Common.{ℕ, ◌-◌, ◌<◌, ◌≤◌, ◌≡◌, true, false, List, length}
 use Rattle.std.proofs.Common.{refl, ap, ◌∙◌, cond, arith, suc, zero}
 use Rattle.std.specs.Prelude.{nat_lt}
-use Rattle.std.proofs.lemmas.Bool.{le-ltb, lt-ltb}
-use Rattle.steer_base.specs.Sets.{has}
-use Rattle.steer_base.specs.declared.cpu_mask.CpuMask.{CpuMask}
+use Rattle.std.proofs.lemmas.Bool.{le-ltb}
 use Rattle.steer_base.specs.declared.command.Answer.TheVariants as says
 use Rattle.steer_base.specs.declared.idle.Idle.TheVariants as idle
 use Rattle.steer_base.specs.declared.step.Step.{Step}
 use Rattle.steer_base.specs.declared.step.Step.TheVariants as act
 use Rattle.hop_core.specs.Events.{IsEmptied}
-use Rattle.hop_core.specs.Emptied.{AreEmptied}
-use Rattle.hop_core.specs.Hop.{Bare, HopState}
+use Rattle.hop_core.specs.Sound.{Sound}
+use Rattle.hop_core.specs.Hop.{Bare, HopState, accepted_at, retired_at}
 use Rattle.steer_model.specs.State.Machine.{Machine}
 use Rattle.steer_model.specs.Steps.CompoundSteps.{Progress, again, drain, drain_one, for_each}
 use Rattle.steer_model.specs.Steps.CompoundSteps.{most_rounds, poll, rounds, serve, ship}
@@ -36,6 +34,21 @@ again-none (suc n) ss t none = absurd (omega (arith, none))
 none-unretired : (b : Bare) (c : ℕ) → IsEmptied b c → unretired b c ≡ 0
 none-unretired b c is = omega (arith, is)
 
+-- the turn of a lane that is empty
+pub drain-of-done : (c : ℕ) (t : Progress) → IsEmptied t.0.rx.bare c → drain c t ≡ t
+drain-of-done c t is = again-none _ (drain_one c) t (none-unretired t.0.rx.bare c is)
+
+pub ship-of-done : (x : ℕ) (t : Progress) → IsEmptied t.0.tx.bare x → ship x t ≡ t
+ship-of-done x t is = again-none _ (ship_one x) t (none-unretired t.0.tx.bare x is)
+
+-- a lane with nothing that is not retired is empty
+pub emptied-by : (s : HopState) (c r : ℕ) → Sound s
+    → r ≡ length (accepted_at s.bare c) - retired_at s.bare c → r ≤ 0 → IsEmptied s.bare c
+emptied-by s c r h is none =
+    let a = h.counts.retired_first c in let b = h.counts.delivered_first c in
+    let d = h.counts.pulled_first c in
+    omega (arith, is, none, a, b, d)
+
 module _ (m : Machine) (k : StepInvariant m) (came : length m.arrivals ≡ length m.setup.packets)
     (pollers : (q : ℕ) → q < length m.setup.homes → PollerIsDone q m)
     (cpus : (c : ℕ) → c < m.setup.cpus → IsEmptied m.rx.bare c)
@@ -55,13 +68,13 @@ module _ (m : Machine) (k : StepInvariant m) (came : length m.arrivals ≡ lengt
       (λ q lt. poll-of-done m q k lt (pollers q lt) false) in
       let drained : for_each m.setup.cpus drain t ≡ t =
       each-still m.setup.cpus drain t
-      (λ c lt. again-none _ (drain_one c) t (none-unretired m.rx.bare c (cpus c lt))) in
+      (λ c lt. drain-of-done c t (cpus c lt)) in
       let served : for_each m.setup.apps serve t ≡ t =
       each-still m.setup.apps serve t
       (λ a lt. serve-of-done m a k lt (senders a lt) false) in
       let shipped : for_each m.setup.txs ship t ≡ t =
       each-still m.setup.txs ship t
-      (λ x lt. again-none _ (ship_one x) t (none-unretired m.tx.bare x (txs x lt))) in
+      (λ x lt. ship-of-done x t (txs x lt)) in
       ap (λ (u : Progress). for_each m.setup.txs ship (for_each m.setup.apps serve
       (for_each m.setup.cpus drain (for_each (length m.setup.homes) poll u)))) arrive-still
       ∙ ap (λ (u : Progress). for_each m.setup.txs ship (for_each m.setup.apps serve
@@ -82,11 +95,3 @@ pub still-sweep : (m : Machine) → IsStill m
 still-sweep m still =
     ap (λ (t : Progress). (t.0, cond t.1 says.Done (says.Idle idle.Nothing)))
     (still-rounds (most_rounds (length m.setup.packets)) m still)
-
--- ---- lanes that were asked for
-
-pub all-emptied : (s : HopState) (lanes n x : ℕ) (set : CpuMask) → length s.bare.accepted ≡ lanes
-    → n ≡ lanes → ((c : ℕ) → has set c ≡ nat_lt c n) → AreEmptied s set → x < lanes
-    → IsEmptied s.bare x
-all-emptied s lanes n x set many is members emptied lt =
-    emptied x (omega (arith, lt, many)) (members x ∙ lt-ltb x n (omega (arith, lt, is)))

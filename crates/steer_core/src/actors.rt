@@ -10,6 +10,7 @@ ghost use Rattle.steer_core.specs.Rooms.{HasRoomFor};
 ghost use Rattle.steer_model.specs.Steps.CompoundSteps.{step as step_of};
 
 mod applications;
+mod busy;
 mod changes;
 mod commands;
 mod copies;
@@ -93,10 +94,10 @@ impl Actors {
         ensures rest { result.at_rest ≡ true → IsStill self.new.machine }
     {
         let answer = match step {
-            Step::Poll(q) => ended(self.poll(false, q)),
-            Step::Drain(c) => ended(self.drain(false, c)),
-            Step::Reply(a) => ended(self.reply(false, a)),
-            Step::Serve(a) => ended(self.serve(false, a)),
+            Step::Poll(q) => ended(self.poll(false, q, &mut CpuMask(0))),
+            Step::Drain(c) => ended(self.drain(false, c, &mut CpuMask(0))),
+            Step::Reply(a) => ended(self.reply(false, a, &mut CpuMask(0))),
+            Step::Serve(a) => ended(self.serve(false, a, &mut CpuMask(0))),
             Step::Ship(t) => ended(self.ship(false, t)),
             Step::Sweep => return self.sweep_from(at_rest),
             _ => self.simple(step),

@@ -33,8 +33,8 @@ impl Actors {
         told(self.rx.deliver(c, to))
     }
 
-    // Where the packet in hand is delivered.
-    fn destination(&self, c: u8) -> u8
+    /// Where the packet in hand is delivered.
+    pub(super) fn destination(&self, c: u8) -> u8
         requires { c < self.now.machine.setup.cpus }
         ensures { result ≡ app_for self.now.machine.setup (in_lane self.now.machine.rx c) }
     {

@@ -2,13 +2,13 @@
 ghost use Rattle.std.specs.Prelude.{ℕ, ◌≡◌, ◌<◌, ◌≤◌, false, length, true};
 ghost use Rattle.steer_base.specs.declared.step.Step.TheVariants as act;
 ghost use Rattle.steer_base.specs.declared.limits.TheConstants.{MAX_PACKETS};
-ghost use Rattle.steer_base.specs.Sets.{has};
 ghost use Rattle.steer_core.specs.Resting.{IsStill, OthersAreDone, SenderIsDone};
 ghost use Rattle.steer_core.specs.Rooms.{HasSpare};
 ghost use Rattle.steer_model.specs.Steps.CompoundSteps.{drain, for_each, most_rounds as the_most};
 ghost use Rattle.steer_model.specs.Steps.CompoundSteps.{one_round, poll};
 ghost use Rattle.steer_model.specs.Steps.CompoundSteps.{serve, ship, step as step_of, sweep, tried};
 
+use crate::actors::busy::{Busy, is_none_below};
 use crate::actors::{Actors, Stepped, ended};
 use steer_base::{Cpu, CpuMask};
 
@@ -28,17 +28,29 @@ impl Actors {
                 at_rest,
             };
         }
-        // Any poller may have something to do.
-        let mut busy = CpuMask::first_n(self.given.queues());
+        let mut busy = self.all_busy();
         let worked = self.sweep(&mut busy);
         Stepped {
             answer: ended(worked),
-            at_rest: self.is_at_rest(busy),
+            at_rest: self.is_at_rest(&busy),
+        }
+    }
+
+    // Any actor may have something to do.
+    fn all_busy(&self) -> Busy
+        ensures { OthersAreDone result self.now.machine }
+    {
+        self.sound();
+        Busy {
+            pollers: CpuMask::first_n(self.given.queues()),
+            cpus: CpuMask::first_n(self.given.cpus()),
+            apps: CpuMask::first_n(self.given.apps()),
+            txs: CpuMask::first_n(self.given.txs()),
         }
     }
 
     // Runs rounds until one does no work. The result says whether any work was done.
-    fn sweep(&mut self, busy: &mut CpuMask) -> bool
+    fn sweep(&mut self, busy: &mut Busy) -> bool
         requires room { HasSpare self.old.rooms self.old.machine }
         requires busy { OthersAreDone busy.old self.old.machine }
         ensures turn { (self.new.machine, result) ≡ sweep (self.old.machine, false) }
@@ -56,10 +68,9 @@ impl Actors {
         worked
     }
 
-    // One arrival, and one turn of every poller, processor, application and transmit queue. An
-    // actor at rest is passed over, since its turn would change nothing. Bit q of `busy` is poller
-    // q; the pollers that are not in it are at rest.
-    fn round(&mut self, busy: &mut CpuMask) -> bool
+    // One arrival, and one turn of every poller, processor, application and transmit queue that is
+    // busy. The turn of another one would change nothing.
+    fn round(&mut self, busy: &mut Busy) -> bool
         requires room { HasSpare self.old.rooms self.old.machine }
         requires busy { OthersAreDone busy.old self.old.machine }
         ensures turn { (self.new.machine, result) ≡ one_round (self.old.machine, false) }
@@ -70,13 +81,13 @@ impl Actors {
     {
         let worked = self.arrive_busy(busy);
         let worked = self.poll_all(worked, busy);
-        let worked = self.drain_all(worked);
-        let worked = self.serve_all(worked);
-        self.ship_all(worked)
+        let worked = self.drain_all(worked, busy);
+        let worked = self.serve_all(worked, busy);
+        self.ship_all(worked, busy)
     }
 
     // The next packet arrives, if there is one, and makes the poller of its queue busy.
-    fn arrive_busy(&mut self, busy: &mut CpuMask) -> bool
+    fn arrive_busy(&mut self, busy: &mut Busy) -> bool
         requires { OthersAreDone busy.old self.old.machine }
         ensures turn { (self.new.machine, result) ≡ tried (self.old.machine, false) act.Arrive }
         ensures setup { self.new.machine.setup ≡ self.old.machine.setup }
@@ -86,7 +97,7 @@ impl Actors {
         self.sound();
         match self.arrive_next() {
             Some(queue) => {
-                *busy = busy.with(Cpu(queue.0));
+                busy.pollers = busy.pollers.with(Cpu(queue.0));
                 true
             }
             None => false,
@@ -94,7 +105,7 @@ impl Actors {
     }
 
     // One turn of each busy poller.
-    fn poll_all(&mut self, worked: bool, busy: &mut CpuMask) -> bool
+    fn poll_all(&mut self, worked: bool, busy: &mut Busy) -> bool
         requires { OthersAreDone busy.old self.old.machine }
         ensures turn { (self.new.machine, result)
             ≡ for_each (length self.old.machine.setup.homes) poll (self.old.machine, worked) }
@@ -110,7 +121,7 @@ impl Actors {
     }
 
     // One turn of a poller, unless it is at rest. It is no longer busy if it did no work.
-    fn poll_busy(&mut self, worked: bool, q: u8, busy: &mut CpuMask) -> bool
+    fn poll_busy(&mut self, worked: bool, q: u8, busy: &mut Busy) -> bool
         requires queue { q < length self.old.machine.setup.homes }
         requires busy { OthersAreDone busy.old self.old.machine }
         ensures turn { (self.new.machine, result) ≡ poll q (self.old.machine, worked) }
@@ -119,59 +130,93 @@ impl Actors {
         ensures busy { OthersAreDone busy.new self.new.machine }
     {
         self.sound();
-        if !busy.has(q) {
+        if !busy.pollers.has(q) {
             return worked;
         }
-        if self.poll(false, q) {
+        if self.poll(false, q, &mut busy.cpus) {
             return true;
         }
-        *busy = busy.without(Cpu(q));
+        busy.pollers = busy.pollers.without(Cpu(q));
         worked
     }
 
-    // One turn of each processor.
-    fn drain_all(&mut self, worked: bool) -> bool
+    // One turn of each busy processor.
+    fn drain_all(&mut self, worked: bool, busy: &mut Busy) -> bool
+        requires { OthersAreDone busy.old self.old.machine }
         ensures turn { (self.new.machine, result)
             ≡ for_each self.old.machine.setup.cpus drain (self.old.machine, worked) }
         ensures setup { self.new.machine.setup ≡ self.old.machine.setup }
         ensures rooms { self.new.rooms ≡ self.old.rooms }
+        ensures busy { OthersAreDone busy.new self.new.machine }
     {
         let mut done = worked;
         for c in 0..self.given.cpus() {
-            done = self.drain(done, c);
+            done = self.drain_busy(done, c, busy);
         }
         done
     }
 
-    // One turn of each application that is not at rest.
-    fn serve_all(&mut self, worked: bool) -> bool
-        requires { HasSpare self.old.rooms self.old.machine }
+    // One turn of a processor, unless its lane is empty.
+    fn drain_busy(&mut self, worked: bool, c: u8, busy: &mut Busy) -> bool
+        requires cpu { c < self.old.machine.setup.cpus }
+        requires busy { OthersAreDone busy.old self.old.machine }
+        ensures turn { (self.new.machine, result) ≡ drain c (self.old.machine, worked) }
+        ensures setup { self.new.machine.setup ≡ self.old.machine.setup }
+        ensures rooms { self.new.rooms ≡ self.old.rooms }
+        ensures busy { OthersAreDone busy.new self.new.machine }
+    {
+        self.sound();
+        if !busy.cpus.has(c) {
+            return worked;
+        }
+        let done = self.drain(worked, c, &mut busy.apps);
+        self.sound();
+        if self.rx.unretired(c) > 0 {
+            return done;
+        }
+        busy.cpus = busy.cpus.without(Cpu(c));
+        done
+    }
+
+    // One turn of each busy application.
+    fn serve_all(&mut self, worked: bool, busy: &mut Busy) -> bool
+        requires room { HasSpare self.old.rooms self.old.machine }
+        requires busy { OthersAreDone busy.old self.old.machine }
         ensures turn { (self.new.machine, result)
             ≡ for_each self.old.machine.setup.apps serve (self.old.machine, worked) }
         ensures setup { self.new.machine.setup ≡ self.old.machine.setup }
         ensures rooms { self.new.rooms ≡ self.old.rooms }
         ensures spare { HasSpare self.new.rooms self.new.machine }
+        ensures busy { OthersAreDone busy.new self.new.machine }
     {
         let mut done = worked;
         for a in 0..self.given.apps() {
-            done = self.serve_busy(done, a);
+            done = self.serve_busy(done, a, busy);
         }
         done
     }
 
-    // One turn of an application, unless it is at rest.
-    fn serve_busy(&mut self, worked: bool, a: u8) -> bool
+    // One turn of an application, unless it is at rest. It is no longer busy if it is at rest
+    // after its turn.
+    fn serve_busy(&mut self, worked: bool, a: u8, busy: &mut Busy) -> bool
         requires app { a < self.old.machine.setup.apps }
         requires room { HasSpare self.old.rooms self.old.machine }
+        requires busy { OthersAreDone busy.old self.old.machine }
         ensures turn { (self.new.machine, result) ≡ serve a (self.old.machine, worked) }
         ensures setup { self.new.machine.setup ≡ self.old.machine.setup }
         ensures rooms { self.new.rooms ≡ self.old.rooms }
+        ensures busy { OthersAreDone busy.new self.new.machine }
     {
         self.sound();
-        if self.is_sender_done(a) {
+        if !busy.apps.has(a) {
             return worked;
         }
-        self.serve(worked, a)
+        let done = self.serve(worked, a, &mut busy.txs);
+        if !self.is_sender_done(a) {
+            return done;
+        }
+        busy.apps = busy.apps.without(Cpu(a));
+        done
     }
 
     // Whether an application is at rest: it is outside the transmit gate, put all replies that it
@@ -185,67 +230,64 @@ impl Actors {
             && self.rx.out(a).len() == self.sent.len_of(a) as usize
     }
 
-    // One turn of each transmit queue.
-    fn ship_all(&mut self, worked: bool) -> bool
+    // One turn of each busy transmit queue.
+    fn ship_all(&mut self, worked: bool, busy: &mut Busy) -> bool
+        requires { OthersAreDone busy.old self.old.machine }
         ensures turn { (self.new.machine, result)
             ≡ for_each self.old.machine.setup.txs ship (self.old.machine, worked) }
         ensures setup { self.new.machine.setup ≡ self.old.machine.setup }
         ensures rooms { self.new.rooms ≡ self.old.rooms }
+        ensures busy { OthersAreDone busy.new self.new.machine }
     {
         let mut done = worked;
         for t in 0..self.given.txs() {
-            done = self.ship(done, t);
+            done = self.ship_busy(done, t, busy);
         }
         done
     }
 
-    // Whether nothing is left to do: every packet arrived, no poller is busy, no lane has a packet,
-    // and each application is at rest.
-    fn is_at_rest(&self, busy: CpuMask) -> bool
-        requires { OthersAreDone busy self.now.machine }
+    // One turn of a transmit queue, unless its lane is empty.
+    fn ship_busy(&mut self, worked: bool, t: u8, busy: &mut Busy) -> bool
+        requires tx { t < self.old.machine.setup.txs }
+        requires busy { OthersAreDone busy.old self.old.machine }
+        ensures turn { (self.new.machine, result) ≡ ship t (self.old.machine, worked) }
+        ensures setup { self.new.machine.setup ≡ self.old.machine.setup }
+        ensures rooms { self.new.rooms ≡ self.old.rooms }
+        ensures busy { OthersAreDone busy.new self.new.machine }
+    {
+        self.sound();
+        if !busy.txs.has(t) {
+            return worked;
+        }
+        let done = self.ship(worked, t);
+        self.sound();
+        if self.tx.unretired(t) > 0 {
+            return done;
+        }
+        busy.txs = busy.txs.without(Cpu(t));
+        done
+    }
+
+    // Whether nothing is left to do: every packet arrived, and no actor is busy.
+    fn is_at_rest(&self, busy: &Busy) -> bool
+        requires { OthersAreDone busy.now self.now.machine }
         ensures { result ≡ true → IsStill self.now.machine }
     {
         self.sound();
         if self.arrivals.len() != self.given.packet_count() {
             return false;
         }
-        if !is_none_below(busy, self.given.queues()) {
+        if !is_none_below(busy.pollers, self.given.queues()) {
             return false;
         }
-        let (cpus, txs) = (self.given.cpus(), self.given.txs());
-        if !self.rx.emptied(CpuMask::first_n(cpus)).is_ok() {
+        if !is_none_below(busy.cpus, self.given.cpus()) {
             return false;
         }
-        if !self.tx.emptied(CpuMask::first_n(txs)).is_ok() {
+        if !is_none_below(busy.apps, self.given.apps()) {
             return false;
         }
-        self.are_senders_done()
+        is_none_below(busy.txs, self.given.txs())
     }
-
-    // Whether each application is at rest.
-    fn are_senders_done(&self) -> bool
-        ensures { result ≡ true →
-            (a : ℕ) → a < self.now.machine.setup.apps → SenderIsDone a self.now.machine }
-    {
-        for a in 0..self.given.apps() {
-            if !self.is_sender_done(a) {
-                return false;
-            }
-        }
-        true
-    }
-}
-
-// Whether none of the numbers below `count` is in the set.
-fn is_none_below(set: CpuMask, count: u8) -> bool
-    ensures { result ≡ true → (n : ℕ) → n < count → has set n ≡ false }
-{
-    for n in 0..count {
-        if set.has(n) {
-            return false;
-        }
-    }
-    true
 }
 
 // More rounds than there is work for so many packets.

@@ -1,6 +1,7 @@
 //! Steps of one event, and those of many events in a row.
 ghost use Rattle.std.specs.Prelude.{◌≡◌, ◌<◌, ◌||◌, length, not, true};
 ghost use Rattle.plan_reader.specs.Ranges.{step_is_within};
+ghost use Rattle.steer_core.specs.Resting.{AreMarked, SameCpu, SameSender, SameTx};
 ghost use Rattle.steer_core.specs.Rooms.{HasRoomFor, HasSpare};
 ghost use Rattle.steer_invariant.specs.StepInvariant.{sizes_in};
 ghost use Rattle.steer_model.specs.Steps.SingleSteps.{is_idle as was_idle, simple};
@@ -9,7 +10,8 @@ ghost use Rattle.steer_model.specs.Steps.CompoundSteps.{replying, serve};
 ghost use Rattle.steer_model.specs.Steps.CompoundSteps.{ship, ship_one, tried, tries};
 
 use crate::actors::Actors;
-use steer_base::{Answer, Idle, Step};
+use crate::actors::busy::{mark, mark_next};
+use steer_base::{Answer, CpuMask, Idle, Step};
 use steer_model::is_idle;
 
 impl Actors {
@@ -53,74 +55,93 @@ impl Actors {
         }
     }
 
-    /// Tries all events of a poller in order.
-    pub(super) fn poll(&mut self, worked: bool, q: u8) -> bool
+    /// Tries all events of a poller in order, and marks the processor to which it puts a packet.
+    pub(super) fn poll(&mut self, worked: bool, q: u8, cpus: &mut CpuMask) -> bool
         requires { q < length self.old.machine.setup.homes }
         ensures turn { (self.new.machine, result) ≡ poll q (self.old.machine, worked) }
         ensures setup { self.new.machine.setup ≡ self.old.machine.setup }
         ensures rooms { self.new.rooms ≡ self.old.rooms }
+        ensures cpus { AreMarked self.old.machine.setup.cpus cpus.old cpus.new
+            (λ c. SameCpu c self.old.machine self.new.machine) }
     {
+        self.sound();
         self.enter(q);
         let worked = worked_by(worked, self.take(q));
         let worked = worked_by(worked, self.look(q));
         let worked = worked_by(worked, self.weigh(q));
+        mark_next(&self.rx, q, cpus);
         let worked = worked_by(worked, self.put(q));
         let worked = worked_by(worked, self.ask(q));
         self.leave(q);
         worked
     }
 
-    /// Repeats the events of a processor until its hand is empty and nothing waits.
-    pub(super) fn drain(&mut self, worked: bool, c: u8) -> bool
+    /// Repeats the events of a processor until its hand is empty and nothing waits, and marks the
+    /// applications to which it delivers.
+    pub(super) fn drain(&mut self, worked: bool, c: u8, apps: &mut CpuMask) -> bool
         requires { c < self.old.machine.setup.cpus }
         ensures turn { (self.new.machine, result) ≡ drain c (self.old.machine, worked) }
         ensures setup { self.new.machine.setup ≡ self.old.machine.setup }
         ensures rooms { self.new.rooms ≡ self.old.rooms }
+        ensures apps { AreMarked self.old.machine.setup.apps apps.old apps.new
+            (λ a. SameSender a self.old.machine self.new.machine) }
     {
         let mut done = worked;
         for _ in 0..self.rx.unretired(c) {
-            done = self.drain_one(done, c);
+            done = self.drain_one(done, c, apps);
         }
         done
     }
 
     // One packet gets through a processor.
-    fn drain_one(&mut self, worked: bool, c: u8) -> bool
+    fn drain_one(&mut self, worked: bool, c: u8, apps: &mut CpuMask) -> bool
         requires { c < self.old.machine.setup.cpus }
         ensures turn { (self.new.machine, result) ≡ tries (self.old.machine, worked) (drain_one c) }
         ensures setup { self.new.machine.setup ≡ self.old.machine.setup }
         ensures rooms { self.new.rooms ≡ self.old.rooms }
+        ensures apps { AreMarked self.old.machine.setup.apps apps.old apps.new
+            (λ a. SameSender a self.old.machine self.new.machine) }
     {
+        self.sound();
         let worked = worked_by(worked, self.pull(c));
+        mark(apps, self.destination(c));
         let worked = worked_by(worked, self.deliver(c));
         worked_by(worked, self.retire(c))
     }
 
-    /// Tries all events of an application in order.
-    pub(super) fn reply(&mut self, worked: bool, a: u8) -> bool
+    /// Tries all events of an application in order, and marks the transmit queue to which it puts a
+    /// reply.
+    pub(super) fn reply(&mut self, worked: bool, a: u8, txs: &mut CpuMask) -> bool
         requires { a < self.old.machine.setup.apps }
         ensures turn { (self.new.machine, result) ≡ reply a (self.old.machine, worked) }
         ensures setup { self.new.machine.setup ≡ self.old.machine.setup }
         ensures rooms { self.new.rooms ≡ self.old.rooms }
+        ensures txs { AreMarked self.old.machine.setup.txs txs.old txs.new
+            (λ x. SameTx x self.old.machine self.new.machine) }
     {
+        self.sound();
         self.tenter(a);
         let worked = worked_by(worked, self.send(a));
         let worked = worked_by(worked, self.tweigh(a));
+        mark_next(&self.tx, a, txs);
         let worked = worked_by(worked, self.tput(a));
         self.tleave(a);
         worked
     }
 
-    /// Records the flow of the packet that an application replies to, then tries all its events.
-    pub(super) fn serve(&mut self, worked: bool, a: u8) -> bool
+    /// Records the flow of the packet that an application replies to, then tries all its events as
+    /// [`Actors::reply`] does.
+    pub(super) fn serve(&mut self, worked: bool, a: u8, txs: &mut CpuMask) -> bool
         requires app { a < self.old.machine.setup.apps }
         requires room { HasSpare self.old.rooms self.old.machine }
         ensures turn { (self.new.machine, result) ≡ serve a (self.old.machine, worked) }
         ensures setup { self.new.machine.setup ≡ self.old.machine.setup }
         ensures rooms { self.new.rooms ≡ self.old.rooms }
+        ensures txs { AreMarked self.old.machine.setup.txs txs.old txs.new
+            (λ x. SameTx x self.old.machine self.new.machine) }
     {
         let worked = self.recorded(worked, a);
-        self.reply(worked, a)
+        self.reply(worked, a, txs)
     }
 
     // The flow of the packet that an application replies to is recorded, if there is one.

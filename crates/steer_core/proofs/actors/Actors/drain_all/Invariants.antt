@@ -1,5 +1,6 @@
 use Rattle.std.proofs.Common.{◌≡◌}
 use Rattle.steer_model.specs.Steps.CompoundSteps.{Progress, for_each, drain}
+use Rattle.steer_core.specs.Resting.{OthersAreDone}
 use Rattle.steer_core.proofs.actors.Actors.drain_all.Given as goal
 
 abbrev pub invariant-loop-c : goal.invariant-loop-c
@@ -7,3 +8,4 @@ invariant-loop-c l =
     (◌≡◌ {A = Progress} (l.self.machine, l.done)
     (for_each l.c drain (l.fn.self.machine, l.fn.worked)))
     × (l.self.machine.setup ≡ l.fn.self.machine.setup) × (l.self.rooms ≡ l.fn.self.rooms)
+    × OthersAreDone l.busy l.self.machine

@@ -1,8 +1,10 @@
-use Rattle.std.proofs.Common.{ℕ, Bool, ap, refl, ◌∙◌}
+use Rattle.std.proofs.Common.{ℕ, Bool, ap, refl, sym, ◌∙◌}
 use Rattle.steer_base.specs.declared.step.Step.TheVariants as act
 use Rattle.steer_model.specs.State.Machine.{Machine}
 use Rattle.steer_model.specs.Steps.CompoundSteps.{Progress, tried}
 use Rattle.steer_core.proofs.TurnLemmas.{tried-with}
+use Rattle.std.proofs.Common.{arith}
+use Rattle.steer_core.proofs.SameReplies.{sender-deliver, sender-pull, sender-retire, sender-trans}
 use Rattle.steer_core.proofs.actors.Actors.drain_one.Goals as goal
 
 pub returns-clause-turn : goal.returns-clause-turn
@@ -31,3 +33,20 @@ returns-clause-turn c =
     retire-tried ∙ ap (λ (t : Progress). tried t (act.Retire x))
     (deliver-tried ∙ ap (λ (t : Progress). tried t (act.Deliver x))
     pull-tried)
+
+pub returns-clause-apps : goal.returns-clause-apps
+returns-clause-apps c =
+    λ a lt free. (
+    let few = c.sound.ensures.kept.given.few_apps in
+    let mark = c.mark.ensures a (omega (arith, lt, few)) free in
+    let m : Machine = c.args.self.now.machine in
+    let n : Machine = c.pull.new.self.machine in
+    let o : Machine = c.deliver.new.self.machine in
+    let p : Machine = c.retire.new.self.machine in (
+      mark.0,
+      sender-trans a m o p
+          (sender-trans a m n o (sender-pull a c.args.c m n c.pull.ensures.state)
+          (sender-deliver a c.args.c n o (λ e. mark.1 (e ∙ sym c.destination.ensures))
+          c.deliver.ensures.state))
+          (sender-retire a c.args.c o p c.retire.ensures.state),
+    ))

@@ -5,7 +5,8 @@ use Rattle.steer_core.proofs.actors.Actors.poll_busy.Goals as goal
 
 pub returns-then-not-has-clause-turn : goal.returns-then-not-has-clause-turn
 returns-then-not-has-clause-turn c =
-    let done = c.requires.busy c.args.q c.requires.queue (sym c.has.ensures ∙ c.if-not-has.true) in
+    let done = c.requires.busy.pollers c.args.q c.requires.queue
+    (sym c.has.ensures ∙ c.if-not-has.true) in
     sym (poll-of-done c.args.self.now.machine c.args.q c.sound.ensures.kept c.requires.queue done
     c.args.worked)
 
@@ -17,7 +18,8 @@ returns-then-poll-clause-turn c =
 pub returns-then-poll-clause-busy : goal.returns-then-poll-clause-busy
 returns-then-poll-clause-busy c =
     done-after-work c.args.self.now.machine c.poll.new.self.machine c.args.q c.poll.result
-    c.args.busy.now c.poll.ensures.turn c.poll.ensures.setup c.requires.busy
+    c.args.busy.now c.poll.new.cpus c.poll.ensures.turn c.poll.ensures.setup c.poll.ensures.cpus
+    c.requires.busy
     (sym c.has.ensures ∙ c.if-not-has.false)
 
 pub returns-clause-turn : goal.returns-clause-turn
@@ -28,5 +30,6 @@ returns-clause-turn c =
 pub returns-clause-busy : goal.returns-clause-busy
 returns-clause-busy c =
     done-after-none c.args.self.now.machine c.poll.new.self.machine c.args.q c.poll.result
-    c.args.busy.now c.poll.ensures.turn c.poll.ensures.setup c.requires.busy c.without.result
-    c.sound.ensures.kept c.requires.queue c.if-poll.false c.without.ensures.members
+    c.args.busy.now c.poll.new.cpus c.poll.ensures.turn c.poll.ensures.setup c.poll.ensures.cpus
+    c.requires.busy c.without-busy.result
+    c.sound.ensures.kept c.requires.queue c.if-poll.false c.without-busy.ensures.members

@@ -11,7 +11,12 @@ use Rattle.steer_core.proofs.PacedSteps.{serves-paced}
 use Rattle.steer_core.proofs.actors.Actors.serve_all.Goals as goal
 
 pub loop-a-init : goal.loop-a-init
-loop-a-init c = (each-start serve (c.args.self.now.machine, c.args.worked), refl, refl)
+loop-a-init c = (
+  each-start serve (c.args.self.now.machine, c.args.worked),
+  refl,
+  refl,
+  c.requires.busy,
+)
 
 pub serve_busy-done-requires-clause-room : goal.serve_busy-done-requires-clause-room
 serve_busy-done-requires-clause-room c =
@@ -26,7 +31,7 @@ serve_busy-done-requires-clause-room c =
     spare_at _ _ m c.loop-a.self.machine (for_each c.loop-a.a serve (m, c.args.worked)).0
     (ap (λ (t : Progress). t.0) before.0) before.2
     (serves-paced m held c.loop-a.a c.args.worked below)
-    c.requires
+    c.requires.room
 
 pub loop-a-preserved : goal.loop-a-preserved
 loop-a-preserved c =
@@ -40,6 +45,7 @@ loop-a-preserved c =
           before.0 done.turn,
       done.setup ∙ before.1,
       done.rooms ∙ before.2,
+      done.busy,
     )
 
 pub returns-clause-spare : goal.returns-clause-spare
@@ -55,4 +61,4 @@ returns-clause-spare c =
     spare_at _ _ m c.loop-a.self.machine (for_each c.loop-a.a serve (m, c.args.worked)).0
     (ap (λ (t : Progress). t.0) before.0) before.2
     (serves-paced m held c.loop-a.a c.args.worked below)
-    c.requires
+    c.requires.room
