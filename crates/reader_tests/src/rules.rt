@@ -8,7 +8,7 @@ use plan_reader::PlanFault;
 use std::alloc::Global;
 use std::process::Abort;
 use std::test::Fail;
-use steer_base::{Flow, Pair, Proto, RxQueue};
+use steer_base::{Flow, List, Pair, Proto, RxQueue};
 
 /// Six rules, of which the fourth never matches first.
 const SIX: &[u8] = b"{\"queues\":4,\"rules\":[\
@@ -207,6 +207,52 @@ fn a_match_between_two_of_the_same_masks_is_found(rt: HostRuntime) -> Result<(),
     ];
     for (i, (flow, wanted)) in cases.iter().enumerate() {
         same(&rt, &first_match(&classifier, flow), wanted, i);
+    }
+    Ok(())
+}
+
+/// A rule for one source address, with a mask of the destination port that no other such rule has.
+fn rule_of_its_own(number: u8) -> Rule {
+    Rule {
+        kind: RuleKind::Tcp4,
+        src: 0x0a00_0000 + u128::from(number),
+        srcmask: 0xffff_ffff,
+        dst: 0,
+        dstmask: 0,
+        sport: 0,
+        sportmask: 0,
+        dport: 0,
+        dportmask: u16::from(number) + 1,
+        queue: RxQueue(0),
+    }
+}
+
+#[test]
+fn rules_of_many_masks_are_found(rt: HostRuntime) -> Result<(), Fail> {
+    let mut list = Vec::new(rt.alloc());
+    for number in 0..20 {
+        list.push(rule_of_its_own(number))?;
+    }
+    let rules = Rules {
+        queues: 1,
+        kinds: 63,
+        symmetric: false,
+        inner: false,
+        rules: List::from_vec(list),
+    };
+    assert!(rt; rules.rules.len() == 20);
+    let classifier = Classifier::make(rt.alloc(), &rules)?;
+    let cases: [(u32, u16, Option<u32>); 6] = [
+        (0x0a00_0002, 0, Some(2)),
+        (0x0a00_0010, 0, Some(16)),
+        (0x0a00_0013, 0, Some(19)),
+        (0x0a00_0013, 11, Some(19)),
+        (0x0a00_0013, 20, None),
+        (0x0a00_0014, 0, None),
+    ];
+    for (i, (src, dport, wanted)) in cases.iter().enumerate() {
+        let flow = Flow::Four(pair4(*src, 7), Proto::Tcp, 9, *dport);
+        same(&rt, &first_match(&classifier, &flow), wanted, i);
     }
     Ok(())
 }
