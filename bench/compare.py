@@ -15,10 +15,18 @@ import tempfile
 HERE = pathlib.Path(__file__).resolve().parent
 RUNS = [
     ["hash", "wide.pcap"],
+    ["hash", "ipv6.pcap"],
+    ["hash", "large.pcap"],
     ["gen", "7", "131072", "512"],
     ["replay", "generated.json", "generated.pcap"],
     ["replay", "wide.json", "wide.pcap"],
+    ["replay", "listed.json", "wide.pcap"],
     ["replay", "swept.json", "swept.pcap"],
+    ["replay", "rests.json", "none.pcap"],
+    ["replay", "socks.json", "none.pcap"],
+    ["replay", "expires.json", "none.pcap"],
+    ["place", "rules1069.json", "wide.pcap"],
+    ["place", "rules4096.json", "wide.pcap"],
 ]
 
 

@@ -32,13 +32,26 @@ def frame(flow):
     )
 
 
-def capture(seed, packets, flows):
-    """The capture of a seed, as the command gen makes it."""
+def frame6(flow):
+    """The frame of a flow over IPv6."""
+    ends = struct.pack(">QQQQ", 0x20010DB8 << 32, flow, 0x20010DB8 << 32, 1 << 32)
+    ports = struct.pack(">HH", 1024 + flow % 32768, 80)
+    return (
+        bytes.fromhex("02000000000202000000000186dd" "6000000000140640")
+        + ends
+        + ports
+        + bytes.fromhex("00000000000000005000000000000000")
+    )
+
+
+def capture(seed, packets, flows, frame=frame, more=0):
+    """The capture of a seed, as the command gen makes it; or with other frames, or `more` bytes behind each."""
     parts = [struct.pack("<IHHIIII", 0xA1B2C3D4, 2, 4, 0, 0, 65535, 1)]
     numbers = words(seed)
     for second in range(packets):
-        parts.append(struct.pack("<IIII", second, 0, 54, 54))
-        parts.append(frame(next(numbers) % flows))
+        bytes_of_it = frame(next(numbers) % flows) + bytes(more)
+        parts.append(struct.pack("<IIII", second, 0, len(bytes_of_it), len(bytes_of_it)))
+        parts.append(bytes_of_it)
     return b"".join(parts)
 
 
@@ -70,6 +83,41 @@ def wide(seed):
     }
 
 
+def step_texts(seed, count):
+    """The steps of a seed on the wide plan, as texts, and a last `sweep`."""
+    kinds = 5 * ["arrive"] + 4 * ["poll"] + 3 * ["drain"] + 2 * ["serve"] + ["ship"]
+    sizes = {"poll": 16, "drain": 32, "serve": 32, "ship": 32}
+    single = [("take", 16), ("enter", 16), ("look", 16), ("pull", 32)]
+    steps = []
+    for word, _ in zip(words(seed), range(count)):
+        number = word // 16
+        if word % 16 == 15:
+            kind, size = single[number % 4]
+            steps.append(f"{kind} {number // 4 % size}")
+        else:
+            kind = kinds[word % 16]
+            steps.append(kind if kind == "arrive" else f"{kind} {number % sizes[kind]}")
+    return steps + ["sweep"]
+
+
+def rules(groups):
+    """4,096 rules of one kind in so many groups of equal masks, none of which matches a flow of the captures."""
+    return {
+        "queues": 16,
+        "rules": [
+            {
+                "kind": "tcp4",
+                "src": f"{0x0B000000 + i:08x}",
+                "srcmask": "ffffffff",
+                "dport": 0,
+                "dportmask": i % groups,
+                "queue": i % 16,
+            }
+            for i in range(4096)
+        ],
+    }
+
+
 def main():
     folder = pathlib.Path(sys.argv[1])
     folder.mkdir(parents=True, exist_ok=True)
@@ -78,9 +126,25 @@ def main():
         "wide": (wide(7), capture(7, PACKETS, 20_000)),
         "swept": (dict(wide(7), steps=["sweep"]), capture(7, PACKETS, 20_000)),
     }
-    for name, (plan, frames) in inputs.items():
+    plans = {
+        "listed": dict(wide(7), steps=step_texts(7, PACKETS * 3)),
+        "rests": dict(wide(7), steps=["sweep"] * 1_000_000),
+        "socks": dict(wide(7), steps=["sock 65536"] * 100_000),
+        "expires": dict(wide(7), steps=["expire"] * 100_000),
+        "rules1069": rules(1069),
+        "rules4096": rules(4096),
+    }
+    captures = {
+        "ipv6": capture(7, PACKETS, 20_000, frame6),
+        "large": capture(7, PACKETS, 20_000, more=953),
+        "none": capture(7, 0, 1),
+    }
+    plans.update((name, plan) for name, (plan, _) in inputs.items())
+    captures.update((name, frames) for name, (_, frames) in inputs.items())
+    for name, plan in plans.items():
         text = json.dumps(plan, sort_keys=True, separators=(",", ":"))
         (folder / f"{name}.json").write_text(text)
+    for name, frames in captures.items():
         (folder / f"{name}.pcap").write_bytes(frames)
 
 
