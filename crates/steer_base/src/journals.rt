@@ -1,5 +1,5 @@
 //! Lists side by side, each of which grows up to one room that was reserved for it.
-ghost use Rattle.std.specs.Prelude.{◌≡◌, ◌<◌, ◌≤◌, IfOk, length, slice_index_or};
+ghost use Rattle.std.specs.Prelude.{◌≡◌, ◌<◌, ◌≤◌, IfOk, length, map, slice_index_or};
 ghost use Rattle.steer_base.specs.Journals.{list_at, new_journals, pushed};
 
 use crate::memory::OutOfMemory;
@@ -94,5 +94,13 @@ impl<T> Journals<T> {
         ensures { result.now ≡ list_at self.now i }
     {
         &self.lists[i as usize]
+    }
+
+    /// The lists as vectors, without copying.
+    pub fn into_vecs(self) -> Vec<Vec<T>>
+        ensures { map (λ list. list.items) result.items ≡ self.lists }
+    {
+        let Journals { lists, .. } = self;
+        lists
     }
 }
