@@ -1,5 +1,6 @@
 pub mod Counted
 pub mod Kept
+pub mod Offered
 pub mod Offers
 pub mod Puts
 pub mod Queues

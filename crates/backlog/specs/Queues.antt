@@ -1,6 +1,5 @@
 -- The accepted packets of a lane, and those of them that wait.
-use Rattle.std.specs.Prelude.{ℕ, ◌≡◌, ◌≤◌, List, drop, length, max, min}
-use Rattle.circular_buffer.specs.Buffer.{Buffer}
+use Rattle.std.specs.Prelude.{ℕ, ◌-◌, ◌≤◌, List, length}
 use Rattle.steer_base.specs.Journals.{Journal}
 use Rattle.backlog.specs.declared.limits.TheConstants.{MAX_LANE_ROOM}
 
@@ -17,11 +16,9 @@ abbrev pub queue_lists : Journal ℕ → ℕ → ℕ → QueueLists
 queue_lists accepted pulled limit =
     record { accepted = accepted.items; pulled = pulled; limit = limit; room = accepted.room }
 
--- A ring holds the accepted packets that were not pulled, and has room for as many as may wait.
-pub record IsRingOf (queue : QueueLists) (ring : Buffer ℕ) : Type 0 where
-  pub waiting : ring.items ≡ drop queue.pulled queue.accepted
+-- Only accepted packets were pulled, no more wait than the limit, and all fit the room.
+pub record IsQueue (queue : QueueLists) : Type 0 where
   pub pulled : queue.pulled ≤ length queue.accepted
-  pub limit : length ring.items ≤ queue.limit
-  pub capacity : ring.capacity ≡ min queue.limit (max queue.room 1)
+  pub waiting : length queue.accepted - queue.pulled ≤ queue.limit
   pub fits : length queue.accepted ≤ queue.room
   pub room : queue.room ≤ MAX_LANE_ROOM

@@ -1,12 +1,13 @@
 //! A lane: the packets it accepted and dropped, and how many were pulled.
 ghost use Rattle.std.specs.Prelude.{ℕ, ◌≡◌, ◌+◌, ◌-◌, ◌<◌, ◌≤◌, length, IfOk, slice_get};
 ghost use Rattle.steer_base.specs.Counters.{number};
+ghost use Rattle.backlog.specs.Kept.{most_drops};
 ghost use Rattle.backlog.specs.Puts.{IsLane, SameShape, after_put, after_take, new_lane};
 ghost use Rattle.backlog.specs.Puts.{next_waiting, put_answer, put_count};
 ghost use Rattle.backlog.specs.declared.limits.TheConstants.{MAX_LANE_ROOM};
 
 use crate::bucket::{bucket_of, drop_cause};
-use crate::offers::Offers;
+use crate::lane_offers::LaneOffers;
 use crate::queue::Queue;
 use std::alloc::Global;
 use std::marker::Model;
@@ -24,12 +25,11 @@ pub struct Lane {
 #[derive(Drop)]
 struct Parts {
     queue: Queue,
-    offers: Offers,
+    offers: LaneOffers,
     drops: Vec<LaneDrop>,
     limit: u32,
     room: u32,
     start: u32,
-    limited: bool,
 }
 
 impl Model for Lane {
@@ -40,12 +40,11 @@ impl Model for Lane {
     ghost Value = { LaneLists };
 
     ghost view = { λ l. lane_lists l.parts.value.queue l.parts.value.offers
-        l.parts.value.drops.items l.parts.value.limit l.parts.value.room l.parts.value.start
-        l.parts.value.limited };
+        l.parts.value.drops.items l.parts.value.limit l.parts.value.room l.parts.value.start };
 
     ghost invariant = { λ l.
         IsKept (lane_lists l.parts.value.queue l.parts.value.offers l.parts.value.drops.items
-        l.parts.value.limit l.parts.value.room l.parts.value.start l.parts.value.limited)
+        l.parts.value.limit l.parts.value.room l.parts.value.start)
         l.parts.value.queue l.parts.value.offers (vec_capacity l.parts.value.drops) };
 }
 
@@ -65,8 +64,8 @@ impl Lane {
         ensures { IfOk result (λ lane. lane ≡ new_lane limit room start limited) }
     {
         let queue = Queue::make(alloc, limit, room)?;
-        let offers = Offers::make(alloc, room)?;
-        let drops = Vec::with_capacity(alloc, room as usize)?;
+        let offers = LaneOffers::make(alloc, room, limited)?;
+        let drops = Vec::with_capacity(alloc, most_drops(limit, room, limited) as usize)?;
         let parts = Parts {
             queue,
             offers,
@@ -74,7 +73,6 @@ impl Lane {
             limit,
             room,
             start,
-            limited,
         };
         Ok(Lane {
             parts: Box::new(alloc, parts)?,
@@ -94,7 +92,8 @@ impl Lane {
         let (accepted, pulled) = (self.parts.queue.accepted(), self.parts.queue.pulled());
         let waiting = self.parts.queue.waiting();
         let count = self.parts.offers.note(bucket_of(hash));
-        match drop_cause(self.parts.limited, self.parts.limit, waiting, count) {
+        let limited = self.parts.offers.limited();
+        match drop_cause(limited, self.parts.limit, waiting, count) {
             None => {
                 self.parts.queue.put(id);
                 Put::At(number_at(self.parts.start, accepted + 1))
@@ -132,7 +131,7 @@ impl Lane {
     pub fn room(&self) -> u32
         ensures { result + put_count self.now ≡ self.now.room }
     {
-        self.parts.room - self.parts.offers.len()
+        self.parts.room - self.parts.queue.accepted() - self.parts.drops.len() as u32
     }
 
     /// The number of packets accepted so far.
@@ -170,4 +169,20 @@ impl Lane {
     {
         number_at(self.parts.start, self.parts.queue.accepted())
     }
+
+    /// The packets that the lane accepted and its drops, as vectors, without copying.
+    pub fn into_lists(self) -> (Vec<PacketId>, Vec<LaneDrop>)
+        ensures accepted { result.0.items ≡ self.accepted }
+        ensures drops { result.1.items ≡ self.drops }
+    {
+        let Parts { queue, drops, .. } = Box::into_inner(self.parts);
+        (queue.into_accepted(), drops)
+    }
+}
+
+// The most packets that a lane can drop: none if all may wait at once and no flow limit applies.
+fn most_drops(limit: u32, room: u32, limited: bool) -> u32
+    ensures { result ≡ most_drops limit room limited }
+{
+    if limited || limit < room { room } else { 0 }
 }

@@ -3,6 +3,7 @@
 
 mod bucket;
 mod lane;
+mod lane_offers;
 mod laws;
 mod limits;
 mod offers;

@@ -6,29 +6,27 @@ ghost use Rattle.steer_base.specs.Journals.{grown, journal};
 ghost use Rattle.steer_base.specs.declared.limits.TheConstants.{FLOW_LIMIT_BUCKETS};
 ghost use Rattle.backlog.specs.declared.limits.TheConstants.{MAX_LANE_ROOM};
 
-use crate::window::Window;
+use crate::lane_offers::LaneOffers;
 use std::alloc::Global;
 use std::marker::Model;
-use steer_base::{Journal, OutOfMemory};
+use steer_base::OutOfMemory;
 
 /// The offers to a lane in order: the bucket of each, or none for an offer without a hash. It also
 /// counts the buckets of the last 256 offers that have one.
 #[derive(Drop)]
 pub struct Offers {
-    buckets: Journal<Option<u16>>,
-    window: Window,
+    offers: LaneOffers,
 }
 
 impl Model for Offers {
-    ghost use Rattle.std.specs.Prelude.{ℕ, ◌≡◌, Option};
-    ghost use Rattle.steer_base.specs.Drops.{window as window_of};
-    ghost use Rattle.steer_base.specs.Journals.{Journal};
+    ghost use Rattle.std.specs.Prelude.{ℕ, ◌≡◌, true, Option};
+    ghost use Rattle.steer_base.specs.Journals.{Journal, journal};
 
     ghost Value = { Journal (Option ℕ) };
 
-    ghost view = { λ o. o.buckets };
+    ghost view = { λ o. journal o.offers.buckets o.offers.room };
 
-    ghost invariant = { λ o. o.window ≡ window_of o.buckets.items };
+    ghost invariant = { λ o. o.offers.limited ≡ true };
 }
 
 impl Offers {
@@ -37,9 +35,8 @@ impl Offers {
         requires { room ≤ MAX_LANE_ROOM }
         ensures { IfOk result (λ offers. offers ≡ journal [] room) }
     {
-        let buckets = Journal::make(alloc, room)?;
-        let window = Window::make(alloc)?;
-        Ok(Offers { buckets, window })
+        let offers = LaneOffers::make(alloc, room, true)?;
+        Ok(Offers { offers })
     }
 
     /// Adds an offer, and returns how many of the last 256 offers with a hash have its bucket,
@@ -50,16 +47,13 @@ impl Offers {
         ensures items { self.new ≡ grown self.old bucket }
         ensures count { result ≡ option_map (bucket_count self.old.items) bucket }
     {
-        self.buckets.push(bucket);
-        let bucket = bucket?;
-        self.window.push(bucket);
-        Some(self.window.count(bucket))
+        self.offers.note(bucket)
     }
 
     /// The number of offers.
     pub fn len(&self) -> u32
         ensures { result ≡ length self.now.items }
     {
-        self.buckets.len()
+        self.offers.len()
     }
 }

@@ -5,28 +5,26 @@ ghost use Rattle.steer_base.specs.Journals.{journal};
 ghost use Rattle.backlog.specs.Queues.{QueueLists, queue_lists};
 ghost use Rattle.backlog.specs.declared.limits.TheConstants.{MAX_LANE_ROOM};
 
-use circular_buffer::HeapCircularBuffer;
 use std::alloc::Global;
 use std::marker::Model;
 use steer_base::{Journal, OutOfMemory, PacketId};
 
-/// The accepted packets and how many of them were pulled. Those that wait are also in a ring.
+/// The accepted packets and how many of them were pulled, the oldest first.
 #[derive(Drop)]
 pub struct Queue {
     accepted: Journal<PacketId>,
-    waiting: HeapCircularBuffer<PacketId>,
     pulled: u32,
     limit: u32,
 }
 
 impl Model for Queue {
-    ghost use Rattle.backlog.specs.Queues.{IsRingOf, QueueLists, queue_lists};
+    ghost use Rattle.backlog.specs.Queues.{IsQueue, QueueLists, queue_lists};
 
     ghost Value = { QueueLists };
 
     ghost view = { λ q. queue_lists q.accepted q.pulled q.limit };
 
-    ghost invariant = { λ q. IsRingOf (queue_lists q.accepted q.pulled q.limit) q.waiting };
+    ghost invariant = { λ q. IsQueue (queue_lists q.accepted q.pulled q.limit) };
 }
 
 impl Queue {
@@ -36,10 +34,8 @@ impl Queue {
         ensures { IfOk result (λ queue. queue ≡ queue_lists (journal [] room) 0 limit) }
     {
         let accepted = Journal::make(alloc, room)?;
-        let waiting = HeapCircularBuffer::with_capacity(alloc, limit.min(room.max(1)) as usize)?;
         Ok(Queue {
             accepted,
-            waiting,
             pulled: 0,
             limit,
         })
@@ -52,7 +48,6 @@ impl Queue {
         ensures { self.new ≡ record self.old { accepted = self.old.accepted ++ id ∷ [] } }
     {
         self.accepted.push(id);
-        self.waiting.try_push_back(id).unwrap();
     }
 
     /// Pulls the oldest packet that waits, if there is one.
@@ -61,7 +56,7 @@ impl Queue {
             then record self.old { pulled = self.old.pulled + 1 } else self.old) }
         ensures packet { result ≡ slice_get self.old.accepted self.old.pulled }
     {
-        let id = self.waiting.pop_front()?;
+        let id = self.accepted.get(self.pulled)?;
         self.pulled += 1;
         Some(id)
     }
@@ -71,7 +66,7 @@ impl Queue {
         ensures waiting { result ≡ length self.now.accepted - self.now.pulled }
         ensures limited { result ≤ self.now.limit }
     {
-        self.waiting.len() as u32
+        self.accepted.len() - self.pulled
     }
 
     /// The number of packets accepted so far.
@@ -95,5 +90,13 @@ impl Queue {
         ensures { result ≡ slice_get self.now.accepted index }
     {
         self.accepted.get(index)
+    }
+
+    /// The accepted packets as a vector, without copying.
+    pub fn into_accepted(self) -> Vec<PacketId>
+        ensures { result.items ≡ self.accepted }
+    {
+        let Queue { accepted, .. } = self;
+        accepted.into_vec()
     }
 }

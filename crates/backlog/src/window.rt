@@ -1,8 +1,10 @@
 //! The buckets of the last offers to a lane, with how often each bucket is among them.
 ghost use Rattle.std.specs.Prelude.{ℕ, ◌≡◌, ◌<◌, ◌≤◌, ◌==◌, List, [], ◌∷◌, ◌++◌, count_by, drop};
-ghost use Rattle.std.specs.Prelude.{length, replicate, IfOk};
+ghost use Rattle.std.specs.Prelude.{length, replicate, IfOk, Option};
+ghost use Rattle.std.specs.Option.{ForSome, option_map};
 ghost use Rattle.steer_base.specs.Drops.{last_of};
 ghost use Rattle.steer_base.specs.declared.limits.TheConstants.{FLOW_LIMIT_BUCKETS};
+ghost use Rattle.backlog.specs.Offered.{window_after};
 
 use circular_buffer::HeapCircularBuffer;
 use std::alloc::Global;
@@ -40,8 +42,19 @@ impl Window {
         Ok(Window { last, counts })
     }
 
-    /// Adds the bucket of an offer, and drops the oldest one if there are 256.
-    pub fn push(&mut self, bucket: u16)
+    /// Adds the bucket of an offer, if it has one, and returns how often it is in the window now.
+    pub fn note(&mut self, bucket: Option<u16>) -> Option<u32>
+        requires { ForSome bucket (λ b. b < FLOW_LIMIT_BUCKETS) }
+        ensures window { self.new ≡ window_after self.old bucket }
+        ensures count { result ≡ option_map (λ b. count_by (λ x. x == b) self.new) bucket }
+    {
+        let bucket = bucket?;
+        self.push(bucket);
+        Some(self.count(bucket))
+    }
+
+    // Adds a bucket, and drops the oldest one if there are 256.
+    fn push(&mut self, bucket: u16)
         requires { bucket < FLOW_LIMIT_BUCKETS }
         ensures { self.new ≡ last_of 256 (self.old ++ bucket ∷ []) }
     {
@@ -51,8 +64,8 @@ impl Window {
         self.add(bucket);
     }
 
-    /// How often a bucket is in the window.
-    pub fn count(&self, bucket: u16) -> u32
+    // How often a bucket is in the window.
+    fn count(&self, bucket: u16) -> u32
         requires { bucket < FLOW_LIMIT_BUCKETS }
         ensures { result ≡ count_by (λ b. b == bucket) self.now }
     {
