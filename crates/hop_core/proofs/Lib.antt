@@ -17,6 +17,7 @@ pub mod KeptHeads
 pub mod LaneSteps
 pub mod LaneTables
 pub mod Leaves
+pub mod LeftLanes
 pub mod Lists
 pub mod New
 pub mod NothingLost

@@ -8,6 +8,7 @@ pub mod Hop
 pub mod LaneTable
 pub mod Laws
 pub mod Leaves
+pub mod Left
 pub mod NothingLost
 pub mod Order
 pub mod Others

@@ -11,6 +11,7 @@ ghost use Rattle.hop_core.specs.declared.shape.TheConstants.{MAX_HOP_ROOM};
 
 mod asking;
 mod events;
+mod moves;
 mod readers;
 
 use crate::lanes::Lanes;

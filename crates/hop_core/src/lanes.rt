@@ -1,14 +1,17 @@
 //! The lanes of a hop.
-ghost use Rattle.std.specs.Prelude.{◌≡◌, ℕ, ◌<◌, ◌≤◌, length, slice_get, slice_index, IfOk};
+ghost use Rattle.std.specs.Prelude.{◌≡◌, ℕ, ◌<◌, ◌≤◌, length, map, slice_get, slice_index, IfOk};
+ghost use Rattle.std.specs.List.{range_with_len, zip};
 ghost use Rattle.steer_base.specs.Counters.{number};
 ghost use Rattle.backlog.specs.Puts.{after_put, after_take, next_waiting, put_answer, put_count};
 ghost use Rattle.hop_core.specs.LaneTable.{lane_at, new_lanes, with_lane};
+ghost use Rattle.hop_core.specs.Left.{left_of};
 ghost use Rattle.hop_core.specs.declared.shape.TheConstants.{MAX_HOP_ROOM};
 
+use crate::left::LeftLane;
 use backlog::Lane;
 use std::alloc::Global;
 use std::marker::Model;
-use steer_base::{CpuMask, LaneDrop, OutOfMemory, PacketId, Put, number_at};
+use steer_base::{CpuMask, LaneDrop, List, OutOfMemory, PacketId, Put, number_at};
 
 /// The lanes of a hop, of one limit and one room.
 #[derive(Drop)]
@@ -145,10 +148,70 @@ impl Lanes {
         self.lanes.len() as u8
     }
 
+    /// The number at which the counters of the lanes begin.
+    pub fn start(&self) -> u32
+        ensures { result ≡ self.now.start }
+    {
+        self.start
+    }
+
     /// The counter number of a lane at a count of packets.
     pub fn number_at(&self, count: u32) -> u32
         ensures { result ≡ number self.now.start count }
     {
         number_at(self.start, count)
+    }
+
+    /// What each lane leaves, of which these numbers of packets were delivered and retired. Copies
+    /// no list; the memory is for the list of lanes.
+    pub fn into_left(
+        self,
+        alloc: Global,
+        delivered: Vec<u32>,
+        retired: Vec<u32>,
+    ) -> Result<Vec<LeftLane>, OutOfMemory>
+        requires delivered { length delivered.items ≡ length self.accepted }
+        requires retired { length retired.items ≡ length self.accepted }
+        ensures { IfOk result (λ lanes. lanes.items ≡ map (λ c. left_of (lane_at self c)
+            (slice_index delivered.items c) (slice_index retired.items c))
+            (range_with_len 0 (length self.accepted))) }
+    {
+        let Lanes { lanes, .. } = self;
+        left_lanes(alloc, lanes, delivered, retired)
+    }
+}
+
+// What each of these lanes leaves.
+fn left_lanes(
+    alloc: Global,
+    lanes: Vec<Lane>,
+    delivered: Vec<u32>,
+    retired: Vec<u32>,
+) -> Result<Vec<LeftLane>, OutOfMemory>
+    ensures { IfOk result (λ left. left.items ≡ map (λ lane. left_of lane.0.0 lane.0.1 lane.1)
+        (zip (zip lanes.items delivered.items) retired.items)) }
+{
+    Ok(
+        lanes
+            .into_iter()
+            .zip(delivered)
+            .zip(retired)
+            .map(|((lane, delivered), retired)| left_lane(lane, delivered, retired))
+            .collect(alloc)?,
+    )
+}
+
+// What a lane leaves.
+fn left_lane(lane: Lane, delivered: u32, retired: u32) -> LeftLane
+    ensures { result ≡ left_of lane delivered retired }
+{
+    let pulled = lane.pulled();
+    let (accepted, drops) = lane.into_lists();
+    LeftLane {
+        accepted: List::from_vec(accepted),
+        drops: List::from_vec(drops),
+        pulled,
+        delivered,
+        retired,
     }
 }

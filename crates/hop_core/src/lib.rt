@@ -5,6 +5,7 @@ mod event;
 mod hop;
 mod lanes;
 mod laws;
+mod left;
 mod shape;
 mod state_laws;
 mod tables;
@@ -19,6 +20,7 @@ pub use laws::{
     pairs_in_order_make_a_prefix, the_gate_answers_exactly, tight_sets_are_delivered_in_order,
     work_goes_on_and_is_bounded,
 };
+pub use left::{HopLists, LeftLane};
 pub use shape::{HopShape, MAX_HOP_ROOM};
 pub use state_laws::{
     counts_of_drops_never_fall, each_event_is_one_of_the_bare_part, each_event_leaves_the_rest,
