@@ -1,12 +1,13 @@
 -- There is always a candidate, and each is a transmit queue.
 use Rattle.std.proofs.Common.{ℕ, ◌<◌, ◌%◌, Bool, true, List, [], ◌∷◌, Option, length, arith}
-use Rattle.std.proofs.Common.{Contains, All}
+use Rattle.std.proofs.Common.{Contains, All, ◌≡◌, ◌∙◌, ap, refl, slice_index, sym}
 use Rattle.std.specs.Prelude.{unwrap_or}
 use Rattle.std.proofs.lemmas.List.Elements.{Contains-get_or, All-get_or}
 use Rattle.std.proofs.Math.Nat.{mod-lt}
 use Rattle.steer_base.specs.Sends.{candidates, first_filled, pick_of}
-use Rattle.steer_base.specs.Sets.{those_below}
+use Rattle.steer_base.specs.Sets.{at_hash, those_below}
 use Rattle.steer_base.proofs.SetsLemmas.{those_below-below, length-those_below_all}
+use Rattle.steer_base.proofs.SetsLemmas.{slice_index-those_below}
 
 length-first_filled : (xs ys zs : List ℕ) → 0 < length zs → 0 < length (first_filled xs ys zs)
 length-first_filled [] [] zs some = some
@@ -54,3 +55,12 @@ pub within : (count : ℕ) (by_queue by_cpu : ℕ → ℕ → Bool) (rxq cpu : �
 within count by_queue by_cpu rxq cpu hash some =
     within_some count by_queue by_cpu rxq cpu hash
     (length-candidates count by_queue by_cpu rxq cpu some)
+
+-- among all transmit queues the pick is the hash modulo their number
+pub at_hash-all : (count hash : ℕ) → 0 < count
+    → at_hash (those_below count (λ tx. true)) hash ≡ hash % count
+at_hash-all count hash some =
+    let all = those_below count (λ tx. true) in
+    ap (λ n. slice_index all (hash % n)) (length-those_below_all count)
+    ∙ ap (slice_index all) (sym (length-those_below_all (hash % count)))
+    ∙ slice_index-those_below count (λ tx. true) (hash % count) (mod-lt hash some) refl

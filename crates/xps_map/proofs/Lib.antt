@@ -1,2 +1,5 @@
 pub mod CandidatesLemmas
+mod FirstLemmas
+mod InverseLemmas
+mod MapsLemmas
 mod ServingLemmas

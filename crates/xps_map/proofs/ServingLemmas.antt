@@ -1,5 +1,5 @@
 -- A loop over the numbers below n that collects those which pass a test in a set.
-use Rattle.std.proofs.Common.{ℕ, ◌≡◌, ◌≤◌, ◌+◌, ◌-◌, Bool, true, false, refl, sym, ap, ◌∙◌, arith}
+use Rattle.std.proofs.Common.{ℕ, ◌≡◌, ◌≤◌, ◌+◌, ◌-◌, Bool, false, refl, sym, ap, ◌∙◌, arith}
 use Rattle.std.specs.Prelude.{◌&&◌, nat_lt}
 use Rattle.std.proofs.lemmas.Bool.{lt-ltb}
 use Rattle.steer_base.proofs.SetsLemmas.{those_below-fewer, those_below-same}
@@ -10,10 +10,6 @@ use Rattle.steer_base.specs.declared.cpu_mask.CpuMask.{CpuMask}
 abbrev pub HasPassing : CpuMask → ℕ → (ℕ → Bool) → Type 0
 HasPassing mask n test = (i : ℕ) → has mask i ≡ (nat_lt i n && test i)
 
-and_true : (b : Bool) → (b && true) ≡ b
-and_true true = refl
-and_true false = refl
-
 -- its members are those that pass
 pub members-passing : (mask : CpuMask) (n : ℕ) (test : ℕ → Bool) → n ≤ 32 → HasPassing mask n test
     → members mask ≡ those_below n test
@@ -23,8 +19,3 @@ members-passing mask n test few same =
     ∙ those_below-fewer n (32 - n) (has mask) (λ i h. same i
     ∙ (let out : nat_lt i n ≡ false = grind arith in rw out refl))
     ∙ those_below-same n (has mask) test (λ i lt. same i ∙ rw (lt-ltb i n lt) refl)
-
--- the first n are all of them
-pub HasPassing-all : (mask : CpuMask) (n : ℕ) → ((i : ℕ) → has mask i ≡ nat_lt i n)
-    → HasPassing mask n (λ i. true)
-HasPassing-all mask n first = λ i. first i ∙ sym (and_true (nat_lt i n))

@@ -1,6 +1,7 @@
 //! Transmit packet steering (XPS): the transmit queue that a packet is sent through.
 #![tactic(auto)]
 
+mod inverse;
 mod laws;
 mod maps;
 

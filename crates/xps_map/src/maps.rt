@@ -1,9 +1,10 @@
 //! The maps of the transmit queues.
-ghost use Rattle.std.specs.Prelude.{◌≡◌, ◌<◌, ◌≤◌, length, slice_set};
+ghost use Rattle.std.specs.Prelude.{◌≡◌, ◌<◌, ◌≤◌, true, length, slice_set, None, IfSome};
 ghost use Rattle.steer_base.specs.Sends.{candidates};
 ghost use Rattle.steer_base.specs.Sets.{has_queue, members, those_below};
 ghost use Rattle.xps_map.specs.Maps.{empty_maps, picked, serves_cpu, serves_queue};
 
+use crate::inverse::{Inverse, nth, set_at};
 use std::marker::Model;
 use steer_base::{Cpu, CpuMask, RxQueue, TxQueue};
 
@@ -17,10 +18,13 @@ pub struct XpsMaps {
     count: u8,
     cpus: [CpuMask; MAX_QUEUES],
     queues: [u16; MAX_QUEUES],
+    // None where a pick searches the maps.
+    inverse: Option<Inverse>,
 }
 
 impl Model for XpsMaps {
-    ghost use Rattle.std.specs.Prelude.{◌≡◌, ◌<◌, ◌≤◌, length, take};
+    ghost use Rattle.std.specs.Prelude.{◌≡◌, ◌<◌, ◌≤◌, IfSome, length, take};
+    ghost use Rattle.xps_map.specs.Inverses.{Inverts};
     ghost use Rattle.xps_map.specs.Maps.{Maps};
 
     ghost Value = { Maps };
@@ -31,11 +35,13 @@ impl Model for XpsMaps {
       queues = take m.count m.queues;
     } };
 
-    ghost invariant = { λ m. (0 < m.count) × (m.count ≤ 32) };
+    ghost invariant = { λ m. (0 < m.count) × (m.count ≤ 32)
+        × IfSome m.inverse (Inverts (take m.count m.cpus) (take m.count m.queues)) };
 }
 
 impl XpsMaps {
-    /// Empty maps for `queues` transmit queues, 1 to 32.
+    /// Empty maps for `queues` transmit queues, 1 to 32. A pick searches them; it looks up those of
+    /// `from_lists`.
     pub fn make(queues: u8) -> XpsMaps
         requires some { 1 ≤ queues }
         requires few { queues ≤ 32 }
@@ -45,11 +51,13 @@ impl XpsMaps {
             count: queues,
             cpus: [CpuMask(0); MAX_QUEUES],
             queues: [0; MAX_QUEUES],
+            inverse: None,
         }
     }
 
     /// The maps of 1 to 32 transmit queues: `cpus` has the processors of each, `queues` the receive
-    /// queues, bit q for receive queue q.
+    /// queues, bit q for receive queue q. They are meant to be made once and picked from often: a
+    /// pick looks up the transmit queues that serve a receive queue or a processor.
     pub fn from_lists(cpus: &[CpuMask], queues: &[u16]) -> XpsMaps
         requires some { 1 ≤ length cpus.now }
         requires few { length cpus.now ≤ 32 }
@@ -57,16 +65,14 @@ impl XpsMaps {
         ensures { result
             ≡ record { count = length cpus.now; cpus = cpus.now; queues = queues.now } }
     {
-        let count = cpus.len();
-        let mut all_cpus = [CpuMask(0); MAX_QUEUES];
-        all_cpus[..count].copy_from_slice(cpus);
-        let mut all_queues = [0; MAX_QUEUES];
-        all_queues[..count].copy_from_slice(queues);
-        XpsMaps {
-            count: count as u8,
-            cpus: all_cpus,
-            queues: all_queues,
+        let count = cpus.len() as u8;
+        let mut maps = XpsMaps::make(count);
+        maps.inverse = Some(Inverse::empty());
+        for tx in 0..count {
+            maps.set_cpus(TxQueue(tx), cpus[usize::from(tx)]);
+            maps.set_queues(TxQueue(tx), queues[usize::from(tx)]);
         }
+        maps
     }
 
     /// Sets the processors of a transmit queue.
@@ -74,7 +80,12 @@ impl XpsMaps {
         requires { tx < self.old.count }
         ensures { self.new ≡ record self.old { cpus = slice_set self.old.cpus tx mask } }
     {
-        self.cpus[usize::from(tx.0)] = mask;
+        let place = usize::from(tx.0);
+        let before = self.cpus[place];
+        self.cpus[place] = mask;
+        if let Some(inverse) = &mut self.inverse {
+            inverse.put_cpus(tx, before, mask);
+        }
     }
 
     /// Sets the receive queues of a transmit queue: bit q is receive queue q.
@@ -82,7 +93,12 @@ impl XpsMaps {
         requires { tx < self.old.count }
         ensures { self.new ≡ record self.old { queues = slice_set self.old.queues tx mask } }
     {
-        self.queues[usize::from(tx.0)] = mask;
+        let place = usize::from(tx.0);
+        let before = self.queues[place];
+        self.queues[place] = mask;
+        if let Some(inverse) = &mut self.inverse {
+            inverse.put_queues(tx, before, mask);
+        }
     }
 
     /// The transmit queue for a packet that was received on `rxq` and is sent from `cpu`. The
@@ -94,30 +110,45 @@ impl XpsMaps {
         ensures value { result ≡ picked self.now rxq cpu hash }
         ensures within { result < self.now.count }
     {
-        let candidates = self.candidates(rxq, cpu);
-        let index = hash.unwrap_or(0) % candidates.len();
-        TxQueue(candidates.nth(index).0)
+        let hash = hash.unwrap_or(0);
+        match self.serving(rxq, cpu) {
+            Some(set) => TxQueue(nth(set, hash % set.len()).0),
+            None => TxQueue((hash % u32::from(self.count)) as u8),
+        }
     }
 
-    // The candidates as a set: bit t is transmit queue t.
-    fn candidates(&self, rxq: RxQueue, cpu: Cpu) -> CpuMask
-        ensures value { members result
-            ≡ candidates self.now.count (serves_queue self.now) (serves_cpu self.now) rxq cpu }
-        ensures some { 0 < length (members result) }
+    // The candidates as a set, bit t for transmit queue t, if a map has any: if not, all are.
+    fn serving(&self, rxq: RxQueue, cpu: Cpu) -> Option<CpuMask>
+        ensures some { IfSome result (λ set. members set
+            ≡ candidates self.now.count (serves_queue self.now) (serves_cpu self.now) rxq cpu) }
+        ensures filled { IfSome result (λ set. 0 < length (members set)) }
+        ensures none { result ≡ None
+            → candidates self.now.count (serves_queue self.now) (serves_cpu self.now) rxq cpu
+            ≡ those_below self.now.count (λ tx. true) }
     {
         let by_queue = self.serving_queue(rxq);
         if !by_queue.is_empty() {
-            return by_queue;
+            return Some(by_queue);
         }
         let by_cpu = self.serving_cpu(cpu);
         if !by_cpu.is_empty() {
-            return by_cpu;
+            return Some(by_cpu);
         }
-        CpuMask::first_n(self.count)
+        None
     }
 
     // The transmit queues whose receive-queue map has the queue, as a set.
     fn serving_queue(&self, rxq: RxQueue) -> CpuMask
+        ensures { members result ≡ those_below self.now.count (λ tx. serves_queue self.now tx rxq) }
+    {
+        match &self.inverse {
+            Some(inverse) => set_at(&inverse.by_queue, rxq.0),
+            None => self.search_queue(rxq),
+        }
+    }
+
+    // The same without an inverse.
+    fn search_queue(&self, rxq: RxQueue) -> CpuMask
         ensures { members result ≡ those_below self.now.count (λ tx. serves_queue self.now tx rxq) }
     {
         let mut set = CpuMask(0);
@@ -131,6 +162,16 @@ impl XpsMaps {
 
     // The transmit queues whose processor map has the processor, as a set.
     fn serving_cpu(&self, cpu: Cpu) -> CpuMask
+        ensures { members result ≡ those_below self.now.count (λ tx. serves_cpu self.now tx cpu) }
+    {
+        match &self.inverse {
+            Some(inverse) => set_at(&inverse.by_cpu, cpu.0),
+            None => self.search_cpu(cpu),
+        }
+    }
+
+    // The same without an inverse.
+    fn search_cpu(&self, cpu: Cpu) -> CpuMask
         ensures { members result ≡ those_below self.now.count (λ tx. serves_cpu self.now tx cpu) }
     {
         let mut set = CpuMask(0);

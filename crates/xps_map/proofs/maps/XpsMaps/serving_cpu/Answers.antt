@@ -1,13 +1,18 @@
-use Rattle.std.proofs.Common.{ℕ, ◌≡◌, ap, arith}
-use Rattle.xps_map.proofs.ServingLemmas.{members-passing}
-use Rattle.xps_map.specs.Maps.{Maps, serves_cpu}
+use Rattle.std.proofs.Common.{ℕ, arith, take, subst, Option, IfSome}
+use Rattle.xps_map.proofs.MapsLemmas.{beyond_cpus, far_cpu, members-serving}
+use Rattle.xps_map.specs.Inverses.{Inverts, serves_cpu_of}
+use Rattle.xps_map.specs.declared.inverse.Inverse.{Inverse}
 use Rattle.xps_map.proofs.maps.XpsMaps.serving_cpu.Goals as goal
 
-pub returns : goal.returns
-returns c =
-    let maps = c.args.self.now in
-    let test = λ (tx : ℕ). serves_cpu maps tx c.args.cpu in
-    let same : c.self.inside.count ≡ maps.count = ap (λ (m : Maps). m.count) c.self.view_is in
-    let all : c.loop-tx.tx ≡ maps.count = omega arith in
-    members-passing c.loop-tx.set maps.count test (omega (arith, c.self.invariant))
-    (rw (← all) c.loop-tx.invariant)
+pub returns-in-Some : goal.returns-in-Some
+returns-in-Some c =
+    let m = c.self.inside in
+    let cpus = take m.count m.cpus in
+    let place : ℕ = c.cpu.inside.0 in
+    let inverse : Inverts cpus (take m.count m.queues) c.in-Some.inverse =
+    subst (λ (i : Option Inverse). IfSome i (Inverts cpus (take m.count m.queues))) c.in-Some.is
+    c.self.invariant.2 in
+    rw (← c.self.view_is, ← c.cpu.view_is, c.set_at.ensures)
+    (members-serving m.count 32 (serves_cpu_of cpus) c.in-Some.inverse.by_cpu place (omega arith)
+    (omega arith) inverse.cpus (λ tx far. far_cpu cpus tx place far)
+    (λ tx beyond. beyond_cpus m.count m.cpus tx place beyond))

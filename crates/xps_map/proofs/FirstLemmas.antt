@@ -1,0 +1,96 @@
+-- The first of the numbers that pass a test, and those behind it.
+use Rattle.std.proofs.Common.{ℕ, zero, suc, ◌≡◌, ◌<◌, ◌+◌, ◌^◌, Bool, true, false, not}
+use Rattle.std.proofs.Common.{[], ◌∷◌, ◌++◌, cond, w32, inl, inr, refl, sym, ap, ◌∙◌, arith}
+use Rattle.std.proofs.Common.{length, drop, slice_index}
+use Rattle.std.specs.Prelude.{◌==◌, ◌&&◌}
+use Rattle.std.specs.Int.{trailing_zeros}
+use Rattle.std.proofs.lemmas.Bool.{cases_eq, eq-eqb, ne_eqb, lt-ltb}
+use Rattle.std.proofs.lemmas.Nat.Bits.{bit_at-trailing_zeros}
+use Rattle.steer_base.proofs.SetsLemmas.{those_below-more, those_below-zero}
+use Rattle.steer_base.proofs.SetsLemmas.{those_below_fail}
+use Rattle.std.proofs.lemmas.Nat.{ones_le_self}
+use Rattle.std.proofs.lemmas.List.{drop_more}
+use Rattle.steer_base.proofs.MasksLemmas.{has-without_cpu, count_ones-members}
+use Rattle.steer_base.specs.Sets.{has, members, those_below, without_cpu}
+use Rattle.steer_base.specs.declared.cpu_mask.CpuMask.{CpuMask}
+
+and_true : (b : Bool) → (b && true) ≡ b
+and_true true = refl
+and_true false = refl
+
+-- where none passes, none is kept
+none_below : (n : ℕ) (test : ℕ → Bool) → ((i : ℕ) → i < n → test i ≡ false)
+    → those_below n test ≡ []
+none_below zero test fails = those_below-zero test
+none_below (suc n) test fails =
+    let e : suc n ≡ n + 1 = omega arith in
+    ap (λ k. those_below k test) e ∙ those_below_fail n test (fails n (omega arith))
+    ∙ none_below n test (λ i lt. fails i (omega arith))
+
+-- the first that passes stands before those that pass without it
+first_below : (n : ℕ) (test rest : ℕ → Bool) (first : ℕ) → first < n → test first ≡ true
+    → ((i : ℕ) → i < first → test i ≡ false)
+    → ((i : ℕ) → rest i ≡ (test i && not (first == i)))
+    → those_below n test ≡ first ∷ those_below n rest
+first_below zero test rest first lt passes before others = absurd (omega arith)
+first_below (suc n) test rest first lt passes before others =
+    let e : suc n ≡ n + 1 = omega arith in
+    let behind : those_below (suc n) test ≡ those_below n test ++ cond (test n) (n ∷ []) [] =
+    ap (λ k. those_below k test) e ∙ those_below-more n test in
+    let behind_rest : those_below (suc n) rest ≡ those_below n rest ++ cond (rest n) (n ∷ []) [] =
+    ap (λ k. those_below k rest) e ∙ those_below-more n rest in
+    elim (cases_eq first n) [
+      | inl here ↦ (
+          let on : test n ≡ true = ap test (sym here) ∙ passes in
+          let off : rest n ≡ false = others n ∙ rw (on, eq-eqb first n here) refl in
+          let none = none_below n test (λ i below. before i (omega arith)) in
+          let none_rest = none_below n rest
+          (λ i below. others i ∙ rw (before i (omega arith)) refl) in
+          behind ∙ rw (none, on) (rw here (ap (λ xs. n ∷ xs)
+          (sym (behind_rest ∙ rw (none_rest, off) refl)))))
+      | inr later ↦ (
+          let same : rest n ≡ test n = others n ∙ rw (ne_eqb first n later) (and_true (test n)) in
+          behind ∙ rw (first_below n test rest first (omega arith) passes before others)
+          (ap (λ xs. first ∷ xs) (sym (behind_rest ∙ rw same refl))))
+    ]
+
+-- the lowest set bit is the least member
+pub members-lowest : (set : CpuMask) → 0 < set.0 → set.0 < 2 ^ 32
+    → members set ≡ trailing_zeros w32 set.0 ∷ members (without_cpu set (trailing_zeros w32 set.0))
+members-lowest set some fits =
+    let lowest = trailing_zeros w32 set.0 in
+    let low = bit_at-trailing_zeros w32 set.0 some fits in
+    first_below 32 (has set) (has (without_cpu set lowest)) lowest low.0
+    (rw (lt-ltb lowest 32 low.0, low.1) refl)
+    (λ i below. rw (lt-ltb i 32 (omega (arith, low.0)), low.2 i below) refl)
+    (λ i. has-without_cpu set lowest i low.0)
+
+pub has-lowest : (set : CpuMask) → 0 < set.0 → set.0 < 2 ^ 32
+    → has set (trailing_zeros w32 set.0) ≡ true
+has-lowest set some fits =
+    let low = bit_at-trailing_zeros w32 set.0 some fits in
+    rw (lt-ltb (trailing_zeros w32 set.0) 32 low.0, low.1) refl
+
+-- a set with a member is not the number 0
+pub bits-some : (set : CpuMask) → set.0 < 2 ^ 32 → 0 < length (members set) → 0 < set.0
+bits-some set fits some =
+    let count = count_ones-members set fits in
+    let most = ones_le_self set.0 in omega arith
+
+-- what is left behind the least of the members from an index on
+pub members-next : (all rest next : CpuMask) (index first : ℕ)
+    → members rest ≡ drop index (members all)
+    → index < length (members all)
+    → members rest ≡ first ∷ members next
+    → members next ≡ drop (index + 1) (members all)
+members-next all rest next index first from within is =
+    ap (drop 1) (sym is ∙ from ∙ drop_more (members all) index 0 within)
+
+-- the least of the members from an index on is the one at the index
+pub members-here : (all rest next : CpuMask) (index first : ℕ)
+    → members rest ≡ drop index (members all)
+    → index < length (members all)
+    → members rest ≡ first ∷ members next
+    → first ≡ slice_index (members all) index
+members-here all rest next index first from within is =
+    ap (λ xs. slice_index xs 0) (sym is ∙ from ∙ drop_more (members all) index 0 within)
