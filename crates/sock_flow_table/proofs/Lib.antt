@@ -1,1 +1,2 @@
+mod GenerationLemmas
 mod NotesLemmas

@@ -1,1 +1,2 @@
+pub mod Generations
 pub mod Sockets

@@ -2,6 +2,7 @@
 #![tactic(auto)]
 
 mod laws;
+mod noted;
 mod table;
 
 pub use laws::the_last_note_is_found;

@@ -1,11 +1,11 @@
 //! The table of socket flow entries.
-ghost use Rattle.std.specs.Prelude.{◌≡◌, ◌<◌, ◌≤◌, IfOk, IfSome, length, nat_lt, take};
-ghost use Rattle.std.specs.Vec.{vec_len, vec_capacity};
+ghost use Rattle.std.specs.Prelude.{◌≡◌, ◌<◌, ◌≤◌, IfOk, IfSome, length, nat_lt};
 ghost use Rattle.steer_base.specs.Counters.{rounded_up};
 ghost use Rattle.steer_base.specs.HashTables.{place_in_rows};
 ghost use Rattle.steer_base.specs.declared.limits.TheConstants.{MAX_SOCKET_SIZE};
 ghost use Rattle.sock_flow_table.specs.Sockets.{noted, unset, wanted};
 
+use crate::noted::{FIRST_GENERATION, Noted};
 use std::alloc::Global;
 use std::marker::Model;
 use steer_base::{Cpu, MAX_SOCKET_SIZE, OutOfMemory, place_of_hash, round_up};
@@ -15,21 +15,25 @@ use steer_base::{Cpu, MAX_SOCKET_SIZE, OutOfMemory, place_of_hash, round_up};
 #[derive(Drop)]
 pub struct SockTable {
     // As many as the largest table has, and no spare capacity. The first `size` are in use.
-    entries: Vec<Option<Cpu>>,
+    entries: Vec<Noted>,
     size: u32,
+    // Only entries of this generation are set.
+    generation: u8,
 }
 
 impl Model for SockTable {
     ghost use Rattle.std.specs.Prelude.{◌≡◌, ◌≤◌, ℕ, List, Option, take, vec_len, vec_capacity};
     ghost use Rattle.steer_base.specs.declared.limits.TheConstants.{MAX_SOCKET_SIZE};
+    ghost use Rattle.sock_flow_table.specs.Generations.{AreUpTo, shown};
 
     ghost Value = { List (Option ℕ) };
 
-    ghost view = { λ t. take t.size t.entries.items };
+    ghost view = { λ t. take t.size (shown t.generation t.entries.items) };
 
     ghost invariant = { λ t. (vec_len t.entries ≡ MAX_SOCKET_SIZE)
         × (vec_capacity t.entries ≡ MAX_SOCKET_SIZE)
-        × (t.size ≤ MAX_SOCKET_SIZE) };
+        × (t.size ≤ MAX_SOCKET_SIZE)
+        × AreUpTo t.generation t.entries.items };
 }
 
 impl SockTable {
@@ -41,11 +45,12 @@ impl SockTable {
     {
         let mut all = Vec::with_capacity(alloc, MAX_SOCKET_SIZE as usize)?;
         for _ in 0..MAX_SOCKET_SIZE {
-            all.push_reserved(None);
+            all.push_reserved(Noted::never());
         }
         Ok(SockTable {
             entries: all,
             size: round_up(entries),
+            generation: FIRST_GENERATION,
         })
     }
 
@@ -58,7 +63,7 @@ impl SockTable {
         let Some(place) = self.place(hash) else {
             return false;
         };
-        self.entries[place] = Some(cpu);
+        self.entries[place] = Noted::make(self.generation, cpu);
         true
     }
 
@@ -67,7 +72,7 @@ impl SockTable {
         ensures { result ≡ wanted self.now hash }
     {
         let place = self.place(hash)?;
-        self.entries[place]
+        self.entries[place].current(self.generation)
     }
 
     /// Clears the table and resizes it to `entries` entries, rounded up to a power of two.
@@ -76,7 +81,7 @@ impl SockTable {
         ensures { self.new ≡ unset (rounded_up entries) }
     {
         self.size = round_up(entries);
-        clear(&mut self.entries, self.size as usize);
+        self.generation = Noted::clear_all(&mut self.entries, self.generation);
     }
 
     // The entry of a hash, if the table has entries.
@@ -85,17 +90,5 @@ impl SockTable {
         ensures within { IfSome result (λ place. place < length self.now) }
     {
         place_of_hash(Some(hash), self.size).map(|place| place as usize)
-    }
-}
-
-// Clears the first `count` entries.
-fn clear(entries: &mut Vec<Option<Cpu>>, count: usize)
-    requires { count ≤ vec_len entries.old }
-    ensures unset { take count entries.new.items ≡ unset count }
-    ensures len { vec_len entries.new ≡ vec_len entries.old }
-    ensures capacity { vec_capacity entries.new ≡ vec_capacity entries.old }
-{
-    for place in 0..count {
-        entries[place] = None;
     }
 }
