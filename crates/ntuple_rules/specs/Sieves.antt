@@ -1,5 +1,5 @@
--- How a classifier passes over groups that have no rule for a flow: by sets of 64 groups, one for
--- each value of each digit (of 4 bits) of each field.
+-- How a classifier passes over groups that have no rule for a flow: by sets of groups, one for each
+-- value of each digit of each field.
 use Rattle.std.specs.Prelude.{◌≡◌, ℕ, ◌+◌, ◌*◌, ◌/◌, ◌%◌, ◌^◌, ◌<◌, ◌≤◌, List, length, slice_get}
 use Rattle.std.specs.Prelude.{IfSome, MatchOption, true, if◌then◌else◌, is_some, drop, Option}
 use Rattle.std.specs.Int.{bit_at}
@@ -12,22 +12,25 @@ use Rattle.ntuple_rules.specs.declared.rule.Rule.{Rule}
 use Rattle.ntuple_rules.specs.declared.fields.Fields.{Fields}
 use Rattle.ntuple_rules.specs.declared.group.Group.{Group}
 use Rattle.ntuple_rules.specs.declared.sieve.Sieve.{Sieve}
+use Rattle.ntuple_rules.specs.declared.sieve.TheConstants.{ALWAYS, DIGIT_BITS, DPORT_ROW, DST_ROW}
+use Rattle.ntuple_rules.specs.declared.sieve.TheConstants.{GROUPS, IPV4_DIGITS, IPV6_DIGITS}
+use Rattle.ntuple_rules.specs.declared.sieve.TheConstants.{PORT_DIGITS, SPORT_ROW, VALUES}
 use Rattle.ntuple_rules.specs.Groups.{fields_with, found_among, found_at, lesser, Finds, InOrder}
 use Rattle.ntuple_rules.specs.Matches.{matches}
 use Rattle.ntuple_rules.specs.Readings.{is_ipv4}
 
 -- a digit of a number, the lowest first
 abbrev pub digit_at : ℕ → ℕ → ℕ
-digit_at number k = number / 2 ^ (4 * k) % 16
+digit_at number k = number / 2 ^ (DIGIT_BITS * k) % VALUES
 
 -- how many digits the addresses of a pair have
 abbrev pub digits_of : Pair → ℕ
-digits_of (V4 src dst) = 8
-digits_of (V6 src dst) = 32
+digits_of (V4 src dst) = IPV4_DIGITS
+digits_of (V6 src dst) = IPV6_DIGITS
 
 -- how many digits the addresses of a kind have
 abbrev pub digits_of_kind : RuleKind → ℕ
-digits_of_kind kind = if is_ipv4 kind then 8 else 32
+digits_of_kind kind = if is_ipv4 kind then IPV4_DIGITS else IPV6_DIGITS
 
 -- the set at an index, if there is one, has the group at this place
 abbrev pub IsIn : List ℕ → ℕ → ℕ → Type 0
@@ -42,14 +45,14 @@ pub record Keeps (old new : List ℕ) : Type 0 where
 -- row, with a set for each value
 abbrev pub AllowsNumber : List ℕ → ℕ → ℕ → ℕ → ℕ → Type 0
 AllowsNumber sets row digits place number =
-    (k : ℕ) → k < digits → IsIn sets (16 * (row + k) + digit_at number k) place
+    (k : ℕ) → k < digits → IsIn sets (VALUES * (row + k) + digit_at number k) place
 
 -- the sets of all four fields have the group at this place
 pub record AllowsFields (sets : List ℕ) (digits place : ℕ) (fields : Fields) : Type 0 where
   pub src : AllowsNumber sets 0 digits place fields.src
-  pub dst : AllowsNumber sets 32 digits place fields.dst
-  pub sport : AllowsNumber sets 64 4 place fields.sport
-  pub dport : AllowsNumber sets 68 4 place fields.dport
+  pub dst : AllowsNumber sets DST_ROW digits place fields.dst
+  pub sport : AllowsNumber sets SPORT_ROW PORT_DIGITS place fields.sport
+  pub dport : AllowsNumber sets DPORT_ROW PORT_DIGITS place fields.dport
 
 -- by its sets, the group at this place may have a rule for a flow
 abbrev pub AllowsFlow : List ℕ → ℕ → Flow → Type 0
@@ -60,11 +63,11 @@ AllowsFlow sets place (Four pair proto sport dport) =
     AllowsFields sets (digits_of pair) place (fields_with pair sport dport)
 
 -- the group at a place of all groups may have a rule for a flow, since its sieve says so or it is
--- one of the first 16, which are in no sieve
+-- one of the first `ALWAYS`, which are in no sieve
 abbrev pub AllowsAt : List Sieve → ℕ → Flow → Type 0
 AllowsAt sieves place flow =
-    16 ≤ place → MatchOption (slice_get sieves (place / 64)) ⊥
-    (λ sieve. AllowsFlow sieve.sets.items (place % 64) flow)
+    ALWAYS ≤ place → MatchOption (slice_get sieves (place / GROUPS)) ⊥
+    (λ sieve. AllowsFlow sieve.sets.items (place % GROUPS) flow)
 
 -- where those sieves let a flow through, these let it through
 abbrev pub AllowsMore : List Sieve → List Sieve → Type 0

@@ -1,4 +1,4 @@
-//! Tells which of 64 groups have no rule for a flow, without a look at them.
+//! Tells which of `GROUPS` groups have no rule for a flow, without a look at them.
 ghost use Rattle.std.specs.Prelude.{◌≡◌, ◌+◌, ◌*◌, ◌<◌, ◌≤◌, ℕ, bit_and, length, true, OnOk};
 ghost use Rattle.std.specs.Int.{bit_at};
 ghost use Rattle.steer_base.specs.declared.flow.Flow.{Flow as AFlow};
@@ -6,6 +6,8 @@ ghost use Rattle.ntuple_rules.specs.Matches.{matches};
 ghost use Rattle.ntuple_rules.specs.Sieves.{digit_at, digits_of, digits_of_kind, AllowsFields};
 ghost use Rattle.ntuple_rules.specs.Sieves.{AllowsFlow, AllowsMore, AllowsNumber, AllowsRule};
 ghost use Rattle.ntuple_rules.specs.Sieves.{IsIn, Keeps};
+ghost use Rattle.ntuple_rules.specs.declared.sieve.TheConstants.{DPORT_ROW, GROUPS, IPV6_DIGITS};
+ghost use Rattle.ntuple_rules.specs.declared.sieve.TheConstants.{PORT_DIGITS, ROWS, VALUES};
 
 use crate::fields::{Fields, fields_with, key_of, shape_of};
 use crate::kind::is_ipv4;
@@ -20,13 +22,16 @@ pub const GROUPS: usize = 64;
 /// sieve is asked, which may tell nothing.
 pub const ALWAYS: usize = 16;
 
-/// The values that a digit (4 bits) can have.
+/// The bits of a digit.
+const DIGIT_BITS: usize = 4;
+
+/// The values that a digit can have.
 const VALUES: usize = 16;
 
 /// The digits of both addresses and both ports.
 const ROWS: usize = 72;
 
-/// The row of the destination address's lowest digit. The source address's is row 0.
+/// The row of the destination address's lowest digit. The source address's is the first row.
 const DST_ROW: usize = 32;
 
 /// The row of the source port's lowest digit.
@@ -38,6 +43,12 @@ const DPORT_ROW: usize = 68;
 /// The digits of a port.
 const PORT_DIGITS: usize = 4;
 
+/// The digits of an IPv4 address.
+const IPV4_DIGITS: usize = 8;
+
+/// The digits of an IPv6 address, the most that a field has.
+const IPV6_DIGITS: usize = 32;
+
 /// Sets of 64 groups, with a bit for each; 9,216 bytes. There is a row of 16 sets for each digit of
 /// each field, and in it a set for each value of that digit: the groups that have a rule which
 /// accepts this value there. A group that has a rule for a flow is in the sets of all its digits.
@@ -48,11 +59,11 @@ pub struct Sieve {
 
 /// A digit of a number, the lowest first.
 fn digit_of(number: u128, digit: usize) -> usize
-    requires { digit < 32 }
+    requires { digit < IPV6_DIGITS }
     ensures value { result ≡ digit_at number digit }
-    ensures small { result < 16 }
+    ensures small { result < VALUES }
 {
-    ((number >> (4 * digit)) % 16) as usize
+    ((number >> (DIGIT_BITS * digit)) % VALUES as u128) as usize
 }
 
 /// How many digits the addresses of a pair have.
@@ -60,8 +71,8 @@ fn digits_of(pair: Pair) -> usize
     ensures { result ≡ digits_of pair }
 {
     match pair {
-        Pair::V4 { .. } => 8,
-        Pair::V6 { .. } => 32,
+        Pair::V4 { .. } => IPV4_DIGITS,
+        Pair::V6 { .. } => IPV6_DIGITS,
     }
 }
 
@@ -69,12 +80,16 @@ fn digits_of(pair: Pair) -> usize
 fn digits_of_kind(kind: RuleKind) -> usize
     ensures { result ≡ digits_of_kind kind }
 {
-    if is_ipv4(kind) { 8 } else { 32 }
+    if is_ipv4(kind) {
+        IPV4_DIGITS
+    } else {
+        IPV6_DIGITS
+    }
 }
 
 /// Adds the group at a place to the set at an index, if there is one.
 fn add_to(sets: &mut Vec<u64>, index: usize, place: u32)
-    requires { place < 64 }
+    requires { place < GROUPS }
     ensures kept { Keeps sets.old.items sets.new.items }
     ensures is_in { IsIn sets.new.items index place }
 {
@@ -86,11 +101,11 @@ fn add_to(sets: &mut Vec<u64>, index: usize, place: u32)
 /// Adds the group at a place to the sets, in this row, of the values that agree with a digit of a
 /// key under its mask.
 fn admit_digit(sets: &mut Vec<u64>, place: u32, row: usize, mask: usize, key: usize)
-    requires place { place < 64 }
-    requires row { row < 72 }
+    requires place { place < GROUPS }
+    requires row { row < ROWS }
     ensures kept { Keeps sets.old.items sets.new.items }
-    ensures admits { (v : ℕ) → v < 16 → bit_and v mask ≡ key
-        → IsIn sets.new.items (16 * row + v) place }
+    ensures admits { (v : ℕ) → v < VALUES → bit_and v mask ≡ key
+        → IsIn sets.new.items (VALUES * row + v) place }
 {
     for value in 0..VALUES {
         if value & mask == key {
@@ -101,10 +116,10 @@ fn admit_digit(sets: &mut Vec<u64>, place: u32, row: usize, mask: usize, key: us
 
 /// Adds the group at a place to the sets of the numbers that agree with a key under its mask.
 fn admit_number(sets: &mut Vec<u64>, place: u32, row: usize, digits: usize, mask: u128, key: u128)
-    requires place { place < 64 }
-    requires row { row ≤ 68 }
-    requires rows { row + digits ≤ 72 }
-    requires digits { digits ≤ 32 }
+    requires place { place < GROUPS }
+    requires row { row ≤ DPORT_ROW }
+    requires rows { row + digits ≤ ROWS }
+    requires digits { digits ≤ IPV6_DIGITS }
     ensures kept { Keeps sets.old.items sets.new.items }
     ensures admits { (n : ℕ) → bit_and n mask ≡ key
         → AllowsNumber sets.new.items row digits place n }
@@ -118,10 +133,11 @@ fn admit_number(sets: &mut Vec<u64>, place: u32, row: usize, digits: usize, mask
 
 /// Adds the group at a place to the sets of the ports that agree with a key under its mask.
 fn admit_port(sets: &mut Vec<u64>, place: u32, row: usize, mask: u16, key: u16)
-    requires place { place < 64 }
-    requires row { row ≤ 68 }
+    requires place { place < GROUPS }
+    requires row { row ≤ DPORT_ROW }
     ensures kept { Keeps sets.old.items sets.new.items }
-    ensures admits { (n : ℕ) → bit_and n mask ≡ key → AllowsNumber sets.new.items row 4 place n }
+    ensures admits { (n : ℕ) → bit_and n mask ≡ key
+        → AllowsNumber sets.new.items row PORT_DIGITS place n }
 {
     let mask = u128::from(mask);
     let key = u128::from(key);
@@ -130,7 +146,7 @@ fn admit_port(sets: &mut Vec<u64>, place: u32, row: usize, mask: u16, key: u16)
 
 /// The set at an index, or the set of all groups where there is none.
 fn set_at(sets: &[u64], index: usize) -> u64
-    ensures { (place : ℕ) → place < 64 → IsIn sets.now index place → bit_at result place ≡ 1 }
+    ensures { (place : ℕ) → place < GROUPS → IsIn sets.now index place → bit_at result place ≡ 1 }
 {
     match sets.get(index) {
         Some(set) => *set,
@@ -140,10 +156,10 @@ fn set_at(sets: &[u64], index: usize) -> u64
 
 /// Those of the candidates that the sets of a number's digits have too.
 fn narrowed(sets: &[u64], candidates: u64, row: usize, digits: usize, number: u128) -> u64
-    requires row { row ≤ 68 }
-    requires rows { row + digits ≤ 72 }
-    requires digits { digits ≤ 32 }
-    ensures { (place : ℕ) → place < 64 → bit_at candidates place ≡ 1
+    requires row { row ≤ DPORT_ROW }
+    requires rows { row + digits ≤ ROWS }
+    requires digits { digits ≤ IPV6_DIGITS }
+    ensures { (place : ℕ) → place < GROUPS → bit_at candidates place ≡ 1
         → AllowsNumber sets.now row digits place number → bit_at result place ≡ 1 }
 {
     let mut left = candidates;
@@ -165,7 +181,7 @@ impl Sieve {
 
     /// Adds a rule to those of the group at a place.
     fn admit(&mut self, place: u32, rule: &Rule)
-        requires { place < 64 }
+        requires { place < GROUPS }
         ensures kept { Keeps self.old.sets.items self.new.sets.items }
         ensures admits { (flow : AFlow) → matches rule.now flow ≡ true
             → AllowsFlow self.new.sets.items place flow }
@@ -182,9 +198,9 @@ impl Sieve {
 
     /// The groups that the sets of all four fields have.
     fn allowed(&self, digits: usize, fields: Fields) -> u64
-        requires { digits ≤ 32 }
-        ensures { (place : ℕ) → place < 64 → AllowsFields self.now.sets.items digits place fields
-            → bit_at result place ≡ 1 }
+        requires { digits ≤ IPV6_DIGITS }
+        ensures { (place : ℕ) → place < GROUPS
+            → AllowsFields self.now.sets.items digits place fields → bit_at result place ≡ 1 }
     {
         let sets = self.sets.as_slice();
         let sport = u128::from(fields.sport);
@@ -197,7 +213,7 @@ impl Sieve {
 
     /// The set of the groups that may have a rule for a flow: a group that is not in it has none.
     pub fn candidates(&self, flow: Flow) -> u64
-        ensures { (place : ℕ) → place < 64 → AllowsFlow self.now.sets.items place flow
+        ensures { (place : ℕ) → place < GROUPS → AllowsFlow self.now.sets.items place flow
             → bit_at result place ≡ 1 }
     {
         match flow {
