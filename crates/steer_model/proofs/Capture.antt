@@ -1,4 +1,3 @@
-pub mod FlowOrder
 pub mod HashLemmas
 pub mod FlowNumberLemmas
 pub mod PacketLemmas

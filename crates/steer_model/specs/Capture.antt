@@ -1,3 +1,5 @@
+pub mod FlowKeys
+pub mod NumberMaps
 pub mod FlowNumbers
 pub mod Packets
 pub mod FlowCounts

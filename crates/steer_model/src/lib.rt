@@ -4,6 +4,8 @@
 mod desired;
 mod flow_counts;
 mod flow_hashes;
+mod flow_key;
+mod flow_numbers;
 mod gate;
 mod hop_answers;
 mod laws;
@@ -11,6 +13,7 @@ mod note;
 mod packet_list;
 mod settings;
 mod setup;
+mod steered;
 mod turns;
 
 pub use desired::{desired_cpu, filter_for, socket_seen};

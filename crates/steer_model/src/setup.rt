@@ -6,25 +6,28 @@ ghost use Rattle.steer_model.specs.State.Setup.{app_for, flow_hash, flow_number_
 ghost use Rattle.steer_model.specs.State.Start.{setup_of};
 
 use crate::flow_hashes::flow_hashes;
+use crate::steered::{Steered, keep_packets};
 use plan_reader::Plan;
 use std::alloc::Global;
 use std::marker::Model;
 use steer_base::{AppId, Cpu, OutOfMemory, Packet, PacketId, app_of};
 
 /// What the plan and the capture fix for a run: the homes and sizes, the packets, and the length of
-/// the cut record in bytes. It also keeps the hash of each flow.
+/// the cut record in bytes. It also keeps the hash of each flow. Of a packet it stores no more than
+/// a run reads, the hash and the number of its flow; clauses see whole packets.
 #[derive(Drop)]
 pub struct Given {
     homes: Vec<Cpu>,
     cpus: u8,
     txs: u8,
     apps: u8,
-    packets: Vec<Packet>,
+    packets: Vec<Steered>,
     cut: Option<u32>,
     hashes: Vec<Option<Option<u32>>>,
 }
 
 impl Model for Given {
+    ghost use Rattle.std.specs.Prelude.{map};
     ghost use Rattle.steer_model.specs.State.Ranges.{AreFlowHashes, IsGiven};
     ghost use Rattle.steer_model.specs.State.Setup.{Setup};
 
@@ -35,7 +38,7 @@ impl Model for Given {
       cpus = g.cpus;
       txs = g.txs;
       apps = g.apps;
-      packets = g.packets.items;
+      packets = map (λ s. s.packet.value) g.packets.items;
       cut = g.cut;
     } };
 
@@ -44,9 +47,9 @@ impl Model for Given {
       cpus = g.cpus;
       txs = g.txs;
       apps = g.apps;
-      packets = g.packets.items;
+      packets = map (λ s. s.packet.value) g.packets.items;
       cut = g.cut;
-    }) × AreFlowHashes g.packets.items g.hashes.items };
+    }) × AreFlowHashes (map (λ s. s.packet.value) g.packets.items) g.hashes.items };
 }
 
 impl Given {
@@ -69,7 +72,7 @@ impl Given {
             .map(|queue| queue.home)
             .collect(alloc)?;
         let hashes = flow_hashes(alloc, packets)?;
-        let packets = packets.iter().copied().collect(alloc)?;
+        let packets = keep_packets(alloc, packets)?;
         Ok(Given {
             homes,
             cpus: plan.cpus,

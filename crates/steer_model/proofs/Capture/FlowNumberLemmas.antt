@@ -1,38 +1,35 @@
--- The map from flows to their numbers, and the packets that were numbered by it.
-use Rattle.std.proofs.Common.{ℕ, ◌+◌, ◌<◌, ◌≤◌, ◌≡◌, true, cond, List, [], ◌∷◌, ◌++◌, Some, None}
+-- The maps from flows to their numbers, and the packets that were numbered by them.
+use Rattle.std.proofs.Common.{ℕ, ◌+◌, ◌<◌, ◌≤◌, ◌≡◌, List, [], ◌∷◌, ◌++◌, Some, None}
 use Rattle.std.proofs.Common.{◌⊎◌, length, ap, ◌∙◌, sym, subst, arith, inl, inr, length-append}
-use Rattle.std.specs.BTreeMap.{BTreeMap, btree_map_len, get, is_at}
+use Rattle.std.specs.BTreeMap.{is_at}
 use Rattle.std.specs.Map.{lookup}
-use Rattle.std.specs.Ordering.{is_eq}
-use Rattle.std.specs.declared.cmp.Ordering.{Ordering}
-use Rattle.std.proofs.lemmas.Bool.{cases_Bool, cases_lt}
+use Rattle.std.proofs.lemmas.Bool.{cases_lt}
 use Rattle.std.proofs.lemmas.Option.{none-some}
 use Rattle.std.proofs.lemmas.List.{get_or_append_left, get_or-append-add}
 use Rattle.history.specs.Lists.{no_packet, packet_at}
 use Rattle.steer_base.specs.declared.flow.Flow.{Flow}
 use Rattle.steer_base.specs.declared.packet.Packet.{Packet}
-use Rattle.steer_model.specs.Capture.FlowNumbers.{IsFresh, IsNumberOf}
+use Rattle.steer_model.specs.Capture.FlowKeys.{FlowFits, key_of}
+use Rattle.steer_model.specs.Capture.FlowNumbers.{IsFresh, IsNumberOf, flow_total, long_order}
+use Rattle.steer_model.specs.Capture.FlowNumbers.{number_at, number_in, short_order}
 use Rattle.steer_model.specs.Capture.Packets.{AreNumbered}
+use Rattle.steer_model.specs.declared.flow_key.FlowKey.{FlowKey}
+use Rattle.steer_model.specs.declared.flow_key.FlowKey.TheVariants.{Short, Long}
+use Rattle.steer_model.specs.declared.flow_numbers.FlowNumbers.{FlowNumbers}
 
--- The map has the number of each packet's flow, and every number below its length is one of these.
-pub record HasNumbers (cmp : Flow → Flow → Ordering) (numbers : BTreeMap Flow ℕ)
-    (packets : List Packet)
-    : Type 0 where
+-- The maps have the number of each packet's flow, and every number below their total is one of
+-- these.
+pub record HasNumbers (numbers : FlowNumbers) (packets : List Packet) : Type 0 where
+  pub fits : (y : ℕ) → y < length packets → FlowFits (packet_at packets y).flow
   pub has : (y : ℕ) → y < length packets
-      → get cmp numbers (packet_at packets y).flow ≡ Some (packet_at packets y).flow_number
-  pub from : (flow : Flow) (n : ℕ) → get cmp numbers flow ≡ Some n
+      → number_in numbers (packet_at packets y).flow ≡ Some (packet_at packets y).flow_number
+  pub from : (flow : Flow) (n : ℕ) → FlowFits flow → number_in numbers flow ≡ Some n
       → (y : ℕ) × (y < length packets) × ((packet_at packets y).flow ≡ flow)
-  pub below : (y : ℕ) → y < length packets → (packet_at packets y).flow_number < btree_map_len
-      numbers
-  pub every : (n : ℕ) → n < btree_map_len numbers
+  pub below : (y : ℕ) → y < length packets → (packet_at packets y).flow_number < flow_total numbers
+  pub every : (n : ℕ) → n < flow_total numbers
       → (y : ℕ) × (y < length packets) × ((packet_at packets y).flow_number ≡ n)
-  pub few : btree_map_len numbers ≤ length packets
+  pub few : flow_total numbers ≤ length packets
   pub numbered : AreNumbered packets
-
--- what an order of flows has to be: equal only at the same flow
-pub record IsExact (cmp : Flow → Flow → Ordering) : Type 0 where
-  pub exact : (f g : Flow) → is_eq (cmp f g) ≡ true → f ≡ g
-  pub own : (f : Flow) → is_eq (cmp f f) ≡ true
 
 -- a list with a packet more
 pub record IsLonger (packets : List Packet) (x : Packet) (more : List Packet) : Type 0 where
@@ -61,19 +58,31 @@ place-of {packets} {more} {x} l y lt =
       | inr over ↦ inr (omega (arith, l.many))
     ]
 
--- one number for each flow, by the map
-same-by : (cmp : Flow → Flow → Ordering) (numbers : BTreeMap Flow ℕ) (packets : List Packet)
+-- the flows fit, with one more that does
+fits-more : (packets : List Packet) (x : Packet) (more : List Packet) → IsLonger packets x more
+    → ((y : ℕ) → y < length packets → FlowFits (packet_at packets y).flow) → FlowFits x.flow
+    → (y : ℕ) → y < length more → FlowFits (packet_at more y).flow
+fits-more packets x more l all fits y lt =
+    elim (place-of l y lt) [
+      | inl o ↦ subst (λ (p : Packet). FlowFits p.flow) (sym (l.old y o)) (all y o)
+      | inr e ↦
+          subst (λ (p : Packet). FlowFits p.flow)
+          (sym (ap (λ n. packet_at more n) e ∙ l.last)) fits
+    ]
+
+-- one number for each flow, by the maps
+same-by : (numbers : FlowNumbers) (packets : List Packet)
     → ((y : ℕ) → y < length packets
-    → get cmp numbers (packet_at packets y).flow ≡ Some (packet_at packets y).flow_number)
+    → number_in numbers (packet_at packets y).flow ≡ Some (packet_at packets y).flow_number)
     → (x y : ℕ) → x < length packets → y < length packets
     → (packet_at packets x).flow ≡ (packet_at packets y).flow
     → (packet_at packets x).flow_number ≡ (packet_at packets y).flow_number
-same-by cmp numbers packets has x y lt within flow =
+same-by numbers packets has x y lt within flow =
     let a = has x lt in
     let b = has y within in
-    let c : get cmp numbers (packet_at packets x).flow ≡ get cmp numbers
+    let c : number_in numbers (packet_at packets x).flow ≡ number_in numbers
     (packet_at packets y).flow =
-    ap (λ f. get cmp numbers f) flow in
+    ap (λ f. number_in numbers f) flow in
     cc
 
 -- the numbering with a packet more, whose number is that of its flow or the next one
@@ -143,14 +152,15 @@ numbered-more packets x more l numbered same apart_last first_last =
         ]
 
 -- a packet of a flow that is known
-known-step : (cmp : Flow → Flow → Ordering) (numbers : BTreeMap Flow ℕ) (packets : List Packet)
+known-step : (numbers : FlowNumbers) (packets : List Packet)
     (x : Packet)
-    (more : List Packet) → IsLonger packets x more → HasNumbers cmp numbers packets
-    → get cmp numbers x.flow ≡ Some x.flow_number → HasNumbers cmp numbers more
-known-step cmp numbers packets x more l h known =
+    (more : List Packet) → IsLonger packets x more → FlowFits x.flow → HasNumbers numbers packets
+    → number_in numbers x.flow ≡ Some x.flow_number → HasNumbers numbers more
+known-step numbers packets x more l fits h known =
     record {
+      fits = fits-more packets x more l h.fits fits;
       has = has;
-      from = λ flow n e. (let y = h.from flow n e in
+      from = λ flow n there e. (let y = h.from flow n there e in
           (y.0, omega (arith, y.1, l.many), ap (λ (p : Packet). p.flow) (l.old y.0 y.1) ∙ y.2));
       below = below;
       every = λ n lt. (let y = h.every n lt in (
@@ -160,7 +170,7 @@ known-step cmp numbers packets x more l h known =
             ∙ y.2,
       ));
       few = omega (arith, l.many, h.few);
-      numbered = numbered-more packets x more l h.numbered (same-by cmp numbers more has)
+      numbered = numbered-more packets x more l h.numbered (same-by numbers more has)
           (λ a la e. h.numbered.apart a twin.0 la twin.1 (e ∙ sym number) ∙ twin.2)
           (λ n lt. (
           let before = h.numbered.first twin.0 n twin.1 (omega (arith, number)) in
@@ -168,103 +178,89 @@ known-step cmp numbers packets x more l h known =
     }
   where
     has : (y : ℕ) → y < length more
-        → get cmp numbers (packet_at more y).flow ≡ Some (packet_at more y).flow_number
+        → number_in numbers (packet_at more y).flow ≡ Some (packet_at more y).flow_number
     has y ly =
         elim (place-of l y ly) [
           | inl o ↦
-              subst (λ (p : Packet). get cmp numbers p.flow ≡ Some p.flow_number) (sym (l.old y o))
-              (h.has y o)
+              subst (λ (p : Packet). number_in numbers p.flow ≡ Some p.flow_number)
+              (sym (l.old y o)) (h.has y o)
           | inr e ↦
-              subst (λ (p : Packet). get cmp numbers p.flow ≡ Some p.flow_number)
+              subst (λ (p : Packet). number_in numbers p.flow ≡ Some p.flow_number)
               (sym (ap (λ n. packet_at more n) e ∙ l.last)) known
         ]
 
     twin : (t : ℕ) × (t < length packets) × ((packet_at packets t).flow ≡ x.flow)
-    twin = h.from x.flow x.flow_number known
+    twin = h.from x.flow x.flow_number fits known
 
     number : (packet_at packets twin.0).flow_number ≡ x.flow_number
     number =
         let a = h.has twin.0 twin.1 in
-        let b : get cmp numbers (packet_at packets twin.0).flow ≡ get cmp numbers x.flow =
-        ap (λ f. get cmp numbers f) twin.2 in
+        let b : number_in numbers (packet_at packets twin.0).flow ≡ number_in numbers x.flow =
+        ap (λ f. number_in numbers f) twin.2 in
         cc
 
-    below : (y : ℕ) → y < length more → (packet_at more y).flow_number < btree_map_len numbers
+    below : (y : ℕ) → y < length more → (packet_at more y).flow_number < flow_total numbers
     below y ly =
         elim (place-of l y ly) [
-          | inl o ↦ subst (λ (p : Packet). p.flow_number < btree_map_len numbers) (sym (l.old y o))
+          | inl o ↦ subst (λ (p : Packet). p.flow_number < flow_total numbers) (sym (l.old y o))
               (h.below y o)
           | inr e ↦
-              subst (λ (p : Packet). p.flow_number < btree_map_len numbers)
+              subst (λ (p : Packet). p.flow_number < flow_total numbers)
               (sym (ap (λ n. packet_at more n) e ∙ l.last))
-              (subst (λ n. n < btree_map_len numbers) number (h.below twin.0 twin.1))
+              (subst (λ n. n < flow_total numbers) number (h.below twin.0 twin.1))
         ]
 
 -- a packet of a new flow
-fresh-step : (cmp : Flow → Flow → Ordering) → IsExact cmp → (old new : BTreeMap Flow ℕ)
+fresh-step : (old new : FlowNumbers)
     (packets : List Packet)
-    (x : Packet) (more : List Packet) → IsLonger packets x more → HasNumbers cmp old packets
-    → IsFresh cmp old new x.flow x.flow_number → HasNumbers cmp new more
-fresh-step cmp order old new packets x more l h fresh =
+    (x : Packet) (more : List Packet) → IsLonger packets x more → FlowFits x.flow
+    → HasNumbers old packets
+    → IsFresh old new x.flow x.flow_number → HasNumbers new more
+fresh-step old new packets x more l fits h fresh =
     record {
+      fits = fits-more packets x more l h.fits fits;
       has = has;
       from = from;
       below = below;
       every = every;
       few = omega (arith, l.many, h.few, fresh.longer);
-      numbered = numbered-more packets x more l h.numbered (same-by cmp new more has)
+      numbered = numbered-more packets x more l h.numbered (same-by new more has)
           (λ a la e. absurd (omega (arith, h.below a la, e, fresh.next)))
           (λ n lt. h.every n (omega (arith, fresh.next)));
     }
   where
-    known : (flow : Flow) (n : ℕ) → get cmp old flow ≡ Some n → get cmp new flow ≡ Some n
-    known flow n e =
-        elim (cases_Bool (is_at (cmp x.flow) flow)) [
-          | inl t ↦ (
-              let same : x.flow ≡ flow = order.exact x.flow flow t in
-              let none : get cmp old flow ≡ None = ap (λ f. get cmp old f) (sym same)
-              ∙ fresh.unknown in
-              cc)
-          | inr f ↦ fresh.updates.0 flow ∙ ap (λ b. cond b (Some x.flow_number) (get cmp old flow))
-              f ∙ e
+    known : (flow : Flow) (n : ℕ) → FlowFits flow → number_in old flow ≡ Some n
+        → number_in new flow ≡ Some n
+    known flow n fits e =
+        elim (fresh.others flow fits) [
+          | inl s ↦ absurd (none-some n (sym fresh.unknown ∙ ap (number_in old) (sym s) ∙ e))
+          | inr s ↦ s ∙ e
         ]
 
-    own : get cmp new x.flow ≡ Some x.flow_number
-    own =
-        fresh.updates.0 x.flow
-        ∙ ap (λ b. cond b (Some x.flow_number) (get cmp old x.flow)) (order.own x.flow)
-
     has : (y : ℕ) → y < length more
-        → get cmp new (packet_at more y).flow ≡ Some (packet_at more y).flow_number
+        → number_in new (packet_at more y).flow ≡ Some (packet_at more y).flow_number
     has y ly =
         elim (place-of l y ly) [
           | inl o ↦
-              subst (λ (p : Packet). get cmp new p.flow ≡ Some p.flow_number) (sym (l.old y o))
-              (known _ _ (h.has y o))
+              subst (λ (p : Packet). number_in new p.flow ≡ Some p.flow_number) (sym (l.old y o))
+              (known _ _ (h.fits y o) (h.has y o))
           | inr e ↦
-              subst (λ (p : Packet). get cmp new p.flow ≡ Some p.flow_number)
-              (sym (ap (λ n. packet_at more n) e ∙ l.last)) own
+              subst (λ (p : Packet). number_in new p.flow ≡ Some p.flow_number)
+              (sym (ap (λ n. packet_at more n) e ∙ l.last)) fresh.own
         ]
 
-    from : (flow : Flow) (n : ℕ) → get cmp new flow ≡ Some n
+    from : (flow : Flow) (n : ℕ) → FlowFits flow → number_in new flow ≡ Some n
         → (y : ℕ) × (y < length more) × ((packet_at more y).flow ≡ flow)
-    from flow n e =
-        elim (cases_Bool (is_at (cmp x.flow) flow)) [
-          | inl t ↦ (
-            length packets,
-            omega (arith, l.many),
-            ap (λ (p : Packet). p.flow) l.last
-                ∙ order.exact x.flow flow t,
-          )
-          | inr f ↦ (
-              let before : get cmp old flow ≡ Some n =
-              sym (fresh.updates.0 flow ∙ ap (λ b. cond b (Some x.flow_number) (get cmp old flow))
-              f) ∙ e in
-              let y = h.from flow n before in
+    from flow n fits e =
+        elim (fresh.others flow fits) [
+          | inl s ↦
+              (length packets, omega (arith, l.many), ap (λ (p : Packet). p.flow) l.last ∙ sym s)
+          | inr s ↦ (
+              let y = h.from flow n fits (sym s ∙ e) in
               (y.0, omega (arith, y.1, l.many), ap (λ (p : Packet). p.flow) (l.old y.0 y.1) ∙ y.2))
         ]
 
-    below : (y : ℕ) → y < length more → (packet_at more y).flow_number < btree_map_len new
+    below : (y : ℕ) → y < length more → (packet_at more y).flow_number < flow_total new
     below y ly =
         elim (place-of l y ly) [
           | inl o ↦ (
@@ -277,10 +273,10 @@ fresh-step cmp order old new packets x more l h fresh =
               omega (arith, at, fresh.next, fresh.longer))
         ]
 
-    every : (n : ℕ) → n < btree_map_len new
+    every : (n : ℕ) → n < flow_total new
         → (y : ℕ) × (y < length more) × ((packet_at more y).flow_number ≡ n)
     every n lt =
-        elim (cases_lt n (btree_map_len old)) [
+        elim (cases_lt n (flow_total old)) [
           | inl before ↦ (
               let y = h.every n before in (
                 y.0,
@@ -297,15 +293,15 @@ fresh-step cmp order old new packets x more l h fresh =
               ))
         ]
 
--- no packets, and an empty map
-pub has-none : (cmp : Flow → Flow → Ordering) (numbers : BTreeMap Flow ℕ) → numbers.entries ≡ []
-    → HasNumbers cmp numbers []
-has-none cmp numbers empty =
-    let many : btree_map_len numbers ≡ 0 = ap length empty in
+-- no packets, and empty maps
+pub has-none : (numbers : FlowNumbers) → numbers.short.entries ≡ [] → numbers.long.entries ≡ []
+    → HasNumbers numbers []
+has-none numbers short long =
+    let many : flow_total numbers ≡ 0 = omega (arith, ap length short, ap length long) in
     record {
+      fits = λ y lt. absurd (omega arith);
       has = λ y lt. absurd (omega arith);
-      from = λ flow n e. absurd (none-some n (sym (ap (λ es. lookup (is_at (cmp flow)) es) empty)
-          ∙ e));
+      from = λ flow n fits e. absurd (none-some n (sym (none (key_of flow)) ∙ e));
       below = λ y lt. absurd (omega arith);
       every = λ n lt. absurd (omega (arith, many));
       few = omega (arith, many);
@@ -315,14 +311,17 @@ has-none cmp numbers empty =
         first = λ x n lt. absurd (omega arith);
       };
     }
+  where
+    none : (key : FlowKey) → number_at numbers key ≡ None
+    none (Short key) = ap (λ es. lookup (is_at (short_order key)) es) short
+    none (Long key) = ap (λ es. lookup (is_at (long_order key)) es) long
 
--- the packets with one more, numbered by the map
-pub has-more : (cmp : Flow → Flow → Ordering) → IsExact cmp → (old new : BTreeMap Flow ℕ)
-    (packets : List Packet)
-    (x : Packet) → HasNumbers cmp old packets → IsNumberOf cmp old new x.flow x.flow_number
-    → HasNumbers cmp new (packets ++ x ∷ [])
-has-more cmp order old new packets x h (inl known) =
-    subst (λ m. HasNumbers cmp m (packets ++ x ∷ [])) (sym known.same)
-    (known-step cmp old packets x _ (longer packets x) h known.number_is)
-has-more cmp order old new packets x h (inr fresh) =
-    fresh-step cmp order old new packets x _ (longer packets x) h fresh
+-- the packets with one more, numbered by the maps
+pub has-more : (old new : FlowNumbers) (packets : List Packet) (x : Packet)
+    → HasNumbers old packets → FlowFits x.flow → IsNumberOf old new x.flow x.flow_number
+    → HasNumbers new (packets ++ x ∷ [])
+has-more old new packets x h fits (inl known) =
+    subst (λ m. HasNumbers m (packets ++ x ∷ [])) (sym known.same)
+    (known-step old packets x _ (longer packets x) fits h known.number_is)
+has-more old new packets x h fits (inr fresh) =
+    fresh-step old new packets x _ (longer packets x) fits h fresh

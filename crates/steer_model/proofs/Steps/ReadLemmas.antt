@@ -1,39 +1,38 @@
 -- The packets of the first records of a capture, one by one.
 use Rattle.std.proofs.Common.{ℕ, ◌+◌, ◌<◌, ◌≡◌, List, [], ◌∷◌, ◌++◌, Some, length, ap, ◌∙◌, sym}
 use Rattle.std.proofs.Common.{subst, arith, get_or, inl, inr, slice_get, length-append}
-use Rattle.std.specs.BTreeMap.{BTreeMap}
 use Rattle.std.proofs.lemmas.Bool.{cases_lt}
 use Rattle.std.proofs.lemmas.Option.{same_Some, slice_get-get_or, slice_get_within}
 use Rattle.history.specs.Lists.{packet_at}
 use Rattle.pcap_reader.specs.declared.record.PcapRecord.{PcapRecord}
-use Rattle.steer_base.specs.declared.flow.Flow.{Flow}
 use Rattle.steer_base.specs.declared.packet.Packet.{Packet}
-use Rattle.steer_model.specs.Capture.FlowNumbers.{IsNumberOf, flow_order}
+use Rattle.steer_model.specs.Capture.FlowKeys.{FlowFits}
+use Rattle.steer_model.specs.Capture.FlowNumbers.{IsNumberOf}
 use Rattle.steer_model.specs.Capture.Packets.{ArePackets, IsOfRecord}
-use Rattle.steer_model.proofs.Capture.FlowOrder.{flows_are_exact}
+use Rattle.steer_model.specs.declared.flow_numbers.FlowNumbers.{FlowNumbers}
 use Rattle.steer_model.proofs.Capture.FlowNumberLemmas.{HasNumbers, IsLonger, has-more, longer}
 
--- the packets of the first n records, with the map that numbers their flows
+-- the packets of the first n records, with the maps that number their flows
 pub record AreRead (key kinds : ℕ) (bytes : List ℕ) (records : List PcapRecord) (n : ℕ)
-    (packets : List Packet) (numbers : BTreeMap Flow ℕ) : Type 0 where
+    (packets : List Packet) (numbers : FlowNumbers) : Type 0 where
   pub many : length packets ≡ n
   pub each : (x : ℕ) (from : PcapRecord) → x < n → slice_get records x ≡ Some from
       → IsOfRecord key kinds bytes from (packet_at packets x)
-  pub numbered : HasNumbers flow_order numbers packets
+  pub numbered : HasNumbers numbers packets
 
 pub read-more : (key kinds : ℕ) (bytes : List ℕ) (records : List PcapRecord) (n : ℕ)
     (d : PcapRecord)
-    (packets more : List Packet) (x : Packet) (old new : BTreeMap Flow ℕ) → n < length records
+    (packets more : List Packet) (x : Packet) (old new : FlowNumbers) → n < length records
     → AreRead key kinds bytes records n packets old → more ≡ packets ++ x ∷ []
     → IsOfRecord key kinds bytes (get_or records n d) x
-    → IsNumberOf flow_order old new x.flow x.flow_number
+    → FlowFits x.flow → IsNumberOf old new x.flow x.flow_number
     → AreRead key kinds bytes records (n + 1) more new
-read-more key kinds bytes records n d packets more x old new lt read is of number =
+read-more key kinds bytes records n d packets more x old new lt read is of fits number =
     subst (λ ps. AreRead key kinds bytes records (n + 1) ps new) (sym is)
     (record {
       many = length-append packets (x ∷ []) ∙ ap (λ k. k + 1) read.many;
       each = each;
-      numbered = has-more flow_order flows_are_exact old new packets x read.numbered number;
+      numbered = has-more old new packets x read.numbered fits number;
     })
   where
     each : (y : ℕ) (from : PcapRecord) → y < n + 1 → slice_get records y ≡ Some from
@@ -57,7 +56,7 @@ read-more key kinds bytes records n d packets more x old new lt read is of numbe
         ]
 
 pub read-all : (key kinds : ℕ) (bytes : List ℕ) (records : List PcapRecord) (packets : List Packet)
-    (numbers : BTreeMap Flow ℕ) → AreRead key kinds bytes records (length records) packets numbers
+    (numbers : FlowNumbers) → AreRead key kinds bytes records (length records) packets numbers
     → ArePackets key kinds bytes records packets
 read-all key kinds bytes records packets numbers read =
     record {

@@ -12,10 +12,10 @@ loop-from-preserved c =
     ∙ ap (λ key. hash_of_flow key c.dissect-flow.result c.args.kinds.0) c.in_ok-key.ensures in
     read-more c.args.key.now c.args.kinds.0 c.args.bytes.now c.as_slice-records.result.now
     c.loop-from.from-index _
-    c.loop-from.packets.items c.push.new.self.items _ c.loop-from.numbers c.number_of.new.numbers
+    c.loop-from.packets.items c.push.new.self.items _ c.loop-from.numbers c.number_of.new.self
     c.loop-from-test.true c.loop-from.invariant c.in_ok-push.ensures.items
     (record { flow = c.dissect-flow.ensures.flow; hash = hash; len = refl })
-    c.in_ok-flow_number.ensures
+    c.number_of.ensures.fits c.in_ok-flow_number.ensures.number
 
 pub returns : goal.returns
 returns c =
