@@ -7,6 +7,8 @@ pub mod GateLemmas
 pub mod IdleTurns
 pub mod ListLemmas
 pub mod MakeLemmas
+pub mod MoveLemmas
+pub mod NextLemmas
 pub mod Paced
 pub mod PacedSteps
 pub mod QuietLemmas
@@ -23,3 +25,4 @@ pub mod SeatedLemmas
 pub mod ServeLemmas
 pub mod StillLemmas
 pub mod TurnLemmas
+pub mod WalkLemmas

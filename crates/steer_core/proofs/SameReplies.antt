@@ -1,6 +1,7 @@
 -- What the turns of processors, of applications and of transmit queues leave of the others.
 use Rattle.std.proofs.Common.{ℕ, ◌+◌, ◌≡◌, ◌≢◌, Bool, true, false, List, []}
-use Rattle.std.proofs.Common.{Option, Some, None, length, refl, ap, ◌∙◌, sym, subst, suc, zero, cond}
+use Rattle.std.proofs.Common.{Option, Some, None, length, refl, ap, ◌∙◌, sym, subst}
+use Rattle.std.proofs.Common.{suc, zero, cond}
 use Rattle.std.specs.Prelude.{◌%◌, nat_lt, slice_index, slice_index_or}
 use Rattle.std.proofs.lemmas.List.{get_or-set_other}
 use Rattle.steer_base.specs.declared.command.Answer.TheVariants as says

@@ -46,6 +46,24 @@ pub each-then : (n : ℕ) (f : ℕ → Progress → Progress) (t u v : Progress)
 each-then n f t u v before step =
     step ∙ ap (f n) before ∙ sym (ap (λ k. for_each k f t) (add-one n) ∙ each-more n f t)
 
+-- or passes over actors whose turns would change nothing
+module _ (f : ℕ → Progress → Progress) (t u : Progress) (from : ℕ)
+    (before : u ≡ for_each from f t) where
+  past-some : (k : ℕ) → ((i : ℕ) → from ≤ i → i < from + k → f i u ≡ u)
+      → u ≡ for_each (from + k) f t
+  past-some zero still = before ∙ ap (λ n. for_each n f t) (omega arith)
+  past-some (suc k) still =
+      each-then (from + k) f t u u
+      (past-some k (λ i above below. still i above (omega (arith, below))))
+      (sym (still (from + k) (omega arith) (omega arith)))
+      ∙ ap (λ n. for_each n f t) (omega arith)
+
+  pub each-past : (to : ℕ) → from ≤ to → ((i : ℕ) → from ≤ i → i < to → f i u ≡ u)
+      → u ≡ for_each to f t
+  each-past to le still =
+      past-some (to - from) (λ i above below. still i above (omega (arith, le, below)))
+      ∙ ap (λ n. for_each n f t) (omega (arith, le))
+
 -- ---- rounds
 
 rounds-done : (t : Progress) → rounds 0 t ≡ t
@@ -98,16 +116,19 @@ or-unworked true work b e = refl
 or-unworked false false b e = refl
 or-unworked false true b e = absurd (cc)
 
--- an event that is no work was tried
-pub tried-idly : (m n : Machine) (w : Bool) (s : Step) → is_work s ≡ false
-    → n ≡ (simple m s).0 → ◌≡◌ {A = Progress} (n, w) (tried (m, w) s)
-tried-idly m n w s work to =
-    let none = or-unworked w (is_work s) (not (is_idle (simple m s).1)) work in
-    rw (to, none) refl
+-- an event that is tried next leads from a machine to another one
+module _ {m n : Machine} {w : Bool} {before : Progress} (is : ◌≡◌ {A = Progress} (m, w) before)
+    (s : Step) (to : n ≡ (simple m s).0) where
+  -- the event is no work
+  pub then-idly : is_work s ≡ false → ◌≡◌ {A = Progress} (n, w) (tried before s)
+  then-idly work =
+      let none = or-unworked w (is_work s) (not (is_idle (simple m s).1)) work in
+      let one : ◌≡◌ {A = Progress} (n, w) (tried (m, w) s) = rw (to, none) refl in
+      one ∙ ap (λ (t : Progress). tried t s) is
 
--- an event that is work was tried, and this is whether any was done
-pub tried-with : (m n : Machine) (w v : Bool) (a : Answer) (s : Step) → is_work s ≡ true
-    → n ≡ (simple m s).0 → a ≡ (simple m s).1 → v ≡ (w || not (is_idle a))
-    → ◌≡◌ {A = Progress} (n, v) (tried (m, w) s)
-tried-with m n w v a s work to answer did =
-    rw (to, did, answer, work) refl
+  -- the event is work, and this is whether any was done
+  pub then-with : {v : Bool} {a : Answer} → is_work s ≡ true → a ≡ (simple m s).1
+      → v ≡ (w || not (is_idle a)) → ◌≡◌ {A = Progress} (n, v) (tried before s)
+  then-with {v} {a} work answer did =
+      let one : ◌≡◌ {A = Progress} (n, v) (tried (m, w) s) = rw (to, did, answer, work) refl in
+      one ∙ ap (λ (t : Progress). tried t s) is

@@ -15,6 +15,7 @@ mod changes;
 mod commands;
 mod copies;
 mod make;
+mod moves;
 mod old_filters;
 mod pollers;
 mod processors;

@@ -3,6 +3,8 @@
 #![tactic(auto)]
 
 mod actors;
+mod kept;
+mod leaving;
 mod steering;
 
 pub use steering::Steering;

@@ -105,6 +105,15 @@ impl Steering {
         self.actors.history(alloc)
     }
 
+    /// The history of the run, whose lists are moved out of the machine. The memory is for the
+    /// lists of lists.
+    pub fn into_history(self, alloc: Global) -> Result<History, OutOfMemory>
+        ensures { IfOk result (λ history. history ≡ history_of self.machine) }
+    {
+        let Steering { actors, .. } = self;
+        actors.into_history(alloc)
+    }
+
     /// Lemma: the invariant of the machine, which holds after any steps.
     pub fn sound(&self)
         ensures { Invariant self.now.machine }

@@ -2,13 +2,14 @@
 ghost use Rattle.std.specs.Prelude.{ℕ, ◌≡◌, ◌<◌, ◌≤◌, false, length, true};
 ghost use Rattle.steer_base.specs.declared.step.Step.TheVariants as act;
 ghost use Rattle.steer_base.specs.declared.limits.TheConstants.{MAX_PACKETS};
+ghost use Rattle.steer_base.specs.Sets.{has};
 ghost use Rattle.steer_core.specs.Resting.{IsStill, OthersAreDone, SenderIsDone};
 ghost use Rattle.steer_core.specs.Rooms.{HasSpare};
 ghost use Rattle.steer_model.specs.Steps.CompoundSteps.{drain, for_each, most_rounds as the_most};
 ghost use Rattle.steer_model.specs.Steps.CompoundSteps.{one_round, poll};
 ghost use Rattle.steer_model.specs.Steps.CompoundSteps.{serve, ship, step as step_of, sweep, tried};
 
-use crate::actors::busy::{Busy, is_none_below};
+use crate::actors::busy::{Busy, is_none_below, next_in};
 use crate::actors::{Actors, Stepped, ended};
 use steer_base::{Cpu, CpuMask};
 
@@ -114,15 +115,18 @@ impl Actors {
         ensures busy { OthersAreDone busy.new self.new.machine }
     {
         let mut done = worked;
-        for q in 0..self.given.queues() {
+        let mut from = 0;
+        while let Some(q) = next_in(busy.pollers, from, self.given.queues()) {
             done = self.poll_busy(done, q, busy);
+            from = q + 1;
         }
         done
     }
 
-    // One turn of a poller, unless it is at rest. It is no longer busy if it did no work.
+    // One turn of a busy poller. It is no longer busy if it did no work.
     fn poll_busy(&mut self, worked: bool, q: u8, busy: &mut Busy) -> bool
         requires queue { q < length self.old.machine.setup.homes }
+        requires member { has busy.old.pollers q ≡ true }
         requires busy { OthersAreDone busy.old self.old.machine }
         ensures turn { (self.new.machine, result) ≡ poll q (self.old.machine, worked) }
         ensures setup { self.new.machine.setup ≡ self.old.machine.setup }
@@ -130,9 +134,6 @@ impl Actors {
         ensures busy { OthersAreDone busy.new self.new.machine }
     {
         self.sound();
-        if !busy.pollers.has(q) {
-            return worked;
-        }
         if self.poll(false, q, &mut busy.cpus) {
             return true;
         }
@@ -150,25 +151,24 @@ impl Actors {
         ensures busy { OthersAreDone busy.new self.new.machine }
     {
         let mut done = worked;
-        for c in 0..self.given.cpus() {
+        let mut from = 0;
+        while let Some(c) = next_in(busy.cpus, from, self.given.cpus()) {
             done = self.drain_busy(done, c, busy);
+            from = c + 1;
         }
         done
     }
 
-    // One turn of a processor, unless its lane is empty.
+    // One turn of a busy processor. It is no longer busy if its lane is empty after its turn.
     fn drain_busy(&mut self, worked: bool, c: u8, busy: &mut Busy) -> bool
         requires cpu { c < self.old.machine.setup.cpus }
+        requires member { has busy.old.cpus c ≡ true }
         requires busy { OthersAreDone busy.old self.old.machine }
         ensures turn { (self.new.machine, result) ≡ drain c (self.old.machine, worked) }
         ensures setup { self.new.machine.setup ≡ self.old.machine.setup }
         ensures rooms { self.new.rooms ≡ self.old.rooms }
         ensures busy { OthersAreDone busy.new self.new.machine }
     {
-        self.sound();
-        if !busy.cpus.has(c) {
-            return worked;
-        }
         let done = self.drain(worked, c, &mut busy.apps);
         self.sound();
         if self.rx.unretired(c) > 0 {
@@ -189,17 +189,20 @@ impl Actors {
         ensures spare { HasSpare self.new.rooms self.new.machine }
         ensures busy { OthersAreDone busy.new self.new.machine }
     {
+        self.sound();
         let mut done = worked;
-        for a in 0..self.given.apps() {
+        let mut from = 0;
+        while let Some(a) = next_in(busy.apps, from, self.given.apps()) {
             done = self.serve_busy(done, a, busy);
+            from = a + 1;
         }
         done
     }
 
-    // One turn of an application, unless it is at rest. It is no longer busy if it is at rest
-    // after its turn.
+    // One turn of a busy application. It is no longer busy if it is at rest after its turn.
     fn serve_busy(&mut self, worked: bool, a: u8, busy: &mut Busy) -> bool
         requires app { a < self.old.machine.setup.apps }
+        requires member { has busy.old.apps a ≡ true }
         requires room { HasSpare self.old.rooms self.old.machine }
         requires busy { OthersAreDone busy.old self.old.machine }
         ensures turn { (self.new.machine, result) ≡ serve a (self.old.machine, worked) }
@@ -207,10 +210,6 @@ impl Actors {
         ensures rooms { self.new.rooms ≡ self.old.rooms }
         ensures busy { OthersAreDone busy.new self.new.machine }
     {
-        self.sound();
-        if !busy.apps.has(a) {
-            return worked;
-        }
         let done = self.serve(worked, a, &mut busy.txs);
         if !self.is_sender_done(a) {
             return done;
@@ -240,25 +239,24 @@ impl Actors {
         ensures busy { OthersAreDone busy.new self.new.machine }
     {
         let mut done = worked;
-        for t in 0..self.given.txs() {
+        let mut from = 0;
+        while let Some(t) = next_in(busy.txs, from, self.given.txs()) {
             done = self.ship_busy(done, t, busy);
+            from = t + 1;
         }
         done
     }
 
-    // One turn of a transmit queue, unless its lane is empty.
+    // One turn of a busy transmit queue. It is no longer busy if its lane is empty after its turn.
     fn ship_busy(&mut self, worked: bool, t: u8, busy: &mut Busy) -> bool
         requires tx { t < self.old.machine.setup.txs }
+        requires member { has busy.old.txs t ≡ true }
         requires busy { OthersAreDone busy.old self.old.machine }
         ensures turn { (self.new.machine, result) ≡ ship t (self.old.machine, worked) }
         ensures setup { self.new.machine.setup ≡ self.old.machine.setup }
         ensures rooms { self.new.rooms ≡ self.old.rooms }
         ensures busy { OthersAreDone busy.new self.new.machine }
     {
-        self.sound();
-        if !busy.txs.has(t) {
-            return worked;
-        }
         let done = self.ship(worked, t);
         self.sound();
         if self.tx.unretired(t) > 0 {

@@ -8,7 +8,8 @@ returns c =
     let view = c.self.view_is in
     record {
       pollers = λ q lt free. absurd (none-out c.first_n.result _ _ q c.first_n.ensures.members
-          (c.queues.ensures.value ∙ ap (λ (r : Running). length r.machine.setup.homes) view) lt free);
+          (c.queues.ensures.value ∙ ap (λ (r : Running). length r.machine.setup.homes) view)
+          lt free);
       cpus = λ x lt free. absurd (none-out c.first_n-2.result _ _ x c.first_n-2.ensures.members
           (c.cpus.ensures.value ∙ ap (λ (r : Running). r.machine.setup.cpus) view) lt free);
       apps = λ a lt free. absurd (none-out c.first_n-3.result _ _ a c.first_n-3.ensures.members

@@ -26,10 +26,13 @@ returns c =
     λ all.
     still-round m c.sound.ensures.kept came
     (λ q lt. c.requires.pollers q lt
-    (c.is_none_below.ensures c.if-not-is_none_below.false q (omega (arith, lt, queues))))
+    (c.is_none_below.ensures.0 c.if-not-is_none_below.false q (omega arith)
+    (omega (arith, lt, queues))))
     (λ x lt. c.requires.cpus x lt
-    (c.is_none_below-2.ensures c.if-not-is_none_below-2.false x (omega (arith, lt, cpus))))
+    (c.is_none_below-2.ensures.0 c.if-not-is_none_below-2.false x (omega arith)
+    (omega (arith, lt, cpus))))
     (λ a lt. c.requires.apps a lt
-    (c.is_none_below-3.ensures c.if-not-is_none_below-3.false a (omega (arith, lt, apps))))
+    (c.is_none_below-3.ensures.0 c.if-not-is_none_below-3.false a (omega arith)
+    (omega (arith, lt, apps))))
     (λ x lt. c.requires.txs x lt
-    (c.is_none_below-4.ensures all x (omega (arith, lt, txs))))
+    (c.is_none_below-4.ensures.0 all x (omega arith) (omega (arith, lt, txs))))

@@ -1,14 +1,5 @@
-use Rattle.std.proofs.Common.{sym, ◌∙◌}
 use Rattle.steer_core.proofs.BusyLemmas.{done-after-none, done-after-work, poll-idled, poll-worked}
-use Rattle.steer_core.proofs.IdleTurns.{poll-of-done}
 use Rattle.steer_core.proofs.actors.Actors.poll_busy.Goals as goal
-
-pub returns-then-not-has-clause-turn : goal.returns-then-not-has-clause-turn
-returns-then-not-has-clause-turn c =
-    let done = c.requires.busy.pollers c.args.q c.requires.queue
-    (sym c.has.ensures ∙ c.if-not-has.true) in
-    sym (poll-of-done c.args.self.now.machine c.args.q c.sound.ensures.kept c.requires.queue done
-    c.args.worked)
 
 pub returns-then-poll-clause-turn : goal.returns-then-poll-clause-turn
 returns-then-poll-clause-turn c =
@@ -19,8 +10,7 @@ pub returns-then-poll-clause-busy : goal.returns-then-poll-clause-busy
 returns-then-poll-clause-busy c =
     done-after-work c.args.self.now.machine c.poll.new.self.machine c.args.q c.poll.result
     c.args.busy.now c.poll.new.cpus c.poll.ensures.turn c.poll.ensures.setup c.poll.ensures.cpus
-    c.requires.busy
-    (sym c.has.ensures ∙ c.if-not-has.false)
+    c.requires.busy c.requires.member
 
 pub returns-clause-turn : goal.returns-clause-turn
 returns-clause-turn c =

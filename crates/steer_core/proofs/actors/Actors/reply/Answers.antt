@@ -1,8 +1,7 @@
-use Rattle.std.proofs.Common.{ℕ, Bool, ap, refl, ◌∙◌}
+use Rattle.std.proofs.Common.{ℕ, ap, refl}
 use Rattle.steer_base.specs.declared.step.Step.TheVariants as act
 use Rattle.steer_model.specs.State.Machine.{Machine}
-use Rattle.steer_model.specs.Steps.CompoundSteps.{Progress, tried}
-use Rattle.steer_core.proofs.TurnLemmas.{tried-idly, tried-with}
+use Rattle.steer_core.proofs.TurnLemmas.{then-idly, then-with}
 use Rattle.std.proofs.Common.{subst, arith}
 use Rattle.hop_core.specs.Hop.{HopState}
 use Rattle.steer_core.specs.Resting.{PutsBeside}
@@ -12,40 +11,19 @@ use Rattle.steer_core.proofs.actors.Actors.reply.Goals as goal
 
 pub returns-clause-turn : goal.returns-clause-turn
 returns-clause-turn c =
-    let a : ℕ = c.args.a in
-    let start : Machine = c.args.self.now.machine in
-    let before : Bool = c.args.worked in
-    let tenter-new : Machine = c.tenter.new.self.machine in
     let tenter-tried =
-    tried-idly start tenter-new before
-    (act.TEnter a) refl c.tenter.ensures.state in
-    let send-new : Machine = c.send.new.self.machine in
-    let send-did : Bool = c.worked_by-worked.result in
+    then-idly {m = c.args.self.now.machine} {w = c.args.worked} refl (act.TEnter c.args.a)
+    c.tenter.ensures.state refl in
     let send-tried =
-    tried-with tenter-new send-new before send-did c.send.result
-    (act.Send a) refl
-    c.send.ensures.state c.send.ensures.answer c.worked_by-worked.ensures in
-    let tweigh-new : Machine = c.tweigh.new.self.machine in
-    let tweigh-did : Bool = c.worked_by-worked-2.result in
+    then-with tenter-tried (act.Send c.args.a) c.send.ensures.state refl
+    c.send.ensures.answer c.worked_by-worked.ensures in
     let tweigh-tried =
-    tried-with send-new tweigh-new send-did tweigh-did c.tweigh.result
-    (act.TWeigh a) refl
-    c.tweigh.ensures.state c.tweigh.ensures.answer c.worked_by-worked-2.ensures in
-    let tput-new : Machine = c.tput.new.self.machine in
-    let tput-did : Bool = c.worked_by-worked-3.result in
+    then-with send-tried (act.TWeigh c.args.a) c.tweigh.ensures.state refl
+    c.tweigh.ensures.answer c.worked_by-worked-2.ensures in
     let tput-tried =
-    tried-with tweigh-new tput-new tweigh-did tput-did c.tput.result
-    (act.TPut a) refl
-    c.tput.ensures.state c.tput.ensures.answer c.worked_by-worked-3.ensures in
-    let tleave-new : Machine = c.tleave.new.self.machine in
-    let tleave-tried =
-    tried-idly tput-new tleave-new tput-did
-    (act.TLeave a) refl c.tleave.ensures.state in
-    tleave-tried ∙ ap (λ (t : Progress). tried t (act.TLeave a))
-    (tput-tried ∙ ap (λ (t : Progress). tried t (act.TPut a))
-    (tweigh-tried ∙ ap (λ (t : Progress). tried t (act.TWeigh a))
-    (send-tried ∙ ap (λ (t : Progress). tried t (act.Send a))
-    tenter-tried)))
+    then-with tweigh-tried (act.TPut c.args.a) c.tput.ensures.state refl
+    c.tput.ensures.answer c.worked_by-worked-3.ensures in
+    then-idly tput-tried (act.TLeave c.args.a) c.tleave.ensures.state refl
 
 pub returns-clause-txs : goal.returns-clause-txs
 returns-clause-txs c =

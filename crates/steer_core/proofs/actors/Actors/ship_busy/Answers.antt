@@ -1,21 +1,15 @@
-use Rattle.std.proofs.Common.{ap, sym, ◌∙◌, ◌-◌, length}
+use Rattle.std.proofs.Common.{ap, ◌∙◌, ◌-◌, length}
 use Rattle.hop_core.specs.Hop.{HopState, accepted_at, retired_at}
 use Rattle.steer_core.specs.Running.{Running}
 use Rattle.steer_core.proofs.BusyLemmas.{busy-after-ship, done-after-ship}
-use Rattle.steer_core.proofs.StillLemmas.{emptied-by, ship-of-done}
+use Rattle.steer_core.proofs.StillLemmas.{emptied-by}
 use Rattle.steer_core.proofs.actors.Actors.ship_busy.Goals as goal
-
-pub returns-then-not-has-clause-turn : goal.returns-then-not-has-clause-turn
-returns-then-not-has-clause-turn c =
-    sym (ship-of-done c.args.t (c.args.self.now.machine, c.args.worked)
-    (c.requires.busy.txs c.args.t c.requires.tx (sym c.has.ensures ∙ c.if-not-has.true)))
 
 pub returns-then-unretired-gt0-clause-busy : goal.returns-then-unretired-gt0-clause-busy
 returns-then-unretired-gt0-clause-busy c =
     let done = c.ship-done.ensures in
     busy-after-ship c.args.self.now.machine c.ship-done.new.self.machine c.args.t c.args.worked
-    c.ship-done.result c.args.busy.now done.turn done.setup c.requires.busy
-    (sym c.has.ensures ∙ c.if-not-has.false)
+    c.ship-done.result c.args.busy.now done.turn done.setup c.requires.busy c.requires.member
 
 pub returns-clause-busy : goal.returns-clause-busy
 returns-clause-busy c =
@@ -26,5 +20,5 @@ returns-clause-busy c =
     done-after-ship c.args.self.now.machine c.ship-done.new.self.machine c.args.t c.args.worked
     c.ship-done.result c.args.busy.now done.turn done.setup c.requires.busy c.without-busy.result
     (emptied-by c.ship-done.new.self.machine.tx c.args.t c.unretired.result
-    c.sound-2.ensures.kept.tx.sound left c.if-unretired-gt0.false)
+    c.sound.ensures.kept.tx.sound left c.if-unretired-gt0.false)
     c.without-busy.ensures.members
