@@ -1,5 +1,5 @@
 -- The arrivals of each queue among the first ones.
-use Rattle.std.proofs.Common.{ℕ, ◌+◌, ◌≤◌, ◌<◌, ◌≡◌, ◌≢◌, false, cond, List, [], ◌∷◌, ◌++◌, ◌-◌}
+use Rattle.std.proofs.Common.{ℕ, ◌+◌, ◌≤◌, ◌<◌, ◌≡◌, ◌≢◌, cond, List, [], ◌∷◌, ◌++◌, ◌-◌}
 use Rattle.std.proofs.Common.{Some, length, take, replicate, refl, ap, ◌∙◌, sym, arith, suc, zero}
 use Rattle.std.proofs.Common.{inl, inr, get_or, set, subst}
 use Rattle.std.specs.Prelude.{◌==◌, nat_lt, slice_index}
@@ -12,7 +12,7 @@ use Rattle.std.proofs.lemmas.List.{length-map}
 use Rattle.std.proofs.lemmas.List.Filters.{length-filter_more}
 use Rattle.std.proofs.lemmas.List.FromFn.{get_or-map-range_with_len, length-map-range_with_len}
 use Rattle.steer_base.specs.Entries.{place_in}
-use Rattle.history.specs.Counted.{arrival_counts}
+use Rattle.history.specs.Counted.{arrival_counts, rank_of}
 use Rattle.history.specs.Lists.{arrivals_at, no_arrival}
 use Rattle.history.specs.Places.{was_taken}
 use Rattle.history.specs.declared.arrival.Arrival.{Arrival}
@@ -31,7 +31,7 @@ count-more arrivals i q l =
       length-filter_more (λ a. a.queue == q) arrivals i no_arrival l,
     )
 
-count-at : (arrivals : List Arrival) (queues q : ℕ) → q < queues
+pub count-at : (arrivals : List Arrival) (queues q : ℕ) → q < queues
     → get_or (arrival_counts arrivals queues) q 0 ≡ length (arrivals_at arrivals q)
 count-at arrivals queues q l = get_or-map-range_with_len (λ p. length (arrivals_at arrivals p)) 0
     queues q q 0 l (omega arith)
@@ -86,8 +86,8 @@ count-le (a ∷ rest) q =
     ]
 
 -- the place of an arrival among those of its queue is one more than the number before it
-place-arrival : (k i q : ℕ) (arrivals : List Arrival) → AreNumbered k arrivals → i < length arrivals
-    → (get_or arrivals i no_arrival).queue ≡ q
+pub place-arrival : (k i q : ℕ) (arrivals : List Arrival) → AreNumbered k arrivals
+    → i < length arrivals → (get_or arrivals i no_arrival).queue ≡ q
     → place_in (k + i) (arrivals_at arrivals q) ≡ Some
     (suc (length (arrivals_at (take i arrivals) q)))
 place-arrival k i q [] e l s = absurd (omega arith)
@@ -181,24 +181,8 @@ module _ (h : History) (i : ℕ) (items : List Arrival) (a : Arrival) (arrived :
       (get_or (arrival_counts (take i h.arrivals) (length h.taken)) q 0 + 1)) queue-here
       ∙ counts-more h.arrivals (length h.taken) i below-all
 
-  pub counted-taken : nat_lt (get_or arrived a.queue 0) (slice_index h.taken a.queue) ≡ was_taken h
-      i
-  counted-taken =
-      let taken : was_taken h i ≡ nat_lt (length (arrivals_at (take i h.arrivals) a.queue))
-      (slice_index h.taken a.queue) =
-      taken-count h i numbered below-all
-      ∙ sym (ap (λ q. nat_lt (length (arrivals_at (take i h.arrivals) q))
-      (slice_index h.taken q)) queue-here) in
-      elim (cases_lt a.queue (length h.taken)) [
-        | inl l ↦
-            ap (λ n. nat_lt n (slice_index h.taken a.queue)) (ap (λ xs. get_or xs a.queue 0) counted
-            ∙ count-at (take i h.arrivals) (length h.taken) a.queue l)
-            ∙ sym taken
-        | inr l ↦
-            let n : slice_index h.taken a.queue ≡ 0 = get_or-eq_default h.taken 0 l in
-            let f : nat_lt (get_or arrived a.queue 0) (slice_index h.taken a.queue) ≡ false =
-            rw n (grind arith) in
-            let g : nat_lt (length (arrivals_at (take i h.arrivals) a.queue))
-            (slice_index h.taken a.queue) ≡ false = rw n (grind arith) in
-            f ∙ sym g ∙ sym taken
-      ]
+  pub counted-rank : get_or arrived a.queue 0 ≡ rank_of h i
+  counted-rank =
+      ap (λ xs. get_or xs a.queue 0) counted
+      ∙ ap (λ q. get_or (arrival_counts (take i h.arrivals) (length h.taken)) q 0)
+      (queue-here ∙ ap (λ b. b.queue) (sym (arrival-at i h.arrivals numbered below-all)))

@@ -6,9 +6,11 @@ pub mod FindingLemmas
 pub mod FoundAgain
 mod IndexLemmas
 mod LinesFit
+mod LinesLemmas
 pub mod OwnLemmas
 pub mod PlaceLemmas
 mod PositionLemmas
 pub mod RegularLemmas
 mod ReplyLemmas
 pub mod SamePlaces
+mod SlotLemmas

@@ -150,6 +150,14 @@ module _ (packets : List Packet) (apps : ℕ) (h : History) (regular : Regular p
       ≡ place_of h x
   place-known = rw (dropped-at, inbox-at, pulled-at, accepted-at) refl
 
+  pub place-by : (lane : Option ℕ) (app : ℕ) (taken : Bool) → lane ≡ lane_of
+      → app ≡ app_at packets apps x → taken ≡ was_taken h x
+      → place_by (option_and (first_some (drop_in x) h.lanes) lane)
+      (option_and (inbox_place_of h x) (Some app))
+      (pulled_lane h.lanes lane (accepted_place h.lanes x))
+      (option_and (accepted_place h.lanes x) lane) taken ≡ place_of h x
+  place-by lane app taken l a t = rw (l, a, t) place-known
+
 -- Few lanes and inboxes are in reach.
 pub in-reach : (h : History) (x : ℕ) → length h.lanes ≤ 256 → length h.inboxes ≤ 256 → IsInReach h x
 in-reach h x lanes inboxes = record {

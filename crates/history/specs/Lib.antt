@@ -4,7 +4,9 @@ pub mod Index
 pub mod Known
 pub mod Lines
 pub mod Lists
+pub mod Made
 pub mod Places
 pub mod Ranges
 pub mod Regular
 pub mod Shown
+pub mod Slots

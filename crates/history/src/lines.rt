@@ -8,47 +8,50 @@ ghost use Rattle.history.specs.declared.packet_line.PacketLine.{PacketLine};
 ghost use Rattle.history.specs.Regular.{Regular};
 
 pub mod making;
+pub mod slots;
 
 use crate::history::History;
-use crate::known::Known;
 use crate::known::counted::Counted;
 use crate::packet_line::PacketLine;
 use crate::reply_line::ReplyLine;
-use making::{packet_lines, reply_lines};
+use making::{packet_line, reply_line};
+use slots::Slots;
 use std::alloc::Global;
 use std::marker::Model;
 use steer_base::{OutOfMemory, Packet, PacketId};
 
 /// The lines of the packets that arrived and of their replies, and the number of packets that
-/// arrived at each queue.
-#[derive(Debug, Drop)]
-pub struct Lines {
-    packets: Vec<PacketLine>,
-    replies: Vec<Option<ReplyLine>>,
-    arrived: Vec<u32>,
+/// arrived at each queue. A line is made when it is asked for, from the history and from the
+/// places of the packet in its lists.
+#[derive(Drop)]
+pub struct Lines<'a> {
+    history: &'a History,
+    packets: &'a [Packet],
+    apps: u8,
+    slots: Slots,
+    counted: Counted,
 }
 
-impl Model for Lines {
-    ghost use Rattle.history.specs.Lines.{LineLists};
+impl<'a> Model for Lines<'a> {
+    ghost use Rattle.history.specs.Lines.{LineLists, lines_of};
+    ghost use Rattle.history.specs.Made.{AreMade};
 
     ghost Value = { LineLists };
 
-    ghost view = { λ l. record {
-      packets = l.packets.items;
-      replies = l.replies.items;
-      arrived = l.arrived.items;
-    } };
+    ghost view = { λ l. lines_of l.packets.now l.apps l.history.now };
+
+    ghost invariant = { AreMade };
 }
 
-impl Lines {
-    /// Makes the lines of a history that is regular for these packets and `apps` applications, in
-    /// time and memory linear in its packets. All memory is allocated here.
+impl<'a> Lines<'a> {
+    /// Looks up the packets of a history that is regular for these packets and `apps` applications,
+    /// in time and memory linear in its packets. All memory is allocated here.
     pub fn make(
         alloc: Global,
-        h: &History,
-        packets: &[Packet],
+        h: &'a History,
+        packets: &'a [Packet],
         apps: u8,
-    ) -> Result<Lines, OutOfMemory>
+    ) -> Result<Lines<'a>, OutOfMemory>
         requires regular { Regular packets.now apps h.now }
         requires apps { 1 ≤ apps }
         requires few { length packets.now ≤ MAX_PACKETS }
@@ -66,14 +69,14 @@ impl Lines {
             (λ l. (q : ℕ) → q < length h.now.taken
             → slice_index l.arrived q ≡ length (arrivals_at h.now.arrivals q)) }
     {
-        let known = Known::make(alloc, h)?;
+        let slots = Slots::make(alloc, h)?;
         let counted = Counted::make(alloc, h)?;
-        let lines = packet_lines(alloc, h, &known, packets, apps, &counted.taken)?;
-        let replies = reply_lines(alloc, h, &known, packets, apps)?;
         Ok(Lines {
-            packets: lines,
-            replies,
-            arrived: counted.arrived,
+            history: h,
+            packets,
+            apps,
+            slots,
+            counted,
         })
     }
 
@@ -81,7 +84,7 @@ impl Lines {
     pub fn len(&self) -> usize
         ensures { result ≡ length self.now.packets }
     {
-        self.packets.len()
+        self.history.arrivals.len()
     }
 
     /// The line of a packet that arrived.
@@ -89,26 +92,25 @@ impl Lines {
         requires { id < length self.now.packets }
         ensures { result ≡ slice_index_or self.now.packets id result }
     {
-        self.packets[id.0 as usize]
+        let rank = self.counted.ranks[id.0 as usize];
+        packet_line(self.history, &self.slots, self.packets, self.apps, rank, id)
     }
 
     /// The line of the reply to a packet, if one was begun.
     pub fn reply(&self, id: PacketId) -> Option<ReplyLine>
         ensures { result ≡ slice_index_or self.now.replies id None }
     {
-        let at = id.0 as usize;
-        if at < self.replies.len() {
-            self.replies[at]
-        } else {
-            None
+        if id.0 as usize >= self.history.arrivals.len() {
+            return None;
         }
+        reply_line(self.history, &self.slots, self.packets, self.apps, id)
     }
 
     /// The number of receive queues.
     pub fn queues(&self) -> usize
         ensures { result ≡ length self.now.arrived }
     {
-        self.arrived.len()
+        self.counted.arrived.len()
     }
 
     /// The number of packets that arrived at a receive queue.
@@ -116,6 +118,6 @@ impl Lines {
         requires { queue < length self.now.arrived }
         ensures { result ≡ slice_index self.now.arrived queue }
     {
-        self.arrived[queue]
+        self.counted.arrived[queue]
     }
 }

@@ -434,13 +434,13 @@ pub(crate) fn replying(rt: &impl Abort, alloc: Global) -> History {
 
 // The lines of a history that the test made for these packets and so many applications. It has to
 // be regular.
-pub(crate) fn lines_of(
+pub(crate) fn lines_of<'a>(
     rt: &impl Abort,
     alloc: Global,
-    h: &History,
-    packets: &[Packet],
+    h: &'a History,
+    packets: &'a [Packet],
     apps: u8,
-) -> Lines
+) -> Lines<'a>
     requires apps { 1 ≤ apps }
     requires few { length packets.now ≤ 262144 }
     ensures { AreLinesOf result h.now }

@@ -22,7 +22,9 @@ fn has_reply(rt: &impl Abort, lines: &Lines, reply: ReplyLine) {
 // The lines of a packet that was delivered, and whose reply was sent, where the counters begin at
 // `start`: both have this position.
 fn has_lines(rt: &impl Abort, alloc: Global, start: u32, position: u32) {
-    let lines = lines_of(rt, alloc, &replied(rt, alloc, start), &[SEGMENT], 1);
+    let h = replied(rt, alloc, start);
+    let packets = [SEGMENT];
+    let lines = lines_of(rt, alloc, &h, &packets, 1);
     let line = PacketLine {
         id: PacketId(0),
         queue: RxQueue(0),

@@ -366,7 +366,8 @@ fn two_texts(rt: &impl Abort, alloc: Global, lines: &Lines) -> Vec<TapText> {
 fn two_taps_stand_before_the_end(rt: HostRuntime) {
     let alloc = rt.alloc();
     let h = moved(&rt, alloc, 0);
-    let lines = lines_of(&rt, alloc, &h, &[SEGMENT; 4], 1);
+    let packets = [SEGMENT; 4];
+    let lines = lines_of(&rt, alloc, &h, &packets, 1);
     let texts = two_texts(&rt, alloc, &lines);
     let (done, out) = written(&rt, alloc, &h, &lines, &texts, &[]);
     assert!(&rt; done);
@@ -436,7 +437,8 @@ fn goes_out(
 fn a_report_goes_out_line_by_line(rt: HostRuntime) {
     let alloc = rt.alloc();
     let h = moved(&rt, alloc, 0);
-    let lines = lines_of(&rt, alloc, &h, &[SEGMENT; 4], 1);
+    let packets = [SEGMENT; 4];
+    let lines = lines_of(&rt, alloc, &h, &packets, 1);
     let pieces = [
         b"steer 1\n".as_slice(),
         b"p 0 q 0 via reta class 0 want - head - tail 0 cpu 1 why unset at 1 \
@@ -467,7 +469,8 @@ fn a_report_goes_out_line_by_line(rt: HostRuntime) {
 fn each_section_goes_out_line_by_line(rt: HostRuntime) {
     let alloc = rt.alloc();
     let h = waiting(&rt, alloc);
-    let lines = lines_of(&rt, alloc, &h, &[SEGMENT; 3], 1);
+    let packets = [SEGMENT; 3];
+    let lines = lines_of(&rt, alloc, &h, &packets, 1);
     let texts = [TapText {
         bytes: Vec::from_slice(alloc, b"flow 0 packets 2\nflow 1 packets 1\n").expect(
             &rt, "memory",

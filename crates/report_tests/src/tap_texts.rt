@@ -3,13 +3,15 @@ ghost use Rattle.std.specs.Prelude.{◌≡◌, length};
 
 use crate::equal::{same, same_items};
 use crate::histories::{PLAIN, SEGMENT, lines_of, none, received};
-use history::{Lines, PacketLine, Place, Via};
+use history::{History, Lines, PacketLine, Place, Via};
 use std::alloc::Global;
 use std::cell::Cell;
 use std::process::Abort;
 use std::rc::Rc;
 use std::test::Fail;
-use steer_base::{AppId, Choice, Cpu, Detach, DropCause, OutOfMemory, PacketId, Put, RxQueue};
+use steer_base::{
+    AppId, Choice, Cpu, Detach, DropCause, OutOfMemory, Packet, PacketId, Put, RxQueue,
+};
 use taps::{Depth, PerCpu, PerFlow, Tap, TapText, feed};
 
 // The line of a packet that waits in its ring.
@@ -141,12 +143,16 @@ impl Tap for Counting {
     }
 }
 
-// The lines of three packets that wait in the ring of their queue.
-fn three_lines(rt: &impl Abort, alloc: Global) -> Lines
+// The lines of a history of three packets.
+fn three_lines<'a>(
+    rt: &impl Abort,
+    alloc: Global,
+    h: &'a History,
+    packets: &'a [Packet; 3],
+) -> Lines<'a>
     ensures { length result.packets ≡ 3 }
 {
-    let h = received(rt, alloc, &[0; 3], &[], none(alloc), &[]);
-    let lines = lines_of(rt, alloc, &h, &[SEGMENT; 3], 1);
+    let lines = lines_of(rt, alloc, h, packets, 1);
     assert!(rt; lines.len() == 3);
     lines
 }
@@ -184,7 +190,10 @@ fn fed(alloc: Global, lines: &Lines, failing: u32) -> Result<(bool, u32, u32, u3
 #[test]
 fn every_tap_is_dropped_once(rt: HostRuntime) -> Result<(), Fail> {
     let alloc = rt.alloc();
-    let lines = three_lines(&rt, alloc);
+    // Three packets wait in the ring of their queue.
+    let h = received(&rt, alloc, &[0; 3], &[], none(alloc), &[]);
+    let packets = [SEGMENT; 3];
+    let lines = three_lines(&rt, alloc, &h, &packets);
     same(&rt, &fed(alloc, &lines, 9)?, &(true, 2, 1, 3), 0);
     same(&rt, &fed(alloc, &lines, 2)?, &(false, 2, 1, 2), 1);
     Ok(())

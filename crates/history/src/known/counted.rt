@@ -1,5 +1,5 @@
 //! The arrivals of each queue, counted in one pass.
-ghost use Rattle.std.specs.Prelude.{◌≡◌, ◌<◌, ◌+◌, ◌≤◌, ◌^◌, length, map, nat_lt, slice_index};
+ghost use Rattle.std.specs.Prelude.{◌≡◌, ◌<◌, ◌+◌, ◌≤◌, ◌^◌, length, map, slice_index};
 ghost use Rattle.std.specs.Prelude.{slice_set, IfOk};
 ghost use Rattle.std.specs.List.{range_with_len};
 ghost use Rattle.steer_base.specs.declared.limits.TheConstants.{MAX_PACKETS};
@@ -7,15 +7,15 @@ ghost use Rattle.history.specs.Counted.{IsCounted};
 
 use crate::history::History;
 use std::alloc::Global;
-use steer_base::{List, OutOfMemory, RxQueue};
+use steer_base::{OutOfMemory, RxQueue};
 
 /// The arrivals of a history, counted by queue.
 #[derive(Drop)]
 pub struct Counted {
     /// For each receive queue, the number of packets that arrived there.
     pub arrived: Vec<u32>,
-    /// For each packet that arrived, whether the poller of its queue took it.
-    pub taken: Vec<bool>,
+    /// For each packet that arrived, the number of those that arrived at its queue before it.
+    pub ranks: Vec<u32>,
 }
 
 impl Counted {
@@ -28,29 +28,26 @@ impl Counted {
     {
         let mut arrived = Vec::new(alloc);
         arrived.resize(h.taken.len(), 0)?;
-        let mut taken = Vec::with_capacity(alloc, h.arrivals.len())?;
+        let mut ranks = Vec::with_capacity(alloc, h.arrivals.len())?;
         for arrival in h.arrivals.as_slice() {
-            taken.push(note_arrival(&mut arrived, &h.taken, arrival.queue))?;
+            ranks.push(note_arrival(&mut arrived, arrival.queue))?;
         }
-        Ok(Counted { arrived, taken })
+        Ok(Counted { arrived, ranks })
     }
 }
 
-// Counts an arrival at its queue, if there is one, and returns whether it is among those that were
-// taken there.
-fn note_arrival(arrived: &mut Vec<u32>, taken: &List<u32>, queue: RxQueue) -> bool
-    requires queues { length arrived.old.items ≡ length taken.now }
+// Counts an arrival at its queue, if there is one, and returns the count before it.
+fn note_arrival(arrived: &mut Vec<u32>, queue: RxQueue) -> u32
     requires room { slice_index arrived.old.items queue + 1 < 2 ^ 32 }
     ensures count { arrived.new.items
         ≡ slice_set arrived.old.items queue (slice_index arrived.old.items queue + 1) }
-    ensures taken { result
-        ≡ nat_lt (slice_index arrived.old.items queue) (slice_index taken.now queue) }
+    ensures before { result ≡ slice_index arrived.old.items queue }
 {
     let at = queue.0 as usize;
     if at >= arrived.len() {
-        return false;
+        return 0;
     }
     let before = arrived[at];
     arrived[at] = before + 1;
-    before < *taken.get(at)
+    before
 }

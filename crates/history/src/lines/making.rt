@@ -1,162 +1,153 @@
-//! The lines of a packet, from what the lists of a history tell of it.
-ghost use Rattle.std.specs.Prelude.{◌≡◌, ◌<◌, ◌≤◌, length, map, IfOk};
-ghost use Rattle.std.specs.List.{range_with_len};
-ghost use Rattle.std.specs.Option.{option_and, option_map, option_or};
-ghost use Rattle.steer_base.specs.declared.limits.TheConstants.{MAX_PACKETS};
+//! The lines of a packet, from its places in the lists of a history.
+ghost use Rattle.std.specs.Prelude.{◌≡◌, ◌<◌, ◌≤◌, Some, length, nat_lt, slice_get, slice_index};
+ghost use Rattle.std.specs.Option.{option_and, option_and_then, option_map, option_or};
 ghost use Rattle.steer_base.specs.Counters.{number};
 ghost use Rattle.steer_base.specs.declared.put.Put.TheVariants.{At as at_position};
-ghost use Rattle.history.specs.Known.{IsKnown, pulled_lane};
+ghost use Rattle.history.specs.Counted.{rank_of};
+ghost use Rattle.history.specs.Finding.{first_some};
+ghost use Rattle.history.specs.Known.{pulled_lane};
+ghost use Rattle.history.specs.Lines.{accepted_place, drop_in, inbox_place_of};
 ghost use Rattle.history.specs.Lines.{packet_line as line_of_packet, reply_line as line_of_reply};
 ghost use Rattle.history.specs.Lines.{via_of as via_of_arrival};
-ghost use Rattle.history.specs.Places.{place_by as first_place, place_of as place_of_packet};
-ghost use Rattle.history.specs.Places.{was_taken};
+ghost use Rattle.history.specs.Lists.{list_at};
+ghost use Rattle.history.specs.Places.{place_by as first_place};
 ghost use Rattle.history.specs.Regular.{Regular};
+ghost use Rattle.history.specs.Slots.{AreSlots, index_before};
 
 use crate::arrival::Arrival;
 use crate::history::History;
-use crate::known::Known;
 use crate::lane_list::LaneList;
+use crate::lines::slots::Slots;
 use crate::packet_line::{PacketLine, Via};
 use crate::place::Place;
 use crate::reply_line::ReplyLine;
-use std::alloc::Global;
-use steer_base::{AppId, Choice, Cpu, List, OutOfMemory, Packet, PacketId, Put, app_of, number_at};
+use crate::sent::Sent;
+use steer_base::{AppId, Choice, Chosen, Cpu, List, Packet, PacketId, Put, app_of, number_at};
 
-// The lines of all packets that arrived.
-pub(crate) fn packet_lines(
-    alloc: Global,
+// The line of a packet that arrived, which `rank` others of its queue came before.
+pub(crate) fn packet_line(
     h: &History,
-    known: &Known,
+    slots: &Slots,
     packets: &[Packet],
     apps: u8,
-    taken: &[bool],
-) -> Result<Vec<PacketLine>, OutOfMemory>
-    requires regular { Regular packets.now apps h.now }
-    requires known { IsKnown h.now known.now }
-    requires apps { 1 ≤ apps }
-    requires few { length packets.now ≤ MAX_PACKETS }
-    requires taken { taken.now ≡ map (was_taken h.now) (range_with_len 0 (length h.now.arrivals)) }
-    ensures { IfOk result
-        (λ v. v.items
-        ≡ map (line_of_packet packets.now apps h.now) (range_with_len 0 (length h.now.arrivals))) }
-{
-    let mut lines = Vec::with_capacity(alloc, taken.len())?;
-    for (x, taken) in taken.iter().enumerate() {
-        let id = PacketId(x as u32);
-        let place = place_of(h, known, packets, apps, *taken, id);
-        lines.push(packet_line(h, known, packets, apps, place, id))?;
-    }
-    Ok(lines)
-}
-
-// The lines of the replies to them.
-pub(crate) fn reply_lines(
-    alloc: Global,
-    h: &History,
-    known: &Known,
-    packets: &[Packet],
-    apps: u8,
-) -> Result<Vec<Option<ReplyLine>>, OutOfMemory>
-    requires known { IsKnown h.now known.now }
-    requires apps { 1 ≤ apps }
-    requires packets { length h.now.arrivals ≤ length packets.now }
-    requires few { length packets.now ≤ MAX_PACKETS }
-    ensures { IfOk result
-        (λ v. v.items
-        ≡ map (line_of_reply packets.now apps h.now) (range_with_len 0 (length h.now.arrivals))) }
-{
-    let count = h.arrivals.len();
-    let mut lines = Vec::with_capacity(alloc, count)?;
-    for x in 0..count {
-        let id = PacketId(x as u32);
-        lines.push(reply_line(h, known, packets, apps, id))?;
-    }
-    Ok(lines)
-}
-
-// The line of a packet that arrived.
-fn packet_line(
-    h: &History,
-    known: &Known,
-    packets: &[Packet],
-    apps: u8,
-    place: Place,
+    rank: u32,
     id: PacketId,
 ) -> PacketLine
     requires regular { Regular packets.now apps h.now }
-    requires known { IsKnown h.now known.now }
+    requires slots { AreSlots h.now slots.now }
     requires apps { 1 ≤ apps }
     requires arrived { id < length h.now.arrivals }
-    requires place { place ≡ place_of_packet h.now id }
+    requires rank { rank ≡ rank_of h.now id }
     ensures { result ≡ line_of_packet packets.now apps h.now id }
 {
     let arrival = h.arrivals.get(id.0 as usize);
     let packet = packets[id.0 as usize];
+    let queue = arrival.queue.0 as usize;
+    let app = app_of(packet.hash, apps);
+    let choice = choice_at(&h.choices, queue, rank as usize);
+    let taken = is_taken(&h.taken, queue, rank);
     PacketLine {
         id,
         queue: arrival.queue,
         via: via_of(arrival),
-        choice: known.choices.get(id),
-        put: put_of(h.start, known.accepted.get(id), known.drops.get(id)),
-        app: app_of(packet.hash, apps),
-        inbox: known.inboxes.get(id),
-        place,
+        choice,
+        put: put_of(h.start, slots.accepted.get(id), slots.drops.get(id)),
+        app,
+        inbox: slots.inboxes.get(id),
+        place: place_of(h, slots, app, lane_of(choice), taken, id),
         flow_number: packet.flow_number,
     }
 }
 
-// The line of the reply to a packet, where one was begun.
-fn reply_line(
+// The line of the reply to a packet, where one was begun: replies are in the order of the inbox.
+pub(crate) fn reply_line(
     h: &History,
-    known: &Known,
+    slots: &Slots,
     packets: &[Packet],
     apps: u8,
     id: PacketId,
 ) -> Option<ReplyLine>
-    requires known { IsKnown h.now known.now }
+    requires regular { Regular packets.now apps h.now }
+    requires slots { AreSlots h.now slots.now }
     requires apps { 1 ≤ apps }
     requires arrived { id < length h.now.arrivals }
-    requires packet { id < length packets.now }
     ensures { result ≡ line_of_reply packets.now apps h.now id }
 {
-    let sent = known.sent.get(id)?;
     let packet = packets[id.0 as usize];
+    let app = app_of(packet.hash, apps);
+    let index = index_of(slots.inboxes.get(id))?;
+    let sent = sent_at(&h.sent, app.0 as usize, index)?;
     Some(ReplyLine {
         id,
-        app: app_of(packet.hash, apps),
+        app,
         rxq: sent.rxq,
         cpu: sent.cpu,
-        choice: known.tx_choices.get(id),
-        put: position_of(h.start, known.tx_accepted.get(id)),
-        port: known.port.get(id),
+        choice: choice_at(&h.tx_choices, app.0 as usize, index),
+        put: position_of(h.start, slots.tx_accepted.get(id)),
+        port: slots.port.get(id),
         flow_number: packet.flow_number,
     })
+}
+
+// The index of a place, which is counted from 1.
+fn index_of(place: Option<u32>) -> Option<usize>
+    ensures { result ≡ option_and_then index_before place }
+{
+    match place {
+        Some(0) | None => None,
+        Some(count) => Some(count as usize - 1),
+    }
+}
+
+// The choice at an index of one of some lists.
+fn choice_at(lists: &List<List<Chosen>>, list: usize, index: usize) -> Option<Choice>
+    ensures { result ≡ option_map (λ c. c.choice) (slice_get (list_at lists.now list) index) }
+{
+    let list = lists.as_slice().get(list)?;
+    let chosen = list.as_slice().get(index)?;
+    Some(chosen.choice)
+}
+
+// The reply at an index of one of some lists.
+fn sent_at(lists: &List<List<Sent>>, list: usize, index: usize) -> Option<Sent>
+    ensures { result ≡ slice_get (list_at lists.now list) index }
+{
+    let list = lists.as_slice().get(list)?;
+    list.as_slice().get(index).copied()
+}
+
+// Whether the poller of a queue took the packet that so many came before there.
+fn is_taken(taken: &List<u32>, queue: usize, rank: u32) -> bool
+    ensures { result ≡ nat_lt rank (slice_index taken.now queue) }
+{
+    match taken.as_slice().get(queue) {
+        Some(count) => rank < *count,
+        None => false,
+    }
 }
 
 // The place of a packet: at the processor of its choice, or in the inbox of its application.
 fn place_of(
     h: &History,
-    known: &Known,
-    packets: &[Packet],
-    apps: u8,
+    slots: &Slots,
+    app: AppId,
+    cpu: Option<u8>,
     taken: bool,
     id: PacketId,
 ) -> Place
-    requires regular { Regular packets.now apps h.now }
-    requires known { IsKnown h.now known.now }
-    requires apps { 1 ≤ apps }
+    requires slots { AreSlots h.now slots.now }
     requires arrived { id < length h.now.arrivals }
-    requires taken { taken ≡ was_taken h.now id }
-    ensures { result ≡ place_of_packet h.now id }
+    ensures { result
+        ≡ first_place (option_and (first_some (drop_in id) h.now.lanes) cpu)
+        (option_and (inbox_place_of h.now id) (Some app))
+        (pulled_lane h.now.lanes cpu (accepted_place h.now.lanes id))
+        (option_and (accepted_place h.now.lanes id) cpu) taken }
 {
-    let app = app_of(packets[id.0 as usize].hash, apps);
-    let cpu = lane_of(known.choices.get(id));
-    let accepted = known.accepted.get(id);
-    let pulled = pulled_at(&h.lanes, cpu, accepted);
+    let accepted = slots.accepted.get(id);
     place_by(
-        known.drops.get(id).and(cpu),
-        known.inboxes.get(id).and(Some(app.0)),
-        pulled,
+        slots.drops.get(id).and(cpu),
+        slots.inboxes.get(id).and(Some(app.0)),
+        pulled_at(&h.lanes, cpu, accepted),
         accepted.and(cpu),
         taken,
     )

@@ -1,4 +1,4 @@
-use Rattle.std.proofs.Common.{◌∙◌, ap, arith, None, get_or, length}
+use Rattle.std.proofs.Common.{◌∙◌, ap, arith, length}
 use Rattle.std.specs.Option.{is_some}
 use Rattle.std.proofs.lemmas.List.FromFn.{get_or-map-range_with_len}
 use Rattle.history.specs.Lines.{packet_line}
@@ -13,22 +13,19 @@ make-requires c = short-lists c.args.packets.now c.args.apps c.args.h.now c.requ
 
 pub returns-clause-packet : goal.returns-clause-packet
 returns-clause-packet c x d l =
-    ap (λ lines. get_or lines x d) c.in_ok-lines.ensures
-    ∙ get_or-map-range_with_len (packet_line c.args.packets.now c.args.apps c.args.h.now) 0
+    get_or-map-range_with_len (packet_line c.args.packets.now c.args.apps c.args.h.now) 0
     (length c.args.h.now.arrivals) x x d l (omega arith)
 
 pub returns-clause-reply : goal.returns-clause-reply
-returns-clause-reply c x = ap (λ lines. get_or lines x None) c.in_ok-replies.ensures
-    ∙ reply-at c.args.packets.now c.args.apps c.args.h.now c.requires.regular x
+returns-clause-reply c x =
+    reply-at c.args.packets.now c.args.apps c.args.h.now c.requires.regular x
 
 pub returns-clause-begun : goal.returns-clause-begun
 returns-clause-begun c x =
-    ap (λ lines. is_some (get_or lines x None)) c.in_ok-replies.ensures
-    ∙ ap is_some (reply-at c.args.packets.now c.args.apps c.args.h.now c.requires.regular x)
+    ap is_some (reply-at c.args.packets.now c.args.apps c.args.h.now c.requires.regular x)
     ∙ is_some-reply c.args.packets.now c.args.apps c.args.h.now x
 
 pub returns-clause-arrived : goal.returns-clause-arrived
 returns-clause-arrived c q l =
-    ap (λ counts. get_or counts q 0) c.in_ok-counted.ensures.arrived
-    ∙ get_or-map-range_with_len (λ p. length (arrivals_at c.args.h.now.arrivals p)) 0
+    get_or-map-range_with_len (λ p. length (arrivals_at c.args.h.now.arrivals p)) 0
     (length c.args.h.now.taken) q q 0 l (omega arith)

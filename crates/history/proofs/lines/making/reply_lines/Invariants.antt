@@ -1,7 +1,0 @@
-use Rattle.std.proofs.Common.{◌≡◌, map}
-use Rattle.std.specs.List.{range_with_len}
-use Rattle.history.specs.Lines.{reply_line}
-use Rattle.history.proofs.lines.making.reply_lines.Given as goal
-
-abbrev pub invariant-loop-x : goal.invariant-loop-x
-invariant-loop-x l = l.lines.items ≡ map (reply_line l.packets l.apps l.h) (range_with_len 0 l.x)
