@@ -4,11 +4,10 @@ ghost use Rattle.std.specs.Io.KnownBytes.{Appends};
 ghost use Rattle.outside_io.specs.Counts.{Rose};
 ghost use Rattle.outside_io.specs.Sink.{AppendsSome};
 ghost use Rattle.steer_base.specs.declared.limits.TheConstants.{MAX_PACKETS};
-ghost use Rattle.steer_model.specs.State.Ranges.{AreOfFlows};
 ghost use Rattle.history.specs.Regular.{Regular};
-ghost use Rattle.replay.specs.Replays.{IsWithinTypes, replay_of, shown_text, shown_with};
+ghost use Rattle.replay.specs.Replays.{IsWithinTypes, shown_text, shown_with};
 
-use crate::play::{play, tell_counters, tell_start};
+use crate::steps::tell_counters;
 use history::{History, Lines};
 use outside_io::{Sink, WriteFault};
 use plan_reader::Plan;
@@ -16,51 +15,50 @@ use report::{LineBuf, render, texts_fit};
 use std::alloc::Global;
 use std::marker::Model;
 use steer_base::{OutOfMemory, Packet};
-use steer_invariant::every_replay_can_be_reported;
 use taps::{Tap, TapText, feed};
 
 /// What is shown of a history: the history, the lines of its packets, and the texts of the taps
 /// that were shown them.
 #[derive(Drop)]
-pub struct Shown {
-    history: History,
-    lines: Lines,
+pub struct Shown<'a> {
+    history: &'a History,
+    lines: Lines<'a>,
     texts: Vec<TapText>,
 }
 
-impl Model for Shown {
+impl<'a> Model for Shown<'a> {
     ghost use Rattle.report.specs.Made.{AreLinesOf};
     ghost use Rattle.replay.specs.Replays.{ShownLists};
 
     ghost Value = { ShownLists };
 
     ghost view = { λ s. record {
-      history = s.history;
+      history = s.history.now;
       lines = s.lines;
       texts = s.texts.items;
     } };
 
-    ghost invariant = { λ s. AreLinesOf s.lines s.history };
+    ghost invariant = { λ s. AreLinesOf s.lines s.history.now };
 }
 
-impl Shown {
+impl<'a> Shown<'a> {
     /// Makes the lines of a history of a plan and these packets, and shows the taps those of the
     /// packets that arrived, each up to its detaching by the plan. The history is regular for these
     /// packets, of which there are at most `MAX_PACKETS`. If memory runs out all taps are dropped.
     pub fn make(
         alloc: Global,
         plan: &Plan,
-        packets: &[Packet],
-        history: History,
+        packets: &'a [Packet],
+        history: &'a History,
         taps: Vec<Box<dyn Tap>>,
-    ) -> Result<Shown, OutOfMemory>
+    ) -> Result<Shown<'a>, OutOfMemory>
         requires few { length packets.now ≤ MAX_PACKETS }
-        requires regular { Regular packets.now (length plan.now.apps) history }
+        requires regular { Regular packets.now (length plan.now.apps) history.now }
         ensures is { IfOk result (λ shown. shown ≡ shown_with plan.now packets.now
-            (map (λ tap lines. text tap lines) taps.items) history) }
+            (map (λ tap lines. text tap lines) taps.items) history.now) }
         ensures fits { IfOk result (IsWithinTypes plan.now) }
     {
-        let lines = Lines::make(alloc, &history, packets, plan.apps.len() as u8)?;
+        let lines = Lines::make(alloc, history, packets, plan.apps.len() as u8)?;
         let arrived = lines.len() as u32;
         let texts = feed(alloc, taps, &lines, arrived, plan.detach.as_slice())?;
         tell_counters(plan);
@@ -71,29 +69,6 @@ impl Shown {
             lines,
             texts,
         })
-    }
-
-    /// Makes all steps of a plan over these packets, and shows what came of it. There are at most
-    /// `MAX_PACKETS` packets, each flow number is below the number of packets, and all packets of a
-    /// flow have one hash. `cut` is the length of a cut record at the end of the capture. If memory
-    /// runs out all taps are dropped.
-    pub fn of_replay(
-        alloc: Global,
-        plan: &Plan,
-        packets: &[Packet],
-        cut: Option<u32>,
-        taps: Vec<Box<dyn Tap>>,
-    ) -> Result<Shown, OutOfMemory>
-        requires few { length packets.now ≤ MAX_PACKETS }
-        requires flows { AreOfFlows packets.now }
-        ensures is { IfOk result (λ shown. shown
-            ≡ replay_of plan.now packets.now cut (map (λ tap lines. text tap lines) taps.items)) }
-        ensures fits { IfOk result (IsWithinTypes plan.now) }
-    {
-        let history = play(alloc, plan, packets, cut)?;
-        tell_start(plan, packets);
-        every_replay_can_be_reported();
-        Shown::make(alloc, plan, packets, history, taps)
     }
 
     /// Writes the report: each line, and each text of a tap, is one piece for the sink. It takes no
@@ -107,6 +82,6 @@ impl Shown {
         ensures fault { OnErr result (Rose (K.faults out.old) (K.faults out.new)) }
         ensures later { K.faults out.old ≤ K.faults out.new }
     {
-        render(&self.history, &self.lines, &self.texts, line, out)
+        render(self.history, &self.lines, &self.texts, line, out)
     }
 }

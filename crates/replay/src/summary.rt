@@ -9,7 +9,7 @@ ghost use Rattle.steer_base.specs.declared.limits.TheConstants.{MAX_PACKETS};
 
 use crate::counts::Counts;
 use crate::packets::packets_by;
-use crate::play::{play, tell_countable};
+use crate::steps::{play, tell_countable};
 use cap_gen::{Generated, generate};
 use outside_io::{Sink, WriteFault};
 use pcap_reader::read_capture;

@@ -6,5 +6,5 @@ returns-clause-part g c =
     let before = g.K.Sink.written c.args.out.now in
     let after = g.K.Sink.written c.render.new.out in
     let is = c.self.inside in
-    part_of_shown c.render.result before after is.history is.lines is.texts.items _ _
+    part_of_shown c.render.result before after is.history.now is.lines is.texts.items _ _
     c.deref.ensures.value c.self.view_is c.render.ensures.part

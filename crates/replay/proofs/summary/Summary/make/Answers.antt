@@ -14,7 +14,7 @@ returns c =
     let read_bytes = c.deref-2.ensures.value ∙ input.capture_bytes in
     let framed_bytes = c.deref-3.ensures.value ∙ input.capture_bytes in
     let counted = rw c.deref-6.ensures.value at c.flow_count.ensures in
-    let played = rw c.deref-4.ensures.value at c.in_ok-history.ensures in
+    let played = rw c.deref-4.ensures.value at c.in_ok-history.ensures.is in
     record {
       plan = plan;
       has_plan = subst (λ b. HasPlan b plan) plan_bytes c.in-Ok.ensures.plan;

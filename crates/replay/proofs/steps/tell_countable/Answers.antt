@@ -8,7 +8,7 @@ use Rattle.steer_invariant.specs.StepInvariant.{sizes_in}
 use Rattle.steer_model.specs.State.Start.{new_machine, setup_of, steps_of}
 use Rattle.steer_model.specs.Steps.CompoundSteps.{after}
 use Rattle.replay.proofs.CountsLemmas.{countable}
-use Rattle.replay.proofs.play.tell_countable.Goals as goal
+use Rattle.replay.proofs.steps.tell_countable.Goals as goal
 
 pub returns : goal.returns
 returns c =

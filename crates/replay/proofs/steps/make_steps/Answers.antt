@@ -4,7 +4,7 @@ use Rattle.steer_core.specs.Runs.{Run}
 use Rattle.steer_invariant.specs.StepInvariant.{sizes_in}
 use Rattle.steer_model.specs.State.Machine.{history_of}
 use Rattle.replay.proofs.StepsLemmas.{run_at, stepped_at}
-use Rattle.replay.proofs.play.play.Goals as goal
+use Rattle.replay.proofs.steps.make_steps.Goals as goal
 
 pub loop-preserved : goal.loop-preserved
 loop-preserved c =
@@ -29,5 +29,5 @@ returns c =
     let all : c.loop.counter ≡ step_count plan =
     omega (arith, c.loop.auto.counter-end, c.loop-test.false, c.step_count-end.ensures) in
     let last = c.loop.invariant.run ∙ ap (run_at plan packets c.args.cut) all in
-    subst (λ (r : Run). IfOk c.history.result (λ history. history ≡ history_of r.machine)) last
-    c.history.ensures
+    subst (λ (r : Run). IfOk c.into_history.result (λ history. history ≡ history_of r.machine)) last
+    c.into_history.ensures

@@ -3,7 +3,7 @@ use Rattle.plan_reader.specs.Cursors.{HasGiven}
 use Rattle.plan_reader.specs.Plans.{sizes_of}
 use Rattle.steer_invariant.specs.StepInvariant.{sizes_in}
 use Rattle.replay.proofs.StepsLemmas.{run_at}
-use Rattle.replay.proofs.play.play.Given as goal
+use Rattle.replay.proofs.steps.make_steps.Given as goal
 
 -- the steps before this one were made, and the machine has what the plan has
 abbrev pub invariant-loop : goal.invariant-loop
