@@ -4,29 +4,33 @@ use Rattle.std.proofs.Common.{subst}
 use Rattle.std.specs.Io.KnownBytes.{Keeps}
 use Rattle.history.specs.declared.history.History.{History}
 use Rattle.plan_reader.specs.PlanTexts.{settings_of}
+use Rattle.plan_reader.specs.declared.plan.Plan.{Plan}
 use Rattle.replay.specs.Meanings.{Meaning}
 use Rattle.replay.specs.Replays.{IsWithinTypes, ShownLists, replay_of, shown_text, shown_with}
 use Rattle.replay.specs.Reports.{IsReportOfPlan, IsReportOfRun}
+use Rattle.steer_base.specs.declared.packet.Packet.{Packet}
 use Rattle.steer_model.specs.Good.GoodHistory.{Good}
+use Rattle.steer_model.specs.State.Start.{replayed}
 use Rattle.steer_top.specs.Files.{Accepted, Files}
-use Rattle.steer_top.specs.Runs.{IsRunOf}
+use Rattle.steer_top.specs.Runs.{IsGoodFor, IsRunOf}
 use Rattle.steer_top.specs.Taken.{IsInputOf}
 use Rattle.steer_top.specs.Words.{PlanWords}
 use Rattle.steer_top.specs.declared.ending.Role.TheVariants as role
 use Rattle.steer_top.specs.declared.input.Input.{Input}
 use Rattle.steer_top.proofs.Commands.{files_of}
 
+-- what is shown of the history of a replay is the replay
+pub replay_is : (plan : Plan) (packets : List Packet) (cut : Option ℕ) (taps : List Meaning)
+    (history : History) (shown : ShownLists) → history ≡ replayed plan packets cut
+    → shown ≡ shown_with plan packets taps history → shown ≡ replay_of plan packets cut taps
+unfolding replay_of
+replay_is plan packets cut taps history shown played is =
+    is ∙ ap (shown_with plan packets taps) played
+
 -- what is shown of a history of a run is a run of the input
 pub run_is : {E : Type 0} (input : Input) (taps : List Meaning) (history : History)
     (result : Result ShownLists E)
-    → Good
-    (record {
-      plan = input.plan;
-      packets = input.captured.packets.items;
-      cut = input.captured.cut;
-    })
-    history
-    → IfOk result (λ shown. shown
+    → IsGoodFor input history → IfOk result (λ shown. shown
     ≡ shown_with input.plan input.captured.packets.items taps history)
     → IfOk result (IsWithinTypes input.plan) → IfOk result (IsRunOf input taps)
 run_is input taps history (Ok shown) good is fits =

@@ -6,15 +6,18 @@ use Rattle.replay.specs.Replays.{IsWithinTypes, ShownLists, shown_with}
 use Rattle.steer_model.specs.Good.GoodHistory.{Good}
 use Rattle.steer_top.specs.declared.input.Input.{Input}
 
+-- A history is good for a plan and its packets.
+abbrev pub IsGoodFor : Input → History → Type 0
+IsGoodFor input h =
+    Good (record {
+      plan = input.plan;
+      packets = input.captured.packets.items;
+      cut = input.captured.cut;
+    }) h
+
 -- What is shown is a history that is good for a plan and its packets, with taps that mean this.
 pub record IsRunOf (input : Input) (taps : List Meaning) (shown : ShownLists) : Type 0 where
   pub history : History
-  pub good : Good
-      (record {
-        plan = input.plan;
-        packets = input.captured.packets.items;
-        cut = input.captured.cut;
-      })
-      history
+  pub good : IsGoodFor input history
   pub is : shown ≡ shown_with input.plan input.captured.packets.items taps history
   pub fits : IsWithinTypes input.plan shown

@@ -12,7 +12,7 @@ use crate::ending::Ending;
 use crate::input::take_input;
 use crate::report_text::write_report;
 use outside_io::{Desk, Sink};
-use replay::Shown;
+use replay::{Shown, play};
 use std::alloc::Global;
 use steer_base::OutOfMemory;
 use taps::Tap;
@@ -40,7 +40,10 @@ pub fn replay_file<D: Desk, K: Sink>(
         Err(ending) => return ending,
     };
     let packets = input.captured.packets.as_slice();
-    match Shown::of_replay(alloc, &input.plan, packets, input.captured.cut, taps) {
+    let Ok(history) = play(alloc, &input.plan, packets, input.captured.cut) else {
+        return Ending::OutOfMemory;
+    };
+    match Shown::make(alloc, &input.plan, packets, &history, taps) {
         Ok(shown) => write_report(alloc, &shown, out),
         Err(OutOfMemory) => Ending::OutOfMemory,
     }

@@ -3,17 +3,17 @@
 ghost use Rattle.std.specs.Prelude.{◌≡◌, ◌≤◌, IfOk, length, map};
 ghost use Rattle.outside_io.specs.Desk.{GoesOnTelling};
 ghost use Rattle.steer_base.specs.declared.limits.TheConstants.{MAX_PACKETS};
-ghost use Rattle.steer_model.specs.State.Ranges.{AreOfFlows};
 ghost use Rattle.steer_top.specs.Calls.{course};
 ghost use Rattle.steer_top.specs.Commands.{plan_words_of};
 ghost use Rattle.steer_top.specs.Endings.{EndsCommand};
-ghost use Rattle.steer_top.specs.Runs.{IsRunOf};
+ghost use Rattle.steer_top.specs.Runs.{IsGoodFor, IsRunOf};
 ghost use Rattle.steer_top.specs.Words.CommandWords.{Run};
 
 use crate::command::PlanCommand;
 use crate::ending::Ending;
 use crate::input::{Input, take_input};
 use crate::report_text::write_report;
+use history::History;
 use outside_io::{Desk, Sink};
 use replay::Shown;
 use run_actors::Pace;
@@ -48,25 +48,28 @@ pub fn run_file<R: Threads + Wait + Sync, D: Desk, K: Sink, P: Pace + Sync>(
         Ok(input) => input,
         Err(ending) => return ending,
     };
-    match run_of(rt, alloc, &input, taps, pace) {
+    let packets = input.captured.packets.as_slice();
+    let cut = input.captured.cut;
+    let Ok(history) = run_threads(rt, alloc, &input.plan, packets, cut, pace) else {
+        return Ending::OutOfMemory;
+    };
+    match shown_of(alloc, &input, &history, taps) {
         Ok(shown) => write_report(alloc, &shown, out),
         Err(OutOfMemory) => Ending::OutOfMemory,
     }
 }
 
-// What is shown of a run of a plan with threads.
-fn run_of<R: Threads + Wait + Sync, P: Pace + Sync>(
-    rt: &R,
+// What is shown of the history of a run.
+fn shown_of<'a>(
     alloc: Global,
-    input: &Input,
+    input: &'a Input,
+    history: &'a History,
     taps: Vec<Box<dyn Tap>>,
-    pace: &P,
-) -> Result<Shown, OutOfMemory>
+) -> Result<Shown<'a>, OutOfMemory>
     requires few { length input.now.captured.packets.items ≤ MAX_PACKETS }
-    requires flows { AreOfFlows input.now.captured.packets.items }
+    requires good { IsGoodFor input.now history.now }
     ensures { IfOk result (IsRunOf input.now (map (λ tap lines. text tap lines) taps.items)) }
 {
     let packets = input.captured.packets.as_slice();
-    let history = run_threads(rt, alloc, &input.plan, packets, input.captured.cut, pace)?;
     Shown::make(alloc, &input.plan, packets, history, taps)
 }

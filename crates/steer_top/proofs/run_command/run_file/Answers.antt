@@ -14,13 +14,13 @@ returns-in-Err-clause-ends g c =
     (run_gave words (g.D.Desk.held c.args.desk.now)) (Keeps-refl (g.K.Sink.written c.args.out.now))
     c.in-Err.ensures.ends
 
-pub returns-in-Ok-run_of-clause-ends : goal.returns-in-Ok-run_of-clause-ends
-returns-in-Ok-run_of-clause-ends g c =
+pub returns-in-Ok-shown_of-clause-ends : goal.returns-in-Ok-shown_of-clause-ends
+returns-in-Ok-shown_of-clause-ends g c =
     let words = plan_words_of c.args.command.now in
     let held = g.D.Desk.held c.args.desk.now in
     let input = c.in-Ok.input in
     let taken = c.in-Ok.ensures.taken in
-    let shown = c.in-Ok-run_of.shown in
+    let shown = c.in-Ok-shown_of.shown in
     ends_written (Run words) _ (files words held input taken) (shown_text shown)
     c.write_report.result
     (run_gave words held taken.plan.bytes taken.packets.bytes taken.plan.whole
@@ -28,12 +28,24 @@ returns-in-Ok-run_of-clause-ends g c =
     (accepted words held input taken) (
       taken.packets.capture,
       taken.packets.has,
-      report_of_run words held input taken _ shown c.in-Ok-run_of.ensures,
+      report_of_run words held input taken _ shown c.in-Ok-shown_of.ensures,
     )
     c.write_report.ensures.ends
 
 pub returns-clause-ends : goal.returns-clause-ends
 returns-clause-ends g c =
+    let words = plan_words_of c.args.command.now in
+    let held = g.D.Desk.held c.args.desk.now in
+    let input = c.in-Ok.input in
+    let taken = c.in-Ok.ensures.taken in (
+      files words held input taken,
+      run_gave words held taken.plan.bytes taken.packets.bytes taken.plan.whole
+          taken.packets.whole,
+      Keeps-refl (g.K.Sink.written c.args.out.now),
+    )
+
+pub returns-in_default-clause-ends : goal.returns-in_default-clause-ends
+returns-in_default-clause-ends g c =
     let words = plan_words_of c.args.command.now in
     let held = g.D.Desk.held c.args.desk.now in
     let input = c.in-Ok.input in
