@@ -8,12 +8,6 @@ import subprocess
 import sys
 
 COLUMNS, FILE_LINES, ANSWER_LINES, FUNCTION_LINES = 100, 800, 150, 40
-# Lines of proofs that are too long and wait for the next change of their crate, which is proved again then
-# with all that stand on it.
-LATER = {
-    "crates/steer_core/proofs/SameReplies.antt:3",
-    "crates/steer_core/proofs/actors/Actors/all_busy/Answers.antt:11",
-}
 FUNCTION = re.compile(r"(\s*)(?:pub )?(?:const )?(?:unsafe )?fn (\w+)")
 
 
@@ -51,7 +45,7 @@ def faults(path):
     if len(lines) - 1 > most:
         yield f"{path}: {len(lines) - 1} lines"
     for number, line in enumerate(lines, 1):
-        if len(line) > COLUMNS and f"{path}:{number}" not in LATER:
+        if len(line) > COLUMNS:
             yield f"{path}:{number}: {len(line)} columns"
     if path.endswith(".rt") and not path.split("/")[1].endswith("_tests"):
         yield from long_functions(path, lines)
