@@ -1,4 +1,5 @@
 pub mod Clerks
 pub mod Closing
+mod Crosses
 pub mod Fresh
 pub mod Resting

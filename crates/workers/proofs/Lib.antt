@@ -1,2 +1,3 @@
 mod BackLemmas
 mod CrewLemmas
+mod Crosses

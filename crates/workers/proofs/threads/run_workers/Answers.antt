@@ -1,3 +1,4 @@
+use denote.Param.Send.{sendable}
 use Rattle.std.specs.Prelude.{slice_get}
 use Rattle.std.proofs.Common.{length, slice_index_or, subst, sym, ap, ◌∙◌}
 use Rattle.run_workers.specs.Workers.{GoesOn}
@@ -5,6 +6,7 @@ use Rattle.run_crew.specs.Sweeps.{GoOn}
 use Rattle.run_crew.specs.declared.seated.Seated.{Seated}
 use Rattle.workers.specs.Threads.{workers_stage}
 use Rattle.workers.proofs.CrewLemmas.{all-went-on, at-place, written-whole}
+use Rattle.workers.proofs.Crosses.{stage_sync}
 use Rattle.workers.proofs.threads.run_workers.Goals as goal
 
 pub for_each_mut-requires-clause-accepts : goal.for_each_mut-requires-clause-accepts
@@ -28,3 +30,6 @@ returns g c =
     (sym (written-whole c.args.crew.len c.for_each_mut.new.s c.args.crew.items
     c.args.crew.ok.0 (count ∙ ap length c.as_mut_slice.ensures.value)))
     (subst (λ xs. GoOn t xs c.for_each_mut.new.s) c.as_mut_slice.ensures.value went)
+
+pub for_each_mut-requires-sync-F : goal.for_each_mut-requires-sync-F
+for_each_mut-requires-sync-F g c κs within = search (sendable, stage_sync) depth 60

@@ -1,0 +1,12 @@
+-- What the threads share may be lent to each of them.
+use denote.Param.Send.{IsSync, sendable}
+use Rattle.std.proofs.Crossing.{crosses}
+use Rattle.hint_words.proofs.hints.Hints.TheSendSync as hints
+use Rattle.steer_model.specs.contracts.setup.Given.{the_row as given_row}
+use Rattle.run_hands.specs.contracts.shared.Shared.{the_row as shared_row}
+
+given_sync : IsSync given_row
+given_sync = search (sendable, crosses) depth 60
+
+pub shared_sync : IsSync shared_row
+shared_sync = search (sendable, crosses, hints.the_sync, given_sync) depth 60
