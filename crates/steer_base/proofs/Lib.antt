@@ -1,5 +1,6 @@
 pub mod CountersLemmas
 pub mod EntriesLemmas
+pub mod FirstLemmas
 pub mod ListLemmas
 pub mod MasksLemmas
 pub mod RuleLemmas

@@ -118,11 +118,3 @@ those_below-fewer n (suc more) test fails =
     ap (λ k. those_below k test) e ∙ those_below_fail (n + more) test
     (fails (n + more) (omega arith))
     ∙ those_below-fewer n more test fails
-
--- the steps of a loop that counts or looks for those that pass
-pub ruleset members = (
-  those_below-zero,
-  length-those_below_pass,
-  those_below_fail,
-  slice_index-those_below,
-)

@@ -1,6 +1,6 @@
 //! A set of processors.
 ghost use Rattle.std.specs.Prelude.{ℕ, ◌≡◌, ◌<◌, ◌≤◌, ◌==◌, ◌&&◌, ◌||◌, not, nat_lt, IsTrue};
-ghost use Rattle.std.specs.Prelude.{length, slice_index};
+ghost use Rattle.std.specs.Prelude.{◌∷◌, length, slice_index};
 ghost use Rattle.std.specs.List.{list_any};
 
 use crate::ids::Cpu;
@@ -56,23 +56,27 @@ impl CpuMask {
         self.0.count_ones()
     }
 
+    /// The least processor of the set.
+    pub fn lowest(self) -> Cpu
+        requires { 0 < length (members self) }
+        ensures within { result < 32 }
+        ensures member { IsTrue (has self result) }
+        ensures first { members self ≡ result ∷ members (without_cpu self result) }
+    {
+        Cpu(self.0.trailing_zeros() as u8)
+    }
+
     /// The processor that `index` others of the set are below.
-    #[tactic(auto, using(crate::proofs::SetsLemmas::members))]
     pub fn nth(self, index: u32) -> Cpu
         requires { index < length (members self) }
         ensures value { result ≡ slice_index (members self) index }
         ensures member { IsTrue (has self result) }
     {
-        let mut left = index;
-        for cpu in 0..32 {
-            if self.has(cpu) {
-                if left == 0 {
-                    return Cpu(cpu);
-                }
-                left -= 1;
-            }
+        let mut rest = self;
+        for _ in 0..index {
+            rest = rest.without(rest.lowest());
         }
-        unreachable!()
+        rest.lowest()
     }
 
     /// The set with one processor more. A number of 32 or more is left out.

@@ -1,10 +1,13 @@
 -- A transmit queue is put into the sets of some places, one after the other.
-use Rattle.std.proofs.Common.{ℕ, ◌≡◌, ◌<◌, Bool, true, false, not, List, length, inl, inr}
-use Rattle.std.proofs.Common.{refl, sym, ap, ◌∙◌, subst}
-use Rattle.std.specs.Prelude.{◌==◌, ◌&&◌, if◌then◌else◌}
-use Rattle.std.proofs.lemmas.Bool.{and_parts, cases_eq, eq-eqb, ne_eqb}
-use Rattle.steer_base.specs.Sets.{has}
+use Rattle.std.proofs.Common.{ℕ, ◌≡◌, ◌<◌, ◌^◌, Bool, true, false, not, List, [], ◌∷◌, length}
+use Rattle.std.proofs.Common.{inl, inr, refl, sym, ap, ◌∙◌, subst}
+use Rattle.std.specs.Prelude.{◌==◌, ◌&&◌, if◌then◌else◌, count_ones}
+use Rattle.std.proofs.lemmas.Bool.{and_parts, cases_eq, eq-eqb, ne_eqb, false≢true}
+use Rattle.std.proofs.lemmas.Nat.{zero_from_ones}
+use Rattle.steer_base.proofs.MasksLemmas.{and_true, count_ones-members}
+use Rattle.steer_base.specs.Sets.{has, is_empty, members}
 use Rattle.steer_base.specs.declared.cpu_mask.CpuMask.{CpuMask}
+use Rattle.xps_map.proofs.MapsLemmas.{has-none}
 use Rattle.xps_map.specs.Inverses.{Puts, serving}
 
 -- at the place itself, and at another
@@ -54,3 +57,28 @@ pub rest-more : (places rest next : CpuMask) (place : ℕ)
     → (p : ℕ) → has next p ≡ true → has places p ≡ true
 rest-more places rest next place among next_is p on =
     among p (and_parts (has rest p) (not (place == p)) (sym (next_is p) ∙ on)).0
+
+-- an empty set has no place
+length-empty : (xs : List ℕ) → is_empty xs ≡ true → length xs ≡ 0
+length-empty [] none = refl
+length-empty (x ∷ xs) none = absurd (false≢true none)
+
+has-empty : (set : CpuMask) → set.0 < 2 ^ 32 → is_empty (members set) ≡ true → (p : ℕ)
+    → has set p ≡ false
+has-empty set fits none p =
+    let count : count_ones set.0 ≡ 0 =
+    count_ones-members set fits ∙ length-empty (members set) none in
+    ap (λ n. has (record { 0 = n }) p) (zero_from_ones set.0 count) ∙ has-none p
+
+-- where none is left, all are done
+pub Puts-all : (tx : ℕ) (places rest : CpuMask) (stands : Bool) (old new : List CpuMask)
+    → rest.0 < 2 ^ 32
+    → is_empty (members rest) ≡ true
+    → Puts tx (λ p. has places p && not (has rest p)) stands old new
+    → Puts tx (λ p. has places p) stands old new
+Puts-all tx places rest stands old new fits none done = record {
+  len = done.len;
+  sets = λ other p within.
+      done.sets other p within
+      ∙ rw (has-empty rest fits none p, and_true (has places p)) refl;
+}

@@ -1,5 +1,4 @@
 pub mod CandidatesLemmas
-mod FirstLemmas
 mod InverseLemmas
 mod MapsLemmas
 mod ServingLemmas

@@ -21,7 +21,7 @@ and_false false = refl
 
 -- ---- what is in no set
 
-has-none : (i : ℕ) → has no_cpus i ≡ false
+pub has-none : (i : ℕ) → has no_cpus i ≡ false
 has-none i = rw (bit_at-zero i) (and_false (nat_lt i 32))
 
 has_queue-none : (i : ℕ) → has_queue 0 i ≡ false

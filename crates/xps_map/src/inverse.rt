@@ -1,7 +1,7 @@
 //! For each place, a receive queue or a processor, the set of the transmit queues that serve it.
-ghost use Rattle.std.specs.Prelude.{ℕ, ◌≡◌, ◌<◌, ◌∷◌, ◌==◌, List, length, replicate};
-ghost use Rattle.std.specs.Prelude.{slice_index, slice_index_or, slice_set, if◌then◌else◌, true};
-ghost use Rattle.steer_base.specs.Sets.{has, members, without_cpu};
+ghost use Rattle.std.specs.Prelude.{ℕ, ◌≡◌, ◌<◌, ◌==◌, List, length, replicate};
+ghost use Rattle.std.specs.Prelude.{slice_index, slice_index_or, slice_set, if◌then◌else◌};
+ghost use Rattle.steer_base.specs.Sets.{has};
 ghost use Rattle.steer_base.specs.declared.cpu_mask.CpuMask.{CpuMask};
 ghost use Rattle.xps_map.specs.Inverses.{Inverts, Puts};
 ghost use Rattle.xps_map.specs.Maps.{no_cpus};
@@ -75,8 +75,8 @@ fn put(sets: &mut [CpuMask], tx: TxQueue, places: CpuMask, stands: bool)
     ensures { Puts tx (λ place. has places place) stands sets.old sets.new }
 {
     let mut rest = places;
-    while rest.0 != 0 {
-        let place = lowest(rest);
+    while !rest.is_empty() {
+        let place = rest.lowest();
         put_at(sets, tx, place, stands);
         rest = rest.without(place);
     }
@@ -103,26 +103,4 @@ fn renewed(set: CpuMask, tx: TxQueue, stands: bool) -> CpuMask
     } else {
         set.without(Cpu(tx.0))
     }
-}
-
-/// The member that `index` others of the set are below.
-pub(crate) fn nth(set: CpuMask, index: u32) -> Cpu
-    requires { index < length (members set) }
-    ensures { result ≡ slice_index (members set) index }
-{
-    let mut rest = set;
-    for _ in 0..index {
-        rest = rest.without(lowest(rest));
-    }
-    lowest(rest)
-}
-
-// The least member.
-fn lowest(set: CpuMask) -> Cpu
-    requires { 0 < set.0 }
-    ensures within { result < 32 }
-    ensures member { has set result ≡ true }
-    ensures first { members set ≡ result ∷ members (without_cpu set result) }
-{
-    Cpu(set.0.trailing_zeros() as u8)
 }

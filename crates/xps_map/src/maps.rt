@@ -4,7 +4,7 @@ ghost use Rattle.steer_base.specs.Sends.{candidates};
 ghost use Rattle.steer_base.specs.Sets.{has_queue, members, those_below};
 ghost use Rattle.xps_map.specs.Maps.{empty_maps, picked, serves_cpu, serves_queue};
 
-use crate::inverse::{Inverse, nth, set_at};
+use crate::inverse::{Inverse, set_at};
 use std::marker::Model;
 use steer_base::{Cpu, CpuMask, RxQueue, TxQueue};
 
@@ -112,7 +112,7 @@ impl XpsMaps {
     {
         let hash = hash.unwrap_or(0);
         match self.serving(rxq, cpu) {
-            Some(set) => TxQueue(nth(set, hash % set.len()).0),
+            Some(set) => TxQueue(set.nth(hash % set.len()).0),
             None => TxQueue((hash % u32::from(self.count)) as u8),
         }
     }

@@ -1,6 +1,6 @@
-use Rattle.std.proofs.Common.{◌≡◌, ◌+◌, length}
-use Rattle.steer_base.specs.Sets.{has, those_below}
+use Rattle.std.proofs.Common.{◌≡◌, drop}
+use Rattle.steer_base.specs.Sets.{members}
 use Rattle.steer_base.proofs.cpu_mask.CpuMask.nth.Given as goal
 
-abbrev pub invariant-loop-cpu : goal.invariant-loop-cpu
-invariant-loop-cpu l = length (those_below l.cpu (has l.self)) + l.left ≡ l.index
+abbrev pub invariant-loop : goal.invariant-loop
+invariant-loop l = members l.rest ≡ drop l.counter (members l.fn.self)
