@@ -10,7 +10,8 @@ fn bit_c_is_processor_c(rt: HostRuntime) {
     let mask = CpuMask(0x8000_0002);
     assert!(rt; mask.has(1) && mask.has(31));
     assert!(rt; !mask.has(0) && !mask.has(30) && !mask.has(32) && !mask.has(255));
-    assert_eq!(rt; mask.len(), 2);
+    assert!(rt; mask.len() == 2);
+    assert!(rt; mask.lowest() == Cpu(1) && mask.nth(1) == Cpu(31));
     assert!(rt; !mask.is_empty() && CpuMask(0).is_empty());
 }
 
