@@ -1,9 +1,8 @@
 //! The offers to a lane, with the window of the last ones where the flow limit applies.
-ghost use Rattle.std.specs.Prelude.{◌≡◌, ◌<◌, ◌≤◌, [], ◌∷◌, ◌++◌, length, IfOk};
+ghost use Rattle.std.specs.Prelude.{◌≡◌, ◌<◌, [], ◌∷◌, ◌++◌, length, IfOk};
 ghost use Rattle.std.specs.Option.{ForSome};
 ghost use Rattle.steer_base.specs.declared.limits.TheConstants.{FLOW_LIMIT_BUCKETS};
 ghost use Rattle.backlog.specs.Offered.{offered, noted_count};
-ghost use Rattle.backlog.specs.declared.limits.TheConstants.{MAX_LANE_ROOM};
 
 use crate::window::Window;
 use std::alloc::Global;
@@ -35,7 +34,6 @@ impl LaneOffers {
     /// No offers yet, with memory for `room` of them, and for the window if the flow limit applies.
     /// Later calls allocate nothing.
     pub fn make(alloc: Global, room: u32, limited: bool) -> Result<LaneOffers, OutOfMemory>
-        requires { room ≤ MAX_LANE_ROOM }
         ensures { IfOk result (λ offers. offers ≡ offered [] room limited) }
     {
         let buckets = Journal::make(alloc, room)?;
