@@ -1,10 +1,9 @@
 //! The offers to a lane, each by its bucket, with the window of the last ones.
-ghost use Rattle.std.specs.Prelude.{ℕ, ◌≡◌, ◌<◌, ◌≤◌, List, [], length, IfOk, Option};
+ghost use Rattle.std.specs.Prelude.{ℕ, ◌≡◌, ◌<◌, List, [], length, IfOk, Option};
 ghost use Rattle.std.specs.Option.{ForSome, option_map};
 ghost use Rattle.steer_base.specs.Drops.{bucket_count};
 ghost use Rattle.steer_base.specs.Journals.{grown, journal};
 ghost use Rattle.steer_base.specs.declared.limits.TheConstants.{FLOW_LIMIT_BUCKETS};
-ghost use Rattle.backlog.specs.declared.limits.TheConstants.{MAX_LANE_ROOM};
 
 use crate::lane_offers::LaneOffers;
 use std::alloc::Global;
@@ -32,7 +31,6 @@ impl Model for Offers {
 impl Offers {
     /// An empty list with memory for `room` offers. Later calls allocate nothing.
     pub fn make(alloc: Global, room: u32) -> Result<Offers, OutOfMemory>
-        requires { room ≤ MAX_LANE_ROOM }
         ensures { IfOk result (λ offers. offers ≡ journal [] room) }
     {
         let offers = LaneOffers::make(alloc, room, true)?;
