@@ -2,6 +2,7 @@
 #![tactic(auto)]
 
 mod filter;
+mod marks;
 mod table;
 
 pub use filter::{filter_written, may_expire};

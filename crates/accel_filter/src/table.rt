@@ -1,13 +1,16 @@
 //! The table of filters.
-ghost use Rattle.std.specs.Prelude.{◌≡◌, ◌<◌, ◌≤◌, IfOk, IfSome, None, length};
+ghost use Rattle.std.specs.Prelude.{◌≡◌, ◌<◌, ◌≤◌, IfNone, IfOk, IfSome, None, length};
 ghost use Rattle.std.specs.Prelude.{slice_index_or, slice_set};
 ghost use Rattle.std.specs.Bool.{OnTrue, OnFalse};
+ghost use Rattle.std.specs.Slice.Scan.{HoldsNowhere};
 ghost use Rattle.steer_base.specs.HashTables.{place_in_rows};
 ghost use Rattle.steer_base.specs.declared.limits.TheConstants.{MAX_FLOW_COUNT};
-ghost use Rattle.accel_filter.specs.Table.{filter_of, is_over, steered, unset};
+ghost use Rattle.accel_filter.specs.Next.{IsNext};
+ghost use Rattle.accel_filter.specs.Table.{filter_of, has_filter, is_over, steered, unset};
 ghost use Rattle.accel_filter.specs.declared.table.TheConstants.{MAX_FILTERS};
 
 use crate::filter::may_expire;
+use crate::marks::Marks;
 use std::alloc::Global;
 use std::marker::Model;
 use steer_base::{Filter, OutOfMemory, place_of_hash};
@@ -22,11 +25,15 @@ pub const MAX_FILTERS: u32 = 4_096;
 pub struct FilterTable {
     // Without spare capacity.
     filters: Vec<Option<Filter>>,
+    // The numbers of the set filters.
+    set: Marks,
 }
 
 impl Model for FilterTable {
-    ghost use Rattle.std.specs.Prelude.{◌≡◌, ◌≤◌, List, Option, vec_len, vec_capacity};
+    ghost use Rattle.std.specs.Prelude.{ℕ, ◌≡◌, ◌≤◌, List, Option, vec_len, vec_capacity};
     ghost use Rattle.steer_base.specs.declared.filter.Filter.{Filter};
+    ghost use Rattle.accel_filter.specs.Marks.{marked};
+    ghost use Rattle.accel_filter.specs.Table.{has_filter};
     ghost use Rattle.accel_filter.specs.declared.table.TheConstants.{MAX_FILTERS};
 
     ghost Value = { List (Option Filter) };
@@ -34,7 +41,8 @@ impl Model for FilterTable {
     ghost view = { λ t. t.filters.items };
 
     ghost invariant = { λ t. (vec_len t.filters ≤ MAX_FILTERS)
-        × (vec_capacity t.filters ≡ vec_len t.filters) };
+        × (vec_capacity t.filters ≡ vec_len t.filters)
+        × ((i : ℕ) → marked t.set i ≡ has_filter t.filters.items i) };
 }
 
 impl FilterTable {
@@ -48,7 +56,10 @@ impl FilterTable {
         for _ in 0..count {
             filters.push_reserved(None);
         }
-        Ok(FilterTable { filters })
+        Ok(FilterTable {
+            filters,
+            set: Marks::none(),
+        })
     }
 
     /// The number of filters, set or not.
@@ -64,6 +75,7 @@ impl FilterTable {
     {
         if let Some(place) = self.place(hash) {
             self.filters[place] = Some(f);
+            self.set.mark(place as u32);
         }
     }
 
@@ -90,8 +102,20 @@ impl FilterTable {
         let over = may_expire(filter, head, entries);
         if over {
             self.filters[i as usize] = None;
+            self.set.unmark(i);
         }
         over
+    }
+
+    /// The number of the first set filter from `from` on, if there is one. Takes at most one step
+    /// for every 64 numbers up to `MAX_FILTERS`.
+    pub fn next_set(&self, from: u32) -> Option<u32>
+        ensures some { IfSome result
+            (λ i. (i < length self.now) × IsNext (has_filter self.now) from i) }
+        ensures few { IfSome result (λ i. i < MAX_FILTERS) }
+        ensures none { IfNone result (HoldsNowhere (has_filter self.now) from (length self.now)) }
+    {
+        self.set.next(from)
     }
 
     // The index of a hash, if there are filters.

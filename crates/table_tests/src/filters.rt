@@ -39,28 +39,31 @@ const HASH: u32 = 0x51cc_c178;
 
 #[test]
 fn a_filter_goes_when_its_packets_have_gone(rt: HostRuntime) -> Result<(), Fail> {
-    // Two packets of one flow are accepted at processor 1, home of queue 1; the hash is 0
-    // modulo 8.
+    // Two packets of one flow are accepted at processor 1, home of queue 1; the hash is 120
+    // modulo 128.
     let filter = |mark| Filter {
         queue: RxQueue(1),
         cpu: Cpu(1),
         mark,
     };
-    let mut table = FilterTable::make(rt.alloc(), 8)?;
-    same(&rt, &table.count(), &8, 0);
+    let mut table = FilterTable::make(rt.alloc(), 128)?;
+    same(&rt, &table.count(), &128, 0);
     same(&rt, &table.look(HASH), &None, 1);
     table.steer(HASH, filter(1));
     table.steer(HASH, filter(2));
-    same(&rt, &table.look(HASH + 8), &Some(filter(2)), 2);
+    same(&rt, &table.look(HASH + 128), &Some(filter(2)), 2);
     same(&rt, &table.look(HASH + 1), &None, 3);
+    assert!(rt; table.next_set(0) == Some(120));
+    assert!(rt; table.next_set(121).is_none());
     // Nothing was pulled, so no filter goes.
-    assert!(rt; !table.expire(0, 0, 1));
-    assert!(rt; !table.expire(1, 0, 1));
+    assert!(rt; !table.expire(120, 0, 1));
+    assert!(rt; !table.expire(121, 0, 1));
     // Both were pulled, so this one goes, and once.
-    assert!(rt; table.expire(0, 2, 1));
-    assert!(rt; !table.expire(1, 2, 1));
-    assert!(rt; !table.expire(0, 2, 1));
+    assert!(rt; table.expire(120, 2, 1));
+    assert!(rt; !table.expire(121, 2, 1));
+    assert!(rt; !table.expire(120, 2, 1));
     same(&rt, &table.look(HASH), &None, 4);
+    assert!(rt; table.next_set(0).is_none());
     Ok(())
 }
 
