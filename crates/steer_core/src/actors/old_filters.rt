@@ -14,10 +14,12 @@ pub fn count_old(filters: &FilterTable, rx: &Hop, settings: &InForce) -> u32
     ensures { result ≡ length (filter (may_go rx.now settings.now) filters.now) }
 {
     let mut count = 0;
-    for i in 0..filters.count() {
+    let mut from = 0;
+    while let Some(i) = filters.next_set(from) {
         if is_old(filter_at(filters, i), rx, settings) {
             count += 1;
         }
+        from = i + 1;
     }
     count
 }
@@ -27,8 +29,10 @@ pub fn clear_old(filters: &mut FilterTable, rx: &Hop, settings: &InForce)
     requires { All (FilterIsSeated rx.now settings.now) filters.old }
     ensures { filters.new ≡ map (kept_of rx.now settings.now) filters.old }
 {
-    for i in 0..filters.count() {
+    let mut from = 0;
+    while let Some(i) = filters.next_set(from) {
         clear_if_old(filters, i, rx, settings);
+        from = i + 1;
     }
 }
 
