@@ -102,10 +102,12 @@ fn drops_waiting_packets_and_wrapped_positions(rt: HostRuntime) -> Result<(), Fa
     Ok(())
 }
 
-// A tap that counts its lines and its drops, and finds no memory for a line of this number.
+// A tap that counts its lines and its drops, notes how many taps were dropped when it was last
+// shown a line, and finds no memory for a line of this number.
 struct Counting {
     alloc: Global,
     lines: Rc<Cell<u32>>,
+    dropped: Rc<Cell<u32>>,
     drops: Rc<Cell<u32>>,
     failing: u32,
 }
@@ -115,6 +117,7 @@ impl Drop for Counting {
         let Counting {
             alloc: _,
             lines: _,
+            dropped: _,
             drops,
             failing: _,
         } = self;
@@ -129,6 +132,7 @@ impl Tap for Counting {
 
     fn note(&mut self, _: &PacketLine) -> Result<(), OutOfMemory> {
         self.lines.set(self.lines.get().wrapping_add(1));
+        self.dropped.set(self.drops.get());
         if self.lines.get() == self.failing {
             Err(OutOfMemory)
         } else {
@@ -158,8 +162,9 @@ fn three_lines<'a>(
 }
 
 // Whether two taps are fed with three lines, of which the second tap finds no memory for the one of
-// this number, how many of the taps are dropped, and how many lines each sees.
-fn fed(alloc: Global, lines: &Lines, failing: u32) -> Result<(bool, u32, u32, u32), Fail>
+// this number, how many of the taps are dropped, how many lines each sees, and how many taps were
+// dropped when the last line was shown.
+fn fed(alloc: Global, lines: &Lines, failing: u32) -> Result<(bool, u32, u32, u32, u32), Fail>
     requires { length lines.now.packets ≡ 3 }
 {
     let detach = [
@@ -168,6 +173,7 @@ fn fed(alloc: Global, lines: &Lines, failing: u32) -> Result<(bool, u32, u32, u3
         Detach { tap: 9, after: 0 },
     ];
     let drops = Rc::new(alloc, Cell::new(0))?;
+    let dropped = Rc::new(alloc, Cell::new(0))?;
     let first = Rc::new(alloc, Cell::new(0))?;
     let second = Rc::new(alloc, Cell::new(0))?;
     let mut taps = Vec::new(alloc);
@@ -177,6 +183,7 @@ fn fed(alloc: Global, lines: &Lines, failing: u32) -> Result<(bool, u32, u32, u3
             Counting {
                 alloc,
                 lines: lines.clone()?,
+                dropped: dropped.clone()?,
                 drops: drops.clone()?,
                 failing,
             },
@@ -184,7 +191,13 @@ fn fed(alloc: Global, lines: &Lines, failing: u32) -> Result<(bool, u32, u32, u3
         taps.push(tap)?;
     }
     let answered = feed(alloc, taps, lines, 3, &detach).is_ok();
-    Ok((answered, drops.get(), first.get(), second.get()))
+    Ok((
+        answered,
+        drops.get(),
+        first.get(),
+        second.get(),
+        dropped.get(),
+    ))
 }
 
 #[test]
@@ -194,7 +207,7 @@ fn every_tap_is_dropped_once(rt: HostRuntime) -> Result<(), Fail> {
     let h = received(&rt, alloc, &[0; 3], &[], none(alloc), &[]);
     let packets = [SEGMENT; 3];
     let lines = three_lines(&rt, alloc, &h, &packets);
-    same(&rt, &fed(alloc, &lines, 9)?, &(true, 2, 1, 3), 0);
-    same(&rt, &fed(alloc, &lines, 2)?, &(false, 2, 1, 2), 1);
+    same(&rt, &fed(alloc, &lines, 9)?, &(true, 2, 1, 3, 1), 0);
+    same(&rt, &fed(alloc, &lines, 2)?, &(false, 2, 1, 2, 1), 1);
     Ok(())
 }

@@ -1,0 +1,16 @@
+use Rattle.std.proofs.Common.{◌≡◌, ◌+◌, length, map}
+use Rattle.taps.specs.Shown.{lines_left, text_of}
+use Rattle.taps.proofs.ShownLemmas.{partly}
+use Rattle.taps.proofs.feeding.note_all.Given as goal
+
+-- the taps before `i` were shown the line, those from `i` on were not
+abbrev pub invariant-loop-i : goal.invariant-loop-i
+invariant-loop-i g l = record {
+  count : length l.fed ≡ length l.fn.fed;
+  texts : partly (text_of (λ tap count. (g.dyn-1.0.entry tap.vtable).1.text tap.value
+      (lines_left count (l.id + 1) l.lines.packets)))
+      (text_of (λ tap count. (g.dyn-1.0.entry tap.vtable).1.text tap.value
+      (lines_left count l.id l.lines.packets))) l.i l.fed
+      ≡ map (text_of (λ tap count. (g.dyn-1.0.entry tap.vtable).1.text tap.value
+      (lines_left count l.id l.lines.packets))) l.fn.fed;
+}
