@@ -33,6 +33,7 @@ impl<W: Write + Drop> Sink for StdSink<W> {
     ghost faults = { λ sink. std_sink_faults sink };
 
     // `Ok(0)` counts as a failure too, since a piece is never empty.
+    #[inline(always)]
     fn write(&mut self, bytes: &[u8]) -> Took
         requires { 0 < length bytes.now }
         ensures written { Takes result bytes.now None None }

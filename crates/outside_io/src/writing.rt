@@ -11,6 +11,7 @@ use crate::{Sink, Took};
 pub struct WriteFault;
 
 /// Writes all of `bytes`, in as many writes as the sink needs. On an error a prefix was written.
+#[inline(always)]
 pub fn write_whole<K: Sink>(out: &mut K, bytes: &[u8]) -> Result<(), WriteFault>
     ensures whole { OnOk result (Appends (K.written out.old) (K.written out.new) bytes.now) }
     ensures part { OnErr result (AppendsSome (K.written out.old) (K.written out.new) bytes.now) }
