@@ -4,7 +4,7 @@ use Rattle.std.proofs.Common.{bit_xor, Bool, true, false, if◌then◌else◌, �
 use Rattle.std.proofs.Common.{add-one}
 use Rattle.std.specs.Int.{bit_at}
 use Rattle.std.specs.Int.Bits.{xor_assoc, xor_zero_r, xor_zero_l}
-use Rattle.std.proofs.Common.{◌<◌, [], ◌∷◌, ◌++◌, length, take, length-append, append_assoc, ap}
+use Rattle.std.proofs.Common.{◌<◌, [], ◌∷◌, ◌++◌, length, take, ap}
 use Rattle.std.proofs.Common.{◌∙◌}
 use Rattle.std.proofs.lemmas.List.{take_more, length-take-le}
 use Rattle.std.proofs.Math.Seq.{take-length}
@@ -96,20 +96,8 @@ hash_of-bytes key input =
     by_bytes key input (length input) (omega arith) ∙ ap (xor_of_bytes key 0) (take-length input)
 
 -- what two parts of an input add, one behind the other
-pub xor_of_parts : (key n a b : ℕ) (xs ys : List ℕ) → n ≡ length xs → a ≡ xor_of_bytes key 0 xs
-    → b ≡ xor_of_bytes key n ys → bit_xor a b ≡ xor_of_bytes key 0 (xs ++ ys)
-xor_of_parts key n a b xs ys size first second =
-    let e : 0 + length xs ≡ n = omega (arith, size) in
-    let both = xor_of_bytes-append key 0 xs ys in
-    rw (first, second) (sym (rw e at both))
-
--- what three parts of an input add, one behind another
-pub hash_of-parts : (key n m a b d : ℕ) (xs ys zs : List ℕ) → n ≡ length xs → m ≡ n + length ys
-    → a ≡ xor_of_bytes key 0 xs → b ≡ xor_of_bytes key n ys → d ≡ xor_of_bytes key m zs
-    → bit_xor (bit_xor a b) d ≡ hash_of key (xs ++ (ys ++ zs))
-hash_of-parts key n m a b d xs ys zs size more first second third =
-    let two = xor_of_parts key n a b xs ys size first second in
-    let place : m ≡ length (xs ++ ys) = omega (arith, size, more, length-append xs ys) in
-    xor_of_parts key m (bit_xor a b) d (xs ++ ys) zs place two third
-    ∙ ap (xor_of_bytes key 0) (append_assoc xs ys zs)
-    ∙ sym (hash_of-bytes key (xs ++ (ys ++ zs)))
+pub xor_of_parts : (key place n a b : ℕ) (xs ys : List ℕ) → n ≡ place + length xs
+    → a ≡ xor_of_bytes key place xs → b ≡ xor_of_bytes key n ys
+    → bit_xor a b ≡ xor_of_bytes key place (xs ++ ys)
+xor_of_parts key place n a b xs ys size first second =
+    rw (first, second, size) (sym (xor_of_bytes-append key place xs ys))

@@ -1,4 +1,3 @@
 pub mod Toeplitz
 pub mod Flows
 pub mod Tables
-pub mod Parts

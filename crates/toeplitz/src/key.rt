@@ -5,7 +5,6 @@ ghost use Rattle.toeplitz.specs.Tables.{word_of};
 ghost use Rattle.toeplitz.specs.Flows.{hash_of_flow};
 
 use crate::kinds::Kinds;
-use crate::part::Part;
 use crate::words::Words;
 use std::marker::Model;
 use steer_base::Flow;
@@ -52,10 +51,7 @@ impl Key {
     pub fn hash(&self, flow: &Flow, kinds: Kinds) -> Option<u32>
         ensures { result ≡ hash_of_flow self.now flow.now kinds.0 }
     {
-        match Part::of_flow(*flow, kinds) {
-            Some(part) => Some(self.hash_part(part)),
-            None => None,
-        }
+        self.hash_flow(flow, kinds)
     }
 
     // A copy of the key.

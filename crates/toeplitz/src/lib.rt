@@ -5,7 +5,6 @@
 mod key;
 mod kinds;
 mod laws;
-mod part;
 mod tabled_key;
 mod words;
 

@@ -5,7 +5,6 @@ ghost use Rattle.toeplitz.specs.Flows.{hash_of_flow};
 
 use crate::key::Key;
 use crate::kinds::Kinds;
-use crate::part::Part;
 use crate::words::Words;
 use std::alloc::Global;
 use std::marker::Model;
@@ -52,10 +51,7 @@ impl TabledKey {
     pub fn hash(&self, flow: &Flow, kinds: Kinds) -> Option<u32>
         ensures { result ≡ hash_of_flow self.now flow.now kinds.0 }
     {
-        match Part::of_flow(*flow, kinds) {
-            Some(part) => Some(self.hash_part(part)),
-            None => None,
-        }
+        self.hash_flow(flow, kinds)
     }
 }
 
