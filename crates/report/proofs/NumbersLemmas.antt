@@ -1,9 +1,15 @@
--- Hexadecimal digits, one after another.
-use Rattle.std.proofs.Common.{◌≡◌, ◌≤◌, ℕ, zero, suc, ◌+◌, ◌-◌, ◌*◌, ◌/◌, ◌%◌, ◌^◌, List, ◌∷◌}
-use Rattle.std.proofs.Common.{◌++◌, ◌∙◌, length, arith, refl, ap, append_assoc, drop, sym, take}
-use Rattle.std.proofs.lemmas.List.{take_rest}
-use Rattle.std.proofs.lemmas.Nat.{shr-shr}
-use Rattle.report.specs.Numbers.{hex_digit, hex_digits, hex8_of}
+-- Hexadecimal digits, one after another, and by way of the halves of bytes.
+use Rattle.std.proofs.Common.{◌≡◌, ◌≤◌, ◌<◌, ℕ, zero, suc, ◌+◌, ◌-◌, ◌*◌, ◌/◌, ◌%◌, ◌^◌, List, []}
+use Rattle.std.proofs.Common.{◌∷◌, ◌++◌, ◌∙◌, length, arith, refl, ap, drop, sym, take, get_or, map}
+use Rattle.std.proofs.Common.{reverse, bit_and, w8}
+use Rattle.std.proofs.lemmas.List.{take_rest, get_or-map, ext_get_or, length-map, map-append}
+use Rattle.std.proofs.lemmas.List.{reverse-append}
+use Rattle.std.proofs.lemmas.Nat.{shr-shr, and_mask}
+use Rattle.std.proofs.lemmas.Simd.{swz_l, length-swz_l, get_or-swz_l_below, Each1-get_or}
+use lib.Lanes.{Each1, digits_l}
+use Rattle.report.specs.Numbers.{hex_digit, hex_digits}
+use Rattle.report.specs.declared.numbers.TheConstants.{DIGITS}
+use Rattle.report.proofs.PairsLemmas.{held}
 
 pub length-hex_digits : (k n : ℕ) → length (hex_digits k n) ≡ k
 unfolding hex_digits
@@ -28,35 +34,59 @@ hex_digits-last (suc k) j n =
     let one : suc k + j ≡ suc (k + j) = omega arith in
     rw one (hex_digits-last k j n)
 
--- 8 digits are those of the lowest 32 bits
-pub hex8_of-low : (n : ℕ) → hex8_of (n % 2 ^ 32) ≡ hex8_of n
+-- fewer than 32 digits are the last of 32
+pub last_digits : (left n : ℕ) → left ≤ 32
+    → take (32 - (32 - left)) (drop (32 - left) (hex_digits 32 n)) ≡ hex_digits left n
+last_digits left n h =
+    let all : 32 - left + left ≡ 32 = omega arith in
+    let last : drop (32 - left) (hex_digits 32 n) ≡ hex_digits left n =
+    rw all at (hex_digits-last (32 - left) left n) in
+    ap (λ k. take (k - (32 - left)) (drop (32 - left) (hex_digits 32 n)))
+    (sym (length-hex_digits 32 n)) ∙ take_rest (hex_digits 32 n) (32 - left) ∙ last
+
+-- the lower and the higher half of each byte
+abbrev pub byte_halves : List ℕ → List ℕ
+byte_halves [] = []
+byte_halves (b ∷ bs) = bit_and b 15 ∷ b / 2 ^ 4 ∷ byte_halves bs
+
+pub halves-digits : (k n : ℕ) → byte_halves (digits_l 256 k n) ≡ digits_l 16 (2 * k) n
+halves-digits zero n = refl
+halves-digits (suc k) n =
+    let two : 2 * suc k ≡ suc (suc (2 * k)) = omega arith in
+    let low : bit_and (n % 256) 15 ≡ n % 16 = and_mask (n % 256) 4 ∙ omega arith in
+    let high : n % 256 / 2 ^ 4 ≡ n / 16 % 16 = omega arith in
+    let up : n / 256 ≡ n / 16 / 16 = omega arith in
+    let rest = halves-digits k (n / 256) ∙ ap (digits_l 16 (2 * k)) up in
+    rw two (λ i. low i ∷ high i ∷ rest i)
+
+-- a digit in either block of the table
+digit_at : (block d : ℕ) → block < 2 → d < 16 → get_or DIGITS (16 * block + d) 0 ≡ hex_digit d
+digit_at block d low small =
+    let rest : (16 * block + d) % 16 ≡ d = omega arith in
+    held DIGITS (λ m. m) (λ m. hex_digit (m % 16)) 32 (16 * block + d) refl (omega arith)
+    ∙ ap hex_digit rest
+
+pub looked_up : (ds : List ℕ) → length ds ≡ 32 → Each1 (λ d. d < 16) ds
+    → swz_l w8 16 DIGITS 0 ds ≡ map hex_digit ds
+looked_up ds long small =
+    let same = length-swz_l w8 16 DIGITS 0 ds in
+    ext_get_or 0 _ _ (same ∙ sym (length-map ds hex_digit)) (λ i h.
+    let within : i < length ds = omega (arith, same) in
+    let below = Each1-get_or (λ d. d < 16) ds i 0 within small in
+    get_or-swz_l_below w8 16 DIGITS 0 ds i within below
+    ∙ digit_at ((0 + i) / 16) (get_or ds i 0) (omega arith) below
+    ∙ sym (get_or-map hex_digit ds i 0 0 within))
+
+-- the digits in base 16 as text
+pub spelled : (k n : ℕ) → map hex_digit (reverse (digits_l 16 k n)) ≡ hex_digits k n
 unfolding hex_digits
-hex8_of-low n =
-    let a : n % 2 ^ 32 / 2 ^ 28 % 16 ≡ n / 2 ^ 28 % 16 = omega arith in
-    let b : n % 2 ^ 32 / 2 ^ 24 % 16 ≡ n / 2 ^ 24 % 16 = omega arith in
-    let c : n % 2 ^ 32 / 2 ^ 20 % 16 ≡ n / 2 ^ 20 % 16 = omega arith in
-    let d : n % 2 ^ 32 / 2 ^ 16 % 16 ≡ n / 2 ^ 16 % 16 = omega arith in
-    let e : n % 2 ^ 32 / 2 ^ 12 % 16 ≡ n / 2 ^ 12 % 16 = omega arith in
-    let f : n % 2 ^ 32 / 2 ^ 8 % 16 ≡ n / 2 ^ 8 % 16 = omega arith in
-    let g : n % 2 ^ 32 / 2 ^ 4 % 16 ≡ n / 2 ^ 4 % 16 = omega arith in
-    let h : n % 2 ^ 32 / 2 ^ 0 % 16 ≡ n / 2 ^ 0 % 16 = omega arith in
-    rw (a, b, c, d, e, f, g, h)
-
--- 8 digits move from those left to those written
-pub hex_digits-moved : (text next : List ℕ) (left n : ℕ) → 8 ≤ left
-    → next ≡ text ++ hex8_of (n / 2 ^ (4 * (left - 8)))
-    → next ++ hex_digits (left - 8) n ≡ text ++ hex_digits left n
-hex_digits-moved text next left n h e =
-    let all : 8 + (left - 8) ≡ left = omega arith in
-    ap (λ r. r ++ hex_digits (left - 8) n) e ∙ append_assoc text _ _ ∙ ap (λ r. text ++ r)
-    (hex_digits-append 8 (left - 8) n ∙ ap (λ k. hex_digits k n) all)
-
--- fewer than 8 digits are the last of 8
-pub hex8_of-last : (left n : ℕ) → left ≤ 8
-    → take (8 - (8 - left)) (drop (8 - left) (hex8_of n)) ≡ hex_digits left n
-hex8_of-last left n h =
-    let all : 8 - left + left ≡ 8 = omega arith in
-    let last : drop (8 - left) (hex8_of n) ≡ hex_digits left n =
-    rw all at (hex_digits-last (8 - left) left n) in
-    ap (λ k. take (k - (8 - left)) (drop (8 - left) (hex8_of n))) (sym (length-hex_digits 8 n))
-    ∙ take_rest (hex8_of n) (8 - left) ∙ last
+spelled zero n = refl
+spelled (suc k) n =
+    let one : k + 1 ≡ suc k = omega arith in
+    let last : n / 2 ^ (4 * 0) % 16 ≡ n % 16 = omega arith in
+    let front = reverse (digits_l 16 k (n / 16)) in
+    ap (map hex_digit) (reverse-append (n % 16 ∷ []) (digits_l 16 k (n / 16)))
+    ∙ map-append hex_digit front (n % 16 ∷ [])
+    ∙ ap (λ r. r ++ hex_digit (n % 16) ∷ []) (spelled k (n / 16))
+    ∙ ap (λ d. hex_digits k (n / 16) ++ hex_digit d ∷ []) (sym last)
+    ∙ hex_digits-append k 1 n ∙ ap (λ j. hex_digits j n) one

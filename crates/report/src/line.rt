@@ -7,7 +7,7 @@ ghost use Rattle.outside_io.specs.Sink.{AppendsSome};
 ghost use Rattle.report.specs.Numbers.{hex_digits};
 
 use crate::decimal::place_decimal;
-use crate::numbers::last_hex8;
+use crate::numbers::hex32;
 use crate::place::place;
 use itoa::Buffer;
 use outside_io::{Sink, WriteFault, write_whole};
@@ -107,19 +107,14 @@ impl LineBuf {
 
     /// Appends the lowest `digits` hexadecimal digits of a number to the line, the most significant
     /// first.
+    #[inline(always)]
     pub fn push_hex(&mut self, number: u128, digits: u32)
         requires few { digits ≤ 32 }
         requires room { length self.old + digits ≤ 512 }
         ensures value { self.new ≡ self.old ++ hex_digits digits number }
         ensures grows { length self.new ≡ length self.old + digits }
     {
-        let mut left = digits;
-        while left >= 8 {
-            left -= 8;
-            self.push(&last_hex8(number >> (4 * left)));
-        }
-        let last = last_hex8(number);
-        self.push(&last[8 - left as usize..]);
+        self.push(&hex32(number)[32 - digits as usize..]);
     }
 
     /// Writes the line as one piece and clears it, even if the sink fails.

@@ -1,27 +1,47 @@
-//! Numbers in hexadecimal digits, two at a time.
-ghost use Rattle.std.specs.Prelude.{◌≡◌, ◌<◌, ◌/◌, ◌%◌};
-ghost use Rattle.report.specs.Numbers.{hex_digit, hex_digits, hex8_of};
+//! Numbers in hexadecimal digits, all of them at once.
+ghost use Rattle.std.specs.Prelude.{◌≡◌, reverse};
+ghost use Rattle.report.specs.Numbers.{hex_digits, hex8_of};
+ghost use lib.Lanes.{digits_l};
 
-/// The two lower case hexadecimal digits of each number below 256.
-static HEX_PAIRS: [u8; 512] = *b"\
-    000102030405060708090a0b0c0d0e0f101112131415161718191a1b1c1d1e1f\
-    202122232425262728292a2b2c2d2e2f303132333435363738393a3b3c3d3e3f\
-    404142434445464748494a4b4c4d4e4f505152535455565758595a5b5c5d5e5f\
-    606162636465666768696a6b6c6d6e6f707172737475767778797a7b7c7d7e7f\
-    808182838485868788898a8b8c8d8e8f909192939495969798999a9b9c9d9e9f\
-    a0a1a2a3a4a5a6a7a8a9aaabacadaeafb0b1b2b3b4b5b6b7b8b9babbbcbdbebf\
-    c0c1c2c3c4c5c6c7c8c9cacbcccdcecfd0d1d2d3d4d5d6d7d8d9dadbdcdddedf\
-    e0e1e2e3e4e5e6e7e8e9eaebecedeeeff0f1f2f3f4f5f6f7f8f9fafbfcfdfeff";
+use std::simd::prelude::*;
 
-/// The two lower case hexadecimal digits of a number below 256.
+/// The lower case hexadecimal digits, twice.
+const DIGITS: [u8; 32] = *b"0123456789abcdef0123456789abcdef";
+
+/// The places of the halves of bytes where the higher halves come before the lower ones.
+const HALVES: [usize; 32] = [
+    0, 16, 1, 17, 2, 18, 3, 19, 4, 20, 5, 21, 6, 22, 7, 23, 8, 24, 9, 25, 10, 26, 11, 27, 12, 28,
+    13, 29, 14, 30, 15, 31,
+];
+
+/// The bytes of a number, the most significant first.
 #[inline(always)]
-fn hex_pair(number: u32) -> (u8, u8)
-    requires { number < 256 }
-    ensures high { result.0 ≡ hex_digit (number / 16) }
-    ensures low { result.1 ≡ hex_digit (number % 16) }
+fn bytes_of(number: u128) -> u8x16
+    ensures { result ≡ reverse (digits_l 256 16 number) }
 {
-    let from = number as usize * 2;
-    (HEX_PAIRS[from], HEX_PAIRS[from + 1])
+    let words = u64x2::from_array([(number % (1 << 64)) as u64, (number >> 64) as u64]);
+    words.to_le_bytes().reverse()
+}
+
+/// The digits of a number in base 16, the most significant first.
+#[inline(always)]
+fn halves_of(number: u128) -> u8x32
+    ensures { result ≡ reverse (digits_l 16 32 number) }
+{
+    let bytes = bytes_of(number);
+    let (high, low) = (bytes >> u8x16::splat(4), bytes & u8x16::splat(15));
+    high.shuffle(low, HALVES)
+}
+
+/// The 32 lower case hexadecimal digits of a number.
+#[inline(always)]
+pub(crate) fn hex32(number: u128) -> [u8; 32]
+    ensures { result ≡ hex_digits 32 number }
+{
+    let halves = halves_of(number);
+    u8x32::from_array(DIGITS)
+        .swizzle_dyn_within::<16>(halves)
+        .to_array()
 }
 
 /// The 8 lower case hexadecimal digits of a number.
@@ -29,17 +49,5 @@ fn hex_pair(number: u32) -> (u8, u8)
 pub fn hex8(number: u32) -> [u8; 8]
     ensures { result ≡ hex8_of number }
 {
-    let (a, b) = hex_pair(number >> 24);
-    let (c, d) = hex_pair((number >> 16) % 256);
-    let (e, f) = hex_pair((number >> 8) % 256);
-    let (g, h) = hex_pair(number % 256);
-    [a, b, c, d, e, f, g, h]
-}
-
-/// The last 8 lower case hexadecimal digits of a number.
-#[inline(always)]
-pub(crate) fn last_hex8(number: u128) -> [u8; 8]
-    ensures { result ≡ hex8_of number }
-{
-    hex8((number % (1 << 32)) as u32)
+    u8x8::from_slice(&hex32(u128::from(number))[24..]).to_array()
 }

@@ -11,8 +11,10 @@ pub(crate) fn place(room: &mut [u8], at: usize, text: &[u8])
     ensures { take (at + length text.now) room.new ≡ take at room.old ++ text.now }
 {
     let size = text.len();
-    if size > 16 {
+    if size > 32 {
         room[at..at + size].copy_from_slice(text);
+    } else if size >= 16 {
+        place_ends::<16>(room, at, text);
     } else if size >= 8 {
         place_ends::<8>(room, at, text);
     } else if size >= 4 {
