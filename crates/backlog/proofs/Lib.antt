@@ -1,3 +1,4 @@
+pub mod Crosses
 pub mod ExplainedLemmas
 pub mod OffersLemmas
 pub mod WindowLemmas

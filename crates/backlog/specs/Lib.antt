@@ -5,3 +5,4 @@ pub mod Offers
 pub mod Puts
 pub mod Queues
 pub mod Rising
+pub mod Trails

@@ -4,16 +4,19 @@ ghost use Rattle.std.specs.Option.{ForSome};
 ghost use Rattle.steer_base.specs.declared.limits.TheConstants.{FLOW_LIMIT_BUCKETS};
 ghost use Rattle.backlog.specs.Offered.{offered, noted_count};
 
+use crate::buckets::Buckets;
 use crate::window::Window;
 use std::alloc::Global;
 use std::marker::Model;
-use steer_base::{Journal, OutOfMemory};
+use steer_base::OutOfMemory;
 
 /// The bucket of each offer to a lane in order, with the window of the last ones where the flow
-/// limit applies: nothing else asks how often a bucket is among them.
+/// limit applies: nothing else asks how often a bucket is among them. The window alone takes
+/// memory.
 #[derive(Drop)]
 pub struct LaneOffers {
-    buckets: Journal<Option<u16>>,
+    buckets: Buckets,
+    room: u32,
     window: Option<Window>,
 }
 
@@ -25,24 +28,27 @@ impl Model for LaneOffers {
 
     ghost Value = { OfferedBuckets };
 
-    ghost view = { λ o. offered o.buckets.items o.buckets.room (is_some o.window) };
+    ghost view = { λ o. offered o.buckets o.room (is_some o.window) };
 
-    ghost invariant = { λ o. IfSome o.window (λ w. w ≡ window_of o.buckets.items) };
+    ghost invariant = { λ o. IfSome o.window (λ w. w ≡ window_of o.buckets) };
 }
 
 impl LaneOffers {
-    /// No offers yet, with memory for `room` of them, and for the window if the flow limit applies.
-    /// Later calls allocate nothing.
+    /// No offers yet, with room for `room` of them, and with memory for the window if the flow limit
+    /// applies. Later calls allocate nothing.
     pub fn make(alloc: Global, room: u32, limited: bool) -> Result<LaneOffers, OutOfMemory>
         ensures { IfOk result (λ offers. offers ≡ offered [] room limited) }
     {
-        let buckets = Journal::make(alloc, room)?;
         let window = if limited {
             Some(Window::make(alloc)?)
         } else {
             None
         };
-        Ok(LaneOffers { buckets, window })
+        Ok(LaneOffers {
+            buckets: Buckets::new(),
+            room,
+            window,
+        })
     }
 
     /// Whether the flow limit applies.

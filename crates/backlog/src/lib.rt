@@ -2,6 +2,7 @@
 #![tactic(auto)]
 
 mod bucket;
+mod buckets;
 mod lane;
 mod lane_offers;
 mod laws;

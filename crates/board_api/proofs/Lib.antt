@@ -1,4 +1,5 @@
 pub mod AddedSteps
+pub mod Crosses
 pub mod Endings
 pub mod Entries
 pub mod Left

@@ -1,5 +1,6 @@
 pub mod Acts
 pub mod Apart
+pub mod Crosses
 pub mod Ended
 pub mod Held
 pub mod Keeps

@@ -1,6 +1,7 @@
 pub mod Boards
 pub mod Cases
 pub mod Closings
+pub mod Crosses
 pub mod Deliveries
 pub mod Drops
 pub mod EarlyFirst
