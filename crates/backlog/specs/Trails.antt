@@ -3,6 +3,6 @@ use Rattle.std.specs.Prelude.{ℕ, List, [], ◌∷◌, ◌++◌, Option}
 use Rattle.backlog.specs.declared.buckets.Trail.{Trail, Start, Offer'}
 
 -- the bucket of each offer, the oldest first
-abbrev pub buckets_of : Trail → List (Option ℕ)
-buckets_of Start = []
-buckets_of (Offer' _ so_far bucket) = buckets_of so_far ++ bucket ∷ []
+abbrev pub trail_buckets : Trail → List (Option ℕ)
+trail_buckets Start = []
+trail_buckets (Offer' _ so_far bucket) = trail_buckets so_far ++ bucket ∷ []

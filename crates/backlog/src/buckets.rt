@@ -25,13 +25,13 @@ pub enum Trail {
 
 impl Model for Buckets {
     ghost use Rattle.std.specs.Prelude.{ℕ, ◌≡◌, List, Option, length};
-    ghost use Rattle.backlog.specs.Trails.{buckets_of};
+    ghost use Rattle.backlog.specs.Trails.{trail_buckets};
 
     ghost Value = { List (Option ℕ) };
 
-    ghost view = { λ b. buckets_of b.all.value };
+    ghost view = { λ b. trail_buckets b.all.value };
 
-    ghost invariant = { λ b. length (buckets_of b.all.value) ≡ b.count };
+    ghost invariant = { λ b. length (trail_buckets b.all.value) ≡ b.count };
 }
 
 impl Buckets {

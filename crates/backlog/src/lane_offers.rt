@@ -34,8 +34,8 @@ impl Model for LaneOffers {
 }
 
 impl LaneOffers {
-    /// No offers yet, with room for `room` of them, and with memory for the window if the flow limit
-    /// applies. Later calls allocate nothing.
+    /// No offers yet, with room for `room` of them, and with memory for the window if the flow
+    /// limit applies. Later calls allocate nothing.
     pub fn make(alloc: Global, room: u32, limited: bool) -> Result<LaneOffers, OutOfMemory>
         ensures { IfOk result (λ offers. offers ≡ offered [] room limited) }
     {
