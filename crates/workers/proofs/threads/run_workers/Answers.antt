@@ -6,7 +6,7 @@ use Rattle.run_crew.specs.Sweeps.{GoOn}
 use Rattle.run_crew.specs.declared.seated.Seated.{Seated}
 use Rattle.workers.specs.Threads.{workers_stage}
 use Rattle.workers.proofs.CrewLemmas.{all-went-on, at-place, written-whole}
-use Rattle.workers.proofs.Crosses.{stage_sync}
+use Rattle.workers.proofs.Crosses.{seated_send, stage_sync}
 use Rattle.workers.proofs.threads.run_workers.Goals as goal
 
 pub for_each_mut-requires-clause-accepts : goal.for_each_mut-requires-clause-accepts
@@ -33,3 +33,6 @@ returns g c =
 
 pub for_each_mut-requires-sync-F : goal.for_each_mut-requires-sync-F
 for_each_mut-requires-sync-F g c κs within = search (sendable, stage_sync) depth 60
+
+pub for_each_mut-requires-send-T : goal.for_each_mut-requires-send-T
+for_each_mut-requires-send-T g c κs within = search (sendable, seated_send) depth 60
