@@ -23,24 +23,11 @@ pub(crate) fn read_retrying<R: Read>(reader: &mut R, buf: &mut [u8]) -> Result<u
 }
 
 /// Writes the first of `bytes` in one call. An interrupted call writes no byte, and is made again.
-#[inline(always)]
 pub(crate) fn write_retrying<W: Write>(writer: &mut W, bytes: &[u8]) -> Result<usize>
     ensures bound { WritesAtMost result bytes.now }
     ensures bytes { WriteAppends (W.contents writer.old) (W.contents writer.new) result bytes.now }
 {
-    match writer.write(bytes) {
-        Err(error) if error.kind() == ErrorKind::Interrupted => write_again(writer, bytes),
-        done => done,
-    }
-}
-
-// Writes after an interrupted call, which is rare and so stands apart.
-#[inline(never)]
-fn write_again<W: Write>(writer: &mut W, bytes: &[u8]) -> Result<usize>
-    ensures bound { WritesAtMost result bytes.now }
-    ensures bytes { WriteAppends (W.contents writer.old) (W.contents writer.new) result bytes.now }
-{
-    for _ in 1..MAX_TRIES {
+    for _ in 0..MAX_TRIES {
         match writer.write(bytes) {
             Ok(count) => return Ok(count),
             Err(error) if error.kind() == ErrorKind::Interrupted => {}

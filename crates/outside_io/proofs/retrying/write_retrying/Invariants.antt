@@ -1,5 +1,5 @@
 use Rattle.std.specs.Io.KnownBytes.{Keeps}
-use Rattle.outside_io.proofs.retrying.write_again.Given as goal
+use Rattle.outside_io.proofs.retrying.write_retrying.Given as goal
 
 -- no byte was written
 abbrev pub invariant-loop : goal.invariant-loop
