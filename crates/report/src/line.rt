@@ -118,7 +118,6 @@ impl LineBuf {
     }
 
     /// Writes the line as one piece and clears it, even if the sink fails.
-    #[inline(always)]
     pub fn write<K: Sink>(&mut self, out: &mut K) -> Result<(), WriteFault>
         ensures cleared { self.new ≡ [] }
         ensures whole { OnOk result (Appends (K.written out.old) (K.written out.new) self.old) }
