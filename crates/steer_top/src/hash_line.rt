@@ -55,12 +55,12 @@ fn push_kind(line: &mut LineBuf, proto: Proto, pair: Pair)
 
 /// Appends the text of a flow to the line.
 #[tactic(auto, unfolding(crate::specs::HashText::flow_text))]
-pub fn push_flow(line: &mut LineBuf, flow: Flow)
+pub fn push_flow(line: &mut LineBuf, flow: &Flow)
     requires { length line.old ≤ 300 }
-    ensures value { line.new ≡ line.old ++ flow_text flow }
+    ensures value { line.new ≡ line.old ++ flow_text flow.now }
     ensures grows { length line.new ≤ length line.old + 112 }
 {
-    match flow {
+    match *flow {
         Flow::Bare => line.push(b"none"),
         Flow::Two(pair) => {
             push_two(line, pair);
@@ -97,9 +97,9 @@ pub fn push_hash(line: &mut LineBuf, hash: Option<u32>)
 
 /// Puts the text of a packet in an empty line, without a line feed.
 #[tactic(auto, unfolding(crate::specs::HashText::packet_text))]
-pub fn push_packet(line: &mut LineBuf, number: u64, flow: Flow, hash: Option<u32>, queue: RxQueue)
+pub fn push_packet(line: &mut LineBuf, number: u64, flow: &Flow, hash: Option<u32>, queue: RxQueue)
     requires { line.old ≡ [] }
-    ensures value { line.new ≡ packet_text number flow hash queue }
+    ensures value { line.new ≡ packet_text number flow.now hash queue }
     ensures grows { length line.new ≤ 300 }
 {
     line.push(b"packet ");

@@ -47,7 +47,7 @@ impl PacketLine for Hasher {
     fn push_frame(&self, line: &mut LineBuf, number: u64, frame: &[u8]) {
         let flow = dissect(frame);
         let hash = self.key.hash(&flow, self.kinds);
-        push_packet(line, number, flow, hash, self.table.queue(hash));
+        push_packet(line, number, &flow, hash, self.table.queue(hash));
         line.push(b"\n");
     }
 }

@@ -111,7 +111,7 @@ impl PacketLine for Placer {
         let found = self.classifier.find(&placed.flow);
         let hash = self.hash_of(&placed.flow);
         let queue = self.queue_by(found, hash);
-        push_packet(line, number, placed.flow, hash, queue);
+        push_packet(line, number, &placed.flow, hash, queue);
         push_rule(line, found);
         line.push(b" depth ");
         line.push_decimal(u64::from(placed.depth));
