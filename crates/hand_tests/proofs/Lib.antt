@@ -1,5 +1,4 @@
 pub mod Clerks
 pub mod Closing
-mod Crosses
 pub mod Fresh
 pub mod Resting

@@ -1,4 +1,5 @@
 pub mod ChoiceLemmas
+pub mod Crosses
 pub mod DeltaLemmas
 pub mod DrainLemmas
 pub mod GateLemmas

@@ -6,22 +6,14 @@ use Rattle.steer_base.specs.contracts.journal.Journal.{the_row as journal_row}
 use Rattle.steer_base.proofs.journal.Journal.TheSendSync as journal
 use Rattle.history.specs.contracts.arrival.Arrival.{the_row as arrival_row}
 use Rattle.history.proofs.arrival.Arrival.TheSendSync as arrival
-use Rattle.hint_words.proofs.hints.Hints.TheSendSync as hints
 use Rattle.hop_board.specs.contracts.board.Board.{the_row as board_row}
 use Rattle.hop_board.proofs.Crosses.{board_sync}
-use Rattle.steer_model.specs.contracts.setup.Given.{the_row as given_row}
 use Rattle.board_api.proofs.Crosses.{seat_send}
 use Rattle.linearization.proofs.seat.OrderedSeat.TheSendSync as ordered
-use Rattle.run_hands.specs.contracts.shared.Shared as shared
+use Rattle.run_hands.proofs.Crosses.{shared_part_sync as shared_sync}
 use Rattle.run_workers.specs.contracts.stage.Stage as stage
 use Rattle.run_workers.proofs.worker.Worker.TheSendSync as worker
 use Rattle.run_crew.specs.contracts.seated.Seated.{the_row as seated_row}
-
-given_sync : IsSync given_row
-given_sync = search (sendable, crosses) depth 60
-
-shared_sync : IsSync (shared.the_field).row
-shared_sync = search (sendable, crosses, hints.the_sync, given_sync) depth 60
 
 late_sync : IsSync (journal_row arrival_row)
 late_sync = search (sendable, journal.the_sync, arrival.the_sync) depth 60
