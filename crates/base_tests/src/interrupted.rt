@@ -6,7 +6,7 @@ use std::io;
 use std::io::{Empty, ErrorKind, Read, Seek, SeekFrom, Write};
 
 // More often than a call is made.
-const ALWAYS: u32 = 1_000_000;
+const ALWAYS: u32 = 1_000_001;
 
 // A file of one byte. Each of its calls is interrupted this often before it is made.
 #[derive(Drop)]
