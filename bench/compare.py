@@ -42,7 +42,7 @@ def once(program, words):
         digest = hashlib.sha256()
         for piece in iter(lambda: out.read(1 << 20), b""):
             digest.update(piece)
-    return used.ru_utime + used.ru_stime, used.ru_maxrss / 1000, digest.digest()
+    return used.ru_utime + used.ru_stime, used.ru_maxrss * 1024 / 1e6, digest.digest()
 
 
 def main(old, new, times=9):
