@@ -137,7 +137,7 @@ def main():
     stale = [path for path, makers in PARTS.items() if renewed(path, makers) != read(path)]
     for path in stale:
         if "--check" in sys.argv[1:]:
-            print(f"{path} is not what docs/proof-map.py makes of the sources")
+            print(f"{path} is not what dev/proof-map.py makes of the sources")
         else:
             text = renewed(path, PARTS[path])
             with open(os.path.join(specs.ROOT, path), "w", encoding="utf8") as file:

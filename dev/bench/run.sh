@@ -2,7 +2,7 @@
 # Times the program on generated input and on two large replays: for each run the command, its seconds (of
 # the clock, of the processor) and its largest memory. The first word names the program, and is the one of
 # this clone by default; the second says how often each is run, 3 by default.
-root=$(cd "$(dirname "$0")/.." && pwd) || exit 1
+root=$(cd "$(dirname "$0")/../.." && pwd) || exit 1
 steer=$(realpath "${1:-$root/crates/steer/out/steer}") || exit 1
 times=${2:-3}
 inputs=$(mktemp -d) || exit 1
@@ -12,7 +12,7 @@ if [ ! -x /usr/bin/time ]; then
     echo "bench: there is no /usr/bin/time" >&2
     exit 1
 fi
-python3 "$root/bench/inputs.py" "$inputs" || exit 1
+python3 "$root/dev/bench/inputs.py" "$inputs" || exit 1
 
 run() {
     count=0

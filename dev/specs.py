@@ -1,6 +1,6 @@
 """The public definitions of crates/*/specs: which stand where, what each names, and what it rests on.
 
-Read by docs/proof-map.py. Names are followed as a reader follows them: through the `use` lines of the
+Read by dev/proof-map.py. Names are followed as a reader follows them: through the `use` lines of the
 file, and within the file. Definitions of the library and types of the code are not followed.
 """
 import os
