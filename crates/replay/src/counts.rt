@@ -1,4 +1,4 @@
-//! What a history comes to in numbers.
+//! Totals of a history.
 ghost use Rattle.std.specs.Prelude.{◌≡◌, ◌<◌, ◌^◌, sum, map, length, count_by};
 ghost use Rattle.steer_base.specs.Choices.{has_moved};
 ghost use Rattle.replay.specs.Counts.{IsCountable, counts_of, delivered_in, dropped_in, moved_in};

@@ -19,7 +19,7 @@ use std::alloc::Global;
 use steer_base::OutOfMemory;
 use steer_model::flow_count;
 
-/// What the replay of generated input comes to.
+/// Totals of a replay of generated input.
 #[derive(Clone, Copy, Debug, PartialEq, Eq)]
 pub struct Summary {
     /// The seed of the input.

@@ -59,7 +59,7 @@ fn same_choice(a: Choice, b: Choice) -> bool
         && same_why(a.why, b.why)
 }
 
-// Whether a choice is the rule's, with the head that it keeps. If it is, the table is told of it.
+// Whether a choice is the rule's, with the head that it keeps. If so, it is recorded in the table.
 fn is_choice(table: &mut DevTable, choice: Choice, asked: Question, online: CpuMask) -> bool
     requires { IsClassOf table.old asked.class }
     ensures yes { result ≡ true
@@ -79,7 +79,7 @@ fn is_choice(table: &mut DevTable, choice: Choice, asked: Question, online: CpuM
     same_choice(made, choice)
 }
 
-// The same; if it is, the table is told of the position of its packet too.
+// The same; if so, the position of its packet is recorded in the table too.
 pub fn is_turn(table: &mut DevTable, chosen: Chosen, asked: Question, online: CpuMask) -> bool
     requires { IsClassOf table.old asked.class }
     ensures yes { result ≡ true

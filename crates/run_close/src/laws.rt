@@ -7,8 +7,7 @@ use run_controller::the_controller_keeps_its_ties;
 use run_crew::{crews_have_turns, threads_keep_their_parts};
 use run_laws::shared_codes_exist;
 
-/// Lemma: the lists that a run leaves, which is over, make a history of which all is known that is
-/// known at the end of a run.
+/// Lemma: the lists left by a finished run form a history that satisfies `RunEnds`.
 pub fn left_lists_make_histories()
     ensures ends { LeftListsMakeHistories }
     ensures port { OneListIsLeft }

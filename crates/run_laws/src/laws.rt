@@ -95,8 +95,8 @@ pub fn one_count_suffices()
     ensures { OneCountSuffices }
 {}
 
-/// Lemma: of each lane its seat has retired what it delivered, but for a packet that it has just
-/// delivered. So if all hands are empty, each delivery is retired.
+/// Lemma: a seat has retired every packet that it delivered on its lane, except possibly the one
+/// in its hand. So if all hands are empty, each delivery is retired.
 pub fn empty_hands_have_retired()
     ensures counted { AtEachClosing DeliveriesAreCounted }
     ensures retired { AtEachClosing EmptyHandsRetired }

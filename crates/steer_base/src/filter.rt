@@ -6,7 +6,7 @@ use crate::ids::{Cpu, RxQueue};
 pub struct Filter {
     /// The receive queue that matching packets go to.
     pub queue: RxQueue,
-    /// The processor for whose sake the filter was written.
+    /// The processor that the filter steers to.
     pub cpu: Cpu,
     /// The position at that processor of the packet that led to the filter, a counter number that
     /// wraps.

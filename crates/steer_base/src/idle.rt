@@ -15,7 +15,7 @@ pub enum Idle {
     NotInside,
     /// The packet in hand is at another stage.
     WrongStage,
-    /// The actor is in the midst of the packet in hand, so it stays inside the gate.
+    /// The actor has a packet half processed and may not leave the gate.
     MidPacket,
     /// No packet waits in the lane.
     NothingWaiting,
@@ -35,6 +35,6 @@ pub enum Idle {
     InboxDone,
     /// The processor is online.
     AlreadyOnline,
-    /// A whole step of which no event was made.
+    /// A compound step in which no event was enabled.
     Nothing,
 }

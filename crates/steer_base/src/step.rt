@@ -63,7 +63,7 @@ pub enum Step {
     Give(Command),
 }
 
-/// A tap that is detached in the midst of a report.
+/// A tap that is detached before the end of the report.
 #[derive(Clone, Copy, Debug, PartialEq, Eq)]
 pub struct Detach {
     /// The place of the tap among the taps, from 0.

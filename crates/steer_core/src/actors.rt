@@ -73,7 +73,7 @@ struct Weighing {
     online: CpuMask,
 }
 
-/// What came of a step.
+/// The result of a step.
 #[derive(Clone, Copy)]
 pub struct Stepped {
     /// The answer of the step.

@@ -1,5 +1,5 @@
 //! The machine: it is made for a plan and the packets of a capture, carries out the plan's steps
-//! one by one, and gives out its history.
+//! one by one, and returns its history.
 #![tactic(auto)]
 
 mod actors;

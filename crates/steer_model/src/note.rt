@@ -1,10 +1,10 @@
-//! What a poller keeps beside the packet in its hand.
+//! The state of a poller apart from the packet that it holds.
 ghost use Rattle.std.specs.Prelude.{◌≡◌};
 ghost use Rattle.steer_model.specs.State.Notes.{asking, is_asking, is_nothing};
 
 use steer_base::Filter;
 
-/// What a poller keeps beside the packet in its hand.
+/// The state of a poller apart from the packet that it holds.
 #[derive(Clone, Copy, Debug, PartialEq, Eq)]
 pub enum Note {
     /// Nothing: before its look, and between its weighing and its put.

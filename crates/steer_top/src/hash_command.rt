@@ -1,4 +1,4 @@
-//! The command `hash`: the capture is read whole, and then a line goes out for each packet.
+//! The command `hash`: reads the capture whole, then writes one line per packet.
 ghost use Rattle.std.specs.Prelude.{◌≡◌, ◌≤◌, ℕ, List};
 ghost use Rattle.outside_io.specs.Desk.{GoesOnTelling};
 ghost use Rattle.replay.specs.Meanings.{Meaning};

@@ -1,5 +1,4 @@
-//! The command `place`: the rules are read, then the capture, and then a line goes out for each
-//! packet.
+//! The command `place`: reads the rules, then the capture, and then writes one line per packet.
 ghost use Rattle.std.specs.Prelude.{◌≡◌, ◌≤◌, ℕ, List};
 ghost use Rattle.outside_io.specs.Desk.{GoesOnTelling};
 ghost use Rattle.replay.specs.Meanings.{Meaning};

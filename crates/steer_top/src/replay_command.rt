@@ -1,5 +1,5 @@
-//! The command `replay`: the plan is read, then the capture, and then the report of the plan's
-//! steps goes out.
+//! The command `replay`: reads the plan, then the capture, and then writes the report of the
+//! plan's steps.
 ghost use Rattle.std.specs.Prelude.{◌≡◌, ◌≤◌, map};
 ghost use Rattle.outside_io.specs.Desk.{GoesOnTelling};
 ghost use Rattle.steer_top.specs.Calls.{course};

@@ -25,10 +25,10 @@ use taps::Tap;
 /// text. `err` takes one line for every status but 0. A replay and a run show their packet lines to
 /// the taps, and their reports have the taps' texts in their order; the other commands drop them.
 ///
-/// The clauses: the status, the text and the line are those of the words and of the files, or a
-/// fault or want of memory is their cause, and the text of a replay and that of a run have their
-/// headlines (`call`); with 0 the whole text was sent on; what the desk told stays, and no count of
-/// faults falls.
+/// Contract. `call`: status, text and error line are determined by words and files unless I/O or
+/// memory failed; a replay's and a run's text satisfy their main theorems. `sent`: with status 0
+/// nothing is left unsent. `held`, `told`: what was observed of files stays known. `desk_later`,
+/// `out_later`: fault counters never decrease.
 pub fn steer<R: Threads + Wait + Sync, D: Desk, K: Sink, E: Sink, P: Pace + Sync>(
     rt: &R,
     alloc: Global,

@@ -1,5 +1,5 @@
-//! The threads of a run: the wire, the workers and the controller beside each other, and behind
-//! them the sweep.
+//! The threads of a run: the wire, the workers and the controller run concurrently, and then the
+//! sweep runs on one thread.
 #![tactic(auto)]
 
 mod ends;

@@ -22,10 +22,10 @@ use std::sync::Wait;
 use std::thread::Threads;
 use steer_base::{OutOfMemory, Packet};
 
-/// Runs a plan on the packets of a capture with threads, and returns the history of the run: the
-/// wire, the plan's workers and the controller beside each other, and behind them a sweep on this
-/// thread, which brings each packet to the port that was not dropped. `cut` is the length of the
-/// capture's cut record in bytes, if it has one.
+/// Runs a plan on the packets of a capture with threads, and returns the history of the run: runs
+/// the wire, the plan's workers and the controller concurrently, then sweeps on this thread until
+/// every packet that was not dropped has left by the port. `cut` is the length of the capture's
+/// cut record in bytes, if it has one.
 ///
 /// `pace` is called by worker w with number w before each of its turns, by the wire with the number
 /// of workers before each arrival, and by the controller with that number plus 1 before each try of

@@ -72,7 +72,7 @@ fn run_wire<P: Pace>(stage: &Stage<Board>, plan: &Plan, mut own: SeatedWire, pac
     own
 }
 
-// Runs the workers and the controller beside each other.
+// Runs the workers and the controller concurrently.
 fn run_with_controller<R: Threads + Wait + Sync, P: Pace + Sync>(
     rt: &R,
     stage: &Stage<Board>,

@@ -34,7 +34,7 @@ impl Plan {
         }
     }
 
-    /// The step behind a place, to which the place moves on. Gives what [`Plan::step_at`] gives.
+    /// Returns the next step and advances the cursor: the step that [`Plan::step_at`] returns.
     pub fn next_step(&self, cursor: &mut StepCursor) -> Step
         requires left { cursor.old.made < step_count self.now }
         requires given { HasGiven self.now.steps cursor.old }
