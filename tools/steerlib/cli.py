@@ -41,6 +41,10 @@ class Refused(Exception):
         return "%s: refused: %s" % (self.source, self.reason)
 
 
+class NoSteer(Refused):
+    """There is no program steer to run: status 3."""
+
+
 class NotThatFile(Exception):
     """A file that cannot be read or is of another kind: status 4. NotThatFile(source, reason)."""
 
@@ -256,7 +260,7 @@ def find_steer():
     if named:
         found = shutil.which(named)
         if found is None:
-            raise Refused("$STEER", "%s is no program that can be run" % named)
+            raise NoSteer("$STEER", "%s is no program that can be run" % named)
         return [found]
     found = shutil.which("steer")
     if found is not None:
@@ -265,7 +269,8 @@ def find_steer():
     beside = os.path.normpath(os.path.join(here, "..", "..", "steer.sh"))
     if os.access(beside, os.X_OK):
         return [beside]
-    raise Refused("steer", "no such program: neither $STEER, nor on the path, nor %s" % beside)
+    raise NoSteer("steer", "no such program: $STEER is not set, the path has none, and there is no "
+                  "%s as in a checkout" % beside)
 
 
 def run_steer(words, out=None):

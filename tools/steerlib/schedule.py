@@ -261,6 +261,8 @@ class Replays:
         with open(self.report, "wb") as out:
             try:
                 cli.run_steer(["replay", self.plan, self.capture], out)
+            except cli.NoSteer:
+                raise
             except cli.Refused as fault:
                 source = self.source if fault.reason.startswith("plan") else self.shown_capture
                 raise cli.Refused(source, fault.reason) from None

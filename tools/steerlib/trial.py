@@ -66,6 +66,8 @@ def packets_of(capture, shown):
     """How many packets steer reads in a capture, which messages name `shown`."""
     try:
         last = cli.run_steer(["hash", capture]).splitlines()[-1]
+    except cli.NoSteer:
+        raise
     except cli.Refused as fault:
         raise cli.Refused(shown, fault.reason) from None
     return int(last.split()[1])

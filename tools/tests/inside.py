@@ -1,7 +1,5 @@
 """Runs programs of tools/ within the process of a test, which saves the start of one."""
 
-import importlib.machinery
-import importlib.util
 import io
 import os
 import sys
@@ -10,20 +8,6 @@ from unittest import mock
 import running
 
 from steerlib import cli
-
-_programs = {}
-
-
-def _program(name):
-    """A program of tools/ as a module."""
-    if name not in _programs:
-        path = os.path.join(running.TOOLS, name)
-        loader = importlib.machinery.SourceFileLoader(name.replace("-", "_"), path)
-        module = importlib.util.module_from_spec(
-            importlib.util.spec_from_loader(loader.name, loader))
-        loader.exec_module(module)
-        _programs[name] = module
-    return _programs[name]
 
 
 def inside(name, *words, data=b""):
@@ -35,7 +19,7 @@ def inside(name, *words, data=b""):
     with mock.patch.multiple(sys, argv=[path] + list(words), stdin=stdin, stdout=stdout,
                              stderr=said):
         try:
-            cli.run(_program(name).main)
+            cli.run(running.module_of(name).main)
         except SystemExit as end:
             status = end.code
     stdout.flush()

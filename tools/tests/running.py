@@ -2,9 +2,10 @@
 
 import concurrent.futures
 import contextlib
+import importlib
 import io
+import keyword
 import os
-import runpy
 import subprocess
 import sys
 from unittest import mock
@@ -57,6 +58,12 @@ def run_all(calls):
         return list(pool.map(lambda words: run(*words), calls))
 
 
+def module_of(program):
+    """The module of a program in Python, which a dash and a keyword in its name alter."""
+    name = program[len("steer-"):].replace("-", "_")
+    return importlib.import_module("steerlib.programs." + name + "_" * keyword.iskeyword(name))
+
+
 def inside(program, *words):
     """As run, of a program in Python and within this process, which takes less time.
 
@@ -68,7 +75,7 @@ def inside(program, *words):
             mock.patch.dict(os.environ, STEER=STEER), \
             contextlib.redirect_stdout(out), contextlib.redirect_stderr(err):
         try:
-            status = cli.guarded(runpy.run_path(path, run_name="inside")["main"])
+            status = cli.guarded(module_of(program).main)
         except SystemExit as end:
             status = end.code
         out.flush()

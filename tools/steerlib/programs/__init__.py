@@ -1,0 +1,1 @@
+"""The companion programs, a module each; `entry` of each is its command."""

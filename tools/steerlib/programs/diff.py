@@ -1,0 +1,39 @@
+"""What differs between two reports of `steer replay` on one capture."""
+
+from .. import cli, comparison, report
+
+DESCRIPTION = """\
+Compares two reports of one capture and writes a line for each sum that differs, for each packet
+and each reply that went another way or for another reason, for writes of the socket table, commands
+and taps, and last a line of sums. Status 0 means that the reports are equal in every line, 1 that
+they differ. Positions and other numbers that differ in an otherwise equal line are only counted. A
+sum that changes exactly as the first of its line does (`pulled` as `accepted`) is not shown.
+
+A report does not name its capture: two captures with as many packets, and a cut as long, are not
+told apart."""
+
+EXAMPLE = """\
+steer replay a.json own.pcap > a; steer replay b.json own.pcap > b
+steer-diff -q a b"""
+
+
+def main(words):
+    parser = cli.parser(DESCRIPTION, EXAMPLE)
+    parser.add_argument("-q", dest="quiet", action="store_true",
+                        help="leave out the lines of packets and replies")
+    parser.add_argument("old", metavar="OLD", help="a report; - is standard input")
+    parser.add_argument("new", metavar="NEW", help="a report of the same capture")
+    told = parser.parse_args(words)
+    if told.old == told.new == "-":
+        raise cli.WrongWords("OLD and NEW cannot both be standard input")
+    old, new = report.read_file(told.old), report.read_file(told.new)
+    comparison.check_comparable(old, new, cli.source_name(told.old), cli.source_name(told.new))
+    compared = comparison.Comparison(old, new)
+    for line in compared.lines(told.quiet):
+        print(line)
+    return cli.DIFFERS if compared.differ() else cli.DONE
+
+
+def entry():
+    """Runs this program by the words of its command line, and ends the process."""
+    cli.run(main)

@@ -1,0 +1,33 @@
+"""A report of `steer replay` as a picture, in the terminal or as SVG."""
+
+import sys
+
+from .. import cli, drawing, report
+
+DESCRIPTION = """\
+Draws the packets of each processor over the packet numbers, not over time. For the terminal: the
+darker a mark, the more of the packets of its column went to that processor; `x` is a column of
+which more than half was dropped there, `'` one of which some were, `^` one in which a flow moved.
+With --svg: as SVG on standard output, with drops in red."""
+
+EXAMPLE = """\
+steer-draw report
+steer-draw --svg report > report.svg"""
+
+
+def main(words):
+    parser = cli.parser(DESCRIPTION, EXAMPLE)
+    parser.add_argument("--svg", action="store_true", help="write SVG")
+    parser.add_argument("report", metavar="REPORT", help="output of `steer replay`; - is input")
+    told = parser.parse_args(words)
+    rep = report.read_file(told.report)
+    if told.svg:
+        sys.stdout.write(drawing.svg(rep, cli.printable(cli.source_name(told.report))))
+        return
+    for line in drawing.text(rep):
+        print(line)
+
+
+def entry():
+    """Runs this program by the words of its command line, and ends the process."""
+    cli.run(main)

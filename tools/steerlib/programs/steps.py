@@ -1,0 +1,71 @@
+"""steer-steps: a plan's steps from the times of a capture and rates of service."""
+
+import sys
+import tempfile
+
+from .. import cli, numbers, plan, schedule
+
+DESCRIPTION = """\
+Writes PLAN with the steps that the times of CAPTURE and a rate of service for each processor give,
+so that a replay shows which packets find a full backlog. Steps that the plan has are replaced.
+
+Each packet arrives and is put into the backlog of its processor at its time in the capture. A
+processor that is idle takes the first one that waits, and is done with it 1/N seconds later. Where
+the rate is high enough, nothing waits; where a backlog is full, the packet is dropped.
+
+By RFS and its filters the place of a packet depends on the steps themselves. So the places are
+guessed, steer replays the steps of the guess, and what its report says is the next guess, until
+the report agrees with the guess in the queue, the processor and the drop of each packet. Standard
+error shows each round. Without agreement after 500 rounds there is no plan and the status is 3.
+
+A processor serves all packets at one rate, whatever their size; a kernel takes them from the
+backlog by batches of 64, and a plan without masks has its backlog where a kernel has the ring of
+the card. So drops compare settings; they foretell no number on a machine (docs/kernel.md).
+
+One of PLAN and CAPTURE may be - for standard input, and both may be packed by gzip."""
+
+EXAMPLE = """\
+steer-steps plan.json own.pcap --pps 200000 --read > timed.json
+steer replay timed.json own.pcap > report"""
+
+
+def words_of(words):
+    parser = cli.parser(DESCRIPTION, EXAMPLE)
+    parser.add_argument("plan", metavar="PLAN", help="a plan of steer, with any steps")
+    parser.add_argument("capture", metavar="CAPTURE",
+                        help="pcap or pcapng of Ethernet frames with times")
+    parser.add_argument("--pps", metavar="N", required=True, type=numbers.positive_number,
+                        help="packets that a processor serves in a second")
+    numbers.add_load(parser)
+    told = parser.parse_args(words)
+    if told.plan == told.capture == "-":
+        raise cli.WrongWords("PLAN and CAPTURE cannot both be standard input")
+    return told
+
+
+def say_result(replays, times, load, agreed):
+    own = "".join(", %g at cpu %d" % (rate, cpu) for cpu, rate in load.own_rates)
+    seconds = (max(times) - times[0]) / 1e9 if times else 0
+    cli.note("agreed in round %d: the replay has each packet where the steps assume it"
+             % agreed.rounds)
+    cli.note("%d packets in %.3f s, %d steps, %g packets/s a processor%s, %d dropped"
+             % (len(times), seconds, len(agreed.steps), load.rate, own, agreed.dropped))
+
+
+def main(words):
+    told = words_of(words)
+    load = schedule.Load(told.pps, told.cpu, told.reads, told.replies, told.speed)
+    with tempfile.TemporaryDirectory() as folder, schedule.plain_file(told.capture) as capture:
+        source = cli.source_name(told.capture)
+        settings, plan_source = plan.read_plan(told.plan), cli.source_name(told.plan)
+        replays = schedule.Replays(settings, plan_source, capture, source, folder)
+        times = schedule.times_of(capture, source)
+        schedule.say_about(settings, plan_source, load)
+        agreed = schedule.timed_steps(replays, times, load, cli.say)
+        sys.stdout.write(plan.plan_text(replays.with_steps(agreed.steps)))
+    say_result(replays, times, load, agreed)
+
+
+def entry():
+    """Runs this program by the words of its command line, and ends the process."""
+    cli.run(main)

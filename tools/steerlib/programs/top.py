@@ -1,0 +1,35 @@
+"""A report of `steer replay` on one screen."""
+
+import sys
+
+from .. import cli, flows, report, summary
+
+DESCRIPTION = """\
+Shows a report of `steer replay` on one screen: drops, moves, and the packets of each processor,
+receive queue and transmit queue. With HASH, the ten flows that have the most packets as well. The
+sums are recounted from the packets' lines; a report whose own sums are others is refused.
+`cpus` of a flow are those that it was sent to, in ascending order."""
+
+EXAMPLE = """\
+steer replay plan.json own.pcap > report
+steer hash own.pcap > hash.txt
+steer-top report hash.txt"""
+
+
+def main(words):
+    parser = cli.parser(DESCRIPTION, EXAMPLE)
+    parser.add_argument("report", metavar="REPORT", help="output of `steer replay`; - is input")
+    parser.add_argument("hash", metavar="HASH", nargs="?",
+                        help="output of `steer hash` or `steer place` on the same capture")
+    given = parser.parse_args(words)
+    if given.report == given.hash == "-":
+        raise cli.WrongWords("REPORT and HASH cannot both be standard input")
+    rep = report.read_file(given.report)
+    names = None if given.hash is None else flows.read_file(given.hash)
+    for line in summary.screen(rep, names, cli.source_name(given.hash or "HASH")):
+        print(line)
+
+
+def entry():
+    """Runs this program by the words of its command line, and ends the process."""
+    cli.run(main)

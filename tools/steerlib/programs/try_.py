@@ -1,0 +1,149 @@
+"""steer-try: plans side by side over one capture."""
+
+import os
+import sys
+import tempfile
+
+from .. import cli, numbers, plan, schedule, trial
+
+DESCRIPTION = """\
+Replays each PLAN over CAPTURE, once for each seed or for each rate of service, and shows the plans
+side by side: the drops, how often a flow left a processor (moves), and the processor with the most
+packets, dropped ones among them, with its share.
+
+--seeds mixes the steps by chance, 4 for each packet, and shows the mean of the drops with their
+standard deviation between seeds, which is what one seed is worth. --pps makes the steps by the
+times of the capture, as steer-steps does, with the same further words.
+
+Each plan with each seed or rate is a trial of its own. --commands runs none and prints a command a
+line instead, each of which makes one trial and leaves its report in a folder that all can write
+to; --collect makes the table of the reports there. So trials may be divided over machines by
+whatever runs a line by sh. GNU parallel on one machine was tried; a Slurm array, which runs line N
+of the file, and a pipe of Spark or Dask were not. The commands run in the folder in which they were
+printed, each question needs a folder of its own, and the table has whatever reports are there.
+
+Never divide a capture: in each part backlogs and flow tables would begin empty. A cut is harmless
+only at a pause that is longer than the largest backlog takes, and without flow tables.
+
+A plan that cannot be read, or a trial that is refused, does not keep the other rows from coming;
+the status is then 3. CAPTURE may be packed by gzip, and - is standard input."""
+
+EXAMPLE = """\
+steer-try own.pcap --pps 1000,2000,5000 --read a.json b.json
+steer-try own.pcap --seeds 20 a.json b.json
+steer-try own.pcap --pps 1000,2000 --commands --reports out a.json b.json > lines
+parallel --jobs 8 < lines
+steer-try --collect out"""
+
+
+def words_of(words):
+    parser = cli.parser(DESCRIPTION, EXAMPLE, usage="%(prog)s [options] CAPTURE PLAN [PLAN ..]\n"
+                        "       %(prog)s [--jobs N] --collect FOLDER")
+    parser.add_argument("files", metavar="CAPTURE PLAN", nargs="*",
+                        help="the capture, and the plans, whose own steps are not used")
+    kind = parser.add_mutually_exclusive_group()
+    kind.add_argument("--seeds", metavar="N", type=numbers.seeds,
+                      help="the seeds 1 to N, or A-B for those from A to B (8 where neither this "
+                           "nor --pps is said)")
+    kind.add_argument("--pps", metavar="A,B,..", type=numbers.rates,
+                      help="packets that a processor serves in a second")
+    numbers.add_load(parser)
+    parser.add_argument("--jobs", metavar="N", type=numbers.whole_number(1, 1024),
+                        default=trial.processors_here(),
+                        help="trials at once (as many as processors)")
+    parser.add_argument("--reports", metavar="FOLDER",
+                        help="keep the report of each trial there, and show no table")
+    parser.add_argument("--commands", action="store_true",
+                        help="print the trials as commands, which keep their reports in the "
+                             "folder of --reports")
+    parser.add_argument("--collect", metavar="FOLDER", help="show the table of the reports there")
+    told = parser.parse_intermixed_args(words)
+    check(told)
+    return told
+
+
+def check(told):
+    """Raises WrongWords where words do not go together."""
+    if told.collect is not None:
+        if told.files or told.seeds or told.pps or told.commands or told.reports:
+            raise cli.WrongWords("--collect takes a folder, and neither files nor trials")
+        return
+    if len(told.files) < 2:
+        raise cli.WrongWords("a CAPTURE and a PLAN at the least are needed (--help says more)")
+    if "-" in told.files[1:] or told.commands and told.files[0] == "-":
+        raise cli.WrongWords("standard input can only be the CAPTURE, and not with --commands")
+    if told.commands and told.reports is None:
+        raise cli.WrongWords("--commands needs --reports FOLDER")
+    if not told.pps and (told.cpu or told.reads or told.replies or told.speed != 1):
+        raise cli.WrongWords("--cpu, --read, --reply and --speed go with --pps")
+
+
+def print_commands(told):
+    words = ["--cpu=%d=%s" % (cpu, numbers.number_text(rate)) for cpu, rate in told.cpu]
+    words += ["--read"] * told.reads + ["--reply"] * told.replies
+    if told.speed != 1:
+        words += ["--speed", numbers.number_text(told.speed)]
+    if told.pps:
+        values = [("--pps", numbers.number_text(rate)) for rate in told.pps]
+    else:
+        values = [("--seeds", "%d-%d" % (seed, seed)) for seed in told.seeds]
+    for line in trial.commands(sys.argv[0], told.files[0], told.files[1:], values, words,
+                               told.reports):
+        print(line)
+
+
+def read_plans(names, load):
+    """The settings of each plan by its name, or the exception that says why it has none."""
+    settings = {}
+    for name in dict.fromkeys(names):
+        try:
+            settings[name] = plan.read_plan(name)
+        except (cli.Refused, cli.NotThatFile) as fault:
+            settings[name] = fault
+            continue
+        if load is not None:
+            schedule.say_about(settings[name], name, load)
+        settings[name]["steps"] = []
+    return settings
+
+
+def rows_of(told):
+    """Makes all trials: rows of (plan, results by kind and value)."""
+    capture_name, names = told.files[0], told.files[1:]
+    shown = cli.source_name(capture_name)
+    load = told.pps and schedule.Load(None, told.cpu, told.reads, told.replies, told.speed)
+    settings = read_plans(names, load)
+    kind, values = (trial.RATE, told.pps) if told.pps else (trial.SEED, told.seeds)
+    with schedule.plain_file(capture_name) as capture, \
+            tempfile.TemporaryDirectory(dir=told.reports, prefix=".trials-") as work:
+        times = schedule.times_of(capture, shown) if told.pps else None
+        packets = len(times) if told.pps else trial.packets_of(capture, shown)
+        shared = trial.Setting(capture, shown, times, packets, load, work, told.reports)
+        trials = [(trial.Trial(name, settings[name], kind, value), shared)
+                  for name in names for value in values]
+        results = iter(trial.at_once(trial.attempt, told.jobs, trials))
+    return [(name, {(kind, value): next(results) for value in values}) for name in names]
+
+
+def main(words):
+    told = words_of(words)
+    told.seeds = told.seeds or (None if told.pps else range(1, 9))
+    if told.commands:
+        print_commands(told)
+        return cli.DONE
+    if told.reports is not None:
+        os.makedirs(told.reports, exist_ok=True)
+    rows = trial.collected(told.collect, told.jobs) if told.collect is not None else rows_of(told)
+    texts = [result for _, results in rows for result in results.values()
+             if isinstance(result, str)]
+    for text in dict.fromkeys(texts):
+        cli.say("%s: %s" % (cli.program_name(), text))
+    if told.reports is None:
+        for line in trial.screen(rows):
+            print(line)
+    return cli.REFUSED if texts else cli.DONE
+
+
+def entry():
+    """Runs this program by the words of its command line, and ends the process."""
+    cli.run(main)
