@@ -1,13 +1,15 @@
 #!/usr/bin/env python3
 """Lists what of the tracked sources is laid out otherwise than docs/develop.md says: lines over 100
-columns, files over 800 lines (answers of a proof 150), and functions over 40 lines outside tests, their
-contract included. The status is 1 if there is any."""
+columns, files over 800 lines (answers of a proof 150), functions over 40 lines outside tests, their
+contract included, and READMEs of crates with other headings. The status is 1 if there is any."""
 import os
 import re
 import subprocess
 import sys
 
 COLUMNS, FILE_LINES, ANSWER_LINES, FUNCTION_LINES = 100, 800, 150, 40
+HEADINGS = ("What a contract sees", "Proved", "How it works", "Only tested", "What no clause says",
+            "Reading order")
 FUNCTION = re.compile(r"(\s*)(?:pub )?(?:const )?(?:unsafe )?fn (\w+)")
 
 
@@ -38,7 +40,25 @@ def long_functions(path, lines):
         at += 1
 
 
+def readme_faults(path):
+    """Tests and the program have a title alone; every other crate has all headings but perhaps one."""
+    crate = path.split("/")[1]
+    with open(path, encoding="utf8") as file:
+        lines = file.read().split("\n")
+    if lines[0] != "# " + crate:
+        yield f"{path}:1: the title is not `# {crate}`"
+    found = [line[3:] for line in lines if line.startswith("## ")]
+    is_plain = crate == "steer" or crate.endswith("_tests")
+    wanted = [name for name in HEADINGS if name in found or name != "How it works"]
+    wanted = [] if is_plain else wanted
+    if found != wanted:
+        yield f"{path}: the headings are {found}, and not {wanted}"
+
+
 def faults(path):
+    if path.endswith(".md"):
+        yield from readme_faults(path)
+        return
     with open(path, encoding="utf8") as file:
         lines = file.read().split("\n")
     most = ANSWER_LINES if path.endswith("Answers.antt") else FILE_LINES
@@ -53,7 +73,8 @@ def faults(path):
 
 def main():
     os.chdir(os.path.dirname(os.path.dirname(os.path.abspath(__file__))))
-    listed = subprocess.run(["git", "ls-files", "crates/*.rt", "crates/*.antt"],
+    kinds = ["crates/*.rt", "crates/*.antt", "crates/*/README.md"]
+    listed = subprocess.run(["git", "ls-files", *kinds],
                             stdout=subprocess.PIPE, check=True, universal_newlines=True)
     found = [fault for path in listed.stdout.split() if os.path.exists(path) for fault in faults(path)]
     print("\n".join(found), end="\n" if found else "")
