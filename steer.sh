@@ -13,7 +13,7 @@ stamp=$crate/out/steer.built
 seen=$crate/out/release.seen
 log=$crate/out/steer.log
 
-# What has changed since this file was written, of the sources and of what further words name.
+# The first source, or file below the further arguments, that is newer than the given file.
 changed() {
     since=$1
     shift
@@ -25,7 +25,7 @@ is_built() {
     [ -x "$crate/out/steer" ] && [ -f "$stamp" ] && [ -z "$(changed "$stamp")" ]
 }
 
-# The value behind this name in release/RELEASE.
+# The value of this name in release/RELEASE.
 released() {
     sed -n "s/^$1 //p" "$release/RELEASE"
 }
@@ -47,7 +47,7 @@ progress() {
         case $line in
         "rt: chose --jobs "*)
             name=${line##* }
-            # Those that stand behind it.
+            # Those that come after it.
             set -- ${all##*" $name "}
             echo "steer: $name, $# left"
             ;;

@@ -72,7 +72,7 @@ def printable(text):
 
 
 def say(text):
-    """One line on standard error; a standard error that is closed is none of our business."""
+    """One line on standard error; errors on a closed standard error are ignored."""
     try:
         sys.stderr.write(printable(text) + "\n")
         sys.stderr.flush()
