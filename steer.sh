@@ -5,7 +5,7 @@
 # answered here: the program itself has no options.
 # A build shows on standard error a line for each crate that it proves, with how many come after it; all
 # output of the tools goes to out/steer.log in the crate. A failed build shows the end of that log and has
-# status 1.
+# status 1. The file out/steer.built names the kit of the last build.
 root=$(cd "$(dirname "$(readlink -f "$0")")" && pwd) || exit 1
 crate=$root/crates/steer
 release=$root/release
@@ -13,7 +13,7 @@ stamp=$crate/out/steer.built
 seen=$crate/out/release.seen
 log=$crate/out/steer.log
 
-# The first source, or file below the further arguments, that is newer than the given file.
+# Lists one source, or one file that further arguments name, that is newer than the given file.
 changed() {
     since=$1
     shift
@@ -25,7 +25,7 @@ is_built() {
     [ -x "$crate/out/steer" ] && [ -f "$stamp" ] && [ -z "$(changed "$stamp")" ]
 }
 
-# The value of this name in release/RELEASE.
+# The value after this name in release/RELEASE.
 released() {
     sed -n "s/^$1 //p" "$release/RELEASE"
 }
@@ -40,14 +40,14 @@ is_released() {
     return 0
 }
 
-# A line for each crate that the tools begin with.
+# A line for each crate that the tools begin.
 progress() {
     all=" $("$release/sources.sh" crates | tr '\n' ' ')"
     while read -r line; do
         case $line in
         "rt: chose --jobs "*)
             name=${line##* }
-            # Those that come after it.
+            # The crates after it.
             set -- ${all##*" $name "}
             echo "steer: $name, $# left"
             ;;
@@ -60,7 +60,7 @@ build() {
         echo "steer: release/ has no program of these sources, and there is no rt to build one with" >&2
         return 1
     fi
-    mkdir -p "$crate/out" && touch "$stamp.begun" || return 1
+    mkdir -p "$crate/out" && rt version >"$stamp.begun" || return 1
     echo "steer: building; from nothing this proves every crate first and takes minutes ($log)" >&2
     # With no words the program only says how it is used.
     (cd "$crate" && rt run) </dev/null 2>&1 | tee "$log" | progress >&2
@@ -87,11 +87,16 @@ help() {
     awk -f "$root/man/plain.awk" "$root/man/steer.1" | cat -s
 }
 
-# The version of the formats, the kit, and the program's own SHA-256.
+# The version, the kit that built the program, and the program's SHA-256.
 version() {
     choose || return 1
-    echo "steer 1"
-    echo "kit $(released kit)"
+    if [ "$program" = "$release/steer" ]; then
+        kit=$(released kit)
+    else
+        kit=$(cat "$stamp")
+    fi
+    echo "steer $(cat "$root/VERSION")"
+    echo "kit ${kit:-$(rt version)}"
     echo "sha256 $(sha256sum <"$program" | cut -d ' ' -f 1)"
 }
 

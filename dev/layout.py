@@ -41,7 +41,7 @@ def long_functions(path, lines):
 
 
 def readme_faults(path):
-    """Tests and the program have a title alone; every other crate has all headings but perhaps one."""
+    """Tests and the program have a title only; other crates have all headings but perhaps one."""
     crate = path.split("/")[1]
     with open(path, encoding="utf8") as file:
         lines = file.read().split("\n")
