@@ -4,8 +4,11 @@ Times are whole nanoseconds since 1970, lengths are bytes. A file that is neithe
 or whose lengths contradict each other, raises NotThatFile.
 """
 
+from __future__ import annotations
+
 import struct
-from collections import Counter, namedtuple
+from collections import Counter
+from typing import BinaryIO, Iterator, NamedTuple
 
 from . import limits
 from .cli import NotThatFile, Refused, note
@@ -30,11 +33,25 @@ NO_ADDRESSES = bytes(12)
 LONGEST_UNMERGED = 1514
 TCP_HEADERS, TCP_PAYLOAD = 66, 1448
 
-# link: the link type. time: None where the file has none. wire: the length on the wire.
-# data: what was captured. kind: the pcapng type of its block, 0 in a pcap file.
-Frame = namedtuple("Frame", "link time wire data kind")
 
-_Interface = namedtuple("_Interface", "link snap ticks offset")
+class Frame(NamedTuple):
+    """A frame with its link type, its time (None where the file has none), and what was captured.
+
+    `wire` is its length on the wire; `kind` is the pcapng type of its block, 0 in a pcap file.
+    """
+
+    link: int
+    time: int | None
+    wire: int
+    data: bytes
+    kind: int
+
+
+class _Interface(NamedTuple):
+    link: int
+    snap: int
+    ticks: int
+    offset: int
 
 
 class Capture:
@@ -44,7 +61,7 @@ class Capture:
     where there is none.
     """
 
-    def __init__(self, stream, source):
+    def __init__(self, stream: BinaryIO, source: str) -> None:
         self.stream = stream
         self.source = source
         self.cut = 0
@@ -71,7 +88,7 @@ class Capture:
             raise self._fault("a pcap file of version %d.%d; 2.4 is read", major, minor)
         self.link = struct.unpack(self.order + "I", header[20:])[0] & 0xFFFF
 
-    def frames(self):
+    def frames(self) -> Iterator[Frame]:
         """Yields each Frame in the order of the file."""
         return self._blocks() if self.is_pcapng else self._records()
 
@@ -203,7 +220,7 @@ class Capture:
                               self.block, length, room)
 
 
-def is_outgoing(frame):
+def is_outgoing(frame: Frame) -> bool:
     """Whether the machine itself sent this frame; only cooked frames say so, others are not."""
     if frame.link == COOKED:
         return frame.data[:2] == b"\0\4"
@@ -217,7 +234,7 @@ def _raw_type(frame):
     return b"\x08\x00"
 
 
-def to_ethernet(frame):
+def to_ethernet(frame: Frame) -> Frame:
     """The frame as one of Ethernet, with zeros for the addresses that it lacks.
 
     The link type is one of LINKS.
@@ -235,12 +252,12 @@ def to_ethernet(frame):
 class Merged:
     """Counts frames that were merged before they were captured, of Ethernet frames shown to it."""
 
-    def __init__(self):
+    def __init__(self) -> None:
         self.frames = 0
         self.merged = 0
         self.packets = 0
 
-    def show(self, frame):
+    def show(self, frame: Frame) -> None:
         """Counts a frame; the tags of VLANs do not make it longer."""
         self.frames += 1
         if frame.wire <= LONGEST_UNMERGED:
@@ -256,7 +273,7 @@ class Merged:
             self.merged += 1
             self.packets += -(-(frame.wire - tags - TCP_HEADERS) // TCP_PAYLOAD)
 
-    def say(self):
+    def say(self) -> None:
         """Notes how many were merged, and about how many packets all frames stand for."""
         if self.merged:
             note("%d of %d frames are longer than %d bytes: merged before the capture (GRO, TSO), "
@@ -271,24 +288,24 @@ class PcapWriter:
     Nothing is written before begin() or the first frame.
     """
 
-    def __init__(self, stream, source):
+    def __init__(self, stream: BinaryIO, source: str) -> None:
         self.stream = stream
         self.source = source
         self.frames = 0
         self.size = 0
         self.pack = struct.Struct("<IIII").pack
 
-    def begin(self):
+    def begin(self) -> None:
         """Writes what stands before the first frame, once."""
         if not self.size:
             self.stream.write(struct.pack("<IHHIIII", 0xA1B23C4D, 2, 4, 0, 0, MOST_FRAME, ETHERNET))
             self.size = 24
 
-    def has_room(self, frame):
+    def has_room(self, frame: Frame) -> bool:
         """Whether the file stays within what steer reads with this frame."""
         return self.size + 16 + len(frame.data) <= MOST_FILE
 
-    def write(self, frame):
+    def write(self, frame: Frame) -> None:
         """Writes a frame; one without a time has the time 0."""
         self.begin()
         second, fraction = divmod(frame.time or 0, 1000000000)
@@ -307,19 +324,19 @@ class Conversion:
     `incoming`: whether outgoing frames are left out, where the link type tells them.
     """
 
-    def __init__(self, capture, incoming=False):
+    def __init__(self, capture: Capture, incoming: bool = False) -> None:
         self.capture = capture
         self.incoming = incoming
         self.forget()
 
-    def forget(self):
+    def forget(self) -> None:
         """Counts anew."""
-        self.left_out = Counter()
-        self.kinds = Counter()
+        self.left_out: Counter[int] = Counter()
+        self.kinds: Counter[int] = Counter()
         self.cooked = 0
         self.outgoing = 0
 
-    def frames(self, first=0):
+    def frames(self, first: int = 0) -> Iterator[Frame]:
         """Yields each Ethernet frame but the first so many, and counts from there on.
 
         Refused where a pcap file has a link type that is none of LINKS; a pcapng file may have
@@ -353,7 +370,7 @@ class Conversion:
         self.outgoing += outgoing
         return outgoing and self.incoming
 
-    def say(self, written):
+    def say(self, written: int) -> None:
         """Notes what was left out, what steer would pass over, and what the file does not tell.
 
         `written`: how many frames were written.
@@ -376,13 +393,14 @@ class Conversion:
                  % self.capture.cut)
 
 
-def other_link(link):
+def other_link(link: int) -> str:
     """What to say of a link type that is not read."""
     return "link type %d; what is read is %s" % (
         link, ", ".join("%d (%s)" % known for known in sorted(LINKS.items())))
 
 
-def copy(conversion, writer, first=0, count=limits.MOST_PACKETS):
+def copy(conversion: Conversion, writer: PcapWriter, first: int = 0,
+         count: int = limits.MOST_PACKETS) -> bool:
     """Writes `count` frames of a conversion, but not the first so many, to a PcapWriter.
 
     Says whether more follow, which is so too where the file would be longer than steer reads.

@@ -1,19 +1,24 @@
 """The key, the table and the hash kinds of a plan, from what ethtool says of the card."""
 
+from __future__ import annotations
+
 import math
+from typing import Any
 
 from . import ethtool
 from . import limits
+from .findings import Findings
+from .snapshot import Snapshot
 
 SIZE = limits.TABLE_ENTRIES
 
 
-def even(queues):
+def even(queues: int) -> list[int]:
     """The table of a card that was never set."""
     return [entry % queues for entry in range(SIZE)]
 
 
-def folded(table):
+def folded(table: list[int]) -> tuple[list[int], int, int]:
     """The first 128 entries of a table of any size, and how many hashes of how many differ."""
     fold = [table[entry % len(table)] for entry in range(SIZE)]
     period = len(table) * SIZE // math.gcd(len(table), SIZE)
@@ -101,7 +106,7 @@ def _version_kinds(version, fields, findings):
     return bits
 
 
-def kinds(snapshot, findings):
+def kinds(snapshot: Snapshot, findings: Findings) -> int | None:
     """The hash kinds, or None where 63 is taken."""
     told = {}
     for name in ethtool.KINDS:
@@ -121,7 +126,7 @@ def kinds(snapshot, findings):
     bits = 0
     for version in ("4", "6"):
         bits |= _version_kinds(version, {name: fields for name, fields in told.items()
-                                          if name.endswith(version)}, findings)
+                                         if name.endswith(version)}, findings)
     for name in ethtool.KINDS:
         if name not in told:
             findings.note("no hash fields of %s in `ethtool -n`; taken as hashed without ports"
@@ -148,7 +153,8 @@ def _warn(snapshot, findings):
         findings.note("%s is on: the capture may hold merged packets" % name)
 
 
-def settings(snapshot, queues, nearest, findings):
+def settings(snapshot: Snapshot, queues: int, nearest: bool,
+             findings: Findings) -> tuple[dict[str, Any], list[int]]:
     """The keys `key`, `kinds` and `reta` of a plan as far as they are told, and the table."""
     asked = snapshot.ethtool("-x {}")
     if any(line.endswith(": not found") for line in snapshot.ethtool("-i {}")):

@@ -4,6 +4,8 @@ Statuses: 0 done, 1 two things differ (steer-diff alone), 2 wrong words, 3 refus
 and the reason, as steer itself ends for a plan, 4 a file that is not of the wanted kind.
 """
 
+from __future__ import annotations
+
 import argparse
 import gzip
 import io
@@ -13,13 +15,17 @@ import signal
 import subprocess
 import sys
 import zlib
+from typing import IO, Any, Callable, List, NoReturn, Optional, Sequence
 
 DONE, DIFFERS, WRONG_WORDS, REFUSED, NOT_THAT_FILE = 0, 1, 2, 3, 4
 
 APART = "This program is a companion of steer; it is not part of the proved program."
 
-STATUSES = ("Statuses: 0 done, 1 differs (steer-diff), 2 wrong words, 3 refused with the value and the "
-            "reason, 4 not that kind of file.")
+STATUSES = ("Statuses: 0 done, 1 differs (steer-diff), 2 wrong words, 3 refused with the value and "
+            "the reason, 4 not that kind of file.")
+
+# What a program is: its words to its status, where None is 0.
+Main = Callable[[List[str]], Optional[int]]
 
 GZIP_MAGIC = b"\x1f\x8b"
 
@@ -31,13 +37,13 @@ class WrongWords(Exception):
 class Refused(Exception):
     """What was read cannot be used: status 3. Refused(source, reason, ..), with the values."""
 
-    def __init__(self, source, reason, *reasons):
+    def __init__(self, source: str, reason: str, *reasons: str) -> None:
         super().__init__(source, reason, *reasons)
         self.source = source
         self.reason = reason
         self.reasons = (reason,) + reasons
 
-    def __str__(self):
+    def __str__(self) -> str:
         return "%s: refused: %s" % (self.source, self.reason)
 
 
@@ -48,21 +54,21 @@ class NoSteer(Refused):
 class NotThatFile(Exception):
     """A file that cannot be read or is of another kind: status 4. NotThatFile(source, reason)."""
 
-    def __init__(self, source, reason):
+    def __init__(self, source: str, reason: str) -> None:
         super().__init__(source, reason)
         self.source = source
         self.reason = reason
 
-    def __str__(self):
+    def __str__(self) -> str:
         return "%s: %s" % (self.source, self.reason)
 
 
-def program_name():
+def program_name() -> str:
     """The name that this program was called by, without its folder."""
     return os.path.basename(sys.argv[0]) or "steer"
 
 
-def printable(text):
+def printable(text: str) -> str:
     """`text` with all that a terminal might act upon, or that UTF-8 lacks, written as \\x.. ."""
     if text.isprintable():
         return text
@@ -71,7 +77,7 @@ def printable(text):
     return "".join(kept)
 
 
-def say(text):
+def say(text: str) -> None:
     """One line on standard error; errors on a closed standard error are ignored."""
     try:
         sys.stderr.write(printable(text) + "\n")
@@ -80,7 +86,7 @@ def say(text):
         pass
 
 
-def note(text):
+def note(text: str) -> None:
     """A guess, a warning or a measure that the user should know of, on standard error."""
     say("note: " + text)
 
@@ -90,7 +96,7 @@ class _Parser(argparse.ArgumentParser):
         raise WrongWords(message + " (--help says more)")
 
 
-def parser(description, example, **keywords):
+def parser(description: str, example: str, **keywords: Any) -> argparse.ArgumentParser:
     """An argument parser: wrong words have status 2, --help ends with `example` and statuses.
 
     `description` is prose, `example` lines as typed; `keywords` go to argparse.ArgumentParser.
@@ -113,7 +119,7 @@ def _silence_output():
         pass
 
 
-def guarded(main):
+def guarded(main: Main) -> int:
     """The status of main(words); a fault is said in a line on standard error."""
     name = program_name()
     try:
@@ -142,7 +148,7 @@ def guarded(main):
         return NOT_THAT_FILE
 
 
-def run(main):
+def run(main: Main) -> NoReturn:
     """Calls main(words), whose result (None is 0) becomes the status, and ends the program.
 
     Faults become one line on standard error and their status; a closed pipe is silent.
@@ -152,7 +158,7 @@ def run(main):
     if hasattr(sys.stdout, "reconfigure"):
         sys.stdout.reconfigure(encoding="utf-8", errors="backslashreplace", newline="\n")
     try:
-        status = guarded(main)
+        status: Any = guarded(main)
     except KeyboardInterrupt:
         _silence_output()
         signal.signal(signal.SIGINT, signal.SIG_DFL)
@@ -207,12 +213,12 @@ class _Guarded(io.RawIOBase):
         super().close()
 
 
-def source_name(name):
+def source_name(name: str) -> str:
     """How messages name the file of this word: `-` is standard input."""
     return "standard input" if name == "-" else name
 
 
-def open_bytes(name, unpacked=True):
+def open_bytes(name: str, unpacked: bool = True) -> io.BufferedReader:
     """A buffered binary stream of the file `name`; `-` is standard input; gz is opened through.
 
     A line, or a `peek`, of a pipe is there as soon as its bytes are, before the pipe ends.
@@ -224,24 +230,25 @@ def open_bytes(name, unpacked=True):
         if name == "-":
             if sys.stdin is None:
                 raise NotThatFile(source, "it is closed")
-            plain = sys.stdin.buffer
+            plain: Any = sys.stdin.buffer
         else:
             plain = open(name, "rb")
         start = plain.peek(2)[:2]
     except (OSError, ValueError, AttributeError) as fault:
         raise NotThatFile(source, getattr(fault, "strerror", None) or str(fault)) from None
     packed = unpacked and start == GZIP_MAGIC
-    stream = gzip.GzipFile(fileobj=_Available(plain), mode="rb") if packed else plain
+    available: Any = _Available(plain)
+    stream = gzip.GzipFile(fileobj=available, mode="rb") if packed else plain
     return io.BufferedReader(_Guarded(stream, source, plain), 1 << 18)
 
 
-def read_bytes(name):
+def read_bytes(name: str) -> bytes:
     """All bytes of the file `name`, as open_bytes opens it."""
     with open_bytes(name) as stream:
         return stream.read()
 
 
-def read_text(name):
+def read_text(name: str) -> str:
     """The file `name` as text; NotThatFile with the number of the byte that is not UTF-8."""
     data = read_bytes(name)
     try:
@@ -251,7 +258,7 @@ def read_text(name):
                           % (fault.start, data[fault.start])) from None
 
 
-def find_steer():
+def find_steer() -> list[str]:
     """The command that runs steer, as a list: $STEER, else on the path, else ../steer.sh.
 
     $STEER is the name of a program, without words.
@@ -273,7 +280,7 @@ def find_steer():
                   "%s as in a checkout" % beside)
 
 
-def run_steer(words, out=None):
+def run_steer(words: Sequence[str], out: IO[bytes] | None = None) -> bytes:
     """Runs steer with `words`; its output goes to the binary file `out`, else it is returned.
 
     Raises Refused(the words, steer's own message) where the status is not 0.

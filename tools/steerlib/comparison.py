@@ -1,11 +1,15 @@
 """What differs between two reports of one capture."""
 
+from __future__ import annotations
+
 from itertools import chain, zip_longest
+from typing import Iterator
 
 from . import cli
+from .report import Report
 
 
-def check_comparable(old, new, old_source, new_source):
+def check_comparable(old: Report, new: Report, old_source: str, new_source: str) -> None:
     """Refuses two reports whose last lines are not those of one capture."""
     if old.end.total != new.end.total or old.end.cut != new.end.cut:
         raise cli.Refused(new_source, "is of another capture: %s, and that of %s has %s"
@@ -60,13 +64,13 @@ class Comparison:
     writes, commands and taps.
     """
 
-    def __init__(self, old, new):
+    def __init__(self, old: Report, new: Report) -> None:
         self.old = old
         self.new = new
         self.packets = self.queue = self.cpu = self.saved = self.lost = 0
         self.replies = self.tx = self.numbers = self.others = 0
 
-    def lines(self, quiet):
+    def lines(self, quiet: bool) -> Iterator[str]:
         """The lines of the comparison; `quiet` leaves out those of packets and replies."""
         for line in self._sums():
             self.others += 1
@@ -79,7 +83,7 @@ class Comparison:
             yield line
         yield self._sum_line()
 
-    def differ(self):
+    def differ(self) -> bool:
         """Whether anything differs, once `lines` was run through."""
         return bool(self.packets or self.replies or self.numbers or self.others)
 

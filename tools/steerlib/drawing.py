@@ -4,9 +4,13 @@ The packets are divided into cells of one size, the smallest that keeps the pict
 number of columns; the last cell may have fewer packets.
 """
 
+from __future__ import annotations
+
+from typing import Iterator
 from xml.etree import ElementTree
 
 from . import report
+from .report import Report
 
 TEXT_CELLS = 64
 SVG_CELLS = 160
@@ -31,7 +35,7 @@ class Cells:
     no processor yet.
     """
 
-    def __init__(self, rep, most):
+    def __init__(self, rep: Report, most: int) -> None:
         self.packets = len(rep.packets)
         self.total = rep.end.total
         self.size = max(-(-self.packets // most), 1)
@@ -57,7 +61,7 @@ class Cells:
         self.dropped[packet.cpu][cell] += packet.place == "drop"
         self.moves[cell] += packet.why in report.MOVES
 
-    def bounds(self, cell):
+    def bounds(self, cell: int) -> tuple[int, int]:
         """The first and the last packet of a cell."""
         return cell * self.size, min((cell + 1) * self.size, self.packets) - 1
 
@@ -78,7 +82,7 @@ def _text_row(label, marks, count):
     return "%-8s|%s| %d" % (label, "".join(marks), count)
 
 
-def text(rep):
+def text(rep: Report) -> Iterator[str]:
     """The lines of the picture for a terminal."""
     cells = Cells(rep, TEXT_CELLS)
     for cpu, counts in cells.offered.items():
@@ -189,7 +193,7 @@ def _heading(root, cells, title):
              % (_packets(cells.size), _packets(cells.largest)), x=LEFT + 200, y=35)
 
 
-def svg(rep, title):
+def svg(rep: Report, title: str) -> str:
     """The picture as the text of an SVG document; `title` is any text that XML allows."""
     cells = Cells(rep, SVG_CELLS)
     moved = 24 if any(cells.moves) else 0

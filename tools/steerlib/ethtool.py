@@ -3,6 +3,8 @@
 The forms are those of ethtool 6.1. What is not recognised where it matters is refused.
 """
 
+from __future__ import annotations
+
 import re
 
 KINDS = {"tcp4": 1, "udp4": 2, "tcp6": 4, "udp6": 5}   # name: bit of the hash kind
@@ -23,18 +25,18 @@ class Unreadable(Exception):
 class Hashing:
     """What `ethtool -x` says: `table` and `key` (digits) or None, names of what is on."""
 
-    def __init__(self):
-        self.table = None
-        self.key = None
-        self.functions = []
-        self.transformations = []
+    def __init__(self) -> None:
+        self.table: list[int] | None = None
+        self.key: str | None = None
+        self.functions: list[str] = []
+        self.transformations: list[str] = []
 
 
-def hashing(lines):
+def hashing(lines: list[str]) -> Hashing:
     """The Hashing of the lines of `ethtool -x DEV`. Raises Unreadable."""
     said, section = Hashing(), ""
     for line in lines:
-        row = _ROW.fullmatch(line)
+        row, on = _ROW.fullmatch(line), _ON.fullmatch(line)
         if row:
             said.table = said.table or []
             if int(row.group(1)) != len(said.table):
@@ -43,18 +45,17 @@ def hashing(lines):
             said.table.extend(int(queue) for queue in row.group(2).split())
         elif section == "RSS hash key" and _KEY.fullmatch(line.strip()):
             said.key = line.strip().replace(":", "").lower()
-        elif _ON.fullmatch(line):
-            name = _ON.fullmatch(line).group(1)
+        elif on:
             if section == "RSS input transformation":
-                said.transformations.append(name)
+                said.transformations.append(on.group(1))
             else:
-                said.functions.append(name)
+                said.functions.append(on.group(1))
         elif line.rstrip().endswith(":"):
             section = line.strip().rstrip(":")
     return said
 
 
-def hash_fields(lines):
+def hash_fields(lines: list[str]) -> set[str] | None:
     """The set of fields in `ethtool -n DEV rx-flow-hash KIND`, or None where it says none."""
     for at, line in enumerate(lines):
         if "discarded on RX" in line:
@@ -65,7 +66,7 @@ def hash_fields(lines):
     return None
 
 
-def merging(lines):
+def merging(lines: list[str]) -> list[str]:
     """The names of what merges packets and is on, from the lines of `ethtool -k DEV`."""
     found = []
     for line in lines:
@@ -75,9 +76,9 @@ def merging(lines):
     return found
 
 
-def rules(lines):
+def rules(lines: list[str]) -> list[tuple[int, list[str]]]:
     """The rules of `ethtool -n DEV`: a list of (number, lines of the rule without blanks)."""
-    found = []
+    found: list[tuple[int, list[str]]] = []
     for line in lines:
         head = re.fullmatch(r"Filter: ([0-9]{1,10})", line.strip())
         if head:
@@ -87,7 +88,7 @@ def rules(lines):
     return found
 
 
-def rules_told(lines):
+def rules_told(lines: list[str]) -> int | None:
     """How many rules `ethtool -n DEV` says that there are, or None."""
     for line in lines:
         told = re.fullmatch(r"Total ([0-9]{1,10}) rules?", line.strip())

@@ -1,5 +1,7 @@
 """Names the flows of a capture, as `steer hash` and `steer place` write them."""
 
+from __future__ import annotations
+
 import ipaddress
 import re
 
@@ -13,14 +15,14 @@ COUNT = re.compile(rb"packets (0|[1-9]\d{0,9})(?: cut \d+)?\n")
 LONGEST_LINE = 512
 
 
-def read_file(name):
+def read_file(name: str) -> list[str]:
     """The flow of each packet, as text, in the output of `steer hash` or `steer place` in a file.
 
     Raises NotThatFile for a line of another form, and Refused if the output is cut short.
     """
     source = cli.source_name(name)
-    flows = []
-    texts = {}
+    flows: list[str] = []
+    texts: dict[bytes, str] = {}
     with cli.open_bytes(name) as stream:
         line = stream.readline(LONGEST_LINE)
         while True:
@@ -54,7 +56,7 @@ def _address(digits):
     return ipaddress.ip_address(bytes.fromhex(digits))
 
 
-def name(flow):
+def name(flow: str) -> str:
     """A flow as people write it: `tcp4 10.0.0.11:40001 > 10.0.0.1:80`, `no IP` for `none`."""
     if flow == "none":
         return "no IP"

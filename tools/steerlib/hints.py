@@ -1,8 +1,11 @@
 """What the writer of a wrong plan may have meant."""
 
+from __future__ import annotations
+
 import difflib
 import functools
 import re
+from typing import Iterable
 
 from . import processors
 
@@ -24,22 +27,23 @@ def _letters(word):
     return frozenset(word)
 
 
-def near(word, known, least=0.5):
+def near(word: str, known: Iterable[str], least: float = 0.5) -> str | None:
     """The one of the `known` words that `word` is most like, or None."""
     letters = set(word.lower())
     alike = [one for one in known if 2 * len(letters & _letters(one)) >= len(_letters(one))]
-    return (difflib.get_close_matches(word.lower(), alike, 1, least) or [None])[0]
+    meant = difflib.get_close_matches(word.lower(), alike, 1, least)
+    return meant[0] if meant else None
 
 
-def of_key(name, known):
+def of_key(name: str, known: Iterable[str]) -> str:
     """A suffix that says which of the `known` keys `name` may be, or nothing."""
-    if MACHINE_NAMES.get(name.lower()) in known:
-        return ", is it `%s`?" % MACHINE_NAMES[name.lower()]
-    meant = near(name, known)
+    meant = MACHINE_NAMES.get(name.lower())
+    if meant is None or meant not in known:
+        meant = near(name, known)
     return ", is it `%s`?" % meant if meant else ""
 
 
-def of_set(value):
+def of_set(value: object) -> str:
     """A suffix that reads a text as a mask or list of sysfs, or nothing."""
     if not isinstance(value, str):
         return "; a set of one is [%d]" % value if type(value) is int and value >= 0 else ""
@@ -53,7 +57,7 @@ def of_set(value):
     return "; %s that is [%s]" % (form, ", ".join(map(str, members)))
 
 
-def of_number(value):
+def of_number(value: object) -> str:
     """A suffix that gives the number which a text or numeral may stand for, or nothing."""
     if not isinstance(value, str):
         return ""
@@ -66,7 +70,7 @@ def of_number(value):
     return ""
 
 
-def of_receive_key(value):
+def of_receive_key(value: object) -> str:
     """A suffix for a receive hash key of another form or length."""
     if not isinstance(value, str):
         return ""
@@ -100,7 +104,7 @@ def _of_word(rest, before):
 _LITERALS = {"True": "true", "False": "false", "None": "null"}
 
 
-def of_json(text, offset, reason):
+def of_json(text: str, offset: int, reason: str) -> str:
     """What may have been meant where the JSON goes wrong for this reason, or the empty text."""
     rest, before = text[offset:offset + 200], text[max(0, offset - 200):offset].rstrip()
     line = before.split("\n")[-1] + rest.split("\n")[0]

@@ -4,7 +4,11 @@ Drivers name them in many ways: `eth0-TxRx-3`, `virtio2-input.3`, `mlx5_comp3@pc
 that differ in their last number alone are one series, and the series of reception is taken.
 """
 
+from __future__ import annotations
+
 import re
+
+from .snapshot import Interrupt
 
 _LAST_NUMBER = re.compile(r"(.*?)([0-9]{1,6})$")
 _RECEIVES = ("rx", "input", "comp", "fp")
@@ -42,7 +46,7 @@ def _series(interrupts, device):
     return sorted(by_series[best], key=lambda member: (member[0] or 0, member[1].number))
 
 
-def of_queues(interrupts, device, queues):
+def of_queues(interrupts: list[Interrupt], device: str, queues: int) -> dict[int, Interrupt]:
     """The interrupt of each receive queue that has one: by number, else by order."""
     members = _series(interrupts, device)
     numbers = [number for number, _ in members]
@@ -54,7 +58,7 @@ def of_queues(interrupts, device, queues):
     return {queue: interrupt for queue, (_, interrupt) in enumerate(members[:queues])}
 
 
-def processor(interrupt):
+def processor(interrupt: Interrupt) -> tuple[int, bool] | None:
     """The processor of an interrupt and whether that is sure, or None where it is not told."""
     if interrupt.effective:
         return interrupt.effective[0], len(interrupt.effective) == 1

@@ -4,10 +4,13 @@ Scalars are Python's own (a numeral with point or exponent, or minus zero, is a 
 and objects know the offset of each member. Offsets count characters of the text from 0.
 """
 
+from __future__ import annotations
+
 import bisect
 import re
 import sys
 from array import array
+from typing import Any, Tuple
 
 from . import limits
 
@@ -26,7 +29,7 @@ _ESCAPES = {'"': '"', "\\": "\\", "/": "/", "b": "\b", "f": "\f", "n": "\n", "r"
 class Fault(Exception):
     """The text is no JSON: the offset of the place, and what is wrong there."""
 
-    def __init__(self, offset, reason):
+    def __init__(self, offset: int, reason: str) -> None:
         super().__init__(offset, reason)
         self.offset = offset
         self.reason = reason
@@ -36,13 +39,19 @@ class Numeral(str):
     """A number that is no whole number without sign and exponent, as it is written."""
 
 
+# A value that was read: a scalar, a Numeral, a List or an Object. Member: a name of an Object with
+# the offset of the name, the value, and the offset of the value.
+Value = Any
+Member = Tuple[str, int, Value, int]
+
+
 class List:
     """A list: its `values`, and the offset `starts[i]` of value i."""
 
     __slots__ = ("values", "starts")
 
-    def __init__(self):
-        self.values = []
+    def __init__(self) -> None:
+        self.values: list[Value] = []
         self.starts = array("Q")
 
 
@@ -51,10 +60,10 @@ class Object:
 
     __slots__ = ("members",)
 
-    def __init__(self):
-        self.members = []
+    def __init__(self) -> None:
+        self.members: list[Member] = []
 
-    def last(self):
+    def last(self) -> dict[str, Member]:
         """The member that counts for each name, which is its last, by name in their order."""
         return {member[0]: member for member in self.members}
 
@@ -62,18 +71,19 @@ class Object:
 class Places:
     """Lines and columns of a text."""
 
-    def __init__(self, text):
+    def __init__(self, text: str) -> None:
         self.starts = [0] + [found.end() for found in re.finditer("\n", text)]
 
-    def of(self, offset):
+    def of(self, offset: int) -> tuple[int, int]:
         """Line and column of an offset, both from 1."""
         line = bisect.bisect_right(self.starts, offset)
         return line, offset - self.starts[line - 1] + 1
 
 
-def skip_blanks(text, offset):
+def skip_blanks(text: str, offset: int) -> int:
     """The offset of the first character from here on that is no blank."""
-    return _BLANKS.match(text, offset).end()
+    found = _BLANKS.match(text, offset)
+    return found.end() if found else offset
 
 
 def _code_unit(text, offset):
@@ -99,7 +109,7 @@ def _escape(text, offset):
     return chr(0x10000 + ((unit - 0xd800) << 10) + (second - 0xdc00)), offset + 12
 
 
-def string(text, offset):
+def string(text: str, offset: int) -> tuple[str, int]:
     """The text whose opening quotation mark is here, and the offset behind it."""
     found = _PLAIN.match(text, offset)
     if found:
@@ -107,8 +117,9 @@ def string(text, offset):
     parts, begin, offset = [], offset, offset + 1
     while True:
         found = _RUN.match(text, offset)
-        parts.append(found.group())
-        offset = found.end()
+        if found:
+            parts.append(found.group())
+            offset = found.end()
         if offset == len(text):
             raise Fault(begin, "a text without its closing quotation mark")
         if text[offset] == '"':
@@ -187,7 +198,7 @@ def _object(text, offset, depth):
         offset = skip_blanks(text, offset + 1)
 
 
-def value_at(text, offset, depth=0):
+def value_at(text: str, offset: int, depth: int = 0) -> tuple[Value, int]:
     """The value that begins here, inside `depth` open brackets, and the offset behind it."""
     first = text[offset:offset + 1]
     if first == '"':
@@ -204,7 +215,7 @@ def value_at(text, offset, depth=0):
     raise Fault(offset, "no value" if first else "the text ends where a value should be")
 
 
-def parse(text):
+def parse(text: str) -> tuple[Value, int]:
     """The value that is the whole text, and the offset of its beginning. Raises Fault."""
     start = skip_blanks(text, 0)
     value, end = value_at(text, start)
@@ -214,7 +225,7 @@ def parse(text):
     return value, start
 
 
-def plain(value):
+def plain(value: Value) -> Any:
     """A read value as Python's own lists and dicts; of equal names the last stays."""
     if isinstance(value, List):
         return [plain(member) for member in value.values]

@@ -3,6 +3,8 @@
 A plan is taken here exactly where steer takes it; that is tested, and not proved.
 """
 
+from __future__ import annotations
+
 import collections
 import json
 import re
@@ -26,13 +28,13 @@ KEYS = ("cpus", "queues", "key", "kinds", "reta", "sock", "filters", "backlog", 
 class Fault:
     """One fault: the `offset` of its place, the `path` (None where it is no JSON), the reason."""
 
-    def __init__(self, offset, path, reason):
+    def __init__(self, offset: int, path: str | None, reason: str) -> None:
         self.offset = offset
         self.path = path
         self.reason = reason
 
 
-def shown(value):
+def shown(value: jsontext.Value) -> str:
     """A value as it may be written, shortened."""
     if isinstance(value, (jsontext.List, jsontext.Object)):
         return "a list" if isinstance(value, jsontext.List) else "an object"
@@ -221,7 +223,7 @@ def _too_much(data):
     return None
 
 
-def judge(data):
+def judge(data: bytes) -> tuple[str, jsontext.Value, list[Fault], list[str]]:
     """The text of a plan's bytes, its value (None where there is none), its faults and notes."""
     too_much = _too_much(data)
     if too_much:
@@ -246,7 +248,7 @@ def judge(data):
     return text, value, walk.faults, walk.notes
 
 
-def pointed(text, offset, width=72):
+def pointed(text: str, offset: int, width: int = 72) -> str:
     """The line of an offset and a caret under its column, both cut to `width` columns."""
     begin = text.rfind("\n", 0, offset) + 1
     end = text.find("\n", offset)

@@ -1,31 +1,22 @@
 """The plan of a machine, from a snapshot of it: what is told, what is guessed, what is refused."""
 
+from __future__ import annotations
+
 import math
 
 from . import card
 from . import homes
 from . import limits
 from . import processors
-
-
-class Findings:
-    """What is to be said of a plan: `notes` of guesses, and `refusals`."""
-
-    def __init__(self):
-        self.notes = []
-        self.refusals = []
-
-    def note(self, text):
-        self.notes.append(text)
-
-    def refuse(self, text):
-        self.refusals.append(text)
+from .findings import Findings
+from .plan import Plan
+from .snapshot import Snapshot
 
 
 class Machine:
     """The settings of a snapshot in the machine's own numbers of processors."""
 
-    def __init__(self, snapshot, findings):
+    def __init__(self, snapshot: Snapshot, findings: Findings) -> None:
         self.snapshot = snapshot
         self.findings = findings
         self.online = snapshot.cpus("online")
@@ -113,7 +104,7 @@ class Machine:
                                    "left out" % (number, processors.list_text(beyond)))
                 self.by_queue[-1] = [queue for queue in self.by_queue[-1] if queue not in beyond]
 
-    def homes(self, said):
+    def homes(self, said: dict[int, int]) -> list[int]:
         """The home processor of each queue; `said` has those that the user named."""
         told = homes.of_queues(self.snapshot.interrupts, self.snapshot.device,
                                len(self.receive))
@@ -134,7 +125,7 @@ class Machine:
                         "processor %d (say --home %d=CPU)" % (queue, chosen[-1], queue))
         return chosen
 
-    def readers(self, said, core):
+    def readers(self, said: list[int] | None, core: list[int]) -> list[int]:
         """The processor of each reader; `core` are the processors of masks and homes."""
         if said is not None:
             return said
@@ -146,7 +137,7 @@ class Machine:
                            "(say --apps LIST)")
         return core[:limits.MOST_READERS]
 
-    def numbering(self, core, apps):
+    def numbering(self, core: list[int], apps: list[int]) -> dict[int, int]:
         """The number in the plan of each processor that is used there."""
         used = set(core) | set(apps)
         mapped = set(cpu for cpus in self.by_processor for cpu in cpus)
@@ -169,15 +160,15 @@ class Machine:
             self.findings.note("%d processors of %s and are left out" % (len(cpus), why))
 
 
-def reached(table, queue, size):
+def reached(table: list[int], queue: int, size: int) -> int:
     """How many of `size` members of a mask the hashes of a queue pick by their remainder."""
     step = math.gcd(card.SIZE, size)
     return len({entry % step for entry, of in enumerate(table) if of == queue}) * (size // step)
 
 
-def warn_of_shared_bits(table, masks, findings):
+def warn_of_shared_bits(table: list[int], masks: list[list[int]], findings: Findings) -> None:
     """Notes where the table and the masks read the same bits of the hash."""
-    met = {}
+    met: dict[tuple[int, int], list[int]] = {}
     for queue, mask in enumerate(masks):
         if len(mask) > 1:
             members = reached(table, queue, len(mask))
@@ -192,7 +183,8 @@ def warn_of_shared_bits(table, masks, findings):
             "kernel (docs/kernel.md)" % (len(masks), size, which, members, size))
 
 
-def plan_of(snapshot, apps=None, home=None, nearest=False):
+def plan_of(snapshot: Snapshot, apps: list[int] | None = None, home: dict[int, int] | None = None,
+            nearest: bool = False) -> tuple[Plan, Findings]:
     """The plan of a snapshot, and the Findings; where these refuse, the plan is none.
 
     `apps` is a list of processors, `home` a dict from receive queues to processors.

@@ -1,18 +1,21 @@
 """Numbers on the command line, as types for argparse: each refuses with the range that it takes."""
 
+from __future__ import annotations
+
 import argparse
 import math
+from typing import Callable
 
 from . import limits
 
 MOST_SEEDS = 100000
 
 
-def whole_number(least, most=None):
+def whole_number(least: int, most: int | None = None) -> Callable[[str], int]:
     """The type of a whole number from `least` to `most`, where that is not None."""
     asked = "a whole number from %d %s" % (least, "on" if most is None else "to %d" % most)
 
-    def read(text):
+    def read(text: str) -> int:
         digits = text.isascii() and text.isdigit() and len(text) <= 20
         if not digits or int(text) < least or most is not None and int(text) > most:
             raise argparse.ArgumentTypeError("%s is not %s" % (text, asked))
@@ -21,7 +24,7 @@ def whole_number(least, most=None):
     return read
 
 
-def positive_number(text):
+def positive_number(text: str) -> float:
     """The type of a number above 0, with a decimal point or without, such as 2000, 0.5, 1e6."""
     try:
         number = float(text)
@@ -32,12 +35,12 @@ def positive_number(text):
     return number
 
 
-def number_text(number):
+def number_text(number: float) -> str:
     """A number as short as can be that reads as the same one, a whole one by its digits."""
     return "%d" % number if number == int(number) else repr(number)
 
 
-def seeds(text):
+def seeds(text: str) -> range:
     """The type of N, which is the seeds 1 to N, or A-B, which is the seeds A to B."""
     least, dash, most = text.partition("-")
     read = whole_number(0 if dash else 1, limits.MOST_NUMBER)
@@ -47,12 +50,12 @@ def seeds(text):
     return range(first, last + 1)
 
 
-def rates(text):
+def rates(text: str) -> list[float]:
     """The type of A,B,..: positive numbers, each once."""
     return list(dict.fromkeys(positive_number(part) for part in text.split(",")))
 
 
-def own_rate(text):
+def own_rate(text: str) -> tuple[int, float]:
     """The type of C=N: a processor, and a rate of its own."""
     cpu, equals, rate = text.partition("=")
     if not equals:
@@ -60,7 +63,7 @@ def own_rate(text):
     return whole_number(0)(cpu), positive_number(rate)
 
 
-def add_load(parser):
+def add_load(parser: argparse.ArgumentParser) -> None:
     """Adds the words that say what the processors do, beside their rate; `load_of` reads them."""
     parser.add_argument("--cpu", metavar="C=N", action="append", default=[], type=own_rate,
                         help="processor C serves N packets a second instead; may be repeated")

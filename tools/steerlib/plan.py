@@ -1,10 +1,16 @@
 """Plans: reading one that steer takes, and writing one a line for each queue."""
 
+from __future__ import annotations
+
 import json
+from typing import Any, Dict
 
 from . import cli
 from . import jsontext
 from . import lint
+
+# A plan with its keys: what is read from JSON.
+Plan = Dict[str, Any]
 
 DEFAULTS = {
     "kinds": 63, "filters": 0, "backlog": 1000, "start": 0, "limited": [], "workers": 1,
@@ -14,7 +20,7 @@ VERIFICATION_KEY = ("6d5a56da255b0ec24167253d43a38fb0d0ca2bcbae7b30b4"
                     "77cb2da38030f20c6a42b73bbeac01fa")
 
 
-def read_plan(name):
+def read_plan(name: str) -> Plan:
     """The plan of the file `name` as dicts and lists, with the keys that it has.
 
     NotThatFile where it is no JSON, Refused with the first fault where steer does not take it.
@@ -34,7 +40,7 @@ def read_plan(name):
     return jsontext.plain(value)
 
 
-def table_of(plan):
+def table_of(plan: Plan) -> list[int]:
     """The redirection table of a plan: 128 numbers of queues."""
     return plan.get("reta") or [i % len(plan["queues"]) for i in range(128)]
 
@@ -50,7 +56,7 @@ def _lines(values, indent):
     return (",\n" + " " * indent).join(lines + [line])
 
 
-def value_text(name, value):
+def value_text(name: str, value: Any) -> str:
     """One value of a plan as it is written behind its key."""
     indent = len(name) + 6
     if name in ("queues", "tx") and value:
@@ -60,7 +66,7 @@ def value_text(name, value):
     return json.dumps(value)
 
 
-def plan_text(plan):
+def plan_text(plan: Plan) -> str:
     """A plan as text: a line for each key, and one for each queue."""
     return "{" + ",\n ".join("%s: %s" % (json.dumps(name), value_text(name, value))
                              for name, value in plan.items()) + "}\n"

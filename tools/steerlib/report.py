@@ -4,27 +4,116 @@ A row of a report is a named tuple; a dash of the report is None. Counter number
 `at`) have 32 bits and wrap; all other numbers are indices, which count from 0, or plain counts.
 """
 
+from __future__ import annotations
+
+import functools
 import re
 import tempfile
-from collections import namedtuple
+from typing import IO, Any, Dict, Iterator, NamedTuple, Sequence
 
 from . import cli
 
 FIRST_LINE = b"steer 1\n"
 LONGEST_LINE = 512
 
-Packet = namedtuple("Packet", (
-    "id", "q", "via", "class_", "want", "head", "tail", "cpu", "why", "at",
-    "drop", "drop_accepted", "drop_pulled", "flow_offers", "app", "inbox", "place"))
-Reply = namedtuple("Reply", (
-    "id", "app", "rxq", "cpu", "pick", "head", "tail", "tx", "why", "at", "port"))
-Queue = namedtuple("Queue", ("queue", "arrived", "taken"))
-Cpu = namedtuple("Cpu", ("cpu", "accepted", "pulled", "delivered", "retired", "dropped"))
-Tx = namedtuple("Tx", ("tx", "accepted", "pulled", "delivered", "retired"))
-Write = namedtuple("Write", ("app", "entry", "cpu"))
-Answer = namedtuple("Answer", ("number", "step", "answer"))
-Tap = namedtuple("Tap", ("number", "text"))
-End = namedtuple("End", ("arrived", "total", "cut"))
+
+class Packet(NamedTuple):
+    """A line `p`. `drop`, with its two counts, and `flow_offers` are of a dropped packet."""
+
+    id: int
+    q: int
+    via: str
+    class_: int | None
+    want: int | None
+    head: int | None
+    tail: int | None
+    cpu: int | None
+    why: str | None
+    at: int | None
+    drop: int | None
+    drop_accepted: int | None
+    drop_pulled: int | None
+    flow_offers: int | None
+    app: int
+    inbox: int | None
+    place: str
+
+
+class Reply(NamedTuple):
+    """A line `r`: the reply to a packet."""
+
+    id: int
+    app: int
+    rxq: int
+    cpu: int
+    pick: int | None
+    head: int | None
+    tail: int | None
+    tx: int | None
+    why: str | None
+    at: int | None
+    port: int | None
+
+
+class Queue(NamedTuple):
+    """The sums of a receive queue."""
+
+    queue: int
+    arrived: int
+    taken: int
+
+
+class Cpu(NamedTuple):
+    """The sums of a processor; `retired` is None where they are counted from packets."""
+
+    cpu: int
+    accepted: int
+    pulled: int
+    delivered: int
+    retired: int | None
+    dropped: int
+
+
+class Tx(NamedTuple):
+    """The sums of a transmit queue; `pulled` and `retired` are None where they are counted."""
+
+    tx: int
+    accepted: int
+    pulled: int | None
+    delivered: int
+    retired: int | None
+
+
+class Write(NamedTuple):
+    """A write of the table of readers (rps_sock_flow_entries)."""
+
+    app: int
+    entry: int
+    cpu: int
+
+
+class Answer(NamedTuple):
+    """A command and what was answered."""
+
+    number: int
+    step: str
+    answer: str
+
+
+class Tap(NamedTuple):
+    """What a tap wrote."""
+
+    number: int
+    text: bytes
+
+
+class End(NamedTuple):
+    """The last line."""
+
+    arrived: int
+    total: int
+    cut: int | None
+
 
 MOVES = ("passed", "offline")
 """The reasons for which a packet's flow leaves the processor, or the queue, that it had."""
@@ -53,8 +142,8 @@ FORMS = {
 }
 """The form of each kind of line, in the order of a report: N a number, M a number or a dash."""
 
-ROWS = {"p": Packet, "r": Reply, "queue": Queue, "cpu": Cpu, "tx": Tx, "w": Write, "c": Answer,
-        "tap": Tap, "end": End}
+ROWS: Dict[str, Any] = {"p": Packet, "r": Reply, "queue": Queue, "cpu": Cpu, "tx": Tx, "w": Write,
+                        "c": Answer, "tap": Tap, "end": End}
 
 KINDS = [kind for kind in FORMS if kind != "end"]
 
@@ -69,6 +158,24 @@ def _pattern(form):
 PATTERNS = {kind: _pattern(form) for kind, form in FORMS.items()}
 
 
+@functools.lru_cache(maxsize=None)
+def _field_pattern(kind, names):
+    """The pattern of a kind that captures these fields alone, for the whole of a report."""
+    fields = iter(ROWS[kind]._fields)
+    text = re.sub(rb"\((?!\?)", lambda _: b"(" if next(fields) in names else b"(?:",
+                  PATTERNS[kind].pattern)
+    return re.compile(b"^" + text, re.ASCII | re.MULTILINE)
+
+
+def fields_of(data: bytes, kind: str, names: Sequence[str]) -> list[tuple[bytes, ...]]:
+    """These fields of each line of a kind in the bytes of a report, in the order of the row.
+
+    Fields are bytes as they are written, empty where the line's form leaves them out. This is for
+    reports that were just made: nothing is checked, and a line of another form is passed over.
+    """
+    return _field_pattern(kind, tuple(names)).findall(data)
+
+
 class Report:
     """A report: lists of rows by kind. `taps` are (number, bytes); `end` is the last line.
 
@@ -76,7 +183,9 @@ class Report:
     a cut last record the capture has, or None.
     """
 
-    def __init__(self, packets, replies, queues, cpus, tx, writes, answers, taps, end):
+    def __init__(self, packets: list[Packet], replies: list[Reply], queues: list[Queue],
+                 cpus: list[Cpu], tx: list[Tx], writes: list[Write], answers: list[Answer],
+                 taps: list[Tap], end: End) -> None:
         self.packets = packets
         self.replies = replies
         self.queues = queues
@@ -87,7 +196,7 @@ class Report:
         self.taps = taps
         self.end = end
 
-    def by_kind(self):
+    def by_kind(self) -> dict[str, list[Any]]:
         """The lists of rows by kind: `p`, `r`, `queue`, `cpu`, `tx`, `w`, `c`, `tap`."""
         return dict(zip(KINDS, (self.packets, self.replies, self.queues, self.cpus, self.tx,
                                 self.writes, self.answers, self.taps)))
@@ -203,7 +312,7 @@ def _read_end(lines, values):
     return End._make(map(values.__getitem__, found.groups()))
 
 
-def read(stream, source="report"):
+def read(stream: IO[bytes], source: str = "report") -> Report:
     """The report that a binary stream has; `source` names it in messages.
 
     Raises NotThatFile if the first line is not that of a report, and Refused if it is cut short, a
@@ -214,20 +323,21 @@ def read(stream, source="report"):
         raise cli.NotThatFile(source, "is no report: its first line is not `steer 1`")
     lines.advance()
     values = _Values()
-    rows = [_read_kind(kind, lines, values) for kind in KINDS]
-    report = Report(*rows, _read_end(lines, values))
+    rows: list[Any] = [_read_kind(kind, lines, values) for kind in KINDS]
+    rows.append(_read_end(lines, values))
+    report = Report(*rows)
     for difference in differences(report):
         raise cli.Refused(source, difference)
     return report
 
 
-def read_file(name):
+def read_file(name: str) -> Report:
     """The report in the file `name`; `-` is standard input, and gz is opened through."""
     with cli.open_bytes(name) as stream:
         return read(stream, cli.source_name(name))
 
 
-def replay(plan, capture):
+def replay(plan: str, capture: str) -> Report:
     """The report of `steer replay` on the files with these names."""
     with tempfile.TemporaryFile() as out:
         cli.run_steer(["replay", plan, capture], out)
@@ -306,7 +416,7 @@ def _work_in_order(kind, rows):
                                    row.retired))
 
 
-def differences(report):
+def differences(report: Report) -> Iterator[str]:
     """A text for each sum of a report that is not the sum over its packets or replies.
 
     `retired` of a processor, and `pulled` and `retired` of a transmit queue, cannot be counted from

@@ -4,13 +4,17 @@ ethtool prints masks inverted: a bit that is 1 is not compared. `steer place` ha
 other way round, so that they are turned here.
 """
 
+from __future__ import annotations
+
 import ipaddress
 import re
+from typing import Any
 
 from . import card
 from . import ethtool
 from . import limits
-from . import machine
+from .findings import Findings
+from .snapshot import Snapshot
 
 MOST_RULES = 4096
 KINDS = {"TCP over IPv4": "tcp4", "UDP over IPv4": "udp4", "TCP over IPv6": "tcp6",
@@ -88,9 +92,9 @@ def _rule(number, lines, queues, findings):
     return rule
 
 
-def rules_of(snapshot):
+def rules_of(snapshot: Snapshot) -> tuple[dict[str, Any], Findings]:
     """The rules of a snapshot as the object that `steer place` reads, and the Findings."""
-    findings = machine.Findings()
+    findings = Findings()
     queues = len(snapshot.queues["rx"])
     if queues > limits.MOST_QUEUES:
         findings.refuse("%d receive queues, and rules have at most %d"
@@ -107,7 +111,7 @@ def rules_of(snapshot):
     if len(found) > 1:
         findings.note("%d rules, in the order of their numbers; a card may look at them in "
                       "another" % len(found))
-    made = {"queues": queues}
+    made: dict[str, Any] = {"queues": queues}
     kinds = card.kinds(snapshot, findings)
     if kinds not in (None, limits.MOST_KINDS):
         made["kinds"] = kinds

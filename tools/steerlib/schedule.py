@@ -9,61 +9,103 @@ another round only where its queue was right before its processor, or that befor
 Times are nanoseconds, rates packets a second.
 """
 
+from __future__ import annotations
+
 import contextlib
 import heapq
 import json
 import os
-import re
 import shutil
 import tempfile
-from collections import deque, namedtuple
+from collections import deque
 from itertools import accumulate
+from typing import Callable, Dict, Iterator, List, NamedTuple, Union
 
 from . import capture as captures
-from . import cli, flows, limits
+from . import cli, flows, limits, report
 from . import plan as plans
 
 MOST_ROUNDS = 500
 COMMANDS = ("mask", "flows", "sock", "offline", "online", "xcpus", "xqueues", "reta", "stand",
             "expire")
 
-# Of each packet its queue, processor and application, by number, and two sets of packets: those
-# that were dropped, and those of them that the flow limit dropped.
-Places = namedtuple("Places", "queues cpus apps dropped limited")
-
-# rates: of each processor. flows: the flow number of each packet where packets are read, or None.
-Service = namedtuple("Service", "rates backlog flows replies")
-
-# steps: the list that was agreed upon. dropped: how many. rounds: after how many.
-Agreed = namedtuple("Agreed", "steps dropped rounds")
-
-_PLACE = re.compile(
-    rb"^p \d+ q (\d+) via \w+ class \S+ want \S+ head \S+ tail \S+ cpu (\d+) why \w+ "
-    rb"at (?:(drop) \d+ \d+ \d+( flow)?[ \d]*|\d+) app (\d+) ", re.MULTILINE)
+# What a plan has as its steps: texts, or a seed and a count.
+Steps = Union[List[str], Dict[str, int]]
 
 
-def places_of(report):
-    """The Places that the bytes of a report tell, of packets that were all put."""
+class Places(NamedTuple):
+    """Of each packet its queue, processor and application, and the packets that were dropped.
+
+    `limited` are those that the flow limit dropped, which are among `dropped`.
+    """
+
+    queues: list[int]
+    cpus: list[int]
+    apps: list[int]
+    dropped: set[int]
+    limited: set[int]
+
+
+class Service(NamedTuple):
+    """What serves packets: a rate for each processor, in packets a second, and the backlog.
+
+    `flows` has the flow number of each packet where packets are read, else it is None.
+    """
+
+    rates: list[float]
+    backlog: int
+    flows: list[int] | None
+    replies: bool
+
+
+class Agreed(NamedTuple):
+    """The list of steps that was agreed upon, how many it drops, and after how many rounds."""
+
+    steps: list[str]
+    dropped: int
+    rounds: int
+
+
+class Load(NamedTuple):
+    """What the processors have to do, in packets a second, and how fast the packets come.
+
+    `rate` is that of each processor but those of `own_rates`, which are pairs of a number and its
+    rate; it is 0 where each trial has its own. `reads`, `replies`: whether packets are read,
+    and replied to, once they are delivered. `speed` is how many times as fast they come.
+    """
+
+    rate: float
+    own_rates: list[tuple[int, float]]
+    reads: bool
+    replies: bool
+    speed: float
+
+
+_PLACE = ("q", "cpu", "at", "drop", "flow_offers", "app")
+
+
+def places_of(data: bytes) -> Places:
+    """The Places that the bytes of a report name, of those of its packets that were put."""
     queues, cpus, apps = [], [], []
     dropped, limited = set(), set()
-    for number, found in enumerate(_PLACE.findall(report)):
-        queue, cpu, drop, flow, app = found
+    put = (fields for fields in report.fields_of(data, "p", _PLACE) if fields[2] != b"-")
+    for number, (queue, cpu, _, drop, offers, app) in enumerate(put):
         queues.append(int(queue))
         cpus.append(int(cpu))
         apps.append(int(app))
         if drop:
             dropped.add(number)
-            if flow:
+            if offers:
                 limited.add(number)
     return Places(queues, cpus, apps, dropped, limited)
 
 
-def times_of(name, source):
+def times_of(name: str, source: str) -> list[int]:
     """The time of each packet that steer reads in the capture `name`, in the order of the file.
 
     Messages name `source`; what is odd about the times is noted.
     """
-    times = []
+    times: list[int] = []
     passed_over = 0
     merged = captures.Merged()
     with cli.open_bytes(name) as stream:
@@ -71,9 +113,8 @@ def times_of(name, source):
             if frame.kind == captures.OBSOLETE:
                 passed_over += 1
                 continue
-            _check(frame, len(times), source)
+            times.append(_time(frame, len(times), source))
             merged.show(frame)
-            times.append(frame.time)
     if passed_over:
         cli.note("%d obsolete packet blocks have no step, since steer passes them over; steer-cap "
                  "makes packets of them" % passed_over)
@@ -82,8 +123,8 @@ def times_of(name, source):
     return times
 
 
-def _check(frame, number, source):
-    """Refuses a frame that steer does not read, or that has no time."""
+def _time(frame, number, source):
+    """The time of a frame; one that steer does not read, or that has none, is refused."""
     if frame.link != captures.ETHERNET:
         raise cli.Refused(source, "packet %d has link type %d, and steer reads 1 (Ethernet); "
                           "steer-cap turns others into it" % (number, frame.link))
@@ -93,6 +134,7 @@ def _check(frame, number, source):
     if number == limits.MOST_PACKETS:
         raise cli.Refused(source, "more than %d packets; steer-cap takes a part"
                           % limits.MOST_PACKETS)
+    return frame.time
 
 
 def _say_order(times):
@@ -105,12 +147,17 @@ def _say_order(times):
         cli.note("no packet is later than the first, so all arrive at once")
 
 
-def arrivals_of(times, speed):
+def arrivals_of(times: list[int], speed: float) -> list[float]:
     """The nanoseconds from the first packet to each, divided by `speed`.
 
     A packet that stands in the file behind one of a later time arrives with that one.
     """
-    return [(latest - times[0]) / speed for latest in accumulate(times, max)]
+    latest = 0
+    arrivals = []
+    for time in times:
+        latest = max(latest, time - times[0])
+        arrivals.append(latest / speed)
+    return arrivals
 
 
 class _Processors:
@@ -167,7 +214,8 @@ class _Processors:
                 self._serve(cpu, time)
 
 
-def make_steps(arrivals, places, service):
+def make_steps(arrivals: list[float], places: Places,
+               service: Service) -> tuple[list[str], set[int]]:
     """The steps of these arrivals where each packet goes to its place, and the packets dropped.
 
     Service that ends at the moment of an arrival comes before it.
@@ -192,7 +240,7 @@ def _packets_that_fit(count, dropped, service):
     return count
 
 
-def elsewhere(places, dropped, answer):
+def elsewhere(places: Places, dropped: set[int], answer: Places) -> list[int]:
     """The packets that the answer has at another queue or processor, or dropped or not."""
     return [packet for packet, (queue, cpu) in enumerate(zip(answer.queues, answer.cpus))
             if queue != places.queues[packet] or cpu != places.cpus[packet]
@@ -205,7 +253,9 @@ def _check_count(places, arrivals, source):
                           % (len(arrivals), len(places.queues)))
 
 
-def agree(arrivals, guess, service, replay, source, say=None):
+def agree(arrivals: list[float], guess: Places, service: Service,
+          replay: Callable[[list[str]], Places], source: str,
+          say: Callable[[str], None] | None = None) -> Agreed:
     """The steps that serve these arrivals at these rates, agreed upon with the replay: Agreed.
 
     `guess` are the Places to begin with, `replay` gives those of steer's report of a list of
@@ -241,7 +291,8 @@ class Replays:
     report of the last replay is its file `report`.
     """
 
-    def __init__(self, settings, source, capture, shown_capture, folder):
+    def __init__(self, settings: plans.Plan, source: str, capture: str, shown_capture: str,
+                 folder: str) -> None:
         self.settings = settings
         self.source = source
         self.capture = capture
@@ -250,11 +301,11 @@ class Replays:
         self.plan = os.path.join(folder, "plan.json")
         self.report = os.path.join(folder, "report")
 
-    def with_steps(self, steps):
+    def with_steps(self, steps: Steps) -> plans.Plan:
         """The plan with these steps in place of its own."""
         return dict(self.settings, steps=steps)
 
-    def run(self, steps):
+    def run(self, steps: Steps) -> None:
         """Replays these steps; a plan that steer refuses is Refused with steer's own message."""
         with open(self.plan, "w", encoding="ascii") as out:
             out.write(json.dumps(self.with_steps(steps)))
@@ -267,24 +318,24 @@ class Replays:
                 source = self.source if fault.reason.startswith("plan") else self.shown_capture
                 raise cli.Refused(source, fault.reason) from None
 
-    def places(self, steps):
+    def places(self, steps: Steps) -> Places:
         """The Places of a replay of these steps."""
         self.run(steps)
-        with open(self.report, "rb") as report:
-            return places_of(report.read())
+        with open(self.report, "rb") as stream:
+            return places_of(stream.read())
 
 
-def flow_numbers(capture, folder):
+def flow_numbers(capture: str, folder: str) -> list[int]:
     """The flow number of each packet of a capture, as `record` takes it."""
     name = os.path.join(folder, "hash")
     with open(name, "wb") as out:
         cli.run_steer(["hash", capture], out)
-    numbers = {}
+    numbers: dict[str, int] = {}
     return [numbers.setdefault(flow, len(numbers)) for flow in flows.read_file(name)]
 
 
 @contextlib.contextmanager
-def plain_file(name):
+def plain_file(name: str) -> Iterator[str]:
     """The name of a file with the bytes of the capture `name` that steer itself can read again.
 
     That is `name`, or a copy for the time of the context where it is packed, standard input or a
@@ -302,12 +353,7 @@ def plain_file(name):
         yield copy.name
 
 
-# rate: of each processor but those of `own_rates`, pairs of a number and its rate. reads, replies:
-# whether packets are read, and replied to, once they are delivered. speed: of the capture's time.
-Load = namedtuple("Load", "rate own_rates reads replies speed")
-
-
-def service_of(settings, load, flows):
+def service_of(settings: plans.Plan, load: Load, flows: list[int] | None) -> Service:
     """The Service that a plan's processors give; `settings` are those of a plan that steer takes.
 
     WrongWords where a processor of the load's own rates is none of the plan.
@@ -322,7 +368,8 @@ def service_of(settings, load, flows):
     return Service(rates, settings.get("backlog", plans.DEFAULTS["backlog"]), flows, load.replies)
 
 
-def timed_steps(replays, times, load, say=None):
+def timed_steps(replays: Replays, times: list[int], load: Load,
+                say: Callable[[str], None] | None = None) -> Agreed:
     """The Agreed steps of a plan (its Replays) for packets of these times under a load."""
     numbers = flow_numbers(replays.capture, replays.folder) if load.reads else None
     service = service_of(replays.settings, load, numbers)
@@ -331,7 +378,7 @@ def timed_steps(replays, times, load, say=None):
     return agree(arrivals, guess, service, replays.places, replays.shown_capture, say)
 
 
-def say_about(settings, source, load):
+def say_about(settings: plans.Plan, source: str, load: Load) -> None:
     """Notes what of a plan, which messages name `source`, does not show in steps by times."""
     steps = settings["steps"] if isinstance(settings["steps"], list) else []
     commands = sum(step.split(" ")[0] in COMMANDS for step in steps)

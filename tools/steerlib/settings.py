@@ -4,8 +4,11 @@ A plan is changed as text, so that all that is not set stays byte for byte, its 
 unknown keys among it.
 """
 
+from __future__ import annotations
+
 import json
 import re
+from typing import Any
 
 from . import card
 from . import cli
@@ -17,6 +20,7 @@ from . import lint
 from . import machine
 from . import plan
 from . import processors
+from .findings import Findings
 
 # Names of a queue's settings: the list of the plan, the key there, and how values are read.
 OF_QUEUE = {
@@ -64,9 +68,10 @@ def _numbers(word, text):
     return [int(part) for part in parts]
 
 
-def weighted(weights):
+def weighted(weights: list[int]) -> list[int]:
     """The table that `ethtool -X DEV weight W0 W1 ..` makes: blocks of entries."""
-    table, total, partial = [], sum(weights), 0
+    table: list[int] = []
+    total, partial = sum(weights), 0
     for queue, weight in enumerate(weights):
         partial += weight
         table += [queue] * (limits.TABLE_ENTRIES * partial // total - len(table))
@@ -116,7 +121,7 @@ def _receive_key(word, text):
 class Settings:
     """A plan as text, in which settings are changed; `text` is the plan as it is now."""
 
-    def __init__(self, data, source):
+    def __init__(self, data: bytes, source: str) -> None:
         self.source = source
         self.text, value, faults, _ = lint.judge(data)
         places = jsontext.Places(self.text)
@@ -129,16 +134,16 @@ class Settings:
                                   % (fault.path, fault.reason))
         self.value = value
         self.plan = jsontext.plain(value)
-        self.changed = {}
+        self.changed: dict[tuple[str | int, ...], Any] = {}
 
-    def set(self, word):
+    def set(self, word: str) -> None:
         """Makes the setting NAME=VALUE of this word. Raises WrongWords with the range."""
         name, sign, text = word.partition("=")
         if not sign:
             raise cli.WrongWords("%s: no setting of the form NAME=VALUE" % word)
         found = _QUEUE.fullmatch(name)
         if found and (found.group(1), found.group(3)) in OF_QUEUE:
-            self._of_queue(word, *found.groups(), text)
+            self._of_queue(word, found.group(1), found.group(2), found.group(3), text)
         elif name in SIMPLE:
             self._simple(word, name, text)
         elif name.startswith("rx-flow-hash/"):
@@ -208,7 +213,7 @@ class Settings:
                 return None
         return start, jsontext.value_at(self.text, start)[1]
 
-    def written(self):
+    def written(self) -> str:
         """The text of the plan with all settings made."""
         edits, absent = [], []
         for path, value in self.changed.items():
@@ -219,15 +224,15 @@ class Settings:
                 absent.append('"%s": %s,' % (path[-1], json.dumps(value)))
         if absent:
             before = self.value.last()["steps"][1]
-            gap = re.search(r"[ \t\r\n]*$", self.text[:before]).group() or " "
+            gap = self.text[len(self.text[:before].rstrip(" \t\r\n")):before] or " "
             edits.append((before, before, gap.join(absent) + gap))
         for start, end, new in sorted(edits, reverse=True):
             self.text = self.text[:start] + new + self.text[end:]
         return self.text
 
-    def notes(self):
+    def notes(self) -> list[str]:
         """Warnings of what the settings that were made have as a consequence."""
-        findings = machine.Findings()
+        findings = Findings()
         if any(path[-1] in ("mask", "reta") for path in self.changed):
             machine.warn_of_shared_bits(plan.table_of(self.plan), [
                 queue["mask"] for queue in self.plan["queues"]], findings)

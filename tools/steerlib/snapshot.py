@@ -1,5 +1,7 @@
 """Reading what steer-snap wrote: a snapshot of one machine and one network device."""
 
+from __future__ import annotations
+
 import re
 
 from . import cli
@@ -15,7 +17,8 @@ _LINE = re.compile(r"(dev|kernel|taken)(?: (.*))?")
 class Interrupt:
     """An interrupt: its number, its `effective` and `wanted` lists (None: unread), its name."""
 
-    def __init__(self, number, effective, wanted, name):
+    def __init__(self, number: int, effective: list[int] | None, wanted: list[int] | None,
+                 name: str) -> None:
         self.number = number
         self.effective = effective
         self.wanted = wanted
@@ -29,30 +32,30 @@ class Snapshot:
     (`cpus` or `sysctl`, name), `answers` has the lines that ethtool gave for its words.
     """
 
-    def __init__(self, source):
+    def __init__(self, source: str) -> None:
         self.source = source
         self.device = ""
-        self.facts = {}
-        self.queues = {"rx": {}, "tx": {}}
-        self.interrupts = []
-        self.answers = {}
+        self.facts: dict[tuple[str, str], str] = {}
+        self.queues: dict[str, dict[int, dict[str, str]]] = {"rx": {}, "tx": {}}
+        self.interrupts: list[Interrupt] = []
+        self.answers: dict[str, list[str]] = {}
 
-    def refused(self, reason):
+    def refused(self, reason: str) -> cli.Refused:
         return cli.Refused(self.source, reason)
 
-    def fact(self, of, name):
+    def fact(self, of: str, name: str) -> str | None:
         """The text of a fact, or None where it is not there or was not read."""
         return read(self.facts.get((of, name)))
 
-    def queue_fact(self, side, number, name):
+    def queue_fact(self, side: str, number: int, name: str) -> str | None:
         """The text of a queue's file, or None where it is not there or was not read."""
         return read(self.queues[side][number].get(name))
 
-    def ethtool(self, words):
+    def ethtool(self, words: str) -> list[str]:
         """The lines of `ethtool WORDS`, where {} in the words is the device."""
         return self.answers.get(words.replace("{}", self.device), [])
 
-    def cpus(self, name):
+    def cpus(self, name: str) -> list[int]:
         """A list of processors of the machine; Refused where it is none."""
         text = self.fact("cpus", name)
         try:
@@ -61,7 +64,7 @@ class Snapshot:
             raise self.refused("cpus %s: %s" % (name, fault)) from None
 
 
-def read(text):
+def read(text: str | None) -> str | None:
     """A fact's text, or None where it is not there or was not read."""
     return None if text is None or text.startswith("!") else text
 
@@ -113,7 +116,7 @@ def _check_whole(snapshot):
         raise snapshot.refused("no line `dev`")
 
 
-def parse(text, source):
+def parse(text: str, source: str) -> Snapshot:
     """The Snapshot of this text. NotThatFile for another kind of file, Refused for a part."""
     lines = text.split("\n")
     if lines[0].rstrip("\r") != FIRST_LINE:
@@ -139,6 +142,6 @@ def parse(text, source):
     return snapshot
 
 
-def read_snapshot(name):
+def read_snapshot(name: str) -> Snapshot:
     """The Snapshot in the file `name`."""
     return parse(cli.read_text(name), cli.source_name(name))

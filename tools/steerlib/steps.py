@@ -1,5 +1,7 @@
 """The texts of steps: their grammar, their ranges, and what a wrong one may have meant."""
 
+from __future__ import annotations
+
 import re
 
 from . import hints
@@ -30,7 +32,7 @@ _SET = re.compile("[0-9]{1,10}(?:,[0-9]{1,10})*")
 class Bounds:
     """How many of each there are in a plan, which bounds the numbers of its steps."""
 
-    def __init__(self, queues, cpus, apps, transmit):
+    def __init__(self, queues: int, cpus: int, apps: int, transmit: int) -> None:
         self.highest = {
             "q": queues - 1, "c": cpus - 1, "a": apps - 1, "t": transmit - 1,
             "n": limits.MOST_PACKETS - 1, "i": limits.TABLE_ENTRIES - 1,
@@ -83,7 +85,7 @@ def _no_word(word):
     return "no such step" + (", is it `%s`?" % meant if meant else "")
 
 
-def fault(text, bounds):
+def fault(text: str, bounds: Bounds) -> str | None:
     """What is wrong with this step's text under these Bounds, in words, or None."""
     words = text.split(" ")
     letters = GRAMMAR.get(words[0])

@@ -1,8 +1,12 @@
 """A report on one screen: sums, and where the packets of each flow went."""
 
+from __future__ import annotations
+
 from collections import Counter
+from typing import Iterator
 
 from . import cli, flows, report, tables
+from .report import Report
 
 FLOWS_SHOWN = 10
 IN_ORDER = ("ring", "poller", "backlog", "hand")
@@ -91,7 +95,7 @@ def _flows(rep, names):
             len(count) - len(shown), len(rep.packets) - sum(packets for _, packets in shown))
 
 
-def screen(rep, names=None, source="HASH"):
+def screen(rep: Report, names: list[str] | None = None, source: str = "HASH") -> Iterator[str]:
     """The lines of the screen; `names` are the flows of the packets, read from `source`."""
     if names is not None and len(names) != rep.end.total:
         raise cli.Refused(source, "has %d packets, and the report is of %d"

@@ -1,7 +1,10 @@
 """Tables: rows of a report as CSV or JSON lines, and columns of text with bars."""
 
+from __future__ import annotations
+
 import csv
 import json
+from typing import Any, Iterable, Iterator, Sequence, TextIO
 
 from . import report
 
@@ -11,19 +14,19 @@ KINDS = ("p", "r", "queue", "cpu", "tx", "w", "c")
 BAR = 24
 
 
-def columns(kind):
+def columns(kind: str) -> list[str]:
     """The names of the columns of a kind; they are those of the report's fields."""
     return [name.rstrip("_") for name in report.ROWS[kind]._fields]
 
 
-def write_csv(rows, kind, out):
+def write_csv(rows: Iterable[Sequence[Any]], kind: str, out: TextIO) -> None:
     """Rows as CSV with a first line of names; an absent value is an empty field."""
     writer = csv.writer(out, lineterminator="\n")
     writer.writerow(columns(kind))
     writer.writerows(rows)
 
 
-def write_json(rows, kind, out):
+def write_json(rows: Iterable[Sequence[Any]], kind: str, out: TextIO) -> None:
     """Rows as JSON, an object a line; an absent value is null, and numbers stay numbers."""
     names = columns(kind)
     encode = json.JSONEncoder().encode
@@ -31,17 +34,17 @@ def write_json(rows, kind, out):
         out.write(encode(dict(zip(names, row))) + "\n")
 
 
-def share(part, whole):
+def share(part: float, whole: float) -> str:
     """A part in per cent of the whole, such as `42.5%`; of nothing it is `0.0%`."""
     return "%.1f%%" % (100.0 * part / whole if whole else 0.0)
 
 
-def bar(part, largest):
+def bar(part: float, largest: float) -> str:
     """A bar of # whose length is to BAR as the part is to the largest."""
     return "#" * (round(BAR * part / largest) if largest else 0)
 
 
-def aligned(header, rows):
+def aligned(header: Sequence[str], rows: Iterable[Sequence[object]]) -> Iterator[str]:
     """Lines of a table: all columns but the last are aligned to the right, by their widest."""
     lines = [list(header)] + [[str(field) for field in row] for row in rows]
     widths = [max(len(line[place]) for line in lines) for place in range(len(header) - 1)]

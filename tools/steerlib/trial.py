@@ -4,39 +4,73 @@ A trial is independent of all others, so they run in any order, at once, or on o
 what one leaves is a report, whose name says the plan and the seed or the rate.
 """
 
+from __future__ import annotations
+
 import os
 import re
 import shlex
 import signal
 import statistics
 import tempfile
-from collections import namedtuple
 from concurrent.futures import ProcessPoolExecutor
 from concurrent.futures.process import BrokenProcessPool
+from typing import Any, Callable, Dict, Iterator, NamedTuple, Sequence, Tuple, Union
 from urllib.parse import quote, unquote
 
 from . import cli, limits, numbers, report, schedule, tables
+from .plan import Plan
 
 SEED, RATE = "seed", "pps"
 STEPS_PER_PACKET = 4
 REPORT, REFUSED = ".report", ".refused"
 
-# plan: the name of its file. settings: what it has, or an exception that says why there are none.
-# kind: SEED or RATE. value: the seed, or the packets a second.
-Trial = namedtuple("Trial", "plan settings kind value")
 
-# What all trials of a call share. capture: a file that steer reads, shown: what messages name it.
-# times: those of its packets, or None. packets: how many. load: without its rate. work: a folder
-# for what is made underway. folder: where the reports are kept, on the same disk, or None.
-Setting = namedtuple("Setting", "capture shown times packets load work folder")
+class Trial(NamedTuple):
+    """One trial: the name of the plan's file, what it has, and the seed or packets a second.
 
-# What a report says in one line. offered: the packets of each processor, with the dropped ones.
-Outcome = namedtuple("Outcome", "packets drops moves offered")
+    `settings` is an exception where there are none, which says why. `kind` is SEED or RATE.
+    """
+
+    plan: str
+    settings: Plan | Exception
+    kind: str
+    value: float
+
+
+class Setting(NamedTuple):
+    """What all trials of a call share.
+
+    `capture` is a file that steer reads, which messages name `shown`; `times` are those of its
+    packets, or None; `load` is without its rate; `work` is a folder for what is made underway, and
+    `folder`, on the same disk, the one where the reports are kept, or None.
+    """
+
+    capture: str
+    shown: str
+    times: list[int] | None
+    packets: int
+    load: schedule.Load | None
+    work: str
+    folder: str | None
+
+
+class Outcome(NamedTuple):
+    """What a report says in one line; `offered` are the packets of each processor, with drops."""
+
+    packets: int
+    drops: int
+    moves: int
+    offered: list[int]
+
+
+# A plan with what was found for each kind and value; a plan's label with that for each value.
+Row = Tuple[str, Dict[Tuple[str, float], Union[Outcome, str]]]
+ValueRow = Tuple[str, Dict[float, Union[Outcome, str]]]
 
 _NAME = re.compile(r"(.+)\.(seed|pps)-([0-9.e+-]+)(\.report|\.refused)")
 
 
-def outcome_of(name):
+def outcome_of(name: str) -> Outcome:
     """The Outcome that the report in the file `name` has."""
     rep = report.read_file(name)
     return Outcome(rep.end.total, sum(row.dropped for row in rep.cpus),
@@ -44,12 +78,12 @@ def outcome_of(name):
                    [row.accepted + row.dropped for row in rep.cpus])
 
 
-def report_name(trial):
+def report_name(trial: Trial) -> str:
     """The name of a trial's report, without its folder and ending; it tells the plan's path."""
     return "%s.%s-%s" % (quote(trial.plan, safe=""), trial.kind, numbers.number_text(trial.value))
 
 
-def trial_of(name):
+def trial_of(name: str) -> tuple[str, str, float, str] | None:
     """The plan, kind and value of a report's file name, and its ending; None of another name."""
     found = _NAME.fullmatch(name)
     if found is None:
@@ -62,7 +96,7 @@ def trial_of(name):
     return unquote(plan), kind, value, ending
 
 
-def packets_of(capture, shown):
+def packets_of(capture: str, shown: str) -> int:
     """How many packets steer reads in a capture, which messages name `shown`."""
     try:
         last = cli.run_steer(["hash", capture]).splitlines()[-1]
@@ -96,23 +130,23 @@ def _keep(trial, folder, name, ending):
     os.replace(name, target + ending)
 
 
-def attempt(trial, setting):
+def attempt(trial: Trial, setting: Setting) -> Outcome | str:
     """The Outcome of a trial, or the text of why it was refused; its report is kept if asked."""
     with tempfile.TemporaryDirectory(dir=setting.work) as work:
         try:
             name = _replay(trial, setting, work)
-            outcome = outcome_of(name)
+            outcome: Outcome | str = outcome_of(name)
         except (cli.Refused, cli.NotThatFile, cli.WrongWords) as fault:
             outcome = str(fault)
             name = os.path.join(work, "refused")
             with open(name, "w", encoding="utf-8") as out:
-                out.write(outcome + "\n")
+                out.write("%s\n" % fault)
         if setting.folder is not None:
             _keep(trial, setting.folder, name, REFUSED if isinstance(outcome, str) else REPORT)
     return outcome
 
 
-def outcome_or_text(name):
+def outcome_or_text(name: str) -> Outcome | str:
     """The Outcome of a report in a file, or the text of why it has none."""
     try:
         return outcome_of(name)
@@ -125,14 +159,15 @@ def _end_at_interrupt():
     signal.signal(signal.SIGINT, signal.SIG_DFL)
 
 
-def processors_here():
+def processors_here() -> int:
     """How many processors this program may use."""
     if hasattr(os, "sched_getaffinity"):
         return len(os.sched_getaffinity(0))
     return os.cpu_count() or 1
 
 
-def at_once(function, jobs, arguments):
+def at_once(function: Callable[..., Any], jobs: int,
+            arguments: Sequence[Sequence[Any]]) -> list[Any]:
     """The results of a function over lists of arguments, in their order, so many at once."""
     if jobs == 1 or len(arguments) < 2:
         return [function(*each) for each in arguments]
@@ -150,7 +185,8 @@ def at_once(function, jobs, arguments):
                 future.cancel()
 
 
-def commands(program, capture, plans, values, words, folder):
+def commands(program: str, capture: str, plans: list[str], values: list[tuple[str, str]],
+             words: list[str], folder: str) -> Iterator[str]:
     """A command a line for each plan and value, which leaves the report in `folder`.
 
     `values` are pairs of an option and its value; `words` are further words of the user's.
@@ -161,7 +197,7 @@ def commands(program, capture, plans, values, words, folder):
             yield " ".join(shlex.quote(word) for word in line + [plan])
 
 
-def collected(folder, jobs):
+def collected(folder: str, jobs: int) -> list[Row]:
     """What the reports in a folder say: rows of (plan, {(kind, value): outcome or text}).
 
     The plans are in the order of their names. Refused where two reports are of captures of
@@ -173,7 +209,7 @@ def collected(folder, jobs):
         raise cli.Refused(folder, "it has no report of a trial")
     whole = [(name,) for name, trial in reports if trial[3] == REPORT]
     found = dict(zip((name for name, in whole), at_once(outcome_or_text, jobs, whole)))
-    rows = {}
+    rows: dict[str, dict[tuple[str, float], Outcome | str]] = {}
     for name, (plan, kind, value, ending) in reports:
         if ending == REFUSED:
             found[name] = cli.read_text(name).rstrip("\n")
@@ -185,7 +221,7 @@ def collected(folder, jobs):
     return sorted(rows.items())
 
 
-def labels(plans):
+def labels(plans: list[str]) -> list[str]:
     """How plans are named in a table: without their folders, where these names differ."""
     short = [os.path.basename(plan) for plan in plans]
     distinct = len(set(short)) == len(set(plans))
@@ -220,17 +256,18 @@ def _of_kind(rows, kind):
     return list(zip(labels([plan for plan, _ in some]), [results for _, results in some]))
 
 
-def seed_table(rows):
+def seed_table(rows: list[ValueRow]) -> Iterator[str]:
     """Lines of the table over seeds, of rows of (label, results by seed)."""
     return tables.aligned(("seeds", "drops", "range", "moves", "busiest", "plan"),
                           [_seed_row(label, results.values()) for label, results in rows])
 
 
-def rate_table(rows, title, text_of):
+def rate_table(rows: list[ValueRow], title: str,
+               text_of: Callable[[Outcome], object]) -> Iterator[str]:
     """Lines of the table over rates, with `text_of` each outcome, `refused`, or `-` for none."""
     rates = sorted({rate for _, results in rows for rate in results})
 
-    def cell(result):
+    def cell(result: Outcome | str | None) -> object:
         if result is None:
             return "-"
         return "refused" if isinstance(result, str) else text_of(result)
@@ -240,7 +277,7 @@ def rate_table(rows, title, text_of):
                            for label, results in rows])
 
 
-def screen(rows):
+def screen(rows: list[Row]) -> Iterator[str]:
     """All lines of the tables of rows of (plan, results by kind and value)."""
     by_seed, by_rate = _of_kind(rows, SEED), _of_kind(rows, RATE)
     parts = [seed_table(by_seed)] if by_seed else []

@@ -110,8 +110,8 @@ class Machine:
 
     def snapshot(self):
         """The text of its snapshot."""
-        dev, lines = self.device, ["steer-snap 1", "dev " + self.device, "kernel 6.12.0",
-                                   "taken 2026-01-01T00:00:00Z"]
+        lines = ["steer-snap 1", "dev " + self.device, "kernel 6.12.0",
+                 "taken 2026-01-01T00:00:00Z"]
         lines += ["cpus possible 0-%d" % (self.width - 1), "cpus online " + ranges(self.online),
                   "cpus isolated ", "sysctl rps_sock_flow_entries %d" % self.sock,
                   "sysctl netdev_max_backlog %d" % self.backlog,

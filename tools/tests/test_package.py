@@ -1,5 +1,6 @@
 """Tests of tools/ as a package: its entry points, its data, its version, and an installed copy."""
 
+import ast
 import os
 import re
 import shutil
@@ -77,6 +78,30 @@ class Package(unittest.TestCase):
                 self.assertTrue(ended.stdout.decode().startswith("usage: %s " % name), name)
 
 
+def public_functions(tree):
+    """The functions of a module and of its classes whose names begin without an underscore."""
+    for node in tree.body:
+        if isinstance(node, ast.ClassDef) and not node.name.startswith("_"):
+            yield from public_functions(node)
+        elif isinstance(node, ast.FunctionDef) and (
+                not node.name.startswith("_") or node.name == "__init__"):
+            yield node
+
+
+class Hints(unittest.TestCase):
+    def test_public_functions_have_them(self):
+        for folder in (os.path.join(TOOLS, "steerlib"), os.path.join(TOOLS, "steerlib/programs")):
+            for name in sorted(os.listdir(folder)):
+                if not name.endswith(".py"):
+                    continue
+                for function in public_functions(ast.parse(text_of(folder, name))):
+                    words = function.args.args + function.args.kwonlyargs
+                    bare = [word.arg for word in words
+                            if word.annotation is None and word.arg != "self"]
+                    self.assertEqual((bare, function.returns is None), ([], False),
+                                     (name, function.name))
+
+
 class Installed(unittest.TestCase):
     def setUp(self):
         python = builder()
@@ -116,7 +141,7 @@ class Installed(unittest.TestCase):
 
     def check_steer(self):
         """Where it finds steer: in $STEER, and where that is not set an error that says it."""
-        words = ("steer-steps", example("rps.json"), example("three.pcap"), "--pps", "5")
+        words = ("steer-steps", example("rps.json"), example("web.pcap"), "--pps", "5")
         status, out, err = self.run_installed(*words, PATH="/bin:/usr/bin",
                                               STEER=ENVIRONMENT["STEER"])
         self.assertEqual((status, out[-10:]), (0, '"sweep"]}\n'), err)

@@ -71,9 +71,10 @@ class Top(unittest.TestCase):
         self.assertIn("no packets on queue 0\n", ended.stdout)
 
     def test_drops_by_the_flow_limit_are_told_apart(self):
-        text = REPLIED.replace(b"at 1 app 0 in 1 place inbox", b"at drop 1 0 0 flow 130 app 0 in - "
-                               b"place drop").replace(b"at 2 app 0 in 2 place inbox", b"at drop 2 "
-                               b"0 0 app 0 in - place drop")
+        text = REPLIED.replace(b"at 1 app 0 in 1 place inbox",
+                               b"at drop 1 0 0 flow 130 app 0 in - place drop")
+        text = text.replace(b"at 2 app 0 in 2 place inbox",
+                            b"at drop 2 0 0 app 0 in - place drop")
         text = text.replace(b"accepted 3 pulled 3 delivered 3 retired 3 dropped 0",
                             b"accepted 1 pulled 1 delivered 1 retired 1 dropped 2")
         shown = run("steer-top", "-", data=text).stdout

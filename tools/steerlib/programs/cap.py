@@ -1,6 +1,10 @@
 """steer-cap: a capture of another kind as a pcap file that steer reads."""
 
+from __future__ import annotations
+
+import argparse
 import sys
+from typing import NoReturn
 
 from .. import capture, cli, limits, numbers
 
@@ -15,8 +19,8 @@ tcpdump -i any writes) or raw IP (12, 101, 228, 229); those that are not of Ethe
 with zero addresses. steer itself reads Ethernet alone.
 
 A VLAN tag may be missing in a cooked frame, where the kernel took it off before; flow and hash are
-the same without it. -i any shows a packet once for each device that it passes, so record on the card
-itself where you can.
+the same without it. -i any shows a packet once for each device that it passes, so record on the
+card itself where you can.
 
 What was written stays written where a later part of the file cannot be read (status 4)."""
 
@@ -27,7 +31,7 @@ steer hash in.pcap
 steer-cap --from 262144 long.pcapng.gz > second.pcap"""
 
 
-def words_of(words):
+def words_of(words: list[str]) -> argparse.Namespace:
     parser = cli.parser(DESCRIPTION, EXAMPLE)
     parser.add_argument("capture", metavar="CAPTURE", help="the capture to read")
     parser.add_argument("--in", dest="incoming", action="store_true",
@@ -42,7 +46,8 @@ def words_of(words):
     return parser.parse_args(words)
 
 
-def summary(writer, conversion, first, more):
+def summary(writer: capture.PcapWriter, conversion: capture.Conversion, first: int,
+            more: bool) -> str:
     text = "%d frames written" % writer.frames
     if conversion.incoming and conversion.outgoing:
         text += ", %d outgoing left out" % conversion.outgoing
@@ -51,7 +56,7 @@ def summary(writer, conversion, first, more):
     return text
 
 
-def main(words):
+def main(words: list[str]) -> None:
     told = words_of(words)
     if sys.stdout.isatty():
         raise cli.WrongWords("a capture is not written to a terminal: add > FILE")
@@ -64,6 +69,6 @@ def main(words):
     cli.note(summary(writer, conversion, told.first, more))
 
 
-def entry():
+def entry() -> NoReturn:
     """Runs this program by the words of its command line, and ends the process."""
     cli.run(main)

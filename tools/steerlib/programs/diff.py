@@ -1,5 +1,9 @@
 """What differs between two reports of `steer replay` on one capture."""
 
+from __future__ import annotations
+
+from typing import NoReturn
+
 from .. import cli, comparison, report
 
 DESCRIPTION = """\
@@ -17,7 +21,7 @@ steer replay a.json own.pcap > a; steer replay b.json own.pcap > b
 steer-diff -q a b"""
 
 
-def main(words):
+def main(words: list[str]) -> int:
     parser = cli.parser(DESCRIPTION, EXAMPLE)
     parser.add_argument("-q", dest="quiet", action="store_true",
                         help="leave out the lines of packets and replies")
@@ -34,6 +38,6 @@ def main(words):
     return cli.DIFFERS if compared.differ() else cli.DONE
 
 
-def entry():
+def entry() -> NoReturn:
     """Runs this program by the words of its command line, and ends the process."""
     cli.run(main)

@@ -1,6 +1,9 @@
 """A report of `steer replay` as a picture, in the terminal or as SVG."""
 
+from __future__ import annotations
+
 import sys
+from typing import NoReturn
 
 from .. import cli, drawing, report
 
@@ -15,7 +18,7 @@ steer-draw report
 steer-draw --svg report > report.svg"""
 
 
-def main(words):
+def main(words: list[str]) -> None:
     parser = cli.parser(DESCRIPTION, EXAMPLE)
     parser.add_argument("--svg", action="store_true", help="write SVG")
     parser.add_argument("report", metavar="REPORT", help="output of `steer replay`; - is input")
@@ -28,6 +31,6 @@ def main(words):
         print(line)
 
 
-def entry():
+def entry() -> NoReturn:
     """Runs this program by the words of its command line, and ends the process."""
     cli.run(main)

@@ -1,5 +1,9 @@
 """steer-lint PLAN: what is wrong with a plan, all of it, with its place and what was meant."""
 
+from __future__ import annotations
+
+from typing import NoReturn
+
 from .. import cli
 from .. import jsontext
 from .. import lint
@@ -19,7 +23,7 @@ plan.json:3:21: queues/0/mask: "f0" is no list of numbers, 0 to 15; as a hexadec
 """
 
 
-def main(words):
+def main(words: list[str]) -> int:
     parser = cli.parser(DESCRIPTION, EXAMPLE)
     parser.add_argument("plan", metavar="PLAN", help="a plan in JSON; - is standard input")
     name = parser.parse_args(words).plan
@@ -42,6 +46,6 @@ def main(words):
     return cli.REFUSED if faults else cli.DONE
 
 
-def entry():
+def entry() -> NoReturn:
     """Runs this program by the words of its command line, and ends the process."""
     cli.run(main)

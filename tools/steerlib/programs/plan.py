@@ -1,7 +1,11 @@
 """steer-plan SNAP: the plan of the machine that steer-snap looked at."""
 
+from __future__ import annotations
+
+import argparse
 import re
 import sys
+from typing import NoReturn
 
 from .. import cli
 from .. import limits
@@ -26,7 +30,7 @@ note: 8 queues over a mask of 4: a queue reaches 1 of them by the manual's modul
 """
 
 
-def words_of(arguments):
+def words_of(arguments: list[str]) -> argparse.Namespace:
     parser = cli.parser(DESCRIPTION, EXAMPLE)
     parser.add_argument("snap", metavar="SNAP", help="what steer-snap wrote; - is standard input")
     parser.add_argument("--apps", metavar="LIST", help="the processors on which readers stand, "
@@ -39,7 +43,7 @@ def words_of(arguments):
     return parser.parse_args(arguments)
 
 
-def readers(text, online):
+def readers(text: str, online: list[int]) -> list[int]:
     """The list of --apps."""
     try:
         apps = processors.parse_list(text)
@@ -55,7 +59,7 @@ def readers(text, online):
     return apps
 
 
-def named_homes(text, queues, online):
+def named_homes(text: str, queues: int, online: list[int]) -> dict[int, int]:
     """The queues and processors of --home."""
     homes = {}
     for part in text.split(","):
@@ -73,7 +77,7 @@ def named_homes(text, queues, online):
     return homes
 
 
-def main(arguments):
+def main(arguments: list[str]) -> int:
     words = words_of(arguments)
     read = snapshot.read_snapshot(words.snap)
     online = read.cpus("online")
@@ -88,6 +92,6 @@ def main(arguments):
     return cli.DONE
 
 
-def entry():
+def entry() -> NoReturn:
     """Runs this program by the words of its command line, and ends the process."""
     cli.run(main)

@@ -1,6 +1,9 @@
 """Rows of a report of `steer replay` as CSV or JSON lines."""
 
+from __future__ import annotations
+
 import sys
+from typing import NoReturn
 
 from .. import cli, report, tables
 
@@ -17,7 +20,7 @@ steer-rows csv p report > packets.csv
 steer-rows json p report | jq -r 'select(.place == "drop") | .id'"""
 
 
-def main(words):
+def main(words: list[str]) -> None:
     parser = cli.parser(DESCRIPTION, EXAMPLE)
     parser.add_argument("form", choices=("csv", "json"), metavar="csv|json")
     parser.add_argument("kind", choices=tables.KINDS, metavar="KIND",
@@ -29,6 +32,6 @@ def main(words):
     write(rows, given.kind, sys.stdout)
 
 
-def entry():
+def entry() -> NoReturn:
     """Runs this program by the words of its command line, and ends the process."""
     cli.run(main)

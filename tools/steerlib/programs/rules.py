@@ -1,7 +1,10 @@
 """steer-rules SNAP: the n-tuple rules of a card, as `steer place` reads them."""
 
+from __future__ import annotations
+
 import json
 import sys
+from typing import Any, NoReturn
 
 from .. import cli
 from .. import rules
@@ -21,7 +24,7 @@ steer place rules.json own.pcap
 """
 
 
-def rules_text(made):
+def rules_text(made: dict[str, Any]) -> str:
     """Rules as JSON, a rule a line."""
     head = ", ".join("%s: %s" % (json.dumps(name), json.dumps(value))
                      for name, value in made.items() if name != "rules")
@@ -30,7 +33,7 @@ def rules_text(made):
     return "{%s, \"rules\": [%s]}\n" % (head, lines)
 
 
-def main(words):
+def main(words: list[str]) -> int:
     parser = cli.parser(DESCRIPTION, EXAMPLE)
     parser.add_argument("snap", metavar="SNAP", help="what steer-snap wrote; - is standard input")
     name = parser.parse_args(words).snap
@@ -43,6 +46,6 @@ def main(words):
     return cli.DONE
 
 
-def entry():
+def entry() -> NoReturn:
     """Runs this program by the words of its command line, and ends the process."""
     cli.run(main)

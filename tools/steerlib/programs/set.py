@@ -1,6 +1,9 @@
 """steer-set PLAN NAME=VALUE ..: a plan with settings changed, named as on the machine."""
 
+from __future__ import annotations
+
 import sys
+from typing import NoReturn
 
 from .. import cli
 from .. import settings
@@ -26,13 +29,13 @@ steer-set plan.json indir=weight:6,2 | steer-lint -
 """
 
 
-def main(words):
+def main(words: list[str]) -> int:
     parser = cli.parser(DESCRIPTION, EXAMPLE)
     parser.add_argument("plan", metavar="PLAN", help="a plan in JSON; - is standard input")
     parser.add_argument("settings", metavar="NAME=VALUE", nargs="+", help="a setting, as above")
-    words = parser.parse_args(words)
-    changed = settings.Settings(cli.read_bytes(words.plan), cli.source_name(words.plan))
-    for word in words.settings:
+    given = parser.parse_args(words)
+    changed = settings.Settings(cli.read_bytes(given.plan), cli.source_name(given.plan))
+    for word in given.settings:
         changed.set(word)
     for text in changed.notes():
         cli.note(text)
@@ -40,6 +43,6 @@ def main(words):
     return cli.DONE
 
 
-def entry():
+def entry() -> NoReturn:
     """Runs this program by the words of its command line, and ends the process."""
     cli.run(main)

@@ -1,7 +1,11 @@
 """steer-steps: a plan's steps from the times of a capture and rates of service."""
 
+from __future__ import annotations
+
+import argparse
 import sys
 import tempfile
+from typing import NoReturn
 
 from .. import cli, numbers, plan, schedule
 
@@ -29,7 +33,7 @@ steer-steps plan.json own.pcap --pps 200000 --read > timed.json
 steer replay timed.json own.pcap > report"""
 
 
-def words_of(words):
+def words_of(words: list[str]) -> argparse.Namespace:
     parser = cli.parser(DESCRIPTION, EXAMPLE)
     parser.add_argument("plan", metavar="PLAN", help="a plan of steer, with any steps")
     parser.add_argument("capture", metavar="CAPTURE",
@@ -43,7 +47,8 @@ def words_of(words):
     return told
 
 
-def say_result(replays, times, load, agreed):
+def say_result(replays: schedule.Replays, times: list[int], load: schedule.Load,
+               agreed: schedule.Agreed) -> None:
     own = "".join(", %g at cpu %d" % (rate, cpu) for cpu, rate in load.own_rates)
     seconds = (max(times) - times[0]) / 1e9 if times else 0
     cli.note("agreed in round %d: the replay has each packet where the steps assume it"
@@ -52,7 +57,7 @@ def say_result(replays, times, load, agreed):
              % (len(times), seconds, len(agreed.steps), load.rate, own, agreed.dropped))
 
 
-def main(words):
+def main(words: list[str]) -> None:
     told = words_of(words)
     load = schedule.Load(told.pps, told.cpu, told.reads, told.replies, told.speed)
     with tempfile.TemporaryDirectory() as folder, schedule.plain_file(told.capture) as capture:
@@ -66,6 +71,6 @@ def main(words):
     say_result(replays, times, load, agreed)
 
 
-def entry():
+def entry() -> NoReturn:
     """Runs this program by the words of its command line, and ends the process."""
     cli.run(main)

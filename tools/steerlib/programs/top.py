@@ -1,6 +1,8 @@
 """A report of `steer replay` on one screen."""
 
-import sys
+from __future__ import annotations
+
+from typing import NoReturn
 
 from .. import cli, flows, report, summary
 
@@ -16,7 +18,7 @@ steer hash own.pcap > hash.txt
 steer-top report hash.txt"""
 
 
-def main(words):
+def main(words: list[str]) -> None:
     parser = cli.parser(DESCRIPTION, EXAMPLE)
     parser.add_argument("report", metavar="REPORT", help="output of `steer replay`; - is input")
     parser.add_argument("hash", metavar="HASH", nargs="?",
@@ -30,6 +32,6 @@ def main(words):
         print(line)
 
 
-def entry():
+def entry() -> NoReturn:
     """Runs this program by the words of its command line, and ends the process."""
     cli.run(main)

@@ -1,8 +1,12 @@
 """steer-try: plans side by side over one capture."""
 
+from __future__ import annotations
+
+import argparse
 import os
 import sys
 import tempfile
+from typing import Any, NoReturn
 
 from .. import cli, numbers, plan, schedule, trial
 
@@ -36,7 +40,7 @@ parallel --jobs 8 < lines
 steer-try --collect out"""
 
 
-def words_of(words):
+def words_of(words: list[str]) -> argparse.Namespace:
     parser = cli.parser(DESCRIPTION, EXAMPLE, usage="%(prog)s [options] CAPTURE PLAN [PLAN ..]\n"
                         "       %(prog)s [--jobs N] --collect FOLDER")
     parser.add_argument("files", metavar="CAPTURE PLAN", nargs="*",
@@ -62,7 +66,7 @@ def words_of(words):
     return told
 
 
-def check(told):
+def check(told: argparse.Namespace) -> None:
     """Raises WrongWords where words do not go together."""
     if told.collect is not None:
         if told.files or told.seeds or told.pps or told.commands or told.reports:
@@ -78,7 +82,7 @@ def check(told):
         raise cli.WrongWords("--cpu, --read, --reply and --speed go with --pps")
 
 
-def print_commands(told):
+def print_commands(told: argparse.Namespace) -> None:
     words = ["--cpu=%d=%s" % (cpu, numbers.number_text(rate)) for cpu, rate in told.cpu]
     words += ["--read"] * told.reads + ["--reply"] * told.replies
     if told.speed != 1:
@@ -92,9 +96,9 @@ def print_commands(told):
         print(line)
 
 
-def read_plans(names, load):
+def read_plans(names: list[str], load: schedule.Load | None) -> dict[str, Any]:
     """The settings of each plan by its name, or the exception that says why it has none."""
-    settings = {}
+    settings: dict[str, Any] = {}
     for name in dict.fromkeys(names):
         try:
             settings[name] = plan.read_plan(name)
@@ -107,17 +111,17 @@ def read_plans(names, load):
     return settings
 
 
-def rows_of(told):
+def rows_of(told: argparse.Namespace) -> list[trial.Row]:
     """Makes all trials: rows of (plan, results by kind and value)."""
     capture_name, names = told.files[0], told.files[1:]
     shown = cli.source_name(capture_name)
-    load = told.pps and schedule.Load(None, told.cpu, told.reads, told.replies, told.speed)
+    load = told.pps and schedule.Load(0, told.cpu, told.reads, told.replies, told.speed)
     settings = read_plans(names, load)
     kind, values = (trial.RATE, told.pps) if told.pps else (trial.SEED, told.seeds)
     with schedule.plain_file(capture_name) as capture, \
             tempfile.TemporaryDirectory(dir=told.reports, prefix=".trials-") as work:
         times = schedule.times_of(capture, shown) if told.pps else None
-        packets = len(times) if told.pps else trial.packets_of(capture, shown)
+        packets = trial.packets_of(capture, shown) if times is None else len(times)
         shared = trial.Setting(capture, shown, times, packets, load, work, told.reports)
         trials = [(trial.Trial(name, settings[name], kind, value), shared)
                   for name in names for value in values]
@@ -125,7 +129,7 @@ def rows_of(told):
     return [(name, {(kind, value): next(results) for value in values}) for name in names]
 
 
-def main(words):
+def main(words: list[str]) -> int:
     told = words_of(words)
     told.seeds = told.seeds or (None if told.pps else range(1, 9))
     if told.commands:
@@ -144,6 +148,6 @@ def main(words):
     return cli.REFUSED if texts else cli.DONE
 
 
-def entry():
+def entry() -> NoReturn:
     """Runs this program by the words of its command line, and ends the process."""
     cli.run(main)
