@@ -13,7 +13,7 @@ IN_ORDER = ("ring", "poller", "backlog", "hand")
 """Places of packets that are still under way, in the order in which they are passed."""
 
 
-def _headline(rep):
+def headline(rep):
     """The first lines: what arrived, was dropped, moved and replied to, and what is under way."""
     packets = rep.packets
     why = Counter(packet.why for packet in packets)
@@ -100,7 +100,7 @@ def screen(rep: Report, names: list[str] | None = None, source: str = "HASH") ->
     if names is not None and len(names) != rep.end.total:
         raise cli.Refused(source, "has %d packets, and the report is of %d"
                           % (len(names), rep.end.total))
-    yield from _headline(rep)
+    yield from headline(rep)
     yield from _cpus(rep)
     yield from _queues(rep)
     yield from _replies(rep)

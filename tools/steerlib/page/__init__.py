@@ -1,0 +1,1 @@
+"""One HTML page of a report: its numbers, its axis, its backlogs, and the document."""
