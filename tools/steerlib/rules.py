@@ -23,6 +23,7 @@ ADDRESSES = {"Src IP addr": "src", "Dest IP addr": "dst"}
 PORTS = {"Src port": "sport", "Dest port": "dport"}
 _FIELD = re.compile(r"([A-Za-z][A-Za-z0-9 -]*): (\S+) mask: (\S+)")
 _QUEUE = re.compile(r"Action: Direct to queue ([0-9]{1,9})")
+_CONTEXT = re.compile(r"RSS Context ID: ([0-9]{1,9})")
 
 
 def _compares_nothing(mask):
@@ -62,8 +63,10 @@ def _field(rule, line):
     return None
 
 
-def _line(rule, line, queues):
-    """Takes one line of a rule; a reason where it cannot be a rule of `place`."""
+def _line(rule, line, queues, contexts):
+    """Takes one line of a rule; a reason where it cannot be a rule of `place`, or has a context
+    where these are not wanted.
+    """
     if line.startswith("Rule Type: "):
         kind = line[len("Rule Type: "):]
         if kind not in KINDS:
@@ -76,15 +79,20 @@ def _line(rule, line, queues):
         if rule["queue"] >= queues:
             return "queue %d is not in 0 to %d" % (rule["queue"], queues - 1)
         return None
+    found = _CONTEXT.fullmatch(line) if contexts else None
+    if found:
+        rule["context"] = int(found.group(1))
+        return None
     if line.startswith(("Action: ", "RSS Context ID: ", "Flow Type: ")):
         return "`%s`" % line
     return _field(rule, line)
 
 
-def _rule(number, lines, queues, findings):
+def _rule(number, lines, queues, contexts, findings):
     """One rule as a dict; what is wrong with it is refused."""
     rule = {}
-    reasons = [reason for reason in (_line(rule, line, queues) for line in lines) if reason]
+    reasons = [reason for reason in (_line(rule, line, queues, contexts) for line in lines)
+               if reason]
     if not reasons and not ("kind" in rule and "queue" in rule):
         reasons = ["no %s in it" % ("queue" if "kind" in rule else "type")]
     for reason in reasons:
@@ -92,8 +100,11 @@ def _rule(number, lines, queues, findings):
     return rule
 
 
-def rules_of(snapshot: Snapshot) -> tuple[dict[str, Any], Findings]:
-    """The rules of a snapshot as the object that `steer place` reads, and the Findings."""
+def rules_of(snapshot: Snapshot, contexts: bool = False) -> tuple[dict[str, Any], Findings]:
+    """The rules of a snapshot as the object that `steer place` reads, and the Findings.
+
+    With `contexts` a rule may lead to an RSS context, which `place` has not: its key `context`.
+    """
     findings = Findings()
     queues = len(snapshot.queues["rx"])
     if queues > limits.MOST_QUEUES:
@@ -115,5 +126,6 @@ def rules_of(snapshot: Snapshot) -> tuple[dict[str, Any], Findings]:
     kinds = card.kinds(snapshot, findings)
     if kinds not in (None, limits.MOST_KINDS):
         made["kinds"] = kinds
-    made["rules"] = [_rule(number, of, queues, findings) for number, of in sorted(found)]
+    made["rules"] = [_rule(number, of, queues, contexts, findings)
+                     for number, of in sorted(found)]
     return made, findings

@@ -12,6 +12,7 @@ _IRQ = re.compile(r"irq ([0-9]{1,9}) (\S+) (\S+) (.*)")
 _QUEUE = re.compile(r"(rx|tx) ([0-9]{1,6}) (rps_cpus|rps_flow_cnt|xps_cpus|xps_rxqs)(?: (.*))?")
 _FACT = re.compile(r"(cpus|sysctl) ([a-z_]+)(?: (.*))?")
 _LINE = re.compile(r"(dev|kernel|taken)(?: (.*))?")
+_PROCESS = re.compile(r"process ([0-9]{1,9}) ([0-9]{1,6}) (\S+)(?: (.*))?")
 
 
 class Interrupt:
@@ -29,7 +30,9 @@ class Snapshot:
     """The facts of a snapshot, as text; a fact that could not be read begins with `!`.
 
     `queues["rx"][n]` and `queues["tx"][n]` are dicts by the names of sysfs, `facts` is by
-    (`cpus` or `sysctl`, name), `answers` has the lines that ethtool gave for its words.
+    (`cpus` or `sysctl`, name), `answers` has the lines that ethtool gave for its words. `sockets`
+    has the lines of ss, None where it was not asked, and `processes` the processor of each process
+    that they name: the one on which it may run, else that on which it ran last.
     """
 
     def __init__(self, source: str) -> None:
@@ -39,6 +42,8 @@ class Snapshot:
         self.queues: dict[str, dict[int, dict[str, str]]] = {"rx": {}, "tx": {}}
         self.interrupts: list[Interrupt] = []
         self.answers: dict[str, list[str]] = {}
+        self.sockets: list[str] | None = None
+        self.processes: dict[int, int] = {}
 
     def refused(self, reason: str) -> cli.Refused:
         return cli.Refused(self.source, reason)
@@ -91,6 +96,12 @@ def _read_line(snapshot, line, at):
             int(number), _affinity(snapshot, number, effective),
             _affinity(snapshot, number, wanted), name))
         return
+    found = _PROCESS.fullmatch(line)
+    if found:
+        number, last, allowed, _ = found.groups()
+        only = _affinity(snapshot, number, allowed)
+        snapshot.processes[int(number)] = only[0] if only and not only[1:] else int(last)
+        return
     found = _FACT.fullmatch(line)
     if found:
         snapshot.facts[found.group(1), found.group(2)] = found.group(3) or ""
@@ -133,6 +144,8 @@ def parse(text: str, source: str) -> Snapshot:
             answer.append(line[2:])
         elif line.startswith("cmd ethtool "):
             answer = snapshot.answers.setdefault(line[len("cmd ethtool "):], [])
+        elif line.startswith("cmd ss "):
+            answer = snapshot.sockets = []
         elif line:
             _read_line(snapshot, line, at)
     if not ended:

@@ -1,0 +1,221 @@
+"""The sizes of a remapped plan, and the remainders that each flow's new hash has by them."""
+
+from . import cli, kernel, layout, limits, sizes
+from .shape import Spares
+
+ORDER = ("cpus", "queues", "key", "kinds", "reta", "sock", "filters", "backlog", "start", "limited",
+         "apps", "tx", "workers", "tries", "detach", "steps")
+READERS = "readers"
+
+
+def size_name(name):
+    """How people name what has a size."""
+    return name if name == READERS else "%s of %d" % (
+        {"mask": "a mask", "tx": "a transmit map"}[name[0]], name[1])
+
+
+class Recipes:
+    """The sizes, the spares, and by them the new plan and the remainders of each flow."""
+
+    def __init__(self, plan, shape, flows, apps, laid, transmit):
+        self.old = plan
+        self.shape = shape
+        self.apps = apps
+        self.transmit = transmit
+        self.of_queues = [set(one["queues"]) for one in plan["tx"]]
+        self.of_cpus = [set(one["cpus"]) for one in plan["tx"]]
+        self.stands = shape.stands + [{cpu} for cpu in apps[len(shape.stands):]]
+        self.flows = [flow for flow in flows if flow.value is not None]
+        self._check_maps()
+        self.keeps_readers = self._keeps_readers()
+        self.kinds_of_flow = {(flow.queue, flow.app) for flow in self.flows}
+        self._choose(laid.bits)
+        self.bits = layout.BITS
+        if self._product() << self.bits > 1 << kernel.HASH_BITS:
+            self.bits = laid.bits
+        self.spares = Spares(shape, {name[1]: size for name, size in self.chosen.items()
+                                     if name[0] == "mask"})
+        self.recipes = {}
+        self._give_transmit_queues()
+
+    def _check_maps(self):
+        if self.transmit and self.shape.maps_change:
+            raise cli.Refused("steps", "they change the maps of XPS (xcpus, xqueues), and the "
+                              "transmit queues are asked for; it fits without --tx")
+
+    def _keeps_readers(self):
+        """Whether the plan's readers stay, since the low bits give their factors of two."""
+        count = len(self.old["apps"])
+        twos = count & -count
+        return len(self.apps) == count and all(
+            flow.entry % twos == flow.app % twos for flow in self.flows)
+
+    # Names and groups of sizes.
+
+    def _lists(self, queue):
+        """The masks that a flow of a queue may meet and that have a choice."""
+        return [members for of in self.shape.reachable(queue) for members in self.shape.lists[of]
+                if len(members) > 1]
+
+    def _maps(self, queue, app):
+        """The sets of transmit queues from which the replies of a flow may be sent."""
+        if not self.transmit:
+            return []
+        found = [kernel.transmit_map(of, cpu, self.of_queues, self.of_cpus)
+                 for of in self.shape.reachable(queue) for cpu in sorted(self.stands[app])]
+        return [one for one in found if len(one) > 1]
+
+    def _names(self, queue, app):
+        names = {("mask", len(members)) for members in self._lists(queue)}
+        names |= {("tx", len(one)) for one in self._maps(queue, app)}
+        if len(self.apps) > 1 and not (self.keeps_readers
+                                       and sizes.odd_part(len(self.apps)) == 1):
+            names.add(READERS)
+        return frozenset(names)
+
+    def _choices(self, names, more):
+        """The sizes from which each name may get one, with so many spare transmit queues."""
+        choices = {}
+        most = limits.MOST_PROCESSORS
+        for name in names:
+            if name == READERS:
+                count = len(self.apps)
+                kept = [sizes.odd_part(count)] if self.keeps_readers else []
+                choices[name] = kept + [size for size in sizes.odd_from(count, most)
+                                        if size not in kept]
+            elif name[0] == "mask":
+                choices[name] = list(sizes.odd_from(name[1], most))
+            elif name[1] == len(self.of_queues):
+                choices[name] = [size for size in [name[1] + more] if size % 2]
+            else:
+                choices[name] = list(sizes.odd_from(name[1], name[1] + more))
+        return choices
+
+    def _choose(self, low_bits):
+        """Chooses the sizes, with as few spare transmit queues as can be."""
+        self.groups = {self._names(*of) for of in self.kinds_of_flow} - {frozenset()}
+        names = set().union(*self.groups) if self.groups else set()
+        for name in names:
+            if name != READERS and name[1] == limits.MOST_PROCESSORS:
+                raise cli.Refused("plan", "%s has no spare member: a plan has at most %d; one of "
+                                  "%d fits" % (size_name(name), name[1], name[1] - 1))
+        room = 1 << kernel.HASH_BITS - low_bits
+        fault = None
+        for self.more in range(limits.MOST_TRANSMIT_QUEUES - len(self.of_queues) + 1):
+            try:
+                self.chosen = sizes.chosen_sizes(self._choices(names, self.more), self.groups,
+                                                 room)
+                return
+            except sizes.NoSizes as found:
+                fault = fault or found
+            if not any(name[0] == "tx" for name in names):
+                break
+        raise cli.Refused("plan", self._advice(fault.group, room))
+
+    def _advice(self, group, room):
+        names = sorted(group, key=str)
+        fits = [text for text, wanted in (
+            ("without --tx", any(name[0] == "tx" for name in names)),
+            ("with a number of readers that is a power of two", READERS in names),
+            ("with masks of one size", sum(name[0] == "mask" for name in names) > 1),
+            ("with smaller masks", True)) if wanted]
+        return "%s: no odd sizes without a common divisor have a product of at most %d, for which " \
+            "the high bits of a hash have room; it fits %s" % (
+                ", ".join(size_name(name) for name in names), room, " or ".join(fits))
+
+    def _product(self):
+        """The largest product of sizes that a flow needs."""
+        most = 1
+        for group in self.groups:
+            product = 1
+            for name in group:
+                product *= self.chosen[name]
+            most = max(most, product)
+        return most
+
+    # Remainders.
+
+    def _give_transmit_queues(self):
+        """Gives each flow the transmit queue that XPS picks where its reader stands at first."""
+        if not self.transmit:
+            return
+        for flow in self.flows:
+            found = kernel.transmit_map(flow.queue, self.apps[flow.app], self.of_queues,
+                                        self.of_cpus)
+            flow.tx = kernel.transmit_choice(flow.sends, found)
+
+    def _recipe(self, queue, app):
+        """The sizes that flows of a queue and a reader need, and how their remainders come."""
+        parts = {}
+        for members in self._lists(queue):
+            size = self.chosen["mask", len(members)]
+            self._add(parts, size, (len(members), False, tuple(self.spares.places[members])))
+        for one in self._maps(queue, app):
+            self._add(parts, self.chosen["tx", len(one)],
+                      (len(one), True, tuple(range(len(one)))))
+        if READERS in self._names(queue, app):
+            size = self.chosen[READERS]
+            self._add(parts, size, (0, False, (app % size,)))
+        return sizes.Residues(list(parts), self.bits), list(parts.values())
+
+    @staticmethod
+    def _add(parts, size, part):
+        if parts.setdefault(size, part) != part:
+            raise cli.Refused("plan", "two masks of one size meet on a queue, and processors 0 to "
+                              "31 have no spare above both; it fits with fewer processors")
+
+    def of(self, flow):
+        """The Residues for a flow, and its remainders."""
+        known = self.recipes.get((flow.queue, flow.app))
+        if known is None:
+            known = self.recipes[flow.queue, flow.app] = self._recipe(flow.queue, flow.app)
+        residues, parts = known
+        return residues, [places[kernel.scaled(flow.sends if sends else flow.value, count)]
+                          if count else places[0] for count, sends, places in parts]
+
+    # The new plan.
+
+    def plan(self, laid, kinds, key):
+        """The new plan, with its keys in the order of the old one where it has them."""
+        made = dict(self.old)
+        made["cpus"] = self.spares.cpus
+        made["queues"] = [dict(queue, mask=self.spares.padded[lists[0]], flows=count)
+                          for queue, lists, count in zip(self.old["queues"], self.shape.lists,
+                                                         laid.flows)]
+        if key is not None:
+            made["key"] = key
+        if kinds != self.old.get("kinds", limits.MOST_KINDS):
+            made["kinds"] = kinds
+        if laid.table != self.shape.table:
+            made["reta"] = laid.table
+        wanted = self.chosen.get(READERS, 0)
+        made["apps"] = self.apps + [self.apps[0]] * (wanted - len(self.apps))
+        if self.transmit:
+            made["tx"] = self._transmit_maps()
+        made["steps"] = self._steps()
+        return {name: made[name] for name in ORDER if name in made}
+
+    def _transmit_maps(self):
+        """The transmit queues, with spare ones in each map that needs a member more."""
+        maps = [{"cpus": list(one["cpus"]), "queues": list(one["queues"])}
+                for one in self.old["tx"]]
+        maps += [{"cpus": [], "queues": []} for _ in range(self.more)]
+        for name, of, count in (("queues", self.of_queues, len(self.shape.queues)),
+                                ("cpus", self.of_cpus, self.shape.cpus)):
+            for member in range(count):
+                size = sum(member in one for one in of)
+                wanted = self.chosen.get(("tx", size), 0) if size else 0
+                for spare in range(len(of), len(of) + wanted - size):
+                    maps[spare][name].append(member)
+        return maps
+
+    def _steps(self):
+        """The steps, with spares in the masks that they set."""
+        steps = self.old["steps"]
+        if not self.shape.step_lists:
+            return steps
+        steps = list(steps)
+        for place, (queue, members) in self.shape.step_lists.items():
+            padded = self.spares.padded[members]
+            steps[place] = "mask %d %s" % (queue, ",".join(map(str, padded)) or "-")
+        return steps
