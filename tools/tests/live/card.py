@@ -1,0 +1,67 @@
+"""A made machine: a card's key and table, masks and homes, as ethtool and sysfs show them."""
+
+import os
+import stat
+
+from . import frames, pair
+
+PORTS = ["IP SA", "IP DA", "L4 bytes 0 & 1 [TCP/UDP src port]",
+         "L4 bytes 2 & 3 [TCP/UDP dst port]"]
+TOOL = """#!/bin/sh
+# In place of ethtool: the answers of the made card, whose hashes the sender's program gives.
+case $1 in
+-x) cat '%(folder)s/table' ;;
+-n) [ -z "$3" ] && exit 1
+    cat '%(folder)s/fields' ;;
+*) echo 'Operation not supported' >&2
+   exit 1 ;;
+esac
+"""
+
+
+class Machine:
+    """Settings: of each receive queue its mask and the processor that sends to it.
+
+    The card has a random key, and a random table over the queues.
+    """
+
+    def __init__(self, draw, queues, processors):
+        self.queues = queues
+        self.key = bytes(draw.getrandbits(8) for _ in range(40))
+        self.table = [draw.randrange(queues) for _ in range(128)]
+        self.homes = [draw.choice(processors) for _ in range(queues)]
+        self.masks = [sorted(draw.sample(processors, draw.randint(0, len(processors))))
+                      for _ in range(queues)]
+
+    def hash_and_queue(self, flow):
+        """The hash and the receive queue that the card gives to a flow."""
+        hash = frames.toeplitz(self.key, frames.hashed(flow))
+        return hash, self.table[hash % len(self.table)]
+
+    def frame(self, mac, flow, number):
+        """The frame of this number, and the processor that sends it."""
+        hash, queue = self.hash_and_queue(flow)
+        return frames.frame(mac, flow, number, hash, queue + 1), self.homes[queue]
+
+    def set(self, made):
+        """Sets the masks of a Pair."""
+        made.write(1, {"queues/rx-%d/rps_cpus" % queue: "%x" % sum(1 << cpu for cpu in mask)
+                       for queue, mask in enumerate(self.masks)})
+
+    def ethtool(self, folder):
+        """Writes a program that answers as ethtool does of the card; its name."""
+        rows = ["%5d: " % at + "".join(" %5d" % queue for queue in self.table[at:at + 8])
+                for at in range(0, 128, 8)]
+        head = "RX flow hash indirection table for %s with %d RX ring(s):" % (
+            pair.RECEIVER, self.queues)
+        table = [head] + rows + ["RSS hash key:", ":".join("%02x" % byte for byte in self.key),
+                                 "RSS hash function:", "    toeplitz: on"]
+        fields = ["TCP over IPV4 flows use these fields for computing Hash flow key:"] + PORTS
+        name = os.path.join(folder, "ethtool")
+        for path, text in ((os.path.join(folder, "table"), "\n".join(table) + "\n"),
+                           (os.path.join(folder, "fields"), "\n".join(fields) + "\n\n"),
+                           (name, TOOL % {"folder": folder})):
+            with open(path, "w", encoding="utf-8") as stream:
+                stream.write(text)
+        os.chmod(name, stat.S_IRWXU)
+        return name
