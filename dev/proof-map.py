@@ -4,11 +4,13 @@
 proof-map.md: the laws that the main theorem is made of, each with its statement and its proof, and the
 definitions that carry each sentence of the theorem. architecture.md: the table of crates.
 """
+import argparse
 import os
 import re
 import sys
 
 import specs
+import statement
 
 # Each sentence of the theorem with the definitions in which it is said.
 SENTENCES = [
@@ -86,11 +88,11 @@ def reading_list():
     parts = []
     for sentence, roots in SENTENCES:
         for module, name in roots:
-            if module not in found or name not in found[module].lines:
+            if module not in found or name not in found[module].definitions:
                 sys.exit(f"proof-map.py: there is no {name} in {module}")
         rest = specs.closure(found, roots)
         files = sorted({module for module, _ in rest})
-        lines = sum(len(found[module].lines[name]) for module, name in rest)
+        lines = sum(len(found[module].definitions[name].lines) for module, name in rest)
         out.append(f"| {sentence} | {len(rest)} | {len(files)} | {lines} |")
         if sentence.startswith("4, a flow"):
             parts = ["", "The definitions that say when a flow changes its processor:", "",
@@ -123,7 +125,8 @@ PARTS = {"docs/proof-map.md": {"laws": law_table, "reading list": reading_list},
 
 
 def renewed(path, makers):
-    text = read(path)
+    """A document with its generated parts as the sources make them."""
+    text = specs.read(path)
     for name, make in makers.items():
         begin, end = f"<!-- generated: {name} -->", f"<!-- end: {name} -->"
         if begin not in text or end not in text:
@@ -133,17 +136,44 @@ def renewed(path, makers):
     return text
 
 
+def documents(page):
+    """The generated documents: pairs of a path and what makes its text. Of one page only that."""
+    found = specs.modules()
+    for name in statement.PAGES:
+        if page in (None, name):
+            yield statement.path_of(name), statement.page_text(found, name)
+    if page is None:
+        for path, makers in PARTS.items():
+            yield path, renewed(path, makers)
+
+
+def stale_pages():
+    """The files beside the pages that no page has."""
+    folder = os.path.join(specs.ROOT, "docs", "statement")
+    made = {os.path.basename(statement.path_of(name)) for name in statement.PAGES}
+    return sorted(set(os.listdir(folder)) - made) if os.path.isdir(folder) else []
+
+
 def main():
-    stale = [path for path, makers in PARTS.items() if renewed(path, makers) != read(path)]
-    for path in stale:
-        if "--check" in sys.argv[1:]:
-            print(f"{path} is not what dev/proof-map.py makes of the sources")
+    parser = argparse.ArgumentParser(description=__doc__.split("\n")[0])
+    parser.add_argument("--check", action="store_true", help="compare, and write nothing")
+    parser.add_argument("--page", metavar="NAME", choices=list(statement.PAGES),
+                        help=f"only the page {', '.join(statement.PAGES)}")
+    words = parser.parse_args()
+    bad = [f"docs/statement/{name} is no page" for name in stale_pages()]
+    for path, text in documents(words.page):
+        there = os.path.join(specs.ROOT, path)
+        if os.path.exists(there) and specs.read(path) == text:
+            continue
+        if words.check:
+            bad.append(f"{path} is not what dev/proof-map.py makes of the sources")
         else:
-            text = renewed(path, PARTS[path])
-            with open(os.path.join(specs.ROOT, path), "w", encoding="utf8") as file:
+            os.makedirs(os.path.dirname(there), exist_ok=True)
+            with open(there, "w", encoding="utf8") as file:
                 file.write(text)
-    sys.exit(1 if stale and "--check" in sys.argv[1:] else 0)
+    print("\n".join(bad), end="\n" if bad else "")
+    return 1 if bad and words.check else 0
 
 
 if __name__ == "__main__":
-    main()
+    sys.exit(main())

@@ -1,0 +1,265 @@
+"""Writes docs/statement/: for a theorem one page with every definition that it rests on.
+
+A page has a head, the types of the code that the definitions read, and the definitions, those of
+one file together. Each definition comes before those that it uses, so a reader goes from top to
+bottom and stops where the words are plain.
+"""
+import re
+import sys
+
+import declared
+import specs
+from library import COVERED, LIBRARY
+
+# A page: what it states, where it is promised, the definition, and what to read before.
+PAGES = {
+    "replay-right": {
+        "title": "Points 1 to 4 of a replay",
+        "root": ("headline.specs.Headline", "IsRight"),
+        "states": "In the history of a replay each packet is at exactly one place, each drop has its "
+                  "cause, each flow is delivered in the order of its arrivals, and flows change their "
+                  "processor and their transmit queue exactly where the manual lets them.",
+        "promised": "The field `right` of `Headline` (`headline/specs/Headline`), which is the field "
+                    "`headline` of `IsAnswered` for the words `replay PLAN CAPTURE`, which is the clause "
+                    "`call` of `steer_top::steer`, the function that `main` calls. The input `i` is "
+                    "the plan and the packets that the bytes of the two files have, and the history "
+                    "`h` is the only one whose report the output is. For `run PLAN CAPTURE` the same "
+                    "is the field `right` of `LiveHeadline`.",
+        "after": [],
+    },
+    "good-history": {
+        "title": "A good history",
+        "root": ("steer_model.specs.Good.GoodHistory", "Good"),
+        "states": "A history meets the eleven clauses of a good history of a plan and of the packets "
+                  "of a capture, whoever made it.",
+        "promised": "The clause `good` of `workers::run_threads`, of the history that the threads of a "
+                    "run leave; and the field `good` of `LiveHeadline` (`headline/specs/Live`), of the "
+                    "history that the output of `run PLAN CAPTURE` is the report of.",
+        "after": ["replay-right"],
+    },
+    "run-headline": {
+        "title": "The theorem of a run with threads",
+        "root": ("headline.specs.Live", "LiveHeadline"),
+        "states": "The output of a run with threads is the report of exactly one history; that history "
+                  "is good, points 1 to 4 hold of it, and all packets that were not dropped are through.",
+        "promised": "The field `headline` of `IsAnswered` for the words `run PLAN CAPTURE`, which is the "
+                    "clause `call` of `steer_top::steer`, the function that `main` calls.",
+        "after": ["replay-right", "good-history"],
+    },
+    "verdict": {
+        "title": "The verdict on a report",
+        "root": ("steer_top.specs.Checks", "IsVerdictLine"),
+        "states": "A line says of a file whether it is the report of a good history of a plan and a "
+                  "capture, and if it is that of another history, which clause that history fails first.",
+        "promised": "The field `text` of `IsAnswered` for the words `check PLAN CAPTURE REPORT`, by the "
+                    "equation of `Writes` (`steer_top/specs/Outcomes`) for `check`, which is "
+                    "`IsVerdictLine`; `IsAnswered` is the clause `call` of `steer_top::steer`.",
+        "after": ["replay-right", "good-history", "run-headline"],
+    },
+}
+NOTATION = [
+    "`abbrev pub f : A → B → C` gives the types of a definition, and `f x y = ..` its value, one "
+    "equation for each case. `record` lists facts that all hold; each `pub` names one.",
+    "A name with a capital letter is a statement (or a type), one with a small letter a value. "
+    "`≡` is equal, `×` and, `⊎` or, `→ ⊥` not, `↔` if and only if.",
+    "`(x : ℕ) → P x`: for every x. `(x : ℕ) × P x`: there is an x. `λ x. e`: the function of x.",
+    "`x ∷ xs` is a list that begins with x, `xs ++ ys` one list after the other. Numbers do not wrap "
+    "and have no upper limit; `a - b` is 0 where b is the greater.",
+    "`Unit` and `⊤` always hold. `h.lanes` is the field `lanes` of h. `says.Done` is the case `Done` of the enum that the `use` "
+    "line of the file calls `says`. [0-reading.md](../model/0-reading.md) has all of it with examples.",
+]
+# What a definition without a comment in its file says.
+SAYINGS = {
+    ("steer_base.specs.Drops", "offers_of"): "the offers to a lane, with the hashes of their packets",
+    ("steer_base.specs.Entries", "is_class"): "whether a choice was made for a packet of this class",
+    ("steer_base.specs.Sets", "is_empty"): "whether no processor is in a set",
+    ("steer_base.specs.Sets", "without_cpu"): "a set without one processor",
+}
+
+
+def module_path(module):
+    """The file of a module as documents name it: crate/specs/File."""
+    return module.replace(".", "/")
+
+
+def order(found, roots):
+    """The definitions that these rest on, each before those that it uses, first used first."""
+    marked, done = set(), []
+
+    def visit(pair):
+        if pair in marked:
+            return
+        marked.add(pair)
+        for used in reversed(found[pair[0]].uses(pair[1])):
+            below = specs.owner(found, *used)
+            if below:
+                visit(below)
+        done.append(pair)
+
+    for root in roots:
+        visit(root)
+    return done[::-1]
+
+
+def by_file(found, pairs):
+    """The same definitions, those of a file together, each file before those that it uses."""
+    within, marked, done = {}, set(), []
+    for module, name in pairs:
+        within.setdefault(module, []).append(name)
+
+    def visit(module):
+        if module in marked:
+            return
+        marked.add(module)
+        used = [specs.owner(found, *pair) for name in within[module]
+                for pair in found[module].uses(name)]
+        for below in reversed(used):
+            if below and below[0] != module:
+                visit(below[0])
+        done.append(module)
+
+    visit(pairs[0][0])
+    return [(module, within[module]) for module in done[::-1]]
+
+
+def escaped(text):
+    """Words of a comment as Markdown shows them."""
+    return re.sub(r"(?<!`)([<*])(?!`)", r"\\\1", text)
+
+
+def block(lines):
+    """Lines as a block of code."""
+    return ["    " + line if line else "" for line in lines]
+
+
+def shown_definition(found, module, name):
+    """A definition: its comment, and below it its own lines."""
+    definition = found[module].definitions[name]
+    words = " ".join(row[2:].strip() for row in definition.comment)
+    said = words or SAYINGS.get((module, name))
+    if not said:
+        sys.exit(f"proof-map.py: {module}.{name} has no comment, and SAYINGS no sentence on it")
+    scope = definition.scope
+    return [f"**`{name.strip('◌')}`**: {escaped(said)}", ""] + block(scope + definition.shown) + [""]
+
+
+def shown_type(declaration):
+    """A type or a constant of the code: its comment and its declaration without ghost facts."""
+    lines, skipping = [], None
+    for line in declaration.lines:
+        indent = len(line) - len(line.lstrip())
+        if skipping is None and re.match(r"\s+pub(\(crate\))? ghost |\s+pub\(crate\) ", line):
+            skipping = indent
+        if skipping is None:
+            lines.append(line)
+        if skipping is not None and indent == skipping and line.rstrip().endswith(","):
+            skipping = None
+    said = " ".join(declaration.comment)
+    return [f"**`{declaration.name}`** ({declaration.path[len('crates/'):]}): {escaped(said)}",
+            ""] + block(lines) + [""]
+
+
+def library_rows(found, pairs):
+    """The definitions of the libraries that occur: name, module, and one sentence each."""
+    names = {}
+    for module, name in pairs:
+        for of, used in found[module].uses(name):
+            used = used.strip("◌")
+            own = of.partition(".")[0] in specs.crates()
+            if not own and used not in COVERED:
+                names.setdefault(used, of)
+    unknown = sorted(name for name in names if name not in LIBRARY)
+    if unknown:
+        sys.exit(f"proof-map.py: dev/library.py says nothing of {', '.join(unknown)}")
+    return [f"| `{name}` | {names[name]} | {LIBRARY[name]} |" for name in sorted(names)]
+
+
+def head(found, page, pairs, files):
+    """What stands before the definitions."""
+    about = PAGES[page]
+    lines = sum(len(found[m].definitions[n].lines) for m, n in pairs)
+    out = [f"# {about['title']}", "", "Generated by `dev/proof-map.py`; do not edit.", "",
+           about["states"], "", f"**Promised by.** {about['promised']}", "",
+           f"**Here** are all {len(pairs)} definitions that `{about['root'][1]}` rests on, from "
+           f"{len(files)} files, {lines} lines without comments, with the text that they have in "
+           "`crates/*/specs`. To know what is claimed, nothing else of the repository has to be read. "
+           "Each definition comes before those that it uses, those of one file together: read downwards, "
+           "and stop where the words are plain to you. The types are behind the theorem, names of the "
+           "libraries at the end.", "", "**Notation.**", ""]
+    return out + [f"{n}. {row}" for n, row in enumerate(NOTATION, 1)] + [""]
+
+
+def field_rows(found, root):
+    """For each field of the theorem the first definitions that it names, and on how many it rests."""
+    module, name = root
+    text = "\n".join(found[module].definitions[name].lines)
+    rows = []
+    for field in re.split(r"\n  pub ", text)[1:]:
+        words = [found[module].meaning(word, name) for word in specs.WORD.findall(field)]
+        used = [pair and specs.owner(found, *pair) for pair in words]
+        first = sorted({pair for pair in used if pair}, key=used.index)
+        if first:
+            links = ", ".join(f"[`{n}`](#{anchor(m)})" for m, n in first)
+            rows.append(f"| `{field.split(' :')[0]}` | {links} | {len(specs.closure(found, first))} |")
+    return rows
+
+
+def anchor(module):
+    """The place in a page of the heading of a file, as GitHub makes it."""
+    return module_path(module).replace("/", "").lower()
+
+
+CLOSURES = {}
+
+
+def closure_of(found, page):
+    """The definitions of a page."""
+    if page not in CLOSURES:
+        CLOSURES[page] = specs.closure(found, [PAGES[page]["root"]])
+    return CLOSURES[page]
+
+
+def seen_before(found, page, module, names):
+    """Says where the definitions of a file are read already, if all of them are."""
+    for earlier in PAGES[page]["after"]:
+        known = closure_of(found, earlier)
+        if all((module, name) in known for name in names):
+            return [f"*The same as on [{earlier}]({earlier}.md#{anchor(module)}).*", ""]
+    return []
+
+
+def type_part(found, pairs):
+    """The types and constants of the code."""
+    types, numbers = declared.types_of(found, pairs)
+    out = ["## Types of the code", "",
+           "As they are declared in `crates/`. In definitions "
+           + ", ".join(f"`{name}`" for name in numbers) + ", and numbers of any width, are ℕ, "
+           "and a `List` or a slice is a list. Facts that a type carries (`ghost`), and what no other "
+           "crate sees, are left out.", ""]
+    for declaration in types:
+        out += shown_type(declaration)
+    return out
+
+
+def page_text(found, page):
+    """The text of a page."""
+    root = PAGES[page]["root"]
+    pairs = order(found, [root])
+    files = by_file(found, pairs)
+    out = head(found, page, pairs, files)
+    rows = field_rows(found, root)
+    out += ["| field of `" + root[1] + "` | says it by | definitions that it rests on |",
+            "|---|---|---|"] + rows + [""]
+    for number, (module, names) in enumerate(files):
+        out += [f"## {module_path(module)}", ""] + seen_before(found, page, module, names)
+        for name in names:
+            out += shown_definition(found, module, name)
+        if number == 0:
+            out += type_part(found, pairs)
+    out += ["## Names of the libraries", "", "| name | module | what it is |", "|---|---|---|"]
+    return "\n".join(out + library_rows(found, pairs)) + "\n"
+
+
+def path_of(page):
+    """The file of a page."""
+    return f"docs/statement/{page}.md"
