@@ -1,158 +1,140 @@
 #!/usr/bin/env python3
-"""Writes docs/model/index.md and the files beside it, which list each public definition of crates/*/specs.
+"""Finds definitions of crates/*/specs: `dev/index.py WORD` prints those of this name, or if there are
+none those whose name or comment has the word, each with its file, its line and its comment.
 
-A row has the comment above the definition, its name and its module. The files are one per group of
-crates.txt. With --check it writes nothing: it compares the files with the sources, and looks up each name
-and link of the other pages of docs/model/. Status 1 where one is stale or unknown.
+`dev/index.py --check` looks up what docs/model/ and docs/statement/ say of the sources: each name of
+a definition, law or clause, and each link. Status 1 where something is not there.
 """
-import difflib
+import argparse
 import os
 import re
+import signal
 import sys
 
-ROOT = os.path.dirname(os.path.dirname(os.path.abspath(__file__)))
-HERE = os.path.join(ROOT, "docs", "model")
-DEFINITION = re.compile(r"\s*(?:(?:abbrev|unfoldable|opaque) pub|pub (?:record|data)) ([^\s:({]+)")
+import specs
+
+MODEL, STATEMENT = "docs/model", "docs/statement"
+MOST_BYTES = 8192
+NAMED = re.compile(r"`(\w+/specs/[\w/]+(?=[.`]))?\.?([^`]*)`")
+LINK = re.compile(r"\]\(([^)#:]*)(?:#([^)]*))?\)")
+LAW = re.compile(r"^\| `(\w+)` \(`(\w+)`\) \|", re.M)
+CLAUSE = re.compile(r"`(\w+)` of `(\w+)::(\w+)`")
 
 
-def read(path):
-    with open(path, encoding="utf8") as file:
-        return file.read()
+def found_by(word):
+    """The definitions of this name, or else those that have the word."""
+    listed = [(module, name, definition) for module in specs.modules().values()
+              for name, definition in module.definitions.items()]
+    named = [row for row in listed if row[1].strip("◌") == word]
+    low = word.lower()
+    return named or [row for row in listed
+                     if low in row[1].lower() or low in " ".join(row[2].comment).lower()]
 
 
-def groups():
-    """The crates by the groups of crates.txt: pairs of a group's name and its crates."""
-    found = []
-    for line in read(os.path.join(ROOT, "crates.txt")).split("\n"):
-        if line.startswith("# ") and not line.startswith("# The crates"):
-            found.append((line[2:].split(";")[0].rstrip("."), []))
-        crate = re.match(r"(\w+):", line)
-        if crate:
-            found[-1][1].append(crate.group(1))
+def show(word):
+    """Prints what is found, and returns the status."""
+    rows = found_by(word)
+    for module, name, definition in rows:
+        print(f"{name}  {module.path}:{definition.line}")
+        for row in definition.comment:
+            print(f"  {row[2:].strip()}")
+        if len(rows) == 1:
+            print("\n".join("    " + line for line in definition.shown))
+    if not rows:
+        print(f"index.py: no definition has {word}", file=sys.stderr)
+    return 0 if rows else 1
+
+
+def pages(folder):
+    """The pages of a folder: pairs of a path and a text."""
+    there = os.path.join(specs.ROOT, folder)
+    return [(f"{folder}/{name}", specs.read(f"{folder}/{name}"))
+            for name in sorted(os.listdir(there)) if name.endswith(".md")]
+
+
+def anchors(text):
+    """The places of the headings of a page, as GitHub makes them."""
+    return {re.sub(r"[^\w\- ]", "", head).replace(" ", "-").lower()
+            for head in re.findall(r"^#+ (.*)", text, re.M)}
+
+
+def bad_links(page, text):
+    """The links of a page that lead nowhere."""
+    for path, place in LINK.findall(text):
+        there = os.path.normpath(os.path.join(os.path.dirname(page), path)) if path else page
+        if not os.path.exists(os.path.join(specs.ROOT, there)):
+            yield f"{page}: no file {path}"
+        elif place and there.endswith(".md") and place not in anchors(specs.read(there)):
+            yield f"{page}: no heading {path}#{place}"
+
+
+def bad_names(page, text, known):
+    """The names of definitions that a page gives to a module which has none of that name."""
+    for line in text.split("\n"):
+        module = None
+        for path, name in NAMED.findall(line):
+            if path:
+                module = path
+                if path not in known:
+                    yield f"{page}: no module {path}"
+            elif not module or not re.match(r"\w+$", name):
+                continue
+            if name and name not in known.get(module, ()):
+                yield f"{page}: no {name} in {module}"
+
+
+def sources():
+    """The text of each function of crates/*/src up to its body, by its crate and name."""
+    found = {}
+    for crate in specs.crates():
+        for folder, _, files in os.walk(os.path.join(specs.ROOT, "crates", crate, "src")):
+            for file in (f for f in files if f.endswith(".rt")):
+                text = specs.read(os.path.join(folder, file))
+                for match in re.finditer(r"\bfn (\w+)", text):
+                    contract = re.split(r"\n *\{", text[match.start():], 1)[0]
+                    of = crate, match.group(1)
+                    found[of] = found.get(of, "") + contract
     return found
 
 
-def modules(folder, before=""):
-    """The modules of a specs folder by their Lib file and folders: pairs of a name and a file."""
-    lib = os.path.join(folder, "Lib.antt") if not before else folder + ".antt"
-    for name in re.findall(r"^pub mod (\w+)", read(lib), re.M) if os.path.exists(lib) else []:
-        if os.path.exists(os.path.join(folder, name + ".antt")):
-            yield before + name, os.path.join(folder, name + ".antt")
-        if os.path.isdir(os.path.join(folder, name)):
-            yield from modules(os.path.join(folder, name), before + name + "/")
-
-
-def definitions(path):
-    """The public definitions of a file, each with the comment above it, or nothing.
-
-    A record that comes first in its file and has no comment has the one at the file's head.
-    """
-    text = read(path)
-    head = re.match(r"((?:--[^\n]*\n)*)", text).group(1)
-    head = " ".join(line[3:] for line in head.split("\n") if line)
-    comment = []
-    for line in text.split("\n"):
-        said = re.match(r"\s*-- ?(.*)", line)
-        name = DEFINITION.match(line)
-        if said:
-            comment = [] if said.group(1).startswith("--") else comment + [said.group(1)]
-            continue
-        if name:
-            yield " ".join(comment) or (head if line.startswith("pub record") else ""), name.group(1)
-            head = ""
-        comment = []
-
-
-def cell(text):
-    return text.replace("|", "\\|").replace("<", "&lt;")
-
-
-def group_page(group, crates):
-    out = [f"# Definitions: {group.lower()}", "",
-           "Generated by `dev/index.py`. Module `M` of a crate is its file `specs/M.antt`.", ""]
-    count = 0
-    for crate in crates:
-        rows = [f"| {cell(said)} | `{cell(name)}` | {module} |"
-                for module, path in modules(os.path.join(ROOT, "crates", crate, "specs"))
-                for said, name in definitions(path)]
-        if rows:
-            out += [f"## {crate}", "", "| plain words | name | module |", "|---|---|---|"] + rows + [""]
-        count += len(rows)
-    return count, "\n".join(out)
-
-
-def pages():
-    """The generated files: their names and texts."""
-    made = {}
-    lines = ["# Index of definitions", "",
-             "Every public definition of the specifications, with the comment above it: generated by "
-             "`dev/index.py` from `crates/*/specs`. The pages of this folder explain those that "
-             "carry the model; [0-reading.md](0-reading.md) says how to read one.", "",
-             "| crates | definitions |", "|---|---|"]
-    for group, crates in groups():
-        count, text = group_page(group, crates)
-        if count:
-            name = "index-" + group.lower().split(" of ")[0].replace(" ", "-") + ".md"
-            made[name] = text
-            lines.append(f"| [{group}]({name}): {', '.join(crates)} | {count} |")
-    made["index.md"] = "\n".join(lines) + "\n"
-    return made
-
-
 def unknown():
-    """The names in the pages that no crate has, and the links that lead nowhere."""
-    known, functions = {}, set()
-    for crate in os.listdir(os.path.join(ROOT, "crates")):
-        for module, path in modules(os.path.join(ROOT, "crates", crate, "specs")):
-            known[f"{crate}/specs/{module}"] = {name for _, name in definitions(path)}
-        for folder, _, files in os.walk(os.path.join(ROOT, "crates", crate, "src")):
-            for file in files:
-                if file.endswith(".rt"):
-                    functions |= {(crate, f) for f in re.findall(r"\bfn (\w+)", read(os.path.join(folder, file)))}
-    for page in sorted(f for f in os.listdir(HERE) if re.match(r"\d.*\.md$", f)):
-        text = read(os.path.join(HERE, page))
-        if len(text.encode()) > 8192:
-            yield f"{page}: {len(text.encode())} bytes are more than 8192"
-        for link in re.findall(r"\]\(([^)#:]+)(?:#[^)]*)?\)", text):
-            if not os.path.exists(os.path.join(HERE, link)):
-                yield f"{page}: no file {link}"
-        for law, crate in re.findall(r"^\| `(\w+)` \(`(\w+)`\) \|", text, re.M):
+    """What the pages say that the sources do not have."""
+    known = {module.replace(".", "/"): {n for n, d in of.definitions.items() if d.public}
+             for module, of in specs.modules().items()}
+    functions = sources()
+    for page, text in pages(MODEL):
+        if len(text.encode()) > MOST_BYTES:
+            yield f"{page}: {len(text.encode())} bytes are more than {MOST_BYTES}"
+        yield from bad_names(page, text, known)
+        for law, crate in LAW.findall(text):
             if (crate, law) not in functions:
                 yield f"{page}: no function {law} in {crate}"
-        for line in text.split("\n"):
-            module = None
-            for path, name in re.findall(r"`(\w+/specs/[\w/]+(?=[.`]))?\.?([^`]*)`", line):
-                if path:
-                    module = path
-                    if path not in known:
-                        yield f"{page}: no module {path}"
-                elif not module or not re.match(r"\w+$", name):
-                    continue
-                if name and name not in known.get(module, ()):
-                    yield f"{page}: no {name} in {module}"
+    for page, text in pages(STATEMENT):
+        for path, name in NAMED.findall(text):
+            if path and name not in known.get(path, ()):
+                yield f"{page}: no {name} in {path}"
+        for clause, crate, function in CLAUSE.findall(text):
+            if f"ensures {clause} " not in functions.get((crate, function), ""):
+                yield f"{page}: {crate}::{function} has no clause {clause}"
+    for page, text in pages(MODEL) + pages(STATEMENT):
+        yield from bad_links(page, text)
 
 
 def main():
-    made, bad = pages(), []
-    check = "--check" in sys.argv[1:]
-    beside = [f for f in os.listdir(HERE) if f.startswith("index") and f.endswith(".md")]
-    for name in sorted(set(beside) | set(made)):
-        path = os.path.join(HERE, name)
-        old, new = read(path) if name in beside else "", made.get(name, "")
-        if old == new:
-            continue
-        if check:
-            bad += list(difflib.unified_diff(old.split("\n"), new.split("\n"), name, name, lineterm="", n=0))[:8]
-        elif name in made:
-            with open(path, "w", encoding="utf8") as file:
-                file.write(new)
-        else:
-            os.remove(path)
-    bad += list(unknown())
-    if bad:
-        print("\n".join(bad))
-    sys.exit(1 if bad and check else 0)
+    parser = argparse.ArgumentParser(description="Finds definitions of crates/*/specs.")
+    parser.add_argument("word", nargs="?", metavar="WORD", help="a name, or a word of a comment")
+    parser.add_argument("--check", action="store_true",
+                        help=f"look up the names and links of {MODEL}/ and {STATEMENT}/")
+    words = parser.parse_args()
+    if words.word:
+        return show(words.word)
+    if not words.check:
+        parser.error("a WORD, or --check")
+    bad = list(unknown())
+    print("\n".join(bad), end="\n" if bad else "")
+    return 1 if bad else 0
 
 
 if __name__ == "__main__":
-    main()
+    signal.signal(signal.SIGPIPE, signal.SIG_DFL)
+    sys.exit(main())

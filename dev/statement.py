@@ -19,7 +19,7 @@ PAGES = {
         "states": "In the history of a replay each packet is at exactly one place, each drop has its "
                   "cause, each flow is delivered in the order of its arrivals, and flows change their "
                   "processor and their transmit queue exactly where the manual lets them.",
-        "promised": "The field `right` of `Headline` (`headline/specs/Headline`), which is the field "
+        "promised": "The field `right` of `Headline` (`headline/specs/Headline.Headline`), which is the field "
                     "`headline` of `IsAnswered` for the words `replay PLAN CAPTURE`, which is the clause "
                     "`call` of `steer_top::steer`, the function that `main` calls. The input `i` is "
                     "the plan and the packets that the bytes of the two files have, and the history "
@@ -33,7 +33,7 @@ PAGES = {
         "states": "A history meets the eleven clauses of a good history of a plan and of the packets "
                   "of a capture, whoever made it.",
         "promised": "The clause `good` of `workers::run_threads`, of the history that the threads of a "
-                    "run leave; and the field `good` of `LiveHeadline` (`headline/specs/Live`), of the "
+                    "run leave; and the field `good` of `LiveHeadline` (`headline/specs/Live.LiveHeadline`), of the "
                     "history that the output of `run PLAN CAPTURE` is the report of.",
         "after": ["replay-right"],
     },
@@ -52,7 +52,7 @@ PAGES = {
         "states": "A line says of a file whether it is the report of a good history of a plan and a "
                   "capture, and if it is that of another history, which clause that history fails first.",
         "promised": "The field `text` of `IsAnswered` for the words `check PLAN CAPTURE REPORT`, by the "
-                    "equation of `Writes` (`steer_top/specs/Outcomes`) for `check`, which is "
+                    "equation of `Writes` (`steer_top/specs/Outcomes.Writes`) for `check`, which is "
                     "`IsVerdictLine`; `IsAnswered` is the clause `call` of `steer_top::steer`.",
         "after": ["replay-right", "good-history", "run-headline"],
     },
