@@ -9,6 +9,7 @@ import os
 import re
 import sys
 
+import crate_pages
 import specs
 import statement
 
@@ -104,24 +105,9 @@ def reading_list():
     return out + parts
 
 
-def crate_table():
-    out = ["| crate | what it is | depends on |", "|---|---|---|"]
-    for line in read("crates.txt").split("\n"):
-        if line.startswith("# ") and not line.startswith("# The crates"):
-            out.append(f"| **{line[2:].rstrip('.').split(';')[0].lower()}** | | |")
-        found = re.match(r"(\w+):(.*)", line)
-        if found:
-            crate, below = found.group(1), found.group(2).split()
-            root = next(f for f in ("lib.rt", "main.rt")
-                        if os.path.exists(os.path.join(specs.ROOT, "crates", crate, "src", f)))
-            text = re.match(r"((?://! ?[^\n]*\n)+)", read(f"crates/{crate}/src/{root}"))
-            said = " ".join(row[3:].strip() for row in text.group(1).strip().split("\n")).split(". ")[0].rstrip(".")
-            out.append(f"| [`{crate}`](../crates/{crate}) | {said} | {', '.join(below)} |")
-    return out
-
-
 PARTS = {"docs/proof-map.md": {"laws": law_table, "reading list": reading_list},
-         "docs/architecture.md": {"crates": crate_table}}
+         "docs/architecture.md": {"crates": crate_pages.crate_table,
+                                  "longest chain": crate_pages.chain}}
 
 
 def renewed(path, makers):
@@ -143,6 +129,7 @@ def documents(page):
         if page in (None, name):
             yield statement.path_of(name), statement.page_text(found, name)
     if page is None:
+        yield "crates/README.md", crate_pages.readme()
         for path, makers in PARTS.items():
             yield path, renewed(path, makers)
 
