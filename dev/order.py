@@ -2,8 +2,9 @@
 """The order of crates.txt: each group of crates depends on its own crates and on earlier groups.
 
 Prints what is against it: an edge to a crate of a later line or group, and a name in a crate's row
-that no file of the crate's src/, specs/, proofs/ or must-fail/ has, be it in a comment. Then the longest chain: crates
-that wait for each other when all is proved, and have the most lines of src, specs and proofs. Status 1 where something is against the order.
+that no file of the crate's src/, specs/, proofs/ or must-fail/ has (a comment is enough). The status
+is then 1. If there is nothing, it prints the longest chain: of the crates that wait for each other
+when all is proved, those with the most lines of src, specs and proofs together.
 """
 import os
 import re
@@ -89,10 +90,12 @@ def unused():
 
 def main():
     bad = list(upward()) + list(unused())
+    if bad:
+        print("\n".join(bad))
+        return 1
     chain, length, total = longest_chain()
-    print("\n".join(bad), end="\n" if bad else "")
     print(f"longest chain: {len(chain)} crates, {length} of {total} lines: {', '.join(chain)}")
-    return 1 if bad else 0
+    return 0
 
 
 if __name__ == "__main__":

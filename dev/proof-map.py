@@ -1,111 +1,20 @@
 #!/usr/bin/env python3
-"""Writes the generated parts of docs/proof-map.md and docs/architecture.md, or with --check compares them.
+"""Writes the generated documents, or with --check compares them.
 
-proof-map.md: the laws that the main theorem is made of, each with its statement and its proof, and the
-definitions that carry each sentence of the theorem. architecture.md: the table of crates.
+These are the pages of docs/statement/ (with --page NAME that one alone), the tables of
+docs/proof-map.md, the table of crates and the longest chain in docs/architecture.md, and
+crates/README.md.
 """
 import argparse
 import os
-import re
 import sys
 
 import crate_pages
+import proof_tables
 import specs
 import statement
 
-# Each sentence of the theorem with the definitions in which it is said.
-SENTENCES = [
-    ("the output is the report of exactly one history",
-     [("headline.specs.Headline", "Says"), ("headline.specs.Headline", "Reports")]),
-    ("which is that of the plan's steps on the capture's packets",
-     [("headline.specs.Headline", "IsOfTheRun")]),
-    ("1, each packet is in exactly one place",
-     [("headline.specs.Places", "IsAtOnePlace"), ("history.specs.Places", "AreInOnePlace")]),
-    ("2, each drop has its cause",
-     [("headline.specs.Drops", "IsDroppedFor"), ("steer_model.specs.Good.Drops", "DropsRise")]),
-    ("3, each flow is delivered in the order of its arrivals",
-     [("headline.specs.Orders", "AreInOrder")]),
-    ("4, a flow changes its processor just where one of the three conditions holds",
-     [("headline.specs.Processors", "ProcessorsAreChosen")]),
-    ("4, and its transmit queue likewise", [("headline.specs.Replies", "QueuesArePicked")]),
-    ("1 to 4 together", [("headline.specs.Headline", "IsRight")]),
-    ("all of it", [("headline.specs.Headline", "Headline")]),
-]
-FIRST_LAW = "every_report_has_the_headline"
-LAW = re.compile(r"((?:^///[^\n]*\n)+)pub fn (\w+)\(\)\n((?:    [^\n]*\n|\n)*?)\{(.*?)\}(?:\n|\Z)", re.M | re.S)
-
-
-def read(path):
-    with open(os.path.join(specs.ROOT, path), encoding="utf8") as file:
-        return file.read()
-
-
-def laws():
-    """Each law, a function with no parameters: its crate, module, statement and the laws it calls."""
-    found = {}
-    for crate in specs.crates():
-        for folder, _, files in os.walk(os.path.join(specs.ROOT, "crates", crate, "src")):
-            for file in (f for f in files if f.endswith(".rt")):
-                text = read(os.path.join(folder, file))
-                for _, name, contract, body in LAW.findall(text):
-                    if "ensures" in contract:
-                        words = re.findall(r"ensures(?: \w+)? \{ ?(.*?) ?\}\n", contract, re.S)
-                        said = sorted({w for text_of in words for w in re.findall(r"\b[A-Z]\w+", text_of)})
-                        calls = re.findall(r"(\w+)\(\)", body)
-                        found[name] = (crate, file[:-3], said, calls)
-    return found
-
-
-def proof_of(crate, module, name):
-    """The file that proves a law and the lemmas that it cites, if it needs one."""
-    path = f"crates/{crate}/proofs/{module}/{name}/Answers.antt"
-    if not os.path.exists(os.path.join(specs.ROOT, path)):
-        return "found by the check" 
-    cited = re.findall(rf"^use Rattle\.({crate}\.proofs\.[\w.]+)\.\{{([^}}]*)\}}", read(path), re.M)
-    lemmas = [f"`{m.split('.proofs.')[1].replace('.', '/')}` {n}" for m, n in cited]
-    return "; ".join(lemmas) or f"`{path.split('/proofs/')[1]}`"
-
-
-def law_table():
-    found, rows, seen = laws(), [], set()
-
-    def visit(name, depth):
-        if name in seen or name not in found:
-            return
-        seen.add(name)
-        crate, module, said, calls = found[name]
-        rows.append(f"| {'· ' * depth}`{name}` | `{crate}` | {', '.join(f'`{w}`' for w in said)} "
-                    f"| {proof_of(crate, module, name)} |")
-        for call in calls:
-            visit(call, depth + 1)
-
-    visit(FIRST_LAW, 0)
-    return ["| law | crate | says (in `specs/`) | proved by (in `proofs/`) |", "|---|---|---|---|"] + rows
-
-
-def reading_list():
-    found = specs.modules()
-    out = ["| sentence | definitions | files | lines |", "|---|---|---|---|"]
-    parts = []
-    for sentence, roots in SENTENCES:
-        for module, name in roots:
-            if module not in found or name not in found[module].definitions:
-                sys.exit(f"proof-map.py: there is no {name} in {module}")
-        rest = specs.closure(found, roots)
-        files = sorted({module for module, _ in rest})
-        lines = sum(len(found[module].definitions[name].lines) for module, name in rest)
-        out.append(f"| {sentence} | {len(rest)} | {len(files)} | {lines} |")
-        if sentence.startswith("4, a flow"):
-            parts = ["", "The definitions that say when a flow changes its processor:", "",
-                     "| file | definitions |", "|---|---|"]
-            for module in files:
-                names = sorted(n for m, n in rest if m == module)
-                crate, path = module.split(".specs.")
-                parts.append(f"| `{crate}/specs/{path.replace('.', '/')}` | {', '.join(f'`{n}`' for n in names)} |")
-    return out + parts
-
-
-PARTS = {"docs/proof-map.md": {"laws": law_table, "reading list": reading_list},
+PARTS = {"docs/proof-map.md": proof_tables.PARTS,
          "docs/architecture.md": {"crates": crate_pages.crate_table,
                                   "longest chain": crate_pages.chain}}
 
