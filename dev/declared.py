@@ -104,25 +104,43 @@ class Sources:
                             yield found
 
 
-def types_of(found, pairs):
-    """The declarations that these definitions read: those that they name, then what these hold.
-
-    What a field holds is among them only if some definition reads a field of that name. Types of
-    one number are left out; their names come second.
-    """
-    sources, left, fields = Sources(), [], set()
+def words_of(found, pairs):
+    """The words of definitions, and the fields that they read or set."""
+    words, fields = set(), set()
     for module, name in pairs:
-        fields |= set(re.findall(r"\.(\w+)", found[module].definitions[name].text()))
-        fields |= set(re.findall(r"[{;]\s*(\w+) =", "\n".join(found[module].definitions[name].lines)))
-        left += [sources.named(*pair) for pair in found[module].uses(name)]
-    listed, numbers = [], set()
+        lines = "\n".join(found[module].definitions[name].lines)
+        words |= set(re.findall(r"\w+", lines))
+        fields |= set(re.findall(r"\.(\w+)|[{;]\s*(\w+) =", lines))
+    return words, {name for pair in fields for name in pair if name}
+
+
+def is_looked_into(declared, words, fields):
+    """Whether definitions with these words and fields name a field or a case of a type."""
+    if declared.kind == "enum":
+        cases = re.findall(r"^    (\w+)", "\n".join(declared.lines), re.M)
+        return any(case in words for case in cases)
+    return any(name in fields for name, _ in declared.parts())
+
+
+def types_of(found, pairs):
+    """The types and constants that these definitions read.
+
+    Those that they name come first, then what these hold in fields that are read. Held types that
+    no definition looks into are only named, second, and third those that are numbers.
+    """
+    sources, listed, closed, numbers = Sources(), [], set(), set()
+    words, fields = words_of(found, pairs)
+    left = [(sources.named(*pair), True) for module, name in pairs
+            for pair in found[module].uses(name)]
     while left:
-        declared = left.pop(0)
+        declared, is_named = left.pop(0)
         if declared is None or declared in listed or declared.name in LISTS:
             continue
         if declared.name in sources.numbers:
             numbers.add(declared.name)
-            continue
-        listed.append(declared)
-        left += list(sources.held(declared, fields))
-    return listed, sorted(numbers)
+        elif is_named or is_looked_into(declared, words, fields):
+            listed.append(declared)
+            left += [(held, False) for held in sources.held(declared, fields)]
+        else:
+            closed.add(declared.name)
+    return listed, sorted(closed - {declared.name for declared in listed}), sorted(numbers)

@@ -111,7 +111,7 @@ def unknown():
                 yield f"{page}: no function {law} in {crate}"
     for page, text in pages(STATEMENT):
         for path, name in NAMED.findall(text):
-            if path and name not in known.get(path, ()):
+            if path and (path not in known or name and name not in known[path]):
                 yield f"{page}: no {name} in {path}"
         for clause, crate, function in CLAUSE.findall(text):
             if f"ensures {clause} " not in functions.get((crate, function), ""):

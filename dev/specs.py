@@ -52,7 +52,7 @@ class Definition:
 
     def __init__(self, line, comment, public, scope):
         self.line, self.comment, self.public, self.scope = line, comment, public, scope
-        self.shown, self.lines = [], []
+        self.shown, self.lines, self.used = [], [], None
 
     def add(self, line):
         """Adds a line to the definition."""
@@ -132,13 +132,20 @@ class Module:
 
     def uses(self, name):
         """What a definition names, as pairs of a module and a name, in the order of its text."""
-        text = self.definitions[name].text() + "\n" + "\n".join(self.definitions[name].scope)
+        definition = self.definitions[name]
+        if definition.used is None:
+            text = definition.text() + "\n" + "\n".join(definition.scope)
+            definition.used = self.meanings(text, name)
+        return definition.used
+
+    def meanings(self, text, within):
+        """What the words of a text mean in this file, inside a definition of it, in their order."""
         found = {}
         for alias, word in QUALIFIED.findall(text):
             if alias in self.aliases:
                 found.setdefault((self.aliases[alias], word), text.index(f"{alias}.{word}"))
         for word in WORD.finditer(PROJECTION.sub(lambda m: " " * len(m.group()), text)):
-            pair = self.meaning(word.group(), name)
+            pair = self.meaning(word.group(), within)
             if pair:
                 found.setdefault(pair, word.start())
         return sorted(found, key=found.get)

@@ -16,6 +16,7 @@ PAGES = {
     "replay-right": {
         "title": "Points 1 to 4 of a replay",
         "root": ("headline.specs.Headline", "IsRight"),
+        "labels": ("point", "1 1 2 2 3 3 4 4 4".split()),
         "states": "In the history of a replay each packet is at exactly one place, each drop has its "
                   "cause, each flow is delivered in the order of its arrivals, and flows change their "
                   "processor and their transmit queue exactly where the manual lets them.",
@@ -30,6 +31,7 @@ PAGES = {
     "good-history": {
         "title": "A good history",
         "root": ("steer_model.specs.Good.GoodHistory", "Good"),
+        "labels": ("clause", [str(number) for number in range(1, 12)]),
         "states": "A history meets the eleven clauses of a good history of a plan and of the packets "
                   "of a capture, whoever made it.",
         "promised": "The clause `good` of `workers::run_threads`, of the history that the threads of a "
@@ -58,15 +60,17 @@ PAGES = {
     },
 }
 NOTATION = [
-    "`abbrev pub f : A → B → C` gives the types of a definition, and `f x y = ..` its value, one "
-    "equation for each case. `record` lists facts that all hold; each `pub` names one.",
-    "A name with a capital letter is a statement (or a type), one with a small letter a value. "
-    "`≡` is equal, `×` and, `⊎` or, `→ ⊥` not, `↔` if and only if.",
+    "`abbrev pub f : A → B → C` (or `unfoldable`) gives the types of a definition, and `f x y = ..` its "
+    "value, one equation for each case; `{A : Type 0}` is any type. `record` lists facts that all hold, "
+    "each after its name; a field that is a value, as `at : ℕ → ℕ`, says that there is such a value.",
+    "A name with a capital letter is a statement (its type is `Type 0`) or a type, one with a small "
+    "letter a value. `≡` is equal, `×` and, `⊎` or, `→ ⊥` not, `↔` if and only if; `Unit` and `⊤` "
+    "always hold.",
     "`(x : ℕ) → P x`: for every x. `(x : ℕ) × P x`: there is an x. `λ x. e`: the function of x.",
-    "`x ∷ xs` is a list that begins with x, `xs ++ ys` one list after the other. Numbers do not wrap "
-    "and have no upper limit; `a - b` is 0 where b is the greater.",
-    "`Unit` and `⊤` always hold. `h.lanes` is the field `lanes` of h. `says.Done` is the case `Done` of the enum that the `use` "
-    "line of the file calls `says`. [0-reading.md](../model/0-reading.md) has all of it with examples.",
+    "`x ∷ xs` is a list that begins with x, `xs ++ ys` one list after the other. Numbers have no upper "
+    "limit and do not wrap; `zero` is 0, `suc n` is n + 1, and `a - b` is 0 where b is the greater.",
+    "`h.lanes` is the field `lanes` of h, and `record s { f = v }` is s with another value of f. "
+    "[0-reading.md](../model/0-reading.md) has all of it with examples.",
 ]
 # What a definition without a comment in its file says.
 SAYINGS = {
@@ -132,15 +136,17 @@ def block(lines):
     return ["    " + line if line else "" for line in lines]
 
 
-def shown_definition(found, module, name):
-    """A definition: its comment, and below it its own lines."""
+def shown_definition(found, module, name, place="", note=""):
+    """A definition: its comment with a note, and below it its own lines."""
     definition = found[module].definitions[name]
     words = " ".join(row[2:].strip() for row in definition.comment)
     said = words or SAYINGS.get((module, name))
     if not said:
         sys.exit(f"proof-map.py: {module}.{name} has no comment, and SAYINGS no sentence on it")
     scope = definition.scope
-    return [f"**`{name.strip('◌')}`**: {escaped(said)}", ""] + block(scope + definition.shown) + [""]
+    said = said.rstrip(".") + "." + note if note else said
+    return [f"**`{name.strip('◌')}`**{place}: {escaped(said)}",
+            ""] + block(scope + definition.shown) + [""]
 
 
 def shown_type(declaration):
@@ -184,28 +190,40 @@ def head(found, page, pairs, files):
            f"{len(files)} files, {lines} lines without comments, with the text that they have in "
            "`crates/*/specs`. To know what is claimed, nothing else of the repository has to be read. "
            "Each definition comes before those that it uses, those of one file together: read downwards, "
-           "and stop where the words are plain to you. The types are behind the theorem, names of the "
+           "and stop where the words are plain to you. The types come after the theorem, the names of the "
            "libraries at the end.", "", "**Notation.**", ""]
-    return out + [f"{n}. {row}" for n, row in enumerate(NOTATION, 1)] + [""]
+    out += [f"{n}. {row}" for n, row in enumerate(NOTATION, 1)] + [""]
+    names = aliases(found, pairs)
+    if names:
+        out += ["Short names before a dot, as in `says.Done`: " + "; ".join(names) + ".", ""]
+    return out
 
 
-def field_rows(found, root):
-    """For each field of the theorem the first definitions that it names, and on how many it rests."""
-    module, name = root
+def field_table(found, page):
+    """For each field of the theorem the definitions that it names, and on how many it rests."""
+    module, name = PAGES[page]["root"]
+    title, labels = PAGES[page].get("labels", (None, None))
     text = "\n".join(found[module].definitions[name].lines)
     rows = []
     for field in re.split(r"\n  pub ", text)[1:]:
-        words = [found[module].meaning(word, name) for word in specs.WORD.findall(field)]
-        used = [pair and specs.owner(found, *pair) for pair in words]
-        first = sorted({pair for pair in used if pair}, key=used.index)
+        used = [specs.owner(found, *pair) for pair in found[module].meanings(field, name)]
+        first = [pair for pair in used if pair]
         if first:
-            links = ", ".join(f"[`{n}`](#{anchor(m)})" for m, n in first)
-            rows.append(f"| `{field.split(' :')[0]}` | {links} | {len(specs.closure(found, first))} |")
-    return rows
+            links = ", ".join(f"[`{n}`](#{anchor(found, page, m, n)})" for m, n in first)
+            rows.append([f"`{field.split(' :')[0]}`", links, len(specs.closure(found, first))])
+    if title and len(labels) != len(rows):
+        sys.exit(f"proof-map.py: {page} has {len(rows)} fields, and {len(labels)} labels")
+    out = [f"| field of `{name}` | says it by | definitions that it rests on |", "|---|---|---|"]
+    for number, (field, links, count) in enumerate(rows):
+        label = f", {title} {labels[number]}" if title else ""
+        out.append(f"| {field}{label} | {links} | {count} |")
+    return out + [""]
 
 
-def anchor(module):
-    """The place in a page of the heading of a file, as GitHub makes it."""
+def anchor(found, page, module, name=None):
+    """The place in a page of a definition's file, as GitHub makes it of the heading."""
+    if name and (module, name) != PAGES[page]["root"] and is_values(found, module, name):
+        return "types"
     return module_path(module).replace("/", "").lower()
 
 
@@ -224,18 +242,74 @@ def seen_before(found, page, module, names):
     for earlier in PAGES[page]["after"]:
         known = closure_of(found, earlier)
         if all((module, name) in known for name in names):
-            return [f"*The same as on [{earlier}]({earlier}.md#{anchor(module)}).*", ""]
+            return [f"*The same as on [{earlier}]({earlier}.md#{anchor(found, earlier, module)}).*", ""]
     return []
 
 
-def type_part(found, pairs):
-    """The types and constants of the code."""
-    types, numbers = declared.types_of(found, pairs)
-    out = ["## Types of the code", "",
-           "As they are declared in `crates/`. In definitions "
-           + ", ".join(f"`{name}`" for name in numbers) + ", and numbers of any width, are ℕ, "
-           "and a `List` or a slice is a list. Facts that a type carries (`ghost`), and what no other "
-           "crate sees, are left out.", ""]
+def is_values(found, module, name):
+    """Whether a definition is a record of values or a list of cases, and no statement."""
+    definition = found[module].definitions[name]
+    if not re.match(r"\s*pub (record|data) ", definition.lines[0]):
+        return False
+    fields = re.sub(r"\w+ (?=:)", "", definition.text().partition(" where")[2])
+    for pair in found[module].meanings(fields, name):
+        below = specs.owner(found, *pair)
+        if below and not is_values(found, *below):
+            return False
+    return not re.search("[≡≢≤<×⊎↔]", fields)
+
+
+def aliases(found, pairs):
+    """What the names before a dot mean: of each its module, or the enum whose cases it has."""
+    names = {}
+    for module, name in pairs:
+        for alias, _ in specs.QUALIFIED.findall(found[module].definitions[name].text()):
+            if alias in found[module].aliases:
+                of = re.sub(r"\.TheVariants$", "", found[module].aliases[alias])
+                names.setdefault(f"`{alias}.`", set()).add(f"`{of.split('.')[-1]}`")
+    return [f"{alias} for {' or '.join(sorted(of))}" for alias, of in sorted(names.items())]
+
+
+def place_of(found, module, name):
+    """What a name is of, in words: a file of definitions, a type of the code, or a library."""
+    owner = specs.owner(found, module, name)
+    if owner:
+        return f"that of `{module_path(owner[0])}`"
+    crate, _, rest = module.partition(".specs.declared.")
+    if rest and crate in specs.crates():
+        return f"that of `{re.sub('[.]TheVariants$', '', rest).split('.')[-1]}`"
+    return "the library's"
+
+
+def twice(found, pairs):
+    """What names with two meanings on a page are, by the definition in which they occur."""
+    meanings, out = {}, {}
+    for module, name in pairs:
+        for of, used in found[module].uses(name):
+            places = meanings.setdefault(used, {})
+            places.setdefault(place_of(found, of, used), set()).add((module, name))
+    for used, places in meanings.items():
+        if len(places) > 1 and used not in COVERED and used[0].islower():
+            for place, users in places.items():
+                for user in users:
+                    out.setdefault(user, []).append(f" Here `{used}` is {place}.")
+    return out
+
+
+def type_part(found, pairs, values):
+    """The records of values of the definitions, and the types and constants of the code."""
+    types, closed, numbers = declared.types_of(found, pairs)
+    out = ["## Types", "",
+           "First those of the definitions, then those of the code as they are declared in `crates/`, without facts that they carry "
+           "(`ghost`) and without what no other crate sees. In definitions a `List` or a slice is a "
+           "list, and numbers of any width are ℕ; so are "
+           + ", ".join(f"`{name}`" for name in numbers) + "."]
+    if closed:
+        out[-1] += (" No definition looks into "
+                    + ", ".join(f"`{name}`" for name in closed) + ".")
+    out.append("")
+    for pair in values:
+        out += shown_definition(found, *pair, f" ({module_path(pair[0])})")
     for declaration in types:
         out += shown_type(declaration)
     return out
@@ -247,15 +321,18 @@ def page_text(found, page):
     pairs = order(found, [root])
     files = by_file(found, pairs)
     out = head(found, page, pairs, files)
-    rows = field_rows(found, root)
-    out += ["| field of `" + root[1] + "` | says it by | definitions that it rests on |",
-            "|---|---|---|"] + rows + [""]
+    out += field_table(found, page)
+    notes = twice(found, pairs)
+    values = [pair for pair in pairs[1:] if is_values(found, *pair)]
     for number, (module, names) in enumerate(files):
-        out += [f"## {module_path(module)}", ""] + seen_before(found, page, module, names)
-        for name in names:
-            out += shown_definition(found, module, name)
+        shown = [name for name in names if (module, name) not in values]
+        if shown:
+            out += [f"## {module_path(module)}", ""] + seen_before(found, page, module, names)
+        for name in shown:
+            note = "".join(notes.get((module, name), ()))
+            out += shown_definition(found, module, name, note=note)
         if number == 0:
-            out += type_part(found, pairs)
+            out += type_part(found, pairs, values)
     out += ["## Names of the libraries", "", "| name | module | what it is |", "|---|---|---|"]
     return "\n".join(out + library_rows(found, pairs)) + "\n"
 
