@@ -66,7 +66,8 @@ class Sources:
         """The declarations of a crate: names to declarations, of the files in their order."""
         if name not in self.by_crate:
             self.by_crate[name] = {}
-            for folder, _, files in sorted(os.walk(os.path.join(specs.ROOT, "crates", name, "src"))):
+            top = os.path.join(specs.ROOT, "crates", name, "src")
+            for folder, _, files in sorted(os.walk(top)):
                 for file in sorted(f for f in files if f.endswith(".rt")):
                     path = os.path.relpath(os.path.join(folder, file), specs.ROOT)
                     self.files[path] = declarations(path)

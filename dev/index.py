@@ -1,9 +1,11 @@
 #!/usr/bin/env python3
-"""Finds definitions of crates/*/specs: `dev/index.py WORD` prints those of this name, or if there are
-none those whose name or comment has the word, each with its file, its line and its comment.
+"""Finds definitions of crates/*/specs.
 
-`dev/index.py --check` looks up what docs/model/ and docs/statement/ say of the sources: each name of
-a definition, law or clause, and each link. Status 1 where something is not there.
+`dev/index.py WORD` prints those of this name, or if there are none those whose name or comment has
+the word, each with its file, its line and its comment.
+
+`dev/index.py --check` looks up what docs/model/ and docs/statement/ say of the sources: each name
+of a definition, law or clause, and each link. Status 1 where something is not there.
 """
 import argparse
 import os
@@ -121,6 +123,7 @@ def unknown():
 
 
 def main():
+    """Looks a word up, or checks the pages."""
     parser = argparse.ArgumentParser(description="Finds definitions of crates/*/specs.")
     parser.add_argument("word", nargs="?", metavar="WORD", help="a name, or a word of a comment")
     parser.add_argument("--check", action="store_true",

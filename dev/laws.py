@@ -1,22 +1,26 @@
 #!/usr/bin/env python3
 """The laws of the crates, and which of them the program rests on.
 
-A *law* is a public function of a crate that no test crate is, without parameters, with a clause
-`ensures`, and with a body of nothing but calls of such functions, or of nothing: its contract is the
-theorem. A law is *called by code* if a function that is no law, of a crate that no test crate is,
-calls it, or a law that is called by code calls it. All others are *side laws*: they say what is true
-of the definitions, and no contract of the program rests on them. A name is that of the crate that the
-`use` lines of the file give, or else of the file's own crate; a call is the name with `()` after it.
+A *law* is a public function without parameters, with a clause `ensures`, and with a body that is
+empty or only calls such functions: its contract is the theorem. A law is *called by code* if a
+function that is no law calls it, or a law that is called by code calls it. All others are *side
+laws*: they say what is true of the definitions, and no contract of the program rests on them.
+
+Test crates (`*_tests`) count neither as having laws nor as calling them. A call is a name with
+`()` after it. A name is of the crate that the `use` lines of its file give, or else of the file's
+own crate.
 
 Prints the number of laws, of those called by code and of side laws, then the side laws by crate.
 """
 import os
 import re
+import signal
 import sys
 
 import specs
 
-FUNCTION = re.compile(r"^pub fn (\w+)\(\)\n((?:    [^\n]*\n|\n)*?)^\{((?:\n    [^\n]*)*\n?)\}$", re.M)
+FUNCTION = re.compile(r"^pub fn (\w+)\(\)\n((?:    [^\n]*\n|\n)*?)"
+                      r"^\{((?:\n    [^\n]*)*\n?)\}$", re.M)
 CALL = re.compile(r"(?<![.\w])(?:\w+::)*(\w+)\(\)")
 USE = re.compile(r"^\s*use (\w+)(?:::\w+)*(?:::(\w+)(?: as (\w+))?|::\{([^}]*)\});", re.M)
 ONLY_CALLS = re.compile(r"(\s*(?:\w+::)*\w+\(\);)*\s*")
@@ -106,6 +110,7 @@ class Laws:
 
 
 def main():
+    """Prints the counts, and the side laws."""
     laws = Laws()
     side = len(laws.all) - len(laws.used)
     print(f"{len(laws.all)} laws: {len(laws.used)} called by code, {side} side laws")
@@ -115,4 +120,5 @@ def main():
 
 
 if __name__ == "__main__":
+    signal.signal(signal.SIGPIPE, signal.SIG_DFL)
     sys.exit(main())

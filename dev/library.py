@@ -3,8 +3,8 @@
 # Names and signs that docs/model/0-reading.md explains, and truth values and numbers.
 COVERED = {
     "ℕ", "Bool", "List", "Option", "Result", "None", "Some", "Ok", "Err", "true", "false", "zero",
-    "suc", "+", "-", "*", "/", "%", "^", "&&", "||", "==", "≢", "≡", "↔", "++", "[]", "∷", "⊤", "<",
-    "≤", "⊎", "if◌then◌else",
+    "suc", "+", "-", "*", "/", "%", "^", "&&", "||", "==", "≢", "≡", "↔", "++", "[]", "∷", "⊤",
+    "<", "≤", "⊎", "if◌then◌else",
 }
 
 LIBRARY = {
@@ -13,8 +13,8 @@ LIBRARY = {
     "IfSome": "IfSome o P: if o is Some x, then P x",
     "IsSome": "an option is Some of something",
     "Items": "the items of a JSON array: `no_items`, or an `item` and then further items",
-    "Members": "the members of a JSON object by key, each key once: `no_members`, or a `member` and "
-               "then further members",
+    "Members": "the members of a JSON object by key, each key once: `no_members`, or a `member` "
+               "and then further members",
     "after_first": "the items after the first that passes a test; none where no item does",
     "as_array": "the items of a JSON value that is an array",
     "as_number": "the number of a JSON value that is one",

@@ -2,9 +2,9 @@
 """The order of crates.txt: each group of crates depends on its own crates and on earlier groups.
 
 Prints what is against it: an edge to a crate of a later line or group, and a name in a crate's row
-that no file of the crate's src/, specs/, proofs/ or must-fail/ has (a comment is enough). The status
-is then 1. If there is nothing, it prints the longest chain: of the crates that wait for each other
-when all is proved, those with the most lines of src, specs and proofs together.
+that no file of the crate's src/, specs/, proofs/ or must-fail/ has (a comment is enough). The
+status is then 1. If there is nothing, it prints the longest chain: of the crates that wait for
+each other when all is proved, those with the most lines of src, specs and proofs together.
 """
 import os
 import re
@@ -89,6 +89,7 @@ def unused():
 
 
 def main():
+    """Prints what is against the order, or the longest chain."""
     bad = list(upward()) + list(unused())
     if bad:
         print("\n".join(bad))

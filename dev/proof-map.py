@@ -51,6 +51,7 @@ def stale_pages():
 
 
 def main():
+    """Writes or compares the documents."""
     parser = argparse.ArgumentParser(description=__doc__.split("\n")[0])
     parser.add_argument("--check", action="store_true", help="compare, and write nothing")
     parser.add_argument("--page", metavar="NAME", choices=list(statement.PAGES),

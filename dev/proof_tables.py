@@ -30,7 +30,8 @@ RUN = [
      [("headline.specs.Headline", "Says"), ("headline.specs.Headline", "Reports")]),
     ("which is good: the eleven clauses", [("steer_model.specs.Good.GoodHistory", "Good")]),
     ("points 1 to 4, as of a replay", [("headline.specs.Headline", "IsRight")]),
-    ("all packets that were not dropped are through, in order", [("headline.specs.Live", "IsWhole")]),
+    ("all packets that were not dropped are through, in order",
+     [("headline.specs.Live", "IsWhole")]),
     ("all of it", [("headline.specs.Live", "LiveHeadline")]),
 ]
 THREADS = [
@@ -40,8 +41,9 @@ THREADS = [
     ("`run`: ties of the controller", [("run_laws.specs.Ties.Runs", "KeepsCommandsBut")]),
     ("`run`: ties at the receive board", [("run_laws.specs.Ties.Runs", "ReceiveTiesBut")]),
     ("`run`: ties at the transmit board", [("run_laws.specs.Ties.Runs", "TransmitTies")]),
-    ("`run`: ties of loads and stores of words", [("run_laws.specs.Ties.Hints", "LoadsAreUsedBut"),
-                                                  ("run_laws.specs.Ties.Hints", "StoresAreMeant")]),
+    ("`run`: ties of loads and stores of words",
+     [("run_laws.specs.Ties.Hints", "LoadsAreUsedBut"),
+      ("run_laws.specs.Ties.Hints", "StoresAreMeant")]),
     ("`run`: all of it", [("run_laws.specs.Ties.Runs", "IsRun")]),
 ]
 VERDICT = [
@@ -116,9 +118,8 @@ def thread_laws():
         for pair, sites in laws().sites.items():
             if any(site.startswith(f"{crate}/") for site in sites):
                 first.setdefault(pair, len(first))
-    order = sorted(first, key=lambda pair: (pair[1] not in ("a_run_is_good", "ended_runs_are_runs"),
-                                            first[pair]))
-    return law_table(order, sites=True)
+    top = ("a_run_is_good", "ended_runs_are_runs")
+    return law_table(sorted(first, key=lambda pair: (pair[1] not in top, first[pair])), sites=True)
 
 
 def reading_list(sentences):

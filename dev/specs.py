@@ -1,9 +1,9 @@
-"""The definitions of crates/*/specs: where each stands, its comment, what it names, what it rests on.
+"""The definitions of crates/*/specs: their places, comments, and what each names and rests on.
 
 Read by the other scripts of this folder. Names are followed as a reader follows them: through the
-`use` lines of the file, and within the file. `lanes.step`, where the file has `use .. as lanes`, is
-the name `step` of that module. Fields of records are not names. Definitions of the libraries are
-not followed; types of the code are those of dev/declared.py.
+`use` lines of the file, and within the file. If the file has `use .. as lanes`, then `lanes.step`
+is the name `step` of that module. Fields of records are not names. Definitions of the libraries
+are not followed; types of the code are those of dev/declared.py.
 """
 import os
 import re
@@ -46,8 +46,8 @@ def groups():
 class Definition:
     """A definition: its line in the file, the comment above it, and its own lines.
 
-    `shown` has the comments that stand inside it, `lines` is without them. `scope` has the lines
-    of the modules with parameters that it stands in.
+    `shown` has the comments inside it, `lines` is without them. `scope` has the lines of the
+    modules with parameters that it is in.
     """
 
     def __init__(self, line, comment, public, scope):
@@ -139,7 +139,7 @@ class Module:
         return definition.used
 
     def meanings(self, text, within):
-        """What the words of a text mean in this file, inside a definition of it, in their order."""
+        """What the words of a text mean in this file, inside a definition, in their order."""
         found = {}
         for alias, word in QUALIFIED.findall(text):
             if alias in self.aliases:

@@ -10,75 +10,7 @@ import sys
 import declared
 import specs
 from library import COVERED, LIBRARY
-
-# A page: what it states, where it is promised, the definition, and what to read before.
-PAGES = {
-    "replay-right": {
-        "title": "Points 1 to 4 of a replay",
-        "root": ("headline.specs.Headline", "IsRight"),
-        "labels": ("point", "1 1 2 2 3 3 4 4 4".split()),
-        "states": "In the history of a replay each packet is at exactly one place, each drop has its "
-                  "cause, each flow is delivered in the order of its arrivals, and flows change their "
-                  "processor and their transmit queue exactly where the manual lets them.",
-        "promised": "The field `right` of `Headline` (`headline/specs/Headline.Headline`), which is the field "
-                    "`headline` of `IsAnswered` for the words `replay PLAN CAPTURE`, which is the clause "
-                    "`call` of `steer_top::steer`, the function that `main` calls. The input `i` is "
-                    "the plan and the packets that the bytes of the two files have, and the history "
-                    "`h` is the only one whose report the output is. For `run PLAN CAPTURE` the same "
-                    "is the field `right` of `LiveHeadline`.",
-        "after": [],
-    },
-    "good-history": {
-        "title": "A good history",
-        "root": ("steer_model.specs.Good.GoodHistory", "Good"),
-        "labels": ("clause", [str(number) for number in range(1, 12)]),
-        "states": "A history meets the eleven clauses of a good history of a plan and of the packets "
-                  "of a capture, whoever made it.",
-        "promised": "The clause `good` of `workers::run_threads`, of the history that the threads of a "
-                    "run leave; and the field `good` of `LiveHeadline` (`headline/specs/Live.LiveHeadline`), of the "
-                    "history that the output of `run PLAN CAPTURE` is the report of.",
-        "after": ["replay-right"],
-    },
-    "run-headline": {
-        "title": "The theorem of a run with threads",
-        "root": ("headline.specs.Live", "LiveHeadline"),
-        "states": "The output of a run with threads is the report of exactly one history; that history "
-                  "is good, points 1 to 4 hold of it, and all packets that were not dropped are through.",
-        "promised": "The field `headline` of `IsAnswered` for the words `run PLAN CAPTURE`, which is the "
-                    "clause `call` of `steer_top::steer`, the function that `main` calls.",
-        "after": ["replay-right", "good-history"],
-    },
-    "verdict": {
-        "title": "The verdict on a report",
-        "root": ("steer_top.specs.Checks", "IsVerdictLine"),
-        "states": "A line says of a file whether it is the report of a good history of a plan and a "
-                  "capture, and if it is that of another history, which clause that history fails first.",
-        "promised": "The field `text` of `IsAnswered` for the words `check PLAN CAPTURE REPORT`, by the "
-                    "equation of `Writes` (`steer_top/specs/Outcomes.Writes`) for `check`, which is "
-                    "`IsVerdictLine`; `IsAnswered` is the clause `call` of `steer_top::steer`.",
-        "after": ["replay-right", "good-history", "run-headline"],
-    },
-}
-NOTATION = [
-    "`abbrev pub f : A → B → C` (or `unfoldable`) gives the types of a definition, and `f x y = ..` its "
-    "value, one equation for each case; `{A : Type 0}` is any type. `record` lists facts that all hold, "
-    "each after its name; a field that is a value, as `at : ℕ → ℕ`, says that there is such a value.",
-    "A name with a capital letter is a statement (its type is `Type 0`) or a type, one with a small "
-    "letter a value. `≡` is equal, `×` and, `⊎` or, `→ ⊥` not, `↔` if and only if; `Unit` and `⊤` "
-    "always hold.",
-    "`(x : ℕ) → P x`: for every x. `(x : ℕ) × P x`: there is an x. `λ x. e`: the function of x.",
-    "`x ∷ xs` is a list that begins with x, `xs ++ ys` one list after the other. Numbers have no upper "
-    "limit and do not wrap; `zero` is 0, `suc n` is n + 1, and `a - b` is 0 where b is the greater.",
-    "`h.lanes` is the field `lanes` of h, and `record s { f = v }` is s with another value of f. "
-    "[0-reading.md](../model/0-reading.md) has all of it with examples.",
-]
-# What a definition without a comment in its file says.
-SAYINGS = {
-    ("steer_base.specs.Drops", "offers_of"): "the offers to a lane, with the hashes of their packets",
-    ("steer_base.specs.Entries", "is_class"): "whether a choice was made for a packet of this class",
-    ("steer_base.specs.Sets", "is_empty"): "whether no processor is in a set",
-    ("steer_base.specs.Sets", "without_cpu"): "a set without one processor",
-}
+from statement_words import NOTATION, PAGES, SAYINGS
 
 
 def module_path(module):
@@ -187,11 +119,11 @@ def head(found, page, pairs, files):
     out = [f"# {about['title']}", "", "Generated by `dev/proof-map.py`; do not edit.", "",
            about["states"], "", f"**Promised by.** {about['promised']}", "",
            f"**Here** are all {len(pairs)} definitions that `{about['root'][1]}` rests on, from "
-           f"{len(files)} files, {lines} lines without comments, with the text that they have in "
-           "`crates/*/specs`. To know what is claimed, nothing else of the repository has to be read. "
-           "Each definition comes before those that it uses, those of one file together: read downwards, "
-           "and stop where the words are plain to you. The types come after the theorem, the names of the "
-           "libraries at the end.", "", "**Notation.**", ""]
+           f"{len(files)} files, {lines} lines without comments, as they are in `crates/*/specs`. "
+           "To know what is claimed, nothing else of the repository has to be read. The theorem "
+           "comes first, then the types. Of the rest each definition comes before those that it "
+           "uses, those of one file together: read downwards, and stop where the words are plain "
+           "to you. The names of the libraries are at the end.", "", "**Notation.**", ""]
     out += [f"{n}. {row}" for n, row in enumerate(NOTATION, 1)] + [""]
     names = aliases(found, pairs)
     if names:
@@ -242,7 +174,8 @@ def seen_before(found, page, module, names):
     for earlier in PAGES[page]["after"]:
         known = closure_of(found, earlier)
         if all((module, name) in known for name in names):
-            return [f"*The same as on [{earlier}]({earlier}.md#{anchor(found, earlier, module)}).*", ""]
+            link = f"{earlier}.md#{anchor(found, earlier, module)}"
+            return [f"*The same as on [{earlier}]({link}).*", ""]
     return []
 
 
@@ -300,9 +233,10 @@ def type_part(found, pairs, values):
     """The records of values of the definitions, and the types and constants of the code."""
     types, closed, numbers = declared.types_of(found, pairs)
     out = ["## Types", "",
-           "First those of the definitions, then those of the code as they are declared in `crates/`, without facts that they carry "
-           "(`ghost`) and without what no other crate sees. In definitions a `List` or a slice is a "
-           "list, and numbers of any width are ℕ; so are "
+           "First those of the definitions, then those of the code as they are declared in "
+           "`crates/`, without facts that they carry (`ghost`) and without what no other crate "
+           "sees. In definitions a `List` or a slice is a list, and numbers of any width are ℕ; "
+           "so are "
            + ", ".join(f"`{name}`" for name in numbers) + "."]
     if closed:
         out[-1] += (" No definition looks into "

@@ -1,0 +1,99 @@
+"""The words of the pages of docs/statement/ that no source has."""
+
+
+def joined(text):
+    """A text of several lines as one line."""
+    return " ".join(text.split())
+
+
+# A page: what it states, where it is promised, its definition, labels of its fields, and which
+# pages have definitions of it already.
+PAGES = {
+    "replay-right": {
+        "title": "Points 1 to 4 of a replay",
+        "root": ("headline.specs.Headline", "IsRight"),
+        "labels": ("point", "1 1 2 2 3 3 4 4 4".split()),
+        "states": joined("""
+            In the history of a replay each packet is at exactly one place, each drop has its
+            cause, each flow is delivered in the order of its arrivals, and flows change their
+            processor and their transmit queue exactly where the manual lets them."""),
+        "promised": joined("""
+            The function that `main` calls is `steer_top::steer`. Its clause `call` is the record
+            `IsAnswered` (`steer_top/specs/Calls.IsAnswered`), whose field `headline` says of the
+            words `replay PLAN CAPTURE` that the output has the `Headline`
+            (`headline/specs/Headline.Headline`), and its field `right` is `IsRight i h`. There the
+            input `i` is the plan and the packets that the bytes of the two files have, and `h` is
+            the only history whose report the output is. Of `run PLAN CAPTURE` the field `right` of
+            `LiveHeadline` says the same."""),
+        "after": [],
+    },
+    "good-history": {
+        "title": "A good history",
+        "root": ("steer_model.specs.Good.GoodHistory", "Good"),
+        "labels": ("clause", [str(number) for number in range(1, 12)]),
+        "states": joined("""
+            A history meets the eleven clauses of a good history of a plan and of the packets of a
+            capture, whoever made it."""),
+        "promised": joined("""
+            The clause `good` of `workers::run_threads` says it of the history that the threads of
+            a run leave, and the field `good` of `LiveHeadline`
+            (`headline/specs/Live.LiveHeadline`) of the history that the output of
+            `run PLAN CAPTURE` is the report of."""),
+        "after": ["replay-right"],
+    },
+    "run-headline": {
+        "title": "The theorem of a run with threads",
+        "root": ("headline.specs.Live", "LiveHeadline"),
+        "states": joined("""
+            The output of a run with threads is the report of exactly one history; that history is
+            good, points 1 to 4 hold of it, and every packet that was not dropped has come to its
+            inbox, and its reply to the port."""),
+        "promised": joined("""
+            The function that `main` calls is `steer_top::steer`. Its clause `call` is the record
+            `IsAnswered` (`steer_top/specs/Calls.IsAnswered`), whose field `headline` says of the
+            words `run PLAN CAPTURE` that the output has the `LiveHeadline`."""),
+        "after": ["replay-right", "good-history"],
+    },
+    "verdict": {
+        "title": "The verdict on a report",
+        "root": ("steer_top.specs.Checks", "IsVerdictLine"),
+        "states": joined("""
+            A line says whether a file is the report of a good history of a plan and a capture, and
+            if it is that of another history, which clause that history fails first."""),
+        "promised": joined("""
+            The function that `main` calls is `steer_top::steer`. Its clause `call` is the record
+            `IsAnswered` (`steer_top/specs/Calls.IsAnswered`), whose field `text` says of the words
+            `check PLAN CAPTURE REPORT` that the output is a text that the command may write: by
+            the definition `Writes` (`steer_top/specs/Outcomes.Writes`) one with
+            `IsVerdictLine`."""),
+        "after": ["replay-right", "good-history", "run-headline"],
+    },
+}
+NOTATION = [
+    joined("""
+        `abbrev pub f : A → B → C` (or `unfoldable`) gives the types of a definition, and
+        `f x y = ..` its value, one equation for each case; `{A : Type 0}` is any type. `record`
+        lists facts that all hold, each after its name; a field that is a value, as `at : ℕ → ℕ`,
+        says that there is such a value."""),
+    joined("""
+        A name with a capital letter is a statement (its type is `Type 0`) or a type, one with a
+        small letter a value. `≡` is equal, `×` and, `⊎` or, `→ ⊥` not, `↔` if and only if; `Unit`
+        and `⊤` always hold."""),
+    joined("""
+        `(x : ℕ) → P x`: for every x. `(x : ℕ) × P x`: there is an x. `λ x. e`: the function of
+        x."""),
+    joined("""
+        `x ∷ xs` is a list that begins with x, `xs ++ ys` one list after the other. Numbers have no
+        upper limit and do not wrap; `zero` is 0, `suc n` is n + 1, and `a - b` is 0 where b is the
+        greater."""),
+    joined("""
+        `h.lanes` is the field `lanes` of h, and `record s { f = v }` is s with another value of f.
+        [0-reading.md](../model/0-reading.md) has all of it with examples."""),
+]
+# What a definition says that has no comment in its file.
+SAYINGS = {
+    ("steer_base.specs.Drops", "offers_of"): "the packets that were put to a lane, in order",
+    ("steer_base.specs.Entries", "is_class"): "whether the class of a choice is this one",
+    ("steer_base.specs.Sets", "is_empty"): "whether a list has no member",
+    ("steer_base.specs.Sets", "without_cpu"): "a set without one processor",
+}
