@@ -4,10 +4,12 @@
 `dev/index.py WORD` prints those of this name, or if there are none those whose name or comment has
 the word, each with its file, its line and its comment.
 
-`dev/index.py --check` looks up what docs/model/ and docs/statement/ say of the sources: each name
-of a definition, law or clause, and each link. Status 1 where something is not there.
+`dev/index.py --check` looks up what docs/model/ and docs/statement/ say of the sources, each name
+of a definition, law or clause, and the links of all documents. Status 1 where something is not
+there.
 """
 import argparse
+import glob
 import os
 import re
 import signal
@@ -52,6 +54,14 @@ def pages(folder):
     there = os.path.join(specs.ROOT, folder)
     return [(f"{folder}/{name}", specs.read(f"{folder}/{name}"))
             for name in sorted(os.listdir(there)) if name.endswith(".md")]
+
+
+def documents():
+    """The documents of the repository outside the tests and data of its crates."""
+    for pattern in ("*.md", "docs/*.md", "docs/*/*.md", "crates/*.md", "crates/*/*.md",
+                    "tools/*.md", "dev/*.md", "dev/*/*.md", "examples/*.md"):
+        for path in sorted(glob.glob(os.path.join(specs.ROOT, pattern))):
+            yield os.path.relpath(path, specs.ROOT)
 
 
 def anchors(text):
@@ -118,8 +128,8 @@ def unknown():
         for clause, crate, function in CLAUSE.findall(text):
             if f"ensures {clause} " not in functions.get((crate, function), ""):
                 yield f"{page}: {crate}::{function} has no clause {clause}"
-    for page, text in pages(MODEL) + pages(STATEMENT):
-        yield from bad_links(page, text)
+    for page in documents():
+        yield from bad_links(page, specs.read(page))
 
 
 def main():
@@ -127,7 +137,7 @@ def main():
     parser = argparse.ArgumentParser(description="Finds definitions of crates/*/specs.")
     parser.add_argument("word", nargs="?", metavar="WORD", help="a name, or a word of a comment")
     parser.add_argument("--check", action="store_true",
-                        help=f"look up the names and links of {MODEL}/ and {STATEMENT}/")
+                        help="look up the names and links of the documents")
     words = parser.parse_args()
     if words.word:
         return show(words.word)
