@@ -1,8 +1,9 @@
 """Writes docs/statement/: for a theorem one page with every definition that it rests on.
 
 A page has a head, the types of the code that the definitions read, and the definitions, those of
-one file together. Each definition comes before those that it uses, so a reader goes from top to
-bottom and stops where the words are plain.
+one file together. The fields of the theorem come in their order, and what a definition uses comes
+after it or is of an earlier field, so a reader goes from top to bottom and stops where the words
+are plain.
 """
 import re
 import sys
@@ -11,6 +12,9 @@ import declared
 import specs
 from library import COVERED, LIBRARY
 from statement_words import NOTATION, PAGES, SAYINGS
+
+# The clauses of a good history, each by its number.
+CLAUSES = ("steer_model.specs.Good.GoodHistory", "Clause")
 
 
 def module_path(module):
@@ -37,11 +41,31 @@ def order(found, roots):
     return done[::-1]
 
 
+def field_files(found, pairs):
+    """The files that a theorem's fields are stated in, each with the file of the theorem.
+
+    The theorems are those of all pages and `Clause`, as far as they are among the definitions.
+    """
+    above = {}
+    roots = [about["root"] for about in PAGES.values()] + [CLAUSES]
+    for root in [pairs[0]] + [root for root in roots if root in pairs]:
+        for used in found[root[0]].uses(root[1]):
+            pair = specs.owner(found, *used)
+            if pair and pair[1][0].isupper() and not is_values(found, *pair):
+                above.setdefault(pair[0], root[0])
+    return above
+
+
 def by_file(found, pairs):
-    """The same definitions, those of a file together, each file before those that it uses."""
+    """The same definitions, those of a file together: the fields of a theorem in their order.
+
+    After the file of a field come the files that it alone uses, and at the end those that several
+    use. So a file comes before those that it uses, unless these are of an earlier field.
+    """
     within, marked, done = {}, set(), []
     for module, name in pairs:
         within.setdefault(module, []).append(name)
+    above = field_files(found, pairs)
 
     def visit(module):
         if module in marked:
@@ -50,7 +74,7 @@ def by_file(found, pairs):
         used = [specs.owner(found, *pair) for name in within[module]
                 for pair in found[module].uses(name)]
         for below in reversed(used):
-            if below and below[0] != module:
+            if below and above.get(below[0], module) == module:
                 visit(below[0])
         done.append(module)
 
@@ -121,9 +145,11 @@ def head(found, page, pairs, files):
            f"**Here** are all {len(pairs)} definitions that `{about['root'][1]}` rests on, from "
            f"{len(files)} files, {lines} lines without comments, as they are in `crates/*/specs`. "
            "To know what is claimed, nothing else of the repository has to be read. The theorem "
-           "comes first, then the types. Of the rest each definition comes before those that it "
-           "uses, those of one file together: read downwards, and stop where the words are plain "
-           "to you. The names of the libraries are at the end.", "", "**Notation.**", ""]
+           "comes first, then the types. Then its fields follow in their order, each with what it "
+           "alone rests on, and after them what several rest on; the definitions of a file are "
+           "together. So what a definition uses is below it, or belongs to an earlier field: read "
+           "downwards, and stop where the words are plain to you. The names of the libraries are "
+           "at the end.", "", "**Notation.**", ""]
     out += [f"{n}. {row}" for n, row in enumerate(NOTATION, 1)] + [""]
     names = aliases(found, pairs)
     if names:
@@ -131,25 +157,41 @@ def head(found, page, pairs, files):
     return out
 
 
-def field_table(found, page):
-    """For each field of the theorem the definitions that it names, and on how many it rests."""
+def fields(found, page):
+    """The fields of a theorem that name definitions: each with its label and these definitions."""
     module, name = PAGES[page]["root"]
-    title, labels = PAGES[page].get("labels", (None, None))
+    title, labels = PAGES[page].get("labels", (None, ()))
     text = "\n".join(found[module].definitions[name].lines)
     rows = []
     for field in re.split(r"\n  pub ", text)[1:]:
         used = [specs.owner(found, *pair) for pair in found[module].meanings(field, name)]
-        first = [pair for pair in used if pair]
-        if first:
-            links = ", ".join(f"[`{n}`](#{anchor(found, page, m, n)})" for m, n in first)
-            rows.append([f"`{field.split(' :')[0]}`", links, len(specs.closure(found, first))])
+        if any(used):
+            label = f", {title} {labels[len(rows)]}" if title else ""
+            rows.append((f"`{field.split(' :')[0]}`{label}", [pair for pair in used if pair]))
     if title and len(labels) != len(rows):
         sys.exit(f"proof-map.py: {page} has {len(rows)} fields, and {len(labels)} labels")
-    out = [f"| field of `{name}` | says it by | definitions that it rests on |", "|---|---|---|"]
-    for number, (field, links, count) in enumerate(rows):
-        label = f", {title} {labels[number]}" if title else ""
-        out.append(f"| {field}{label} | {links} | {count} |")
+    return rows
+
+
+def field_table(found, page):
+    """For each field of the theorem the definitions that it names, and on how many it rests."""
+    out = [f"| field of `{PAGES[page]['root'][1]}` | says it by | definitions that it rests on |",
+           "|---|---|---|"]
+    for field, first in fields(found, page):
+        links = ", ".join(f"[`{n}`](#{anchor(found, page, m, n)})" for m, n in first)
+        out.append(f"| {field} | {links} | {len(specs.closure(found, first))} |")
     return out + [""]
+
+
+def field_notes(found, page):
+    """For each file that a field of the theorem is stated in, a line that names the field."""
+    notes = {}
+    for field, first in fields(found, page):
+        for module, name in first:
+            if name[0].isupper() and (module, name) != PAGES[page]["root"]:
+                notes.setdefault(module, []).append(f"{field} (`{name}`)")
+    return {module: [f"*Here is what these fields say: {'; '.join(rows)}.*", ""]
+            for module, rows in notes.items()}
 
 
 def anchor(found, page, module, name=None):
@@ -256,12 +298,13 @@ def page_text(found, page):
     files = by_file(found, pairs)
     out = head(found, page, pairs, files)
     out += field_table(found, page)
-    notes = twice(found, pairs)
+    notes, stated = twice(found, pairs), field_notes(found, page)
     values = [pair for pair in pairs[1:] if is_values(found, *pair)]
     for number, (module, names) in enumerate(files):
         shown = [name for name in names if (module, name) not in values]
         if shown:
-            out += [f"## {module_path(module)}", ""] + seen_before(found, page, module, names)
+            out += [f"## {module_path(module)}", ""]
+            out += stated.get(module, []) + seen_before(found, page, module, names)
         for name in shown:
             note = "".join(notes.get((module, name), ()))
             out += shown_definition(found, module, name, note=note)
