@@ -101,22 +101,25 @@ def transmit_choice(value, queues):
     return queues[scaled(value, len(queues))]
 
 
-def software_key(kind, addresses, ports, protocol, label=0):
+def software_key(version, addresses, ports, protocol, label=0):
     """What a kernel's own hash of a flow reads, the same for both directions of the flow.
 
     `__flow_hash_consistentify` and `__skb_get_hash_net` (net/core/flow_dissector.c): addresses and
     ports are sorted, each pair by itself; an IPv6 flow label other than 0 takes the place of ports.
-    `kind` is the IP version, `addresses` are two byte strings, `ports` two numbers or none.
+    `version` is that of IP, as text, `addresses` are two byte strings, `ports` two numbers or none.
+    Here it is a text: version, addresses in hexadecimal, protocol, label and ports, with blanks
+    between.
     """
-    numbers = () if label else sorted(ports)
-    return repr((kind, sorted(addresses), protocol, label, list(numbers))).encode("ascii")
+    numbers = [] if label else sorted(ports)
+    words = [version] + sorted(address.hex() for address in addresses) + [protocol, label] + numbers
+    return " ".join(map(str, words)).encode("ascii")
 
 
 def drawn_hash(seed, key):
     """A hash as a kernel makes it itself, by a key of its own for each boot: drawn, never 0.
 
-    The kernel's is siphash with a random key. This one has the same law and is no kernel's: the
-    first four bytes of BLAKE2b of `key`, keyed by the seed, with the lowest byte last.
+    The kernel's is siphash with a random key. This one is as even and is no kernel's: BLAKE2b of
+    `key` with four bytes, the highest one first, and the digits of the seed as its key.
     """
     digest = hashlib.blake2b(key, digest_size=4, key=b"%d" % seed).digest()
     return int.from_bytes(digest, "big") or 1

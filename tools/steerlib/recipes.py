@@ -8,6 +8,10 @@ ORDER = ("cpus", "queues", "key", "kinds", "reta", "sock", "filters", "backlog",
 READERS = "readers"
 
 
+class _Conflict(Exception):
+    """One size would need two remainders of a flow, since spares stand between members."""
+
+
 def size_name(name):
     """How people name what has a size."""
     return name if name == READERS else "%s of %d" % (
@@ -29,14 +33,30 @@ class Recipes:
         self._check_maps()
         self.keeps_readers = self._keeps_readers()
         self.kinds_of_flow = {(flow.queue, flow.app) for flow in self.flows}
+        self.apart = False
+        try:
+            self._make(laid)
+        except _Conflict:
+            self.apart = True
+            self._make(laid)
+        self._give_transmit_queues()
+
+    def _make(self, laid):
+        """Chooses the sizes and the spares, and how remainders come of them.
+
+        Masks of one number of members have one size, unless they are to be kept `apart`.
+        """
         self._choose(laid.bits)
         self.bits = layout.BITS
         if self._product() << self.bits > 1 << kernel.HASH_BITS:
             self.bits = laid.bits
-        self.spares = Spares(shape, {name[1]: size for name, size in self.chosen.items()
-                                     if name[0] == "mask"})
-        self.recipes = {}
-        self._give_transmit_queues()
+        self.spares = Spares(self.shape, {
+            members: self.chosen.get(self._mask_name(members), len(members))
+            for lists in self.shape.lists for members in lists})
+        self.recipes = {of: self._recipe(*of) for of in self.kinds_of_flow}
+
+    def _mask_name(self, members):
+        return "mask", len(members), members if self.apart else ()
 
     def _check_maps(self):
         if self.transmit and self.shape.maps_change:
@@ -66,7 +86,7 @@ class Recipes:
         return [one for one in found if len(one) > 1]
 
     def _names(self, queue, app):
-        names = {("mask", len(members)) for members in self._lists(queue)}
+        names = {self._mask_name(members) for members in self._lists(queue)}
         names |= {("tx", len(one)) for one in self._maps(queue, app)}
         if len(self.apps) > 1 and not (self.keeps_readers
                                        and sizes.odd_part(len(self.apps)) == 1):
@@ -117,6 +137,7 @@ class Recipes:
         fits = [text for text, wanted in (
             ("without --tx", any(name[0] == "tx" for name in names)),
             ("with a number of readers that is a power of two", READERS in names),
+            ("with fewer processors than 32", self.apart),
             ("with masks of one size", sum(name[0] == "mask" for name in names) > 1),
             ("with smaller masks", True)) if wanted]
         return "%s: no odd sizes without a common divisor have a product of at most %d, for which " \
@@ -148,7 +169,7 @@ class Recipes:
         """The sizes that flows of a queue and a reader need, and how their remainders come."""
         parts = {}
         for members in self._lists(queue):
-            size = self.chosen["mask", len(members)]
+            size = self.chosen[self._mask_name(members)]
             self._add(parts, size, (len(members), False, tuple(self.spares.places[members])))
         for one in self._maps(queue, app):
             self._add(parts, self.chosen["tx", len(one)],
@@ -161,15 +182,11 @@ class Recipes:
     @staticmethod
     def _add(parts, size, part):
         if parts.setdefault(size, part) != part:
-            raise cli.Refused("plan", "two masks of one size meet on a queue, and processors 0 to "
-                              "31 have no spare above both; it fits with fewer processors")
+            raise _Conflict
 
     def of(self, flow):
         """The Residues for a flow, and its remainders."""
-        known = self.recipes.get((flow.queue, flow.app))
-        if known is None:
-            known = self.recipes[flow.queue, flow.app] = self._recipe(flow.queue, flow.app)
-        residues, parts = known
+        residues, parts = self.recipes[flow.queue, flow.app]
         return residues, [places[kernel.scaled(flow.sends if sends else flow.value, count)]
                           if count else places[0] for count, sends, places in parts]
 

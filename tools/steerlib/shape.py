@@ -1,6 +1,6 @@
 """What of a plan a remap reads: its masks, also those of steps, and the sizes of its tables."""
 
-from . import cli, kernel, limits
+from . import kernel, limits
 from . import plan as plans
 
 WORDS = ("mask", "flows", "sock", "reta", "xcpus", "xqueues", "stand", "offline", "online")
@@ -93,16 +93,15 @@ class Shape:
 class Spares:
     """Masks with spare processors, by which they have the sizes that are wanted.
 
-    `sizes` gives the wanted size of a list by its length. `cpus` is how many processors the plan
-    needs then.
+    `sizes` has the wanted size of each list. `cpus` is how many processors the plan needs then.
     """
 
     def __init__(self, shape, sizes):
         self.cpus = shape.cpus
         self.padded = {}
         self.places = {}
-        for members in sorted({one for lists in shape.lists for one in lists}):
-            self._pad(members, sizes.get(len(members), len(members)), shape)
+        for members, size in sorted(sizes.items()):
+            self._pad(members, size, shape)
 
     def _pad(self, members, size, shape):
         """Adds spares: such that stand above the members where there are any, so none moves."""
@@ -113,8 +112,6 @@ class Spares:
         # A command waits until the lanes of its mask are empty, which those of new ones are.
         order = fresh + above if shape.step_lists else above + fresh
         spares = (order + below)[:size - len(members)]
-        if len(spares) < size - len(members):
-            raise cli.Refused("mask", "no spare processor")
         whole = sorted(members + tuple(spares))
         self.padded[members] = whole
         self.places[members] = [whole.index(cpu) for cpu in members]
