@@ -4,10 +4,17 @@ cpu_of(kind, data) of each object here is the processor of a flow, or None where
 `kind` and `data` are those of steerlib.frames, `data` having source, destination and ports.
 """
 
+from __future__ import annotations
+
+import argparse
 import ipaddress
 import re
+from typing import Dict, Optional, Tuple, Union
 
-from . import cli
+from .snapshot import Snapshot
+
+Network = Union[ipaddress.IPv4Network, ipaddress.IPv6Network]
+End = Tuple[Optional[bytes], int]
 
 _SOCKET = re.compile(r"(tcp|udp)\s+(\S+)\s+\d+\s+\d+\s+(\S+):(\d+|\*)\s+(\S+):(\d+|\*)(?:\s+(.*))?")
 _PROCESS = re.compile(r"pid=(\d+)")
@@ -26,24 +33,26 @@ def _ends(kind, data):
 class OfPort:
     """Flows to a destination port are read on one processor."""
 
-    def __init__(self, port, cpu):
+    def __init__(self, text: str, port: int, cpu: int) -> None:
+        self.text = text
         self.port = port
         self.cpu = cpu
 
-    def cpu_of(self, kind, data):
+    def cpu_of(self, kind: str, data: bytes) -> int | None:
         return self.cpu if _ends(kind, data)[3] == self.port else None
 
 
 class OfNetwork:
     """Flows from or to an address of a network are read on one processor."""
 
-    def __init__(self, network, cpu):
+    def __init__(self, text: str, network: Network, cpu: int) -> None:
+        self.text = text
         self.cpu = cpu
         self.version = str(network.version)
         self.mask = int(network.netmask)
         self.address = int(network.network_address)
 
-    def cpu_of(self, kind, data):
+    def cpu_of(self, kind: str, data: bytes) -> int | None:
         if kind[-1] != self.version:
             return None
         for end in _ends(kind, data)[:2]:
@@ -52,18 +61,18 @@ class OfNetwork:
         return None
 
 
-def told(text):
-    """The reader of the words PORT=CPU, ADDRESS=CPU or ADDRESS/LENGTH=CPU. Raises WrongWords."""
+def told(text: str) -> OfPort | OfNetwork:
+    """The reader of the words PORT=CPU, ADDRESS=CPU or ADDRESS/LENGTH=CPU. A type for argparse."""
     what, _, cpu = text.rpartition("=")
     if not re.fullmatch("[0-9]{1,6}", cpu):
-        raise cli.WrongWords("--reader %s: not PORT=CPU or ADDRESS=CPU" % text)
+        raise argparse.ArgumentTypeError("%s is not PORT=CPU or ADDRESS=CPU" % text)
     if re.fullmatch("[0-9]{1,5}", what) and int(what) < 65536:
-        return OfPort(int(what), int(cpu))
+        return OfPort(text, int(what), int(cpu))
     try:
-        return OfNetwork(ipaddress.ip_network(what, strict=False), int(cpu))
+        return OfNetwork(text, ipaddress.ip_network(what, strict=False), int(cpu))
     except ValueError:
-        raise cli.WrongWords("--reader %s: `%s` is neither a port (0 to 65535) nor an address"
-                             % (text, what)) from None
+        raise argparse.ArgumentTypeError("`%s` is neither a port (0 to 65535) nor an address"
+                                         % what) from None
 
 
 def _address(text):
@@ -79,14 +88,14 @@ def _address(text):
 class Sockets:
     """The processors of the processes that have a machine's sockets."""
 
-    def __init__(self):
-        self.known = {}
+    def __init__(self) -> None:
+        self.known: Dict[Tuple[str, End, Optional[End]], int] = {}
 
-    def add(self, protocol, local, peer, cpu):
+    def add(self, protocol: str, local: End, peer: End | None, cpu: int) -> None:
         """A socket between two ends (address, port); None in them is any."""
         self.known.setdefault((protocol, local, peer), cpu)
 
-    def cpu_of(self, kind, data):
+    def cpu_of(self, kind: str, data: bytes) -> int | None:
         source, target, source_port, target_port = _ends(kind, data)
         if target_port is None:
             return None
@@ -118,7 +127,7 @@ def _socket(line, processes):
         None if peer_port == "*" else (there, int(peer_port))), cpus[0]
 
 
-def of_snapshot(snapshot):
+def of_snapshot(snapshot: Snapshot) -> Sockets:
     """The Sockets of a snapshot that steer-snap --readers wrote; Refused where it has none."""
     if snapshot.sockets is None:
         raise snapshot.refused("it has no sockets: steer-snap --readers DEV writes them")

@@ -17,7 +17,7 @@ from concurrent.futures.process import BrokenProcessPool
 from typing import Any, Callable, Dict, Iterator, NamedTuple, Sequence, Tuple, Union
 from urllib.parse import quote, unquote
 
-from . import cli, limits, numbers, report, schedule, tables
+from . import cli, limits, numbers, remap, remap_files, report, schedule, tables
 from .plan import Plan
 
 SEED, RATE = "seed", "pps"
@@ -29,12 +29,14 @@ class Trial(NamedTuple):
     """One trial: the name of the plan's file, what it has, and the seed or packets a second.
 
     `settings` is an exception where there are none, which says why. `kind` is SEED or RATE.
+    `options` are those of a remap where the choices are to be a kernel's.
     """
 
     plan: str
     settings: Plan | Exception
     kind: str
     value: float
+    options: remap.Options | None = None
 
 
 class Setting(NamedTuple):
@@ -111,7 +113,12 @@ def _replay(trial, setting, folder):
     """Replays a trial; the name of its report. Refused too where its plan cannot be read."""
     if isinstance(trial.settings, Exception):
         raise trial.settings
-    replays = schedule.Replays(trial.settings, trial.plan, setting.capture, setting.shown, folder)
+    settings, capture = trial.settings, setting.capture
+    if trial.options is not None:
+        capture = os.path.join(folder, "kernel.pcap")
+        settings = remap_files.remapped(settings, trial.plan, setting.capture, setting.shown,
+                                        trial.options, capture, folder).plan
+    replays = schedule.Replays(settings, trial.plan, capture, setting.shown, folder)
     if trial.kind == SEED:
         count = min(limits.MOST_COUNT, STEPS_PER_PACKET * setting.packets)
         replays.run({"seed": trial.value, "count": count})

@@ -118,7 +118,7 @@ class Machine:
 
     def __init__(self, seed):
         draw = self.draw = random.Random(seed)
-        self.cpus = draw.choice((1, 2, 4, 6, 8, 12, 16, 32))
+        self.cpus = draw.choice((1, 2, 4, 6, 8, 8, 12, 16, 24, 32))
         self.queues = draw.randint(1, 16)
         mask = self.some(self.cpus)
         self.masks = [mask if draw.random() < 0.5 else self.some(self.cpus)
@@ -126,8 +126,8 @@ class Machine:
         self.homes = [draw.randrange(self.cpus) for _ in range(self.queues)]
         self.flows = draw.choice((0, 16, 256, 2000, 32768))
         self.sock = draw.choice((0, 1024, 65536))
-        self.apps = [draw.randrange(self.cpus) for _ in range(draw.choice((1, 2, 3, 4, 6, 8, 32)))]
-        count = draw.choice((1, 1, 2, 4, 8, 16, 32))
+        self.apps = [draw.randrange(self.cpus) for _ in range(draw.choice((1, 2, 3, 4, 4, 6, 8, 8, 16, 32)))]
+        count = draw.choice((1, 1, 2, 4, 8, 8, 16, 32))
         self.tx = [(self.some(self.cpus), self.some(self.queues) if draw.random() < 0.3 else [])
                    for _ in range(count)]
         self.kinds = draw.choice((63, 63, 63, 27, 9, 0, 54))
@@ -135,7 +135,7 @@ class Machine:
         if draw.random() < 0.05:
             self.key = "6d5a" * 20
         self.table = [draw.randrange(self.queues) for _ in range(128)]
-        self.filters = draw.choice((0, 0, 0, 0, 64))
+        self.filters = draw.choice((0,) * 9 + (64,))
         self.limited = self.some(self.cpus) if draw.random() < 0.2 else []
         self.options()
         self.card()
@@ -200,7 +200,7 @@ class Machine:
             "steps": self.steps}
 
     def words(self, snap):
-        words = ["--seed", str(self.seed)]
+        words = ["--draw", str(self.seed)]
         words += ["--tx"] * self.transmit + ["--hash32"] * self.by_hash_32
         words += ["--no-rxhash"] * (not self.rxhash)
         if self.online is not None:

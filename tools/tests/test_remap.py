@@ -9,7 +9,7 @@ import reporting
 import running
 
 from steerlib import cli, report
-from steerlib.programs import remap
+from steerlib import remap_files
 
 # STEER_REMAP_CASES=1000 tries so many random machines.
 CASES = int(os.environ.get("STEER_REMAP_CASES", "20"))
@@ -77,7 +77,7 @@ class RandomMachines(unittest.TestCase):
 
     def same_packets(self, traffic, name):
         """Numbers and lengths are the old ones, and each flow is one, and another than all."""
-        frames = remap.frames_of(name)
+        frames = remap_files.frames_of(name, name)
         self.assertEqual([len(frame.data) for frame in frames], [len(d) for d in traffic.frames])
         made = {}
         for line, flow in zip(running.steer("hash", name)[1].splitlines(), traffic.of):

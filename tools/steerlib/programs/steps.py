@@ -3,11 +3,13 @@
 from __future__ import annotations
 
 import argparse
+import os
+import shutil
 import sys
 import tempfile
 from typing import NoReturn
 
-from .. import cli, numbers, plan, schedule
+from .. import cli, numbers, plan, remap_files, remap_words, schedule
 
 DESCRIPTION = """\
 Writes PLAN with the steps that the times of CAPTURE and a rate of service for each processor give,
@@ -26,11 +28,16 @@ A processor serves all packets at one rate, whatever their size; a kernel takes 
 backlog by batches of 64, and a plan without masks has its backlog where a kernel has the ring of
 the card. So drops compare settings; they foretell no number on a machine (docs/kernel.md).
 
+With --kernel each packet goes to the processor that a kernel picks of a mask, by another capture
+that is written to OUT (steer-remap --help says how). The plan is for that capture and no other.
+
 One of PLAN and CAPTURE may be - for standard input, and both may be packed by gzip."""
 
 EXAMPLE = """\
 steer-steps plan.json own.pcap --pps 200000 --read > timed.json
-steer replay timed.json own.pcap > report"""
+steer replay timed.json own.pcap > report
+steer-steps plan.json own.pcap --pps 200000 --kernel --capture k.pcap > k.json
+steer replay k.json k.pcap > report"""
 
 
 def words_of(words: list[str]) -> argparse.Namespace:
@@ -41,10 +48,25 @@ def words_of(words: list[str]) -> argparse.Namespace:
     parser.add_argument("--pps", metavar="N", required=True, type=numbers.positive_number,
                         help="packets that a processor serves in a second")
     numbers.add_load(parser)
+    parser.add_argument("--kernel", action="store_true",
+                        help="by a kernel's own choices; the words below go with it")
+    parser.add_argument("--capture", dest="new_capture", metavar="OUT",
+                        help="where the capture is written for which the plan is then")
+    remap_words.add_options(parser)
     told = parser.parse_args(words)
+    check(told, parser)
+    return told
+
+
+def check(told: argparse.Namespace, parser: argparse.ArgumentParser) -> None:
+    """Raises WrongWords where words do not go together."""
     if told.plan == told.capture == "-":
         raise cli.WrongWords("PLAN and CAPTURE cannot both be standard input")
-    return told
+    remap_words.check_kernel(told, parser)
+    if told.kernel != (told.new_capture is not None):
+        raise cli.WrongWords("--kernel and --capture OUT go together")
+    if told.new_capture is not None:
+        remap_files.check_name(told.new_capture, (told.plan, told.capture))
 
 
 def say_result(replays: schedule.Replays, times: list[int], load: schedule.Load,
@@ -57,16 +79,32 @@ def say_result(replays: schedule.Replays, times: list[int], load: schedule.Load,
              % (len(times), seconds, len(agreed.steps), load.rate, own, agreed.dropped))
 
 
+def by_kernel(told: argparse.Namespace, settings: plan.Plan, source: str, capture: str,
+              folder: str) -> tuple[plan.Plan, str]:
+    """The plan and the name of the capture by which steer gives a kernel's choices."""
+    settings = dict(settings, steps=[])
+    name = os.path.join(folder, "kernel.pcap")
+    result = remap_files.remapped(settings, source, capture, cli.source_name(told.capture),
+                                  remap_words.options_of(told, settings), name, folder)
+    for text in result.notes:
+        cli.note(text)
+    return result.plan, name
+
+
 def main(words: list[str]) -> None:
     told = words_of(words)
     load = schedule.Load(told.pps, told.cpu, told.reads, told.replies, told.speed)
     with tempfile.TemporaryDirectory() as folder, schedule.plain_file(told.capture) as capture:
         source = cli.source_name(told.capture)
         settings, plan_source = plan.read_plan(told.plan), cli.source_name(told.plan)
-        replays = schedule.Replays(settings, plan_source, capture, source, folder)
         times = schedule.times_of(capture, source)
         schedule.say_about(settings, plan_source, load)
+        if told.kernel:
+            settings, capture = by_kernel(told, settings, plan_source, capture, folder)
+        replays = schedule.Replays(settings, plan_source, capture, source, folder)
         agreed = schedule.timed_steps(replays, times, load, cli.say)
+        if told.kernel:
+            shutil.copyfile(capture, told.new_capture)
         sys.stdout.write(plan.plan_text(replays.with_steps(agreed.steps)))
     say_result(replays, times, load, agreed)
 

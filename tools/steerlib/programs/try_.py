@@ -8,7 +8,7 @@ import sys
 import tempfile
 from typing import Any, NoReturn
 
-from .. import cli, numbers, plan, schedule, trial
+from .. import cli, numbers, plan, remap_words, schedule, trial
 
 DESCRIPTION = """\
 Replays each PLAN over CAPTURE, once for each seed or for each rate of service, and shows the plans
@@ -18,6 +18,10 @@ packets, dropped ones among them, with its share.
 --seeds mixes the steps by chance, 4 for each packet, and shows the mean of the drops with their
 standard deviation between seeds, which is what one seed is worth. --pps makes the steps by the
 times of the capture, as steer-steps does, with the same further words.
+
+--kernel gives each packet the processor that a kernel picks, as steer-remap does; its help says how,
+and steer-remap itself notes what cannot be had. The hashes that a kernel makes itself are drawn:
+--draws N shows a row for each of N draws, and without it each seed has its own.
 
 Each plan with each seed or rate is a trial of its own. --commands runs none and prints a command a
 line instead, each of which makes one trial and leaves its report in a folder that all can write
@@ -35,6 +39,7 @@ the status is then 3. CAPTURE may be packed by gzip, and - is standard input."""
 EXAMPLE = """\
 steer-try own.pcap --pps 1000,2000,5000 --read a.json b.json
 steer-try own.pcap --seeds 20 a.json b.json
+steer-try own.pcap --pps 1000,2000 --kernel --draws 5 a.json b.json
 steer-try own.pcap --pps 1000,2000 --commands --reports out a.json b.json > lines
 parallel --jobs 8 < lines
 steer-try --collect out"""
@@ -52,6 +57,12 @@ def words_of(words: list[str]) -> argparse.Namespace:
     kind.add_argument("--pps", metavar="A,B,..", type=numbers.rates,
                       help="packets that a processor serves in a second")
     numbers.add_load(parser)
+    parser.add_argument("--kernel", action="store_true",
+                        help="by a kernel's own choices; --draws and the words from --reader on "
+                             "go with it")
+    parser.add_argument("--draws", metavar="N", type=numbers.seeds,
+                        help="a row for each of the draws 1 to N, or A to B for A-B")
+    remap_words.add_options(parser)
     parser.add_argument("--jobs", metavar="N", type=numbers.whole_number(1, 1024),
                         default=trial.processors_here(),
                         help="trials at once (as many as processors)")
@@ -63,6 +74,7 @@ def words_of(words: list[str]) -> argparse.Namespace:
     parser.add_argument("--collect", metavar="FOLDER", help="show the table of the reports there")
     told = parser.parse_intermixed_args(words)
     check(told)
+    remap_words.check_kernel(told, parser)
     return told
 
 
@@ -78,6 +90,8 @@ def check(told: argparse.Namespace) -> None:
         raise cli.WrongWords("standard input can only be the CAPTURE, and not with --commands")
     if told.commands and told.reports is None:
         raise cli.WrongWords("--commands needs --reports FOLDER")
+    if told.draws and not told.kernel:
+        raise cli.WrongWords("--draws goes with --kernel")
     if not told.pps and (told.cpu or told.reads or told.replies or told.speed != 1):
         raise cli.WrongWords("--cpu, --read, --reply and --speed go with --pps")
 
@@ -87,13 +101,16 @@ def print_commands(told: argparse.Namespace) -> None:
     words += ["--read"] * told.reads + ["--reply"] * told.replies
     if told.speed != 1:
         words += ["--speed", numbers.number_text(told.speed)]
+    words += ["--kernel"] * told.kernel + remap_words.again(told)
     if told.pps:
         values = [("--pps", numbers.number_text(rate)) for rate in told.pps]
     else:
         values = [("--seeds", "%d-%d" % (seed, seed)) for seed in told.seeds]
-    for line in trial.commands(sys.argv[0], told.files[0], told.files[1:], values, words,
-                               told.reports):
-        print(line)
+    draws = [["--draws", "%d-%d" % (draw, draw)] for draw in told.draws or ()] or [[]]
+    for draw in draws:
+        for line in trial.commands(sys.argv[0], told.files[0], told.files[1:], values,
+                                   words + draw, told.reports):
+            print(line)
 
 
 def read_plans(names: list[str], load: schedule.Load | None) -> dict[str, Any]:
@@ -123,10 +140,31 @@ def rows_of(told: argparse.Namespace) -> list[trial.Row]:
         times = schedule.times_of(capture, shown) if told.pps else None
         packets = trial.packets_of(capture, shown) if times is None else len(times)
         shared = trial.Setting(capture, shown, times, packets, load, work, told.reports)
-        trials = [(trial.Trial(name, settings[name], kind, value), shared)
-                  for name in names for value in values]
+        drawn = [(name, draw) for name in names for draw in told.draws or (None,)]
+        trials = [(trial_of(told, name, draw, settings[name], kind, value), shared)
+                  for name, draw in drawn for value in values]
         results = iter(trial.at_once(trial.attempt, told.jobs, trials))
-    return [(name, {(kind, value): next(results) for value in values}) for name in names]
+    return [(label(*each), {(kind, value): next(results) for value in values}) for each in drawn]
+
+
+def label(name: str, draw: int | None) -> str:
+    """How a table names a plan with a draw, None where no draws are asked for."""
+    return name if draw is None else "%s, draw %d" % (name, draw)
+
+
+def trial_of(told: argparse.Namespace, name: str, draw: int | None, settings: Any, kind: str,
+             value: float) -> trial.Trial:
+    """The Trial of a plan for a draw and a value."""
+    options = None
+    if told.kernel and not isinstance(settings, Exception):
+        try:
+            options = remap_words.options_of(told, settings)
+        except (cli.Refused, cli.WrongWords) as fault:
+            settings = fault
+        else:
+            options.seed = draw if draw is not None else (
+                int(value) if kind == trial.SEED else options.seed)
+    return trial.Trial(label(name, draw), settings, kind, value, options)
 
 
 def main(words: list[str]) -> int:
