@@ -2,8 +2,10 @@
 
 from datetime import datetime, timedelta
 from itertools import accumulate
+from typing import List, Optional, Sequence, Tuple
 
 from .. import cli, schedule
+from ..report import Report
 
 LARGEST = (1 << 32) - 1
 
@@ -11,25 +13,28 @@ LARGEST = (1 << 32) - 1
 class Axis:
     """The place of each packet that arrived, in ascending whole numbers below 2^32.
 
-    `unit` is how many nanoseconds one of them is, None where they are packet numbers; `start` is
-    the time of the first packet in nanoseconds since 1970, `reason` why there are no times.
+    `unit` is how many nanoseconds one of them is, None where they are packet numbers. With a unit,
+    `start` is the time of the first packet in nanoseconds since 1970; without, `reason` says why
+    there are no times.
     """
 
-    def __init__(self, count, times=None, reason="no capture was given"):
-        self.unit = self.start = None
+    def __init__(self, count: int, times: Optional[Sequence[int]] = None,
+                 reason: str = "no capture was given") -> None:
+        self.unit: Optional[int] = None
+        self.start = 0
         self.reason = reason
-        self.places = range(count)
+        self.places: Sequence[int] = range(count)
         if times is None or not count:
             return
-        latest = list(accumulate(times[:count], max))
+        latest: List[int] = list(accumulate(times[:count], max))
         if latest[-1] == latest[0]:
             self.reason = "all packets have the same time in the capture"
             return
         self.start = latest[0]
-        self.unit = (latest[-1] - latest[0]) // LARGEST + 1
+        self.unit = -(-(latest[-1] - latest[0]) // LARGEST)
         self.places = [(time - self.start) // self.unit for time in latest]
 
-    def clock(self):
+    def clock(self) -> str:
         """The time of the first packet as a date, or in seconds where there is none."""
         try:
             date = datetime(1970, 1, 1) + timedelta(microseconds=self.start // 1000)
@@ -38,18 +43,18 @@ class Axis:
         return date.isoformat(" ") + " UTC"
 
     @property
-    def end(self):
+    def end(self) -> int:
         """The place behind the last packet."""
         return self.places[-1] + 1 if self.places else 0
 
-    def label(self, place):
+    def label(self, place: int) -> str:
         """A place as text: seconds from the first packet, or a packet number."""
         if self.unit is None:
             return "%d" % place
         return "%.9g s" % round(place * self.unit / 1e9, 9)
 
 
-def read(rep, capture=None):
+def read(rep: Report, capture: Optional[str] = None) -> Axis:
     """The Axis of a report, by the file `capture` where one is named."""
     if capture is None:
         return Axis(len(rep.packets))
@@ -61,7 +66,7 @@ def read(rep, capture=None):
     return Axis(len(rep.packets), times)
 
 
-def intervals(axis, most):
+def intervals(axis: Axis, most: int) -> List[Tuple[int, int]]:
     """At most so many intervals of one size, 1, 2 or 5 times a power of ten, that cover the axis.
 
     Pairs of places: the first one of an interval, and the one behind its last.

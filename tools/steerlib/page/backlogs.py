@@ -1,13 +1,15 @@
 """The length of each processor's backlog through the steps of a plan.
 
-The steps say when a packet is put and when it is pulled, the report says where. Each position and
-each drop in the report is compared with what the steps give, so the steps of another plan, and a
-report of `run`, are refused.
+The steps say when a packet is put and when it is pulled, the report says where. The position of
+each packet, the counts of each drop and the sums of each processor have to be those that the steps
+give: other steps, and reports of `run`, are refused where one of them differs.
 """
 
-from collections import deque, namedtuple
+from collections import deque
+from typing import Any, Deque, Dict, Iterator, List, NamedTuple, NoReturn, Optional
 
 from .. import cli
+from ..report import Report
 
 PULL = 32
 ARRIVAL = 64
@@ -16,13 +18,21 @@ _WORD = (1 << 64) - 1
 _COUNTER = (1 << 32) - 1
 _TAKEN, _LOOKED, _WEIGHED = 1, 2, 3
 
-# events: a byte for each event: the number of a processor for a packet that it accepts, that number
-# and PULL for one that it pulls, and ARRIVAL. longest: the longest backlog of each processor.
-# limit: the most packets that a backlog holds.
-Backlogs = namedtuple("Backlogs", "events longest limit")
+
+class Backlogs(NamedTuple):
+    """The backlogs of a replay.
+
+    `events` has a byte for each event: the number of a processor for a packet that it accepts, this
+    number plus PULL for one that it pulls, and ARRIVAL. `longest` is the longest backlog of each
+    processor, `limit` the most packets that a backlog holds.
+    """
+
+    events: bytes
+    longest: List[int]
+    limit: int
 
 
-def _words(seed):
+def _words(seed: int) -> Iterator[int]:
     """The words of PCG XSH RR 64/32 with this seed on stream 54."""
     step = (54 << 1) | 1
     state = (((seed + step) & _WORD) * 6364136223846793005 + step) & _WORD
@@ -33,7 +43,7 @@ def _words(seed):
         state = (state * 6364136223846793005 + step) & _WORD
 
 
-def _seeded(seed, count, queues, cpus):
+def _seeded(seed: int, count: int, queues: int, cpus: int) -> Iterator[str]:
     """The steps of a seed that move packets between rings and processors; others are left out."""
     words = _words(seed)
     for _ in range(count):
@@ -54,14 +64,14 @@ def _seeded(seed, count, queues, cpus):
 class _Machine:
     """Rings, pollers and processors: the packets that are in each, by a report's choices."""
 
-    def __init__(self, rep, start, source):
+    def __init__(self, rep: Report, start: int, source: str) -> None:
         self.rep = rep
         self.start = start
         self.source = source
         self.arrived = 0
-        self.rings = [deque() for _ in rep.queues]
+        self.rings: List[Deque[int]] = [deque() for _ in rep.queues]
         self.inside = [False] * len(rep.queues)
-        self.taken = [None] * len(rep.queues)
+        self.taken: List[Optional[int]] = [None] * len(rep.queues)
         self.stages = [0] * len(rep.queues)
         cpus = len(rep.cpus)
         self.accepted = [0] * cpus
@@ -71,10 +81,11 @@ class _Machine:
         self.longest = [0] * cpus
         self.events = bytearray()
 
-    def refuse(self, reason, *values):
+    def refuse(self, reason: str, *values: int) -> NoReturn:
+        """Ends with the reason why the steps are not those of the report."""
         raise cli.Refused(self.source, "its steps do not give this report: " + reason % values)
 
-    def arrive(self):
+    def arrive(self) -> bool:
         """The next packet joins the ring of its queue; whether there is one."""
         if self.arrived == self.rep.end.total:
             return False
@@ -85,44 +96,48 @@ class _Machine:
         self.events.append(ARRIVAL)
         return True
 
-    def take(self, queue):
+    def take(self, queue: int) -> None:
         if self.taken[queue] is None and self.rings[queue]:
             self.taken[queue] = self.rings[queue].popleft()
             self.stages[queue] = _TAKEN
 
-    def enter(self, queue):
+    def enter(self, queue: int) -> None:
         self.inside[queue] = True
 
-    def look(self, queue):
+    def look(self, queue: int) -> None:
         if self.inside[queue] and self.stages[queue] == _TAKEN:
             self.stages[queue] = _LOOKED
 
-    def weigh(self, queue):
+    def weigh(self, queue: int) -> None:
         if self.inside[queue] and self.stages[queue] == _LOOKED:
             self.stages[queue] = _WEIGHED
 
-    def put(self, queue):
+    def put(self, queue: int) -> None:
         if self.inside[queue] and self.stages[queue] == _WEIGHED:
-            self._offer(self.taken[queue])
-            self.taken[queue] = None
-            self.stages[queue] = 0
+            self._put_taken(queue)
 
-    def leave(self, queue):
+    def leave(self, queue: int) -> None:
         if self.stages[queue] not in (_LOOKED, _WEIGHED):
             self.inside[queue] = False
 
-    def poll(self, queue):
+    def poll(self, queue: int) -> bool:
         """A whole poll; whether it put a packet."""
         self.take(queue)
-        has_packet = self.taken[queue] is not None
-        if has_packet:
-            self._offer(self.taken[queue])
-            self.taken[queue] = None
-            self.stages[queue] = 0
+        has_packet = self._put_taken(queue)
         self.inside[queue] = False
         return has_packet
 
-    def _offer(self, number):
+    def _put_taken(self, queue: int) -> bool:
+        """Puts the packet that the poller has taken; whether it has one."""
+        number = self.taken[queue]
+        if number is None:
+            return False
+        self._offer(number)
+        self.taken[queue] = None
+        self.stages[queue] = 0
+        return True
+
+    def _offer(self, number: int) -> None:
         """A packet is accepted or dropped, as the report says and as the counts allow."""
         packet = self.rep.packets[number]
         cpu = packet.cpu
@@ -142,20 +157,20 @@ class _Machine:
         self.events.append(cpu)
         self.longest[cpu] = max(self.longest[cpu], self.accepted[cpu] - self.pulled[cpu])
 
-    def pull(self, cpu):
+    def pull(self, cpu: int) -> None:
         if self.pulled[cpu] == self.retired[cpu] and self.pulled[cpu] < self.accepted[cpu]:
             self.pulled[cpu] += 1
             self.events.append(PULL + cpu)
 
-    def deliver(self, cpu):
+    def deliver(self, cpu: int) -> None:
         self.delivered[cpu] = self.pulled[cpu] > self.retired[cpu]
 
-    def retire(self, cpu):
+    def retire(self, cpu: int) -> None:
         if self.delivered[cpu]:
             self.retired[cpu] += 1
             self.delivered[cpu] = False
 
-    def drain(self, cpu):
+    def drain(self, cpu: int) -> bool:
         """All that waits is pulled and retired; whether there was anything."""
         has_work = self.retired[cpu] < self.accepted[cpu]
         self.events += bytes((PULL + cpu,)) * (self.accepted[cpu] - self.pulled[cpu])
@@ -163,7 +178,7 @@ class _Machine:
         self.delivered[cpu] = False
         return has_work
 
-    def sweep(self):
+    def sweep(self) -> None:
         has_work = True
         while has_work:
             has_work = self.arrive()
@@ -172,7 +187,7 @@ class _Machine:
             for cpu in range(len(self.accepted)):
                 has_work = self.drain(cpu) or has_work
 
-    def check_end(self):
+    def check_end(self) -> None:
         """Refuses sums that are not those of the report."""
         if self.arrived != len(self.rep.packets):
             self.refuse("%d packets arrive, and the report has %d", self.arrived,
@@ -187,7 +202,7 @@ STEPS = ("arrive", "take", "enter", "look", "weigh", "put", "leave", "poll", "pu
          "retire", "drain", "sweep")
 
 
-def follow(rep, plan, source):
+def follow(rep: Report, plan: Dict[str, Any], source: str) -> Backlogs:
     """The Backlogs of a report by the steps of its plan, which messages name `source`."""
     for kind, rows, count in (("queues", rep.queues, len(plan["queues"])),
                               ("processors", rep.cpus, plan["cpus"])):

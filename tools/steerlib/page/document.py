@@ -6,9 +6,12 @@ import html
 import json
 import os
 import zlib
+from typing import Any, Dict, Iterable, Iterator, List, Optional, Sequence
 
 from .. import report, summary
 from . import sums
+from .axis import Axis
+from .backlogs import Backlogs
 
 FOLDER = os.path.dirname(os.path.abspath(__file__))
 FLOWS_CHARTED = 10
@@ -22,26 +25,26 @@ With the charts in focus: left and right arrows move the mark by a column, + and
 Page Up and Page Down go earlier and later, Home and End go to the ends, 0 shows all."""
 
 
-def _file(*parts):
+def _file(*parts: str) -> str:
     with open(os.path.join(FOLDER, *parts), encoding="utf-8") as stream:
         return stream.read()
 
 
-def _library():
+def _library() -> str:
     """The script of the library with its licence, and without the name of its source map."""
     kept = [line for line in _file("dygraphs", "dygraph.min.js").splitlines()
             if not line.startswith("//# sourceMappingURL")]
     return "/*\n%s*/\n%s\n" % (_file("dygraphs", "LICENSE"), "\n".join(kept))
 
 
-def _packed(values, width=1):
+def _packed(values: Iterable[int], width: int = 1) -> str:
     """Whole numbers as text: the lowest bytes of all, then the next ones, by deflate and base64."""
     data = b"".join(value.to_bytes(width, "little") for value in values)
     planes = b"".join(data[plane::width] for plane in range(width))
     return base64.b64encode(zlib.compress(planes, 9)).decode("ascii")
 
 
-def _steps_of(places):
+def _steps_of(places: Sequence[int]) -> Iterator[int]:
     """The first place, and from each place to the next."""
     before = 0
     for place in places:
@@ -49,11 +52,12 @@ def _steps_of(places):
         before = place
 
 
-def _mark(packet):
+def _mark(packet: report.Packet) -> int:
     return DROPPED * (packet.place == "drop") + MOVED * (packet.why in report.MOVES)
 
 
-def data_of(rep, axis, backlogs=None, found=None):
+def data_of(rep: report.Report, axis: Axis, backlogs: Optional[Backlogs] = None,
+            found: Optional[sums.Flows] = None) -> Dict[str, Any]:
     """What the charts are drawn from, as an object of JSON."""
     columns = {
         "cpu": _packed(NO_CPU if packet.cpu is None else packet.cpu for packet in rep.packets),
@@ -72,13 +76,13 @@ def data_of(rep, axis, backlogs=None, found=None):
             "limit": backlogs.limit if backlogs is not None else None, "columns": columns}
 
 
-def _json(value):
+def _json(value: object) -> str:
     """JSON that may stand in an element `script`."""
     text = json.dumps(value, separators=(",", ":"))
     return text.replace("&", "\\u0026").replace("<", "\\u003c").replace(">", "\\u003e")
 
 
-def _table(table, number):
+def _table(table: sums.Table, number: int) -> Iterator[str]:
     """The lines of a table under its heading; it scrolls by itself where it is too wide."""
     name = "table%d" % number
     yield '<section aria-labelledby="%s">' % name
@@ -97,14 +101,14 @@ def _table(table, number):
     yield "</section>"
 
 
-def _cell(place, field, name):
+def _cell(place: int, field: object, name: str) -> str:
     text = html.escape(str(field))
     if place == 0 and name != "packets":
         return '<th scope="row">%s</th>' % text
     return "<td%s>%s</td>" % (' class="text"' if name == "flow" else "", text)
 
 
-def _charts(axis):
+def _charts(axis: Axis) -> Iterator[str]:
     """The place of the charts, which the script fills and shows."""
     x_axis = ("time from the first packet" if axis.unit is not None
               else "packet numbers, not time: " + axis.reason)
@@ -126,7 +130,7 @@ def _charts(axis):
     yield '<p id="fault" role="alert" hidden></p>'
 
 
-def _heading(rep, title, axis):
+def _heading(rep: report.Report, title: str, axis: Axis) -> Iterator[str]:
     yield "<h1>%s</h1>" % html.escape(title)
     yield "<ul>"
     for line in summary.headline(rep):
@@ -137,14 +141,15 @@ def _heading(rep, title, axis):
     yield "</ul>"
 
 
-def _policy(scripts):
+def _policy(scripts: List[str]) -> str:
     """What a browser may load: nothing, and run: these scripts alone."""
     hashes = " ".join("'sha256-%s'" % base64.b64encode(
         hashlib.sha256(text.encode()).digest()).decode("ascii") for text in scripts)
     return "default-src 'none'; style-src 'unsafe-inline'; script-src %s" % hashes
 
 
-def lines(rep, title, axis, backlogs=None, found=None):
+def lines(rep: report.Report, title: str, axis: Axis, backlogs: Optional[Backlogs] = None,
+          found: Optional[sums.Flows] = None) -> Iterator[str]:
     """The lines of the document, which is one file that refers to no other."""
     scripts = [_library(), "\n" + _file("page.js")]
     yield "<!DOCTYPE html>"

@@ -450,7 +450,7 @@ class Charts {
   try {
     const data = await load();
     find("over").hidden = false;
-    window.charts = new Charts(data);
+    window.steerPage = new Charts(data);
   } catch (fault) {
     find("over").hidden = true;
     find("fault").hidden = false;

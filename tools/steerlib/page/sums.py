@@ -1,21 +1,27 @@
 """The tables of a page: the sums of a report by processor, queue, flow and interval."""
 
 from bisect import bisect_right
-from collections import Counter, namedtuple
+from collections import Counter
+from typing import Dict, Iterator, List, NamedTuple, Optional, Sequence, Set, Tuple
 
 from .. import cli, flows, report, tables
 from . import axis as axes
-from .backlogs import ARRIVAL, PULL
+from .backlogs import ARRIVAL, PULL, Backlogs
 
 FLOWS_SHOWN = 20
 INTERVALS = 25
 
-# title: the heading of a table. header: the names of its columns. rows: lists of texts and numbers.
-# note: a sentence under it, or "".
-Table = namedtuple("Table", "title header rows note")
+
+class Table(NamedTuple):
+    """A table with the names of its columns, rows of texts and numbers, and a note under it."""
+
+    title: str
+    header: Sequence[str]
+    rows: Sequence[Sequence[object]]
+    note: str
 
 
-def counted(number, word):
+def counted(number: int, word: str) -> str:
     """A number with its word: `1 packet`, `2 packets`."""
     return "%d %s%s" % (number, word, "" if number == 1 else "s")
 
@@ -27,7 +33,7 @@ class Flows:
     number of a packet's flow in this order, which is that of `rows` up to FLOWS_SHOWN.
     """
 
-    def __init__(self, rep, names, source):
+    def __init__(self, rep: report.Report, names: Sequence[str], source: str) -> None:
         if len(names) != rep.end.total:
             raise cli.Refused(source, "has %d packets, and the report is of %d"
                               % (len(names), rep.end.total))
@@ -37,7 +43,9 @@ class Flows:
         self.ranks = [rank[flow] for flow in names[:len(rep.packets)]]
         self.total = len(ranked)
         self.names = [flows.name(flow) for flow, _ in ranked[:FLOWS_SHOWN]]
-        dropped, moved, cpus = Counter(), Counter(), {}
+        dropped: Dict[int, int] = Counter()
+        moved: Dict[int, int] = Counter()
+        cpus: Dict[int, Set[int]] = {}
         for packet, number in zip(rep.packets, self.ranks):
             dropped[number] += packet.place == "drop"
             moved[number] += packet.why in report.MOVES
@@ -50,23 +58,23 @@ class Flows:
         self.rest = len(rep.packets) - sum(packets for _, packets in ranked[:FLOWS_SHOWN])
 
 
-def used_cpus(rep):
+def used_cpus(rep: report.Report) -> List[int]:
     """The processors that some packet was sent to."""
     return sorted({packet.cpu for packet in rep.packets} - {None})
 
 
-def used_queues(rep):
+def used_queues(rep: report.Report) -> List[int]:
     """The receive queues that some packet arrived at."""
     return [row.queue for row in rep.queues if row.arrived]
 
 
-def _unused(word, rows, used):
+def _unused(word: str, rows: Sequence[Sequence[int]], used: Sequence[int]) -> str:
     left = [row[0] for row in rows if row[0] not in used]
     return "No packets on %s %s." % (word, ", ".join(map(str, left))) if left else ""
 
 
-def _longest_at_drops(rep):
-    longest = Counter()
+def _longest_at_drops(rep: report.Report) -> Dict[int, int]:
+    longest: Dict[int, int] = Counter()
     for packet in rep.packets:
         if packet.drop is not None:
             longest[packet.cpu] = max(longest[packet.cpu],
@@ -74,10 +82,10 @@ def _longest_at_drops(rep):
     return longest
 
 
-def _cpus(rep, backlogs):
+def _cpus(rep: report.Report, backlogs: Optional[Backlogs]) -> Table:
     offered = Counter(packet.cpu for packet in rep.packets)
     used = used_cpus(rep)
-    longest = backlogs.longest if backlogs else _longest_at_drops(rep)
+    longest = dict(enumerate(backlogs.longest)) if backlogs else _longest_at_drops(rep)
     rows = [(cpu, offered[cpu], tables.share(offered[cpu], len(rep.packets)),
              rep.cpus[cpu].accepted, rep.cpus[cpu].dropped, longest[cpu]) for cpu in used]
     last = "longest backlog" if backlogs else "longest backlog at a drop"
@@ -86,7 +94,7 @@ def _cpus(rep, backlogs):
                  " ".join(filter(None, (note, _unused("cpu", rep.cpus, used)))))
 
 
-def _queues(rep):
+def _queues(rep: report.Report) -> Table:
     dropped = Counter(packet.q for packet in rep.packets if packet.place == "drop")
     filtered = Counter(packet.q for packet in rep.packets if packet.via == "filter")
     used = used_queues(rep)
@@ -97,13 +105,13 @@ def _queues(rep):
                  _unused("queue", rep.queues, used))
 
 
-def _transmit_queues(rep):
+def _transmit_queues(rep: report.Report) -> Table:
     rows = [(row.tx, row.accepted, tables.share(row.accepted, len(rep.replies)))
             for row in rep.tx if row.accepted]
     return Table("Transmit queues", ("tx", "replies", "share"), rows, "")
 
 
-def _flows(found):
+def _flows(found: Flows) -> Table:
     note = ""
     if found.total > len(found.rows):
         note = "%s more with %s." % (counted(found.total - len(found.rows), "flow"),
@@ -112,16 +120,18 @@ def _flows(found):
                  ("packets", "share", "dropped", "moves", "cpus", "flow"), found.rows, note)
 
 
-def _with_drops(packets, drops):
+def _with_drops(packets: int, drops: int) -> object:
     return "%d, %d dropped" % (packets, drops) if drops else packets
 
 
-def _by_interval(rep, axis):
+def _by_interval(rep: report.Report, axis: axes.Axis) -> Table:
     """A table of the packets in each interval, of processors and of queues."""
     bounds = axes.intervals(axis, INTERVALS)
     lows = [low for low, _ in bounds]
     cpus, queues = used_cpus(rep), used_queues(rep)
-    offered, dropped, queued = Counter(), Counter(), Counter()
+    offered: Dict[Tuple[int, Optional[int]], int] = Counter()
+    dropped: Dict[Tuple[int, Optional[int]], int] = Counter()
+    queued: Dict[Tuple[int, int], int] = Counter()
     sums = [[0, 0, 0] for _ in bounds]
     for packet, place in zip(rep.packets, axis.places):
         row = bisect_right(lows, place) - 1
@@ -140,7 +150,7 @@ def _by_interval(rep, axis):
     return Table("Packets by interval", header, rows, "")
 
 
-def _backlogs_by_interval(rep, axis, backlogs):
+def _backlogs_by_interval(rep: report.Report, axis: axes.Axis, backlogs: Backlogs) -> Table:
     """A table of the longest backlog of each processor in each interval.
 
     An interval begins with its first packet, or with the length that the one before it left.
@@ -169,7 +179,8 @@ def _backlogs_by_interval(rep, axis, backlogs):
                   for low, longest in zip(lows, rows)], "")
 
 
-def tables_of(rep, axis, backlogs=None, found=None):
+def tables_of(rep: report.Report, axis: axes.Axis, backlogs: Optional[Backlogs] = None,
+              found: Optional[Flows] = None) -> Iterator[Table]:
     """The tables of a report with packets, by its axis, its Backlogs and its Flows."""
     yield _cpus(rep, backlogs)
     yield _queues(rep)

@@ -1,6 +1,8 @@
 """A report of `steer replay` or `steer run` as one HTML page."""
 
+import argparse
 import sys
+from typing import List
 
 from .. import cli, flows, plan, report
 from ..page import axis, backlogs, document
@@ -23,7 +25,8 @@ steer hash own.pcap > hash.txt
 steer-page report --capture own.pcap --hash hash.txt --plan plan.json > report.html"""
 
 
-def words_of(words):
+def words_of(words: List[str]) -> argparse.Namespace:
+    """The options that these words give."""
     parser = cli.parser(DESCRIPTION, EXAMPLE)
     parser.add_argument("report", metavar="REPORT",
                         help="output of `steer replay` or `steer run`; - is input")
@@ -37,7 +40,7 @@ def words_of(words):
     return told
 
 
-def main(words):
+def main(words: List[str]) -> None:
     told = words_of(words)
     rep = report.read_file(told.report)
     places = axis.read(rep, told.capture)
@@ -51,6 +54,6 @@ def main(words):
         sys.stdout.write(line + "\n")
 
 
-def entry():
+def entry() -> None:
     """Runs this program by the words of its command line, and ends the process."""
     cli.run(main)
