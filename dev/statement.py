@@ -11,7 +11,7 @@ import sys
 import declared
 import specs
 from library import COVERED, LIBRARY
-from statement_words import NOTATION, PAGES, SAYINGS
+from statement_words import NOTATION, PAGES, SAYINGS, WORDS
 
 # The clauses of a good history, each by its number.
 CLAUSES = ("steer_model.specs.Good.GoodHistory", "Clause")
@@ -149,7 +149,8 @@ def head(found, page, pairs, files):
            "alone rests on, and after them what several rest on; the definitions of a file are "
            "together. So what a definition uses is below it, or belongs to an earlier field: read "
            "downwards, and stop where the words are plain to you. The names of the libraries are "
-           "at the end.", "", "**Notation.**", ""]
+           "at the end.", "", "**Words**, of those in [glossary.md](../glossary.md):", ""]
+    out += [f"- {row}" for row in WORDS] + ["", "**Notation.**", ""]
     out += [f"{n}. {row}" for n, row in enumerate(NOTATION, 1)] + [""]
     names = aliases(found, pairs)
     if names:
@@ -188,10 +189,11 @@ def field_notes(found, page):
     notes = {}
     for field, first in fields(found, page):
         for module, name in first:
-            if name[0].isupper() and (module, name) != PAGES[page]["root"]:
-                notes.setdefault(module, []).append(f"{field} (`{name}`)")
-    return {module: [f"*Here is what these fields say: {'; '.join(rows)}.*", ""]
-            for module, rows in notes.items()}
+            row = f"{field}, by `{name}`"
+            if name[0].isupper() and not is_values(found, module, name):
+                rows = notes.setdefault(module, [])
+                rows += [row] if row not in rows else []
+    return {module: [f"*Stated here: {'; '.join(rows)}.*", ""] for module, rows in notes.items()}
 
 
 def anchor(found, page, module, name=None):

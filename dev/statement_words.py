@@ -19,12 +19,13 @@ PAGES = {
             processor and their transmit queue exactly where the manual lets them."""),
         "promised": joined("""
             The function that `main` calls is `steer_top::steer`. Its clause `call` is the record
-            `IsAnswered` (`steer_top/specs/Calls.IsAnswered`), whose field `headline` says of the
-            words `replay PLAN CAPTURE` that the output has the `Headline`
-            (`headline/specs/Headline.Headline`), and its field `right` is `IsRight i h`. There the
-            input `i` is the plan and the packets that the bytes of the two files have, and `h` is
-            the only history whose report the output is. Of `run PLAN CAPTURE` the field `right` of
-            `LiveHeadline` says the same."""),
+            `IsAnswered` (`steer_top/specs/Calls.IsAnswered`), whose field `headline` says: if
+            `replay PLAN CAPTURE` returns status 0, the text that went out has the `Headline`
+            (`headline/specs/Headline.Headline`). The field `right` of that is `IsRight i h`, where
+            the input `i` is the plan and the packets that the bytes of the two files have, and `h`
+            is the only history whose report the text is. Of `run PLAN CAPTURE` the field `right`
+            of `LiveHeadline` says the same. [8-theorem](../model/8-theorem.md) explains it field
+            by field, and says what is not promised."""),
         "after": [],
     },
     "good-history": {
@@ -37,8 +38,9 @@ PAGES = {
         "promised": joined("""
             The clause `good` of `workers::run_threads` says it of the history that the threads of
             a run leave, and the field `good` of `LiveHeadline`
-            (`headline/specs/Live.LiveHeadline`) of the history that the output of
-            `run PLAN CAPTURE` is the report of."""),
+            (`headline/specs/Live.LiveHeadline`) of the history that the text of
+            `run PLAN CAPTURE` is the report of. [7b-good](../model/7b-good.md) explains the
+            clauses, and says what is not promised."""),
         "after": ["replay-right"],
     },
     "run-headline": {
@@ -50,8 +52,10 @@ PAGES = {
             inbox, and its reply to the port."""),
         "promised": joined("""
             The function that `main` calls is `steer_top::steer`. Its clause `call` is the record
-            `IsAnswered` (`steer_top/specs/Calls.IsAnswered`), whose field `headline` says of the
-            words `run PLAN CAPTURE` that the output has the `LiveHeadline`."""),
+            `IsAnswered` (`steer_top/specs/Calls.IsAnswered`), whose field `headline` says: if
+            `run PLAN CAPTURE` returns status 0, the text that went out has the `LiveHeadline`.
+            [8d-run](../model/8d-run.md) explains it field by field, and says what is not
+            promised."""),
         "after": ["replay-right", "good-history"],
     },
     "verdict": {
@@ -62,13 +66,35 @@ PAGES = {
             if it is that of another history, which clause that history fails first."""),
         "promised": joined("""
             The function that `main` calls is `steer_top::steer`. Its clause `call` is the record
-            `IsAnswered` (`steer_top/specs/Calls.IsAnswered`), whose field `text` says of the words
-            `check PLAN CAPTURE REPORT` that the output is a text that the command may write: by
-            the definition `Writes` (`steer_top/specs/Outcomes.Writes`) one with
-            `IsVerdictLine`."""),
+            `IsAnswered` (`steer_top/specs/Calls.IsAnswered`), whose field `text` says: if
+            `check PLAN CAPTURE REPORT` returns status 0, the text that went out is one that the
+            command may write, and by the definition `Writes` (`steer_top/specs/Outcomes.Writes`)
+            that is one with `IsVerdictLine`. [7f-verdict](../model/7f-verdict.md) explains it, and
+            says what is not promised."""),
         "after": ["replay-right", "good-history", "run-headline"],
     },
 }
+WORDS = [
+    joined("""
+        A *lane* is the backlog of a processor, or a transmit queue. It accepts or drops a packet
+        that is *put* to it. An accepted packet is *pulled*, *delivered* and *retired*, and the
+        *head* of the lane is the number of those retired."""),
+    joined("""
+        A *choice* is the lane that a receive queue chose for a packet, or an application for a
+        reply, with all that was seen for it."""),
+    joined("""
+        A *class* is the flows that share an entry of a flow table: the hash modulo the flow count
+        of the queue (`rps_flow_cnt`); of a reply it is the flow number. Its *entry* has the lane
+        of its last choice, and the *recorded tail*: the position in that lane of the last packet
+        of the class that was accepted since the class came there."""),
+    joined("""
+        A *want* is the processor that was read from the socket flow table; of a reply it is the
+        queue that the maps pick. The *desired* processor is the want if there is one and it is
+        online, otherwise the choice of RPS."""),
+    joined("""
+        A *setup* is what plan and capture fix, *settings* are what commands change. A *count* does
+        not wrap; a *counter number* is the plan's start and a count, modulo 2^32."""),
+]
 NOTATION = [
     joined("""
         `abbrev pub f : A → B → C` (or `unfoldable`) gives the types of a definition, and
