@@ -5,8 +5,8 @@
 the word, each with its file, its line and its comment.
 
 `dev/index.py --check` looks up what docs/model/ and docs/statement/ say of the sources, each name
-of a definition, law or clause, and the links of all documents. Status 1 where something is not
-there.
+of a definition, law or clause, and their links; of all other documents, whose files
+dev/layout.py looks up, the headings that they link to. Status 1 where something is not there.
 """
 import argparse
 import glob
@@ -71,11 +71,12 @@ def anchors(text):
 
 
 def bad_links(page, text):
-    """The links of a page that lead nowhere."""
+    """The links of a page that lead to no file, or to no heading of a document."""
     for path, place in LINK.findall(text):
         there = os.path.normpath(os.path.join(os.path.dirname(page), path)) if path else page
         if not os.path.exists(os.path.join(specs.ROOT, there)):
-            yield f"{page}: no file {path}"
+            if page.startswith((MODEL, STATEMENT)):
+                yield f"{page}: no file {path}"
         elif place and there.endswith(".md") and place not in anchors(specs.read(there)):
             yield f"{page}: no heading {path}#{place}"
 
