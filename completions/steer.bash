@@ -2,11 +2,11 @@
 # ~/.local/share/bash-completion/completions under the name of each program.
 
 _steer() {
-    local word=${COMP_WORDS[COMP_CWORD]}
+    local word=${COMP_WORDS[COMP_CWORD]} commands="hash replay run gen check place"
     COMPREPLY=()
     case $COMP_CWORD:${COMP_WORDS[1]} in
     1:*)
-        mapfile -t COMPREPLY < <(compgen -W "hash replay run gen check place --help --version" -- "$word")
+        mapfile -t COMPREPLY < <(compgen -W "$commands --help --version" -- "$word")
         ;;
     2:hash | 2:replay | 3:replay | 2:run | 3:run | 2:check | 3:check | 4:check | 2:place | 3:place)
         compopt -o filenames 2>/dev/null
@@ -28,7 +28,8 @@ _steer_companion() {
     case $word in
     -*)
         options=$("$1" --help 2>/dev/null |
-            sed -n -e 's/^  \(-[a-z]\), \(--[a-z-]*\).*/\1 \2/p' -e 's/^  \(-[a-z-]*\).*/\1/p')
+            sed -n -e 's/^  \(-[a-z]\), \(--[-a-z0-9]*\).*/\1 \2/p' \
+                -e 's/^  \(-[-a-z0-9]*\).*/\1/p')
         mapfile -t COMPREPLY < <(compgen -W "-h $options" -- "$word")
         ;;
     *)
