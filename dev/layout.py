@@ -1,8 +1,8 @@
 #!/usr/bin/env python3
 """Lists what of the tracked sources is laid out otherwise than docs/develop.md says: lines over 100
 columns, files over 800 lines (answers of a proof 150), functions over 40 lines outside tests, their
-contract included, READMEs of crates with other headings, a README over 6,000 bytes, and links of
-documents to files that do not exist. The status is 1 if there is any."""
+contract included, READMEs of crates with other headings, and a README over 6,000 bytes. The status is
+1 if there is any."""
 import os
 import re
 import subprocess
@@ -12,7 +12,6 @@ COLUMNS, FILE_LINES, ANSWER_LINES, FUNCTION_LINES = 100, 800, 150, 40
 HEADINGS = ("What a contract sees", "Proved", "How it works", "Only tested", "What no clause says",
             "Reading order")
 README_BYTES = 6000
-LINK = re.compile(r"\]\(([^)#\s]+)[^)]*\)")
 FUNCTION = re.compile(r"(\s*)(?:pub )?(?:const )?(?:unsafe )?fn (\w+)")
 
 
@@ -43,15 +42,12 @@ def long_functions(path, lines):
         at += 1
 
 
-def link_faults(path, lines):
-    for number, line in enumerate(lines, 1):
-        for link in LINK.findall(line):
-            if "://" not in link and not os.path.exists(os.path.join(os.path.dirname(path), link)):
-                yield f"{path}:{number}: there is no {link}"
-
-
 def readme_faults(path, lines):
     """Tests and the program have a title only; other crates have all headings but perhaps one."""
+    if path == "README.md":
+        if os.path.getsize(path) > README_BYTES:
+            yield f"{path}: {os.path.getsize(path)} bytes"
+        return
     crate = path.split("/")[1]
     if lines[0] != "# " + crate:
         yield f"{path}:1: the title is not `# {crate}`"
@@ -63,19 +59,11 @@ def readme_faults(path, lines):
         yield f"{path}: the headings are {found}, and not {wanted}"
 
 
-def document_faults(path, lines):
-    yield from link_faults(path, lines)
-    if path == "README.md" and os.path.getsize(path) > README_BYTES:
-        yield f"{path}: {os.path.getsize(path)} bytes"
-    if path.startswith("crates/") and path.count("/") == 2:
-        yield from readme_faults(path, lines)
-
-
 def faults(path):
     with open(path, encoding="utf8") as file:
         lines = file.read().split("\n")
     if path.endswith(".md"):
-        yield from document_faults(path, lines)
+        yield from readme_faults(path, lines)
         return
     most = ANSWER_LINES if path.endswith("Answers.antt") else FILE_LINES
     if len(lines) - 1 > most:
@@ -89,7 +77,7 @@ def faults(path):
 
 def main():
     os.chdir(os.path.dirname(os.path.dirname(os.path.abspath(__file__))))
-    kinds = ["crates/*.rt", "crates/*.antt", "*.md"]
+    kinds = ["crates/*.rt", "crates/*.antt", "crates/*/README.md", "README.md"]
     listed = subprocess.run(["git", "ls-files", *kinds],
                             stdout=subprocess.PIPE, check=True, universal_newlines=True)
     found = [fault for path in listed.stdout.split() if os.path.exists(path) for fault in faults(path)]
