@@ -134,7 +134,7 @@ def kinds(snapshot: Snapshot, findings: Findings) -> int | None:
     return bits
 
 
-def _warn(snapshot, findings):
+def _warn(snapshot, nearest, findings):
     """Notes of what stands beside the table."""
     rules = snapshot.ethtool("-n {}")
     count = ethtool.rules_told(rules) or len(ethtool.rules(rules))
@@ -143,7 +143,11 @@ def _warn(snapshot, findings):
                       "steer-rules and `steer place`" % count)
     if any(line.startswith("RSS Context ID") for _, lines in ethtool.rules(rules)
            for line in lines):
-        findings.refuse("several RSS contexts: a rule leads to a table of its own")
+        text = "several RSS contexts: a rule leads to a table of its own"
+        if nearest:
+            findings.note(text + ", which steer-remap --snap follows and a plan does not")
+        else:
+            findings.refuse(text + "; --nearest leaves it to steer-remap --snap")
     features = snapshot.ethtool("-k {}")
     if ("driver: ixgbe" in snapshot.ethtool("-i {}")
             and any(line.startswith("ntuple-filters: off") for line in features)):
@@ -171,5 +175,5 @@ def settings(snapshot: Snapshot, queues: int, nearest: bool,
     table = _table(said, queues, nearest, findings)
     told["kinds"] = kinds(snapshot, findings)
     told["reta"] = table if table != even(queues) else None
-    _warn(snapshot, findings)
+    _warn(snapshot, nearest, findings)
     return {name: value for name, value in told.items() if value is not None}, table

@@ -63,8 +63,8 @@ class OfNetwork:
 
 def told(text: str) -> OfPort | OfNetwork:
     """The reader of the words PORT=CPU, ADDRESS=CPU or ADDRESS/LENGTH=CPU. A type for argparse."""
-    what, _, cpu = text.rpartition("=")
-    if not re.fullmatch("[0-9]{1,6}", cpu):
+    what, equals, cpu = text.rpartition("=")
+    if not (equals and re.fullmatch("[0-9]{1,6}", cpu)):
         raise argparse.ArgumentTypeError("%s is not PORT=CPU or ADDRESS=CPU" % text)
     if re.fullmatch("[0-9]{1,5}", what) and int(what) < 65536:
         return OfPort(text, int(what), int(cpu))

@@ -305,7 +305,7 @@ def _new_frames(frames, places, flow_of, flows):
     return made
 
 
-def remap(plan: Dict[str, Any], frames: List[Any], options: Options = None) -> Remapped:
+def remap(plan: Dict[str, Any], frames: List[Any], options: Optional[Options] = None) -> Remapped:
     """The plan and the frames rewritten.
 
     `plan` is what plan.read_plan gives, `frames` a list of steerlib.capture.Frame, all of Ethernet.

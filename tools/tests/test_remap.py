@@ -2,14 +2,15 @@
 
 import json
 import os
+import random
 import unittest
 
 import kernels
 import reporting
 import running
+from running import example, sample
 
-from steerlib import cli, report
-from steerlib import remap_files
+from steerlib import cli, flows, plan, remap, remap_check, remap_files, report
 
 # STEER_REMAP_CASES=1000 tries so many random machines.
 CASES = int(os.environ.get("STEER_REMAP_CASES", "20"))
@@ -85,6 +86,202 @@ class RandomMachines(unittest.TestCase):
             made.setdefault(text, set()).add(flow if flow.version else 0)
         self.assertTrue(all(len(flows) == 1 for flows in made.values()))
         self.assertEqual(len(made), len({flow if flow.version else 0 for flow in traffic.of}))
+
+
+WEB = example("web.pcap")
+SNAP = example("eth0.snap")
+
+
+def plan_of_snap(folder, name="plan.json", **changes):
+    """The plan of the example's machine, with changes; the name of its file."""
+    made = json.loads(running.inside("steer-plan", SNAP, "--apps", "8-11")[1])
+    made.update(changes)
+    return folder.write(name, json.dumps(made).encode())
+
+
+def hashes_of(name):
+    """The hash of each packet, None without one, by the verification key, and its flow."""
+    lines = running.steer("hash", name, "8", "63")[1].splitlines()[:-1]
+    return [(None if " hash - " in line else int(line.split(" hash ")[1].split()[0], 16),
+             line.split(" hash ")[0].split(" ", 2)[2]) for line in lines]
+
+
+def scaled_processors(members):
+    """The processor of each packet of the example by scaling; None without a hash of the card."""
+    return [None if value is None or flow.startswith("udp") else
+            members[kernels.scaled(value, len(members))] for value, flow in hashes_of(WEB)]
+
+
+class Program(unittest.TestCase):
+    """The program, and --kernel of steer-steps and steer-try, over the example."""
+
+    def test_low_bits_stay(self):
+        with reporting.Folder() as folder:
+            old = plan_of_snap(folder)
+            status, messages, (name, capture) = ran(folder, old, WEB)
+            self.assertEqual(status, cli.DONE, messages)
+            reports = [report.read_file(folder.replay(json.loads(cli.read_text(each)), source))
+                       for each, source in ((old, WEB), (name, capture))]
+            for before, after, cpu in zip(reports[0].packets, reports[1].packets,
+                                          scaled_processors([4, 5, 6, 7])):
+                if cpu is not None:
+                    self.assertEqual((before.q, before.class_, before.app),
+                                     (after.q, after.class_, after.app))
+            entries = {value % 32768 for value, flow in hashes_of(WEB) if flow.startswith("tcp")}
+            for each in reports:
+                self.assertLessEqual(entries, {row.entry for row in each.writes})
+
+    def test_hash_32_keeps_classes_apart(self):
+        with reporting.Folder() as folder:
+            draw = random.Random(4)
+            traffic = kernels.Traffic(draw, 900, 300)
+            capture = folder.write("a.pcap", traffic.pcap())
+            old = plan_of_snap(folder, kinds=63, sock=65536)
+            status, messages, (name, new) = ran(folder, old, capture, "--hash32")
+            self.assertEqual(status, cli.DONE, messages)
+            self.assertNotIn("share a class", messages)
+            rep = report.read_file(folder.replay(json.loads(cli.read_text(name)), new))
+            here, there = {}, {}
+            for packet, (value, flow) in zip(rep.packets, hashes_of(capture)):
+                if value is not None and not flow.startswith("two"):
+                    index = (value * 0x61C88647 & 0xffffffff) >> 20
+                    here.setdefault((packet.q, packet.class_), set()).add(flow)
+                    there.setdefault((packet.q, index), set()).add(flow)
+            self.assertTrue(set(map(frozenset, there.values())) <= set(
+                map(frozenset, here.values())))
+
+    def test_refusals(self):
+        tx = [{"cpus": [], "queues": []}]
+        whole = list(range(32))
+        one = [{"home": 0, "mask": whole, "flows": 0}]
+        two = [{"home": 0, "mask": list(range(size)), "flows": 32768}
+               for size in (31, 29, 27, 25)]
+        for changes, words, text in (
+                (dict(cpus=32, queues=one, apps=[0], tx=tx, reta=[0] * 128), (),
+                 "a mask of 32 has no spare member: a plan has at most 32; one of 31 fits"),
+                (dict(cpus=32, queues=two, apps=[0], tx=tx, filters=1, sock=65536), (),
+                 "no odd sizes without a common divisor have a product of at most 65536"),
+                (dict(tx=tx * 32), ("--tx",), "a transmit map of 32 has no spare member"),
+                (dict(steps=["xcpus 0 1"]), ("--tx",), "it fits without --tx"),
+                (dict(steps=["reta 3 1"]), ("--hash32",), "it fits without these steps"),
+                (dict(apps=[0] * 32), ("--reader", "80=9"), "at most 32")):
+            with self.subTest(text), reporting.Folder() as folder:
+                name = folder.path("new.json")
+                plan_name = plan_of_snap(folder, **changes)
+                status, messages, _ = ran(folder, plan_name, WEB, *words)
+                self.assertEqual(status, cli.REFUSED, messages)
+                self.assertIn(text, messages)
+                self.assertFalse(os.path.exists(name))
+
+    def test_wrong_words(self):
+        for words, text in ((("--reader", "80"), "not PORT=CPU"), (("--reader", "x=1"), "`x`"),
+                            (("--reader", "80=16"), "the plan has 0 to 15"),
+                            (("--online", "0-16"), "0 to 15"), (("--sockets",), "needs --snap"),
+                            (("--capture", WEB), "cannot be written")):
+            with self.subTest(words), reporting.Folder() as folder:
+                status, messages, _ = ran(folder, plan_of_snap(folder), WEB, *words)
+                self.assertEqual(status, cli.WRONG_WORDS, messages)
+                self.assertIn(text, messages)
+
+    def test_sockets_need_their_section(self):
+        with reporting.Folder() as folder:
+            status, messages, _ = ran(folder, plan_of_snap(folder), WEB, "--snap", SNAP,
+                                      "--sockets")
+            self.assertEqual(status, cli.REFUSED)
+            self.assertIn("steer-snap --readers", messages)
+            snap = folder.write("with", cli.read_bytes(SNAP)[:-4] + cli.read_bytes(
+                sample("sockets.snap")).split(b"tx 0 xps_cpus 00\n")[1])
+            status, messages, (name, capture) = ran(folder, plan_of_snap(folder), WEB, "--snap",
+                                                    snap, "--sockets")
+            self.assertEqual(status, cli.DONE, messages)
+            rep, made = swept(folder, name, capture)
+            readers = {made["apps"][packet.app] for packet, (_, flow) in zip(
+                rep.packets, hashes_of(WEB)) if flow.endswith(" 80")}
+            self.assertEqual(readers, {2})      # the process that listens ran last on 2
+
+    def test_names_are_those_of_the_old_capture(self):
+        with reporting.Folder() as folder:
+            status, _, (name, capture) = ran(folder, plan_of_snap(folder), WEB)
+            made = folder.replay(json.loads(cli.read_text(name)), capture)
+            hashes = folder.write("hash", running.steer("hash", WEB)[1].encode())
+            status, out, _ = running.inside("steer-top", made, hashes)
+            self.assertEqual(status, cli.DONE)
+            self.assertIn("tcp4 10.0.0.11:40001 > 10.0.0.1:80", out)
+            new = folder.write("new", running.steer("hash", capture)[1].encode())
+            old_flows, new_flows = flows.read_file(hashes), flows.read_file(new)
+            self.assertEqual(len(set(old_flows)), len(set(zip(old_flows, new_flows))))
+            self.assertEqual(len(set(old_flows)), len(set(new_flows)))
+
+    def test_steps_by_the_kernel(self):
+        with reporting.Folder() as folder:
+            name = plan_of_snap(folder, sock=0, backlog=16)
+            capture = folder.path("k.pcap")
+            status, out, messages = running.inside(
+                "steer-steps", name, WEB, "--pps", "20000", "--speed", "100", "--kernel",
+                "--capture", capture)
+            self.assertEqual(status, cli.DONE, messages)
+            rep = report.read_file(folder.replay(json.loads(out), capture))
+            for packet, cpu in zip(rep.packets, scaled_processors([4, 5, 6, 7])):
+                self.assertIn(cpu, (None, packet.cpu))
+            for words, text in ((("--kernel",), "--capture OUT go together"),
+                                (("--tx",), "--tx goes with --kernel"),
+                                (("--kernel", "--capture", "-"), "into a file")):
+                status, _, messages = running.inside("steer-steps", name, WEB, "--pps", "1", *words)
+                self.assertEqual((status, text in messages), (cli.WRONG_WORDS, True), messages)
+
+    def test_trials_by_the_kernel(self):
+        counts = {}
+        for cpu in scaled_processors([4, 5, 6, 7]):
+            counts[cpu] = counts.get(cpu, 0) + 1
+        most = max((count, cpu) for cpu, count in counts.items() if cpu is not None)
+        with reporting.Folder() as folder:
+            name = plan_of_snap(folder, sock=0)
+            words = (WEB, name, "--pps", "1000", "--kernel", "--draws", "3-4")
+            status, out, messages = running.inside("steer-try", *words)
+            self.assertEqual(status, cli.DONE, messages)
+            for draw in (3, 4):
+                row = next(line for line in out.split("busiest")[1].splitlines()
+                           if line.endswith("draw %d" % draw))
+                share = float(row.split()[2].rstrip("%"))
+                self.assertEqual(row.split()[1], "%d" % most[1])
+                self.assertIn(round(share * 177 / 100) - most[0], (0, 5))   # one flow is drawn
+            lines = running.inside("steer-try", *words, "--commands", "--reports", "out")[1]
+            self.assertEqual([line.split("--draws ")[1].split()[0] for line in lines.splitlines()],
+                             ["3-3", "4-4"])
+            status, _, messages = running.inside("steer-try", WEB, name, "--draws", "2")
+            self.assertEqual((status, "goes with --kernel" in messages), (cli.WRONG_WORDS, True))
+
+    def test_a_mismatch_is_an_error(self):
+        with reporting.Folder() as folder:
+            made = remap.remap(plan.read_plan(plan_of_snap(folder)),
+                               remap_files.frames_of(WEB, WEB))
+            remap_check.check(made)
+            made.flows[made.flow_of[1]].app ^= 1
+            with self.assertRaisesRegex(cli.Refused, "packet 1 has reader"):
+                remap_check.check(made)
+            made.flows[made.flow_of[1]].app ^= 1
+            made.spares.padded[4, 5, 6, 7] = [3, 4, 5, 6, 7]
+            with self.assertRaisesRegex(cli.Refused, "packet 1 has processor 3 .* gives 4"):
+                remap_check.check(made)
+
+    def test_mutated_inputs_give_no_traceback(self):
+        draw = random.Random(17)
+        with reporting.Folder() as folder:
+            files = [cli.read_bytes(plan_of_snap(folder)), cli.read_bytes(WEB)[:4000],
+                     cli.read_bytes(SNAP)]
+            for case in range(150):
+                at = case % 3
+                data = bytearray(files[at])
+                for _ in range(draw.randint(1, 3)):
+                    spot = draw.randrange(len(data))
+                    data[spot:spot + draw.choice((0, 1, 1, 4))] = draw.choice(
+                        (b"", b"9", b"-", b"\xff", bytes([draw.randrange(256)])))
+                names = [folder.write("m%d" % number, bytes(data) if number == at else file)
+                         for number, file in enumerate(files)]
+                status, messages, _ = ran(folder, names[0], names[1], "--snap", names[2], "--tx")
+                self.assertIn(status, (cli.DONE, cli.WRONG_WORDS, cli.REFUSED,
+                                       cli.NOT_THAT_FILE), messages)
+                self.assertNotIn("remap is wrong", messages)
 
 
 if __name__ == "__main__":
