@@ -1,6 +1,8 @@
 """Where a frame has its addresses and ports, as steer finds them (docs/formats.md, Frames)."""
 
-from collections import namedtuple
+from __future__ import annotations
+
+from typing import NamedTuple
 
 TAGS = (b"\x81\x00", b"\x88\xa8")
 MOST_TAGS, MOST_EXTENSIONS = 2, 8
@@ -9,10 +11,20 @@ FRAGMENT = 44
 PROTOCOLS = {6: "tcp", 17: "udp"}
 TUNNELS = (4, 41, 47)         # IP in IP, 6in4, GRE: a kernel looks into these
 
-# kind: of the flow, such as tcp4 or two6. address: the offset of the source address, which the
-# destination address follows. ports: the offset of the ports, or None. protocol: that of the IP
-# header, or behind the extensions. label: the flow label of IPv6, 0 without.
-Place = namedtuple("Place", "kind address ports protocol label")
+
+class Place(NamedTuple):
+    """The kind of a frame's flow, such as tcp4 or two6, and offsets in the frame.
+
+    `address` is that of the source address, which the destination address follows; `ports` that of
+    the ports, or None. `protocol` is that of the IP header, or behind the extensions, `label` the
+    flow label of IPv6, 0 without.
+    """
+
+    kind: str
+    address: int
+    ports: int | None
+    protocol: int
+    label: int
 
 
 def _ip_start(data):
@@ -58,7 +70,7 @@ def _ipv6(data, start):
     return Place("two6", start + 8, None, following, label)
 
 
-def place_of(data):
+def place_of(data: bytes) -> Place | None:
     """The Place of an Ethernet frame, or None of one without an IP packet."""
     kind, start = _ip_start(data)
     if kind == b"\x08\x00":
@@ -68,7 +80,7 @@ def place_of(data):
     return None
 
 
-def tuple_of(data, place):
+def tuple_of(data: bytes, place: Place) -> bytes:
     """The addresses and ports of a frame, as they are hashed."""
     end = place.address + (8 if place.kind[-1] == "4" else 32)
     if place.ports is None:
@@ -76,7 +88,7 @@ def tuple_of(data, place):
     return data[place.address:end] + data[place.ports:place.ports + 4]
 
 
-def with_tuple(data, place, new):
+def with_tuple(data: bytes, place: Place, new: bytes) -> bytes:
     """The frame with these addresses and ports in place of its own."""
     end = place.address + (8 if place.kind[-1] == "4" else 32)
     length = end - place.address

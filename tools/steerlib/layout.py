@@ -5,7 +5,15 @@ table has another size, a rule or a context leads elsewhere, or the kernel makes
 entry that leads to the queue is taken.
 """
 
+from __future__ import annotations
+
+from typing import TYPE_CHECKING, Sequence
+
 from . import cli, kernel, limits
+from .shape import Shape
+
+if TYPE_CHECKING:
+    from .remap import Flow, Options
 
 ENTRIES = limits.TABLE_ENTRIES
 BITS = 17                     # of the low bits that stay where the sizes allow it
@@ -17,20 +25,20 @@ MOST_CLASS_BITS = 15          # a flow table has at most 32,768 entries
 class Layout:
     """The new plan's table and its flow tables; lay() gives each flow its low bits."""
 
-    def __init__(self, shape, options):
+    def __init__(self, shape: Shape, options: Options) -> None:
         self.shape = shape
         self.options = options
         self.table = list(shape.table)
         self.flows = list(shape.flows)
         self.bits = shape.low_bits()
 
-    def lay(self, flows):
+    def lay(self, flows: Sequence[Flow]) -> None:
         """Gives each flow with a hash its low bits, in `entry`."""
         hashed = [flow for flow in flows if flow.value is not None]
         if self.options.card is not None:
             self._fold(hashed)
         self._give_each_queue(hashed)
-        places = {}
+        places: dict[int, list[int]] = {}
         for entry, queue in enumerate(self.table):
             places.setdefault(queue, []).append(entry)
         if self.options.hash32:
@@ -38,7 +46,7 @@ class Layout:
         for flow in hashed:
             flow.entry = self._word(flow, places)
         moved = self.table != self.shape.table or any(
-            (flow.entry ^ flow.value) & (ENTRIES - 1) for flow in hashed)
+            (flow.entry ^ flow.given) & (ENTRIES - 1) for flow in hashed)
         if moved and self.shape.tables_change:
             raise cli.Refused("steps", "they change the table (reta) while flows have other "
                               "entries than their hash gives; it fits without these steps")
@@ -47,7 +55,7 @@ class Layout:
         """For each entry and queue how many packets have this entry by their hash."""
         weights = [{} for _ in range(ENTRIES)]
         for flow in flows:
-            of = weights[flow.value % ENTRIES]
+            of = weights[flow.given % ENTRIES]
             of[flow.queue] = of.get(flow.queue, 0) + flow.packets
         return weights
 
@@ -82,11 +90,11 @@ class Layout:
 
     def _word(self, flow, places):
         """The low bits of the new hash of a flow."""
-        low = flow.value & LOW
+        low = flow.given & LOW
         entries = places[flow.queue]
         count = self.shape.flows[flow.queue]
         if self.options.hash32 and count:
-            index = kernel.flow_entry(flow.value, count, True)
+            index = kernel.flow_entry(flow.given, count, True)
             bits = max(kernel.bits_of(self.flows[flow.queue]), TABLE_BITS)
             upper = index // len(entries) & (1 << bits - TABLE_BITS) - 1
             return low >> bits << bits | upper << TABLE_BITS | entries[index % len(entries)]

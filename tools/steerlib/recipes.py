@@ -1,7 +1,15 @@
 """The sizes of a remapped plan, and the remainders that each flow's new hash has by them."""
 
+from __future__ import annotations
+
+from typing import TYPE_CHECKING, Any, Sequence
+
 from . import cli, kernel, layout, limits, sizes
-from .shape import Spares
+from .plan import Plan
+from .shape import Shape, Spares
+
+if TYPE_CHECKING:
+    from .remap import Flow
 
 ORDER = ("cpus", "queues", "key", "kinds", "reta", "sock", "filters", "backlog", "start", "limited",
          "apps", "tx", "workers", "tries", "detach", "steps")
@@ -12,7 +20,7 @@ class _Conflict(Exception):
     """One size would need two remainders of a flow, since spares stand between members."""
 
 
-def size_name(name):
+def size_name(name: Any) -> str:
     """How people name what has a size."""
     return name if name == READERS else "%s of %d" % (
         {"mask": "a mask", "tx": "a transmit map"}[name[0]], name[1])
@@ -21,7 +29,8 @@ def size_name(name):
 class Recipes:
     """The sizes, the spares, and by them the new plan and the remainders of each flow."""
 
-    def __init__(self, plan, shape, flows, apps, laid, transmit):
+    def __init__(self, plan: Plan, shape: Shape, flows: Sequence[Flow], apps: list[int],
+                 laid: layout.Layout, transmit: bool) -> None:
         self.old = plan
         self.shape = shape
         self.apps = apps
@@ -132,17 +141,27 @@ class Recipes:
                 break
         raise cli.Refused("plan", self._advice(fault.group, room))
 
+    def _fits(self, group, room):
+        """Whether there are sizes for these names alone."""
+        try:
+            sizes.chosen_sizes(self._choices(group, 0), [group], room)
+        except sizes.NoSizes:
+            return False
+        return True
+
     def _advice(self, group, room):
-        names = sorted(group, key=str)
-        fits = [text for text, wanted in (
-            ("without --tx", any(name[0] == "tx" for name in names)),
-            ("with a number of readers that is a power of two", READERS in names),
-            ("with fewer processors than 32", self.apart),
-            ("with masks of one size", sum(name[0] == "mask" for name in names) > 1),
-            ("with smaller masks", True)) if wanted]
-        return "%s: no odd sizes without a common divisor have a product of at most %d, for which " \
-            "the high bits of a hash have room; it fits %s" % (
-                ", ".join(size_name(name) for name in names), room, " or ".join(fits))
+        """Why a group of names has no sizes, and by what it would have some."""
+        largest = max(group, key=lambda name: name != READERS and name[0] == "mask" and name[1])
+        less = (("without --tx", {name for name in group if name[0] != "tx"}),
+                ("with a number of readers that is a power of two", set(group) - {READERS}),
+                ("with masks of one number of members",
+                 {name for name in group if name[0] != "mask"} | {largest}))
+        fits = [text for text, names in less
+                if names < group and self._fits(frozenset(names), room)]
+        return ("%s: no odd sizes without a common divisor have a product of at most %d, for which "
+                "the high bits of a hash have room; it fits %s" % (
+                    ", ".join(size_name(name) for name in sorted(group, key=str)), room,
+                    " or ".join(fits or ["with smaller masks, or smaller tables"])))
 
     def _product(self):
         """The largest product of sizes that a flow needs."""
@@ -184,15 +203,15 @@ class Recipes:
         if parts.setdefault(size, part) != part:
             raise _Conflict
 
-    def of(self, flow):
+    def of(self, flow: Flow) -> tuple[sizes.Residues, list[int]]:
         """The Residues for a flow, and its remainders."""
         residues, parts = self.recipes[flow.queue, flow.app]
-        return residues, [places[kernel.scaled(flow.sends if sends else flow.value, count)]
+        return residues, [places[kernel.scaled(flow.sends if sends else flow.given, count)]
                           if count else places[0] for count, sends, places in parts]
 
     # The new plan.
 
-    def plan(self, laid, kinds, key):
+    def plan(self, laid: layout.Layout, kinds: int, key: str | None) -> Plan:
         """The new plan, with its keys in the order of the old one where it has them."""
         made = dict(self.old)
         made["cpus"] = self.spares.cpus

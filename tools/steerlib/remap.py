@@ -10,25 +10,37 @@ A mask of even size gets a spare processor, which is never picked.
     remap_check.check(result)
 """
 
-from collections import namedtuple
-from dataclasses import dataclass, field
-from typing import Any, Dict, List, Optional, Set
+from __future__ import annotations
 
-from . import cli, kernel, layout, limits, pairs, progress, recipes, toeplitz
+from dataclasses import dataclass, field
+from typing import Collection, Iterator, NamedTuple, Protocol, Sequence
+
+from . import capture, cli, kernel, layout, limits, pairs, progress, recipes, toeplitz
 from . import frames as framing
 from . import plan as plans
-from .shape import Shape
+from .shape import Shape, Spares
+from .steering import Card
 
 NO_IP = "none"
 
-# queue, cpu, app, tx: what the kernel's rule gives a packet, in numbers of the plan. cpu is the
-# choice of RPS, tx None where it is not asked for.
-Choice = namedtuple("Choice", "queue cpu app tx")
 
-# plan: the new plan, dicts and lists. frames: as many Frames of steerlib.capture as there were, with
-# the same times and lengths. flows: the Flows. flow_of: of each packet the number of its flow there.
-# shape: that of the old plan. spares: the masks of the new one. notes: lines for people.
-Remapped = namedtuple("Remapped", "plan frames flows flow_of shape spares options notes")
+class Choice(NamedTuple):
+    """What the kernel's rule gives a packet, in numbers of the plan.
+
+    `cpu` is the choice of RPS, `app` the reader, `tx` None where it is not asked for.
+    """
+
+    queue: int
+    cpu: int
+    app: int
+    tx: int | None
+
+
+class Reader(Protocol):
+    """Who knows the processors on which some flows are read, as those of steerlib.readers."""
+
+    def cpu_of(self, kind: str, data: bytes) -> int | None:
+        """The processor of a flow, or None."""
 
 
 @dataclass
@@ -46,9 +58,9 @@ class Options:
     hash32: bool = False
     transmit: bool = False
     rxhash: bool = True
-    online: Optional[Set[int]] = None
-    readers: List[Any] = field(default_factory=list)
-    card: Optional[Any] = None
+    online: Collection[int] | None = None
+    readers: list[Reader] = field(default_factory=list)
+    card: Card | None = None
 
 
 class Flow:
@@ -57,26 +69,34 @@ class Flow:
     kind, data: as steerlib.frames has them, `none` and no bytes without IP. packets: how many.
     card: the hash of the card, or None. value: the hash that the kernel looks at, or None of a flow
     that has none in the new capture either. own: whether the kernel made it itself. queue, cpu,
-    app, tx: as in Choice. sends: the hash by which its replies are sent. new: its bytes in the new
-    capture.
+    app, tx: as in Choice. sends: the hash by which its replies are sent, 0 where it is not asked. entry: the low bits of the
+    new hash, target: all of them, new: its bytes in the new capture.
     """
     __slots__ = ("kind", "data", "protocol", "label", "packets", "card", "value", "own", "queue",
-                 "cpu", "app", "told", "sends", "tx", "entry", "target", "new")
+                 "cpu", "app", "sends", "tx", "entry", "target", "new")
 
-    def __init__(self, place, data):
+    def __init__(self, place: framing.Place | None, data: bytes) -> None:
         self.kind, self.data = (place.kind if place else NO_IP), data
         self.protocol, self.label = (place.protocol, place.label) if place else (0, 0)
         self.packets = 0
-        self.card = self.value = self.tx = self.sends = self.entry = self.target = None
-        self.queue = self.cpu = self.app = 0
-        self.own = self.told = False
+        self.card: int | None = None
+        self.value: int | None = None
+        self.tx: int | None = None
+        self.queue = self.cpu = self.app = self.entry = self.target = self.sends = 0
+        self.own = False
         self.new = data
 
-    def choice(self):
+    @property
+    def given(self) -> int:
+        """The hash that the kernel looks at, of a flow that has one."""
+        assert self.value is not None
+        return self.value
+
+    def choice(self) -> Choice:
         """The Choice of the flow's packets."""
         return Choice(self.queue, self.cpu, self.app, self.tx)
 
-    def software_key(self):
+    def software_key(self) -> bytes:
         """What the kernel's own hash reads of it."""
         length = 4 if self.kind[-1] == "4" else 16
         ports = [int.from_bytes(self.data[at:at + 2], "big")
@@ -86,9 +106,30 @@ class Flow:
                                    self.protocol, self.label)
 
 
-def flows_of(frames):
+class Remapped(NamedTuple):
+    """The new plan, as many frames as there were, with the same times and lengths, and the rest.
+
+    `flow_of` has for each packet the number of its Flow in `flows`, `shape` is that of the old
+    plan, `spares` are the masks of the new one, and `notes` are lines for people.
+    """
+
+    plan: plans.Plan
+    frames: list[capture.Frame]
+    flows: list[Flow]
+    flow_of: list[int]
+    shape: Shape
+    spares: Spares
+    options: Options
+    notes: list[str]
+
+
+def flows_of(frames: Sequence[capture.Frame]
+             ) -> tuple[list[Flow], list[framing.Place | None], list[int]]:
     """The Flows of these frames, their Places, and of each frame the number of its flow."""
-    flows, places, flow_of, numbers = [], [], [], {}
+    flows: list[Flow] = []
+    places: list[framing.Place | None] = []
+    flow_of: list[int] = []
+    numbers: dict[tuple[str, bytes], int] = {}
     tell = progress.Progress("packets read", len(frames))
     for number, frame in enumerate(frames):
         place = framing.place_of(frame.data)
@@ -109,12 +150,12 @@ def flows_of(frames):
 KIND_BITS = {"tcp4": 1, "udp4": 2, "tcp6": 4, "udp6": 5, "two4": 0, "two6": 3}
 
 
-def address_bytes(kind):
+def address_bytes(kind: str) -> int:
     """How many bytes the addresses of a kind have."""
     return 8 if kind[-1] == "4" else 32
 
 
-def hashed_bytes(flow, kinds):
+def hashed_bytes(flow: Flow, kinds: int) -> bytes | None:
     """The bytes of a flow that are hashed where these kinds are, or None."""
     if flow.kind == NO_IP:
         return None
@@ -181,7 +222,6 @@ def _give_readers(plan, flows, readers):
         for reader in readers:
             cpu = reader.cpu_of(flow.kind, flow.data)
             if cpu is not None:
-                flow.told = True
                 if cpu not in apps:
                     apps.append(cpu)
                 flow.app = apps.index(cpu)
@@ -193,7 +233,7 @@ def _give_readers(plan, flows, readers):
     return apps
 
 
-def picked(flow, members, home):
+def picked(flow: Flow, members: Sequence[int], home: int) -> int:
     """The processor that RPS picks of a mask's members for a flow, the home where it picks none.
 
     A hash of 0 counts as none in a kernel, which no other hash can say here: it is as in steer.
@@ -248,7 +288,7 @@ class _Rewriter:
     def reaches(self, flows):
         """Whether each flow can have any hash by this key."""
         lengths = {(flow.kind, len(hashed_bytes(flow, self.kinds))) for flow in flows
-                   if flow.target is not None}
+                   if flow.value is not None}
         return all(self.solver(*each).rank == toeplitz.BITS for each in lengths)
 
     def rewrite(self, flows):
@@ -256,7 +296,7 @@ class _Rewriter:
         tell = progress.Progress("flows rewritten", len(flows))
         moving = []
         for flow in flows:
-            if flow.target is None:
+            if flow.value is None:
                 self.taken.add((flow.kind, flow.data))
                 continue
             hashed = hashed_bytes(flow, self.kinds)
@@ -305,7 +345,8 @@ def _new_frames(frames, places, flow_of, flows):
     return made
 
 
-def remap(plan: Dict[str, Any], frames: List[Any], options: Optional[Options] = None) -> Remapped:
+def remap(plan: plans.Plan, frames: Sequence[capture.Frame],
+          options: Options | None = None) -> Remapped:
     """The plan and the frames rewritten.
 
     `plan` is what plan.read_plan gives, `frames` a list of steerlib.capture.Frame, all of Ethernet.
@@ -334,7 +375,7 @@ def _count(number, word):
     return "%d %s%s" % (number, word, "" if number == 1 else "s")
 
 
-def _notes(result, places, key):
+def _notes(result: Remapped, places: list, key: str | None) -> Iterator[str]:
     """What is to be said of a result."""
     flows, old = result.flows, result.shape.plan
     hashed = [flow for flow in flows if flow.value is not None]
@@ -355,6 +396,11 @@ def _notes(result, places, key):
     yield from _fates(result, places)
     if key is not None:
         yield "the plan's key does not reach all hashes; the new plan has the verification key"
+    counts = ("cpus", "apps", "tx")
+    if isinstance(old["steps"], dict) and any(old[name] != result.plan[name] and (
+            name == "cpus" or len(old[name]) != len(result.plan[name])) for name in counts):
+        yield ("steps of a seed name processors, readers and transmit queues by remainders of how "
+               "many there are, so that the seed gives other steps here")
     yield from pairs.notes(result)
 
 

@@ -1,9 +1,12 @@
 """A remap held to the kernel's rule: steer replays it, and each packet is compared."""
 
+from __future__ import annotations
+
 import json
 import os
 import re
 import tempfile
+from typing import Iterable
 
 from . import capture, cli, remap
 
@@ -13,7 +16,7 @@ _REPLY = re.compile(rb"r (\d+) app \d+ rxq \d+ cpu \d+ pick (\d+) ")
 MOST_BACKLOG = 65536
 
 
-def write_frames(frames, name, source):
+def write_frames(frames: Iterable[capture.Frame], name: str, source: str) -> None:
     """Writes frames as a pcap file of this name."""
     with open(name, "wb") as stream:
         writer = capture.PcapWriter(stream, source)
@@ -84,7 +87,7 @@ def _compare(report, wanted, flow_of, source):
                 _refuse(source, int(packet), "transmit queue", int(pick), there)
 
 
-def check_files(result, capture_name, folder, source):
+def check_files(result: remap.Remapped, capture_name: str, folder: str, source: str) -> None:
     """Has steer replay the new plan over the new capture in a file, and compares each packet.
 
     Raises cli.Refused with the number of the first packet whose queue, processor, reader or
@@ -100,7 +103,7 @@ def check_files(result, capture_name, folder, source):
         _compare(report, _expected(result, lists, queue), result.flow_of, source)
 
 
-def check(result, source="remap"):
+def check(result: remap.Remapped, source: str = "remap") -> None:
     """As check_files, of a result that is not in a file yet."""
     with tempfile.TemporaryDirectory() as folder:
         name = os.path.join(folder, "check.pcap")

@@ -1,12 +1,18 @@
 """What of a plan a remap reads: its masks, also those of steps, and the sizes of its tables."""
 
+from __future__ import annotations
+
+from typing import Any, Collection, Iterator, Mapping, Sequence, Tuple
+
 from . import kernel, limits
 from . import plan as plans
+
+Members = Tuple[int, ...]
 
 WORDS = ("mask", "flows", "sock", "reta", "xcpus", "xqueues", "stand", "offline", "online")
 
 
-def commands(steps):
+def commands(steps: Any) -> Iterator[tuple[int, str, list[str]]]:
     """The place, word and arguments of each command of a list of steps that sets something."""
     for place, step in enumerate(steps if isinstance(steps, list) else ()):
         word, _, rest = step.partition(" ")
@@ -14,7 +20,7 @@ def commands(steps):
             yield place, word, rest.split(" ")
 
 
-def members_of(text):
+def members_of(text: str) -> set[int]:
     """The numbers of a set as steps write it."""
     return set() if text == "-" else {int(part) for part in text.split(",")}
 
@@ -26,12 +32,12 @@ class Shape:
     ascending tuple of processors. `stands` has for each reader the processors on which it may be.
     """
 
-    def __init__(self, plan, online):
+    def __init__(self, plan: plans.Plan, online: Collection[int] | None) -> None:
         self.plan = plan
         self.cpus = plan["cpus"]
         self.queues = plan["queues"]
         self.table = plans.table_of(plan)
-        self.lists = [[tuple(kernel.mask_members(queue["mask"], online))]
+        self.lists: list[list[Members]] = [[tuple(kernel.mask_members(queue["mask"], online))]
                       for queue in self.queues]
         self.flows = [queue["flows"] for queue in self.queues]
         self.most_flows = list(self.flows)
@@ -40,11 +46,11 @@ class Shape:
         self.filters = plan.get("filters", 0)
         self.roams = self.filters > 0
         self.tables_change = self.maps_change = self.flows_change = False
-        self.step_lists = {}
+        self.step_lists: dict[int, tuple[int, Members]] = {}
         self._read_steps()
 
     def _read_steps(self):
-        offline = set()
+        offline: set[int] = set()
         for place, word, words in commands(self.plan["steps"]):
             if word == "mask":
                 up = set(range(self.cpus)) - offline
@@ -73,15 +79,15 @@ class Shape:
         else:
             self.maps_change = True
 
-    def steers(self, queue):
+    def steers(self, queue: int) -> bool:
         """Whether a kernel looks at the hash of packets of this queue (`get_rps_cpu`)."""
         return any(self.lists[queue]) or bool(self.most_flows[queue] and self.socket_entries)
 
-    def reachable(self, queue):
+    def reachable(self, queue: int) -> Sequence[int]:
         """The queues by which a flow of this queue may come in."""
         return range(len(self.queues)) if self.roams else [queue]
 
-    def low_bits(self):
+    def low_bits(self) -> int:
         """How many low bits of a hash the tables of the plan read."""
         sizes = [limits.TABLE_ENTRIES, self.socket_entries, self.filters & -self.filters]
         sizes += self.most_flows
@@ -96,10 +102,10 @@ class Spares:
     `sizes` has the wanted size of each list. `cpus` is how many processors the plan needs then.
     """
 
-    def __init__(self, shape, sizes):
+    def __init__(self, shape: Shape, sizes: Mapping[Members, int]) -> None:
         self.cpus = shape.cpus
-        self.padded = {}
-        self.places = {}
+        self.padded: dict[Members, list[int]] = {}
+        self.places: dict[Members, list[int]] = {}
         for members, size in sorted(sizes.items()):
             self._pad(members, size, shape)
 

@@ -4,7 +4,13 @@ Where sizes have no common divisor, each index can be had whatever the others ar
 product of the sizes is no more than the number of values that the hash may take.
 """
 
+from __future__ import annotations
+
 import math
+from typing import Collection, FrozenSet, Hashable, Mapping, Sequence
+
+Name = Hashable
+Group = FrozenSet[Name]
 
 MOST_TRIES = 200000
 
@@ -12,17 +18,17 @@ MOST_TRIES = 200000
 class NoSizes(Exception):
     """No sizes go together; `group` are the names of those that conflict."""
 
-    def __init__(self, group):
+    def __init__(self, group: Group) -> None:
         super().__init__(group)
         self.group = group
 
 
-def odd_part(size):
+def odd_part(size: int) -> int:
     """A size without its factors of two."""
     return size // (size & -size)
 
 
-def odd_from(size, most):
+def odd_from(size: int, most: int) -> range:
     """The odd sizes from this one to `most`."""
     return range(size | 1, most + 1, 2)
 
@@ -66,7 +72,8 @@ class _Search:
         return False
 
 
-def chosen_sizes(choices, groups, room):
+def chosen_sizes(choices: Mapping[Name, Sequence[int]], groups: Collection[Group],
+                 room: int) -> dict[Name, int]:
     """A size for each name, out of its `choices` in their order.
 
     Those of a group (a set of names) have no common divisor, and a product of at most `room`.
@@ -84,7 +91,7 @@ class Residues:
     A number is `low` plus 2 to the power of `bits` times what is looked for.
     """
 
-    def __init__(self, sizes, bits):
+    def __init__(self, sizes: Sequence[int], bits: int) -> None:
         self.product = math.prod(sizes)
         self.parts = []
         for size in sizes:
@@ -92,7 +99,7 @@ class Residues:
             unit = rest * pow(rest, -1, size) if size > 1 else 0
             self.parts.append((size, pow(1 << bits, -1, size) if size > 1 else 0, unit))
 
-    def high(self, low, remainders, near):
+    def high(self, low: int, remainders: Sequence[int], near: int) -> int:
         """The high bits of such a number: the largest up to `near`, else the least."""
         value = 0
         for (size, inverse, unit), remainder in zip(self.parts, remainders):

@@ -4,21 +4,37 @@ A table may have any size. A rule leads a flow to a queue, or to a context, whic
 perhaps a key of its own (ethtool -N, -X). The lowest rule that matches counts.
 """
 
-from collections import namedtuple
+from __future__ import annotations
+
+from typing import Any, Callable, Iterable, Mapping, NamedTuple, Sequence
 
 from . import cli, ethtool, kernel, limits, rules, toeplitz
 from . import plan as plans
+from .snapshot import Snapshot
 
 WITH_PORTS = {"tcp4", "udp4", "tcp6", "udp6"}
 FIELDS = (("src", "srcmask"), ("dst", "dstmask"))
 PORTS = (("sport", "sportmask"), ("dport", "dportmask"))
 
-# table: queues, of any size. hash: the function from bytes to a hash, None for the card's own.
-Context = namedtuple("Context", "table hash")
 
-# kind: as in the rules of `steer place`. mask, value: of the addresses and ports, as one number.
-# queue: where it leads. context: the number of the context whose entry is added to it, or None.
-_Rule = namedtuple("_Rule", "kind mask value queue context")
+class Context(NamedTuple):
+    """A table of queues, of any size, and the hash of bytes, None for that by the card's key."""
+
+    table: Sequence[int]
+    hash: Callable[[bytes], int] | None
+
+
+class _Rule(NamedTuple):
+    """A rule of a kind, as in those of `steer place`, over addresses and ports as one number.
+
+    It leads to `queue`, to which the entry of a context is added where its number is not None.
+    """
+
+    kind: str
+    mask: int
+    value: int
+    queue: int
+    context: int | None
 
 
 def _compiled(rule):
@@ -39,12 +55,13 @@ def _compiled(rule):
 class Card:
     """A card's table, its rules in their order (dicts), and its contexts by number."""
 
-    def __init__(self, table, rules=(), contexts=None):
+    def __init__(self, table: Iterable[int], rules: Iterable[Mapping[str, Any]] = (),
+                 contexts: Mapping[int, Context] | None = None) -> None:
         self.table = list(table)
         self.rules = [_compiled(rule) for rule in rules]
         self.contexts = contexts or {}
 
-    def rule_of(self, kind, data):
+    def rule_of(self, kind: str, data: bytes) -> _Rule | None:
         """The first rule that matches a flow of this kind with these addresses and ports."""
         number = int.from_bytes(data, "big")
         for rule in self.rules:
@@ -57,7 +74,8 @@ class Card:
                     return rule
         return None
 
-    def lead(self, kind, data, value, hashed):
+    def lead(self, kind: str, data: bytes, value: int | None,
+             hashed: bytes | None) -> tuple[int, int | None]:
         """The queue and the hash of a flow, whose hash by the card's own key is `value`, or None.
 
         `hashed` are the bytes of that hash. A rule may lead the flow to a queue, or to a context,
@@ -69,11 +87,11 @@ class Card:
         if rule.context is None:
             return rule.queue, value
         context = self.contexts[rule.context]
-        if value is not None and context.hash is not None:
+        if hashed is not None and context.hash is not None:
             value = context.hash(hashed)
         return rule.queue + kernel.table_queue(value, context.table), value
 
-    def highest(self):
+    def highest(self) -> int:
         """The highest queue that it may lead to."""
         most = max(self.table)
         for rule in self.rules:
@@ -92,7 +110,7 @@ def _context(snap, number, plan_key):
     return Context(said.table, toeplitz.Toeplitz(bytes.fromhex(said.key[:limits.KEY_DIGITS])).hash)
 
 
-def card_of(snap, plan):
+def card_of(snap: Snapshot, plan: plans.Plan) -> Card | None:
     """The Card of a snapshot for its plan, or None where the plan has all of it.
 
     Refused where a rule, a table or a context is none that a packet can follow here.

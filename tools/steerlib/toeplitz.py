@@ -4,6 +4,10 @@ Bits are numbered from 0, the highest bit of the first byte. Bit i of what is ha
 i + 31 of the key, by exclusive or.
 """
 
+from __future__ import annotations
+
+from typing import Iterable
+
 WORD = 0xFFFFFFFF
 BITS = 32
 
@@ -11,12 +15,12 @@ BITS = 32
 class Toeplitz:
     """The hash by a key of 40 bytes, which is enough for 36 bytes that are hashed."""
 
-    def __init__(self, key):
+    def __init__(self, key: bytes) -> None:
         self.key = int.from_bytes(key, "big")
         self.bits = 8 * len(key)
         self.tables = [self._table(place) for place in range(len(key) - 4)]
 
-    def window(self, bit):
+    def window(self, bit: int) -> int:
         """What a bit adds to the hash."""
         return self.key >> (self.bits - BITS - bit) & WORD
 
@@ -28,7 +32,7 @@ class Toeplitz:
             table += [value ^ window for value in table]
         return table
 
-    def hash(self, data):
+    def hash(self, data: bytes) -> int:
         """The hash of these bytes."""
         value = 0
         for table, byte in zip(self.tables, data):
@@ -44,14 +48,14 @@ class Solver:
     number, by exclusive or.
     """
 
-    def __init__(self, toeplitz, bits, length):
-        self.basis = {}
-        self.free = []
+    def __init__(self, toeplitz: Toeplitz, bits: Iterable[int], length: int) -> None:
+        self.basis: dict[int, tuple[int, int]] = {}
+        self.free: list[int] = []
         for bit in bits:
             self._add(toeplitz.window(bit), 1 << (8 * length - 1 - bit))
         self.rank = len(self.basis)
         self.tables = [[self._solve(byte << 8 * place) for byte in range(256)]
-                       for place in range(4)] if self.rank == BITS else None
+                       for place in range(4)] if self.rank == BITS else []
 
     def _reduced(self, value, change):
         """A value without the highest bits that the basis has, and the change with theirs."""
@@ -73,13 +77,16 @@ class Solver:
     def _solve(self, value):
         return self._reduced(value, 0)[1]
 
-    def change(self, difference):
-        """The change of the bytes by which the hash changes by this difference."""
+    def change(self, difference: int) -> int:
+        """The change of the bytes by which the hash changes by this difference.
+
+        Only where the rank is 32.
+        """
         low, second, third, high = self.tables
         return (low[difference & 255] ^ second[difference >> 8 & 255]
                 ^ third[difference >> 16 & 255] ^ high[difference >> 24])
 
-    def unseen(self, number):
+    def unseen(self, number: int) -> int:
         """The change of this number that leaves the hash as it is; 0 is none.
 
         There are 2 to the power of len(free).

@@ -126,7 +126,8 @@ class Machine:
         self.homes = [draw.randrange(self.cpus) for _ in range(self.queues)]
         self.flows = draw.choice((0, 16, 256, 2000, 32768))
         self.sock = draw.choice((0, 1024, 65536))
-        self.apps = [draw.randrange(self.cpus) for _ in range(draw.choice((1, 2, 3, 4, 4, 6, 8, 8, 16, 32)))]
+        count = draw.choice((1, 2, 3, 4, 4, 6, 8, 8, 16, 32))
+        self.apps = [draw.randrange(self.cpus) for _ in range(count)]
         count = draw.choice((1, 1, 2, 4, 8, 8, 16, 32))
         self.tx = [(self.some(self.cpus), self.some(self.queues) if draw.random() < 0.3 else [])
                    for _ in range(count)]

@@ -1,4 +1,4 @@
-"""The kernel's rule as functions, and what a remap is made of; values worked by hand or published."""
+"""The kernel's rule as functions, and what a remap is made of; values by hand or published."""
 
 import random
 import unittest
@@ -22,7 +22,8 @@ class Rule(unittest.TestCase):
             self.assertEqual(kernel.scaled(value, size), index, (value, size))
 
     def test_hash_32_is_the_golden_ratio(self):
-        # 2^32 divided by the square of the golden ratio is 1640531526.97..; the constant is 0x61C88647.
+        # 2^32 divided by the square of the golden ratio, to the next whole number.
+        self.assertEqual(round(2 ** 32 / ((1 + 5 ** 0.5) / 2) ** 2), 1640531527)
         self.assertEqual(kernel.hash_32(1, 32), 1640531527)
         self.assertEqual([kernel.hash_32(1, bits) for bits in (0, 1, 4, 8)], [0, 0, 6, 0x61])
         self.assertEqual(kernel.hash_32(2, 8), 0xc3)

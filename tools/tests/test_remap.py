@@ -39,6 +39,7 @@ class RandomMachines(unittest.TestCase):
 
     def test_each_packet_is_where_a_kernel_has_it(self):
         done = refused = 0
+        self.packets = 0
         with reporting.Folder() as folder:
             for seed in range(CASES):
                 with self.subTest(seed=seed):
@@ -47,7 +48,8 @@ class RandomMachines(unittest.TestCase):
                     else:
                         refused += 1
         if CASES > 100:
-            print("%d machines as a kernel, %d refused" % (done, refused))
+            print("%d machines, %d packets as a kernel, %d refused"
+                  % (done, self.packets, refused))
         self.assertGreater(done, refused)
 
     def one(self, folder, seed):
@@ -74,6 +76,7 @@ class RandomMachines(unittest.TestCase):
             tx = None if want.tx is None else replies[packet.id]
             self.assertEqual(kernels.Expected(packet.q, packet.cpu, plan["apps"][packet.app], tx),
                              want, (packet.id, flow))
+        self.packets += len(rep.packets)
         self.same_packets(traffic, names[1])
 
     def same_packets(self, traffic, name):
