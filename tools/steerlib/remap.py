@@ -380,18 +380,18 @@ def _notes(result: Remapped, places: list, key: str | None) -> Iterator[str]:
     flows, old = result.flows, result.shape.plan
     hashed = [flow for flow in flows if flow.value is not None]
     moved = [flow for flow in hashed if flow.new != flow.data]
-    yield "%d of %s have another address or port; %s added" % (
-        len(moved), _count(len(flows), "flow"), ", ".join(
-            _count(len(result.plan[name]) - len(old[name]), word)
-            for name, word in (("apps", "reader"), ("tx", "transmit queue"))) + ", " + _count(
-                result.plan["cpus"] - old["cpus"], "processor"))
-    own = sum(flow.packets for flow in flows if flow.own)
+    added = [_count(result.plan["cpus"] - old["cpus"], "processor")]
+    added += [_count(len(result.plan[name]) - len(old[name]), word)
+              for name, word in (("apps", "reader"), ("tx", "transmit queue"))]
+    yield "another address or port: %d of %s; added: %s" % (
+        len(moved), _count(len(flows), "flow"), ", ".join(added))
+    own = [flow for flow in flows if flow.own]
     if own:
-        yield ("%s of %s are hashed by the kernel itself, with a key of its own for each boot: "
-               "drawn by the seed %d" % (_count(own, "packet"), _count(
-                   sum(flow.own for flow in flows), "flow"), result.options.seed))
+        yield ("hashed by the kernel itself, with a key of its own for each boot, so drawn by the "
+               "seed %d: %s of %s" % (result.options.seed, _count(
+                   sum(flow.packets for flow in own), "packet"), _count(len(own), "flow")))
     if result.options.transmit:
-        yield ("the hash of each socket's replies is a random number in a kernel: drawn by the "
+        yield ("the hash of a socket's replies is a random number in a kernel, so drawn by the "
                "seed %d" % result.options.seed)
     yield from _fates(result, places)
     if key is not None:
@@ -408,14 +408,13 @@ def _fates(result, places):
     """Notes on packets whose way is not that of a kernel."""
     bare = sum(flow.packets for flow in result.flows if flow.value is None)
     if bare:
-        steered = any(result.shape.lists[0])
-        yield "%s without a hash stay on receive queue 0 and its home%s" % (
-            _count(bare, "packet"), "; a kernel hashes them itself, and as queue 0 has a mask, one "
-            "of its processors gets them" if steered else ", as in a kernel")
+        yield "without a hash, so left on receive queue 0 and its home: %s%s" % (
+            _count(bare, "packet"), "; a kernel hashes them itself, and one processor of the mask "
+            "of queue 0 gets them" if any(result.shape.lists[0]) else ", as in a kernel")
     zero = sum(flow.packets for flow in result.flows if flow.value == 0)
     if zero:
-        yield "%s have the hash 0, which a kernel takes as none" % _count(zero, "packet")
+        yield "with the hash 0, which a kernel takes as none: %s" % _count(zero, "packet")
     inside = sum(1 for place in places if place and place.protocol in framing.TUNNELS)
     if inside and any(flow.own for flow in result.flows):
-        yield ("%s are of a tunnel (GRE, IP in IP), into which a kernel looks and this program "
-               "does not" % _count(inside, "packet"))
+        yield ("of a tunnel (GRE, IP in IP), into which a kernel looks and this program does not: "
+               "%s" % _count(inside, "packet"))

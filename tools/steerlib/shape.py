@@ -49,7 +49,7 @@ class Shape:
         self.step_lists: dict[int, tuple[int, Members]] = {}
         self._read_steps()
 
-    def _read_steps(self):
+    def _read_steps(self) -> None:
         offline: set[int] = set()
         for place, word, words in commands(self.plan["steps"]):
             if word == "mask":

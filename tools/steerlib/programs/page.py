@@ -32,7 +32,8 @@ def words_of(words: List[str]) -> argparse.Namespace:
                         help="output of `steer replay` or `steer run`; - is input")
     parser.add_argument("--capture", metavar="CAPTURE", help="the capture of the report")
     parser.add_argument("--hash", metavar="HASH",
-                        help="output of `steer hash` or `steer place` on the same capture")
+                        help="output of `steer hash` or `steer place` on the same capture, or "
+                             "on that from which steer-remap made it, which has the first names")
     parser.add_argument("--plan", metavar="PLAN", help="the plan of the report, with its steps")
     told = parser.parse_args(words)
     if [told.report, told.capture, told.hash, told.plan].count("-") > 1:

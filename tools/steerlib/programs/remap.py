@@ -84,7 +84,7 @@ def main(words: list[str]) -> None:
         _written(told, result, made)
     for text in result.notes:
         cli.note(text)
-    cli.note("%d packets are where the kernel's rule has them" % len(result.frames))
+    cli.note("each of %d packets is where the kernel's rule has it" % len(result.frames))
 
 
 def entry() -> NoReturn:

@@ -22,7 +22,8 @@ def main(words: list[str]) -> None:
     parser = cli.parser(DESCRIPTION, EXAMPLE)
     parser.add_argument("report", metavar="REPORT", help="output of `steer replay`; - is input")
     parser.add_argument("hash", metavar="HASH", nargs="?",
-                        help="output of `steer hash` or `steer place` on the same capture")
+                        help="output of `steer hash` or `steer place` on the same capture, or "
+                             "on that from which steer-remap made it, which has the first names")
     given = parser.parse_args(words)
     if given.report == given.hash == "-":
         raise cli.WrongWords("REPORT and HASH cannot both be standard input")
