@@ -44,7 +44,8 @@ class Browser:
         raise OSError("chromedriver ended")
 
     def _begin(self):
-        words = ["--headless=new", "--disable-gpu", "--disable-dev-shm-usage",
+        words = ["--headless=new", "--disable-gpu", "--disable-dev-shm-usage", "--no-first-run",
+                 "--disable-extensions", "--disable-background-networking",
                  "--window-size=%d,%d" % self.size, "--user-data-dir=" + self.folder.name]
         if os.geteuid() == 0:
             words.append("--no-sandbox")
@@ -67,7 +68,7 @@ class Browser:
         request = urllib.request.Request(self.address + path, data, method=method,
                                          headers={"Content-Type": "application/json"})
         try:
-            with urllib.request.urlopen(request, timeout=60) as answer:
+            with urllib.request.urlopen(request, timeout=300) as answer:
                 return json.load(answer)["value"]
         except urllib.error.HTTPError as fault:
             raise AssertionError(json.load(fault)["value"]["message"]) from None
@@ -96,8 +97,8 @@ class Browser:
         return self.ask("/execute/sync", script=script, args=list(values))
 
     def wait(self, condition):
-        """Waits until an expression of the page is true, at most half a minute."""
-        end = time.monotonic() + 30
+        """Waits until an expression of the page is true, at most two minutes."""
+        end = time.monotonic() + 120
         while not self.run("return Boolean(%s)" % condition):
             if time.monotonic() > end:
                 raise AssertionError("never true: " + condition)
