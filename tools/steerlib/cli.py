@@ -1,7 +1,7 @@
 """What all companion programs share: words, notes, refusals, statuses, input, and steer itself.
 
-Statuses: 0 done, 1 two things differ (steer-diff alone), 2 wrong words, 3 refused with the value
-and the reason, as steer itself ends for a plan, 4 a file that is not of the wanted kind.
+Statuses: 0 done, 1 two things differ (steer-diff, steer-compare), 2 wrong words, 3 refused with
+the value and the reason, as steer itself ends for a plan, 4 a file that is not of the wanted kind.
 """
 
 from __future__ import annotations
@@ -21,8 +21,8 @@ DONE, DIFFERS, WRONG_WORDS, REFUSED, NOT_THAT_FILE = 0, 1, 2, 3, 4
 
 APART = "This program is a companion of steer; it is not part of the proved program."
 
-STATUSES = ("Statuses: 0 done, 1 differs (steer-diff), 2 wrong words, 3 refused with the value and "
-            "the reason, 4 not that kind of file.")
+STATUSES = ("Statuses: 0 done, 1 differs (steer-diff, steer-compare), 2 wrong words, 3 refused "
+            "with the value and the reason, 4 not that kind of file.")
 
 # What a program is: its words to its status, where None is 0.
 Main = Callable[[List[str]], Optional[int]]

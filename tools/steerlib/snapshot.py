@@ -11,6 +11,7 @@ FIRST_LINE = "steer-snap 1"
 _IRQ = re.compile(r"irq ([0-9]{1,9}) (\S+) (\S+) (.*)")
 _QUEUE = re.compile(r"(rx|tx) ([0-9]{1,6}) (rps_cpus|rps_flow_cnt|xps_cpus|xps_rxqs)(?: (.*))?")
 _FACT = re.compile(r"(cpus|sysctl) ([a-z_]+)(?: (.*))?")
+_SOFTNET = re.compile(r"softnet ([0-9]{1,6}) ([0-9a-f]{1,16}(?: [0-9a-f]{1,16})*|!.*)")
 _LINE = re.compile(r"(dev|kernel|taken)(?: (.*))?")
 _PROCESS = re.compile(r"process ([0-9]{1,9}) ([0-9]{1,6}) (\S+)(?: (.*))?")
 
@@ -30,7 +31,8 @@ class Snapshot:
     """The facts of a snapshot, as text; a fact that could not be read begins with `!`.
 
     `queues["rx"][n]` and `queues["tx"][n]` are dicts by the names of sysfs, `facts` is by
-    (`cpus` or `sysctl`, name), `answers` has the lines that ethtool gave for its words. `sockets`
+    (`cpus` or `sysctl`, name), `answers` has the lines that ethtool gave for its words. `softnet`
+    has the columns of each line of softnet_stat; earlier snapshots have none. `sockets`
     has the lines of ss, None where it was not asked, and `processes` the processor of each process
     that they name: the one on which it may run, else that on which it ran last.
     """
@@ -38,12 +40,15 @@ class Snapshot:
     def __init__(self, source: str) -> None:
         self.source = source
         self.device = ""
+        self.kernel = ""
+        self.taken = ""
         self.facts: dict[tuple[str, str], str] = {}
         self.queues: dict[str, dict[int, dict[str, str]]] = {"rx": {}, "tx": {}}
         self.interrupts: list[Interrupt] = []
         self.answers: dict[str, list[str]] = {}
         self.sockets: list[str] | None = None
         self.processes: dict[int, int] = {}
+        self.softnet: list[list[int]] = []
 
     def refused(self, reason: str) -> cli.Refused:
         return cli.Refused(self.source, reason)
@@ -96,6 +101,11 @@ def _read_line(snapshot, line, at):
             int(number), _affinity(snapshot, number, effective),
             _affinity(snapshot, number, wanted), name))
         return
+    found = _SOFTNET.fullmatch(line)
+    if found:
+        if read(found.group(2)) is not None:
+            snapshot.softnet.append([int(column, 16) for column in found.group(2).split()])
+        return
     found = _PROCESS.fullmatch(line)
     if found:
         number, last, allowed, _ = found.groups()
@@ -110,8 +120,8 @@ def _read_line(snapshot, line, at):
     if not found:
         raise snapshot.refused("line %d is nothing that steer-snap writes: `%s`"
                                % (at, line[:60]))
-    if found.group(1) == "dev":
-        snapshot.device = found.group(2) or ""
+    name = "device" if found.group(1) == "dev" else found.group(1)
+    setattr(snapshot, name, found.group(2) or "")
 
 
 def _check_whole(snapshot):

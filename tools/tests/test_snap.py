@@ -1,6 +1,7 @@
 """Tests of steer-snap."""
 
 import os
+import re
 import shutil
 import stat
 import subprocess
@@ -32,6 +33,7 @@ FILES = {
                        " 16:          1          0   IO-APIC  16-fasteoi   usb1, e@0.5, usb2\n"
                        " 17:          1          0   IO-APIC  17-fasteoi   e@0.55\n"
                        "NMI:          0          0   Non-maskable interrupts\n",
+    "proc/net/softnet_stat": "0000000a 00000000 00000000\n0000000b 00000001 00000000\n",
     "proc/irq/9/effective_affinity_list": "3\n",
     "proc/irq/9/smp_affinity_list": "0-3\n",
     "proc/irq/121/smp_affinity_list": "6\n",
@@ -57,6 +59,8 @@ tx 0 xps_rxqs 000
 irq 9 3 0-3 e@0.5-TxRx-0
 irq 16 0 0-7 usb1,e@0.5,usb2
 irq 121 ! 6 e@0.5-TxRx-1
+softnet 0 0000000a 00000000 00000000
+softnet 1 0000000b 00000001 00000000
 cmd ethtool -i e@0.5
 | asked: -i e@0.5
 |  second * line
@@ -71,6 +75,9 @@ cmd ethtool -k e@0.5
 |  second * line
 cmd ethtool -n e@0.5
 | asked: -n e@0.5
+|  second * line
+cmd ethtool -S e@0.5
+| asked: -S e@0.5
 |  second * line
 cmd ethtool -n e@0.5 rx-flow-hash tcp4
 | asked: -n e@0.5 rx-flow-hash tcp4
@@ -111,6 +118,12 @@ def without_time(text):
                    for line in text.splitlines(True))
 
 
+def lasting(text):
+    """A snapshot without its moment and its counters, which differ from run to run."""
+    return re.sub(r"(softnet \d+) [0-9a-f]{8} .*|(\|      .*): \d+$", r"\1\2",
+                  without_time(text), flags=re.MULTILINE)
+
+
 class Snap(unittest.TestCase):
     def test_a_machine_that_was_made(self):
         """Queue 10 stands behind queue 9, a missing file is told with its reason, of shared
@@ -125,6 +138,7 @@ class Snap(unittest.TestCase):
         self.assertEqual((read.device, sorted(read.queues["rx"])), (DEVICE, list(range(12))))
         self.assertEqual([(one.effective, one.wanted) for one in read.interrupts],
                          [([3], [0, 1, 2, 3]), ([0], list(range(8))), (None, [6])])
+        self.assertEqual(read.softnet, [[10, 0, 0], [11, 1, 0]])
 
     def test_wrong_words(self):
         with tempfile.TemporaryDirectory() as folder:
@@ -143,7 +157,7 @@ class Snap(unittest.TestCase):
         with tempfile.TemporaryDirectory() as folder:
             seen = dict(machine(folder), ETHTOOL=os.path.join(folder, "nosuch"))
             status, out, err = run("steer-snap", DEVICE, environment=seen)
-            self.assertEqual((status, err, out.count("nosuch: not found\n")), (0, "", 9))
+            self.assertEqual((status, err, out.count("nosuch: not found\n")), (0, "", 10))
             status, plan, err = run("steer-plan", "-", data=out)
         self.assertEqual(status, 0, err)
         self.assertIn("note: ethtool was not there: key, table, kinds and rules are unknown\n",
@@ -180,10 +194,10 @@ class ThisMachine(unittest.TestCase):
         return [name for name in sorted(os.listdir("/sys/class/net"))
                 if os.path.isdir("/sys/class/net/%s/queues" % name)][:4]
 
-    def test_two_runs_differ_in_their_moment_alone(self):
+    def test_two_runs_differ_in_moment_and_counters_alone(self):
         first, second = (run("steer-snap", "lo") for _ in range(2))
         self.assertEqual((first[0], first[2]), (0, ""))
-        self.assertEqual(without_time(first[1]), without_time(second[1]))
+        self.assertEqual(lasting(first[1]), lasting(second[1]))
 
     def test_its_devices_have_snapshots_and_plans(self):
         for name in self.devices():
@@ -204,8 +218,8 @@ class ThisMachine(unittest.TestCase):
             ended = subprocess.run([copy, "lo"], stdout=subprocess.PIPE, stderr=subprocess.PIPE,
                                    cwd=folder, preexec_fn=lambda: os.setuid(65534))
         self.assertEqual((ended.returncode, ended.stderr), (0, b""))
-        labels = [[line.split(" ")[:3] for line in text.splitlines() if line[0] != "|"
-                   and not line.startswith("taken")] for text in (wanted, ended.stdout.decode())]
+        labels = [[line.split(" ")[:3] for line in lasting(text).splitlines()
+                   if line[0] != "|"] for text in (wanted, ended.stdout.decode())]
         self.assertEqual(*labels)
 
 
