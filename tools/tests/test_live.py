@@ -1,23 +1,28 @@
 """The chain of programs held to the running kernel: each frame's processor over a veth pair."""
 
+import contextlib
 import random
-import tempfile
 import unittest
 
 import running  # noqa: F401
 
-from live import card, chain, frames, pair
+from live import card, chain, frames, moving, pair
 
-TARGETS = {4: bytes([10, 9, 0, 1]), 6: b"\xfd" + bytes(14) + b"\1"}
+TARGETS = moving.HERE
 QUEUES = (1, 2, 3, 4, 5, 8, 12, 16)
 FRAMES = 400
+SEEDS = range(4)
+EVENTS = 600
 TOGETHER = 40       # frames that are under way at once
 
 
 def setUpModule():
     """Skips all tests where there is no such pair, with the reason."""
+    leaving = contextlib.ExitStack()
     try:
         pair.check_wants()
+        leaving.enter_context(pair.urgent())
+        unittest.addModuleCleanup(leaving.pop_all().close)
         with pair.Pair(1) as made, pair.on(pair.processors()[0]):
             flow = frames.Flow(frames.UDP, bytes(4), TARGETS[4], 1, 1)
             made.send(frames.frame(made.mac, flow, 0, 1))
@@ -62,6 +67,21 @@ class Kernel(unittest.TestCase):
                 report = chain.replayed(made.folder, plan, left, machine)
             self.assertEqual([note.number for note in came], list(range(FRAMES)))
             for packet, note in zip(report.packets, came):
+                self.assertEqual((packet.q + 1, packet.cpu), (note.recorded, note.cpu), packet)
+
+    def test_readers_that_move(self):
+        """Frames wait on processors that are held while their readers go elsewhere."""
+        for seed in SEEDS:
+            machine = moving.Moving(random.Random(seed), pair.processors(), 4096)
+            with machine.started() as played:
+                text = chain.snapshot(played.made, machine.machine)
+                machine.play(played, EVENTS)
+                plan = chain.plan_of(text, machine.machine, "apps=0",
+                                     "rps_sock_flow_entries=%d" % moving.ENTRIES)
+                plan = chain.with_steps(plan, played.steps)
+                report = chain.replayed(played.made.folder, plan, played.left, machine.machine)
+            for packet in report.packets:
+                note = played.notes[packet.id]
                 self.assertEqual((packet.q + 1, packet.cpu), (note.recorded, note.cpu), packet)
 
 

@@ -3,6 +3,8 @@
 import os
 import stat
 
+from steerlib import processors
+
 from . import frames, pair
 
 PORTS = ["IP SA", "IP DA", "L4 bytes 0 & 1 [TCP/UDP src port]",
@@ -25,13 +27,14 @@ class Machine:
     The card has a random key, and a random table over the queues.
     """
 
-    def __init__(self, draw, queues, processors):
+    def __init__(self, draw, queues, cpus):
         self.queues = queues
         self.key = bytes(draw.getrandbits(8) for _ in range(40))
         self.table = [draw.randrange(queues) for _ in range(128)]
-        self.homes = [draw.choice(processors) for _ in range(queues)]
-        self.masks = [sorted(draw.sample(processors, draw.randint(0, len(processors))))
+        self.homes = [draw.choice(cpus) for _ in range(queues)]
+        self.masks = [sorted(draw.sample(cpus, draw.randint(0, len(cpus))))
                       for _ in range(queues)]
+        self.flows = [0] * queues
 
     def hash_and_queue(self, flow):
         """The hash and the receive queue that the card gives to a flow."""
@@ -44,9 +47,11 @@ class Machine:
         return frames.frame(mac, flow, number, hash, queue + 1), self.homes[queue]
 
     def set(self, made):
-        """Sets the masks of a Pair."""
-        made.write(1, {"queues/rx-%d/rps_cpus" % queue: "%x" % sum(1 << cpu for cpu in mask)
-                       for queue, mask in enumerate(self.masks)})
+        """Sets the masks and the flow tables of a Pair."""
+        for name, texts in (("rps_cpus", [processors.mask_text(mask, 1) for mask in self.masks]),
+                            ("rps_flow_cnt", self.flows)):
+            made.write(1, {"queues/rx-%d/%s" % (queue, name): text
+                           for queue, text in enumerate(texts)})
 
     def ethtool(self, folder):
         """Writes a program that answers as ethtool does of the card; its name."""

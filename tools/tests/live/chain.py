@@ -1,10 +1,8 @@
 """From a pair to a report: snapshot, plan, recording, and the replay that a kernel's rule gives."""
 
-import io
 import json
 import os
 import subprocess
-import sys
 
 from running import ENVIRONMENT, TOOLS, run
 
@@ -36,6 +34,11 @@ def plan_of(text, machine, *settings):
     homes = ",".join("%d=%d" % home for home in enumerate(machine.homes))
     plan = checked(run("steer-plan", "-", "--home", homes, data=text))
     return checked(run("steer-set", "-", *settings, data=plan)) if settings else plan
+
+
+def with_steps(plan_text, steps):
+    """The plan with these steps."""
+    return json.dumps(dict(json.loads(plan_text), steps=steps))
 
 
 def recorded(folder, frames_sent):

@@ -5,15 +5,17 @@ from collections import namedtuple
 
 MAGIC = 0x73746565
 NO_QUEUE = 0xFFFFFFFF
+RELEASE = 0xFFFFFFFF        # the number of a frame that releases a processor
+EXPERIMENTAL = b"\x88\xb5"  # its Ethernet type, which IP does not see
 NOTE = struct.Struct("=8I")
 TCP, UDP = 6, 17
 
 # source and target are bytes, 4 or 16 of them.
 Flow = namedtuple("Flow", "protocol source target sport dport")
 
-# number: of the frame. hash, queue, busy: what the programs do with it. cpu, recorded and seen:
+# number: of the frame. hash, queue, hold: what the programs do with it. cpu, recorded and seen:
 # what the receiver's wrote, the processor, the receive queue and one (0: none), and the hash.
-Note = namedtuple("Note", "magic number hash queue busy cpu recorded seen")
+Note = namedtuple("Note", "magic number hash queue hold cpu recorded seen")
 
 
 def hashed(flow):
@@ -58,7 +60,7 @@ def _internet(flow, length):
         ">H", _checksum(start + b"\0\0" + addresses)) + addresses
 
 
-def frame(mac, flow, number, hash, queue=NO_QUEUE, busy=0):
+def frame(mac, flow, number, hash, queue=NO_QUEUE, hold=0):
     """The frame of this number to the Ethernet address `mac`."""
     ports = struct.pack(">HH", flow.sport, flow.dport)
     if flow.protocol == UDP:
@@ -66,8 +68,14 @@ def frame(mac, flow, number, hash, queue=NO_QUEUE, busy=0):
     else:
         header = ports + struct.pack(">IIBBHHH", 1, 1, 5 << 4, 0x10, 1024, 0, 0)
     kind, internet = _internet(flow, len(header) + NOTE.size)
-    note = NOTE.pack(MAGIC, number, hash, queue, busy, 0xFFFFFFFF, 0, 0)
+    note = NOTE.pack(MAGIC, number, hash, queue, hold, 0xFFFFFFFF, 0, 0)
     return mac + b"\x02\0\0\0\0\x01" + kind + internet + header + note
+
+
+def release(mac, cpu, ticket):
+    """A frame that releases a processor; without a hash, it is handled where it is sent."""
+    note = NOTE.pack(MAGIC, RELEASE, 0, NO_QUEUE, ticket, cpu, 0, 0)
+    return mac + b"\x02\0\0\0\0\x01" + EXPERIMENTAL + note
 
 
 def note(data):

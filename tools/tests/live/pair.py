@@ -5,6 +5,7 @@ Nothing of the machine's own devices is used. What cannot be had here raises Una
 
 import contextlib
 import ctypes
+import functools
 import glob
 import os
 import shutil
@@ -17,6 +18,7 @@ from . import frames
 HERE = os.path.dirname(os.path.abspath(__file__))
 NEW_NETWORK = 0x40000000
 RECEIVE_BUFFER = 33     # SO_RCVBUFFORCE
+NO_CHECKSUM = 102       # UDP_NO_CHECK6_RX
 ALL, IPV4, IPV6 = 0x0003, 0x0800, 0x86DD
 PATIENCE = 5.0      # seconds that a frame may take
 ROOM = 1 << 26      # bytes of a socket that records
@@ -40,14 +42,15 @@ def command(*words):
     return ended.stdout.decode("utf-8", "replace")
 
 
-def compiled(folder):
-    """The two programs, compiled into `folder`; the name of the file."""
-    made = os.path.join(folder, "programs.o")
+@functools.lru_cache(maxsize=None)
+def compiled():
+    """The folder, which goes with this process, of the two programs in a file programs.o."""
+    folder = tempfile.TemporaryDirectory()
     folders = ["-I" + os.path.dirname(os.path.dirname(name))
                for name in glob.glob("/usr/include/*-linux-gnu/asm/types.h")]
-    command("clang", "-O2", "-g", "-target", "bpf", *folders, "-c", os.path.join(HERE, "programs.c"),
-            "-o", made)
-    return made
+    command("clang", "-O2", "-g", "-target", "bpf", *folders, "-c",
+            os.path.join(HERE, "programs.c"), "-o", os.path.join(folder.name, "programs.o"))
+    return folder
 
 
 def check_wants():
@@ -86,6 +89,19 @@ def inside(namespace):
 
 
 @contextlib.contextmanager
+def urgent():
+    """This thread is given a processor at once, so that other work does not slow it down."""
+    try:
+        os.sched_setscheduler(0, os.SCHED_FIFO, os.sched_param(10))
+    except OSError as fault:
+        raise Unavailable("scheduling in real time: %s" % fault.strerror) from None
+    try:
+        yield
+    finally:
+        os.sched_setscheduler(0, os.SCHED_OTHER, os.sched_param(0))
+
+
+@contextlib.contextmanager
 def on(cpu):
     """This thread runs on one processor."""
     before = os.sched_getaffinity(0)
@@ -97,10 +113,9 @@ def on(cpu):
 
 
 class Pair:
-    """The pair, while it is entered: `queues` at each end, and sockets that send and record.
+    """The pair, while it is entered: `queues` receive queues at its receiver.
 
-    `out` sends whole frames, `sent` records what left, and `seen` what came, behind the
-    receiver's program.
+    `mac` is the receiver's address. All frames that move over it are those that are sent here.
     """
 
     def __init__(self, queues):
@@ -111,8 +126,9 @@ class Pair:
     def __enter__(self):
         with contextlib.ExitStack() as closing:
             self.folder = closing.enter_context(tempfile.TemporaryDirectory())
-            self._make_devices(closing, compiled(self.folder))
+            self._make_devices(closing, os.path.join(compiled().name, "programs.o"))
             self._open_sockets(closing)
+            self._wait()
             self.closing = closing.pop_all()
         return self
 
@@ -129,9 +145,10 @@ class Pair:
         command("ip", "link", "add", SENDER, "netns", a, *many, "type", "veth", "peer", "name",
                 RECEIVER, "netns", b, *many)
         for name, device, way, section in ((a, SENDER, "egress", "give"),
+                                           (b, RECEIVER, "egress", "give"),
                                            (b, RECEIVER, "ingress", "mark")):
-            command("ip", "-n", name, "link", "set", "lo", "up")
-            command("tc", "-n", name, "qdisc", "add", "dev", device, "clsact")
+            if way == "egress":
+                command("tc", "-n", name, "qdisc", "add", "dev", device, "clsact")
             command("tc", "-n", name, "filter", "add", "dev", device, way, "bpf", "da", "obj",
                     programs, "sec", section)
         for name, device in ((a, SENDER), (b, RECEIVER)):
@@ -149,17 +166,54 @@ class Pair:
             self.out = self._packet_socket(closing, SENDER, 0)
             self.sent = self._packet_socket(closing, SENDER, ALL)
         with inside(self.names[1]):
+            self.before = self._packet_socket(closing, RECEIVER, ALL)
             self.seen = {version: self._packet_socket(closing, RECEIVER, kind)
                          for version, kind in ((4, IPV4), (6, IPV6))}
         text = command("ip", "-n", self.names[1], "-o", "link", "show", RECEIVER)
         self.mac = bytes.fromhex(text.split("link/ether ")[1].split()[0].replace(":", ""))
 
+    def _wait(self):
+        """Waits until the kernel has made the devices ready, so that a frame goes through."""
+        self.before.settimeout(PATIENCE / 50)
+        for _ in range(50):
+            self.send(frames.release(self.mac, 0, 0))
+            with contextlib.suppress(socket.timeout):
+                while frames.note(self.before.recv(2048)) is None:
+                    pass
+                self.before.settimeout(PATIENCE)
+                return
+        raise Unavailable("no frame goes through the pair")
+
+    def add_addresses(self, *addresses):
+        """Gives the receiver addresses such as 10.0.0.1/8, which are its own network's."""
+        name = self.names[1]
+        for address in addresses:
+            extra = ["nodad"] if ":" in address else []
+            command("ip", "-n", name, "addr", "add", address, "dev", RECEIVER, *extra)
+        self._shell(1, "for each in all %s; do echo 0 > /proc/sys/net/ipv4/conf/$each/rp_filter; "
+                    "done" % RECEIVER)
+
+    def connected(self, flow):
+        """A socket of the receiver that gets the frames of a UDP flow."""
+        family = socket.AF_INET if len(flow.source) == 4 else socket.AF_INET6
+        with inside(self.names[1]):
+            made = self.closing.enter_context(socket.socket(family, socket.SOCK_DGRAM))
+            made.setsockopt(socket.SOL_SOCKET, RECEIVE_BUFFER, 1 << 20)
+            if family == socket.AF_INET6:
+                made.setsockopt(socket.IPPROTO_UDP, NO_CHECKSUM, 1)
+            made.bind((socket.inet_ntop(family, flow.target), flow.dport))
+            made.connect((socket.inet_ntop(family, flow.source), flow.sport))
+            made.setblocking(False)
+        return made
+
+    def _shell(self, end, text):
+        command("ip", "netns", "exec", self.names[end], "sh", "-ec", text)
+
     def write(self, end, files):
         """Writes files of sysfs, by name, of the sender's (0) or the receiver's device (1)."""
         folder = "/sys/class/net/%s/" % (SENDER, RECEIVER)[end]
-        text = "\n".join("echo %s > %s%s" % (text, folder, name)
-                         for name, text in files.items())
-        command("ip", "netns", "exec", self.names[end], "sh", "-ec", text)
+        self._shell(end, "\n".join("echo %s > %s%s" % (text, folder, name)
+                                   for name, text in files.items()))
 
     def send(self, frame):
         """Sends a frame; whether the other end took it."""
@@ -173,8 +227,12 @@ class Pair:
         """The next frame that left the sender."""
         return self._next(self.sent)
 
+    def arrived(self):
+        """The next frame that a processor of the receiver has in hand."""
+        return self._next(self.before)
+
     def came(self, version):
-        """The note of the next frame of IPv4 or IPv6 that came."""
+        """The note of the next frame of IPv4 or IPv6 that came, and was marked."""
         return frames.note(self._next(self.seen[version]))
 
     def _next(self, recording):
@@ -184,5 +242,41 @@ class Pair:
                 data = recording.recv(2048)
             except socket.timeout:
                 raise Unavailable("a frame did not come within %g s" % PATIENCE) from None
-            if frames.note(data):
+            note = frames.note(data)
+            if note is not None and note.number != frames.RELEASE:
                 return data
+
+
+@contextlib.contextmanager
+def set_machine(**values):
+    """Files of /proc/sys/net/core have these values, and after it those that they had."""
+    with contextlib.ExitStack() as closing:
+        for name, value in values.items():
+            path = "/proc/sys/net/core/" + name
+            try:
+                stream = closing.enter_context(open(path, "r+", encoding="ascii"))
+                before = stream.read().strip()
+                _rewrite(stream, before)
+            except OSError as fault:
+                raise Unavailable("%s: %s" % (path, fault.strerror)) from None
+            closing.callback(_rewrite, stream, before)
+            _rewrite(stream, value)
+        yield
+
+
+def _rewrite(stream, value):
+    stream.seek(0)
+    stream.write("%s\n" % value)
+    stream.flush()
+
+
+def waiting():
+    """For each processor how many packets wait in its backlog, and how many were dropped there.
+
+    A dict of pairs (packets, drops) of /proc/net/softnet_stat.
+    """
+    with open("/proc/net/softnet_stat", encoding="ascii") as stream:
+        rows = [[int(word, 16) for word in line.split()] for line in stream]
+    if len(rows[0]) < 13:
+        raise Unavailable("softnet_stat has %d columns, and 13 are read" % len(rows[0]))
+    return {row[12]: (row[11], row[1]) for row in rows}

@@ -1,12 +1,14 @@
 // What the test of the running kernel puts at the two ends of a veth pair. The last 32 bytes of a
-// frame are its note; a frame without one is dropped by the sender's program.
+// frame are its note; a frame without one is dropped where it is sent.
 #include <linux/bpf.h>
 #include <linux/pkt_cls.h>
 
 #define SECTION(name) __attribute__((section(name), used))
 #define MAGIC 0x73746565u
-#define GIVEN 0x73746565u
 #define NO_QUEUE 0xffffffffu
+#define RELEASE 0xffffffffu
+#define PROCESSORS 64
+#define LONGEST_HOLD 2000000000ULL
 
 static long (*load_bytes)(const void *, __u32, void *, __u32) = (void *)BPF_FUNC_skb_load_bytes;
 static long (*store_bytes)(void *, __u32, const void *, __u32, __u64) =
@@ -21,10 +23,14 @@ struct note {
     __u32 magic, number;
     // What the sender's program does: the hash that it gives, and the transmit queue, if any.
     __u32 hash, queue;
-    // What the receiver's program does: how long it keeps its processor busy, in microseconds;
-    // and what it writes: the processor, the recorded queue (0 is none), and the hash.
-    __u32 busy, cpu, recorded, seen;
+    // If not 0, the receiver's program keeps its processor until this ticket of it is released.
+    __u32 hold;
+    // What the receiver's program writes: the processor, the recorded queue (0 is none), the hash.
+    __u32 cpu, recorded, seen;
 };
+
+// The latest ticket of each processor that was released.
+static volatile __u32 released[PROCESSORS];
 
 static int read_note(struct __sk_buff *skb, struct note *note) {
     if (skb->len < sizeof *note) return 0;
@@ -36,35 +42,43 @@ static int read_note(struct __sk_buff *skb, struct note *note) {
 // queue, when the frame is sent a second time by the same device.
 SECTION("give") int give_hash(struct __sk_buff *skb) {
     struct note note;
-    if (skb->mark == GIVEN) return TC_ACT_OK;
+    if (skb->mark == MAGIC) return TC_ACT_OK;
     if (!read_note(skb, &note)) return TC_ACT_SHOT;
     set_hash(skb, note.hash);
     if (note.queue == NO_QUEUE) return TC_ACT_OK;
     skb->queue_mapping = note.queue + 1;
-    skb->mark = GIVEN;
+    skb->mark = MAGIC;
     return redirect(skb->ifindex, 0);
 }
 
 struct wait {
     __u64 until;
+    __u32 cpu, ticket;
 };
 
-static long is_over(__u32 round, void *wait) {
-    return nanoseconds() >= ((struct wait *)wait)->until;
+static long is_over(__u32 round, void *context) {
+    struct wait *wait = context;
+    return released[wait->cpu % PROCESSORS] >= wait->ticket || nanoseconds() >= wait->until;
 }
 
-// Writes the processor into the note, and keeps it busy for as long as the note says.
+static void keep(__u32 cpu, __u32 ticket) {
+    struct wait wait = {nanoseconds() + LONGEST_HOLD, cpu, ticket};
+    for (int part = 0; part < 8; part++) loop(1 << 23, is_over, &wait, 0);
+}
+
+// Writes the processor into the note, and keeps it or releases another one as the note says.
 SECTION("mark") int mark_processor(struct __sk_buff *skb) {
     struct note note;
     if (!read_note(skb, &note)) return TC_ACT_OK;
+    if (note.number == RELEASE) {
+        released[note.cpu % PROCESSORS] = note.hold;
+        return TC_ACT_SHOT;
+    }
     note.cpu = processor();
     note.recorded = skb->queue_mapping;
     note.seen = skb->hash;
     store_bytes(skb, skb->len - sizeof note, &note, sizeof note, 0);
-    if (note.busy) {
-        struct wait wait = {nanoseconds() + note.busy * 1000ULL};
-        loop(1 << 23, is_over, &wait, 0);
-    }
+    if (note.hold) keep(note.cpu, note.hold);
     return TC_ACT_OK;
 }
 
