@@ -12,6 +12,7 @@ import shutil
 import socket
 import subprocess
 import tempfile
+from collections import namedtuple
 
 from . import frames
 
@@ -23,6 +24,11 @@ ALL, IPV4, IPV6 = 0x0003, 0x0800, 0x86DD
 PATIENCE = 5.0      # seconds that a frame may take
 ROOM = 1 << 26      # bytes of a socket that records
 SENDER, RECEIVER = "steer0", "steer1"
+
+
+# packets: how many wait in the backlog of a processor. dropped: how many were dropped there so far.
+# limited: how many of those that the processor put were dropped by the flow limit.
+Waiting = namedtuple("Waiting", "packets dropped limited")
 
 
 class Unavailable(Exception):
@@ -271,12 +277,9 @@ def _rewrite(stream, value):
 
 
 def waiting():
-    """For each processor how many packets wait in its backlog, and how many were dropped there.
-
-    A dict of pairs (packets, drops) of /proc/net/softnet_stat.
-    """
+    """The Waiting of each processor by its number, of /proc/net/softnet_stat."""
     with open("/proc/net/softnet_stat", encoding="ascii") as stream:
         rows = [[int(word, 16) for word in line.split()] for line in stream]
     if len(rows[0]) < 13:
         raise Unavailable("softnet_stat has %d columns, and 13 are read" % len(rows[0]))
-    return {row[12]: (row[11], row[1]) for row in rows}
+    return {row[12]: Waiting(row[11], row[1], row[10]) for row in rows}

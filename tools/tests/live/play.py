@@ -20,64 +20,90 @@ class Play:
         self.notes = {}
         self.flows = {}
         self.sockets = {}
-        self.tickets = {}
-        self.held = {}          # processor: how many frames wait behind the one in hand
+        self.drops = []         # numbers of frames
+        # By processor: how many tickets there were, the flow and the ticket of the frame that keeps
+        # it, and those of the frames that wait behind that one, with 0 for no ticket.
+        self.tickets, self.hands, self.held = {}, {}, {}
 
-    def _put(self, flow, hold=0):
-        """Sends a frame; its number and whether it was taken."""
-        number = len(self.left)
+    def _put(self, flow, ticket):
+        """Sends a frame of a flow."""
         hash, queue = self.machine.hash_and_queue(flow)
-        data = frames.frame(self.made.mac, flow, number, hash, queue + 1, hold)
+        data = frames.frame(self.made.mac, flow, len(self.left), hash, queue + 1, ticket)
         self.flows.setdefault(flow, len(self.flows))
         with pair.on(self.sender):
-            taken = self.made.send(data)
+            self.made.send(data)
         self.left.append(self.made.left())
         self.steps += ["arrive", "poll %d" % queue]
-        return number, taken
 
     def _come(self, flow):
-        note = frames.note(self.made.arrived())
-        seen = self.made.came(4 if len(flow.source) == 4 else 6)
-        assert note.number == seen.number
-        self.notes[seen.number] = seen
-        return seen
+        """Waits until a frame of a flow was handled, and gives its note."""
+        arrived = frames.note(self.made.arrived())
+        note = self._note(flow)
+        if arrived.number != note.number:
+            raise AssertionError("frame %d came, and then %d" % (arrived.number, note.number))
+        return note
 
-    def _end(self, cpu):
-        """What a processor had to do for the frames that came has ended when this returns."""
-        with pair.on(cpu):
-            self.steps.append("drain %d" % cpu)
+    def _note(self, flow):
+        note = self.made.came(4 if len(flow.source) == 4 else 6)
+        self.notes[note.number] = note
+        return note
 
     def send(self, flow):
         """Sends a frame of a flow, and waits until it waits, was dropped, or was handled."""
-        before = pair.waiting()
-        _, taken = self._put(flow)
-        if not taken:
-            return
-        after = pair.waiting()
-        for cpu in self.held:
-            if after[cpu][0] > before[cpu][0]:
-                self.held[cpu].append(flow)
-                return
-        self._end(self._come(flow).cpu)
+        where = self._sent(flow, 0)
+        if where is None:
+            cpu = self._come(flow).cpu
+            with pair.on(cpu):
+                self.steps.append("drain %d" % cpu)
 
     def hold(self, cpu, flow):
-        """Keeps a processor with a frame of a flow that reaches no other one."""
+        """Sends a frame that keeps its processor, of a flow that reaches no other one.
+
+        Where the processor is held already, the frame waits, or is dropped, as others are.
+        """
         self.tickets[cpu] = self.tickets.get(cpu, 0) + 1
-        self._put(flow, self.tickets[cpu])
+        if self._sent(flow, self.tickets[cpu]) is None:
+            self.held[cpu] = []
+            self._in_hand(cpu, flow, self.tickets[cpu])
+
+    def _sent(self, flow, ticket):
+        """Sends a frame; the held processor on which it waits or was dropped, or None."""
+        before = pair.waiting()
+        self._put(flow, ticket)
+        after = pair.waiting()
+        for cpu, waiting in self.held.items():
+            if after[cpu].dropped > before[cpu].dropped:
+                self.drops.append(len(self.left) - 1)
+                return cpu
+            if after[cpu].packets > before[cpu].packets:
+                waiting.append((flow, ticket))
+                return cpu
+        return None
+
+    def _in_hand(self, cpu, flow, ticket):
+        """Waits until a frame that keeps its processor is there."""
         self.made.arrived()
-        self.held[cpu] = [flow]
+        self.hands[cpu] = flow, ticket
         self.steps.append("pull %d" % cpu)
 
     def release(self, cpu):
-        """Lets a processor go on, and waits until it has handled what waited."""
+        """Lets a processor go on, and waits until it has nothing more to do, or is held again."""
+        flow, ticket = self.hands.pop(cpu)
         with pair.on(self.sender):
-            self.made.out.send(frames.release(self.made.mac, cpu, self.tickets[cpu]))
-        first, *others = self.held.pop(cpu)
-        seen = self.made.came(4 if len(first.source) == 4 else 6)
-        self.notes[seen.number] = seen
-        for flow in others:
+            self.made.out.send(frames.release(self.made.mac, cpu, ticket))
+        self._note(flow)
+        self.steps += ["deliver %d" % cpu, "retire %d" % cpu]
+        waiting = self.held.pop(cpu)
+        while waiting:
+            flow, ticket = waiting.pop(0)
+            if ticket:
+                self.held[cpu] = waiting
+                self._in_hand(cpu, flow, ticket)
+                return
             self._come(flow)
-        self._end(cpu)
+            self.steps += ["pull %d" % cpu, "deliver %d" % cpu, "retire %d" % cpu]
+        with pair.on(cpu):
+            pass
 
     def read(self, flow, cpu):
         """The socket of a flow is read on a processor, until it is empty."""
