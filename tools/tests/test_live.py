@@ -64,7 +64,7 @@ class Kernel(unittest.TestCase):
                 plan = chain.plan_of(chain.snapshot(made, machine), machine)
                 flows = random_flows(draw, FRAMES)
                 left, came = sent_and_seen(made, machine, flows)
-                report = chain.replayed(made.folder, plan, left, machine)
+                report = chain.replayed(made.folder, plan, left)
             self.assertEqual([note.number for note in came], list(range(FRAMES)))
             for packet, note in zip(report.packets, came):
                 self.assertEqual((packet.q + 1, packet.cpu), (note.recorded, note.cpu), packet)
@@ -79,7 +79,7 @@ class Kernel(unittest.TestCase):
                 plan = chain.plan_of(text, machine.machine, "apps=0",
                                      "rps_sock_flow_entries=%d" % moving.ENTRIES)
                 plan = chain.with_steps(plan, played.steps)
-                report = chain.replayed(played.made.folder, plan, played.left, machine.machine)
+                report = chain.replayed(played.made.folder, plan, played.left)
             for packet in report.packets:
                 note = played.notes[packet.id]
                 self.assertEqual((packet.q + 1, packet.cpu), (note.recorded, note.cpu), packet)

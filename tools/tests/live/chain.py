@@ -8,7 +8,7 @@ from running import ENVIRONMENT, TOOLS, run
 
 from steerlib import capture, report
 
-from . import frames, pair, rewriting
+from . import pair
 
 
 def snapshot(made, machine):
@@ -51,14 +51,19 @@ def recorded(folder, frames_sent):
     return name
 
 
-def replayed(folder, plan_text, frames_sent, machine):
-    """The report of the frames in the plan of a machine, as a kernel chooses."""
-    plan = json.loads(plan_text)
-    rewritten = rewriting.Rewriting(plan, machine.key, frames.toeplitz)
-    with open(os.path.join(folder, "plan.json"), "w", encoding="utf-8") as stream:
-        json.dump(plan, stream)
-    made = []
-    for data in frames_sent:
-        at, length = (26, 12) if data[12:14] == b"\x08\0" else (22, 36)
-        made.append(data[:at] + rewritten.of(data[at:at + length]) + data[at + length:])
-    return report.replay(os.path.join(folder, "plan.json"), recorded(folder, made))
+def has_hash_32():
+    """Whether this kernel's flow tables and buckets are read by hash_32 (docs/kernel.md)."""
+    release = [int(part) for part in os.uname().release.split("-")[0].split(".")[:2]]
+    return release >= [6, 18]
+
+
+def replayed(folder, plan_text, frames_sent):
+    """The report of these frames in a plan, rewritten by steer-remap for this kernel."""
+    plan, new_plan, new_capture = (os.path.join(folder, name) for name in (
+        "plan.json", "kernel.json", "kernel.pcap"))
+    with open(plan, "w", encoding="utf-8") as stream:
+        stream.write(plan_text)
+    words = ["--hash32"] if has_hash_32() else []
+    checked(run("steer-remap", plan, recorded(folder, frames_sent), "--plan", new_plan,
+                "--capture", new_capture, *words))
+    return report.replay(new_plan, new_capture)
