@@ -13,6 +13,7 @@ TOOL = """#!/bin/sh
 # In place of ethtool: the answers of the made card, whose hashes the sender's program gives.
 case $1 in
 -x) cat '%(folder)s/table' ;;
+-S) cat '%(folder)s/counters' ;;
 -n) [ -z "$3" ] && exit 1
     cat '%(folder)s/fields' ;;
 *) echo 'Operation not supported' >&2
@@ -35,16 +36,18 @@ class Machine:
         self.masks = [sorted(draw.sample(cpus, draw.randint(0, len(cpus))))
                       for _ in range(queues)]
         self.flows = [0] * queues
+        self.counted = [0] * queues
 
     def hash_and_queue(self, flow):
         """The hash and the receive queue that the card gives to a flow."""
         hash = frames.toeplitz(self.key, frames.hashed(flow))
         return hash, self.table[hash % len(self.table)]
 
-    def frame(self, mac, flow, number):
-        """The frame of this number, and the processor that sends it."""
+    def frame(self, mac, flow, number, ticket=0):
+        """The frame of this number, which the card counts, and its receive queue."""
         hash, queue = self.hash_and_queue(flow)
-        return frames.frame(mac, flow, number, hash, queue + 1), self.homes[queue]
+        self.counted[queue] += 1
+        return frames.frame(mac, flow, number, hash, queue + 1, ticket), queue
 
     def set(self, made):
         """Sets the masks and the flow tables of a Pair."""
@@ -63,10 +66,12 @@ class Machine:
                                  "RSS hash function:", "    toeplitz: on"]
         fields = ["TCP over IPV4 flows use these fields for computing Hash flow key:"] + PORTS
         name = os.path.join(folder, "ethtool")
-        for path, text in ((os.path.join(folder, "table"), "\n".join(table) + "\n"),
-                           (os.path.join(folder, "fields"), "\n".join(fields) + "\n\n"),
-                           (name, TOOL % {"folder": folder})):
-            with open(path, "w", encoding="utf-8") as stream:
-                stream.write(text)
+        counters = ["NIC statistics:"] + ["     rx_queue_%d_packets: %d" % counted
+                                          for counted in enumerate(self.counted)]
+        for made, text in (("table", "\n".join(table)), ("fields", "\n".join(fields) + "\n"),
+                           ("counters", "\n".join(counters)),
+                           ("ethtool", TOOL % {"folder": folder})):
+            with open(os.path.join(folder, made), "w", encoding="utf-8") as stream:
+                stream.write(text + "\n")
         os.chmod(name, stat.S_IRWXU)
         return name

@@ -6,9 +6,11 @@ import subprocess
 
 from running import ENVIRONMENT, TOOLS, run
 
-from steerlib import capture, report
+from steerlib import capture, cli, report
 
 from . import pair
+
+REPORT = "report"
 
 
 def snapshot(made, machine):
@@ -66,4 +68,16 @@ def replayed(folder, plan_text, frames_sent):
     words = ["--hash32"] if has_hash_32() else []
     checked(run("steer-remap", plan, recorded(folder, frames_sent), "--plan", new_plan,
                 "--capture", new_capture, *words))
-    return report.replay(new_plan, new_capture)
+    with open(os.path.join(folder, REPORT), "wb") as out:
+        cli.run_steer(["replay", new_plan, new_capture], out)
+    return report.read_file(os.path.join(folder, REPORT))
+
+
+def compared(folder, before, after):
+    """What steer-compare shows of the report and two snapshots."""
+    names = [os.path.join(folder, REPORT)]
+    for text in (before, after):
+        names.append(os.path.join(folder, "%d.snap" % len(names)))
+        with open(names[-1], "w", encoding="utf-8") as stream:
+            stream.write(text)
+    return run("steer-compare", *names)

@@ -1,4 +1,4 @@
-"""A machine with readers that move, and what happens on it at random."""
+"""A machine on which processors are held and readers move, and what happens on it at random."""
 
 import contextlib
 
@@ -52,22 +52,24 @@ class Moving:
         return flows
 
     @contextlib.contextmanager
-    def started(self):
-        """A Play on a pair that is set, in which each flow was read once and has an entry."""
-        with pair.Pair(self.machine.queues) as made, \
-                pair.set_machine(rps_sock_flow_entries=ENTRIES):
+    def started(self, **settings):
+        """A Play on a pair that is set; `settings` are those of the whole machine."""
+        with pair.Pair(self.machine.queues) as made, pair.set_machine(**settings):
             self.machine.set(made)
             made.add_addresses(*ADDRESSES)
-            played = play.Play(made, self.machine, self.sender)
-            for flow in self.flows:
-                played.open(flow)
-            for flow in self.flows:
-                played.send(flow)
-                played.read(flow, self.draw.choice(self.cpus))
-                played.send(flow)
-            yield played
+            yield play.Play(made, self.machine, self.sender)
 
-    def play(self, played, events):
+    def begin(self, played):
+        """Opens the flows' sockets, and reads each flow once, so that it has its entries."""
+        for flow in self.flows:
+            played.open(flow)
+        for flow in self.flows:
+            played.send(flow)
+            if played.read(flow, self.draw.choice(self.cpus)) != 1:
+                raise AssertionError("the first frame of %s did not reach its socket" % (flow,))
+            played.send(flow)
+
+    def play(self, played, events, reads=True):
         """So many random events, after which no processor is held."""
         draw = self.draw
         for _ in range(events):
@@ -79,7 +81,7 @@ class Moving:
             elif chance < 0.18 and free:
                 cpu = draw.choice(free)
                 played.hold(cpu, self.holders[cpu])
-            elif chance < 0.55:
+            elif chance < 0.55 and reads:
                 reading = [cpu for cpu in self.cpus if cpu not in played.held]
                 played.read(draw.choice(self.flows), draw.choice(reading))
             else:

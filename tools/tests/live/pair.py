@@ -5,6 +5,7 @@ Nothing of the machine's own devices is used. What cannot be had here raises Una
 
 import contextlib
 import ctypes
+import fcntl
 import functools
 import glob
 import os
@@ -12,6 +13,7 @@ import shutil
 import socket
 import subprocess
 import tempfile
+import time
 from collections import namedtuple
 
 from . import frames
@@ -22,6 +24,8 @@ RECEIVE_BUFFER = 33     # SO_RCVBUFFORCE
 NO_CHECKSUM = 102       # UDP_NO_CHECK6_RX
 ALL, IPV4, IPV6 = 0x0003, 0x0800, 0x86DD
 PATIENCE = 5.0      # seconds that a frame may take
+LOCK = "/run/steer-live.lock"
+LONGEST_WAIT = 60.0
 ROOM = 1 << 26      # bytes of a socket that records
 SENDER, RECEIVER = "steer0", "steer1"
 
@@ -254,20 +258,51 @@ class Pair:
 
 
 @contextlib.contextmanager
-def set_machine(**values):
-    """Files of /proc/sys/net/core have these values, and after it those that they had."""
-    with contextlib.ExitStack() as closing:
-        for name, value in values.items():
-            path = "/proc/sys/net/core/" + name
-            try:
-                stream = closing.enter_context(open(path, "r+", encoding="ascii"))
-                before = stream.read().strip()
-                _rewrite(stream, before)
-            except OSError as fault:
-                raise Unavailable("%s: %s" % (path, fault.strerror)) from None
-            closing.callback(_rewrite, stream, before)
-            _rewrite(stream, value)
+def alone():
+    """No other process of this machine is here at the same time, since its settings are shared."""
+    with open(LOCK, "w", encoding="ascii") as stream:
+        for _ in range(int(10 * LONGEST_WAIT)):
+            with contextlib.suppress(BlockingIOError):
+                fcntl.flock(stream, fcntl.LOCK_EX | fcntl.LOCK_NB)
+                break
+            time.sleep(0.1)
+        else:
+            raise Unavailable("another process keeps %s locked" % LOCK)
         yield
+
+
+class Unsettable(Exception):
+    """The machine's settings cannot be set here; the text says which."""
+
+
+class Changed(Exception):
+    """Something else changed the machine's settings meanwhile; the text says which."""
+
+
+@contextlib.contextmanager
+def set_machine(**values):
+    """Files of /proc/sys/net/core have these values, and after it those that they had.
+
+    Raises Changed where one has another value in the end.
+    """
+    with contextlib.ExitStack() as closing:
+        streams = {}
+        for name, value in values.items():
+            try:
+                stream = closing.enter_context(open("/proc/sys/net/core/" + name, "r+"))
+                closing.callback(_rewrite, stream, stream.read().strip())
+                _rewrite(stream, value)
+            except OSError as fault:
+                raise Unsettable("%s: %s" % (name, fault.strerror)) from None
+            streams[name] = stream
+        try:
+            yield
+        finally:
+            for name, stream in streams.items():
+                stream.seek(0)
+                text = stream.read().strip()
+                if text != str(values[name]):
+                    raise Changed("%s became %s" % (name, text))
 
 
 def _rewrite(stream, value):

@@ -1,5 +1,7 @@
 """Events on the kernel one after the other, and the steps of a plan that say the same."""
 
+import contextlib
+
 from . import frames, pair
 
 
@@ -20,15 +22,14 @@ class Play:
         self.notes = {}
         self.flows = {}
         self.sockets = {}
-        self.drops = []         # numbers of frames
+        self.drops = {}         # by number of a frame the processor at which it was dropped
         # By processor: how many tickets there were, the flow and the ticket of the frame that keeps
         # it, and those of the frames that wait behind that one, with 0 for no ticket.
         self.tickets, self.hands, self.held = {}, {}, {}
 
     def _put(self, flow, ticket):
         """Sends a frame of a flow."""
-        hash, queue = self.machine.hash_and_queue(flow)
-        data = frames.frame(self.made.mac, flow, len(self.left), hash, queue + 1, ticket)
+        data, queue = self.machine.frame(self.made.mac, flow, len(self.left), ticket)
         self.flows.setdefault(flow, len(self.flows))
         with pair.on(self.sender):
             self.made.send(data)
@@ -73,7 +74,7 @@ class Play:
         after = pair.waiting()
         for cpu, waiting in self.held.items():
             if after[cpu].dropped > before[cpu].dropped:
-                self.drops.append(len(self.left) - 1)
+                self.drops[len(self.left) - 1] = cpu
                 return cpu
             if after[cpu].packets > before[cpu].packets:
                 waiting.append((flow, ticket))
@@ -106,14 +107,15 @@ class Play:
             pass
 
     def read(self, flow, cpu):
-        """The socket of a flow is read on a processor, until it is empty."""
+        """The socket of a flow is read on a processor, until it is empty; how many frames it had."""
+        count = 0
         with pair.on(cpu):
-            try:
+            with contextlib.suppress(BlockingIOError):
                 while True:
                     self.sockets[flow].recv(2048)
-            except BlockingIOError:
-                pass
+                    count += 1
         self.steps += ["stand 0 %d" % cpu, "record %d" % self.flows[flow]]
+        return count
 
     def open(self, flow):
         """Gives a flow its socket."""
