@@ -4,8 +4,12 @@ The queues' are those of `ethtool -S`, whose names are the driver's own. The pro
 columns of /proc/net/softnet_stat, which count modulo 2^32.
 """
 
+from __future__ import annotations
+
 import re
-from collections import namedtuple
+from typing import Dict, List, NamedTuple
+
+from . import snapshot
 
 HANDLED, DROPPED, INTERRUPTED, FLOW_LIMIT, NUMBER = 0, 1, 9, 10, 12
 """Columns: packets handled, packets dropped at the backlog, interrupts of RPS, packets dropped by
@@ -21,22 +25,30 @@ NAMES = [re.compile(form) for form in (
 _LOST = re.compile(r"rx.*(?:miss|drop|no_buffer|nobuf|discard|over_err|fifo)")
 _COUNTER = re.compile(r"\s*(\S.*?): (\d{1,20})\s*")
 
-# queues: the packets of each receive queue by its number, empty where the driver names none.
-# cpus: for each processor by its number the growth of each column. lost: the other counters of
-# the card that count lost packets, by name, as far as they grew.
-Growth = namedtuple("Growth", "queues cpus lost")
+
+class Growth(NamedTuple):
+    """By how much counters grew.
+
+    `queues` has the packets of each receive queue, and is empty where the driver names none,
+    `cpus` for each processor the growth of each column, and `lost` the other counters of the card
+    that count lost packets, as far as they grew.
+    """
+
+    queues: Dict[int, int]
+    cpus: Dict[int, List[int]]
+    lost: Dict[str, int]
 
 
-def card_counters(snapshot):
+def card_counters(seen: snapshot.Snapshot) -> dict[str, int]:
     """The counters of `ethtool -S`, by name."""
-    found = (_COUNTER.fullmatch(line) for line in snapshot.ethtool("-S {}"))
+    found = (_COUNTER.fullmatch(line) for line in seen.ethtool("-S {}"))
     return {one.group(1): int(one.group(2)) for one in found if one}
 
 
-def _of_queues(grown):
+def _of_queues(grown: dict[str, int]) -> dict[int, int]:
     """The packets of each receive queue, of counters by name."""
     for form in NAMES:
-        queues = {}
+        queues: dict[int, int] = {}
         for name, value in grown.items():
             found = form.fullmatch(name)
             if found:
@@ -47,7 +59,7 @@ def _of_queues(grown):
     return {}
 
 
-def _grown(before, after):
+def _grown(before: snapshot.Snapshot, after: snapshot.Snapshot) -> dict[str, int]:
     """By how much each counter of the card grew that both snapshots have."""
     old, new = card_counters(before), card_counters(after)
     grown = {}
@@ -59,13 +71,13 @@ def _grown(before, after):
     return grown
 
 
-def _by_processor(snapshot):
+def _by_processor(seen: snapshot.Snapshot) -> dict[int, list[int]]:
     """The columns of each processor that was online, by its number."""
-    online = sorted(snapshot.cpus("online"))
+    online = sorted(seen.cpus("online"))
     rows = {}
-    for place, columns in enumerate(snapshot.softnet):
+    for place, columns in enumerate(seen.softnet):
         if len(columns) <= FLOW_LIMIT:
-            raise snapshot.refused("softnet %d has %d columns, and %d are read"
+            raise seen.refused("softnet %d has %d columns, and %d are read"
                                    % (place, len(columns), FLOW_LIMIT + 1))
         if len(columns) > NUMBER:
             rows[columns[NUMBER]] = columns
@@ -74,7 +86,7 @@ def _by_processor(snapshot):
     return rows
 
 
-def _check_pair(before, after):
+def _check_pair(before: snapshot.Snapshot, after: snapshot.Snapshot) -> None:
     """Refused where the snapshots are not of one device in one kernel, one after the other."""
     for name in ("device", "kernel"):
         one, other = getattr(before, name), getattr(after, name)
@@ -89,7 +101,7 @@ def _check_pair(before, after):
             raise one.refused("no line `softnet` in it, as in those of an earlier steer-snap")
 
 
-def growth(before, after):
+def growth(before: snapshot.Snapshot, after: snapshot.Snapshot) -> Growth:
     """The Growth between two snapshots of one device. Refused where they are no such pair."""
     _check_pair(before, after)
     grown = _grown(before, after)

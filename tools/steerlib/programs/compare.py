@@ -1,6 +1,10 @@
 """A report against what the machine counted between two snapshots."""
 
+from __future__ import annotations
+
+import argparse
 import re
+from typing import Iterator, NoReturn
 
 from .. import cli, counters, report, snapshot, tables
 
@@ -25,7 +29,7 @@ steer-snap eth0 > before; tcpdump -i eth0 -Q in -w own.pcap; steer-snap eth0 > a
 steer-compare report before after"""
 
 
-def words_of(words):
+def words_of(words: list[str]) -> argparse.Namespace:
     parser = cli.parser(DESCRIPTION, EXAMPLE)
     parser.add_argument("report", metavar="REPORT", help="a report; - is standard input")
     parser.add_argument("before", metavar="BEFORE", help="a snapshot from before the traffic")
@@ -39,7 +43,7 @@ def words_of(words):
     return told
 
 
-def numbering(text, count):
+def numbering(text: str | None, count: int) -> dict[int, int]:
     """The processor of the machine for each of the plan's; where nothing is said, its own."""
     numbers = {cpu: cpu for cpu in range(count)} if text is None else {}
     for part in re.split("[, ]+", text) if text is not None else []:
@@ -51,36 +55,41 @@ def numbering(text, count):
     return numbers
 
 
-def _signed(number):
+def _signed(number: int) -> str:
     return "%+d" % number if number else "0"
 
 
 class Compared:
     """The rows of both tables, and how many numbers in them differ."""
 
-    def __init__(self, rep, grown, numbers):
+    def __init__(self, rep: report.Report, grown: counters.Growth,
+                 numbers: dict[int, int]) -> None:
         self.differing = 0
         self.queues = [[row.queue] + self._three(row.arrived, grown.queues.get(row.queue))
                        for row in rep.queues] if grown.queues else []
-        self.cpus, seen = [], set()
+        self.cpus: list[list[object]] = []
         for row in rep.cpus:
-            cpu = numbers.get(row.cpu)
+            cpu = numbers.get(row.cpu, -1)
             counted = grown.cpus.get(cpu)
-            if counted is None and not row.accepted + row.dropped:
-                continue
-            seen.add(cpu)
-            name = cpu if cpu is not None else "plan's %d" % row.cpu
-            self.cpus.append(
-                [name] + self._three(row.delivered, counted and counted[counters.HANDLED])
-                + self._three(row.dropped, counted and counted[counters.DROPPED])
-                + ["-" if counted is None else counted[counters.INTERRUPTED]])
+            if counted is not None or row.accepted + row.dropped:
+                self.cpus.append(self._of_processor(
+                    row, cpu if cpu >= 0 else "plan's %d" % row.cpu, counted))
         self.elsewhere = sum(columns[counters.HANDLED] for cpu, columns in grown.cpus.items()
-                             if cpu not in seen)
+                             if cpu not in {row[0] for row in self.cpus})
         self.limited = self._three(
             sum(packet.flow_offers is not None for packet in rep.packets),
             sum(columns[counters.FLOW_LIMIT] for columns in grown.cpus.values()))
 
-    def _three(self, predicted, counted):
+    def _of_processor(self, row: report.Cpu, name: object, counted: list[int] | None
+                      ) -> list[object]:
+        """The row of a processor, by its name; `counted` are the columns of softnet_stat."""
+        if counted is None:
+            return [name, *self._three(row.delivered, None), *self._three(row.dropped, None), "-"]
+        return [name, *self._three(row.delivered, counted[counters.HANDLED]),
+                *self._three(row.dropped, counted[counters.DROPPED]),
+                counted[counters.INTERRUPTED]]
+
+    def _three(self, predicted: int, counted: int | None) -> list[object]:
         """Predicted, counted and the difference; a counter that is not there is a dash."""
         if counted is None:
             self.differing += predicted > 0
@@ -88,7 +97,7 @@ class Compared:
         self.differing += predicted != counted
         return [predicted, counted, _signed(counted - predicted)]
 
-    def lines(self):
+    def lines(self) -> Iterator[str]:
         """All lines of the screen."""
         three = ("predicted", "counted", "difference")
         if self.queues:
@@ -104,7 +113,7 @@ class Compared:
         yield "numbers that differ: %d" % self.differing
 
 
-def _two_snapshots(told):
+def _two_snapshots(told: argparse.Namespace) -> tuple[snapshot.Snapshot, snapshot.Snapshot]:
     before, after = (snapshot.read_snapshot(name) for name in (told.before, told.after))
     for one in (before, after):
         if told.dev not in (None, one.device):
@@ -112,7 +121,7 @@ def _two_snapshots(told):
     return before, after
 
 
-def main(words):
+def main(words: list[str]) -> int:
     told = words_of(words)
     rep = report.read_file(told.report)
     grown = counters.growth(*_two_snapshots(told))
@@ -129,6 +138,6 @@ def main(words):
     return cli.DIFFERS if compared.differing else cli.DONE
 
 
-def entry():
+def entry() -> NoReturn:
     """Runs this program by the words of its command line, and ends the process."""
     cli.run(main)

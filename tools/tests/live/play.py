@@ -107,7 +107,7 @@ class Play:
             pass
 
     def read(self, flow, cpu):
-        """The socket of a flow is read on a processor, until it is empty; how many frames it had."""
+        """Reads the socket of a flow on a processor until it is empty; how many frames it had."""
         count = 0
         with pair.on(cpu):
             with contextlib.suppress(BlockingIOError):
