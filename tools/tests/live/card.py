@@ -30,6 +30,7 @@ class Machine:
 
     def __init__(self, draw, queues, cpus):
         self.queues = queues
+        self.cpus = cpus
         self.key = bytes(draw.getrandbits(8) for _ in range(40))
         self.table = [draw.randrange(queues) for _ in range(128)]
         self.homes = [draw.choice(cpus) for _ in range(queues)]

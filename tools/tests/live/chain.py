@@ -2,6 +2,7 @@
 
 import json
 import os
+import re
 import subprocess
 
 from running import ENVIRONMENT, TOOLS, run
@@ -53,10 +54,15 @@ def recorded(folder, frames_sent):
     return name
 
 
+def release():
+    """The version of the kernel, such as (6, 18)."""
+    found = re.match(r"(\d+)\.(\d+)", os.uname().release)
+    return int(found.group(1)), int(found.group(2))
+
+
 def has_hash_32():
     """Whether this kernel's flow tables and buckets are read by hash_32 (docs/kernel.md)."""
-    release = [int(part) for part in os.uname().release.split("-")[0].split(".")[:2]]
-    return release >= [6, 18]
+    return release() >= (6, 18)
 
 
 def replayed(folder, plan_text, frames_sent):

@@ -2,6 +2,8 @@
 
 import contextlib
 
+from steerlib import kernel
+
 from . import card, frames, pair, play
 
 HERE = {4: bytes([10, 9, 0, 1]), 6: b"\xfd" + bytes(14) + b"\1"}
@@ -50,6 +52,19 @@ class Moving:
                 HERE, 2000 + number))
             entries.add(self.machine.hash_and_queue(flows[-1])[0] % ENTRIES)
         return flows
+
+    def alike(self, flow, entries, by_hash_32):
+        """Another flow of the same queue and the same entries of both tables; the socket table has
+        `entries`."""
+        hash, queue = self.machine.hash_and_queue(flow)
+        count = self.machine.flows[queue]
+
+        def is_alike(other, of):
+            return (of == queue and other != hash and other % entries == hash % entries
+                    and kernel.flow_entry(other, count, by_hash_32)
+                    == kernel.flow_entry(hash, count, by_hash_32))
+
+        return self._flow(is_alike, HERE, flow.dport + FLOWS)
 
     @contextlib.contextmanager
     def started(self, **settings):

@@ -20,13 +20,13 @@ from . import frames
 
 HERE = os.path.dirname(os.path.abspath(__file__))
 NEW_NETWORK = 0x40000000
-RECEIVE_BUFFER = 33     # SO_RCVBUFFORCE
+SEND_BUFFER, RECEIVE_BUFFER = 32, 33    # SO_SNDBUFFORCE, SO_RCVBUFFORCE
 NO_CHECKSUM = 102       # UDP_NO_CHECK6_RX
 ALL, IPV4, IPV6 = 0x0003, 0x0800, 0x86DD
 PATIENCE = 5.0      # seconds that a frame may take
 LOCK = "/run/steer-live.lock"
 LONGEST_WAIT = 60.0
-ROOM = 1 << 26      # bytes of a socket that records
+ROOM = 1 << 26      # bytes that wait in a socket
 SENDER, RECEIVER = "steer0", "steer1"
 
 
@@ -166,7 +166,8 @@ class Pair:
 
     def _packet_socket(self, closing, device, kind):
         made = closing.enter_context(socket.socket(socket.AF_PACKET, socket.SOCK_RAW, 0))
-        made.setsockopt(socket.SOL_SOCKET, RECEIVE_BUFFER, ROOM)
+        for which in (SEND_BUFFER, RECEIVE_BUFFER):
+            made.setsockopt(socket.SOL_SOCKET, which, ROOM)
         made.bind((device, kind))
         made.settimeout(PATIENCE)
         return made

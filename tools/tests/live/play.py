@@ -50,12 +50,17 @@ class Play:
         return note
 
     def send(self, flow):
-        """Sends a frame of a flow, and waits until it waits, was dropped, or was handled."""
-        where = self._sent(flow, 0)
-        if where is None:
+        """Sends a frame of a flow, and waits until it waits, was dropped, or was handled.
+
+        Gives its processor.
+        """
+        cpu = self._sent(flow, 0)
+        if cpu is None:
             cpu = self._come(flow).cpu
             with pair.on(cpu):
-                self.steps.append("drain %d" % cpu)
+                self.steps += ["drain %d" % one for one in self.machine.cpus
+                               if one not in self.held]
+        return cpu
 
     def hold(self, cpu, flow):
         """Sends a frame that keeps its processor, of a flow that reaches no other one.
