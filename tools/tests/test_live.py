@@ -12,12 +12,11 @@ import running  # noqa: F401
 from live import card, chain, frames, moving, pair
 
 TARGETS = moving.HERE
-QUEUES = (1, 2, 3, 4, 5, 8, 12, 16)
-FRAMES = 400
+QUEUES = (1, 2, 3, 5, 8, 16)
+FRAMES = 500
 ENTRIES = (4096, 2, 4, 2)     # of flow tables
 EVENTS = 600
 LIMITS = (4, 8, 20)             # of netdev_max_backlog
-ROUNDS = 5
 FIGURES = []
 TOGETHER = 40       # frames that are under way at once
 
@@ -116,7 +115,7 @@ class Kernel(unittest.TestCase):
         """Frames wait on processors that are held while their readers go elsewhere; in small
         tables flows share their entry."""
         for seed, entries in enumerate(ENTRIES):
-            machine = moving.Moving(random.Random(seed), pair.processors(), entries)
+            machine = moved(seed, entries)
             with machine.started(rps_sock_flow_entries=moving.ENTRIES) as played:
                 machine.begin(played)
                 machine.play(played, EVENTS)
@@ -124,11 +123,26 @@ class Kernel(unittest.TestCase):
             self.compare(report.packets, played.notes, "flow tables of %d" % entries)
 
     @of_the_machine
+    def test_masks_that_change(self):
+        """Each steered queue gets other masks twice, while readers move in between."""
+        machine = moved(7, 4)
+        with machine.started(rps_sock_flow_entries=moving.ENTRIES) as played:
+            before = chain.snapshot(played.made, machine.machine)
+            machine.begin(played)
+            for _ in range(2):
+                machine.play(played, EVENTS // 4)
+                machine.change_masks(played)
+                for flow in machine.strangers(EVENTS // 20):
+                    played.send(flow)
+            report = replayed(played, "rps_sock_flow_entries=%d" % moving.ENTRIES, text=before)
+        self.compare(report.packets, played.notes, "masks that change")
+
+    @of_the_machine
     def test_full_backlogs(self):
         """The same frames are dropped, one more than the limit waiting, and column 1 of
         softnet_stat has them at the processors at which the report has them."""
         for seed, limit in enumerate(LIMITS):
-            machine = moving.Moving(random.Random(seed), pair.processors(), 0)
+            machine = moved(seed, 0)
             with machine.started(netdev_max_backlog=limit) as played:
                 before = chain.snapshot(played.made, machine.machine)
                 machine.play(played, EVENTS, reads=False)
@@ -144,10 +158,18 @@ class Kernel(unittest.TestCase):
             self.counted_alike(compared)
 
 
-def replayed(played, *settings):
-    """The report of what was played, in the plan of its machine with settings of steer-set."""
-    plan = chain.plan_of(chain.snapshot(played.made, played.machine), played.machine, "apps=0",
-                         *settings)
+def moved(seed, count):
+    """A machine of this seed whose flow tables have `count` entries."""
+    return moving.Moving(random.Random(seed), pair.processors(), count, chain.has_hash_32())
+
+
+def replayed(played, *settings, text=None):
+    """The report of what was played, in the plan of its machine with settings of steer-set.
+
+    `text` is the snapshot, where one of afterwards is not that of the beginning.
+    """
+    plan = chain.plan_of(text or chain.snapshot(played.made, played.machine), played.machine,
+                         "apps=0", *settings)
     return chain.replayed(played.made.folder, chain.with_steps(plan, played.steps), played.left)
 
 
@@ -159,7 +181,7 @@ class Differences(unittest.TestCase):
         """Behind a frame in hand, `limit` frames wait in the queue that does not count, and of 12
         more the kernel takes one more than the limit; in a replay they count, and one has room."""
         for seed, limit in enumerate(LIMITS[:2]):
-            machine = moving.Moving(random.Random(seed), pair.processors(), 0)
+            machine = moved(seed, 0)
             cpu, burst = machine.others[0], 12
             flow = machine.holders[cpu]
             with machine.started(netdev_max_backlog=limit) as played:
@@ -182,13 +204,11 @@ class Differences(unittest.TestCase):
     def test_a_head_that_lags(self):
         """A frame of the flow was handled, and the processor goes on with one that waited behind
         it: from 6.12 on the head has not grown yet, and the flow is kept."""
-        kept = 0
-        for seed in range(ROUNDS):
-            machine = moving.Moving(random.Random(seed), pair.processors(), 4096)
-            flow = machine.flows[0]
-            cpu = machine.draw.choice(machine.others)
-            other = machine.draw.choice([one for one in machine.cpus if one != cpu])
-            with machine.started(rps_sock_flow_entries=moving.ENTRIES) as played:
+        machine = moved(0, 4096)
+        cpus = {}
+        with machine.started(rps_sock_flow_entries=moving.ENTRIES) as played:
+            for flow in machine.flows:
+                cpu, other = machine.held_and_other()
                 played.open(flow)
                 played.send(flow)
                 played.read(flow, cpu)
@@ -199,70 +219,78 @@ class Differences(unittest.TestCase):
                 played.release(cpu)
                 played.read(flow, other)
                 played.send(flow)
-                number = len(played.left) - 1
+                cpus[len(played.left) - 1] = cpu, other
                 played.release(cpu)
-                report = replayed(played, "rps_sock_flow_entries=%d" % moving.ENTRIES)
-            self.assertEqual((report.packets[number].why, report.packets[number].cpu),
-                             ("passed", other))
-            kept += played.notes[number].cpu == cpu
-            self.compare_all_but(number, report, played)
-        self.assertEqual(kept, ROUNDS if chain.release() >= (6, 12) else 0)
-        FIGURES.append("a head that lags: kept in %d of %d" % (kept, ROUNDS))
+            report = replayed(played, "rps_sock_flow_entries=%d" % moving.ENTRIES)
+        kept = chain.release() >= (6, 12)
+        self.differ(report, played, {number: ((cpu if kept else other), other, "passed")
+                                     for number, (cpu, other) in cpus.items()})
+        FIGURES.append("a head that lags: %d flows, kept in the kernel: %s" % (len(cpus), kept))
 
     @of_the_machine
     def test_a_first_reader(self):
         """Frames that RPS sent still wait when the flow's first reader is seen elsewhere: the
         kernel moves the flow, and a replay waits for them."""
-        for seed in range(ROUNDS):
-            machine = moving.Moving(random.Random(seed), pair.processors(), 4096)
-            with machine.started(rps_sock_flow_entries=moving.ENTRIES) as played:
-                flow, cpu = self.first_of_others(machine, played)
-                other = machine.draw.choice([one for one in machine.cpus if one != cpu])
+        machine = moved(0, 4096)
+        cpus = {}
+        with machine.started(rps_sock_flow_entries=moving.ENTRIES) as played:
+            for flow in machine.flows:
+                played.open(flow)
+                cpu = played.send(flow)
+                if cpu == machine.sender:
+                    continue
+                _, other = machine.held_and_other(cpu)
                 played.hold(cpu, machine.holders[cpu])
                 for _ in range(2):
                     played.send(flow)
                 played.read(flow, other)
                 played.send(flow)
-                number = len(played.left) - 1
+                cpus[len(played.left) - 1] = cpu, other
                 played.release(cpu)
-                report = replayed(played, "rps_sock_flow_entries=%d" % moving.ENTRIES)
-            self.assertEqual((report.packets[number].why, report.packets[number].cpu),
-                             ("kept", cpu))
-            self.assertEqual(played.notes[number].cpu, other)
-            self.compare_all_but(number, report, played)
-        FIGURES.append("a first reader: the kernel moved %d of %d flows" % (ROUNDS, ROUNDS))
+            report = replayed(played, "rps_sock_flow_entries=%d" % moving.ENTRIES)
+        self.assertGreater(len(cpus), 0)
+        self.differ(report, played, {number: (other, cpu, "kept")
+                                     for number, (cpu, other) in cpus.items()})
+        FIGURES.append("a first reader: the kernel moved %d flows" % len(cpus))
 
     @of_the_machine
     def test_a_shared_entry(self):
         """Two flows share an entry of the socket table. Where the other one was read last, the
         kernel sees that and takes RPS; a replay takes that one's reader."""
-        for seed in range(ROUNDS):
-            machine = moving.Moving(random.Random(seed), pair.processors(), 2)
+        frames_sent = 0
+        for seed in range(3):
+            machine = moved(seed, 2)
             first = machine.flows[0]
-            second = machine.alike(first, 64, chain.has_hash_32())
-            choice = {}
+            second = machine.alike(first, 64)
+            cpus, choices = {}, {}
             with machine.started(rps_sock_flow_entries=64) as played:
                 for flow in (first, second):
                     played.open(flow)
-                    choice[flow] = played.send(flow)
-                readers = [machine.draw.choice([cpu for cpu in machine.cpus if cpu != choice[flow]])
-                           for flow in (second, first)]
-                numbers = []
-                for reader, of, sent in zip(readers, (first, second), (second, first)):
-                    played.read(of, reader)
-                    numbers.append(len(played.left))
-                    self.assertEqual(played.send(sent), choice[sent])
+                    choices[flow] = played.send(flow)
+                for of, sent in ((first, second), (second, first)):
+                    _, other = machine.held_and_other(choices[sent])
+                    played.read(of, other)
+                    played.send(sent)
+                    cpus[len(played.left) - 1] = choices[sent], other
                 report = replayed(played, "rps_sock_flow_entries=64")
-            self.assertEqual([report.packets[number].cpu for number in numbers], readers)
-        FIGURES.append("a shared entry: by RPS in the kernel %d of %d, by the other's reader in a "
-                       "replay" % (2 * ROUNDS, 2 * ROUNDS))
+            self.differ(report, played, {
+                number: (*both, report.packets[number].why) for number, both in cpus.items()})
+            frames_sent += len(cpus)
+        FIGURES.append("a shared entry: %d frames by RPS in the kernel" % frames_sent)
+
+    def differ(self, report, played, expected):
+        """Each frame is on one processor, but for these: the kernel's, the replay's, and why."""
+        for packet in report.packets:
+            cpu = played.notes[packet.id].cpu
+            wanted = expected.get(packet.id, (packet.cpu, packet.cpu, packet.why))
+            self.assertEqual((cpu, packet.cpu, packet.why), wanted, packet)
 
     @of_the_machine
     def test_a_flow_limit(self):
         """A burst of one flow. The kernel looks at the last 128 frames that came from half the
         limit on, and drops what has more than 64 of them; a replay has 256 and 128, and looks at
         all. The kernel counts in column 10 at the processor that puts."""
-        machine = moving.Moving(random.Random(0), pair.processors(), 0)
+        machine = moved(0, 0)
         cpu, limit, burst = machine.others[0], 200, 300
         flow = machine.holders[cpu]
         with machine.started(netdev_max_backlog=limit,
@@ -285,22 +313,6 @@ class Differences(unittest.TestCase):
                           if packet.flow_offers is not None], list(range(128, 1 + burst)))
         FIGURES.append("flow limit, netdev_max_backlog %d: of %d frames of one flow the kernel "
                        "took %d, a replay %d" % (limit, burst, taken, 127))
-
-    def first_of_others(self, machine, played):
-        """Sends a frame of flows until one is at a processor that can be held, and gives both."""
-        for flow in machine.flows:
-            played.open(flow)
-            played.send(flow)
-            cpu = played.notes[len(played.left) - 1].cpu
-            if cpu in machine.others:
-                return flow, cpu
-        return self.fail("no flow of this seed is elsewhere than its sender")
-
-    def compare_all_but(self, number, report, played):
-        """But for this frame, each is on the processor of the report."""
-        for packet in report.packets:
-            if packet.id != number:
-                self.assertEqual(packet.cpu, played.notes[packet.id].cpu, packet)
 
 
 if __name__ == "__main__":

@@ -2,6 +2,8 @@
 
 import contextlib
 
+from steerlib import processors
+
 from . import frames, pair
 
 
@@ -111,6 +113,12 @@ class Play:
         with pair.on(cpu):
             pass
 
+    def let_go(self):
+        """Lets all processors go on, after a fault too."""
+        for cpu, ticket in self.tickets.items():
+            with pair.on(self.sender):
+                self.made.send(frames.release(self.made.mac, cpu, ticket))
+
     def read(self, flow, cpu):
         """Reads the socket of a flow on a processor until it is empty; how many frames it had."""
         count = 0
@@ -121,6 +129,11 @@ class Play:
                     count += 1
         self.steps += ["stand 0 %d" % cpu, "record %d" % self.flows[flow]]
         return count
+
+    def mask(self, queue, cpus):
+        """Gives a receive queue another mask, while no processor is held."""
+        self.made.write(1, {"queues/rx-%d/rps_cpus" % queue: processors.mask_text(cpus, 1)})
+        self.steps.append("mask %d %s" % (queue, ",".join(map(str, cpus)) or "-"))
 
     def open(self, flow):
         """Gives a flow its socket."""

@@ -8,7 +8,7 @@
 #define NO_QUEUE 0xffffffffu
 #define RELEASE 0xffffffffu
 #define PROCESSORS 64
-#define LONGEST_HOLD 2000000000ULL
+#define LONGEST_HOLD 8000000000ULL
 
 static long (*load_bytes)(const void *, __u32, void *, __u32) = (void *)BPF_FUNC_skb_load_bytes;
 static long (*store_bytes)(void *, __u32, const void *, __u32, __u64) =
@@ -63,7 +63,7 @@ static long is_over(__u32 round, void *context) {
 
 static void keep(__u32 cpu, __u32 ticket) {
     struct wait wait = {nanoseconds() + LONGEST_HOLD, cpu, ticket};
-    for (int part = 0; part < 8; part++) loop(1 << 23, is_over, &wait, 0);
+    for (int part = 0; part < 32; part++) loop(1 << 23, is_over, &wait, 0);
 }
 
 // Writes the processor into the note, and keeps it or releases another one as the note says.
