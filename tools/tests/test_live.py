@@ -54,10 +54,10 @@ def of_the_machine(test):
     return guarded
 
 
-def random_flows(draw, count):
+def random_flows(draw, count, versions=(4, 6)):
     return [frames.random_flow(draw, version, draw.choice((frames.TCP, frames.UDP)),
                                TARGETS[version])
-            for version in (draw.choice((4, 6)) for _ in range(count))]
+            for version in (draw.choice(versions) for _ in range(count))]
 
 
 def sent_and_seen(made, machine, flows):
@@ -122,6 +122,29 @@ class Kernel(unittest.TestCase):
                 report = replayed(played, "rps_sock_flow_entries=%d" % moving.ENTRIES)
             self.compare(report.packets, played.notes, "flow tables of %d" % entries)
 
+    def test_transmit_queues(self):
+        """Replies leave by the queue of the report, where the sockets' random hashes are those
+        that steer-remap drew."""
+        for seed in range(3):
+            draw = random.Random(seed)
+            machine = card.Machine(draw, draw.choice((2, 4, 7)), pair.processors())
+            flows = random_flows(draw, FRAMES // 3, versions=(4,))
+            with pair.Pair(machine.queues) as made:
+                machine.set(made)
+                machine.set_transmit(draw, made)
+                plan = chain.plan_of(chain.snapshot(made, machine), machine,
+                                     "apps=" + ",".join(map(str, machine.cpus)))
+                left, _ = sent_and_seen(made, machine, flows)
+                report = chain.replayed(made.folder, plan, left, "--tx")
+                self.assertEqual(len(report.replies), len(flows))
+                for reply in report.replies:
+                    data = frames.frame(made.mac, flows[reply.id], reply.id,
+                                        chain.hash_of_replies(left[reply.id]))
+                    with pair.on(reply.cpu):
+                        self.assertEqual(made.reply(data), reply.tx, reply)
+            FIGURES.append("%d transmit queues: %d replies by the queue of the report"
+                           % (machine.queues + 1, len(flows)))
+
     @of_the_machine
     def test_masks_that_change(self):
         """Each steered queue gets other masks twice, while readers move in between."""
@@ -141,6 +164,7 @@ class Kernel(unittest.TestCase):
     def test_full_backlogs(self):
         """The same frames are dropped, one more than the limit waiting, and column 1 of
         softnet_stat has them at the processors at which the report has them."""
+        drops = 0
         for seed, limit in enumerate(LIMITS):
             machine = moved(seed, 0)
             with machine.started(netdev_max_backlog=limit) as played:
@@ -152,10 +176,11 @@ class Kernel(unittest.TestCase):
             dropped = {packet.id: packet.cpu for packet in report.packets
                        if packet.place == "drop"}
             self.assertEqual(dropped, played.drops)
-            self.assertGreater(len(dropped), 0)
+            drops += len(dropped)
             self.compare([packet for packet in report.packets if packet.id not in dropped],
                          played.notes, "limit %d, %d drops" % (limit, len(dropped)))
             self.counted_alike(compared)
+        self.assertGreater(drops, 0)
 
 
 def moved(seed, count):

@@ -57,6 +57,12 @@ class Machine:
             made.write(1, {"queues/rx-%d/%s" % (queue, name): text
                            for queue, text in enumerate(texts)})
 
+    def set_transmit(self, draw, made):
+        """Gives each transmit queue of the receiver a random set of processors, in their order."""
+        made.write(1, {"queues/tx-%d/xps_cpus" % queue: processors.mask_text(
+            draw.sample(self.cpus, draw.choice((0, 1, len(self.cpus)))), 1)
+            for queue in range(self.queues + 1)})
+
     def ethtool(self, folder):
         """Writes a program that answers as ethtool does of the card; its name."""
         rows = ["%5d: " % at + "".join(" %5d" % queue for queue in self.table[at:at + 8])

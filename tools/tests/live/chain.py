@@ -7,11 +7,12 @@ import subprocess
 
 from running import ENVIRONMENT, TOOLS, run
 
-from steerlib import capture, cli, report
+from steerlib import capture, cli, kernel, remap, report
 
 from . import pair
 
 REPORT = "report"
+SEED = 1            # by which steer-remap draws, where nothing is said
 
 
 def snapshot(made, machine):
@@ -65,13 +66,19 @@ def has_hash_32():
     return release() >= (6, 18)
 
 
-def replayed(folder, plan_text, frames_sent):
+def hash_of_replies(frame):
+    """The random hash that steer-remap draws for the socket of a frame's flow."""
+    flow = remap.flows_of([capture.Frame(capture.ETHERNET, 0, len(frame), frame, 0)])[0][0]
+    return kernel.drawn_hash(SEED, b"tx" + flow.software_key())
+
+
+def replayed(folder, plan_text, frames_sent, *options):
     """The report of these frames in a plan, rewritten by steer-remap for this kernel."""
     plan, new_plan, new_capture = (os.path.join(folder, name) for name in (
         "plan.json", "kernel.json", "kernel.pcap"))
     with open(plan, "w", encoding="utf-8") as stream:
         stream.write(plan_text)
-    words = ["--hash32"] if has_hash_32() else []
+    words = list(options) + ["--hash32"] * has_hash_32()
     checked(run("steer-remap", plan, recorded(folder, frames_sent), "--plan", new_plan,
                 "--capture", new_capture, *words))
     with open(os.path.join(folder, REPORT), "wb") as out:

@@ -154,13 +154,11 @@ class Pair:
         many = ["numtxqueues", str(self.queues + 1), "numrxqueues", str(self.queues)]
         command("ip", "link", "add", SENDER, "netns", a, *many, "type", "veth", "peer", "name",
                 RECEIVER, "netns", b, *many)
-        for name, device, way, section in ((a, SENDER, "egress", "give"),
-                                           (b, RECEIVER, "egress", "give"),
-                                           (b, RECEIVER, "ingress", "mark")):
-            if way == "egress":
-                command("tc", "-n", name, "qdisc", "add", "dev", device, "clsact")
-            command("tc", "-n", name, "filter", "add", "dev", device, way, "bpf", "da", "obj",
-                    programs, "sec", section)
+        for name, device in ((a, SENDER), (b, RECEIVER)):
+            command("tc", "-n", name, "qdisc", "add", "dev", device, "clsact")
+            for way, section in (("egress", "give"), ("ingress", "mark")):
+                command("tc", "-n", name, "filter", "add", "dev", device, way, "bpf", "da", "obj",
+                        programs, "sec", section)
         for name, device in ((a, SENDER), (b, RECEIVER)):
             command("ip", "-n", name, "link", "set", device, "up")
 
@@ -176,7 +174,9 @@ class Pair:
         with inside(self.names[0]):
             self.out = self._packet_socket(closing, SENDER, 0)
             self.sent = self._packet_socket(closing, SENDER, ALL)
+            self.returned = self._packet_socket(closing, SENDER, IPV4)
         with inside(self.names[1]):
+            self.back = self._packet_socket(closing, RECEIVER, 0)
             self.before = self._packet_socket(closing, RECEIVER, ALL)
             self.seen = {version: self._packet_socket(closing, RECEIVER, kind)
                          for version, kind in ((4, IPV4), (6, IPV6))}
@@ -233,6 +233,11 @@ class Pair:
         except OSError:
             return False
         return True
+
+    def reply(self, frame):
+        """Sends a frame of IPv4 from the receiver; the transmit queue by which it left."""
+        self.back.send(frame)
+        return frames.note(self._next(self.returned)).recorded
 
     def left(self):
         """The next frame that left the sender."""
