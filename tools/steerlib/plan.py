@@ -45,15 +45,18 @@ def table_of(plan: Plan) -> list[int]:
     return plan.get("reta") or [i % len(plan["queues"]) for i in range(128)]
 
 
-def _lines(values, indent):
-    """Written members on lines of at most 100 columns behind `indent` blanks."""
-    lines, line = [], ""
-    for value in values:
-        if line and len(line) + len(value) + 3 + indent > 100:
-            lines.append(line)
-            line = ""
-        line += (", " if line else "") + value
-    return (",\n" + " " * indent).join(lines + [line])
+def _step_lines(steps, indent):
+    """Steps on lines of at most 100 columns, where one has room, behind `indent` blanks."""
+    text = json.dumps(steps)[1:-1]
+    lines, at, width = [], 0, 99 - indent
+    while len(text) - at > width:
+        end = text.rfind('", "', at, at + width + 3)
+        end = text.find('", "', at) if end < 0 else end
+        if end < 0:
+            break
+        lines.append(text[at:end + 2])
+        at = end + 3
+    return ("\n" + " " * indent).join(lines + [text[at:]])
 
 
 def value_text(name: str, value: Any) -> str:
@@ -62,7 +65,7 @@ def value_text(name: str, value: Any) -> str:
     if name in ("queues", "tx") and value:
         return "[" + (",\n" + " " * indent).join(json.dumps(one) for one in value) + "]"
     if name == "steps" and isinstance(value, list):
-        return "[" + _lines((json.dumps(one) for one in value), indent) + "]"
+        return "[" + _step_lines(value, indent) + "]"
     return json.dumps(value)
 
 

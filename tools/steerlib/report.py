@@ -160,20 +160,31 @@ PATTERNS = {kind: _pattern(form) for kind, form in FORMS.items()}
 
 @functools.lru_cache(maxsize=None)
 def _field_pattern(kind, names):
-    """The pattern of a kind that captures these fields alone, for the whole of a report."""
+    """A quick pattern of a kind that captures these fields alone, up to the last of them."""
     fields = iter(ROWS[kind]._fields)
-    text = re.sub(rb"\((?!\?)", lambda _: b"(" if next(fields) in names else b"(?:",
-                  PATTERNS[kind].pattern)
-    return re.compile(b"^" + text, re.ASCII | re.MULTILINE)
+    quick = {"N": r"([^ \na-z]+)", "M": r"([^ \na-z]+)", "STEP": STEP, "ANSWER": ANSWER}
+
+    def part(found):
+        text = quick.get(found.group(), r"([^ \n]+)")
+        return text if next(fields) in names else "(?:" + text[1:]
+
+    text = re.sub(r"\b(?:N|M|STEP|ANSWER)\b|\((?!\?)[^)]*\)", part, FORMS[kind])
+    end = max(found.end() for found in re.finditer(r"\((?!\?)", text))
+    while text.count("(", 0, end) > text.count(")", 0, end):
+        end = text.index(")", end) + 1
+    end += text[end:end + 1] == "?"
+    return re.compile(("\n" + text[:end]).encode(), re.ASCII)
 
 
-def fields_of(data: bytes, kind: str, names: Sequence[str]) -> list[tuple[bytes, ...]]:
+def fields_of(data: bytes, kind: str, names: Sequence[str],
+              start: int = 0) -> list[tuple[bytes, ...]]:
     """These fields of each line of a kind in the bytes of a report, in the order of the row.
 
     Fields are bytes as they are written, empty where the line's form leaves them out. This is for
-    reports that were just made: nothing is checked, and a line of another form is passed over.
+    reports that were just made: nothing is checked, and a line of another form is passed over. The
+    lines are those after the line feed at `start`, or after a later one.
     """
-    return _field_pattern(kind, tuple(names)).findall(data)
+    return _field_pattern(kind, tuple(names)).findall(data, start)
 
 
 class Report:

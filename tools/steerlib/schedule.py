@@ -12,57 +12,35 @@ Times are nanoseconds, rates packets a second.
 from __future__ import annotations
 
 import contextlib
-import heapq
+import gc
 import json
+import operator
 import os
 import shutil
 import tempfile
-from collections import deque
-from itertools import accumulate
-from typing import Callable, Dict, Iterator, List, NamedTuple, Union
+from itertools import accumulate, compress, count, islice
+from typing import Callable, Dict, Iterable, Iterator, List, NamedTuple, Union
 
 from . import capture as captures
 from . import cli, flows, limits, report
 from . import plan as plans
+from .serving import Desk, Places, Service, steps_each
 
 MOST_ROUNDS = 500
 COMMANDS = ("mask", "flows", "sock", "offline", "online", "xcpus", "xqueues", "reta", "stand",
             "expire")
 
-# What a plan has as its steps: texts, or a seed and a count.
-Steps = Union[List[str], Dict[str, int]]
+# What a plan has as its steps: texts, a seed and a count, or the text of either in JSON.
+Steps = Union[List[str], Dict[str, int], str]
 
-
-class Places(NamedTuple):
-    """Of each packet its queue, processor and application, and the packets that were dropped.
-
-    `limited` are those that the flow limit dropped, which are among `dropped`.
-    """
-
-    queues: list[int]
-    cpus: list[int]
-    apps: list[int]
-    dropped: set[int]
-    limited: set[int]
-
-
-class Service(NamedTuple):
-    """What serves packets: a rate for each processor, in packets a second, and the backlog.
-
-    `flows` has the flow number of each packet where packets are read, else it is None.
-    """
-
-    rates: list[float]
-    backlog: int
-    flows: list[int] | None
-    replies: bool
+# The Places of a replay of steps, where those before a packet are known; see agree.
+Replay = Callable[[str, Places, int], Places]
 
 
 class Agreed(NamedTuple):
-    """The list of steps that was agreed upon, how many it drops, and after how many rounds."""
+    """The Desk with the steps that were agreed upon, and after how many rounds."""
 
-    steps: list[str]
-    dropped: int
+    desk: Desk
     rounds: int
 
 
@@ -81,23 +59,28 @@ class Load(NamedTuple):
     speed: float
 
 
-_PLACE = ("q", "cpu", "at", "drop", "flow_offers", "app")
+_PLACE = ("q", "cpu", "drop", "flow_offers")
+_NUMBERS = {b"%d" % number: number for number in range(limits.MOST_PROCESSORS)}
 
 
-def places_of(data: bytes) -> Places:
-    """The Places that the bytes of a report name, of those of its packets that were put."""
-    queues, cpus, apps = [], [], []
-    dropped, limited = set(), set()
-    put = (fields for fields in report.fields_of(data, "p", _PLACE) if fields[2] != b"-")
-    for number, (queue, cpu, _, drop, offers, app) in enumerate(put):
-        queues.append(int(queue))
-        cpus.append(int(cpu))
-        apps.append(int(app))
-        if drop:
-            dropped.add(number)
-            if offers:
-                limited.add(number)
-    return Places(queues, cpus, apps, dropped, limited)
+def places_of(data: bytes, known: Places | None = None, first: int = 0) -> Places:
+    """The Places that the bytes of a report name, of packets that were all put.
+
+    Those before the packet `first`, and the applications of all, are taken from `known`.
+    """
+    start = data.find(b"\np %d " % first)
+    found = report.fields_of(data, "p", _PLACE, start) if start >= 0 else []
+    queue, cpu, drop, limit = zip(*found) if found else ((), (), (), ())
+    queues = (known.queues[:first] if known else []) + list(map(_NUMBERS.__getitem__, queue))
+    cpus = (known.cpus[:first] if known else []) + [
+        _NUMBERS[number] for number in cpu if number != b"-"]
+    dropped, limited = set(compress(count(first), drop)), set(compress(count(first), limit))
+    if known is None:
+        apps = [int(app) for app, in report.fields_of(data, "p", ("app",))]
+        return Places(queues, cpus, apps, dropped, limited)
+    return Places(queues, cpus, known.apps,
+                  dropped.union(packet for packet in known.dropped if packet < first),
+                  limited.union(packet for packet in known.limited if packet < first))
 
 
 def times_of(name: str, source: str) -> list[int]:
@@ -160,127 +143,70 @@ def arrivals_of(times: list[int], speed: float) -> list[float]:
     return arrivals
 
 
-class _Processors:
-    """Processors that each serve one packet at a time, at their rates, by steps of a plan."""
-
-    def __init__(self, places, service):
-        self.places = places
-        self.service = service
-        count = len(service.rates)
-        self.waiting = [deque() for _ in range(count)]
-        self.served = [None] * count
-        self.ends = []
-        self.begun = 0
-        self.steps = []
-        self.dropped = set()
-        self.pull = ["pull %d" % cpu for cpu in range(count)]
-        self.finish = [("deliver %d" % cpu, "retire %d" % cpu) for cpu in range(count)]
-        self.cost = [1e9 / rate for rate in service.rates]
-        self.poll = ["poll %d" % queue for queue in range(max(places.queues, default=0) + 1)]
-
-    def arrive(self, packet, time):
-        """A packet arrives, waits at its processor or is dropped, and is served where that is idle.
-
-        A drop by the flow limit is taken from the guess, one by the backlog is seen here.
-        """
-        self.steps += ("arrive", self.poll[self.places.queues[packet]])
-        cpu = self.places.cpus[packet]
-        waiting = self.waiting[cpu]
-        if packet in self.places.limited or len(waiting) >= self.service.backlog:
-            self.dropped.add(packet)
-            return
-        waiting.append(packet)
-        if self.served[cpu] is None:
-            self._serve(cpu, time)
-
-    def _serve(self, cpu, time):
-        self.served[cpu] = self.waiting[cpu].popleft()
-        self.steps.append(self.pull[cpu])
-        self.begun += 1
-        heapq.heappush(self.ends, (time + self.cost[cpu], self.begun, cpu))
-
-    def work(self, until):
-        """All service that ends up to this time, in the order of its ends, then of its begins."""
-        while self.ends and self.ends[0][0] <= until:
-            time, _, cpu = heapq.heappop(self.ends)
-            packet = self.served[cpu]
-            self.served[cpu] = None
-            self.steps += self.finish[cpu]
-            if self.service.flows is not None:
-                self.steps.append("record %d" % self.service.flows[packet])
-            if self.service.replies:
-                self.steps.append("reply %d" % self.places.apps[packet])
-            if self.waiting[cpu]:
-                self._serve(cpu, time)
-
-
-def make_steps(arrivals: list[float], places: Places,
-               service: Service) -> tuple[list[str], set[int]]:
-    """The steps of these arrivals where each packet goes to its place, and the packets dropped.
-
-    Service that ends at the moment of an arrival comes before it.
-    """
-    processors = _Processors(places, service)
-    for packet, time in enumerate(arrivals):
-        processors.work(time)
-        processors.arrive(packet, time)
-    processors.work(float("inf"))
-    processors.steps.append("sweep")
-    return processors.steps, processors.dropped
-
-
-def _packets_that_fit(count, dropped, service):
-    """How many of the first packets have no more steps than a plan may have."""
-    each = 3 + (service.flows is not None) + bool(service.replies)
-    steps = 1
-    for packet in range(count):
-        steps += 2 if packet in dropped else 2 + each
+def packets_that_fit(drops: Iterable[int], service: Service) -> int:
+    """How many of the first packets have no more steps than a plan has, where these are dropped."""
+    steps, dropped = 1, set(drops)
+    for packet in count():
+        steps += 2 if packet in dropped else 2 + steps_each(service)
         if steps > limits.MOST_STEPS:
             return packet
-    return count
+    raise AssertionError
 
 
-def elsewhere(places: Places, dropped: set[int], answer: Places) -> list[int]:
-    """The packets that the answer has at another queue or processor, or dropped or not."""
-    return [packet for packet, (queue, cpu) in enumerate(zip(answer.queues, answer.cpus))
-            if queue != places.queues[packet] or cpu != places.cpus[packet]
-            or (packet in dropped) != (packet in answer.dropped)]
+def elsewhere(places: Places, drops: Iterable[int], answer: Places, first: int = 0) -> list[int]:
+    """The packets from `first` on that the answer has elsewhere than the steps assume.
+
+    That is at another queue or processor, or dropped or not.
+    """
+    moved = set(drops) ^ answer.dropped
+    for before, after in ((places.queues, answer.queues), (places.cpus, answer.cpus)):
+        if before != after:
+            unlike = map(operator.ne, islice(before, first, None), islice(after, first, None))
+            moved.update(compress(count(first), unlike))
+    return sorted(moved)
 
 
 def _check_count(places, arrivals, source):
-    if len(places.queues) != len(arrivals):
+    if len(places.cpus) != len(arrivals):
         raise cli.Refused(source, "%d packets have a time, and steer's report has %d that were put"
-                          % (len(arrivals), len(places.queues)))
+                          % (len(arrivals), len(places.cpus)))
 
 
-def agree(arrivals: list[float], guess: Places, service: Service,
-          replay: Callable[[list[str]], Places], source: str,
+def agree(arrivals: list[float], guess: Places, service: Service, replay: Replay, source: str,
           say: Callable[[str], None] | None = None) -> Agreed:
     """The steps that serve these arrivals at these rates, agreed upon with the replay: Agreed.
 
-    `guess` are the Places to begin with, `replay` gives those of steer's report of a list of
-    steps. `say` is shown a line for each round. Refused(source, ..) where a plan has no room for
-    the steps, or after 500 rounds.
+    `guess` are the Places to begin with; replay(text, guess, first) gives those of steer's report
+    of the steps of this text, of which those before the packet `first` are the guess's. `say` is
+    shown a line for each round. Refused(source, ..) where a plan has no room for the steps, or
+    after 500 rounds.
     """
     _check_count(guess, arrivals, source)
+    desk = Desk(arrivals, service, guess.apps)
+    first = 0
     for number in range(1, MOST_ROUNDS + 1):
-        steps, dropped = make_steps(arrivals, guess, service)
-        if len(steps) > limits.MOST_STEPS:
-            fits = _packets_that_fit(len(arrivals), dropped, service)
-            raise cli.Refused(source, "%d packets need %d steps, and a plan has at most %d; the "
-                              "first %d packets fit"
-                              % (len(arrivals), len(steps), limits.MOST_STEPS, fits))
-        answer = replay(steps)
+        desk.serve(guess, first)
+        _check_steps(desk, source)
+        answer = replay(desk.text(), guess, first)
         _check_count(answer, arrivals, source)
-        wrong = elsewhere(guess, dropped, answer)
+        wrong = elsewhere(guess, desk.drops, answer, first)
         if say is not None:
             say("round %d: %d packets elsewhere than assumed%s"
                 % (number, len(wrong), ", the first is %d" % wrong[0] if wrong else ""))
         if not wrong:
-            return Agreed(steps, len(dropped), number)
-        guess = answer
+            return Agreed(desk, number)
+        guess, first = answer, wrong[0]
     raise cli.Refused(source, "after %d rounds the replay still has %d packets elsewhere than the "
                       "steps assume" % (MOST_ROUNDS, len(wrong)))
+
+
+def _check_steps(desk, source):
+    """Refuses more steps than a plan has."""
+    if desk.count() > limits.MOST_STEPS:
+        raise cli.Refused(source, "%d packets need %d steps, and a plan has at most %d; the first "
+                          "%d packets fit"
+                          % (len(desk.arrivals), desk.count(), limits.MOST_STEPS,
+                             packets_that_fit(desk.drops, desk.service)))
 
 
 class Replays:
@@ -301,14 +227,12 @@ class Replays:
         self.plan = os.path.join(folder, "plan.json")
         self.report = os.path.join(folder, "report")
 
-    def with_steps(self, steps: Steps) -> plans.Plan:
-        """The plan with these steps in place of its own."""
-        return dict(self.settings, steps=steps)
-
     def run(self, steps: Steps) -> None:
         """Replays these steps; a plan that steer refuses is Refused with steer's own message."""
+        text = steps if isinstance(steps, str) else json.dumps(steps)
+        others = {name: value for name, value in self.settings.items() if name != "steps"}
         with open(self.plan, "w", encoding="ascii") as out:
-            out.write(json.dumps(self.with_steps(steps)))
+            out.write(json.dumps(others)[:-1] + ', "steps": ' + text + "}")
         with open(self.report, "wb") as out:
             try:
                 cli.run_steer(["replay", self.plan, self.capture], out)
@@ -318,11 +242,11 @@ class Replays:
                 source = self.source if fault.reason.startswith("plan") else self.shown_capture
                 raise cli.Refused(source, fault.reason) from None
 
-    def places(self, steps: Steps) -> Places:
-        """The Places of a replay of these steps."""
+    def places(self, steps: Steps, known: Places | None = None, first: int = 0) -> Places:
+        """The Places of a replay of these steps, as places_of has them."""
         self.run(steps)
         with open(self.report, "rb") as stream:
-            return places_of(stream.read())
+            return places_of(stream.read(), known, first)
 
 
 def flow_numbers(capture: str, folder: str) -> list[int]:
@@ -330,8 +254,10 @@ def flow_numbers(capture: str, folder: str) -> list[int]:
     name = os.path.join(folder, "hash")
     with open(name, "wb") as out:
         cli.run_steer(["hash", capture], out)
-    numbers: dict[str, int] = {}
-    return [numbers.setdefault(flow, len(numbers)) for flow in flows.read_file(name)]
+    with open(name, "rb") as text:
+        found = flows.FLOW.findall(text.read())
+    numbers = dict(zip(dict.fromkeys(found), count()))
+    return [numbers[flow] for flow in found]
 
 
 @contextlib.contextmanager
@@ -371,11 +297,24 @@ def service_of(settings: plans.Plan, load: Load, flows: list[int] | None) -> Ser
 def timed_steps(replays: Replays, times: list[int], load: Load,
                 say: Callable[[str], None] | None = None) -> Agreed:
     """The Agreed steps of a plan (its Replays) for packets of these times under a load."""
-    numbers = flow_numbers(replays.capture, replays.folder) if load.reads else None
-    service = service_of(replays.settings, load, numbers)
-    guess = replays.places(["sweep"])
-    arrivals = arrivals_of(times, load.speed)
-    return agree(arrivals, guess, service, replays.places, replays.shown_capture, say)
+    with _uncollected():
+        numbers = flow_numbers(replays.capture, replays.folder) if load.reads else None
+        service = service_of(replays.settings, load, numbers)
+        guess = replays.places(["sweep"])
+        arrivals = arrivals_of(times, load.speed)
+        return agree(arrivals, guess, service, replays.places, replays.shown_capture, say)
+
+
+@contextlib.contextmanager
+def _uncollected():
+    """Without Python's search for cycles, which takes half of the time and would find none."""
+    enabled = gc.isenabled()
+    gc.disable()
+    try:
+        yield
+    finally:
+        if enabled:
+            gc.enable()
 
 
 def say_about(settings: plans.Plan, source: str, load: Load) -> None:

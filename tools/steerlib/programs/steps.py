@@ -69,14 +69,13 @@ def check(told: argparse.Namespace, parser: argparse.ArgumentParser) -> None:
         remap_files.check_name(told.new_capture, (told.plan, told.capture))
 
 
-def say_result(replays: schedule.Replays, times: list[int], load: schedule.Load,
-               agreed: schedule.Agreed) -> None:
+def say_result(times: list[int], load: schedule.Load, agreed: schedule.Agreed) -> None:
     own = "".join(", %g at cpu %d" % (rate, cpu) for cpu, rate in load.own_rates)
     seconds = (max(times) - times[0]) / 1e9 if times else 0
     cli.note("agreed in round %d: the replay has each packet where the steps assume it"
              % agreed.rounds)
     cli.note("%d packets in %.3f s, %d steps, %g packets/s a processor%s, %d dropped"
-             % (len(times), seconds, len(agreed.steps), load.rate, own, agreed.dropped))
+             % (len(times), seconds, agreed.desk.count(), load.rate, own, len(agreed.desk.drops)))
 
 
 def by_kernel(told: argparse.Namespace, settings: plan.Plan, source: str, capture: str,
@@ -105,8 +104,8 @@ def main(words: list[str]) -> None:
         agreed = schedule.timed_steps(replays, times, load, cli.say)
         if told.kernel:
             shutil.copyfile(capture, told.new_capture)
-        sys.stdout.write(plan.plan_text(replays.with_steps(agreed.steps)))
-    say_result(replays, times, load, agreed)
+        sys.stdout.write(plan.plan_text(dict(settings, steps=agreed.desk.steps())))
+    say_result(times, load, agreed)
 
 
 def entry() -> NoReturn:
