@@ -11,6 +11,7 @@ PACKET = re.compile(
     rb"packet (0|[1-9]\d{0,9}) (none|two4(?: [0-9a-f]{8}){2}|two6(?: [0-9a-f]{32}){2}"
     rb"|(?:tcp|udp)4(?: [0-9a-f]{8}){2}(?: \d{1,5}){2}"
     rb"|(?:tcp|udp)6(?: [0-9a-f]{32}){2}(?: \d{1,5}){2}) hash [^\n]*\n")
+FLOW = re.compile(rb"^packet \d+ ([^\n]*) hash ", re.MULTILINE)
 COUNT = re.compile(rb"packets (0|[1-9]\d{0,9})(?: cut \d+)?\n")
 LONGEST_LINE = 512
 
