@@ -1,0 +1,136 @@
+"""How long packets wait and how much processors work, by the clock of a schedule.
+
+A packet waits from its arrival until its processor begins to serve it. The load of a processor is
+the part of the time from the first arrival to the last in which it served. Times are whole
+nanoseconds from the first arrival. A file of times has a line for each packet of the capture:
+
+    steer-times 1
+    ARRIVAL BEGIN END        of a packet that was served
+    ARRIVAL - -              of one that was dropped
+    end PACKETS
+"""
+
+import re
+from collections import namedtuple
+
+from . import cli
+
+FIRST_LINE = b"steer-times 1\n"
+_LINE = re.compile(rb"(\d{1,19}) (?:(\d{1,19}) (\d{1,19})|- -)\n")
+_END = re.compile(rb"end (\d{1,9})\n")
+
+# Lists of whole nanoseconds; begins and ends have None where a packet was dropped.
+Times = namedtuple("Times", "arrivals begins ends")
+
+# middle, most, longest: the wait that half of the packets do not pass, 99 of 100, and all, in
+# nanoseconds, None where none was served. loads: the load of each processor, from 0 to 1, None
+# where all packets arrived at once.
+Waits = namedtuple("Waits", "middle most longest loads")
+
+
+def times_of(desk):
+    """The Times of the packets that a serving.Desk has served."""
+    begins = [None if time is None else round(time) for time in desk.begins]
+    ends = [None if time is None else round(time) for time in desk.ends]
+    return Times([round(time) for time in desk.arrivals], begins, ends)
+
+
+def write(times, out):
+    """Writes Times to a binary stream."""
+    out.write(FIRST_LINE)
+    out.write("".join(
+        "%d - -\n" % arrival if begin is None else "%d %d %d\n" % (arrival, begin, end)
+        for arrival, begin, end in zip(*times)).encode("ascii"))
+    out.write(b"end %d\n" % len(times.arrivals))
+
+
+def read_file(name):
+    """The Times that a file has.
+
+    NotThatFile where its first line is another, Refused where it is cut short or a line is wrong.
+    """
+    source = cli.source_name(name)
+    lines = cli.read_bytes(name).splitlines(keepends=True)
+    if lines[:1] != [FIRST_LINE]:
+        raise cli.NotThatFile(source, "no times: the first line is not `steer-times 1`")
+    end = _END.fullmatch(lines[-1])
+    if end is None or int(end.group(1)) != len(lines) - 2:
+        raise cli.Refused(source, "cut short after line %d (no line `end` with the number of the "
+                          "packets)" % len(lines))
+    times = Times([], [], [])
+    for number, line in enumerate(lines[1:-1], 2):
+        found = _LINE.fullmatch(line)
+        values = [field and int(field) for field in found.groups()] if found else [1, 0, 0]
+        if values[1] is not None and not values[0] <= values[1] <= values[2]:
+            raise cli.Refused(source, "line %d is not ARRIVAL BEGIN END, ascending, nor "
+                              "ARRIVAL - -" % number)
+        for column, value in zip(times, values):
+            column.append(value)
+    return times
+
+
+def check(times, rep, source):
+    """Refuses Times that are not those of the packets of a report."""
+    if len(times.arrivals) != len(rep.packets) or rep.end.arrived != rep.end.total:
+        raise cli.Refused(source, "it has times of %d packets, and the report has %d of %d"
+                          % (len(times.arrivals), rep.end.arrived, rep.end.total))
+    for packet, begin in zip(rep.packets, times.begins):
+        if (packet.place == "drop") != (begin is None):
+            raise cli.Refused(source, "packet %d is %s in the report, and %s here" % (
+                packet.id, "dropped" if begin is not None else "not dropped",
+                "served" if begin is not None else "dropped"))
+
+
+def waits_of(times):
+    """How long each packet waited, None where it was dropped."""
+    return [None if begin is None else begin - arrival
+            for arrival, begin in zip(times.arrivals, times.begins)]
+
+
+def _rank(ordered, part, whole):
+    """The least of the ascending values that `part` of `whole` of them do not pass."""
+    return ordered[-(-len(ordered) * part // whole) - 1] if ordered else None
+
+
+def loads_of(times, cpus, count):
+    """The load of each of `count` processors; `cpus` has the processor of each packet."""
+    last = times.arrivals[-1] if times.arrivals else 0
+    if not last:
+        return [None] * count
+    busy = [0] * count
+    for cpu, begin, end in zip(cpus, times.begins, times.ends):
+        if begin is not None and begin < last:
+            busy[cpu] += min(end, last) - begin
+    return [work / last for work in busy]
+
+
+def summary(times, cpus, count):
+    """The Waits of packets whose processors are `cpus`, of `count` processors."""
+    ordered = sorted(wait for wait in waits_of(times) if wait is not None)
+    return Waits(_rank(ordered, 1, 2), _rank(ordered, 99, 100), _rank(ordered, 1, 1),
+                 loads_of(times, cpus, count))
+
+
+UNITS = ((1000000000, "s"), (1000000, "ms"), (1000, "us"))
+
+
+def time_text(nanoseconds):
+    """A time with three digits at least, such as `50.0 us`, `12.3 ms`, `0`, or `-` for none."""
+    if not nanoseconds:
+        return "-" if nanoseconds is None else "0"
+    for unit, name in UNITS:
+        if nanoseconds >= unit:
+            value = nanoseconds / unit
+            return "%.*f %s" % (1 if value < 100 else 0, value, name)
+    return "%d ns" % nanoseconds
+
+
+def load_text(load):
+    """A load in per cent, or `-` for none."""
+    return "-" if load is None else "%.0f%%" % (100 * load)
+
+
+def lines_of(waits):
+    """Lines with the waits of a schedule."""
+    yield "wait: half of the packets at most %s, 99 of 100 at most %s, the longest %s" % (
+        time_text(waits.middle), time_text(waits.most), time_text(waits.longest))
