@@ -76,7 +76,7 @@ def places_of(data: bytes, known: Places | None = None, first: int = 0) -> Place
         _NUMBERS[number] for number in cpu if number != b"-"]
     dropped, limited = set(compress(count(first), drop)), set(compress(count(first), limit))
     if known is None:
-        apps = [int(app) for app, in report.fields_of(data, "p", ("app",))]
+        apps = [int(app) for _, app in report.fields_of(data, "p", ("q", "app"))]
         return Places(queues, cpus, apps, dropped, limited)
     return Places(queues, cpus, known.apps,
                   dropped.union(packet for packet in known.dropped if packet < first),
