@@ -144,7 +144,7 @@ def head(found, page, pairs, files):
            about["states"], "", f"**Promised by.** {about['promised']}", "",
            f"**Here** are all {len(pairs)} definitions that `{about['root'][1]}` rests on, from "
            f"{len(files)} files, {lines} lines without comments, as they are in `crates/*/specs`. "
-           "To know what is claimed, nothing else of the repository has to be read. The theorem "
+           "To know what it says, nothing else of the repository has to be read. The theorem "
            "comes first, then the types. Then its fields follow in their order, each with what it "
            "alone rests on, and after them what several rest on; the definitions of a file are "
            "together. So what a definition uses is below it, or belongs to an earlier field: read "
