@@ -5,6 +5,7 @@ Read by the other scripts of this folder. Names are followed as a reader follows
 is the name `step` of that module. Fields of records are not names. Definitions of the libraries
 are not followed; types of the code are those of dev/declared.py.
 """
+import functools
 import os
 import re
 
@@ -26,9 +27,10 @@ def read(path):
         return file.read()
 
 
+@functools.lru_cache(maxsize=None)
 def crates():
     """The crates in the order of crates.txt."""
-    return re.findall(r"^(\w+):", read("crates.txt"), re.M)
+    return tuple(re.findall(r"^(\w+):", read("crates.txt"), re.M))
 
 
 def groups():
