@@ -302,7 +302,9 @@ def page_text(found, page):
     out = head(found, page, pairs, files)
     out += field_table(found, page)
     notes, stated = twice(found, pairs), field_notes(found, page)
-    values = [pair for pair in pairs[1:] if is_values(found, *pair)]
+    first = found[root[0]].uses(root[1])
+    values = sorted((pair for pair in pairs[1:] if is_values(found, *pair)),
+                    key=lambda pair: pair not in first)
     for number, (module, names) in enumerate(files):
         shown = [name for name in names if (module, name) not in values]
         if shown:

@@ -77,11 +77,12 @@ PAGES = {
 WORDS = [
     joined("""
         A *lane* is the backlog of a processor, or a transmit queue. It accepts or drops a packet
-        that is *put* to it. An accepted packet is *pulled*, *delivered* and *retired*, and the
-        *head* of the lane is the number of those retired."""),
+        that is *put*, or offered, to it. An accepted packet is *pulled*, *delivered* to an *out
+        lane* (an inbox; of replies the port) and *retired*; the *head* of the lane is the number
+        of those retired."""),
     joined("""
-        A *choice* is the lane that a receive queue chose for a packet, or an application for a
-        reply, with all that was seen for it."""),
+        A *producer* chooses lanes: a receive queue for its packets, an application for its
+        replies. A *choice* is the lane that was chosen, with all that was seen for it."""),
     joined("""
         A *class* is the flows that share an entry of a flow table: the hash modulo the flow count
         of the queue (`rps_flow_cnt`); of a reply it is the flow number. Its *entry* has the lane
@@ -91,6 +92,10 @@ WORDS = [
         A *want* is the processor that was read from the socket flow table; of a reply it is the
         queue that the maps pick. The *desired* processor is the want if there is one and it is
         online, otherwise the choice of RPS."""),
+    joined("""
+        The *three conditions* of the manual (`Documentation/networking/scaling` of the kernel)
+        under which a class gets the desired lane: it has no lane, or its lane is offline, or the
+        head of its lane has reached the recorded tail."""),
     joined("""
         A *setup* is what plan and capture fix, *settings* are what commands change. A *count* does
         not wrap; a *counter number* is the plan's start and a count, modulo 2^32."""),
