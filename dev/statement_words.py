@@ -90,8 +90,8 @@ WORDS = [
         of the class that was accepted since the class came there."""),
     joined("""
         A *want* is the processor that was read from the socket flow table; of a reply it is the
-        queue that the maps pick. The *desired* processor is the want if there is one and it is
-        online, otherwise the choice of RPS."""),
+        queue that the maps pick. The *desired* processor is the want if the packet has a class and
+        the want is online, otherwise the choice of RPS."""),
     joined("""
         The *three conditions* of the manual (`Documentation/networking/scaling` of the kernel)
         under which a class gets the desired lane: it has no lane, or its lane is offline, or the
