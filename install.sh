@@ -1,7 +1,7 @@
 #!/bin/sh
-# Links steer and its companion programs into PREFIX/bin, and puts the man page and the completions into
-# PREFIX/share. PREFIX is the first word, ~/.local by default. The links lead to this clone, which has to
-# stay where it is.
+# Links steer and its companion programs into PREFIX/bin, and puts the man page and the completions
+# into PREFIX/share. PREFIX is the first word, ~/.local by default. The links lead to this clone,
+# which has to stay where it is.
 root=$(cd "$(dirname "$(readlink -f "$0")")" && pwd) || exit 1
 prefix=${1:-$HOME/.local}
 completions=$prefix/share/bash-completion/completions

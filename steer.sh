@@ -1,11 +1,11 @@
 #!/bin/sh
-# Runs the program with these words in this folder: the released one if the sources are those that it was
-# built from, and otherwise one that is built here, with its proofs, whenever its sources have changed.
-# With STEER_BUILD set to anything it is built here in any case. The words --help and --version are
-# answered here: the program itself has no options.
-# A build shows on standard error a line for each crate that it proves, with how many come after it; all
-# output of the tools goes to out/steer.log in the crate. A failed build shows the end of that log and has
-# status 1. The file out/steer.built names the kit of the last build.
+# Runs the program with these words in this folder: the released one if the sources are those that
+# it was built from, and otherwise one that is built here, with its proofs, whenever its sources
+# have changed. With STEER_BUILD set to anything it is built here in any case. The words --help and
+# --version are answered here: the program itself has no options. A build shows on standard error a
+# line for each crate that it proves, with how many come after it; all output of the tools goes to
+# out/steer.log in the crate. A failed build shows the end of that log and has status 1. The file
+# out/steer.built names the kit of the last build.
 root=$(cd "$(dirname "$(readlink -f "$0")")" && pwd) || exit 1
 crate=$root/crates/steer
 release=$root/release

@@ -1,8 +1,8 @@
 #!/usr/bin/env python3
 """Lists what of the tracked sources is laid out otherwise than docs/develop.md says: lines over 100
 columns, files over 800 lines (answers of a proof 150), functions over 40 lines outside tests, their
-contract included, READMEs of crates with other headings, and a README over 6,000 bytes. The status is
-1 if there is any."""
+contract included, READMEs of crates with other headings, and a README over 6,000 bytes. The status
+is 1 if there is any."""
 import os
 import re
 import subprocess
