@@ -4,7 +4,6 @@ import ast
 import os
 import re
 import shutil
-import stat
 import subprocess
 import sys
 import tempfile
@@ -47,19 +46,19 @@ class Package(unittest.TestCase):
     def test_each_script_is_an_entry_point(self):
         wanted = {}
         for name in scripts():
+            if name == "steer-snap":
+                continue
             module = name[len("steer-"):].replace("-", "_")
             module += "_" if module == "try" else ""
             wanted[name] = "steerlib.programs.%s:entry" % module
-            if name != "steer-snap":
-                self.assertEqual(text_of(TOOLS, name), SCRIPT % (module, module), name)
-                self.assertTrue(callable(module_of(name).main), name)
+            self.assertEqual(text_of(TOOLS, name), SCRIPT % (module, module), name)
+            self.assertTrue(callable(module_of(name).main), name)
             self.assertTrue(callable(module_of(name).entry), name)
         self.assertEqual(entry_points(), wanted)
 
-    def test_the_data_is_steer_snap(self):
-        data = os.path.join(TOOLS, "steerlib", "programs", "steer-snap.sh")
-        self.assertEqual(text_of(data), text_of(TOOLS, "steer-snap"))
-        self.assertTrue(text_of(data).startswith("#!/bin/sh\n"))
+    def test_steer_snap_is_installed_as_it_is(self):
+        self.assertIn('\nscript-files = ["steer-snap"]\n', text_of(PROJECT))
+        self.assertTrue(text_of(TOOLS, "steer-snap").startswith("#!/bin/sh\n"))
 
     def test_one_version(self):
         version = re.search('^version = "(.*)"$', text_of(PROJECT), re.MULTILINE).group(1)
@@ -135,8 +134,6 @@ class Installed(unittest.TestCase):
             status, out, err = self.run_installed(name, "--help", PATH=path)
             self.assertEqual((status, err), (0, ""), name)
             self.assertTrue(out.startswith("usage: %s " % name), name)
-        data = os.path.join(self.where, "steerlib", "programs", "steer-snap.sh")
-        self.assertFalse(stat.S_ISLNK(os.lstat(data).st_mode))
         self.check_steer()
 
     def check_steer(self):
