@@ -7,7 +7,7 @@ from typing import Any
 
 from . import ethtool
 from . import limits
-from .findings import Findings
+from .findings import CHANGES, Findings, listed
 from .snapshot import Snapshot
 
 SIZE = limits.TABLE_ENTRIES
@@ -29,7 +29,7 @@ def folded(table: list[int]) -> tuple[list[int], int, int]:
 def _table(said, queues, nearest, findings):
     """The table as 128 entries; the even one where none is told or it cannot be taken."""
     if said.table is None:
-        findings.note("no table in `ethtool -x`; the even one is taken")
+        findings.note("no table in `ethtool -x`; the even one is taken", CHANGES)
         return even(queues)
     if max(said.table) >= queues:
         findings.refuse("the table names queue %d, and there are %d (0 to %d)"
@@ -46,7 +46,7 @@ def _table(said, queues, nearest, findings):
             % (entries, SIZE))
     elif differ:
         findings.note("table of %d entries: %.1f %% of hashes get another queue here"
-                      % (entries, 100 * differ / period))
+                      % (entries, 100 * differ / period), CHANGES)
     elif entries > SIZE:
         findings.note("a table of %d entries that repeats after %d, taken exactly"
                       % (entries, SIZE))
@@ -59,7 +59,7 @@ def _key(said, findings):
     """The key as 80 digits, or None where the verification key is taken."""
     if said.key is None:
         findings.note("no key in `ethtool -x`; the verification key is taken, so queues are "
-                      "those of another card")
+                      "those of another card", CHANGES)
         return None
     if len(said.key) < limits.KEY_DIGITS:
         findings.refuse("a key of %d bytes, fewer than %d"
@@ -100,7 +100,7 @@ def _version_kinds(version, fields, findings):
                         % (silent[0], plain[0]))
     if silent and bits:
         findings.note("%s is not hashed; taken as true of all IPv%s but what has ports hashed"
-                      % (silent[0], version))
+                      % (silent[0], version), CHANGES)
     elif fields and not silent:
         bits |= 1 << ethtool.ADDRESS_BIT[version]
     return bits
@@ -118,19 +118,19 @@ def kinds(snapshot: Snapshot, findings: Findings) -> int | None:
         if fields is not None:
             told[name] = fields
     if not told:
-        findings.note("no hash fields in `ethtool -n`; kinds 63 taken")
+        findings.note("no hash fields in `ethtool -n`; kinds 63 taken", CHANGES)
         return None
     if not any(told.values()):
-        findings.note("the card says that it hashes nothing; kinds 63 taken")
+        findings.note("the card says that it hashes nothing; kinds 63 taken", CHANGES)
         return None
     bits = 0
     for version in ("4", "6"):
         bits |= _version_kinds(version, {name: fields for name, fields in told.items()
                                          if name.endswith(version)}, findings)
-    for name in ethtool.KINDS:
-        if name not in told:
-            findings.note("no hash fields of %s in `ethtool -n`; taken as hashed without ports"
-                          % name)
+    missing = [name for name in ethtool.KINDS if name not in told]
+    if missing:
+        findings.note("no hash fields of %s in `ethtool -n`; taken as hashed without ports"
+                      % listed(missing), CHANGES)
     return bits
 
 
@@ -140,7 +140,7 @@ def _warn(snapshot, nearest, findings):
     count = ethtool.rules_told(rules) or len(ethtool.rules(rules))
     if count:
         findings.note("%d n-tuple rules stand before the table, which a replay has not: see "
-                      "steer-rules and `steer place`" % count)
+                      "steer-rules and `steer place`" % count, CHANGES)
     if any(line.startswith("RSS Context ID") for _, lines in ethtool.rules(rules)
            for line in lines):
         text = "several RSS contexts: a rule leads to a table of its own"
@@ -152,9 +152,11 @@ def _warn(snapshot, nearest, findings):
     if ("driver: ixgbe" in snapshot.ethtool("-i {}")
             and any(line.startswith("ntuple-filters: off") for line in features)):
         findings.note("ixgbe with ntuple-filters off brings a TCP flow in on the queue by which "
-                      "it left, whatever the table says (docs/kernel.md)")
-    for name in ethtool.merging(features):
-        findings.note("%s is on: the capture may hold merged packets" % name)
+                      "it left, whatever the table says (docs/kernel.md)", CHANGES)
+    merging = ethtool.merging(features)
+    if merging:
+        findings.note("%s %s on: the capture may hold merged packets"
+                      % (listed(merging), "are" if merging[1:] else "is"))
 
 
 def settings(snapshot: Snapshot, queues: int, nearest: bool,

@@ -18,6 +18,12 @@ MACHINE_NAMES = {
     "processors": "cpus", "rx": "queues",
 }
 
+# What a value has to be changed for, where the plan's is another than the machine's.
+MEANINGS = {
+    "netdev_max_backlog": ", which is one more",
+    "flow_limit_cpu_bitmap": ", which names the processors that are put to, and not those that put",
+}
+
 CAPTURE_MAGICS = (b"\xd4\xc3\xb2\xa1", b"\xa1\xb2\xc3\xd4", b"\x4d\x3c\xb2\xa1",
                   b"\xa1\xb2\x3c\x4d", b"\x0a\x0d\x0d\x0a")
 
@@ -40,7 +46,7 @@ def of_key(name: str, known: Iterable[str]) -> str:
     meant = MACHINE_NAMES.get(name.lower())
     if meant is None or meant not in known:
         meant = near(name, known)
-    return ", is it `%s`?" % meant if meant else ""
+    return ", is it `%s`%s?" % (meant, MEANINGS.get(name.lower(), "")) if meant else ""
 
 
 def of_set(value: object) -> str:

@@ -64,24 +64,24 @@ class Queue(NamedTuple):
 
 
 class Cpu(NamedTuple):
-    """The sums of a processor; `retired` is None where they are counted from packets."""
+    """The sums of a processor."""
 
     cpu: int
     accepted: int
     pulled: int
     delivered: int
-    retired: int | None
+    retired: int
     dropped: int
 
 
 class Tx(NamedTuple):
-    """The sums of a transmit queue; `pulled` and `retired` are None where they are counted."""
+    """The sums of a transmit queue."""
 
     tx: int
     accepted: int
-    pulled: int | None
+    pulled: int
     delivered: int
-    retired: int | None
+    retired: int
 
 
 class Write(NamedTuple):
@@ -377,7 +377,7 @@ def _counted_cpus(report):
         count[1] += packet.place in ("hand", "inbox")
         count[2] += packet.place == "inbox"
         count[3] += packet.place == "drop"
-    return [Cpu(number, accepted, pulled, delivered, None, dropped)
+    return [(number, accepted, pulled, delivered, None, dropped)
             for number, (accepted, pulled, delivered, dropped) in enumerate(sums)]
 
 
@@ -389,7 +389,7 @@ def _counted_tx(report):
             continue
         sums[reply.tx][0] += reply.at is not None
         sums[reply.tx][1] += reply.port is not None
-    return [Tx(number, accepted, None, delivered, None)
+    return [(number, accepted, None, delivered, None)
             for number, (accepted, delivered) in enumerate(sums)]
 
 

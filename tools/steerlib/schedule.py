@@ -22,7 +22,7 @@ from itertools import accumulate, compress, count, islice
 from typing import Callable, Dict, Iterable, Iterator, List, NamedTuple, Union
 
 from . import capture as captures
-from . import cli, flows, limits, report
+from . import cautions, cli, ethtool, flows, limits, report
 from . import plan as plans
 from .serving import Desk, Places, Service, steps_each
 
@@ -317,12 +317,32 @@ def _uncollected():
             gc.enable()
 
 
-def say_about(settings: plans.Plan, source: str, load: Load) -> None:
-    """Notes what of a plan, which messages name `source`, does not show in steps by times."""
+def hashed_without_ports(capture: str, kinds: int) -> tuple[int, int]:
+    """How many packets of a capture have a flow that these kinds hash without ports, and all."""
+    out = cli.run_steer(["hash", capture])
+    bare = ["two4", "two6"] + [kind for kind, bit in ethtool.KINDS.items() if not kinds >> bit & 1]
+    return (sum(out.count(b" %s " % kind.encode()) for kind in bare),
+            int(out.splitlines()[-1].split()[1]))
+
+
+def notes_about(settings: plans.Plan, load: Load | None, capture: str,
+                kernel: bool = False) -> list[str]:
+    """What a replay of a plan over a capture does not show, or shows otherwise than a kernel.
+
+    `load` is None for steps by chance. Those of a plan itself are not used. `kernel` is whether
+    packets are rewritten so that they go where a kernel sends them.
+    """
+    notes = [cautions.of_backlog(settings)]
+    if not kernel:
+        notes.append(cautions.of_readers(settings))
+        if cautions.picks_by_hash(settings):
+            counts = hashed_without_ports(capture, cautions.kinds_of(settings))
+            notes.append(cautions.of_hashes(settings, *counts))
     steps = settings["steps"] if isinstance(settings["steps"], list) else []
     commands = sum(step.split(" ")[0] in COMMANDS for step in steps)
-    if commands:
-        cli.note("%s: its steps are replaced, and with them %d commands" % (source, commands))
-    if settings.get("sock") and not load.reads:
-        cli.note("%s: it has a table of readers (sock), and without --read no reader is ever seen, "
-                 "so that RFS moves no flow" % source)
+    if commands and load is not None:
+        notes.append("its steps are replaced, and with them %d commands" % commands)
+    if settings.get("sock") and load is not None and not load.reads:
+        notes.append("it has a table of readers (sock), and without --read no reader is ever seen, "
+                     "so that RFS moves no flow")
+    return [text for text in notes if text is not None]

@@ -20,7 +20,8 @@ from . import lint
 from . import machine
 from . import plan
 from . import processors
-from .findings import Findings
+from . import cautions
+from .findings import CHANGES, Findings
 
 # Names of a queue's settings: the list of the plan, the key there, and how values are read.
 OF_QUEUE = {
@@ -135,6 +136,8 @@ class Settings:
         self.value = value
         self.plan = jsontext.plain(value)
         self.changed: dict[tuple[str | int, ...], Any] = {}
+        self.bitmap: list[int] | None = None
+        self.limit = ""
 
     def set(self, word: str) -> None:
         """Makes the setting NAME=VALUE of this word. Raises WrongWords with the range."""
@@ -181,7 +184,7 @@ class Settings:
         if name == "rps_sock_flow_entries":
             value = _number(word, text, 0, limits.MOST_SOCKET_ENTRIES)
         elif name == "netdev_max_backlog":
-            value = _number(word, text, 1, limits.MOST_BACKLOG)
+            value = _number(word, text, 0, limits.MOST_BACKLOG - 1) + 1
         elif name == "flow_limit_cpu_bitmap":
             value = _mask(word, text, cpus, "processors")
         elif name == "apps":
@@ -191,6 +194,8 @@ class Settings:
         else:
             value = _receive_key(word, text)
         self._put((SIMPLE[name],), value)
+        if name == "flow_limit_cpu_bitmap":
+            self.bitmap = value
 
     def _kind(self, word, kind, text):
         if kind not in ethtool.KINDS or text not in ("sd", "sdfn"):
@@ -213,8 +218,17 @@ class Settings:
                 return None
         return start, jsontext.value_at(self.text, start)[1]
 
+    def _limit(self) -> None:
+        """Makes `limited` of the bitmap that was set, by the homes and masks as they now are."""
+        if self.bitmap:
+            homes = [queue["home"] for queue in self.plan["queues"]]
+            limited, self.limit = cautions.limited_by(self.bitmap, homes,
+                                                      cautions.targets(self.plan))
+            self._put(("limited",), limited)
+
     def written(self) -> str:
         """The text of the plan with all settings made."""
+        self._limit()
         edits, absent = [], []
         for path, value in self.changed.items():
             span = self._span(path)
@@ -231,13 +245,32 @@ class Settings:
         return self.text
 
     def notes(self) -> list[str]:
-        """Warnings of what the settings that were made have as a consequence."""
+        """What is to be noted of the settings that were made, once the plan was written."""
         findings = Findings()
-        if any(path[-1] in ("mask", "reta") for path in self.changed):
+        keys = {path[-1] for path in self.changed}
+        if keys & {"mask", "reta"}:
             machine.warn_of_shared_bits(plan.table_of(self.plan), [
                 queue["mask"] for queue in self.plan["queues"]], findings)
-        flows = any(queue["flows"] for queue in self.plan["queues"])
-        if flows and not self.plan["sock"] and any(
-                path[-1] in ("flows", "sock") for path in self.changed):
-            findings.note("rps_flow_cnt is set and rps_sock_flow_entries is 0: no RFS")
+        if keys & {"flows", "sock"} and not self.plan["sock"] and any(
+                queue["flows"] for queue in self.plan["queues"]):
+            findings.note("rps_flow_cnt is set and rps_sock_flow_entries is 0: no RFS", CHANGES)
+        if "backlog" in keys:
+            findings.note(cautions.of_one_more(self.plan))
+        for text in self._cautions(keys):
+            if text:
+                findings.note(text, CHANGES)
         return findings.notes
+
+    def _cautions(self, keys):
+        """Where the answer by the plan is another than a kernel's, by what was changed."""
+        putting = {"mask", "flows", "sock"}
+        yield self.limit
+        if "limited" not in keys and self.plan.get("limited") and keys & (putting | {"home"}):
+            yield ("limited stays as it is; flow_limit_cpu_bitmap sets it anew, by homes and masks "
+                   "as they now are")
+        if keys & (putting | {"apps", "reta"}):
+            yield cautions.of_readers(self.plan)
+        if "kinds" in keys:
+            yield cautions.of_kinds(self.plan)
+        if keys & (putting | {"home", "backlog"}):
+            yield cautions.of_backlog(self.plan)

@@ -6,6 +6,7 @@ from collections import Counter
 from typing import Iterator
 
 from . import cli, flows, report, tables
+from .plan import Plan
 from .report import Report
 
 FLOWS_SHOWN = 10
@@ -33,6 +34,26 @@ def headline(rep):
                   not answer.answer.startswith("expired") for answer in rep.answers)
     if rep.answers:
         yield "commands %d, of which %d were not done" % (len(rep.answers), refused)
+
+
+def _bypassed(rep, plan, source):
+    """A line for the drops of packets that a kernel handles at once, without a backlog.
+
+    Those are the ones that come by a queue without a mask, of a flow whose reader is not known.
+    """
+    if (len(plan["queues"]), plan["cpus"]) != (len(rep.queues), len(rep.cpus)):
+        raise cli.Refused(source, "has %d queues and %d processors, and the report %d and %d" % (
+            len(plan["queues"]), plan["cpus"], len(rep.queues), len(rep.cpus)))
+    steps = plan["steps"] if isinstance(plan["steps"], list) else []
+    if any(step.startswith("mask ") for step in steps):
+        yield "the plan sets masks by commands: drops are not marked"
+        return
+    bare = [not queue["mask"] for queue in plan["queues"]]
+    cpus = Counter(packet.cpu for packet in rep.packets
+                   if packet.place == "drop" and bare[packet.q] and packet.want is None)
+    if cpus:
+        yield "drops of queues without a mask, where a kernel has no backlog for a card: %s" % (
+            ", ".join("%d on cpu %d" % (count, cpu) for cpu, count in sorted(cpus.items())))
 
 
 def _without(name, numbers):
@@ -74,6 +95,8 @@ def _replies(rep):
     yield ""
     yield from tables.aligned(("tx", "replies", "share", ""), rows)
     yield from _without("tx", [row.tx for row in rep.tx if not row.accepted])
+    yield "picked by the reader's processor and the receive hash; a kernel takes others " \
+          "(docs/kernel.md)"
 
 
 def _flows(rep, names):
@@ -95,13 +118,19 @@ def _flows(rep, names):
             len(count) - len(shown), len(rep.packets) - sum(packets for _, packets in shown))
 
 
-def screen(rep: Report, names: list[str] | None = None, source: str = "HASH") -> Iterator[str]:
-    """The lines of the screen; `names` are the flows of the packets, read from `source`."""
+def screen(rep: Report, names: list[str] | None = None, source: str = "HASH",
+           plan: Plan | None = None, plan_source: str = "PLAN") -> Iterator[str]:
+    """The lines of the screen; `names` are the flows of the packets, read from `source`.
+
+    With the `plan` of the report, drops that a kernel does not have are marked.
+    """
     if names is not None and len(names) != rep.end.total:
         raise cli.Refused(source, "has %d packets, and the report is of %d"
                           % (len(names), rep.end.total))
+    marks = [] if plan is None else list(_bypassed(rep, plan, plan_source))
     yield from headline(rep)
     yield from _cpus(rep)
+    yield from marks
     yield from _queues(rep)
     yield from _replies(rep)
     if names is not None:

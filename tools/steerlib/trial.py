@@ -23,6 +23,9 @@ from .plan import Plan
 SEED, RATE = "seed", "pps"
 STEPS_PER_PACKET = 4
 REPORT, REFUSED = ".report", ".refused"
+MANUAL = "by the manual's rule, hash modulo size; a kernel picks other members (docs/kernel.md)"
+KERNEL = "by a kernel's rule, the hash scaled (docs/kernel.md)"
+EITHER = "by the manual's rule, hash modulo size, or in trials with --kernel by a kernel's"
 
 
 class Trial(NamedTuple):
@@ -284,8 +287,11 @@ def rate_table(rows: list[ValueRow], title: str,
                            for label, results in rows])
 
 
-def screen(rows: list[Row]) -> Iterator[str]:
-    """All lines of the tables of rows of (plan, results by kind and value)."""
+def screen(rows: list[Row], rule: str = MANUAL) -> Iterator[str]:
+    """All lines of the tables of rows of (plan, results by kind and value).
+
+    The last line is `rule`, by which the processors were picked.
+    """
     by_seed, by_rate = _of_kind(rows, SEED), _of_kind(rows, RATE)
     parts = [seed_table(by_seed)] if by_seed else []
     if by_rate:
@@ -296,3 +302,5 @@ def screen(rows: list[Row]) -> Iterator[str]:
         if number:
             yield ""
         yield from part
+    yield ""
+    yield rule

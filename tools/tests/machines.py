@@ -59,7 +59,7 @@ class Machine:
             self.homes = [self.online[(base + q) % len(self.online)] for q in range(self.queues)]
         self.flows = [draw.choice([0, 0, 1, 256, 4096, 32768]) for _ in range(self.queues)]
         self.sock = draw.choice([0, 256, 32768, 65536])
-        self.backlog = draw.choice([1, 1000, 65536])
+        self.backlog = draw.choice([0, 1000, 65535])
         self.limited = self.some(4) if draw.random() < 0.3 else []
         self.senders = [self.some(5) for _ in range(draw.choice([1, self.queues, 32]))]
         self.sender_queues = [
@@ -102,6 +102,16 @@ class Machine:
     def readers(self):
         """Where readers stand unless said: on all processors, or where work is."""
         return list(self.online) if len(self.online) <= 32 else self.used([])[:32]
+
+    def put_to_with_the_limit(self):
+        """The processors that some queue puts to whose home is in flow_limit_cpu_bitmap."""
+        found = set()
+        for home, mask, flows in zip(self.homes, self.masks, self.flows):
+            if home in self.limited:
+                found.update(mask)
+                if flows and self.sock:
+                    found.update(self.readers())
+        return sorted(found)
 
     def must_be_refused(self):
         if self.queues > 16 or len(self.used(self.readers())) > 32:

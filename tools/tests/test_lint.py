@@ -69,7 +69,9 @@ MEANT = (
     ('{%s, "steps": [@"mask 0 1, 2"]}', "steps/0",
      "`mask 0 1, 2`: one blank stands between words, and none elsewhere"),
     ('{%s, @"netdev_max_backlog": 9}', "netdev_max_backlog",
-     "unknown key, is it `backlog`?"),
+     "unknown key, is it `backlog`, which is one more?"),
+    ('{%s, @"flow_limit_cpu_bitmap": [1]}', "flow_limit_cpu_bitmap", "unknown key, is it "
+     "`limited`, which names the processors that are put to, and not those that put?"),
     ('{%s, @"kind": 9}', "kind", "unknown key, is it `kinds`?"),
     ('{%s, "key": @"6d:5a"}', "key", "no text of 80 hexadecimal digits; these are 4"),
     ('{%s, "reta": @[0]}', "reta", "1 members, and it has 128"),

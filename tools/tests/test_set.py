@@ -23,8 +23,10 @@ SETTINGS = (
     ("tx-0/xps_cpus=3", ("tx", 0, "cpus"), [0, 1]),
     ("tx-7/xps_rxqs=81", ("tx", 7, "queues"), [0, 7]),
     ("rps_sock_flow_entries=0", ("sock",), 0),
-    ("netdev_max_backlog=2000", ("backlog",), 2000),
-    ("flow_limit_cpu_bitmap=8001", ("limited",), [0, 15]),
+    ("netdev_max_backlog=2000", ("backlog",), 2001),
+    ("netdev_max_backlog=0", ("backlog",), 1),
+    ("flow_limit_cpu_bitmap=8001", ("limited",), [4, 5, 6, 7]),
+    ("flow_limit_cpu_bitmap=ff00", ("limited",), []),
     ("apps=4-7,2", ("apps",), [4, 5, 6, 7, 2]),
     ("indir=equal:5", ("reta",), [i % 5 for i in range(128)]),
     ("indir=default", ("reta",), [i % 8 for i in range(128)]),
@@ -49,8 +51,8 @@ WRONG = (
     ("rx-0/rps_flow_cnt=-1", "`-1` is no number, 0 to 32768"),
     ("rx-0/home=16", "16 is not in 0 to 15"),
     ("rps_sock_flow_entries=65537", "65537 is not in 0 to 65536"),
-    ("netdev_max_backlog=0", "0 is not in 1 to 65536"),
-    ("netdev_max_backlog=1e3", "`1e3` is no number, 1 to 65536"),
+    ("netdev_max_backlog=65536", "65536 is not in 0 to 65535"),
+    ("netdev_max_backlog=1e3", "`1e3` is no number, 0 to 65535"),
     ("flow_limit_cpu_bitmap=1,00000000", "bit 32 is set"),
     ("apps=16", "processor 16 is not in 0 to 15"),
     ("apps=", "0 readers, and a plan has 1 to 32"),
@@ -71,6 +73,44 @@ WRONG = (
     ("netdev_max_backlogs=1", "no such setting, is it netdev_max_backlog?"),
     ("backlog=1", "backlog: no such setting; they are rx-N/rps_cpus, "),
     ("rps_sock_flow_entries", "no setting of the form NAME=VALUE"),
+)
+
+BIT = "the readers of rx 0-7 are picked by the same bits of the hash as the members of the mask, " \
+    "and are always where RPS sends the packet: RFS moves no flow there (name other readers: " \
+    "--apps, apps=)"
+ONE_MORE = "backlog %d: a kernel lets one packet more wait than netdev_max_backlog %d says"
+NO_BACKLOG = "rx %s without RPS and RFS: a kernel handles a card's packets there at once, " \
+    "without a backlog, so that netdev_max_backlog does nothing and drops on cpu %s for them are none of " \
+    "a machine's"
+PUT = "flow_limit_cpu_bitmap %s names processors that put; limited here are those that they put " \
+    "to, %s"
+
+# Settings of the plan, and the notes of them, in their order.
+NOTED = (
+    ("netdev_max_backlog=16", (ONE_MORE % (17, 16),)),
+    ("apps=4-7", (BIT,)),
+    ("apps=4-7,4-7", (BIT,)),
+    ("apps=7,6,5,4", ()),
+    ("apps=8-11", ()),
+    ("rps_sock_flow_entries=0", (
+        "rps_flow_cnt is set and rps_sock_flow_entries is 0: no RFS",)),
+    ("rps_sock_flow_entries=0 netdev_max_backlog=9 rx-1/rps_cpus=0 rx-2/rps_cpus=0", (
+        "8 queues over a mask of 4: a queue reaches 1 of them by the manual's modulo, and 4 in a "
+        "kernel (docs/kernel.md)",
+        "rps_flow_cnt is set and rps_sock_flow_entries is 0: no RFS",
+        NO_BACKLOG % ("1-2", "1-2"), ONE_MORE % (10, 9))),
+    ("flow_limit_cpu_bitmap=ff", (PUT % ("0-7", "4-7"),)),
+    ("flow_limit_cpu_bitmap=0f", (
+        PUT % ("0-3", "4-7") + "; rx 4-7 put there too, in a kernel without the limit",)),
+    ("flow_limit_cpu_bitmap=0f apps=8", (
+        PUT % ("0-3", "4-8") + "; rx 4-7 put there too, in a kernel without the limit",)),
+    ("flow_limit_cpu_bitmap=f00", (
+        "flow_limit_cpu_bitmap 8-11 names processors that put; no queue has its home there and "
+        "puts to a backlog, so nothing is limited",)),
+    ("flow_limit_cpu_bitmap=0", ()),
+    ("rx-flow-hash/udp4=sdfn", (
+        "UDP over IPv6 is hashed without its ports (kinds 31): a kernel steers it by a hash of "
+        "its own, so its processor is not to be foretold",)),
 )
 
 # Odd blanks, unknown keys, keys that stand twice, steps and escapes, all to be carried over.
@@ -125,6 +165,20 @@ class Set(unittest.TestCase):
         self.assertEqual(err, "note: 8 queues over a mask of 2: a queue reaches 1 of them by the "
                               "manual's modulo, and 2 in a kernel (docs/kernel.md)\n")
 
+    def test_notes(self):
+        for words, notes in NOTED:
+            made = settings.Settings(PLAN.encode("utf-8"), "made")
+            for word in words.split():
+                made.set(word)
+            made.written()
+            self.assertEqual(made.notes(), list(notes), words)
+
+    def test_the_bitmap_is_translated_by_the_masks_that_are_set_with_it(self):
+        made = json.loads(changed(PLAN, "flow_limit_cpu_bitmap=3", "rx-*/rps_flow_cnt=0",
+                                  "rx-0/rps_cpus=300", "rx-1/home=9", "rx-2/home=1",
+                                  "rx-2/rps_cpus=c00"))
+        self.assertEqual(made["limited"], [8, 9, 10, 11])
+
     def test_wrong_settings(self):
         for word, reason in WRONG:
             with self.assertRaises(cli.WrongWords, msg=word) as caught:
@@ -138,10 +192,10 @@ class Set(unittest.TestCase):
     def test_all_else_stays_byte_for_byte(self):
         for word, old, new in (
                 ("rx-0/rps_cpus=8", "[ 1,2 ]", "[3]"), ("apps=1", "[ 2 ]", "[1]"),
-                ("netdev_max_backlog=9", '" : 7 ,', '" : 9 ,'),
+                ("netdev_max_backlog=9", '" : 7 ,', '" : 10 ,'),
                 ("rx-0/home=3", '"home":0', '"home":3'),
                 ("rps_sock_flow_entries=8", '"sock":0', '"sock":8'),
-                ("flow_limit_cpu_bitmap=2", '"steps"', '"limited": [1], "steps"')):
+                ("flow_limit_cpu_bitmap=1", '"steps"', '"limited": [1, 2], "steps"')):
             self.assertEqual(ODD.count(old), 1, old)
             self.assertEqual(changed(ODD, word), ODD.replace(old, new), word)
         self.assertEqual(changed(ODD), ODD)
@@ -177,7 +231,7 @@ class Set(unittest.TestCase):
                     text = stream.read()
                 made = changed(text, *draw.sample([
                     "rx-*/rps_cpus=7", "rx-0/rps_flow_cnt=9", "tx-0/xps_cpus=2", "indir=equal:1",
-                    "tx-*/xps_rxqs=1", "rps_sock_flow_entries=3", "netdev_max_backlog=65536",
+                    "tx-*/xps_rxqs=1", "rps_sock_flow_entries=3", "netdev_max_backlog=65535",
                     "flow_limit_cpu_bitmap=7", "rx-*/home=2", "apps=0-2", "hkey=" + KEY,
                     "indir=default", "rx-flow-hash/udp6=sd"], 9))
                 self.assertEqual(verdict(folder, name, made.encode()), (0, ""), made)

@@ -20,6 +20,7 @@ queue  packets   share
 tx  replies   share
  0        3  100.0%  ########################
 no packets on tx 1
+picked by the reader's processor and the receive hash; a kernel takes others (docs/kernel.md)
 """
 
 THREE_SCREEN = """\
@@ -81,6 +82,25 @@ class Top(unittest.TestCase):
         self.assertEqual(shown.splitlines()[0],
                          "packets 3 of 3   dropped 2 (66.7%), 1 of them by the flow limit")
 
+    def test_drops_where_a_kernel_has_no_backlog(self):
+        """Queue 0 has a mask, queue 1 has none, and both put to the backlog of processor 1."""
+        steps = ["arrive", "arrive", "arrive", "poll 0", "poll 0", "poll 0"]
+        plan = {"cpus": 2, "queues": [{"home": 1, "mask": [], "flows": 0}], "sock": 0,
+                "backlog": 1, "apps": [0], "tx": [{"cpus": [], "queues": []}], "steps": steps}
+        masked = dict(plan, queues=[{"home": 0, "mask": [1], "flows": 0}])
+        moved = dict(masked, steps=steps + ["mask 0 1"])
+        line = ("drops of queues without a mask, where a kernel has no backlog for a card: 2 on "
+                "cpu 1")
+        with Folder() as folder:
+            for made, wanted in ((plan, line), (masked, None),
+                                 (moved, "the plan sets masks by commands: drops are not marked")):
+                report = folder.replay(made, example("three.pcap"))
+                bare = run("steer-top", report).stdout
+                shown = run("steer-top", report, "--plan", folder.path("plan.json")).stdout
+                self.assertIn("dropped 2 (66.7%)", bare)
+                more = [text for text in shown.splitlines() if text not in bare.splitlines()]
+                self.assertEqual(more, [wanted] if wanted else [])
+
     def test_packets_by_a_filter_are_counted(self):
         shown = run("steer-top", "-", data=REPLIED.replace(b"via reta", b"via filter", 2)).stdout
         self.assertIn("\nby a filter of accelerated RFS: 2 packets\n", shown)
@@ -122,7 +142,10 @@ class Top(unittest.TestCase):
                 ([folder.path("none")], 4, "none: No such file or directory"),
                 ([folder.name], 4, "Is a directory"),
                 ([folder.write("e", REPLIED[:-20])], 3, "cut short after line 17"),
-                (["-", "-"], 2, "cannot both be standard input"), ([], 2, "REPORT"))
+                (["-", "-"], 2, "only one of REPORT, HASH and PLAN can be standard input"),
+                ([path, "--plan", example("rps.json")], 3, "rps.json: refused: has 2 queues and 4 "
+                 "processors, and the report 1 and 3"),
+                ([path, "--plan", path], 4, "no plan: "), ([], 2, "REPORT"))
             for words, status, text in cases:
                 ended = run("steer-top", *words)
                 self.assertEqual((ended.returncode, ended.stdout), (status, ""), words)

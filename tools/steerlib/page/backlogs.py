@@ -204,10 +204,10 @@ STEPS = ("arrive", "take", "enter", "look", "weigh", "put", "leave", "poll", "pu
 
 def follow(rep: Report, plan: Dict[str, Any], source: str) -> Backlogs:
     """The Backlogs of a report by the steps of its plan, which messages name `source`."""
-    for kind, rows, count in (("queues", rep.queues, len(plan["queues"])),
-                              ("processors", rep.cpus, plan["cpus"])):
-        if len(rows) != count:
-            raise cli.Refused(source, "it has %d %s, and the report %d" % (count, kind, len(rows)))
+    for kind, rows, count in (("queues", len(rep.queues), len(plan["queues"])),
+                              ("processors", len(rep.cpus), plan["cpus"])):
+        if rows != count:
+            raise cli.Refused(source, "it has %d %s, and the report %d" % (count, kind, rows))
     steps = plan["steps"]
     if isinstance(steps, dict):
         steps = _seeded(steps["seed"], steps["count"], len(rep.queues), len(rep.cpus))

@@ -22,6 +22,10 @@ procfs and with ethtool, and the values that one writes there. All else stays by
 * in place of Q or T is every queue. Masks are hexadecimal, as in sysfs: f0 is processors 4
 to 7. Home is the processor that takes the interrupts of the queue. Processors are numbered
 as in the plan. Settings are made in their order, so that a later one wins.
+
+netdev_max_backlog=N gives the plan a backlog of N + 1, since a kernel lets one packet more wait
+than the setting says. The bitmap of the flow limit names processors that put packets, and a plan
+those that are put to: it is translated by the homes and masks that the plan then has.
 """
 EXAMPLE = """\
 steer-set plan.json 'rx-*/rps_cpus=f0' netdev_max_backlog=2000 > other.json
@@ -37,9 +41,10 @@ def main(words: list[str]) -> int:
     changed = settings.Settings(cli.read_bytes(given.plan), cli.source_name(given.plan))
     for word in given.settings:
         changed.set(word)
+    written = changed.written()
     for text in changed.notes():
         cli.note(text)
-    sys.stdout.write(changed.written())
+    sys.stdout.write(written)
     return cli.DONE
 
 

@@ -74,6 +74,9 @@ def say_result(times: list[int], load: schedule.Load, agreed: schedule.Agreed) -
     seconds = (max(times) - times[0]) / 1e9 if times else 0
     cli.note("agreed in round %d: the replay has each packet where the steps assume it"
              % agreed.rounds)
+    if agreed.dropped:
+        cli.note("a kernel takes a whole backlog off at once, so there drops come in runs and hit "
+                 "other packets (docs/kernel.md)")
     cli.note("%d packets in %.3f s, %d steps, %g packets/s a processor%s, %d dropped"
              % (len(times), seconds, agreed.desk.count(), load.rate, own, len(agreed.desk.drops)))
 
@@ -97,7 +100,8 @@ def main(words: list[str]) -> None:
         source = cli.source_name(told.capture)
         settings, plan_source = plan.read_plan(told.plan), cli.source_name(told.plan)
         times = schedule.times_of(capture, source)
-        schedule.say_about(settings, plan_source, load)
+        for text in schedule.notes_about(settings, load, capture, told.kernel):
+            cli.note("%s: %s" % (plan_source, text))
         if told.kernel:
             settings, capture = by_kernel(told, settings, plan_source, capture, folder)
         replays = schedule.Replays(settings, plan_source, capture, source, folder)

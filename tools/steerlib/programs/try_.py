@@ -113,7 +113,7 @@ def print_commands(told: argparse.Namespace) -> None:
             print(line)
 
 
-def read_plans(names: list[str], load: schedule.Load | None) -> dict[str, Any]:
+def read_plans(names: list[str]) -> dict[str, Any]:
     """The settings of each plan by its name, or the exception that says why it has none."""
     settings: dict[str, Any] = {}
     for name in dict.fromkeys(names):
@@ -121,11 +121,23 @@ def read_plans(names: list[str], load: schedule.Load | None) -> dict[str, Any]:
             settings[name] = plan.read_plan(name)
         except (cli.Refused, cli.NotThatFile) as fault:
             settings[name] = fault
-            continue
-        if load is not None:
-            schedule.say_about(settings[name], name, load)
-        settings[name]["steps"] = []
     return settings
+
+
+def prepare(settings: dict[str, Any], load: schedule.Load | None, capture: str,
+            kernel: bool) -> None:
+    """Notes what a replay of the plans shows otherwise than a kernel; takes their steps away.
+
+    What is to be said of several plans is said once, with their names.
+    """
+    about: dict[str, list[str]] = {}
+    for name, of in settings.items():
+        if not isinstance(of, Exception):
+            for text in schedule.notes_about(of, load, capture, kernel):
+                about.setdefault(text, []).append(name)
+            of["steps"] = []
+    for text, names in about.items():
+        cli.note("%s: %s" % (", ".join(names), text))
 
 
 def rows_of(told: argparse.Namespace) -> list[trial.Row]:
@@ -133,12 +145,13 @@ def rows_of(told: argparse.Namespace) -> list[trial.Row]:
     capture_name, names = told.files[0], told.files[1:]
     shown = cli.source_name(capture_name)
     load = told.pps and schedule.Load(0, told.cpu, told.reads, told.replies, told.speed)
-    settings = read_plans(names, load)
+    settings = read_plans(names)
     kind, values = (trial.RATE, told.pps) if told.pps else (trial.SEED, told.seeds)
     with schedule.plain_file(capture_name) as capture, \
             tempfile.TemporaryDirectory(dir=told.reports, prefix=".trials-") as work:
         times = schedule.times_of(capture, shown) if told.pps else None
         packets = trial.packets_of(capture, shown) if times is None else len(times)
+        prepare(settings, load, capture, told.kernel)
         shared = trial.Setting(capture, shown, times, packets, load, work, told.reports)
         drawn = [(name, draw) for name in names for draw in told.draws or (None,)]
         trials = [(trial_of(told, name, draw, settings[name], kind, value), shared)
@@ -181,7 +194,9 @@ def main(words: list[str]) -> int:
     for text in dict.fromkeys(texts):
         cli.say("%s: %s" % (cli.program_name(), text))
     if told.reports is None:
-        for line in trial.screen(rows):
+        rule = trial.EITHER if told.collect is not None else (
+            trial.KERNEL if told.kernel else trial.MANUAL)
+        for line in trial.screen(rows, rule):
             print(line)
     return cli.REFUSED if texts else cli.DONE
 
