@@ -14,7 +14,7 @@ IN_ORDER = ("ring", "poller", "backlog", "hand")
 """Places of packets that are still under way, in the order in which they are passed."""
 
 
-def headline(rep):
+def headline(rep: Report) -> Iterator[str]:
     """The first lines: what arrived, was dropped, moved and replied to, and what is under way."""
     packets = rep.packets
     why = Counter(packet.why for packet in packets)

@@ -80,8 +80,8 @@ BIT = "the readers of rx 0-7 are picked by the same bits of the hash as the memb
     "--apps, apps=)"
 ONE_MORE = "backlog %d: a kernel lets one packet more wait than netdev_max_backlog %d says"
 NO_BACKLOG = "rx %s without RPS and RFS: a kernel handles a card's packets there at once, " \
-    "without a backlog, so that netdev_max_backlog does nothing and drops on cpu %s for them are none of " \
-    "a machine's"
+    "without a backlog, so that netdev_max_backlog does nothing and drops on cpu %s for them are " \
+    "none of a machine's"
 PUT = "flow_limit_cpu_bitmap %s names processors that put; limited here are those that they put " \
     "to, %s"
 

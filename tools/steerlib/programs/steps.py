@@ -74,7 +74,7 @@ def say_result(times: list[int], load: schedule.Load, agreed: schedule.Agreed) -
     seconds = (max(times) - times[0]) / 1e9 if times else 0
     cli.note("agreed in round %d: the replay has each packet where the steps assume it"
              % agreed.rounds)
-    if agreed.dropped:
+    if agreed.desk.drops:
         cli.note("a kernel takes a whole backlog off at once, so there drops come in runs and hit "
                  "other packets (docs/kernel.md)")
     cli.note("%d packets in %.3f s, %d steps, %g packets/s a processor%s, %d dropped"
