@@ -171,7 +171,7 @@ class Kernel(unittest.TestCase):
                 before = chain.snapshot(played.made, machine.machine)
                 machine.play(played, EVENTS, reads=False)
                 after = chain.snapshot(played.made, machine.machine)
-                report = replayed(played, "netdev_max_backlog=%d" % (limit + 1))
+                report = replayed(played, "netdev_max_backlog=%d" % limit)
                 compared = chain.compared(played.made.folder, before, after)
             dropped = {packet.id: packet.cpu for packet in report.packets
                        if packet.place == "drop"}
@@ -219,7 +219,7 @@ class Differences(unittest.TestCase):
                 for _ in range(burst):
                     played.send(flow)
                 played.release(cpu)
-                report = replayed(played, "netdev_max_backlog=%d" % (limit + 1))
+                report = replayed(played, "netdev_max_backlog=%d" % limit)
             drops = sum(row.dropped for row in report.cpus)
             self.assertEqual((len(played.drops), drops), (burst - (limit + 1), burst - 1))
             FIGURES.append("second queue, limit %d: of %d frames the kernel took %d, a replay %d"
@@ -326,8 +326,8 @@ class Differences(unittest.TestCase):
                 played.send(flow)
             after = pair.waiting()
             played.release(cpu)
-            report = replayed(played, "netdev_max_backlog=%d" % (limit + 1),
-                              "flow_limit_cpu_bitmap=%x" % (1 << cpu))
+            report = replayed(played, "netdev_max_backlog=%d" % limit,
+                              "flow_limit_cpu_bitmap=%x" % (1 << machine.sender))
         taken = limit // 2 + 64
         self.assertEqual(list(played.drops), list(range(1 + taken, 1 + burst)))
         grown = {one: (after[one].dropped - before[one].dropped,
