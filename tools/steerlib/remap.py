@@ -69,8 +69,8 @@ class Flow:
     kind, data: as steerlib.frames has them, `none` and no bytes without IP. packets: how many.
     card: the hash of the card, or None. value: the hash that the kernel looks at, or None of a flow
     that has none in the new capture either. own: whether the kernel made it itself. queue, cpu,
-    app, tx: as in Choice. sends: the hash by which its replies are sent, 0 where it is not asked. entry: the low bits of the
-    new hash, target: all of them, new: its bytes in the new capture.
+    app, tx: as in Choice. sends: the hash by which its replies are sent, 0 where it is not asked.
+    entry: the low bits of the new hash. target: all of them. new: its bytes in the new capture.
     """
     __slots__ = ("kind", "data", "protocol", "label", "packets", "card", "value", "own", "queue",
                  "cpu", "app", "sends", "tx", "entry", "target", "new")
