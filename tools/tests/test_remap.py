@@ -3,6 +3,7 @@
 import json
 import os
 import random
+import struct
 import unittest
 
 import kernels
@@ -10,7 +11,7 @@ import reporting
 import running
 from running import example, sample
 
-from steerlib import cli, flows, plan, remap, remap_check, remap_files, report
+from steerlib import cli, flows, plan, remap, remap_check, remap_files, report, toeplitz
 
 # STEER_REMAP_CASES=1000 tries so many random machines.
 CASES = int(os.environ.get("STEER_REMAP_CASES", "20"))
@@ -102,6 +103,16 @@ def plan_of_snap(folder, name="plan.json", **changes):
     return folder.write(name, json.dumps(made).encode())
 
 
+FLOW = bytes.fromhex("0a0000020a0000019c400050")
+
+
+def pcap(frames):
+    """These frames as a pcap file."""
+    return struct.pack("<IHHIIII", 0xa1b2c3d4, 2, 4, 0, 0, 65535, 1) + b"".join(
+        struct.pack("<IIII", number, 0, len(data), len(data)) + data
+        for number, data in enumerate(frames))
+
+
 def hashes_of(name):
     """The hash of each packet, None without one, by the verification key, and its flow."""
     lines = running.steer("hash", name, "8", "63")[1].splitlines()[:-1]
@@ -175,6 +186,39 @@ class Program(unittest.TestCase):
                 self.assertEqual(status, cli.REFUSED, messages)
                 self.assertIn(text, messages)
                 self.assertFalse(os.path.exists(name))
+
+    def test_notes(self):
+        ethernet = bytes(12) + b"\x08\x00"
+        gre = ethernet + bytes.fromhex("4500002400000000402f0000") + FLOW[:8] + bytes(16)
+        solver = toeplitz.Solver(toeplitz.Toeplitz(bytes.fromhex(kernels.KEY)), range(32, 96), 12)
+        value = kernels.toeplitz(kernels.KEY, FLOW)
+        zero = (int.from_bytes(FLOW, "big") ^ solver.change(value)).to_bytes(12, "big")
+        self.assertEqual(kernels.toeplitz(kernels.KEY, zero), 0)
+        none = ethernet + bytes.fromhex("450000280000000040060000") + zero + bytes(16)
+        off = cli.read_text(SNAP).replace("receive-hashing: on", "receive-hashing: off")
+        rows = "".join("| %5d: %s\n" % (at, " 0 1 2 3 4 5 6 7" if at % 16 else " 7 6 5 4 3 2 1 0")
+                       for at in range(0, 200, 8))
+        head = "| RX flow hash indirection table for eth0 with 8 RX ring(s):\n"
+        table = "steer-snap 1\ndev eth0\ncpus online 0-15\n" + "".join(
+            "rx %d rps_cpus 00\ntx %d xps_cpus 00\n" % (queue, queue) for queue in range(8))
+        table += "cmd ethtool -x eth0\n" + head + rows + "end\n"
+        for changes, frames, snap, text in (
+                ({}, [gre], None, "into which a kernel looks and this program does not: 1 packet"),
+                ({}, [none], None, "the hash 0, which a kernel takes as none: 1 packet"),
+                ({}, [bytes(60)], None, "one processor of the mask of queue 0 gets them"),
+                (dict(key="6d5a" * 20), None, None, "the new plan has the verification key"),
+                (dict(cpus=16, steps={"seed": 1, "count": 9}, apps=[1] * 5,
+                      queues=[{"home": 0, "mask": list(range(15)), "flows": 0}] * 8), None, None,
+                 "the seed gives other steps here"),
+                ({}, None, off, "receive-hashing is off"),
+                (dict(sock=256), kernels.Traffic(random.Random(1), 400, 400).frames, table,
+                 "pairs of flows that share an entry of the socket table: ")):
+            with self.subTest(text), reporting.Folder() as folder:
+                capture = WEB if frames is None else folder.write("a.pcap", pcap(frames))
+                words = ["--snap", folder.write("snap", snap.encode())] if snap else []
+                status, messages, _ = ran(folder, plan_of_snap(folder, **changes), capture, *words)
+                self.assertEqual(status, cli.DONE, messages)
+                self.assertIn(text, messages)
 
     def test_wrong_words(self):
         for words, text in ((("--reader", "80"), "not PORT=CPU"), (("--reader", "x=1"), "`x`"),
