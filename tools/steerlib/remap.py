@@ -390,6 +390,8 @@ def _notes(result: Remapped, places: list, key: str | None) -> Iterator[str]:
         yield ("hashed by the kernel itself, with a key of its own for each boot, so drawn by the "
                "seed %d: %s of %s" % (result.options.seed, _count(
                    sum(flow.packets for flow in own), "packet"), _count(len(own), "flow")))
+    if len(old["tx"]) > 1 and not result.options.transmit:
+        yield "transmit queues are not asked for (--tx), so those in a report are no kernel's"
     if result.options.transmit:
         yield ("the hash of a socket's replies is a random number in a kernel, so drawn by the "
                "seed %d" % result.options.seed)

@@ -125,6 +125,35 @@ def lasting(text):
 
 
 class Snap(unittest.TestCase):
+    def test_sockets_and_contexts(self):
+        ss = ("tcp   LISTEN 0      511   0.0.0.0:80   0.0.0.0:*  "
+              "users:((\"a b\",pid=80,fd=6),(\"c\",pid=81,fd=6))\n"
+              "udp   UNCONN 0      0     0.0.0.0:53   0.0.0.0:*  users:((\"gone\",pid=9,fd=6))\n")
+        # The 39th field is the processor; the second may have blanks and brackets.
+        stat_of = "%d (a) b) S" + " 7" * 35 + " %d 0 0\n"
+        files = {"ss": "#!/bin/sh\necho \"$*\" >&2\ncat \"$0.txt\"\n", "ss.txt": ss,
+                 "proc/80/stat": stat_of % (80, 5), "proc/80/comm": "a b\n",
+                 "proc/80/status": "Name:\ta b\nCpus_allowed:\tff\nCpus_allowed_list:\t0-7\n",
+                 "proc/81/stat": stat_of % (81, 2), "proc/81/comm": "c\n",
+                 "tool": "#!/bin/sh\necho \"asked: $*\"\n"
+                         "[ \"$1$3\" = -n ] && echo '\tRSS Context ID: 3'\ntrue\n"}
+        with tempfile.TemporaryDirectory() as folder:
+            environment = dict(machine(folder), SS=os.path.join(folder, "ss"))
+            for name, text in files.items():
+                path = os.path.join(folder, name)
+                os.makedirs(os.path.dirname(path), exist_ok=True)
+                with open(path, "w", encoding="utf-8") as stream:
+                    stream.write(text)
+            os.chmod(environment["SS"], 0o755)
+            status, out, err = run("steer-snap", "--readers", DEVICE, environment=environment)
+        self.assertEqual((status, err), (0, ""))
+        lines = out.splitlines()
+        self.assertEqual(lines[lines.index("cmd ethtool -x e@0.5 context 3") + 1:], [
+            "| asked: -x e@0.5 context 3", "cmd ss -Htuanp", "| -Htuanp",
+            *("| " + line for line in ss.splitlines()),
+            "process 80 5 0-7 a b", "process 81 2 ! c", "end"])
+        self.assertEqual(snapshot.parse(out, "x").processes, {80: 5, 81: 2})
+
     def test_a_machine_that_was_made(self):
         """Queue 10 stands behind queue 9, a missing file is told with its reason, of shared
         interrupts all names are there, and those of other devices are not."""
