@@ -32,8 +32,9 @@ def add_options(parser: argparse._ActionsContainer) -> None:
     parser.add_argument("--online", metavar="LIST",
                         help="the processors that were online when masks were written (all)")
     parser.add_argument("--snap", metavar="SNAP",
-                        help="the snapshot of the plan: its table of any size, its rules and RSS "
-                             "contexts, and whether the card hands on its hashes")
+                        help="the snapshot of the plan: its table of any size, where the plan's "
+                             "was not changed, its rules and RSS contexts, and whether the card "
+                             "hands on its hashes")
     parser.add_argument("--sockets", action="store_true",
                         help="readers by the sockets of SNAP (steer-snap --readers), behind those "
                              "of --reader")

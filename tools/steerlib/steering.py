@@ -9,6 +9,7 @@ from __future__ import annotations
 from typing import Any, Callable, Iterable, Mapping, NamedTuple, Sequence
 
 from . import cli, ethtool, kernel, limits, rules, toeplitz
+from . import card as cards
 from . import plan as plans
 from .snapshot import Snapshot
 
@@ -110,6 +111,17 @@ def _context(snap, number, plan_key):
     return Context(said.table, toeplitz.Toeplitz(bytes.fromhex(said.key[:limits.KEY_DIGITS])).hash)
 
 
+def _table(snap, said, plan):
+    """The table of the card where the plan has it as far as it may, else that of the plan."""
+    own = plans.table_of(plan)
+    if said.table is None:
+        return own
+    if cards.folded(said.table)[0] != own:
+        cli.note("%s: its table is not that of the plan, which is taken" % snap.source)
+        return own
+    return said.table
+
+
 def card_of(snap: Snapshot, plan: plans.Plan) -> Card | None:
     """The Card of a snapshot for its plan, or None where the plan has all of it.
 
@@ -117,7 +129,7 @@ def card_of(snap: Snapshot, plan: plans.Plan) -> Card | None:
     """
     try:
         said = ethtool.hashing(snap.ethtool("-x {}"))
-        table = said.table or plans.table_of(plan)
+        table = _table(snap, said, plan)
         made, findings = rules.rules_of(snap, True)
         if findings.refusals:
             raise cli.Refused(snap.source, *findings.refusals)

@@ -172,6 +172,7 @@ class Machine:
             return
         size = draw.choice((64, 128, 256, 512, 48, 100))
         self.card_table = [draw.randrange(self.queues) for _ in range(size)]
+        self.table = [self.card_table[entry % size] for entry in range(128)]
         if draw.random() < 0.6:
             for number in range(draw.randint(1, 4)):
                 self.rules.append((draw.choice(((4, 6), (4, 17), (6, 6), (6, 17))),

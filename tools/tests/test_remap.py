@@ -211,7 +211,9 @@ class Program(unittest.TestCase):
                       queues=[{"home": 0, "mask": list(range(15)), "flows": 0}] * 8), None, None,
                  "the seed gives other steps here"),
                 ({}, None, off, "receive-hashing is off"),
-                (dict(sock=256), kernels.Traffic(random.Random(1), 400, 400).frames, table,
+                (dict(reta=[3] * 128), None, table, "its table is not that of the plan"),
+                (dict(sock=256, reta=[7, 6, 5, 4, 3, 2, 1, 0, *range(8)] * 8),
+                 kernels.Traffic(random.Random(1), 400, 400).frames, table,
                  "pairs of flows that share an entry of the socket table: ")):
             with self.subTest(text), reporting.Folder() as folder:
                 capture = WEB if frames is None else folder.write("a.pcap", pcap(frames))
