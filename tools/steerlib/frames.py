@@ -16,8 +16,8 @@ class Place(NamedTuple):
     """The kind of a frame's flow, such as tcp4 or two6, and offsets in the frame.
 
     `address` is that of the source address, which the destination address follows; `ports` that of
-    the ports, or None. `protocol` is that of the IP header, or behind the extensions, `label` the
-    flow label of IPv6, 0 without.
+    the ports, or None. `protocol` is that of the IP header, or of the
+    last extension, `label` the flow label of IPv6, 0 without.
     """
 
     kind: str

@@ -17,7 +17,7 @@ READERS = "readers"
 
 
 class _Conflict(Exception):
-    """One size would need two remainders of a flow, since spares stand between members."""
+    """One size would need two remainders of a flow, since spares are between the members."""
 
 
 def size_name(name: Any) -> str:
@@ -51,7 +51,7 @@ class Recipes:
         self._give_transmit_queues()
 
     def _make(self, laid):
-        """Chooses the sizes and the spares, and how remainders come of them.
+        """Chooses the sizes and the spares, and which remainders each kind of flow needs.
 
         Masks of one number of members have one size, unless they are to be kept `apart`.
         """
@@ -103,7 +103,7 @@ class Recipes:
         return frozenset(names)
 
     def _choices(self, names, more):
-        """The sizes from which each name may get one, with so many spare transmit queues."""
+        """The sizes from which each name may get one, with `more` spare transmit queues."""
         choices = {}
         most = limits.MOST_PROCESSORS
         for name in names:
@@ -151,7 +151,7 @@ class Recipes:
 
     def _advice(self, group, room):
         """Why a group of names has no sizes, and by what it would have some."""
-        largest = max(group, key=lambda name: name != READERS and name[0] == "mask" and name[1])
+        largest = max(sorted(group, key=str), key=lambda name: name != READERS and name[0] == "mask" and name[1])
         less = (("without --tx", {name for name in group if name[0] != "tx"}),
                 ("with a number of readers that is a power of two", set(group) - {READERS}),
                 ("with masks of one number of members",
@@ -176,7 +176,7 @@ class Recipes:
     # Remainders.
 
     def _give_transmit_queues(self):
-        """Gives each flow the transmit queue that XPS picks where its reader stands at first."""
+        """Gives each flow the transmit queue that XPS picks where its reader is at first."""
         if not self.transmit:
             return
         for flow in self.flows:

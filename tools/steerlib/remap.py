@@ -275,7 +275,7 @@ class _Rewriter:
         self.solvers = {}
 
     def solver(self, kind, length):
-        """The Solver for flows of a kind of which so many bytes are hashed."""
+        """The Solver for flows of a kind of which `length` bytes are hashed."""
         known = self.solvers.get((kind, length))
         if known is None:
             half = 4 * address_bytes(kind)

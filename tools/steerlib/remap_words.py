@@ -36,7 +36,7 @@ def add_options(parser: argparse._ActionsContainer) -> None:
                              "was not changed, its rules and RSS contexts, and whether the card "
                              "hands on its hashes")
     parser.add_argument("--sockets", action="store_true",
-                        help="readers by the sockets of SNAP (steer-snap --readers), behind those "
+                        help="readers by the sockets of SNAP (steer-snap --readers), after those "
                              "of --reader")
 
 

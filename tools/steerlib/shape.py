@@ -110,7 +110,7 @@ class Spares:
             self._pad(members, size, shape)
 
     def _pad(self, members, size, shape):
-        """Adds spares: such that stand above the members where there are any, so none moves."""
+        """Adds spares: processors above the members where there are any, so that none moves."""
         top = max(members, default=-1)
         above = list(range(top + 1, shape.cpus))
         fresh = list(range(shape.cpus, limits.MOST_PROCESSORS))

@@ -79,7 +79,8 @@ def chosen_sizes(choices: Mapping[Name, Sequence[int]], groups: Collection[Group
     Those of a group (a set of names) have no common divisor, and a product of at most `room`.
     Raises NoSizes.
     """
-    search = _Search(choices, groups, room)
+    ordered = sorted(groups, key=lambda group: sorted(map(str, group)))
+    search = _Search(choices, ordered, room)
     if not search.run():
         raise NoSizes(search.furthest or frozenset(choices))
     return search.chosen

@@ -163,7 +163,7 @@ class Machine:
             self.readers = draw.sample(self.readers, draw.randint(1, 4))
 
     def card(self):
-        """A table of another size, rules and a context, which a snapshot tells."""
+        """A table of another size, rules and a context, which a snapshot has."""
         draw = self.draw
         self.told = draw.random() < 0.4
         self.rules, self.contexts = [], {}

@@ -13,7 +13,7 @@ from running import example, sample
 
 from steerlib import cli, flows, plan, remap, remap_check, remap_files, report, toeplitz
 
-# STEER_REMAP_CASES=1000 tries so many random machines.
+# How many random machines are tried; STEER_REMAP_CASES=1000 tries a thousand.
 CASES = int(os.environ.get("STEER_REMAP_CASES", "20"))
 SWEEP = {"sock": 0, "filters": 0, "limited": [], "backlog": 65536, "steps": ["sweep"]}
 
