@@ -3,8 +3,8 @@
 // Places are whole numbers along the axis: ticks of `unit` nanoseconds, or packet numbers.
 // A view is a part of the axis, [low, high), in columns of one size.
 
-const DROPPED = 1, MOVED = 2, PULL = 32, ARRIVAL = 64, NO_CPU = 255;
-const COLUMN_WIDTH = 4, MOST_COLUMNS = 400, FEWEST_COLUMNS = 8;
+const DROPPED = 1, MOVED = 2, PULL = 32, ARRIVAL = 64;
+const COLUMN_WIDTH = 4, MOST_COLUMNS = 400, FEWEST_COLUMNS = 8, ROWS_OF_AN_AXIS = 8;
 
 const find = (id) => document.getElementById(id);
 
@@ -17,7 +17,8 @@ function add(parent, tag, name, text) {
 }
 
 async function unpack(text) {
-  const packed = Uint8Array.from(atob(text), (letter) => letter.charCodeAt(0));
+  const letters = atob(text), packed = new Uint8Array(letters.length);
+  for (let at = 0; at < packed.length; at++) packed[at] = letters.charCodeAt(at);
   const stream = new Blob([packed]).stream().pipeThrough(new DecompressionStream("deflate"));
   return new Uint8Array(await new Response(stream).arrayBuffer());
 }
@@ -26,9 +27,8 @@ async function unpack(text) {
 function placesOf(bytes, count) {
   const places = new Float64Array(count);
   for (let packet = 0, place = 0; packet < count; packet++) {
-    for (let plane = 0; plane < 4; plane++) {
-      place += bytes[plane * count + packet] * 2 ** (8 * plane);
-    }
+    place += bytes[packet] + bytes[count + packet] * 256
+      + (bytes[2 * count + packet] + bytes[3 * count + packet] * 256) * 65536;
     places[packet] = place;
   }
   return places;
@@ -55,13 +55,15 @@ function firstAt(places, place) {
   return low;
 }
 
-// The smallest number of 1, 2 and 5 times powers of ten that is not below `least`.
-function roundUp(least) {
-  const power = 10 ** Math.floor(Math.log10(least));
-  for (const factor of [1, 2, 5, 10]) {
-    if (factor * power >= least * (1 - 1e-9)) return factor * power;
-  }
-  return 10 * power;
+// The numbers of 1, 2 and 5 times powers of ten next to a number: not below it, and not above it.
+function roundUp(value) {
+  const power = 10 ** Math.floor(Math.log10(value));
+  return power * [1, 2, 5, 10].find((factor) => factor * power >= value * (1 - 1e-9));
+}
+
+function roundDown(value) {
+  const power = 10 ** Math.floor(Math.log10(value) + 1e-9);
+  return power * [5, 2, 1].find((factor) => factor * power <= value * (1 + 1e-9));
 }
 
 function viewOf(data, low, high, width) {
@@ -80,22 +82,22 @@ const columnOf = (view, place) => Math.floor(place / view.size) - view.first;
 
 // Counts of the packets in each column: of processors, queues and moves, by `flow` where it is set.
 function count(data, view, flow) {
-  const {cpu, queue, mark} = data.columns;
+  const {cpu, queue, mark} = data.columns, flows = data.columns.flow;
   const zeros = () => new Uint32Array(view.columns);
-  const fresh = () => ({all: zeros(), dropped: zeros()});
-  const counts = {cpu: new Map(), queue: new Map(), moves: new Map([[0, fresh()]])};
-  data.cpus.forEach((number) => counts.cpu.set(number, fresh()));
-  data.queues.forEach((number) => counts.queue.set(number, fresh()));
+  const fresh = (numbers) => new Map(numbers.map((of) => [of, {all: zeros(), dropped: zeros()}]));
+  const counts = {cpu: fresh(data.cpus), queue: fresh(data.queues), moves: fresh([0])};
+  const cpus = Array.from({length: 256}, (_, of) => counts.cpu.get(of));
+  const queues = Array.from({length: 256}, (_, of) => counts.queue.get(of));
+  const moves = counts.moves.get(0).all;
   const last = firstAt(data.places, (view.first + view.columns) * view.size);
   for (let packet = firstAt(data.places, view.first * view.size); packet < last; packet++) {
-    if (flow >= 0 && data.columns.flow[packet] !== flow) continue;
+    if (flow >= 0 && flows[packet] !== flow) continue;
     const column = Math.min(Math.max(columnOf(view, data.places[packet]), 0), view.columns - 1);
-    const dropped = mark[packet] & DROPPED ? 1 : 0;
-    for (const [found, number] of [[counts.cpu, cpu[packet]], [counts.queue, queue[packet]]]) {
-      const series = found.get(number);
-      if (series) { series.all[column]++; series.dropped[column] += dropped; }
-    }
-    if (mark[packet] & MOVED) counts.moves.get(0).all[column]++;
+    const ofCpu = cpus[cpu[packet]], ofQueue = queues[queue[packet]];
+    if (ofCpu) ofCpu.all[column]++;
+    ofQueue.all[column]++;
+    if (mark[packet] & DROPPED) { ofCpu.dropped[column]++; ofQueue.dropped[column]++; }
+    if (mark[packet] & MOVED) moves[column]++;
   }
   if (data.columns.events) counts.backlog = longest(data, view);
   return counts;
@@ -105,6 +107,7 @@ function count(data, view, flow) {
 function longest(data, view) {
   const lengths = new Int32Array(PULL);
   const series = new Map(data.cpus.map((cpu) => [cpu, {all: new Uint32Array(view.columns)}]));
+  const lists = Array.from({length: PULL}, (_, cpu) => series.has(cpu) && series.get(cpu).all);
   let packet = 0, column = -1;
   for (const event of data.columns.events) {
     if (event === ARRIVAL) {
@@ -118,8 +121,7 @@ function longest(data, view) {
     } else if (event >= PULL) {
       lengths[event - PULL]--;
     } else if (++lengths[event] && column >= 0) {
-      const all = series.get(event).all;
-      all[column] = Math.max(all[column], lengths[event]);
+      if (lists[event][column] < lengths[event]) lists[event][column] = lengths[event];
     }
   }
   while (column < view.columns - 1) {
@@ -194,11 +196,12 @@ class Charts {
       add(heading, "span", "key", text).style.setProperty("--of", "var(--" + name + ")");
     }
     numbers.forEach((of, index) => {
-      const last = index === numbers.length - 1;
-      const element = add(this.place, "div", last ? "row last" : "row");
+      const below = index + 1;
+      const hasAxis = below === numbers.length || below % ROWS_OF_AN_AXIS === 0;
+      const element = add(this.place, "div", hasAxis ? "row axis" : "row");
       add(element, "div", "name", group.label + (group.kind === "moves" ? "" : of));
-      const chart = add(element, "div", last ? "chart last" : "chart");
-      const row = {group, of, last, chart, value: add(element, "div", "value"), near: false,
+      const chart = add(element, "div", "chart");
+      const row = {group, of, hasAxis, chart, value: add(element, "div", "value"), near: false,
         stacked: group.keys.length > 0};
       chart.setAttribute("aria-hidden", "true");
       row.plot = add(chart, "div");
@@ -270,12 +273,12 @@ class Charts {
       axisLineColor: color("line"),
       gridLineColor: color("grid"),
       axes: {
-        x: {drawAxis: row.last, axisLabelFormatter: (place) => data.unit
+        x: {drawAxis: row.hasAxis, axisLabelFormatter: (place) => data.unit
           ? Number((place * data.unit / 1e9).toPrecision(10)) + " s" : number.format(place),
         axisLabelWidth: 80, pixelsPerLabel: 80, ticker: (low, high, pixels, get) =>
           this.ticks(low, high, pixels, get)},
-        y: {valueRange: [0, top * 1.08], axisLabelWidth: 46, pixelsPerLabel: 22,
-          axisLabelFormatter: (value) => Number.isInteger(value) ? number.format(value) : ""},
+        y: {valueRange: [0, top * 1.08], axisLabelWidth: 46, ticker: () =>
+          [0, roundDown(top)].map((value) => ({v: value, label: number.format(value)}))},
       },
     };
   }
