@@ -128,6 +128,7 @@ class Numbers(unittest.TestCase):
         self.assertEqual((page.faults, page.tables), ([], THREE))
         self.assertIn("A backlog holds 1 packet. No packets on cpu 0.", page.text)
         self.assertIn("packet numbers, not time: no capture was given", page.text)
+        self.assertNotIn("not shown", page.text)
         self.assertEqual([page.column(name) for name in ("cpu", "queue", "mark", "flow", "events")],
                          [[1, 1, 2], [0, 0, 0], [0, 1, 2], [0, 0, 0], [64, 1, 64, 33, 64, 2, 34]])
         self.assertEqual((page.data()["flows"], page.data()["limit"]), ([ONE_FLOW], 1))
@@ -256,6 +257,8 @@ class Numbers(unittest.TestCase):
                  "apps": [2], "tx": [{"cpus": [], "queues": []}], "steps": []}).encode())
             path = folder.write("report", cli.run_steer(["run", plan, example("three.pcap")]))
             page = page_of(path, "--capture", example("three.pcap"))
+            self.assertIn("<li>not shown: the length of backlogs over time (--plan), flows (--hash)"
+                          "</li>", page.text)
             self.assertEqual(page.tables["Processors"][1], ["1", "3", "100.0%", "3", "0", "0"])
             status, out, said = inside("steer-page", path, "--plan", plan)
         self.assertEqual((status, out), (3, b""))
@@ -464,7 +467,7 @@ class InABrowser(unittest.TestCase):
                 wanted += ", %d dropped" % row.dropped
             self.assertEqual(values["cpu", row.cpu], wanted)
         self.assertEqual(values["cpu", 3], "138 packets, 23 dropped")
-        self.assertEqual(values["moves", 0], "4 moves")
+        self.assertEqual((values["drops", 0], values["moves", 0]), ("23 packets", "4 moves"))
         for row in self.report.queues:
             self.assertTrue(values["queue", row.queue].startswith("%d packets" % row.arrived))
 

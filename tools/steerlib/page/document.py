@@ -90,7 +90,8 @@ def _table(table: sums.Table, number: int) -> Iterator[str]:
     yield '<div class="scroll" role="region" tabindex="0" aria-labelledby="%s">' % name
     yield "<table>"
     yield "<thead><tr>%s</tr></thead>" % "".join(
-        '<th scope="col">%s</th>' % html.escape(text) for text in table.header)
+        '<th scope="col"%s>%s</th>' % (_text_class(text), html.escape(text))
+        for text in table.header)
     yield "<tbody>"
     for row in table.rows:
         yield "<tr>%s</tr>" % "".join(_cell(place, field, table.header[place])
@@ -102,10 +103,15 @@ def _table(table: sums.Table, number: int) -> Iterator[str]:
 
 
 def _cell(place: int, field: object, name: str) -> str:
+    """A cell; the first one of a row, or the flow, is the heading of the row."""
     text = html.escape(str(field))
-    if place == 0 and name != "packets":
-        return '<th scope="row">%s</th>' % text
-    return "<td%s>%s</td>" % (' class="text"' if name == "flow" else "", text)
+    if name == "flow" or place == 0 and name != "packets":
+        return '<th scope="row"%s>%s</th>' % (_text_class(name), text)
+    return "<td>%s</td>" % text
+
+
+def _text_class(name: str) -> str:
+    return ' class="text"' if name == "flow" else ""
 
 
 def _charts(axis: Axis) -> Iterator[str]:
@@ -130,7 +136,15 @@ def _charts(axis: Axis) -> Iterator[str]:
     yield '<p id="fault" role="alert" hidden></p>'
 
 
-def _heading(rep: report.Report, title: str, axis: Axis) -> Iterator[str]:
+def _not_shown(backlogs: Optional[Backlogs], found: Optional[sums.Flows]) -> Iterator[str]:
+    """What the page lacks because a file was not given."""
+    if backlogs is None:
+        yield "the length of backlogs over time (--plan)"
+    if found is None:
+        yield "flows (--hash)"
+
+
+def _heading(rep: report.Report, title: str, axis: Axis, lacks: List[str]) -> Iterator[str]:
     yield "<h1>%s</h1>" % html.escape(title)
     yield "<ul>"
     for line in summary.headline(rep):
@@ -138,6 +152,8 @@ def _heading(rep: report.Report, title: str, axis: Axis) -> Iterator[str]:
     if axis.unit is not None:
         yield "<li>%s from the first packet to the last; the first one came at %s</li>" % (
             axis.label(axis.end - 1), axis.clock())
+    if lacks:
+        yield "<li>not shown: %s</li>" % ", ".join(lacks)
     yield "</ul>"
 
 
@@ -159,7 +175,7 @@ def lines(rep: report.Report, title: str, axis: Axis, backlogs: Optional[Backlog
     yield '<meta name="color-scheme" content="light dark">'
     yield "<title>%s</title>" % html.escape(title)
     yield "<style>\n%s</style></head><body><main>" % _file("page.css")
-    yield from _heading(rep, title, axis)
+    yield from _heading(rep, title, axis, list(_not_shown(backlogs, found)))
     if rep.packets:
         yield from _charts(axis)
         for number, table in enumerate(sums.tables_of(rep, axis, backlogs, found)):

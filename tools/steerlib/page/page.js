@@ -85,10 +85,11 @@ function count(data, view, flow) {
   const {cpu, queue, mark} = data.columns, flows = data.columns.flow;
   const zeros = () => new Uint32Array(view.columns);
   const fresh = (numbers) => new Map(numbers.map((of) => [of, {all: zeros(), dropped: zeros()}]));
-  const counts = {cpu: fresh(data.cpus), queue: fresh(data.queues), moves: fresh([0])};
+  const counts = {cpu: fresh(data.cpus), queue: fresh(data.queues), drops: fresh([0]),
+    moves: fresh([0])};
   const cpus = Array.from({length: 256}, (_, of) => counts.cpu.get(of));
   const queues = Array.from({length: 256}, (_, of) => counts.queue.get(of));
-  const moves = counts.moves.get(0).all;
+  const drops = counts.drops.get(0).all, moves = counts.moves.get(0).all;
   const last = firstAt(data.places, (view.first + view.columns) * view.size);
   for (let packet = firstAt(data.places, view.first * view.size); packet < last; packet++) {
     if (flow >= 0 && flows[packet] !== flow) continue;
@@ -96,7 +97,11 @@ function count(data, view, flow) {
     const ofCpu = cpus[cpu[packet]], ofQueue = queues[queue[packet]];
     if (ofCpu) ofCpu.all[column]++;
     ofQueue.all[column]++;
-    if (mark[packet] & DROPPED) { ofCpu.dropped[column]++; ofQueue.dropped[column]++; }
+    if (mark[packet] & DROPPED) {
+      ofCpu.dropped[column]++;
+      ofQueue.dropped[column]++;
+      drops[column]++;
+    }
     if (mark[packet] & MOVED) moves[column]++;
   }
   if (data.columns.events) counts.backlog = longest(data, view);
@@ -164,8 +169,10 @@ const GROUPS = [
     color: "backlog", keys: []},
   {kind: "queue", title: "Packets of each receive queue", label: "queue ", color: "queue",
     keys: [["queue", "not dropped"], ["dropped", "dropped"]]},
+  {kind: "drops", title: "Dropped packets of all processors", label: "drops", color: "dropped",
+    unit: "packet", keys: []},
   {kind: "moves", title: "Moves of flows to another processor", label: "moves", color: "moved",
-    keys: []},
+    unit: "move", keys: []},
 ];
 
 class Charts {
@@ -183,7 +190,7 @@ class Charts {
   }
 
   numbersOf(kind) {
-    if (kind === "moves") return [0];
+    if (kind === "drops" || kind === "moves") return [0];
     if (kind === "queue") return this.data.queues;
     return kind === "cpu" || this.data.columns.events ? this.data.cpus : [];
   }
@@ -199,7 +206,7 @@ class Charts {
       const below = index + 1;
       const hasAxis = below === numbers.length || below % ROWS_OF_AN_AXIS === 0;
       const element = add(this.place, "div", hasAxis ? "row axis" : "row");
-      add(element, "div", "name", group.label + (group.kind === "moves" ? "" : of));
+      add(element, "div", "name", group.label + (group.unit ? "" : of));
       const chart = add(element, "div", "chart");
       const row = {group, of, hasAxis, chart, value: add(element, "div", "value"), near: false,
         stacked: group.keys.length > 0};
@@ -367,22 +374,20 @@ class Charts {
         + number.format(this.data.limit);
       return;
     }
-    row.value.textContent = counted(all, row.group.kind === "moves" ? "move" : "packet");
+    row.value.textContent = counted(all, row.group.unit || "packet");
     if (dropped) add(row.value, "span", "dropped", ", " + number.format(dropped) + " dropped");
   }
 
   columnText() {
     const {view, data} = this, low = (view.first + this.column) * view.size;
-    let all = 0, dropped = 0;
-    for (const series of this.counts.queue.values()) {
-      all += series.all[this.column];
-      dropped += series.dropped[this.column];
-    }
+    const {drops, moves, queue} = this.counts;
+    let all = 0;
+    for (const series of queue.values()) all += series.all[this.column];
     const rate = data.unit ? " (" + number.format(Math.round(
       all * 1e9 / view.size / data.unit)) + "/s)" : "";
     return rangeText(data, low, low + view.size, view.size) + ": " + counted(all, "packet")
-      + rate + ", " + number.format(dropped) + " dropped, "
-      + counted(this.counts.moves.get(0).all[this.column], "move");
+      + rate + ", " + number.format(drops.get(0).all[this.column]) + " dropped, "
+      + counted(moves.get(0).all[this.column], "move");
   }
 
   placeBands() {
