@@ -1,8 +1,10 @@
 """The axis of a page: the times of the packets in their capture, or else their numbers."""
 
+from __future__ import annotations
+
 from datetime import datetime, timedelta
 from itertools import accumulate
-from typing import List, Optional, Sequence, Tuple
+from typing import Sequence
 
 from .. import cli, schedule
 from ..report import Report
@@ -18,15 +20,15 @@ class Axis:
     there are no times.
     """
 
-    def __init__(self, count: int, times: Optional[Sequence[int]] = None,
+    def __init__(self, count: int, times: Sequence[int] | None = None,
                  reason: str = "no capture was given") -> None:
-        self.unit: Optional[int] = None
+        self.unit: int | None = None
         self.start = 0
         self.reason = reason
         self.places: Sequence[int] = range(count)
         if times is None or not count:
             return
-        latest: List[int] = list(accumulate(times[:count], max))
+        latest: list[int] = list(accumulate(times[:count], max))
         if latest[-1] == latest[0]:
             self.reason = "all packets have the same time in the capture"
             return
@@ -54,7 +56,7 @@ class Axis:
         return "%.9g s" % round(place * self.unit / 1e9, 9)
 
 
-def read(rep: Report, capture: Optional[str] = None) -> Axis:
+def read(rep: Report, capture: str | None = None) -> Axis:
     """The Axis of a report, by the file `capture` where one is named."""
     if capture is None:
         return Axis(len(rep.packets))
@@ -66,7 +68,7 @@ def read(rep: Report, capture: Optional[str] = None) -> Axis:
     return Axis(len(rep.packets), times)
 
 
-def intervals(axis: Axis, most: int) -> List[Tuple[int, int]]:
+def intervals(axis: Axis, most: int) -> list[tuple[int, int]]:
     """At most so many intervals of one size, 1, 2 or 5 times a power of ten, that cover the axis.
 
     Pairs of places: the first one of an interval, and the one behind its last.

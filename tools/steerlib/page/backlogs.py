@@ -5,10 +5,13 @@ each packet, the counts of each drop and the sums of each processor have to be t
 give: other steps, and reports of `run`, are refused where one of them differs.
 """
 
+from __future__ import annotations
+
 from collections import deque
-from typing import Any, Deque, Dict, Iterator, List, NamedTuple, NoReturn, Optional
+from typing import Deque, Iterator, NamedTuple, NoReturn
 
 from .. import cli
+from ..plan import Plan
 from ..report import Report
 
 PULL = 32
@@ -28,7 +31,7 @@ class Backlogs(NamedTuple):
     """
 
     events: bytes
-    longest: List[int]
+    longest: list[int]
     limit: int
 
 
@@ -69,9 +72,9 @@ class _Machine:
         self.start = start
         self.source = source
         self.arrived = 0
-        self.rings: List[Deque[int]] = [deque() for _ in rep.queues]
+        self.rings: list[Deque[int]] = [deque() for _ in rep.queues]
         self.inside = [False] * len(rep.queues)
-        self.taken: List[Optional[int]] = [None] * len(rep.queues)
+        self.taken: list[int | None] = [None] * len(rep.queues)
         self.stages = [0] * len(rep.queues)
         cpus = len(rep.cpus)
         self.accepted = [0] * cpus
@@ -140,20 +143,20 @@ class _Machine:
     def _offer(self, number: int) -> None:
         """A packet is accepted or dropped, as the report says and as the counts allow."""
         packet = self.rep.packets[number]
-        cpu = packet.cpu
-        if packet.at is None and packet.drop is None:
-            self.refuse("packet %d is put by the steps, and not in the report", number)
-        if packet.drop is not None:
-            counts = (packet.drop_accepted, packet.drop_pulled)
-            if counts != (self.accepted[cpu], self.pulled[cpu]):
+        cpu, accepted, pulled = packet.cpu, packet.drop_accepted, packet.drop_pulled
+        if cpu is not None and accepted is not None and pulled is not None:
+            if (accepted, pulled) != (self.accepted[cpu], self.pulled[cpu]):
                 self.refuse("packet %d is dropped with %d accepted and %d pulled, and the steps "
-                            "give %d and %d", number, *counts, self.accepted[cpu],
+                            "give %d and %d", number, accepted, pulled, self.accepted[cpu],
                             self.pulled[cpu])
             return
+        if cpu is None or packet.at is None:
+            self.refuse("packet %d is put by the steps, and not in the report", number)
         self.accepted[cpu] += 1
-        if packet.at != (self.start + self.accepted[cpu]) & _COUNTER:
+        wanted = (self.start + self.accepted[cpu]) & _COUNTER
+        if packet.at != wanted:
             self.refuse("packet %d is at %d on processor %d, and the steps give %d", number,
-                        packet.at, cpu, (self.start + self.accepted[cpu]) & _COUNTER)
+                        packet.at, cpu, wanted)
         self.events.append(cpu)
         self.longest[cpu] = max(self.longest[cpu], self.accepted[cpu] - self.pulled[cpu])
 
@@ -202,12 +205,12 @@ STEPS = ("arrive", "take", "enter", "look", "weigh", "put", "leave", "poll", "pu
          "retire", "drain", "sweep")
 
 
-def follow(rep: Report, plan: Dict[str, Any], source: str) -> Backlogs:
+def follow(rep: Report, plan: Plan, source: str) -> Backlogs:
     """The Backlogs of a report by the steps of its plan, which messages name `source`."""
-    for kind, rows, count in (("queues", len(rep.queues), len(plan["queues"])),
-                              ("processors", len(rep.cpus), plan["cpus"])):
-        if rows != count:
-            raise cli.Refused(source, "it has %d %s, and the report %d" % (count, kind, rows))
+    for kind, found, count in (("queues", len(rep.queues), len(plan["queues"])),
+                               ("processors", len(rep.cpus), plan["cpus"])):
+        if found != count:
+            raise cli.Refused(source, "it has %d %s, and the report %d" % (count, kind, found))
     steps = plan["steps"]
     if isinstance(steps, dict):
         steps = _seeded(steps["seed"], steps["count"], len(rep.queues), len(rep.cpus))

@@ -1,12 +1,14 @@
 """The document of a page: tables for all readers, and the data and the script of its charts."""
 
+from __future__ import annotations
+
 import base64
 import hashlib
 import html
 import json
 import os
 import zlib
-from typing import Any, Dict, Iterable, Iterator, List, Optional, Sequence
+from typing import Any, Iterable, Iterator, Sequence
 
 from .. import report, summary
 from . import sums
@@ -56,8 +58,8 @@ def _mark(packet: report.Packet) -> int:
     return DROPPED * (packet.place == "drop") + MOVED * (packet.why in report.MOVES)
 
 
-def data_of(rep: report.Report, axis: Axis, backlogs: Optional[Backlogs] = None,
-            found: Optional[sums.Flows] = None) -> Dict[str, Any]:
+def data_of(rep: report.Report, axis: Axis, backlogs: Backlogs | None = None,
+            found: sums.Flows | None = None) -> dict[str, Any]:
     """What the charts are drawn from, as an object of JSON."""
     columns = {
         "cpu": _packed(NO_CPU if packet.cpu is None else packet.cpu for packet in rep.packets),
@@ -136,7 +138,7 @@ def _charts(axis: Axis) -> Iterator[str]:
     yield '<p id="fault" role="alert" hidden></p>'
 
 
-def _not_shown(backlogs: Optional[Backlogs], found: Optional[sums.Flows]) -> Iterator[str]:
+def _not_shown(backlogs: Backlogs | None, found: sums.Flows | None) -> Iterator[str]:
     """What the page lacks because a file was not given."""
     if backlogs is None:
         yield "the length of backlogs over time (--plan)"
@@ -144,7 +146,7 @@ def _not_shown(backlogs: Optional[Backlogs], found: Optional[sums.Flows]) -> Ite
         yield "flows (--hash)"
 
 
-def _heading(rep: report.Report, title: str, axis: Axis, lacks: List[str]) -> Iterator[str]:
+def _heading(rep: report.Report, title: str, axis: Axis, lacks: list[str]) -> Iterator[str]:
     yield "<h1>%s</h1>" % html.escape(title)
     yield "<ul>"
     for line in summary.headline(rep):
@@ -157,15 +159,15 @@ def _heading(rep: report.Report, title: str, axis: Axis, lacks: List[str]) -> It
     yield "</ul>"
 
 
-def _policy(scripts: List[str]) -> str:
+def _policy(scripts: list[str]) -> str:
     """What a browser may load: nothing, and run: these scripts alone."""
     hashes = " ".join("'sha256-%s'" % base64.b64encode(
         hashlib.sha256(text.encode()).digest()).decode("ascii") for text in scripts)
     return "default-src 'none'; style-src 'unsafe-inline'; script-src %s" % hashes
 
 
-def lines(rep: report.Report, title: str, axis: Axis, backlogs: Optional[Backlogs] = None,
-          found: Optional[sums.Flows] = None) -> Iterator[str]:
+def lines(rep: report.Report, title: str, axis: Axis, backlogs: Backlogs | None = None,
+          found: sums.Flows | None = None) -> Iterator[str]:
     """The lines of the document, which is one file that refers to no other."""
     scripts = [_library(), "\n" + _file("page.js")]
     yield "<!DOCTYPE html>"

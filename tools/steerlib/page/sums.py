@@ -1,8 +1,10 @@
 """The tables of a page: the sums of a report by processor, queue, flow and interval."""
 
+from __future__ import annotations
+
 from bisect import bisect_right
 from collections import Counter
-from typing import Dict, Iterator, List, NamedTuple, Optional, Sequence, Set, Tuple
+from typing import Iterable, Iterator, NamedTuple, Sequence
 
 from .. import cli, flows, report, tables
 from . import axis as axes
@@ -43,9 +45,9 @@ class Flows:
         self.ranks = [rank[flow] for flow in names[:len(rep.packets)]]
         self.total = len(ranked)
         self.names = [flows.name(flow) for flow, _ in ranked[:FLOWS_SHOWN]]
-        dropped: Dict[int, int] = Counter()
-        moved: Dict[int, int] = Counter()
-        cpus: Dict[int, Set[int]] = {}
+        dropped: dict[int, int] = Counter()
+        moved: dict[int, int] = Counter()
+        cpus: dict[int, set[int]] = {}
         for packet, number in zip(rep.packets, self.ranks):
             dropped[number] += packet.place == "drop"
             moved[number] += packet.why in report.MOVES
@@ -58,31 +60,31 @@ class Flows:
         self.rest = len(rep.packets) - sum(packets for _, packets in ranked[:FLOWS_SHOWN])
 
 
-def used_cpus(rep: report.Report) -> List[int]:
+def used_cpus(rep: report.Report) -> list[int]:
     """The processors that some packet was sent to."""
-    return sorted({packet.cpu for packet in rep.packets} - {None})
+    return sorted({packet.cpu for packet in rep.packets if packet.cpu is not None})
 
 
-def used_queues(rep: report.Report) -> List[int]:
+def used_queues(rep: report.Report) -> list[int]:
     """The receive queues that some packet arrived at."""
     return [row.queue for row in rep.queues if row.arrived]
 
 
-def _unused(word: str, rows: Sequence[Sequence[int]], used: Sequence[int]) -> str:
-    left = [row[0] for row in rows if row[0] not in used]
+def _unused(word: str, numbers: Iterable[int], used: Sequence[int]) -> str:
+    left = [number for number in numbers if number not in used]
     return "No packets on %s %s." % (word, ", ".join(map(str, left))) if left else ""
 
 
-def _longest_at_drops(rep: report.Report) -> Dict[int, int]:
-    longest: Dict[int, int] = Counter()
+def _longest_at_drops(rep: report.Report) -> dict[int, int]:
+    longest: dict[int, int] = Counter()
     for packet in rep.packets:
-        if packet.drop is not None:
-            longest[packet.cpu] = max(longest[packet.cpu],
-                                      packet.drop_accepted - packet.drop_pulled)
+        cpu, accepted, pulled = packet.cpu, packet.drop_accepted, packet.drop_pulled
+        if cpu is not None and accepted is not None and pulled is not None:
+            longest[cpu] = max(longest[cpu], accepted - pulled)
     return longest
 
 
-def _cpus(rep: report.Report, backlogs: Optional[Backlogs]) -> Table:
+def _cpus(rep: report.Report, backlogs: Backlogs | None) -> Table:
     offered = Counter(packet.cpu for packet in rep.packets)
     used = used_cpus(rep)
     longest = dict(enumerate(backlogs.longest)) if backlogs else _longest_at_drops(rep)
@@ -91,7 +93,7 @@ def _cpus(rep: report.Report, backlogs: Optional[Backlogs]) -> Table:
     last = "longest backlog" if backlogs else "longest backlog at a drop"
     note = "A backlog holds %s." % counted(backlogs.limit, "packet") if backlogs else ""
     return Table("Processors", ("cpu", "packets", "share", "accepted", "dropped", last), rows,
-                 " ".join(filter(None, (note, _unused("cpu", rep.cpus, used)))))
+                 " ".join(filter(None, (note, _unused("cpu", range(len(rep.cpus)), used)))))
 
 
 def _queues(rep: report.Report) -> Table:
@@ -102,7 +104,7 @@ def _queues(rep: report.Report) -> Table:
              tables.share(rep.queues[queue].arrived, len(rep.packets)), dropped[queue],
              filtered[queue]) for queue in used]
     return Table("Receive queues", ("queue", "packets", "share", "dropped", "by a filter"), rows,
-                 _unused("queue", rep.queues, used))
+                 _unused("queue", range(len(rep.queues)), used))
 
 
 def _transmit_queues(rep: report.Report) -> Table:
@@ -129,9 +131,9 @@ def _by_interval(rep: report.Report, axis: axes.Axis) -> Table:
     bounds = axes.intervals(axis, INTERVALS)
     lows = [low for low, _ in bounds]
     cpus, queues = used_cpus(rep), used_queues(rep)
-    offered: Dict[Tuple[int, Optional[int]], int] = Counter()
-    dropped: Dict[Tuple[int, Optional[int]], int] = Counter()
-    queued: Dict[Tuple[int, int], int] = Counter()
+    offered: dict[tuple[int, int | None], int] = Counter()
+    dropped: dict[tuple[int, int | None], int] = Counter()
+    queued: dict[tuple[int, int], int] = Counter()
     sums = [[0, 0, 0] for _ in bounds]
     for packet, place in zip(rep.packets, axis.places):
         row = bisect_right(lows, place) - 1
@@ -179,8 +181,8 @@ def _backlogs_by_interval(rep: report.Report, axis: axes.Axis, backlogs: Backlog
                   for low, longest in zip(lows, rows)], "")
 
 
-def tables_of(rep: report.Report, axis: axes.Axis, backlogs: Optional[Backlogs] = None,
-              found: Optional[Flows] = None) -> Iterator[Table]:
+def tables_of(rep: report.Report, axis: axes.Axis, backlogs: Backlogs | None = None,
+              found: Flows | None = None) -> Iterator[Table]:
     """The tables of a report with packets, by its axis, its Backlogs and its Flows."""
     yield _cpus(rep, backlogs)
     yield _queues(rep)

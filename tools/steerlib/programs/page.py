@@ -1,8 +1,10 @@
 """A report of `steer replay` or `steer run` as one HTML page."""
 
+from __future__ import annotations
+
 import argparse
 import sys
-from typing import List
+from typing import NoReturn
 
 from .. import cli, flows, plan, report
 from ..page import axis, backlogs, document
@@ -25,7 +27,7 @@ steer hash own.pcap > hash.txt
 steer-page report --capture own.pcap --hash hash.txt --plan plan.json > report.html"""
 
 
-def words_of(words: List[str]) -> argparse.Namespace:
+def words_of(words: list[str]) -> argparse.Namespace:
     """The options that these words give."""
     parser = cli.parser(DESCRIPTION, EXAMPLE)
     parser.add_argument("report", metavar="REPORT",
@@ -41,7 +43,7 @@ def words_of(words: List[str]) -> argparse.Namespace:
     return told
 
 
-def main(words: List[str]) -> None:
+def main(words: list[str]) -> None:
     told = words_of(words)
     rep = report.read_file(told.report)
     places = axis.read(rep, told.capture)
@@ -55,6 +57,6 @@ def main(words: List[str]) -> None:
         sys.stdout.write(line + "\n")
 
 
-def entry() -> None:
+def entry() -> NoReturn:
     """Runs this program by the words of its command line, and ends the process."""
     cli.run(main)
