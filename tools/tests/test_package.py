@@ -9,6 +9,7 @@ import sys
 import tempfile
 import unittest
 
+from reporting import REPLIED
 from running import ENVIRONMENT, TOOLS, TOP, example, module_of
 
 PROJECT = os.path.join(TOOLS, "pyproject.toml")
@@ -135,6 +136,17 @@ class Installed(unittest.TestCase):
             self.assertEqual((status, err), (0, ""), name)
             self.assertTrue(out.startswith("usage: %s " % name), name)
         self.check_steer()
+        self.check_page()
+
+    def check_page(self):
+        """The page has its style, its script and its library, which are data of the package."""
+        path = os.path.join(self.where, "report")
+        with open(path, "wb") as out:
+            out.write(REPLIED)
+        status, out, err = self.run_installed("steer-page", path, PATH="/bin:/usr/bin")
+        self.assertEqual((status, err), (0, ""))
+        for text in ("@media", "class Charts", "dygraphs 2.2.1, MIT-licenced", "</html>"):
+            self.assertIn(text, out)
 
     def check_steer(self):
         """Where it finds steer: in $STEER, and where that is not set an error that says it."""
