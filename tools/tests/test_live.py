@@ -33,7 +33,7 @@ def setUpModule():
                 made.send(frames.frame(made.mac, flow, 0, 1))
                 made.came(4)
             unittest.addModuleCleanup(leaving.pop_all().close)
-    except pair.Unavailable as fault:
+    except (pair.Unavailable, OSError) as fault:
         raise unittest.SkipTest("the running kernel is not asked: %s" % fault) from None
 
 
