@@ -107,8 +107,11 @@ class Kernel(unittest.TestCase):
                 flows = random_flows(draw, FRAMES)
                 left, came = sent_and_seen(made, machine, flows)
                 report = chain.replayed(made.folder, plan, left)
+                as_is = chain.replayed_as_is(made.folder)
             self.assertEqual([note.number for note in came], list(range(FRAMES)))
             self.compare(report.packets, came, "%d queues" % queues)
+            FIGURES.append("%d queues, not rewritten: %d of them at the processor of the report" % (
+                queues, sum(packet.cpu == note.cpu for packet, note in zip(as_is.packets, came))))
 
     @of_the_machine
     def test_readers_that_move(self):

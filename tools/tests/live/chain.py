@@ -86,6 +86,11 @@ def replayed(folder, plan_text, frames_sent, *options):
     return report.read_file(os.path.join(folder, REPORT))
 
 
+def replayed_as_is(folder):
+    """The report of what replayed() was given, without steer-remap."""
+    return report.replay(os.path.join(folder, "plan.json"), os.path.join(folder, "sent.pcap"))
+
+
 def compared(folder, before, after):
     """What steer-compare shows of the report and two snapshots."""
     names = [os.path.join(folder, REPORT)]
