@@ -55,8 +55,8 @@ def of_the_machine(test):
         try:
             try:
                 test(self)
-            except AssertionError:
-                del FIGURES[figures:]
+            except AssertionError as fault:
+                FIGURES[figures:] = ["%s was tried again: %s" % (test.__name__, fault)]
                 test(self)
         except (pair.Changed, pair.Unsettable) as fault:
             self.skipTest("a setting of the whole machine: %s" % fault)
@@ -158,6 +158,26 @@ class Kernel(unittest.TestCase):
                         self.assertEqual(made.reply(data), reply.tx, reply)
             FIGURES.append("%d transmit queues: %d replies by the queue of the report"
                            % (machine.queues + 1, len(flows)))
+
+    @of_the_machine
+    def test_readers_by_port(self):
+        """Each port is read on one processor, as steer-remap is told."""
+        machine = moved(3, 4)
+        readers = {flow: machine.draw.choice(machine.cpus) for flow in machine.flows}
+        words = [word for flow, cpu in readers.items()
+                 for word in ("--reader", "%d=%d" % (flow.dport, cpu))]
+        with machine.started(rps_sock_flow_entries=moving.ENTRIES) as played:
+            for flow in machine.flows:
+                played.open(flow)
+            for flow in machine.draw.choices(machine.flows, k=EVENTS // 4):
+                played.send(flow)
+                played.read(flow, readers[flow], moves=False)
+            plan = chain.plan_of(chain.snapshot(played.made, machine.machine), machine.machine,
+                                 "apps=" + ",".join(map(str, machine.cpus)),
+                                 "rps_sock_flow_entries=%d" % moving.ENTRIES)
+            report = chain.replayed(played.made.folder, chain.with_steps(plan, played.steps),
+                                    played.left, *words)
+        self.compare(report.packets, played.notes, "readers by port")
 
     @of_the_machine
     def test_masks_that_change(self):

@@ -119,15 +119,18 @@ class Play:
             with pair.on(self.sender):
                 self.made.send(frames.release(self.made.mac, cpu, ticket))
 
-    def read(self, flow, cpu):
-        """Reads the socket of a flow on a processor until it is empty; how many frames it had."""
+    def read(self, flow, cpu, moves=True):
+        """Reads the socket of a flow on a processor until it is empty; how many frames it had.
+
+        Where the reader `moves`, it is the plan's only one; else it stays at its processor.
+        """
         count = 0
         with pair.on(cpu):
             with contextlib.suppress(BlockingIOError):
                 while True:
                     self.sockets[flow].recv(2048)
                     count += 1
-        self.steps += ["stand 0 %d" % cpu, "record %d" % self.flows[flow]]
+        self.steps += ["stand 0 %d" % cpu] * moves + ["record %d" % self.flows[flow]]
         return count
 
     def mask(self, queue, cpus):
