@@ -119,9 +119,10 @@ def without_time(text):
 
 
 def lasting(text):
-    """A snapshot without its moment and its counters, which differ from run to run."""
-    return re.sub(r"(softnet \d+) [0-9a-f]{8} .*|(\|      .*): \d+$", r"\1\2",
-                  without_time(text), flags=re.MULTILINE)
+    """A snapshot without its moment and its counters, which differ from run to run, and without
+    the settings of the whole machine, which other programs may change meanwhile."""
+    return re.sub(r"(softnet \d+) [0-9a-f]{8} .*|(sysctl \w+) [^!].*|(\|      .*): \d+$",
+                  r"\1\2\3", without_time(text), flags=re.MULTILINE)
 
 
 class Snap(unittest.TestCase):
