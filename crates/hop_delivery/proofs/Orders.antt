@@ -9,9 +9,3 @@ pub mod ReceiveSettingLemmas
 pub mod TransmitSettingLemmas
 pub mod TurnLemmas
 pub mod WalkLemmas
-pub mod PlayLemmas
-pub mod TransmitMoves
-pub mod ReceiveMoves
-pub mod ExampleLemmas
-pub mod TransmitExample
-pub mod ReceiveExample

@@ -1,4 +1,3 @@
-pub mod ClosingExamples
 pub mod FlowLaw
 pub mod PutPlaces
 pub mod TurnReads

@@ -1,7 +1,5 @@
 pub mod Commands
-pub mod Examples
 pub mod DeliveryLaw
-pub mod Plays
 pub mod Premises
 pub mod ReceiveSettings
 pub mod Runs

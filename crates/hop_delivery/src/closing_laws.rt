@@ -1,5 +1,4 @@
 //! Lemmas on delivery at the closing of a board. The functions have no code.
-ghost use Rattle.hop_delivery.specs.Closings.ClosingExamples.{ReceiveClosing, TransmitClosing};
 ghost use Rattle.hop_delivery.specs.Closings.FlowLaw.{FlowsAreInOrder};
 ghost use Rattle.hop_delivery.specs.Closings.PutPlaces.{AnswersArePlaces, PacketsStand};
 ghost use Rattle.hop_delivery.specs.Closings.PutPlaces.{TurnsPutOnce};
@@ -31,12 +30,4 @@ pub fn packets_are_put_once()
     ensures once { TurnsPutOnce }
     ensures places { AtEachClosing AnswersArePlaces }
     ensures stand { AtEachClosing PacketsStand }
-{}
-
-/// Lemma: there are closings that meet all premises: of a receive board with two flows, a dropped
-/// packet, a flow that moves and a flow table that is resized, and of a transmit board with a flow
-/// that moves.
-pub fn closings_can_meet_the_premises()
-    ensures received { ReceiveClosing }
-    ensures sent { TransmitClosing }
 {}

@@ -6,10 +6,8 @@ mod closing_laws;
 mod order_laws;
 
 pub use closing_laws::{
-    closings_can_meet_the_premises, flows_of_closings_are_in_order, packets_are_put_once,
-    turns_know_their_settings,
+    flows_of_closings_are_in_order, packets_are_put_once, turns_know_their_settings,
 };
 pub use order_laws::{
     commands_empty_their_lanes, flows_are_delivered_in_order, goals_are_online, settings_steer,
-    the_premises_can_be_met,
 };

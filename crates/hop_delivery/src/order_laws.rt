@@ -1,7 +1,6 @@
 //! Lemmas on delivery over an order of all steps. The functions have no code.
 ghost use Rattle.std.specs.Prelude.{ℕ};
 ghost use Rattle.hop_delivery.specs.Orders.Commands.{ReceivedCommandsEmpty, SentCommandsEmpty};
-ghost use Rattle.hop_delivery.specs.Orders.Examples.{ReceiveExample, TransmitExample};
 ghost use Rattle.hop_delivery.specs.Orders.DeliveryLaw.{DeliversInOrder};
 ghost use Rattle.hop_delivery.specs.Orders.ReceiveSettings.{GoalsAreOnline, Queues};
 ghost use Rattle.hop_delivery.specs.Orders.ReceiveSettings.{receive_steering};
@@ -30,12 +29,4 @@ pub fn commands_empty_their_lanes()
 /// Lemma: a packet is to go to an online processor if the home of its queue is online.
 pub fn goals_are_online()
     ensures { GoalsAreOnline }
-{}
-
-/// Lemma: there are boards, orders and stories that meet all premises: a receive board with two
-/// flows, a dropped packet, a flow that moves and a flow table that is resized; and a transmit
-/// board with a flow that moves.
-pub fn the_premises_can_be_met()
-    ensures received { ReceiveExample }
-    ensures sent { TransmitExample }
 {}

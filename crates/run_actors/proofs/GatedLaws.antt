@@ -1,4 +1,4 @@
--- A gated try keeps the ties of tries.
+-- A gated try keeps the coupling invariants of tries.
 use Rattle.std.proofs.Common.{◌≡◌, inl, inr, ℕ, ◌*◌, ◌^◌, ◌<◌, true, List, [], ◌∷◌, ◌++◌}
 use Rattle.std.proofs.Common.{length, map, refl, sym, ap, subst, ◌∙◌, arith}
 use Rattle.std.specs.List.{Contains}
@@ -23,10 +23,10 @@ use Rattle.board_api.specs.Calls.Rights.{IsOutside}
 use Rattle.board_api.specs.Seats.{BoardSeatView}
 use Rattle.hop_delivery.specs.Orders.Commands.{SettingChange}
 use Rattle.steer_model.specs.Good.Inputs.{Input, setup_in}
-use Rattle.run_laws.specs.Laws.Calls.{busy_steps}
-use Rattle.run_laws.specs.Ties.EmptiedLanes.{FindsAllEmpty}
-use Rattle.run_laws.proofs.Tries.CallLemmas.{busy_calls, done_calls, inside_calls}
-use Rattle.run_laws.proofs.Tries.EmptiedLemmas.{gates-looking, looking-append}
+use Rattle.run_coupling.specs.Laws.Calls.{busy_steps}
+use Rattle.run_coupling.specs.Coupling.EmptiedLanes.{FindsAllEmpty}
+use Rattle.run_coupling.proofs.Tries.CallLemmas.{busy_calls, done_calls, inside_calls}
+use Rattle.run_coupling.proofs.Tries.EmptiedLemmas.{gates-looking, looking-append}
 use Rattle.run_actors.specs.Gated.{GatedTriesKeep, HasAffected, IsGated, KeepsTry}
 
 -- the cases of an answer
@@ -161,7 +161,8 @@ module _ (i : Input) (about : BoardSizes) (left : List LaneList) (lanes : CpuMas
               absurd (omega arith));
           busy = λ l h t same.
               subst (λ (z : ℕ × (ℕ × ℕ)).
-              Rattle.run_laws.specs.Ties.Answers.FindsOneBusy i left steps c z.0 z.1.0 z.1.1)
+              Rattle.run_coupling.specs.Coupling.Answers.FindsOneBusy i left steps c z.0 z.1.0
+              z.1.1)
               (ap (λ a. numbers_of (busy_of a (NotEmpty lane head tail))) same)
               (record {
                 within = subst (λ n. lane < n) (sym counted) less;

@@ -1,4 +1,4 @@
--- What the wire did gives its ties.
+-- What the wire did gives its coupling invariants.
 use Rattle.std.proofs.Common.{◌≡◌, ◌⊎◌, inl, inr, ℕ, zero, suc, ◌%◌, ◌<◌, ◌==◌, Bool, true, false}
 use Rattle.std.proofs.Common.{List, [], ◌∷◌, ◌++◌, Option, Some, None, length, map, All, ◌+◌, ◌≤◌}
 use Rattle.std.proofs.Common.{refl, sym, ap, subst, ◌∙◌, arith, leb-false}
@@ -29,11 +29,11 @@ use Rattle.run_words.specs.declared.values.TheConstants.{DONE}
 use Rattle.run_words.proofs.ValueLemmas.{only_coded}
 use Rattle.steer_model.specs.Good.Inputs.{Input, setup_in}
 use Rattle.steer_model.specs.State.Setup.{Setup, packet_hash}
-use Rattle.run_laws.specs.Laws.SharedCodes.{AreShared}
-use Rattle.run_laws.specs.Ties.Hints.{HintCodes, IsRouted, WasLoaded}
-use Rattle.run_laws.specs.Ties.Tries.{oldest_first}
-use Rattle.run_laws.proofs.Lists.PlaceLemmas.{AreNumbered}
-use Rattle.run_actors.specs.Laws.{WireKeepsTies}
+use Rattle.run_coupling.specs.Laws.SharedCodes.{AreShared}
+use Rattle.run_coupling.specs.Coupling.Hints.{HintCodes, IsRouted, WasLoaded}
+use Rattle.run_coupling.specs.Coupling.Tries.{oldest_first}
+use Rattle.run_coupling.proofs.Lists.PlaceLemmas.{AreNumbered}
+use Rattle.run_actors.specs.Laws.{WireKeepsCoupling}
 use Rattle.run_actors.specs.Wires.{ByFilter, HintView, Leads, LooksUpFilter}
 use Rattle.run_actors.specs.Wires.{Routes, after_step, announcement}
 
@@ -398,8 +398,8 @@ module _ (i : Input) (h : History) (c : HintCodes) (old new : HintView) (shared 
             ]
       ]
 
-pub wire_keeps_ties : WireKeepsTies
-wire_keeps_ties i h c seats old new shared among none all (late, mid, are, leads, done) =
+pub wire_keeps_coupling : WireKeepsCoupling
+wire_keeps_coupling i h c seats old new shared among none all (late, mid, are, leads, done) =
     let last : HintStep = Store (hint_number word.Done) DONE in
     let grows : (d : HintStep) → Contains mid.steps d → Contains new.steps d =
     λ d has. subst (λ (s : HintView). Contains s.steps d) (sym done)

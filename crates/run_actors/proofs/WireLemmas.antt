@@ -7,7 +7,7 @@ use Rattle.history.specs.declared.arrival.Arrival.{Arrival}
 use Rattle.steer_base.specs.Journals.{Journal}
 use Rattle.rss_table.specs.Redirection.{Redirection}
 use Rattle.steer_model.specs.State.Setup.{Setup, packet_hash}
-use Rattle.run_laws.specs.Ties.Tries.{oldest_first}
+use Rattle.run_coupling.specs.Coupling.Tries.{oldest_first}
 use Rattle.run_actors.specs.Wires.{Arrives, HintView, KeepsRings, Leads, Routes}
 use Rattle.run_actors.specs.declared.wire.Wire.{Wire}
 

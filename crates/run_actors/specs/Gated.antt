@@ -1,4 +1,4 @@
--- One try of a command behind a gate, and the ties that it keeps.
+-- One try of a command behind a gate, and the coupling invariants that it keeps.
 use Rattle.std.specs.Prelude.{◌≡◌, ◌⊎◌, ℕ, ◌+◌, ◌<◌, ◌≤◌, List, [], ◌∷◌, ◌++◌}
 use Rattle.std.specs.Prelude.{None, Some, length}
 use Rattle.steer_base.specs.Sets.{has}
@@ -15,9 +15,9 @@ use Rattle.hop_delivery.specs.Orders.Commands.{SettingChange}
 use Rattle.steer_model.specs.Good.Inputs.{Input, setup_in}
 use Rattle.steer_model.specs.Steps.Commands.{affects}
 use Rattle.run_hands.specs.Gates.{ClosesEmpty, SetsAndOpens}
-use Rattle.run_laws.specs.Ties.Answers.{FindsOneBusy}
-use Rattle.run_laws.specs.Ties.EmptiedLanes.{FindsAllEmpty, NoSets}
-use Rattle.run_laws.specs.Ties.Tries.{SetsByAnswer, sets_and_openings}
+use Rattle.run_coupling.specs.Coupling.Answers.{FindsOneBusy}
+use Rattle.run_coupling.specs.Coupling.EmptiedLanes.{FindsAllEmpty, NoSets}
+use Rattle.run_coupling.specs.Coupling.Tries.{SetsByAnswer, sets_and_openings}
 
 -- By the answer: the gate was closed, the lanes found empty, the setting made and the gate opened;
 -- or nothing was set, and this was busy.
@@ -34,10 +34,10 @@ abbrev pub HasAffected : Input → BoardSizes → Command → CpuMask → Type 0
 HasAffected i about c lanes =
     (l : ℕ) → l < about.lanes → has lanes l ≡ affects (setup_in i) c l
 
--- What a try of a command with this one setting keeps of the ties: it sets and opens as its answer
--- says; if it was done the lanes were found empty, and else it made no setting; if it was busy
--- there were visits open, of as many seats as it says and not the closer's, or there are the two
--- loads of the lane that it names.
+-- What a try of a command with this one setting keeps of the coupling invariants: it sets and opens
+-- as its answer says; if it was done the lanes were found empty, and else it made no setting; if it
+-- was busy there were visits open, of as many seats as it says and not the closer's, or there are
+-- the two loads of the lane that it names.
 pub record KeepsTry (i : Input) (about : BoardSizes) (lanes : List LaneList) (c : Command)
     (m : SettingChange) (answer : Answer) (steps : List BoardStep) : Type 0 where
   pub sets : (words : ℕ → ℕ) (changes : (ℕ → ℕ) → Command → List SettingChange)
@@ -50,7 +50,7 @@ pub record KeepsTry (i : Input) (about : BoardSizes) (lanes : List LaneList) (c 
   pub busy : (lane head tail : ℕ) → answer ≡ says.Busy (busy.NotEmpty lane head tail)
       → FindsOneBusy i lanes steps c lane head tail
 
--- A gated try keeps its ties, if it looked at the lanes that its command affects.
+-- A gated try keeps its coupling invariants, if it looked at the lanes that its command affects.
 abbrev pub GatedTriesKeep : Type 0
 GatedTriesKeep =
     (i : Input) (about : BoardSizes) (left : List LaneList) (lanes : CpuMask) (c : Command)

@@ -9,14 +9,14 @@ use Rattle.run_words.specs.Numbers.{hint_number}
 use Rattle.run_words.specs.declared.hint_word.HintWord.TheVariants as word
 use Rattle.steer_model.specs.Good.Inputs.{Input, setup_in}
 use Rattle.steer_model.specs.State.Setup.{packet_hash}
-use Rattle.run_laws.specs.Laws.SharedCodes.{AreShared}
-use Rattle.run_laws.specs.Ties.Ends.{AllArrived}
-use Rattle.run_laws.specs.Ties.Hints.{HintCodes, IsRouted}
+use Rattle.run_coupling.specs.Laws.SharedCodes.{AreShared}
+use Rattle.run_coupling.specs.Coupling.Ends.{AllArrived}
+use Rattle.run_coupling.specs.Coupling.Hints.{HintCodes, IsRouted}
 use Rattle.run_actors.specs.Wires.{Ends, HintView}
 
--- The ties of the wire: all packets arrived; each came by what was loaded; each store of its seat
--- is the queue of an arrival in its word, but for the word that says that all have arrived; and so
--- what it stored in a packet's word is the queue of the packet's arrival.
+-- The coupling invariants of the wire: all packets arrived; each came by what was loaded; each
+-- store of its seat is the queue of an arrival in its word, but for the word that says that all
+-- have arrived; and so what it stored in a packet's word is the queue of the packet's arrival.
 pub record ArrivalsAreTied (i : Input) (h : History) (c : HintCodes) (seats : List HintView)
     (seat : HintView) : Type 0 where
   pub arrived : AllArrived i h
@@ -29,10 +29,10 @@ pub record ArrivalsAreTied (i : Input) (h : History) (c : HintCodes) (seats : Li
   pub packets : (x q : ℕ) → Contains seat.steps (Store (c.packet x) (c.place q))
       → (arrival_of h.arrivals x).queue ≡ q
 
--- If a wire without steps let these arrivals arrive and all packets did, its ties hold at the
--- closing of seats among which its own is.
-abbrev pub WireKeepsTies : Type 0
-WireKeepsTies =
+-- If a wire without steps let these arrivals arrive and all packets did, its coupling invariants
+-- hold at the closing of seats among which its own is.
+abbrev pub WireKeepsCoupling : Type 0
+WireKeepsCoupling =
     (i : Input) (h : History) (c : HintCodes) (seats : List HintView) (old new : HintView)
     → AreShared c → Contains seats new → old.steps ≡ []
     → map (λ a. a.id) h.arrivals ≡ range_with_len 0 (length i.packets)

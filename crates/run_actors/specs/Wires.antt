@@ -20,7 +20,7 @@ use Rattle.run_words.specs.Numbers.{hint_number}
 use Rattle.run_words.specs.Values.{filter_in, place_in, place_word}
 use Rattle.run_words.specs.declared.hint_word.HintWord.TheVariants as word
 use Rattle.run_words.specs.declared.values.TheConstants.{DONE}
-use Rattle.run_laws.specs.Ties.Tries.{oldest_first}
+use Rattle.run_coupling.specs.Coupling.Tries.{oldest_first}
 use Rattle.run_actors.specs.declared.wire.Wire.{Wire}
 
 -- what contracts see of a seat at the hint words

@@ -8,7 +8,7 @@ mod seats;
 mod wire;
 
 pub use gated::try_gated;
-pub use laws::{gated_tries_keep_their_ties, the_wire_keeps_its_ties};
+pub use laws::{gated_tries_keep_their_coupling, the_wire_keeps_its_coupling};
 pub use pace::Pace;
 pub use seats::Seats;
 pub use wire::Wire;

@@ -26,9 +26,9 @@ use Rattle.steer_model.specs.Good.Inputs.{Input, is_flows}
 use Rattle.steer_model.specs.State.Settings.{Settings, changed}
 use Rattle.steer_model.specs.Steps.Commands.{is_done}
 use Rattle.run_words.specs.Values.{flows_word}
-use Rattle.run_laws.specs.Ties.Inputs.{AreReceiveWords, NamesReceiveQueues}
-use Rattle.run_laws.specs.Ties.Tries.{Try, settings_by}
-use Rattle.run_laws.proofs.Tries.ResizeLemmas.{resizes_by}
+use Rattle.run_coupling.specs.Coupling.Inputs.{AreReceiveWords, NamesReceiveQueues}
+use Rattle.run_coupling.specs.Coupling.Tries.{Try, settings_by}
+use Rattle.run_coupling.proofs.Tries.ResizeLemmas.{resizes_by}
 use Rattle.run_controller.specs.Journals.{known_from}
 use Rattle.run_controller.specs.Settings.{KnownSettings, first_known, generations_after}
 use Rattle.run_controller.specs.Settings.{known_after, receive_change, transmit_change}

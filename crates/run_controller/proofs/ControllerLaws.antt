@@ -1,4 +1,4 @@
--- What the controller did gives its ties.
+-- What the controller did gives its coupling invariants.
 use Rattle.std.proofs.Common.{◌≡◌, ◌⊎◌, inl, inr, ℕ, zero, suc, List, [], ◌∷◌, ◌++◌, Some}
 use Rattle.std.proofs.Common.{length, map, All, refl, sym, ap, subst, ◌∙◌, arith, append_assoc}
 use Rattle.std.specs.Prelude.{slice_get}
@@ -21,22 +21,23 @@ use Rattle.steer_model.specs.State.Settings.{Settings}
 use Rattle.steer_model.specs.State.Setup.{Setup}
 use Rattle.steer_model.specs.State.Start.{initial_settings}
 use Rattle.run_hands.specs.declared.shared.Shared.{Shared}
-use Rattle.run_laws.specs.Laws.SharedCodes.{AreShared}
-use Rattle.run_laws.specs.Ties.Answers.{AllAnswered}
-use Rattle.run_laws.specs.Ties.EmptiedLanes.{AllFindLanes}
-use Rattle.run_laws.specs.Ties.Hints.{HintCodes}
-use Rattle.run_laws.specs.Ties.Inputs.{NamesReceiveQueues, receive_queues}
-use Rattle.run_laws.specs.Ties.Tries.{AllSetByAnswer, Try, at_receive, at_transmit, oldest_first}
-use Rattle.run_laws.specs.Ties.Tries.{settings_by, steps_of_tries, words_after}
-use Rattle.run_laws.proofs.Runs.QueueLemmas.{all_name_queues}
-use Rattle.run_laws.proofs.Tries.GivenLemmas.{all_within}
-use Rattle.run_laws.proofs.Tries.RangeLemmas.{IsWithinPlan}
-use Rattle.run_laws.proofs.Tries.ResizeLemmas.{resizes_by}
-use Rattle.run_laws.proofs.Tries.WordLemmas.{words_are}
+use Rattle.run_coupling.specs.Laws.SharedCodes.{AreShared}
+use Rattle.run_coupling.specs.Coupling.Answers.{AllAnswered}
+use Rattle.run_coupling.specs.Coupling.EmptiedLanes.{AllFindLanes}
+use Rattle.run_coupling.specs.Coupling.Hints.{HintCodes}
+use Rattle.run_coupling.specs.Coupling.Inputs.{NamesReceiveQueues, receive_queues}
+use Rattle.run_coupling.specs.Coupling.Tries.{AllSetByAnswer, Try, at_receive, at_transmit}
+use Rattle.run_coupling.specs.Coupling.Tries.{oldest_first}
+use Rattle.run_coupling.specs.Coupling.Tries.{settings_by, steps_of_tries, words_after}
+use Rattle.run_coupling.proofs.Runs.QueueLemmas.{all_name_queues}
+use Rattle.run_coupling.proofs.Tries.GivenLemmas.{all_within}
+use Rattle.run_coupling.proofs.Tries.RangeLemmas.{IsWithinPlan}
+use Rattle.run_coupling.proofs.Tries.ResizeLemmas.{resizes_by}
+use Rattle.run_coupling.proofs.Tries.WordLemmas.{words_are}
 use Rattle.run_actors.specs.Gated.{GatedTriesKeep}
 use Rattle.run_controller.specs.Attempts.{TriesUnless}
 use Rattle.run_controller.specs.Journals.{AllAttempted, known_from}
-use Rattle.run_controller.specs.Laws.{AreBoards, ControllerKeepsTies, IsStoredFor}
+use Rattle.run_controller.specs.Laws.{AreBoards, ControllerKeepsCoupling, IsStoredFor}
 use Rattle.run_controller.specs.Settings.{KnownSettings, first_known}
 use Rattle.run_controller.specs.Stages.{Stage, stage}
 use Rattle.run_actors.specs.declared.seats.Seats.{Seats}
@@ -248,8 +249,9 @@ stored_for h c late g n v shared journal among by =
         let at = contains-oldest late g among in
         (at.0, ap (λ zs. slice_get zs at.0) journal ∙ (at.1 ∙ ap (λ x. Some x) is))
 
-pub controller_keeps_ties : GatedTriesKeep → ControllerKeepsTies
-controller_keeps_ties keep i h s rx_own tx_own c last old new shared boards given filters rx_none
+pub controller_keeps_coupling : GatedTriesKeep → ControllerKeepsCoupling
+controller_keeps_coupling keep i h s rx_own tx_own c last old new shared boards given filters
+    rx_none
     tx_none hint_none rx_is tx_is gives a =
     let late : List Commanded = a.late in
     let journal : h.commands ≡ oldest_first late = a.journal in

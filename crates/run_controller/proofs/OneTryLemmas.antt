@@ -1,4 +1,4 @@
--- What one try of the controller keeps of the ties.
+-- What one try of the controller keeps of the coupling invariants.
 use Rattle.std.proofs.Common.{◌≡◌, ◌⊎◌, inl, inr, ℕ, ◌+◌, ◌<◌, ◌≤◌, Bool, true, false}
 use Rattle.std.proofs.Common.{List, [], ◌∷◌, ◌++◌, Option, Some, None, length, refl, sym, ap, subst}
 use Rattle.std.proofs.Common.{◌∙◌, arith, append_assoc}
@@ -33,10 +33,10 @@ use Rattle.run_words.specs.Numbers.{hint_number}
 use Rattle.run_words.specs.Values.{place_word}
 use Rattle.run_words.specs.declared.hint_word.HintWord.TheVariants as word
 use Rattle.run_hands.specs.declared.shared.Shared.{Shared}
-use Rattle.run_laws.specs.Ties.Answers.{IsAnswered, IsBusy}
-use Rattle.run_laws.specs.Ties.EmptiedLanes.{FindsAllEmpty, NoSets}
-use Rattle.run_laws.specs.Ties.Inputs.{NamesReceiveQueues, receive_queues}
-use Rattle.run_laws.specs.Ties.Tries.{SetsByAnswer, Try, sets_and_openings}
+use Rattle.run_coupling.specs.Coupling.Answers.{IsAnswered, IsBusy}
+use Rattle.run_coupling.specs.Coupling.EmptiedLanes.{FindsAllEmpty, NoSets}
+use Rattle.run_coupling.specs.Coupling.Inputs.{NamesReceiveQueues, receive_queues}
+use Rattle.run_coupling.specs.Coupling.Tries.{SetsByAnswer, Try, sets_and_openings}
 use Rattle.run_actors.specs.Gated.{GatedTriesKeep, IsGated, KeepsTry}
 use Rattle.run_actors.specs.Wires.{HintView, after_step}
 use Rattle.run_controller.specs.Attempts.{AreClears, ClearsByAnswer, DoesAtOnce, HintsBehind}

@@ -28,7 +28,7 @@ use Rattle.run_words.specs.Values.{filter_in, flows_in}
 use Rattle.run_words.specs.declared.hint_word.HintWord.TheVariants as word
 use Rattle.run_words.specs.declared.setting.ReceiveSetting.TheVariants as receive
 use Rattle.run_hands.specs.declared.shared.Shared.{Shared}
-use Rattle.run_laws.proofs.Tries.EmptiedLemmas.{gates-looking}
+use Rattle.run_coupling.proofs.Tries.EmptiedLemmas.{gates-looking}
 use Rattle.run_actors.specs.Gated.{IsGated}
 use Rattle.run_actors.specs.Wires.{HintView, after_step}
 use Rattle.run_controller.proofs.ListLemmas.{contains-cases}

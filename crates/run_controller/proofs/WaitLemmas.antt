@@ -8,7 +8,7 @@ use Rattle.steer_base.specs.declared.command.Command.{Command}
 use Rattle.history.specs.declared.commanded.Commanded.{Commanded}
 use Rattle.hop_rule.specs.declared.sizes.TheConstants.{MAX_OPENINGS}
 use Rattle.steer_model.specs.Good.Commands.{is_busy}
-use Rattle.run_laws.specs.Ties.Tries.{oldest_first}
+use Rattle.run_coupling.specs.Coupling.Tries.{oldest_first}
 use Rattle.run_controller.specs.Attempts.{Attempts}
 use Rattle.run_controller.specs.Journals.{AllAttempted, Attempted, IsGivenOnce, IsReady, known_by}
 use Rattle.run_controller.specs.Journals.{known_from}

@@ -4,7 +4,7 @@ use Rattle.steer_base.specs.declared.command.Command.{Command}
 use Rattle.history.specs.declared.commanded.Commanded.{Commanded}
 use Rattle.steer_model.specs.Good.Commands.{AreTries}
 use Rattle.steer_model.specs.Steps.Commands.{is_done}
-use Rattle.run_laws.specs.Ties.Tries.{oldest_first}
+use Rattle.run_coupling.specs.Coupling.Tries.{oldest_first}
 use Rattle.run_controller.specs.Attempts.{Attempts}
 use Rattle.run_controller.specs.Settings.{IsKnown, KnownSettings, known_after}
 use Rattle.run_controller.specs.Stages.{AreSeated, Stage}

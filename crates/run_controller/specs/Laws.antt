@@ -12,12 +12,13 @@ use Rattle.hop_rule.specs.declared.step.BoardStep.{BoardStep}
 use Rattle.steer_model.specs.Good.Commands.{AreGiven}
 use Rattle.steer_model.specs.Good.Inputs.{Input, WasDone, setup_in}
 use Rattle.steer_model.specs.State.Start.{initial_settings}
-use Rattle.run_laws.specs.Laws.SharedCodes.{AreShared}
-use Rattle.run_laws.specs.Ties.EmptiedLanes.{AllFindLanes}
-use Rattle.run_laws.specs.Ties.Hints.{HintCodes}
-use Rattle.run_laws.specs.Ties.Inputs.{AreReceiveWords, receive_queues}
-use Rattle.run_laws.specs.Ties.Runs.{KeepsCommands}
-use Rattle.run_laws.specs.Ties.Tries.{KeepsReceiveTries, KeepsTransmitTries, Try, at_receive}
+use Rattle.run_coupling.specs.Laws.SharedCodes.{AreShared}
+use Rattle.run_coupling.specs.Coupling.EmptiedLanes.{AllFindLanes}
+use Rattle.run_coupling.specs.Coupling.Hints.{HintCodes}
+use Rattle.run_coupling.specs.Coupling.Inputs.{AreReceiveWords, receive_queues}
+use Rattle.run_coupling.specs.Coupling.Runs.{KeepsCommands}
+use Rattle.run_coupling.specs.Coupling.Tries.{KeepsReceiveTries, KeepsTransmitTries, Try}
+use Rattle.run_coupling.specs.Coupling.Tries.{at_receive}
 use Rattle.run_actors.specs.Wires.{HintView}
 use Rattle.run_controller.specs.Journals.{Attempted}
 use Rattle.run_controller.specs.Settings.{KnownSettings, first_known}
@@ -35,9 +36,10 @@ IsStoredFor h c number value =
     × WasDone h (give.Stand app cpu))
     ⊎ ((place : ℕ) × (number ≡ c.socket place) × (value ≡ 0))
 
--- The ties of the controller: all steps of its seats at the boards are those of its tries, each try
--- set and opened as its answer says, the lanes were found empty before a setting was made, the
--- commands are those of the plan and each answer has its cause, and each store has its command.
+-- The coupling invariants of the controller: all steps of its seats at the boards are those of its
+-- tries, each try set and opened as its answer says, the lanes were found empty before a setting
+-- was made, the commands are those of the plan and each answer has its cause, and each store has
+-- its command.
 pub record CommandsAreTied (i : Input) (h : History) (rx tx : BoardSizes)
     (rx_own tx_own : ℕ → List BoardStep) (c : HintCodes) (hint : HintView) (tries : List Try)
     : Type 0 where
@@ -62,9 +64,9 @@ pub record AreBoards (i : Input) (h : History) (rx tx : BoardSizes) : Type 0 whe
       (own_settings rx [])
 
 -- If seats without steps gave the commands of the plan, and the journal is that of the history, the
--- ties of the controller hold.
-abbrev pub ControllerKeepsTies : Type 0
-ControllerKeepsTies =
+-- coupling invariants of the controller hold.
+abbrev pub ControllerKeepsCoupling : Type 0
+ControllerKeepsCoupling =
     (i : Input) (h : History) (s : Stage) (rx_own tx_own : ℕ → List BoardStep) (c : HintCodes)
     (last : KnownSettings) (old new : Seats)
     → AreShared c → AreBoards i h s.rx.sizes s.tx.sizes

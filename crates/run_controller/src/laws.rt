@@ -1,11 +1,12 @@
-//! Lemmas: the ties of a run from what the controller did. The functions have no code.
-ghost use Rattle.run_controller.specs.Laws.{ControllerKeepsTies};
+//! Lemmas: the coupling invariants of a run from what the controller did. The functions have no
+//! code.
+ghost use Rattle.run_controller.specs.Laws.{ControllerKeepsCoupling};
 
-use run_actors::gated_tries_keep_their_ties;
+use run_actors::gated_tries_keep_their_coupling;
 
-/// Lemma: what the controller did gives its ties at the closing.
-pub fn the_controller_keeps_its_ties()
-    ensures { ControllerKeepsTies }
+/// Lemma: what the controller did gives its coupling invariants at the closing.
+pub fn the_controller_keeps_its_coupling()
+    ensures { ControllerKeepsCoupling }
 {
-    gated_tries_keep_their_ties();
+    gated_tries_keep_their_coupling();
 }

@@ -12,4 +12,4 @@ mod sockets;
 pub use change::Change;
 pub use controller::{Controller, MAX_TRIES};
 pub use known::Known;
-pub use laws::the_controller_keeps_its_ties;
+pub use laws::the_controller_keeps_its_coupling;

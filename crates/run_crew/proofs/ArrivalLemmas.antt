@@ -6,7 +6,7 @@ use Rattle.std.proofs.lemmas.List.Elements.{All-head, All-tail}
 use Rattle.history.specs.Lists.{arrivals_at}
 use Rattle.history.specs.declared.arrival.Arrival.{Arrival}
 use Rattle.hop_rule.specs.Events.{sum_below}
-use Rattle.run_laws.proofs.Lists.PlaceLemmas.{if_there, split-arrivals}
+use Rattle.run_coupling.proofs.Lists.PlaceLemmas.{if_there, split-arrivals}
 use Rattle.run_crew.proofs.AcceptedLemmas.{one-more}
 
 -- some queues together have at most all arrivals

@@ -19,15 +19,15 @@ use Rattle.board_api.specs.OwnSteps.{accepted_by}
 use Rattle.board_api.specs.declared.lists.BoardLists.{BoardLists}
 use Rattle.hop_delivery.specs.Orders.Turns.{Turn}
 use Rattle.steer_model.specs.Good.Inputs.{Input}
-use Rattle.run_laws.specs.Laws.OneCount.{ChoicesAreOfTurns, TotalsAreEqual, choice_count}
-use Rattle.run_laws.specs.Laws.OneCount.{delivered_count}
-use Rattle.run_laws.specs.Ties.Applications.{WasFoundAt}
-use Rattle.run_laws.specs.Ties.Ends.{accepted_count, retired_count}
-use Rattle.run_laws.proofs.Ends.PutCountLemmas.{puts-are-chosen}
-use Rattle.run_laws.proofs.Ends.TotalLemmas.{all-delivered}
-use Rattle.run_laws.proofs.Lists.SumLemmas.{sum-le, sum-swap}
-use Rattle.run_laws.proofs.Runs.ApplicationLemmas.{front-from}
-use Rattle.run_laws.proofs.Runs.FactLemmas.{BoardFacts, facts_at_closings}
+use Rattle.run_coupling.specs.Laws.OneCount.{ChoicesAreOfTurns, TotalsAreEqual, choice_count}
+use Rattle.run_coupling.specs.Laws.OneCount.{delivered_count}
+use Rattle.run_coupling.specs.Coupling.Applications.{WasFoundAt}
+use Rattle.run_coupling.specs.Coupling.Ends.{accepted_count, retired_count}
+use Rattle.run_coupling.proofs.Ends.PutCountLemmas.{puts-are-chosen}
+use Rattle.run_coupling.proofs.Ends.TotalLemmas.{all-delivered}
+use Rattle.run_coupling.proofs.Lists.SumLemmas.{sum-le, sum-swap}
+use Rattle.run_coupling.proofs.Runs.ApplicationLemmas.{front-from}
+use Rattle.run_coupling.proofs.Runs.FactLemmas.{BoardFacts, facts_at_closings}
 use Rattle.run_workers.specs.Stages.{StageView}
 use Rattle.run_crew.specs.CountLaws.{FullCountsSuffice, IsFull, accepted_of, actor_of, played}
 use Rattle.run_crew.specs.CountLaws.{chosen_of, retired_of}
@@ -40,7 +40,7 @@ use Rattle.run_crew.specs.Stories.{SeatTurns, queue_story, reply_story}
 use Rattle.run_crew.proofs.AcceptedLemmas.{accepted-fit, accepted-is, answers-are, answers_in}
 use Rattle.run_crew.proofs.AcceptedLemmas.{by-producers, taken, taken_by}
 use Rattle.run_crew.proofs.ChoiceFunctions.{none-some, some-is}
-use Rattle.run_crew.proofs.DrainLemmas.{drains_keep_ties}
+use Rattle.run_crew.proofs.DrainLemmas.{drains_keep_coupling}
 use Rattle.run_crew.proofs.QueueTurnLemmas as queues
 use Rattle.run_crew.proofs.ReplyTurnLemmas as replies
 use Rattle.run_crew.proofs.StoryLemmas.{AreBoardTurns, by-seat, keep-turns, none-of}
@@ -241,7 +241,7 @@ module _ (i : Input) (h : History) (t : StageView) (crew : List Seated) (turns :
   retired-counted : (l : ℕ) → l < t.tx.sizes.lanes
       → retired_of (played crew ships_of l) ≡ retired_count t.tx.sizes own l
   retired-counted l less =
-      let tied = drains_keep_ties.transmits t crew Q (length i.plan.apps) own ships e.work
+      let tied = drains_keep_coupling.transmits t crew Q (length i.plan.apps) own ships e.work
       e.lists in
       ap retired_of (played-is crew ships_of l (ships.each l less)) ∙ sym (tied.retired l less)
 

@@ -1,4 +1,4 @@
--- The ties of the lanes that the workers empty.
+-- The coupling invariants of the lanes that the workers empty.
 use Rattle.std.proofs.Common.{◌≡◌, ℕ, ◌+◌, ◌-◌, ◌/◌, ◌%◌, ◌<◌, List, Some, All, length, max}
 use Rattle.std.proofs.Common.{sym, refl, ap, ◌∙◌, subst, arith}
 use Rattle.std.specs.Prelude.{slice_get}
@@ -15,11 +15,11 @@ use Rattle.run_hands.specs.Drains.{IsDrain, hand_phase, out_for}
 use Rattle.run_hands.specs.declared.drain.Drain.{Drain}
 use Rattle.run_hands.specs.declared.drain.Exit.{Exit}
 use Rattle.run_hands.specs.declared.drain.Exit.TheVariants.{Inboxes, Port}
-use Rattle.run_laws.specs.Ties.Ends.{retired_count}
+use Rattle.run_coupling.specs.Coupling.Ends.{retired_count}
 use Rattle.run_workers.specs.Actors.{KeepsDrain, actor_at}
 use Rattle.run_crew.specs.Crews.{IsPlayed, drains_of, ships_of}
 use Rattle.run_crew.specs.declared.seated.Seated.{Seated}
-use Rattle.run_crew.specs.DrainLaws.{AreDrained, DrainsAreTied, DrainsKeepTies}
+use Rattle.run_crew.specs.DrainLaws.{AreDrained, DrainsAreTied, DrainsKeepCoupling}
 use Rattle.run_crew.proofs.StoryLemmas.{actor-back}
 
 module _ (about : BoardSizes) (given : Setup) (exit : Exit) (crew : List Seated)
@@ -83,8 +83,8 @@ module _ (about : BoardSizes) (given : Setup) (exit : Exit) (crew : List Seated)
         retired = retired-at;
       }
 
-pub drains_keep_ties : DrainsKeepTies
-drains_keep_ties =
+pub drains_keep_coupling : DrainsKeepCoupling
+drains_keep_coupling =
     record {
       receives = λ t crew queues apps own are work lists.
           tied t.rx.sizes t.shared.given Inboxes crew drains_of (λ x. x.seats.rx) own work.some

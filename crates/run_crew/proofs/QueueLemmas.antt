@@ -1,4 +1,4 @@
--- The ties of the receive queues, from the records of their pollers.
+-- The coupling invariants of the receive queues, from the records of their pollers.
 use Rattle.std.proofs.Common.{◌≡◌, ℕ, ◌%◌, ◌<◌, ◌≤◌, List}
 use Rattle.std.proofs.Common.{Some, length, map, sym, refl, ap, ◌∙◌, subst, arith}
 use Rattle.std.specs.Prelude.{slice_index}
@@ -14,15 +14,15 @@ use Rattle.hop_rule.proofs.Lists.{none-some}
 use Rattle.hop_delivery.specs.Orders.Runs.{Story, turns_of}
 use Rattle.hop_delivery.specs.Orders.Turns.{Turn}
 use Rattle.steer_model.specs.Good.Inputs.{Input, setup_in}
-use Rattle.run_laws.specs.Laws.SharedCodes.{AreShared}
-use Rattle.run_laws.specs.Ties.Hints.{HintCodes}
+use Rattle.run_coupling.specs.Laws.SharedCodes.{AreShared}
+use Rattle.run_coupling.specs.Coupling.Hints.{HintCodes}
 use Rattle.run_records.specs.Polling.{IsPolling}
-use Rattle.run_records.specs.QueueTies.{IsQueueTied, PollersAreTied, words_seen}
+use Rattle.run_records.specs.QueueCoupling.{IsQueueTied, PollersAreTied, words_seen}
 use Rattle.run_workers.specs.Actors.{Each}
 use Rattle.run_workers.specs.Stages.{StageView}
 use Rattle.run_crew.specs.Crews.{IsPlayed, pollers_of}
 use Rattle.run_crew.specs.declared.seated.Seated.{Seated}
-use Rattle.run_crew.specs.QueueLaws.{QueuesAreTied, QueuesKeepTies, ReceiveEnds}
+use Rattle.run_crew.specs.QueueLaws.{QueuesAreTied, QueuesKeepCoupling, ReceiveEnds}
 use Rattle.run_crew.specs.Stories.{SeatTurns, queue_story}
 use Rattle.run_crew.proofs.ChoiceFunctions.{chosen}
 use Rattle.run_crew.proofs.QueueTurnLemmas.{board-turns, has, home-count, keeps-poller}
@@ -42,7 +42,7 @@ module _ (law : PollersAreTied) (i : Input) (h : History) (t : StageView) (crew 
   abbrev story : Story
   story = queue_story crew turns h.choices (arrivals_at h.arrivals)
 
-  -- the ties of queue p at the seat that steers it
+  -- the coupling invariants of queue p at the seat that steers it
   abbrev IsTied : ℕ → (ℕ → ℕ → ℕ) → Type 0
   IsTied p seen = IsQueueTied i t.rx.sizes (own (p % W)) c seats story p seen
 
@@ -134,6 +134,6 @@ module _ (law : PollersAreTied) (i : Input) (h : History) (t : StageView) (crew 
           wants = λ p k want u. (y.1 p).wants k want u;
         }
 
-pub queues_keep_ties : PollersAreTied → QueuesKeepTies
-queues_keep_ties law i h t crew turns own c seats e codes among taken_count taken all =
+pub queues_keep_coupling : PollersAreTied → QueuesKeepCoupling
+queues_keep_coupling law i h t crew turns own c seats e codes among taken_count taken all =
     keep-ties law i h t crew turns own c seats e codes among taken_count taken all

@@ -1,4 +1,4 @@
--- The ties of the applications, from their records.
+-- The coupling invariants of the applications, from their records.
 use Rattle.std.proofs.Common.{◌≡◌, ℕ, ◌%◌, ◌<◌, ◌≤◌, List, [], Some}
 use Rattle.std.proofs.Common.{All, length, map, sym, refl, ap, ◌∙◌, subst, arith}
 use Rattle.std.specs.Prelude.{slice_get}
@@ -17,15 +17,15 @@ use Rattle.hop_delivery.specs.Orders.Runs.{Story, turns_of}
 use Rattle.hop_delivery.specs.Orders.Turns.{Turn}
 use Rattle.steer_model.specs.Good.Inputs.{Input, setup_in}
 use Rattle.run_hands.specs.Servers.{HasFlowsBelow}
-use Rattle.run_laws.specs.Laws.SharedCodes.{AreShared}
-use Rattle.run_laws.specs.Ties.Hints.{AreRecorded, CameBy, HintCodes, Stands}
-use Rattle.run_records.specs.ApplicationTies.{ApplicationsAreTied, IsApplicationTied, maps_seen}
+use Rattle.run_coupling.specs.Laws.SharedCodes.{AreShared}
+use Rattle.run_coupling.specs.Coupling.Hints.{AreRecorded, CameBy, HintCodes, Stands}
+use Rattle.run_records.specs.ApplicationCoupling.{ApplicationsAreTied, IsApplicationTied, maps_seen}
 use Rattle.run_records.specs.Replying.{IsReplying}
 use Rattle.run_workers.specs.Actors.{Each}
 use Rattle.run_workers.specs.Stages.{StageView}
 use Rattle.run_crew.specs.Crews.{IsPlayed, servers_of}
 use Rattle.run_crew.specs.declared.seated.Seated.{Seated}
-use Rattle.run_crew.specs.ReplyLaws.{ApplicationsKeepTies, ApplicationsTied, TransmitEnds}
+use Rattle.run_crew.specs.ReplyLaws.{ApplicationsKeepCoupling, ApplicationsTied, TransmitEnds}
 use Rattle.run_crew.specs.Stories.{SeatTurns, reply_story}
 use Rattle.run_crew.proofs.ChoiceFunctions.{chosen}
 use Rattle.run_crew.proofs.ReplyTurnLemmas.{all-chosen, app-is, board-turns, has, keeps-server}
@@ -45,7 +45,7 @@ module _ (law : ApplicationsAreTied) (i : Input) (h : History) (t : StageView)
   story =
       reply_story crew turns h.tx_choices (λ a. map (λ (s : Sent). s.id) (list_at h.sent a))
 
-  -- the ties of application a at the seat that plays it
+  -- the coupling invariants of application a at the seat that plays it
   abbrev IsTied : ℕ → (ℕ → ℕ → ℕ) → Type 0
   IsTied a seen =
       IsApplicationTied i h rx_own t.tx.sizes (own (a % W)) c seats story a (list_at h.sent a)
@@ -155,6 +155,6 @@ module _ (law : ApplicationsAreTied) (i : Input) (h : History) (t : StageView)
         writes = λ a. (y.1 a).writes_are;
       }
 
-pub applications_keep_ties : ApplicationsAreTied → ApplicationsKeepTies
-applications_keep_ties law i h t crew turns rx_own own c seats e codes among =
+pub applications_keep_coupling : ApplicationsAreTied → ApplicationsKeepCoupling
+applications_keep_coupling law i h t crew turns rx_own own c seats e codes among =
     keep-ties law i h t crew turns rx_own own c seats e codes among

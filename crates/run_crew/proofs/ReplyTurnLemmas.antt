@@ -16,7 +16,7 @@ use Rattle.hop_delivery.specs.Orders.Turns.{Turn}
 use Rattle.steer_model.specs.Good.Inputs.{Input}
 use Rattle.steer_model.specs.State.Setup.{Setup}
 use Rattle.run_hands.specs.declared.server.Server.{Server}
-use Rattle.run_laws.specs.Ties.Tries.{oldest_first}
+use Rattle.run_coupling.specs.Coupling.Tries.{oldest_first}
 use Rattle.run_records.specs.Polling.{choices_in}
 use Rattle.run_records.specs.Replying.{EachReplied, IsReplying, RepliedTurn, replies_in}
 use Rattle.run_records.specs.Replying.{reply_turns}

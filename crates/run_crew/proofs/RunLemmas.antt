@@ -1,4 +1,4 @@
--- The ties of all threads, put together.
+-- The coupling invariants of all threads, put together.
 use Rattle.std.proofs.Common.{◌≡◌, ◌⊎◌, inl, inr, ℕ, ◌/◌, ◌%◌, ◌<◌, ◌≤◌}
 use Rattle.std.proofs.Common.{[], ◌∷◌, Some, length, map, sym, ap, ◌∙◌}
 use Rattle.std.proofs.Common.{subst, arith}
@@ -20,17 +20,17 @@ use Rattle.board_api.specs.Closings.Closings.{own_in}
 use Rattle.hop_delivery.specs.Orders.Runs.{Story}
 use Rattle.steer_model.specs.Good.Inputs.{Input}
 use Rattle.steer_model.specs.State.Setup.{app_for}
-use Rattle.run_laws.specs.Laws.OneCount.{TotalsAreEqual, choice_count}
-use Rattle.run_laws.specs.Ties.Deliveries.{AllDeliverTo}
-use Rattle.run_laws.specs.Ties.Hints.{StoresAreMeant}
-use Rattle.run_laws.specs.Ties.Runs.{IsRun}
-use Rattle.run_laws.proofs.Ends.ChoiceCountLemmas.{choices_suffice}
-use Rattle.run_laws.proofs.Ends.HandLemmas.{empty_hands_retired}
-use Rattle.run_laws.proofs.Lists.SumLemmas.{sum-le}
-use Rattle.run_records.specs.ApplicationTies.{ApplicationsAreTied}
-use Rattle.run_records.specs.QueueTies.{PollersAreTied}
+use Rattle.run_coupling.specs.Laws.OneCount.{TotalsAreEqual, choice_count}
+use Rattle.run_coupling.specs.Coupling.Deliveries.{AllDeliverTo}
+use Rattle.run_coupling.specs.Coupling.Hints.{StoresAreMeant}
+use Rattle.run_coupling.specs.Coupling.Runs.{IsRun}
+use Rattle.run_coupling.proofs.Ends.ChoiceCountLemmas.{choices_suffice}
+use Rattle.run_coupling.proofs.Ends.HandLemmas.{empty_hands_retired}
+use Rattle.run_coupling.proofs.Lists.SumLemmas.{sum-le}
+use Rattle.run_records.specs.ApplicationCoupling.{ApplicationsAreTied}
+use Rattle.run_records.specs.QueueCoupling.{PollersAreTied}
 use Rattle.run_records.specs.Storing.{StoresAreFor}
-use Rattle.run_records.specs.StoreTies.{IsNoted, StoresAreMeantByEach, WorkersStoresAreMeant}
+use Rattle.run_records.specs.StoreCoupling.{IsNoted, StoresAreMeantByEach, WorkersStoresAreMeant}
 use Rattle.run_workers.specs.Actors.{actor_at}
 use Rattle.run_crew.specs.Crews.{IsPlayed, drains_of, servers_of, ships_of}
 use Rattle.run_crew.specs.declared.seated.Seated.{Seated}
@@ -42,10 +42,10 @@ use Rattle.run_crew.specs.Stories.{queue_story, reply_story}
 use Rattle.run_crew.proofs.ArrivalLemmas.{arrivals-below, none-at}
 use Rattle.run_crew.proofs.ChoiceFunctions.{is-within}
 use Rattle.run_crew.proofs.CountLemmas.{full_counts_suffice}
-use Rattle.run_crew.proofs.DrainLemmas.{drains_keep_ties}
-use Rattle.run_crew.proofs.QueueLemmas.{queues_keep_ties}
+use Rattle.run_crew.proofs.DrainLemmas.{drains_keep_coupling}
+use Rattle.run_crew.proofs.QueueLemmas.{queues_keep_coupling}
 use Rattle.run_crew.proofs.QueueTurnLemmas as queues
-use Rattle.run_crew.proofs.ReplyLemmas.{applications_keep_ties}
+use Rattle.run_crew.proofs.ReplyLemmas.{applications_keep_coupling}
 use Rattle.run_crew.proofs.StoreLemmas.{arrivals-meant, commands-meant}
 use Rattle.run_crew.proofs.StoryLemmas.{actor-is, actor-seat, by-seat}
 
@@ -68,7 +68,7 @@ module _ (laws : RecordLaws) (i : Input) (h : History) (e : RunEnds i h) where
   sent-tied : ApplicationsTied i h e.t (own_in e.rx_seats) (own_in e.tx_seats) e.codes e.hint_seats
       (reply_story e.crew e.turns h.tx_choices (λ a. map (λ s. s.id) (list_at h.sent a)))
   sent-tied =
-      applications_keep_ties laws.applications i h e.t e.crew e.turns (own_in e.rx_seats)
+      applications_keep_coupling laws.applications i h e.t e.crew e.turns (own_in e.rx_seats)
       (own_in e.tx_seats) e.codes e.hint_seats e.sent e.shared e.hints.workers
 
   few-choices : choice_count h.choices ≤ length i.packets
@@ -122,7 +122,8 @@ module _ (laws : RecordLaws) (i : Input) (h : History) (e : RunEnds i h) where
   queues-tied : QueuesAreTied i h e.t (own_in e.rx_seats) e.codes e.hint_seats
       (queue_story e.crew e.turns h.choices (arrivals_at h.arrivals))
   queues-tied =
-      queues_keep_ties laws.pollers i h e.t e.crew e.turns (own_in e.rx_seats) e.codes e.hint_seats
+      queues_keep_coupling laws.pollers i h e.t e.crew e.turns (own_in e.rx_seats) e.codes
+      e.hint_seats
       e.received e.shared e.hints.workers e.copied.taken_count e.copied.taken all-chosen
 
   -- ---- deliveries
@@ -130,12 +131,12 @@ module _ (laws : RecordLaws) (i : Input) (h : History) (e : RunEnds i h) where
   rx-drained : DrainsAreTied e.t.rx.sizes e.crew drains_of (app_for e.t.shared.given)
       (own_in e.rx_seats) e.drains
   rx-drained =
-      drains_keep_ties.receives e.t e.crew Q (length i.plan.apps) (own_in e.rx_seats) e.drains
+      drains_keep_coupling.receives e.t e.crew Q (length i.plan.apps) (own_in e.rx_seats) e.drains
       e.received.work e.received.lists
 
   tx-drained : DrainsAreTied e.t.tx.sizes e.crew ships_of (λ id. 0) (own_in e.tx_seats) e.ships
   tx-drained =
-      drains_keep_ties.transmits e.t e.crew Q (length i.plan.apps) (own_in e.tx_seats) e.ships
+      drains_keep_coupling.transmits e.t e.crew Q (length i.plan.apps) (own_in e.tx_seats) e.ships
       e.sent.work e.sent.lists
 
   -- ---- stores

@@ -25,11 +25,11 @@ use Rattle.steer_model.specs.Good.Inputs.{Input, WasDone}
 use Rattle.steer_model.specs.Good.Writes.{StoodAt}
 use Rattle.run_words.specs.Numbers.{hint_number}
 use Rattle.run_words.specs.declared.hint_word.HintWord.TheVariants as word
-use Rattle.run_laws.specs.Laws.SharedCodes.{AreShared}
-use Rattle.run_laws.specs.Ties.Hints.{HintCodes, StoresAreMeant}
-use Rattle.run_laws.specs.Ties.Tries.{Try, oldest_first}
-use Rattle.run_laws.proofs.Tries.GivenLemmas.{all-joined, all_within}
-use Rattle.run_laws.proofs.Tries.RangeLemmas.{IsWithinPlan}
+use Rattle.run_coupling.specs.Laws.SharedCodes.{AreShared}
+use Rattle.run_coupling.specs.Coupling.Hints.{HintCodes, StoresAreMeant}
+use Rattle.run_coupling.specs.Coupling.Tries.{Try, oldest_first}
+use Rattle.run_coupling.proofs.Tries.GivenLemmas.{all-joined, all_within}
+use Rattle.run_coupling.proofs.Tries.RangeLemmas.{IsWithinPlan}
 use Rattle.run_records.proofs.StoringLemmas.{contains_split}
 use Rattle.run_actors.specs.Laws.{ArrivalsAreTied}
 use Rattle.run_controller.specs.Laws.{CommandsAreTied, IsStoredFor}

@@ -11,8 +11,8 @@ use Rattle.run_hands.specs.declared.poller.Poller.{Poller}
 use Rattle.steer_model.specs.Good.Inputs.{Input}
 use Rattle.history.specs.Lists.{list_at}
 use Rattle.history.specs.declared.sent.Sent.{Sent}
-use Rattle.run_laws.specs.Ties.Applications.{WasFoundAt}
-use Rattle.run_laws.specs.Laws.OneCount.{TotalsAreEqual, choice_count}
+use Rattle.run_coupling.specs.Coupling.Applications.{WasFoundAt}
+use Rattle.run_coupling.specs.Laws.OneCount.{TotalsAreEqual, choice_count}
 use Rattle.run_workers.specs.Stages.{StageView}
 use Rattle.run_crew.specs.Crews.{pollers_of, ships_of}
 use Rattle.run_crew.specs.declared.seated.Seated.{Seated}

@@ -4,9 +4,9 @@ use Rattle.hop_rule.specs.declared.sizes.BoardSizes.{BoardSizes}
 use Rattle.hop_rule.specs.declared.step.BoardStep.{BoardStep}
 use Rattle.steer_model.specs.State.Setup.{app_for}
 use Rattle.run_hands.specs.declared.drain.Drain.{Drain}
-use Rattle.run_laws.specs.Laws.EmptyHands.{HandsAreEmpty}
-use Rattle.run_laws.specs.Ties.Deliveries.{AllDeliverTo}
-use Rattle.run_laws.specs.Ties.Ends.{retired_count}
+use Rattle.run_coupling.specs.Laws.EmptyHands.{HandsAreEmpty}
+use Rattle.run_coupling.specs.Coupling.Deliveries.{AllDeliverTo}
+use Rattle.run_coupling.specs.Coupling.Ends.{retired_count}
 use Rattle.run_workers.specs.Stages.{StageView}
 use Rattle.run_crew.specs.Crews.{AreReceiveLists, AreTransmitLists, AreWorking, IsPlayed}
 use Rattle.run_crew.specs.Crews.{drains_of, ships_of}
@@ -27,9 +27,9 @@ pub record DrainsAreTied (about : BoardSizes) (crew : List Seated) (kind : Seate
   pub retired : (l : ℕ) (less : l < about.lanes)
       → retired_count about own l ≡ (are.each l less).actor.retired
 
--- The drains keep their ties at both boards: packets go to their applications, and replies to the
--- port.
-pub record DrainsKeepTies : Type 0 where
+-- The drains keep their coupling invariants at both boards: packets go to their applications, and
+-- replies to the port.
+pub record DrainsKeepCoupling : Type 0 where
   pub receives : (t : StageView) (crew : List Seated) (queues apps : ℕ) (own : ℕ → List BoardStep)
       (are : AreDrained t.rx.sizes crew drains_of) → AreWorking t crew queues apps
       → AreReceiveLists crew own

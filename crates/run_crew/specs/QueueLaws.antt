@@ -10,11 +10,11 @@ use Rattle.hop_rule.specs.Owns.{puts_of}
 use Rattle.hop_rule.specs.declared.step.BoardStep.{BoardStep}
 use Rattle.hop_delivery.specs.Orders.Runs.{Story}
 use Rattle.steer_model.specs.Good.Inputs.{Input, setup_in}
-use Rattle.run_laws.specs.Laws.SharedCodes.{AreShared}
-use Rattle.run_laws.specs.Ties.Hints.{HintCodes, WantsAreLoaded}
-use Rattle.run_laws.specs.Ties.Inputs.{FlowsHaveOneHash}
-use Rattle.run_laws.specs.Ties.Queues.{KeepsQueues}
-use Rattle.run_laws.specs.Ties.Turns.{KeepsTurns}
+use Rattle.run_coupling.specs.Laws.SharedCodes.{AreShared}
+use Rattle.run_coupling.specs.Coupling.Hints.{HintCodes, WantsAreLoaded}
+use Rattle.run_coupling.specs.Coupling.Inputs.{FlowsHaveOneHash}
+use Rattle.run_coupling.specs.Coupling.Queues.{KeepsQueues}
+use Rattle.run_coupling.specs.Coupling.Turns.{KeepsTurns}
 use Rattle.run_workers.specs.Actors.{Each}
 use Rattle.run_workers.specs.Stages.{StageView}
 use Rattle.run_crew.specs.Crews.{AreReceiveLists, AreWorking, IsPlayed, pollers_of}
@@ -57,16 +57,17 @@ QueuesKeepTurns =
     → ((q : ℕ) → map (λ (c : Chosen). c.id) (list_at choices q) ≡ arrivals q)
     → KeepsTurns own (queue_story crew turns choices arrivals)
 
--- What the turns of the queues have seen, and the ties of the queues with it.
+-- What the turns of the queues have seen, and the coupling invariants of the queues with it.
 pub record QueuesAreTied (i : Input) (h : History) (t : StageView) (own : ℕ → List BoardStep)
     (c : HintCodes) (seats : List (SeatView HintStep)) (story : Story) : Type 0 where
   pub seen : ℕ → ℕ → ℕ → ℕ
   pub keeps : KeepsQueues i h t.rx.sizes own story seen
   pub wants : WantsAreLoaded i h c seats story seen
 
--- If each arrival has its choice, the queues keep their ties with a history that has their choices.
-abbrev pub QueuesKeepTies : Type 0
-QueuesKeepTies =
+-- If each arrival has its choice, the queues keep their coupling invariants with a history that has
+-- their choices.
+abbrev pub QueuesKeepCoupling : Type 0
+QueuesKeepCoupling =
     (i : Input) (h : History) (t : StageView) (crew : List Seated) (turns : ℕ → SeatTurns)
     (own : ℕ → List BoardStep) (c : HintCodes) (seats : List (SeatView HintStep))
     → ReceiveEnds i t crew turns own h.choices → AreShared c

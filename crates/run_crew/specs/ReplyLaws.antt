@@ -10,10 +10,10 @@ use Rattle.hop_rule.specs.Owns.{puts_of}
 use Rattle.hop_rule.specs.declared.step.BoardStep.{BoardStep}
 use Rattle.hop_delivery.specs.Orders.Runs.{Story}
 use Rattle.steer_model.specs.Good.Inputs.{Input, setup_in}
-use Rattle.run_laws.specs.Laws.SharedCodes.{AreShared}
-use Rattle.run_laws.specs.Ties.Applications.{KeepsApplications}
-use Rattle.run_laws.specs.Ties.Ends.{AllArrived}
-use Rattle.run_laws.specs.Ties.Hints.{AreRecorded, CameBy, HintCodes, Stands}
+use Rattle.run_coupling.specs.Laws.SharedCodes.{AreShared}
+use Rattle.run_coupling.specs.Coupling.Applications.{KeepsApplications}
+use Rattle.run_coupling.specs.Coupling.Ends.{AllArrived}
+use Rattle.run_coupling.specs.Coupling.Hints.{AreRecorded, CameBy, HintCodes, Stands}
 use Rattle.run_workers.specs.Actors.{Each}
 use Rattle.run_workers.specs.Stages.{StageView}
 use Rattle.run_crew.specs.Crews.{AreReceiveLists, AreTransmitLists, AreWorking, IsPlayed}
@@ -50,7 +50,8 @@ pub record TransmitEnds (i : Input) (h : History) (t : StageView) (crew : List S
   pub journals : (a : ℕ) → a < length i.plan.apps → (p : IsPlayed crew servers_of a)
       → HasJournals i h crew a p
 
--- What the turns of the applications have seen, and the ties of the applications with it.
+-- What the turns of the applications have seen, and the coupling invariants of the applications
+-- with it.
 pub record ApplicationsTied (i : Input) (h : History) (t : StageView)
     (rx_own own : ℕ → List BoardStep) (c : HintCodes) (seats : List (SeatView HintStep))
     (story : Story) : Type 0 where
@@ -61,9 +62,9 @@ pub record ApplicationsTied (i : Input) (h : History) (t : StageView)
   pub writes : (a : ℕ) → AreRecorded i h c seats rx_own a
       (map (λ (s : Sent). s.id) (list_at h.sent a)) (list_at h.writes a)
 
--- The applications keep their ties with a history that has their journals.
-abbrev pub ApplicationsKeepTies : Type 0
-ApplicationsKeepTies =
+-- The applications keep their coupling invariants with a history that has their journals.
+abbrev pub ApplicationsKeepCoupling : Type 0
+ApplicationsKeepCoupling =
     (i : Input) (h : History) (t : StageView) (crew : List Seated) (turns : ℕ → SeatTurns)
     (rx_own own : ℕ → List BoardStep) (c : HintCodes) (seats : List (SeatView HintStep))
     → TransmitEnds i h t crew turns rx_own own → AreShared c

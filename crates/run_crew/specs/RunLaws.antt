@@ -14,11 +14,11 @@ use Rattle.board_api.specs.Closings.Closings.{HasEnded, own_in}
 use Rattle.board_api.specs.Seats.{BoardSeatView}
 use Rattle.board_api.specs.declared.lists.BoardLists.{BoardLists}
 use Rattle.steer_model.specs.Good.Inputs.{Input}
-use Rattle.run_laws.specs.Laws.SharedCodes.{AreShared}
-use Rattle.run_laws.specs.Ties.Boards.{IsReceiveBoard, IsTransmitBoard}
-use Rattle.run_laws.specs.Ties.Hints.{HintCodes}
-use Rattle.run_laws.specs.Ties.Runs.{IsRun}
-use Rattle.run_laws.specs.Ties.Tries.{Try}
+use Rattle.run_coupling.specs.Laws.SharedCodes.{AreShared}
+use Rattle.run_coupling.specs.Coupling.Boards.{IsReceiveBoard, IsTransmitBoard}
+use Rattle.run_coupling.specs.Coupling.Hints.{HintCodes}
+use Rattle.run_coupling.specs.Coupling.Runs.{IsRun}
+use Rattle.run_coupling.specs.Coupling.Tries.{Try}
 use Rattle.run_actors.specs.Laws.{ArrivalsAreTied}
 use Rattle.run_controller.specs.Laws.{CommandsAreTied}
 use Rattle.run_workers.specs.Stages.{StageView}
@@ -52,8 +52,8 @@ pub record IsCopied (i : Input) (h : History) (t : StageView) (rx_lists tx_lists
   pub taken : (q : ℕ) → slice_index h.taken q ≡ length (list_at h.choices q)
 
 -- All that is known at the end of a run: its input and history, the workers with their turns, the
--- endings of both boards and of the hint words, the ties of the controller and of the wire, that
--- each queue chose for a front of its arrivals, and that the count is full.
+-- endings of both boards and of the hint words, the coupling invariants of the controller and of
+-- the wire, that each queue chose for a front of its arrivals, and that the count is full.
 pub record RunEnds (i : Input) (h : History) : Type 0 where
   pub t : StageView
   pub crew : List Seated

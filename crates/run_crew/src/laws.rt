@@ -1,8 +1,8 @@
 //! Lemmas on the workers of a run together: functions without code whose contracts state them.
 ghost use Rattle.run_crew.specs.CountLaws.{FullCountsSuffice};
-ghost use Rattle.run_crew.specs.DrainLaws.{DrainsKeepTies};
-ghost use Rattle.run_crew.specs.QueueLaws.{CrewsHaveTurns, QueuesKeepTies, QueuesKeepTurns};
-ghost use Rattle.run_crew.specs.ReplyLaws.{ApplicationsKeepTies};
+ghost use Rattle.run_crew.specs.DrainLaws.{DrainsKeepCoupling};
+ghost use Rattle.run_crew.specs.QueueLaws.{CrewsHaveTurns, QueuesKeepCoupling, QueuesKeepTurns};
+ghost use Rattle.run_crew.specs.ReplyLaws.{ApplicationsKeepCoupling};
 ghost use Rattle.run_crew.specs.RunLaws.{EndedRunsAreRuns};
 ghost use Rattle.run_crew.specs.Sweeps.{CrewsGoOn, CrewsLearnArrivals, CrewsPlayOn};
 ghost use Rattle.run_crew.specs.ThreadLaws.{ArrivalsAreWithin, ControllersTouchNoLane};
@@ -31,19 +31,19 @@ pub fn crews_learn_arrivals()
 
 /// Lemma: at the closing of the receive board the turns of the pollers explain the seats' lists and
 /// are those of the journals of choices. If each arrival has its choice, the queues keep their
-/// ties, and each processor that was wanted was loaded.
-pub fn queues_keep_their_ties()
+/// coupling invariants, and each processor that was wanted was loaded.
+pub fn queues_keep_their_coupling()
     ensures turns { QueuesKeepTurns }
-    ensures ties { QueuesKeepTies }
+    ensures ties { QueuesKeepCoupling }
 {
     pollers_are_tied();
 }
 
-/// Lemma: at the closing of the boards the applications keep their ties: where each packet was
-/// found, the maps that the turns know, choices by the own table, and queues, processors and writes
-/// by what was loaded and read.
-pub fn applications_keep_their_ties()
-    ensures { ApplicationsKeepTies }
+/// Lemma: at the closing of the boards the applications keep their coupling invariants: where each
+/// packet was found, the maps that the turns know, choices by the own table, and queues, processors
+/// and writes by what was loaded and read.
+pub fn applications_keep_their_coupling()
+    ensures { ApplicationsKeepCoupling }
 {
     applications_are_tied();
 }
@@ -51,8 +51,8 @@ pub fn applications_keep_their_ties()
 /// Lemma: at the closing of a board each packet of a lane was delivered to its application's inbox
 /// or to the port, no seat has a packet in hand, and as many packets were retired as the workers
 /// counted.
-pub fn drains_keep_their_ties()
-    ensures { DrainsKeepTies }
+pub fn drains_keep_their_coupling()
+    ensures { DrainsKeepCoupling }
 {}
 
 /// Lemma: if not more choices were made than there are packets, and as many packets as there are
@@ -71,8 +71,9 @@ pub fn threads_keep_their_parts()
     ensures fronts { FrontsAreChosen }
 {}
 
-/// Lemma: a run has a history that keeps all ties, if its workers, its controller and its wire kept
-/// their records, its boards and hint words have ended, and the count of its sweep is full.
+/// Lemma: a run has a history that keeps all coupling invariants, if its workers, its controller
+/// and its wire kept their records, its boards and hint words have ended, and the count of its
+/// sweep is full.
 pub fn ended_runs_are_runs()
     ensures { EndedRunsAreRuns }
 {

@@ -8,9 +8,9 @@ mod rounds;
 mod seated;
 
 pub use laws::{
-    applications_keep_their_ties, crews_go_on, crews_have_turns, crews_learn_arrivals,
-    drains_keep_their_ties, ended_runs_are_runs, full_counts_suffice, queues_keep_their_ties,
-    threads_keep_their_parts,
+    applications_keep_their_coupling, crews_go_on, crews_have_turns, crews_learn_arrivals,
+    drains_keep_their_coupling, ended_runs_are_runs, full_counts_suffice,
+    queues_keep_their_coupling, threads_keep_their_parts,
 };
 pub use rounds::sweep;
 pub use seated::Seated;

@@ -1,14 +1,14 @@
 pub mod AddedLemmas
-pub mod ApplicationTieLemmas
+pub mod ApplicationCouplingLemmas
 pub mod HeldLemmas
 pub mod HintLemmas
 pub mod ListLemmas
 pub mod OwnTableLemmas
 pub mod PollingLemmas
-pub mod QueueTieLemmas
+pub mod QueueCouplingLemmas
 pub mod ReplyingLemmas
 pub mod RuleLemmas
-pub mod StoreTieLemmas
+pub mod StoreCouplingLemmas
 pub mod StoringLemmas
 pub mod TurnListLemmas
 pub mod WordLemmas

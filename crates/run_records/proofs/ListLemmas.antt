@@ -10,7 +10,7 @@ use Rattle.linearization.specs.Orders.{StepBy, step_by, steps_of}
 use Rattle.linearization.proofs.ListLemmas.{if_same}
 use Rattle.hop_rule.proofs.Lists.{none-some, some-is}
 use Rattle.hop_delivery.specs.Orders.Turns.{Turn}
-use Rattle.run_laws.specs.Ties.Tries.{oldest_first}
+use Rattle.run_coupling.specs.Coupling.Tries.{oldest_first}
 use Rattle.run_records.specs.Growth.{Grows}
 use Rattle.run_records.specs.PollingLaws.{OtherTurnsStay}
 

@@ -21,7 +21,7 @@ use Rattle.hint_words.specs.declared.step.HintStep.{HintStep}
 use Rattle.steer_model.specs.State.Setup.{Setup}
 use Rattle.run_words.specs.Values.{flows_in}
 use Rattle.run_hands.specs.Pollers.{as_told, refreshed}
-use Rattle.run_laws.specs.Ties.Tries.{oldest_first}
+use Rattle.run_coupling.specs.Coupling.Tries.{oldest_first}
 use Rattle.run_records.specs.Polling.{AllPolled, IsPolled, PolledTurn, last_flows, polled_table}
 use Rattle.run_records.specs.Polling.{table_of_turn, turns_in}
 use Rattle.run_records.proofs.TurnListLemmas.{length_turned, since_more}

@@ -14,7 +14,7 @@ use Rattle.hop_rule.proofs.Lists.{none-some}
 use Rattle.hop_rule.proofs.Moments.{nth-first}
 use Rattle.hop_delivery.specs.Orders.Turns.{Turn}
 use Rattle.run_hands.specs.Pollers.{as_told}
-use Rattle.run_laws.specs.Ties.Tries.{oldest_first}
+use Rattle.run_coupling.specs.Coupling.Tries.{oldest_first}
 
 pub length_turned : {A : Type 0} (xs : List A) → length (oldest_first xs) ≡ length xs
 length_turned [] = refl

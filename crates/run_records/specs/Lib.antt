@@ -4,6 +4,6 @@ pub mod Storing
 pub mod PollingLaws
 pub mod Replying
 pub mod ReplyingLaws
-pub mod QueueTies
-pub mod ApplicationTies
-pub mod StoreTies
+pub mod QueueCoupling
+pub mod ApplicationCoupling
+pub mod StoreCoupling

@@ -20,7 +20,7 @@ use Rattle.run_hands.specs.Pollers.{LoadedHead, as_told, choice_read, class_read
 use Rattle.run_hands.specs.Pollers.{looks_to_head, read_steps, refreshed, socket_entry}
 use Rattle.run_hands.specs.declared.poller.Poller.{Poller}
 use Rattle.run_hands.specs.declared.poller.Reading.{Reading}
-use Rattle.run_laws.specs.Ties.Tries.{oldest_first}
+use Rattle.run_coupling.specs.Coupling.Tries.{oldest_first}
 use Rattle.run_records.specs.Growth.{held}
 
 -- A turn of a poller, and the settings that it read in its visit.

@@ -30,7 +30,7 @@ use Rattle.run_words.specs.declared.hint_word.TheConstants.{QUEUE_WORDS, STAND_W
 use Rattle.run_hands.specs.Pollers.{LoadedHead, as_told}
 use Rattle.run_hands.specs.Servers.{queue_by}
 use Rattle.run_hands.specs.declared.server.Server.{Server}
-use Rattle.run_laws.specs.Ties.Tries.{oldest_first}
+use Rattle.run_coupling.specs.Coupling.Tries.{oldest_first}
 use Rattle.run_records.specs.Growth.{held}
 use Rattle.run_records.specs.Polling.{choices_in}
 

@@ -1,11 +1,11 @@
 //! Lemmas on what actors keep of their turns: functions without code whose contracts state them.
-ghost use Rattle.run_records.specs.ApplicationTies.{ApplicationsAreTied};
+ghost use Rattle.run_records.specs.ApplicationCoupling.{ApplicationsAreTied};
 ghost use Rattle.run_records.specs.PollingLaws.{OtherTurnsStay, PollersBegin, PollersGoOn};
 ghost use Rattle.run_records.specs.PollingLaws.{PollersStay};
-ghost use Rattle.run_records.specs.QueueTies.{PollersAreTied};
+ghost use Rattle.run_records.specs.QueueCoupling.{PollersAreTied};
 ghost use Rattle.run_records.specs.ReplyingLaws.{ArrivalsComeLate, CallsAddSteps, RepliesGoOn};
 ghost use Rattle.run_records.specs.ReplyingLaws.{ServersBegin, ServersStay, TakesGoOn};
-ghost use Rattle.run_records.specs.StoreTies.{StoresAreMeantByEach, WorkersStoresAreMeant};
+ghost use Rattle.run_records.specs.StoreCoupling.{StoresAreMeantByEach, WorkersStoresAreMeant};
 ghost use Rattle.run_records.specs.Storing.{ApplicationsStoreWrites};
 
 /// Lemma: a poller that was made for a flow word and an empty ring has the record of no turns.
@@ -50,23 +50,24 @@ pub fn applications_store_writes()
     ensures { ApplicationsStoreWrites }
 {}
 
-/// Lemma: the record of a poller over the turns of its seat gives the ties of its queue at the
-/// closing of the board: hashes, the settings that its turns know, choices by its own table, and
-/// what was wanted.
+/// Lemma: the record of a poller over the turns of its seat gives the coupling invariants of its
+/// queue at the closing of the board: hashes, the settings that its turns know, choices by its own
+/// table, and what was wanted.
 pub fn pollers_are_tied()
     ensures { PollersAreTied }
 {}
 
-/// Lemma: the record of an application with an empty hand gives its ties at the closing of the
-/// boards: where it found each packet, the maps that its turns know and the queues that they pick,
-/// choices by its own table, and the queues, processors and writes by what was loaded and read.
+/// Lemma: the record of an application with an empty hand gives its coupling invariants at the
+/// closing of the boards: where it found each packet, the maps that its turns know and the queues
+/// that they pick, choices by its own table, and the queues, processors and writes by what was
+/// loaded and read.
 pub fn applications_are_tied()
     ensures { ApplicationsAreTied }
 {}
 
 /// Lemma: the stores of a worker's seat, which were for turns of the seat and for writes of
-/// applications that keep their records, give the tie of stores for this seat; the ties for each
-/// seat give that for all.
+/// applications that keep their records, give the coupling invariant of stores for this seat; the
+/// coupling invariants for each seat give that for all.
 pub fn stores_are_meant()
     ensures worker { WorkersStoresAreMeant }
     ensures each { StoresAreMeantByEach }

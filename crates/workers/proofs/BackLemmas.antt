@@ -16,7 +16,7 @@ use Rattle.run_words.specs.Numbers.{word_count}
 use Rattle.rss_table.specs.Redirection.{Redirection}
 use Rattle.run_actors.specs.Wires.{ArePushed, Ends}
 use Rattle.run_actors.specs.declared.seats.Seats.{Seats}
-use Rattle.run_boards.specs.Laws.{BoardsHaveSettings, HasItsSettings}
+use Rattle.workers.specs.BoardLaws.{BoardsHaveSettings, HasItsSettings}
 use Rattle.run_controller.specs.Stages.{stage}
 use Rattle.run_workers.specs.Stages.{stage_view}
 use Rattle.run_crew.specs.CountLaws.{IsFull}
@@ -24,10 +24,10 @@ use Rattle.run_crew.specs.Crews.{AreWorking}
 use Rattle.run_crew.specs.Sweeps.{CrewsGoOn, CrewsLearnArrivals, CrewsPlayOn, GoOn}
 use Rattle.run_crew.specs.Sweeps.{PlayOn, all_free}
 use Rattle.run_crew.specs.declared.seated.Seated.{Seated}
-use Rattle.run_start.specs.Starts.{IsStart, boards_in}
-use Rattle.run_start.specs.declared.start.Run.{Run}
-use Rattle.run_close.specs.Overs.{AreAtHome, ArePaired, ControllerIsOver, IsBack, IsOver}
-use Rattle.run_close.specs.Overs.{WireIsOver, stage_of}
+use Rattle.workers.specs.Starts.{IsStart, boards_in}
+use Rattle.workers.specs.declared.start.Run.{Run}
+use Rattle.workers.specs.Overs.{AreAtHome, ArePaired, ControllerIsOver, IsBack, IsOver}
+use Rattle.workers.specs.Overs.{WireIsOver, stage_of}
 use Rattle.workers.specs.Threads.{ControllerCan, ControllerRan, WireCan, WireRan}
 
 -- ---- what is played on

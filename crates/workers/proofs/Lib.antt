@@ -1,3 +1,24 @@
-mod BackLemmas
-mod CrewLemmas
-mod Crosses
+pub mod DealLemmas
+pub mod RoundRobinLemmas
+pub mod DealtListLemmas
+pub mod BoardLaws
+pub mod BeginLemmas
+pub mod DealtLemmas
+pub mod DrainLemmas
+pub mod EachLemmas
+pub mod FirstLemmas
+pub mod FirstSeatLemmas
+pub mod StartLemmas
+pub mod ActorLemmas
+pub mod ArrivedLemmas
+pub mod EndLemmas
+pub mod FlowLemmas
+pub mod FreeHandLemmas
+pub mod PlayedLemmas
+pub mod RestLemmas
+pub mod RingLemmas
+pub mod LastSeatLemmas
+pub mod TakenLemmas
+pub mod BackLemmas
+pub mod CrewLemmas
+pub mod Crosses

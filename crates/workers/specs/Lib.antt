@@ -1,1 +1,17 @@
+pub mod RoundRobin
+pub mod Boards
+pub mod BoardLaws
+pub mod Actors
+pub mod Seats
+pub mod Crews
+pub mod Starts
+pub mod StartLaws
+pub mod Spares
+pub mod Parts
+pub mod GatheredHands
+pub mod Lists
+pub mod BoardEnds
+pub mod Overs
+pub mod Left
+pub mod EndLaws
 pub mod Threads

@@ -20,8 +20,8 @@ use Rattle.run_workers.specs.Stages.{StageView, stage_view}
 use Rattle.run_workers.specs.declared.stage.Stage.{Stage}
 use Rattle.run_crew.specs.Sweeps.{AllWork}
 use Rattle.run_crew.specs.declared.seated.Seated.{Seated}
-use Rattle.run_start.specs.declared.start.SeatedController.{SeatedController}
-use Rattle.run_start.specs.declared.start.SeatedWire.{SeatedWire}
+use Rattle.workers.specs.declared.start.SeatedController.{SeatedController}
+use Rattle.workers.specs.declared.start.SeatedWire.{SeatedWire}
 
 -- What the workers share, and what the controller works at.
 abbrev pub workers_stage : Stage BoardView → StageView

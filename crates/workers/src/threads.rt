@@ -5,11 +5,11 @@ ghost use Rattle.run_crew.specs.Sweeps.{GoOn};
 ghost use Rattle.workers.specs.Threads.{ControllerCan, ControllerRan, CrewCan, WireCan, WireRan};
 ghost use Rattle.workers.specs.Threads.{commands_stage, workers_stage};
 
+use crate::start::{SeatedController, SeatedWire};
 use hop_board::Board;
 use plan_reader::Plan;
 use run_actors::Pace;
 use run_crew::Seated;
-use run_start::{SeatedController, SeatedWire};
 use run_workers::Stage;
 use std::sync::Wait;
 use std::thread::{Threads, for_each_mut, join};

@@ -1,4 +1,4 @@
-use Rattle.run_records.proofs.ApplicationTieLemmas.{applications_are_tied}
+use Rattle.run_records.proofs.ApplicationCouplingLemmas.{applications_are_tied}
 use Rattle.run_records.proofs.laws.applications_are_tied.Goals as goal
 
 pub returns : goal.returns

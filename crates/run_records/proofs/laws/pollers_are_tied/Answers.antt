@@ -1,4 +1,4 @@
-use Rattle.run_records.proofs.QueueTieLemmas.{pollers_are_tied}
+use Rattle.run_records.proofs.QueueCouplingLemmas.{pollers_are_tied}
 use Rattle.run_records.proofs.laws.pollers_are_tied.Goals as goal
 
 pub returns : goal.returns

@@ -1,4 +1,5 @@
-use Rattle.run_records.proofs.StoreTieLemmas.{stores_are_meant_by_each, workers_stores_are_meant}
+use Rattle.run_records.proofs.StoreCouplingLemmas.{stores_are_meant_by_each}
+use Rattle.run_records.proofs.StoreCouplingLemmas.{workers_stores_are_meant}
 use Rattle.run_records.proofs.laws.stores_are_meant.Goals as goal
 
 pub returns-clause-worker : goal.returns-clause-worker

@@ -2,7 +2,7 @@ use Rattle.std.proofs.Common.{◌≡◌, subst, sym}
 use Rattle.plan_reader.specs.declared.plan.Plan.{Plan}
 use Rattle.steer_model.specs.State.Ranges.{AreOfFlows}
 use Rattle.run_controller.specs.Stages.{stage}
-use Rattle.run_start.specs.Starts.{IsStart}
+use Rattle.workers.specs.Starts.{IsStart}
 use Rattle.workers.specs.Threads.{ControllerCan, ControllerRan}
 use Rattle.workers.proofs.BackLemmas.{controller-can, first-work, is-back, wire-can}
 use Rattle.workers.proofs.ends.run_all.Goals as goal

@@ -1,6 +1,6 @@
 use denote.Param.Send.{sendable}
 use Rattle.std.proofs.Crossing.{crosses}
-use Rattle.run_start.proofs.start.SeatedWire.TheSendSync as wire
+use Rattle.workers.proofs.start.SeatedWire.TheSendSync as wire
 use Rattle.plan_reader.proofs.plan.Plan.TheSendSync as plan
 use Rattle.workers.proofs.Crosses.{stage_sync}
 use Rattle.workers.proofs.threads.run_beside.Goals as goal

@@ -1,3 +1,0 @@
-mod DealLemmas
-mod HandLemmas
-mod ListLemmas

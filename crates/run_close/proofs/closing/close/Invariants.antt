@@ -1,4 +1,0 @@
-use Rattle.run_close.proofs.closing.close.Given as goal
-
-abbrev pub ghost-leave : goal.ghost-leave
-ghost-leave g a = g.i

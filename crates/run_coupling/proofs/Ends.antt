@@ -1,0 +1,5 @@
+pub mod ChoiceCountLemmas
+pub mod EndLemmas
+pub mod HandLemmas
+pub mod PutCountLemmas
+pub mod TotalLemmas

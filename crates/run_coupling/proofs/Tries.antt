@@ -1,0 +1,11 @@
+pub mod CallLemmas
+pub mod EmptiedLemmas
+pub mod GivenLemmas
+pub mod HomeLemmas
+pub mod MapLemmas
+pub mod MapOpeningLemmas
+pub mod OpeningLemmas
+pub mod RangeLemmas
+pub mod ResizeLemmas
+pub mod TryLemmas
+pub mod WordLemmas

@@ -1,0 +1,2 @@
+pub mod TableEntryLemmas
+pub mod TableLemmas

@@ -1,0 +1,13 @@
+pub mod Inputs
+pub mod Boards
+pub mod Tries
+pub mod EmptiedLanes
+pub mod Answers
+pub mod Turns
+pub mod OwnTables
+pub mod Queues
+pub mod Deliveries
+pub mod Applications
+pub mod Hints
+pub mod Ends
+pub mod Runs

@@ -1,0 +1,10 @@
+pub mod OwnTables
+pub mod Choices
+pub mod EmptiedLanes
+pub mod Calls
+pub mod Drops
+pub mod Ends
+pub mod Replies
+pub mod SharedCodes
+pub mod OneCount
+pub mod EmptyHands

@@ -1,0 +1,2 @@
+pub mod Coupling
+pub mod Laws

@@ -1,9 +1,0 @@
-use Rattle.run_crew.proofs.QueueLemmas.{queues_keep_ties}
-use Rattle.run_crew.proofs.QueueTurnLemmas.{queues_keep_turns}
-use Rattle.run_crew.proofs.laws.queues_keep_their_ties.Goals as goal
-
-pub returns-clause-turns : goal.returns-clause-turns
-returns-clause-turns c = queues_keep_turns
-
-pub returns-clause-ties : goal.returns-clause-ties
-returns-clause-ties c = queues_keep_ties c.pollers_are_tied.ensures

@@ -1,0 +1,3 @@
+pub mod InboxLemmas
+pub mod OutLemmas
+pub mod OneCountLemmas

@@ -1,0 +1,5 @@
+pub mod Lists
+pub mod Tries
+pub mod Turns
+pub mod Ends
+pub mod Runs

@@ -1,0 +1,15 @@
+use Rattle.hop_rule.specs.Owns.{own_of}
+use Rattle.board_api.specs.Closings.Finals.{lists_of}
+use Rattle.board_api.proofs.Endings.{at_closings}
+use Rattle.board_api.proofs.OwnHeads.{heads_rise}
+use Rattle.board_api.proofs.OwnLanes.{lanes_are_in_turn}
+use Rattle.run_goodness.specs.Laws.Heads.{HeadsFollow}
+use Rattle.run_goodness.proofs.Turns.HeadLemmas.{heads_of_closing}
+use Rattle.run_goodness.proofs.laws.heads_are_rising.Goals as goal
+
+pub returns : goal.returns
+returns c =
+    at_closings HeadsFollow
+    (λ about order fit lawful.
+    heads_of_closing about (own_of order) (lists_of about order) fit
+    (heads_rise about order lawful) (lanes_are_in_turn about order lawful))

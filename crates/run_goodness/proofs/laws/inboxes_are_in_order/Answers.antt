@@ -1,0 +1,17 @@
+use Rattle.hop_rule.specs.Owns.{own_of}
+use Rattle.board_api.specs.Closings.Finals.{lists_of}
+use Rattle.board_api.proofs.Endings.{at_closings}
+use Rattle.hop_delivery.proofs.Orders.ReceiveSettingLemmas.{receive_steers}
+use Rattle.hop_delivery.proofs.Closings.FlowLemmas.{flows_in_order}
+use Rattle.run_goodness.specs.Laws.Orders.{InboxesFollow}
+use Rattle.run_coupling.specs.Coupling.Inputs.{receive_queues}
+use Rattle.run_goodness.proofs.Ends.InboxLemmas.{inboxes_follow}
+use Rattle.run_goodness.proofs.laws.inboxes_are_in_order.Goals as goal
+
+pub returns : goal.returns
+returns c =
+    at_closings InboxesFollow
+    (λ about order fit lawful.
+    inboxes_follow about (own_of order) (lists_of about order)
+    (flows_in_order about order lawful fit)
+    (λ i. receive_steers (receive_queues i) about.lanes))

@@ -1,0 +1,5 @@
+use Rattle.run_goodness.proofs.Ends.OneCountLemmas as counts
+use Rattle.run_goodness.proofs.laws.one_count_suffices.Goals as goal
+
+pub returns : goal.returns
+returns c = counts.one_count_suffices

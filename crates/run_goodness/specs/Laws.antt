@@ -1,0 +1,5 @@
+pub mod Orders
+pub mod Heads
+pub mod BusyLanes
+pub mod Commands
+pub mod GoodRuns

@@ -1,8 +1,0 @@
-pub mod ChoiceLemmas
-pub mod EntryLemmas
-pub mod HeadLemmas
-pub mod NumberLemmas
-pub mod OwnHeadLemmas
-pub mod ReplyLemmas
-pub mod TableEntryLemmas
-pub mod TableLemmas

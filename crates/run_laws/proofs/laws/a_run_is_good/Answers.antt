@@ -1,5 +1,0 @@
-use Rattle.run_laws.proofs.Runs.GoodLemmas.{runs_are_good}
-use Rattle.run_laws.proofs.laws.a_run_is_good.Goals as goal
-
-pub returns : goal.returns
-returns c = runs_are_good

@@ -1,7 +1,0 @@
-mod BeginLemmas
-mod DealtLemmas
-mod DrainLemmas
-mod EachLemmas
-mod FirstLemmas
-mod SeatLemmas
-mod StartLemmas

@@ -1,5 +1,0 @@
-use Rattle.run_start.proofs.DrainLemmas.{first_by_new}
-use Rattle.run_start.proofs.actors.fn.drains.map.Goals as goal
-
-pub returns : goal.returns
-returns c = first_by_new _ _ _ c.new.ensures.lane c.new.ensures.exit c.new.ensures.is

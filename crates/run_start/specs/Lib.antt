@@ -1,5 +1,0 @@
-pub mod Actors
-pub mod Seats
-pub mod Crews
-pub mod Starts
-pub mod Laws
