@@ -52,10 +52,11 @@ def _members(text, cpus):
 
 
 def again(told: argparse.Namespace) -> list[str]:
-    """The words from which these were read, but that of the draw."""
+    """The words from which these were read."""
     words = [word for reader in told.reader for word in ("--reader", reader.text)]
     words += ["--tx"] * told.tx + ["--hash32"] * told.hash32 + ["--sockets"] * told.sockets
     words += ["--no-rxhash"] * (not told.rxhash)
+    words += ["--draw", "%d" % told.draw] * (told.draw != 1)
     for name in ("online", "snap"):
         if getattr(told, name) is not None:
             words += ["--" + name, getattr(told, name)]

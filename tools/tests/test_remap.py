@@ -297,6 +297,11 @@ class Program(unittest.TestCase):
             lines = running.inside("steer-try", *words, "--commands", "--reports", "out")[1]
             self.assertEqual([line.split("--draws ")[1].split()[0] for line in lines.splitlines()],
                              ["3-3", "4-4"])
+            said = ["--tx", "--hash32", "--no-rxhash", "--draw", "7", "--reader", "80=9",
+                    "--online", "0-15", "--snap", SNAP]
+            line = running.inside("steer-try", WEB, name, "--pps", "5", "--kernel", "--commands",
+                                  "--reports", "out", *said)[1]
+            self.assertLessEqual({"--kernel", *said}, set(line.split()))
             status, _, messages = running.inside("steer-try", WEB, name, "--draws", "2")
             self.assertEqual((status, "goes with --kernel" in messages), (cli.WRONG_WORDS, True))
 
