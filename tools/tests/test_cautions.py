@@ -89,7 +89,7 @@ def mutated(draw, text):
     """The text with a few bytes, words or lines taken out, doubled or changed."""
     for _ in range(draw.randint(1, 3)):
         at, size = draw.randrange(len(text)), draw.choice((1, 1, 2, 8, 40))
-        new = draw.choice(("", "0", "9", "-", "f", ",", " ", "\n", "4294967296", text[at:at + 9] * 2))
+        new = draw.choice(("", "0", "9", "-", "f", ",", " ", "\n", "4294967296", text[at:at + 9]))
         text = text[:at] + new + text[at + size:]
     return text
 

@@ -179,6 +179,17 @@ class Set(unittest.TestCase):
                                   "rx-2/rps_cpus=c00"))
         self.assertEqual(made["limited"], [8, 9, 10, 11])
 
+    def test_a_limit_that_stays_is_noted(self):
+        text = PLAN.replace('"apps"', '"limited": [4], "apps"')
+        stays = ("limited stays as it is; flow_limit_cpu_bitmap sets it anew, by homes and masks as "
+                 "they now are")
+        for word, noted in (("rx-0/home=9", True), ("apps=8", False), ("rx-0/rps_cpus=1", True),
+                            ("flow_limit_cpu_bitmap=1", False)):
+            made = settings.Settings(text.encode("utf-8"), "made")
+            made.set(word)
+            made.written()
+            self.assertEqual(stays in made.notes(), noted, word)
+
     def test_wrong_settings(self):
         for word, reason in WRONG:
             with self.assertRaises(cli.WrongWords, msg=word) as caught:

@@ -134,6 +134,12 @@ class Rates(unittest.TestCase):
         self.assertEqual(said, ["note: %s: it has a table of readers (sock), and without --read no "
                                 "reader is ever seen, so that RFS moves no flow" % PLANS[2]])
 
+    def test_the_rule_of_the_table(self):
+        for words, rule in (((), RULE), (("--kernel",), trial.KERNEL)):
+            status, out, said = tried(WEB, "--seeds", "1", PLANS[0], *words)
+            self.assertEqual((status, out[-1]), (0, rule), said)
+        self.assertEqual(trial.KERNEL, "by a kernel's rule, the hash scaled (docs/kernel.md)")
+
     def test_what_holds_of_several_plans_is_said_once(self):
         """Of the 177 packets 5 are of UDP, 168 of TCP and 4 of ARP; kinds 2 are TCP's ports."""
         with Folder() as folder:

@@ -16,10 +16,14 @@ from .. import snapshot
 
 DESCRIPTION = """\
 Writes the plan of the machine of which SNAP is the snapshot that steer-snap wrote.
-Each guess is a note on standard error. What a plan cannot hold is refused by name and
-value: more than 16 receive queues, more than 32 processors in use, a table that does not
-fold to 128 entries, another hash than Toeplitz over addresses and ports. Where processors
-above 31 are in use they are renumbered, and the map is noted as PLAN=MACHINE.
+Each guess is a note on standard error; notes that change the answer come first. The backlog
+is one more than netdev_max_backlog, since a kernel lets so many packets wait, and limited has
+the processors to which those of flow_limit_cpu_bitmap put packets.
+
+What a plan cannot hold is refused by name and value: more than 16 receive queues, more than 32
+processors in use, a table that does not fold to 128 entries, another hash than Toeplitz over
+addresses and ports. Where processors above 31 are in use they are renumbered, and the map is
+noted as PLAN=MACHINE.
 The steps are one `sweep`; steer-steps makes a schedule from a capture's times.
 """
 EXAMPLE = """\
