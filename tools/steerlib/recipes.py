@@ -151,7 +151,8 @@ class Recipes:
 
     def _advice(self, group, room):
         """Why a group of names has no sizes, and by what it would have some."""
-        largest = max(sorted(group, key=str), key=lambda name: name != READERS and name[0] == "mask" and name[1])
+        largest = max(sorted(group, key=str), key=lambda name: (
+            name != READERS and name[0] == "mask" and name[1]))
         less = (("without --tx", {name for name in group if name[0] != "tx"}),
                 ("with a number of readers that is a power of two", set(group) - {READERS}),
                 ("with masks of one number of members",

@@ -68,7 +68,7 @@ cpu  handled  counted  difference  dropped  counted  difference  interrupts
 flow limit, all processors: predicted 1, counted 1, difference 0
 counted of processors: columns 0 (handled), 1 (dropped), 9 (interrupts, not packets), 10 (flow limit)
 numbers that differ: 0
-"""
+"""  # noqa: E501
 
 
 class Compare(unittest.TestCase):

@@ -277,9 +277,8 @@ class Numbers(unittest.TestCase):
 
 class Form(unittest.TestCase):
     def setUp(self):
-        with Folder() as folder:
-            self.page = page_of("-", "--capture", example("three.pcap"), "--plan",
-                                example("three.json"), data=replayed("three", "three"))
+        self.page = page_of("-", "--capture", example("three.pcap"), "--plan",
+                            example("three.json"), data=replayed("three", "three"))
 
     def test_nothing_from_outside(self):
         page = self.page

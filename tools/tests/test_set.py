@@ -181,8 +181,8 @@ class Set(unittest.TestCase):
 
     def test_a_limit_that_stays_is_noted(self):
         text = PLAN.replace('"apps"', '"limited": [4], "apps"')
-        stays = ("limited stays as it is; flow_limit_cpu_bitmap sets it anew, by homes and masks as "
-                 "they now are")
+        stays = ("limited stays as it is; flow_limit_cpu_bitmap sets it anew, by homes and masks "
+                 "as they now are")
         for word, noted in (("rx-0/home=9", True), ("apps=8", False), ("rx-0/rps_cpus=1", True),
                             ("flow_limit_cpu_bitmap=1", False)):
             made = settings.Settings(text.encode("utf-8"), "made")

@@ -21,8 +21,8 @@ times of the capture, as steer-steps does, with the same further words.
 
 --kernel gives each packet the processor that a kernel picks, as steer-remap does; its help says
 how, and steer-remap itself notes what cannot be had. The hashes that a kernel makes itself are
-drawn: --draws N shows a row for each of N draws, and without it each seed has its own. Where it adds
-processors, the steps of a seed name others than without --kernel.
+drawn: --draws N shows a row for each of N draws, and without it each seed has its own. Where it
+adds processors, the steps of a seed name others than without --kernel.
 
 Each plan with each seed or rate is a trial of its own. --commands runs none and prints a command a
 line instead, each of which makes one trial and leaves its report in a folder that all can write
