@@ -5,11 +5,14 @@ import os
 import re
 import subprocess
 
-from running import ENVIRONMENT, TOOLS, run
+from inside import inside
+from running import ENVIRONMENT, STEER, TOOLS
 
 from steerlib import capture, cli, kernel, remap, report
 
 from . import pair
+
+os.environ.setdefault("STEER", STEER)
 
 REPORT = "report"
 SEED = 1            # by which steer-remap draws, where nothing is said
@@ -33,11 +36,17 @@ def checked(result):
     return out
 
 
+def run(name, *words, text=""):
+    """The status, the output and the messages of a companion program, within this process."""
+    status, out, said = inside(name, *words, data=text.encode())
+    return status, out.decode(), said
+
+
 def plan_of(text, machine, *settings):
     """The plan of a snapshot's text, with settings of steer-set."""
     homes = ",".join("%d=%d" % home for home in enumerate(machine.homes))
-    plan = checked(run("steer-plan", "-", "--home", homes, data=text))
-    return checked(run("steer-set", "-", *settings, data=plan)) if settings else plan
+    plan = checked(run("steer-plan", "-", "--home", homes, text=text))
+    return checked(run("steer-set", "-", *settings, text=plan)) if settings else plan
 
 
 def with_steps(plan_text, steps):
