@@ -87,10 +87,13 @@ def sent_and_seen(made, machine, flows):
 
 class Kernel(unittest.TestCase):
     def compare(self, packets, notes, what):
-        """The queue and the processor of each packet that came are those of its note."""
+        """The packets are the frames that came, each with the queue, the processor and the hash
+        that its note has."""
+        self.assertEqual(len(packets), len(notes))
         for packet in packets:
             note = notes[packet.id]
-            self.assertEqual((packet.q + 1, packet.cpu), (note.recorded, note.cpu), packet)
+            self.assertEqual((packet.q + 1, packet.cpu, note.hash),
+                             (note.recorded, note.cpu, note.seen), packet)
         reasons = collections.Counter(packet.why for packet in packets)
         FIGURES.append("%s: %d frames at the queue and the processor of the report (%s)" % (
             what, len(packets), ", ".join("%s %d" % reason for reason in sorted(reasons.items()))))
