@@ -5,7 +5,7 @@ from __future__ import annotations
 from collections import Counter
 from typing import Iterator
 
-from . import cli, flows, report, tables
+from . import cli, flows, report, tables, waits
 from .plan import Plan
 from .report import Report
 
@@ -61,16 +61,18 @@ def _without(name, numbers):
         yield "no packets on %s %s" % (name, ", ".join(str(number) for number in numbers))
 
 
-def _cpus(rep):
+def _cpus(rep, times=None):
     """A line for each processor that some packet was sent to."""
     offered = Counter(packet.cpu for packet in rep.packets)
     offered.pop(None, None)
     largest = max(offered.values(), default=0)
+    loads = [] if times is None else [waits.load_text(load) for load in times.loads]
     rows = [(row.cpu, offered[row.cpu], tables.share(offered[row.cpu], len(rep.packets)),
-             row.dropped, tables.bar(offered[row.cpu], largest))
+             row.dropped, *loads[row.cpu:row.cpu + 1], tables.bar(offered[row.cpu], largest))
             for row in rep.cpus if offered[row.cpu]]
     yield ""
-    yield from tables.aligned(("cpu", "packets", "share", "dropped", ""), rows)
+    yield from tables.aligned(("cpu", "packets", "share", "dropped", *["load"] * bool(loads), ""),
+                              rows)
     yield from _without("cpu", [row.cpu for row in rep.cpus if not offered[row.cpu]])
 
 
@@ -119,17 +121,21 @@ def _flows(rep, names):
 
 
 def screen(rep: Report, names: list[str] | None = None, source: str = "HASH",
-           plan: Plan | None = None, plan_source: str = "PLAN") -> Iterator[str]:
+           plan: Plan | None = None, plan_source: str = "PLAN",
+           times: waits.Waits | None = None) -> Iterator[str]:
     """The lines of the screen; `names` are the flows of the packets, read from `source`.
 
-    With the `plan` of the report, drops that a kernel does not have are marked.
+    With the `plan` of the report, drops that a kernel does not have are marked. `times` are the
+    Waits of the schedule, where it has times.
     """
     if names is not None and len(names) != rep.end.total:
         raise cli.Refused(source, "has %d packets, and the report is of %d"
                           % (len(names), rep.end.total))
     marks = [] if plan is None else list(_bypassed(rep, plan, plan_source))
     yield from headline(rep)
-    yield from _cpus(rep)
+    if times is not None:
+        yield waits.line_of(times)
+    yield from _cpus(rep, times)
     yield from marks
     yield from _queues(rep)
     yield from _replies(rep)

@@ -19,16 +19,15 @@ def columns(kind: str) -> list[str]:
     return [name.rstrip("_") for name in report.ROWS[kind]._fields]
 
 
-def write_csv(rows: Iterable[Sequence[Any]], kind: str, out: TextIO) -> None:
+def write_csv(rows: Iterable[Sequence[Any]], names: Sequence[str], out: TextIO) -> None:
     """Rows as CSV with a first line of names; an absent value is an empty field."""
     writer = csv.writer(out, lineterminator="\n")
-    writer.writerow(columns(kind))
+    writer.writerow(names)
     writer.writerows(rows)
 
 
-def write_json(rows: Iterable[Sequence[Any]], kind: str, out: TextIO) -> None:
+def write_json(rows: Iterable[Sequence[Any]], names: Sequence[str], out: TextIO) -> None:
     """Rows as JSON, an object a line; an absent value is null, and numbers stay numbers."""
-    names = columns(kind)
     encode = json.JSONEncoder().encode
     for row in rows:
         out.write(encode(dict(zip(names, row))) + "\n")

@@ -176,17 +176,27 @@ def processors_here() -> int:
     return os.cpu_count() or 1
 
 
-def at_once(function: Callable[..., Any], jobs: int,
-            arguments: Sequence[Sequence[Any]]) -> list[Any]:
-    """The results of a function over lists of arguments, in their order, so many at once."""
+def at_once(function: Callable[..., Any], jobs: int, arguments: Sequence[Sequence[Any]],
+            tell: Callable[[int], None] = lambda done: None) -> list[Any]:
+    """The results of a function over lists of arguments, in their order, so many at once.
+
+    `tell` is called with the number of results that are there, after each of them.
+    """
+    results = []
     if jobs == 1 or len(arguments) < 2:
-        return [function(*each) for each in arguments]
+        for each in arguments:
+            results.append(function(*each))
+            tell(len(results))
+        return results
     with ProcessPoolExecutor(min(jobs, len(arguments)), initializer=_end_at_interrupt) as pool:
         futures = []
         try:
             for each in arguments:
                 futures.append(pool.submit(function, *each))
-            return [future.result() for future in futures]
+            for future in futures:
+                results.append(future.result())
+                tell(len(results))
+            return results
         except BrokenProcessPool:
             raise cli.Refused("--jobs %d" % jobs, "a trial ended without a result, as where memory "
                               "is short; fewer at once may do") from None

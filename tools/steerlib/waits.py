@@ -10,41 +10,68 @@ nanoseconds from the first arrival. A file of times has a line for each packet o
     end PACKETS
 """
 
+from __future__ import annotations
+
+import os
 import re
-from collections import namedtuple
+from typing import BinaryIO, Iterator, NamedTuple, Sequence
 
 from . import cli
+from .report import Report
+from .serving import Desk
 
 FIRST_LINE = b"steer-times 1\n"
 _LINE = re.compile(rb"(\d{1,19}) (?:(\d{1,19}) (\d{1,19})|- -)\n")
 _END = re.compile(rb"end (\d{1,9})\n")
 
-# Lists of whole nanoseconds; begins and ends have None where a packet was dropped.
-Times = namedtuple("Times", "arrivals begins ends")
 
-# middle, most, longest: the wait that half of the packets do not pass, 99 of 100, and all, in
-# nanoseconds, None where none was served. loads: the load of each processor, from 0 to 1, None
-# where all packets arrived at once.
-Waits = namedtuple("Waits", "middle most longest loads")
+class Times(NamedTuple):
+    """Of each packet its arrival, and begin and end of its service, None where it was dropped."""
+
+    arrivals: list[int]
+    begins: list[int | None]
+    ends: list[int | None]
 
 
-def times_of(desk):
+class Waits(NamedTuple):
+    """The waits that half of the packets do not pass, that 99 of 100 do not, and the longest.
+
+    They are nanoseconds, None where no packet was served. `loads` are those of the processors, 0 to
+    1, None where all packets arrived at once.
+    """
+
+    middle: int | None
+    most: int | None
+    longest: int | None
+    loads: list[float | None]
+
+
+def check_name(name: str, read: Sequence[str]) -> None:
+    """Raises WrongWords where times cannot be written to a file of this name."""
+    if name == "-":
+        raise cli.WrongWords("--times: the times go into a file")
+    for other in read:
+        if os.path.exists(name) and os.path.exists(other) and os.path.samefile(name, other):
+            raise cli.WrongWords("--times: %s is read, and cannot be written" % name)
+
+
+def times_of(desk: Desk) -> Times:
     """The Times of the packets that a serving.Desk has served."""
     begins = [None if time is None else round(time) for time in desk.begins]
     ends = [None if time is None else round(time) for time in desk.ends]
     return Times([round(time) for time in desk.arrivals], begins, ends)
 
 
-def write(times, out):
+def write(times: Times, out: BinaryIO) -> None:
     """Writes Times to a binary stream."""
     out.write(FIRST_LINE)
     out.write("".join(
-        "%d - -\n" % arrival if begin is None else "%d %d %d\n" % (arrival, begin, end)
+        "%d - -\n" % arrival if begin is None else "%d %d %s\n" % (arrival, begin, end)
         for arrival, begin, end in zip(*times)).encode("ascii"))
     out.write(b"end %d\n" % len(times.arrivals))
 
 
-def read_file(name):
+def read_file(name: str) -> Times:
     """The Times that a file has.
 
     NotThatFile where its first line is another, Refused where it is cut short or a line is wrong.
@@ -57,19 +84,21 @@ def read_file(name):
     if end is None or int(end.group(1)) != len(lines) - 2:
         raise cli.Refused(source, "cut short after line %d (no line `end` with the number of the "
                           "packets)" % len(lines))
-    times = Times([], [], [])
-    for number, line in enumerate(lines[1:-1], 2):
-        found = _LINE.fullmatch(line)
-        values = [field and int(field) for field in found.groups()] if found else [1, 0, 0]
-        if values[1] is not None and not values[0] <= values[1] <= values[2]:
-            raise cli.Refused(source, "line %d is not ARRIVAL BEGIN END, ascending, nor "
-                              "ARRIVAL - -" % number)
-        for column, value in zip(times, values):
-            column.append(value)
-    return times
+    rows = [_row(line, number, source) for number, line in enumerate(lines[1:-1], 2)]
+    return Times(*(list(column) for column in zip(*rows))) if rows else Times([], [], [])
 
 
-def check(times, rep, source):
+def _row(line, number, source):
+    """The three times of a line; Refused where it is none, or they do not ascend."""
+    found = _LINE.fullmatch(line)
+    row = [field and int(field) for field in found.groups()] if found else [1, 0, 0]
+    if row[1] is not None and not row[0] <= row[1] <= row[2]:
+        raise cli.Refused(source, "line %d is not ARRIVAL BEGIN END, ascending, nor ARRIVAL - -"
+                          % number)
+    return row
+
+
+def check(times: Times, rep: Report, source: str) -> None:
     """Refuses Times that are not those of the packets of a report."""
     if len(times.arrivals) != len(rep.packets) or rep.end.arrived != rep.end.total:
         raise cli.Refused(source, "it has times of %d packets, and the report has %d of %d"
@@ -81,7 +110,7 @@ def check(times, rep, source):
                 "served" if begin is not None else "dropped"))
 
 
-def waits_of(times):
+def waits_of(times: Times) -> list[int | None]:
     """How long each packet waited, None where it was dropped."""
     return [None if begin is None else begin - arrival
             for arrival, begin in zip(times.arrivals, times.begins)]
@@ -92,19 +121,19 @@ def _rank(ordered, part, whole):
     return ordered[-(-len(ordered) * part // whole) - 1] if ordered else None
 
 
-def loads_of(times, cpus, count):
+def loads_of(times: Times, cpus: Sequence[int | None], count: int) -> list[float | None]:
     """The load of each of `count` processors; `cpus` has the processor of each packet."""
     last = times.arrivals[-1] if times.arrivals else 0
     if not last:
         return [None] * count
     busy = [0] * count
     for cpu, begin, end in zip(cpus, times.begins, times.ends):
-        if begin is not None and begin < last:
+        if cpu is not None and begin is not None and end is not None and begin < last:
             busy[cpu] += min(end, last) - begin
     return [work / last for work in busy]
 
 
-def summary(times, cpus, count):
+def summary(times: Times, cpus: Sequence[int | None], count: int) -> Waits:
     """The Waits of packets whose processors are `cpus`, of `count` processors."""
     ordered = sorted(wait for wait in waits_of(times) if wait is not None)
     return Waits(_rank(ordered, 1, 2), _rank(ordered, 99, 100), _rank(ordered, 1, 1),
@@ -114,7 +143,7 @@ def summary(times, cpus, count):
 UNITS = ((1000000000, "s"), (1000000, "ms"), (1000, "us"))
 
 
-def time_text(nanoseconds):
+def time_text(nanoseconds: int | None) -> str:
     """A time with three digits at least, such as `50.0 us`, `12.3 ms`, `0`, or `-` for none."""
     if not nanoseconds:
         return "-" if nanoseconds is None else "0"
@@ -125,12 +154,30 @@ def time_text(nanoseconds):
     return "%d ns" % nanoseconds
 
 
-def load_text(load):
+def load_text(load: float | None) -> str:
     """A load in per cent, or `-` for none."""
     return "-" if load is None else "%.0f%%" % (100 * load)
 
 
-def lines_of(waits):
-    """Lines with the waits of a schedule."""
-    yield "wait: half of the packets at most %s, 99 of 100 at most %s, the longest %s" % (
+def of_report(times: Times, rep: Report, source: str) -> Waits:
+    """The Waits of a report's packets; Refused where `source` has not the times of these."""
+    check(times, rep, source)
+    return summary(times, [packet.cpu for packet in rep.packets], len(rep.cpus))
+
+
+def line_of(waits: Waits) -> str:
+    """The waits of a schedule in one line."""
+    return "wait half %s, 99%% %s, longest %s" % (
         time_text(waits.middle), time_text(waits.most), time_text(waits.longest))
+
+
+def changes(old: Waits, new: Waits) -> Iterator[str]:
+    """A line for the waits and one for each processor's load, where two schedules differ."""
+    texts = [(name, time_text(before), time_text(after)) for name, before, after in zip(
+        ("half", "99%", "longest"), old[:3], new[:3])]
+    if old[:3] != new[:3]:
+        yield "wait " + ", ".join("%s %s -> %s" % text for text in texts)
+    for cpu, pair in enumerate(zip(old.loads, new.loads)):
+        before, after = map(load_text, pair)
+        if before != after:
+            yield "cpu %d load %s -> %s" % (cpu, before, after)

@@ -22,8 +22,8 @@ def value(field):
 def written(kind, found):
     """The rows of a kind as CSV and as JSON lines, both read back."""
     as_csv, as_json = io.StringIO(), io.StringIO()
-    tables.write_csv(found.by_kind()[kind], kind, as_csv)
-    tables.write_json(found.by_kind()[kind], kind, as_json)
+    tables.write_csv(found.by_kind()[kind], tables.columns(kind), as_csv)
+    tables.write_json(found.by_kind()[kind], tables.columns(kind), as_json)
     rows = list(csv.DictReader(io.StringIO(as_csv.getvalue())))
     objects = [json.loads(line) for line in as_json.getvalue().splitlines()]
     return rows, objects

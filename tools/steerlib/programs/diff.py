@@ -4,7 +4,7 @@ from __future__ import annotations
 
 from typing import NoReturn
 
-from .. import cli, comparison, report
+from .. import cli, comparison, report, waits
 
 DESCRIPTION = """\
 Compares two reports of one capture and writes a line for each sum that differs, for each packet
@@ -13,12 +13,16 @@ and taps, and last a line of sums. Status 0 means that the reports are equal in 
 they differ. Positions and other numbers that differ in an otherwise equal line are only counted. A
 sum that changes exactly as the first of its line does (`pulled` as `accepted`) is not shown.
 
+With the times of both schedules (steer-steps --times) the first lines are the waits and the loads of
+processors that differ, as steer-top shows them; the status does not depend on them.
+
 A report does not name its capture: two captures with as many packets, and a cut as long, are not
 told apart."""
 
 EXAMPLE = """\
 steer replay a.json own.pcap > a; steer replay b.json own.pcap > b
-steer-diff -q a b"""
+steer-diff -q a b
+steer-diff -q a b --times a.times b.times"""
 
 
 def main(words: list[str]) -> int:
@@ -27,11 +31,18 @@ def main(words: list[str]) -> int:
                         help="leave out the lines of packets and replies")
     parser.add_argument("old", metavar="OLD", help="a report; - is standard input")
     parser.add_argument("new", metavar="NEW", help="a report of the same capture")
+    parser.add_argument("--times", metavar=("OLD", "NEW"), nargs=2,
+                        help="what steer-steps --times wrote for the schedules of the two reports")
     told = parser.parse_args(words)
     if told.old == told.new == "-":
         raise cli.WrongWords("OLD and NEW cannot both be standard input")
     old, new = report.read_file(told.old), report.read_file(told.new)
     comparison.check_comparable(old, new, cli.source_name(told.old), cli.source_name(told.new))
+    if told.times is not None:
+        both = [waits.of_report(waits.read_file(name), rep, cli.source_name(name))
+                for name, rep in zip(told.times, (old, new))]
+        for line in waits.changes(*both):
+            print(line)
     compared = comparison.Comparison(old, new)
     for line in compared.lines(told.quiet):
         print(line)

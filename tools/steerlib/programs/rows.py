@@ -3,9 +3,9 @@
 from __future__ import annotations
 
 import sys
-from typing import NoReturn
+from typing import Iterable, NoReturn
 
-from .. import cli, report, tables
+from .. import cli, report, tables, waits
 
 DESCRIPTION = """\
 Writes the lines of one kind in a report of `steer replay` as rows, for a spreadsheet, jq or pandas.
@@ -13,10 +13,16 @@ Columns are named as the fields of the report are. An absent value is an empty f
 null in JSON. A drop's number and its two counts are `drop`, `drop_accepted`, `drop_pulled`, and
 `flow_offers` is set if the flow limit dropped the packet; `inbox` is the report's `in`.
 
-KIND is p (packets), r (replies), queue, cpu, tx, w (writes of the socket table) or c (commands)."""
+KIND is p (packets), r (replies), queue, cpu, tx, w (writes of the socket table) or c (commands).
+
+With the times of the schedule (steer-steps --times) packets have four more columns, in nanoseconds
+from the first packet by the clock of the schedule: `arrival`, `begin` and `end` of the service,
+and `wait` from the arrival to the begin; and processors have the column `load`, the part of the
+time from the first packet to the last in which they served, from 0 to 1."""
 
 EXAMPLE = """\
 steer-rows csv p report > packets.csv
+steer-rows csv p report --times times | cut -d , -f 1,8,21
 steer-rows json p report | jq -r 'select(.place == "drop") | .id'"""
 
 
@@ -26,10 +32,30 @@ def main(words: list[str]) -> None:
     parser.add_argument("kind", choices=tables.KINDS, metavar="KIND",
                         help="one of " + ", ".join(tables.KINDS))
     parser.add_argument("report", metavar="REPORT", help="output of `steer replay`; - is input")
+    parser.add_argument("--times", metavar="FILE",
+                        help="what steer-steps --times wrote for the schedule of the report; of "
+                             "the kinds p and cpu")
     given = parser.parse_args(words)
-    rows = report.read_file(given.report).by_kind()[given.kind]
+    if given.times is not None and given.kind not in ("p", "cpu"):
+        raise cli.WrongWords("--times goes with the kinds p and cpu")
+    if given.report == given.times == "-":
+        raise cli.WrongWords("REPORT and --times cannot both be standard input")
+    rep = report.read_file(given.report)
+    rows, names = rep.by_kind()[given.kind], tables.columns(given.kind)
+    if given.times is not None:
+        more, columns = with_times(rep, given.kind, given.times)
+        rows, names = [(*row, *others) for row, others in zip(rows, more)], names + columns
     write = tables.write_csv if given.form == "csv" else tables.write_json
-    write(rows, given.kind, sys.stdout)
+    write(rows, names, sys.stdout)
+
+
+def with_times(rep: report.Report, kind: str, name: str) -> tuple[Iterable[tuple], list[str]]:
+    """The further columns that the times in a file give the rows of a kind, and their names."""
+    times, source = waits.read_file(name), cli.source_name(name)
+    if kind == "cpu":
+        return [(load,) for load in waits.of_report(times, rep, source).loads], ["load"]
+    waits.check(times, rep, source)
+    return zip(*times, waits.waits_of(times)), ["arrival", "begin", "end", "wait"]
 
 
 def entry() -> NoReturn:

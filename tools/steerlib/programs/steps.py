@@ -9,7 +9,7 @@ import sys
 import tempfile
 from typing import NoReturn
 
-from .. import cli, numbers, plan, remap_files, remap_words, schedule
+from .. import cli, numbers, plan, remap_files, remap_words, schedule, waits
 
 DESCRIPTION = """\
 Writes PLAN with the steps that the times of CAPTURE and a rate of service for each processor give,
@@ -47,6 +47,9 @@ def words_of(words: list[str]) -> argparse.Namespace:
                         help="pcap or pcapng of Ethernet frames with times")
     parser.add_argument("--pps", metavar="N", required=True, type=numbers.positive_number,
                         help="packets that a processor serves in a second")
+    parser.add_argument("--times", metavar="FILE",
+                        help="write there when each packet arrives and is served, for --times of "
+                             "steer-top, steer-rows and steer-diff")
     numbers.add_load(parser)
     parser.add_argument("--kernel", action="store_true",
                         help="by a kernel's own choices; the words below go with it")
@@ -62,6 +65,8 @@ def check(told: argparse.Namespace, parser: argparse.ArgumentParser) -> None:
     """Raises WrongWords where words do not go together."""
     if told.plan == told.capture == "-":
         raise cli.WrongWords("PLAN and CAPTURE cannot both be standard input")
+    if told.times is not None:
+        waits.check_name(told.times, (told.plan, told.capture))
     remap_words.check_kernel(told, parser)
     if told.kernel != (told.new_capture is not None):
         raise cli.WrongWords("--kernel and --capture OUT go together")
@@ -79,6 +84,12 @@ def say_result(times: list[int], load: schedule.Load, agreed: schedule.Agreed) -
                  "other packets (docs/kernel.md)")
     cli.note("%d packets in %.3f s, %d steps, %g packets/s a processor%s, %d dropped"
              % (len(times), seconds, agreed.desk.count(), load.rate, own, len(agreed.desk.drops)))
+
+
+def write_times(name: str, agreed: schedule.Agreed) -> None:
+    """Writes the times of a schedule to the file of this name."""
+    with open(name, "wb") as out:
+        waits.write(waits.times_of(agreed.desk), out)
 
 
 def by_kernel(told: argparse.Namespace, settings: plan.Plan, source: str, capture: str,
@@ -108,6 +119,8 @@ def main(words: list[str]) -> None:
         agreed = schedule.timed_steps(replays, times, load, cli.say)
         if told.kernel:
             shutil.copyfile(capture, told.new_capture)
+        if told.times is not None:
+            write_times(told.times, agreed)
         sys.stdout.write(plan.plan_text(dict(settings, steps=agreed.desk.steps())))
     say_result(times, load, agreed)
 

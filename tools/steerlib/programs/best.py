@@ -1,0 +1,260 @@
+"""steer-best: settings of a plan tried over one capture, the best one first."""
+
+from __future__ import annotations
+
+import argparse
+import os
+import shlex
+import shutil
+import sys
+import tempfile
+from typing import Iterator, NoReturn, Sequence
+
+from .. import best, cli, numbers, plan, progress, remap_words, schedule, tables, trial, waits
+
+DESCRIPTION = """\
+Tries settings of PLAN over CAPTURE at a rate of service, and shows them with the best one first:
+the one with the fewest drops, then the one where 99 of 100 packets wait the shortest time, then
+the one whose busiest processor has the fewest packets, then the one with the fewest moves.
+
+What is tried is each combination of the settings that are named, and the plan as it is. Where none
+is named, these are the masks of the first processor of the plan's masks, the first two, and so on.
+All receive queues get the same mask and flow count. Each is a schedule as steer-steps makes it and
+a replay by steer, and each row has the command line that makes its numbers again.
+
+A packet waits from its arrival until its processor begins with it. The load of a processor is the
+part of the time from the first packet to the last in which it serves.
+
+--least looks for the smallest backlog, the lowest rate or the fewest members of the mask without
+drops, for each combination of the others. The first two by bisection, which takes for granted that
+more never loses a packet where less loses none: without RFS that is so. The next smaller value that
+was tried is shown with its drops.
+
+--kernel goes by a kernel's choice of a mask's member, as steer-remap does; without it the answer is
+by the kernel's manual, and on a machine another setting may be the best one."""
+
+EXAMPLE = """\
+steer-best own.pcap plan.json --pps 20000 --read --kernel
+steer-best own.pcap plan.json --pps 20000 --mask f0,ff0 --backlog 100,1000
+steer-best own.pcap plan.json --pps 20000 --table equal:4 --table weight:6,2
+steer-best own.pcap plan.json --pps 20000 --least backlog"""
+
+UNKNOWN = (
+    "readers: on which processor a packet is read is the plan's `apps`, and no part of a capture",
+    "other traffic: each capture is one sample, so try several, and several rates",
+    "TCP: senders slow down after a drop or a wait; recorded packets come as they came",
+    "cost: each packet takes a processor 1/N s, whatever its size and its way")
+
+
+def words_of(words: list[str]) -> argparse.Namespace:
+    parser = cli.parser(DESCRIPTION, EXAMPLE)
+    parser.add_argument("capture", metavar="CAPTURE", help="pcap or pcapng of Ethernet frames")
+    parser.add_argument("plan", metavar="PLAN", help="a plan, whose own steps are not used")
+    parser.add_argument("--pps", metavar="N", required=True, type=numbers.positive_number,
+                        help="packets that a processor serves in a second")
+    add_settings(parser)
+    parser.add_argument("--least", choices=sorted(best.LEAST),
+                        help="look for the smallest of these without drops: %(choices)s")
+    numbers.add_load(parser)
+    parser.add_argument("--kernel", action="store_true",
+                        help="by a kernel's own choices; the words from --reader on go with it")
+    remap_words.add_options(parser)
+    parser.add_argument("--jobs", metavar="N", type=numbers.whole_number(1, 1024),
+                        default=trial.processors_here(),
+                        help="trials at once (as many as processors)")
+    told = parser.parse_args(words)
+    remap_words.check_kernel(told, parser)
+    check(told)
+    return told
+
+
+def add_settings(parser: argparse.ArgumentParser) -> None:
+    """Adds the words that name what is tried."""
+    parser.add_argument("--mask", metavar="M,M,..", action="append", default=[],
+                        help="masks of processors, hexadecimal as in rps_cpus")
+    parser.add_argument("--queues", metavar="N,N,..", action="append", default=[],
+                        help="numbers of receive queues in use (ethtool -X DEV equal N)")
+    parser.add_argument("--table", metavar="TABLE", action="append", default=[],
+                        help="a redirection table: equal:N, weight:W0,W1,.. or default; may be "
+                             "repeated")
+    parser.add_argument("--flows", metavar="N,N,..", action="append", default=[],
+                        help="flow counts of each queue (rps_flow_cnt); 0 is no RFS")
+    parser.add_argument("--backlog", metavar="N,N,..", action="append", default=[],
+                        help="lengths of a backlog (netdev_max_backlog)")
+    parser.add_argument("--set", metavar="WORDS", action="append", default=[],
+                        help="settings as steer-set takes them, several with blanks between; may "
+                             "be repeated, and one of them is in force at a time")
+
+
+def check(told: argparse.Namespace) -> None:
+    """Raises WrongWords where words do not go together."""
+    if "-" in (told.capture, told.plan):
+        raise cli.WrongWords("CAPTURE and PLAN are files, which the command lines name again")
+    for least, name in (("backlog", "backlog"), ("members", "mask")):
+        if told.least == least and getattr(told, name):
+            raise cli.WrongWords("--least %s does not go with --%s" % (least, name))
+
+
+def split(texts: Sequence[str]) -> list[str]:
+    """The values of an option that may be repeated, each once."""
+    return list(dict.fromkeys(part for text in texts for part in text.split(",")))
+
+
+def tried(told: argparse.Namespace, question: best.Question) -> list[best.Words]:
+    """The words of each setting that is tried, each plan once, the plan as it is among them."""
+    settings = best.plan_with(question, ())
+    masks = split(told.mask)
+    named = masks or told.queues or told.table or told.flows or told.backlog or told.set
+    if not named and told.least is None:
+        masks = best.masks_of(settings)
+    tables_of = ["equal:" + queues for queues in split(told.queues)] + told.table
+    flows = [numbers.whole_number(0)(text) for text in split(told.flows)]
+    parts: list[list[best.Words]] = [
+        [(best.MASK + mask,) for mask in masks], [("indir=" + name,) for name in tables_of],
+        [best.flow_words(settings, count) for count in flows],
+        [(best.BACKLOG + length,) for length in split(told.backlog)],
+        [tuple(shlex.split(text)) for text in told.set]]
+    combinations = best.choices([part for part in parts if part])
+    if len(combinations) > best.MOST_TRIED:
+        raise cli.WrongWords("%d settings, and at most %d are tried"
+                             % (len(combinations), best.MOST_TRIED))
+    plans = {repr(best.plan_with(question, words)): words
+             for words in reversed(combinations + [()])}
+    kept = set(plans.values())
+    return [words for words in dict.fromkeys(combinations + [()]) if words in kept]
+
+
+def attempt(words: best.Words, question: best.Question) -> best.Result:
+    """The row of a setting, or the text of why it was refused."""
+    try:
+        if question.told.least is None:
+            return best.trial(words, question.load.rate, question)
+        return best.LEAST[question.told.least](words, question.load.rate, question)
+    except (cli.Refused, cli.NotThatFile, cli.WrongWords) as fault:
+        return str(fault)
+
+
+def label(row: best.Row, question: best.Question) -> str:
+    """How a row names its setting."""
+    plain = best.plan_with(question, row.words) == best.plan_with(question, ())
+    words = " ".join(row.words)
+    return ("%s (as it is)" % words).strip() if plain else words
+
+
+def line_of(row: best.Row, told: argparse.Namespace, number: int) -> str:
+    """The command line that makes the numbers of a row again."""
+    def named(name):
+        return shlex.quote(os.path.join(os.path.dirname(sys.argv[0]), name))
+
+    load = ["--cpu=%d=%s" % (cpu, numbers.number_text(rate)) for cpu, rate in told.cpu]
+    load += ["--read"] * told.reads + ["--reply"] * told.replies
+    if told.speed != 1:
+        load += ["--speed", numbers.number_text(told.speed)]
+    capture = told.capture
+    if told.kernel:
+        capture = "best-%d.pcap" % number
+        load += ["--kernel", "--capture", capture] + remap_words.again(told)
+        load += ["--draw", "%d" % told.draw] if told.draw != 1 else []
+    files = {"plan": "best-%d.json" % number, "times": "best-%d.times" % number}
+    source = shlex.quote(told.plan)
+    if row.words:
+        source = "-"
+        first = "%s %s %s | " % (named("steer-set"), shlex.quote(told.plan),
+                                 " ".join(shlex.quote(word) for word in row.words))
+    else:
+        first = ""
+    quoted = " ".join(shlex.quote(word) for word in [
+        told.capture, "--pps", numbers.number_text(row.rate), "--times", files["times"]] + load)
+    return "%s%s %s %s > %s && %s replay %s %s | %s --times %s -" % (
+        first, named("steer-steps"), source, quoted, files["plan"], steer_word(), files["plan"],
+        shlex.quote(capture), named("steer-top"), files["times"])
+
+
+def steer_word() -> str:
+    """How a command line names steer: as this program finds it."""
+    if os.environ.get("STEER"):
+        return '"$STEER"'
+    return "steer" if shutil.which("steer") else shlex.quote(cli.find_steer()[0])
+
+
+def table_of(rows: Sequence[best.Row], question: best.Question) -> Iterator[str]:
+    """The lines of the table of rows."""
+    def cells(number, row):
+        cpu, most, packets = best.busiest(row)
+        times = [waits.time_text(time) for time in row.waits[:3]]
+        return [number, row.drops, "cpu %d %s" % (cpu, tables.share(most, packets)), row.moves,
+                *times, label(row, question)]
+
+    yield from tables.aligned(
+        ("", "drops", "busiest", "moves", "half wait", "99% wait", "longest", "setting"),
+        [cells(number, row) for number, row in enumerate(rows, 1)])
+    used = [cpu for cpu in range(len(rows[0].offered)) if any(row.offered[cpu] for row in rows)]
+    yield ""
+    yield from tables.aligned(
+        [""] + ["cpu %d" % cpu for cpu in used] + ["load"],
+        [[number] + [waits.load_text(row.waits.loads[cpu]) for cpu in used]
+         + [label(row, question)] for number, row in enumerate(rows, 1)])
+
+
+def least_table(results: Sequence[best.Least], question: best.Question) -> Iterator[str]:
+    """The lines of the table of the smallest settings without drops."""
+    def shown(row):
+        text = label(row, question)
+        return numbers.number_text(row.rate) + (" " + text if text else "")
+
+    rows = []
+    for number, (found, below) in enumerate(results, 1):
+        rows.append((number, "-" if below is None else below.drops,
+                     "none" if below is None else shown(below),
+                     "none" if found is None else shown(found)))
+    yield from tables.aligned(("", "drops", "with (packets/s, setting)", "no drops with"), rows)
+
+
+def screen(told: argparse.Namespace, results: Sequence[best.Result],
+           question: best.Question) -> Iterator[str]:
+    """All lines of the answer."""
+    order = list(best.ranked(results))
+    found = [result for result in order if isinstance(result, best.Least)]
+    if found:
+        yield from least_table(found, question)
+        yield ""
+    rows = [row for row in ((result.found or result.below) if isinstance(result, best.Least)
+                            else result for result in order) if row is not None]
+    if not rows:
+        return
+    yield from table_of(rows, question)
+    yield ""
+    for number, row in enumerate(rows, 1):
+        yield "%d again: %s" % (number, line_of(row, told, number))
+    yield ""
+    yield ("by a kernel's choice of a mask's member (docs/kernel.md)" if told.kernel else
+           "by the manual's choice of a mask's member; a kernel's is another (--kernel)")
+    for text in UNKNOWN:
+        yield "not known, " + text
+
+
+def main(words: list[str]) -> int:
+    told = words_of(words)
+    load = schedule.Load(told.pps, told.cpu, told.reads, told.replies, told.speed)
+    shown = cli.source_name(told.capture)
+    settings = plan.read_plan(told.plan)
+    schedule.say_about(settings, told.plan, load)
+    with schedule.plain_file(told.capture) as capture, \
+            tempfile.TemporaryDirectory(prefix="steer-best-") as work:
+        times = schedule.times_of(capture, shown)
+        question = best.Question(cli.read_bytes(told.plan), told.plan, capture, shown, times, load,
+                                 told, work)
+        some = tried(told, question)
+        tell = progress.Progress("settings tried", len(some))
+        results = trial.at_once(attempt, told.jobs, [(each, question) for each in some], tell.at)
+    texts = [result for result in results if isinstance(result, str)]
+    for text in dict.fromkeys(texts):
+        cli.say("%s: %s" % (cli.program_name(), text))
+    for line in screen(told, results, question):
+        print(line)
+    return cli.REFUSED if texts else cli.DONE
+
+
+def entry() -> NoReturn:
+    """Runs this program by the words of its command line, and ends the process."""
+    cli.run(main)
