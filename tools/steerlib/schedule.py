@@ -22,11 +22,12 @@ from itertools import accumulate, compress, count, islice
 from typing import Callable, Dict, Iterable, Iterator, List, NamedTuple, Union
 
 from . import capture as captures
-from . import cautions, cli, ethtool, flows, limits, report
+from . import cautions, cli, ethtool, flows, limits, progress, report
 from . import plan as plans
 from .serving import Desk, Places, Service, steps_each
 
 MOST_ROUNDS = 500
+MANY_PACKETS = 10000   # from so many on a schedule may take longer than two seconds
 COMMANDS = ("mask", "flows", "sock", "offline", "online", "xcpus", "xqueues", "reta", "stand",
             "expire")
 
@@ -153,6 +154,28 @@ def packets_that_fit(drops: Iterable[int], service: Service) -> int:
     raise AssertionError
 
 
+def check_fit(times: list[int], load: Load, source: str, hint: str) -> None:
+    """Refuses a capture whose steps might be more than a plan has; `hint` says what helps.
+
+    How many steps there are depends on the drops, which are known only after the work.
+    """
+    most = most_packets(load)
+    if len(times) > most:
+        raise cli.Refused(source, "%d packets have up to %d steps, and a plan has at most %d; the "
+                          "first %d packets fit in any case%s"
+                          % (len(times), 1 + len(times) * (2 + _steps_each(load)),
+                             limits.MOST_STEPS, most, hint))
+
+
+def most_packets(load: Load) -> int:
+    """How many packets have no more steps than a plan has, whatever is dropped."""
+    return (limits.MOST_STEPS - 1) // (2 + _steps_each(load))
+
+
+def _steps_each(load):
+    return 3 + bool(load.reads) + bool(load.replies)
+
+
 def elsewhere(places: Places, drops: Iterable[int], answer: Places, first: int = 0) -> list[int]:
     """The packets from `first` on that the answer has elsewhere than the steps assume.
 
@@ -184,6 +207,7 @@ def agree(arrivals: list[float], guess: Places, service: Service, replay: Replay
     _check_count(guess, arrivals, source)
     desk = Desk(arrivals, service, guess.apps)
     first = 0
+    tell = progress.Progress("packets that agree", len(arrivals))
     for number in range(1, MOST_ROUNDS + 1):
         desk.serve(guess, first)
         _check_steps(desk, source)
@@ -196,6 +220,8 @@ def agree(arrivals: list[float], guess: Places, service: Service, replay: Replay
         if not wrong:
             return Agreed(desk, number)
         guess, first = answer, wrong[0]
+        if say is not None and len(arrivals) >= MANY_PACKETS:
+            tell.at(first)
     raise cli.Refused(source, "after %d rounds the replay still has %d packets elsewhere than the "
                       "steps assume" % (MOST_ROUNDS, len(wrong)))
 

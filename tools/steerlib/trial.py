@@ -17,12 +17,12 @@ from concurrent.futures.process import BrokenProcessPool
 from typing import Any, Callable, Dict, Iterator, NamedTuple, Sequence, Tuple, Union
 from urllib.parse import quote, unquote
 
-from . import cli, limits, numbers, remap, remap_files, report, schedule, tables
+from . import cli, limits, numbers, remap, remap_files, report, schedule, tables, waits
 from .plan import Plan
 
 SEED, RATE = "seed", "pps"
 STEPS_PER_PACKET = 4
-REPORT, REFUSED = ".report", ".refused"
+REPORT, REFUSED, TIMES = ".report", ".refused", ".times"
 MANUAL = "by the manual's rule, hash modulo size; a kernel picks other members (docs/kernel.md)"
 KERNEL = "by a kernel's rule, the hash scaled (docs/kernel.md)"
 EITHER = "by the manual's rule, hash modulo size, or in trials with --kernel by a kernel's"
@@ -60,12 +60,16 @@ class Setting(NamedTuple):
 
 
 class Outcome(NamedTuple):
-    """What a report says in one line; `offered` are the packets of each processor, with drops."""
+    """What a report says in one line; `offered` are the packets of each processor, with drops.
+
+    `waits` are those of a schedule by times, else None.
+    """
 
     packets: int
     drops: int
     moves: int
     offered: list[int]
+    waits: waits.Waits | None
 
 
 # A plan with what was found for each kind and value; a plan's label with that for each value.
@@ -76,11 +80,15 @@ _NAME = re.compile(r"(.+)\.(seed|pps)-([0-9.e+-]+)(\.report|\.refused)")
 
 
 def outcome_of(name: str) -> Outcome:
-    """The Outcome that the report in the file `name` has."""
+    """The Outcome that the report in the file `name` has, and the file of times beside it."""
     rep = report.read_file(name)
+    beside = os.path.splitext(name)[0] + TIMES
+    found = None
+    if os.path.exists(beside):
+        found = waits.of_report(waits.read_file(beside), rep, beside)
     return Outcome(rep.end.total, sum(row.dropped for row in rep.cpus),
                    sum(packet.why in report.MOVES for packet in rep.packets),
-                   [row.accepted + row.dropped for row in rep.cpus])
+                   [row.accepted + row.dropped for row in rep.cpus], found)
 
 
 def report_name(trial: Trial) -> str:
@@ -127,16 +135,20 @@ def _replay(trial, setting, folder):
         replays.run({"seed": trial.value, "count": count})
     else:
         load = setting.load._replace(rate=trial.value)
-        schedule.timed_steps(replays, setting.times, load)
+        agreed = schedule.timed_steps(replays, setting.times, load)
+        with open(replays.report + TIMES, "wb") as out:
+            waits.write(waits.times_of(agreed.desk), out)
     return replays.report
 
 
 def _keep(trial, folder, name, ending):
     """Moves a file into the folder of reports, where it appears whole under its name."""
     target = os.path.join(folder, report_name(trial))
-    for old in (REPORT, REFUSED):
+    for old in (REPORT, REFUSED, TIMES):
         if old != ending and os.path.exists(target + old):
             os.remove(target + old)
+    if os.path.exists(name + TIMES):
+        os.replace(name + TIMES, target + TIMES)
     os.replace(name, target + ending)
 
 
@@ -255,6 +267,19 @@ def _busiest(outcomes):
     return "cpu %d %s" % (offered.index(most), tables.share(most, sum(offered)))
 
 
+def _wait(outcome):
+    """The wait that 99 of 100 packets do not pass."""
+    return "-" if outcome.waits is None else waits.time_text(outcome.waits.most)
+
+
+def _load(outcome):
+    """The processor that serves most of the time, and its load."""
+    loads = [load or 0 for load in outcome.waits.loads] if outcome.waits else []
+    if not any(loads):
+        return "-"
+    return "cpu %d %s" % (loads.index(max(loads)), waits.load_text(max(loads)))
+
+
 def _seed_row(label, results):
     """The row of one plan's outcomes over its seeds."""
     outcomes = [result for result in results if not isinstance(result, str)]
@@ -307,7 +332,9 @@ def screen(rows: list[Row], rule: str = MANUAL) -> Iterator[str]:
     if by_rate:
         parts += [rate_table(by_rate, "drops at packets/s", lambda outcome: outcome.drops),
                   rate_table(by_rate, "moves", lambda outcome: outcome.moves),
-                  rate_table(by_rate, "busiest", lambda outcome: _busiest([outcome]))]
+                  rate_table(by_rate, "busiest", lambda outcome: _busiest([outcome])),
+                  rate_table(by_rate, "wait of 99% at most", _wait),
+                  rate_table(by_rate, "load, the highest", _load)]
     for number, part in enumerate(parts):
         if number:
             yield ""

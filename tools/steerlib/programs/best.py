@@ -242,6 +242,7 @@ def main(words: list[str]) -> int:
     with schedule.plain_file(told.capture) as capture, \
             tempfile.TemporaryDirectory(prefix="steer-best-") as work:
         times = schedule.times_of(capture, shown)
+        schedule.check_fit(times, load, shown, "; steer-cap --count takes them")
         question = best.Question(cli.read_bytes(told.plan), told.plan, capture, shown, times, load,
                                  told, work)
         some = tried(told, question)

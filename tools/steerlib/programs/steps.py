@@ -9,7 +9,7 @@ import sys
 import tempfile
 from typing import NoReturn
 
-from .. import cli, numbers, plan, remap_files, remap_words, schedule, waits
+from .. import cli, numbers, plan, remap_check, remap_files, remap_words, schedule, waits
 
 DESCRIPTION = """\
 Writes PLAN with the steps that the times of CAPTURE and a rate of service for each processor give,
@@ -27,6 +27,9 @@ error shows each round. Without agreement after 500 rounds there is no plan and 
 A processor serves all packets at one rate, whatever their size; a kernel takes them from the
 backlog by batches of 64, and a plan without masks has its backlog where a kernel has the ring of
 the card. So drops compare settings; they foretell no number on a machine (docs/kernel.md).
+
+A plan has at most 1,000,000 steps, and a packet up to 7. A longer capture is refused before any work;
+with --fit its first packets are taken, as many as fit, and written to OUT.
 
 With --kernel each packet goes to the processor that a kernel picks of a mask, by another capture
 that is written to OUT (steer-remap --help says how). The plan is for that capture and no other.
@@ -51,8 +54,10 @@ def words_of(words: list[str]) -> argparse.Namespace:
                         help="write there when each packet arrives and is served, for --times of "
                              "steer-top, steer-rows and steer-diff")
     numbers.add_load(parser)
+    parser.add_argument("--fit", action="store_true",
+                        help="take the first packets where not all fit into a plan")
     parser.add_argument("--kernel", action="store_true",
-                        help="by a kernel's own choices; the words below go with it")
+                        help="by a kernel's own choices; the words from --reader on go with it")
     parser.add_argument("--capture", dest="new_capture", metavar="OUT",
                         help="where the capture is written for which the plan is then")
     remap_words.add_options(parser)
@@ -68,8 +73,8 @@ def check(told: argparse.Namespace, parser: argparse.ArgumentParser) -> None:
     if told.times is not None:
         waits.check_name(told.times, (told.plan, told.capture))
     remap_words.check_kernel(told, parser)
-    if told.kernel != (told.new_capture is not None):
-        raise cli.WrongWords("--kernel and --capture OUT go together")
+    if (told.kernel or told.fit) != (told.new_capture is not None):
+        raise cli.WrongWords("--kernel or --fit, and --capture OUT go together")
     if told.new_capture is not None:
         remap_files.check_name(told.new_capture, (told.plan, told.capture))
 
@@ -84,6 +89,18 @@ def say_result(times: list[int], load: schedule.Load, agreed: schedule.Agreed) -
                  "other packets (docs/kernel.md)")
     cli.note("%d packets in %.3f s, %d steps, %g packets/s a processor%s, %d dropped"
              % (len(times), seconds, agreed.desk.count(), load.rate, own, len(agreed.desk.drops)))
+
+
+def fitting(times: list[int], load: schedule.Load, capture: str, source: str,
+            folder: str) -> tuple[list[int], str]:
+    """The times and a capture of the first packets, as many as a plan has room for."""
+    most = schedule.most_packets(load)
+    if len(times) <= most:
+        return times, capture
+    name = os.path.join(folder, "fit.pcap")
+    remap_check.write_frames(remap_files.frames_of(capture, source)[:most], name, source)
+    cli.note("the first %d of %d packets are taken" % (most, len(times)))
+    return times[:most], name
 
 
 def write_times(name: str, agreed: schedule.Agreed) -> None:
@@ -111,13 +128,16 @@ def main(words: list[str]) -> None:
         source = cli.source_name(told.capture)
         settings, plan_source = plan.read_plan(told.plan), cli.source_name(told.plan)
         times = schedule.times_of(capture, source)
+        if told.fit:
+            times, capture = fitting(times, load, capture, source, folder)
+        schedule.check_fit(times, load, source, "; --fit takes them")
         for text in schedule.notes_about(settings, load, capture, told.kernel):
             cli.note("%s: %s" % (plan_source, text))
         if told.kernel:
             settings, capture = by_kernel(told, settings, plan_source, capture, folder)
         replays = schedule.Replays(settings, plan_source, capture, source, folder)
         agreed = schedule.timed_steps(replays, times, load, cli.say)
-        if told.kernel:
+        if told.new_capture is not None:
             shutil.copyfile(capture, told.new_capture)
         if told.times is not None:
             write_times(told.times, agreed)

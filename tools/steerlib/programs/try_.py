@@ -17,7 +17,9 @@ packets, dropped ones among them, with its share.
 
 --seeds mixes the steps by chance, 4 for each packet, and shows the mean of the drops with their
 standard deviation between seeds, which is what one seed is worth. --pps makes the steps by the
-times of the capture, as steer-steps does, with the same further words.
+times of the capture, as steer-steps does, with the same further words, and shows as well the wait
+that 99 of 100 packets do not pass and the processor with the highest load, as steer-top --times
+does. Beside a report that is kept is a file of these times.
 
 --kernel gives each packet the processor that a kernel picks, as steer-remap does; its help says
 how, and steer-remap itself notes what cannot be had. The hashes that a kernel makes itself are
@@ -152,6 +154,8 @@ def rows_of(told: argparse.Namespace) -> list[trial.Row]:
             tempfile.TemporaryDirectory(dir=told.reports, prefix=".trials-") as work:
         times = schedule.times_of(capture, shown) if told.pps else None
         packets = trial.packets_of(capture, shown) if times is None else len(times)
+        if load and times is not None:
+            schedule.check_fit(times, load, shown, "; steer-cap --count takes them")
         prepare(settings, load, capture, told.kernel)
         shared = trial.Setting(capture, shown, times, packets, load, work, told.reports)
         drawn = [(name, draw) for name in names for draw in told.draws or (None,)]
