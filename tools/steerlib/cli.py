@@ -7,15 +7,15 @@ the value and the reason, as steer itself ends for a plan, 4 a file that is not 
 from __future__ import annotations
 
 import argparse
-import gzip
 import io
 import os
 import shutil
 import signal
 import subprocess
 import sys
-import zlib
 from typing import IO, Any, Callable, List, NoReturn, Optional, Sequence
+
+from . import packed
 
 DONE, DIFFERS, WRONG_WORDS, REFUSED, NOT_THAT_FILE = 0, 1, 2, 3, 4
 
@@ -26,8 +26,6 @@ STATUSES = ("Statuses: 0 done, 1 differs (steer-diff, steer-compare), 2 wrong wo
 
 # What a program is: its words to its status, where None is 0.
 Main = Callable[[List[str]], Optional[int]]
-
-GZIP_MAGIC = b"\x1f\x8b"
 
 
 class WrongWords(Exception):
@@ -173,24 +171,18 @@ def run(main: Main) -> NoReturn:
     sys.exit(status)
 
 
-class _Available:
-    """What `gzip` reads: as many bytes of `stream` as are there, at most so many."""
-
-    def __init__(self, stream):
-        self.read = stream.read1
-
-
 class _Guarded(io.RawIOBase):
     """The bytes of `stream` as they come, with faults of reading that name their source.
 
     A read waits only where nothing is there; closing it closes `plain` too.
     """
 
-    def __init__(self, stream, source, plain):
+    def __init__(self, stream, source, plain, kind):
         super().__init__()
         self.stream = stream
         self.source = source
         self.plain = plain
+        self.kind = kind
 
     def readable(self):
         return True
@@ -198,10 +190,10 @@ class _Guarded(io.RawIOBase):
     def readinto(self, buffer):
         try:
             data = self.stream.read1(len(buffer))
-        except EOFError:
-            raise NotThatFile(self.source, "the gz data is cut short") from None
-        except (OSError, ValueError, zlib.error) as fault:
-            reason = getattr(fault, "strerror", None) or str(fault)
+        except Exception as fault:
+            reason = packed.reason_of(fault, self.kind)
+            if reason is None:
+                raise
             raise NotThatFile(self.source, reason) from None
         buffer[:len(data)] = data
         return len(data)
@@ -219,10 +211,10 @@ def source_name(name: str) -> str:
 
 
 def open_bytes(name: str, unpacked: bool = True) -> io.BufferedReader:
-    """A buffered binary stream of the file `name`; `-` is standard input; gz is opened through.
+    """A buffered binary stream of the file `name`; `-` is standard input.
 
-    A line, or a `peek`, of a pipe is there as soon as its bytes are, before the pipe ends.
-    With `unpacked` false a gz file is given as it is. Raises NotThatFile where the file cannot
+    Files that are packed as gz, xz or zst are opened through, but not with `unpacked` false. A
+    line, or a `peek`, of a pipe is there as soon as its bytes are, before the pipe ends. Raises NotThatFile where the file cannot
     be opened, and the stream does where it cannot be read.
     """
     source = source_name(name)
@@ -233,13 +225,15 @@ def open_bytes(name: str, unpacked: bool = True) -> io.BufferedReader:
             plain: Any = sys.stdin.buffer
         else:
             plain = open(name, "rb")
-        start = plain.peek(2)[:2]
+        start = plain.peek(packed.LONGEST_MAGIC)[:packed.LONGEST_MAGIC]
     except (OSError, ValueError, AttributeError) as fault:
         raise NotThatFile(source, getattr(fault, "strerror", None) or str(fault)) from None
-    packed = unpacked and start == GZIP_MAGIC
-    available: Any = _Available(plain)
-    stream = gzip.GzipFile(fileobj=available, mode="rb") if packed else plain
-    return io.BufferedReader(_Guarded(stream, source, plain), 1 << 18)
+    kind = packed.kind_of(start) if unpacked else None
+    try:
+        stream = plain if kind is None else packed.opened(kind, plain)
+    except packed.Unreadable as fault:
+        raise NotThatFile(source, str(fault)) from None
+    return io.BufferedReader(_Guarded(stream, source, plain, kind), 1 << 18)
 
 
 def read_bytes(name: str) -> bytes:

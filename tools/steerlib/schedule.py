@@ -22,7 +22,7 @@ from itertools import accumulate, compress, count, islice
 from typing import Callable, Dict, Iterable, Iterator, List, NamedTuple, Union
 
 from . import capture as captures
-from . import cautions, cli, ethtool, flows, limits, progress, report
+from . import cautions, cli, ethtool, flows, limits, packed, progress, report
 from . import plan as plans
 from .serving import Desk, Places, Service, steps_each
 
@@ -295,7 +295,7 @@ def plain_file(name: str) -> Iterator[str]:
     """
     if name != "-" and os.path.isfile(name):
         with open(name, "rb") as stream:
-            if stream.read(2) != cli.GZIP_MAGIC:
+            if packed.kind_of(stream.read(packed.LONGEST_MAGIC)) is None:
                 yield name
                 return
     with tempfile.NamedTemporaryFile(suffix=".pcap") as copy:

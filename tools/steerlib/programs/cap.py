@@ -14,7 +14,8 @@ what steer reads: at most 262144 packets and 268435456 bytes.
 
 CAPTURE is pcap (either byte order, micro- or nanoseconds) or pcapng (several sections and
 interfaces, each with its unit of time; enhanced, simple and obsolete packet blocks), also packed
-by gzip; - is standard input. Frames may be of Ethernet (link type 1), cooked (113 and 276, which
+as gz, xz or zst, the last one by the Python module zstandard or the program zstd; - is standard
+input. Frames may be of Ethernet (link type 1), cooked (113 and 276, which
 tcpdump -i any writes) or raw IP (12, 101, 228, 229); those that are not of Ethernet get a header
 with zero addresses. steer itself reads Ethernet alone.
 

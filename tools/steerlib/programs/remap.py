@@ -35,7 +35,7 @@ steer-top the hashes of the first CAPTURE, and it names them as they were.
 
 steer-steps and steer-try do all of this in one go with --kernel.
 
-One of PLAN and CAPTURE may be - for standard input, and both may be packed by gzip."""
+One of PLAN and CAPTURE may be - for standard input, and both may be packed as gz, xz or zst."""
 
 EXAMPLE = """\
 steer-remap plan.json own.pcap --plan kernel.json --capture kernel.pcap

@@ -34,7 +34,7 @@ with --fit its first packets are taken, as many as fit, and written to OUT.
 With --kernel each packet goes to the processor that a kernel picks of a mask, by another capture
 that is written to OUT (steer-remap --help says how). The plan is for that capture and no other.
 
-One of PLAN and CAPTURE may be - for standard input, and both may be packed by gzip."""
+One of PLAN and CAPTURE may be - for standard input, and both may be packed as gz, xz or zst."""
 
 EXAMPLE = """\
 steer-steps plan.json own.pcap --pps 200000 --read > timed.json

@@ -37,7 +37,7 @@ Never divide a capture: in each part backlogs and flow tables would begin empty.
 only at a pause that is longer than the largest backlog takes, and without flow tables.
 
 A plan that cannot be read, or a trial that is refused, does not keep the other rows from coming;
-the status is then 3. CAPTURE may be packed by gzip, and - is standard input."""
+the status is then 3. CAPTURE may be packed as gz, xz or zst, and - is standard input."""
 
 EXAMPLE = """\
 steer-try own.pcap --pps 1000,2000,5000 --read a.json b.json
