@@ -102,7 +102,7 @@ def opened(kind: str, plain: Any) -> Any:
 def reason_of(fault: Exception, kind: str | None) -> str | None:
     """Why a read went wrong, or None where the exception is none of an unpacker or of a file."""
     if isinstance(fault, EOFError):
-        return "the %s data is cut short" % kind
+        return "the %s data is cut short%s" % (kind, " or wrong" if kind == "zst" else "")
     if isinstance(fault, (OSError, ValueError, zlib.error)):
         return getattr(fault, "strerror", None) or str(fault)
     if type(fault).__name__ in ("LZMAError", "ZstdError"):

@@ -2,6 +2,7 @@
 
 import gzip
 import json
+import random
 import re
 import struct
 import unittest
@@ -12,7 +13,7 @@ from inside import inside
 from reporting import Folder, frame, random_plan, run, run_closed
 from running import example, sample
 
-from steerlib import cli, limits, report, schedule
+from steerlib import cli, limits, report, schedule, serving
 
 OWN = sample("cap", "own-first3000.pcap")
 ROUND = re.compile(r"round \d+: (\d+) packets elsewhere than assumed(?:, the first is (\d+))?")
@@ -260,8 +261,10 @@ class Rounds(unittest.TestCase):
     def test_without_agreement_after_500_rounds_it_is_refused(self):
         calls = []
 
-        def never(steps):
-            calls.append(steps)
+        def never(text, known, first):
+            self.assertEqual((text[:11], known.cpus, first),
+                             ('["arrive","', [len(calls) % 2], 0))
+            calls.append(text)
             return self.places(len(calls) % 2)
 
         with self.assertRaises(cli.Refused) as caught:
@@ -283,16 +286,23 @@ class Rounds(unittest.TestCase):
     def test_a_report_of_fewer_packets_is_no_agreement(self):
         with self.assertRaises(cli.Refused) as caught:
             schedule.agree([0.0], self.places(0), self.SERVICE,
-                           lambda steps: schedule.Places([], [], [], set(), set()), "c.pcap")
+                           lambda *_: schedule.Places([], [], [], set(), set()), "c.pcap")
         self.assertEqual(str(caught.exception), "c.pcap: refused: 1 packets have a time, and "
                          "steer's report has 0 that were put")
 
-    def test_a_capture_that_needs_too_many_steps(self):
+    def test_a_schedule_that_needs_too_many_steps(self):
         """The number that is said to fit does fit, and one more does not."""
         arrivals = [1e6 * number for number in range(40)]
         service = schedule.Service([400.0], 3, list(range(40)), True)
         guess = schedule.Places([0] * 40, [0] * 40, [0] * 40, set(), set())
-        needed = len(schedule.make_steps(arrivals, guess, service)[0])
+
+        def needs(packets):
+            desk = serving.Desk(arrivals[:packets], service, guess.apps)
+            desk.serve(guess)
+            self.assertEqual(desk.count(), len(desk.steps()))
+            return desk.count()
+
+        needed = needs(40)
         for most in (50, 99, 120, needed - 1):
             with mock.patch.object(limits, "MOST_STEPS", most), \
                     self.assertRaises(cli.Refused) as caught:
@@ -301,9 +311,54 @@ class Rounds(unittest.TestCase):
                                  r"most %d; the first (\d+) packets fit" % (needed, most),
                                  str(caught.exception))
             fits = int(found[1])
-            self.assertLessEqual(len(schedule.make_steps(arrivals[:fits], guess, service)[0]), most)
-            self.assertGreater(len(schedule.make_steps(arrivals[:fits + 1], guess, service)[0]),
-                               most)
+            self.assertLessEqual(needs(fits), most)
+            self.assertGreater(needs(fits + 1), most)
+
+    def test_a_capture_that_may_not_fit(self):
+        """It is refused before any replay; the first packets are taken on request."""
+        with Folder() as folder, mock.patch.object(limits, "MOST_STEPS", 36):
+            capture = write_capture(folder.path("c.pcap"), [
+                (1000 * number, frame(number % 3)) for number in range(8)])
+            plan, out = write_plan(folder, ONE), folder.path("out.pcap")
+            for words, steps, fit in ((["--read"], 49, 5), (["--read", "--reply"], 57, 5),
+                                      ([], 41, 7)):
+                words = [plan, capture, "--pps", "9", *words]
+                with mock.patch.object(schedule.Replays, "run", side_effect=AssertionError):
+                    ended = inside("steer-steps", *words)
+                self.assertEqual(ended, (3, b"", "steer-steps: %s: refused: 8 packets have up to "
+                                         "%d steps, and a plan has at most 36; the first %d "
+                                         "packets fit in any case; --fit takes them\n"
+                                         % (capture, steps, fit)))
+                text, said = timed(*words, "--fit", "--capture", out)
+                self.assertIn("note: the first %d of 8 packets are taken\n" % fit, said)
+                self.assertEqual(json.loads(text)["steps"].count("arrive"), fit)
+                self.assertEqual(drops_of(text, out), int(RESULT.search(said)[4]))
+                self.assertEqual(cli.run_steer(["hash", out]), b"".join(
+                    cli.run_steer(["hash", capture]).splitlines(True)[:fit])
+                    + b"packets %d\n" % fit)
+            for program in ("steer-try", "steer-best"):
+                status, _, said = inside(program, capture, plan, "--pps", "9")
+                self.assertEqual((status, said[-31:]), (3, "; steer-cap --count takes them\n"))
+
+    def test_rounds_that_begin_where_the_last_was_right(self):
+        """The steps are those of a round that begins with the first packet."""
+        chance = random.Random(7)
+        count = 9000
+        arrivals = [1e5 * number for number in range(count)]
+        for replies in (False, True):
+            service = schedule.Service([2500.0, 9000.0, 4000.0], 20, [3] * count, replies)
+            places = schedule.Places([0] * count, [chance.randrange(3) for _ in range(count)],
+                                     [1] * count, set(), set(range(0, count, 97)))
+            desk = serving.Desk(arrivals, service, places.apps)
+            desk.serve(places)
+            for first in (8999, 7000, 4096, 4095, 2048, 5, 0):
+                cpus = places.cpus[:first] + [2 - cpu for cpu in places.cpus[first:]]
+                places = places._replace(cpus=cpus)
+                desk.serve(places, first)
+                anew = serving.Desk(arrivals, service, places.apps)
+                anew.serve(places)
+                self.assertEqual((desk.text(), desk.drops, desk.begins, desk.ends),
+                                 (anew.text(), anew.drops, anew.begins, anew.ends), first)
 
 
 class Words(unittest.TestCase):

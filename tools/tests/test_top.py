@@ -142,7 +142,8 @@ class Top(unittest.TestCase):
                 ([folder.path("none")], 4, "none: No such file or directory"),
                 ([folder.name], 4, "Is a directory"),
                 ([folder.write("e", REPLIED[:-20])], 3, "cut short after line 17"),
-                (["-", "-"], 2, "only one of REPORT, HASH and PLAN can be standard input"),
+                (["-", "-"], 2, "only one of REPORT, HASH, PLAN and --times can be "
+                 "standard input"),
                 ([path, "--plan", example("rps.json")], 3, "rps.json: refused: has 2 queues and 4 "
                  "processors, and the report 1 and 3"),
                 ([path, "--plan", path], 4, "no plan: "), ([], 2, "REPORT"))

@@ -96,8 +96,8 @@ class Rates(unittest.TestCase):
             self.assertEqual(line.split(), drops + [os.path.basename(plan)])
         self.assertEqual(len(set(out[1].split())), 4)
         heads = [line.split()[-1] for line in out if line.split()[:1] == ["5000"]]
-        self.assertEqual(heads, ["packets/s", "moves", "busiest"])
-        self.assertEqual((len(out), out[-2:]), (3 * 3 + 2 + 2, ["", RULE]))
+        self.assertEqual(heads, ["packets/s", "moves", "busiest", "most", "highest"])
+        self.assertEqual((len(out), out[-2:]), (5 * 3 + 4 + 2, ["", RULE]))
 
     def test_a_plan_that_cannot_be_read_keeps_its_message_and_the_others_their_rows(self):
         with Folder() as folder:
@@ -185,14 +185,14 @@ class Elsewhere(unittest.TestCase):
             status, lines, _ = tried(WEB, "--pps", "500", "--reports", out, "none.json", PLANS[0])
             self.assertEqual((status, lines), (3, []))
             kept = sorted(os.listdir(out))
-            self.assertEqual([name[-8:] for name in kept], ["0.report", ".refused"])
+            self.assertEqual([name[-8:] for name in kept], ["0.report", "00.times", ".refused"])
             status, lines, said = tried("--collect", out)
             self.assertEqual((status, said),
                              (3, ["steer-try: none.json: No such file or directory"]))
             self.assertEqual([line.split()[-1] for line in lines[:3]],
                              ["packets/s", "rps.json", "none.json"])
             drops = lines[1].split()[0]
-            os.rename(os.path.join(out, kept[1]), os.path.join(out, kept[1].replace("500", "5")))
+            os.rename(os.path.join(out, kept[2]), os.path.join(out, kept[2].replace("500", "5")))
             _, lines, _ = tried("--collect", out)
             self.assertEqual([line.split()[:2] for line in lines[:3]],
                              [["5", "500"], ["-", drops], ["refused", "-"]])
