@@ -71,6 +71,12 @@ def plan_with(question: Question, words: Words) -> plan.Plan:
     return dict(changed.plan, steps=[])
 
 
+def sense_of(settings: plan.Plan) -> plan.Plan:
+    """A plan with all that it leaves out, so that plans of one sense are equal."""
+    return {**plan.DEFAULTS, "key": plan.VERIFICATION_KEY, **settings,
+            "reta": plan.table_of(settings)}
+
+
 def members_of(settings: plan.Plan) -> list[int]:
     """The processors of a plan's masks, ascending, or all where no mask has any."""
     members = sorted({cpu for queue in settings["queues"] for cpu in queue["mask"]})

@@ -3,6 +3,7 @@
 from __future__ import annotations
 
 import argparse
+import json
 import os
 import shlex
 import shutil
@@ -10,7 +11,7 @@ import sys
 import tempfile
 from typing import Iterator, NoReturn, Sequence
 
-from .. import best, cli, numbers, plan, progress, remap_words, schedule, tables, trial, waits
+from .. import best, cli, limits, numbers, plan, progress, remap_words, schedule, tables, trial, waits
 
 DESCRIPTION = """\
 Tries settings of PLAN over CAPTURE at a rate of service, and shows them with the best one first:
@@ -77,13 +78,26 @@ def add_settings(parser: argparse.ArgumentParser) -> None:
     parser.add_argument("--table", metavar="TABLE", action="append", default=[],
                         help="a redirection table: equal:N, weight:W0,W1,.. or default; may be "
                              "repeated")
-    parser.add_argument("--flows", metavar="N,N,..", action="append", default=[],
+    parser.add_argument("--flows", metavar="N,N,..", action="extend", default=[], type=counts,
                         help="flow counts of each queue (rps_flow_cnt); 0 is no RFS")
     parser.add_argument("--backlog", metavar="N,N,..", action="append", default=[],
                         help="lengths of a backlog (netdev_max_backlog)")
-    parser.add_argument("--set", metavar="WORDS", action="append", default=[],
+    parser.add_argument("--set", metavar="WORDS", action="append", default=[], type=parts,
                         help="settings as steer-set takes them, several with blanks between; may "
                              "be repeated, and one of them is in force at a time")
+
+
+def counts(text: str) -> list[int]:
+    """The type of N,N,..: flow counts."""
+    return [numbers.whole_number(0, limits.MOST_FLOWS)(part) for part in text.split(",")]
+
+
+def parts(text: str) -> best.Words:
+    """The type of words with blanks between them, where quotation marks keep some together."""
+    try:
+        return tuple(shlex.split(text))
+    except ValueError as fault:
+        raise argparse.ArgumentTypeError("%s: %s" % (text, fault)) from None
 
 
 def check(told: argparse.Namespace) -> None:
@@ -108,20 +122,23 @@ def tried(told: argparse.Namespace, question: best.Question) -> list[best.Words]
     if not named and told.least is None:
         masks = best.masks_of(settings)
     tables_of = ["equal:" + queues for queues in split(told.queues)] + told.table
-    flows = [numbers.whole_number(0)(text) for text in split(told.flows)]
-    parts: list[list[best.Words]] = [
+    kinds: list[list[best.Words]] = [
         [(best.MASK + mask,) for mask in masks], [("indir=" + name,) for name in tables_of],
-        [best.flow_words(settings, count) for count in flows],
+        [best.flow_words(settings, count) for count in dict.fromkeys(told.flows)],
         [(best.BACKLOG + length,) for length in split(told.backlog)],
-        [tuple(shlex.split(text)) for text in told.set]]
-    combinations = best.choices([part for part in parts if part])
+        list(told.set)]
+    combinations = best.choices([kind for kind in kinds if kind])
     if len(combinations) > best.MOST_TRIED:
         raise cli.WrongWords("%d settings, and at most %d are tried"
                              % (len(combinations), best.MOST_TRIED))
-    plans = {repr(best.plan_with(question, words)): words
-             for words in reversed(combinations + [()])}
+    plans = {sense(words, question): words for words in reversed(combinations + [()])}
     kept = set(plans.values())
     return [words for words in dict.fromkeys(combinations + [()]) if words in kept]
+
+
+def sense(words: best.Words, question: best.Question) -> str:
+    """What the plan with these settings says, as text."""
+    return json.dumps(best.sense_of(best.plan_with(question, words)), sort_keys=True)
 
 
 def attempt(words: best.Words, question: best.Question) -> best.Result:
@@ -136,7 +153,7 @@ def attempt(words: best.Words, question: best.Question) -> best.Result:
 
 def label(row: best.Row, question: best.Question) -> str:
     """How a row names its setting."""
-    plain = best.plan_with(question, row.words) == best.plan_with(question, ())
+    plain = sense(row.words, question) == sense((), question)
     words = " ".join(row.words)
     return ("%s (as it is)" % words).strip() if plain else words
 
