@@ -155,7 +155,7 @@ def smallest(probe: Callable[[int], Row], start: int, low: int, high: int,
             below, at_least = row, value
             if found is None and value == high:
                 return Least(None, row)
-            value = min(high, 2 * value)
+            value = min(high, max(1, 2 * value))
         else:
             found, at_most = row, value
             if below is None and value == low:
@@ -172,10 +172,13 @@ def smallest(probe: Callable[[int], Row], start: int, low: int, high: int,
 
 
 def least_backlog(words: Words, rate: float, question: Question) -> Least:
-    """The smallest backlog without drops, to the packet."""
-    start = plan_with(question, words).get("backlog", plan.DEFAULTS["backlog"])
+    """The smallest netdev_max_backlog without drops, to the packet.
+
+    The backlog of the plan has room for one packet more, as a kernel's has.
+    """
+    start = plan_with(question, words).get("backlog", plan.DEFAULTS["backlog"]) - 1
     return smallest(lambda value: trial(words + (BACKLOG + "%d" % value,), rate, question),
-                    start, 1, limits.MOST_BACKLOG, True)
+                    start, 0, limits.MOST_BACKLOG - 1, True)
 
 
 def least_rate(words: Words, rate: float, question: Question) -> Least:

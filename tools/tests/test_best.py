@@ -65,14 +65,14 @@ class Rows(unittest.TestCase):
             "rx-*/rps_cpus=f", "rx-*/rps_cpus=e (as it is)", "rx-*/rps_cpus=2"])
         self.assertEqual(rows, sorted(rows, key=lambda row: row[0]))
         self.assertEqual(rows[1][0], int(drops_of_steps(PLAN, WEB, *LOAD)))
-        self.assertTrue(lines[-5].startswith("by the manual's choice"), lines)
+        self.assertTrue(lines[-5].startswith("by the manual's rule"), lines)
         self.assertEqual([line.partition(":")[0] for line in lines[-4:]], [
             "not known, readers", "not known, other traffic", "not known, TCP",
             "not known, cost"])
 
     def test_by_a_kernels_rule(self):
         rows, lines = self.check_again(*LOAD, "--mask", "6,e", "--kernel")
-        self.assertTrue(lines[-5].startswith("by a kernel's choice"), lines)
+        self.assertTrue(lines[-5].startswith("by a kernel's rule"), lines)
         _, by_manual, _ = answered(WEB, PLAN, *LOAD, "--mask", "6,e")
         self.assertNotEqual(sorted(rows), sorted(rows_of(by_manual)))
 
@@ -108,7 +108,8 @@ class Search(unittest.TestCase):
                 (16, 30, 1, 65536, (30, 29)), (1000, 30, 1, 65536, (30, 29)),
                 (30, 30, 1, 65536, (30, 29)), (29, 30, 1, 65536, (30, 29)),
                 (5, 1, 1, 65536, (1, None)), (1, 1, 1, 9, (1, None)),
-                (7, 65537, 1, 65536, (None, 65536)), (65536, 65536, 1, 65536, (65536, 65535))):
+                (7, 65537, 1, 65536, (None, 65536)), (65536, 65536, 1, 65536, (65536, 65535)),
+                (0, 3, 0, 65535, (3, 2)), (9, 0, 0, 65535, (0, None)), (0, 0, 0, 9, (0, None))):
             asked = []
 
             def probe(value):

@@ -244,8 +244,7 @@ def screen(told: argparse.Namespace, results: Sequence[best.Result],
     for number, row in enumerate(rows, 1):
         yield "%d again: %s" % (number, line_of(row, told, number))
     yield ""
-    yield ("by a kernel's choice of a mask's member (docs/kernel.md)" if told.kernel else
-           "by the manual's choice of a mask's member; a kernel's is another (--kernel)")
+    yield trial.KERNEL if told.kernel else trial.MANUAL + "; --kernel goes by its rule"
     for text in UNKNOWN:
         yield "not known, " + text
 
@@ -255,11 +254,12 @@ def main(words: list[str]) -> int:
     load = schedule.Load(told.pps, told.cpu, told.reads, told.replies, told.speed)
     shown = cli.source_name(told.capture)
     settings = plan.read_plan(told.plan)
-    schedule.say_about(settings, told.plan, load)
     with schedule.plain_file(told.capture) as capture, \
             tempfile.TemporaryDirectory(prefix="steer-best-") as work:
         times = schedule.times_of(capture, shown)
         schedule.check_fit(times, load, shown, "; steer-cap --count takes them")
+        for text in schedule.notes_about(settings, load, capture, told.kernel):
+            cli.note("%s: %s" % (told.plan, text))
         question = best.Question(cli.read_bytes(told.plan), told.plan, capture, shown, times, load,
                                  told, work)
         some = tried(told, question)
