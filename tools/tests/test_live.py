@@ -27,6 +27,7 @@ def setUpModule():
         pair.check_wants()
         with contextlib.ExitStack() as leaving:
             leaving.enter_context(pair.alone())
+            leaving.enter_context(pair.ended_well())
             leaving.enter_context(pair.urgent())
             with pair.Pair(1) as made, pair.on(pair.processors()[0]):
                 flow = frames.Flow(frames.UDP, bytes(4), TARGETS[4], 1, 1)

@@ -10,6 +10,7 @@ import functools
 import glob
 import os
 import shutil
+import signal
 import socket
 import subprocess
 import tempfile
@@ -24,7 +25,9 @@ SEND_BUFFER, RECEIVE_BUFFER = 32, 33    # SO_SNDBUFFORCE, SO_RCVBUFFORCE
 NO_CHECKSUM = 102       # UDP_NO_CHECK6_RX
 ALL, IPV4, IPV6 = 0x0003, 0x0800, 0x86DD
 PATIENCE = 5.0      # seconds that a frame may take
-LOCK = "/run/steer-live.lock"
+NAMESPACES = "steer-live-"
+SETTINGS = "/proc/sys/net/core/"
+LOCK, BEFORE = "/run/steer-live.lock", "/run/steer-live.before"
 LONGEST_WAIT = 60.0
 ROOM = 1 << 26      # bytes that wait in a socket
 SENDER, RECEIVER = "steer0", "steer1"
@@ -130,7 +133,7 @@ class Pair:
 
     def __init__(self, queues):
         self.queues = queues
-        self.names = ["steer-live-%d-%s" % (os.getpid(), end) for end in "ab"]
+        self.names = ["%s%d-%s" % (NAMESPACES, os.getpid(), end) for end in "ab"]
         self.closing = contextlib.ExitStack()
 
     def __enter__(self):
@@ -274,7 +277,33 @@ def alone():
             time.sleep(0.1)
         else:
             raise Unavailable("another process keeps %s locked" % LOCK)
+        _clear()
         yield
+
+
+def _clear():
+    """Puts back what a process that was killed has left."""
+    for name in glob.glob("/run/netns/%s*" % NAMESPACES):
+        command("ip", "netns", "del", os.path.basename(name))
+    if os.path.exists(BEFORE):
+        with open(BEFORE, encoding="ascii") as stream:
+            for line in stream:
+                name, _, value = line.strip().partition(" ")
+                with open(SETTINGS + name, "w", encoding="ascii") as setting:
+                    setting.write(value + "\n")
+        os.remove(BEFORE)
+
+
+@contextlib.contextmanager
+def ended_well():
+    """Signals that end this process are an interrupt first, so that all is put back."""
+    before = {number: signal.signal(number, signal.default_int_handler)
+              for number in (signal.SIGTERM, signal.SIGHUP)}
+    try:
+        yield
+    finally:
+        for number, handler in before.items():
+            signal.signal(number, handler)
 
 
 class Unsettable(Exception):
@@ -293,14 +322,18 @@ def set_machine(**values):
     """
     with contextlib.ExitStack() as closing:
         streams = {}
-        for name, value in values.items():
-            try:
-                stream = closing.enter_context(open("/proc/sys/net/core/" + name, "r+"))
-                closing.callback(_rewrite, stream, stream.read().strip())
-                _rewrite(stream, value)
-            except OSError as fault:
-                raise Unsettable("%s: %s" % (name, fault.strerror)) from None
-            streams[name] = stream
+        try:
+            for name in values:
+                streams[name] = closing.enter_context(open(SETTINGS + name, "r+"))
+            before = {name: stream.read().strip() for name, stream in streams.items()}
+            with open(BEFORE, "w", encoding="ascii") as kept:
+                kept.writelines("%s %s\n" % each for each in before.items())
+            closing.callback(os.remove, BEFORE)
+            for name, stream in streams.items():
+                closing.callback(_rewrite, stream, before[name])
+                _rewrite(stream, values[name])
+        except OSError as fault:
+            raise Unsettable("%s: %s" % (fault.filename or name, fault.strerror)) from None
         try:
             yield
         finally:
