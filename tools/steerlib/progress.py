@@ -2,29 +2,62 @@
 
 from __future__ import annotations
 
+import sys
 import time
 
 from . import cli
 
 PATIENCE = 2.0
+TO_LINE_START = "\r\x1b[K"      # and what is on the line is erased
 
 
 class Progress:
     """Counts work of a known amount; says each two seconds how much is done, and how long it takes.
 
-    What is left is taken to be as fast as what is done.
+    What is left is taken to be as fast as what is done. A terminal has it all on one line, which
+    `end` erases; elsewhere each is a line, or nothing is said with `only_terminal`.
     """
 
-    def __init__(self, what: str, total: int) -> None:
+    def __init__(self, what: str, total: int, only_terminal: bool = False) -> None:
         self.what = what
         self.total = total
         self.begun = self.told = time.monotonic()
+        self.terminal = sys.stderr is not None and sys.stderr.isatty()
+        self.silent = only_terminal and not self.terminal
+        self.shown = False
 
     def at(self, done: int) -> None:
         """Says how much is done, where two seconds went by since the last time."""
         now = time.monotonic()
-        if now - self.told >= PATIENCE:
-            self.told = now
-            rest = (now - self.begun) * (self.total - done) / done if done else 0
-            cli.say("%s: %d of %d%s" % (self.what, done, self.total,
-                                        ", about %.0f s more" % rest if rest >= 1 else ""))
+        if self.silent or now - self.told < PATIENCE:
+            return
+        self.told = now
+        rest = (now - self.begun) * (self.total - done) / done if done else 0
+        text = "%s: %d of %d%s" % (self.what, done, self.total,
+                                   ", about %s more" % time_text(rest) if rest >= 1 else "")
+        if self.terminal:
+            self._write(TO_LINE_START + text)
+            self.shown = True
+        else:
+            cli.say(text)
+
+    def end(self) -> None:
+        """Erases the line of a terminal."""
+        if self.shown:
+            self._write(TO_LINE_START)
+            self.shown = False
+
+    def _write(self, text):
+        try:
+            sys.stderr.write(text)
+            sys.stderr.flush()
+        except (OSError, ValueError):
+            pass
+
+
+def time_text(seconds: float) -> str:
+    """A time to go: `40 s`, `12 min`, `3 h 20 min`."""
+    if seconds < 120:
+        return "%.0f s" % seconds
+    minutes = round(seconds / 60)
+    return "%d min" % minutes if minutes < 120 else "%d h %d min" % divmod(minutes, 60)

@@ -8,6 +8,7 @@ from __future__ import annotations
 
 import os
 import re
+import secrets
 import shlex
 import signal
 import statistics
@@ -17,15 +18,16 @@ from concurrent.futures.process import BrokenProcessPool
 from typing import Any, Callable, Dict, Iterator, NamedTuple, Sequence, Tuple, Union
 from urllib.parse import quote, unquote
 
-from . import cli, limits, numbers, remap, remap_files, report, schedule, tables, waits
+from . import cli, limits, numbers, outcomes, remap, remap_files, schedule, tables, waits
+from .outcomes import TIMES, Outcome, outcome_of, outcome_or_text
 from .plan import Plan
 
 SEED, RATE = "seed", "pps"
 STEPS_PER_PACKET = 4
-REPORT, REFUSED, TIMES = ".report", ".refused", ".times"
 MANUAL = "by the manual's rule, hash modulo size; a kernel picks other members (docs/kernel.md)"
 KERNEL = "by a kernel's rule, the hash scaled (docs/kernel.md)"
 EITHER = "by the manual's rule, hash modulo size, or in trials with --kernel by a kernel's"
+REPORT, REFUSED, RESULT = ".report", ".refused", ".result"
 
 
 class Trial(NamedTuple):
@@ -47,7 +49,8 @@ class Setting(NamedTuple):
 
     `capture` is a file that steer reads, which messages name `shown`; `times` are those of its
     packets, or None; `load` is without its rate; `work` is a folder for what is made underway, and
-    `folder`, on the same disk, the one where the reports are kept, or None.
+    `folder`, on the same disk, the one where the reports are kept, or None. `results` is the folder
+    where lines of results are kept, or None, and `question` the digest of what all trials share.
     """
 
     capture: str
@@ -57,38 +60,15 @@ class Setting(NamedTuple):
     load: schedule.Load | None
     work: str
     folder: str | None
-
-
-class Outcome(NamedTuple):
-    """What a report says in one line; `offered` are the packets of each processor, with drops.
-
-    `waits` are those of a schedule by times, else None.
-    """
-
-    packets: int
-    drops: int
-    moves: int
-    offered: list[int]
-    waits: waits.Waits | None
+    results: str | None = None
+    question: str = ""
 
 
 # A plan with what was found for each kind and value; a plan's label with that for each value.
 Row = Tuple[str, Dict[Tuple[str, float], Union[Outcome, str]]]
 ValueRow = Tuple[str, Dict[float, Union[Outcome, str]]]
 
-_NAME = re.compile(r"(.+)\.(seed|pps)-([0-9.e+-]+)(\.report|\.refused)")
-
-
-def outcome_of(name: str) -> Outcome:
-    """The Outcome that the report in the file `name` has, and the file of times beside it."""
-    rep = report.read_file(name)
-    beside = os.path.splitext(name)[0] + TIMES
-    found = None
-    if os.path.exists(beside):
-        found = waits.of_report(waits.read_file(beside), rep, beside)
-    return Outcome(rep.end.total, sum(row.dropped for row in rep.cpus),
-                   sum(packet.why in report.MOVES for packet in rep.packets),
-                   [row.accepted + row.dropped for row in rep.cpus], found)
+_NAME = re.compile(r"(.+)\.(seed|pps)-([0-9.e+-]+)(\.report|\.refused|\.result)")
 
 
 def report_name(trial: Trial) -> str:
@@ -144,7 +124,7 @@ def _replay(trial, setting, folder):
 def _keep(trial, folder, name, ending):
     """Moves a file into the folder of reports, where it appears whole under its name."""
     target = os.path.join(folder, report_name(trial))
-    for old in (REPORT, REFUSED, TIMES):
+    for old in (RESULT, REPORT, REFUSED, TIMES):
         if old != ending and os.path.exists(target + old):
             os.remove(target + old)
     if os.path.exists(name + TIMES):
@@ -152,8 +132,44 @@ def _keep(trial, folder, name, ending):
     os.replace(name, target + ending)
 
 
+def question_of(trial: Trial, setting: Setting) -> str:
+    """The digest of all that a trial is made of."""
+    drawn = trial.options and trial.options.seed
+    return outcomes.digest(setting.question, trial.settings, trial.kind, trial.value, drawn)
+
+
+def keep_line(trial: Trial, setting: Setting, outcome: Outcome | str) -> None:
+    """Keeps the line of a trial, or why it was refused, in place of what was there of it."""
+    if setting.results is None:
+        return
+    target = os.path.join(setting.results, report_name(trial))
+    if isinstance(outcome, str):
+        ending, text = REFUSED, outcome + "\n"
+    else:
+        ending, text = RESULT, outcomes.line_of(outcome, question_of(trial, setting))
+    for old in (RESULT, REFUSED):
+        if old != ending and os.path.exists(target + old):
+            os.remove(target + old)
+    made = os.path.join(setting.results, ".new-" + secrets.token_hex(8))
+    with open(made, "x", encoding="utf-8") as out:
+        out.write(text)
+    os.replace(made, target + ending)
+
+
+def kept_before(trial: Trial, setting: Setting) -> Outcome | None:
+    """The Outcome that an earlier call kept of the same trial, or None."""
+    name = os.path.join(setting.results or "", report_name(trial) + RESULT)
+    if isinstance(trial.settings, Exception) or not os.path.exists(name):
+        return None
+    try:
+        outcome, question = outcomes.read_line(name)
+    except cli.NotThatFile:
+        return None
+    return outcome if question == question_of(trial, setting) else None
+
+
 def attempt(trial: Trial, setting: Setting) -> Outcome | str:
-    """The Outcome of a trial, or the text of why it was refused; its report is kept if asked."""
+    """The Outcome of a trial, or the text of why it was refused; both are kept where asked."""
     with tempfile.TemporaryDirectory(dir=setting.work) as work:
         try:
             name = _replay(trial, setting, work)
@@ -165,15 +181,8 @@ def attempt(trial: Trial, setting: Setting) -> Outcome | str:
                 out.write("%s\n" % fault)
         if setting.folder is not None:
             _keep(trial, setting.folder, name, REFUSED if isinstance(outcome, str) else REPORT)
+    keep_line(trial, setting, outcome)
     return outcome
-
-
-def outcome_or_text(name: str) -> Outcome | str:
-    """The Outcome of a report in a file, or the text of why it has none."""
-    try:
-        return outcome_of(name)
-    except (cli.Refused, cli.NotThatFile) as fault:
-        return str(fault)
 
 
 def _end_at_interrupt():
@@ -218,35 +227,47 @@ def at_once(function: Callable[..., Any], jobs: int, arguments: Sequence[Sequenc
 
 
 def commands(program: str, capture: str, plans: list[str], values: list[tuple[str, str]],
-             words: list[str], folder: str) -> Iterator[str]:
-    """A command a line for each plan and value, which leaves the report in `folder`.
+             words: list[str]) -> Iterator[str]:
+    """A command a line for each plan and value.
 
     `values` are pairs of an option and its value; `words` are further words of the user's.
     """
     for plan in plans:
         for option, value in values:
-            line = [program, capture, option, value] + words + ["--jobs", "1", "--reports", folder]
-            yield " ".join(shlex.quote(word) for word in line + [plan])
+            line = [program, capture, option, value] + words + ["--jobs", "1", plan]
+            yield " ".join(shlex.quote(word) for word in line)
+
+
+def _line_or_text(name):
+    """The Outcome of a kept line, or the text of why it has none."""
+    try:
+        return outcomes.read_line(name)[0]
+    except cli.NotThatFile as fault:
+        return str(fault)
 
 
 def collected(folder: str, jobs: int) -> list[Row]:
-    """What the reports in a folder say: rows of (plan, {(kind, value): outcome or text}).
+    """What the reports and lines in a folder say: rows of (plan, {(kind, value): outcome or text}).
 
-    The plans are in the order of their names. Refused where two reports are of captures of
-    different lengths.
+    The plans are in the order of their names; a line counts before a report. Refused where two are
+    of captures of different lengths.
     """
     names = [(name, trial_of(name)) for name in sorted(os.listdir(folder))]
-    reports = [(os.path.join(folder, name), trial) for name, trial in names if trial is not None]
-    if not reports:
+    kept = [(os.path.join(folder, name), trial) for name, trial in names if trial is not None]
+    if not kept:
         raise cli.Refused(folder, "it has no report of a trial")
-    whole = [(name,) for name, trial in reports if trial[3] == REPORT]
+    lines = {trial[:3] for _, trial in kept if trial[3] == RESULT}
+    whole = [(name,) for name, trial in kept if trial[3] == REPORT and trial[:3] not in lines]
     found = dict(zip((name for name, in whole), at_once(outcome_or_text, jobs, whole)))
     rows: dict[str, dict[tuple[str, float], Outcome | str]] = {}
-    for name, (plan, kind, value, ending) in reports:
+    for name, (plan, kind, value, ending) in kept:
         if ending == REFUSED:
             found[name] = cli.read_text(name).rstrip("\n")
-        rows.setdefault(plan, {})[kind, value] = found[name]
-    lengths = sorted({found[name].packets for name, in whole if not isinstance(found[name], str)})
+        elif ending == RESULT:
+            found[name] = _line_or_text(name)
+        if name in found:
+            rows.setdefault(plan, {})[kind, value] = found[name]
+    lengths = sorted({one.packets for one in found.values() if not isinstance(one, str)})
     if lengths[1:]:
         raise cli.Refused(folder, "it has reports of captures of %d and of %d packets"
                           % (lengths[0], lengths[-1]))

@@ -255,7 +255,8 @@ class Words(unittest.TestCase):
                 ([WEB, "-"], "standard input can only be the CAPTURE, and not with --commands"),
                 (["--commands", "--reports", "x", "-", "p"], "standard input can only be the "
                  "CAPTURE, and not with --commands"),
-                (["--commands", WEB, "p"], "--commands needs --reports FOLDER"),
+                (["--commands", WEB, "p"],
+                 "--commands needs --results FOLDER or --reports FOLDER"),
                 (["--read", WEB, "p"], "--cpu, --read, --reply and --speed go with --pps"),
                 (["--collect", "x", WEB], "--collect takes a folder, and neither files nor trials"),
                 (["--pps", "5", "--seeds", "2", WEB, "p"], "argument --seeds: not allowed with "
