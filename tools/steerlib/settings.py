@@ -69,13 +69,13 @@ def _numbers(word, text):
     return [int(part) for part in parts]
 
 
-def weighted(weights: list[int]) -> list[int]:
-    """The table that `ethtool -X DEV weight W0 W1 ..` makes: blocks of entries."""
+def weighted(weights: list[int], size: int = limits.TABLE_ENTRIES) -> list[int]:
+    """The table of this size that `ethtool -X DEV weight W0 W1 ..` makes: blocks of entries."""
     table: list[int] = []
     total, partial = sum(weights), 0
     for queue, weight in enumerate(weights):
         partial += weight
-        table += [queue] * (limits.TABLE_ENTRIES * partial // total - len(table))
+        table += [queue] * (size * partial // total - len(table))
     return table
 
 
