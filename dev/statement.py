@@ -97,7 +97,7 @@ def shown_definition(found, module, name, place="", note=""):
     """A definition: its comment with a note, and below it its own lines."""
     definition = found[module].definitions[name]
     words = " ".join(row[2:].strip() for row in definition.comment)
-    said = words or SAYINGS.get((module, name))
+    said = SAYINGS.get((module, name)) or words
     if not said:
         sys.exit(f"proof-map.py: {module}.{name} has no comment, and SAYINGS no sentence on it")
     scope = definition.scope

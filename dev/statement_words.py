@@ -24,8 +24,12 @@ PAGES = {
             (`headline/specs/Headline.Headline`). The field `right` of that is `IsRight i h`, where
             the input `i` is the plan and the packets that the bytes of the two files have, and `h`
             is the only history whose report the text is. Of `run PLAN CAPTURE` the field `right`
-            of `LiveHeadline` says the same. [8-theorem](../model/8-theorem.md) explains it field
-            by field, and says what is not promised."""),
+            of `LiveHeadline` says the same. `IsRight` reads lists. That these are the lists of
+            the run, that a packet is in no other application's inbox than its own, that no
+            transmit queue drops, and that counts, heads and `at` are those of the moment, is said
+            by the field `run` of the same `Headline`. Flows of one class move together, so a flow
+            is said to change its lane where its class does. [8-theorem](../model/8-theorem.md)
+            explains it field by field, and says what is not promised."""),
         "after": [],
     },
     "good-history": {
@@ -108,8 +112,8 @@ NOTATION = [
         says that there is such a value."""),
     joined("""
         A name with a capital letter is a statement (its type is `Type 0`) or a type, one with a
-        small letter a value. `≡` is equal, `×` and, `⊎` or, `→ ⊥` not, `↔` if and only if; `Unit`
-        and `⊤` always hold."""),
+        small letter a value. `≡` is equal, `≢` not equal, `×` and, `⊎` or, `→ ⊥` not, `↔` if and
+        only if; `Unit` and `⊤` always hold."""),
     joined("""
         `(x : ℕ) → P x`: for every x. `(x : ℕ) × P x`: there is an x. `λ x. e`: the function of
         x."""),
@@ -118,13 +122,15 @@ NOTATION = [
         upper limit and do not wrap; `zero` is 0, `suc n` is n + 1, and `a - b` is 0 where b is the
         greater."""),
     joined("""
-        `h.lanes` is the field `lanes` of h, and `record s { f = v }` is s with another value of f.
+        `h.lanes` is the field `lanes` of h, `record { f = v; .. }` makes a record, and
+        `record s { f = v }` is s with another value of f; a field without a name is `0`.
         [0-reading.md](../model/0-reading.md) has all of it with examples."""),
 ]
-# What a definition says that has no comment in its file.
+# What a definition says that has no comment of its own in its file.
 SAYINGS = {
     ("steer_base.specs.Drops", "offers_of"): "the packets that were put to a lane, in order",
     ("steer_base.specs.Entries", "is_class"): "whether the class of a choice is this one",
     ("steer_base.specs.Sets", "is_empty"): "whether a list has no member",
+    ("steer_base.specs.Sets", "with_cpu"): "a set with a processor more",
     ("steer_base.specs.Sets", "without_cpu"): "a set without one processor",
 }
