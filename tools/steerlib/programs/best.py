@@ -41,7 +41,7 @@ steer-best own.pcap plan.json --pps 20000 --table equal:4 --table weight:6,2
 steer-best own.pcap plan.json --pps 20000 --least backlog"""
 
 UNKNOWN = (
-    "readers: on which processor a packet is read is the plan's `apps`, and no part of a capture",
+    "readers: where a program reads is no part of a capture; it is the plan's `apps`, or --reader",
     "other traffic: each capture is one sample, so try several, and several rates",
     "TCP: senders slow down after a drop or a wait; recorded packets come as they came",
     "cost: each packet takes a processor 1/N s, whatever its size and its way")
