@@ -60,9 +60,10 @@ programs() {
     } >"$share/steer/version.txt"
 }
 
-# The first sentence of what a companion says of itself, for the head of its page.
+# What a companion is in a few words, by the first line of its module.
 purpose() {
-    sed -n "s/^| \`$1 [^|]*| [^|]*| \([^|]*\) |\$/\1/p" tools/README.md | sed -e 's/`//g' -e 1q
+    cat "tools/steerlib/programs/$(echo "${1#steer-}" | tr - _)"*.py |
+        sed -n '1s/^"""\(steer-[a-z]*[^:]*: \)\{0,1\}\(.*\)\."*$/\2/p'
 }
 
 manuals() {

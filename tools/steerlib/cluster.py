@@ -36,7 +36,8 @@ def _library(address):
 
 def _client(library, address):
     """A client of the scheduler; Refused where none answers."""
-    logging.getLogger("distributed").setLevel(logging.CRITICAL)
+    for name in ("distributed", "distributed.client"):
+        logging.getLogger(name).setLevel(logging.CRITICAL)
     try:
         client = library.Client("tcp://" + address, timeout=ENOUGH)
     except (OSError, ValueError) as fault:
