@@ -1,4 +1,8 @@
-"""The limits of a plan, as steer reads it."""
+"""The limits of a plan, as steer reads it, and those of a machine that steer-split takes apart."""
+
+from __future__ import annotations
+
+from typing import NamedTuple
 
 MOST_PROCESSORS = 32
 MOST_QUEUES = 16
@@ -23,3 +27,17 @@ MOST_NUMBER = 2 ** 64 - 1
 MOST_BYTES = 16777216
 MOST_BRACKETS = 127           # open at once
 MOST_BRACES = 2500000         # opening ones, wherever they stand
+
+
+class Most(NamedTuple):
+    """How many of each there may be; `members` are those of a list of processors or queues."""
+
+    processors: int
+    queues: int
+    transmit_queues: int
+    readers: int
+    members: int
+
+
+PLAN = Most(MOST_PROCESSORS, MOST_QUEUES, MOST_TRANSMIT_QUEUES, MOST_READERS, MOST_MEMBERS)
+WIDE = Most(1024, TABLE_ENTRIES, 1024, 1024, 1024)

@@ -46,7 +46,8 @@ def shown(value: jsontext.Value) -> str:
 class _Judge:
     """Walks a plan and gathers its `faults` and `notes`."""
 
-    def __init__(self):
+    def __init__(self, most):
+        self.most = most
         self.faults = []
         self.notes = []
 
@@ -84,8 +85,9 @@ class _Judge:
             return True
         return False
 
-    def numbers(self, value, offset, path, high, fewest=0, most=limits.MOST_MEMBERS):
+    def numbers(self, value, offset, path, high, fewest=0, most=None):
         """A list of whole numbers from 0 to `high`."""
+        most = self.most.members if most is None else most
         if not isinstance(value, jsontext.List):
             self.say(offset, path, "%s is no list of numbers, 0 to %d%s" % (
                 shown(value), high, hints.of_set(value)))
@@ -115,10 +117,10 @@ class _Judge:
                 shown(value), ", ".join(REQUIRED)))
             return
         of = self.members(value, offset, "", KEYS, REQUIRED)
-        for name, (low, high) in ONE_NUMBER.items():
+        for name, (low, high) in dict(ONE_NUMBER, cpus=(1, self.most.processors)).items():
             if name in of:
                 self.number(*of[name], name, low, high)
-        bounds = _bounds(of)
+        bounds = _bounds(of, self.most)
         self.queues(of, bounds)
         self.card(of, bounds)
         self.readers(of, bounds)
@@ -129,7 +131,7 @@ class _Judge:
         """`queues` and `tx`."""
         cpu, queue = bounds.highest["c"], bounds.highest["q"]
         names = ("home", "mask", "flows")
-        for path, inner in self.objects(*of["queues"], "queues", 1, limits.MOST_QUEUES,
+        for path, inner in self.objects(*of["queues"], "queues", 1, self.most.queues,
                                         names) if "queues" in of else ():
             if "home" in inner:
                 self.number(*inner["home"], path + "/home", 0, cpu)
@@ -137,13 +139,13 @@ class _Judge:
                 self.numbers(*inner["mask"], path + "/mask", cpu)
             if "flows" in inner:
                 self.number(*inner["flows"], path + "/flows", 0, limits.MOST_FLOWS)
-        for path, inner in self.objects(*of["tx"], "tx", 1, limits.MOST_TRANSMIT_QUEUES,
+        for path, inner in self.objects(*of["tx"], "tx", 1, self.most.transmit_queues,
                                         ("cpus", "queues")) if "tx" in of else ():
             if "cpus" in inner:
                 self.numbers(*inner["cpus"], path + "/cpus", cpu)
             if "queues" in inner:
                 self.numbers(*inner["queues"], path + "/queues", queue,
-                             most=limits.MOST_QUEUES)
+                             most=self.most.queues)
 
     def card(self, of, bounds):
         """`key` and `reta`."""
@@ -163,7 +165,7 @@ class _Judge:
         if "limited" in of:
             self.numbers(*of["limited"], "limited", cpu)
         if "apps" in of:
-            self.numbers(*of["apps"], "apps", cpu, 1, limits.MOST_READERS)
+            self.numbers(*of["apps"], "apps", cpu, 1, self.most.readers)
         for path, inner in self.objects(*of["detach"], "detach", 0, limits.MOST_TAPS,
                                         ("tap", "after")) if "detach" in of else ():
             if "tap" in inner:
@@ -200,17 +202,17 @@ class _Judge:
                                        judged[text]))
 
 
-def _bounds(of):
+def _bounds(of, most):
     """The bounds of the numbers in a plan; where it does not tell them, the most there may be."""
-    def size(name, most):
+    def size(name, highest):
         value = of.get(name, (None, 0))[0]
-        return len(value.values) if isinstance(value, jsontext.List) and value.values else most
+        return len(value.values) if isinstance(value, jsontext.List) and value.values else highest
     cpus = of.get("cpus", (None, 0))[0]
     if type(cpus) is not int or not 1 <= cpus <= 4096:
-        cpus = limits.MOST_PROCESSORS
-    return steps.Bounds(size("queues", limits.MOST_QUEUES), cpus,
-                        size("apps", limits.MOST_READERS),
-                        size("tx", limits.MOST_TRANSMIT_QUEUES))
+        cpus = most.processors
+    return steps.Bounds(size("queues", most.queues), cpus,
+                        size("apps", most.readers),
+                        size("tx", most.transmit_queues))
 
 
 def _too_much(data):
@@ -223,8 +225,12 @@ def _too_much(data):
     return None
 
 
-def judge(data: bytes) -> tuple[str, jsontext.Value, list[Fault], list[str]]:
-    """The text of a plan's bytes, its value (None where there is none), its faults and notes."""
+def judge(data: bytes, most: limits.Most = limits.PLAN
+          ) -> tuple[str, jsontext.Value, list[Fault], list[str]]:
+    """The text of a plan's bytes, its value (None where there is none), its faults and notes.
+
+    `most` is what the plan may have of processors, queues and readers.
+    """
     too_much = _too_much(data)
     if too_much:
         return "", None, [Fault(0, None, too_much)], []
@@ -242,7 +248,7 @@ def judge(data: bytes) -> tuple[str, jsontext.Value, list[Fault], list[str]]:
         hint = hints.of_json(text, fault.offset, fault.reason)
         return text, None, [Fault(fault.offset, None,
                                   fault.reason + ("; " + hint if hint else ""))], []
-    walk = _Judge()
+    walk = _Judge(most)
     walk.plan(value, offset)
     walk.faults.sort(key=lambda fault: fault.offset)
     return text, value, walk.faults, walk.notes

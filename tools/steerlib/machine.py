@@ -17,9 +17,14 @@ from .snapshot import Snapshot
 
 
 class Machine:
-    """The settings of a snapshot in the machine's own numbers of processors."""
+    """The settings of a snapshot in the machine's own numbers of processors.
 
-    def __init__(self, snapshot: Snapshot, findings: Findings) -> None:
+    `most` is what a plan may have of processors, queues and readers.
+    """
+
+    def __init__(self, snapshot: Snapshot, findings: Findings,
+                 most: limits.Most = limits.PLAN) -> None:
+        self.most = most
         self.snapshot = snapshot
         self.findings = findings
         self.online = snapshot.cpus("online")
@@ -50,9 +55,9 @@ class Machine:
         return text or "0"
 
     def _queues(self) -> None:
-        if len(self.receive) > limits.MOST_QUEUES:
+        if len(self.receive) > self.most.queues:
             self.findings.refuse("%d receive queues, and a plan has at most %d"
-                                 % (len(self.receive), limits.MOST_QUEUES))
+                                 % (len(self.receive), self.most.queues))
         self.masks, self.flows = [], []
         self.unread: dict[str, list[int]] = {}
         offline: dict[tuple[int, ...], list[int]] = {}
@@ -109,9 +114,9 @@ class Machine:
                                CHANGES)
 
     def _maps(self) -> None:
-        if len(self.transmit) > limits.MOST_TRANSMIT_QUEUES:
+        if len(self.transmit) > self.most.transmit_queues:
             self.findings.refuse("%d transmit queues, and a plan has at most %d"
-                                 % (len(self.transmit), limits.MOST_TRANSMIT_QUEUES))
+                                 % (len(self.transmit), self.most.transmit_queues))
         self.by_processor: list[list[int]] = []
         self.by_queue: list[list[int]] = []
         absent: dict[tuple[int, ...], list[int]] = {}
@@ -163,25 +168,25 @@ class Machine:
         """The processor of each reader; `core` are the processors of masks and homes."""
         if said is not None:
             return said
-        if len(self.online) <= limits.MOST_READERS:
+        if len(self.online) <= self.most.readers:
             self.findings.note("readers taken to be one on each online processor (say --apps "
                                "LIST)", GUESSED)
             return self.online
         self.findings.note("readers taken to be one on each processor of the masks and homes "
                            "(say --apps LIST)", GUESSED)
-        return core[:limits.MOST_READERS]
+        return core[:self.most.readers]
 
     def numbering(self, core: list[int], apps: list[int]) -> dict[int, int]:
         """The number in the plan of each processor that is used there."""
         used = set(core) | set(apps)
         mapped = set(cpu for cpus in self.by_processor for cpu in cpus)
         highest = max(used | mapped | set(self.online))
-        if highest < limits.MOST_PROCESSORS:
+        if highest < self.most.processors:
             used = set(range(highest + 1))
         self._left_out(mapped - used, "xps_cpus have no reader")
-        if len(used) > limits.MOST_PROCESSORS:
+        if len(used) > self.most.processors:
             self.findings.refuse("%d processors in masks, homes and readers, and a plan has at "
-                                 "most %d" % (len(used), limits.MOST_PROCESSORS))
+                                 "most %d" % (len(used), self.most.processors))
         numbers = {cpu: number for number, cpu in enumerate(sorted(used))}
         if any(cpu != number for cpu, number in numbers.items()):
             self.findings.note("processors renumbered: " + " ".join(
@@ -239,13 +244,14 @@ def _warn(snapshot, plan, findings):
 
 
 def plan_of(snapshot: Snapshot, apps: list[int] | None = None, home: dict[int, int] | None = None,
-            nearest: bool = False) -> tuple[Plan, Findings]:
+            nearest: bool = False, most: limits.Most = limits.PLAN) -> tuple[Plan, Findings]:
     """The plan of a snapshot, and the Findings; where these refuse, the plan is none.
 
-    `apps` is a list of processors, `home` a dict from receive queues to processors.
+    `apps` is a list of processors, `home` a dict from receive queues to processors. With limits
+    `most` that are wider than a plan's it is one for steer-split.
     """
     findings = Findings()
-    machine = Machine(snapshot, findings)
+    machine = Machine(snapshot, findings, most)
     chosen = machine.homes(home or {})
     core = sorted(set(chosen) | set(cpu for mask in machine.masks for cpu in mask))
     apps = machine.readers(apps, core)

@@ -7,6 +7,7 @@ from typing import Any, Dict
 
 from . import cli
 from . import jsontext
+from . import limits
 from . import lint
 
 # A plan with its keys: what is read from JSON.
@@ -20,23 +21,29 @@ VERIFICATION_KEY = ("6d5a56da255b0ec24167253d43a38fb0d0ca2bcbae7b30b4"
                     "77cb2da38030f20c6a42b73bbeac01fa")
 
 
-def read_plan(name: str) -> Plan:
+def read_plan(name: str, most: limits.Most = limits.PLAN) -> Plan:
     """The plan of the file `name` as dicts and lists, with the keys that it has.
 
-    NotThatFile where it is no JSON, Refused with the first fault where steer does not take it.
+    NotThatFile where it is no JSON, Refused with the first fault where steer does not take it, or
+    would not with the limits `most`.
     """
     with cli.open_bytes(name) as stream:
-        text, value, faults, notes = lint.judge(stream.read())
+        return plan_of(stream.read(), cli.source_name(name), most)
+
+
+def plan_of(data: bytes, shown: str, most: limits.Most = limits.PLAN) -> Plan:
+    """The plan of these bytes, as read_plan, of a file that messages name `shown`."""
+    text, value, faults, notes = lint.judge(data, most)
     if faults:
         first = faults[0]
         place = "%d:%d" % jsontext.Places(text).of(first.offset)
-        source = "%s:%s" % (cli.source_name(name), place)
+        source = "%s:%s" % (shown, place)
         if first.path is None:
             raise cli.NotThatFile(source, "no plan: " + first.reason)
         others = " (steer-lint shows all %d faults)" % len(faults) if faults[1:] else ""
         raise cli.Refused(source, "%s: %s%s" % (first.path, first.reason, others))
     for text in notes:
-        cli.note("%s: %s" % (cli.source_name(name), text))
+        cli.note("%s: %s" % (shown, text))
     return jsontext.plain(value)
 
 

@@ -103,11 +103,12 @@ def _rule(number, lines, queues, contexts, findings):
 def rules_of(snapshot: Snapshot, contexts: bool = False) -> tuple[dict[str, Any], Findings]:
     """The rules of a snapshot as the object that `steer place` reads, and the Findings.
 
-    With `contexts` a rule may lead to an RSS context, which `place` has not: its key `context`.
+    With `contexts` a rule may lead to an RSS context, which `place` has not: its key `context`,
+    and the card may have more queues than rules of `place`.
     """
     findings = Findings()
     queues = len(snapshot.queues["rx"])
-    if queues > limits.MOST_QUEUES:
+    if queues > limits.MOST_QUEUES and not contexts:
         findings.refuse("%d receive queues, and rules have at most %d"
                         % (queues, limits.MOST_QUEUES))
     lines = snapshot.ethtool("-n {}")
