@@ -11,15 +11,17 @@ import sys
 import tempfile
 from typing import Iterator, NoReturn, Sequence
 
-from .. import best, cli, limits, numbers, plan, progress, remap_words, schedule, tables, trial, waits
+from .. import best, cli, limits, numbers, plan, progress, remap_words, schedule, tables, trial
+from .. import waits
 
 DESCRIPTION = """\
 Tries settings of PLAN over CAPTURE at a rate of service, and shows them with the best one first:
 the one with the fewest drops, then the one where 99 of 100 packets wait the shortest time, then
 the one whose busiest processor has the fewest packets, then the one with the fewest moves.
 
-What is tried is each combination of the settings that are named, and the plan as it is. Where none
-is named, these are the masks of the first processor of the plan's masks, the first two, and so on.
+What is tried is each combination of the settings that are named, and the plan as it is. Where
+none is named, these are the masks of the first processor of the plan's masks, the first two, and
+so on, and then of twice as many up to all.
 All receive queues get the same mask and flow count. Each is a schedule as steer-steps makes it and
 a replay by steer, and each row has the command line that makes its numbers again.
 

@@ -13,8 +13,8 @@ and taps, and last a line of sums. Status 0 means that the reports are equal in 
 they differ. Positions and other numbers that differ in an otherwise equal line are only counted. A
 sum that changes exactly as the first of its line does (`pulled` as `accepted`) is not shown.
 
-With the times of both schedules (steer-steps --times) the first lines are the waits and the loads of
-processors that differ, as steer-top shows them; the status does not depend on them.
+With the times of both schedules (steer-steps --times) the first lines are the waits and the loads
+of processors that differ, as steer-top shows them; the status does not depend on them.
 
 A report does not name its capture: two captures with as many packets, and a cut as long, are not
 told apart."""

@@ -28,8 +28,8 @@ A processor serves all packets at one rate, whatever their size; a kernel takes 
 backlog by batches of 64, and a plan without masks has its backlog where a kernel has the ring of
 the card. So drops compare settings; they foretell no number on a machine (docs/kernel.md).
 
-A plan has at most 1,000,000 steps, and a packet up to 7. A longer capture is refused before any work;
-with --fit its first packets are taken, as many as fit, and written to OUT.
+A plan has at most 1,000,000 steps, and a packet up to 7. A longer capture is refused before any
+work; with --fit its first packets are taken, as many as fit, and written to OUT.
 
 With --kernel each packet goes to the processor that a kernel picks of a mask, by another capture
 that is written to OUT (steer-remap --help says how). The plan is for that capture and no other.
