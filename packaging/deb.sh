@@ -62,7 +62,8 @@ programs() {
 
 # What a companion is in a few words, by the first line of its module.
 purpose() {
-    cat "tools/steerlib/programs/$(echo "${1#steer-}" | tr - _)"*.py |
+    [ "$1" != steer-snap ] || echo "what a machine has set for a network device, as text"
+    cat 2>/dev/null "tools/steerlib/programs/$(echo "${1#steer-}" | tr - _)"*.py |
         sed -n '1s/^"""\(steer-[a-z]*[^:]*: \)\{0,1\}\(.*\)\."*$/\2/p'
 }
 
