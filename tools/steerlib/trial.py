@@ -1,11 +1,12 @@
-"""Trials: plans over one capture, each with some seeds or at some rates, and a table of them.
+"""Trials: plans over one capture with seeds, at rates or by keys, and a table of them.
 
 A trial is independent of all others, so they run in any order, at once, or on other machines;
-what one leaves is a report, whose name says the plan and the seed or the rate.
+what one leaves is a report, whose name says the plan and the seed, the rate or the key.
 """
 
 from __future__ import annotations
 
+import hashlib
 import os
 import re
 import secrets
@@ -22,7 +23,7 @@ from . import cli, limits, numbers, outcomes, remap, remap_files, schedule, tabl
 from .outcomes import TIMES, Outcome, outcome_of, outcome_or_text
 from .plan import Plan
 
-SEED, RATE = "seed", "pps"
+SEED, RATE, KEY = "seed", "pps", "key"
 STEPS_PER_PACKET = 4
 MANUAL = "by the manual's rule, hash modulo size; a kernel picks other members (docs/kernel.md)"
 KERNEL = "by a kernel's rule, the hash scaled (docs/kernel.md)"
@@ -31,9 +32,9 @@ REPORT, REFUSED, RESULT = ".report", ".refused", ".result"
 
 
 class Trial(NamedTuple):
-    """One trial: the name of the plan's file, what it has, and the seed or packets a second.
+    """One trial: the plan's file, what it has, and the seed, packets a second or drawn key.
 
-    `settings` is an exception where there are none, which says why. `kind` is SEED or RATE.
+    `settings` is an exception where there are none, which says why. `kind` is SEED, RATE or KEY.
     `options` are those of a remap where the choices are to be a kernel's.
     """
 
@@ -68,7 +69,7 @@ class Setting(NamedTuple):
 Row = Tuple[str, Dict[Tuple[str, float], Union[Outcome, str]]]
 ValueRow = Tuple[str, Dict[float, Union[Outcome, str]]]
 
-_NAME = re.compile(r"(.+)\.(seed|pps)-([0-9.e+-]+)(\.report|\.refused|\.result)")
+_NAME = re.compile(r"(.+)\.(seed|pps|key)-([0-9.e+-]+)(\.report|\.refused|\.result)")
 
 
 def report_name(trial: Trial) -> str:
@@ -83,10 +84,15 @@ def trial_of(name: str) -> tuple[str, str, float, str] | None:
         return None
     plan, kind, value, ending = found.groups()
     try:
-        value = int(value) if kind == SEED else float(value)
+        value = float(value) if kind == RATE else int(value)
     except ValueError:
         return None
     return unquote(plan), kind, value, ending
+
+
+def drawn_key(number: int) -> str:
+    """The key of a card that is drawn for this number, as the digits of a plan: BLAKE2b of it."""
+    return hashlib.blake2b(b"%d" % number, digest_size=limits.KEY_DIGITS // 2).hexdigest()
 
 
 def packets_of(capture: str, shown: str) -> int:
@@ -105,6 +111,8 @@ def _replay(trial, setting, folder):
     if isinstance(trial.settings, Exception):
         raise trial.settings
     settings, capture = trial.settings, setting.capture
+    if trial.kind == KEY:
+        settings = dict(settings, key=drawn_key(int(trial.value)))
     if trial.options is not None:
         capture = os.path.join(folder, "kernel.pcap")
         settings = remap_files.remapped(settings, trial.plan, setting.capture, setting.shown,
@@ -113,6 +121,8 @@ def _replay(trial, setting, folder):
     if trial.kind == SEED:
         count = min(limits.MOST_COUNT, STEPS_PER_PACKET * setting.packets)
         replays.run({"seed": trial.value, "count": count})
+    elif trial.kind == KEY:
+        replays.run(["sweep"])
     else:
         load = setting.load._replace(rate=trial.value)
         agreed = schedule.timed_steps(replays, setting.times, load)
@@ -328,6 +338,24 @@ def seed_table(rows: list[ValueRow]) -> Iterator[str]:
                           [_seed_row(label, results.values()) for label, results in rows])
 
 
+def _key_row(label, results):
+    """The row of one plan's outcomes over keys."""
+    most = sorted(max(result.offered) for result in results if not isinstance(result, str))
+    if not most:
+        return (0, "refused", "-", "-", "-", label)
+    packets = [sum(result.offered) for result in results if not isinstance(result, str)]
+    middle = statistics.median(most)
+    return (len(most), most[0], numbers.number_text(middle), most[-1],
+            tables.share(middle, max(packets)), label)
+
+
+def key_table(rows: list[ValueRow]) -> Iterator[str]:
+    """Lines of the table over keys: the packets of the busiest processor, whichever it is."""
+    return tables.aligned(("keys", "least", "median", "most", "share",
+                           "plan (packets of the busiest processor)"),
+                          [_key_row(label, results.values()) for label, results in rows])
+
+
 def rate_table(rows: list[ValueRow], title: str,
                text_of: Callable[[Outcome], object]) -> Iterator[str]:
     """Lines of the table over rates, with `text_of` each outcome, `refused`, or `-` for none."""
@@ -348,8 +376,9 @@ def screen(rows: list[Row], rule: str = MANUAL) -> Iterator[str]:
 
     The last line is `rule`, by which the processors were picked.
     """
-    by_seed, by_rate = _of_kind(rows, SEED), _of_kind(rows, RATE)
+    by_seed, by_rate, by_key = (_of_kind(rows, kind) for kind in (SEED, RATE, KEY))
     parts = [seed_table(by_seed)] if by_seed else []
+    parts += [key_table(by_key)] if by_key else []
     if by_rate:
         parts += [rate_table(by_rate, "drops at packets/s", lambda outcome: outcome.drops),
                   rate_table(by_rate, "moves", lambda outcome: outcome.moves),

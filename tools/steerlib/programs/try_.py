@@ -13,7 +13,7 @@ from typing import Any, Iterator, NamedTuple, NoReturn, Sequence
 from .. import cli, cluster, numbers, outcomes, plan, progress, remap_words, schedule, trial
 
 DESCRIPTION = """\
-Replays each PLAN over CAPTURE, once for each seed or for each rate of service, and shows the plans
+Replays each PLAN over CAPTURE, once for each seed, rate of service or key, and shows the plans
 side by side: the drops, how often a flow left a processor (moves), and the processor with the most
 packets, dropped ones among them, with its share.
 
@@ -23,12 +23,16 @@ times of the capture, as steer-steps does, with the same further words, and show
 that 99 of 100 packets do not pass and the processor with the highest load, as steer-top --times
 does. Beside a report that is kept is a file of these times.
 
+--keys draws keys of the card, each from its number, in place of the plan's own, and shows how many
+packets the busiest processor gets, whichever it is: with the best key, in the middle, and with
+the worst, and the share of the one in the middle. Packets go where they go at first, without steps.
+
 --kernel gives each packet the processor that a kernel picks, as steer-remap does; its help says
 how, and steer-remap itself notes what cannot be had. The hashes that a kernel makes itself are
-drawn: --draws N shows a row for each of N draws, and without it each seed has its own. Where it
-adds processors, the steps of a seed name others than without --kernel.
+drawn: --draws N shows a row for each of N draws, and without it each seed or key has its own. Where
+it adds processors, the steps of a seed name others than without --kernel.
 
-Each plan with each seed or rate is a trial of its own, and trials may be divided over machines
+Each plan with each seed, rate or key is a trial of its own, and trials may be divided over machines
 (docs/site.md). --results keeps a line of each, and --resume makes only those that are not there yet
 of the same capture, plan and words. --dask has the workers of a Dask cluster make them. --part I/N
 makes the I-th of N equal parts, for an array of jobs, and --commands prints commands, a line each,
@@ -46,6 +50,7 @@ the status is then 3. CAPTURE may be packed as gz, xz or zst, and - is standard 
 EXAMPLE = """\
 steer-try own.pcap --pps 1000,2000,5000 --read a.json b.json
 steer-try own.pcap --seeds 20 a.json b.json
+steer-try own.pcap --keys 100 --kernel a.json b.json
 steer-try own.pcap --pps 1000,2000 --kernel --draws 5 a.json b.json
 steer-try own.pcap --pps 1000,2000 --results out --resume a.json b.json
 steer-try own.pcap --pps 1000,2000 --dask 10.0.0.1:8786 a.json b.json
@@ -61,8 +66,10 @@ def words_of(words: list[str]) -> argparse.Namespace:
                         help="the capture, and the plans, whose own steps are not used")
     kind = parser.add_mutually_exclusive_group()
     kind.add_argument("--seeds", metavar="N", type=numbers.seeds,
-                      help="the seeds 1 to N, or A-B for those from A to B (8 where neither this "
-                           "nor --pps is said)")
+                      help="the seeds 1 to N, or A-B for those from A to B (8 where none of "
+                           "these is said)")
+    kind.add_argument("--keys", metavar="N", type=numbers.seeds,
+                      help="the drawn keys 1 to N, or A-B for those from A to B")
     kind.add_argument("--pps", metavar="A,B,..", type=numbers.rates,
                       help="packets that a processor serves in a second")
     numbers.add_load(parser)
@@ -122,8 +129,8 @@ def part(text: str) -> tuple[int, int]:
 def check(told: argparse.Namespace) -> None:
     """Raises WrongWords where words do not go together."""
     if told.collect is not None:
-        if (told.files or told.seeds or told.pps or told.commands or told.reports or told.results
-                or told.part or told.dask or told.resume):
+        if (told.files or told.seeds or told.pps or told.keys or told.commands or told.reports
+                or told.results or told.part or told.dask or told.resume):
             raise cli.WrongWords("--collect takes a folder, and neither files nor trials")
         return
     if len(told.files) < 2:
@@ -175,7 +182,8 @@ def command_lines(told: argparse.Namespace) -> Iterator[str]:
     if told.pps:
         values = [("--pps", numbers.number_text(rate)) for rate in told.pps]
     else:
-        values = [("--seeds", "%d-%d" % (seed, seed)) for seed in told.seeds]
+        values = [("--keys" if told.keys else "--seeds", "%d-%d" % (number, number))
+                  for number in told.keys or told.seeds]
     for draw in [["--draws", "%d-%d" % (draw, draw)] for draw in told.draws or ()] or [[]]:
         yield from trial.commands(sys.argv[0], capture, plans, values, words + draw)
 
@@ -185,7 +193,8 @@ def part_lines(told: argparse.Namespace, words: list[str]) -> Iterator[str]:
     if told.pps:
         words = words + ["--pps", ",".join(numbers.number_text(rate) for rate in told.pps)]
     else:
-        words = words + ["--seeds", "%d-%d" % (told.seeds[0], told.seeds[-1])]
+        drawn = told.keys or told.seeds
+        words = words + ["--keys" if told.keys else "--seeds", "%d-%d" % (drawn[0], drawn[-1])]
     if told.draws:
         words += ["--draws", "%d-%d" % (told.draws[0], told.draws[-1])]
     for number in range(1, told.parts + 1):
@@ -233,7 +242,8 @@ class Wanted(NamedTuple):
 def wanted(told: argparse.Namespace) -> Wanted:
     """The trials that these words ask for."""
     drawn = [(name, draw) for name in told.files[1:] for draw in told.draws or (None,)]
-    kind, values = (trial.RATE, told.pps) if told.pps else (trial.SEED, told.seeds)
+    kind, values = ((trial.RATE, told.pps) if told.pps else
+                    (trial.KEY, told.keys) if told.keys else (trial.SEED, told.seeds))
     first, step = told.part or (1, 1)
     return Wanted(drawn, kind, values, range(first - 1, len(drawn) * len(values), step))
 
@@ -309,13 +319,13 @@ def trial_of(told: argparse.Namespace, name: str, draw: int | None, settings: An
             settings = fault
         else:
             options.seed = draw if draw is not None else (
-                int(value) if kind == trial.SEED else options.seed)
+                options.seed if kind == trial.RATE else int(value))
     return trial.Trial(label(name, draw), settings, kind, value, options)
 
 
 def main(words: list[str]) -> int:
     told = words_of(words)
-    told.seeds = told.seeds or (None if told.pps else range(1, 9))
+    told.seeds = told.seeds or (None if told.pps or told.keys else range(1, 9))
     if told.commands:
         for line in command_lines(told):
             print(line)
