@@ -42,4 +42,4 @@ _steer_companion() {
 complete -F _steer steer
 complete -F _steer_companion steer-aim steer-apply steer-best steer-cap steer-compare steer-diff \
     steer-draw steer-lint steer-page steer-plan steer-remap steer-rows steer-rules steer-set \
-    steer-snap steer-steps steer-top steer-try
+    steer-snap steer-split steer-steps steer-top steer-try

@@ -23,7 +23,8 @@ the processors to which those of flow_limit_cpu_bitmap put packets.
 What a plan cannot hold is refused by name and value: more than 16 receive queues, more than 32
 processors in use, a table that does not fold to 128 entries, another hash than Toeplitz over
 addresses and ports. Where processors above 31 are in use they are renumbered, and the map is
-noted as PLAN=MACHINE.
+noted as PLAN=MACHINE. --wide writes a plan of up to 128 queues and 1024 processors, which steer
+itself does not read and steer-split takes apart.
 The steps are one `sweep`; steer-steps makes a schedule from a capture's times.
 """
 EXAMPLE = """\
@@ -42,20 +43,22 @@ def words_of(arguments: list[str]) -> argparse.Namespace:
                         "these are over 32 one for each of the masks and homes")
     parser.add_argument("--home", metavar="Q=CPU,..", help="the processor that takes the "
                         "interrupts of receive queue Q, in place of what the interrupts say")
+    parser.add_argument("--wide", action="store_true", help="a plan for steer-split, with up to "
+                        "128 queues and 1024 processors")
     parser.add_argument("--nearest", action="store_true", help="take the first 128 entries of "
                         "a table that does not fold, and note how many hashes differ")
     return parser.parse_args(arguments)
 
 
-def readers(text: str, online: list[int]) -> list[int]:
+def readers(text: str, online: list[int], most: int) -> list[int]:
     """The list of --apps."""
     try:
         apps = processors.parse_list(text)
     except ValueError as fault:
         raise cli.WrongWords("--apps: %s" % fault) from None
-    if not 1 <= len(apps) <= limits.MOST_READERS:
+    if not 1 <= len(apps) <= most:
         raise cli.WrongWords("--apps %s: %d readers, and a plan has 1 to %d"
-                             % (text, len(apps), limits.MOST_READERS))
+                             % (text, len(apps), most))
     for cpu in apps:
         if cpu not in online:
             raise cli.WrongWords("--apps %s: processor %d is not online (%s is)"
@@ -85,9 +88,10 @@ def main(arguments: list[str]) -> int:
     words = words_of(arguments)
     read = snapshot.read_snapshot(words.snap)
     online = read.cpus("online")
-    apps = None if words.apps is None else readers(words.apps, online)
+    most = limits.WIDE if words.wide else limits.PLAN
+    apps = None if words.apps is None else readers(words.apps, online, most.readers)
     home = {} if words.home is None else named_homes(words.home, len(read.queues["rx"]), online)
-    made, findings = machine.plan_of(read, apps, home, words.nearest)
+    made, findings = machine.plan_of(read, apps, home, words.nearest, most)
     for text in findings.notes:
         cli.note(text)
     if findings.refusals:
