@@ -25,7 +25,8 @@ def function_end(lines, start, indent):
             return end
         if end == start and line.endswith("}"):
             return end
-        if not has_body and line.endswith((";", "{}")) and len(line) - len(line.lstrip()) <= len(indent) + 8:
+        is_shallow = len(line) - len(line.lstrip()) <= len(indent) + 8
+        if not has_body and line.endswith((";", "{}")) and is_shallow:
             return end
     return len(lines) - 1
 
@@ -80,7 +81,8 @@ def main():
     kinds = ["crates/*.rt", "crates/*.antt", "crates/*/README.md", "README.md"]
     listed = subprocess.run(["git", "ls-files", *kinds],
                             stdout=subprocess.PIPE, check=True, universal_newlines=True)
-    found = [fault for path in listed.stdout.split() if os.path.exists(path) for fault in faults(path)]
+    found = [fault for path in listed.stdout.split() if os.path.exists(path)
+             for fault in faults(path)]
     print("\n".join(found), end="\n" if found else "")
     sys.exit(1 if found else 0)
 

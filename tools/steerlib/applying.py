@@ -71,7 +71,8 @@ def bitmap_of(plan: Plan) -> list[int] | None:
     """
     wanted = sorted(set(plan.get("limited", DEFAULTS["limited"])))
     homes, put_to = [queue["home"] for queue in plan["queues"]], cautions.targets(plan)
-    bitmap = sorted({home for home, cpus in zip(homes, put_to) if cpus and set(cpus) <= set(wanted)})
+    bitmap = sorted({home for home, cpus in zip(homes, put_to)
+                     if cpus and set(cpus) <= set(wanted)})
     if not wanted:
         return []
     return bitmap if cautions.limited_by(bitmap, homes, put_to)[0] == wanted else None

@@ -214,8 +214,8 @@ def open_bytes(name: str, unpacked: bool = True) -> io.BufferedReader:
     """A buffered binary stream of the file `name`; `-` is standard input.
 
     Files that are packed as gz, xz or zst are opened through, but not with `unpacked` false. A
-    line, or a `peek`, of a pipe is there as soon as its bytes are, before the pipe ends. Raises NotThatFile where the file cannot
-    be opened, and the stream does where it cannot be read.
+    line, or a `peek`, of a pipe is there as soon as its bytes are, before the pipe ends. Raises
+    NotThatFile where the file cannot be opened, and the stream does where it cannot be read.
     """
     source = source_name(name)
     try:

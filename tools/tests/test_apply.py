@@ -148,7 +148,7 @@ class Undo(unittest.TestCase):
                                      for name in applying.SYSCTLS])
 
     def test_texts_that_are_no_values(self):
-        """A snapshot is what others sent; nothing of it but numbers and masks gets into a script."""
+        """Of a snapshot, which others sent, only numbers and masks get into a script."""
         with open(example("eth0.snap"), encoding="utf-8") as stream:
             text = stream.read()
         for old, new in (("rx 0 rps_cpus 00f0", "rx 0 rps_cpus $(reboot)"),

@@ -1,4 +1,4 @@
-"""Tests of waits and loads, by hand and by a second simulator that shares nothing with the first."""
+"""Tests of waits and loads, by hand and by a second simulator with no code of the first."""
 
 import heapq
 import json
