@@ -7,7 +7,7 @@ the readers that their flows can have, or an entry of the socket table.
 from __future__ import annotations
 
 import math
-from typing import Any, Iterable, Iterator, NamedTuple
+from typing import Iterable, Iterator, NamedTuple
 
 from . import cli, limits
 from . import plan as plans
@@ -140,7 +140,7 @@ def _readers(plan, queues, numbers, source):
     apps, size = plan["apps"], len(plan["apps"])
     wanted = {index: apps[index] for queue in queues for index in reached(plan, queue)}
     for fewer in range(min(size, limits.MOST_READERS), 0, -1):
-        found: dict[int, set[int]] = {}
+        found = {}
         for index, cpu in wanted.items():
             found.setdefault(index % fewer, set()).add(cpu)
         if size % fewer == 0 and all(len(cpus) == 1 for cpus in found.values()):
@@ -156,7 +156,7 @@ def _part(plan, queues, source):
     cpus = processors_of(plan, queues)
     numbers = {cpu: number for number, cpu in enumerate(cpus)}
     places = {queue: number for number, queue in enumerate(queues)}
-    made: dict[str, Any] = {name: value for name, value in plan.items() if name not in LEFT_OUT}
+    made = {name: value for name, value in plan.items() if name not in LEFT_OUT}
     made.update(
         cpus=len(cpus),
         queues=[{"home": numbers[queue["home"]], "flows": queue["flows"],

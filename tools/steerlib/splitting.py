@@ -56,6 +56,9 @@ def split(plan: plans.Plan, source: str, capture: str, folder: str) -> list[Name
     frames = remap_files.frames_of(capture, cli.source_name(capture))
     queues = queues_of(plan, frames)
     os.makedirs(folder, exist_ok=True)
+    for number in range(len(made)):
+        for ending in ("json", "pcap"):
+            remap_files.check_name(path(folder, number, ending), (source, capture))
     named = []
     for number, part in enumerate(made):
         places = {queue: place for place, queue in enumerate(part.queues)}
@@ -81,6 +84,10 @@ def line_of(number: int, part: Named) -> str:
         number, list_text(part.queues), list_text(part.cpus), len(part.packets))
 
 
+def _below(numbers, size):
+    return all(type(number) is int and 0 <= number < size for number in numbers)
+
+
 def read_index(folder: str) -> tuple[int, int, list[Named]]:
     """The machine's queues and processors, and its parts. NotThatFile where they are not there."""
     name = os.path.join(folder, INDEX)
@@ -88,12 +95,13 @@ def read_index(folder: str) -> tuple[int, int, list[Named]]:
         index = json.loads(cli.read_text(name))
         made = [Named(**part) for part in index["parts"]]
         queues, cpus = int(index["queues"]), int(index["cpus"])
-        sizes = [[max(numbers, default=0) for numbers in part] for part in made]
-        whole = all(of[0] < queues and of[1] < cpus for of in sizes)
+        packets = sorted(packet for part in made for packet in part.packets)
+        whole = packets == list(range(len(packets))) and all(
+            _below(part.queues, queues) and _below(part.cpus, cpus) for part in made)
     except (ValueError, TypeError, KeyError, RecursionError):
         raise cli.NotThatFile(name, "no index that steer-split writes") from None
     if not whole:
-        raise cli.NotThatFile(name, "it names queues or processors that it does not have")
+        raise cli.NotThatFile(name, "it names queues, processors or packets that it does not have")
     return queues, cpus, made
 
 
@@ -129,5 +137,6 @@ def joined(folder: str, names: Sequence[str]) -> report.Report:
         of_cpu.update((part.cpus[row.cpu], row._replace(cpu=part.cpus[row.cpu]))
                       for row in rep.cpus)
         arrived, total = arrived + rep.end.arrived, total + rep.end.total
-    return report.Report(sorted(packets), [], list(of_queue.values()), list(of_cpu.values()), [],
-                         [], [], [], report.End(arrived, total, None))
+    packets.sort(key=lambda row: row.id)
+    return report.Report(packets, [], list(of_queue.values()), list(of_cpu.values()), [], [], [], [],
+                         report.End(arrived, total, None))

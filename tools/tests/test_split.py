@@ -173,11 +173,45 @@ class Words(unittest.TestCase):
                     ((), 2, "either --to FOLDER or --join FOLDER"),
                     (("--to", here, example("rps.json")), 2, "takes a PLAN and a CAPTURE"),
                     (("--to", here, "-", example("web.pcap")), 2, "standard input is not read"),
-                    (("--join", here), 4, "it names queues or processors that it does not have"),
+                    (("--join", here), 4, "that it does not have"),
                     (("--join", folder.path("none")), 4, "No such file")):
                 found = running.inside("steer-split", *words)
                 self.assertEqual(found[0], status, words)
                 self.assertIn(text, found[2])
+            for index in (b"", b"[]", b"{}", b'{"queues": 1, "cpus": 1, "parts": [3]}',
+                          b'{"queues": 1, "cpus": "x", "parts": []}',
+                          b'{"queues": 1, "cpus": 1, "parts": [{"queues": ["0"], "cpus": [0], '
+                          b'"packets": []}]}',
+                          b'{"queues": 1, "cpus": 1, "parts": [{"queues": [0], "cpus": [0], '
+                          b'"packets": [1]}]}'):
+                folder.write("split.json", index)
+                found = running.inside("steer-split", "--join", here)
+                self.assertEqual(found[:2], (4, ""), index)
+
+
+class Files(unittest.TestCase):
+    def test_the_capture_is_not_written_over(self):
+        with Folder() as folder:
+            name = folder.write("whole.json", json.dumps(halves()).encode())
+            os.mkdir(folder.path("parts"))
+            capture = folder.write(os.path.join("parts", "part-0.pcap"), capture_of(1, 5))
+            found = running.inside("steer-split", name, capture, "--to", folder.path("parts"))
+        self.assertEqual(found[:2], (2, ""))
+        self.assertIn("is read, and cannot be written", found[2])
+
+    def test_reports_of_other_captures(self):
+        with Folder() as folder:
+            name = folder.write("whole.json", json.dumps(halves()).encode())
+            to = folder.path("parts")
+            capture = folder.write("own.pcap", capture_of(1, 5))
+            self.assertEqual(running.inside("steer-split", name, capture, "--to", to)[0], 0)
+            text = running.steer("replay", name, example("web.pcap"))[1]
+            other = folder.write("other", text.encode())
+            found = running.inside("steer-split", "--join", to, other)
+            self.assertEqual(found[0], 3)
+            self.assertIn("it has 16 queues, 32 processors and 177 packets, and the part", found[2])
+            found = running.inside("steer-split", "--join", to, other, other)
+            self.assertEqual(found[0], 2)
 
 
 class Queues(unittest.TestCase):
