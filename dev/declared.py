@@ -22,6 +22,22 @@ class Declaration:
         self.path, self.line, self.kind, self.name = path, line, kind, name
         self.comment, self.lines = comment, lines
 
+    def read_lines(self, fields):
+        """Its lines without the fields of a struct that have none of these names."""
+        if self.kind != "struct" or not self.lines[0].endswith("{"):
+            return self.lines
+        kept, comment, is_whole = [self.lines[0]], [], True
+        for line in self.lines[1:-1]:
+            comment.append(line)
+            field = re.match(r"    (?:pub )?(\w+): ", line)
+            if field:
+                kept += comment if field.group(1) in fields else []
+                is_whole = is_whole and field.group(1) in fields
+                comment = []
+        if not is_whole:
+            kept.append("    // .. and fields that no definition here reads")
+        return kept + comment + [self.lines[-1]]
+
     def parts(self):
         """The fields with their types, or the types that the cases of an enum hold."""
         text = re.sub(r"//.*", "", "\n".join(self.lines))

@@ -106,10 +106,13 @@ def shown_definition(found, module, name, place="", note=""):
             ""] + block(scope + definition.shown) + [""]
 
 
-def shown_type(declaration):
-    """A type or a constant of the code: its comment and its declaration without ghost facts."""
+def shown_type(declaration, fields):
+    """A type or a constant of the code: its comment and its declaration without ghost facts.
+
+    Of a struct only these fields are shown.
+    """
     lines, skipping = [], None
-    for line in declaration.lines:
+    for line in declaration.read_lines(fields):
         indent = len(line) - len(line.lstrip())
         if skipping is None and re.match(r"\s+pub(\(crate\))? ghost |\s+pub\(crate\) ", line):
             skipping = indent
@@ -277,6 +280,7 @@ def twice(found, pairs):
 def type_part(found, pairs, values):
     """The records of values of the definitions, and the types and constants of the code."""
     types, closed, numbers = declared.types_of(found, pairs)
+    _, fields = declared.words_of(found, pairs)
     out = ["## Types", "",
            "First those of the definitions, then those of the code as they are declared in "
            "`crates/`, without facts that they carry (`ghost`) and without what no other crate "
@@ -290,7 +294,7 @@ def type_part(found, pairs, values):
     for pair in values:
         out += shown_definition(found, *pair, f" ({module_path(pair[0])})")
     for declaration in types:
-        out += shown_type(declaration)
+        out += shown_type(declaration, fields)
     return out
 
 
