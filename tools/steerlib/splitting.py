@@ -138,5 +138,5 @@ def joined(folder: str, names: Sequence[str]) -> report.Report:
                       for row in rep.cpus)
         arrived, total = arrived + rep.end.arrived, total + rep.end.total
     packets.sort(key=lambda row: row.id)
-    return report.Report(packets, [], list(of_queue.values()), list(of_cpu.values()), [], [], [], [],
-                         report.End(arrived, total, None))
+    return report.Report(packets, [], list(of_queue.values()), list(of_cpu.values()), [], [], [],
+                         [], report.End(arrived, total, None))
