@@ -20,12 +20,12 @@ use Rattle.board_api.specs.declared.held_lane.LaneId.TheVariants as id
 use Rattle.hop_delivery.specs.Orders.Turns.{visit_with}
 use Rattle.steer_model.specs.State.Setup.{Setup}
 use Rattle.run_words.specs.declared.hint_word.TheConstants.{QUEUE_WORDS}
-use Rattle.run_hands.specs.Deltas.{no_lane}
-use Rattle.run_hands.specs.Gates.{ClosesEmpty, SetsAndOpens}
-use Rattle.run_hands.specs.Servers.{BacksOut, IsServer, RepliesOrKeeps, TakesOrLeaves}
-use Rattle.run_hands.specs.declared.server.Server.{Server}
-use Rattle.run_hands.specs.declared.shared.Shared.{Shared}
-use Rattle.run_hands.proofs.ServerLaws.{applications_stay}
+use Rattle.run_workers.specs.Hands.Deltas.{no_lane}
+use Rattle.run_controller.specs.Gates.{ClosesEmpty, SetsAndOpens}
+use Rattle.run_workers.specs.Hands.Servers.{BacksOut, IsServer, RepliesOrKeeps, TakesOrLeaves}
+use Rattle.run_workers.specs.declared.server.Server.{Server}
+use Rattle.run_words.specs.declared.shared.Shared.{Shared}
+use Rattle.run_workers.proofs.Hands.ServerLaws.{applications_stay}
 use Rattle.hand_tests.specs.Benches.{Rests, opened_by}
 use Rattle.hand_tests.specs.Offices.{IsClerk, IsDesk, IsOffice}
 use Rattle.hand_tests.proofs.Closing.{RestsOpened, made_rests}

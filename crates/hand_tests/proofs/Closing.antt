@@ -17,7 +17,7 @@ use Rattle.board_api.specs.Calls.Rights.{HasClosed}
 use Rattle.board_api.specs.Seats.{BoardSeatView}
 use Rattle.board_api.specs.declared.answers.CloseAnswer.TheVariants as close
 use Rattle.board_api.specs.Views.{BoardView}
-use Rattle.run_hands.specs.Gates.{ClosesEmpty, SetsAndOpens}
+use Rattle.run_controller.specs.Gates.{ClosesEmpty, SetsAndOpens}
 use Rattle.hand_tests.specs.Benches.{RestsBut, opened_by}
 
 abbrev Seat : Type 0

@@ -25,13 +25,13 @@ use Rattle.board_api.specs.Views.{BoardView}
 use Rattle.board_api.proofs.AddedSteps.{quiet_steps_stay}
 use Rattle.hop_delivery.specs.Orders.Turns.{visit_with}
 use Rattle.steer_model.specs.State.Setup.{Setup}
-use Rattle.run_hands.specs.Deltas.{Serves, no_lane, this_lane}
-use Rattle.run_hands.specs.Drains.{IsDrain, hand_phase}
-use Rattle.run_hands.specs.Pollers.{Polls, SteersHand, Waits}
-use Rattle.run_hands.specs.declared.drain.Drain.{Drain}
-use Rattle.run_hands.specs.declared.poller.Poller.{Poller}
-use Rattle.run_hands.proofs.DeltaLemmas.{serves_back, serves_missed, serves_out_back}
-use Rattle.run_hands.proofs.DeltaLemmas.{serves_out_missed}
+use Rattle.run_workers.specs.Hands.Deltas.{Serves, no_lane, this_lane}
+use Rattle.run_workers.specs.Hands.Drains.{IsDrain, hand_phase}
+use Rattle.run_workers.specs.Hands.Pollers.{Polls, SteersHand, Waits}
+use Rattle.run_workers.specs.declared.drain.Drain.{Drain}
+use Rattle.run_workers.specs.declared.poller.Poller.{Poller}
+use Rattle.run_workers.proofs.Hands.DeltaLemmas.{serves_back, serves_missed, serves_out_back}
+use Rattle.run_workers.proofs.Hands.DeltaLemmas.{serves_out_missed}
 use Rattle.hand_tests.specs.Benches.{IsDone, IsFresh, Rests, RestsBut}
 
 abbrev Seat : Type 0

@@ -10,13 +10,13 @@ use Rattle.board_api.specs.Calls.Rights.{HasOpen, IsOutside}
 use Rattle.board_api.specs.Seats.{BoardSeatView}
 use Rattle.board_api.specs.Views.{BoardView}
 use Rattle.run_words.specs.declared.hint_word.TheConstants.{FILTER_WORDS}
-use Rattle.run_hands.specs.Deltas.{no_lane, this_lane}
-use Rattle.run_hands.specs.Drains.{IsDrain}
-use Rattle.run_hands.specs.Pollers.{IsPoller}
-use Rattle.run_hands.specs.declared.drain.Drain.{Drain}
-use Rattle.run_hands.specs.declared.drain.Exit.TheVariants.{Inboxes}
-use Rattle.run_hands.specs.declared.poller.Poller.{Poller}
-use Rattle.run_hands.specs.declared.shared.Shared.{Shared}
+use Rattle.run_workers.specs.Hands.Deltas.{no_lane, this_lane}
+use Rattle.run_workers.specs.Hands.Drains.{IsDrain}
+use Rattle.run_workers.specs.Hands.Pollers.{IsPoller}
+use Rattle.run_workers.specs.declared.drain.Drain.{Drain}
+use Rattle.run_workers.specs.declared.drain.Exit.TheVariants.{Inboxes}
+use Rattle.run_workers.specs.declared.poller.Poller.{Poller}
+use Rattle.run_words.specs.declared.shared.Shared.{Shared}
 
 -- The seat of a board has made no step.
 pub record IsFresh (board : BoardView) (number : ℕ) (seat : BoardSeatView) : Type 0 where

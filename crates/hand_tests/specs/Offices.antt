@@ -6,10 +6,10 @@ use Rattle.hop_rule.specs.declared.sizes.BoardSizes.{BoardSizes}
 use Rattle.board_api.specs.Seats.{BoardSeatView}
 use Rattle.board_api.specs.Views.{BoardView}
 use Rattle.run_words.specs.declared.hint_word.TheConstants.{QUEUE_WORDS}
-use Rattle.run_hands.specs.Pollers.{HasQueueSettings}
-use Rattle.run_hands.specs.Servers.{HasTransmitSettings, IsServer}
-use Rattle.run_hands.specs.declared.server.Server.{Server}
-use Rattle.run_hands.specs.declared.shared.Shared.{Shared}
+use Rattle.run_workers.specs.Hands.Pollers.{HasQueueSettings}
+use Rattle.run_workers.specs.Hands.Servers.{HasTransmitSettings, IsServer}
+use Rattle.run_workers.specs.declared.server.Server.{Server}
+use Rattle.run_words.specs.declared.shared.Shared.{Shared}
 use Rattle.hand_tests.specs.Benches.{Rests, opened_by}
 
 -- The seat with this number and the closer's, which is the next and the last, rest at the board.

@@ -7,7 +7,7 @@ use crate::hands::{arrive, closed, drains, drains_beside, ids, note, steers};
 use board_api::{BoardSeat, LaneId};
 use hop_board::Board;
 use plan_reader::read_plan;
-use run_hands::Shared;
+use run_words::Shared;
 use std::process::Abort;
 use std::sync::Wait;
 use std::test::Fail;

@@ -8,8 +8,7 @@ use crate::hands::{arrive, change, change_beside, change_in_visit, drains, steer
 use board_api::BoardSeat;
 use hop_board::Board;
 use plan_reader::read_plan;
-use run_hands::Shared;
-use run_words::flows_word;
+use run_words::{Shared, flows_word};
 use std::process::Abort;
 use std::sync::Wait;
 use std::test::Fail;

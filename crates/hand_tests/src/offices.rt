@@ -1,7 +1,7 @@
 //! An application at its two boards, with packets in its inbox.
 ghost use Rattle.std.specs.Prelude.{◌≡◌, ◌≤◌, IfOk, length};
 ghost use Rattle.steer_base.specs.declared.limits.TheConstants.{MAX_PACKETS};
-ghost use Rattle.run_hands.specs.Servers.{HasTransmitSettings, IsServer};
+ghost use Rattle.run_workers.specs.Hands.Servers.{HasTransmitSettings, IsServer};
 ghost use Rattle.hand_tests.specs.Benches.{IsWorker};
 ghost use Rattle.hand_tests.specs.Offices.{IsDesk};
 
@@ -13,8 +13,8 @@ use hint_words::HintSeat;
 use hop_board::Board;
 use hop_core::{HopShape, MAX_HOP_ROOM};
 use plan_reader::{Plan, read_plan};
-use run_hands::{Server, Shared};
-use run_words::first_transmit_settings;
+use run_words::{Shared, first_transmit_settings};
+use run_workers::Server;
 use std::alloc::Global;
 use std::marker::Model;
 use std::process::Abort;

@@ -6,7 +6,7 @@ use crate::frames::packets_of;
 use crate::hands::{arrive, filter_at, note, poll, steers};
 use hop_board::Board;
 use plan_reader::read_plan;
-use run_hands::Shared;
+use run_words::Shared;
 use std::process::Abort;
 use std::sync::Wait;
 use std::test::Fail;

@@ -6,7 +6,7 @@ use crate::hands::{add_seat, lists_of};
 use crate::offices::Office;
 use board_api::{BoardLists, Hold, LaneId};
 use history::{Arrival, Sent, SockWrite};
-use run_hands::{close_empty, set_and_open};
+use run_controller::{close_empty, set_and_open};
 use run_words::{HintWord, place_word};
 use std::alloc::Global;
 use std::process::Abort;

@@ -7,7 +7,7 @@ use crate::frames::packets_of;
 use crate::hands::{arrive, closed, drain, ids, poll};
 use hop_board::Board;
 use plan_reader::read_plan;
-use run_hands::Shared;
+use run_words::Shared;
 use std::sync::Wait;
 use std::test::Fail;
 use std::thread::{Threads, join};

@@ -20,27 +20,27 @@ use Rattle.steer_model.specs.Good.Inputs.{Input, setup_in}
 use Rattle.steer_model.specs.State.Settings.{Settings}
 use Rattle.steer_model.specs.State.Setup.{Setup}
 use Rattle.steer_model.specs.State.Start.{initial_settings}
-use Rattle.run_hands.specs.declared.shared.Shared.{Shared}
+use Rattle.run_words.specs.declared.shared.Shared.{Shared}
 use Rattle.run_coupling.specs.Laws.SharedCodes.{AreShared}
 use Rattle.run_coupling.specs.Coupling.Answers.{AllAnswered}
 use Rattle.run_coupling.specs.Coupling.EmptiedLanes.{AllFindLanes}
 use Rattle.run_coupling.specs.Coupling.Hints.{HintCodes}
 use Rattle.run_coupling.specs.Coupling.Inputs.{NamesReceiveQueues, receive_queues}
 use Rattle.run_coupling.specs.Coupling.Tries.{AllSetByAnswer, Try, at_receive, at_transmit}
-use Rattle.run_coupling.specs.Coupling.Tries.{oldest_first}
+use Rattle.run_words.specs.Lists.{oldest_first}
 use Rattle.run_coupling.specs.Coupling.Tries.{settings_by, steps_of_tries, words_after}
 use Rattle.run_coupling.proofs.Runs.QueueLemmas.{all_name_queues}
 use Rattle.run_coupling.proofs.Tries.GivenLemmas.{all_within}
 use Rattle.run_coupling.proofs.Tries.RangeLemmas.{IsWithinPlan}
 use Rattle.run_coupling.proofs.Tries.ResizeLemmas.{resizes_by}
 use Rattle.run_coupling.proofs.Tries.WordLemmas.{words_are}
-use Rattle.run_actors.specs.Gated.{GatedTriesKeep}
+use Rattle.run_controller.specs.Gated.{GatedTriesKeep}
 use Rattle.run_controller.specs.Attempts.{TriesUnless}
 use Rattle.run_controller.specs.Journals.{AllAttempted, known_from}
 use Rattle.run_controller.specs.Laws.{AreBoards, ControllerKeepsCoupling, IsStoredFor}
 use Rattle.run_controller.specs.Settings.{KnownSettings, first_known}
 use Rattle.run_controller.specs.Stages.{Stage, stage}
-use Rattle.run_actors.specs.declared.seats.Seats.{Seats}
+use Rattle.run_words.specs.declared.seats.Seats.{Seats}
 use Rattle.run_controller.proofs.AgreeLemmas.{Agrees, agrees, given_in, known-generations}
 use Rattle.run_controller.proofs.AgreeLemmas.{known-settings}
 use Rattle.run_controller.proofs.ListLemmas.{append-none, contains-first, contains-later}

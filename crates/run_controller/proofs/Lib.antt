@@ -1,3 +1,5 @@
+pub mod GateLemmas
+pub mod GatedLaws
 mod ListLemmas
 mod LoopLemmas
 mod SeatLemmas

@@ -11,8 +11,8 @@ use Rattle.board_api.specs.declared.answers.EnterAnswer.{EnterAnswer}
 use Rattle.board_api.specs.declared.answers.EnterAnswer.TheVariants as enter
 use Rattle.run_words.specs.Numbers.{hint_number}
 use Rattle.run_words.specs.declared.hint_word.HintWord.TheVariants as word
-use Rattle.run_hands.specs.declared.shared.Shared.{Shared}
-use Rattle.run_actors.specs.Wires.{HintView, after_step}
+use Rattle.run_words.specs.declared.shared.Shared.{Shared}
+use Rattle.run_words.specs.HintViews.{HintView, after_step}
 use Rattle.run_controller.specs.Attempts.{AreClears, ClearsSockets}
 use Rattle.run_controller.specs.Expiries.{ExpiresAll, ExpiresOne, cleared_in}
 

@@ -32,20 +32,20 @@ use Rattle.steer_model.specs.Steps.Commands.{affects, is_done, refused_answer}
 use Rattle.run_words.specs.Numbers.{hint_number}
 use Rattle.run_words.specs.Values.{place_word}
 use Rattle.run_words.specs.declared.hint_word.HintWord.TheVariants as word
-use Rattle.run_hands.specs.declared.shared.Shared.{Shared}
+use Rattle.run_words.specs.declared.shared.Shared.{Shared}
 use Rattle.run_coupling.specs.Coupling.Answers.{IsAnswered, IsBusy}
 use Rattle.run_coupling.specs.Coupling.EmptiedLanes.{FindsAllEmpty, NoSets}
 use Rattle.run_coupling.specs.Coupling.Inputs.{NamesReceiveQueues, receive_queues}
 use Rattle.run_coupling.specs.Coupling.Tries.{SetsByAnswer, Try, sets_and_openings}
-use Rattle.run_actors.specs.Gated.{GatedTriesKeep, IsGated, KeepsTry}
-use Rattle.run_actors.specs.Wires.{HintView, after_step}
+use Rattle.run_controller.specs.Gated.{GatedTriesKeep, IsGated, KeepsTry}
+use Rattle.run_words.specs.HintViews.{HintView, after_step}
 use Rattle.run_controller.specs.Attempts.{AreClears, ClearsByAnswer, DoesAtOnce, HintsBehind}
 use Rattle.run_controller.specs.Attempts.{TriesAtReceive, TriesAtTransmit, TriesBy, TriesUnless}
 use Rattle.run_controller.specs.Laws.{AreBoards}
 use Rattle.run_controller.specs.Settings.{KnownSettings, receive_change, transmit_change}
 use Rattle.run_controller.specs.Stages.{Stage, stage}
 use Rattle.run_controller.specs.declared.change.Change.{Change}
-use Rattle.run_actors.specs.declared.seats.Seats.{Seats}
+use Rattle.run_words.specs.declared.seats.Seats.{Seats}
 use Rattle.run_controller.proofs.AgreeLemmas.{Agrees, as_set, at-receive, at-transmit, receive-none}
 use Rattle.run_controller.proofs.AgreeLemmas.{receive-set, sent-set}
 use Rattle.run_controller.proofs.ListLemmas.{contains-cases}

@@ -31,7 +31,7 @@ use Rattle.run_controller.specs.Settings.{IsKnown, first_known}
 use Rattle.run_controller.specs.Stages.{AreSeated, IsNamed, Stage}
 use Rattle.run_controller.specs.declared.controller.Controller.{Controller}
 use Rattle.run_controller.specs.declared.controller.TheConstants.{MAX_TRIES}
-use Rattle.run_actors.specs.declared.seats.Seats.{Seats}
+use Rattle.run_words.specs.declared.seats.Seats.{Seats}
 use Rattle.run_controller.proofs.GivingLemmas.{given-more}
 use Rattle.run_controller.proofs.KnownLemmas.{first_is_known}
 use Rattle.run_controller.proofs.WaitLemmas.{attempted_joined}

@@ -27,10 +27,10 @@ use Rattle.run_words.specs.Numbers.{hint_number, receive_number}
 use Rattle.run_words.specs.Values.{filter_in, flows_in}
 use Rattle.run_words.specs.declared.hint_word.HintWord.TheVariants as word
 use Rattle.run_words.specs.declared.setting.ReceiveSetting.TheVariants as receive
-use Rattle.run_hands.specs.declared.shared.Shared.{Shared}
+use Rattle.run_words.specs.declared.shared.Shared.{Shared}
 use Rattle.run_coupling.proofs.Tries.EmptiedLemmas.{gates-looking}
-use Rattle.run_actors.specs.Gated.{IsGated}
-use Rattle.run_actors.specs.Wires.{HintView, after_step}
+use Rattle.run_controller.specs.Gated.{IsGated}
+use Rattle.run_words.specs.HintViews.{HintView, after_step}
 use Rattle.run_controller.proofs.ListLemmas.{contains-cases}
 use Rattle.run_controller.specs.Expiries.{ClearsIf, Expires, ExpiresFirst, ExpiresOne, LooksAt}
 use Rattle.run_controller.specs.Stages.{IsSeated, opened_by}

@@ -9,13 +9,13 @@ use Rattle.steer_base.specs.declared.command.Command.{Command}
 use Rattle.steer_base.specs.declared.command.Command.TheVariants as give
 use Rattle.steer_base.specs.declared.command.Refused.{Refused}
 use Rattle.hint_words.specs.declared.step.HintStep.TheVariants.{Store}
-use Rattle.run_actors.specs.Wires.{HintView}
+use Rattle.run_words.specs.HintViews.{HintView}
 use Rattle.run_controller.specs.Attempts.{Attempts, ClearsByAnswer, DoesAtOnce}
 use Rattle.run_controller.specs.Attempts.{HintsBehind, TriesBy, TriesUnless}
 use Rattle.run_controller.specs.Settings.{KnownSettings, receive_change, transmit_change}
 use Rattle.run_controller.specs.Stages.{AreSeated, Stage}
 use Rattle.run_controller.specs.declared.change.Change.{Change}
-use Rattle.run_actors.specs.declared.seats.Seats.{Seats}
+use Rattle.run_words.specs.declared.seats.Seats.{Seats}
 use Rattle.run_controller.proofs.SeatLemmas.{StaysOut, expired_stays, first_glances, gated_stays}
 use Rattle.run_controller.proofs.SeatLemmas.{same_stays, stays_seated}
 

@@ -8,14 +8,14 @@ use Rattle.steer_base.specs.declared.command.Command.{Command}
 use Rattle.history.specs.declared.commanded.Commanded.{Commanded}
 use Rattle.hop_rule.specs.declared.sizes.TheConstants.{MAX_OPENINGS}
 use Rattle.steer_model.specs.Good.Commands.{is_busy}
-use Rattle.run_coupling.specs.Coupling.Tries.{oldest_first}
+use Rattle.run_words.specs.Lists.{oldest_first}
 use Rattle.run_controller.specs.Attempts.{Attempts}
 use Rattle.run_controller.specs.Journals.{AllAttempted, Attempted, IsGivenOnce, IsReady, known_by}
 use Rattle.run_controller.specs.Journals.{known_from}
 use Rattle.run_controller.specs.Settings.{IsKnown, KnownSettings}
 use Rattle.run_controller.specs.Stages.{AreSeated, IsNamed, Stage}
 use Rattle.run_controller.specs.declared.controller.Controller.{Controller}
-use Rattle.run_actors.specs.declared.seats.Seats.{Seats}
+use Rattle.run_words.specs.declared.seats.Seats.{Seats}
 use Rattle.run_controller.proofs.GivingLemmas.{AllBusy, busy-more, ends_busy, ends_done}
 use Rattle.run_controller.proofs.KnownLemmas.{known_later, known_more}
 use Rattle.run_controller.proofs.ListLemmas.{append-none, journal-more}

@@ -18,14 +18,14 @@ use Rattle.steer_model.specs.Steps.Commands.{affects, refused_answer}
 use Rattle.run_words.specs.Numbers.{hint_number}
 use Rattle.run_words.specs.Values.{place_word}
 use Rattle.run_words.specs.declared.hint_word.HintWord.TheVariants as word
-use Rattle.run_hands.specs.declared.shared.Shared.{Shared}
-use Rattle.run_actors.specs.Gated.{IsGated}
-use Rattle.run_actors.specs.Wires.{HintView, after_step}
+use Rattle.run_words.specs.declared.shared.Shared.{Shared}
+use Rattle.run_controller.specs.Gated.{IsGated}
+use Rattle.run_words.specs.HintViews.{HintView, after_step}
 use Rattle.run_controller.specs.Expiries.{Expires}
 use Rattle.run_controller.specs.Settings.{KnownSettings, receive_change, transmit_change}
 use Rattle.run_controller.specs.Stages.{Stage}
 use Rattle.run_controller.specs.declared.change.Change.{Change}
-use Rattle.run_actors.specs.declared.seats.Seats.{Seats}
+use Rattle.run_words.specs.declared.seats.Seats.{Seats}
 
 -- ---- behind a gate
 

@@ -12,8 +12,8 @@ use Rattle.run_words.specs.Numbers.{hint_number, receive_number}
 use Rattle.run_words.specs.Values.{filter_in, flows_in}
 use Rattle.run_words.specs.declared.hint_word.HintWord.TheVariants as word
 use Rattle.run_words.specs.declared.setting.ReceiveSetting.TheVariants as receive
-use Rattle.run_hands.specs.declared.shared.Shared.{Shared}
-use Rattle.run_actors.specs.Wires.{HintView, after_step}
+use Rattle.run_words.specs.declared.shared.Shared.{Shared}
+use Rattle.run_words.specs.HintViews.{HintView, after_step}
 
 -- The word was cleared if it still had the value, where the filter may go; else nothing was done.
 abbrev pub ClearsIf : Bool → ℕ → ℕ → HintView → HintView → Bool → Type 0

@@ -4,13 +4,13 @@ use Rattle.steer_base.specs.declared.command.Command.{Command}
 use Rattle.history.specs.declared.commanded.Commanded.{Commanded}
 use Rattle.steer_model.specs.Good.Commands.{AreTries}
 use Rattle.steer_model.specs.Steps.Commands.{is_done}
-use Rattle.run_coupling.specs.Coupling.Tries.{oldest_first}
+use Rattle.run_words.specs.Lists.{oldest_first}
 use Rattle.run_controller.specs.Attempts.{Attempts}
 use Rattle.run_controller.specs.Settings.{IsKnown, KnownSettings, known_after}
 use Rattle.run_controller.specs.Stages.{AreSeated, Stage}
 use Rattle.run_controller.specs.declared.controller.Controller.{Controller}
 use Rattle.run_controller.specs.declared.controller.TheConstants.{MAX_TRIES}
-use Rattle.run_actors.specs.declared.seats.Seats.{Seats}
+use Rattle.run_words.specs.declared.seats.Seats.{Seats}
 
 -- What is known after a try: a done command changed it.
 abbrev pub known_by : KnownSettings → Commanded → KnownSettings

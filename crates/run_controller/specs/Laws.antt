@@ -19,11 +19,11 @@ use Rattle.run_coupling.specs.Coupling.Inputs.{AreReceiveWords, receive_queues}
 use Rattle.run_coupling.specs.Coupling.Runs.{KeepsCommands}
 use Rattle.run_coupling.specs.Coupling.Tries.{KeepsReceiveTries, KeepsTransmitTries, Try}
 use Rattle.run_coupling.specs.Coupling.Tries.{at_receive}
-use Rattle.run_actors.specs.Wires.{HintView}
+use Rattle.run_words.specs.HintViews.{HintView}
 use Rattle.run_controller.specs.Journals.{Attempted}
 use Rattle.run_controller.specs.Settings.{KnownSettings, first_known}
 use Rattle.run_controller.specs.Stages.{Stage}
-use Rattle.run_actors.specs.declared.seats.Seats.{Seats}
+use Rattle.run_words.specs.declared.seats.Seats.{Seats}
 
 -- What a store of the controller is: the queue that a done command gave an entry of the redirection
 -- table, the processor to which a done command moved an application, or the clear of an entry of

@@ -1,3 +1,5 @@
+pub mod Gates
+pub mod Gated
 pub mod Stages
 pub mod Settings
 pub mod Expiries

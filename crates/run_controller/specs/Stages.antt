@@ -12,8 +12,8 @@ use Rattle.board_api.specs.Seats.{BoardSeatView}
 use Rattle.board_api.specs.Views.{BoardView}
 use Rattle.steer_model.specs.State.Setup.{Setup}
 use Rattle.run_words.specs.Numbers.{word_count}
-use Rattle.run_hands.specs.declared.shared.Shared.{Shared}
-use Rattle.run_actors.specs.declared.seats.Seats.{Seats}
+use Rattle.run_words.specs.declared.shared.Shared.{Shared}
+use Rattle.run_words.specs.declared.seats.Seats.{Seats}
 
 -- What all threads share, with the receive board and the transmit board.
 pub record Stage : Type 0 where

@@ -14,13 +14,12 @@ ghost use Rattle.run_controller.specs.Stages.{stage};
 
 use crate::change::Change;
 use crate::expiry::expire;
+use crate::gated::try_gated;
 use crate::known::{Known, transmit_change};
 use crate::sockets::try_socket_size;
 use board_api::Board;
 use hotplug::affected;
-use run_actors::{Seats, try_gated};
-use run_hands::Shared;
-use run_words::{HintWord, place_word};
+use run_words::{HintWord, Seats, Shared, place_word};
 use steer_base::{Answer, Command, CpuMask};
 use steer_model::{Given, refused_answer};
 

@@ -9,8 +9,7 @@ ghost use Rattle.run_controller.specs.Stages.{IsSeated};
 use accel_filter::may_expire;
 use board_api::{Board, BoardSeat};
 use hint_words::HintSeat;
-use run_hands::Shared;
-use run_words::{HintWord, ReceiveSetting, filter_in, flows_in};
+use run_words::{HintWord, ReceiveSetting, Shared, filter_in, flows_in};
 
 /// Clears each filter that may go, in one visit of the receive board, and returns how many it
 /// cleared. A filter that was stored anew meanwhile stays.

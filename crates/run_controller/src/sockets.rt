@@ -3,15 +3,15 @@ ghost use Rattle.std.specs.Prelude.{◌≡◌, ◌<◌, ◌≤◌, true, length}
 ghost use Rattle.steer_base.specs.declared.limits.TheConstants.{MAX_SOCKET_SIZE};
 ghost use Rattle.hop_rule.specs.declared.sizes.TheConstants.{MAX_OPENINGS};
 ghost use Rattle.board_api.specs.Calls.Rights.{HasClosed};
-ghost use Rattle.run_actors.specs.Gated.{IsGated};
+ghost use Rattle.run_controller.specs.Gated.{IsGated};
 ghost use Rattle.run_controller.specs.Attempts.{ClearsByAnswer, ClearsSockets};
 ghost use Rattle.run_controller.specs.Stages.{IsSeated, opened_by};
 
 use crate::change::Change;
+use crate::gate::{close_empty, set_and_open};
 use board_api::{Board, BoardSeat};
 use hint_words::HintSeat;
-use run_hands::{Shared, close_empty, set_and_open};
-use run_words::HintWord;
+use run_words::{HintWord, Shared};
 use steer_base::{Answer, CpuMask, MAX_SOCKET_SIZE};
 
 /// Tries to set the size of the socket flow table: closes the gate, finds these lanes empty, clears

@@ -21,8 +21,8 @@ use Rattle.hop_rule.specs.declared.step.LaneStep.TheVariants.{OutHeld, OutMissed
 use Rattle.hop_rule.proofs.Gates.{sum_one, sum_same}
 use Rattle.board_api.specs.OwnSteps.{accepted_by}
 use Rattle.hop_delivery.specs.Orders.Turns.{Explained, Turn, turn_put, visit_with}
-use Rattle.run_hands.specs.Pollers.{count_after}
-use Rattle.run_records.specs.Polling.{PolledTurn, accepted_turns, turns_in}
+use Rattle.run_workers.specs.Hands.Pollers.{count_after}
+use Rattle.run_workers.specs.Records.Polling.{PolledTurn, accepted_turns, turns_in}
 
 -- how many of these answers are that a packet was accepted
 abbrev pub taken : List Put → ℕ

@@ -11,10 +11,10 @@ use Rattle.hop_rule.specs.declared.step.BoardStep.{BoardStep}
 use Rattle.board_api.specs.OwnSteps.{delivered_by, retired_by}
 use Rattle.board_api.specs.Seats.{BoardSeatView}
 use Rattle.steer_model.specs.State.Setup.{Setup, app_for}
-use Rattle.run_hands.specs.Drains.{IsDrain, hand_phase, out_for}
-use Rattle.run_hands.specs.declared.drain.Drain.{Drain}
-use Rattle.run_hands.specs.declared.drain.Exit.{Exit}
-use Rattle.run_hands.specs.declared.drain.Exit.TheVariants.{Inboxes, Port}
+use Rattle.run_workers.specs.Hands.Drains.{IsDrain, hand_phase, out_for}
+use Rattle.run_workers.specs.declared.drain.Drain.{Drain}
+use Rattle.run_workers.specs.declared.drain.Exit.{Exit}
+use Rattle.run_workers.specs.declared.drain.Exit.TheVariants.{Inboxes, Port}
 use Rattle.run_coupling.specs.Coupling.Ends.{retired_count}
 use Rattle.run_workers.specs.Actors.{KeepsDrain, actor_at}
 use Rattle.run_crew.specs.Crews.{IsPlayed, drains_of, ships_of}

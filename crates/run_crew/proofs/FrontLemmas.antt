@@ -7,8 +7,8 @@ use Rattle.std.proofs.lemmas.List.Elements.{All-head, All-tail, filter_map-appen
 use Rattle.rtrb.specs.Ring.{received}
 use Rattle.steer_base.specs.declared.choice.Chosen.{Chosen}
 use Rattle.history.specs.Lists.{arrivals_at}
-use Rattle.run_records.specs.Growth.{held}
-use Rattle.run_records.specs.Polling.{packet_of_number, ring_packets}
+use Rattle.run_workers.specs.Records.Growth.{held}
+use Rattle.run_workers.specs.Records.Polling.{packet_of_number, ring_packets}
 use Rattle.run_crew.specs.ThreadLaws.{FrontsAreChosen}
 
 -- numbers of packets all name packets

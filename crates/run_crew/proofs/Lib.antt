@@ -1,3 +1,10 @@
+pub mod TurnListLemmas
+pub mod OwnTableLemmas
+pub mod RuleLemmas
+pub mod QueueCouplingLemmas
+pub mod ApplicationCouplingLemmas
+pub mod StoreCouplingLemmas
+pub mod ArrivalCouplingLemmas
 pub mod ChoiceFunctions
 pub mod StoryLemmas
 mod QueueTurnLemmas

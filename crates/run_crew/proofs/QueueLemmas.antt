@@ -16,8 +16,8 @@ use Rattle.hop_delivery.specs.Orders.Turns.{Turn}
 use Rattle.steer_model.specs.Good.Inputs.{Input, setup_in}
 use Rattle.run_coupling.specs.Laws.SharedCodes.{AreShared}
 use Rattle.run_coupling.specs.Coupling.Hints.{HintCodes}
-use Rattle.run_records.specs.Polling.{IsPolling}
-use Rattle.run_records.specs.QueueCoupling.{IsQueueTied, PollersAreTied, words_seen}
+use Rattle.run_workers.specs.Records.Polling.{IsPolling}
+use Rattle.run_crew.specs.QueueCoupling.{IsQueueTied, PollersAreTied, words_seen}
 use Rattle.run_workers.specs.Actors.{Each}
 use Rattle.run_workers.specs.Stages.{StageView}
 use Rattle.run_crew.specs.Crews.{IsPlayed, pollers_of}

@@ -7,9 +7,9 @@ use Rattle.steer_base.specs.declared.choice.Chosen.{Chosen}
 use Rattle.history.specs.Lists.{list_at}
 use Rattle.hop_rule.specs.declared.step.BoardStep.{BoardStep}
 use Rattle.plan_reader.specs.declared.plan.QueuePlan.{QueuePlan}
-use Rattle.run_hands.specs.declared.poller.Poller.{Poller}
+use Rattle.run_workers.specs.declared.poller.Poller.{Poller}
 use Rattle.steer_model.specs.Good.Inputs.{Input}
-use Rattle.run_records.specs.Polling.{choices_in}
+use Rattle.run_workers.specs.Records.Polling.{choices_in}
 use Rattle.run_workers.specs.Actors.{Each, KeepsPoller}
 use Rattle.run_workers.specs.Stages.{StageView}
 use Rattle.run_crew.specs.Crews.{IsPlayed, pollers_of}

@@ -25,16 +25,16 @@ use Rattle.hop_rule.specs.declared.step.BoardStep.{BoardStep}
 use Rattle.board_api.specs.Calls.Results.{Looked, looking}
 use Rattle.board_api.specs.Seats.{BoardSeatView}
 use Rattle.run_words.specs.Values.{filter_in}
-use Rattle.run_hands.specs.declared.shared.Shared.{Shared}
-use Rattle.run_actors.specs.Gated.{IsGated}
-use Rattle.run_actors.specs.Wires.{HintView}
+use Rattle.run_words.specs.declared.shared.Shared.{Shared}
+use Rattle.run_controller.specs.Gated.{IsGated}
+use Rattle.run_words.specs.HintViews.{HintView}
 use Rattle.run_controller.specs.Attempts.{DoesAtOnce, TriesBy, TriesUnless}
 use Rattle.run_controller.specs.Expiries.{ExpiresFirst, LooksAt}
 use Rattle.run_controller.specs.Journals.{AllAttempted, known_from}
 use Rattle.run_controller.specs.Settings.{KnownSettings, receive_change, transmit_change}
 use Rattle.run_controller.specs.Stages.{Stage}
 use Rattle.run_controller.specs.declared.change.Change.{Change}
-use Rattle.run_actors.specs.declared.seats.Seats.{Seats}
+use Rattle.run_words.specs.declared.seats.Seats.{Seats}
 use Rattle.run_crew.specs.ThreadLaws.{ControllersTouchNoLane, TouchesNoLane}
 
 -- A seat has the lane steps that it had.

@@ -16,11 +16,11 @@ use Rattle.hop_rule.proofs.Lists.{none-some}
 use Rattle.hop_delivery.specs.Orders.Runs.{Story, turns_of}
 use Rattle.hop_delivery.specs.Orders.Turns.{Turn}
 use Rattle.steer_model.specs.Good.Inputs.{Input, setup_in}
-use Rattle.run_hands.specs.Servers.{HasFlowsBelow}
+use Rattle.run_workers.specs.Hands.Servers.{HasFlowsBelow}
 use Rattle.run_coupling.specs.Laws.SharedCodes.{AreShared}
 use Rattle.run_coupling.specs.Coupling.Hints.{AreRecorded, CameBy, HintCodes, Stands}
-use Rattle.run_records.specs.ApplicationCoupling.{ApplicationsAreTied, IsApplicationTied, maps_seen}
-use Rattle.run_records.specs.Replying.{IsReplying}
+use Rattle.run_crew.specs.ApplicationCoupling.{ApplicationsAreTied, IsApplicationTied, maps_seen}
+use Rattle.run_workers.specs.Records.Replying.{IsReplying}
 use Rattle.run_workers.specs.Actors.{Each}
 use Rattle.run_workers.specs.Stages.{StageView}
 use Rattle.run_crew.specs.Crews.{IsPlayed, servers_of}

@@ -15,11 +15,11 @@ use Rattle.hop_rule.specs.declared.step.BoardStep.{BoardStep}
 use Rattle.hop_delivery.specs.Orders.Turns.{Turn}
 use Rattle.steer_model.specs.Good.Inputs.{Input}
 use Rattle.steer_model.specs.State.Setup.{Setup}
-use Rattle.run_hands.specs.declared.server.Server.{Server}
-use Rattle.run_coupling.specs.Coupling.Tries.{oldest_first}
-use Rattle.run_records.specs.Polling.{choices_in}
-use Rattle.run_records.specs.Replying.{EachReplied, IsReplying, RepliedTurn, replies_in}
-use Rattle.run_records.specs.Replying.{reply_turns}
+use Rattle.run_workers.specs.declared.server.Server.{Server}
+use Rattle.run_words.specs.Lists.{oldest_first}
+use Rattle.run_workers.specs.Records.Polling.{choices_in}
+use Rattle.run_workers.specs.Records.Replying.{EachReplied, IsReplying, RepliedTurn, replies_in}
+use Rattle.run_workers.specs.Records.Replying.{reply_turns}
 use Rattle.run_workers.specs.Actors.{Each, KeepsServer}
 use Rattle.run_workers.specs.Stages.{StageView}
 use Rattle.run_crew.specs.Crews.{IsPlayed, servers_of}

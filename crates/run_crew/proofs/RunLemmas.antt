@@ -27,10 +27,10 @@ use Rattle.run_coupling.specs.Coupling.Runs.{IsRun}
 use Rattle.run_coupling.proofs.Ends.ChoiceCountLemmas.{choices_suffice}
 use Rattle.run_coupling.proofs.Ends.HandLemmas.{empty_hands_retired}
 use Rattle.run_coupling.proofs.Lists.SumLemmas.{sum-le}
-use Rattle.run_records.specs.ApplicationCoupling.{ApplicationsAreTied}
-use Rattle.run_records.specs.QueueCoupling.{PollersAreTied}
-use Rattle.run_records.specs.Storing.{StoresAreFor}
-use Rattle.run_records.specs.StoreCoupling.{IsNoted, StoresAreMeantByEach, WorkersStoresAreMeant}
+use Rattle.run_crew.specs.ApplicationCoupling.{ApplicationsAreTied}
+use Rattle.run_crew.specs.QueueCoupling.{PollersAreTied}
+use Rattle.run_workers.specs.Records.Storing.{StoresAreFor}
+use Rattle.run_crew.specs.StoreCoupling.{IsNoted, StoresAreMeantByEach, WorkersStoresAreMeant}
 use Rattle.run_workers.specs.Actors.{actor_at}
 use Rattle.run_crew.specs.Crews.{IsPlayed, drains_of, servers_of, ships_of}
 use Rattle.run_crew.specs.declared.seated.Seated.{Seated}
@@ -180,7 +180,7 @@ module _ (laws : RecordLaws) (i : Input) (h : History) (e : RunEnds i h) where
         turns = y.is.replies;
         rx = x.seats.rx.steps;
         hints = x.seats.hint.steps;
-        keeps = subst (λ g. Rattle.run_records.specs.Replying.IsReplying g y.is.rows
+        keeps = subst (λ g. Rattle.run_workers.specs.Records.Replying.IsReplying g y.is.rows
             e.t.tx.sizes.start e.t.late v y.is.replies x.seats.rx.steps x.seats.hint.steps)
             e.received.given keeps.keeps;
         writes = (e.sent.journals v.app (omega (arith, within, count)) p).writes;

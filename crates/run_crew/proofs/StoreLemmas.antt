@@ -27,11 +27,12 @@ use Rattle.run_words.specs.Numbers.{hint_number}
 use Rattle.run_words.specs.declared.hint_word.HintWord.TheVariants as word
 use Rattle.run_coupling.specs.Laws.SharedCodes.{AreShared}
 use Rattle.run_coupling.specs.Coupling.Hints.{HintCodes, StoresAreMeant}
-use Rattle.run_coupling.specs.Coupling.Tries.{Try, oldest_first}
+use Rattle.run_coupling.specs.Coupling.Tries.{Try}
+use Rattle.run_words.specs.Lists.{oldest_first}
 use Rattle.run_coupling.proofs.Tries.GivenLemmas.{all-joined, all_within}
 use Rattle.run_coupling.proofs.Tries.RangeLemmas.{IsWithinPlan}
-use Rattle.run_records.proofs.StoringLemmas.{contains_split}
-use Rattle.run_actors.specs.Laws.{ArrivalsAreTied}
+use Rattle.run_workers.proofs.Records.StoringLemmas.{contains_split}
+use Rattle.run_crew.specs.ArrivalLaws.{ArrivalsAreTied}
 use Rattle.run_controller.specs.Laws.{CommandsAreTied, IsStoredFor}
 use Rattle.hop_rule.specs.declared.sizes.BoardSizes.{BoardSizes}
 use Rattle.hop_rule.specs.declared.step.BoardStep.{BoardStep}

@@ -16,7 +16,7 @@ use Rattle.hop_rule.specs.declared.sizes.BoardSizes.{BoardSizes}
 use Rattle.hop_rule.specs.declared.step.BoardStep.{BoardStep}
 use Rattle.hop_delivery.specs.Orders.Turns.{Explained, Turn}
 use Rattle.run_coupling.specs.Coupling.Turns.{KeepsTurns}
-use Rattle.run_records.specs.Polling.{choices_in}
+use Rattle.run_workers.specs.Records.Polling.{choices_in}
 use Rattle.run_workers.specs.Actors.{Each, IsTurnOfOne, actor_at}
 use Rattle.run_workers.specs.Stages.{StageView}
 use Rattle.run_crew.specs.Crews.{AreWorking}

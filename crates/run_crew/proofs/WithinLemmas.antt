@@ -15,9 +15,10 @@ use Rattle.steer_model.specs.Good.Inputs.{Input, setup_in}
 use Rattle.steer_model.specs.State.Setup.{packet_hash}
 use Rattle.std.proofs.lemmas.List.{length-map}
 use Rattle.run_words.specs.Values.{filter_in, place_in}
-use Rattle.run_coupling.specs.Coupling.Tries.{oldest_first}
+use Rattle.run_words.specs.Lists.{oldest_first}
 use Rattle.run_coupling.proofs.Tries.GivenLemmas.{all-joined}
-use Rattle.run_actors.specs.Wires.{ByFilter, HintView, Leads, LooksUpFilter, Routes}
+use Rattle.run_crew.specs.Routes.{ByFilter, Leads, LooksUpFilter, Routes}
+use Rattle.run_words.specs.HintViews.{HintView}
 use Rattle.run_crew.specs.ThreadLaws.{ArrivalsAreWithin}
 use Rattle.run_crew.proofs.ChoiceFunctions.{none-some, some-is}
 

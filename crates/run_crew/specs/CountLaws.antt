@@ -6,8 +6,8 @@ use Rattle.hop_rule.specs.Events.{sum_below}
 use Rattle.board_api.specs.Closings.Closings.{HasEnded, own_in}
 use Rattle.board_api.specs.Seats.{BoardSeatView}
 use Rattle.board_api.specs.declared.lists.BoardLists.{BoardLists}
-use Rattle.run_hands.specs.declared.drain.Drain.{Drain}
-use Rattle.run_hands.specs.declared.poller.Poller.{Poller}
+use Rattle.run_workers.specs.declared.drain.Drain.{Drain}
+use Rattle.run_workers.specs.declared.poller.Poller.{Poller}
 use Rattle.steer_model.specs.Good.Inputs.{Input}
 use Rattle.history.specs.Lists.{list_at}
 use Rattle.history.specs.declared.sent.Sent.{Sent}

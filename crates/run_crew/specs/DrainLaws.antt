@@ -3,7 +3,7 @@ use Rattle.std.specs.Prelude.{◌≡◌, ℕ, ◌<◌, List, None}
 use Rattle.hop_rule.specs.declared.sizes.BoardSizes.{BoardSizes}
 use Rattle.hop_rule.specs.declared.step.BoardStep.{BoardStep}
 use Rattle.steer_model.specs.State.Setup.{app_for}
-use Rattle.run_hands.specs.declared.drain.Drain.{Drain}
+use Rattle.run_workers.specs.declared.drain.Drain.{Drain}
 use Rattle.run_coupling.specs.Laws.EmptyHands.{HandsAreEmpty}
 use Rattle.run_coupling.specs.Coupling.Deliveries.{AllDeliverTo}
 use Rattle.run_coupling.specs.Coupling.Ends.{retired_count}

@@ -1,3 +1,8 @@
+pub mod Routes
+pub mod ArrivalLaws
+pub mod QueueCoupling
+pub mod ApplicationCoupling
+pub mod StoreCoupling
 pub mod Crews
 pub mod Stories
 pub mod QueueLaws

@@ -19,7 +19,7 @@ use Rattle.run_coupling.specs.Coupling.Boards.{IsReceiveBoard, IsTransmitBoard}
 use Rattle.run_coupling.specs.Coupling.Hints.{HintCodes}
 use Rattle.run_coupling.specs.Coupling.Runs.{IsRun}
 use Rattle.run_coupling.specs.Coupling.Tries.{Try}
-use Rattle.run_actors.specs.Laws.{ArrivalsAreTied}
+use Rattle.run_crew.specs.ArrivalLaws.{ArrivalsAreTied}
 use Rattle.run_controller.specs.Laws.{CommandsAreTied}
 use Rattle.run_workers.specs.Stages.{StageView}
 use Rattle.run_crew.specs.declared.seated.Seated.{Seated}

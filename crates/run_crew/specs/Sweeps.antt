@@ -5,7 +5,7 @@ use Rattle.run_workers.specs.Actors.{Each}
 use Rattle.rtrb.specs.Ring.{SameConsumer}
 use Rattle.history.specs.declared.arrival.Arrival.{Arrival}
 use Rattle.board_api.specs.Views.{BoardView}
-use Rattle.run_hands.specs.declared.shared.Shared.{Shared}
+use Rattle.run_words.specs.declared.shared.Shared.{Shared}
 use Rattle.run_workers.specs.Stages.{StageView, stage_view}
 use Rattle.run_workers.specs.Workers.{GoesOn, IsWorking, is_free}
 use Rattle.run_crew.specs.Crews.{AreWorking, IsPlayed, pollers_of, servers_of}

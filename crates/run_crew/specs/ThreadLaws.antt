@@ -14,13 +14,14 @@ use Rattle.board_api.specs.Seats.{BoardSeatView}
 use Rattle.hop_delivery.specs.Orders.Turns.{Turn}
 use Rattle.steer_model.specs.Good.Inputs.{Input, setup_in}
 use Rattle.steer_model.specs.State.Setup.{Setup}
-use Rattle.run_hands.specs.declared.poller.Poller.{Poller}
-use Rattle.run_records.specs.Polling.{IsPolling}
-use Rattle.run_actors.specs.Wires.{Ends, HintView}
+use Rattle.run_workers.specs.declared.poller.Poller.{Poller}
+use Rattle.run_workers.specs.Records.Polling.{IsPolling}
+use Rattle.run_crew.specs.Routes.{Ends}
+use Rattle.run_words.specs.HintViews.{HintView}
 use Rattle.run_controller.specs.Journals.{Attempted}
 use Rattle.run_controller.specs.Settings.{KnownSettings}
 use Rattle.run_controller.specs.Stages.{Stage}
-use Rattle.run_actors.specs.declared.seats.Seats.{Seats}
+use Rattle.run_words.specs.declared.seats.Seats.{Seats}
 
 -- A seat has touched no lane since, so it put no packet.
 pub record TouchesNoLane (old new : BoardSeatView) : Type 0 where

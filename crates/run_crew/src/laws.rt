@@ -8,7 +8,7 @@ ghost use Rattle.run_crew.specs.Sweeps.{CrewsGoOn, CrewsLearnArrivals, CrewsPlay
 ghost use Rattle.run_crew.specs.ThreadLaws.{ArrivalsAreWithin, ControllersTouchNoLane};
 ghost use Rattle.run_crew.specs.ThreadLaws.{FrontsAreChosen};
 
-use run_records::{applications_are_tied, pollers_are_tied, stores_are_meant};
+use crate::coupling_laws::{applications_are_tied, pollers_are_tied, stores_are_meant};
 use run_workers::arrivals_become_known;
 
 /// Lemma: the records of all workers say turns of all seats.

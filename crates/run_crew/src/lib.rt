@@ -3,10 +3,14 @@
 #![tactic(auto)]
 
 mod counts;
+mod coupling_laws;
 mod laws;
 mod rounds;
 mod seated;
 
+pub use coupling_laws::{
+    applications_are_tied, pollers_are_tied, stores_are_meant, the_wire_keeps_its_coupling,
+};
 pub use laws::{
     applications_keep_their_coupling, crews_go_on, crews_have_turns, crews_learn_arrivals,
     drains_keep_their_coupling, ended_runs_are_runs, full_counts_suffice,

@@ -1,5 +1,5 @@
 //! A worker and its seats.
-use run_actors::Seats;
+use run_words::Seats;
 use run_workers::Worker;
 
 /// A worker and its seats.

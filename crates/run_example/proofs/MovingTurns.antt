@@ -30,7 +30,7 @@ use Rattle.run_example.specs.MovingRun.{other_chosen, table_choices}
 use Rattle.run_coupling.specs.Coupling.Inputs.{receive_queues}
 use Rattle.run_coupling.specs.Coupling.OwnTables.{IsByTable, table_before}
 use Rattle.run_coupling.specs.Coupling.Queues.{KeepsQueues}
-use Rattle.run_coupling.specs.Coupling.Tries.{oldest_first}
+use Rattle.run_words.specs.Lists.{oldest_first}
 use Rattle.run_coupling.specs.Coupling.Turns.{KeepsTurns}
 use Rattle.run_example.proofs.MovingBoards.{i, rx-lawful, rx_own, tx-lawful, tx_own}
 use Rattle.run_example.specs.Moves.{of_first, of_two, turn}

@@ -1,5 +1,5 @@
 //! A pace that holds calls of threads until other threads have been called.
-use run_actors::Pace;
+use run_words::Pace;
 use std::sync::atomic::{AtomicBool, AtomicU64, Ordering};
 use std::thread::yield_now;
 

@@ -1,3 +1,4 @@
+pub mod Crosses
 pub mod FirstValues
 pub mod ValueLemmas
 pub mod WordNumbers

@@ -1,3 +1,5 @@
+pub mod Lists
+pub mod HintViews
 pub mod Values
 pub mod Numbers
 pub mod First

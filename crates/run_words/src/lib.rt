@@ -5,7 +5,10 @@
 mod first;
 mod hint_word;
 mod laws;
+mod pace;
+mod seats;
 mod setting;
+mod shared;
 mod values;
 
 pub use first::{first_hint, first_receive_settings, first_transmit_settings};
@@ -15,7 +18,10 @@ pub use hint_word::{
 pub use laws::{
     coded_values_read_back, first_values_stand, only_coded_values_are_read, words_lie_apart,
 };
+pub use pace::Pace;
+pub use seats::Seats;
 pub use setting::{ReceiveSetting, TransmitSetting};
+pub use shared::Shared;
 pub use values::{
     CPU_WEIGHT, DONE, MARK_WEIGHT, cpus_in, cpus_word, filter_in, filter_word, flows_in,
     flows_word, is_done, place_in, place_word, queues_in, queues_word, socket_size_in,

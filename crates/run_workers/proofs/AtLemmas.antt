@@ -4,13 +4,13 @@ use Rattle.std.proofs.Common.{subst, ◌∙◌, vec_len}
 use Rattle.std.proofs.lemmas.Option.{slice_get_read}
 use Rattle.run_words.specs.declared.hint_word.TheConstants.{QUEUE_WORDS}
 use Rattle.steer_model.specs.State.Setup.{Setup}
-use Rattle.run_hands.specs.Drains.{outs_of}
-use Rattle.run_hands.specs.declared.drain.Exit.{Exit}
-use Rattle.run_hands.specs.declared.server.Server.{Server}
+use Rattle.run_workers.specs.Hands.Drains.{outs_of}
+use Rattle.run_workers.specs.declared.drain.Exit.{Exit}
+use Rattle.run_workers.specs.declared.server.Server.{Server}
 use Rattle.run_workers.specs.Actors.{KeepsServer}
 use Rattle.run_workers.specs.Stages.{StageView}
 use Rattle.run_workers.specs.Workers.{IsWorking}
-use Rattle.run_actors.specs.declared.seats.Seats.{Seats}
+use Rattle.run_words.specs.declared.seats.Seats.{Seats}
 use Rattle.run_workers.specs.declared.worker.Worker.{Worker}
 
 -- the item that was read at an index is there

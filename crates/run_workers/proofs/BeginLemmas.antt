@@ -13,22 +13,22 @@ use Rattle.board_api.specs.Seats.{BoardSeatView}
 use Rattle.board_api.specs.Views.{BoardView}
 use Rattle.hop_delivery.specs.Orders.Turns.{Explained, Turn}
 use Rattle.steer_model.specs.State.Setup.{Setup}
-use Rattle.run_hands.specs.Drains.{IsDrain}
-use Rattle.run_hands.specs.declared.drain.Drain.{Drain}
-use Rattle.run_hands.specs.declared.drain.Exit.{Exit}
-use Rattle.run_hands.specs.declared.drain.Exit.TheVariants.{Inboxes, Port}
-use Rattle.run_hands.specs.declared.poller.Poller.{Poller}
-use Rattle.run_hands.specs.declared.server.Server.{Server}
-use Rattle.run_hands.specs.declared.shared.Shared.{Shared}
-use Rattle.run_records.specs.Storing.{StoresAreFor}
-use Rattle.run_records.proofs.PollingLemmas.{pollers_begin}
-use Rattle.run_records.proofs.ReplyingLemmas.{arrivals_come, servers_begin}
+use Rattle.run_workers.specs.Hands.Drains.{IsDrain}
+use Rattle.run_workers.specs.declared.drain.Drain.{Drain}
+use Rattle.run_workers.specs.declared.drain.Exit.{Exit}
+use Rattle.run_workers.specs.declared.drain.Exit.TheVariants.{Inboxes, Port}
+use Rattle.run_workers.specs.declared.poller.Poller.{Poller}
+use Rattle.run_workers.specs.declared.server.Server.{Server}
+use Rattle.run_words.specs.declared.shared.Shared.{Shared}
+use Rattle.run_workers.specs.Records.Storing.{StoresAreFor}
+use Rattle.run_workers.proofs.Records.PollingLemmas.{pollers_begin}
+use Rattle.run_workers.proofs.Records.ReplyingLemmas.{arrivals_come, servers_begin}
 use Rattle.run_workers.specs.Actors.{KeepsDrain, KeepsPoller, KeepsServer}
 use Rattle.run_workers.specs.Laws.{ArrivalsBecomeKnown, IsNewDrain, IsNewPoller}
 use Rattle.run_workers.specs.Laws.{IsNewServer, WorkersBegin}
 use Rattle.run_workers.specs.Stages.{HasSizes, StageView, stage_view}
 use Rattle.run_workers.specs.Workers.{IsBetween}
-use Rattle.run_actors.specs.declared.seats.Seats.{Seats}
+use Rattle.run_words.specs.declared.seats.Seats.{Seats}
 
 -- ---- the beginning
 

@@ -3,16 +3,16 @@ use Rattle.std.proofs.Common.{◌≡◌, ℕ, Some, ap, ◌∙◌, length, lengt
 use Rattle.linearization.specs.Seats.{SeatView}
 use Rattle.hint_words.specs.declared.step.HintStep.{HintStep}
 use Rattle.steer_model.specs.State.Setup.{Setup}
-use Rattle.run_hands.specs.Deltas.{Serves, this_lane}
-use Rattle.run_hands.specs.Drains.{IsDrain}
-use Rattle.run_hands.specs.declared.drain.Drain.{Drain}
-use Rattle.run_hands.specs.declared.drain.Exit.TheVariants.{Inboxes, Port}
-use Rattle.run_records.specs.Growth.{Grows}
-use Rattle.run_records.proofs.HintLemmas.{steps_same}
+use Rattle.run_workers.specs.Hands.Deltas.{Serves, this_lane}
+use Rattle.run_workers.specs.Hands.Drains.{IsDrain}
+use Rattle.run_workers.specs.declared.drain.Drain.{Drain}
+use Rattle.run_workers.specs.declared.drain.Exit.TheVariants.{Inboxes, Port}
+use Rattle.run_workers.specs.Records.Growth.{Grows}
+use Rattle.run_workers.proofs.Records.HintLemmas.{steps_same}
 use Rattle.run_workers.specs.Actors.{KeepsPoller, KeepsServer}
 use Rattle.run_workers.specs.Stages.{StageView}
 use Rattle.run_workers.specs.Workers.{GoesOn, IsWorking}
-use Rattle.run_actors.specs.declared.seats.Seats.{Seats}
+use Rattle.run_words.specs.declared.seats.Seats.{Seats}
 use Rattle.run_workers.specs.declared.worker.Worker.{Worker}
 use Rattle.run_workers.proofs.KeepLemmas.{KeepsReceive, KeepsTransmit, pollers_stay, receive_stays}
 use Rattle.run_workers.proofs.KeepLemmas.{received, servers_stay, stores_stay, transmit_stays}

@@ -9,7 +9,7 @@ use Rattle.linearization.specs.Orders.{StepBy, step_by}
 use Rattle.hop_rule.specs.declared.sizes.BoardSizes.{BoardSizes}
 use Rattle.hop_rule.proofs.Lists.{none-some, some-is}
 use Rattle.hop_delivery.specs.Orders.Turns.{Turn}
-use Rattle.run_records.specs.Growth.{TurnsGrow}
+use Rattle.run_workers.specs.Records.Growth.{TurnsGrow}
 use Rattle.run_workers.specs.Actors.{Each, IsTurnOfOne, actor_at}
 
 module _ {A : Type 0} where

@@ -11,17 +11,17 @@ use Rattle.board_api.specs.Seats.{BoardSeatView}
 use Rattle.board_api.specs.Views.{BoardView}
 use Rattle.hop_delivery.specs.Orders.Turns.{Explained, Turn}
 use Rattle.steer_model.specs.State.Setup.{Setup}
-use Rattle.run_hands.specs.Deltas.{no_lane}
-use Rattle.run_hands.specs.Drains.{IsDrain}
-use Rattle.run_hands.specs.declared.drain.Drain.{Drain}
-use Rattle.run_hands.specs.declared.drain.Exit.{Exit}
-use Rattle.run_hands.specs.declared.drain.Exit.TheVariants.{Inboxes, Port}
-use Rattle.run_records.specs.Growth.{Grows}
-use Rattle.run_records.specs.Storing.{StoresAreFor}
+use Rattle.run_workers.specs.Hands.Deltas.{no_lane}
+use Rattle.run_workers.specs.Hands.Drains.{IsDrain}
+use Rattle.run_workers.specs.declared.drain.Drain.{Drain}
+use Rattle.run_workers.specs.declared.drain.Exit.{Exit}
+use Rattle.run_workers.specs.declared.drain.Exit.TheVariants.{Inboxes, Port}
+use Rattle.run_workers.specs.Records.Growth.{Grows}
+use Rattle.run_workers.specs.Records.Storing.{StoresAreFor}
 use Rattle.run_workers.specs.Actors.{Each, IsTurnOfOne, KeepsDrain, KeepsPoller, KeepsServer}
 use Rattle.run_workers.specs.Stages.{StageView}
 use Rattle.run_workers.specs.Workers.{IsBetween, IsNotedBy, IsWorking}
-use Rattle.run_actors.specs.declared.seats.Seats.{Seats}
+use Rattle.run_words.specs.declared.seats.Seats.{Seats}
 use Rattle.run_workers.specs.declared.worker.Worker.{Worker}
 use Rattle.run_workers.proofs.EachLemmas.{each_more, turns_stay}
 use Rattle.run_workers.proofs.SeatLemmas.{Moves, between_calls}

@@ -7,13 +7,13 @@ use Rattle.board_api.specs.Seats.{BoardSeatView}
 use Rattle.board_api.specs.Views.{BoardView}
 use Rattle.hop_delivery.specs.Orders.Turns.{Turn}
 use Rattle.steer_model.specs.State.Setup.{Setup}
-use Rattle.run_hands.specs.Deltas.{Serves, this_lane}
-use Rattle.run_hands.specs.Drains.{IsDrain}
-use Rattle.run_hands.specs.declared.drain.Drain.{Drain}
-use Rattle.run_hands.specs.declared.drain.Exit.{Exit}
-use Rattle.run_hands.proofs.DrainLemmas.{serves_leave}
-use Rattle.run_hands.proofs.VisitLemmas.{serves_explain}
-use Rattle.run_records.proofs.AddedLemmas.{calls_add_steps}
+use Rattle.run_workers.specs.Hands.Deltas.{Serves, this_lane}
+use Rattle.run_workers.specs.Hands.Drains.{IsDrain}
+use Rattle.run_workers.specs.declared.drain.Drain.{Drain}
+use Rattle.run_workers.specs.declared.drain.Exit.{Exit}
+use Rattle.run_workers.proofs.Hands.DrainLemmas.{serves_leave}
+use Rattle.run_workers.proofs.Hands.VisitLemmas.{serves_explain}
+use Rattle.run_workers.proofs.Records.AddedLemmas.{calls_add_steps}
 use Rattle.run_workers.specs.Actors.{Each, IsForeign, KeepsDrain}
 use Rattle.run_workers.proofs.EachLemmas.{actors_differ, differs, each_same, each_set, turns_stay}
 use Rattle.run_workers.proofs.KeepLemmas.{KeepsBoard}

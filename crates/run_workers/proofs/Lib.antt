@@ -1,3 +1,5 @@
+pub mod Hands
+pub mod Records
 pub mod AtLemmas
 pub mod BeginLemmas
 pub mod DrainLemmas

@@ -7,13 +7,13 @@ use Rattle.linearization.specs.Seats.{SeatView}
 use Rattle.hint_words.specs.declared.step.HintStep.{HintStep}
 use Rattle.hint_words.specs.declared.step.HintStep.TheVariants.{Load, Store}
 use Rattle.run_words.specs.declared.hint_word.TheConstants.{DONE_WORD}
-use Rattle.run_records.specs.Growth.{Grows}
-use Rattle.run_records.specs.Storing.{StoresAreFor}
-use Rattle.run_records.proofs.HintLemmas.{steps_one}
+use Rattle.run_workers.specs.Records.Growth.{Grows}
+use Rattle.run_workers.specs.Records.Storing.{StoresAreFor}
+use Rattle.run_workers.proofs.Records.HintLemmas.{steps_one}
 use Rattle.run_workers.specs.Looks.{Looks, is_look, look_count}
 use Rattle.run_workers.specs.Stages.{StageView}
 use Rattle.run_workers.specs.Workers.{GoesOn, IsWorking}
-use Rattle.run_actors.specs.declared.seats.Seats.{Seats}
+use Rattle.run_words.specs.declared.seats.Seats.{Seats}
 use Rattle.run_workers.specs.declared.worker.Worker.{Worker}
 use Rattle.run_workers.proofs.KeepLemmas.{receive_stays, transmit_stays, works}
 use Rattle.run_workers.proofs.SameLemmas.{same_worker}

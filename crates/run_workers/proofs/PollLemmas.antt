@@ -5,22 +5,22 @@ use Rattle.std.proofs.lemmas.Option.{slice_get_within}
 use Rattle.rtrb.specs.Ring.{SameConsumer}
 use Rattle.board_api.specs.Calls.Rights.{HasOpen, IsOutside}
 use Rattle.steer_model.specs.State.Setup.{Setup}
-use Rattle.run_hands.specs.Laws.{Stays}
-use Rattle.run_hands.specs.Pollers.{IsPoller, Polls}
-use Rattle.run_hands.specs.declared.drain.Exit.TheVariants.{Inboxes}
-use Rattle.run_hands.specs.declared.poller.Poller.{Poller}
-use Rattle.run_hands.proofs.StayLemmas.{polls_stay}
-use Rattle.run_hands.proofs.VisitLemmas.{polls_leave}
-use Rattle.run_records.specs.Growth.{Grows}
-use Rattle.run_records.specs.Polling.{IsPolling}
-use Rattle.run_records.specs.PollingLaws.{PollsOn}
-use Rattle.run_records.proofs.AddedLemmas.{calls_add_steps}
-use Rattle.run_records.proofs.ListLemmas.{others_stay}
-use Rattle.run_records.proofs.PollingLemmas.{pollers_go_on}
+use Rattle.run_workers.specs.Hands.Laws.{Stays}
+use Rattle.run_workers.specs.Hands.Pollers.{IsPoller, Polls}
+use Rattle.run_workers.specs.declared.drain.Exit.TheVariants.{Inboxes}
+use Rattle.run_workers.specs.declared.poller.Poller.{Poller}
+use Rattle.run_workers.proofs.Hands.StayLemmas.{polls_stay}
+use Rattle.run_workers.proofs.Hands.VisitLemmas.{polls_leave}
+use Rattle.run_workers.specs.Records.Growth.{Grows}
+use Rattle.run_workers.specs.Records.Polling.{IsPolling}
+use Rattle.run_workers.specs.Records.PollingLaws.{PollsOn}
+use Rattle.run_workers.proofs.Records.AddedLemmas.{calls_add_steps}
+use Rattle.run_workers.proofs.Records.ListLemmas.{others_stay}
+use Rattle.run_workers.proofs.Records.PollingLemmas.{pollers_go_on}
 use Rattle.run_workers.specs.Actors.{KeepsPoller, actor_at}
 use Rattle.run_workers.specs.Stages.{StageView}
 use Rattle.run_workers.specs.Workers.{GoesOn, HasRings, IsNotedBy, IsWorking}
-use Rattle.run_actors.specs.declared.seats.Seats.{Seats}
+use Rattle.run_words.specs.declared.seats.Seats.{Seats}
 use Rattle.run_workers.specs.declared.worker.Worker.{Worker}
 use Rattle.run_workers.proofs.EachLemmas.{actors_differ, each_same, each_set, turns_of_ones}
 use Rattle.run_workers.proofs.KeepLemmas.{KeepsReceive, board_calls, received, transmit_stays}

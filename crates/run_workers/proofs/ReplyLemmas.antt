@@ -11,22 +11,22 @@ use Rattle.hint_words.specs.declared.step.HintStep.{HintStep}
 use Rattle.board_api.specs.Calls.Rights.{HasOpen, IsOutside}
 use Rattle.board_api.specs.Seats.{BoardSeatView}
 use Rattle.steer_model.specs.State.Setup.{Setup}
-use Rattle.run_hands.specs.Laws.{StaysApplication}
-use Rattle.run_hands.specs.Servers.{IsServer, RepliesOrKeeps}
-use Rattle.run_hands.specs.declared.drain.Exit.TheVariants.{Port}
-use Rattle.run_hands.specs.declared.server.Server.{Server}
-use Rattle.run_hands.proofs.ServerLaws.{applications_leave_drains, applications_stay}
-use Rattle.run_records.specs.Growth.{Grows}
-use Rattle.run_records.specs.Replying.{IsReplying}
-use Rattle.run_records.specs.ReplyingLaws.{RepliesOn}
-use Rattle.run_records.proofs.AddedLemmas.{calls_add_steps}
-use Rattle.run_records.proofs.ListLemmas.{others_stay}
-use Rattle.run_records.proofs.ReplyingLemmas.{replies_go_on}
-use Rattle.run_records.proofs.StoringLemmas.{applications_store}
+use Rattle.run_workers.specs.Hands.Laws.{StaysApplication}
+use Rattle.run_workers.specs.Hands.Servers.{IsServer, RepliesOrKeeps}
+use Rattle.run_workers.specs.declared.drain.Exit.TheVariants.{Port}
+use Rattle.run_workers.specs.declared.server.Server.{Server}
+use Rattle.run_workers.proofs.Hands.ServerLaws.{applications_leave_drains, applications_stay}
+use Rattle.run_workers.specs.Records.Growth.{Grows}
+use Rattle.run_workers.specs.Records.Replying.{IsReplying}
+use Rattle.run_workers.specs.Records.ReplyingLaws.{RepliesOn}
+use Rattle.run_workers.proofs.Records.AddedLemmas.{calls_add_steps}
+use Rattle.run_workers.proofs.Records.ListLemmas.{others_stay}
+use Rattle.run_workers.proofs.Records.ReplyingLemmas.{replies_go_on}
+use Rattle.run_workers.proofs.Records.StoringLemmas.{applications_store}
 use Rattle.run_workers.specs.Actors.{KeepsServer, actor_at}
 use Rattle.run_workers.specs.Stages.{StageView}
 use Rattle.run_workers.specs.Workers.{GoesOn, HasHomes, IsNotedBy, IsWorking}
-use Rattle.run_actors.specs.declared.seats.Seats.{Seats}
+use Rattle.run_words.specs.declared.seats.Seats.{Seats}
 use Rattle.run_workers.specs.declared.worker.Worker.{Worker}
 use Rattle.run_workers.proofs.EachLemmas.{actors_differ, each_same, each_set, one_kept}
 use Rattle.run_workers.proofs.EachLemmas.{turns_of_ones}

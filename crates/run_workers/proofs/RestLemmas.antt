@@ -12,10 +12,10 @@ use Rattle.board_api.specs.Closings.Closings.{IsAtRest}
 use Rattle.board_api.specs.Seats.{BoardSeatView}
 use Rattle.board_api.specs.Views.{BoardView}
 use Rattle.steer_model.specs.State.Setup.{Setup}
-use Rattle.run_hands.specs.Drains.{hand_phase}
-use Rattle.run_hands.specs.declared.drain.Drain.{Drain}
-use Rattle.run_hands.specs.declared.drain.Exit.{Exit}
-use Rattle.run_hands.specs.declared.drain.Exit.TheVariants.{Inboxes, Port}
+use Rattle.run_workers.specs.Hands.Drains.{hand_phase}
+use Rattle.run_workers.specs.declared.drain.Drain.{Drain}
+use Rattle.run_workers.specs.declared.drain.Exit.{Exit}
+use Rattle.run_workers.specs.declared.drain.Exit.TheVariants.{Inboxes, Port}
 use Rattle.run_workers.specs.Actors.{Each, IsForeign, KeepsDrain, actor_at}
 use Rattle.run_workers.specs.Laws.{FreeWorkersRest}
 use Rattle.run_workers.specs.Workers.{IsBetween, drains_are_free, pollers_are_free}

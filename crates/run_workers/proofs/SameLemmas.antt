@@ -4,14 +4,14 @@ use Rattle.std.proofs.Common.{[], Some, slice_get, slice_set}
 use Rattle.std.proofs.lemmas.Option.{slice_get_within}
 use Rattle.rtrb.specs.Ring.{SameConsumer}
 use Rattle.board_api.specs.Seats.{BoardSeatView}
-use Rattle.run_hands.specs.declared.poller.Poller.{Poller}
-use Rattle.run_hands.specs.declared.server.Server.{Server}
-use Rattle.run_records.specs.Growth.{Grows}
-use Rattle.run_records.proofs.ListLemmas.{grows_both}
+use Rattle.run_workers.specs.declared.poller.Poller.{Poller}
+use Rattle.run_workers.specs.declared.server.Server.{Server}
+use Rattle.run_workers.specs.Records.Growth.{Grows}
+use Rattle.run_workers.proofs.Records.ListLemmas.{grows_both}
 use Rattle.run_workers.specs.Parts.{actor_count}
 use Rattle.run_workers.specs.Stages.{StageView}
 use Rattle.run_workers.specs.Workers.{GoesOn, HasHomes, HasRings, IsSame, IsWorking}
-use Rattle.run_actors.specs.declared.seats.Seats.{Seats}
+use Rattle.run_words.specs.declared.seats.Seats.{Seats}
 use Rattle.run_workers.specs.declared.worker.Part.{Part}
 use Rattle.run_workers.specs.declared.worker.Part.TheVariants as part
 use Rattle.run_workers.specs.declared.worker.Worker.{Worker}

@@ -18,12 +18,12 @@ use Rattle.board_api.specs.Views.{BoardView}
 use Rattle.board_api.proofs.AddedSteps.{quiet_steps_stay}
 use Rattle.hop_delivery.specs.Orders.Turns.{visit_with}
 use Rattle.steer_model.specs.State.Setup.{Setup}
-use Rattle.run_hands.specs.Deltas.{HoldsNoMore, LeavesLane, Serves, no_lane}
-use Rattle.run_hands.specs.Pollers.{Polls, SteersHand, Waits}
-use Rattle.run_hands.specs.Servers.{BacksOut, RepliesOrKeeps, TakesOrLeaves}
-use Rattle.run_hands.specs.declared.poller.Poller.{Poller}
-use Rattle.run_hands.specs.declared.server.Server.{Server}
-use Rattle.run_hands.proofs.DeltaLemmas.{adds_both, holds_both, leaves_both}
+use Rattle.run_workers.specs.Hands.Deltas.{HoldsNoMore, LeavesLane, Serves, no_lane}
+use Rattle.run_workers.specs.Hands.Pollers.{Polls, SteersHand, Waits}
+use Rattle.run_workers.specs.Hands.Servers.{BacksOut, RepliesOrKeeps, TakesOrLeaves}
+use Rattle.run_workers.specs.declared.poller.Poller.{Poller}
+use Rattle.run_workers.specs.declared.server.Server.{Server}
+use Rattle.run_workers.proofs.Hands.DeltaLemmas.{adds_both, holds_both, leaves_both}
 use Rattle.run_workers.specs.Actors.{IsForeign}
 use Rattle.run_workers.specs.Workers.{IsBetween}
 

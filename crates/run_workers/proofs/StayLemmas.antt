@@ -6,17 +6,17 @@ use Rattle.board_api.specs.Calls.Rights.{Pulls}
 use Rattle.board_api.specs.Seats.{BoardSeatView}
 use Rattle.hop_delivery.specs.Orders.Turns.{Turn}
 use Rattle.steer_model.specs.State.Setup.{Setup}
-use Rattle.run_hands.specs.Drains.{IsDrain}
-use Rattle.run_hands.specs.declared.drain.Drain.{Drain}
-use Rattle.run_hands.specs.declared.drain.Exit.{Exit}
-use Rattle.run_hands.specs.declared.poller.Poller.{Poller}
-use Rattle.run_hands.specs.declared.server.Server.{Server}
-use Rattle.run_records.specs.Growth.{Grows}
-use Rattle.run_records.proofs.PollingLemmas.{pollers_stay}
-use Rattle.run_records.proofs.ReplyingLemmas.{servers_stay}
+use Rattle.run_workers.specs.Hands.Drains.{IsDrain}
+use Rattle.run_workers.specs.declared.drain.Drain.{Drain}
+use Rattle.run_workers.specs.declared.drain.Exit.{Exit}
+use Rattle.run_workers.specs.declared.poller.Poller.{Poller}
+use Rattle.run_workers.specs.declared.server.Server.{Server}
+use Rattle.run_workers.specs.Records.Growth.{Grows}
+use Rattle.run_workers.proofs.Records.PollingLemmas.{pollers_stay}
+use Rattle.run_workers.proofs.Records.ReplyingLemmas.{servers_stay}
 use Rattle.run_workers.specs.Actors.{KeepsDrain, KeepsPoller, KeepsServer, actor_at}
 use Rattle.run_workers.specs.Stages.{StageView}
-use Rattle.run_actors.specs.declared.seats.Seats.{Seats}
+use Rattle.run_words.specs.declared.seats.Seats.{Seats}
 
 module _ (t : StageView) (s r : Seats) where
   pub poller_stays : (first : ℕ → ℕ) (turns more : List (StepBy Turn)) (k : ℕ) (p : Poller)

@@ -13,20 +13,20 @@ use Rattle.hop_rule.specs.declared.sizes.BoardSizes.{BoardSizes}
 use Rattle.board_api.specs.Calls.Rights.{HasOpen, IsOutside}
 use Rattle.board_api.specs.Seats.{BoardSeatView}
 use Rattle.steer_model.specs.State.Setup.{Setup}
-use Rattle.run_hands.specs.Laws.{StaysApplication}
-use Rattle.run_hands.specs.Servers.{IsServer, TakesOrLeaves, Writes}
-use Rattle.run_hands.specs.declared.drain.Exit.TheVariants.{Inboxes, Port}
-use Rattle.run_hands.specs.declared.server.Server.{Server}
-use Rattle.run_hands.proofs.ServerLaws.{applications_explain, applications_leave_drains}
-use Rattle.run_hands.proofs.ServerLaws.{applications_stay}
-use Rattle.run_records.specs.Growth.{Grows}
-use Rattle.run_records.proofs.AddedLemmas.{calls_add_steps}
-use Rattle.run_records.proofs.ReplyingLemmas.{takes_go_on}
-use Rattle.run_records.proofs.StoringLemmas.{applications_store}
+use Rattle.run_workers.specs.Hands.Laws.{StaysApplication}
+use Rattle.run_workers.specs.Hands.Servers.{IsServer, TakesOrLeaves, Writes}
+use Rattle.run_workers.specs.declared.drain.Exit.TheVariants.{Inboxes, Port}
+use Rattle.run_workers.specs.declared.server.Server.{Server}
+use Rattle.run_workers.proofs.Hands.ServerLaws.{applications_explain, applications_leave_drains}
+use Rattle.run_workers.proofs.Hands.ServerLaws.{applications_stay}
+use Rattle.run_workers.specs.Records.Growth.{Grows}
+use Rattle.run_workers.proofs.Records.AddedLemmas.{calls_add_steps}
+use Rattle.run_workers.proofs.Records.ReplyingLemmas.{takes_go_on}
+use Rattle.run_workers.proofs.Records.StoringLemmas.{applications_store}
 use Rattle.run_workers.specs.Actors.{KeepsPoller, KeepsServer, actor_at}
 use Rattle.run_workers.specs.Stages.{StageView}
 use Rattle.run_workers.specs.Workers.{GoesOn, HasHomes, IsNotedBy, IsWorking}
-use Rattle.run_actors.specs.declared.seats.Seats.{Seats}
+use Rattle.run_words.specs.declared.seats.Seats.{Seats}
 use Rattle.run_workers.specs.declared.worker.Worker.{Worker}
 use Rattle.run_workers.proofs.EachLemmas.{each_same, each_set, one_kept, set_there}
 use Rattle.run_workers.proofs.KeepLemmas.{KeepsReceive, KeepsTransmit, board_calls, board_stays}

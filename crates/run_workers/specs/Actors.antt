@@ -6,17 +6,17 @@ use Rattle.board_api.specs.Calls.Rights.{Pulls}
 use Rattle.board_api.specs.Seats.{BoardSeatView}
 use Rattle.hop_delivery.specs.Orders.Turns.{Turn}
 use Rattle.steer_model.specs.State.Setup.{Setup}
-use Rattle.run_hands.specs.Drains.{IsDrain}
-use Rattle.run_hands.specs.Pollers.{IsPoller}
-use Rattle.run_hands.specs.Servers.{IsServer}
-use Rattle.run_hands.specs.declared.drain.Drain.{Drain}
-use Rattle.run_hands.specs.declared.drain.Exit.{Exit}
-use Rattle.run_hands.specs.declared.poller.Poller.{Poller}
-use Rattle.run_hands.specs.declared.server.Server.{Server}
-use Rattle.run_records.specs.Polling.{IsPolling}
-use Rattle.run_records.specs.Replying.{IsReplying}
+use Rattle.run_workers.specs.Hands.Drains.{IsDrain}
+use Rattle.run_workers.specs.Hands.Pollers.{IsPoller}
+use Rattle.run_workers.specs.Hands.Servers.{IsServer}
+use Rattle.run_workers.specs.declared.drain.Drain.{Drain}
+use Rattle.run_workers.specs.declared.drain.Exit.{Exit}
+use Rattle.run_workers.specs.declared.poller.Poller.{Poller}
+use Rattle.run_workers.specs.declared.server.Server.{Server}
+use Rattle.run_workers.specs.Records.Polling.{IsPolling}
+use Rattle.run_workers.specs.Records.Replying.{IsReplying}
 use Rattle.run_workers.specs.Stages.{StageView}
-use Rattle.run_actors.specs.declared.seats.Seats.{Seats}
+use Rattle.run_words.specs.declared.seats.Seats.{Seats}
 
 -- Each item of a list is so at its index.
 abbrev pub Each : {A : Type 0} → (ℕ → A → Type 0) → List A → Type 0

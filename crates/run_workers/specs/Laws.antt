@@ -11,19 +11,19 @@ use Rattle.board_api.specs.Views.{BoardView}
 use Rattle.hop_rule.specs.declared.sizes.BoardSizes.{BoardSizes}
 use Rattle.run_words.specs.Values.{flows_in}
 use Rattle.steer_model.specs.State.Setup.{Setup}
-use Rattle.run_hands.specs.Drains.{IsDrain}
-use Rattle.run_hands.specs.Pollers.{IsPoller}
-use Rattle.run_hands.specs.Servers.{HasFlowsBelow, IsServer}
-use Rattle.run_hands.specs.declared.drain.Drain.{Drain}
-use Rattle.run_hands.specs.declared.drain.Exit.{Exit}
-use Rattle.run_hands.specs.declared.drain.Exit.TheVariants.{Inboxes, Port}
-use Rattle.run_hands.specs.declared.poller.Poller.{Poller}
-use Rattle.run_hands.specs.declared.server.Server.{Server}
-use Rattle.run_hands.specs.declared.shared.Shared.{Shared}
+use Rattle.run_workers.specs.Hands.Drains.{IsDrain}
+use Rattle.run_workers.specs.Hands.Pollers.{IsPoller}
+use Rattle.run_workers.specs.Hands.Servers.{HasFlowsBelow, IsServer}
+use Rattle.run_workers.specs.declared.drain.Drain.{Drain}
+use Rattle.run_workers.specs.declared.drain.Exit.{Exit}
+use Rattle.run_workers.specs.declared.drain.Exit.TheVariants.{Inboxes, Port}
+use Rattle.run_workers.specs.declared.poller.Poller.{Poller}
+use Rattle.run_workers.specs.declared.server.Server.{Server}
+use Rattle.run_words.specs.declared.shared.Shared.{Shared}
 use Rattle.run_workers.specs.Actors.{Each, actor_at}
 use Rattle.run_workers.specs.Stages.{HasSizes, StageView, stage_view}
 use Rattle.run_workers.specs.Workers.{IsWorking, is_free}
-use Rattle.run_actors.specs.declared.seats.Seats.{Seats}
+use Rattle.run_words.specs.declared.seats.Seats.{Seats}
 use Rattle.run_workers.specs.declared.worker.Worker.{Worker}
 
 -- ---- the beginning

@@ -1,3 +1,5 @@
+pub mod Hands
+pub mod Records
 pub mod Stages
 pub mod Actors
 pub mod Workers

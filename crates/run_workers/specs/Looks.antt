@@ -4,7 +4,7 @@ use Rattle.std.specs.List.{count_by}
 use Rattle.hint_words.specs.declared.step.HintStep.{HintStep}
 use Rattle.hint_words.specs.declared.step.HintStep.TheVariants.{ClearIf, Load, Store}
 use Rattle.run_words.specs.declared.hint_word.TheConstants.{DONE_WORD}
-use Rattle.run_actors.specs.declared.seats.Seats.{Seats}
+use Rattle.run_words.specs.declared.seats.Seats.{Seats}
 
 -- whether a step loads the word that says that all packets have arrived
 abbrev pub is_look : HintStep → Bool

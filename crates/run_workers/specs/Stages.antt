@@ -4,9 +4,9 @@ use Rattle.history.specs.declared.arrival.Arrival.{Arrival}
 use Rattle.plan_reader.specs.declared.limits.TheConstants.{MAX_PLAN_FILTERS}
 use Rattle.board_api.specs.Views.{BoardView}
 use Rattle.run_words.specs.declared.hint_word.TheConstants.{QUEUE_WORDS}
-use Rattle.run_hands.specs.Pollers.{HasQueueSettings}
-use Rattle.run_hands.specs.Servers.{HasTransmitSettings}
-use Rattle.run_hands.specs.declared.shared.Shared.{Shared}
+use Rattle.run_workers.specs.Hands.Pollers.{HasQueueSettings}
+use Rattle.run_workers.specs.Hands.Servers.{HasTransmitSettings}
+use Rattle.run_words.specs.declared.shared.Shared.{Shared}
 
 -- A stage as contracts see it: its two boards, what all threads share beside them, and the arrivals
 -- once all packets have arrived.

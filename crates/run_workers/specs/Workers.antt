@@ -12,17 +12,17 @@ use Rattle.board_api.specs.Calls.Rights.{HasOpen, IsOutside}
 use Rattle.board_api.specs.Seats.{BoardSeatView}
 use Rattle.board_api.specs.Views.{BoardView}
 use Rattle.hop_delivery.specs.Orders.Turns.{Explained, Turn}
-use Rattle.run_hands.specs.Servers.{HasFlowsBelow}
-use Rattle.run_hands.specs.declared.drain.Drain.{Drain}
-use Rattle.run_hands.specs.declared.drain.Exit.TheVariants.{Inboxes, Port}
-use Rattle.run_hands.specs.declared.poller.Poller.{Poller}
-use Rattle.run_hands.specs.declared.server.Server.{Server}
-use Rattle.run_records.specs.Growth.{Grows}
-use Rattle.run_records.specs.Storing.{StoresAreFor}
+use Rattle.run_workers.specs.Hands.Servers.{HasFlowsBelow}
+use Rattle.run_workers.specs.declared.drain.Drain.{Drain}
+use Rattle.run_workers.specs.declared.drain.Exit.TheVariants.{Inboxes, Port}
+use Rattle.run_workers.specs.declared.poller.Poller.{Poller}
+use Rattle.run_workers.specs.declared.server.Server.{Server}
+use Rattle.run_workers.specs.Records.Growth.{Grows}
+use Rattle.run_workers.specs.Records.Storing.{StoresAreFor}
 use Rattle.run_workers.specs.Actors.{Each, IsForeign, IsTurnOfOne, KeepsDrain, KeepsPoller}
 use Rattle.run_workers.specs.Actors.{KeepsServer}
 use Rattle.run_workers.specs.Stages.{HasSizes, StageView}
-use Rattle.run_actors.specs.declared.seats.Seats.{Seats}
+use Rattle.run_words.specs.declared.seats.Seats.{Seats}
 use Rattle.run_workers.specs.declared.worker.Worker.{Worker}
 
 -- Between the calls of its actors a seat of this board is outside its gate, has not closed it, and

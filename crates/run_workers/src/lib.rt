@@ -2,12 +2,30 @@
 //! transmit queues, in turns.
 #![tactic(auto)]
 
+mod drain;
+mod hand_laws;
+mod holding;
 mod laws;
+mod poller;
+mod record_laws;
+mod server;
 mod stage;
 mod work;
 mod worker;
 
+pub use drain::{Drain, Exit};
+pub use hand_laws::{
+    applications_stay_at_their_seats, drains_stay_beside_others, polls_stay_at_their_seats,
+    turns_go_on,
+};
+pub use holding::hold;
 pub use laws::{arrivals_become_known, free_workers_rest, workers_begin};
+pub use poller::{Poller, Reading};
+pub use record_laws::{
+    applications_store_writes, calls_add_steps, pollers_begin, pollers_keep_their_turns,
+    servers_begin, servers_keep_their_turns,
+};
+pub use server::Server;
 pub use stage::Stage;
 pub use work::{Ended, MAX_IDLE_TURNS};
 pub use worker::Worker;

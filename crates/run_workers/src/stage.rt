@@ -1,6 +1,6 @@
 //! What the workers of a run share.
 use history::Arrival;
-use run_hands::Shared;
+use run_words::Shared;
 use steer_base::Journal;
 
 /// What the workers of a run share.

@@ -12,8 +12,7 @@ ghost use Rattle.run_workers.specs.declared.work.TheConstants.{MAX_IDLE_TURNS};
 use crate::stage::Stage;
 use crate::worker::Worker;
 use board_api::Board;
-use run_actors::{Pace, Seats};
-use run_words::{HintWord, is_done};
+use run_words::{HintWord, Pace, Seats, is_done};
 use std::sync::Wait;
 
 /// After this many turns in a row that did nothing a worker ends.

@@ -5,10 +5,12 @@ ghost use Rattle.run_workers.specs.Stages.{stage_view};
 ghost use Rattle.run_workers.specs.Workers.{GoesOn, IsWorking, drains_are_free, is_free};
 ghost use Rattle.run_workers.specs.Workers.{pollers_are_free, servers_are_free};
 
+use crate::drain::Drain;
+use crate::poller::Poller;
+use crate::server::Server;
 use crate::stage::Stage;
 use board_api::Board;
-use run_actors::Seats;
-use run_hands::{Drain, Poller, Server};
+use run_words::Seats;
 use std::sync::Wait;
 
 /// A worker. Of so many workers, worker `w` plays the actors whose number is `w` modulo the number

@@ -1,3 +1,4 @@
+pub mod CompoundSteps
 pub mod Sweep
 pub mod Delivery
 pub mod Histories

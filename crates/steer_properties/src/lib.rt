@@ -1,10 +1,12 @@
 //! What the history of every replay says: choices by the rule, delivery in order, sweeps that end.
 #![tactic(auto)]
 
+mod compound_laws;
 mod delivery_laws;
 mod laws;
 mod sweep_laws;
 
+pub use compound_laws::{a_drain_empties_its_processor, a_ship_empties_its_transmit_queue};
 pub use delivery_laws::every_replay_delivers_in_order;
 pub use laws::{
     a_flow_moves_only_where_nothing_of_it_is_outstanding, commands_are_given_once,

@@ -15,7 +15,7 @@ use crate::telling::tell;
 use crate::words::live_command;
 use outside_io::{Desk, Sink};
 use replay::{every_report_has_the_headline, every_run_has_the_headline};
-use run_actors::Pace;
+use run_words::Pace;
 use std::alloc::Global;
 use std::sync::Wait;
 use std::thread::Threads;

@@ -16,7 +16,7 @@ use crate::report_text::write_report;
 use history::History;
 use outside_io::{Desk, Sink};
 use replay::Shown;
-use run_actors::Pace;
+use run_words::Pace;
 use std::alloc::Global;
 use std::sync::Wait;
 use std::thread::Threads;

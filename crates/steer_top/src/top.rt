@@ -9,7 +9,7 @@ use crate::live::steer_live;
 use crate::still::steer_still;
 use crate::words::means_run;
 use outside_io::{Desk, Sink};
-use run_actors::Pace;
+use run_words::Pace;
 use std::alloc::Global;
 use std::sync::Wait;
 use std::thread::Threads;

@@ -8,8 +8,8 @@ use Rattle.steer_base.specs.Journals.{Journal, journal}
 use Rattle.hop_rule.specs.declared.sizes.BoardSizes.{BoardSizes}
 use Rattle.plan_reader.specs.declared.plan.Plan.{Plan}
 use Rattle.steer_model.specs.Good.Inputs.{Input}
-use Rattle.run_hands.specs.declared.poller.Poller.{Poller}
-use Rattle.run_hands.specs.declared.server.Server.{Server}
+use Rattle.run_workers.specs.declared.poller.Poller.{Poller}
+use Rattle.run_workers.specs.declared.server.Server.{Server}
 use Rattle.run_workers.specs.Actors.{actor_at}
 use Rattle.run_crew.specs.Crews.{IsPlayed, pollers_of, servers_of}
 use Rattle.run_crew.specs.declared.seated.Seated.{Seated}

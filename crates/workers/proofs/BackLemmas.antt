@@ -14,8 +14,9 @@ use Rattle.steer_model.specs.State.Setup.{Setup}
 use Rattle.steer_model.specs.State.Start.{setup_of}
 use Rattle.run_words.specs.Numbers.{word_count}
 use Rattle.rss_table.specs.Redirection.{Redirection}
-use Rattle.run_actors.specs.Wires.{ArePushed, Ends}
-use Rattle.run_actors.specs.declared.seats.Seats.{Seats}
+use Rattle.workers.specs.Wires.{ArePushed}
+use Rattle.run_crew.specs.Routes.{Ends}
+use Rattle.run_words.specs.declared.seats.Seats.{Seats}
 use Rattle.workers.specs.BoardLaws.{BoardsHaveSettings, HasItsSettings}
 use Rattle.run_controller.specs.Stages.{stage}
 use Rattle.run_workers.specs.Stages.{stage_view}

@@ -24,10 +24,10 @@ use Rattle.steer_model.specs.Capture.FlowCounts.{flow_count}
 use Rattle.run_words.specs.Codes.{ReadBack}
 use Rattle.run_words.specs.Values.{flows_in, flows_word}
 use Rattle.run_coupling.proofs.Tries.RangeLemmas.{fit_first}
-use Rattle.run_hands.specs.Servers.{HasFlowsBelow}
-use Rattle.run_hands.specs.declared.drain.Drain.{Drain}
-use Rattle.run_hands.specs.declared.drain.Exit.{Exit}
-use Rattle.run_hands.specs.declared.drain.Exit.TheVariants.{Inboxes, Port}
+use Rattle.run_workers.specs.Hands.Servers.{HasFlowsBelow}
+use Rattle.run_workers.specs.declared.drain.Drain.{Drain}
+use Rattle.run_workers.specs.declared.drain.Exit.{Exit}
+use Rattle.run_workers.specs.declared.drain.Exit.TheVariants.{Inboxes, Port}
 use Rattle.run_workers.specs.Actors.{Each, actor_at}
 use Rattle.run_workers.specs.Laws.{IsNew, IsNewDrain, IsNewPoller, IsNewServer, WorkersBegin}
 use Rattle.run_workers.specs.Stages.{HasSizes, StageView, stage_view}
@@ -37,7 +37,7 @@ use Rattle.workers.specs.declared.boards.AllSeats.{AllSeats}
 use Rattle.workers.specs.declared.boards.RunBoards.{RunBoards}
 use Rattle.run_crew.specs.Crews.{AreWorking, drains_of, pollers_of, servers_of, ships_of}
 use Rattle.run_crew.specs.declared.seated.Seated.{Seated}
-use Rattle.run_actors.specs.declared.seats.Seats.{Seats}
+use Rattle.run_words.specs.declared.seats.Seats.{Seats}
 use Rattle.workers.specs.Actors.{AreFirst, ArePaired, IsFirstDrain, RingEnd, first_count}
 use Rattle.workers.specs.Crews.{IsCrewOf}
 use Rattle.workers.specs.StartLaws.{CrewsBegin}

@@ -10,7 +10,7 @@ use Rattle.hop_board.specs.contracts.board.Board.{the_row as board_row}
 use Rattle.hop_board.proofs.Crosses.{board_sync}
 use Rattle.board_api.proofs.Crosses.{seat_send}
 use Rattle.linearization.proofs.seat.OrderedSeat.TheSendSync as ordered
-use Rattle.run_hands.proofs.Crosses.{shared_part_sync as shared_sync}
+use Rattle.run_words.proofs.Crosses.{shared_part_sync as shared_sync}
 use Rattle.run_workers.specs.contracts.stage.Stage as stage
 use Rattle.run_workers.proofs.worker.Worker.TheSendSync as worker
 use Rattle.run_crew.specs.contracts.seated.Seated.{the_row as seated_row}

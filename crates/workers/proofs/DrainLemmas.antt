@@ -6,9 +6,9 @@ use Rattle.std.proofs.lemmas.List.Elements.{All-nil}
 use Rattle.hop_rule.proofs.Lists.{none-some, some-is}
 use Rattle.hop_rule.specs.Lanes.{idle}
 use Rattle.steer_model.specs.State.Setup.{Setup}
-use Rattle.run_hands.specs.Drains.{IsDrain, hand_phase}
-use Rattle.run_hands.specs.declared.drain.Drain.{Drain}
-use Rattle.run_hands.specs.declared.drain.Exit.{Exit}
+use Rattle.run_workers.specs.Hands.Drains.{IsDrain, hand_phase}
+use Rattle.run_workers.specs.declared.drain.Drain.{Drain}
+use Rattle.run_workers.specs.declared.drain.Exit.{Exit}
 use Rattle.run_workers.specs.Actors.{Each}
 use Rattle.workers.specs.Actors.{IsFirstDrain}
 

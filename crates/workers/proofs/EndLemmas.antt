@@ -30,10 +30,10 @@ use Rattle.steer_model.specs.Good.Commands.{AreGiven}
 use Rattle.steer_model.specs.Good.Inputs.{Input, setup_in}
 use Rattle.run_coupling.specs.Laws.SharedCodes.{SharedCodesExist}
 use Rattle.run_coupling.specs.Coupling.Boards.{IsReceiveBoard, IsTransmitBoard}
-use Rattle.run_hands.specs.declared.poller.Poller.{Poller}
-use Rattle.run_hands.specs.declared.server.Server.{Server}
-use Rattle.run_actors.specs.Laws.{WireKeepsCoupling}
-use Rattle.run_actors.specs.Wires.{Ends}
+use Rattle.run_workers.specs.declared.poller.Poller.{Poller}
+use Rattle.run_workers.specs.declared.server.Server.{Server}
+use Rattle.run_crew.specs.ArrivalLaws.{WireKeepsCoupling}
+use Rattle.run_crew.specs.Routes.{Ends}
 use Rattle.workers.specs.Boards.{receive_sizes, transmit_sizes}
 use Rattle.workers.specs.BoardLaws.{PlansFitBoards}
 use Rattle.run_controller.specs.Journals.{Attempted}

@@ -13,8 +13,8 @@ use Rattle.hop_rule.proofs.Lists.{none-some, some-is}
 use Rattle.plan_reader.specs.declared.plan.Plan.{Plan}
 use Rattle.plan_reader.specs.declared.plan.QueuePlan.{QueuePlan}
 use Rattle.run_words.specs.Values.{flows_word}
-use Rattle.run_hands.specs.Pollers.{IsPoller}
-use Rattle.run_hands.specs.declared.poller.Poller.{Poller}
+use Rattle.run_workers.specs.Hands.Pollers.{IsPoller}
+use Rattle.run_workers.specs.declared.poller.Poller.{Poller}
 use Rattle.workers.specs.Actors.{ArePaired, IsFirstPoller, RingEnd}
 use Rattle.workers.proofs.EachLemmas.{each_end, each_none}
 

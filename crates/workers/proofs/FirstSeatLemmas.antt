@@ -7,7 +7,7 @@ use Rattle.hop_rule.proofs.Lists.{none-some, some-is}
 use Rattle.board_api.specs.Seats.{BoardSeatView}
 use Rattle.hop_board.specs.Named.{board_seat}
 use Rattle.plan_reader.specs.declared.plan.Plan.{Plan}
-use Rattle.run_actors.specs.declared.seats.Seats.{Seats}
+use Rattle.run_words.specs.declared.seats.Seats.{Seats}
 use Rattle.workers.specs.Boards.{AreSeatsOf}
 use Rattle.workers.specs.declared.boards.AllSeats.{AllSeats}
 use Rattle.workers.specs.declared.boards.RunBoards.{RunBoards}

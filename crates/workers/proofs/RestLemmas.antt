@@ -14,7 +14,7 @@ use Rattle.board_api.specs.Closings.Closings.{IsAtRest}
 use Rattle.board_api.specs.Seats.{BoardSeatView}
 use Rattle.board_api.specs.Views.{BoardView}
 use Rattle.steer_model.specs.Good.Inputs.{Input}
-use Rattle.run_actors.specs.declared.seats.Seats.{Seats}
+use Rattle.run_words.specs.declared.seats.Seats.{Seats}
 use Rattle.run_controller.specs.Stages.{IsSeated}
 use Rattle.run_workers.specs.Actors.{Each}
 use Rattle.run_workers.specs.Laws.{FreeWorkersRest}

@@ -8,8 +8,8 @@ use Rattle.std.proofs.lemmas.Option.{slice_get_within}
 use Rattle.rtrb.specs.Ring.{IsPair, received, sent}
 use Rattle.workers.specs.Lists.{ArePairs, AreReceived}
 use Rattle.workers.proofs.TakenLemmas.{get-next}
-use Rattle.run_hands.specs.declared.poller.Poller.{Poller}
-use Rattle.run_actors.specs.declared.wire.Wire.{Wire}
+use Rattle.run_workers.specs.declared.poller.Poller.{Poller}
+use Rattle.workers.specs.declared.wire.Wire.{Wire}
 
 -- What the rings of the pollers in front were given is known, and the other rings are as they were.
 pub record AreSettled (before now : Wire) (front : List Poller) : Type 0 where

@@ -12,8 +12,8 @@ use Rattle.hop_rule.specs.declared.sizes.BoardSizes.{BoardSizes}
 use Rattle.plan_reader.specs.Ranges.{commands_of}
 use Rattle.plan_reader.specs.declared.plan.Plan.{Plan}
 use Rattle.plan_reader.specs.declared.plan.QueuePlan.{QueuePlan}
-use Rattle.run_actors.specs.Wires.{ArePushed}
-use Rattle.run_actors.specs.declared.wire.Wire.{Wire}
+use Rattle.workers.specs.Wires.{ArePushed}
+use Rattle.workers.specs.declared.wire.Wire.{Wire}
 use Rattle.workers.specs.Boards.{AreBoardsOf, AreSeatsOf}
 use Rattle.workers.specs.declared.boards.AllSeats.{AllSeats}
 use Rattle.workers.specs.declared.boards.RunBoards.{RunBoards}

@@ -7,8 +7,8 @@ use Rattle.board_api.specs.declared.lists.BoardLists.{BoardLists}
 use Rattle.plan_reader.specs.declared.plan.Plan.{Plan}
 use Rattle.steer_model.specs.Good.Inputs.{Input}
 use Rattle.run_words.specs.declared.hint_word.TheConstants.{QUEUE_WORDS}
-use Rattle.run_hands.specs.Pollers.{HasQueueSettings}
-use Rattle.run_hands.specs.Servers.{HasTransmitSettings}
+use Rattle.run_workers.specs.Hands.Pollers.{HasQueueSettings}
+use Rattle.run_workers.specs.Hands.Servers.{HasTransmitSettings}
 use Rattle.run_coupling.specs.Coupling.Boards.{IsReceiveBoard, IsTransmitBoard}
 use Rattle.workers.specs.Boards.{AreBoardsOf, receive_sizes, transmit_sizes}
 use Rattle.workers.specs.declared.boards.RunBoards.{RunBoards}

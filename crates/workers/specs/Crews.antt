@@ -1,7 +1,7 @@
 -- The workers of a run, each with the actors that were dealt to it.
 use Rattle.std.specs.Prelude.{◌≡◌, ℕ, List, length, map}
 use Rattle.workers.specs.RoundRobin.{AreDealt}
-use Rattle.run_actors.specs.declared.seats.Seats.{Seats}
+use Rattle.run_words.specs.declared.seats.Seats.{Seats}
 use Rattle.run_crew.specs.Crews.{drains_of, pollers_of, servers_of, ships_of}
 use Rattle.run_crew.specs.declared.seated.Seated.{Seated}
 use Rattle.workers.specs.declared.actors.Actors.{Actors}

@@ -8,8 +8,8 @@ use Rattle.history.specs.Lists.{list_at}
 use Rattle.history.specs.declared.history.History.{History}
 use Rattle.board_api.specs.Closings.Closings.{HasEnded}
 use Rattle.board_api.specs.Seats.{BoardSeatView}
-use Rattle.run_hands.specs.declared.poller.Poller.{Poller}
-use Rattle.run_hands.specs.declared.server.Server.{Server}
+use Rattle.run_workers.specs.declared.poller.Poller.{Poller}
+use Rattle.run_workers.specs.declared.server.Server.{Server}
 use Rattle.run_crew.specs.CountLaws.{played}
 use Rattle.run_crew.specs.Crews.{pollers_of, servers_of}
 use Rattle.run_crew.specs.declared.seated.Seated.{Seated}

@@ -1,3 +1,4 @@
+pub mod Wires
 pub mod RoundRobin
 pub mod Boards
 pub mod BoardLaws

@@ -1,8 +1,8 @@
 -- The rings of a run at its end.
 use Rattle.std.specs.Prelude.{◌≡◌, ℕ, ◌++◌, List, Some, length, slice_get, slice_index_or}
 use Rattle.rtrb.specs.Ring.{IsPair, received, sent}
-use Rattle.run_actors.specs.declared.wire.Wire.{Wire}
-use Rattle.run_hands.specs.declared.poller.Poller.{Poller}
+use Rattle.workers.specs.declared.wire.Wire.{Wire}
+use Rattle.run_workers.specs.declared.poller.Poller.{Poller}
 
 -- There is a poller for each ring of the wire, and it has the other end of the ring.
 pub record ArePairs (wire : Wire) (pollers : List Poller) : Type 0 where

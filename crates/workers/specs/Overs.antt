@@ -9,9 +9,10 @@ use Rattle.plan_reader.specs.Ranges.{commands_of}
 use Rattle.steer_model.specs.Good.Commands.{AreGiven}
 use Rattle.steer_model.specs.Good.Inputs.{Input, setup_in}
 use Rattle.steer_model.specs.State.Ranges.{AreOfFlows}
-use Rattle.run_actors.specs.Wires.{Ends, HintView}
-use Rattle.run_actors.specs.declared.seats.Seats.{Seats}
-use Rattle.run_actors.specs.declared.wire.Wire.{Wire}
+use Rattle.run_crew.specs.Routes.{Ends}
+use Rattle.run_words.specs.HintViews.{HintView}
+use Rattle.run_words.specs.declared.seats.Seats.{Seats}
+use Rattle.workers.specs.declared.wire.Wire.{Wire}
 use Rattle.workers.specs.Boards.{AreBoardsOf}
 use Rattle.workers.specs.declared.boards.RunBoards.{RunBoards}
 use Rattle.run_controller.specs.Journals.{Attempted}

@@ -3,7 +3,7 @@ use Rattle.std.specs.Prelude.{◌≡◌, ℕ, false, [], ◌∷◌, ◌++◌, le
 use Rattle.linearization.specs.Seats.{SeatView, seat_view}
 use Rattle.hint_words.specs.declared.step.HintStep.{HintStep}
 use Rattle.hop_board.specs.Named.{board_seat}
-use Rattle.run_actors.specs.declared.seats.Seats.{Seats}
+use Rattle.run_words.specs.declared.seats.Seats.{Seats}
 use Rattle.workers.specs.declared.boards.AllSeats.{AllSeats}
 use Rattle.workers.specs.declared.boards.RunBoards.{RunBoards}
 use Rattle.workers.specs.declared.seats.RunSeats.{RunSeats}

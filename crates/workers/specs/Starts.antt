@@ -7,7 +7,7 @@ use Rattle.steer_base.specs.declared.packet.Packet.{Packet}
 use Rattle.board_api.specs.Views.{BoardView}
 use Rattle.plan_reader.specs.Ranges.{commands_of}
 use Rattle.plan_reader.specs.declared.plan.Plan.{Plan}
-use Rattle.run_actors.specs.Wires.{ArePushed, HasRings}
+use Rattle.workers.specs.Wires.{ArePushed, HasRings}
 use Rattle.workers.specs.Boards.{AreBoardsOf}
 use Rattle.workers.specs.declared.boards.RunBoards.{RunBoards}
 use Rattle.run_controller.specs.Settings.{first_known}

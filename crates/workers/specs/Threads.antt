@@ -10,8 +10,9 @@ use Rattle.plan_reader.specs.declared.plan.Plan.{Plan}
 use Rattle.steer_model.specs.Good.Commands.{AreGiven}
 use Rattle.steer_model.specs.State.Start.{setup_of}
 use Rattle.run_words.specs.Numbers.{word_count}
-use Rattle.run_hands.specs.declared.shared.Shared.{Shared}
-use Rattle.run_actors.specs.Wires.{ArePushed, Ends, HasRings, KeepsRings}
+use Rattle.run_words.specs.declared.shared.Shared.{Shared}
+use Rattle.workers.specs.Wires.{ArePushed, HasRings, KeepsRings}
+use Rattle.run_crew.specs.Routes.{Ends}
 use Rattle.run_controller.specs.Journals.{Attempted}
 use Rattle.run_controller.specs.Settings.{first_known}
 use Rattle.run_controller.specs.Stages as controllers

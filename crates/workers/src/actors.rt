@@ -8,7 +8,7 @@ ghost use Rattle.workers.specs.Actors.{IsFirstServer};
 
 use plan_reader::Plan;
 use rtrb::{Producer, RingBuffer};
-use run_hands::{Drain, Exit, Poller, Server};
+use run_workers::{Drain, Exit, Poller, Server};
 use std::alloc::Global;
 use steer_base::{OutOfMemory, Packet};
 use steer_model::flow_count;

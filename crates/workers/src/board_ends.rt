@@ -8,7 +8,7 @@ use crate::spare::SpareSeats;
 use board_api::{BoardLists, BoardSeat};
 use hint_words::{HintSeat, Hints};
 use hop_board::Board;
-use run_actors::Seats;
+use run_words::Seats;
 use steer_base::Journal;
 
 /// Closes both boards and the hint words with the seats of all workers, of the controller, and of

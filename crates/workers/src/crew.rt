@@ -5,10 +5,9 @@ ghost use Rattle.workers.specs.Crews.{AreDealtOut, HasHands, HaveHands, IsCrewOf
 
 use crate::actors::Actors;
 use crate::round_robin::deal;
-use run_actors::Seats;
 use run_crew::Seated;
-use run_hands::{Drain, Poller, Server};
-use run_workers::Worker;
+use run_words::Seats;
+use run_workers::{Drain, Poller, Server, Worker};
 use std::alloc::Global;
 use steer_base::OutOfMemory;
 

@@ -19,5 +19,6 @@ mod spare;
 mod start;
 mod start_laws;
 mod threads;
+mod wire;
 
 pub use running::run_threads;

@@ -3,9 +3,9 @@ ghost use Rattle.std.specs.Prelude.{◌≡◌, [], length, map};
 ghost use Rattle.steer_base.specs.Journals.{journal};
 ghost use Rattle.workers.specs.Lists.{ArePairs, AreReceived};
 
+use crate::wire::Wire;
 use history::{Sent, SockWrite};
-use run_actors::Wire;
-use run_hands::{Poller, Server};
+use run_workers::{Poller, Server};
 use steer_base::{Chosen, Journal, List};
 
 /// What the pollers leave, by receive queue.

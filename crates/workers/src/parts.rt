@@ -8,10 +8,9 @@ ghost use Rattle.workers.specs.Spares.{AreSeats};
 
 use crate::round_robin::gather;
 use crate::spare::SpareSeats;
-use run_actors::Seats;
 use run_crew::Seated;
-use run_hands::{Poller, Server};
-use run_workers::Worker;
+use run_words::Seats;
+use run_workers::{Poller, Server, Worker};
 use steer_base::Journal;
 
 /// What the workers of a run leave, by worker: its seats, its pollers and its applications.

@@ -5,7 +5,7 @@ ghost use Rattle.workers.specs.Seats.{AreSeated};
 
 use crate::boards::AllSeats;
 use hint_words::HintSeat;
-use run_actors::Seats;
+use run_words::Seats;
 use std::alloc::Global;
 use steer_base::OutOfMemory;
 

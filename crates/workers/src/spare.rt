@@ -6,7 +6,7 @@ use board_api::BoardSeat;
 use hint_words::HintSeat;
 use history::{Sent, SockWrite};
 use plan_reader::Plan;
-use run_hands::{Poller, Server};
+use run_workers::{Poller, Server};
 use std::alloc::Global;
 use steer_base::{Chosen, Journal, List, OutOfMemory};
 

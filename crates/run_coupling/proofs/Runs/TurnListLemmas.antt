@@ -12,7 +12,7 @@ use Rattle.steer_base.specs.declared.choice.Chosen.{Chosen}
 use Rattle.hop_rule.specs.Moments.{nth_step}
 use Rattle.hop_delivery.specs.Orders.Runs.{Story, turns_of}
 use Rattle.hop_delivery.specs.Orders.Turns.{Turn}
-use Rattle.run_coupling.specs.Coupling.Tries.{oldest_first}
+use Rattle.run_words.specs.Lists.{oldest_first}
 use Rattle.run_coupling.specs.Coupling.Turns.{KeepsTurns}
 use Rattle.hop_rule.specs.declared.step.BoardStep.{BoardStep}
 

@@ -12,7 +12,8 @@ use Rattle.plan_reader.specs.Ranges.{command_in, commands_of, step_is_within}
 use Rattle.plan_reader.specs.Ranges.{steps_in_list}
 use Rattle.plan_reader.specs.declared.plan.Plan.{Plan}
 use Rattle.steer_model.specs.Good.Commands.{AreGiven}
-use Rattle.run_coupling.specs.Coupling.Tries.{Try, oldest_first}
+use Rattle.run_coupling.specs.Coupling.Tries.{Try}
+use Rattle.run_words.specs.Lists.{oldest_first}
 use Rattle.run_coupling.proofs.Tries.RangeLemmas.{IsWithinPlan}
 
 -- ---- parts of lists

@@ -22,7 +22,8 @@ use Rattle.hop_delivery.specs.Orders.Commands.{SettingChange}
 use Rattle.steer_model.specs.Steps.Commands.{is_done}
 use Rattle.steer_model.specs.Good.Inputs.{settings_after}
 use Rattle.steer_model.specs.State.Settings.{Settings, changed}
-use Rattle.run_coupling.specs.Coupling.Tries.{AllSetByAnswer, SetsByAnswer, Try, oldest_first}
+use Rattle.run_coupling.specs.Coupling.Tries.{AllSetByAnswer, SetsByAnswer, Try}
+use Rattle.run_words.specs.Lists.{oldest_first}
 use Rattle.run_coupling.specs.Coupling.Tries.{openings_by}
 use Rattle.run_coupling.specs.Coupling.Tries.{set_or_opening, sets_and_openings, settings_by}
 use Rattle.run_coupling.specs.Coupling.Tries.{steps_of_tries, tries_up_to, words_after}

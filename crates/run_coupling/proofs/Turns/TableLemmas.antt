@@ -34,7 +34,7 @@ use Rattle.steer_model.specs.State.Setup.{packet_hash}
 use Rattle.run_coupling.specs.Laws.Drops.{DropsFollow}
 use Rattle.run_coupling.specs.Laws.OwnTables.{TablesAreEntries, TablesRule}
 use Rattle.run_coupling.specs.Coupling.OwnTables.{table_before}
-use Rattle.run_coupling.specs.Coupling.Tries.{oldest_first}
+use Rattle.run_words.specs.Lists.{oldest_first}
 use Rattle.run_coupling.specs.Coupling.Turns.{IsTurnOf}
 
 migrate-entries : (class want : Option ℕ) (desired : ℕ) (xs ys : ℕ → Entry) (head : ℕ → ℕ)

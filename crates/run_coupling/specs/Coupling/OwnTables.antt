@@ -9,7 +9,7 @@ use Rattle.dev_flow_table.specs.Walks.{since_resize}
 use Rattle.hop_rule.specs.declared.step.BoardStep.TheVariants.{Weighed}
 use Rattle.hop_delivery.specs.Orders.Runs.{Story, Steering, goal_of, turns_of}
 use Rattle.hop_delivery.specs.Orders.Turns.{Turn}
-use Rattle.run_coupling.specs.Coupling.Tries.{oldest_first}
+use Rattle.run_words.specs.Lists.{oldest_first}
 
 -- A turn as its producer's flow table is told of it.
 abbrev pub as_told : Turn → Placement

@@ -18,6 +18,7 @@ use Rattle.steer_model.specs.Good.Inputs.{Input}
 use Rattle.steer_model.specs.State.Settings.{Settings, changed}
 use Rattle.steer_model.specs.Steps.Commands.{is_done}
 use Rattle.run_coupling.specs.Coupling.Inputs.{receive_queues}
+use Rattle.run_words.specs.Lists.{oldest_first}
 
 -- One try of a command: the command with its answer, and the steps that it added to the
 -- controller's
@@ -34,11 +35,6 @@ at_receive t = t.rx_steps
 -- The steps of a try at the transmit board.
 abbrev pub at_transmit : Try → List BoardStep
 at_transmit t = t.tx_steps
-
--- A list the other way round: the oldest first.
-abbrev pub oldest_first : {A : Type 0} → List A → List A
-oldest_first [] = []
-oldest_first (x ∷ xs) = oldest_first xs ++ x ∷ []
 
 -- The steps of all tries at a board.
 abbrev pub steps_of_tries : (Try → List BoardStep) → List Try → List BoardStep

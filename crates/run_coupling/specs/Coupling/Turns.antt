@@ -5,7 +5,7 @@ use Rattle.hop_rule.specs.Moments.{nth_step}
 use Rattle.hop_rule.specs.declared.step.BoardStep.{BoardStep}
 use Rattle.hop_delivery.specs.Orders.Runs.{Story, turns_of}
 use Rattle.hop_delivery.specs.Orders.Turns.{Explained, Turn}
-use Rattle.run_coupling.specs.Coupling.Tries.{oldest_first}
+use Rattle.run_words.specs.Lists.{oldest_first}
 
 -- The seats' own lists are explained by turns, each of a producer of the seat. A producer's journal
 -- has the choices of its turns, and in the end each of its arrivals has its choice, in order.

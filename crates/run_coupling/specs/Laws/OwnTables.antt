@@ -13,7 +13,7 @@ use Rattle.hop_delivery.specs.Closings.TurnReads.{IsBySeen}
 use Rattle.hop_delivery.specs.Orders.Runs.{Story, Steering, turns_of}
 use Rattle.hop_delivery.specs.Orders.Turns.{Turn}
 use Rattle.run_coupling.specs.Coupling.OwnTables.{IsByTable, as_told, goal_by}
-use Rattle.run_coupling.specs.Coupling.Tries.{oldest_first}
+use Rattle.run_words.specs.Lists.{oldest_first}
 use Rattle.run_coupling.specs.Coupling.Turns.{IsTurnOf}
 
 module _ (about : BoardSizes) (own : ℕ → List BoardStep) (lists : BoardLists) where

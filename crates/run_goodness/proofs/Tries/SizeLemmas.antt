@@ -21,7 +21,8 @@ use Rattle.steer_model.specs.State.Start.{initial_settings}
 use Rattle.steer_model.specs.Good.Commands.{refused_with}
 use Rattle.steer_model.specs.Steps.Commands.{is_done}
 use Rattle.run_coupling.specs.Coupling.Answers.{AllAnswered, IsAnswered}
-use Rattle.run_coupling.specs.Coupling.Tries.{Try, oldest_first, settings_by}
+use Rattle.run_coupling.specs.Coupling.Tries.{Try, settings_by}
+use Rattle.run_words.specs.Lists.{oldest_first}
 use Rattle.run_coupling.proofs.Runs.TurnListLemmas.{nth-oldest}
 
 -- a try is among the commands of the history

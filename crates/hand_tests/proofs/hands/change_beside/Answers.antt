@@ -1,4 +1,4 @@
-use Rattle.run_hands.specs.Deltas.{no_lane}
+use Rattle.run_workers.specs.Hands.Deltas.{no_lane}
 use Rattle.hand_tests.proofs.Closing.{made_closed, made_rests, refused_rests}
 use Rattle.hand_tests.proofs.hands.change_beside.Goals as goal
 

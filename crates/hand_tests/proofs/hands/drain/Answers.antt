@@ -1,6 +1,6 @@
 use Rattle.std.proofs.Common.{◌<◌, ◌-◌, ◌%◌, max, ℕ, sym, ap, subst, ◌∙◌, arith}
-use Rattle.run_hands.specs.Deltas.{this_lane}
-use Rattle.run_hands.specs.Drains.{outs_of}
+use Rattle.run_workers.specs.Hands.Deltas.{this_lane}
+use Rattle.run_workers.specs.Hands.Drains.{outs_of}
 use Rattle.hand_tests.specs.Benches.{RestsBut}
 use Rattle.hand_tests.proofs.Resting.{serves_rest}
 use Rattle.hand_tests.proofs.hands.drain.Goals as goal

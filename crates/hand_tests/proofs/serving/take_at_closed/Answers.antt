@@ -1,4 +1,4 @@
-use Rattle.run_hands.specs.Deltas.{no_lane}
+use Rattle.run_workers.specs.Hands.Deltas.{no_lane}
 use Rattle.hand_tests.proofs.Clerks.{receive_opened, took}
 use Rattle.hand_tests.proofs.Closing.{made_closed}
 use Rattle.hand_tests.proofs.serving.take_at_closed.Goals as goal

@@ -3,9 +3,9 @@ use Rattle.std.proofs.Crossing.{crosses}
 use Rattle.linearization.proofs.seat.OrderedSeat.TheSendSync as ordered
 use Rattle.board_api.proofs.Crosses.{seat_send}
 use Rattle.hop_board.proofs.Crosses.{board_sync}
-use Rattle.run_hands.proofs.Crosses.{shared_sync}
-use Rattle.run_hands.proofs.drain.Drain.TheSendSync as drain
-use Rattle.run_hands.proofs.poller.Poller.TheSendSync as poller
+use Rattle.run_words.proofs.Crosses.{shared_sync}
+use Rattle.run_workers.proofs.drain.Drain.TheSendSync as drain
+use Rattle.run_workers.proofs.poller.Poller.TheSendSync as poller
 use Rattle.hand_tests.specs.contracts.bench.Worker.{the_row as worker_row}
 use Rattle.hand_tests.proofs.threads.run_both.Goals as goal
 

@@ -1,6 +1,6 @@
 use Rattle.std.proofs.Common.{◌≡◌, ◌++◌, List, length, map, reverse}
 use Rattle.steer_base.specs.Journals.{journal}
-use Rattle.run_hands.specs.declared.poller.Poller.{Poller}
+use Rattle.run_workers.specs.declared.poller.Poller.{Poller}
 use Rattle.workers.proofs.RingLemmas.{AreSettled}
 use Rattle.workers.proofs.lists.take_queues.Given as goal
 

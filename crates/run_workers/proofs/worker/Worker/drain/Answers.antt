@@ -1,5 +1,5 @@
 use Rattle.std.proofs.Common.{refl}
-use Rattle.run_hands.specs.declared.drain.Exit.TheVariants.{Inboxes}
+use Rattle.run_workers.specs.declared.drain.Exit.TheVariants.{Inboxes}
 use Rattle.run_workers.proofs.AtLemmas.{outs_within, read_at}
 use Rattle.run_workers.proofs.DrainLemmas.{drain_goes_on}
 use Rattle.run_workers.proofs.worker.Worker.drain.Goals as goal

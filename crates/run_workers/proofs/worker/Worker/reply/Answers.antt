@@ -1,5 +1,5 @@
 use Rattle.std.proofs.Common.{refl, subst}
-use Rattle.run_hands.specs.Servers.{RepliesOrKeeps}
+use Rattle.run_workers.specs.Hands.Servers.{RepliesOrKeeps}
 use Rattle.run_workers.proofs.AtLemmas.{read_at, reply_room, reply_words}
 use Rattle.run_workers.proofs.ReplyLemmas.{reply_goes_on}
 use Rattle.run_workers.proofs.worker.Worker.reply.Goals as goal

@@ -1,5 +1,5 @@
 use Rattle.std.proofs.Common.{refl}
-use Rattle.run_hands.specs.declared.drain.Exit.TheVariants.{Port}
+use Rattle.run_workers.specs.declared.drain.Exit.TheVariants.{Port}
 use Rattle.run_workers.proofs.AtLemmas.{outs_within, read_at}
 use Rattle.run_workers.proofs.DrainLemmas.{ship_goes_on}
 use Rattle.run_workers.proofs.worker.Worker.ship.Goals as goal

@@ -1,5 +1,5 @@
 use Rattle.std.proofs.Common.{arith}
-use Rattle.run_records.proofs.ListLemmas.{contains_later}
+use Rattle.run_workers.proofs.Records.ListLemmas.{contains_later}
 use Rattle.run_workers.proofs.LookLemmas.{looks_more}
 use Rattle.run_workers.proofs.SameLemmas.{goes_first, goes_on_twice}
 use Rattle.run_workers.proofs.worker.Worker.work.Goals as goal

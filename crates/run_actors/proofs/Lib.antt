@@ -1,3 +1,0 @@
-mod WireLemmas
-mod WireLaws
-mod GatedLaws

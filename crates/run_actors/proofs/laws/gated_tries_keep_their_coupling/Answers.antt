@@ -1,5 +1,0 @@
-use Rattle.run_actors.proofs.GatedLaws.{gated_tries_keep}
-use Rattle.run_actors.proofs.laws.gated_tries_keep_their_coupling.Goals as goal
-
-pub returns : goal.returns
-returns c = gated_tries_keep

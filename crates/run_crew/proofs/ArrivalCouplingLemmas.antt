@@ -1,0 +1,416 @@
+-- What the wire did gives its coupling invariants.
+use Rattle.std.proofs.Common.{◌≡◌, ◌⊎◌, inl, inr, ℕ, zero, suc, ◌%◌, ◌<◌, ◌==◌, Bool, true, false}
+use Rattle.std.proofs.Common.{List, [], ◌∷◌, ◌++◌, Option, Some, None, length, map, All, ◌+◌, ◌≤◌}
+use Rattle.std.proofs.Common.{refl, sym, ap, subst, ◌∙◌, arith, leb-false}
+use Rattle.std.specs.Prelude.{◌||◌, ◌-◌, ◌/◌, ◌^◌, drop, if◌then◌else◌, nat_le, slice_index}
+use Rattle.std.specs.Prelude.{unwrap_or}
+use Rattle.std.specs.List.{Contains, range_with_len}
+use Rattle.std.proofs.lemmas.List.{length-map}
+use Rattle.std.proofs.lemmas.List.FromFn.{length-range_with_len}
+use Rattle.std.proofs.lemmas.List.Elements.{All-nil, Contains-append_left, Contains-push}
+use Rattle.std.proofs.lemmas.List.Elements.{All-push}
+use Rattle.steer_base.specs.Arrivals.{filter_place, route, table_place}
+use Rattle.steer_base.specs.declared.filter.Filter.{Filter}
+use Rattle.rss_table.specs.Redirection.{Redirection, queue_of}
+use Rattle.hint_words.specs.declared.step.HintStep.{HintStep}
+use Rattle.hint_words.specs.declared.step.HintStep.TheVariants.{ClearIf, Load, Store}
+use Rattle.history.specs.Finding.{found}
+use Rattle.history.specs.Lists.{arrival_of, no_arrival}
+use Rattle.history.specs.Regular.{route_of}
+use Rattle.history.proofs.FindingLemmas.{found-here, found-past}
+use Rattle.history.specs.declared.arrival.Arrival.{Arrival}
+use Rattle.history.specs.declared.history.History.{History}
+use Rattle.hop_rule.proofs.Lists.{none-some, some-is}
+use Rattle.plan_reader.specs.declared.plan.QueuePlan.{QueuePlan}
+use Rattle.run_words.specs.Numbers.{hint_number}
+use Rattle.run_words.specs.Values.{filter_in, place_in, place_word}
+use Rattle.run_words.specs.declared.hint_word.HintWord.TheVariants as word
+use Rattle.run_words.specs.declared.values.TheConstants.{DONE}
+use Rattle.run_words.proofs.ValueLemmas.{only_coded}
+use Rattle.steer_model.specs.Good.Inputs.{Input, setup_in}
+use Rattle.steer_model.specs.State.Setup.{Setup, packet_hash}
+use Rattle.run_coupling.specs.Laws.SharedCodes.{AreShared}
+use Rattle.run_coupling.specs.Coupling.Hints.{HintCodes, IsRouted, WasLoaded}
+use Rattle.run_words.specs.Lists.{oldest_first}
+use Rattle.run_coupling.proofs.Lists.PlaceLemmas.{AreNumbered}
+use Rattle.run_crew.specs.ArrivalLaws.{WireKeepsCoupling}
+use Rattle.run_crew.specs.Routes.{ByFilter, Leads, LooksUpFilter}
+use Rattle.run_words.specs.HintViews.{HintView}
+use Rattle.run_crew.specs.Routes.{Routes, announcement}
+use Rattle.run_words.specs.HintViews.{after_step}
+
+-- ---- members of a list of steps
+
+contains-first : {A : Type 0} (x : A) (xs : List A) → Contains (x ∷ xs) x
+contains-first x xs = (0, omega arith, refl)
+
+contains-later : {A : Type 0} (y : A) (xs : List A) (x : A) → Contains xs x → Contains (y ∷ xs) x
+contains-later y xs x (k, less, is) = (suc k, omega arith, is)
+
+contains-cases : {A : Type 0} (y : A) (xs : List A) (x : A) → Contains (y ∷ xs) x
+    → (y ≡ x) ⊎ Contains xs x
+contains-cases y xs x (zero, less, is) = inl is
+contains-cases y xs x (suc k, less, is) = inr (k, omega arith, is)
+
+-- a load is no store
+store_count : HintStep → ℕ
+store_count (Load n v) = 0
+store_count (Store n v) = 1
+store_count (ClearIf n v done) = 0
+
+number_of : HintStep → ℕ
+number_of (Load n v) = n
+number_of (Store n v) = n
+number_of (ClearIf n v done) = n
+
+value_of : HintStep → ℕ
+value_of (Load n v) = v
+value_of (Store n v) = v
+value_of (ClearIf n v done) = v
+
+past-load : (m w n v : ℕ) (steps : List HintStep) → Contains (Load m w ∷ steps) (Store n v)
+    → Contains steps (Store n v)
+unfolding store_count
+past-load m w n v steps c = elim (contains-cases (Load m w) steps (Store n v) c) [
+  | inl e ↦ (let z = ap store_count e in absurd (omega arith))
+  | inr older ↦ older
+]
+
+-- ---- filters in range
+
+or-cases : (a b : Bool) → (a || b) ≡ false → (a ≡ false) × (b ≡ false)
+or-cases true b e = absurd (cc)
+or-cases false b e = (refl, e)
+
+-- the filter that a word may mean
+abbrev made : ℕ → Filter
+made value = record {
+  queue = (value - 1) % 16;
+  cpu = (value - 1) / 16 % 32;
+  mark = (value - 1) / 512;
+}
+
+in-range : (value queues cpus : ℕ) (f : Filter) → filter_in value queues cpus ≡ Some f
+    → (f.queue < queues) × (f.cpu < cpus)
+in-range value queues cpus f is = by_zero (value == 0) is
+  where
+    by_range : (a b c : Bool) → nat_le queues ((value - 1) % 16) ≡ a
+        → nat_le cpus ((value - 1) / 16 % 32) ≡ b
+        → (if a || (b || c) then None else Some (made value)) ≡ Some f
+        → (f.queue < queues) × (f.cpu < cpus)
+    by_range true b c x y is = none-some f is
+    by_range false true c x y is = none-some f is
+    by_range false false true x y is = none-some f is
+    by_range false false false x y is =
+        subst (λ (f : Filter). (f.queue < queues) × (f.cpu < cpus)) (some-is (made value) f is)
+        (leb-false queues ((value - 1) % 16) x, leb-false cpus ((value - 1) / 16 % 32) y)
+
+    by_zero : (b : Bool)
+        → (if b then None else
+        if nat_le queues ((value - 1) % 16)
+        || (nat_le cpus ((value - 1) / 16 % 32) || nat_le (2 ^ 32) ((value - 1) / 512))
+        then None else Some (made value)) ≡ Some f
+        → (f.queue < queues) × (f.cpu < cpus)
+    by_zero true is = none-some f is
+    by_zero false is =
+        by_range (nat_le queues ((value - 1) % 16)) (nat_le cpus ((value - 1) / 16 % 32))
+        (nat_le (2 ^ 32) ((value - 1) / 512)) refl refl is
+
+-- ---- what a packet's way adds
+
+module _ (given : Setup) (filters : ℕ) (reta : Redirection) where
+  filter-grows : (place : Option ℕ) (old new : HintView) (f : Option Filter)
+      → LooksUpFilter given place old new f → (d : HintStep) → Contains old.steps d
+      → Contains new.steps d
+  filter-grows None old new f looks d c =
+      subst (λ (s : HintView). Contains s.steps d) (sym looks.1) c
+  filter-grows (Some place) old new f looks d c =
+      subst (λ (s : HintView). Contains s.steps d) (sym looks.2)
+      (contains-later (Load (hint_number (word.Filter place)) looks.0) old.steps d c)
+
+  by-filter-grows : (hash : ℕ) (f : Option Filter) (a : Arrival) (old new : HintView)
+      → ByFilter given reta hash f a old new → (d : HintStep) → Contains old.steps d
+      → Contains new.steps d
+  by-filter-grows hash (Some f) a old new by d c =
+      subst (λ (s : HintView). Contains s.steps d) (sym by.1) c
+  by-filter-grows hash None a old new (queue, way, (value, is, same)) d c =
+      subst (λ (s : HintView). Contains s.steps d) (sym same)
+      (contains-later (Load (hint_number (word.Redirection (table_place hash))) value) old.steps d
+      c)
+
+  routes-grow : (hash : Option ℕ) (a : Arrival) (old new : HintView)
+      → Routes given filters reta hash a old new → (d : HintStep) → Contains old.steps d
+      → Contains new.steps d
+  routes-grow None a old new way d c = subst (λ (s : HintView). Contains s.steps d) (sym way.1) c
+  routes-grow (Some hash) a old new (f, mid, looks, by) d c =
+      by-filter-grows hash f a mid new by d
+      (filter-grows (filter_place filters (Some hash)) old mid f looks d c)
+
+  -- no store
+  filter-stores : (place : Option ℕ) (old new : HintView) (f : Option Filter)
+      → LooksUpFilter given place old new f → (n v : ℕ) → Contains new.steps (Store n v)
+      → Contains old.steps (Store n v)
+  filter-stores None old new f looks n v c =
+      subst (λ (s : HintView). Contains s.steps (Store n v)) looks.1 c
+  filter-stores (Some place) old new f looks n v c =
+      past-load (hint_number (word.Filter place)) looks.0 n v old.steps
+      (subst (λ (s : HintView). Contains s.steps (Store n v)) looks.2 c)
+
+  by-filter-stores : (hash : ℕ) (f : Option Filter) (a : Arrival) (old new : HintView)
+      → ByFilter given reta hash f a old new → (n v : ℕ) → Contains new.steps (Store n v)
+      → Contains old.steps (Store n v)
+  by-filter-stores hash (Some f) a old new by n v c =
+      subst (λ (s : HintView). Contains s.steps (Store n v)) by.1 c
+  by-filter-stores hash None a old new (queue, way, (value, is, same)) n v c =
+      past-load (hint_number (word.Redirection (table_place hash))) value n v old.steps
+      (subst (λ (s : HintView). Contains s.steps (Store n v)) same c)
+
+  routes-stores : (hash : Option ℕ) (a : Arrival) (old new : HintView)
+      → Routes given filters reta hash a old new → (n v : ℕ) → Contains new.steps (Store n v)
+      → Contains old.steps (Store n v)
+  routes-stores None a old new way n v c =
+      subst (λ (s : HintView). Contains s.steps (Store n v)) way.1 c
+  routes-stores (Some hash) a old new (f, mid, looks, by) n v c =
+      filter-stores (filter_place filters (Some hash)) old mid f looks n v
+      (by-filter-stores hash f a mid new by n v c)
+
+  -- ---- all arrivals
+
+  leads-grow : (late : List Arrival) (old new : HintView) → Leads given filters reta late old new
+      → (d : HintStep) → Contains old.steps d → Contains new.steps d
+  leads-grow [] old new leads d c = subst (λ (s : HintView). Contains s.steps d) (sym leads) c
+  leads-grow (a ∷ rest) old new (before, mid, more, way, same) d c =
+      subst (λ (s : HintView). Contains s.steps d) (sym same)
+      (contains-later (announcement a) mid.steps d
+      (routes-grow (packet_hash given a.id) a before mid way d
+      (leads-grow rest old before more d c)))
+
+  leads-stores : (late : List Arrival) (old new : HintView) → Leads given filters reta late old new
+      → (n v : ℕ) → Contains new.steps (Store n v)
+      → Contains old.steps (Store n v)
+      ⊎ ((a : Arrival) × Contains late a × (n ≡ hint_number (word.Queue a.id))
+      × (v ≡ place_word a.queue))
+  unfolding number_of value_of
+  leads-stores [] old new leads n v c =
+      inl (subst (λ (s : HintView). Contains s.steps (Store n v)) leads c)
+  leads-stores (a ∷ rest) old new (before, mid, more, way, same) n v c =
+      elim (contains-cases (announcement a) mid.steps (Store n v)
+      (subst (λ (s : HintView). Contains s.steps (Store n v)) same c)) [
+        | inl e ↦ inr (a, contains-first a rest, sym (ap number_of e), sym (ap value_of e))
+        | inr older ↦ elim (leads-stores rest old before more n v
+            (routes-stores (packet_hash given a.id) a before mid way n v older)) [
+              | inl oldest ↦ inl oldest
+              | inr found ↦ inr (found.0, contains-later a rest found.0 found.1, found.2, found.3)
+            ]
+      ]
+
+-- ---- the ties
+
+module _ (i : Input) (h : History) (c : HintCodes) (seats : List HintView) (final : HintView)
+    (shared : AreShared c) (among : Contains seats final) where
+  abbrev reta : Redirection
+  reta = record { queues = length i.plan.queues; entries = i.plan.reta }
+
+  loaded : (n m v w : ℕ) → n ≡ m → v ≡ w → Contains final.steps (Load m w) → WasLoaded seats n v
+  loaded n m v w number value has = record {
+    seat = final;
+    among = among;
+    loads = subst (λ (z : ℕ × ℕ). Contains final.steps (Load z.0 z.1))
+        (λ k. (sym number k, sym value k)) has;
+  }
+
+  queue-count : length (setup_in i).homes ≡ length i.plan.queues
+  queue-count = length-map i.plan.queues (λ (q : QueuePlan). q.home)
+
+  by-filter : (hash : ℕ) (place : Option ℕ) (old mid : HintView) (f : Filter) (a : Arrival)
+      → filter_place i.plan.filters (Some hash) ≡ place
+      → LooksUpFilter (setup_in i) place old mid (Some f)
+      → ((d : HintStep) → Contains mid.steps d → Contains final.steps d)
+      → route_of a ≡ route (Some hash) (Some f.queue) 0 → IsRouted i h c seats (Some hash) a
+  by-filter hash None old mid f a there looks sub way = none-some f (sym looks.0)
+  by-filter hash (Some place) old mid f a there (value, is, same) sub way =
+      let range = in-range value (length (setup_in i).homes) (setup_in i).cpus f (sym is) in
+      let number : ℕ = hint_number (word.Filter place) in
+      inr (
+        place,
+        f,
+        subst (λ n. f.queue < n) queue-count range.0,
+        range.1,
+        way,
+        there,
+        loaded (c.filter place) number (c.filter_value f) value (shared.filter place)
+            (shared.filter_value f
+            ∙ sym (only_coded.filter value (length (setup_in i).homes) (setup_in i).cpus f
+            (sym is)))
+            (sub (Load number value)
+            (subst (λ (s : HintView). Contains s.steps (Load number value)) (sym same)
+            (contains-first (Load number value) old.steps))),
+      )
+
+  by-entry : (hash queue value : ℕ) (place : Option ℕ) (a : Arrival)
+      → place_in value (length (setup_in i).homes) ≡ place
+      → queue ≡ unwrap_or place (queue_of reta (Some hash))
+      → route_of a ≡ route (Some hash) None queue
+      → Contains final.steps (Load (hint_number (word.Redirection (table_place hash))) value)
+      → IsRouted i h c seats (Some hash) a
+  by-entry hash queue value None a is same way has = inl (queue, way, inl (sym same))
+  by-entry hash queue value (Some place) a is same way has =
+      inl (
+        queue,
+        way,
+        inr (loaded (c.entry (table_place hash))
+            (hint_number (word.Redirection (table_place hash))) (c.place queue) value
+            (shared.entry (table_place hash))
+            (shared.place queue
+            ∙ (ap place_word same
+            ∙ sym (only_coded.place value (length (setup_in i).homes) place is)))
+            has),
+      )
+
+  routed : (hash : Option ℕ) (a : Arrival) (old new : HintView)
+      → Routes (setup_in i) i.plan.filters reta hash a old new
+      → ((d : HintStep) → Contains new.steps d → Contains final.steps d)
+      → IsRouted i h c seats hash a
+  routed None a old new way sub = way.0
+  routed (Some hash) a old new (Some f, mid, looks, by) sub =
+      by-filter hash (filter_place i.plan.filters (Some hash)) old mid f a refl looks
+      (λ d has. sub d (subst (λ (s : HintView). Contains s.steps d) (sym by.1) has)) by.0
+  routed (Some hash) a old new (None, mid, looks, by) sub =
+      let value : ℕ = by.2.0 in
+      let load : HintStep = Load (hint_number (word.Redirection (table_place hash))) value in
+      by-entry hash by.0 value (place_in value (length (setup_in i).homes)) a refl by.2.1 by.1
+      (sub load (subst (λ (s : HintView). Contains s.steps load) (sym by.2.2)
+      (contains-first load mid.steps)))
+
+  abbrev IsLed : Arrival → Type 0
+  IsLed a = IsRouted i h c seats (packet_hash (setup_in i) a.id) a
+
+  all-led : (late : List Arrival) (old new : HintView)
+      → Leads (setup_in i) i.plan.filters reta late old new
+      → ((d : HintStep) → Contains new.steps d → Contains final.steps d)
+      → All IsLed (oldest_first late)
+  all-led [] old new leads sub = All-nil IsLed
+  all-led (a ∷ rest) old new (before, mid, more, way, same) sub =
+      let later : (d : HintStep) → Contains mid.steps d → Contains final.steps d =
+      λ d has. sub d (subst (λ (s : HintView). Contains s.steps d) (sym same)
+      (contains-later (announcement a) mid.steps d has)) in
+      All-push IsLed (oldest_first rest) a
+      (all-led rest old before more
+      (λ d has. later d
+      (routes-grow (setup_in i) i.plan.filters reta (packet_hash (setup_in i) a.id) a before mid way
+      d has)))
+      (routed (packet_hash (setup_in i) a.id) a before mid way later)
+
+contains-oldest : {A : Type 0} (xs : List A) (x : A) → Contains xs x → Contains (oldest_first xs) x
+contains-oldest [] x (k, less, is) = absurd (omega arith)
+contains-oldest (y ∷ ys) x c = elim (contains-cases y ys x c) [
+  | inl e ↦
+      subst (λ z. Contains (oldest_first ys ++ y ∷ []) z) e (Contains-push (oldest_first ys) y)
+  | inr later ↦
+      Contains-append_left (oldest_first ys) (y ∷ []) x (contains-oldest ys x later)
+]
+
+-- ---- the arrival of a packet
+
+at-least : (arrivals : List Arrival) (n : ℕ) (a : Arrival) → AreNumbered n arrivals
+    → Contains arrivals a → n ≤ a.id
+at-least [] n a numbered (k, less, is) = absurd (omega arith)
+at-least (b ∷ rest) n a numbered c =
+    let first : b.id ≡ n = ap (λ zs. slice_index zs 0) numbered in
+    elim (contains-cases b rest a c) [
+      | inl e ↦ (let same : b.id ≡ a.id = ap (λ (a : Arrival). a.id) e in omega arith)
+      | inr later ↦
+          (let more = at-least rest (n + 1) a (ap (λ zs. drop 1 zs) numbered) later in omega arith)
+    ]
+
+arrival-is : (arrivals : List Arrival) (n : ℕ) (a : Arrival) → AreNumbered n arrivals
+    → Contains arrivals a → found (λ (a : Arrival). a.id) a.id arrivals ≡ Some a
+arrival-is [] n a numbered (k, less, is) = absurd (omega arith)
+arrival-is (b ∷ rest) n a numbered c =
+    let first : b.id ≡ n = ap (λ zs. slice_index zs 0) numbered in
+    let older : AreNumbered (n + 1) rest = ap (λ zs. drop 1 zs) numbered in
+    elim (contains-cases b rest a c) [
+      | inl e ↦
+          subst (λ (z : Arrival). found (λ (a : Arrival). a.id) z.id (b ∷ rest) ≡ Some z) e
+          (found-here (λ (a : Arrival). a.id) b.id b rest refl)
+      | inr later ↦
+          (let high = at-least rest (n + 1) a older later in
+          found-past (λ (a : Arrival). a.id) a.id b rest (λ e. absurd (omega arith))
+          ∙ arrival-is rest (n + 1) a older later)
+    ]
+
+module _ (i : Input) (h : History) (c : HintCodes) (shared : AreShared c)
+    (all : map (λ (a : Arrival). a.id) h.arrivals ≡ range_with_len 0 (length i.packets)) where
+  numbered : AreNumbered 0 h.arrivals
+  numbered =
+      let same : length h.arrivals ≡ length i.packets =
+      sym (length-map h.arrivals (λ (a : Arrival). a.id))
+      ∙ (ap length all ∙ length-range_with_len 0 (length i.packets)) in
+      all ∙ ap (range_with_len 0) (sym same)
+
+  queue-is : (x q : ℕ)
+      → ((c.packet x ≡ hint_number word.Done)
+      ⊎ ((a : Arrival) × Contains h.arrivals a × (c.packet x ≡ c.packet a.id)
+      × (c.place q ≡ c.place a.queue))) → (arrival_of h.arrivals x).queue ≡ q
+  queue-is x q (inl e) =
+      let z : 69793 + x ≡ 69792 = sym (shared.packet x) ∙ e in absurd (omega arith)
+  queue-is x q (inr (a, has, number, value)) =
+      let n : 69793 + x ≡ 69793 + a.id =
+      sym (shared.packet x) ∙ (number ∙ shared.packet a.id) in
+      let v : q + 1 ≡ a.queue + 1 = sym (shared.place q) ∙ (value ∙ shared.place a.queue) in
+      let id : x ≡ a.id = omega arith in
+      let queue : a.queue ≡ q = omega arith in
+      ap (λ z. (arrival_of h.arrivals z).queue) id
+      ∙ (ap (λ (o : Option Arrival). (unwrap_or o no_arrival).queue)
+      (arrival-is h.arrivals 0 a numbered has)
+      ∙ queue)
+
+module _ (i : Input) (h : History) (c : HintCodes) (old new : HintView) (shared : AreShared c)
+    (none : old.steps ≡ []) (late : List Arrival) (mid : HintView)
+    (are : h.arrivals ≡ oldest_first late) where
+  abbrev plan_table : Redirection
+  plan_table = record { queues = length i.plan.queues; entries = i.plan.reta }
+
+  abbrev last : HintStep
+  last = Store (hint_number word.Done) DONE
+
+  nobody : (n v : ℕ) → Contains [] (Store n v) → ⊥
+  nobody n v (k, less, is) = absurd (omega arith)
+
+  stored-are : Leads (setup_in i) i.plan.filters plan_table late old mid
+      → new ≡ after_step last mid → (n v : ℕ) → Contains new.steps (Store n v)
+      → (n ≡ hint_number word.Done)
+      ⊎ ((a : Arrival) × Contains h.arrivals a × (n ≡ c.packet a.id) × (v ≡ c.place a.queue))
+  unfolding number_of
+  stored-are leads done n v has =
+      elim (contains-cases last mid.steps (Store n v)
+      (subst (λ (s : HintView). Contains s.steps (Store n v)) done has)) [
+        | inl e ↦ inl (sym (ap number_of e))
+        | inr older ↦ elim (leads-stores (setup_in i) i.plan.filters plan_table late old mid leads n
+            v older) [
+              | inl oldest ↦ absurd (nobody n v
+                  (subst (λ steps. Contains steps (Store n v)) none oldest))
+              | inr found ↦ inr (
+                found.0,
+                subst (λ xs. Contains xs found.0) (sym are)
+                    (contains-oldest late found.0 found.1),
+                found.2 ∙ sym (shared.packet found.0.id),
+                found.3 ∙ sym (shared.place found.0.queue),
+              )
+            ]
+      ]
+
+pub wire_keeps_coupling : WireKeepsCoupling
+wire_keeps_coupling i h c seats old new shared among none all (late, mid, are, leads, done) =
+    let last : HintStep = Store (hint_number word.Done) DONE in
+    let grows : (d : HintStep) → Contains mid.steps d → Contains new.steps d =
+    λ d has. subst (λ (s : HintView). Contains s.steps d) (sym done)
+    (contains-later last mid.steps d has) in
+    let stored = stored-are i h c old new shared none late mid are leads done in
+    record {
+      arrived = all;
+      routed = subst (All (IsLed i h c seats new shared among)) (sym are)
+          (all-led i h c seats new shared among late old mid leads grows);
+      stored = stored;
+      packets = λ x q has. queue-is i h c shared all x q (stored (c.packet x) (c.place q) has);
+    }

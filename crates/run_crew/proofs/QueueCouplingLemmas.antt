@@ -1,0 +1,389 @@
+-- A poller's record gives the coupling invariants of its queue.
+use Rattle.std.proofs.Common.{◌≡◌, inl, ℕ, ◌+◌, ◌*◌, ◌%◌, ◌^◌, ◌<◌, ◌≤◌, Bool}
+use Rattle.std.proofs.Common.{false, List, ◌∷◌, ◌++◌, Option, None, Some, IfSome, true≢false}
+use Rattle.std.proofs.Common.{if◌then◌else◌, length, map, take, drop, sym, refl, ap, ◌∙◌, subst}
+use Rattle.std.proofs.Common.{arith}
+use Rattle.std.specs.Prelude.{slice_index, unwrap_or}
+use Rattle.std.specs.List.{Contains, fold}
+use Rattle.std.specs.Option.{is_some}
+use Rattle.std.proofs.lemmas.Bool.{lt-ltb, le-leb}
+use Rattle.std.proofs.lemmas.List.{length-replicate}
+use Rattle.linearization.specs.Seats.{SeatView}
+use Rattle.linearization.proofs.ListLemmas.{if_same, if_other}
+use Rattle.steer_base.specs.Choices.{class_of, looks_at_head, migrate, rps_choice_of}
+use Rattle.steer_base.specs.Counters.{rounded_up}
+use Rattle.steer_base.specs.Sets.{has}
+use Rattle.steer_base.specs.declared.choice.Choice.{Choice}
+use Rattle.dev_flow_table.specs.Folds.{after_turn}
+use Rattle.dev_flow_table.specs.Tables.{IsClassOf, Table, cleared, entries, unset}
+use Rattle.dev_flow_table.specs.Walks.{since_resize}
+use Rattle.hint_words.specs.declared.step.HintStep.{HintStep}
+use Rattle.hint_words.specs.declared.step.HintStep.TheVariants.{Load}
+use Rattle.hop_rule.specs.Moments.{nth_step}
+use Rattle.hop_rule.specs.declared.sizes.BoardSizes.{BoardSizes}
+use Rattle.hop_rule.specs.declared.step.BoardStep.{BoardStep}
+use Rattle.hop_rule.specs.declared.step.BoardStep.TheVariants.{Gate, Weighed}
+use Rattle.hop_rule.specs.declared.step.GateStep.TheVariants.{Read}
+use Rattle.hop_rule.proofs.Lists.{some-is}
+use Rattle.hop_rule.proofs.Moments.{nth-between}
+use Rattle.hop_delivery.specs.Closings.TurnReads.{HasSeen, Knows}
+use Rattle.hop_delivery.specs.Orders.ReceiveSettings.{Queues, mask, online, receive_steering, rps}
+use Rattle.hop_delivery.specs.Orders.Runs.{Steering, Story, goal_of, turns_of}
+use Rattle.hop_delivery.specs.Orders.Turns.{Turn}
+use Rattle.steer_model.specs.Good.Inputs.{Input, setup_in}
+use Rattle.steer_model.specs.State.Setup.{Setup, flow_number_of, packet_hash}
+use Rattle.run_words.specs.Values.{cpus_in, flows_in}
+use Rattle.run_workers.specs.Hands.Pollers.{LoadedHead, class_read, desired_read, online_read}
+use Rattle.run_workers.specs.Hands.Pollers.{plain_read}
+use Rattle.run_workers.specs.declared.poller.Poller.{Poller}
+use Rattle.run_workers.specs.declared.poller.Reading.{Reading}
+use Rattle.run_workers.proofs.Hands.ChoiceLemmas.{class_is}
+use Rattle.run_coupling.specs.Laws.SharedCodes.{AreShared}
+use Rattle.run_coupling.specs.Coupling.Hints.{HintCodes}
+use Rattle.run_coupling.specs.Coupling.Inputs.{FlowsHaveOneHash, hash_of_flow, receive_queues}
+use Rattle.run_coupling.specs.Coupling.OwnTables.{IsByTable, class_by, goal_by, table_before}
+use Rattle.run_coupling.specs.Coupling.Queues.{FitReceiveWords}
+use Rattle.run_words.specs.Lists.{oldest_first}
+use Rattle.run_workers.specs.Records.Polling.{AllPolled, IsPolled, IsPolling, PolledTurn}
+use Rattle.run_workers.specs.Records.Polling.{table_of_turn}
+use Rattle.run_workers.specs.Records.Polling.{turns_in}
+use Rattle.run_crew.specs.QueueCoupling.{IsQueueTied, PollersAreTied, words_read, words_seen}
+use Rattle.run_crew.specs.QueueCoupling.{words_of_turn}
+use Rattle.run_crew.proofs.OwnTableLemmas.{all_at, fold_rows, table_is}
+use Rattle.run_crew.proofs.RuleLemmas.{goal, own_want, rule_looks, want_loaded}
+use Rattle.run_crew.proofs.RuleLemmas.{IsLookedUp}
+use Rattle.run_crew.proofs.TurnListLemmas.{TurnAt, front, turn_at}
+
+abbrev turn_of : PolledTurn → Turn
+turn_of s = s.turn
+
+-- ---- the words that were read
+
+module _ (queues q : ℕ) (r : Reading) (less : q < queues) where
+  read_mask : words_read queues q r q ≡ r.mask
+  read_mask = if_same q q r.mask _ refl
+
+  read_flows : words_read queues q r (queues + q) ≡ r.flows
+  read_flows =
+      if_other (queues + q) q r.mask _ (λ e. absurd (omega (arith, e, less)))
+      ∙ if_same (queues + q) (queues + q) r.flows _ refl
+
+  read_socket : words_read queues q r (2 * queues) ≡ r.socket
+  read_socket =
+      if_other (2 * queues) q r.mask _ (λ e. absurd (omega (arith, e, less)))
+      ∙ (if_other (2 * queues) (queues + q) r.flows _ (λ e. absurd (omega (arith, e, less)))
+      ∙ if_same (2 * queues) (2 * queues) r.socket _ refl)
+
+  read_online : words_read queues q r (2 * queues + 1) ≡ r.online
+  read_online =
+      if_other (2 * queues + 1) q r.mask _ (λ e. absurd (omega (arith, e, less)))
+      ∙ (if_other (2 * queues + 1) (queues + q) r.flows _ (λ e. absurd (omega (arith, e, less)))
+      ∙ (if_other (2 * queues + 1) (2 * queues) r.socket _ (λ e. absurd (omega (arith, e)))
+      ∙ if_same (2 * queues + 1) (2 * queues + 1) r.online 0 refl))
+
+-- a set of processors within its range is the word
+fits_cpus : (word cpus : ℕ) → word < 2 ^ cpus → cpus_in word cpus ≡ mask word
+fits_cpus word cpus less =
+    ap (λ (b : Bool). record { 0 = if b then word else 0 }) (lt-ltb word (2 ^ cpus) less)
+
+fits_flows : (word : ℕ) → word % 2 ^ 32 ≤ 32768 → rounded_up (word % 2 ^ 32) ≡ word % 2 ^ 32
+    → rounded_up (flows_in word) ≡ word % 2 ^ 32
+fits_flows word few rounded =
+    ap rounded_up (ap (λ (b : Bool). if b then word % 2 ^ 32 else 0)
+    (le-leb (word % 2 ^ 32) 32768 few))
+    ∙ rounded
+
+-- ---- one queue
+
+module _ (i : Input) (about : BoardSizes) (own : List BoardStep) (c : HintCodes)
+    (seats : List (SeatView HintStep)) (seat : SeatView HintStep) (t : Story) (first : ℕ)
+    (p : Poller)
+    (x : IsPolling (setup_in i) first about.start p (t.turns (t.seat p.queue)) seat.steps)
+    (hashes : FlowsHaveOneHash i) (few : p.choices.room ≤ length i.packets)
+    (less : p.queue < length (setup_in i).homes) where
+  abbrev given : Setup
+  given = setup_in i
+
+  abbrev queues : ℕ
+  queues = length given.homes
+
+  abbrev q : Queues
+  q = receive_queues i
+
+  abbrev steering : Steering
+  steering = receive_steering q
+
+  abbrev seen : ℕ → ℕ → ℕ
+  seen = words_seen queues p.queue x.polled
+
+  abbrev size : ℕ → ℕ
+  size j = steering.shape (seen j) p.queue
+
+  -- the k-th turn, by what was noted of it
+  abbrev at : (k : ℕ) (u : Turn) → nth_step (turns_of t p.queue) k ≡ Some u → TurnAt turn_of
+      x.polled k u
+  at k u is = turn_at turn_of x.polled k u (ap (λ us. nth_step us k) x.own ∙ is)
+
+  is_polled : (a : List PolledTurn) (s : PolledTurn) (b : List PolledTurn)
+      → x.polled ≡ a ++ s ∷ b
+      → IsPolled first about.start given p.choices.room p.queue seat.steps b s
+  is_polled a s b are =
+      all_at first about.start given p.choices.room p.queue seat.steps a s b
+      (subst (λ zs. AllPolled first about.start given p.choices.room p.queue seat.steps zs) are
+      x.are)
+
+  -- the words that a turn has seen
+  seen_is : (a : List PolledTurn) (s : PolledTurn) (b : List PolledTurn) (word : ℕ)
+      → x.polled ≡ a ++ s ∷ b
+      → seen (length b) word ≡ words_read queues p.queue s.reading word
+  seen_is a s b word are =
+      ap (λ (o : Option PolledTurn). words_of_turn queues p.queue o word)
+      (ap (λ zs. nth_step zs (length b)) are ∙ nth-between a s b)
+
+  size_is : (a : List PolledTurn) (s : PolledTurn) (b : List PolledTurn)
+      → x.polled ≡ a ++ s ∷ b → size (length b) ≡ s.reading.flows
+  size_is a s b are =
+      ap (λ (z : Bool). if z then seen (length b) (queues + p.queue) else 0)
+      (lt-ltb p.queue queues less)
+      ∙ (seen_is a s b (queues + p.queue) are ∙ read_flows queues p.queue s.reading less)
+
+  -- the hash of a packet is that of its flow
+  hash_is : (id : ℕ) → id < p.choices.room
+      → packet_hash given id ≡ hash_of_flow i (flow_number_of given id)
+  hash_is id within = sym (hashes id (omega (arith, within, few)))
+
+  module _ (a : List PolledTurn) (s : PolledTurn) (b : List PolledTurn)
+      (are : x.polled ≡ a ++ s ∷ b)
+      (fit : FitReceiveWords q i.plan.cpus p.queue (seen (length b))) where
+    abbrev y : IsPolled first about.start given p.choices.room p.queue seat.steps b s
+    y = is_polled a s b are
+
+    abbrev count : ℕ
+    count = rounded_up (flows_in s.reading.flows)
+
+    abbrev table : Table
+    table = table_of_turn first about.start b s
+
+    abbrev before : Table
+    before = table_before about.start t steering seen count false p.queue (length b)
+
+    flows_seen : seen (length b) (queues + p.queue) ≡ s.reading.flows
+    flows_seen = seen_is a s b (queues + p.queue) are ∙ read_flows queues p.queue s.reading less
+
+    count_is : count ≡ s.reading.flows % 2 ^ 32
+    count_is =
+        fits_flows s.reading.flows
+        (subst (λ n. n % 2 ^ 32 ≤ 32768) flows_seen fit.flows)
+        (subst (λ n. rounded_up (n % 2 ^ 32) ≡ n % 2 ^ 32) flows_seen fit.rounded)
+
+    table_same : table ≡ before
+    table_same =
+        table_is x.polled size size_is first about.start a s b are
+        ∙ ap (λ us. fold after_turn (cleared count about.start false)
+        (map (λ (u : Turn). record { chosen = u.chosen; put = Some u.answer })
+        (drop (since_resize size (length b)) us)))
+        (sym (ap (λ us. take (length b) (oldest_first us)) (sym x.own ∙ ap turns_in are)
+        ∙ front turn_of a s b))
+
+    rows_are : length table.rows ≡ count
+    rows_are =
+        ap (λ (z : Table). length z.rows) table_same
+        ∙ (fold_rows (cleared count about.start false)
+        (map (λ (u : Turn). record { chosen = u.chosen; put = Some u.answer })
+        (drop (since_resize size (length b))
+        (take (length b) (oldest_first (turns_of t p.queue)))))
+        ∙ length-replicate count (unset about.start))
+
+    abbrev class : Option ℕ
+    class = class_by about.start t steering seen p.queue (length b) s.turn
+
+    class_same : class_read given s.turn.chosen.id table ≡ class
+    class_same =
+        (λ j. class_of
+        ((rows_are ∙ (count_is ∙ ap (λ n. n % 2 ^ 32) (sym (size_is a s b are)))) j)
+        (hash_is s.turn.chosen.id y.within j))
+
+    online_same : online_read given p.queue s.turn.chosen.id s.reading table ≡ online q
+        (seen (length b))
+    online_same =
+        let word : seen (length b) (2 * queues + 1) ≡ s.reading.online =
+        seen_is a s b (2 * queues + 1) are ∙ read_online queues p.queue s.reading less in
+        fits_cpus s.reading.online given.cpus
+        (subst (λ n. n < 2 ^ i.plan.cpus) word fit.online)
+        ∙ ap mask (sym word)
+
+    plain_same : plain_read given p.queue s.turn.chosen.id s.reading table
+        ≡ rps q (seen (length b)) p.queue (flow_number_of given s.turn.chosen.id)
+    plain_same =
+        let word : seen (length b) p.queue ≡ s.reading.mask =
+        seen_is a s b p.queue are ∙ read_mask queues p.queue s.reading less in
+        (λ j. rps_choice_of
+        ((fits_cpus s.reading.mask given.cpus
+        (subst (λ n. n < 2 ^ i.plan.cpus) word fit.mask) ∙ ap mask (sym word)) j)
+        (hash_is s.turn.chosen.id y.within j) (online_same j) (slice_index given.homes p.queue))
+        ∙ sym (ap (λ (z : Bool). if z
+        then rps_choice_of (mask (seen (length b) p.queue))
+        (hash_of_flow i (flow_number_of given s.turn.chosen.id)) (online q (seen (length b)))
+        (slice_index given.homes p.queue) else 0)
+        (lt-ltb p.queue queues less))
+
+    abbrev head : ℕ
+    head = unwrap_or y.head 0
+
+    goal_same : (k w : Option ℕ)
+        → goal k w (online q (seen (length b)))
+        (rps q (seen (length b)) p.queue (flow_number_of given s.turn.chosen.id))
+        ≡ goal_of steering (seen (length b)) p.queue (flow_number_of given s.turn.chosen.id) k w
+    goal_same None w = refl
+    goal_same (Some k) w = refl
+
+    rule_is : s.turn.chosen.choice
+        ≡ migrate class s.turn.chosen.choice.want
+        (goal_by about.start t steering seen p.queue (length b) s.turn) (entries before)
+        (λ _. head) (steering.online (seen (length b)))
+    rule_is =
+        own_want (class_read given s.turn.chosen.id table) y.want
+        (online_read given p.queue s.turn.chosen.id s.reading table)
+        (plain_read given p.queue s.turn.chosen.id s.reading table) (entries table) (λ _. head)
+        s.turn.chosen.choice y.rule
+        ∙ ((λ j. migrate (class_same j) s.turn.chosen.choice.want
+        (goal (class_same j) s.turn.chosen.choice.want (online_same j) (plain_same j))
+        (entries (table_same j)) (λ _. head) (has (online_same j)))
+        ∙ ap (λ g. migrate class s.turn.chosen.choice.want g (entries before) (λ _. head)
+        (has (online q (seen (length b)))))
+        (goal_same class s.turn.chosen.choice.want))
+
+    rows_below : (k : ℕ) → class ≡ Some k → k < count
+    rows_below k is =
+        subst (λ n. k < n) rows_are
+        (subst (IsClassOf table) (class_same ∙ is)
+        (class_is table (packet_hash given s.turn.chosen.id)))
+
+    -- a head that the choice keeps was loaded
+    head_loaded : (o : Option ℕ) (k l : ℕ)
+        → IfSome o (LoadedHead before (Some k) s.turn.early)
+        → is_some o
+        ≡ looks_at_head (class_read given s.turn.chosen.id table) (entries table)
+        (desired_read given p.queue s.turn.chosen.id s.reading table y.want)
+        (has (online_read given p.queue s.turn.chosen.id s.reading table))
+        → s.turn.chosen.choice
+        ≡ migrate (class_read given s.turn.chosen.id table) y.want
+        (desired_read given p.queue s.turn.chosen.id s.reading table y.want) (entries table)
+        (λ _. unwrap_or o 0) (has (online_read given p.queue s.turn.chosen.id s.reading table))
+        → (entries before k).lane ≡ Some l → s.turn.chosen.choice.head ≡ Some (unwrap_or o 0)
+        → (w : ℕ) × Contains s.turn.early (Weighed l w) × (w % 2 ^ 32 ≡ unwrap_or o 0)
+    head_loaded (Some n) k l (lane, word, there, is, has) looked rule at keeps = (
+      word,
+      subst (λ m. Contains s.turn.early (Weighed m word)) (some-is lane l (sym there ∙ at)) has,
+      sym is,
+    )
+    head_loaded None k l loads looked rule at keeps =
+        absurd (true≢false (sym (looked ∙ rule_looks
+        (class_read given s.turn.chosen.id table) y.want
+        (desired_read given p.queue s.turn.chosen.id s.reading table y.want) (entries table)
+        (λ _. 0) (has (online_read given p.queue s.turn.chosen.id s.reading table)) 0
+        (sym (ap (λ (z : Choice). z.head) rule) ∙ keeps))))
+
+    turn_by_table : IsByTable about.start t steering seen p.queue (length b) s.turn
+    turn_by_table =
+        record {
+          head = head;
+          count = count;
+          exact = false;
+          rule = rule_is;
+          rows = rows_below;
+          loaded = λ k l is lane keeps.
+              head_loaded y.head k l
+              (subst (λ (z : Table × Option ℕ). IfSome y.head
+              (LoadedHead z.0 z.1 s.turn.early))
+              (λ j. (table_same j, (class_same ∙ is) j)) y.loads)
+              y.looked y.rule lane keeps;
+        }
+
+  -- ---- all turns
+
+  tied : AreShared c → Contains seats seat
+      → IsQueueTied i about own c seats t p.queue (words_seen queues p.queue x.polled)
+  tied codes among =
+      record {
+        hashes = λ k u is.
+            (let z = at k u is in
+            let y = is_polled z.newer z.s z.older z.are in
+            subst (λ (v : Turn). v.hash ≡ packet_hash given v.chosen.id) z.turn_is y.hash);
+        knows = λ k u is. (let z = at k u is in
+            subst (λ (v : Turn × ℕ). HasSeen own q p.queue v.0 (seen v.1))
+            (λ j. (z.turn_is j, z.before j)) (knows_it z.newer z.s z.older z.are));
+        knows_sock = λ k u is. (let z = at k u is in
+            subst (λ (v : Turn × ℕ). Knows own v.0 (2 * queues) (seen v.1 (2 * queues)))
+            (λ j. (z.turn_is j, z.before j)) (knows_socket z.newer z.s z.older z.are));
+        by_table = λ k u is fit. (let z = at k u is in
+            subst (λ (v : Turn × ℕ). IsByTable about.start t steering seen p.queue v.1 v.0)
+            (λ j. (z.turn_is j, z.before j))
+            (turn_by_table z.newer z.s z.older z.are
+            (subst (λ n. FitReceiveWords q i.plan.cpus p.queue (seen n)) (sym z.before) fit)));
+        wants = λ k want u is wants. (let z = at k u is in
+            let l = was_loaded z.newer z.s z.older z.are want
+            (ap (λ (v : Turn). v.chosen.choice.want) z.turn_is ∙ wants) in (
+              l.entry,
+              subst (λ (v : Turn × ℕ). class_of (seen v.1 (2 * queues))
+                  (packet_hash given v.0.chosen.id) ≡ Some l.entry)
+                  (λ j. (z.turn_is j, z.before j)) l.there,
+              record {
+                seat = seat;
+                among = among;
+                loads = subst (λ (d : HintStep). Contains seat.steps d)
+                    (λ j. Load (sym (codes.socket l.entry) j) (sym (codes.place want) j)) l.loads;
+              },
+            ));
+      }
+    where
+      reads_of : (a : List PolledTurn) (s : PolledTurn) (b : List PolledTurn)
+          (are : x.polled ≡ a ++ s ∷ b) (word value : ℕ)
+          → words_read queues p.queue s.reading word ≡ value
+          → Contains s.turn.early (Gate (Read word value))
+          → Knows own s.turn word (seen (length b) word)
+      reads_of a s b are word value is has =
+          inl (subst (λ n. Contains s.turn.early (Gate (Read word n)))
+          (sym (seen_is a s b word are ∙ is)) has)
+
+      knows_it : (a : List PolledTurn) (s : PolledTurn) (b : List PolledTurn)
+          → x.polled ≡ a ++ s ∷ b → HasSeen own q p.queue s.turn (seen (length b))
+      knows_it a s b are =
+          let y = is_polled a s b are in
+          record {
+            mask = reads_of a s b are p.queue s.reading.mask
+                (read_mask queues p.queue s.reading less)
+                (y.reads _ (3, omega arith, refl));
+            flows = reads_of a s b are (queues + p.queue) s.reading.flows
+                (read_flows queues p.queue s.reading less)
+                (y.reads _ (2, omega arith, refl));
+            online = reads_of a s b are (2 * queues + 1) s.reading.online
+                (read_online queues p.queue s.reading less)
+                (y.reads _ (0, omega arith, refl));
+          }
+
+      knows_socket : (a : List PolledTurn) (s : PolledTurn) (b : List PolledTurn)
+          → x.polled ≡ a ++ s ∷ b
+          → Knows own s.turn (2 * queues) (seen (length b) (2 * queues))
+      knows_socket a s b are =
+          reads_of a s b are (2 * queues) s.reading.socket
+          (read_socket queues p.queue s.reading less)
+          ((is_polled a s b are).reads _ (1, omega arith, refl))
+
+      was_loaded : (a : List PolledTurn) (s : PolledTurn) (b : List PolledTurn)
+          → x.polled ≡ a ++ s ∷ b → (want : ℕ) → s.turn.chosen.choice.want ≡ Some want
+          → IsLookedUp (seen (length b) (2 * queues)) (packet_hash given s.turn.chosen.id)
+          seat.steps want
+      was_loaded a s b are want is =
+          let y = is_polled a s b are in
+          subst (λ n. IsLookedUp n (packet_hash given s.turn.chosen.id) seat.steps want)
+          (sym (seen_is a s b (2 * queues) are ∙ read_socket queues p.queue s.reading less))
+          (want_loaded given.cpus s.reading.socket
+          (class_read given s.turn.chosen.id (table_of_turn first about.start b s)) y.want _
+          (entries (table_of_turn first about.start b s)) _ _
+          (packet_hash given s.turn.chosen.id) seat.steps want y.looks
+          (sym (ap (λ (z : Choice). z.want) y.rule) ∙ is))
+
+pub pollers_are_tied : PollersAreTied
+pollers_are_tied i about own c seats seat t first p x hashes few less codes among =
+    tied i about own c seats seat t first p x hashes few less codes among

@@ -1,9 +1,0 @@
-use Rattle.std.proofs.Common.{◌≡◌}
-use Rattle.run_hands.specs.Deltas.{Serves, this_lane}
-use Rattle.run_hands.specs.Drains.{IsDrain}
-use Rattle.run_hands.proofs.drain.Drain.drain.Given as goal
-
-abbrev pub invariant-loop : goal.invariant-loop
-invariant-loop g l =
-    IsDrain l.fn.given l.self l.seat.steps × Serves (this_lane l.fn.self.lane) l.fn.seat l.seat
-    × (l.self.lane ≡ l.fn.self.lane) × (l.self.exit ≡ l.fn.self.exit)

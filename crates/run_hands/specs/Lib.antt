@@ -1,6 +1,0 @@
-pub mod Deltas
-pub mod Drains
-pub mod Gates
-pub mod Pollers
-pub mod Servers
-pub mod Laws

@@ -1,5 +1,0 @@
-use Rattle.run_records.proofs.ApplicationCouplingLemmas.{applications_are_tied}
-use Rattle.run_records.proofs.laws.applications_are_tied.Goals as goal
-
-pub returns : goal.returns
-returns c = applications_are_tied

@@ -1,9 +1,0 @@
-pub mod Growth
-pub mod Polling
-pub mod Storing
-pub mod PollingLaws
-pub mod Replying
-pub mod ReplyingLaws
-pub mod QueueCoupling
-pub mod ApplicationCoupling
-pub mod StoreCoupling

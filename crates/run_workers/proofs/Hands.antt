@@ -1,0 +1,10 @@
+pub mod ChoiceLemmas
+pub mod DeltaLemmas
+pub mod DrainLemmas
+pub mod PollerLemmas
+pub mod PutLemmas
+pub mod ReplyLemmas
+pub mod ServerLaws
+pub mod ServerLemmas
+pub mod StayLemmas
+pub mod VisitLemmas

@@ -1,0 +1,83 @@
+-- What a poll leaves as it was.
+use Rattle.std.proofs.Common.{◌≡◌, ◌⊎◌, inl, inr, ℕ, [], ◌∷◌, Option, None, Some, ap, ◌∙◌}
+use Rattle.linearization.specs.Seats.{SeatView}
+use Rattle.steer_base.specs.declared.choice.Choice.{Choice}
+use Rattle.steer_base.specs.declared.filter.Filter.{Filter}
+use Rattle.steer_base.specs.declared.put.Put.{Put}
+use Rattle.steer_base.specs.declared.put.Put.TheVariants.{At, Dropped}
+use Rattle.hint_words.specs.declared.step.HintStep.{HintStep}
+use Rattle.hop_rule.specs.declared.step.BoardStep.TheVariants.{Gate}
+use Rattle.hop_rule.specs.declared.step.GateStep.TheVariants.{Left, Turned}
+use Rattle.board_api.specs.Seats.{BoardSeatView, Adds}
+use Rattle.steer_base.specs.Arrivals.{filter_place}
+use Rattle.steer_model.specs.State.Setup.{Setup, packet_hash}
+use Rattle.steer_model.specs.Steps.Pollers.{filter_for}
+use Rattle.run_workers.specs.Hands.Laws.{PollsStay, Stays}
+use Rattle.run_workers.specs.Hands.Pollers.{AsksFilter, LooksUp, SteersHand, StoresFilter, Waits}
+use Rattle.run_workers.specs.declared.poller.Poller.{Poller}
+
+abbrev Hint : Type 0
+Hint = SeatView HintStep
+
+looks_there : (cpus : ℕ) (entry : Option ℕ) (old new : Hint) (want : Option ℕ)
+    → LooksUp cpus entry old new want → new.table ≡ old.table
+looks_there cpus None old new want is = ap (λ (s : Hint). s.table) is.1
+looks_there cpus (Some e) old new want is = ap (λ (s : Hint). s.table) is.2
+
+stores_there : (place : Option ℕ) (filter : Option Filter) (old new : Hint)
+    → StoresFilter place filter old new → new.table ≡ old.table
+stores_there (Some place) (Some filter) old new is = ap (λ (s : Hint). s.table) is
+stores_there (Some place) None old new is = ap (λ (s : Hint). s.table) is
+stores_there None filter old new is = ap (λ (s : Hint). s.table) is
+
+asks_there : (given : Setup) (filters id : ℕ) (choice : Choice) (answer : Put) (old new : Hint)
+    → AsksFilter given filters id choice answer old new → new.table ≡ old.table
+asks_there given filters id choice (At position) old new is =
+    stores_there (filter_place filters (packet_hash given id))
+    (filter_for given.homes filters choice position) old new is
+asks_there given filters id choice (Dropped number accepted pulled cause) old new is =
+    ap (λ (s : Hint). s.table) is
+
+pub polls_stay : PollsStay
+polls_stay given filters p q old new hint_old hint_new polls = by_case polls.steers
+  where
+    waited_table : (new ≡ old)
+        ⊎ ((word : ℕ) × Adds (Gate Left ∷ Gate (Turned word) ∷ []) old new)
+        → new.table ≡ old.table
+    waited_table (inl same) = ap (λ (s : BoardSeatView). s.table) same
+    waited_table (inr (word, adds)) = ap (λ (s : BoardSeatView). s.table) adds
+
+    waited_number : (new ≡ old)
+        ⊎ ((word : ℕ) × Adds (Gate Left ∷ Gate (Turned word) ∷ []) old new)
+        → new.number ≡ old.number
+    waited_number (inl same) = ap (λ (s : BoardSeatView). s.number) same
+    waited_number (inr (word, adds)) = ap (λ (s : BoardSeatView). s.number) adds
+
+    by_case : Waits polls.mid q old new hint_old hint_new
+        ⊎ ((id : ℕ) × (polls.mid.hand ≡ Some id)
+        × SteersHand given filters id polls.mid q old new hint_old hint_new)
+        → Stays p q old new hint_old hint_new
+    by_case (inl waits) =
+        let from = waits.same in
+        record {
+          queue = ap (λ (x : Poller). x.queue) from ∙ ap (λ (x : Poller). x.queue) polls.same;
+          room = ap (λ (x : Poller). x.choices.room) from
+              ∙ ap (λ (x : Poller). x.choices.room) polls.same;
+          table = waited_table waits.steps;
+          number = waited_number waits.steps;
+          hint_table = ap (λ (s : Hint). s.table) waits.hint;
+        }
+    by_case (inr (id, hand, steers)) =
+        let v = steers.visit in
+        record {
+          queue = ap (λ (x : Poller). x.queue) steers.same
+              ∙ ap (λ (x : Poller). x.queue) polls.same;
+          room = ap (λ j. j.room) steers.choices
+              ∙ ap (λ (x : Poller). x.choices.room) polls.same;
+          table = ap (λ (s : BoardSeatView). s.table) v.adds;
+          number = ap (λ (s : BoardSeatView). s.number) v.adds;
+          hint_table =
+              asks_there given filters steers.turn.chosen.id steers.turn.chosen.choice
+              steers.turn.answer v.hint_mid hint_new v.asks
+              ∙ looks_there given.cpus _ hint_old v.hint_mid v.want v.looks;
+        }

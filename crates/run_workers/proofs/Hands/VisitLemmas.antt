@@ -1,0 +1,299 @@
+-- A visit in which a packet was steered is a turn.
+use Rattle.std.proofs.Common.{◌≡◌, ℕ, List, [], ◌∷◌, ◌++◌}
+use Rattle.std.proofs.Common.{Option, None, Some, IfSome, refl, sym, ap}
+use Rattle.std.proofs.Common.{◌⊎◌, inl, inr, false, subst, ◌∙◌, unwrap_or, length, append_assoc}
+use Rattle.std.proofs.lemmas.List.Elements.{Contains-append_left, Contains-append_right}
+use Rattle.std.proofs.lemmas.List.Elements.{Contains-push}
+use Rattle.linearization.specs.Orders.{step_by}
+use Rattle.linearization.specs.Seats.{SeatView}
+use Rattle.steer_base.specs.Sets.{has}
+use Rattle.steer_base.specs.declared.choice.Choice.{Choice}
+use Rattle.steer_base.specs.declared.choice.Chosen.{Chosen}
+use Rattle.dev_flow_table.specs.Folds.{table_after}
+use Rattle.dev_flow_table.specs.Tables.{Table, weighed}
+use Rattle.hint_words.specs.declared.step.HintStep.{HintStep}
+use Rattle.hop_rule.specs.Boards.{gate_steps}
+use Rattle.hop_rule.specs.Gates.{closed, visit}
+use Rattle.hop_rule.specs.declared.step.BoardStep.{BoardStep}
+use Rattle.hop_rule.specs.declared.step.BoardStep.TheVariants.{Gate, Weighed}
+use Rattle.hop_rule.specs.declared.step.GateStep.TheVariants.{Entered, Left, Turned}
+use Rattle.board_api.specs.Calls.Rights.{HasOpen, IsInside}
+use Rattle.board_api.specs.Seats.{BoardSeatView, Adds}
+use Rattle.board_api.specs.StepWords.{is_marked}
+use Rattle.board_api.proofs.AddedSteps.{quiet_steps_stay}
+use Rattle.hop_delivery.specs.Orders.Turns.{AreQuiet, Explained, Turn, turn_put, visit_with}
+use Rattle.hop_delivery.proofs.Orders.TurnLemmas.{explained_more, explained_turn}
+use Rattle.steer_model.specs.State.Setup.{Setup, packet_hash}
+use Rattle.run_workers.specs.Hands.Deltas.{HoldsNoMore, LeavesLane}
+use Rattle.run_workers.specs.Hands.Drains.{IsDrain}
+use Rattle.run_workers.specs.Hands.Laws.{PollsLeaveDrains, ServesExplain, VisitsExplain}
+use Rattle.run_workers.specs.Hands.Pollers.{SteersHand, Waits}
+use Rattle.run_workers.specs.declared.drain.Drain.{Drain}
+use Rattle.run_workers.specs.Hands.Pollers.{LoadedHead, LoadsHead, Steers, Visits, class_read}
+use Rattle.run_workers.specs.Hands.Pollers.{desired_read, online_read, put_of, read_steps}
+use Rattle.run_workers.specs.Hands.Pollers.{refreshed}
+use Rattle.run_workers.specs.declared.poller.Reading.{Reading}
+use Rattle.run_workers.proofs.Hands.ChoiceLemmas.{class_stays}
+use Rattle.run_workers.proofs.Hands.DrainLemmas.{stays_drain}
+use Rattle.run_workers.proofs.Hands.DeltaLemmas.{adds_both, holds_both, leaves_both, quiet_both}
+
+-- steps at the gate and of loads hold and serve nothing
+pub record AreIdle (added : List BoardStep) : Type 0 where
+  pub holds : HoldsNoMore added
+  pub leaves : (l : ℕ) → LeavesLane l added
+
+pub idle_both : (ds es : List BoardStep) → AreIdle ds → AreIdle es → AreIdle (ds ++ es)
+idle_both ds es d e =
+    record {
+      holds = holds_both ds es d.holds e.holds;
+      leaves = λ l. leaves_both l ds es (d.leaves l) (e.leaves l);
+    }
+
+pub idle_none : AreIdle []
+idle_none =
+    record {
+      holds = record { lanes = λ l own e. e; outs = λ o own e. e };
+      leaves = λ l. record { hand = λ own. refl; retires = refl; deliveries = refl };
+    }
+
+idle_weighed : (l w : ℕ) → AreIdle (Weighed l w ∷ [])
+idle_weighed l w =
+    record {
+      holds = record { lanes = λ i own e. e; outs = λ o own e. e };
+      leaves = λ i. record { hand = λ own. refl; retires = refl; deliveries = refl };
+    }
+
+idle_reads : (queues q : ℕ) (r : Reading) → AreIdle (read_steps queues q r)
+idle_reads queues q r =
+    record {
+      holds = record { lanes = λ i own e. e; outs = λ o own e. e };
+      leaves = λ i. record { hand = λ own. refl; retires = refl; deliveries = refl };
+    }
+
+pub idle_entered : (w : ℕ) → AreIdle (Gate (Entered w) ∷ [])
+idle_entered w =
+    record {
+      holds = record { lanes = λ i own e. e; outs = λ o own e. e };
+      leaves = λ i. record { hand = λ own. refl; retires = refl; deliveries = refl };
+    }
+
+pub idle_left : AreIdle (Gate Left ∷ [])
+idle_left =
+    record {
+      holds = record { lanes = λ i own e. e; outs = λ o own e. e };
+      leaves = λ i. record { hand = λ own. refl; retires = refl; deliveries = refl };
+    }
+
+-- ---- the head that was loaded
+
+pub record HeadSteps (table : Table) (class head : Option ℕ) (old new : BoardSeatView)
+    : Type 0 where
+  pub added : List BoardStep
+  pub adds : Adds added old new
+  pub quiet : AreQuiet added
+  pub idle : AreIdle added
+  pub loads : IfSome head (LoadedHead table class added)
+
+pub head_steps : (table : Table) (class head : Option ℕ) (old new : BoardSeatView)
+    → LoadsHead table class old new head → HeadSteps table class head old new
+head_steps table class None old new is =
+    record {
+      added = [];
+      adds = is;
+      quiet = record { puts = refl; visits = refl };
+      idle = idle_none;
+      loads = tt;
+    }
+head_steps table None (Some n) old new is = absurd is
+head_steps table (Some k) (Some n) old new is =
+    record {
+      added = Weighed is.0 is.1 ∷ [];
+      adds = is.4;
+      quiet = record { puts = refl; visits = refl };
+      idle = idle_weighed is.0 is.1;
+      loads = (is.0, is.1, is.2, is.3, Contains-push [] (Weighed is.0 is.1));
+    }
+
+loads_more : (table : Table) (class : Option ℕ) (front xs back : List BoardStep) (n : ℕ)
+    → LoadedHead table class xs n → LoadedHead table class (front ++ (xs ++ back)) n
+loads_more table None front xs back n is = absurd is
+loads_more table (Some k) front xs back n is = (
+  is.0,
+  is.1,
+  is.2,
+  is.3,
+  Contains-append_right front (xs ++ back) (Weighed is.0 is.1)
+      (Contains-append_left xs back (Weighed is.0 is.1) is.4),
+)
+
+pub loads_if : (table : Table) (class head : Option ℕ) (front xs back : List BoardStep)
+    → IfSome head (LoadedHead table class xs)
+    → IfSome head (LoadedHead table class (front ++ (xs ++ back)))
+loads_if table class None front xs back is = tt
+loads_if table class (Some n) front xs back is = loads_more table class front xs back n is
+
+-- ---- inside
+
+module _ (given : Setup) (filters q flows seen : ℕ) (before after : Table)
+    (count_old count_new : ℕ) (chosen : Chosen) (old new : BoardSeatView)
+    (hint_old hint_new : SeatView HintStep)
+    (s : Steers given filters q flows seen before after count_old count_new chosen old new
+    hint_old hint_new) where
+  abbrev reading : Reading
+  reading = s.chooses.reading
+
+  abbrev table : Table
+  table = refreshed flows reading.flows before
+
+  abbrev class : Option ℕ
+  class = class_read given chosen.id table
+
+  pub head : HeadSteps table class s.chooses.head s.chooses.mid s.mid
+  head = head_steps table class s.chooses.head s.chooses.mid s.mid s.chooses.loads
+
+  abbrev reads : List BoardStep
+  reads = read_steps (length given.homes) q reading
+
+  abbrev put : BoardStep
+  put = put_of given chosen.choice.lane chosen.id s.answer
+
+  abbrev early : List BoardStep
+  early = s.puts.early ++ (head.added ++ reads)
+
+  quiet : AreQuiet early
+  quiet = quiet_both s.puts.early (head.added ++ reads) s.puts.quiet
+      (quiet_both head.added reads head.quiet (record { puts = refl; visits = refl }))
+
+  idle : AreIdle (put ∷ early)
+  idle = idle_both (put ∷ s.puts.early) (head.added ++ reads)
+      (record { holds = s.puts.holds; leaves = s.puts.leaves })
+      (idle_both head.added reads head.idle (idle_reads (length given.homes) q reading))
+
+  adds : Adds (put ∷ early) old new
+  adds = adds_both old s.mid new (put ∷ s.puts.early) (head.added ++ reads)
+      (adds_both old s.chooses.mid s.mid head.added reads s.chooses.reads head.adds) s.puts.adds
+
+  pub stays_inside : IsInside old.steps → IsInside new.steps
+  stays_inside is =
+      ap (λ (v : BoardSeatView). visit (gate_steps v.steps)) adds
+      ∙ ((quiet_steps_stay (put ∷ early) old.steps quiet.visits).place ∙ is)
+
+  pub stays_open : HasOpen old.steps → HasOpen new.steps
+  stays_open is =
+      ap (λ (v : BoardSeatView). closed (gate_steps v.steps)) adds
+      ∙ ((quiet_steps_stay (put ∷ early) old.steps quiet.visits).gate ∙ is)
+
+  same_class : chosen.choice.class ≡ class
+  same_class =
+      ap (λ (c : Choice). c.class) s.chooses.rule
+      ∙ class_stays class s.chooses.want
+      (desired_read given q chosen.id reading table s.chooses.want) table
+      (λ _. unwrap_or s.chooses.head 0) (has (online_read given q chosen.id reading table))
+
+  told : after ≡ table_after (weighed table chosen.choice.class chosen.choice)
+      chosen.choice.class (Some s.answer)
+  told =
+      s.puts.table
+      ∙ ap (λ (t : Table). table_after t chosen.choice.class (Some s.answer))
+      (s.chooses.table ∙ ap (λ (k : Option ℕ). weighed table k chosen.choice) (sym same_class))
+
+  -- the turn of a visit whose entry found this word
+  abbrev pub turn : ℕ → Turn
+  turn w =
+      record {
+        chosen = chosen;
+        word = w;
+        early = early;
+        hash = packet_hash given chosen.id;
+        answer = s.answer;
+      }
+
+  module _ (first last : BoardSeatView) (w : ℕ) (unmarked : is_marked w ≡ false)
+      (enters : Adds (Gate (Entered w) ∷ []) first old) (leaves : Adds (Gate Left ∷ []) new last)
+    where
+      all : AreIdle (visit_with (turn w) [] [])
+      all = idle_both (Gate Left ∷ []) ((put ∷ early) ++ Gate (Entered w) ∷ []) idle_left
+          (idle_both (put ∷ early) (Gate (Entered w) ∷ []) idle (idle_entered w))
+
+      pub visits : Visits given filters q flows seen before after count_old count_new (turn w) first
+          last hint_old hint_new
+      visits =
+          record {
+            adds = adds_both first new last (Gate Left ∷ [])
+                ((put ∷ early) ++ Gate (Entered w) ∷ [])
+                (adds_both first old new (put ∷ early) (Gate (Entered w) ∷ []) enters adds) leaves;
+            gate = unmarked;
+            quiet = quiet;
+            holds = all.holds;
+            leaves = all.leaves;
+            hash = refl;
+            reading = reading;
+            want = s.chooses.want;
+            head = s.chooses.head;
+            hint_mid = s.hint_mid;
+            reads = λ d among. Contains-append_right s.puts.early (head.added ++ reads) d
+                (Contains-append_right head.added reads d among);
+            looks = s.chooses.looks;
+            loads = loads_if table class s.chooses.head s.puts.early head.added reads head.loads;
+            looked = s.chooses.looked;
+            rule = s.chooses.rule;
+            table = told;
+            word = s.chooses.word;
+            count = s.puts.count;
+            asks = s.puts.asks;
+          }
+
+-- ---- turns that explain a seat's list
+
+pub visits_explain : VisitsExplain
+visits_explain given filters q flows seen before after count_old count_new turn old new hint_old
+    hint_new v ts is =
+    subst (λ ds. Explained ds (step_by q turn ∷ ts))
+    (sym (ap (λ (s : BoardSeatView). s.steps) v.adds ∙ whole))
+    (explained_turn (step_by q turn) [] old.steps ts (record { puts = refl; visits = refl })
+    v.quiet is)
+  where
+    whole : visit_with turn [] [] ++ old.steps ≡ visit_with turn [] old.steps
+    whole = ap (λ ds. Gate Left ∷ turn_put turn ∷ ds)
+        (append_assoc turn.early (Gate (Entered turn.word) ∷ []) old.steps)
+
+pub serves_explain : ServesExplain
+serves_explain served old new s ts is =
+    subst (λ ds. Explained ds ts) (sym (ap (λ (v : BoardSeatView). v.steps) s.adds))
+    (explained_more s.added old.steps ts s.only.quiet.puts is)
+
+-- ---- polls leave drains
+
+idle_turned : (w : ℕ) → AreIdle (Gate Left ∷ Gate (Turned w) ∷ [])
+idle_turned w =
+    record {
+      holds = record { lanes = λ i own e. e; outs = λ o own e. e };
+      leaves = λ i. record { hand = λ own. refl; retires = refl; deliveries = refl };
+    }
+
+leaves_drain : (given : Setup) (d : Drain) (added : List BoardStep) (old new : BoardSeatView)
+    → Adds added old new → LeavesLane d.lane added → IsDrain given d old.steps
+    → IsDrain given d new.steps
+leaves_drain given d added old new adds leaves is =
+    subst (IsDrain given d) (sym (ap (λ (v : BoardSeatView). v.steps) adds))
+    (stays_drain given d added old.steps leaves is)
+
+pub polls_leave : PollsLeaveDrains
+polls_leave given d filters p q old new hint_old hint_new polls is = by_case polls.steers
+  where
+    by_steps : (new ≡ old) ⊎ ((word : ℕ) × Adds (Gate Left ∷ Gate (Turned word) ∷ []) old new)
+        → IsDrain given d new.steps
+    by_steps (inl same) =
+        subst (λ (v : BoardSeatView). IsDrain given d v.steps) (sym same) is
+    by_steps (inr (word, adds)) =
+        leaves_drain given d (Gate Left ∷ Gate (Turned word) ∷ []) old new adds
+        ((idle_turned word).leaves d.lane) is
+
+    by_case : Waits polls.mid q old new hint_old hint_new
+        ⊎ ((id : ℕ) × (polls.mid.hand ≡ Some id)
+        × SteersHand given filters id polls.mid q old new hint_old hint_new)
+        → IsDrain given d new.steps
+    by_case (inl waits) = by_steps waits.steps
+    by_case (inr (id, hand, steers)) =
+        leaves_drain given d (visit_with steers.turn [] []) old new steers.visit.adds
+        (steers.visit.leaves d.lane) is

@@ -1,0 +1,199 @@
+-- What an application has held, read, loaded and written stays while its seats go on.
+use Rattle.std.proofs.Common.{◌≡◌, ◌⊎◌, inl, inr, ℕ, ◌*◌, List, [], ◌∷◌, ◌++◌, Option, None, Some}
+use Rattle.std.proofs.Common.{◌+◌, length, sym, refl, ap, ◌∙◌, subst, append_assoc}
+use Rattle.linearization.specs.Seats.{SeatView}
+use Rattle.steer_base.specs.Choices.{class_of}
+use Rattle.steer_base.specs.Journals.{Journal}
+use Rattle.history.specs.declared.arrival.Arrival.{Arrival}
+use Rattle.history.specs.declared.sock_write.SockWrite.{SockWrite}
+use Rattle.hint_words.specs.declared.step.HintStep.{HintStep}
+use Rattle.hint_words.specs.declared.step.HintStep.TheVariants.{Load}
+use Rattle.hop_rule.specs.declared.step.BoardStep.{BoardStep}
+use Rattle.hop_rule.proofs.Lists.{none-some}
+use Rattle.steer_model.specs.State.Setup.{Setup, packet_hash}
+use Rattle.run_words.specs.Values.{place_in, socket_size_in}
+use Rattle.run_words.specs.declared.hint_word.TheConstants.{QUEUE_WORDS, STAND_WORDS}
+use Rattle.run_workers.specs.Hands.Servers.{Queued, Stands, Writes, queue_by}
+use Rattle.run_workers.specs.Records.Growth.{Grows}
+use Rattle.run_workers.specs.Records.Replying.{HasWrittenAll, HasCome, HasFound, HasReadInside}
+use Rattle.run_workers.specs.Records.Replying.{HasStood}
+use Rattle.run_workers.specs.Records.Replying.{HasWritten}
+use Rattle.run_workers.proofs.Records.ListLemmas.{append_none, contains_first, contains_later}
+use Rattle.run_workers.proofs.Records.ListLemmas.{grows_both}
+use Rattle.run_workers.proofs.Records.HintLemmas.{steps_one, steps_same}
+
+abbrev Hint : Type 0
+Hint = SeatView HintStep
+
+-- ---- loads
+
+pub stood_later : (cpus app home : ℕ) (ds es : List HintStep) (cpu : ℕ) → Grows ds es
+    → HasStood cpus app home ds cpu → HasStood cpus app home es cpu
+stood_later cpus app home ds es cpu grow (word, is, has) = (
+  word,
+  is,
+  contains_later ds es (Load (STAND_WORDS + app) word) grow has,
+)
+
+pub came_later : (queues : ℕ) (arrivals : List Arrival) (ds es : List HintStep) (id rxq : ℕ)
+    → Grows ds es → HasCome queues arrivals ds id rxq → HasCome queues arrivals es id rxq
+came_later queues arrivals ds es id rxq grow (word, is, has) = (
+  word,
+  is,
+  contains_later ds es (Load (QUEUE_WORDS + id) word) grow has,
+)
+
+pub stands_there : (cpus app home : ℕ) (old new : Hint) (cpu : ℕ)
+    → Stands cpus app home old new cpu → HasStood cpus app home new.steps cpu
+stands_there cpus app home old new cpu (word, is, steps) = (
+  word,
+  is,
+  contains_later (Load (STAND_WORDS + app) word ∷ old.steps) new.steps
+      (Load (STAND_WORDS + app) word) ([], ap (λ (h : Hint). h.steps) steps)
+      (contains_first (Load (STAND_WORDS + app) word) old.steps),
+)
+
+-- a queue that is known without the arrivals is the same with them
+known_queue : (queue : Option ℕ) (arrivals : List Arrival) (id rxq : ℕ)
+    → queue_by queue [] id ≡ Some rxq → queue_by queue arrivals id ≡ Some rxq
+known_queue (Some q) arrivals id rxq is = is
+known_queue None arrivals id rxq is = none-some rxq is
+
+pub came_with : (queues : ℕ) (arrivals : List Arrival) (ds : List HintStep) (id rxq : ℕ)
+    → HasCome queues [] ds id rxq → HasCome queues arrivals ds id rxq
+came_with queues arrivals ds id rxq (word, is, has) = (
+  word,
+  known_queue (place_in word queues) arrivals id rxq is,
+  has,
+)
+
+queued_by : (queues id : ℕ) (late : List Arrival) (old new : Hint) (rxq : ℕ)
+    → Queued queues id late old new (Some rxq) → HasCome queues late new.steps id rxq
+queued_by queues id late old new rxq (word, is, steps) = (
+  word,
+  sym is,
+  contains_later (Load (QUEUE_WORDS + id) word ∷ old.steps) new.steps
+      (Load (QUEUE_WORDS + id) word) ([], ap (λ (h : Hint). h.steps) steps)
+      (contains_first (Load (QUEUE_WORDS + id) word) old.steps),
+)
+
+pub queued_there : (queues id : ℕ) (late arrivals : List Arrival) (old new : Hint) (rxq : ℕ)
+    → (late ≡ []) ⊎ (late ≡ arrivals) → Queued queues id late old new (Some rxq)
+    → HasCome queues arrivals new.steps id rxq
+queued_there queues id late arrivals old new rxq (inl none) is =
+    came_with queues arrivals new.steps id rxq
+    (subst (λ a. HasCome queues a new.steps id rxq) none (queued_by queues id late old new rxq is))
+queued_there queues id late arrivals old new rxq (inr all) is =
+    subst (λ a. HasCome queues a new.steps id rxq) all (queued_by queues id late old new rxq is)
+
+-- ---- the inbox and settings
+
+pub found_later : (ds es : List BoardStep) (o k id : ℕ) → Grows ds es → HasFound ds o k id
+    → HasFound es o k id
+found_later ds es o k id grow x =
+    record {
+      word = x.word;
+      found = x.found;
+      held = contains_later ds es _ grow x.held;
+      there = x.there;
+    }
+
+read_later : (ds es : List BoardStep) (setting value : ℕ) → Grows ds es
+    → HasReadInside ds setting value → HasReadInside es setting value
+read_later ds es setting value (more, is) x =
+    record {
+      newer = more ++ x.newer;
+      older = x.older;
+      are = is ∙ (ap (λ zs. more ++ zs) x.are ∙ sym (append_assoc more x.newer _));
+      in_visit = x.in_visit;
+    }
+
+-- ---- writes
+
+module _ (given : Setup) (app home : ℕ) (rx es : List BoardStep) (hints fs : List HintStep)
+    (rx_grow : Grows rx es) (grow : Grows hints fs) where
+  written_later : (entry : Option ℕ) (rest writes : List SockWrite)
+      → HasWritten given app home rx hints entry rest writes
+      → HasWritten given app home es fs entry rest writes
+  written_later None rest writes is = is
+  written_later (Some entry) rest writes (cpu, stood, is) = (
+    cpu,
+    stood_later given.cpus app home hints fs cpu grow stood,
+    is,
+  )
+
+  pub writes_later : (ids : List ℕ) (writes : List SockWrite)
+      → HasWrittenAll given app home rx hints ids writes → HasWrittenAll given app home es fs ids
+      writes
+  writes_later [] writes is = is
+  writes_later (id ∷ ids) writes (size, rest, read, one, more) = (
+    size,
+    rest,
+    read_later rx es _ size rx_grow read,
+    written_later _ rest writes one,
+    writes_later ids rest more,
+  )
+
+module _ (given : Setup) (app home : ℕ) (rx : List BoardStep) (hints : List HintStep) where
+  one_more : (entry : Option ℕ) (rest writes last : List SockWrite)
+      → HasWritten given app home rx hints entry rest writes
+      → HasWritten given app home rx hints entry (rest ++ last) (writes ++ last)
+  one_more None rest writes last is = ap (λ ws. ws ++ last) is
+  one_more (Some entry) rest writes last (cpu, stood, is) = (
+    cpu,
+    stood,
+    ap (λ ws. ws ++ last) is,
+  )
+
+  -- what was written for packets, and then for one more
+  pub writes_more : (ids : List ℕ) (writes : List SockWrite) (id size : ℕ)
+      (last : List SockWrite) → HasWrittenAll given app home rx hints ids writes
+      → HasReadInside rx (2 * length given.homes) size
+      → HasWritten given app home rx hints (class_of (socket_size_in size) (packet_hash given id))
+      []
+      last → HasWrittenAll given app home rx hints (ids ++ id ∷ []) (writes ++ last)
+  writes_more [] writes id size last is read one = (
+    size,
+    [],
+    read,
+    subst (λ ws. HasWritten given app home rx hints
+        (class_of (socket_size_in size) (packet_hash given id)) [] (ws ++ last)) (sym is) one,
+    refl,
+  )
+  writes_more (x ∷ ids) writes id size last (n, rest, before, first, more) read one = (
+    n,
+    rest ++ last,
+    before,
+    one_more _ rest writes last first,
+    writes_more ids rest id size last more read one,
+  )
+
+-- the write of a call
+pub writes_there : (given : Setup) (app home : ℕ) (rx : List BoardStep) (entry : Option ℕ)
+    (before after : Journal SockWrite) (old new : Hint)
+    → Writes given.cpus app home entry before after old new
+    → (last : List SockWrite) × HasWritten given app home rx new.steps entry [] last
+    × (after.items ≡ before.items ++ last)
+writes_there given app home rx None before after old new (same, hint) = (
+  [],
+  refl,
+  ap (λ (j : Journal SockWrite). j.items) same ∙ sym (append_none before.items),
+)
+writes_there given app home rx (Some entry) before after old new (cpu, mid, stands, store, note) = (
+  record { entry = entry; cpu = cpu } ∷ [],
+  (
+    cpu,
+    stood_later given.cpus app home mid.steps new.steps cpu (steps_one _ mid new store)
+        (stands_there given.cpus app home old mid cpu stands),
+    refl,
+  ),
+  ap (λ (j : Journal SockWrite). j.items) note,
+)
+
+pub writes_grow : (cpus app home : ℕ) (entry : Option ℕ) (before after : Journal SockWrite)
+    (old new : Hint) → Writes cpus app home entry before after old new
+    → Grows old.steps new.steps
+writes_grow cpus app home None before after old new (same, hint) = steps_same old new hint
+writes_grow cpus app home (Some entry) before after old new (cpu, mid, stands, store, note) =
+    grows_both old.steps mid.steps new.steps (steps_one _ old mid stands.2)
+    (steps_one _ mid new store)

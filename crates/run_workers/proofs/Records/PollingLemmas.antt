@@ -1,0 +1,327 @@
+-- A poller's record of its turns, after a poll and beside other actors.
+use Rattle.std.proofs.Common.{◌≡◌, ◌⊎◌, inl, inr, ℕ, ◌<◌, List, [], ◌∷◌, ◌++◌, Bool, true, false}
+use Rattle.std.proofs.Common.{None, Some, IfSome, if◌then◌else◌, map, sym, refl, ap, ◌∙◌}
+use Rattle.std.proofs.Common.{subst, arith}
+use Rattle.std.specs.Prelude.{nat_lt}
+use Rattle.std.specs.List.{filter_map}
+use Rattle.std.proofs.lemmas.Bool.Decides.{nat_tests}
+use Rattle.std.proofs.lemmas.List.{map-append}
+use Rattle.std.proofs.lemmas.List.Elements.{filter_map-append}
+use Rattle.rtrb.specs.Ring.{received}
+use Rattle.linearization.specs.Orders.{StepBy, step_by, steps_of}
+use Rattle.linearization.specs.Seats.{SeatView}
+use Rattle.steer_base.specs.Journals.{grown}
+use Rattle.steer_base.specs.declared.choice.Chosen.{Chosen}
+use Rattle.dev_flow_table.specs.Tables.{Table}
+use Rattle.hint_words.specs.declared.step.HintStep.{HintStep}
+use Rattle.board_api.specs.Seats.{BoardSeatView, Adds}
+use Rattle.hop_rule.specs.declared.step.BoardStep.TheVariants.{Gate}
+use Rattle.hop_rule.specs.declared.step.GateStep.TheVariants.{Left, Turned}
+use Rattle.hop_delivery.specs.Orders.Turns.{Explained, Turn}
+use Rattle.hop_delivery.proofs.Orders.TurnLemmas.{explained_more}
+use Rattle.steer_model.specs.State.Setup.{Setup}
+use Rattle.run_workers.specs.Hands.Pollers.{IsPoller, SteersHand, Takes, Visits, Waits, count_after}
+use Rattle.run_workers.specs.declared.poller.Poller.{Poller}
+use Rattle.run_workers.proofs.Hands.VisitLemmas.{visits_explain}
+use Rattle.run_workers.specs.Records.Growth.{Grows, TurnsGrow, held}
+use Rattle.run_workers.specs.Records.Polling.{AllPolled, IsPolled, IsPolling, PolledTurn}
+use Rattle.run_workers.specs.Records.Polling.{choices_in}
+use Rattle.run_workers.specs.Records.Polling.{last_flows, packet_of_number, ring_packets}
+use Rattle.run_workers.specs.Records.Polling.{polled_table}
+use Rattle.run_workers.specs.Records.PollingLaws.{PollersBegin, PollersGoOn, PollersStay, PollsOn}
+use Rattle.run_workers.specs.Records.Storing.{StoresAreFor}
+use Rattle.run_workers.proofs.Records.StoringLemmas.{visit_stores}
+use Rattle.run_workers.proofs.Records.HintLemmas.{asks_stay, looked_stays, looked_up}
+use Rattle.run_workers.proofs.Records.HintLemmas.{polls_keep_hints}
+use Rattle.run_workers.proofs.Records.ListLemmas.{append_none, noted_more, own_turn}
+
+abbrev Hint : Type 0
+Hint = SeatView HintStep
+
+module _ (first start : ℕ) (given : Setup) (packets q : ℕ) (ds es : List HintStep)
+    (stay : Grows ds es) where
+  polled_stays : (ss : List PolledTurn) (s : PolledTurn)
+      → IsPolled first start given packets q ds ss s → IsPolled first start given packets q es ss s
+  polled_stays ss s x =
+      record {
+        within = x.within;
+        hash = x.hash;
+        reads = x.reads;
+        want = x.want;
+        looks = looked_stays given.cpus _ ds es x.want stay x.looks;
+        head = x.head;
+        loads = x.loads;
+        looked = x.looked;
+        rule = x.rule;
+      }
+
+  pub all_stay : (ss : List PolledTurn) → AllPolled first start given packets q ds ss
+      → AllPolled first start given packets q es ss
+  all_stay [] all = all
+  all_stay (s ∷ ss) all = (polled_stays ss s all.0, all_stay ss all.1)
+
+pub pollers_begin : PollersBegin
+pollers_begin given first start p turns hints hand flows items accepted table ring own =
+    record {
+      polled = [];
+      own = sym own;
+      journal = items ∙ sym (ap choices_in own);
+      taken = ap (ring_packets p.choices.room) ring
+          ∙ sym (λ i. map (λ (c : Chosen). c.id) (items i) ++ held (hand i));
+      flows = flows;
+      table = table;
+      accepted = accepted;
+      are = tt;
+    }
+
+pub pollers_stay : PollersStay
+pollers_stay given first start p turns more hints after same stay x =
+    record {
+      polled = x.polled;
+      own = x.own ∙ sym same;
+      journal = x.journal ∙ sym (ap choices_in same);
+      taken = x.taken;
+      flows = x.flows;
+      table = x.table;
+      accepted = x.accepted;
+      are = all_stay first start given p.choices.room p.queue hints after stay x.polled x.are;
+    }
+
+-- ---- taking from the ring
+
+module _ (given : Setup) (first start : ℕ) (p mid : Poller) (turns : List (StepBy Turn))
+    (hints : List HintStep) where
+  -- the packets of a ring from which one number more came
+  ring_more : (x : ℕ) → received mid.ring ≡ received p.ring ++ x ∷ []
+      → mid.hand ≡ (if nat_lt x p.choices.room then Some x else None)
+      → ring_packets p.choices.room (received mid.ring)
+      ≡ ring_packets p.choices.room (received p.ring) ++ held mid.hand
+  ring_more x ring hand =
+      ap (ring_packets p.choices.room) ring
+      ∙ (filter_map-append (packet_of_number p.choices.room) (received p.ring) (x ∷ [])
+      ∙ ap (λ zs. ring_packets p.choices.room (received p.ring) ++ zs)
+      (one (nat_lt x p.choices.room) ∙ sym (ap held hand)))
+    where
+      one : (b : Bool)
+          → filter_map (λ (y : ℕ). if b then Some x else None) (x ∷ [])
+          ≡ held (if b then Some x else None)
+      one true = refl
+      one false = refl
+
+  taken_more : (took : Bool) → Takes p mid took
+      → ring_packets p.choices.room (received p.ring)
+      ≡ map (λ (c : Chosen). c.id) p.choices.items ++ held p.hand
+      → ring_packets p.choices.room (received mid.ring)
+      ≡ map (λ (c : Chosen). c.id) p.choices.items ++ held mid.hand
+  taken_more false (ring, hand) is =
+      ap (ring_packets p.choices.room) ring
+      ∙ (is ∙ ap (λ h. map (λ (c : Chosen). c.id) p.choices.items ++ held h) (sym hand))
+  taken_more true (x, empty, ring, hand) is =
+      ring_more x ring hand
+      ∙ ap (λ zs. zs ++ held mid.hand)
+      (is ∙ (ap (λ h. map (λ (c : Chosen). c.id) p.choices.items ++ held h) empty
+      ∙ append_none (map (λ (c : Chosen). c.id) p.choices.items)))
+
+  pub took_is : (took : Bool) → Takes p mid took
+      → mid ≡ record p { hand = mid.hand; ring = mid.ring }
+      → IsPolling given first start p turns hints → IsPolling given first start mid turns hints
+  took_is took takes same x =
+      subst (λ z. IsPolling given first start z turns hints) (sym same) (record {
+        polled = x.polled;
+        own = x.own;
+        journal = x.journal;
+        taken = taken_more took takes x.taken;
+        flows = x.flows;
+        table = x.table;
+        accepted = x.accepted;
+        are = x.are;
+      })
+
+-- ---- a turn
+
+module _ (given : Setup) (filters first start id : ℕ) (mid q : Poller) (turns : List (StepBy Turn))
+    (old new : BoardSeatView) (hint_old hint_new : Hint)
+    (hand : mid.hand ≡ Some id) (within : id < mid.choices.room)
+    (steers : SteersHand given filters id mid q old new hint_old hint_new)
+    (x : IsPolling given first start mid turns hint_old.steps) where
+  abbrev turn : Turn
+  turn = steers.turn
+
+  -- the visit by the flow word and the table of the turns so far
+  abbrev visit : Visits given filters mid.queue (last_flows first start x.polled) q.flows
+      (polled_table first start x.polled) q.table mid.accepted q.accepted turn old new hint_old
+      hint_new
+  visit =
+      subst (λ (z : ℕ × Table). Visits given filters mid.queue z.0 q.flows z.1 q.table mid.accepted
+      q.accepted turn old new hint_old hint_new) (λ i. (x.flows i, x.table i)) steers.visit
+
+  abbrev polled_turn : PolledTurn
+  polled_turn = record { turn = turn; reading = visit.reading }
+
+  hints_stay : Grows hint_old.steps hint_new.steps
+  hints_stay =
+      polls_keep_hints given filters mid q old new hint_old hint_new (record {
+        mid = mid;
+        took = false;
+        takes = (refl, refl);
+        same = refl;
+        steers = inr (id, hand, steers);
+      })
+
+  is_polled : IsPolled first start given mid.choices.room mid.queue hint_new.steps x.polled
+      polled_turn
+  is_polled =
+      record {
+        within = subst (λ n. n < mid.choices.room) (sym steers.id_is) within;
+        hash = visit.hash;
+        reads = visit.reads;
+        want = visit.want;
+        looks = looked_stays given.cpus _ visit.hint_mid.steps hint_new.steps visit.want
+            (asks_stay given filters turn.chosen.id turn.chosen.choice turn.answer visit.hint_mid
+            hint_new visit.asks)
+            (looked_up given.cpus _ hint_old visit.hint_mid visit.want visit.looks);
+        head = visit.head;
+        loads = visit.loads;
+        looked = visit.looked;
+        rule = visit.rule;
+      }
+
+  taken_all : ring_packets mid.choices.room (received mid.ring)
+      ≡ map (λ (c : Chosen). c.id) (mid.choices.items ++ turn.chosen ∷ []) ++ []
+  taken_all =
+      x.taken
+      ∙ (ap (λ h. map (λ (c : Chosen). c.id) mid.choices.items ++ held h)
+      (hand ∙ ap (λ n. Some n) (sym steers.id_is))
+      ∙ (sym (map-append (λ (c : Chosen). c.id) mid.choices.items (turn.chosen ∷ []))
+      ∙ sym (append_none (map (λ (c : Chosen). c.id) (mid.choices.items ++ turn.chosen ∷ [])))))
+
+  steered_is : IsPolling given first start (record mid {
+    hand = None;
+    flows = visit.reading.flows;
+    table = q.table;
+    choices = grown mid.choices turn.chosen;
+    accepted = q.accepted;
+  }) (step_by mid.queue turn ∷ turns) hint_new.steps
+  steered_is =
+      record {
+        polled = polled_turn ∷ x.polled;
+        own = ap (λ us. turn ∷ us) x.own ∙ sym (own_turn mid.queue turn turns);
+        journal = ap (λ cs. cs ++ turn.chosen ∷ []) x.journal
+            ∙ (sym (noted_more (λ (u : Turn). u.chosen) turn (steps_of mid.queue turns))
+            ∙ sym (ap choices_in (own_turn mid.queue turn turns)));
+        taken = taken_all;
+        flows = refl;
+        table = visit.table;
+        accepted = visit.count ∙ ap (λ n. count_after n turn.answer) x.accepted;
+        are = (
+          is_polled,
+          all_stay first start given mid.choices.room mid.queue hint_old.steps hint_new.steps
+              hints_stay x.polled x.are,
+        );
+      }
+
+  pub steers_on : Explained old.steps turns
+      → PollsOn given filters first start mid q turns new hint_old hint_new
+  steers_on explained =
+      record {
+        more = step_by mid.queue turn ∷ turns;
+        grow = inr (turn, refl);
+        explained = visits_explain given filters mid.queue mid.flows q.flows mid.table q.table
+            mid.accepted q.accepted turn old new hint_old hint_new steers.visit turns explained;
+        keeps = subst (λ z. IsPolling given first start z (step_by mid.queue turn ∷ turns)
+            hint_new.steps)
+            (sym (steers.same ∙ (λ i. record mid {
+              hand = None;
+              flows = visit.word i;
+              table = q.table;
+              choices = steers.choices i;
+              accepted = q.accepted;
+            })))
+            steered_is;
+        stores = λ noted before. visit_stores given filters mid.queue mid.flows q.flows mid.table
+            q.table mid.accepted q.accepted turn old new hint_old hint_new steers.visit turns noted
+            before;
+      }
+
+-- ---- a poll
+
+waits_on : (given : Setup) (filters first start : ℕ) (mid q : Poller) (turns : List (StepBy Turn))
+    (old new : BoardSeatView) (hint_old hint_new : Hint) → Waits mid q old new hint_old hint_new
+    → Explained old.steps turns → IsPolling given first start mid turns hint_old.steps
+    → PollsOn given filters first start mid q turns new hint_old hint_new
+waits_on given filters first start mid q turns old new hint_old hint_new waits explained x =
+    record {
+      more = turns;
+      grow = inl refl;
+      explained = still waits.steps;
+      keeps = subst (λ (z : Poller × List HintStep). IsPolling given first start z.0 turns z.1)
+          (λ i. (
+            sym waits.same i,
+            sym (ap (λ (h : Hint). h.steps) waits.hint) i,
+          )) x;
+      stores = λ noted before. subst (StoresAreFor given filters turns noted)
+          (sym (ap (λ (h : Hint). h.steps) waits.hint)) before;
+    }
+  where
+    still : (new ≡ old) ⊎ ((word : ℕ) × Adds (Gate Left ∷ Gate (Turned word) ∷ []) old new)
+        → Explained new.steps turns
+    still (inl same) =
+        subst (λ ds. Explained ds turns) (sym (ap (λ (s : BoardSeatView). s.steps) same)) explained
+    still (inr (word, adds)) =
+        subst (λ ds. Explained ds turns) (sym (ap (λ (s : BoardSeatView). s.steps) adds))
+        (explained_more (Gate Left ∷ Gate (Turned word) ∷ []) old.steps turns refl explained)
+
+-- the number in hand after a take names a packet
+taken_within : (cpus : ℕ) (p mid : Poller) (took : Bool) → Takes p mid took → IsPoller cpus p
+    → IfSome mid.hand (λ id. id < p.choices.room)
+taken_within cpus p mid false (ring, hand) is =
+    subst (λ h. IfSome h (λ id. id < p.choices.room)) (sym hand) is.hand
+taken_within cpus p mid true (x, empty, ring, hand) is =
+    subst (λ h. IfSome h (λ id. id < p.choices.room)) (sym hand)
+    (by_test (nat_lt x p.choices.room) refl)
+  where
+    by_test : (b : Bool) → nat_lt x p.choices.room ≡ b
+        → IfSome (if b then Some x else None) (λ id. id < p.choices.room)
+    by_test true less = grind (arith, nat_tests)
+    by_test false less = tt
+
+pub pollers_go_on : PollersGoOn
+pollers_go_on given cpus filters first start p q turns old new hint_old hint_new polls is explained
+    x =
+    from_mid (by_case polls.steers)
+  where
+    mid_is : IsPolling given first start polls.mid turns hint_old.steps
+    mid_is = took_is given first start p polls.mid turns hint_old.steps polls.took polls.takes
+        polls.same x
+
+    queue : polls.mid.queue ≡ p.queue
+    queue = ap (λ (z : Poller). z.queue) polls.same
+
+    within : (id : ℕ) → polls.mid.hand ≡ Some id → id < polls.mid.choices.room
+    within id hand =
+        subst (λ n. id < n) (sym (ap (λ (z : Poller). z.choices.room) polls.same))
+        (subst (λ h. IfSome h (λ n. n < p.choices.room)) hand
+        (taken_within cpus p polls.mid polls.took polls.takes is))
+
+    by_case : Waits polls.mid q old new hint_old hint_new
+        ⊎ ((id : ℕ) × (polls.mid.hand ≡ Some id)
+        × SteersHand given filters id polls.mid q old new hint_old hint_new)
+        → PollsOn given filters first start polls.mid q turns new hint_old hint_new
+    by_case (inl waits) =
+        waits_on given filters first start polls.mid q turns old new hint_old hint_new waits
+        explained
+        mid_is
+    by_case (inr (id, hand, steers)) =
+        steers_on given filters first start id polls.mid q turns old new hint_old hint_new hand
+        (within id hand) steers mid_is explained
+
+    from_mid : PollsOn given filters first start polls.mid q turns new hint_old hint_new
+        → PollsOn given filters first start p q turns new hint_old hint_new
+    from_mid on =
+        record {
+          more = on.more;
+          grow = subst (λ a. TurnsGrow a turns on.more) queue on.grow;
+          explained = on.explained;
+          keeps = on.keeps;
+          stores = on.stores;
+        }

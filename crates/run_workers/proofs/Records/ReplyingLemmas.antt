@@ -1,0 +1,436 @@
+-- An application's record of its packets and turns, after its calls and beside other actors.
+use Rattle.std.proofs.Common.{◌≡◌, ◌⊎◌, inl, inr, ℕ, ◌*◌, ◌<◌, true, false, List, [], ◌∷◌}
+use Rattle.std.proofs.Common.{◌++◌, Option, None, Some, IfSome, length, map, sym, refl, ap, ◌∙◌}
+use Rattle.std.proofs.Common.{subst, arith}
+use Rattle.std.specs.Prelude.{slice_get}
+use Rattle.std.specs.List.{Contains}
+use Rattle.std.proofs.lemmas.List.Elements.{Contains-append_left}
+use Rattle.std.proofs.lemmas.List.{length-map, map-append}
+use Rattle.linearization.specs.Orders.{StepBy, step_by, steps_of}
+use Rattle.linearization.specs.Seats.{SeatView}
+use Rattle.steer_base.specs.Journals.{grown}
+use Rattle.history.specs.declared.arrival.Arrival.{Arrival}
+use Rattle.history.specs.declared.sent.Sent.{Sent}
+use Rattle.hint_words.specs.declared.step.HintStep.{HintStep}
+use Rattle.hop_rule.specs.declared.sizes.BoardSizes.{BoardSizes}
+use Rattle.hop_rule.specs.declared.step.BoardStep.{BoardStep}
+use Rattle.hop_rule.specs.declared.step.BoardStep.TheVariants.{Gate, Lane}
+use Rattle.hop_rule.specs.declared.step.GateStep.TheVariants.{Entered, Left, Read, Turned}
+use Rattle.hop_rule.specs.declared.step.LaneStep.TheVariants.{OutHeld}
+use Rattle.hop_rule.proofs.Lists.{none-some}
+use Rattle.board_api.specs.Seats.{BoardSeatView, Adds}
+use Rattle.hop_delivery.specs.Orders.Turns.{Explained, Turn}
+use Rattle.steer_model.specs.State.Setup.{Setup}
+use Rattle.run_workers.specs.Hands.Servers.{BacksOut, IsServer, KeepsHand, LeavesInbox, Queued}
+use Rattle.run_workers.specs.Hands.Servers.{Replies}
+use Rattle.run_workers.specs.Hands.Servers.{RepliesToHand, TakesNext}
+use Rattle.run_workers.specs.declared.server.Server.{Server}
+use Rattle.run_workers.proofs.Hands.ServerLaws.{applications_explain}
+use Rattle.run_workers.specs.Records.Growth.{Grows, held}
+use Rattle.run_workers.specs.Records.Polling.{choices_in}
+use Rattle.run_workers.specs.Records.Replying.{EachReplied, HasWrittenAll, HasFound, HasReadInside}
+use Rattle.run_workers.specs.Records.Replying.{IsReplied}
+use Rattle.run_workers.specs.Records.Replying.{IsReplying, RepliedTurn, replied_table}
+use Rattle.run_workers.specs.Records.Replying.{taken_by}
+use Rattle.run_workers.specs.Records.ReplyingLaws.{ArrivalsComeLate, RepliesGoOn, RepliesOn}
+use Rattle.run_workers.specs.Records.ReplyingLaws.{ServersBegin}
+use Rattle.run_workers.specs.Records.ReplyingLaws.{ServersStay, TakesGoOn}
+use Rattle.run_workers.proofs.Records.HeldLemmas.{came_later, came_with, found_later, queued_there}
+use Rattle.run_workers.proofs.Records.HeldLemmas.{stands_there, stood_later, writes_grow}
+use Rattle.run_workers.proofs.Records.HeldLemmas.{writes_later}
+use Rattle.run_workers.proofs.Records.HeldLemmas.{writes_more, writes_there}
+use Rattle.run_workers.proofs.Records.HintLemmas.{steps_one, steps_same}
+use Rattle.run_workers.proofs.Records.ListLemmas.{append_none, contains_later, get_last, grows_both}
+use Rattle.run_workers.proofs.Records.ListLemmas.{grows_same, noted_more}
+use Rattle.run_workers.proofs.Records.ListLemmas.{own_turn}
+use Rattle.run_workers.proofs.Records.WordLemmas.{AreRead, words_of}
+
+abbrev Hint : Type 0
+Hint = SeatView HintStep
+
+-- the packets of replies
+abbrev pub ids : List Sent → List ℕ
+ids sents = map (λ (r : Sent). r.id) sents
+
+-- ---- turns stay
+
+module _ (rows start : ℕ) (given : Setup) (packets app home : ℕ) (arrivals : List Arrival) where
+  module _ (ds es : List HintStep) (grow : Grows ds es) where
+    replied_later : (rs : List RepliedTurn) (r : RepliedTurn)
+        → IsReplied rows start given packets app home arrivals ds rs r
+        → IsReplied rows start given packets app home arrivals es rs r
+    replied_later rs r x =
+        record {
+          within = x.within;
+          id_is = x.id_is;
+          hash = x.hash;
+          cpu_reads = x.cpu_reads;
+          queue_reads = x.queue_reads;
+          maps = x.maps;
+          count = x.count;
+          cpus_are = x.cpus_are;
+          queues_are = x.queues_are;
+          stood = stood_later given.cpus app home ds es r.sent.cpu grow x.stood;
+          came = came_later (length given.homes) arrivals ds es r.sent.id r.sent.rxq grow x.came;
+          head = x.head;
+          loads = x.loads;
+          looked = x.looked;
+          rule = x.rule;
+        }
+
+    pub all_later : (rs : List RepliedTurn)
+        → EachReplied rows start given packets app home arrivals ds rs
+        → EachReplied rows start given packets app home arrivals es rs
+    all_later [] all = all
+    all_later (r ∷ rs) all = (replied_later rs r all.0, all_later rs all.1)
+
+  replied_with : (ds : List HintStep) (rs : List RepliedTurn) (r : RepliedTurn)
+      → IsReplied rows start given packets app home [] ds rs r
+      → IsReplied rows start given packets app home arrivals ds rs r
+  replied_with ds rs r x =
+      record {
+        within = x.within;
+        id_is = x.id_is;
+        hash = x.hash;
+        cpu_reads = x.cpu_reads;
+        queue_reads = x.queue_reads;
+        maps = x.maps;
+        count = x.count;
+        cpus_are = x.cpus_are;
+        queues_are = x.queues_are;
+        stood = x.stood;
+        came = came_with (length given.homes) arrivals ds r.sent.id r.sent.rxq x.came;
+        head = x.head;
+        loads = x.loads;
+        looked = x.looked;
+        rule = x.rule;
+      }
+
+  all_with : (ds : List HintStep) (rs : List RepliedTurn)
+      → EachReplied rows start given packets app home [] ds rs
+      → EachReplied rows start given packets app home arrivals ds rs
+  all_with ds [] all = all
+  all_with ds (r ∷ rs) all = (replied_with ds rs r all.0, all_with ds rs all.1)
+
+pub servers_begin : ServersBegin
+servers_begin given rows start arrivals s turns rx hints hand table sent choices writes own =
+    let none : taken_by s ≡ [] = λ i. ids (sent i) ++ held (hand i) in
+    record {
+      replied = [];
+      own = sym own;
+      replies = sent;
+      choices = choices ∙ sym (ap choices_in own);
+      table = table;
+      found = λ k id at. none-some id (sym (ap (λ xs. slice_get xs k) none) ∙ at);
+      writes =
+          subst (λ xs. HasWrittenAll given s.app s.home rx hints xs s.writes.items) (sym none)
+          writes;
+      are = tt;
+    }
+
+pub servers_stay : ServersStay
+servers_stay given rows start arrivals s turns more rx rx_after hints after same rx_grow grow x =
+    record {
+      replied = x.replied;
+      own = x.own ∙ sym same;
+      replies = x.replies;
+      choices = x.choices ∙ sym (ap choices_in same);
+      table = x.table;
+      found = λ k id at. found_later rx rx_after s.app k id rx_grow (x.found k id at);
+      writes = writes_later given s.app s.home rx rx_after hints after rx_grow grow (taken_by s)
+          s.writes.items x.writes;
+      are = all_later rows start given s.sent.room s.app s.home arrivals hints after grow x.replied
+          x.are;
+    }
+
+pub arrivals_come : ArrivalsComeLate
+arrivals_come given rows start arrivals s turns rx hints x =
+    record {
+      replied = x.replied;
+      own = x.own;
+      replies = x.replies;
+      choices = x.choices;
+      table = x.table;
+      found = x.found;
+      writes = x.writes;
+      are = all_with rows start given s.sent.room s.app s.home arrivals hints x.replied x.are;
+    }
+
+-- ---- steps that calls add
+
+pub adds_grow : (added : List BoardStep) (old new : BoardSeatView) → Adds added old new
+    → Grows old.steps new.steps
+adds_grow added old new adds = (added, ap (λ (v : BoardSeatView). v.steps) adds)
+
+pub gate_grow : (old new : BoardSeatView) → (new ≡ old) ⊎ BacksOut old new
+    → Grows old.steps new.steps
+gate_grow old new (inl same) =
+    grows_same old.steps new.steps (ap (λ (v : BoardSeatView). v.steps) same)
+gate_grow old new (inr out) = adds_grow (Gate Left ∷ Gate (Turned out.0) ∷ []) old new out.1
+
+-- ---- taking
+
+module _ (about : BoardSizes) (given : Setup) (rows start : ℕ) (arrivals : List Arrival)
+    (s t : Server) (turns : List (StepBy Turn)) (old new : BoardSeatView)
+    (hint_old hint_new : Hint) where
+  takes_nothing : LeavesInbox s t old new hint_old hint_new
+      → IsReplying given rows start arrivals s turns old.steps hint_old.steps
+      → IsReplying given rows start arrivals t turns new.steps hint_new.steps
+  takes_nothing leaves x =
+      subst (λ z. IsReplying given rows start arrivals z turns new.steps hint_new.steps)
+      (sym leaves.same)
+      (servers_stay given rows start arrivals s turns turns old.steps new.steps hint_old.steps
+      hint_new.steps refl
+      (grows_both old.steps leaves.mid.steps new.steps
+      (adds_grow leaves.looks.added old leaves.mid leaves.looks.adds)
+      (gate_grow leaves.mid new leaves.gate))
+      (steps_same hint_old hint_new leaves.hint) x)
+
+  module _ (takes : TakesNext about given s t old new hint_old hint_new)
+      (x : IsReplying given rows start arrivals s turns old.steps hint_old.steps) where
+    were : taken_by s ≡ ids s.sent.items
+    were = ap (λ h. ids s.sent.items ++ held h) takes.empty ∙ append_none (ids s.sent.items)
+
+    found_grow : Grows old.steps takes.mid.steps
+    found_grow = adds_grow takes.peeks.added old takes.mid takes.peeks.adds
+
+    visit_grow : Grows takes.mid.steps new.steps
+    visit_grow =
+        adds_grow (Gate Left ∷ Gate (Read (2 * length given.homes) takes.records.size)
+        ∷ Gate (Entered takes.records.word) ∷ []) takes.mid new takes.records.adds
+
+    rx_grow : Grows old.steps new.steps
+    rx_grow = grows_both old.steps takes.mid.steps new.steps found_grow visit_grow
+
+    hints_grow : Grows hint_old.steps hint_new.steps
+    hints_grow = writes_grow given.cpus s.app s.home _ s.writes t.writes hint_old hint_new
+        takes.records.writes
+
+    found_now : HasFound new.steps s.app (length s.sent.items) takes.id
+    found_now =
+        let f = takes.peeks.found in
+        record {
+          word = f.word;
+          found = f.found;
+          held = contains_later takes.mid.steps new.steps (Lane (OutHeld s.app f.word f.found))
+              visit_grow
+              (subst (λ zs. Contains zs (Lane (OutHeld s.app f.word f.found)))
+              (sym (ap (λ (v : BoardSeatView). v.steps) takes.peeks.adds))
+              (Contains-append_left takes.peeks.added old.steps
+              (Lane (OutHeld s.app f.word f.found)) f.held));
+          there = f.there;
+        }
+
+    found_all : (k y : ℕ) → slice_get (ids s.sent.items ++ takes.id ∷ []) k ≡ Some y
+        → HasFound new.steps s.app k y
+    found_all k y at =
+        elim (get_last (ids s.sent.items) takes.id k y at) [
+          | inl there ↦ found_later old.steps new.steps s.app k y rx_grow
+              (x.found k y (ap (λ zs. slice_get zs k) were ∙ there))
+          | inr last ↦
+              subst (λ (z : ℕ × ℕ). HasFound new.steps s.app z.0 z.1)
+              (λ i. (
+                sym (last.0 ∙ length-map s.sent.items (λ (r : Sent). r.id)) i,
+                last.1 i,
+              ))
+              found_now
+        ]
+
+    read_now : HasReadInside new.steps (2 * length given.homes) takes.records.size
+    read_now =
+        record {
+          newer = Gate Left ∷ [];
+          older = Gate (Entered takes.records.word) ∷ takes.mid.steps;
+          are = ap (λ (v : BoardSeatView). v.steps) takes.records.adds;
+          in_visit = refl;
+        }
+
+    written_now : HasWrittenAll given s.app s.home new.steps hint_new.steps
+        (ids s.sent.items ++ takes.id ∷ []) t.writes.items
+    written_now =
+        let w = writes_there given s.app s.home new.steps _ s.writes t.writes hint_old hint_new
+        takes.records.writes in
+        subst (HasWrittenAll given s.app s.home new.steps hint_new.steps
+        (ids s.sent.items ++ takes.id ∷ [])) (sym w.2)
+        (writes_more given s.app s.home new.steps hint_new.steps (ids s.sent.items)
+        s.writes.items takes.id takes.records.size w.0
+        (subst (λ zs. HasWrittenAll given s.app s.home new.steps hint_new.steps zs s.writes.items)
+        were
+        (writes_later given s.app s.home old.steps new.steps hint_old.steps hint_new.steps rx_grow
+        hints_grow (taken_by s) s.writes.items x.writes))
+        read_now w.1)
+
+    takes_one : IsReplying given rows start arrivals t turns new.steps hint_new.steps
+    takes_one =
+        subst (λ z. IsReplying given rows start arrivals z turns new.steps hint_new.steps)
+        (sym takes.same) (record {
+          replied = x.replied;
+          own = x.own;
+          replies = x.replies;
+          choices = x.choices;
+          table = x.table;
+          found = found_all;
+          writes = written_now;
+          are = all_later rows start given s.sent.room s.app s.home arrivals hint_old.steps
+              hint_new.steps
+              hints_grow x.replied x.are;
+        })
+
+pub takes_go_on : TakesGoOn
+takes_go_on about given rows start arrivals s t true turns old new hint_old hint_new takes x =
+    takes_one about given rows start arrivals s t turns old new hint_old hint_new takes x
+takes_go_on about given rows start arrivals s t false turns old new hint_old hint_new takes x =
+    takes_nothing about given rows start arrivals s t turns old new hint_old hint_new takes x
+
+-- ---- replying
+
+pub kept_grow : (queues : ℕ) (late : List Arrival) (hand : Option ℕ) (old new : Hint)
+    (queue : Option ℕ) → IfSome hand (λ id. Queued queues id late old new queue)
+    → (hand ≡ None → new ≡ old) → Grows old.steps new.steps
+kept_grow queues late None old new queue queued none = steps_same old new (none refl)
+kept_grow queues late (Some id) old new queue queued none = steps_one _ old new queued.2
+
+module _ (given : Setup) (rows start : ℕ) (arrivals late : List Arrival) (s t : Server)
+    (turns : List (StepBy Turn)) (rx : List BoardStep) (old new : BoardSeatView)
+    (hint_old hint_new : Hint)
+    (x : IsReplying given rows start arrivals s turns rx hint_old.steps) where
+  keeps_on : KeepsHand (length given.homes) late s t old new hint_old hint_new
+      → Explained old.steps turns → RepliesOn given rows start arrivals s t turns rx new hint_new
+  keeps_on keeps explained =
+      record {
+        more = turns;
+        grow = inl refl;
+        explained = applications_explain.keeps (length given.homes) late s t old new hint_old
+            hint_new keeps turns explained;
+        keeps = subst (λ z. IsReplying given rows start arrivals z turns rx hint_new.steps)
+            (sym keeps.same)
+            (servers_stay given rows start arrivals s turns turns rx rx hint_old.steps
+            hint_new.steps refl (grows_same rx rx refl)
+            (kept_grow (length given.homes) late s.hand hint_old hint_new keeps.queue keeps.hint
+            keeps.untouched) x);
+      }
+
+  module _ (replied : RepliesToHand given late s t old new hint_old hint_new)
+      (is : IsServer given s) (known : (late ≡ []) ⊎ (late ≡ arrivals)) where
+    abbrev turn : Turn
+    turn = replied.turn
+
+    abbrev sent : Sent
+    sent = replied.sent
+
+    -- the reply by the table of the turns so far
+    abbrev by_table : Replies given s.app s.home sent (replied_table rows start x.replied)
+        t.table turn old new replied.hint_mid hint_new
+    by_table =
+        subst (λ z. Replies given s.app s.home sent z t.table turn old new replied.hint_mid
+        hint_new) x.table replied.replies
+
+    abbrev words : (w : ℕ → ℕ) × ((tx : ℕ) → tx < given.txs
+        → AreRead given.cpus (length given.homes) given.txs by_table.maps turn.early w tx)
+    words =
+        words_of given.cpus (length given.homes) given.txs by_table.maps turn.early given.txs
+        (omega arith) by_table.reads
+
+    abbrev replied_turn : RepliedTurn
+    replied_turn = record { turn = turn; sent = sent; words = words.0 }
+
+    queue_grow : Grows hint_old.steps replied.hint_mid.steps
+    queue_grow = steps_one _ hint_old replied.hint_mid replied.queued.2
+
+    stand_grow : Grows replied.hint_mid.steps hint_new.steps
+    stand_grow = steps_one _ replied.hint_mid hint_new by_table.stands.2
+
+    hints_more : Grows hint_old.steps hint_new.steps
+    hints_more =
+        grows_both hint_old.steps replied.hint_mid.steps hint_new.steps queue_grow stand_grow
+
+    is_replied : IsReplied rows start given s.sent.room s.app s.home arrivals hint_new.steps
+        x.replied
+        replied_turn
+    is_replied =
+        record {
+          within = subst (λ h. IfSome h (λ id. id < s.sent.room)) replied.hand is.hand;
+          id_is = by_table.id_is;
+          hash = by_table.hash;
+          cpu_reads = λ tx less. (words.1 tx less).cpu_reads;
+          queue_reads = λ tx less. (words.1 tx less).queue_reads;
+          maps = by_table.maps;
+          count = by_table.count;
+          cpus_are = λ tx less. (words.1 tx less).cpus_are;
+          queues_are = λ tx less. (words.1 tx less).queues_are;
+          stood = stands_there given.cpus s.app s.home replied.hint_mid hint_new sent.cpu
+              by_table.stands;
+          came = came_later (length given.homes) arrivals replied.hint_mid.steps hint_new.steps
+              sent.id sent.rxq stand_grow
+              (queued_there (length given.homes) sent.id late arrivals hint_old replied.hint_mid
+              sent.rxq known replied.queued);
+          head = by_table.head;
+          loads = by_table.loads;
+          looked = by_table.looked;
+          rule = by_table.rule;
+        }
+
+    -- the packet in hand is the last of those that were replied to
+    taken_same : taken_by s ≡ ids (s.sent.items ++ sent ∷ []) ++ []
+    taken_same =
+        ap (λ h. ids s.sent.items ++ held h) replied.hand
+        ∙ (sym (map-append (λ (r : Sent). r.id) s.sent.items (sent ∷ []))
+        ∙ sym (append_none (ids (s.sent.items ++ sent ∷ []))))
+
+    keeps_more : IsReplying given rows start arrivals (record s {
+      hand = None;
+      table = t.table;
+      sent = grown s.sent sent;
+      choices = grown s.choices turn.chosen;
+    }) (step_by s.app turn ∷ turns) rx hint_new.steps
+    keeps_more =
+        record {
+          replied = replied_turn ∷ x.replied;
+          own = ap (λ us. turn ∷ us) x.own ∙ sym (own_turn s.app turn turns);
+          replies = ap (λ rs. rs ++ sent ∷ []) x.replies
+              ∙ sym (noted_more (λ (r : RepliedTurn). r.sent) replied_turn x.replied);
+          choices = ap (λ cs. cs ++ turn.chosen ∷ []) x.choices
+              ∙ (sym (noted_more (λ (u : Turn). u.chosen) turn (steps_of s.app turns))
+              ∙ sym (ap choices_in (own_turn s.app turn turns)));
+          table = by_table.table;
+          found = λ k y at. x.found k y (ap (λ zs. slice_get zs k) taken_same ∙ at);
+          writes = subst (λ zs. HasWrittenAll given s.app s.home rx hint_new.steps zs
+              s.writes.items)
+              taken_same
+              (writes_later given s.app s.home rx rx hint_old.steps hint_new.steps
+              (grows_same rx rx refl) hints_more (taken_by s) s.writes.items x.writes);
+          are = (
+            is_replied,
+            all_later rows start given s.sent.room s.app s.home arrivals hint_old.steps
+                hint_new.steps
+                hints_more x.replied x.are,
+          );
+        }
+
+    replies_on : Explained old.steps turns
+        → RepliesOn given rows start arrivals s t turns rx new hint_new
+    replies_on explained =
+        record {
+          more = step_by s.app turn ∷ turns;
+          grow = inr (turn, refl);
+          explained = applications_explain.replies given s.app s.home sent s.table t.table turn
+              old new replied.hint_mid hint_new replied.replies turns explained;
+          keeps = subst (λ z. IsReplying given rows start arrivals z (step_by s.app turn ∷ turns)
+              rx hint_new.steps)
+              (sym (replied.same ∙ (λ i. record s {
+                hand = None;
+                table = t.table;
+                sent = replied.notes_sent i;
+                choices = replied.notes_choice i;
+              })))
+              keeps_more;
+        }
+
+pub replies_go_on : RepliesGoOn
+replies_go_on given rows start arrivals late s t true turns rx old new hint_old hint_new replied
+    is known explained x =
+    replies_on given rows start arrivals late s t turns rx old new hint_old hint_new x replied is
+    known explained
+replies_go_on given rows start arrivals late s t false turns rx old new hint_old hint_new keeps is
+    known explained x =
+    keeps_on given rows start arrivals late s t turns rx old new hint_old hint_new x keeps explained

@@ -1,0 +1,28 @@
+use Rattle.run_workers.specs.Hands.Deltas.{this_lane}
+use Rattle.run_workers.proofs.Hands.DeltaLemmas.{serves_look, serves_next}
+use Rattle.run_workers.proofs.Hands.DrainLemmas.{keeps_drain}
+use Rattle.run_workers.proofs.drain.Drain.fill.Goals as goal
+
+pub returns-then-has_all-clause-is : goal.returns-then-has_all-clause-is
+returns-then-has_all-clause-is g c =
+    keeps_drain c.args.given.now c.args.self.now c.args.seat.now c.has_all.new.seat
+    (λ served. serves_look served c.args.self.now.lane c.args.seat.now c.has_all.new.seat
+    c.has_all.ensures.looks) c.requires.is
+
+pub returns-then-has_all-clause-serves : goal.returns-then-has_all-clause-serves
+returns-then-has_all-clause-serves g c =
+    serves_look (this_lane c.args.self.now.lane) c.args.self.now.lane c.args.seat.now
+    c.has_all.new.seat c.has_all.ensures.looks
+
+pub pull-requires-clause-is : goal.pull-requires-clause-is
+pull-requires-clause-is g c =
+    keeps_drain c.args.given.now c.args.self.now c.args.seat.now c.has_all.new.seat
+    (λ served. serves_look served c.args.self.now.lane c.args.seat.now c.has_all.new.seat
+    c.has_all.ensures.looks) c.requires.is
+
+pub returns-clause-serves : goal.returns-clause-serves
+returns-clause-serves g c =
+    serves_next (this_lane c.args.self.now.lane) c.args.seat.now c.has_all.new.seat
+    c.pull.new.seat
+    (serves_look (this_lane c.args.self.now.lane) c.args.self.now.lane c.args.seat.now
+    c.has_all.new.seat c.has_all.ensures.looks) c.pull.ensures.serves

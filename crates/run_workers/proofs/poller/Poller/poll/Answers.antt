@@ -1,0 +1,82 @@
+use Rattle.std.proofs.Common.{inl, inr, refl, ap, ◌∙◌}
+use Rattle.hop_rule.specs.Boards.{gate_steps}
+use Rattle.hop_rule.specs.Gates.{closed, visit}
+use Rattle.steer_base.specs.declared.choice.Chosen.{Chosen}
+use Rattle.board_api.specs.Seats.{BoardSeatView}
+use Rattle.run_workers.proofs.Hands.VisitLemmas.{stays_inside, stays_open, turn, visits}
+use Rattle.run_workers.proofs.poller.Poller.poll.Goals as goal
+
+pub returns-in_default-clause-polls : goal.returns-in_default-clause-polls
+returns-in_default-clause-polls g c =
+    record {
+      mid = c.take-took.new.self;
+      took = c.take-took.result;
+      takes = c.take-took.ensures.takes;
+      same = c.take-took.ensures.same;
+      steers = inl (record { same = refl; hint = refl; steps = inl refl });
+    }
+
+pub leave-requires-clause-inside : goal.leave-requires-clause-inside
+leave-requires-clause-inside g c =
+    stays_inside c.args.shared.now.given c.args.shared.now.filters c.take-took.new.self.queue
+    c.take-took.new.self.flows c.steer.new.self.flows c.take-took.new.self.table
+    c.steer.new.self.table c.take-took.new.self.accepted c.steer.new.self.accepted
+    (record { id = c.in-Some.id; choice = c.steer.result }) c.enter.new.seat c.steer.new.seat
+    c.args.hint.now c.steer.new.hint c.steer.ensures.steers
+    (ap (λ (s : BoardSeatView). visit (gate_steps s.steps)) c.in-Ok.ensures.step.2)
+
+pub returns-in-Ok-clause-polls : goal.returns-in-Ok-clause-polls
+returns-in-Ok-clause-polls g c =
+    let chosen : Chosen = record { id = c.in-Some.id; choice = c.steer.result } in
+    let word = c.in-Ok.ensures.step.0 in
+    record {
+      mid = c.take-took.new.self;
+      took = c.take-took.result;
+      takes = c.take-took.ensures.takes;
+      same = c.take-took.ensures.same;
+      steers = inr (
+        c.in-Some.id,
+        c.in-Some.is,
+        record {
+          turn = turn c.args.shared.now.given c.args.shared.now.filters c.take-took.new.self.queue
+              c.take-took.new.self.flows c.steer.new.self.flows c.take-took.new.self.table
+              c.steer.new.self.table c.take-took.new.self.accepted c.steer.new.self.accepted
+              chosen c.enter.new.seat c.steer.new.seat c.args.hint.now c.steer.new.hint
+              c.steer.ensures.steers word;
+          id_is = refl;
+          visit = visits c.args.shared.now.given c.args.shared.now.filters
+              c.take-took.new.self.queue c.take-took.new.self.flows c.steer.new.self.flows
+              c.take-took.new.self.table c.steer.new.self.table c.take-took.new.self.accepted
+              c.steer.new.self.accepted chosen c.enter.new.seat c.steer.new.seat c.args.hint.now
+              c.steer.new.hint c.steer.ensures.steers c.args.seat.now c.leave.new.seat word
+              c.in-Ok.ensures.step.1 c.in-Ok.ensures.step.2 c.leave.ensures;
+          choices = c.steer.ensures.choices;
+          same = c.steer.ensures.same;
+        },
+      );
+    }
+
+pub returns-in-Closed-clause-polls : goal.returns-in-Closed-clause-polls
+returns-in-Closed-clause-polls g c =
+    record {
+      mid = c.take-took.new.self;
+      took = c.take-took.result;
+      takes = c.take-took.ensures.takes;
+      same = c.take-took.ensures.same;
+      steers = inl (record {
+        same = refl;
+        hint = refl;
+        steps = inr (c.in-Closed.word, c.in-Closed.ensures.step.1);
+      });
+    }
+
+pub returns-in-Ok-clause-open : goal.returns-in-Ok-clause-open
+returns-in-Ok-clause-open g c =
+    ap (λ (s : BoardSeatView). closed (gate_steps s.steps)) c.leave.ensures
+    ∙ stays_open c.args.shared.now.given c.args.shared.now.filters c.take-took.new.self.queue
+    c.take-took.new.self.flows c.steer.new.self.flows c.take-took.new.self.table
+    c.steer.new.self.table c.take-took.new.self.accepted c.steer.new.self.accepted
+    (record { id = c.in-Some.id; choice = c.steer.result }) c.enter.new.seat c.steer.new.seat
+    c.args.hint.now c.steer.new.hint c.steer.ensures.steers
+    (ap (λ (s : BoardSeatView). closed (gate_steps s.steps)) c.in-Ok.ensures.step.2
+    ∙ c.requires.open)

@@ -1,0 +1,47 @@
+use Rattle.std.proofs.Common.{ap, ◌∙◌}
+use Rattle.hop_rule.specs.Boards.{gate_steps}
+use Rattle.hop_rule.specs.Gates.{closed, visit}
+use Rattle.history.specs.declared.sent.Sent.{Sent}
+use Rattle.board_api.specs.Seats.{BoardSeatView}
+use Rattle.run_workers.proofs.Hands.ReplyLemmas.{replies, reply_turn, sends_inside, sends_open}
+use Rattle.run_workers.proofs.server.Server.reply.Goals as goal
+
+pub leave-requires-clause-inside : goal.leave-requires-clause-inside
+leave-requires-clause-inside g c =
+    sends_inside c.args.shared.now.given
+    (record { id = c.in-Some.id; rxq = c.in-Some-queue_of.rxq; cpu = c.stand-cpu.result })
+    c.send.result c.args.self.now.table c.send.new.self.table c.enter.new.seat c.send.new.seat
+    c.send.ensures.sends
+    (ap (λ (s : BoardSeatView). visit (gate_steps s.steps)) c.in-Ok.ensures.step.2)
+
+pub returns-in-Ok-clause-replies : goal.returns-in-Ok-clause-replies
+returns-in-Ok-clause-replies g c =
+    let sent : Sent =
+    record { id = c.in-Some.id; rxq = c.in-Some-queue_of.rxq; cpu = c.stand-cpu.result } in
+    let word = c.in-Ok.ensures.step.0 in
+    record {
+      sent = sent;
+      turn = reply_turn c.args.shared.now.given sent c.send.result c.args.self.now.table
+          c.send.new.self.table c.enter.new.seat c.send.new.seat c.send.ensures.sends word;
+      hint_mid = c.queue_of.new.seat;
+      hand = c.in-Some.is;
+      queued = c.in-Some-queue_of.ensures;
+      replies = replies c.args.shared.now.given sent c.send.result c.args.self.now.table
+          c.send.new.self.table c.enter.new.seat c.send.new.seat c.send.ensures.sends
+          c.args.self.now.app c.args.self.now.home c.queue_of.new.seat c.stand-cpu.new.seat
+          c.stand-cpu.ensures c.args.seat.now c.leave.new.seat word c.in-Ok.ensures.step.1
+          c.in-Ok.ensures.step.2 c.leave.ensures;
+      notes_sent = c.send.ensures.notes_sent;
+      notes_choice = c.send.ensures.notes_choice;
+      same = c.send.ensures.same;
+    }
+
+pub returns-in-Ok-clause-open : goal.returns-in-Ok-clause-open
+returns-in-Ok-clause-open g c =
+    ap (λ (s : BoardSeatView). closed (gate_steps s.steps)) c.leave.ensures
+    ∙ sends_open c.args.shared.now.given
+    (record { id = c.in-Some.id; rxq = c.in-Some-queue_of.rxq; cpu = c.stand-cpu.result })
+    c.send.result c.args.self.now.table c.send.new.self.table c.enter.new.seat c.send.new.seat
+    c.send.ensures.sends
+    (ap (λ (s : BoardSeatView). closed (gate_steps s.steps)) c.in-Ok.ensures.step.2
+    ∙ c.requires.open)

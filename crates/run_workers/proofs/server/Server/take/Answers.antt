@@ -1,0 +1,107 @@
+use Rattle.std.proofs.Common.{◌<◌, ℕ, inl, inr, refl, ap, subst, sym, ◌∙◌, arith}
+use Rattle.history.proofs.OwnLemmas.{none-unless}
+use Rattle.hop_rule.specs.Boards.{gate_steps}
+use Rattle.hop_rule.specs.Gates.{closed}
+use Rattle.board_api.specs.Seats.{BoardSeatView}
+use Rattle.run_workers.specs.Hands.Deltas.{no_lane}
+use Rattle.run_workers.specs.Hands.Servers.{IsServer}
+use Rattle.run_workers.proofs.Hands.DeltaLemmas.{stays}
+use Rattle.run_workers.proofs.Hands.ServerLemmas.{quiet_gate, quiet_place, taken_is}
+use Rattle.run_workers.proofs.server.Server.take.Goals as goal
+
+pub returns-then-is_some-clause-takes : goal.returns-then-is_some-clause-takes
+returns-then-is_some-clause-takes g c =
+    record {
+      same = refl;
+      hint = refl;
+      mid = c.args.seat.now;
+      looks = stays no_lane c.args.seat.now;
+      gate = inl refl;
+    }
+
+pub returns-then-len-room-clause-takes : goal.returns-then-len-room-clause-takes
+returns-then-len-room-clause-takes g c =
+    record {
+      same = refl;
+      hint = refl;
+      mid = c.args.seat.now;
+      looks = stays no_lane c.args.seat.now;
+      gate = inl refl;
+    }
+
+pub returns-in_default-clause-takes : goal.returns-in_default-clause-takes
+returns-in_default-clause-takes g c =
+    record {
+      same = refl;
+      hint = refl;
+      mid = c.peek.new.seat;
+      looks = record {
+        added = c.peek.ensures.added;
+        only = c.peek.ensures.only;
+        adds = c.peek.ensures.adds;
+      };
+      gate = inl refl;
+    }
+
+pub returns-in_default-clause-outside : goal.returns-in_default-clause-outside
+returns-in_default-clause-outside g c =
+    let p = c.peek.ensures in
+    quiet_place p.added c.args.seat.now c.peek.new.seat p.only.quiet p.adds ∙ c.requires.outside
+
+pub returns-in_default-clause-open : goal.returns-in_default-clause-open
+returns-in_default-clause-open g c =
+    let p = c.peek.ensures in
+    quiet_gate p.added c.args.seat.now c.peek.new.seat p.only.quiet p.adds ∙ c.requires.open
+
+pub enter-requires-clause-outside : goal.enter-requires-clause-outside
+enter-requires-clause-outside g c =
+    let p = c.peek.ensures in
+    quiet_place p.added c.args.seat.now c.peek.new.seat p.only.quiet p.adds ∙ c.requires.outside
+
+pub enter-requires-clause-open : goal.enter-requires-clause-open
+enter-requires-clause-open g c =
+    let p = c.peek.ensures in
+    quiet_gate p.added c.args.seat.now c.peek.new.seat p.only.quiet p.adds ∙ c.requires.open
+
+pub returns-in-Ok-clause-is : goal.returns-in-Ok-clause-is
+returns-in-Ok-clause-is g c =
+    let few = c.if-len-room.false in
+    let len = c.len.ensures.len in
+    let room = c.room.ensures in
+    subst (IsServer c.args.shared.now.given) (sym c.record.ensures.same)
+    (taken_is c.args.shared.now.given c.args.self.now c.in-Some.id c.record.new.self.writes
+    c.enter.new.seat c.record.new.seat c.args.hint.now c.record.new.hint c.requires.is
+    (none-unless c.args.self.now.hand (sym c.is_some.ensures ∙ c.if-is_some.false))
+    (omega (arith, few, len, room))
+    (subst (λ (n : ℕ). c.in-Some.id < n) (sym c.requires.room) c.in-Some.ensures.found.within)
+    c.record.ensures.notes)
+
+pub returns-in-Ok-clause-open : goal.returns-in-Ok-clause-open
+returns-in-Ok-clause-open g c =
+    let p = c.peek.ensures in
+    ap (λ (s : BoardSeatView). closed (gate_steps s.steps)) c.leave.ensures
+    ∙ (ap (λ (s : BoardSeatView). closed (gate_steps s.steps)) c.record.ensures.notes.1
+    ∙ (ap (λ (s : BoardSeatView). closed (gate_steps s.steps)) c.in-Ok.ensures.step.2
+    ∙ (quiet_gate p.added c.args.seat.now c.peek.new.seat p.only.quiet p.adds
+    ∙ c.requires.open)))
+
+pub returns-in-Closed-clause-takes : goal.returns-in-Closed-clause-takes
+returns-in-Closed-clause-takes g c =
+    record {
+      same = refl;
+      hint = refl;
+      mid = c.peek.new.seat;
+      looks = record {
+        added = c.peek.ensures.added;
+        only = c.peek.ensures.only;
+        adds = c.peek.ensures.adds;
+      };
+      gate = inr (c.in-Closed.word, c.in-Closed.ensures.step.1);
+    }
+
+pub returns-in-Closed-clause-open : goal.returns-in-Closed-clause-open
+returns-in-Closed-clause-open g c =
+    let p = c.peek.ensures in
+    ap (λ (s : BoardSeatView). closed (gate_steps s.steps)) c.in-Closed.ensures.step.1
+    ∙ (quiet_gate p.added c.args.seat.now c.peek.new.seat p.only.quiet p.adds
+    ∙ c.requires.open)

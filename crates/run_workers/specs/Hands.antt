@@ -1,0 +1,5 @@
+pub mod Deltas
+pub mod Drains
+pub mod Pollers
+pub mod Servers
+pub mod Laws

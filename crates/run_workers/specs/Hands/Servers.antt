@@ -1,0 +1,323 @@
+-- What an application does at its boards: it takes the packets of its inbox in order, records where
+-- it runs in the socket flow table (kernel scaling chapter, section RFS), and replies by the maps
+-- of the transmit queues (section XPS).
+use Rattle.std.specs.Prelude.{◌≡◌, ◌⊎◌, ℕ, ◌+◌, ◌*◌, ◌<◌, ◌≤◌, ◌==◌, Bool, true, false}
+use Rattle.std.specs.Prelude.{List, [], ◌∷◌, Option, None, Some, IfSome, IsSome, length, unwrap_or}
+use Rattle.std.specs.Prelude.{slice_get, slice_index, slice_index_or, slice_set, if◌then◌else◌}
+use Rattle.std.specs.List.{Contains}
+use Rattle.std.specs.Option.{is_some}
+use Rattle.linearization.specs.Seats.{SeatView}
+use Rattle.steer_base.specs.Choices.{class_of, looks_at_head, migrate}
+use Rattle.steer_base.specs.Journals.{Journal, grown}
+use Rattle.steer_base.specs.declared.choice.Choice.{Choice}
+use Rattle.steer_base.specs.declared.limits.TheConstants.{MAX_PACKETS}
+use Rattle.steer_base.specs.declared.put.Put.{Put}
+use Rattle.history.specs.declared.arrival.Arrival.{Arrival}
+use Rattle.history.specs.declared.sent.Sent.{Sent}
+use Rattle.history.specs.declared.sock_write.SockWrite.{SockWrite}
+use Rattle.dev_flow_table.specs.Folds.{after_turn, table_after}
+use Rattle.dev_flow_table.specs.Tables.{Table, entries, weighed}
+use Rattle.xps_map.specs.Maps.{Maps, no_cpus, picked}
+use Rattle.hint_words.specs.declared.step.HintStep.{HintStep}
+use Rattle.hint_words.specs.declared.step.HintStep.TheVariants.{Load, Store}
+use Rattle.hop_rule.specs.OutLanes.{OutList}
+use Rattle.hop_rule.specs.declared.sizes.BoardSizes.{BoardSizes}
+use Rattle.hop_rule.specs.declared.step.BoardStep.{BoardStep}
+use Rattle.hop_rule.specs.declared.step.BoardStep.TheVariants.{Gate, Lane}
+use Rattle.hop_rule.specs.declared.step.GateStep.TheVariants.{Entered, Left, Read, Turned}
+use Rattle.hop_rule.specs.declared.step.LaneStep.TheVariants.{OutHeld}
+use Rattle.board_api.specs.Seats.{BoardSeatView, Adds}
+use Rattle.board_api.specs.StepWords.{is_marked}
+use Rattle.hop_delivery.specs.Orders.Turns.{AreQuiet, Turn, visit_with}
+use Rattle.steer_model.specs.State.Setup.{Setup, flow_number_of, packet_hash}
+use Rattle.run_words.specs.Values.{cpus_in, place_in, place_word, queues_in, socket_size_in}
+use Rattle.run_words.specs.declared.hint_word.TheConstants.{QUEUE_WORDS, STAND_WORDS}
+use Rattle.run_workers.specs.Hands.Deltas.{HoldsNoMore, LeavesLane, OnlyServes, Serves, no_lane}
+use Rattle.run_workers.specs.Hands.Pollers.{HasLanesBelow, LoadedHead, LoadsHead, as_told, put_of}
+use Rattle.run_workers.specs.declared.server.Server.{Server}
+
+-- what contracts see of a seat at the hint words
+abbrev pub HintView : Type 0
+HintView = SeatView HintStep
+
+-- ---- the next packet
+
+-- Among these steps the out lane o was held, and this packet was at its index n.
+pub record FoundAt (about : BoardSizes) (o n id : ℕ) (steps : List BoardStep) : Type 0 where
+  pub word : ℕ
+  pub found : OutList
+  pub held : Contains steps (Lane (OutHeld o word found))
+  pub there : slice_get found.items n ≡ Some id
+  pub within : id < about.room
+
+-- A seat looked for the packet at index n of the out lane o. It served no middle lane, and keeps no
+-- lane.
+pub record Peeks (about : BoardSizes) (o n : ℕ) (answer : Option ℕ) (old new : BoardSeatView)
+    : Type 0 where
+  pub added : List BoardStep
+  pub only : OnlyServes no_lane added
+  pub adds : Adds added old new
+  pub found : IfSome answer (λ id. FoundAt about o n id added)
+
+-- ---- the record
+
+-- The processor of an application is that of its word, of so many, or its home.
+abbrev pub Stands : ℕ → ℕ → ℕ → HintView → HintView → ℕ → Type 0
+Stands cpus app home old new cpu =
+    (word : ℕ) × (cpu ≡ unwrap_or (place_in word cpus) home)
+    × (new ≡ record old { steps = Load (STAND_WORDS + app) word ∷ old.steps })
+
+-- The processor of the application was written to the entry of the socket flow table, and noted;
+-- without an entry nothing was.
+abbrev pub Writes : ℕ → ℕ → ℕ → Option ℕ → Journal SockWrite → Journal SockWrite → HintView
+    → HintView → Type 0
+Writes cpus app home None before after old new = (after ≡ before) × (new ≡ old)
+Writes cpus app home (Some entry) before after old new =
+    (cpu : ℕ) × (mid : HintView) × Stands cpus app home old mid cpu
+    × (new ≡ record mid { steps = Store entry (place_word cpu) ∷ mid.steps })
+    × (after ≡ grown before (record { entry = entry; cpu = cpu }))
+
+-- The socket size was read, and the entry of the packet's hash by this size was written.
+abbrev pub Notes : Setup → ℕ → ℕ → ℕ → Journal SockWrite → Journal SockWrite → BoardSeatView
+    → BoardSeatView → HintView → HintView → Type 0
+Notes given id app home before after old new hint_old hint_new =
+    (size : ℕ) × Adds (Gate (Read (2 * length given.homes) size) ∷ []) old new
+    × Writes given.cpus app home (class_of (socket_size_in size) (packet_hash given id)) before
+    after hint_old hint_new
+
+-- The flow of a packet was recorded, in one visit of the receive board.
+pub record Records (given : Setup) (id app home : ℕ) (before after : Journal SockWrite)
+    (old new : BoardSeatView) (hint_old hint_new : HintView) : Type 0 where
+  pub word : ℕ
+  pub gate : is_marked word ≡ false
+  pub size : ℕ
+  pub adds : Adds (Gate Left ∷ Gate (Read (2 * length given.homes) size) ∷ Gate (Entered word) ∷ [])
+      old new
+  pub writes : Writes given.cpus app home
+      (class_of (socket_size_in size) (packet_hash given id)) before after hint_old hint_new
+
+-- The gate was closed, and the seat backed out.
+abbrev pub BacksOut : BoardSeatView → BoardSeatView → Type 0
+BacksOut old new = (word : ℕ) × Adds (Gate Left ∷ Gate (Turned word) ∷ []) old new
+
+-- An application took nothing: at most its seat looked for a packet and found the gate closed.
+pub record LeavesInbox (s t : Server) (old new : BoardSeatView) (hint_old hint_new : HintView)
+    : Type 0 where
+  pub same : t ≡ s
+  pub hint : hint_new ≡ hint_old
+  pub mid : BoardSeatView
+  pub looks : Serves no_lane old mid
+  pub gate : (new ≡ mid) ⊎ BacksOut mid new
+
+-- An application with an empty hand found its next packet in its inbox, at the index of its number
+-- of replies, recorded its flow, and has it in hand.
+pub record TakesNext (about : BoardSizes) (given : Setup) (s t : Server) (old new : BoardSeatView)
+    (hint_old hint_new : HintView) : Type 0 where
+  pub empty : s.hand ≡ None
+  pub id : ℕ
+  pub mid : BoardSeatView
+  pub peeks : Peeks about s.app (length s.sent.items) (Some id) old mid
+  pub records : Records given id s.app s.home s.writes t.writes mid new hint_old hint_new
+  pub same : t ≡ record s { hand = Some id; writes = t.writes }
+
+-- what an application did, by whether it took a packet
+abbrev pub TakesOrLeaves : BoardSizes → Setup → Server → Server → BoardSeatView → BoardSeatView
+    → HintView → HintView → Bool → Type 0
+TakesOrLeaves about given s t old new hint_old hint_new true =
+    TakesNext about given s t old new hint_old hint_new
+TakesOrLeaves about given s t old new hint_old hint_new false =
+    LeavesInbox s t old new hint_old hint_new
+
+-- ---- the queue of a packet
+
+-- the queue of an arrival, if it is that of the packet
+abbrev pub queue_if : ℕ → Option Arrival → Option ℕ
+queue_if id None = None
+queue_if id (Some a) = if a.id == id then Some a.queue else None
+
+-- the queue of a packet in a list that has the arrivals in the order of the packets
+abbrev pub late_queue : List Arrival → ℕ → Option ℕ
+late_queue arrivals id = queue_if id (slice_get arrivals id)
+
+-- the queue that a word says, or else a list
+abbrev pub queue_by : Option ℕ → List Arrival → ℕ → Option ℕ
+queue_by (Some queue) late id = Some queue
+queue_by None late id = late_queue late id
+
+-- The word of the packet's queue was loaded, and the queue is by it, or else by the list.
+abbrev pub Queued : ℕ → ℕ → List Arrival → HintView → HintView → Option ℕ → Type 0
+Queued queues id late old new queue =
+    (word : ℕ) × (queue ≡ queue_by (place_in word queues) late id)
+    × (new ≡ record old { steps = Load (QUEUE_WORDS + id) word ∷ old.steps })
+
+-- ---- the maps
+
+-- The two words of a transmit queue, of so many, were read among these steps, and the maps have
+-- what they say.
+pub record MapRead (cpus queues count tx : ℕ) (maps : Maps) (steps : List BoardStep)
+    : Type 0 where
+  pub cpu_word : ℕ
+  pub queue_word : ℕ
+  pub reads_cpus : Contains steps (Gate (Read tx cpu_word))
+  pub reads_queues : Contains steps (Gate (Read (count + tx) queue_word))
+  pub cpus_are : slice_index_or maps.cpus tx no_cpus ≡ cpus_in cpu_word cpus
+  pub queues_are : slice_index maps.queues tx ≡ queues_in queue_word queues
+
+-- ---- the reply
+
+-- The board has the settings of a transmit board, two for each queue, and a lane for each.
+pub record HasTransmitSettings (about : BoardSizes) (given : Setup) : Type 0 where
+  pub settings : length about.settings ≡ 2 * given.txs
+  pub lanes : about.lanes ≡ given.txs
+
+-- the maps with what the two words of a transmit queue say
+abbrev pub with_map : ℕ → ℕ → Maps → ℕ → ℕ → ℕ → Maps
+with_map cpus queues maps tx cpu_word queue_word = record {
+  count = maps.count;
+  cpus = slice_set maps.cpus tx (cpus_in cpu_word cpus);
+  queues = slice_set maps.queues tx (queues_in queue_word queues);
+}
+
+-- The two words of a transmit queue were read, and its maps set by them.
+abbrev pub ReadsMap : Setup → ℕ → Maps → Maps → BoardSeatView → BoardSeatView → Type 0
+ReadsMap given tx before after old new =
+    (cpu_word : ℕ) × (queue_word : ℕ)
+    × Adds (Gate (Read (given.txs + tx) queue_word) ∷ Gate (Read tx cpu_word) ∷ []) old new
+    × (after ≡ with_map given.cpus (length given.homes) before tx cpu_word queue_word)
+
+-- The words of the first n transmit queues were read, and nothing else was done.
+pub record MapsRead (given : Setup) (n : ℕ) (maps : Maps) (old new : BoardSeatView)
+    : Type 0 where
+  pub added : List BoardStep
+  pub adds : Adds added old new
+  pub quiet : AreQuiet added
+  pub holds : HoldsNoMore added
+  pub leaves : (l : ℕ) → LeavesLane l added
+  pub reads : (tx : ℕ) → tx < n
+      → MapRead given.cpus (length given.homes) given.txs tx maps added
+  pub count : maps.count ≡ given.txs
+  pub cpu_sets : length maps.cpus ≡ given.txs
+  pub queue_sets : length maps.queues ≡ given.txs
+
+-- A lane for a packet of this flow was chosen by the migration rule over this table, with the pick
+-- as the desired lane and no lane offline. The head that the rule looks at was loaded.
+pub record ChoosesLane (flow pick : ℕ) (before after : Table) (choice : Choice)
+    (old new : BoardSeatView) : Type 0 where
+  pub head : Option ℕ
+  pub loads : LoadsHead before (Some flow) old new head
+  pub looked : is_some head ≡ looks_at_head (Some flow) (entries before) pick (λ _. true)
+  pub rule : choice
+      ≡ migrate (Some flow) (Some pick) pick (entries before) (λ _. unwrap_or head 0) (λ _. true)
+  pub table : after ≡ weighed before (Some flow) choice
+
+-- A packet was put to the lane of its choice with its hash, and the table was told of the answer.
+pub record PutsReply (given : Setup) (id : ℕ) (choice : Choice) (answer : Put)
+    (before after : Table) (old new : BoardSeatView) : Type 0 where
+  pub early : List BoardStep
+  pub quiet : AreQuiet early
+  pub holds : HoldsNoMore (put_of given choice.lane id answer ∷ early)
+  pub leaves : (l : ℕ) → LeavesLane l (put_of given choice.lane id answer ∷ early)
+  pub adds : Adds (put_of given choice.lane id answer ∷ early) old new
+  pub table : after ≡ table_after before choice.class (Some answer)
+
+-- A reply was made, in a visit: all maps were read, the choice was made by the pick of these, and
+-- the packet was put there.
+pub record Sends (given : Setup) (sent : Sent) (choice : Choice) (before after : Table)
+    (old new : BoardSeatView) : Type 0 where
+  pub maps : Maps
+  pub between : Table
+  pub read : BoardSeatView
+  pub mid : BoardSeatView
+  pub answer : Put
+  pub reads : MapsRead given given.txs maps old read
+  pub chooses : ChoosesLane (flow_number_of given sent.id)
+      (picked maps sent.rxq sent.cpu (packet_hash given sent.id)) before between choice read mid
+  pub puts : PutsReply given sent.id choice answer between after mid new
+
+-- The seat made one visit of the transmit board with one put, as this turn says, and what the turn
+-- says is by the maps that were read in the visit, the application's processor, and the head that
+-- was loaded in the visit.
+pub record Replies (given : Setup) (app home : ℕ) (sent : Sent) (before after : Table)
+    (turn : Turn) (old new : BoardSeatView) (hint_old hint_new : HintView) : Type 0 where
+  pub adds : Adds (visit_with turn [] []) old new
+  pub gate : is_marked turn.word ≡ false
+  pub quiet : AreQuiet turn.early
+  pub holds : HoldsNoMore (visit_with turn [] [])
+  pub leaves : (l : ℕ) → LeavesLane l (visit_with turn [] [])
+  pub id_is : turn.chosen.id ≡ sent.id
+  pub hash : turn.hash ≡ packet_hash given sent.id
+  pub maps : Maps
+  pub count : maps.count ≡ given.txs
+  pub reads : (tx : ℕ) → tx < given.txs
+      → MapRead given.cpus (length given.homes) given.txs tx maps turn.early
+  pub stands : Stands given.cpus app home hint_old hint_new sent.cpu
+  pub head : Option ℕ
+  pub loads : IfSome head (LoadedHead before (Some (flow_number_of given sent.id)) turn.early)
+  pub looked : is_some head
+      ≡ looks_at_head (Some (flow_number_of given sent.id)) (entries before)
+      (picked maps sent.rxq sent.cpu (packet_hash given sent.id)) (λ _. true)
+  pub rule : turn.chosen.choice
+      ≡ migrate (Some (flow_number_of given sent.id))
+      (Some (picked maps sent.rxq sent.cpu (packet_hash given sent.id)))
+      (picked maps sent.rxq sent.cpu (packet_hash given sent.id)) (entries before)
+      (λ _. unwrap_or head 0) (λ _. true)
+  pub table : after ≡ after_turn before (as_told turn)
+
+-- An application replied to nothing: its hand was empty, or no queue of its packet was known, or
+-- the gate was closed. At most the word of the packet's queue was loaded.
+pub record KeepsHand (queues : ℕ) (late : List Arrival) (s t : Server)
+    (old new : BoardSeatView) (hint_old hint_new : HintView) : Type 0 where
+  pub same : t ≡ s
+  pub queue : Option ℕ
+  pub hint : IfSome s.hand (λ id. Queued queues id late hint_old hint_new queue)
+  pub untouched : s.hand ≡ None → hint_new ≡ hint_old
+  pub gate : (new ≡ old) ⊎ ((IsSome queue) × BacksOut old new)
+
+-- An application replied to the packet in its hand in one visit, with the queue of this packet, and
+-- noted the reply and the choice.
+pub record RepliesToHand (given : Setup) (late : List Arrival) (s t : Server)
+    (old new : BoardSeatView) (hint_old hint_new : HintView) : Type 0 where
+  pub sent : Sent
+  pub turn : Turn
+  pub hint_mid : HintView
+  pub hand : s.hand ≡ Some sent.id
+  pub queued : Queued (length given.homes) sent.id late hint_old hint_mid (Some sent.rxq)
+  pub replies : Replies given s.app s.home sent s.table t.table turn old new hint_mid hint_new
+  pub notes_sent : t.sent ≡ grown s.sent sent
+  pub notes_choice : t.choices ≡ grown s.choices turn.chosen
+  pub same : t ≡ record s { hand = None; table = t.table; sent = t.sent; choices = t.choices }
+
+-- what an application did, by whether it replied
+abbrev pub RepliesOrKeeps : Setup → List Arrival → Server → Server → BoardSeatView
+    → BoardSeatView → HintView → HintView → Bool → Type 0
+RepliesOrKeeps given late s t old new hint_old hint_new true =
+    RepliesToHand given late s t old new hint_old hint_new
+RepliesOrKeeps given late s t old new hint_old hint_new false =
+    KeepsHand (length given.homes) late s t old new hint_old hint_new
+
+-- ---- what an application keeps of itself
+
+-- the number of packets in a hand
+abbrev pub in_hand : Option ℕ → ℕ
+in_hand None = 0
+in_hand (Some id) = 1
+
+-- The flows of the first packets have numbers below so many.
+abbrev pub HasFlowsBelow : Setup → ℕ → ℕ → Type 0
+HasFlowsBelow given packets flows =
+    (id : ℕ) → id < packets → flow_number_of given id < flows
+
+-- What an application keeps of itself: its journals are of one room, which its hand counts against;
+-- there is a choice for each reply, at most one write for each packet that was taken, and a class
+-- for each packet's flow; its table names transmit queues.
+pub record IsServer (given : Setup) (s : Server) : Type 0 where
+  pub app : s.app < 32
+  pub few : s.sent.room ≤ MAX_PACKETS
+  pub choice_room : s.choices.room ≡ s.sent.room
+  pub write_room : s.writes.room ≡ s.sent.room
+  pub hand : IfSome s.hand (λ id. id < s.sent.room)
+  pub room : length s.sent.items + in_hand s.hand ≤ s.sent.room
+  pub choices : length s.choices.items ≡ length s.sent.items
+  pub writes : length s.writes.items ≤ length s.sent.items + in_hand s.hand
+  pub classes : HasFlowsBelow given s.sent.room (length s.table.rows)
+  pub lanes : HasLanesBelow given.txs s.table

@@ -1,0 +1,117 @@
+-- What a poller keeps of all its turns: what each read, and by what it chose. Lists of turns and
+-- of steps have the newest first (kernel scaling chapter, sections RPS and RFS).
+use Rattle.std.specs.Prelude.{◌≡◌, ℕ, ◌<◌, false, List, [], ◌∷◌, ◌++◌, Option, Some, None}
+use Rattle.std.specs.Prelude.{length, map, nat_lt, IfSome, if◌then◌else◌}
+use Rattle.std.specs.List.{Contains, filter_map}
+use Rattle.std.specs.Option.{is_some}
+use Rattle.rtrb.specs.Ring.{received}
+use Rattle.linearization.specs.Orders.{StepBy, steps_of}
+use Rattle.steer_base.specs.Counters.{rounded_up}
+use Rattle.steer_base.specs.declared.choice.Chosen.{Chosen}
+use Rattle.dev_flow_table.specs.Folds.{after_turn}
+use Rattle.dev_flow_table.specs.Tables.{Table, cleared}
+use Rattle.hint_words.specs.declared.step.HintStep.{HintStep}
+use Rattle.hint_words.specs.declared.step.HintStep.TheVariants.{Load}
+use Rattle.hop_rule.specs.declared.step.BoardStep.{BoardStep}
+use Rattle.hop_delivery.specs.Orders.Turns.{Turn}
+use Rattle.steer_model.specs.State.Setup.{Setup, packet_hash}
+use Rattle.run_words.specs.Values.{flows_in, place_in, socket_size_in}
+use Rattle.run_workers.specs.Hands.Pollers.{LoadedHead, as_told, choice_read, class_read}
+use Rattle.run_workers.specs.Hands.Pollers.{count_after}
+use Rattle.run_workers.specs.Hands.Pollers.{looks_to_head, read_steps, refreshed, socket_entry}
+use Rattle.run_workers.specs.declared.poller.Poller.{Poller}
+use Rattle.run_workers.specs.declared.poller.Reading.{Reading}
+use Rattle.run_words.specs.Lists.{oldest_first}
+use Rattle.run_workers.specs.Records.Growth.{held}
+
+-- A turn of a poller, and the settings that it read in its visit.
+pub record PolledTurn : Type 0 where
+  pub turn : Turn
+  pub reading : Reading
+
+-- the turns alone
+abbrev pub turns_in : List PolledTurn → List Turn
+turns_in polled = map (λ (s : PolledTurn). s.turn) polled
+
+-- the choices of turns, the oldest first
+abbrev pub choices_in : List Turn → List Chosen
+choices_in turns = map (λ (u : Turn). u.chosen) (oldest_first turns)
+
+-- the numbers that name packets, of so many
+abbrev pub packet_of_number : ℕ → ℕ → Option ℕ
+packet_of_number packets x = if nat_lt x packets then Some x else None
+
+abbrev pub ring_packets : ℕ → List ℕ → List ℕ
+ring_packets packets numbers = filter_map (packet_of_number packets) numbers
+
+-- The processor that was wanted is that of a word that was loaded for this entry; without an entry
+-- none was.
+abbrev pub HasLookedUp : ℕ → Option ℕ → List HintStep → Option ℕ → Type 0
+HasLookedUp cpus None hints want = want ≡ None
+HasLookedUp cpus (Some entry) hints want =
+    (word : ℕ) × (want ≡ place_in word cpus) × Contains hints (Load entry word)
+
+-- how many of these turns had their packets accepted
+abbrev pub accepted_turns : List PolledTurn → ℕ
+accepted_turns [] = 0
+accepted_turns (s ∷ ss) = count_after (accepted_turns ss) s.turn.answer
+
+module _ (first start : ℕ) where
+  -- the flow word that was read last, and at first this one
+  abbrev pub last_flows : List PolledTurn → ℕ
+  last_flows [] = first
+  last_flows (s ∷ ss) = s.reading.flows
+
+  -- The flow table after these turns. It was cleared at each turn that read another flow word than
+  -- the one before it, and told of each turn.
+  abbrev pub polled_table : List PolledTurn → Table
+  polled_table [] = cleared (rounded_up (flows_in first)) start false
+  polled_table (s ∷ ss) =
+      after_turn (refreshed (last_flows ss) s.reading.flows (polled_table ss))
+      (as_told s.turn)
+
+  -- the flow table by which a turn chose, after these turns
+  abbrev pub table_of_turn : List PolledTurn → PolledTurn → Table
+  table_of_turn ss s = refreshed (last_flows ss) s.reading.flows (polled_table ss)
+
+  module _ (given : Setup) (packets q : ℕ) (hints : List HintStep) where
+    -- A turn of queue q, after these, was by what it read, looked up and loaded in its visit: its
+    -- choice is the rule's for these, and the packet was put with its hash.
+    pub record IsPolled (ss : List PolledTurn) (s : PolledTurn) : Type 0 where
+      pub within : s.turn.chosen.id < packets
+      pub hash : s.turn.hash ≡ packet_hash given s.turn.chosen.id
+      pub reads : (d : BoardStep) → Contains (read_steps (length given.homes) q s.reading) d
+          → Contains s.turn.early d
+      pub want : Option ℕ
+      pub looks : HasLookedUp given.cpus
+          (socket_entry (socket_size_in s.reading.socket)
+          (class_read given s.turn.chosen.id (table_of_turn ss s))
+          (packet_hash given s.turn.chosen.id)) hints want
+      pub head : Option ℕ
+      pub loads : IfSome head (LoadedHead (table_of_turn ss s)
+          (class_read given s.turn.chosen.id (table_of_turn ss s)) s.turn.early)
+      pub looked : is_some head
+          ≡ looks_to_head given q s.turn.chosen.id s.reading (table_of_turn ss s) want
+      pub rule : s.turn.chosen.choice
+          ≡ choice_read given q s.turn.chosen.id s.reading (table_of_turn ss s) want head
+
+    -- Each of the turns was so.
+    abbrev pub AllPolled : List PolledTurn → Type 0
+    AllPolled [] = Unit {0}
+    AllPolled (s ∷ ss) = IsPolled ss s × AllPolled ss
+
+-- What a poller keeps of its turns, which are among those that explain its seat's list, and of the
+-- steps of its seat at the hint words. The journal has the choices of the turns; the packets that
+-- came out of the ring are those that were chosen for, and the one in hand; the flow table and the
+-- count are those of the turns. `first` is the queue's flow word at the start.
+pub record IsPolling (given : Setup) (first start : ℕ) (p : Poller) (turns : List (StepBy Turn))
+    (hints : List HintStep) : Type 0 where
+  pub polled : List PolledTurn
+  pub own : turns_in polled ≡ steps_of p.queue turns
+  pub journal : p.choices.items ≡ choices_in (steps_of p.queue turns)
+  pub taken : ring_packets p.choices.room (received p.ring)
+      ≡ map (λ (c : Chosen). c.id) p.choices.items ++ held p.hand
+  pub flows : p.flows ≡ last_flows first start polled
+  pub table : p.table ≡ polled_table first start polled
+  pub accepted : p.accepted ≡ accepted_turns polled
+  pub are : AllPolled first start given p.choices.room p.queue hints polled

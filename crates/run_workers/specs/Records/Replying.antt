@@ -1,0 +1,161 @@
+-- What an application keeps of all its packets and turns: where it found each, what it wrote and
+-- read, and by what it chose. Lists of turns and of steps have the newest first (kernel scaling
+-- chapter, sections RFS and XPS).
+use Rattle.std.specs.Prelude.{◌≡◌, ℕ, ◌+◌, ◌*◌, ◌<◌, true, List, [], ◌∷◌, ◌++◌, Option, Some}
+use Rattle.std.specs.Prelude.{None, IfSome, length, map, slice_get, slice_index, slice_index_or}
+use Rattle.std.specs.Prelude.{unwrap_or}
+use Rattle.std.specs.List.{Contains}
+use Rattle.std.specs.Option.{is_some}
+use Rattle.linearization.specs.Orders.{StepBy, steps_of}
+use Rattle.steer_base.specs.Choices.{class_of, looks_at_head, migrate}
+use Rattle.dev_flow_table.specs.Folds.{after_turn}
+use Rattle.dev_flow_table.specs.Tables.{Table, cleared, entries}
+use Rattle.history.specs.declared.arrival.Arrival.{Arrival}
+use Rattle.history.specs.declared.sent.Sent.{Sent}
+use Rattle.history.specs.declared.sock_write.SockWrite.{SockWrite}
+use Rattle.xps_map.specs.Maps.{Maps, no_cpus, picked}
+use Rattle.hint_words.specs.declared.step.HintStep.{HintStep}
+use Rattle.hint_words.specs.declared.step.HintStep.TheVariants.{Load}
+use Rattle.hop_rule.specs.Boards.{gate_steps}
+use Rattle.hop_rule.specs.Gates.{inside, visit}
+use Rattle.hop_rule.specs.OutLanes.{OutList}
+use Rattle.hop_rule.specs.declared.step.BoardStep.{BoardStep}
+use Rattle.hop_rule.specs.declared.step.BoardStep.TheVariants.{Gate, Lane}
+use Rattle.hop_rule.specs.declared.step.GateStep.TheVariants.{Read}
+use Rattle.hop_rule.specs.declared.step.LaneStep.TheVariants.{OutHeld}
+use Rattle.hop_delivery.specs.Orders.Turns.{Turn}
+use Rattle.steer_model.specs.State.Setup.{Setup, flow_number_of, packet_hash}
+use Rattle.run_words.specs.Values.{cpus_in, place_in, queues_in, socket_size_in}
+use Rattle.run_words.specs.declared.hint_word.TheConstants.{QUEUE_WORDS, STAND_WORDS}
+use Rattle.run_workers.specs.Hands.Pollers.{LoadedHead, as_told}
+use Rattle.run_workers.specs.Hands.Servers.{queue_by}
+use Rattle.run_workers.specs.declared.server.Server.{Server}
+use Rattle.run_words.specs.Lists.{oldest_first}
+use Rattle.run_workers.specs.Records.Growth.{held}
+use Rattle.run_workers.specs.Records.Polling.{choices_in}
+
+-- A turn of an application, the reply, and the values of the setting words that were read in its
+-- visit.
+pub record RepliedTurn : Type 0 where
+  pub turn : Turn
+  pub sent : Sent
+  pub words : ℕ → ℕ
+
+-- the turns alone
+abbrev pub reply_turns : List RepliedTurn → List Turn
+reply_turns replied = map (λ (r : RepliedTurn). r.turn) replied
+
+-- the replies of turns, the oldest first
+abbrev pub replies_in : List RepliedTurn → List Sent
+replies_in replied = map (λ (r : RepliedTurn). r.sent) (oldest_first replied)
+
+-- the packets that an application took, in order: those that it replied to and that in hand
+abbrev pub taken_by : Server → List ℕ
+taken_by s = map (λ (r : Sent). r.id) s.sent.items ++ held s.hand
+
+-- ---- what was loaded, held and read
+
+-- The processor is that of the application's word, which was loaded, or the home.
+abbrev pub HasStood : ℕ → ℕ → ℕ → List HintStep → ℕ → Type 0
+HasStood cpus app home hints cpu =
+    (word : ℕ) × (cpu ≡ unwrap_or (place_in word cpus) home)
+    × Contains hints (Load (STAND_WORDS + app) word)
+
+-- The receive queue is that of the packet's word, which was loaded, or of its arrival.
+abbrev pub HasCome : ℕ → List Arrival → List HintStep → ℕ → ℕ → Type 0
+HasCome queues arrivals hints id rxq =
+    (word : ℕ) × (queue_by (place_in word queues) arrivals id ≡ Some rxq)
+    × Contains hints (Load (QUEUE_WORDS + id) word)
+
+-- The out lane o was held, and this packet was at its index k.
+pub record HasFound (rx : List BoardStep) (o k id : ℕ) : Type 0 where
+  pub word : ℕ
+  pub found : OutList
+  pub held : Contains rx (Lane (OutHeld o word found))
+  pub there : slice_get found.items k ≡ Some id
+
+-- The setting was read in a visit.
+pub record HasReadInside (rx : List BoardStep) (setting value : ℕ) : Type 0 where
+  pub newer : List BoardStep
+  pub older : List BoardStep
+  pub are : rx ≡ newer ++ Gate (Read setting value) ∷ older
+  pub in_visit : visit (gate_steps older) ≡ inside
+
+module _ (given : Setup) (app home : ℕ) (rx : List BoardStep) (hints : List HintStep) where
+  -- For this entry the processor on which the application stood was written, and then the rest; for
+  -- none the rest alone.
+  abbrev pub HasWritten : Option ℕ → List SockWrite → List SockWrite → Type 0
+  HasWritten None rest writes = writes ≡ rest
+  HasWritten (Some entry) rest writes =
+      (cpu : ℕ) × HasStood given.cpus app home hints cpu
+      × (writes ≡ record { entry = entry; cpu = cpu } ∷ rest)
+
+  -- For each packet in order the entry of its hash was written, by a socket size that was read in a
+  -- visit; for a packet without an entry nothing.
+  abbrev pub HasWrittenAll : List ℕ → List SockWrite → Type 0
+  HasWrittenAll [] writes = writes ≡ []
+  HasWrittenAll (id ∷ ids) writes =
+      (size : ℕ) × (rest : List SockWrite) × HasReadInside rx (2 * length given.homes) size
+      × HasWritten (class_of (socket_size_in size) (packet_hash given id)) rest writes
+      × HasWrittenAll ids rest
+
+-- ---- the turns
+
+module _ (rows start : ℕ) where
+  -- the flow table after these turns, which was told of each
+  abbrev pub replied_table : List RepliedTurn → Table
+  replied_table [] = cleared rows start true
+  replied_table (r ∷ rs) = after_turn (replied_table rs) (as_told r.turn)
+
+  module _ (given : Setup) (packets app home : ℕ) (arrivals : List Arrival)
+      (hints : List HintStep) where
+    -- A turn after these was by the maps that were read in its visit, by the packet's queue and the
+    -- application's processor as they were loaded, and by the head that was loaded: its choice is
+    -- the rule's for these, and the packet was put with its hash.
+    pub record IsReplied (rs : List RepliedTurn) (r : RepliedTurn) : Type 0 where
+      pub within : r.sent.id < packets
+      pub id_is : r.turn.chosen.id ≡ r.sent.id
+      pub hash : r.turn.hash ≡ packet_hash given r.sent.id
+      pub cpu_reads : (tx : ℕ) → tx < given.txs
+          → Contains r.turn.early (Gate (Read tx (r.words tx)))
+      pub queue_reads : (tx : ℕ) → tx < given.txs
+          → Contains r.turn.early (Gate (Read (given.txs + tx) (r.words (given.txs + tx))))
+      pub maps : Maps
+      pub count : maps.count ≡ given.txs
+      pub cpus_are : (tx : ℕ) → tx < given.txs
+          → slice_index_or maps.cpus tx no_cpus ≡ cpus_in (r.words tx) given.cpus
+      pub queues_are : (tx : ℕ) → tx < given.txs
+          → slice_index maps.queues tx ≡ queues_in (r.words (given.txs + tx)) (length given.homes)
+      pub stood : HasStood given.cpus app home hints r.sent.cpu
+      pub came : HasCome (length given.homes) arrivals hints r.sent.id r.sent.rxq
+      pub head : Option ℕ
+      pub loads : IfSome head
+          (LoadedHead (replied_table rs) (Some (flow_number_of given r.sent.id)) r.turn.early)
+      pub looked : is_some head
+          ≡ looks_at_head (Some (flow_number_of given r.sent.id)) (entries (replied_table rs))
+          (picked maps r.sent.rxq r.sent.cpu (packet_hash given r.sent.id)) (λ _. true)
+      pub rule : r.turn.chosen.choice
+          ≡ migrate (Some (flow_number_of given r.sent.id))
+          (Some (picked maps r.sent.rxq r.sent.cpu (packet_hash given r.sent.id)))
+          (picked maps r.sent.rxq r.sent.cpu (packet_hash given r.sent.id))
+          (entries (replied_table rs)) (λ _. unwrap_or head 0) (λ _. true)
+
+    -- Each of the turns was so.
+    abbrev pub EachReplied : List RepliedTurn → Type 0
+    EachReplied [] = Unit {0}
+    EachReplied (r ∷ rs) = IsReplied rs r × EachReplied rs
+
+-- What an application keeps of its packets and of its turns, which are among those that explain its
+-- seat's list at the transmit board, by the steps of its seats at the receive board and at the hint
+-- words. It found each packet at its place in the inbox, wrote for each, and replied to each but
+-- the one in hand; the journals and the flow table are those of the turns.
+pub record IsReplying (given : Setup) (rows start : ℕ) (arrivals : List Arrival) (s : Server)
+    (turns : List (StepBy Turn)) (rx : List BoardStep) (hints : List HintStep) : Type 0 where
+  pub replied : List RepliedTurn
+  pub own : reply_turns replied ≡ steps_of s.app turns
+  pub replies : s.sent.items ≡ replies_in replied
+  pub choices : s.choices.items ≡ choices_in (steps_of s.app turns)
+  pub table : s.table ≡ replied_table rows start replied
+  pub found : (k id : ℕ) → slice_get (taken_by s) k ≡ Some id → HasFound rx s.app k id
+  pub writes : HasWrittenAll given s.app s.home rx hints (taken_by s) s.writes.items
+  pub are : EachReplied rows start given s.sent.room s.app s.home arrivals hints replied
