@@ -217,7 +217,7 @@ module _ (i : Input) (h : History) (hints : Shared) (rx tx : BoardView)
       (refusal k.settings.online g.command (setup_in i).homes k.settings.stands) g.answer mid new
       (names-one i g head) tried))
 
--- ---- the ties
+-- ---- the coupling
 
 stored_for : (h : History) (c : HintCodes) (late : List Commanded) (g : Commanded) (n v : ℕ)
     → AreShared c → h.commands ≡ oldest_first late → Contains late g → IsStoredBy g n v

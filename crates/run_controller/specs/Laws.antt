@@ -40,7 +40,7 @@ IsStoredFor h c number value =
 -- tries, each try set and opened as its answer says, the lanes were found empty before a setting
 -- was made, the commands are those of the plan and each answer has its cause, and each store has
 -- its command.
-pub record CommandsAreTied (i : Input) (h : History) (rx tx : BoardSizes)
+pub record CommandsAreCoupled (i : Input) (h : History) (rx tx : BoardSizes)
     (rx_own tx_own : ℕ → List BoardStep) (c : HintCodes) (hint : HintView) (tries : List Try)
     : Type 0 where
   pub received : KeepsReceiveTries i h rx rx_own tries
@@ -75,4 +75,5 @@ ControllerKeepsCoupling =
     → rx_own (closer s.rx.sizes) ≡ new.rx.steps → tx_own (closer s.tx.sizes) ≡ new.tx.steps
     → AreGiven i.plan.tries (commands_of i.plan.steps) h.commands
     → Attempted s [] h.commands (first_known i.plan) last old new
-    → (tries : List Try) × CommandsAreTied i h s.rx.sizes s.tx.sizes rx_own tx_own c new.hint tries
+    → (tries : List Try) × CommandsAreCoupled i h s.rx.sizes s.tx.sizes rx_own tx_own c new.hint
+    tries

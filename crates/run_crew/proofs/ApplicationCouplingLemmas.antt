@@ -42,7 +42,7 @@ use Rattle.hop_rule.proofs.Lists.{none-some, some-is}
 use Rattle.hop_rule.proofs.Moments.{nth-between, nth-member, past-between}
 use Rattle.hop_delivery.specs.Closings.TurnReads.{KnowsMaps}
 use Rattle.hop_delivery.specs.Orders.ReceiveSettings.{mask}
-use Rattle.hop_delivery.specs.Orders.Runs.{Steering, Story, turns_of}
+use Rattle.hop_delivery.specs.Orders.Runs.{Steering, Execution, turns_of}
 use Rattle.hop_delivery.specs.Orders.TransmitSettings.{pick_by, transmit_steering}
 use Rattle.hop_delivery.specs.Orders.Turns.{Turn}
 use Rattle.steer_model.specs.Good.Inputs.{Input, setup_in}
@@ -59,7 +59,8 @@ use Rattle.run_coupling.specs.Coupling.Hints.{AreRecorded, CameBy, HintCodes, St
 use Rattle.run_coupling.specs.Coupling.Hints.{WasRead}
 use Rattle.run_coupling.specs.Coupling.OwnTables.{IsByTable, table_before}
 use Rattle.run_words.specs.Lists.{oldest_first}
-use Rattle.run_crew.specs.ApplicationCoupling.{ApplicationsAreTied, IsApplicationTied, maps_seen}
+use Rattle.run_crew.specs.ApplicationCoupling.{ApplicationsAreCoupled, IsApplicationCoupled}
+use Rattle.run_crew.specs.ApplicationCoupling.{maps_seen}
 use Rattle.run_crew.specs.ApplicationCoupling.{words_of_reply}
 use Rattle.run_workers.specs.Records.Growth.{held}
 use Rattle.run_workers.specs.Records.Replying.{EachReplied, HasWrittenAll, HasCome, HasFound}
@@ -279,7 +280,7 @@ table_told rows start (r ∷ rs) =
     ∙ sym (since_more (cleared rows start true) 0 (reply_turns rs) r.turn (omega arith))
 
 module _ (i : Input) (about : BoardSizes) (own : List BoardStep) (arrivals : List Arrival)
-    (rx : List BoardStep) (hints : List HintStep) (t : Story) (rows : ℕ) (s : Server)
+    (rx : List BoardStep) (hints : List HintStep) (t : Execution) (rows : ℕ) (s : Server)
     (x : IsReplying (setup_in i) rows about.start arrivals s (t.turns (t.seat s.app)) rx hints)
     (below : HasFlowsBelow (setup_in i) s.sent.room rows) where
   abbrev plan_setup : Setup
@@ -441,7 +442,7 @@ module _ (i : Input) (about : BoardSizes) (own : List BoardStep) (arrivals : Lis
 
 module _ (i : Input) (h : History) (rx_own : ℕ → List BoardStep) (rx_seat : ℕ)
     (about : BoardSizes) (own : List BoardStep) (c : HintCodes)
-    (seats : List (SeatView HintStep)) (seat : SeatView HintStep) (t : Story) (rows : ℕ)
+    (seats : List (SeatView HintStep)) (seat : SeatView HintStep) (t : Execution) (rows : ℕ)
     (s : Server)
     (x : IsReplying (setup_in i) rows about.start h.arrivals s (t.turns (t.seat s.app))
     (rx_own rx_seat) seat.steps) where
@@ -463,12 +464,12 @@ module _ (i : Input) (h : History) (rx_own : ℕ → List BoardStep) (rx_seat : 
           All-cons P y (xs ++ z ∷ []) (All-head P y xs all)
           (all_last P xs z (All-tail P y xs all) is)
 
-  tied : AllArrived i h → HasFlowsBelow (setup_in i) s.sent.room rows
+  coupled : AllArrived i h → HasFlowsBelow (setup_in i) s.sent.room rows
       → slice_get i.plan.apps s.app ≡ Some s.home → AreShared c → Contains seats seat
       → s.hand ≡ None
-      → IsApplicationTied i h rx_own about own c seats t s.app s.sent.items s.writes.items
+      → IsApplicationCoupled i h rx_own about own c seats t s.app s.sent.items s.writes.items
       (maps_seen x.replied)
-  tied arrived below home codes among empty =
+  coupled arrived below home codes among empty =
       let taken : taken_by s ≡ map (λ (z : Sent). z.id) s.sent.items =
       ap (λ o. map (λ (z : Sent). z.id) s.sent.items ++ held o) empty
       ∙ append_none (map (λ (z : Sent). z.id) s.sent.items) in
@@ -523,7 +524,9 @@ module _ (i : Input) (h : History) (rx_own : ℕ → List BoardStep) (rx_seat : 
             s.writes.items x.writes);
       }
 
-pub applications_are_tied : ApplicationsAreTied
-applications_are_tied i h rx_own rx_seat about own c seats seat t rows s x arrived below home codes
+pub applications_are_coupled : ApplicationsAreCoupled
+applications_are_coupled i h rx_own rx_seat about own c seats seat t rows s x arrived below home
+    codes
     among empty =
-    tied i h rx_own rx_seat about own c seats seat t rows s x arrived below home codes among empty
+    coupled i h rx_own rx_seat about own c seats seat t rows s x arrived below home codes among
+    empty

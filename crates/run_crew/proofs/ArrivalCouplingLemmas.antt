@@ -204,7 +204,7 @@ module _ (given : Setup) (filters : ℕ) (reta : Redirection) where
             ]
       ]
 
--- ---- the ties
+-- ---- the coupling
 
 module _ (i : Input) (h : History) (c : HintCodes) (seats : List HintView) (final : HintView)
     (shared : AreShared c) (among : Contains seats final) where

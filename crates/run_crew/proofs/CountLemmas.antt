@@ -36,14 +36,14 @@ use Rattle.run_crew.specs.declared.seated.Seated.{Seated}
 use Rattle.run_crew.specs.DrainLaws.{AreDrained}
 use Rattle.run_crew.specs.QueueLaws.{ReceiveEnds}
 use Rattle.run_crew.specs.ReplyLaws.{TransmitEnds}
-use Rattle.run_crew.specs.Stories.{SeatTurns, queue_story, reply_story}
+use Rattle.run_crew.specs.Executions.{SeatTurns, queue_execution, reply_execution}
 use Rattle.run_crew.proofs.AcceptedLemmas.{accepted-fit, accepted-is, answers-are, answers_in}
 use Rattle.run_crew.proofs.AcceptedLemmas.{by-producers, taken, taken_by}
 use Rattle.run_crew.proofs.ChoiceFunctions.{none-some, some-is}
 use Rattle.run_crew.proofs.DrainLemmas.{drains_keep_coupling}
 use Rattle.run_crew.proofs.QueueTurnLemmas as queues
 use Rattle.run_crew.proofs.ReplyTurnLemmas as replies
-use Rattle.run_crew.proofs.StoryLemmas.{AreBoardTurns, by-seat, keep-turns, none-of}
+use Rattle.run_crew.proofs.ExecutionLemmas.{AreBoardTurns, by-seat, keep-turns, none-of}
 
 -- the actor that is played is found
 pub played-is : {A : Type 0} (crew : List Seated) (kind : Seated → List A) (n : ℕ)
@@ -241,12 +241,12 @@ module _ (i : Input) (h : History) (t : StageView) (crew : List Seated) (turns :
   retired-counted : (l : ℕ) → l < t.tx.sizes.lanes
       → retired_of (played crew ships_of l) ≡ retired_count t.tx.sizes own l
   retired-counted l less =
-      let tied = drains_keep_coupling.transmits t crew Q (length i.plan.apps) own ships e.work
+      let coupled = drains_keep_coupling.transmits t crew Q (length i.plan.apps) own ships e.work
       e.lists in
-      ap retired_of (played-is crew ships_of l (ships.each l less)) ∙ sym (tied.retired l less)
+      ap retired_of (played-is crew ships_of l (ships.each l less)) ∙ sym (coupled.retired l less)
 
   queue-turns : ChoicesAreOfTurns t.rx.sizes rx_own
-      (queue_story crew turns h.choices (λ q. map (λ (c : Chosen). c.id) (list_at h.choices q)))
+      (queue_execution crew turns h.choices (λ q. map (λ (c : Chosen). c.id) (list_at h.choices q)))
       h.choices
   queue-turns =
       record {
@@ -256,7 +256,7 @@ module _ (i : Input) (h : History) (t : StageView) (crew : List Seated) (turns :
       }
 
   reply-turns : ChoicesAreOfTurns t.tx.sizes own
-      (reply_story crew turns h.tx_choices
+      (reply_execution crew turns h.tx_choices
       (λ a. map (λ (c : Chosen). c.id) (list_at h.tx_choices a))) h.tx_choices
   reply-turns =
       record {

@@ -19,8 +19,8 @@ use Rattle.run_coupling.specs.Coupling.Ends.{retired_count}
 use Rattle.run_workers.specs.Actors.{KeepsDrain, actor_at}
 use Rattle.run_crew.specs.Crews.{IsPlayed, drains_of, ships_of}
 use Rattle.run_crew.specs.declared.seated.Seated.{Seated}
-use Rattle.run_crew.specs.DrainLaws.{AreDrained, DrainsAreTied, DrainsKeepCoupling}
-use Rattle.run_crew.proofs.StoryLemmas.{actor-back}
+use Rattle.run_crew.specs.DrainLaws.{AreDrained, DrainsAreCoupled, DrainsKeepCoupling}
+use Rattle.run_crew.proofs.ExecutionLemmas.{actor-back}
 
 module _ (about : BoardSizes) (given : Setup) (exit : Exit) (crew : List Seated)
     (kind : Seated → List Drain) (seat : Seated → BoardSeatView) (own : ℕ → List BoardStep)
@@ -74,9 +74,9 @@ module _ (about : BoardSizes) (given : Setup) (exit : Exit) (crew : List Seated)
         ap (λ n. length (retired_by n (own (puller about l)))) (sym lane-is)
         ∙ sym is-drain.retired
 
-  tied : (out : ℕ → ℕ) → ((id : ℕ) → out_for exit given id ≡ out id)
-      → DrainsAreTied about crew kind out own are
-  tied out same =
+  coupled : (out : ℕ → ℕ) → ((id : ℕ) → out_for exit given id ≡ out id)
+      → DrainsAreCoupled about crew kind out own are
+  coupled out same =
       record {
         right = λ l less k d within. right-at l less k d within ∙ same _;
         empty = empty-at;
@@ -87,11 +87,11 @@ pub drains_keep_coupling : DrainsKeepCoupling
 drains_keep_coupling =
     record {
       receives = λ t crew queues apps own are work lists.
-          tied t.rx.sizes t.shared.given Inboxes crew drains_of (λ x. x.seats.rx) own work.some
+          coupled t.rx.sizes t.shared.given Inboxes crew drains_of (λ x. x.seats.rx) own work.some
           work.rx_count lists work.rx_numbers (λ w x there. (work.work w x there).drains) are
           (app_for t.shared.given) (λ id. refl);
       transmits = λ t crew queues apps own are work lists.
-          tied t.tx.sizes t.shared.given Port crew ships_of (λ x. x.seats.tx) own work.some
+          coupled t.tx.sizes t.shared.given Port crew ships_of (λ x. x.seats.tx) own work.some
           work.tx_count lists work.tx_numbers (λ w x there. (work.work w x there).ships) are
           (λ id. 0) (λ id. refl);
     }

@@ -6,7 +6,7 @@ pub mod ApplicationCouplingLemmas
 pub mod StoreCouplingLemmas
 pub mod ArrivalCouplingLemmas
 pub mod ChoiceFunctions
-pub mod StoryLemmas
+pub mod ExecutionLemmas
 mod QueueTurnLemmas
 mod QueueLemmas
 mod ReplyTurnLemmas

@@ -28,7 +28,7 @@ use Rattle.hop_rule.proofs.Lists.{some-is}
 use Rattle.hop_rule.proofs.Moments.{nth-between}
 use Rattle.hop_delivery.specs.Closings.TurnReads.{HasSeen, Knows}
 use Rattle.hop_delivery.specs.Orders.ReceiveSettings.{Queues, mask, online, receive_steering, rps}
-use Rattle.hop_delivery.specs.Orders.Runs.{Steering, Story, goal_of, turns_of}
+use Rattle.hop_delivery.specs.Orders.Runs.{Steering, Execution, goal_of, turns_of}
 use Rattle.hop_delivery.specs.Orders.Turns.{Turn}
 use Rattle.steer_model.specs.Good.Inputs.{Input, setup_in}
 use Rattle.steer_model.specs.State.Setup.{Setup, flow_number_of, packet_hash}
@@ -47,7 +47,7 @@ use Rattle.run_words.specs.Lists.{oldest_first}
 use Rattle.run_workers.specs.Records.Polling.{AllPolled, IsPolled, IsPolling, PolledTurn}
 use Rattle.run_workers.specs.Records.Polling.{table_of_turn}
 use Rattle.run_workers.specs.Records.Polling.{turns_in}
-use Rattle.run_crew.specs.QueueCoupling.{IsQueueTied, PollersAreTied, words_read, words_seen}
+use Rattle.run_crew.specs.QueueCoupling.{IsQueueCoupled, PollersAreCoupled, words_read, words_seen}
 use Rattle.run_crew.specs.QueueCoupling.{words_of_turn}
 use Rattle.run_crew.proofs.OwnTableLemmas.{all_at, fold_rows, table_is}
 use Rattle.run_crew.proofs.RuleLemmas.{goal, own_want, rule_looks, want_loaded}
@@ -96,7 +96,7 @@ fits_flows word few rounded =
 -- ---- one queue
 
 module _ (i : Input) (about : BoardSizes) (own : List BoardStep) (c : HintCodes)
-    (seats : List (SeatView HintStep)) (seat : SeatView HintStep) (t : Story) (first : ℕ)
+    (seats : List (SeatView HintStep)) (seat : SeatView HintStep) (t : Execution) (first : ℕ)
     (p : Poller)
     (x : IsPolling (setup_in i) first about.start p (t.turns (t.seat p.queue)) seat.steps)
     (hashes : FlowsHaveOneHash i) (few : p.choices.room ≤ length i.packets)
@@ -302,9 +302,9 @@ module _ (i : Input) (about : BoardSizes) (own : List BoardStep) (c : HintCodes)
 
   -- ---- all turns
 
-  tied : AreShared c → Contains seats seat
-      → IsQueueTied i about own c seats t p.queue (words_seen queues p.queue x.polled)
-  tied codes among =
+  coupled : AreShared c → Contains seats seat
+      → IsQueueCoupled i about own c seats t p.queue (words_seen queues p.queue x.polled)
+  coupled codes among =
       record {
         hashes = λ k u is.
             (let z = at k u is in
@@ -384,6 +384,6 @@ module _ (i : Input) (about : BoardSizes) (own : List BoardStep) (c : HintCodes)
           (packet_hash given s.turn.chosen.id) seat.steps want y.looks
           (sym (ap (λ (z : Choice). z.want) y.rule) ∙ is))
 
-pub pollers_are_tied : PollersAreTied
-pollers_are_tied i about own c seats seat t first p x hashes few less codes among =
-    tied i about own c seats seat t first p x hashes few less codes among
+pub pollers_are_coupled : PollersAreCoupled
+pollers_are_coupled i about own c seats seat t first p x hashes few less codes among =
+    coupled i about own c seats seat t first p x hashes few less codes among

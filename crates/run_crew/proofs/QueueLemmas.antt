@@ -11,25 +11,25 @@ use Rattle.history.specs.declared.history.History.{History}
 use Rattle.hop_rule.specs.Moments.{nth_step}
 use Rattle.hop_rule.specs.declared.step.BoardStep.{BoardStep}
 use Rattle.hop_rule.proofs.Lists.{none-some}
-use Rattle.hop_delivery.specs.Orders.Runs.{Story, turns_of}
+use Rattle.hop_delivery.specs.Orders.Runs.{Execution, turns_of}
 use Rattle.hop_delivery.specs.Orders.Turns.{Turn}
 use Rattle.steer_model.specs.Good.Inputs.{Input, setup_in}
 use Rattle.run_coupling.specs.Laws.SharedCodes.{AreShared}
 use Rattle.run_coupling.specs.Coupling.Hints.{HintCodes}
 use Rattle.run_workers.specs.Records.Polling.{IsPolling}
-use Rattle.run_crew.specs.QueueCoupling.{IsQueueTied, PollersAreTied, words_seen}
+use Rattle.run_crew.specs.QueueCoupling.{IsQueueCoupled, PollersAreCoupled, words_seen}
 use Rattle.run_workers.specs.Actors.{Each}
 use Rattle.run_workers.specs.Stages.{StageView}
 use Rattle.run_crew.specs.Crews.{IsPlayed, pollers_of}
 use Rattle.run_crew.specs.declared.seated.Seated.{Seated}
-use Rattle.run_crew.specs.QueueLaws.{QueuesAreTied, QueuesKeepCoupling, ReceiveEnds}
-use Rattle.run_crew.specs.Stories.{SeatTurns, queue_story}
+use Rattle.run_crew.specs.QueueLaws.{QueuesAreCoupled, QueuesKeepCoupling, ReceiveEnds}
+use Rattle.run_crew.specs.Executions.{SeatTurns, queue_execution}
 use Rattle.run_crew.proofs.ChoiceFunctions.{chosen}
 use Rattle.run_crew.proofs.QueueTurnLemmas.{board-turns, has, home-count, keeps-poller}
 use Rattle.run_crew.proofs.QueueTurnLemmas.{queue-is}
-use Rattle.run_crew.proofs.StoryLemmas.{keep-turns, none-beyond}
+use Rattle.run_crew.proofs.ExecutionLemmas.{keep-turns, none-beyond}
 
-module _ (law : PollersAreTied) (i : Input) (h : History) (t : StageView) (crew : List Seated)
+module _ (law : PollersAreCoupled) (i : Input) (h : History) (t : StageView) (crew : List Seated)
     (turns : ℕ → SeatTurns) (own : ℕ → List BoardStep) (c : HintCodes)
     (seats : List (SeatView HintStep)) (e : ReceiveEnds i t crew turns own h.choices)
     (codes : AreShared c) (among : Each (λ w x. Contains seats x.seats.hint) crew) where
@@ -39,12 +39,12 @@ module _ (law : PollersAreTied) (i : Input) (h : History) (t : StageView) (crew 
   abbrev Q : ℕ
   Q = length i.plan.queues
 
-  abbrev story : Story
-  story = queue_story crew turns h.choices (arrivals_at h.arrivals)
+  abbrev execution : Execution
+  execution = queue_execution crew turns h.choices (arrivals_at h.arrivals)
 
   -- the coupling invariants of queue p at the seat that steers it
-  abbrev IsTied : ℕ → (ℕ → ℕ → ℕ) → Type 0
-  IsTied p seen = IsQueueTied i t.rx.sizes (own (p % W)) c seats story p seen
+  abbrev IsCoupled : ℕ → (ℕ → ℕ → ℕ) → Type 0
+  IsCoupled p seen = IsQueueCoupled i t.rx.sizes (own (p % W)) c seats execution p seen
 
   module _ (q : ℕ) (less : q < Q) where
     abbrev p : IsPlayed crew pollers_of q
@@ -64,8 +64,8 @@ module _ (law : PollersAreTied) (i : Input) (h : History) (t : StageView) (crew 
         (subst (λ n. IsPolling t.shared.given (y.is.first n) t.rx.sizes.start p.actor y.is.turns
         p.by.seats.hint.steps) same k.keeps))
 
-    tied : (seen : ℕ → ℕ → ℕ) × IsTied q seen
-    tied =
+    coupled : (seen : ℕ → ℕ → ℕ) × IsCoupled q seen
+    coupled =
         let y = has i t crew turns own h.choices e (q % W) p.by p.worker in
         let k = keeps-poller i t crew turns own h.choices e q p in
         let same = queue-is i t crew turns own h.choices e q p in
@@ -78,19 +78,20 @@ module _ (law : PollersAreTied) (i : Input) (h : History) (t : StageView) (crew 
         (turns (n % W)).steered p.by.seats.hint.steps) (sym same) polling in
         let within : p.actor.queue < length (setup_in i).homes =
         subst (λ g. p.actor.queue < length g.homes) e.given k.within in
-        let is : IsQueueTied i t.rx.sizes (own (p.actor.queue % W)) c seats story p.actor.queue
+        let is : IsQueueCoupled i t.rx.sizes (own (p.actor.queue % W)) c seats execution
+        p.actor.queue
         (words_seen (length (setup_in i).homes) p.actor.queue x.polled) =
-        law i t.rx.sizes (own (p.actor.queue % W)) c seats p.by.seats.hint story
+        law i t.rx.sizes (own (p.actor.queue % W)) c seats p.by.seats.hint execution
         (y.is.first q) p.actor x e.hashes (omega (arith, room, most)) within codes
         (among (q % W) p.by p.worker) in (
           words_seen (length (setup_in i).homes) p.actor.queue x.polled,
-          subst (λ n. IsTied n (words_seen (length (setup_in i).homes) p.actor.queue x.polled))
+          subst (λ n. IsCoupled n (words_seen (length (setup_in i).homes) p.actor.queue x.polled))
               same is,
         )
 
-  -- without turns there is nothing to tie
-  untied : (p : ℕ) → Q ≤ p → IsTied p (λ k w. 0)
-  untied p more =
+  -- without turns there is nothing to coupling
+  uncoupled : (p : ℕ) → Q ≤ p → IsCoupled p (λ k w. 0)
+  uncoupled p more =
       record {
         hashes = λ k u at. nothing k u at;
         knows = λ k u at. nothing k u at;
@@ -99,23 +100,23 @@ module _ (law : PollersAreTied) (i : Input) (h : History) (t : StageView) (crew 
         wants = λ k want u at is. nothing k u at;
       }
     where
-      nothing : {B : Type 0} (k : ℕ) (u : Turn) → nth_step (turns_of story p) k ≡ Some u → B
+      nothing : {B : Type 0} (k : ℕ) (u : Turn) → nth_step (turns_of execution p) k ≡ Some u → B
       nothing k u at =
           none-some u
           (sym (ap (λ us. nth_step us k) (none-beyond W Q own (λ w. (turns w).steered) h.choices
           (board-turns i t crew turns own h.choices e) p more))
           ∙ at)
 
-  all-tied : (seen : ℕ → ℕ → ℕ → ℕ) × ((p : ℕ) → IsTied p (seen p))
-  all-tied = chosen IsTied Q (λ k w. 0) tied untied
+  all-coupled : (seen : ℕ → ℕ → ℕ → ℕ) × ((p : ℕ) → IsCoupled p (seen p))
+  all-coupled = chosen IsCoupled Q (λ k w. 0) coupled uncoupled
 
   module _ (taken_count : length h.taken ≡ length i.plan.queues)
       (taken : (q : ℕ) → slice_index h.taken q ≡ length (list_at h.choices q))
       (all : (q : ℕ)
       → map (λ (c : Chosen). c.id) (list_at h.choices q) ≡ arrivals_at h.arrivals q) where
-    keep-ties : QueuesAreTied i h t own c seats story
-    keep-ties =
-        let y = all-tied in
+    keep-coupling : QueuesAreCoupled i h t own c seats execution
+    keep-coupling =
+        let y = all-coupled in
         record {
           seen = y.0;
           keeps = record {
@@ -134,6 +135,6 @@ module _ (law : PollersAreTied) (i : Input) (h : History) (t : StageView) (crew 
           wants = λ p k want u. (y.1 p).wants k want u;
         }
 
-pub queues_keep_coupling : PollersAreTied → QueuesKeepCoupling
+pub queues_keep_coupling : PollersAreCoupled → QueuesKeepCoupling
 queues_keep_coupling law i h t crew turns own c seats e codes among taken_count taken all =
-    keep-ties law i h t crew turns own c seats e codes among taken_count taken all
+    keep-coupling law i h t crew turns own c seats e codes among taken_count taken all

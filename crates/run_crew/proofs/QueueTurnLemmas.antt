@@ -15,9 +15,9 @@ use Rattle.run_workers.specs.Stages.{StageView}
 use Rattle.run_crew.specs.Crews.{IsPlayed, pollers_of}
 use Rattle.run_crew.specs.declared.seated.Seated.{Seated}
 use Rattle.run_crew.specs.QueueLaws.{QueuesKeepTurns, ReceiveEnds}
-use Rattle.run_crew.specs.Stories.{HasTurns, SeatTurns}
-use Rattle.run_crew.proofs.StoryLemmas.{AreBoardTurns, IsSeatOf, keep-turns, played-choices}
-use Rattle.run_crew.proofs.StoryLemmas.{played-number, seat-of, turns-of-board}
+use Rattle.run_crew.specs.Executions.{HasTurns, SeatTurns}
+use Rattle.run_crew.proofs.ExecutionLemmas.{AreBoardTurns, IsSeatOf, keep-turns, played-choices}
+use Rattle.run_crew.proofs.ExecutionLemmas.{played-number, seat-of, turns-of-board}
 
 module _ (i : Input) (t : StageView) (crew : List Seated) (turns : ℕ → SeatTurns)
     (own : ℕ → List BoardStep) (choices : List (List Chosen))

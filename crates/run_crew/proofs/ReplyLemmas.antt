@@ -13,25 +13,26 @@ use Rattle.history.specs.declared.sent.Sent.{Sent}
 use Rattle.hop_rule.specs.Moments.{nth_step}
 use Rattle.hop_rule.specs.declared.step.BoardStep.{BoardStep}
 use Rattle.hop_rule.proofs.Lists.{none-some}
-use Rattle.hop_delivery.specs.Orders.Runs.{Story, turns_of}
+use Rattle.hop_delivery.specs.Orders.Runs.{Execution, turns_of}
 use Rattle.hop_delivery.specs.Orders.Turns.{Turn}
 use Rattle.steer_model.specs.Good.Inputs.{Input, setup_in}
 use Rattle.run_workers.specs.Hands.Servers.{HasFlowsBelow}
 use Rattle.run_coupling.specs.Laws.SharedCodes.{AreShared}
 use Rattle.run_coupling.specs.Coupling.Hints.{AreRecorded, CameBy, HintCodes, Stands}
-use Rattle.run_crew.specs.ApplicationCoupling.{ApplicationsAreTied, IsApplicationTied, maps_seen}
+use Rattle.run_crew.specs.ApplicationCoupling.{ApplicationsAreCoupled, IsApplicationCoupled}
+use Rattle.run_crew.specs.ApplicationCoupling.{maps_seen}
 use Rattle.run_workers.specs.Records.Replying.{IsReplying}
 use Rattle.run_workers.specs.Actors.{Each}
 use Rattle.run_workers.specs.Stages.{StageView}
 use Rattle.run_crew.specs.Crews.{IsPlayed, servers_of}
 use Rattle.run_crew.specs.declared.seated.Seated.{Seated}
-use Rattle.run_crew.specs.ReplyLaws.{ApplicationsKeepCoupling, ApplicationsTied, TransmitEnds}
-use Rattle.run_crew.specs.Stories.{SeatTurns, reply_story}
+use Rattle.run_crew.specs.ReplyLaws.{ApplicationsKeepCoupling, ApplicationsCoupled, TransmitEnds}
+use Rattle.run_crew.specs.Executions.{SeatTurns, reply_execution}
 use Rattle.run_crew.proofs.ChoiceFunctions.{chosen}
 use Rattle.run_crew.proofs.ReplyTurnLemmas.{all-chosen, app-is, board-turns, has, keeps-server}
-use Rattle.run_crew.proofs.StoryLemmas.{keep-turns, none-beyond}
+use Rattle.run_crew.proofs.ExecutionLemmas.{keep-turns, none-beyond}
 
-module _ (law : ApplicationsAreTied) (i : Input) (h : History) (t : StageView)
+module _ (law : ApplicationsAreCoupled) (i : Input) (h : History) (t : StageView)
     (crew : List Seated) (turns : ℕ → SeatTurns) (rx_own own : ℕ → List BoardStep) (c : HintCodes)
     (seats : List (SeatView HintStep)) (e : TransmitEnds i h t crew turns rx_own own)
     (codes : AreShared c) (among : Each (λ w x. Contains seats x.seats.hint) crew) where
@@ -41,22 +42,23 @@ module _ (law : ApplicationsAreTied) (i : Input) (h : History) (t : StageView)
   abbrev A : ℕ
   A = length i.plan.apps
 
-  abbrev story : Story
-  story =
-      reply_story crew turns h.tx_choices (λ a. map (λ (s : Sent). s.id) (list_at h.sent a))
+  abbrev execution : Execution
+  execution =
+      reply_execution crew turns h.tx_choices (λ a. map (λ (s : Sent). s.id) (list_at h.sent a))
 
   -- the coupling invariants of application a at the seat that plays it
-  abbrev IsTied : ℕ → (ℕ → ℕ → ℕ) → Type 0
-  IsTied a seen =
-      IsApplicationTied i h rx_own t.tx.sizes (own (a % W)) c seats story a (list_at h.sent a)
+  abbrev IsCoupled : ℕ → (ℕ → ℕ → ℕ) → Type 0
+  IsCoupled a seen =
+      IsApplicationCoupled i h rx_own t.tx.sizes (own (a % W)) c seats execution a (list_at h.sent
+      a)
       (list_at h.writes a) seen
 
   module _ (a : ℕ) (less : a < A) where
     abbrev p : IsPlayed crew servers_of a
     p = e.work.servers a less
 
-    tied : (seen : ℕ → ℕ → ℕ) × IsTied a seen
-    tied =
+    coupled : (seen : ℕ → ℕ → ℕ) × IsCoupled a seen
+    coupled =
         let y = has i h t crew turns rx_own own e (a % W) p.by p.worker in
         let k = keeps-server i h t crew turns rx_own own e a p in
         let same = app-is i h t crew turns rx_own own e a p in
@@ -81,20 +83,23 @@ module _ (law : ApplicationsAreTied) (i : Input) (h : History) (t : StageView)
         ap (slice_get i.plan.apps) same ∙ j.home in
         let is =
         law i h rx_own (a % W) t.tx.sizes (own (p.actor.app % W)) c seats p.by.seats.hint
-        story y.is.rows p.actor x e.arrived flows home codes
+        execution y.is.rows p.actor x e.arrived flows home codes
         (among (a % W) p.by p.worker) j.hand in (
           maps_seen x.replied,
-          subst (λ n. IsApplicationTied i h rx_own t.tx.sizes (own (n % W)) c seats story n
+          subst (λ n. IsApplicationCoupled i h rx_own t.tx.sizes (own (n % W)) c seats execution n
               (list_at h.sent a) (list_at h.writes a) (maps_seen x.replied)) same
-              (subst (λ ws. IsApplicationTied i h rx_own t.tx.sizes (own (p.actor.app % W)) c seats
-              story p.actor.app (list_at h.sent a) ws (maps_seen x.replied)) (sym j.writes)
-              (subst (λ ss. IsApplicationTied i h rx_own t.tx.sizes (own (p.actor.app % W)) c seats
-              story p.actor.app ss p.actor.writes.items (maps_seen x.replied)) (sym j.sent) is)),
+              (subst (λ ws. IsApplicationCoupled i h rx_own t.tx.sizes (own (p.actor.app % W)) c
+              seats
+              execution p.actor.app (list_at h.sent a) ws (maps_seen x.replied)) (sym j.writes)
+              (subst (λ ss. IsApplicationCoupled i h rx_own t.tx.sizes (own (p.actor.app % W)) c
+              seats
+              execution p.actor.app ss p.actor.writes.items (maps_seen x.replied)) (sym j.sent)
+              is)),
         )
 
-  -- without replies there is nothing to tie
-  untied : (a : ℕ) → A ≤ a → IsTied a (λ k w. 0)
-  untied a more =
+  -- without replies there is nothing to coupling
+  uncoupled : (a : ℕ) → A ≤ a → IsCoupled a (λ k w. 0)
+  uncoupled a more =
       record {
         found = λ k s at. nothing k s at;
         knows = λ k u at. no-turn k u at;
@@ -121,19 +126,19 @@ module _ (law : ApplicationsAreTied) (i : Input) (h : History) (t : StageView)
       nothing : {B : Type 0} (k : ℕ) (s : Sent) → slice_get (list_at h.sent a) k ≡ Some s → B
       nothing k s at = none-some s (sym (ap (λ ss. slice_get ss k) none) ∙ at)
 
-      no-turn : {B : Type 0} (k : ℕ) (u : Turn) → nth_step (turns_of story a) k ≡ Some u → B
+      no-turn : {B : Type 0} (k : ℕ) (u : Turn) → nth_step (turns_of execution a) k ≡ Some u → B
       no-turn k u at =
           none-some u
           (sym (ap (λ us. nth_step us k) (none-beyond W A own (λ w. (turns w).replied)
           h.tx_choices (board-turns i h t crew turns rx_own own e) a more))
           ∙ at)
 
-  all-tied : (seen : ℕ → ℕ → ℕ → ℕ) × ((a : ℕ) → IsTied a (seen a))
-  all-tied = chosen IsTied A (λ k w. 0) tied untied
+  all-coupled : (seen : ℕ → ℕ → ℕ → ℕ) × ((a : ℕ) → IsCoupled a (seen a))
+  all-coupled = chosen IsCoupled A (λ k w. 0) coupled uncoupled
 
-  keep-ties : ApplicationsTied i h t rx_own own c seats story
-  keep-ties =
-      let y = all-tied in
+  keep-coupling : ApplicationsCoupled i h t rx_own own c seats execution
+  keep-coupling =
+      let y = all-coupled in
       record {
         seen = y.0;
         keeps = record {
@@ -155,6 +160,6 @@ module _ (law : ApplicationsAreTied) (i : Input) (h : History) (t : StageView)
         writes = λ a. (y.1 a).writes_are;
       }
 
-pub applications_keep_coupling : ApplicationsAreTied → ApplicationsKeepCoupling
+pub applications_keep_coupling : ApplicationsAreCoupled → ApplicationsKeepCoupling
 applications_keep_coupling law i h t crew turns rx_own own c seats e codes among =
-    keep-ties law i h t crew turns rx_own own c seats e codes among
+    keep-coupling law i h t crew turns rx_own own c seats e codes among

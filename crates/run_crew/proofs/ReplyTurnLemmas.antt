@@ -25,9 +25,9 @@ use Rattle.run_workers.specs.Stages.{StageView}
 use Rattle.run_crew.specs.Crews.{IsPlayed, servers_of}
 use Rattle.run_crew.specs.declared.seated.Seated.{Seated}
 use Rattle.run_crew.specs.ReplyLaws.{TransmitEnds}
-use Rattle.run_crew.specs.Stories.{HasTurns, SeatTurns}
-use Rattle.run_crew.proofs.StoryLemmas.{AreBoardTurns, IsSeatOf, played-choices, played-number}
-use Rattle.run_crew.proofs.StoryLemmas.{seat-of, turns-of-board}
+use Rattle.run_crew.specs.Executions.{HasTurns, SeatTurns}
+use Rattle.run_crew.proofs.ExecutionLemmas.{AreBoardTurns, IsSeatOf, played-choices, played-number}
+use Rattle.run_crew.proofs.ExecutionLemmas.{seat-of, turns-of-board}
 
 -- ---- each choice is for the packet of its reply
 

@@ -17,7 +17,7 @@ use Rattle.history.specs.declared.history.History.{History}
 use Rattle.history.specs.declared.sock_write.SockWrite.{SockWrite}
 use Rattle.hop_rule.specs.Events.{sum_below}
 use Rattle.board_api.specs.Closings.Closings.{own_in}
-use Rattle.hop_delivery.specs.Orders.Runs.{Story}
+use Rattle.hop_delivery.specs.Orders.Runs.{Execution}
 use Rattle.steer_model.specs.Good.Inputs.{Input}
 use Rattle.steer_model.specs.State.Setup.{app_for}
 use Rattle.run_coupling.specs.Laws.OneCount.{TotalsAreEqual, choice_count}
@@ -27,18 +27,18 @@ use Rattle.run_coupling.specs.Coupling.Runs.{IsRun}
 use Rattle.run_coupling.proofs.Ends.ChoiceCountLemmas.{choices_suffice}
 use Rattle.run_coupling.proofs.Ends.HandLemmas.{empty_hands_retired}
 use Rattle.run_coupling.proofs.Lists.SumLemmas.{sum-le}
-use Rattle.run_crew.specs.ApplicationCoupling.{ApplicationsAreTied}
-use Rattle.run_crew.specs.QueueCoupling.{PollersAreTied}
+use Rattle.run_crew.specs.ApplicationCoupling.{ApplicationsAreCoupled}
+use Rattle.run_crew.specs.QueueCoupling.{PollersAreCoupled}
 use Rattle.run_workers.specs.Records.Storing.{StoresAreFor}
 use Rattle.run_crew.specs.StoreCoupling.{IsNoted, StoresAreMeantByEach, WorkersStoresAreMeant}
 use Rattle.run_workers.specs.Actors.{actor_at}
 use Rattle.run_crew.specs.Crews.{IsPlayed, drains_of, servers_of, ships_of}
 use Rattle.run_crew.specs.declared.seated.Seated.{Seated}
-use Rattle.run_crew.specs.DrainLaws.{DrainsAreTied}
-use Rattle.run_crew.specs.QueueLaws.{QueuesAreTied}
-use Rattle.run_crew.specs.ReplyLaws.{ApplicationsTied}
+use Rattle.run_crew.specs.DrainLaws.{DrainsAreCoupled}
+use Rattle.run_crew.specs.QueueLaws.{QueuesAreCoupled}
+use Rattle.run_crew.specs.ReplyLaws.{ApplicationsCoupled}
 use Rattle.run_crew.specs.RunLaws.{EndedRunsAreRuns, RunEnds}
-use Rattle.run_crew.specs.Stories.{queue_story, reply_story}
+use Rattle.run_crew.specs.Executions.{queue_execution, reply_execution}
 use Rattle.run_crew.proofs.ArrivalLemmas.{arrivals-below, none-at}
 use Rattle.run_crew.proofs.ChoiceFunctions.{is-within}
 use Rattle.run_crew.proofs.CountLemmas.{full_counts_suffice}
@@ -47,12 +47,12 @@ use Rattle.run_crew.proofs.QueueLemmas.{queues_keep_coupling}
 use Rattle.run_crew.proofs.QueueTurnLemmas as queues
 use Rattle.run_crew.proofs.ReplyLemmas.{applications_keep_coupling}
 use Rattle.run_crew.proofs.StoreLemmas.{arrivals-meant, commands-meant}
-use Rattle.run_crew.proofs.StoryLemmas.{actor-is, actor-seat, by-seat}
+use Rattle.run_crew.proofs.ExecutionLemmas.{actor-is, actor-seat, by-seat}
 
 -- What is known of records, that the laws of `run_records` say.
 pub record RecordLaws : Type 0 where
-  pub pollers : PollersAreTied
-  pub applications : ApplicationsAreTied
+  pub pollers : PollersAreCoupled
+  pub applications : ApplicationsAreCoupled
   pub workers : WorkersStoresAreMeant
   pub each : StoresAreMeantByEach
 
@@ -65,9 +65,10 @@ module _ (laws : RecordLaws) (i : Input) (h : History) (e : RunEnds i h) where
 
   -- ---- counts
 
-  sent-tied : ApplicationsTied i h e.t (own_in e.rx_seats) (own_in e.tx_seats) e.codes e.hint_seats
-      (reply_story e.crew e.turns h.tx_choices (λ a. map (λ s. s.id) (list_at h.sent a)))
-  sent-tied =
+  sent-coupled : ApplicationsCoupled i h e.t (own_in e.rx_seats) (own_in e.tx_seats) e.codes
+      e.hint_seats
+      (reply_execution e.crew e.turns h.tx_choices (λ a. map (λ s. s.id) (list_at h.sent a)))
+  sent-coupled =
       applications_keep_coupling laws.applications i h e.t e.crew e.turns (own_in e.rx_seats)
       (own_in e.tx_seats) e.codes e.hint_seats e.sent e.shared e.hints.workers
 
@@ -91,7 +92,7 @@ module _ (laws : RecordLaws) (i : Input) (h : History) (e : RunEnds i h) where
       (length i.packets)
   totals =
       full_counts_suffice i h e.t e.crew e.turns e.rx_seats e.tx_seats e.rx_lists e.tx_lists
-      (length i.packets) e.rx_ended e.tx_ended e.received e.sent e.ships sent-tied.keeps.found
+      (length i.packets) e.rx_ended e.tx_ended e.received e.sent e.ships sent-coupled.keeps.found
       e.copied.rx_board.inboxes few-choices e.full
 
   -- each arrival has its choice
@@ -119,30 +120,30 @@ module _ (laws : RecordLaws) (i : Input) (h : History) (e : RunEnds i h) where
           (get_or_past h.choices q [] (omega (arith, more, count)))
           ∙ sym (none-at Q h.arrivals e.within q more)
 
-  queues-tied : QueuesAreTied i h e.t (own_in e.rx_seats) e.codes e.hint_seats
-      (queue_story e.crew e.turns h.choices (arrivals_at h.arrivals))
-  queues-tied =
+  queues-coupled : QueuesAreCoupled i h e.t (own_in e.rx_seats) e.codes e.hint_seats
+      (queue_execution e.crew e.turns h.choices (arrivals_at h.arrivals))
+  queues-coupled =
       queues_keep_coupling laws.pollers i h e.t e.crew e.turns (own_in e.rx_seats) e.codes
       e.hint_seats
       e.received e.shared e.hints.workers e.copied.taken_count e.copied.taken all-chosen
 
   -- ---- deliveries
 
-  rx-drained : DrainsAreTied e.t.rx.sizes e.crew drains_of (app_for e.t.shared.given)
+  rx-drained : DrainsAreCoupled e.t.rx.sizes e.crew drains_of (app_for e.t.shared.given)
       (own_in e.rx_seats) e.drains
   rx-drained =
       drains_keep_coupling.receives e.t e.crew Q (length i.plan.apps) (own_in e.rx_seats) e.drains
       e.received.work e.received.lists
 
-  tx-drained : DrainsAreTied e.t.tx.sizes e.crew ships_of (λ id. 0) (own_in e.tx_seats) e.ships
+  tx-drained : DrainsAreCoupled e.t.tx.sizes e.crew ships_of (λ id. 0) (own_in e.tx_seats) e.ships
   tx-drained =
       drains_keep_coupling.transmits e.t e.crew Q (length i.plan.apps) (own_in e.tx_seats) e.ships
       e.sent.work e.sent.lists
 
   -- ---- stores
 
-  abbrev story : Story
-  story = queue_story e.crew e.turns h.choices (arrivals_at h.arrivals)
+  abbrev execution : Execution
+  execution = queue_execution e.crew e.turns h.choices (arrivals_at h.arrivals)
 
   -- a write that a worker noted is the history's
   noted-by : (w : ℕ) (x : Seated) (there : slice_get e.crew w ≡ Some x) (write : SockWrite)
@@ -188,10 +189,10 @@ module _ (laws : RecordLaws) (i : Input) (h : History) (e : RunEnds i h) where
       }
 
   worker-meant : (w : ℕ) (x : Seated) → slice_get e.crew w ≡ Some x
-      → StoresAreMeant i h e.codes (x.seats.hint ∷ []) story
+      → StoresAreMeant i h e.codes (x.seats.hint ∷ []) execution
   worker-meant w x there =
       let y = e.received.turns_are.workers w x there in
-      laws.workers i h e.codes story w (e.turns w).noted x.seats.hint e.shared
+      laws.workers i h e.codes execution w (e.turns w).noted x.seats.hint e.shared
       (by-seat W Q (own_in e.rx_seats) (λ v. (e.turns v).steered) h.choices
       (queues.board-turns i e.t e.crew e.turns (own_in e.rx_seats) h.choices e.received) w)
       (noted-by w x there)
@@ -204,30 +205,30 @@ module _ (laws : RecordLaws) (i : Input) (h : History) (e : RunEnds i h) where
       (subst (λ ws. StoresAreFor e.t.shared.given e.t.shared.filters y.is.turns ws
       x.seats.hint.steps) y.noted y.is.stores))))
 
-  stores-meant : StoresAreMeant i h e.codes e.hint_seats story
+  stores-meant : StoresAreMeant i h e.codes e.hint_seats execution
   stores-meant =
-      laws.each i h e.codes story e.hint_seats (λ seat has. at seat (e.hints.each seat has))
+      laws.each i h e.codes execution e.hint_seats (λ seat has. at seat (e.hints.each seat has))
     where
       at : (seat : SeatView HintStep)
           → ((w : ℕ) × (x : Seated) × (slice_get e.crew w ≡ Some x) × (x.seats.hint ≡ seat))
           ⊎ (e.controller ≡ seat) ⊎ (e.wire ≡ seat)
-          → StoresAreMeant i h e.codes (seat ∷ []) story
+          → StoresAreMeant i h e.codes (seat ∷ []) execution
       at seat (inl (w, x, there, is)) =
-          subst (λ s. StoresAreMeant i h e.codes (s ∷ []) story) is (worker-meant w x there)
+          subst (λ s. StoresAreMeant i h e.codes (s ∷ []) execution) is (worker-meant w x there)
       at seat (inr (inl is)) =
-          subst (λ s. StoresAreMeant i h e.codes (s ∷ []) story) is
-          (commands-meant i h e.codes story e.controller e.shared e.t.rx.sizes e.t.tx.sizes
+          subst (λ s. StoresAreMeant i h e.codes (s ∷ []) execution) is
+          (commands-meant i h e.codes execution e.controller e.shared e.t.rx.sizes e.t.tx.sizes
           (own_in e.rx_seats) (own_in e.tx_seats) e.tries e.commands)
       at seat (inr (inr is)) =
-          subst (λ s. StoresAreMeant i h e.codes (s ∷ []) story) is
-          (arrivals-meant i h e.codes story e.wire e.shared e.hint_seats e.arrivals)
+          subst (λ s. StoresAreMeant i h e.codes (s ∷ []) execution) is
+          (arrivals-meant i h e.codes execution e.wire e.shared e.hint_seats e.arrivals)
 
   -- ---- the run
 
   a-run : IsRun i h
   a-run =
-      let q = queues-tied in
-      let a = sent-tied in
+      let q = queues-coupled in
+      let a = sent-coupled in
       let counts = totals.received
       (empty_hands_retired e.t.rx.sizes e.rx_seats e.rx_lists e.rx_ended rx-drained.empty) in
       record {
@@ -244,7 +245,7 @@ module _ (laws : RecordLaws) (i : Input) (h : History) (e : RunEnds i h) where
         rx_seats = e.rx_seats;
         rx_lists = e.rx_lists;
         rx_ended = e.rx_ended;
-        queues = story;
+        queues = execution;
         queues_seen = q.seen;
         received = record {
           board = e.copied.rx_board;
@@ -261,7 +262,7 @@ module _ (laws : RecordLaws) (i : Input) (h : History) (e : RunEnds i h) where
         tx_lists = e.tx_lists;
         tx_ended = e.tx_ended;
         applications =
-            reply_story e.crew e.turns h.tx_choices (λ b. map (λ s. s.id) (list_at h.sent b));
+            reply_execution e.crew e.turns h.tx_choices (λ b. map (λ s. s.id) (list_at h.sent b));
         maps_seen = a.seen;
         sent = record {
           board = e.copied.tx_board;

@@ -26,7 +26,7 @@ use Rattle.hop_rule.specs.Moments.{nth_step}
 use Rattle.hop_rule.specs.declared.step.BoardStep.{BoardStep}
 use Rattle.hop_rule.proofs.Lists.{none-some, some-is}
 use Rattle.hop_rule.proofs.Moments.{nth-inside, nth-last, nth-old}
-use Rattle.hop_delivery.specs.Orders.Runs.{Story}
+use Rattle.hop_delivery.specs.Orders.Runs.{Execution}
 use Rattle.hop_delivery.specs.Orders.Turns.{Turn}
 use Rattle.steer_model.specs.Good.Choices.{WasWritten}
 use Rattle.steer_model.specs.Good.Inputs.{Input, setup_in}
@@ -174,7 +174,7 @@ one_queue f g below less same = omega (arith, below, less, same)
 
 -- ---- a worker's seat
 
-module _ (i : Input) (h : History) (c : HintCodes) (t : Story) (q : ℕ) (noted : List SockWrite)
+module _ (i : Input) (h : History) (c : HintCodes) (t : Execution) (q : ℕ) (noted : List SockWrite)
     (seat : Hint) (codes : AreShared c)
     (mine : All (λ (e : StepBy Turn). t.seat e.by ≡ q) (t.turns q))
     (are_noted : (write : SockWrite) → Contains noted write → IsNoted i h write)

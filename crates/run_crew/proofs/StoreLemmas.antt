@@ -19,7 +19,7 @@ use Rattle.history.specs.declared.arrival.Arrival.{Arrival}
 use Rattle.history.specs.declared.commanded.Commanded.{Commanded}
 use Rattle.history.specs.declared.history.History.{History}
 use Rattle.plan_reader.specs.declared.plan.Plan.{Plan}
-use Rattle.hop_delivery.specs.Orders.Runs.{Story}
+use Rattle.hop_delivery.specs.Orders.Runs.{Execution}
 use Rattle.steer_model.specs.Good.Arrivals.{EntryFrom}
 use Rattle.steer_model.specs.Good.Inputs.{Input, WasDone}
 use Rattle.steer_model.specs.Good.Writes.{StoodAt}
@@ -32,8 +32,8 @@ use Rattle.run_words.specs.Lists.{oldest_first}
 use Rattle.run_coupling.proofs.Tries.GivenLemmas.{all-joined, all_within}
 use Rattle.run_coupling.proofs.Tries.RangeLemmas.{IsWithinPlan}
 use Rattle.run_workers.proofs.Records.StoringLemmas.{contains_split}
-use Rattle.run_crew.specs.ArrivalLaws.{ArrivalsAreTied}
-use Rattle.run_controller.specs.Laws.{CommandsAreTied, IsStoredFor}
+use Rattle.run_crew.specs.ArrivalLaws.{ArrivalsAreCoupled}
+use Rattle.run_controller.specs.Laws.{CommandsAreCoupled, IsStoredFor}
 use Rattle.hop_rule.specs.declared.sizes.BoardSizes.{BoardSizes}
 use Rattle.hop_rule.specs.declared.step.BoardStep.{BoardStep}
 use Rattle.run_crew.proofs.ChoiceFunctions.{none-some, some-is}
@@ -74,7 +74,7 @@ at-place P (y ∷ ys) zero x all there =
     subst P (some-is y x there) (All-head P y ys all)
 at-place P (y ∷ ys) (suc k) x all there = at-place P ys k x (All-tail P y ys all) there
 
-module _ (i : Input) (h : History) (c : HintCodes) (story : Story) (seat : Hint)
+module _ (i : Input) (h : History) (c : HintCodes) (execution : Execution) (seat : Hint)
     (codes : AreShared c) where
   place-back : (m n : ℕ) → c.place m ≡ c.place n → m ≡ n
   place-back m n same =
@@ -83,14 +83,15 @@ module _ (i : Input) (h : History) (c : HintCodes) (story : Story) (seat : Hint)
   -- ---- of the controller
 
   module _ (rx tx : BoardSizes) (rx_own tx_own : ℕ → List BoardStep) (tries : List Try)
-      (tied : CommandsAreTied i h rx tx rx_own tx_own c seat tries) where
+      (coupled : CommandsAreCoupled i h rx tx rx_own tx_own c seat tries) where
     within : (d : Command) → WasDone h d → IsWithinPlan i.plan d
     within d (j, there) =
         at-place (λ (g : Commanded). IsWithinPlan i.plan g.command) h.commands j _
-        (subst (All (λ (g : Commanded). IsWithinPlan i.plan g.command)) (sym tied.received.commands)
+        (subst (All (λ (g : Commanded). IsWithinPlan i.plan g.command)) (sym
+        coupled.received.commands)
         (all-oldest (λ (g : Commanded). IsWithinPlan i.plan g.command) _
         (all-given i.plan tries
-        (all_within i.plan tries h.commands tied.received.commands tied.commands.given))))
+        (all_within i.plan tries h.commands coupled.received.commands coupled.commands.given))))
         there
 
     entry-low : (entry q : ℕ) → WasDone h (give.Reta entry q) → entry < RETA_ENTRIES
@@ -105,16 +106,16 @@ module _ (i : Input) (h : History) (c : HintCodes) (story : Story) (seat : Hint)
         (and_parts (nat_lt app (length i.plan.apps)) (nat_lt cpu i.plan.cpus)
         (within (give.Stand app cpu) done)).0
 
-    pub commands-meant : StoresAreMeant i h c (seat ∷ []) story
+    pub commands-meant : StoresAreMeant i h c (seat ∷ []) execution
     commands-meant =
         record {
           sockets = λ place cpu less s.
-              socket place cpu less (tied.stored _ _ (by-one seat _ _ s));
-          entries = λ place q less s. entry place q less (tied.stored _ _ (by-one seat _ _ s));
-          stands = λ a cpu less s. stand a cpu less (tied.stored _ _ (by-one seat _ _ s));
+              socket place cpu less (coupled.stored _ _ (by-one seat _ _ s));
+          entries = λ place q less s. entry place q less (coupled.stored _ _ (by-one seat _ _ s));
+          stands = λ a cpu less s. stand a cpu less (coupled.stored _ _ (by-one seat _ _ s));
           filters = λ place f less low small s.
-              filter place f (tied.stored _ _ (by-one seat _ _ s));
-          packets = λ x q less s. packet x q (tied.stored _ _ (by-one seat _ _ s));
+              filter place f (coupled.stored _ _ (by-one seat _ _ s));
+          packets = λ x q less s. packet x q (coupled.stored _ _ (by-one seat _ _ s));
         }
       where
         socket : {B : Type 0} (place cpu : ℕ) → place < MAX_SOCKET_SIZE
@@ -176,8 +177,8 @@ module _ (i : Input) (h : History) (c : HintCodes) (story : Story) (seat : Hint)
 
   -- ---- of the wire
 
-  module _ (seats : List Hint) (tied : ArrivalsAreTied i h c seats seat) where
-    pub arrivals-meant : StoresAreMeant i h c (seat ∷ []) story
+  module _ (seats : List Hint) (coupled : ArrivalsAreCoupled i h c seats seat) where
+    pub arrivals-meant : StoresAreMeant i h c (seat ∷ []) execution
     arrivals-meant =
         record {
           sockets = λ place cpu less s.
@@ -195,13 +196,13 @@ module _ (i : Input) (h : History) (c : HintCodes) (story : Story) (seat : Hint)
               let a = codes.filter place in let few = i.plan.within.filters_within in
               not-there (c.filter place) (c.filter_value f) (omega (arith, a, less, few))
               (by-one seat _ _ s);
-          packets = λ x q less s. tied.packets x q (by-one seat _ _ s);
+          packets = λ x q less s. coupled.packets x q (by-one seat _ _ s);
         }
       where
         -- the wire stores in no word before that which says that all packets have arrived
         not-there : {B : Type 0} (number value : ℕ) → number < hint_number word.Done
             → Contains seat.steps (Store number value) → B
-        not-there {B = B} number value low has = at (tied.stored number value has)
+        not-there {B = B} number value low has = at (coupled.stored number value has)
           where
             at : (number ≡ hint_number word.Done)
                 ⊎ ((a : Arrival) × Contains h.arrivals a × (number ≡ c.packet a.id)

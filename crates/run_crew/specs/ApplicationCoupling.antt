@@ -10,7 +10,7 @@ use Rattle.hop_rule.specs.Moments.{nth_step}
 use Rattle.hop_rule.specs.declared.sizes.BoardSizes.{BoardSizes}
 use Rattle.hop_rule.specs.declared.step.BoardStep.{BoardStep}
 use Rattle.hop_delivery.specs.Closings.TurnReads.{KnowsMaps}
-use Rattle.hop_delivery.specs.Orders.Runs.{Story, turns_of}
+use Rattle.hop_delivery.specs.Orders.Runs.{Execution, turns_of}
 use Rattle.hop_delivery.specs.Orders.TransmitSettings.{pick_by, transmit_steering}
 use Rattle.hop_delivery.specs.Orders.Turns.{Turn}
 use Rattle.steer_model.specs.Good.Inputs.{Input, setup_in}
@@ -38,9 +38,9 @@ maps_seen replied k = words_of_reply (nth_step replied k)
 -- within their ranges, it wants the queue that they pick; and its choice is by the application's
 -- own table. The queue and the processor of each reply, and what was written for each packet, are
 -- as they were loaded and read.
-pub record IsApplicationTied (i : Input) (h : History) (rx_own : ℕ → List BoardStep)
+pub record IsApplicationCoupled (i : Input) (h : History) (rx_own : ℕ → List BoardStep)
     (about : BoardSizes) (own : List BoardStep) (c : HintCodes)
-    (seats : List (SeatView HintStep)) (t : Story) (a : ℕ) (sent : List Sent)
+    (seats : List (SeatView HintStep)) (t : Execution) (a : ℕ) (sent : List Sent)
     (writes : List SockWrite) (seen : ℕ → ℕ → ℕ) : Type 0 where
   pub found : (k : ℕ) (s : Sent) → slice_get sent k ≡ Some s → WasFoundAt rx_own a k s.id
   pub knows : (k : ℕ) (u : Turn) → nth_step (turns_of t a) k ≡ Some u
@@ -58,15 +58,15 @@ pub record IsApplicationTied (i : Input) (h : History) (rx_own : ℕ → List Bo
 
 -- The record of an application with an empty hand, over the turns of its seat, gives its coupling
 -- invariants.
-abbrev pub ApplicationsAreTied : Type 0
-ApplicationsAreTied =
+abbrev pub ApplicationsAreCoupled : Type 0
+ApplicationsAreCoupled =
     (i : Input) (h : History) (rx_own : ℕ → List BoardStep) (rx_seat : ℕ) (about : BoardSizes)
     (own : List BoardStep) (c : HintCodes) (seats : List (SeatView HintStep))
-    (seat : SeatView HintStep) (t : Story) (rows : ℕ) (s : Server)
+    (seat : SeatView HintStep) (t : Execution) (rows : ℕ) (s : Server)
     (x : IsReplying (setup_in i) rows about.start h.arrivals s (t.turns (t.seat s.app))
     (rx_own rx_seat) seat.steps)
     → AllArrived i h → HasFlowsBelow (setup_in i) s.sent.room rows
     → slice_get i.plan.apps s.app ≡ Some s.home → AreShared c → Contains seats seat
     → s.hand ≡ None
-    → IsApplicationTied i h rx_own about own c seats t s.app s.sent.items s.writes.items
+    → IsApplicationCoupled i h rx_own about own c seats t s.app s.sent.items s.writes.items
     (maps_seen x.replied)

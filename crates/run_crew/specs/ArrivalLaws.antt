@@ -18,7 +18,7 @@ use Rattle.run_words.specs.HintViews.{HintView}
 -- The coupling invariants of the wire: all packets arrived; each came by what was loaded; each
 -- store of its seat is the queue of an arrival in its word, but for the word that says that all
 -- have arrived; and so what it stored in a packet's word is the queue of the packet's arrival.
-pub record ArrivalsAreTied (i : Input) (h : History) (c : HintCodes) (seats : List HintView)
+pub record ArrivalsAreCoupled (i : Input) (h : History) (c : HintCodes) (seats : List HintView)
     (seat : HintView) : Type 0 where
   pub arrived : AllArrived i h
   pub routed : All (λ (a : Arrival). IsRouted i h c seats (packet_hash (setup_in i) a.id) a)
@@ -39,4 +39,4 @@ WireKeepsCoupling =
     → map (λ a. a.id) h.arrivals ≡ range_with_len 0 (length i.packets)
     → Ends (setup_in i) i.plan.filters
     (record { queues = length i.plan.queues; entries = i.plan.reta }) h.arrivals old new
-    → ArrivalsAreTied i h c seats new
+    → ArrivalsAreCoupled i h c seats new

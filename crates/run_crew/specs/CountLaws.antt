@@ -19,7 +19,7 @@ use Rattle.run_crew.specs.declared.seated.Seated.{Seated}
 use Rattle.run_crew.specs.DrainLaws.{AreDrained}
 use Rattle.run_crew.specs.QueueLaws.{ReceiveEnds}
 use Rattle.run_crew.specs.ReplyLaws.{TransmitEnds}
-use Rattle.run_crew.specs.Stories.{SeatTurns}
+use Rattle.run_crew.specs.Executions.{SeatTurns}
 
 -- The actor that a worker plays at a place of its kind, if there is one.
 abbrev pub actor_of : {A : Type 0} → (Seated → List A) → Option Seated → ℕ → Option A

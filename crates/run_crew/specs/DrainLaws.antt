@@ -20,7 +20,7 @@ pub record AreDrained (about : BoardSizes) (crew : List Seated) (kind : Seated �
 
 -- Each packet was delivered to its out lane, no seat has a packet in hand, and as many packets of
 -- each lane were retired as was counted.
-pub record DrainsAreTied (about : BoardSizes) (crew : List Seated) (kind : Seated → List Drain)
+pub record DrainsAreCoupled (about : BoardSizes) (crew : List Seated) (kind : Seated → List Drain)
     (out : ℕ → ℕ) (own : ℕ → List BoardStep) (are : AreDrained about crew kind) : Type 0 where
   pub right : AllDeliverTo about out own
   pub empty : HandsAreEmpty about own
@@ -33,8 +33,8 @@ pub record DrainsKeepCoupling : Type 0 where
   pub receives : (t : StageView) (crew : List Seated) (queues apps : ℕ) (own : ℕ → List BoardStep)
       (are : AreDrained t.rx.sizes crew drains_of) → AreWorking t crew queues apps
       → AreReceiveLists crew own
-      → DrainsAreTied t.rx.sizes crew drains_of (app_for t.shared.given) own are
+      → DrainsAreCoupled t.rx.sizes crew drains_of (app_for t.shared.given) own are
   pub transmits : (t : StageView) (crew : List Seated) (queues apps : ℕ)
       (own : ℕ → List BoardStep) (are : AreDrained t.tx.sizes crew ships_of)
       → AreWorking t crew queues apps → AreTransmitLists crew own
-      → DrainsAreTied t.tx.sizes crew ships_of (λ id. 0) own are
+      → DrainsAreCoupled t.tx.sizes crew ships_of (λ id. 0) own are

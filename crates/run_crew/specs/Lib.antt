@@ -4,7 +4,7 @@ pub mod QueueCoupling
 pub mod ApplicationCoupling
 pub mod StoreCoupling
 pub mod Crews
-pub mod Stories
+pub mod Executions
 pub mod QueueLaws
 pub mod ReplyLaws
 pub mod DrainLaws

@@ -10,7 +10,7 @@ use Rattle.hop_rule.specs.declared.sizes.BoardSizes.{BoardSizes}
 use Rattle.hop_rule.specs.declared.step.BoardStep.{BoardStep}
 use Rattle.hop_delivery.specs.Closings.TurnReads.{HasSeen, Knows}
 use Rattle.hop_delivery.specs.Orders.ReceiveSettings.{receive_steering, socket_word}
-use Rattle.hop_delivery.specs.Orders.Runs.{Story, turns_of}
+use Rattle.hop_delivery.specs.Orders.Runs.{Execution, turns_of}
 use Rattle.hop_delivery.specs.Orders.Turns.{Turn}
 use Rattle.steer_model.specs.Good.Inputs.{Input, setup_in}
 use Rattle.steer_model.specs.State.Setup.{packet_hash}
@@ -44,8 +44,8 @@ words_seen queues q polled k = words_of_turn queues q (nth_step polled k)
 -- knows its settings, of which `seen` are the values; if they are within their ranges, the choice
 -- is by the queue's own table; and each processor that was wanted was loaded, at the entry of the
 -- packet's hash by the socket size that the turn read.
-pub record IsQueueTied (i : Input) (about : BoardSizes) (own : List BoardStep) (c : HintCodes)
-    (seats : List (SeatView HintStep)) (t : Story) (p : ℕ) (seen : ℕ → ℕ → ℕ) : Type 0 where
+pub record IsQueueCoupled (i : Input) (about : BoardSizes) (own : List BoardStep) (c : HintCodes)
+    (seats : List (SeatView HintStep)) (t : Execution) (p : ℕ) (seen : ℕ → ℕ → ℕ) : Type 0 where
   pub hashes : (k : ℕ) (u : Turn) → nth_step (turns_of t p) k ≡ Some u
       → u.hash ≡ packet_hash (setup_in i) u.chosen.id
   pub knows : (k : ℕ) (u : Turn) → nth_step (turns_of t p) k ≡ Some u
@@ -63,13 +63,13 @@ pub record IsQueueTied (i : Input) (about : BoardSizes) (own : List BoardStep) (
       × WasLoaded seats (c.socket place) (c.place want)
 
 -- A poller's record over the turns of its seat gives the coupling invariants of its queue.
-abbrev pub PollersAreTied : Type 0
-PollersAreTied =
+abbrev pub PollersAreCoupled : Type 0
+PollersAreCoupled =
     (i : Input) (about : BoardSizes) (own : List BoardStep) (c : HintCodes)
-    (seats : List (SeatView HintStep)) (seat : SeatView HintStep) (t : Story) (first : ℕ)
+    (seats : List (SeatView HintStep)) (seat : SeatView HintStep) (t : Execution) (first : ℕ)
     (p : Poller) (x : IsPolling (setup_in i) first about.start p (t.turns (t.seat p.queue))
     seat.steps)
     → FlowsHaveOneHash i → p.choices.room ≤ length i.packets
     → p.queue < length (setup_in i).homes → AreShared c → Contains seats seat
-    → IsQueueTied i about own c seats t p.queue
+    → IsQueueCoupled i about own c seats t p.queue
     (words_seen (length (setup_in i).homes) p.queue x.polled)

@@ -8,7 +8,7 @@ use Rattle.history.specs.Lists.{arrivals_at, list_at}
 use Rattle.history.specs.declared.history.History.{History}
 use Rattle.hop_rule.specs.Owns.{puts_of}
 use Rattle.hop_rule.specs.declared.step.BoardStep.{BoardStep}
-use Rattle.hop_delivery.specs.Orders.Runs.{Story}
+use Rattle.hop_delivery.specs.Orders.Runs.{Execution}
 use Rattle.steer_model.specs.Good.Inputs.{Input, setup_in}
 use Rattle.run_coupling.specs.Laws.SharedCodes.{AreShared}
 use Rattle.run_coupling.specs.Coupling.Hints.{HintCodes, WantsAreLoaded}
@@ -19,7 +19,7 @@ use Rattle.run_workers.specs.Actors.{Each}
 use Rattle.run_workers.specs.Stages.{StageView}
 use Rattle.run_crew.specs.Crews.{AreReceiveLists, AreWorking, IsPlayed, pollers_of}
 use Rattle.run_crew.specs.declared.seated.Seated.{Seated}
-use Rattle.run_crew.specs.Stories.{AreTurnsOf, SeatTurns, queue_story}
+use Rattle.run_crew.specs.Executions.{AreTurnsOf, SeatTurns, queue_execution}
 
 -- Each crew has turns.
 abbrev pub CrewsHaveTurns : Type 0
@@ -55,14 +55,14 @@ QueuesKeepTurns =
     (own : ℕ → List BoardStep) (choices : List (List Chosen)) (arrivals : ℕ → List ℕ)
     → ReceiveEnds i t crew turns own choices
     → ((q : ℕ) → map (λ (c : Chosen). c.id) (list_at choices q) ≡ arrivals q)
-    → KeepsTurns own (queue_story crew turns choices arrivals)
+    → KeepsTurns own (queue_execution crew turns choices arrivals)
 
 -- What the turns of the queues have seen, and the coupling invariants of the queues with it.
-pub record QueuesAreTied (i : Input) (h : History) (t : StageView) (own : ℕ → List BoardStep)
-    (c : HintCodes) (seats : List (SeatView HintStep)) (story : Story) : Type 0 where
+pub record QueuesAreCoupled (i : Input) (h : History) (t : StageView) (own : ℕ → List BoardStep)
+    (c : HintCodes) (seats : List (SeatView HintStep)) (execution : Execution) : Type 0 where
   pub seen : ℕ → ℕ → ℕ → ℕ
-  pub keeps : KeepsQueues i h t.rx.sizes own story seen
-  pub wants : WantsAreLoaded i h c seats story seen
+  pub keeps : KeepsQueues i h t.rx.sizes own execution seen
+  pub wants : WantsAreLoaded i h c seats execution seen
 
 -- If each arrival has its choice, the queues keep their coupling invariants with a history that has
 -- their choices.
@@ -75,5 +75,5 @@ QueuesKeepCoupling =
     → length h.taken ≡ length i.plan.queues
     → ((q : ℕ) → slice_index h.taken q ≡ length (list_at h.choices q))
     → ((q : ℕ) → map (λ (c : Chosen). c.id) (list_at h.choices q) ≡ arrivals_at h.arrivals q)
-    → QueuesAreTied i h t own c seats
-    (queue_story crew turns h.choices (arrivals_at h.arrivals))
+    → QueuesAreCoupled i h t own c seats
+    (queue_execution crew turns h.choices (arrivals_at h.arrivals))

@@ -8,7 +8,7 @@ use Rattle.history.specs.declared.history.History.{History}
 use Rattle.history.specs.declared.sent.Sent.{Sent}
 use Rattle.hop_rule.specs.Owns.{puts_of}
 use Rattle.hop_rule.specs.declared.step.BoardStep.{BoardStep}
-use Rattle.hop_delivery.specs.Orders.Runs.{Story}
+use Rattle.hop_delivery.specs.Orders.Runs.{Execution}
 use Rattle.steer_model.specs.Good.Inputs.{Input, setup_in}
 use Rattle.run_coupling.specs.Laws.SharedCodes.{AreShared}
 use Rattle.run_coupling.specs.Coupling.Applications.{KeepsApplications}
@@ -19,7 +19,7 @@ use Rattle.run_workers.specs.Stages.{StageView}
 use Rattle.run_crew.specs.Crews.{AreReceiveLists, AreTransmitLists, AreWorking, IsPlayed}
 use Rattle.run_crew.specs.Crews.{servers_of}
 use Rattle.run_crew.specs.declared.seated.Seated.{Seated}
-use Rattle.run_crew.specs.Stories.{AreTurnsOf, SeatTurns, reply_story}
+use Rattle.run_crew.specs.Executions.{AreTurnsOf, SeatTurns, reply_execution}
 
 -- An application's lists in a history are its journals, its home is the plan's, and its hand is
 -- empty.
@@ -52,11 +52,11 @@ pub record TransmitEnds (i : Input) (h : History) (t : StageView) (crew : List S
 
 -- What the turns of the applications have seen, and the coupling invariants of the applications
 -- with it.
-pub record ApplicationsTied (i : Input) (h : History) (t : StageView)
+pub record ApplicationsCoupled (i : Input) (h : History) (t : StageView)
     (rx_own own : ℕ → List BoardStep) (c : HintCodes) (seats : List (SeatView HintStep))
-    (story : Story) : Type 0 where
+    (execution : Execution) : Type 0 where
   pub seen : ℕ → ℕ → ℕ → ℕ
-  pub keeps : KeepsApplications i h rx_own t.tx.sizes own story seen
+  pub keeps : KeepsApplications i h rx_own t.tx.sizes own execution seen
   pub queues : (a : ℕ) → All (λ (s : Sent). CameBy i h c seats s.id s.rxq) (list_at h.sent a)
   pub stands : (a : ℕ) → All (λ (s : Sent). Stands i h c seats a s.cpu) (list_at h.sent a)
   pub writes : (a : ℕ) → AreRecorded i h c seats rx_own a
@@ -69,5 +69,5 @@ ApplicationsKeepCoupling =
     (rx_own own : ℕ → List BoardStep) (c : HintCodes) (seats : List (SeatView HintStep))
     → TransmitEnds i h t crew turns rx_own own → AreShared c
     → Each (λ w x. Contains seats x.seats.hint) crew
-    → ApplicationsTied i h t rx_own own c seats
-    (reply_story crew turns h.tx_choices (λ a. map (λ (s : Sent). s.id) (list_at h.sent a)))
+    → ApplicationsCoupled i h t rx_own own c seats
+    (reply_execution crew turns h.tx_choices (λ a. map (λ (s : Sent). s.id) (list_at h.sent a)))

@@ -19,8 +19,8 @@ use Rattle.run_coupling.specs.Coupling.Boards.{IsReceiveBoard, IsTransmitBoard}
 use Rattle.run_coupling.specs.Coupling.Hints.{HintCodes}
 use Rattle.run_coupling.specs.Coupling.Runs.{IsRun}
 use Rattle.run_coupling.specs.Coupling.Tries.{Try}
-use Rattle.run_crew.specs.ArrivalLaws.{ArrivalsAreTied}
-use Rattle.run_controller.specs.Laws.{CommandsAreTied}
+use Rattle.run_crew.specs.ArrivalLaws.{ArrivalsAreCoupled}
+use Rattle.run_controller.specs.Laws.{CommandsAreCoupled}
 use Rattle.run_workers.specs.Stages.{StageView}
 use Rattle.run_crew.specs.declared.seated.Seated.{Seated}
 use Rattle.run_crew.specs.CountLaws.{IsFull}
@@ -28,7 +28,7 @@ use Rattle.run_crew.specs.Crews.{drains_of, ships_of}
 use Rattle.run_crew.specs.DrainLaws.{AreDrained}
 use Rattle.run_crew.specs.QueueLaws.{ReceiveEnds}
 use Rattle.run_crew.specs.ReplyLaws.{TransmitEnds}
-use Rattle.run_crew.specs.Stories.{SeatTurns}
+use Rattle.run_crew.specs.Executions.{SeatTurns}
 
 -- The seats at the hint words and their endings: each seat is a worker's, the controller's or the
 -- wire's; all workers' are among them.
@@ -77,9 +77,9 @@ pub record RunEnds (i : Input) (h : History) : Type 0 where
   pub wire : SeatView HintStep
   pub hints : HintsEnd crew hint_seats controller wire
   pub tries : List Try
-  pub commands : CommandsAreTied i h t.rx.sizes t.tx.sizes (own_in rx_seats) (own_in tx_seats)
+  pub commands : CommandsAreCoupled i h t.rx.sizes t.tx.sizes (own_in rx_seats) (own_in tx_seats)
       codes controller tries
-  pub arrivals : ArrivalsAreTied i h codes hint_seats wire
+  pub arrivals : ArrivalsAreCoupled i h codes hint_seats wire
   pub within : All (λ (a : Arrival). a.queue < length i.plan.queues) h.arrivals
   pub fronts : (q : ℕ) → IsPrefix (map (λ (c : Chosen). c.id) (list_at h.choices q))
       (arrivals_at h.arrivals q)

@@ -9,7 +9,7 @@ use Rattle.history.specs.declared.arrival.Arrival.{Arrival}
 use Rattle.history.specs.declared.history.History.{History}
 use Rattle.history.specs.declared.sock_write.SockWrite.{SockWrite}
 use Rattle.hop_rule.specs.declared.step.BoardStep.{BoardStep}
-use Rattle.hop_delivery.specs.Orders.Runs.{Story}
+use Rattle.hop_delivery.specs.Orders.Runs.{Execution}
 use Rattle.hop_delivery.specs.Orders.Turns.{Turn}
 use Rattle.steer_model.specs.Good.Inputs.{Input, setup_in}
 use Rattle.run_workers.specs.declared.server.Server.{Server}
@@ -36,7 +36,7 @@ pub record IsNoted (i : Input) (h : History) (write : SockWrite) : Type 0 where
 -- for a write that the history has.
 abbrev pub WorkersStoresAreMeant : Type 0
 WorkersStoresAreMeant =
-    (i : Input) (h : History) (c : HintCodes) (t : Story) (q : ℕ) (noted : List SockWrite)
+    (i : Input) (h : History) (c : HintCodes) (t : Execution) (q : ℕ) (noted : List SockWrite)
     (seat : SeatView HintStep)
     → AreShared c → All (λ (e : StepBy Turn). t.seat e.by ≡ q) (t.turns q)
     → ((write : SockWrite) → Contains noted write → IsNoted i h write)
@@ -46,6 +46,6 @@ WorkersStoresAreMeant =
 -- What holds of the stores of each seat holds of those of all.
 abbrev pub StoresAreMeantByEach : Type 0
 StoresAreMeantByEach =
-    (i : Input) (h : History) (c : HintCodes) (t : Story) (seats : List (SeatView HintStep))
+    (i : Input) (h : History) (c : HintCodes) (t : Execution) (seats : List (SeatView HintStep))
     → ((seat : SeatView HintStep) → Contains seats seat → StoresAreMeant i h c (seat ∷ []) t)
     → StoresAreMeant i h c seats t

@@ -8,7 +8,7 @@ ghost use Rattle.run_crew.specs.Sweeps.{CrewsGoOn, CrewsLearnArrivals, CrewsPlay
 ghost use Rattle.run_crew.specs.ThreadLaws.{ArrivalsAreWithin, ControllersTouchNoLane};
 ghost use Rattle.run_crew.specs.ThreadLaws.{FrontsAreChosen};
 
-use crate::coupling_laws::{applications_are_tied, pollers_are_tied, stores_are_meant};
+use crate::coupling_laws::{applications_are_coupled, pollers_are_coupled, stores_are_meant};
 use run_workers::arrivals_become_known;
 
 /// Lemma: the records of all workers say turns of all seats.
@@ -34,9 +34,9 @@ pub fn crews_learn_arrivals()
 /// coupling invariants, and each processor that was wanted was loaded.
 pub fn queues_keep_their_coupling()
     ensures turns { QueuesKeepTurns }
-    ensures ties { QueuesKeepCoupling }
+    ensures coupling { QueuesKeepCoupling }
 {
-    pollers_are_tied();
+    pollers_are_coupled();
 }
 
 /// Lemma: at the closing of the boards the applications keep their coupling invariants: where each
@@ -45,7 +45,7 @@ pub fn queues_keep_their_coupling()
 pub fn applications_keep_their_coupling()
     ensures { ApplicationsKeepCoupling }
 {
-    applications_are_tied();
+    applications_are_coupled();
 }
 
 /// Lemma: at the closing of a board each packet of a lane was delivered to its application's inbox
@@ -77,7 +77,7 @@ pub fn threads_keep_their_parts()
 pub fn ended_runs_are_runs()
     ensures { EndedRunsAreRuns }
 {
-    pollers_are_tied();
-    applications_are_tied();
+    pollers_are_coupled();
+    applications_are_coupled();
     stores_are_meant();
 }

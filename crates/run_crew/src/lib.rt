@@ -9,7 +9,7 @@ mod rounds;
 mod seated;
 
 pub use coupling_laws::{
-    applications_are_tied, pollers_are_tied, stores_are_meant, the_wire_keeps_its_coupling,
+    applications_are_coupled, pollers_are_coupled, stores_are_meant, the_wire_keeps_its_coupling,
 };
 pub use laws::{
     applications_keep_their_coupling, crews_go_on, crews_have_turns, crews_learn_arrivals,

@@ -20,7 +20,7 @@ use Rattle.hop_rule.specs.declared.step.BoardStep.{BoardStep}
 use Rattle.board_api.specs.Closings.Closings.{own_in, seats_in}
 use Rattle.board_api.specs.Closings.Finals.{lists_of}
 use Rattle.board_api.proofs.Endings.{each_order_closes}
-use Rattle.hop_delivery.specs.Orders.Runs.{Story}
+use Rattle.hop_delivery.specs.Orders.Runs.{Execution}
 use Rattle.steer_model.specs.Good.Inputs.{Input}
 use Rattle.run_coupling.specs.Coupling.Ends.{TotalsReplied}
 use Rattle.run_coupling.specs.Coupling.Hints.{LoadsAreUsed, StoresAreMeant}
@@ -69,7 +69,7 @@ ends_with about order passes lawful =
 
 -- what is kept at the hint words
 pub record KeepsHints (i : Input) (h : History)
-    (seats : List (SeatView HintStep)) (rx_own : ℕ → List BoardStep) (t : Story)
+    (seats : List (SeatView HintStep)) (rx_own : ℕ → List BoardStep) (t : Execution)
     (seen : ℕ → ℕ → ℕ → ℕ) : Type 0 where
   pub stored : LoadsAreStored seats
   pub meant : StoresAreMeant i h shared seats t
@@ -85,7 +85,7 @@ module _ (i : Input) (h : History) (rx : BoardSizes)
     abbrev tx_own : ℕ → List BoardStep
     tx_own = own_of tx_order
 
-    pub run_of : (tries : List Try) (queues applications : Story)
+    pub run_of : (tries : List Try) (queues applications : Execution)
         (queues_seen maps_seen : ℕ → ℕ → ℕ → ℕ) (seats : List (SeatView HintStep))
         → IsOfInput i h → KeepsCommands i h tries
         → ReceiveCoupling i h rx rx_own (lists_of rx rx_order) tries queues queues_seen

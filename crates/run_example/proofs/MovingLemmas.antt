@@ -44,7 +44,7 @@ use Rattle.run_example.proofs.FrameLemmas.{KeepsHints, run_of}
 use Rattle.run_example.proofs.MovingBoards as boards
 use Rattle.run_example.proofs.MovingBoards.{i, rx_own, tx_own}
 use Rattle.run_example.proofs.MovingTurns as turns
-use Rattle.run_example.proofs.MovingTurns.{rx_seen, rx_story, tx_seen, tx_story}
+use Rattle.run_example.proofs.MovingTurns.{rx_seen, rx_execution, tx_seen, tx_execution}
 
 -- ---- the application
 
@@ -67,7 +67,7 @@ sent-each P x y z zero (suc (suc (suc k))) s at = none-some s at
 sent-each P x y z (suc a) k s at = none-some s at
 
 -- the maps pick transmit queue 0 for the packets of queue 0, and 1 for that of queue 1
-picks : (a k : ℕ) (u : Turn) (s : Sent) → nth_step (turns_of tx_story a) k ≡ Some u
+picks : (a k : ℕ) (u : Turn) (s : Sent) → nth_step (turns_of tx_execution a) k ≡ Some u
     → slice_get (list_at moving_history.sent a) k ≡ Some s
     → u.chosen.choice.want
     ≡ Some (pick_by 2 (tx_seen a k) s.rxq s.cpu (packet_hash (setup_in i) s.id))
@@ -86,7 +86,7 @@ picks a k u s at there =
     Some (pick_by 2 (tx_seen 0 2) s.rxq s.cpu (packet_hash (setup_in i) s.id)))
     (some-is sent_third s there)) a k u at s there
 
-applications-kept : KeepsApplications i moving_history rx_own moving_tx tx_own tx_story tx_seen
+applications-kept : KeepsApplications i moving_history rx_own moving_tx tx_own tx_execution tx_seen
 applications-kept =
     record {
       turns = turns.tx-kept;
@@ -104,12 +104,12 @@ applications-kept =
       by_table = turns.by-tables;
     }
   where
-    replies : (a : ℕ) → tx_story.arrivals a
+    replies : (a : ℕ) → tx_execution.arrivals a
         ≡ map (λ (s : Sent). s.id) (list_at moving_history.sent a)
     replies zero = refl
     replies (suc a) = refl
 
-    choices : (a : ℕ) → list_at moving_history.tx_choices a ≡ tx_story.choices a
+    choices : (a : ℕ) → list_at moving_history.tx_choices a ≡ tx_execution.choices a
     choices zero = refl
     choices (suc a) = refl
 
@@ -177,9 +177,9 @@ module _ (table : TableId) where
       (λ k. (sym first k, sym one k)) (0, 0, refl)
 
   -- the filter that was stored for packet 1
-  its-filter : (place : ℕ) → place ≡ 0 → WasFiltered i rx_story place 1
+  its-filter : (place : ℕ) → place ≡ 0 → WasFiltered i rx_execution place 1
   its-filter place first =
-      subst (λ place. WasFiltered i rx_story place 1) (sym first)
+      subst (λ place. WasFiltered i rx_execution place 1) (sym first)
       (record {
         producer = 0;
         index = 1;
@@ -192,7 +192,7 @@ module _ (table : TableId) where
         there = refl;
       })
 
-  meant : StoresAreMeant i moving_history shared seats rx_story
+  meant : StoresAreMeant i moving_history shared seats rx_execution
   meant =
       record {
         sockets = λ place cpu less s. elim (known place (place_word cpu) s) [
@@ -224,7 +224,7 @@ module _ (table : TableId) where
                   let few : f.queue < 2 = queue in
                   let small : f.cpu < 2 = cpu in
                   let is : f.queue ≡ 1 = omega arith in
-                  subst (λ q. WasFiltered i rx_story place q) (sym is)
+                  subst (λ q. WasFiltered i rx_execution place q) (sym is)
                   (its-filter place (omega arith)))
             ];
         packets = λ x q less s. elim (known (shared.packet x) (place_word q) s) [
@@ -249,7 +249,7 @@ module _ (table : TableId) where
     loads = (0, omega arith, refl);
   }
 
-  wants : WantsAreLoaded i moving_history shared seats rx_story rx_seen
+  wants : WantsAreLoaded i moving_history shared seats rx_execution rx_seen
   wants p k want u at =
       turns.rx-each (λ p k u. (want : ℕ) → u.chosen.choice.want ≡ Some want
       → (place : ℕ)
@@ -265,7 +265,7 @@ module _ (table : TableId) where
       ))
       (λ want is. none-some want is) p k u at want
 
-  used : LoadsAreUsed i moving_history shared seats rx_own rx_story rx_seen
+  used : LoadsAreUsed i moving_history shared seats rx_own rx_execution rx_seen
   used =
       record {
         arrivals = all_of_each
@@ -347,7 +347,7 @@ module _ (table : TableId) where
 -- ---- all together
 
 received : ReceiveCoupling i moving_history moving_rx rx_own (lists_of moving_rx moving_rx_order)
-    boards.tries rx_story rx_seen
+    boards.tries rx_execution rx_seen
 received =
     record {
       board = record {
@@ -381,7 +381,7 @@ received =
 
 sent : TransmitCoupling i moving_history rx_own moving_tx tx_own
     (lists_of moving_tx moving_tx_order)
-    boards.tries tx_story tx_seen
+    boards.tries tx_execution tx_seen
 sent =
     record {
       board = record {
@@ -417,7 +417,7 @@ hashes (suc (suc zero)) less = refl
 hashes (suc (suc (suc x))) less = absurd (omega arith)
 
 hints : (table : TableId)
-    → KeepsHints i moving_history (moving_seats table) rx_own rx_story rx_seen
+    → KeepsHints i moving_history (moving_seats table) rx_own rx_execution rx_seen
 hints table = record { stored = stored table; meant = meant table; used = used table }
 
 pub moving_run_exists : MovingRunExists
@@ -426,7 +426,7 @@ moving_run_exists =
       within = boards.within;
       runs = λ table.
           run_of i moving_history moving_rx moving_rx_order boards.rx-ends moving_tx
-          moving_tx_order boards.tx-ends boards.tries rx_story tx_story rx_seen tx_seen
+          moving_tx_order boards.tx-ends boards.tries rx_execution tx_execution rx_seen tx_seen
           (moving_seats table)
           (record { hashes = hashes; arrived = refl; total = refl; cut = refl; start = refl })
           boards.commands-kept received sent refl (hints table) table;

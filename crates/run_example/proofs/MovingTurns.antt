@@ -18,7 +18,7 @@ use Rattle.hop_rule.specs.declared.step.GateStep.TheVariants.{Read}
 use Rattle.hop_rule.proofs.Lists.{none-some, some-is}
 use Rattle.hop_delivery.specs.Closings.TurnReads.{HasSeen, Knows, KnowsMaps}
 use Rattle.hop_delivery.specs.Orders.ReceiveSettings.{receive_steering, socket_word}
-use Rattle.hop_delivery.specs.Orders.Runs.{Story, turns_of}
+use Rattle.hop_delivery.specs.Orders.Runs.{Execution, turns_of}
 use Rattle.hop_delivery.specs.Orders.TransmitSettings.{transmit_steering}
 use Rattle.hop_delivery.specs.Orders.Turns.{Explained, Turn}
 use Rattle.run_example.proofs.ListLemmas.{all_of_each, none-arrived, nth_of_all, own_empty}
@@ -49,15 +49,15 @@ turn_other = (turn moving_rx_order other_chosen (2 ^ 32) 28 34 (Some 2) (At 2)).
 abbrev rx_turns : List (StepBy Turn)
 rx_turns = step_by 1 turn_other ∷ step_by 0 turn_again ∷ step_by 0 turn_first ∷ []
 
-abbrev pub rx_story : Story
-rx_story = record {
+abbrev pub rx_execution : Execution
+rx_execution = record {
   arrivals = of_two (0 ∷ 1 ∷ []) (2 ∷ []) [];
   choices = of_two table_choices (other_chosen ∷ []) [];
   seat = of_two 0 0 2;
   turns = of_first rx_turns [];
 }
 
-rx-explained : (q : ℕ) → Explained (rx_own q) (rx_story.turns q)
+rx-explained : (q : ℕ) → Explained (rx_own q) (rx_execution.turns q)
 rx-explained zero = (
   take 7 (rx_own 0),
   [],
@@ -93,28 +93,28 @@ rx-explained (suc (suc q)) =
 -- what holds of the turns of both queues holds of each
 pub rx-each : (P : ℕ → ℕ → Turn → Type 0) → P 0 0 turn_first → P 0 1 turn_again
     → P 1 0 turn_other
-    → (p k : ℕ) (u : Turn) → nth_step (turns_of rx_story p) k ≡ Some u → P p k u
-rx-each P a b c zero k u at = nth_of_all (P 0) (turns_of rx_story 0) k u (b, (a, tt)) at
-rx-each P a b c (suc zero) k u at = nth_of_all (P 1) (turns_of rx_story 1) k u (c, tt) at
+    → (p k : ℕ) (u : Turn) → nth_step (turns_of rx_execution p) k ≡ Some u → P p k u
+rx-each P a b c zero k u at = nth_of_all (P 0) (turns_of rx_execution 0) k u (b, (a, tt)) at
+rx-each P a b c (suc zero) k u at = nth_of_all (P 1) (turns_of rx_execution 1) k u (c, tt) at
 rx-each P a b c (suc (suc p)) k u at = none-some u at
 
-rx-kept : KeepsTurns rx_own rx_story
+rx-kept : KeepsTurns rx_own rx_execution
 rx-kept =
     record { explained = rx-explained; by_seat = by-seat; journal = journal; all_chosen = chosen }
   where
-    by-seat : (q : ℕ) → All (λ (e : StepBy Turn). rx_story.seat e.by ≡ q) (rx_story.turns q)
+    by-seat : (q : ℕ) → All (λ (e : StepBy Turn). rx_execution.seat e.by ≡ q) (rx_execution.turns q)
     by-seat zero =
-        all_of_each (λ (e : StepBy Turn). rx_story.seat e.by ≡ 0) rx_turns
+        all_of_each (λ (e : StepBy Turn). rx_execution.seat e.by ≡ 0) rx_turns
         (refl, (refl, (refl, tt)))
     by-seat (suc q) = All-nil _
 
-    journal : (p : ℕ) → rx_story.choices p
-        ≡ map (λ (u : Turn). u.chosen) (oldest_first (turns_of rx_story p))
+    journal : (p : ℕ) → rx_execution.choices p
+        ≡ map (λ (u : Turn). u.chosen) (oldest_first (turns_of rx_execution p))
     journal zero = refl
     journal (suc zero) = refl
     journal (suc (suc p)) = refl
 
-    chosen : (p : ℕ) → map (λ c. c.id) (rx_story.choices p) ≡ rx_story.arrivals p
+    chosen : (p : ℕ) → map (λ c. c.id) (rx_execution.choices p) ≡ rx_execution.arrivals p
     chosen zero = refl
     chosen (suc zero) = refl
     chosen (suc (suc p)) = refl
@@ -129,7 +129,7 @@ rx_seen zero (suc k) w = after w
 rx_seen (suc p) k w = after w
 
 abbrev RxByTable : ℕ → ℕ → Turn → Type 0
-RxByTable p k u = IsByTable 0 rx_story (receive_steering (receive_queues i)) (rx_seen p) p k u
+RxByTable p k u = IsByTable 0 rx_execution (receive_steering (receive_queues i)) (rx_seen p) p k u
 
 first-by-table : RxByTable 0 0 turn_first
 unfolding since_resize those_below
@@ -165,7 +165,7 @@ other-by-table = record {
   loaded = λ k l class lane looked. none-some k class;
 }
 
-pub queues-kept : KeepsQueues i moving_history moving_rx rx_own rx_story rx_seen
+pub queues-kept : KeepsQueues i moving_history moving_rx rx_own rx_execution rx_seen
 queues-kept =
     record {
       turns = rx-kept;
@@ -175,7 +175,7 @@ queues-kept =
       choices = choices;
       taken = taken;
       hashes = rx-each (λ p k u. u.hash ≡ packet_hash (setup_in i) u.chosen.id) refl refl refl;
-      knows = rx-each (λ p k u. HasSeen (rx_own (rx_story.seat p)) (receive_queues i) p u
+      knows = rx-each (λ p k u. HasSeen (rx_own (rx_execution.seat p)) (receive_queues i) p u
           (rx_seen p k))
           (record {
             mask = inl (4, omega arith, refl);
@@ -192,26 +192,26 @@ queues-kept =
             flows = inl (3, omega arith, refl);
             online = inl (1, omega arith, refl);
           });
-      knows_sock = rx-each (λ p k u. Knows (rx_own (rx_story.seat p)) u
+      knows_sock = rx-each (λ p k u. Knows (rx_own (rx_execution.seat p)) u
           (socket_word (receive_queues i)) (rx_seen p k (socket_word (receive_queues i))))
           (inl (2, omega arith, refl)) (inl (2, omega arith, refl)) (inl (2, omega arith, refl));
       by_table = λ p k u at fit.
           rx-each RxByTable first-by-table again-by-table other-by-table p k u at;
     }
   where
-    arrivals : (p : ℕ) → rx_story.arrivals p ≡ arrivals_at moving_history.arrivals p
+    arrivals : (p : ℕ) → rx_execution.arrivals p ≡ arrivals_at moving_history.arrivals p
     arrivals zero = refl
     arrivals (suc zero) = refl
     arrivals (suc (suc p)) =
         sym (none-arrived 2 (suc (suc p)) moving_history.arrivals (omega arith)
         (omega arith, (omega arith, (omega arith, tt))))
 
-    choices : (p : ℕ) → list_at moving_history.choices p ≡ rx_story.choices p
+    choices : (p : ℕ) → list_at moving_history.choices p ≡ rx_execution.choices p
     choices zero = refl
     choices (suc zero) = refl
     choices (suc (suc p)) = refl
 
-    taken : (p : ℕ) → slice_index moving_history.taken p ≡ length (rx_story.choices p)
+    taken : (p : ℕ) → slice_index moving_history.taken p ≡ length (rx_execution.choices p)
     taken zero = refl
     taken (suc zero) = refl
     taken (suc (suc p)) = refl
@@ -230,15 +230,15 @@ reply_moved = (turn moving_tx_order (chosen_at moving_replies 2) 0 26 33 (Some 2
 abbrev tx_turns : List (StepBy Turn)
 tx_turns = step_by 0 reply_moved ∷ step_by 0 reply_same ∷ step_by 0 reply_first ∷ []
 
-abbrev pub tx_story : Story
-tx_story = record {
+abbrev pub tx_execution : Execution
+tx_execution = record {
   arrivals = of_first (0 ∷ 1 ∷ 2 ∷ []) [];
   choices = of_first moving_replies [];
   seat = of_first 0 2;
   turns = of_first tx_turns [];
 }
 
-tx-explained : (q : ℕ) → Explained (tx_own q) (tx_story.turns q)
+tx-explained : (q : ℕ) → Explained (tx_own q) (tx_execution.turns q)
 tx-explained zero = (
   take 5 (tx_own 0),
   [],
@@ -273,26 +273,26 @@ tx-explained (suc (suc q)) =
 
 pub tx-each : (P : ℕ → ℕ → Turn → Type 0) → P 0 0 reply_first → P 0 1 reply_same
     → P 0 2 reply_moved
-    → (p k : ℕ) (u : Turn) → nth_step (turns_of tx_story p) k ≡ Some u → P p k u
-tx-each P a b c zero k u at = nth_of_all (P 0) (turns_of tx_story 0) k u (c, (b, (a, tt))) at
+    → (p k : ℕ) (u : Turn) → nth_step (turns_of tx_execution p) k ≡ Some u → P p k u
+tx-each P a b c zero k u at = nth_of_all (P 0) (turns_of tx_execution 0) k u (c, (b, (a, tt))) at
 tx-each P a b c (suc p) k u at = none-some u at
 
-pub tx-kept : KeepsTurns tx_own tx_story
+pub tx-kept : KeepsTurns tx_own tx_execution
 tx-kept =
     record { explained = tx-explained; by_seat = by-seat; journal = journal; all_chosen = chosen }
   where
-    by-seat : (q : ℕ) → All (λ (e : StepBy Turn). tx_story.seat e.by ≡ q) (tx_story.turns q)
+    by-seat : (q : ℕ) → All (λ (e : StepBy Turn). tx_execution.seat e.by ≡ q) (tx_execution.turns q)
     by-seat zero =
-        all_of_each (λ (e : StepBy Turn). tx_story.seat e.by ≡ 0) tx_turns
+        all_of_each (λ (e : StepBy Turn). tx_execution.seat e.by ≡ 0) tx_turns
         (refl, (refl, (refl, tt)))
     by-seat (suc q) = All-nil _
 
-    journal : (p : ℕ) → tx_story.choices p
-        ≡ map (λ (u : Turn). u.chosen) (oldest_first (turns_of tx_story p))
+    journal : (p : ℕ) → tx_execution.choices p
+        ≡ map (λ (u : Turn). u.chosen) (oldest_first (turns_of tx_execution p))
     journal zero = refl
     journal (suc p) = refl
 
-    chosen : (p : ℕ) → map (λ c. c.id) (tx_story.choices p) ≡ tx_story.arrivals p
+    chosen : (p : ℕ) → map (λ c. c.id) (tx_execution.choices p) ≡ tx_execution.arrivals p
     chosen zero = refl
     chosen (suc p) = refl
 
@@ -301,7 +301,7 @@ tx_seen p k w = slice_index moving_tx.settings w
 
 abbrev TxByTable : ℕ → ℕ → Turn → Type 0
 TxByTable p k u =
-    IsByTable 0 tx_story (transmit_steering (flow_number_of (setup_in i))) (tx_seen p) p k u
+    IsByTable 0 tx_execution (transmit_steering (flow_number_of (setup_in i))) (tx_seen p) p k u
 
 reply-first-by-table : TxByTable 0 0 reply_first
 unfolding since_resize those_below
@@ -337,21 +337,21 @@ reply-moved-by-table = record {
       subst
       (λ (l : ℕ). (w : ℕ) × Contains reply_moved.early (Weighed l w) × (w % 2 ^ 32 ≡ 2))
       (some-is 0 l
-      (ap (λ z. (entries (table_before 0 tx_story
+      (ap (λ z. (entries (table_before 0 tx_execution
       (transmit_steering (flow_number_of (setup_in i))) (tx_seen 0) 1 true 0 2) z).lane)
       (some-is 0 k class) ∙ lane))
       (2, (1, omega arith, refl), refl);
 }
 
-pub by-tables : (p k : ℕ) (u : Turn) → nth_step (turns_of tx_story p) k ≡ Some u
+pub by-tables : (p k : ℕ) (u : Turn) → nth_step (turns_of tx_execution p) k ≡ Some u
     → TxByTable p k u
 by-tables = tx-each TxByTable reply-first-by-table reply-same-by-table reply-moved-by-table
 
 -- each reply read all four words
-pub maps-known : (p k : ℕ) (u : Turn) → nth_step (turns_of tx_story p) k ≡ Some u
-    → KnowsMaps (tx_own (tx_story.seat p)) 2 u (tx_seen p k)
+pub maps-known : (p k : ℕ) (u : Turn) → nth_step (turns_of tx_execution p) k ≡ Some u
+    → KnowsMaps (tx_own (tx_execution.seat p)) 2 u (tx_seen p k)
 maps-known =
-    tx-each (λ p k u. KnowsMaps (tx_own (tx_story.seat p)) 2 u (tx_seen p k))
+    tx-each (λ p k u. KnowsMaps (tx_own (tx_execution.seat p)) 2 u (tx_seen p k))
     (maps reply_first (4, omega arith, refl) (3, omega arith, refl) (2, omega arith, refl)
     (1, omega arith, refl))
     (maps reply_same (4, omega arith, refl) (3, omega arith, refl) (2, omega arith, refl)

@@ -46,7 +46,7 @@ use Rattle.run_crew.specs.DrainLaws.{AreDrained}
 use Rattle.run_crew.specs.QueueLaws.{CrewsHaveTurns, ReceiveEnds}
 use Rattle.run_crew.specs.ReplyLaws.{HasJournals, TransmitEnds}
 use Rattle.run_crew.specs.RunLaws.{HintsEnd, IsCopied, RunEnds}
-use Rattle.run_crew.specs.Stories.{AreTurnsOf, SeatTurns}
+use Rattle.run_crew.specs.Executions.{AreTurnsOf, SeatTurns}
 use Rattle.run_crew.specs.ThreadLaws.{ArrivalsAreWithin, ControllersTouchNoLane}
 use Rattle.run_crew.specs.ThreadLaws.{FrontsAreChosen, TouchesNoLane}
 use Rattle.run_crew.specs.declared.seated.Seated.{Seated}
@@ -56,7 +56,7 @@ use Rattle.workers.specs.Left.{IsLeft, all_played, hint_seats, history_of, rx_se
 use Rattle.workers.specs.Overs.{IsOver, stage_of}
 use Rattle.workers.specs.declared.closing.Left.{Left}
 use Rattle.run_crew.proofs.ChoiceFunctions.{item-at, none-some, some-is}
-use Rattle.run_crew.proofs.StoryLemmas.{actor-back}
+use Rattle.run_crew.proofs.ExecutionLemmas.{actor-back}
 use Rattle.workers.proofs.ArrivedLemmas.{arrived-below}
 use Rattle.workers.proofs.FlowLemmas.{one-hash}
 use Rattle.workers.proofs.FreeHandLemmas.{drain-hand, poller-hand, server-hand, ship-hand}

@@ -29,7 +29,7 @@ use Rattle.board_api.specs.declared.lists.BoardLists.{BoardLists}
 use Rattle.hop_delivery.specs.Closings.FlowLaw.{accepted_left}
 use Rattle.hop_delivery.specs.Closings.PutPlaces.{AnswersArePlaces, AreTurnsOf, HasTurn}
 use Rattle.hop_delivery.specs.Closings.PutPlaces.{PacketsStand, PutsAreOnce, TurnsPutOnce}
-use Rattle.hop_delivery.specs.Orders.Runs.{Story, turns_of}
+use Rattle.hop_delivery.specs.Orders.Runs.{Execution, turns_of}
 use Rattle.hop_delivery.specs.Orders.Turns.{Turn, turn_put}
 use Rattle.hop_delivery.proofs.Orders.AccountedLemmas.{nth-all}
 use Rattle.hop_delivery.proofs.Orders.PlaceLemmas.{place-get}
@@ -42,7 +42,7 @@ pub said : (l m id x : ℕ) (hash other : Option ℕ) (answer reply : Put)
 said l m id x hash other answer reply same =
     some-is (put_made l id hash answer) (put_made m x other reply) (ap put_in same)
 
-module _ (own : ℕ → List BoardStep) (t : Story) (a : AreTurnsOf own t) where
+module _ (own : ℕ → List BoardStep) (t : Execution) (a : AreTurnsOf own t) where
   pub places : (q : ℕ) → Places (own q) (t.turns q)
   places q = turns_have_places (own q) (t.turns q) (a.explained q)
 

@@ -19,7 +19,8 @@ use Rattle.board_api.specs.declared.lists.BoardLists.{BoardLists}
 use Rattle.hop_delivery.specs.Orders.ReceiveSettings.{Queues, flows_word, mask, mask_word}
 use Rattle.hop_delivery.specs.Orders.ReceiveSettings.{online_word}
 use Rattle.hop_delivery.specs.Orders.ReceiveSettings.{queues, receive_steering}
-use Rattle.hop_delivery.specs.Orders.Runs.{Story, Steering, IsByRule, goal_of, settings_of_visit}
+use Rattle.hop_delivery.specs.Orders.Runs.{Execution, Steering, IsByRule, goal_of}
+use Rattle.hop_delivery.specs.Orders.Runs.{settings_of_visit}
 use Rattle.hop_delivery.specs.Orders.Runs.{turns_of}
 use Rattle.hop_delivery.specs.Orders.Runs.{settings_at, word_of}
 use Rattle.hop_delivery.specs.Orders.Turns.{Turn, Explained}
@@ -64,7 +65,7 @@ module _ (q : Queues) (p : ℕ) (s z : ℕ → ℕ) (masks : s (mask_word q p) �
       λ i. desired_cpu (Some 0) want (mask (onlines i)) (plain_same f i)
 
 module _ (about : BoardSizes) (own : ℕ → List BoardStep) (lists : BoardLists)
-    (law : TurnsKnowSettings about own lists) (q : Queues) (t : Story) (seen : ℕ → ℕ → ℕ)
+    (law : TurnsKnowSettings about own lists) (q : Queues) (t : Execution) (seen : ℕ → ℕ → ℕ)
     (p i : ℕ) (explained : Explained (own (t.seat p)) (t.turns (t.seat p)))
     (sees : (j : ℕ) (v : Turn) → j ≤ i → nth_step (turns_of t p) j ≡ Some v
     → HasSeen (own (t.seat p)) q p v (seen j))

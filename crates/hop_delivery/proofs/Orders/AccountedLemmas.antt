@@ -1,4 +1,4 @@
--- A story that meets the premises gives an account in the moments of the order.
+-- An execution that meets the premises gives an account in the moments of the order.
 use Rattle.std.proofs.Common.{◌≡◌, ℕ, zero, suc, ◌+◌, ◌-◌, ◌%◌, ◌^◌, ◌<◌, ◌≤◌, ◌==◌, true}
 use Rattle.std.proofs.Common.{List, [], ◌∷◌, ◌++◌, Option, Some, length, length-append, take}
 use Rattle.std.proofs.Common.{drop, if◌then◌else◌, sym, refl, ap, ◌∙◌, subst, arith, inl, inr}
@@ -42,8 +42,8 @@ use Rattle.hop_rule.proofs.Parts.{at_moment, from_moment, moments_rise}
 use Rattle.hop_delivery.specs.Orders.Premises.{MeetsPremises, WasFoundEmpty, FindsEmpty}
 use Rattle.hop_delivery.specs.Orders.Premises.{AllFindEmpty}
 use Rattle.hop_delivery.specs.Orders.Premises.{GoesRight}
-use Rattle.hop_delivery.specs.Orders.Runs as stories
-use Rattle.hop_delivery.specs.Orders.Runs.{Story, Steering, turns_of, word_of}
+use Rattle.hop_delivery.specs.Orders.Runs as executions
+use Rattle.hop_delivery.specs.Orders.Runs.{Execution, Steering, turns_of, word_of}
 use Rattle.hop_delivery.specs.Orders.Turns.{Turn, turn_put}
 use Rattle.hop_delivery.proofs.Orders.AccountLemmas.{Account, IsAccount, IsRuled, HasVisit}
 use Rattle.hop_delivery.proofs.Orders.AccountLemmas.{WasLoaded, chosen}
@@ -256,7 +256,7 @@ module _ (about : BoardSizes) (order : List (StepBy BoardStep)) (k l w v : ℕ)
 
 -- ---- the account
 
-module _ (about : BoardSizes) (order : List (StepBy BoardStep)) (t : Story) (r : Steering)
+module _ (about : BoardSizes) (order : List (StepBy BoardStep)) (t : Execution) (r : Steering)
     (fit : FitSizes about) (lawful : IsLawful about order)
     (good : MeetsPremises about (own_of order) (accepted about order) t r) where
   abbrev pub own : ℕ → List BoardStep
@@ -335,10 +335,11 @@ module _ (about : BoardSizes) (order : List (StepBy BoardStep)) (t : Story) (r :
           visit.puts visit.stays from to is;
     }
 
-    settings_is : settings about (past (entered_at p i) order) ≡ stories.settings_at about own acc t
+    settings_is : settings about (past (entered_at p i) order) ≡ executions.settings_at about own
+        acc t
         r p i
     settings_is = visits_show_settings about order fit lawful (entered_at p i) q u.word enters_at
-        ∙ ap (λ o. stories.settings_of_visit about own (word_of o)) (sym at)
+        ∙ ap (λ o. executions.settings_of_visit about own (word_of o)) (sym at)
 
     -- a load of a head among the early steps of the turn
     was_loaded : (l w number : ℕ) → Contains u.early (Weighed l w) → w % 2 ^ 32 ≡ number
@@ -364,9 +365,9 @@ module _ (about : BoardSizes) (order : List (StepBy BoardStep)) (t : Story) (r :
       let u = turn_of p i l in
       let b = good.by_rule p i u.0 u.1 in
       let s = settings_is p i u.0 u.1 in
-      let since : since_resize (stories.shape_at about own acc t r p) i ≡ since_resize
+      let since : since_resize (executions.shape_at about own acc t r p) i ≡ since_resize
       (λ j. r.shape (settings about (past (entered_at p j) order)) p) i =
-      since-same (stories.shape_at about own acc t r p)
+      since-same (executions.shape_at about own acc t r p)
       (λ j. r.shape (settings about (past (entered_at p j) order)) p) i
       (λ j le. let v = turn_of p j (omega arith) in ap (λ z. r.shape z p)
       (sym (settings_is p j v.0 v.1))) in
@@ -374,29 +375,31 @@ module _ (about : BoardSizes) (order : List (StepBy BoardStep)) (t : Story) (r :
       by_paths u.0 u.1 b (sym s) since (sym c)
     where
       by_paths : (u : Turn) → nth_step (turns_of t p) i ≡ Some u
-          → (b : stories.IsByRule about own acc t r p i u) → stories.settings_at about own acc t r p
+          → (b : executions.IsByRule about own acc t r p i u) → executions.settings_at about own acc
+          t r p
           i ≡ settings about (past (entered_at p i) order)
-          → since_resize (stories.shape_at about own acc t r p) i ≡ since_resize
+          → since_resize (executions.shape_at about own acc t r p) i ≡ since_resize
           (λ j. r.shape (settings about (past (entered_at p j) order)) p) i
           → u.chosen ≡ chosen account p i → IsRuled about order account r p i
       by_paths u at b s n c = record {
         head = b.head;
         rule = subst (λ (z : (ℕ → ℕ) × (ℕ × Chosen)). z.1.1.choice
             ≡ migrate (r.class (r.shape z.0 p) (r.flow z.1.1.id)) z.1.1.choice.want
-            (stories.goal_of r z.0 p (r.flow z.1.1.id)
+            (executions.goal_of r z.0 p (r.flow z.1.1.id)
             (r.class (r.shape z.0 p) (r.flow z.1.1.id)) z.1.1.choice.want)
             (entry about.start acc (drop z.1.0 (take i (t.choices p)))) (λ _. b.head)
             (r.online z.0)) (λ j. (s j, (n j, c j))) b.rule;
         loaded = λ k l class lane head. (
-            let same_class : stories.class_at about own acc t r p i u ≡ Some k =
+            let same_class : executions.class_at about own acc t r p i u ≡ Some k =
             (λ j. r.class (r.shape (s j) p) (r.flow (c j).id)) ∙ class in
-            let same_lane : current_lane (of_class k (stories.before about own acc t r p i)) ≡ Some
+            let same_lane : current_lane (of_class k (executions.before about own acc t r p i)) ≡
+            Some
             l = ap (λ m. current_lane (of_class k (drop m (take i (t.choices p))))) n ∙ lane in
             let w = b.loaded k l same_class same_lane (ap (λ (z : Chosen). z.choice.head) c ∙ head)
             in
             was_loaded p i u at l w.0 b.head w.1 w.2);
         goal_online = subst (λ (z : (ℕ → ℕ) × Chosen). r.online z.0
-            (stories.goal_of r z.0 p (r.flow z.1.id) (r.class (r.shape z.0 p) (r.flow z.1.id))
+            (executions.goal_of r z.0 p (r.flow z.1.id) (r.class (r.shape z.0 p) (r.flow z.1.id))
             z.1.choice.want) ≡ true) (λ j. (s j, c j)) b.goal_online;
       }
 

@@ -9,7 +9,7 @@ use Rattle.hop_rule.specs.declared.step.BoardStep.{BoardStep}
 use Rattle.board_api.specs.declared.lists.BoardLists.{BoardLists}
 use Rattle.hop_delivery.specs.Orders.DeliveryLaw.{came_by}
 use Rattle.hop_delivery.specs.Orders.Premises.{MeetsPremises}
-use Rattle.hop_delivery.specs.Orders.Runs.{Story, Steering, IsSteering}
+use Rattle.hop_delivery.specs.Orders.Runs.{Execution, Steering, IsSteering}
 
 -- The packets that each middle lane accepted, by the lists that are left.
 abbrev pub accepted_left : BoardLists → ℕ → List ℕ
@@ -20,7 +20,7 @@ accepted_left lists l = (lane_at lists.lanes l).accepted
 -- without those that were dropped.
 abbrev pub FlowsAreInOrder : BoardSizes → (ℕ → List BoardStep) → BoardLists → Type 0
 FlowsAreInOrder about own lists =
-    (t : Story) (r : Steering) → IsSteering about.lanes r
+    (t : Execution) (r : Steering) → IsSteering about.lanes r
     → MeetsPremises about own (accepted_left lists) t r
     → (p f : ℕ)
     → InOrder (came_by t r p f) (t.arrivals p)

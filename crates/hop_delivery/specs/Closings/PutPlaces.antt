@@ -11,7 +11,7 @@ use Rattle.hop_rule.specs.declared.sizes.BoardSizes.{BoardSizes}
 use Rattle.hop_rule.specs.declared.step.BoardStep.{BoardStep}
 use Rattle.board_api.specs.OwnSteps.{Has, put_step}
 use Rattle.board_api.specs.declared.lists.BoardLists.{BoardLists}
-use Rattle.hop_delivery.specs.Orders.Runs.{Story, turns_of}
+use Rattle.hop_delivery.specs.Orders.Runs.{Execution, turns_of}
 use Rattle.hop_delivery.specs.Orders.Turns.{Turn, Explained}
 use Rattle.hop_delivery.specs.Closings.FlowLaw.{accepted_left}
 
@@ -25,7 +25,7 @@ PutsAreOnce own =
 -- The first two premises of delivery in order, without the choices: no packet arrives twice, a
 -- seat's puts are those of its turns, and a producer's turns are by its seat and for its first
 -- arrivals, in order.
-pub record AreTurnsOf (own : ℕ → List BoardStep) (t : Story) : Type 0 where
+pub record AreTurnsOf (own : ℕ → List BoardStep) (t : Execution) : Type 0 where
   pub once : (p q i j : ℕ) → i < length (t.arrivals p) → j < length (t.arrivals q)
       → slice_index (t.arrivals p) i ≡ slice_index (t.arrivals q) j → (p ≡ q) × (i ≡ j)
   pub explained : (q : ℕ) → Explained (own q) (t.turns q)
@@ -35,7 +35,7 @@ pub record AreTurnsOf (own : ℕ → List BoardStep) (t : Story) : Type 0 where
 
 -- Own lists whose puts are turns for arrivals put no packet twice.
 abbrev pub TurnsPutOnce : Type 0
-TurnsPutOnce = (own : ℕ → List BoardStep) (t : Story) → AreTurnsOf own t → PutsAreOnce own
+TurnsPutOnce = (own : ℕ → List BoardStep) (t : Execution) → AreTurnsOf own t → PutsAreOnce own
 
 -- If no packet is put twice, the answer of a put is the packet's place among those that its lane
 -- accepted; a dropped packet is not among them.
@@ -46,7 +46,7 @@ AnswersArePlaces about own lists =
     → IsPutAt about.start (place_in id (accepted_left lists l)) (Some answer)
 
 -- Some turn of a producer chose this lane for the packet.
-pub record HasTurn (t : Story) (l id : ℕ) : Type 0 where
+pub record HasTurn (t : Execution) (l id : ℕ) : Type 0 where
   pub producer : ℕ
   pub index : ℕ
   pub turn : Turn
@@ -57,7 +57,7 @@ pub record HasTurn (t : Story) (l id : ℕ) : Type 0 where
 -- Each accepted and each dropped packet has a turn that chose its lane, and no packet is twice
 -- among all accepted and dropped ones.
 pub record PacketsStandOnce (about : BoardSizes) (own : ℕ → List BoardStep) (lists : BoardLists)
-    (t : Story) : Type 0 where
+    (t : Execution) : Type 0 where
   pub accepted : (l n id : ℕ) → slice_get (accepted_left lists l) n ≡ Some id → HasTurn t l id
   pub dropped : (l n : ℕ) (d : LaneDrop) → slice_get (lane_at lists.lanes l).drops n ≡ Some d
       → HasTurn t l d.id
@@ -73,4 +73,4 @@ pub record PacketsStandOnce (about : BoardSizes) (own : ℕ → List BoardStep) 
 -- `PacketsStandOnce` says.
 abbrev pub PacketsStand : BoardSizes → (ℕ → List BoardStep) → BoardLists → Type 0
 PacketsStand about own lists =
-    (t : Story) → AreTurnsOf own t → PacketsStandOnce about own lists t
+    (t : Execution) → AreTurnsOf own t → PacketsStandOnce about own lists t

@@ -16,7 +16,8 @@ use Rattle.board_api.specs.StepWords.{openings_in}
 use Rattle.board_api.specs.declared.lists.BoardLists.{BoardLists}
 use Rattle.hop_delivery.specs.Orders.ReceiveSettings.{Queues, queues, receive_steering}
 use Rattle.hop_delivery.specs.Orders.ReceiveSettings.{flows_word, mask_word, online_word}
-use Rattle.hop_delivery.specs.Orders.Runs.{Story, Steering, IsByRule, goal_of, settings_of_visit}
+use Rattle.hop_delivery.specs.Orders.Runs.{Execution, Steering, IsByRule, goal_of}
+use Rattle.hop_delivery.specs.Orders.Runs.{settings_of_visit}
 use Rattle.hop_delivery.specs.Orders.Runs.{turns_of}
 use Rattle.hop_delivery.specs.Orders.TransmitSettings.{pick_by}
 use Rattle.hop_delivery.specs.Orders.Turns.{Turn, Explained}
@@ -35,7 +36,7 @@ module _ (about : BoardSizes) (own : ℕ → List BoardStep) (lists : BoardLists
   -- The settings that a turn knows are those of its visit.
   abbrev pub TurnsKnowSettings : Type 0
   TurnsKnowSettings =
-      (t : Story) (p i word value : ℕ) (u : Turn)
+      (t : Execution) (p i word value : ℕ) (u : Turn)
       → Explained (own (t.seat p)) (t.turns (t.seat p)) → nth_step (turns_of t p) i ≡ Some u
       → Knows (own (t.seat p)) u word value → value ≡ settings_of_visit about own u.word word
 
@@ -49,7 +50,7 @@ pub record HasSeen (own : List BoardStep) (q : Queues) (p : ℕ) (u : Turn) (s :
   pub flows : Knows own u (flows_word q p) (s (flows_word q p))
   pub online : Knows own u (online_word q) (s (online_word q))
 
-module _ (about : BoardSizes) (accepted : ℕ → List ℕ) (t : Story) (r : Steering)
+module _ (about : BoardSizes) (accepted : ℕ → List ℕ) (t : Execution) (r : Steering)
     (seen : ℕ → ℕ → ℕ) where
   -- The shape of a producer by the settings that its i-th turn has seen.
   abbrev pub shape_seen : ℕ → ℕ → ℕ
@@ -88,7 +89,7 @@ module _ (about : BoardSizes) (own : ℕ → List BoardStep) (lists : BoardLists
   -- that the premises of delivery in order ask for.
   abbrev pub RulesAreByReads : Type 0
   RulesAreByReads =
-      (q : Queues) (t : Story) (seen : ℕ → ℕ → ℕ) (p i : ℕ) (u : Turn) → p < queues q
+      (q : Queues) (t : Execution) (seen : ℕ → ℕ → ℕ) (p i : ℕ) (u : Turn) → p < queues q
       → Explained (own (t.seat p)) (t.turns (t.seat p)) → nth_step (turns_of t p) i ≡ Some u
       → ((j : ℕ) (v : Turn) → j ≤ i → nth_step (turns_of t p) j ≡ Some v
       → HasSeen (own (t.seat p)) q p v (seen j))
@@ -107,7 +108,7 @@ module _ (about : BoardSizes) (own : ℕ → List BoardStep) (lists : BoardLists
   -- those of its visit.
   abbrev pub PicksAreByReads : Type 0
   PicksAreByReads =
-      (t : Story) (p i count : ℕ) (u : Turn) (s : ℕ → ℕ)
+      (t : Execution) (p i count : ℕ) (u : Turn) (s : ℕ → ℕ)
       → Explained (own (t.seat p)) (t.turns (t.seat p)) → nth_step (turns_of t p) i ≡ Some u
       → KnowsMaps (own (t.seat p)) count u s → (rxq cpu : ℕ) (hash : Option ℕ)
       → pick_by count s rxq cpu hash

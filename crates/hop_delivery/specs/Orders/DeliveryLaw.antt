@@ -9,10 +9,10 @@ use Rattle.hop_rule.specs.Sizes.{FitSizes}
 use Rattle.hop_rule.specs.declared.sizes.BoardSizes.{BoardSizes}
 use Rattle.hop_rule.specs.declared.step.BoardStep.{BoardStep}
 use Rattle.hop_delivery.specs.Orders.Premises.{MeetsPremises}
-use Rattle.hop_delivery.specs.Orders.Runs.{Story, Steering, IsSteering}
+use Rattle.hop_delivery.specs.Orders.Runs.{Execution, Steering, IsSteering}
 
 -- The packets of the flow f that arrived at the producer p.
-abbrev pub came_by : Story → Steering → ℕ → ℕ → ℕ → Bool
+abbrev pub came_by : Execution → Steering → ℕ → ℕ → ℕ → Bool
 came_by t r p f x = list_any (λ y. y == x) (t.arrivals p) && (r.flow x == f)
 
 -- If the premises hold of the own lists that a lawful order has as its parts, then for each
@@ -20,7 +20,7 @@ came_by t r p f x = list_any (λ y. y == x) (t.arrivals p) && (r.flow x == f)
 -- those that arrived, without those that the order dropped.
 abbrev pub DeliversInOrder : Type 0
 DeliversInOrder =
-    (about : BoardSizes) (order : List (StepBy BoardStep)) (t : Story) (r : Steering)
+    (about : BoardSizes) (order : List (StepBy BoardStep)) (t : Execution) (r : Steering)
     → FitSizes about → IsLawful about order → IsSteering about.lanes r
     → MeetsPremises about (own_of order) (accepted about order) t r
     → (p f : ℕ)

@@ -12,7 +12,7 @@ use Rattle.hop_rule.specs.declared.step.BoardStep.{BoardStep}
 use Rattle.hop_rule.specs.declared.step.BoardStep.TheVariants.{Lane, Gate, Weighed, Counted}
 use Rattle.hop_rule.specs.declared.step.LaneStep.TheVariants.{Given}
 use Rattle.hop_rule.specs.declared.step.GateStep.TheVariants.{Shut, Set}
-use Rattle.hop_delivery.specs.Orders.Runs.{Story, Steering, IsByRule, turns_of}
+use Rattle.hop_delivery.specs.Orders.Runs.{Execution, Steering, IsByRule, turns_of}
 use Rattle.hop_delivery.specs.Orders.Turns.{Turn, Explained}
 
 -- If the step is a delivery, it is to the out lane of its packet's flow.
@@ -52,7 +52,7 @@ module _ (about : BoardSizes) (r : Steering) where
 
 -- The six premises, about the seats' own lists and the packets that each lane accepted.
 pub record MeetsPremises (about : BoardSizes) (own : ℕ → List BoardStep) (accepted : ℕ → List ℕ)
-    (t : Story) (r : Steering) : Type 0 where
+    (t : Execution) (r : Steering) : Type 0 where
   -- 1: no packet arrives twice
   pub once : (p q i j : ℕ) → i < length (t.arrivals p) → j < length (t.arrivals q)
       → slice_index (t.arrivals p) i ≡ slice_index (t.arrivals q) j → (p ≡ q) × (i ≡ j)

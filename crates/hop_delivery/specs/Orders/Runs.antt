@@ -21,14 +21,14 @@ use Rattle.hop_delivery.specs.Orders.Turns.{Turn}
 -- What producers did: for each producer the packets that arrived and the choices, the oldest first,
 -- and the seat that makes its puts; for each seat the turns that explain its own list, the newest
 -- first.
-pub record Story : Type 0 where
+pub record Execution : Type 0 where
   pub arrivals : ℕ → List ℕ
   pub choices : ℕ → List Chosen
   pub seat : ℕ → ℕ
   pub turns : ℕ → List (StepBy Turn)
 
 -- The turns of a producer, the newest first.
-abbrev pub turns_of : Story → ℕ → List Turn
+abbrev pub turns_of : Execution → ℕ → List Turn
 turns_of t p = steps_of p (t.turns (t.seat p))
 
 -- How settings steer packets. Settings are the values of the setting words.
@@ -70,7 +70,7 @@ module _ (about : BoardSizes) (own : ℕ → List BoardStep) where
   settings_of_visit word =
       own_settings about (opened (word / 2 ^ 32) (gate_steps (own (closer about))))
 
-  module _ (accepted : ℕ → List ℕ) (t : Story) (r : Steering) where
+  module _ (accepted : ℕ → List ℕ) (t : Execution) (r : Steering) where
     -- The settings of the visit of the producer's i-th turn.
     abbrev pub settings_at : ℕ → ℕ → ℕ → ℕ
     settings_at p i = settings_of_visit (word_of (nth_step (turns_of t p) i))

@@ -22,7 +22,7 @@ use Rattle.hop_rule.specs.declared.step.GateStep.TheVariants.{Entered}
 use Rattle.hop_rule.specs.declared.step.LaneStep.TheVariants.{Freed, Given, Held, Missed, OutFreed}
 use Rattle.hop_rule.specs.declared.step.LaneStep.TheVariants.{OutHeld, OutMissed, Retired}
 use Rattle.board_api.specs.OwnSteps.{accepted_by, dropped_by}
-use Rattle.hop_delivery.specs.Orders.Runs.{Story, turns_of}
+use Rattle.hop_delivery.specs.Orders.Runs.{Execution, turns_of}
 use Rattle.hop_delivery.specs.Orders.Turns.{Explained, Turn, turn_put, visit_with}
 use Rattle.run_coupling.specs.Laws.OneCount.{ChoicesAreOfTurns, choice_count, dropped_count}
 use Rattle.run_coupling.specs.Coupling.Ends.{accepted_count}
@@ -215,7 +215,7 @@ past-end [] p le = refl
 past-end (x ∷ xs) zero le = absurd (omega arith)
 past-end (x ∷ xs) (suc p) le = past-end xs p (omega arith)
 
-module _ (about : BoardSizes) (own : ℕ → List BoardStep) (t : Story)
+module _ (about : BoardSizes) (own : ℕ → List BoardStep) (t : Execution)
     (choices : List (List Chosen)) (keeps : ChoicesAreOfTurns about own t choices) where
   turn-count : (p : ℕ) → length (turns_of t p) ≡ length (list_at choices p)
   turn-count p = turns-counted own t keeps.turns p ∙ ap length (sym (keeps.journals p))

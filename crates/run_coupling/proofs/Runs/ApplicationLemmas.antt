@@ -26,7 +26,8 @@ use Rattle.hop_rule.proofs.Lists.{none-some, some-is}
 use Rattle.board_api.specs.declared.lists.BoardLists.{BoardLists}
 use Rattle.hop_delivery.specs.Closings.FlowLaw.{accepted_left}
 use Rattle.hop_delivery.specs.Orders.Commands.{sent_sets}
-use Rattle.hop_delivery.specs.Orders.Runs.{IsByRule, Steering, Story, settings_of_visit, turns_of}
+use Rattle.hop_delivery.specs.Orders.Runs.{IsByRule, Steering, Execution, settings_of_visit}
+use Rattle.hop_delivery.specs.Orders.Runs.{turns_of}
 use Rattle.hop_delivery.specs.Orders.TransmitSettings.{pick_by, transmit_steering}
 use Rattle.hop_delivery.specs.Orders.Turns.{Turn}
 use Rattle.steer_model.specs.Good.Inputs.{Input, setup_in}
@@ -112,10 +113,10 @@ module _ (i : Input) (h : History) (rx : BoardSizes) (rx_own : ℕ → List Boar
     (rx_lists : BoardLists) (rx_facts : BoardFacts rx rx_own rx_lists)
     (inboxes : h.inboxes ≡ rx_lists.outs) (inboxes_stand : StandOnce rx_lists.outs)
     (about : BoardSizes) (own : ℕ → List BoardStep) (lists : BoardLists)
-    (facts : BoardFacts about own lists) (tries : List Try) (t : Story)
+    (facts : BoardFacts about own lists) (tries : List Try) (t : Execution)
     (seen : ℕ → ℕ → ℕ → ℕ)
     (within : All (λ (t : Try). IsWithinPlan i.plan t.given.command) tries)
-    (ties : TransmitCoupling i h rx_own about own lists tries t seen) where
+    (coupling : TransmitCoupling i h rx_own about own lists tries t seen) where
   abbrev count : ℕ
   count = length i.plan.tx
 
@@ -128,8 +129,8 @@ module _ (i : Input) (h : History) (rx : BoardSizes) (rx_own : ℕ → List Boar
       → slice_get (list_at h.inboxes a) k ≡ Some x
   reply-stands a k x at =
       let s = key-at (list_at h.sent a) k x
-      (ap (λ xs. slice_get xs k) (sym (ties.applications.replies a)) ∙ at) in
-      let f = ties.applications.found a k s.0 s.1 in
+      (ap (λ xs. slice_get xs k) (sym (coupling.applications.replies a)) ∙ at) in
+      let f = coupling.applications.found a k s.0 s.1 in
       let hold = rx_facts.holds.out f.seat f.step a f.word f.found f.does in
       ap (λ ls. slice_get (list_at ls a) k) inboxes
       ∙ (ap (λ xs. slice_get xs k) hold.front.1
@@ -140,7 +141,7 @@ module _ (i : Input) (h : History) (rx : BoardSizes) (rx_own : ℕ → List Boar
   replies-front a =
       front-from (map (λ (s : Sent). s.id) (list_at h.sent a)) (list_at h.inboxes a)
       (λ k x at.
-      reply-stands a k x (ap (λ xs. slice_get xs k) (ties.applications.replies a) ∙ at))
+      reply-stands a k x (ap (λ xs. slice_get xs k) (coupling.applications.replies a) ∙ at))
 
   pub reply-once : (p q j k x : ℕ) → slice_get (t.arrivals p) j ≡ Some x
       → slice_get (t.arrivals q) k ≡ Some x → (p ≡ q) × (j ≡ k)
@@ -158,9 +159,9 @@ module _ (i : Input) (h : History) (rx : BoardSizes) (rx_own : ℕ → List Boar
   are-turns =
       record {
         once = arrive-once;
-        explained = ties.applications.turns.explained;
-        by_seat = ties.applications.turns.by_seat;
-        arrived = turn-arrived own t ties.applications.turns;
+        explained = coupling.applications.turns.explained;
+        by_seat = coupling.applications.turns.by_seat;
+        arrived = turn-arrived own t coupling.applications.turns;
       }
 
   -- ---- the maps of a visit
@@ -176,12 +177,13 @@ module _ (i : Input) (h : History) (rx : BoardSizes) (rx_own : ℕ → List Boar
 
   maps-upto : (n : ℕ) → AreTransmitWords count (after n) (shown n)
   maps-upto n =
-      maps_of_opening i h about own lists tries ties.board ties.tries_are
+      maps_of_opening i h about own lists tries coupling.board coupling.tries_are
       (all_name_maps i tries within) n
 
   fit-upto : (n : ℕ) → FitMaps i.plan.cpus (length i.plan.queues) (after n)
   fit-upto n =
-      let f = first-tries about (λ w c. sent_sets count c) at_transmit n tries ties.tries_are.are in
+      let f = first-tries about (λ w c. sent_sets count c) at_transmit n tries
+      coupling.tries_are.are in
       maps_by i.plan (upto n)
       (all-back (λ (t : Try). IsWithinPlan i.plan t.given.command) f.0 (upto n)
       (subst (All (λ (t : Try). IsWithinPlan i.plan t.given.command)) f.1 within))
@@ -193,8 +195,8 @@ module _ (i : Input) (h : History) (rx : BoardSizes) (rx_own : ℕ → List Boar
     read-is : (word : ℕ) → word < 2 * count → seen a k word ≡ shown n word
     read-is word less =
         facts.turns_know t a k word (seen a k word) u
-        (ties.applications.turns.explained (t.seat a)) at
-        (ties.applications.knows a k u at word less)
+        (coupling.applications.turns.explained (t.seat a)) at
+        (coupling.applications.knows a k u at word less)
 
     seen-maps : AreTransmitWords count (after n) (seen a k)
     seen-maps =
@@ -220,8 +222,9 @@ module _ (i : Input) (h : History) (rx : BoardSizes) (rx_own : ℕ → List Boar
 
     pub rule-of : IsByRule about own (accepted_left lists) t r a k u
     rule-of =
-        let b = facts.tables t r (seen a) a k u are-turns (ties.applications.turns.journal a) refl
-        (ties.applications.by_table a k u at) in
+        let b = facts.tables t r (seen a) a k u are-turns (coupling.applications.turns.journal a)
+        refl
+        (coupling.applications.by_table a k u at) in
         record { head = b.head; rule = b.rule; loaded = b.loaded; goal_online = refl }
 
     pub reply-of : (s : Sent) × (slice_get (list_at h.sent a) k ≡ Some s) × (u.chosen.id ≡ s.id)
@@ -230,13 +233,13 @@ module _ (i : Input) (h : History) (rx : BoardSizes) (rx_own : ℕ → List Boar
         (packet_hash (setup_in i) s.id)))
     reply-of =
         let s = key-at (list_at h.sent a) k u.chosen.id
-        (ap (λ xs. slice_get xs k) (sym (ties.applications.replies a))
-        ∙ turn-arrived own t ties.applications.turns a k u at) in
+        (ap (λ xs. slice_get xs k) (sym (coupling.applications.replies a))
+        ∙ turn-arrived own t coupling.applications.turns a k u at) in
         let hash = packet_hash (setup_in i) s.0.id in (
           s.0,
           s.1,
           sym s.2,
-          ties.applications.picks a k u s.0 at s.1 fit-seen
+          coupling.applications.picks a k u s.0 at s.1 fit-seen
               ∙ ap (λ p. Some p)
               (pick-is count (after n) (seen a k) s.0.rxq s.0.cpu hash seen-maps
               ∙ sym (pick-is count (after n) (shown n) s.0.rxq s.0.cpu hash (maps-upto n))),
@@ -244,7 +247,7 @@ module _ (i : Input) (h : History) (rx : BoardSizes) (rx_own : ℕ → List Boar
 
     pub lane-within : u.chosen.choice.lane < about.lanes
     lane-within =
-        let p = put-of own t ties.applications.turns a k u at in
+        let p = put-of own t coupling.applications.turns a k u at in
         (facts.stand (t.seat a) p.0 u.chosen.choice.lane u.chosen.id u.hash u.answer
         p.1).lane.within
 
@@ -252,7 +255,7 @@ module _ (i : Input) (h : History) (rx : BoardSizes) (rx_own : ℕ → List Boar
   few a =
       All-from_get_or (λ (c : Chosen). c.choice.lane < 32) (t.choices a) nobody
       (λ k less.
-      (let u = turn-at own t ties.applications.turns a k
+      (let u = turn-at own t coupling.applications.turns a k
       (Rattle.std.proofs.Common.get_or (t.choices a) k nobody)
       (slice_get-get_or (t.choices a) k nobody less) in
       let small = lane-within a k u.0 u.1 in
@@ -262,10 +265,10 @@ module _ (i : Input) (h : History) (rx : BoardSizes) (rx_own : ℕ → List Boar
   pub replies-have-turns : RepliesHaveTurns i h about own lists t
   replies-have-turns =
       record {
-        explained = λ a. ties.applications.turns.explained (t.seat a);
-        journals = ties.applications.choices;
-        counted = turns-counted own t ties.applications.turns;
-        chosen = turn-chosen own t ties.applications.turns;
+        explained = λ a. coupling.applications.turns.explained (t.seat a);
+        journals = coupling.applications.choices;
+        counted = turns-counted own t coupling.applications.turns;
+        chosen = turn-chosen own t coupling.applications.turns;
         few = few;
         by_rule = rule-of;
         replies = reply-of;

@@ -9,14 +9,14 @@ use Rattle.hop_rule.specs.declared.step.BoardStep.{BoardStep}
 use Rattle.hop_rule.proofs.Moments.{nth-some}
 use Rattle.hop_rule.proofs.Parts.{at_moment}
 use Rattle.board_api.specs.OwnSteps.{Has, put_step}
-use Rattle.hop_delivery.specs.Orders.Runs.{Story, turns_of}
+use Rattle.hop_delivery.specs.Orders.Runs.{Execution, turns_of}
 use Rattle.hop_delivery.specs.Orders.Turns.{Turn}
 use Rattle.hop_delivery.proofs.Orders.TurnLemmas.{turns_have_places}
 use Rattle.run_coupling.specs.Coupling.Turns.{KeepsTurns}
 use Rattle.run_coupling.proofs.Runs.TurnListLemmas.{turn-chosen, turns-counted}
 use Rattle.run_coupling.proofs.Turns.TableEntryLemmas.{nth-moment}
 
-module _ (own : ℕ → List BoardStep) (t : Story) (keeps : KeepsTurns own t) where
+module _ (own : ℕ → List BoardStep) (t : Execution) (keeps : KeepsTurns own t) where
   -- each turn has its put in the own list of its seat
   pub put-of : (p k : ℕ) (u : Turn) → nth_step (turns_of t p) k ≡ Some u
       → (n : ℕ)

@@ -42,7 +42,7 @@ use Rattle.hop_delivery.specs.Orders.Premises.{AllFindEmpty, GoesRight, MeetsPre
 use Rattle.hop_delivery.specs.Orders.ReceiveSettings.{Queues, flows_word, mask, mask_word, online}
 use Rattle.hop_delivery.specs.Orders.ReceiveSettings.{online_word, queues, receive_steering}
 use Rattle.hop_delivery.specs.Orders.ReceiveSettings.{socket_word}
-use Rattle.hop_delivery.specs.Orders.Runs.{IsByRule, Steering, Story}
+use Rattle.hop_delivery.specs.Orders.Runs.{IsByRule, Steering, Execution}
 use Rattle.hop_delivery.specs.Orders.Runs.{turns_of}
 use Rattle.hop_delivery.specs.Orders.Turns.{Turn}
 use Rattle.hop_delivery.proofs.Orders.ReceiveSettingLemmas.{goals_are_online}
@@ -152,7 +152,7 @@ answered-back i h [] ts all = all
 answered-back i h (t ∷ more) ts all = answered-back i h more ts all.1
 
 module _ (i : Input) (h : History) (about : BoardSizes) (own : ℕ → List BoardStep)
-    (lists : BoardLists) (facts : BoardFacts about own lists) (tries : List Try) (t : Story)
+    (lists : BoardLists) (facts : BoardFacts about own lists) (tries : List Try) (t : Execution)
     (seen : ℕ → ℕ → ℕ → ℕ) (hashes : FlowsHaveOneHash i) (board : IsReceiveBoard i h about lists)
     (kept : KeepsReceiveTries i h about own tries)
     (within : All (λ (t : Try). IsWithinPlan i.plan t.given.command) tries)

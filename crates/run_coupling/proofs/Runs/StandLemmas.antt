@@ -30,7 +30,7 @@ use Rattle.hop_rule.proofs.Moments.{nth-inside, nth-last, nth-old}
 use Rattle.board_api.specs.OwnSteps.{Has, delivered_by, delivered_in}
 use Rattle.board_api.specs.declared.lists.BoardLists.{BoardLists}
 use Rattle.hop_delivery.specs.Closings.FlowLaw.{accepted_left}
-use Rattle.hop_delivery.specs.Orders.Runs.{Story}
+use Rattle.hop_delivery.specs.Orders.Runs.{Execution}
 use Rattle.hop_delivery.specs.Closings.PutPlaces.{AreTurnsOf, HasTurn, PacketsStandOnce}
 use Rattle.hop_delivery.proofs.Orders.AccountedLemmas.{nth-all}
 use Rattle.run_coupling.specs.Coupling.Deliveries.{AllDeliverTo}
@@ -83,7 +83,7 @@ delivered-to about own lists facts out right q k o from id place does =
     (delivery o id place) (right from w.1) n.1
 
 module _ (about : BoardSizes) (own : ℕ → List BoardStep) (lists : BoardLists)
-    (facts : BoardFacts about own lists) (t : Story) (keeps : KeepsTurns own t)
+    (facts : BoardFacts about own lists) (t : Execution) (keeps : KeepsTurns own t)
     (turns : AreTurnsOf own t)
     (once : (p q j k x : ℕ) → slice_get (t.arrivals p) j ≡ Some x
     → slice_get (t.arrivals q) k ≡ Some x → (p ≡ q) × (j ≡ k))

@@ -10,7 +10,7 @@ use Rattle.std.proofs.lemmas.Option.{slice_get-map}
 use Rattle.linearization.proofs.ListLemmas.{if_same, if_other}
 use Rattle.steer_base.specs.declared.choice.Chosen.{Chosen}
 use Rattle.hop_rule.specs.Moments.{nth_step}
-use Rattle.hop_delivery.specs.Orders.Runs.{Story, turns_of}
+use Rattle.hop_delivery.specs.Orders.Runs.{Execution, turns_of}
 use Rattle.hop_delivery.specs.Orders.Turns.{Turn}
 use Rattle.run_words.specs.Lists.{oldest_first}
 use Rattle.run_coupling.specs.Coupling.Turns.{KeepsTurns}
@@ -49,12 +49,12 @@ nth-oldest (x ∷ xs) i =
     ]
 
 -- no packet arrives twice, at any producers
-abbrev pub ArriveOnce : Story → Type 0
+abbrev pub ArriveOnce : Execution → Type 0
 ArriveOnce t =
     (p q i j : ℕ) → i < length (t.arrivals p) → j < length (t.arrivals q)
     → slice_index (t.arrivals p) i ≡ slice_index (t.arrivals q) j → (p ≡ q) × (i ≡ j)
 
-module _ (own : ℕ → List BoardStep) (t : Story) (keeps : KeepsTurns own t) where
+module _ (own : ℕ → List BoardStep) (t : Execution) (keeps : KeepsTurns own t) where
   -- as many turns as choices
   pub turns-counted : (p : ℕ) → length (turns_of t p) ≡ length (t.choices p)
   turns-counted p =

@@ -11,7 +11,7 @@ use Rattle.hop_rule.specs.declared.step.BoardStep.TheVariants.{Lane}
 use Rattle.hop_rule.specs.declared.step.LaneStep.TheVariants.{OutHeld}
 use Rattle.board_api.specs.OwnSteps.{Has}
 use Rattle.hop_delivery.specs.Closings.TurnReads.{KnowsMaps}
-use Rattle.hop_delivery.specs.Orders.Runs.{Story, turns_of}
+use Rattle.hop_delivery.specs.Orders.Runs.{Execution, turns_of}
 use Rattle.hop_delivery.specs.Orders.TransmitSettings.{pick_by, transmit_steering}
 use Rattle.hop_delivery.specs.Orders.Turns.{Turn}
 use Rattle.steer_model.specs.Good.Inputs.{Input, setup_in}
@@ -40,7 +40,7 @@ module _ (i : Input) (h : History) (rx_own : ℕ → List BoardStep) (about : Bo
   -- transmit board. An application found its k-th reply's packet in its inbox. The k-th turn knows
   -- all maps; if they are within their ranges, it wants the queue that they pick. Its choice is by
   -- the application's own table. In the end each application has a list of each kind.
-  pub record KeepsApplications (t : Story) (seen : ℕ → ℕ → ℕ → ℕ) : Type 0 where
+  pub record KeepsApplications (t : Execution) (seen : ℕ → ℕ → ℕ → ℕ) : Type 0 where
     pub turns : KeepsTurns own t
     pub sent_lists : length h.sent ≡ length i.plan.apps
     pub choice_lists : length h.tx_choices ≡ length i.plan.apps

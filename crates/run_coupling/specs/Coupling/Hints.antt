@@ -28,7 +28,7 @@ use Rattle.hop_rule.specs.Gates.{inside, visit}
 use Rattle.hop_rule.specs.Moments.{past}
 use Rattle.board_api.specs.OwnSteps.{Has}
 use Rattle.hop_delivery.specs.Orders.ReceiveSettings.{socket_word}
-use Rattle.hop_delivery.specs.Orders.Runs.{Story, turns_of}
+use Rattle.hop_delivery.specs.Orders.Runs.{Execution, turns_of}
 use Rattle.hop_delivery.specs.Orders.Turns.{Turn}
 use Rattle.steer_model.specs.Good.Arrivals.{EntryFrom}
 use Rattle.steer_model.specs.Good.Choices.{WasWritten}
@@ -58,7 +58,7 @@ pub record WasLoaded (seats : List (SeatView HintStep)) (word value : ℕ) : Typ
 
 -- A filter at this place that sends packets to the queue was stored for a turn of a producer: its
 -- choice moved to a processor whose lowest queue that is, and the packet was accepted there.
-pub record WasFiltered (i : Input) (t : Story) (place queue : ℕ) : Type 0 where
+pub record WasFiltered (i : Input) (t : Execution) (place queue : ℕ) : Type 0 where
   pub producer : ℕ
   pub index : ℕ
   pub turn : Turn
@@ -73,7 +73,7 @@ module _ (i : Input) (h : History) (c : HintCodes) (seats : List (SeatView HintS
   -- What each store of the threads was for, by its word and value within their ranges: a write of
   -- an
   -- application, a done command, a filter, or the queue of an arrival.
-  pub record StoresAreMeant (t : Story) : Type 0 where
+  pub record StoresAreMeant (t : Execution) : Type 0 where
     pub sockets : (place cpu : ℕ) → place < MAX_SOCKET_SIZE
         → IsStoredBy seats (c.socket place) (c.place cpu)
         → WasWritten h (record { entry = place; cpu = cpu })
@@ -115,7 +115,7 @@ module _ (i : Input) (h : History) (c : HintCodes) (seats : List (SeatView HintS
 
   -- Each want that is set was loaded, at the entry of the packet's hash by the socket size that the
   -- turn read.
-  abbrev pub WantsAreLoaded : Story → (ℕ → ℕ → ℕ → ℕ) → Type 0
+  abbrev pub WantsAreLoaded : Execution → (ℕ → ℕ → ℕ → ℕ) → Type 0
   WantsAreLoaded t seen =
       (p k want : ℕ) (u : Turn) → nth_step (turns_of t p) k ≡ Some u
       → u.chosen.choice.want ≡ Some want
@@ -149,7 +149,7 @@ module _ (i : Input) (h : History) (c : HintCodes) (seats : List (SeatView HintS
         × (size ≤ MAX_SOCKET_SIZE → size ≡ 0) × AreRecorded a xs ws)
 
     -- How the threads used what they loaded.
-    pub record LoadsAreUsed (t : Story) (seen : ℕ → ℕ → ℕ → ℕ) : Type 0 where
+    pub record LoadsAreUsed (t : Execution) (seen : ℕ → ℕ → ℕ → ℕ) : Type 0 where
       pub arrivals : All (λ (a : Arrival). IsRouted (packet_hash (setup_in i) a.id) a) h.arrivals
       pub wants : WantsAreLoaded t seen
       pub queues : (a : ℕ) → All (λ (s : Sent). CameBy s.id s.rxq) (list_at h.sent a)

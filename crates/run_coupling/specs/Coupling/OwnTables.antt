@@ -7,7 +7,7 @@ use Rattle.dev_flow_table.specs.Folds.{Placement}
 use Rattle.dev_flow_table.specs.Tables.{Table, cleared, entries}
 use Rattle.dev_flow_table.specs.Walks.{since_resize}
 use Rattle.hop_rule.specs.declared.step.BoardStep.TheVariants.{Weighed}
-use Rattle.hop_delivery.specs.Orders.Runs.{Story, Steering, goal_of, turns_of}
+use Rattle.hop_delivery.specs.Orders.Runs.{Execution, Steering, goal_of, turns_of}
 use Rattle.hop_delivery.specs.Orders.Turns.{Turn}
 use Rattle.run_words.specs.Lists.{oldest_first}
 
@@ -15,7 +15,7 @@ use Rattle.run_words.specs.Lists.{oldest_first}
 abbrev pub as_told : Turn → Placement
 as_told u = record { chosen = u.chosen; put = Some u.answer }
 
-module _ (start : ℕ) (t : Story) (r : Steering) (seen : ℕ → ℕ → ℕ) where
+module _ (start : ℕ) (t : Execution) (r : Steering) (seen : ℕ → ℕ → ℕ) where
   -- The class of a producer's i-th turn by the settings that it has seen.
   abbrev pub class_by : ℕ → ℕ → Turn → Option ℕ
   class_by p i u = r.class (r.shape (seen i) p) (r.flow u.chosen.id)

@@ -10,7 +10,7 @@ use Rattle.hop_rule.specs.declared.step.BoardStep.{BoardStep}
 use Rattle.hop_delivery.specs.Closings.TurnReads.{HasSeen, Knows}
 use Rattle.hop_delivery.specs.Orders.ReceiveSettings.{Queues, flows_word, mask_word, online_word}
 use Rattle.hop_delivery.specs.Orders.ReceiveSettings.{receive_steering, socket_word}
-use Rattle.hop_delivery.specs.Orders.Runs.{Story, turns_of}
+use Rattle.hop_delivery.specs.Orders.Runs.{Execution, turns_of}
 use Rattle.hop_delivery.specs.Orders.Turns.{Turn}
 use Rattle.steer_model.specs.Good.Inputs.{Input, setup_in}
 use Rattle.steer_model.specs.State.Setup.{packet_hash}
@@ -32,7 +32,7 @@ module _ (i : Input) (h : History) (about : BoardSizes) (own : ℕ → List Boar
   -- The journals of the receive queues, by the turns that explain the workers' own lists. The k-th
   -- turn of a queue knows its settings; if they are within their ranges, its choice is by the
   -- queue's own table. Each packet is put with its hash.
-  pub record KeepsQueues (t : Story) (seen : ℕ → ℕ → ℕ → ℕ) : Type 0 where
+  pub record KeepsQueues (t : Execution) (seen : ℕ → ℕ → ℕ → ℕ) : Type 0 where
     pub turns : KeepsTurns own t
     pub choice_lists : length h.choices ≡ length i.plan.queues
     pub taken_lists : length h.taken ≡ length i.plan.queues

@@ -10,7 +10,7 @@ use Rattle.hop_rule.specs.declared.step.BoardStep.{BoardStep}
 use Rattle.board_api.specs.Closings.Closings.{HasEnded, own_in}
 use Rattle.board_api.specs.Seats.{BoardSeatView}
 use Rattle.board_api.specs.declared.lists.BoardLists.{BoardLists}
-use Rattle.hop_delivery.specs.Orders.Runs.{Story}
+use Rattle.hop_delivery.specs.Orders.Runs.{Execution}
 use Rattle.steer_model.specs.Good.Commands.{AreGiven}
 use Rattle.steer_model.specs.Good.Inputs.{Input, setup_in}
 use Rattle.steer_model.specs.State.Setup.{app_for}
@@ -41,7 +41,7 @@ pub record KeepsCommands (i : Input) (h : History) (tries : List Try) : Type 0 w
 
 -- What the controller, the queues and the processors keep at the receive board.
 pub record ReceiveCoupling (i : Input) (h : History) (about : BoardSizes)
-    (own : ℕ → List BoardStep) (lists : BoardLists) (tries : List Try) (t : Story)
+    (own : ℕ → List BoardStep) (lists : BoardLists) (tries : List Try) (t : Execution)
     (seen : ℕ → ℕ → ℕ → ℕ) : Type 0 where
   pub board : IsReceiveBoard i h about lists
   pub tries_are : KeepsReceiveTries i h about own tries
@@ -53,7 +53,7 @@ pub record ReceiveCoupling (i : Input) (h : History) (about : BoardSizes)
 -- What the controller, the applications and the transmit queues keep at the transmit board.
 pub record TransmitCoupling (i : Input) (h : History) (rx_own : ℕ → List BoardStep)
     (about : BoardSizes) (own : ℕ → List BoardStep) (lists : BoardLists) (tries : List Try)
-    (t : Story) (seen : ℕ → ℕ → ℕ → ℕ) : Type 0 where
+    (t : Execution) (seen : ℕ → ℕ → ℕ → ℕ) : Type 0 where
   pub board : IsTransmitBoard i h about lists
   pub tries_are : KeepsTransmitTries i h about own tries (length i.plan.tx)
   pub applications : KeepsApplications i h rx_own about own t seen
@@ -70,14 +70,14 @@ pub record IsRun (i : Input) (h : History) : Type 0 where
   pub rx_seats : List BoardSeatView
   pub rx_lists : BoardLists
   pub rx_ended : HasEnded rx rx_seats rx_lists
-  pub queues : Story
+  pub queues : Execution
   pub queues_seen : ℕ → ℕ → ℕ → ℕ
   pub received : ReceiveCoupling i h rx (own_in rx_seats) rx_lists tries queues queues_seen
   pub tx : BoardSizes
   pub tx_seats : List BoardSeatView
   pub tx_lists : BoardLists
   pub tx_ended : HasEnded tx tx_seats tx_lists
-  pub applications : Story
+  pub applications : Execution
   pub maps_seen : ℕ → ℕ → ℕ → ℕ
   pub sent : TransmitCoupling i h (own_in rx_seats) tx (own_in tx_seats) tx_lists tries applications
       maps_seen

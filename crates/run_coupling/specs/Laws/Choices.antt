@@ -8,7 +8,7 @@ use Rattle.hop_rule.specs.declared.step.BoardStep.{BoardStep}
 use Rattle.board_api.specs.declared.lists.BoardLists.{BoardLists}
 use Rattle.hop_delivery.specs.Closings.FlowLaw.{accepted_left}
 use Rattle.hop_delivery.specs.Orders.ReceiveSettings.{queues, receive_steering}
-use Rattle.hop_delivery.specs.Orders.Runs.{IsByRule, Story, turns_of, word_of}
+use Rattle.hop_delivery.specs.Orders.Runs.{IsByRule, Execution, turns_of, word_of}
 use Rattle.hop_delivery.specs.Orders.Turns.{Explained, Turn}
 use Rattle.steer_model.specs.Good.Choices.{AreByRule}
 use Rattle.steer_model.specs.Good.Inputs.{Input}
@@ -20,7 +20,7 @@ module _ (i : Input) (h : History) (about : BoardSizes) (own : ℕ → List Boar
     (lists : BoardLists) where
   -- Each choice of the receive queues has its turn, in order, and is by the rule over the settings
   -- of the turn's visit.
-  pub record ChoicesHaveTurns (t : Story) : Type 0 where
+  pub record ChoicesHaveTurns (t : Execution) : Type 0 where
     pub explained : (p : ℕ) → Explained (own (t.seat p)) (t.turns (t.seat p))
     pub journals : (p : ℕ) → list_at h.choices p ≡ t.choices p
     pub none : (p : ℕ) → queues (receive_queues i) ≤ p → t.choices p ≡ []
@@ -33,7 +33,7 @@ module _ (i : Input) (h : History) (about : BoardSizes) (own : ℕ → List Boar
         → IsByRule about own (accepted_left lists) t (receive_steering (receive_queues i)) p k u
 
 -- How many commands a choice was made after: those up to the opening that its visit's entry counts.
-abbrev pub commands_before : List Try → Story → ℕ → ℕ → ℕ
+abbrev pub commands_before : List Try → Execution → ℕ → ℕ → ℕ
 commands_before tries t p k =
     length (tries_up_to at_receive (word_of (nth_step (turns_of t p) k) / 2 ^ 32) tries)
 
@@ -41,7 +41,7 @@ commands_before tries t p k =
 -- along the choices of a queue.
 abbrev pub ChoicesFollow : BoardSizes → (ℕ → List BoardStep) → BoardLists → Type 0
 ChoicesFollow about own lists =
-    (i : Input) (h : History) (tries : List Try) (t : Story) → FlowsHaveOneHash i
+    (i : Input) (h : History) (tries : List Try) (t : Execution) → FlowsHaveOneHash i
     → IsReceiveBoard i h about lists → KeepsReceiveTries i h about own tries
     → All (λ (t : Try). NamesReceiveQueues (queues (receive_queues i)) t.given.command) tries
     → ChoicesHaveTurns i h about own lists t → AreByRule i h (commands_before tries t)

@@ -13,7 +13,7 @@ use Rattle.board_api.specs.Closings.Closings.{HasEnded, own_in}
 use Rattle.board_api.specs.OwnSteps.{delivered_by, dropped_by}
 use Rattle.board_api.specs.Seats.{BoardSeatView}
 use Rattle.board_api.specs.declared.lists.BoardLists.{BoardLists}
-use Rattle.hop_delivery.specs.Orders.Runs.{Story}
+use Rattle.hop_delivery.specs.Orders.Runs.{Execution}
 use Rattle.run_coupling.specs.Coupling.Ends.{TotalsReplied, TotalsRetired, accepted_count}
 use Rattle.run_coupling.specs.Coupling.Ends.{retired_count}
 use Rattle.run_coupling.specs.Coupling.Turns.{KeepsTurns}
@@ -32,7 +32,7 @@ module _ (about : BoardSizes) (own : ℕ → List BoardStep) where
   DeliveriesAreRetired = (l : ℕ) → l < about.lanes → delivered_count l ≡ retired_count about own l
 
   -- The seats' own lists are explained by turns, and the journals of their producers are these.
-  pub record ChoicesAreOfTurns (t : Story) (choices : List (List Chosen)) : Type 0 where
+  pub record ChoicesAreOfTurns (t : Execution) (choices : List (List Chosen)) : Type 0 where
     pub turns : KeepsTurns own t
     pub journals : (p : ℕ) → list_at choices p ≡ t.choices p
 
@@ -43,8 +43,8 @@ choice_count choices = sum_below (λ p. length (list_at choices p)) (length choi
 -- What the two boards and the applications keep before the end: each put is for a choice, and each
 -- application replied to a front of its inbox.
 pub record KeepsCounts (h : History) (rx : BoardSizes) (rx_own : ℕ → List BoardStep)
-    (rx_lists : BoardLists) (queues : Story) (tx : BoardSizes) (tx_own : ℕ → List BoardStep)
-    (applications : Story) : Type 0 where
+    (rx_lists : BoardLists) (queues : Execution) (tx : BoardSizes) (tx_own : ℕ → List BoardStep)
+    (applications : Execution) : Type 0 where
   pub received : ChoicesAreOfTurns rx rx_own queues h.choices
   pub sent : ChoicesAreOfTurns tx tx_own applications h.tx_choices
   pub inboxes : h.inboxes ≡ rx_lists.outs
@@ -69,8 +69,8 @@ pub record TotalsAreEqual (h : History) (rx : BoardSizes) (rx_own : ℕ → List
 abbrev pub OneCountSuffices : Type 0
 OneCountSuffices =
     (h : History) (rx : BoardSizes) (rx_seats : List BoardSeatView) (rx_lists : BoardLists)
-    (queues : Story) (tx : BoardSizes) (tx_seats : List BoardSeatView) (tx_lists : BoardLists)
-    (applications : Story) (n : ℕ)
+    (queues : Execution) (tx : BoardSizes) (tx_seats : List BoardSeatView) (tx_lists : BoardLists)
+    (applications : Execution) (n : ℕ)
     → HasEnded rx rx_seats rx_lists → HasEnded tx tx_seats tx_lists
     → KeepsCounts h rx (own_in rx_seats) rx_lists queues tx (own_in tx_seats) applications
     → choice_count h.choices ≤ n

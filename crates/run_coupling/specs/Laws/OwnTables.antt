@@ -10,7 +10,7 @@ use Rattle.board_api.specs.declared.lists.BoardLists.{BoardLists}
 use Rattle.hop_delivery.specs.Closings.FlowLaw.{accepted_left}
 use Rattle.hop_delivery.specs.Closings.PutPlaces.{AreTurnsOf}
 use Rattle.hop_delivery.specs.Closings.TurnReads.{IsBySeen}
-use Rattle.hop_delivery.specs.Orders.Runs.{Story, Steering, turns_of}
+use Rattle.hop_delivery.specs.Orders.Runs.{Execution, Steering, turns_of}
 use Rattle.hop_delivery.specs.Orders.Turns.{Turn}
 use Rattle.run_coupling.specs.Coupling.OwnTables.{IsByTable, as_told, goal_by}
 use Rattle.run_words.specs.Lists.{oldest_first}
@@ -21,7 +21,7 @@ module _ (about : BoardSizes) (own : ℕ → List BoardStep) (lists : BoardLists
   -- its choices and the accepted lists give.
   abbrev pub TablesAreEntries : Type 0
   TablesAreEntries =
-      (t : Story) → AreTurnsOf own t → (p count : ℕ) (exact : Bool) (us : List Turn) (class : ℕ)
+      (t : Execution) → AreTurnsOf own t → (p count : ℕ) (exact : Bool) (us : List Turn) (class : ℕ)
       → All (IsTurnOf t p) us → class < count
       → entries (fold after_turn (cleared count about.start exact) (map as_told us)) class
       ≡ entry about.start (accepted_left lists) (map (λ u. u.chosen) us) class
@@ -30,7 +30,7 @@ module _ (about : BoardSizes) (own : ℕ → List BoardStep) (lists : BoardLists
   -- its packet is to go is online.
   abbrev pub TablesRule : Type 0
   TablesRule =
-      (t : Story) (r : Steering) (seen : ℕ → ℕ → ℕ) (p i : ℕ) (u : Turn) → AreTurnsOf own t
+      (t : Execution) (r : Steering) (seen : ℕ → ℕ → ℕ) (p i : ℕ) (u : Turn) → AreTurnsOf own t
       → t.choices p ≡ map (λ u. u.chosen) (oldest_first (turns_of t p))
       → r.online (seen i) (goal_by about.start t r seen p i u) ≡ true
       → IsByTable about.start t r seen p i u

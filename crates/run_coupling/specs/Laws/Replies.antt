@@ -8,7 +8,8 @@ use Rattle.hop_rule.specs.declared.sizes.BoardSizes.{BoardSizes}
 use Rattle.hop_rule.specs.declared.step.BoardStep.{BoardStep}
 use Rattle.board_api.specs.declared.lists.BoardLists.{BoardLists}
 use Rattle.hop_delivery.specs.Closings.FlowLaw.{accepted_left}
-use Rattle.hop_delivery.specs.Orders.Runs.{IsByRule, Story, settings_of_visit, turns_of, word_of}
+use Rattle.hop_delivery.specs.Orders.Runs.{IsByRule, Execution, settings_of_visit, turns_of}
+use Rattle.hop_delivery.specs.Orders.Runs.{word_of}
 use Rattle.hop_delivery.specs.Orders.TransmitSettings.{pick_by, transmit_steering}
 use Rattle.hop_delivery.specs.Orders.Turns.{Explained, Turn}
 use Rattle.steer_model.specs.Good.Inputs.{Input, Prefixes, settings_at, setup_in}
@@ -22,7 +23,7 @@ module _ (i : Input) (h : History) (about : BoardSizes) (own : ℕ → List Boar
     (lists : BoardLists) where
   -- Each choice for a reply has its turn, in order, wants the queue that the maps of the turn's
   -- visit pick for the reply, and is by the rule.
-  pub record RepliesHaveTurns (t : Story) : Type 0 where
+  pub record RepliesHaveTurns (t : Execution) : Type 0 where
     pub explained : (a : ℕ) → Explained (own (t.seat a)) (t.turns (t.seat a))
     pub journals : (a : ℕ) → list_at h.tx_choices a ≡ t.choices a
     pub counted : (a : ℕ) → length (turns_of t a) ≡ length (t.choices a)
@@ -39,7 +40,7 @@ module _ (i : Input) (h : History) (about : BoardSizes) (own : ℕ → List Boar
         (packet_hash (setup_in i) r.id)))
 
 -- How many commands a choice for a reply was made after.
-abbrev pub commands_before_reply : List Try → Story → ℕ → ℕ → ℕ
+abbrev pub commands_before_reply : List Try → Execution → ℕ → ℕ → ℕ
 commands_before_reply tries t a k =
     length (tries_up_to at_transmit (word_of (nth_step (turns_of t a) k) / 2 ^ 32) tries)
 
@@ -54,7 +55,7 @@ pub record RepliesAreBy (i : Input) (h : History) (at : ℕ → ℕ → ℕ) : T
 -- transmit gate that a choice's visit counts.
 abbrev pub RepliesFollow : BoardSizes → (ℕ → List BoardStep) → BoardLists → Type 0
 RepliesFollow about own lists =
-    (i : Input) (h : History) (tries : List Try) (t : Story)
+    (i : Input) (h : History) (tries : List Try) (t : Execution)
     → IsTransmitBoard i h about lists
     → KeepsTransmitTries i h about own tries (length i.plan.tx)
     → All (λ (t : Try). NamesTransmitQueues (length i.plan.tx) t.given.command) tries

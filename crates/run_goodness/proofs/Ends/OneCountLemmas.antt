@@ -12,7 +12,7 @@ use Rattle.hop_rule.specs.declared.step.BoardStep.{BoardStep}
 use Rattle.hop_rule.proofs.Gates.{sum_same}
 use Rattle.board_api.specs.Closings.Closings.{own_in}
 use Rattle.board_api.specs.declared.lists.BoardLists.{BoardLists}
-use Rattle.hop_delivery.specs.Orders.Runs.{Story}
+use Rattle.hop_delivery.specs.Orders.Runs.{Execution}
 use Rattle.run_coupling.specs.Laws.OneCount.{KeepsCounts, OneCountSuffices}
 use Rattle.run_coupling.specs.Laws.OneCount.{TotalsAreEqual, choice_count, delivered_count}
 use Rattle.run_coupling.specs.Laws.OneCount.{dropped_count}
@@ -57,8 +57,8 @@ module _ (about : BoardSizes) (own : ℕ → List BoardStep) (lists : BoardLists
       (λ l less. (facts.served l less).delivered)
 
 module _ (h : History) (rx : BoardSizes) (rx_own : ℕ → List BoardStep) (rx_lists : BoardLists)
-    (queues : Story) (tx : BoardSizes) (tx_own : ℕ → List BoardStep) (tx_lists : BoardLists)
-    (applications : Story) (n : ℕ)
+    (queues : Execution) (tx : BoardSizes) (tx_own : ℕ → List BoardStep) (tx_lists : BoardLists)
+    (applications : Execution) (n : ℕ)
     (rx_facts : BoardFacts rx rx_own rx_lists) (tx_facts : BoardFacts tx tx_own tx_lists)
     (keeps : KeepsCounts h rx rx_own rx_lists queues tx tx_own applications)
     (few : choice_count h.choices ≤ n)

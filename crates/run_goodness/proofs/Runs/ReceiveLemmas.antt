@@ -19,7 +19,7 @@ use Rattle.board_api.specs.declared.lists.BoardLists.{BoardLists}
 use Rattle.hop_delivery.specs.Closings.FlowLaw.{accepted_left}
 use Rattle.hop_delivery.specs.Orders.Premises.{MeetsPremises}
 use Rattle.hop_delivery.specs.Orders.ReceiveSettings.{receive_steering}
-use Rattle.hop_delivery.specs.Orders.Runs.{Story}
+use Rattle.hop_delivery.specs.Orders.Runs.{Execution}
 use Rattle.hop_delivery.proofs.Orders.ReceiveSettingLemmas.{receive_steers}
 use Rattle.steer_model.specs.Good.Choices.{ChoicesAreByRule}
 use Rattle.steer_model.specs.Good.Deliveries.{IsDeliveredInOrder}
@@ -41,50 +41,57 @@ use Rattle.run_coupling.proofs.Tries.RangeLemmas.{IsWithinPlan}
 use Rattle.run_goodness.proofs.Turns.ChoiceLemmas.{choices_of_closing}
 
 module _ (i : Input) (h : History) (about : BoardSizes) (own : ℕ → List BoardStep)
-    (lists : BoardLists) (facts : BoardFacts about own lists) (tries : List Try) (t : Story)
+    (lists : BoardLists) (facts : BoardFacts about own lists) (tries : List Try) (t : Execution)
     (seen : ℕ → ℕ → ℕ → ℕ) (input : IsOfInput i h) (commands : KeepsCommands i h tries)
-    (ties : ReceiveCoupling i h about own lists tries t seen) where
+    (coupling : ReceiveCoupling i h about own lists tries t seen) where
   pub within : All (λ (t : Try). IsWithinPlan i.plan t.given.command) tries
-  within = all_within i.plan tries h.commands ties.tries_are.commands commands.given
+  within = all_within i.plan tries h.commands coupling.tries_are.commands commands.given
 
   -- ---- the turns
 
   pub turns : AreTurnsOf own t
   turns =
-      queues.are-turns i h about own lists facts tries t seen input.hashes ties.board ties.tries_are
-      within commands.answered ties.finds ties.right input.arrived ties.queues
+      queues.are-turns i h about own lists facts tries t seen input.hashes coupling.board
+      coupling.tries_are
+      within commands.answered coupling.finds coupling.right input.arrived coupling.queues
 
   pub premises : MeetsPremises about own (accepted_left lists) t
       (receive_steering (receive_queues i))
   premises =
-      queues.meets-premises i h about own lists facts tries t seen input.hashes ties.board
-      ties.tries_are within commands.answered ties.finds ties.right input.arrived ties.queues
+      queues.meets-premises i h about own lists facts tries t seen input.hashes coupling.board
+      coupling.tries_are within commands.answered coupling.finds coupling.right input.arrived
+      coupling.queues
 
   pub choices : ChoicesHaveTurns i h about own lists t
   choices =
-      queues.choices-have-turns i h about own lists facts tries t seen input.hashes ties.board
-      ties.tries_are within commands.answered ties.finds ties.right input.arrived ties.queues
+      queues.choices-have-turns i h about own lists facts tries t seen input.hashes coupling.board
+      coupling.tries_are within commands.answered coupling.finds coupling.right input.arrived
+      coupling.queues
 
   pub once : (p q j k x : ℕ) → slice_get (t.arrivals p) j ≡ Some x
       → slice_get (t.arrivals q) k ≡ Some x → (p ≡ q) × (j ≡ k)
   once =
-      queues.arrival-once i h about own lists facts tries t seen input.hashes ties.board
-      ties.tries_are within commands.answered ties.finds ties.right input.arrived ties.queues
+      queues.arrival-once i h about own lists facts tries t seen input.hashes coupling.board
+      coupling.tries_are within commands.answered coupling.finds coupling.right input.arrived
+      coupling.queues
 
   pub known : (p j x : ℕ) → slice_get (t.arrivals p) j ≡ Some x → x < length i.packets
   known =
-      queues.arrival-known i h about own lists facts tries t seen input.hashes ties.board
-      ties.tries_are within commands.answered ties.finds ties.right input.arrived ties.queues
+      queues.arrival-known i h about own lists facts tries t seen input.hashes coupling.board
+      coupling.tries_are within commands.answered coupling.finds coupling.right input.arrived
+      coupling.queues
 
   pub numbered : AreNumbered 0 h.arrivals
   numbered =
-      queues.numbered i h about own lists facts tries t seen input.hashes ties.board ties.tries_are
-      within commands.answered ties.finds ties.right input.arrived ties.queues
+      queues.numbered i h about own lists facts tries t seen input.hashes coupling.board
+      coupling.tries_are
+      within commands.answered coupling.finds coupling.right input.arrived coupling.queues
 
   counted : length h.arrivals ≡ length i.packets
   counted =
-      queues.arrivals-counted i h about own lists facts tries t seen input.hashes ties.board
-      ties.tries_are within commands.answered ties.finds ties.right input.arrived ties.queues
+      queues.arrivals-counted i h about own lists facts tries t seen input.hashes coupling.board
+      coupling.tries_are within commands.answered coupling.finds coupling.right input.arrived
+      coupling.queues
 
   -- ---- the choices
 
@@ -92,14 +99,14 @@ module _ (i : Input) (h : History) (about : BoardSizes) (own : ℕ → List Boar
   pub all-chosen : (p : ℕ)
       → map (λ (c : Chosen). c.id) (list_at h.choices p) ≡ arrivals_at h.arrivals p
   all-chosen p =
-      ap (map (λ (c : Chosen). c.id)) (ties.queues.choices p)
-      ∙ (ties.queues.turns.all_chosen p ∙ ties.queues.arrivals p)
+      ap (map (λ (c : Chosen). c.id)) (coupling.queues.choices p)
+      ∙ (coupling.queues.turns.all_chosen p ∙ coupling.queues.arrivals p)
 
   choice-count : (p : ℕ) → slice_index h.taken p ≡ length (arrivals_at h.arrivals p)
   choice-count p =
-      ties.queues.taken p
+      coupling.queues.taken p
       ∙ (sym (length-map (t.choices p) (λ (c : Chosen). c.id))
-      ∙ ap length (ties.queues.turns.all_chosen p ∙ ties.queues.arrivals p))
+      ∙ ap length (coupling.queues.turns.all_chosen p ∙ coupling.queues.arrivals p))
 
   pub have-arrived : HaveArrived i.packets h
   have-arrived =
@@ -112,8 +119,8 @@ module _ (i : Input) (h : History) (about : BoardSizes) (own : ℕ → List Boar
           append-none (map (λ (c : Chosen). c.id) (list_at h.choices q)) ∙ all-chosen q,
         );
         chosen_taken = λ q.
-            (let n = ties.queues.taken q in
-            let m = ap length (ties.queues.choices q) in omega arith);
+            (let n = coupling.queues.taken q in
+            let m = ap length (coupling.queues.choices q) in omega arith);
       }
     where
       append-none : {A : Type 0} (xs : List A) → xs ++ [] ≡ xs
@@ -129,8 +136,8 @@ module _ (i : Input) (h : History) (about : BoardSizes) (own : ℕ → List Boar
             ∙ take_all (length (arrivals_at h.arrivals q)) (arrivals_at h.arrivals q)
             (omega arith));
         by_rule =
-            choices_of_closing about own lists facts.visits i h tries t input.hashes ties.board
-            ties.tries_are (queues.all_name_queues i tries within) choices;
+            choices_of_closing about own lists facts.visits i h tries t input.hashes coupling.board
+            coupling.tries_are (queues.all_name_queues i tries within) choices;
       }
 
   -- ---- where packets stand
@@ -139,47 +146,50 @@ module _ (i : Input) (h : History) (about : BoardSizes) (own : ℕ → List Boar
   are-steered =
       record {
         accepted = λ c x is.
-            stand.accepted-choice about own lists facts t ties.queues.turns turns once h.choices
-            ties.queues.choices c x (ap (λ ls. is_in x (lane_at ls c).accepted)
-            (sym ties.board.lanes)
+            stand.accepted-choice about own lists facts t coupling.queues.turns turns once h.choices
+            coupling.queues.choices c x (ap (λ ls. is_in x (lane_at ls c).accepted)
+            (sym coupling.board.lanes)
             ∙ is);
         dropped = λ c x is.
-            stand.dropped-choice about own lists facts t ties.queues.turns turns once h.choices
-            ties.queues.choices c x
+            stand.dropped-choice about own lists facts t coupling.queues.turns turns once h.choices
+            coupling.queues.choices c x
             (ap (λ ls. is_in x (drop_ids (lane_at ls c)))
-            (sym ties.board.lanes) ∙ is);
+            (sym coupling.board.lanes) ∙ is);
         once =
             apart_from (accepted_lists h.lanes ++ dropped_lists h.lanes)
-            (subst (λ ls. StandOnce (accepted_lists ls ++ dropped_lists ls)) (sym ties.board.lanes)
-            (stand.all-stand about own lists facts t ties.queues.turns turns once h.choices
-            ties.queues.choices));
+            (subst (λ ls. StandOnce (accepted_lists ls ++ dropped_lists ls)) (sym
+            coupling.board.lanes)
+            (stand.all-stand about own lists facts t coupling.queues.turns turns once h.choices
+            coupling.queues.choices));
       }
 
   inbox-app : (a x : ℕ) → is_in x (list_at lists.outs a) ≡ true
       → app_at i.packets (length i.plan.apps) x ≡ a
   inbox-app a x is =
       let n = at_in x (list_at lists.outs a) is in
-      let f = stand.came-from about own lists facts t ties.queues.turns turns once h.choices
-      ties.queues.choices a n.0 x n.1 in
-      sym (stand.delivered-to about own lists facts (app_for (setup_in i)) ties.right
+      let f = stand.came-from about own lists facts t coupling.queues.turns turns once h.choices
+      coupling.queues.choices a n.0 x n.1 in
+      sym (stand.delivered-to about own lists facts (app_for (setup_in i)) coupling.right
       (puller about f.lane) f.step a f.lane x (suc n.0) f.does)
 
   pub are-delivered : AreDelivered i.packets (length i.plan.apps) h
   are-delivered =
       record {
         accepted = λ a x is.
-            subst (λ ls. (c : ℕ) × (is_in x (lane_at ls c).accepted ≡ true)) (sym ties.board.lanes)
-            (stand.out-accepted about own lists facts t ties.queues.turns turns once h.choices
-            ties.queues.choices a x (ap (λ ls. is_in x (list_at ls a)) (sym ties.board.inboxes)
+            subst (λ ls. (c : ℕ) × (is_in x (lane_at ls c).accepted ≡ true)) (sym
+            coupling.board.lanes)
+            (stand.out-accepted about own lists facts t coupling.queues.turns turns once h.choices
+            coupling.queues.choices a x (ap (λ ls. is_in x (list_at ls a)) (sym
+            coupling.board.inboxes)
             ∙ is));
         own = λ a x is. inbox-app a x
-            (ap (λ ls. is_in x (list_at ls a)) (sym ties.board.inboxes) ∙ is);
+            (ap (λ ls. is_in x (list_at ls a)) (sym coupling.board.inboxes) ∙ is);
         once = λ a.
             once_from (list_at h.inboxes a)
             (λ j k x at there.
-            (subst StandOnce (sym ties.board.inboxes)
-            (stand.outs-stand about own lists facts t ties.queues.turns turns once h.choices
-            ties.queues.choices) a a j k x at there).1);
+            (subst StandOnce (sym coupling.board.inboxes)
+            (stand.outs-stand about own lists facts t coupling.queues.turns turns once h.choices
+            coupling.queues.choices) a a j k x at there).1);
       }
 
   pub one-place : AreInOnePlace h
@@ -188,15 +198,16 @@ module _ (i : Input) (h : History) (about : BoardSizes) (own : ℕ → List Boar
         lanes = are-steered.once;
         inboxes =
             apart_from h.inboxes
-            (subst StandOnce (sym ties.board.inboxes)
-            (stand.outs-stand about own lists facts t ties.queues.turns turns once h.choices
-            ties.queues.choices));
+            (subst StandOnce (sym coupling.board.inboxes)
+            (stand.outs-stand about own lists facts t coupling.queues.turns turns once h.choices
+            coupling.queues.choices));
         delivered = λ a x is.
             subst (λ ls.
             (c : ℕ) × (is_among (lane_at ls c).delivered x (lane_at ls c).accepted ≡ true))
-            (sym ties.board.lanes)
-            (stand.out-among about own lists facts t ties.queues.turns turns once h.choices
-            ties.queues.choices a x (ap (λ ls. is_in x (list_at ls a)) (sym ties.board.inboxes)
+            (sym coupling.board.lanes)
+            (stand.out-among about own lists facts t coupling.queues.turns turns once h.choices
+            coupling.queues.choices a x (ap (λ ls. is_in x (list_at ls a)) (sym
+            coupling.board.inboxes)
             ∙ is));
       }
 
@@ -204,4 +215,4 @@ module _ (i : Input) (h : History) (about : BoardSizes) (own : ℕ → List Boar
   in-order =
       inboxes_follow about own lists facts.order
       (λ i. receive_steers (receive_queues i) about.lanes)
-      i h t input.hashes ties.board ties.queues.arrivals premises
+      i h t input.hashes coupling.board coupling.queues.arrivals premises

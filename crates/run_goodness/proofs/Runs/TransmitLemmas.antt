@@ -46,7 +46,7 @@ use Rattle.hop_rule.specs.declared.step.LaneStep.TheVariants.{OutFreed, OutHeld,
 use Rattle.hop_rule.specs.declared.step.LaneStep.TheVariants.{Retired}
 use Rattle.board_api.specs.OwnSteps.{Has}
 use Rattle.run_coupling.proofs.Ends.TotalLemmas.{all-by-number}
-use Rattle.hop_delivery.specs.Orders.Runs.{Steering, Story}
+use Rattle.hop_delivery.specs.Orders.Runs.{Steering, Execution}
 use Rattle.hop_delivery.specs.Orders.TransmitSettings.{transmit_steering}
 use Rattle.hop_delivery.proofs.Orders.TransmitSettingLemmas.{transmit_steers}
 use Rattle.steer_model.specs.Good.Inputs.{Input, setup_in}
@@ -110,10 +110,10 @@ module _ (i : Input) (h : History) (rx : BoardSizes) (rx_own : ℕ → List Boar
     (rx_lists : BoardLists) (rx_facts : BoardFacts rx rx_own rx_lists)
     (inboxes : h.inboxes ≡ rx_lists.outs) (inboxes_stand : StandOnce rx_lists.outs)
     (about : BoardSizes) (own : ℕ → List BoardStep) (lists : BoardLists)
-    (facts : BoardFacts about own lists) (tries : List Try) (t : Story)
+    (facts : BoardFacts about own lists) (tries : List Try) (t : Execution)
     (seen : ℕ → ℕ → ℕ → ℕ)
     (within : All (λ (t : Try). IsWithinPlan i.plan t.given.command) tries)
-    (ties : TransmitCoupling i h rx_own about own lists tries t seen) where
+    (coupling : TransmitCoupling i h rx_own about own lists tries t seen) where
   abbrev r : Steering
   r = transmit_steering (flow_number_of (setup_in i))
 
@@ -121,33 +121,33 @@ module _ (i : Input) (h : History) (rx : BoardSizes) (rx_own : ℕ → List Boar
   turns =
       apps.are-turns i h rx rx_own rx_lists rx_facts inboxes inboxes_stand about own lists facts
       tries
-      t seen within ties
+      t seen within coupling
 
   pub once : (p q j k x : ℕ) → slice_get (t.arrivals p) j ≡ Some x
       → slice_get (t.arrivals q) k ≡ Some x → (p ≡ q) × (j ≡ k)
   once =
       apps.reply-once i h rx rx_own rx_lists rx_facts inboxes inboxes_stand about own lists facts
       tries
-      t seen within ties
+      t seen within coupling
 
   pub front : (a : ℕ) → IsPrefix (replies_of h a) (list_at h.inboxes a)
   front =
       apps.replies-front i h rx rx_own rx_lists rx_facts inboxes inboxes_stand about own lists facts
-      tries t seen within ties
+      tries t seen within coupling
 
   pub replies : Rattle.run_coupling.specs.Laws.Replies.RepliesHaveTurns i h about own lists t
   replies =
       apps.replies-have-turns i h rx rx_own rx_lists rx_facts inboxes inboxes_stand about own lists
-      facts tries t seen within ties
+      facts tries t seen within coupling
 
   pub by-rule : RepliesAreBy i h (commands_before_reply tries t)
   by-rule =
-      replies_of_closing about own lists facts.visits i h tries t ties.board ties.tries_are
+      replies_of_closing about own lists facts.visits i h tries t coupling.board coupling.tries_are
       (apps.all_name_maps i tries within) replies
 
   goes-right : (q k : ℕ) (d : BoardStep) → Has (own q) k d → GoesRight r d
   goes-right q k (Lane (Given o from id place)) does =
-      stand.delivered-to about own lists facts (λ id. 0) ties.right q k o from id place does
+      stand.delivered-to about own lists facts (λ id. 0) coupling.right q k o from id place does
   goes-right q k (Lane (Held l w x)) does = tt
   goes-right q k (Lane (Missed l w)) does = tt
   goes-right q k (Lane (Freed l c)) does = tt
@@ -169,7 +169,7 @@ module _ (i : Input) (h : History) (rx : BoardSizes) (rx_own : ℕ → List Boar
         explained = turns.explained;
         by_seat = turns.by_seat;
         arrived = turns.arrived;
-        chosen = turn-chosen own t ties.applications.turns;
+        chosen = turn-chosen own t coupling.applications.turns;
         given = λ q. all-by-number (GoesRight r) (own q) (goes-right q);
         by_rule = replies.by_rule;
         emptied = no-changes-ask about (flow_number_of (setup_in i)) (own (closer about));
@@ -180,8 +180,8 @@ module _ (i : Input) (h : History) (rx : BoardSizes) (rx_own : ℕ → List Boar
   pub all-chosen : (a : ℕ)
       → map (λ (c : Chosen). c.id) (list_at h.tx_choices a) ≡ replies_of h a
   all-chosen a =
-      ap (map (λ (c : Chosen). c.id)) (ties.applications.choices a)
-      ∙ (ties.applications.turns.all_chosen a ∙ ties.applications.replies a)
+      ap (map (λ (c : Chosen). c.id)) (coupling.applications.choices a)
+      ∙ (coupling.applications.turns.all_chosen a ∙ coupling.applications.replies a)
 
   class-of : (a : ℕ)
       → All (λ (c : Chosen). c.choice.class ≡ Some (packet_at i.packets c.id).flow_number)
@@ -191,7 +191,7 @@ module _ (i : Input) (h : History) (rx : BoardSizes) (rx_own : ℕ → List Boar
       (λ (c : Chosen). c.choice.class ≡ Some (packet_at i.packets c.id).flow_number)
       (t.choices a) nobody
       (λ k less.
-      (let u = turn-at own t ties.applications.turns a k (get_or (t.choices a) k nobody)
+      (let u = turn-at own t coupling.applications.turns a k (get_or (t.choices a) k nobody)
       (slice_get-get_or (t.choices a) k nobody less) in
       let b = replies.by_rule a k u.0 u.1 in
       let flow : ℕ = flow_number_of (setup_in i) u.0.chosen.id in
@@ -209,14 +209,14 @@ module _ (i : Input) (h : History) (rx : BoardSizes) (rx_own : ℕ → List Boar
   classes a =
       subst (All (λ (c : Chosen).
       c.choice.class ≡ Some (packet_at i.packets c.id).flow_number))
-      (sym (ties.applications.choices a)) (class-of a)
+      (sym (coupling.applications.choices a)) (class-of a)
 
   pub wants : (a : ℕ) → All (λ (c : Chosen). IsSome c.choice.want) (list_at h.tx_choices a)
   wants a =
-      subst (All (λ (c : Chosen). IsSome c.choice.want)) (sym (ties.applications.choices a))
+      subst (All (λ (c : Chosen). IsSome c.choice.want)) (sym (coupling.applications.choices a))
       (All-from_get_or (λ (c : Chosen). IsSome c.choice.want) (t.choices a) nobody
       (λ k less.
-      (let u = turn-at own t ties.applications.turns a k (get_or (t.choices a) k nobody)
+      (let u = turn-at own t coupling.applications.turns a k (get_or (t.choices a) k nobody)
       (slice_get-get_or (t.choices a) k nobody less) in
       let w = replies.replies a k u.0 u.1 in
       subst (λ (c : Chosen). IsSome c.choice.want) u.2
@@ -232,13 +232,13 @@ module _ (i : Input) (h : History) (rx : BoardSizes) (rx_own : ℕ → List Boar
       let room = s.room in
       let most = facts.fit.room in
       let limit = s.lane.limit in
-      let big = ties.board.limit in
+      let big = coupling.board.limit in
       let less : length s.found.accepted - s.found.pulled ≢ s.found.limit = apart s.found room
       most limit big in
       none-some d.cause
       (sym (no-cause s.found.limited s.found.limit (length s.found.accepted - s.found.pulled)
       (option_map (bucket_count s.found.offers) (bucket_of w.hash)) less
-      (s.lane.limited ∙ (ap (λ (m : CpuMask). has m l) ties.board.limited
+      (s.lane.limited ∙ (ap (λ (m : CpuMask). has m l) coupling.board.limited
       ∙ nobody-limited l)))
       ∙ (ap (λ (x : LaneLists). lane_drop_cause x w.hash) same ∙ w.cause))
     where
@@ -255,7 +255,7 @@ module _ (i : Input) (h : History) (rx : BoardSizes) (rx_own : ℕ → List Boar
 
   pub no-drops : (l : ℕ) → (lane_at h.tx_lanes l).drops ≡ []
   no-drops l =
-      ap (λ ls. (lane_at ls l).drops) ties.board.lanes
+      ap (λ ls. (lane_at ls l).drops) coupling.board.lanes
       ∙ empty (lane_at lists.lanes l).drops (λ d at. no-drop l d at)
     where
       empty : (ds : List LaneDrop) → ((d : LaneDrop) → slice_get ds 0 ≡ Some d → ⊥) → ds ≡ []
@@ -264,37 +264,39 @@ module _ (i : Input) (h : History) (rx : BoardSizes) (rx_own : ℕ → List Boar
 
   port-stands : StandOnce lists.outs
   port-stands =
-      stand.outs-stand about own lists facts t ties.applications.turns turns once h.tx_choices
-      ties.applications.choices
+      stand.outs-stand about own lists facts t coupling.applications.turns turns once h.tx_choices
+      coupling.applications.choices
 
   pub lanes-apart : Apart (accepted_lists h.tx_lanes)
   lanes-apart =
       apart_from (accepted_lists h.tx_lanes)
-      (subst (λ ls. StandOnce (accepted_lists ls)) (sym ties.board.lanes)
-      (stand.accepted-stand about own lists facts t ties.applications.turns turns once h.tx_choices
-      ties.applications.choices))
+      (subst (λ ls. StandOnce (accepted_lists ls)) (sym coupling.board.lanes)
+      (stand.accepted-stand about own lists facts t coupling.applications.turns turns once
+      h.tx_choices
+      coupling.applications.choices))
 
   pub port-once : Once h.port
   port-once =
       once_from h.port
       (λ j k x at there.
-      (port-stands 0 0 j k x (ap (λ xs. slice_get xs j) (sym ties.board.port) ∙ at)
-      (ap (λ xs. slice_get xs k) (sym ties.board.port) ∙ there)).1)
+      (port-stands 0 0 j k x (ap (λ xs. slice_get xs j) (sym coupling.board.port) ∙ at)
+      (ap (λ xs. slice_get xs k) (sym coupling.board.port) ∙ there)).1)
 
   pub are-shipped : AreShipped h
   are-shipped =
       record {
         accepted = λ l x is.
-            stand.accepted-choice about own lists facts t ties.applications.turns turns once
-            h.tx_choices ties.applications.choices l x
-            (ap (λ ls. is_in x (lane_at ls l).accepted) (sym ties.board.lanes) ∙ is);
+            stand.accepted-choice about own lists facts t coupling.applications.turns turns once
+            h.tx_choices coupling.applications.choices l x
+            (ap (λ ls. is_in x (lane_at ls l).accepted) (sym coupling.board.lanes) ∙ is);
         once = lanes-apart;
         no_drops = no-drops;
         port = λ x is.
-            subst (λ ls. (l : ℕ) × (is_in x (lane_at ls l).accepted ≡ true)) (sym ties.board.lanes)
-            (stand.out-accepted about own lists facts t ties.applications.turns turns once
-            h.tx_choices ties.applications.choices 0 x
-            (ap (is_in x) (sym ties.board.port) ∙ is));
+            subst (λ ls. (l : ℕ) × (is_in x (lane_at ls l).accepted ≡ true)) (sym
+            coupling.board.lanes)
+            (stand.out-accepted about own lists facts t coupling.applications.turns turns once
+            h.tx_choices coupling.applications.choices 0 x
+            (ap (is_in x) (sym coupling.board.port) ∙ is));
         port_once = port-once;
       }
 
@@ -306,9 +308,10 @@ module _ (i : Input) (h : History) (rx : BoardSizes) (rx_own : ℕ → List Boar
         delivered = λ x is.
             subst (λ ls.
             (l : ℕ) × (is_among (lane_at ls l).delivered x (lane_at ls l).accepted ≡ true))
-            (sym ties.board.lanes)
-            (stand.out-among about own lists facts t ties.applications.turns turns once h.tx_choices
-            ties.applications.choices 0 x (ap (is_in x) (sym ties.board.port) ∙ is));
+            (sym coupling.board.lanes)
+            (stand.out-among about own lists facts t coupling.applications.turns turns once
+            h.tx_choices
+            coupling.applications.choices 0 x (ap (is_in x) (sym coupling.board.port) ∙ is));
         no_drops = no-drops;
       }
 
@@ -316,18 +319,19 @@ module _ (i : Input) (h : History) (rx : BoardSizes) (rx_own : ℕ → List Boar
   pub port-replied : (x : ℕ) → is_in x h.port ≡ true
       → (a : ℕ) × (k : ℕ) × (slice_get (t.arrivals a) k ≡ Some x)
   port-replied x is =
-      let n = at_in x (list_at lists.outs 0) (ap (is_in x) (sym ties.board.port) ∙ is) in
-      let f = stand.came-from about own lists facts t ties.applications.turns turns once
+      let n = at_in x (list_at lists.outs 0) (ap (is_in x) (sym coupling.board.port) ∙ is) in
+      let f = stand.came-from about own lists facts t coupling.applications.turns turns once
       h.tx_choices
-      ties.applications.choices 0 n.0 x n.1 in
-      stand.accepted-arrived about own lists facts t ties.applications.turns turns once h.tx_choices
-      ties.applications.choices f.lane f.index x f.stands_at
+      coupling.applications.choices 0 n.0 x n.1 in
+      stand.accepted-arrived about own lists facts t coupling.applications.turns turns once
+      h.tx_choices
+      coupling.applications.choices f.lane f.index x f.stands_at
 
   pub reply-in-inbox : (a k x : ℕ) → slice_get (t.arrivals a) k ≡ Some x
       → slice_get (list_at h.inboxes a) k ≡ Some x
   reply-in-inbox =
       apps.reply-stands i h rx rx_own rx_lists rx_facts inboxes inboxes_stand about own lists facts
-      tries t seen within ties
+      tries t seen within coupling
 
   -- ---- order
 
@@ -337,15 +341,15 @@ module _ (i : Input) (h : History) (rx : BoardSizes) (rx_own : ℕ → List Boar
       let f : ℕ = flow_number_of (setup_in i) x in
       let set : came_by t r a f ≡ of_reply i h a x =
       λ j y. (ap (λ b. b && (flow_number_of (setup_in i) y == f))
-      (ap (λ xs. list_any (λ z. z == y) xs) (ties.applications.replies a)
+      (ap (λ xs. list_any (λ z. z == y) xs) (coupling.applications.replies a)
       ∙ any-is y (replies_of h a)) j) in
       subst (λ (z : ((ℕ → Bool) × List ℕ) × (List (List LaneDrop) × List ℕ)).
       InOrder z.0.0 z.0.1 z.1.0 z.1.1)
       (λ j. (
-        (set j, ties.applications.replies a j),
+        (set j, coupling.applications.replies a j),
         (
-          map (λ (lane : LaneList). lane.drops) (sym ties.board.lanes j),
-          sym ties.board.port j,
+          map (λ (lane : LaneList). lane.drops) (sym coupling.board.lanes j),
+          sym coupling.board.port j,
         ),
       ))
       (facts.order t r (transmit_steers (flow_number_of (setup_in i)) about.lanes) premises a f)

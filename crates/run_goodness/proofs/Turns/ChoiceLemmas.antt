@@ -27,7 +27,7 @@ use Rattle.board_api.specs.declared.lists.BoardLists.{BoardLists}
 use Rattle.hop_delivery.specs.Orders.Commands.{SettingChange, received_sets}
 use Rattle.hop_delivery.specs.Orders.ReceiveSettings.{Queues, flows_word, mask, mask_word, online}
 use Rattle.hop_delivery.specs.Orders.ReceiveSettings.{queues, receive_steering}
-use Rattle.hop_delivery.specs.Orders.Runs.{Steering, Story, goal_of, turns_of, word_of}
+use Rattle.hop_delivery.specs.Orders.Runs.{Steering, Execution, goal_of, turns_of, word_of}
 use Rattle.hop_delivery.specs.Orders.Turns.{Turn}
 use Rattle.hop_delivery.specs.Closings.FlowLaw.{accepted_left}
 use Rattle.steer_model.specs.Good.Choices.{AreByRule, accepted_in}
@@ -109,7 +109,7 @@ module _ (i : Input) (p : ℕ) (z : ℕ → ℕ) (s : Settings) (g : ℕ → ℕ
 -- ---- the law
 
 module _ (i : Input) (h : History) (about : BoardSizes) (own : ℕ → List BoardStep)
-    (lists : BoardLists) (tries : List Try) (t : Story) (law : VisitNumbersRise about own lists)
+    (lists : BoardLists) (tries : List Try) (t : Execution) (law : VisitNumbersRise about own lists)
     (hashes : FlowsHaveOneHash i) (board : IsReceiveBoard i h about lists)
     (kept : KeepsReceiveTries i h about own tries)
     (fits : All (λ (t : Try). NamesReceiveQueues (queues (receive_queues i)) t.given.command) tries)

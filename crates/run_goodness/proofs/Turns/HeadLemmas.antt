@@ -27,7 +27,7 @@ use Rattle.board_api.specs.Laws.Heads as seam
 use Rattle.board_api.specs.Laws.Lanes.{LanesAreInTurn}
 use Rattle.board_api.specs.OwnSteps.{Has}
 use Rattle.board_api.specs.declared.lists.BoardLists.{BoardLists}
-use Rattle.hop_delivery.specs.Orders.Runs.{IsByRule, Steering, Story, turns_of}
+use Rattle.hop_delivery.specs.Orders.Runs.{IsByRule, Steering, Execution, turns_of}
 use Rattle.hop_delivery.specs.Orders.Turns.{Explained, Turn}
 use Rattle.hop_delivery.proofs.Orders.TurnLemmas.{Places, turns_have_places}
 use Rattle.hop_delivery.specs.Closings.FlowLaw.{accepted_left}
@@ -147,7 +147,7 @@ contains_at (y ∷ ys) (suc k) d l =
     (t.0, nth-old (y ∷ []) ys t.0 (nth-inside ys t.0 (get_or ys k d) t.1) ∙ t.1)
 
 module _ (about : BoardSizes) (own : ℕ → List BoardStep) (lists : BoardLists) (fit : FitSizes about)
-    (law : seam.HeadsRise about own lists) (turn : LanesAreInTurn about own lists) (t : Story)
+    (law : seam.HeadsRise about own lists) (turn : LanesAreInTurn about own lists) (t : Execution)
     (r : Steering) (p : ℕ) (explained : Explained (own (t.seat p)) (t.turns (t.seat p)))
     (many : length (turns_of t p) ≡ length (t.choices p))
     (chosen : (k : ℕ) (u : Turn) → nth_step (turns_of t p) k ≡ Some u

@@ -13,7 +13,7 @@ use Rattle.hop_rule.proofs.Moments.{nth-some}
 use Rattle.board_api.specs.Laws.Heads.{VisitNumbersRise}
 use Rattle.board_api.specs.declared.lists.BoardLists.{BoardLists}
 use Rattle.hop_delivery.specs.Orders.Commands.{SettingChange}
-use Rattle.hop_delivery.specs.Orders.Runs.{Story, turns_of, word_of}
+use Rattle.hop_delivery.specs.Orders.Runs.{Execution, turns_of, word_of}
 use Rattle.hop_delivery.specs.Orders.Turns.{Explained}
 use Rattle.steer_model.specs.Good.Inputs.{Prefixes}
 use Rattle.run_coupling.specs.Coupling.Tries.{AllSetByAnswer, Try, openings_by, steps_of_tries}
@@ -25,7 +25,7 @@ module _ (about : BoardSizes) (own : ℕ → List BoardStep) (lists : BoardLists
     (law : VisitNumbersRise about own lists) (sets : (ℕ → ℕ) → Command → List SettingChange)
     (at : Try → List BoardStep) (tries : List Try)
     (own_list : own (closer about) ≡ steps_of_tries at tries)
-    (are : AllSetByAnswer about sets at tries) (t : Story)
+    (are : AllSetByAnswer about sets at tries) (t : Execution)
     (explained : (p : ℕ) → Explained (own (t.seat p)) (t.turns (t.seat p))) where
   abbrev number : ℕ → ℕ → ℕ
   number p k = word_of (nth_step (turns_of t p) k) / 2 ^ 32

@@ -33,7 +33,7 @@ use Rattle.hop_rule.proofs.Moments.{nth-some}
 use Rattle.board_api.specs.Laws.Heads.{VisitNumbersRise}
 use Rattle.board_api.specs.declared.lists.BoardLists.{BoardLists}
 use Rattle.hop_delivery.specs.Orders.Commands.{SettingChange, sent_sets}
-use Rattle.hop_delivery.specs.Orders.Runs.{Story, turns_of, word_of}
+use Rattle.hop_delivery.specs.Orders.Runs.{Execution, turns_of, word_of}
 use Rattle.hop_delivery.specs.Orders.TransmitSettings.{pick_by}
 use Rattle.hop_delivery.specs.Orders.Turns.{Turn}
 use Rattle.hop_delivery.specs.Closings.FlowLaw.{accepted_left}
@@ -118,7 +118,7 @@ since-zero (suc k) = since-zero k
 -- ---- the law
 
 module _ (i : Input) (h : History) (about : BoardSizes) (own : ℕ → List BoardStep)
-    (lists : BoardLists) (tries : List Try) (t : Story) (law : VisitNumbersRise about own lists)
+    (lists : BoardLists) (tries : List Try) (t : Execution) (law : VisitNumbersRise about own lists)
     (board : IsTransmitBoard i h about lists)
     (kept : KeepsTransmitTries i h about own tries (length i.plan.tx))
     (fits : All (λ (t : Try). NamesTransmitQueues (length i.plan.tx) t.given.command) tries)

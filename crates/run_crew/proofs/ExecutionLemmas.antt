@@ -22,7 +22,7 @@ use Rattle.run_workers.specs.Stages.{StageView}
 use Rattle.run_crew.specs.Crews.{AreWorking}
 use Rattle.run_crew.specs.declared.seated.Seated.{Seated}
 use Rattle.run_crew.specs.QueueLaws.{CrewsHaveTurns}
-use Rattle.run_crew.specs.Stories.{AreTurnsOf, HasTurns, SeatTurns}
+use Rattle.run_crew.specs.Executions.{AreTurnsOf, HasTurns, SeatTurns}
 use Rattle.run_crew.proofs.ChoiceFunctions.{chosen, is-within, item-at, some-is}
 
 -- ---- turns of all seats

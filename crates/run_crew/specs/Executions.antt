@@ -1,10 +1,10 @@
--- The turns of all workers as one story of a board.
+-- The turns of all workers as one execution of a board.
 use Rattle.std.specs.Prelude.{◌≡◌, ℕ, ◌%◌, ◌≤◌, List, [], Some, length, slice_get}
 use Rattle.linearization.specs.Orders.{StepBy}
 use Rattle.steer_base.specs.declared.choice.Chosen.{Chosen}
 use Rattle.history.specs.Lists.{list_at}
 use Rattle.history.specs.declared.sock_write.SockWrite.{SockWrite}
-use Rattle.hop_delivery.specs.Orders.Runs.{Story}
+use Rattle.hop_delivery.specs.Orders.Runs.{Execution}
 use Rattle.hop_delivery.specs.Orders.Turns.{Turn}
 use Rattle.run_workers.specs.Stages.{StageView}
 use Rattle.run_workers.specs.Workers.{IsWorking}
@@ -30,19 +30,21 @@ pub record AreTurnsOf (t : StageView) (crew : List Seated) (turns : ℕ → Seat
   pub others : (w : ℕ) → length crew ≤ w
       → turns w ≡ record { steered = []; replied = []; noted = [] }
 
--- The story of the receive board, with these arrivals: each queue is steered by the seat of its
+-- The execution of the receive board, with these arrivals: each queue is steered by the seat of its
 -- worker.
-abbrev pub queue_story : List Seated → (ℕ → SeatTurns) → List (List Chosen) → (ℕ → List ℕ) → Story
-queue_story crew turns choices arrivals = record {
+abbrev pub queue_execution : List Seated → (ℕ → SeatTurns) → List (List Chosen) → (ℕ → List ℕ) →
+    Execution
+queue_execution crew turns choices arrivals = record {
   arrivals = arrivals;
   choices = λ q. list_at choices q;
   seat = λ q. q % length crew;
   turns = λ w. (turns w).steered;
 }
 
--- The story of the transmit board, of the applications.
-abbrev pub reply_story : List Seated → (ℕ → SeatTurns) → List (List Chosen) → (ℕ → List ℕ) → Story
-reply_story crew turns choices arrivals = record {
+-- The execution of the transmit board, of the applications.
+abbrev pub reply_execution : List Seated → (ℕ → SeatTurns) → List (List Chosen) → (ℕ → List ℕ) →
+    Execution
+reply_execution crew turns choices arrivals = record {
   arrivals = arrivals;
   choices = λ a. list_at choices a;
   seat = λ a. a % length crew;
