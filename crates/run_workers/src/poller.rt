@@ -26,14 +26,14 @@ ghost use Rattle.run_workers.specs.Hands.Pollers.{Puts, Steers, StoresFilter, Ta
 ghost use Rattle.run_workers.specs.Hands.Pollers.{refreshed, socket_entry};
 
 use crate::holding::hold;
-use crate::shared::Shared;
 use board_api::{Board, BoardSeat, EnterAnswer};
 use dev_flow_table::DevTable;
 use hint_words::HintSeat;
 use rps_map::rps_choice;
 use rtrb::Consumer;
 use run_words::{
-    HintWord, ReceiveSetting, cpus_in, filter_word, flows_in, flows_word, place_in, socket_size_in,
+    HintWord, ReceiveSetting, Shared, cpus_in, filter_word, flows_in, flows_word, place_in,
+    socket_size_in,
 };
 use std::alloc::Global;
 use std::sync::Wait;

@@ -21,13 +21,12 @@ ghost use Rattle.run_workers.specs.Hands.Servers.{Writes};
 ghost use Rattle.run_workers.specs.Hands.Servers as servers;
 
 use crate::holding::hold;
-use crate::shared::Shared;
 use board_api::{Board, BoardSeat, EnterAnswer, Hold, LaneId};
 use dev_flow_table::DevTable;
 use hint_words::HintSeat;
 use history::{Arrival, Sent, SockWrite};
 use run_words::{
-    HintWord, ReceiveSetting, TransmitSetting, cpus_in, place_in, place_word, queues_in,
+    HintWord, ReceiveSetting, Shared, TransmitSetting, cpus_in, place_in, place_word, queues_in,
     socket_size_in,
 };
 use std::alloc::Global;

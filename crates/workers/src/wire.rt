@@ -11,12 +11,11 @@ ghost use Rattle.run_crew.specs.Routes.{Ends, HasAnnounced};
 ghost use Rattle.workers.specs.Wires.{KeepsRings};
 ghost use Rattle.run_crew.specs.Routes.{LooksUpEntry, LooksUpFilter, Routes};
 
-use crate::pace::Pace;
 use hint_words::HintSeat;
 use history::Arrival;
 use rss_table::{RETA_ENTRIES, Reta};
 use rtrb::Producer;
-use run_words::{DONE, HintWord, Shared, filter_in, place_in, place_word};
+use run_words::{DONE, HintWord, Pace, Shared, filter_in, place_in, place_word};
 use std::alloc::Global;
 use steer_base::{Filter, Journal, PacketId, RxQueue, place_of_hash};
 
