@@ -3,9 +3,9 @@
 from __future__ import annotations
 
 from itertools import chain, zip_longest
-from typing import Iterator
+from typing import Iterator, Sequence
 
-from . import cli
+from . import cli, flows
 from .report import Report
 
 
@@ -61,12 +61,14 @@ class Comparison:
     `packets` and `replies` went another way or for another reason; `numbers` are packets and
     replies of which only other fields differ. A packet counts once in each of `queue`, `cpu`,
     `saved` (no longer dropped) and `lost` (newly dropped) that holds; `others` are lines of sums,
-    writes, commands and taps.
+    writes, commands and taps. `names` has the flow of each packet of the capture, as
+    flows.of_report gives it, or is None, and no line names a flow.
     """
 
-    def __init__(self, old: Report, new: Report) -> None:
+    def __init__(self, old: Report, new: Report, names: Sequence[str] | None = None) -> None:
         self.old = old
         self.new = new
+        self.names = names
         self.packets = self.queue = self.cpu = self.saved = self.lost = 0
         self.replies = self.tx = self.numbers = self.others = 0
 
@@ -94,14 +96,16 @@ class Comparison:
 
     def _changes(self, kind, before, after):
         """The line of two rows that differ, or None if only their positions do."""
+        number = (before or after).id
         if before is None or after is None:
-            return "%s %d is only in the %s" % (kind, (before or after).id,
-                                                "new" if before is None else "old")
-        changed = _route_changed(before, after)
-        if not changed:
+            text = "is only in the " + ("new" if before is None else "old")
+        else:
+            text = ", ".join(_route_changed(before, after))
+        if not text:
             self.numbers += 1
             return None
-        return "%s %d %s" % (kind, before.id, ", ".join(changed))
+        flow = "" if self.names is None else " (%s)" % flows.name(self.names[number])
+        return "%s %d %s%s" % (kind, number, text, flow)
 
     def _packets(self):
         for before, after in zip_longest(self.old.packets, self.new.packets):

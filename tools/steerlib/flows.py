@@ -2,10 +2,12 @@
 
 from __future__ import annotations
 
+import functools
 import ipaddress
 import re
 
 from . import cli
+from .report import Report
 
 PACKET = re.compile(
     rb"packet (0|[1-9]\d{0,9}) (none|two4(?: [0-9a-f]{8}){2}|two6(?: [0-9a-f]{32}){2}"
@@ -14,6 +16,9 @@ PACKET = re.compile(
 FLOW = re.compile(rb"^packet \d+ ([^\n]*) hash ", re.MULTILINE)
 COUNT = re.compile(rb"packets (0|[1-9]\d{0,9})(?: cut \d+)?\n")
 LONGEST_LINE = 512
+HELP = ("output of `steer hash` or `steer place` on the same capture, or on that from which "
+        "steer-remap made it, which has the first names")
+"""What the help of a program says of the file that names the flows of a report."""
 
 
 def read_file(name: str) -> list[str]:
@@ -40,6 +45,19 @@ def read_file(name: str) -> list[str]:
     return flows
 
 
+def of_report(name: str, report: Report) -> list[str]:
+    """The flow of each packet of a report's capture, by the output of `steer hash` in a file.
+
+    Packets keep their numbers in a remap, so the file may be of the capture that was rewritten.
+    Raises Refused where it has another number of packets, and what read_file raises.
+    """
+    flows = read_file(name)
+    if len(flows) != report.end.total:
+        raise cli.Refused(cli.source_name(name), "has %d packets, and the report is of %d"
+                          % (len(flows), report.end.total))
+    return flows
+
+
 def _check_count(line, flows, source):
     """The last line must count the packets before it."""
     found = COUNT.fullmatch(line)
@@ -57,6 +75,7 @@ def _address(digits):
     return ipaddress.ip_address(bytes.fromhex(digits))
 
 
+@functools.lru_cache(maxsize=None)
 def name(flow: str) -> str:
     """A flow as people write it: `tcp4 10.0.0.11:40001 > 10.0.0.1:80`, `no IP` for `none`."""
     if flow == "none":

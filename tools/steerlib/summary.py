@@ -120,17 +120,13 @@ def _flows(rep, names):
             len(count) - len(shown), len(rep.packets) - sum(packets for _, packets in shown))
 
 
-def screen(rep: Report, names: list[str] | None = None, source: str = "HASH",
-           plan: Plan | None = None, plan_source: str = "PLAN",
-           times: waits.Waits | None = None) -> Iterator[str]:
-    """The lines of the screen; `names` are the flows of the packets, read from `source`.
+def screen(rep: Report, names: list[str] | None = None, plan: Plan | None = None,
+           plan_source: str = "PLAN", times: waits.Waits | None = None) -> Iterator[str]:
+    """The lines of the screen; `names` are the flows of the packets, as flows.of_report has them.
 
     With the `plan` of the report, drops that a kernel does not have are marked. `times` are the
     Waits of the schedule, where it has times.
     """
-    if names is not None and len(names) != rep.end.total:
-        raise cli.Refused(source, "has %d packets, and the report is of %d"
-                          % (len(names), rep.end.total))
     marks = [] if plan is None else list(_bypassed(rep, plan, plan_source))
     yield from headline(rep)
     if times is not None:

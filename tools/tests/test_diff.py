@@ -108,7 +108,8 @@ class Diff(unittest.TestCase):
                 ([path, folder.write("c", REPLIED.replace(b"of 3\n", b"of 3 cut 7\n"))], 3,
                  "is of another capture: 3 packets cut 7, and that of"),
                 ([path, folder.write("d", b"p")], 4, "is no report"),
-                (["-", "-"], 2, "cannot both be standard input"), ([path], 2, "NEW"))
+                (["-", "-"], 2, "only one of OLD, NEW and HASH can be standard input"),
+                ([path], 2, "NEW"))
             for words, status, text in cases:
                 ended = run("steer-diff", *words)
                 self.assertEqual((ended.returncode, ended.stdout), (status, ""), words)

@@ -323,7 +323,7 @@ class Form(unittest.TestCase):
     def test_names_are_escaped(self):
         evil = '</script><script>alert("1")</script><!--&'
         found = report.read(io.BytesIO(REPLIED))
-        named = sums.Flows(found, ["none"] * 3, "HASH")
+        named = sums.Flows(found, ["none"] * 3)
         named.names = [evil]
         named.rows = [named.rows[0][:-1] + (evil,)]
         page = Page("\n".join(document.lines(found, evil, axis.Axis(3), None, named)))
@@ -482,7 +482,7 @@ class InABrowser(unittest.TestCase):
                 "lists(steerPage.counts.backlog)]",
                 low, high, flow)
             column = [place // view["size"] - view["first"] for place in self.axis.places]
-            ranks = sums.Flows(self.report, self.flows, "HASH").ranks
+            ranks = sums.Flows(self.report, self.flows).ranks
             for cpu, found in counts:
                 wanted = [0] * view["columns"]
                 for packet, at, rank in zip(self.report.packets, column, ranks):
@@ -586,7 +586,7 @@ class InABrowser(unittest.TestCase):
         page.run("const list = document.getElementById('flow'); list.value = '0';"
                  "list.dispatchEvent(new Event('change'))")
         values = self.values()
-        found = sums.Flows(self.report, self.flows, "HASH")
+        found = sums.Flows(self.report, self.flows)
         self.assertEqual(sum(int(values["cpu", row.cpu].split()[0]) for row in self.report.cpus),
                          found.rows[0][0])
         self.assertEqual(page.run("return document.getElementById('flow').options[1].text"),

@@ -125,7 +125,8 @@ class ByHand(unittest.TestCase):
             self.assertEqual(json.loads(out)["load"], 1.0)
             _, out, _ = inside("steer-diff", "-q", report, wider, "--times", times, wider_times)
             self.assertEqual(out.decode().splitlines()[0],
-                             "wait half 0 -> 1.0 ms, 99% 1.0 ms -> 2.5 ms, longest 1.0 ms -> 2.5 ms")
+                             "wait half 0 -> 1.0 ms, 99% 1.0 ms -> 2.5 ms, "
+                             "longest 1.0 ms -> 2.5 ms")
             status, out, _ = inside("steer-diff", report, report, "--times", times, times)
             self.assertEqual((status, out.decode().splitlines()[0][:4]), (0, "sum "))
 
@@ -170,7 +171,7 @@ class Files(unittest.TestCase):
                 (["steer-rows", "csv", "tx", "r", "--times", "t"],
                  "--times goes with the kinds p and cpu"),
                 (["steer-rows", "csv", "p", "-", "--times", "-"],
-                 "REPORT and --times cannot both be standard input"),
+                 "only one of REPORT, HASH and --times can be standard input"),
                 (["steer-top", "-", "--times", "-"],
                  "only one of REPORT, HASH, PLAN and --times can be standard input"),
                 (["steer-steps", "p", "c", "--pps", "1", "--times", "-"],

@@ -6,7 +6,7 @@ from bisect import bisect_right
 from collections import Counter
 from typing import Iterable, Iterator, NamedTuple, Sequence
 
-from .. import cli, flows, report, tables
+from .. import flows, report, tables
 from . import axis as axes
 from .backlogs import ARRIVAL, PULL, Backlogs
 
@@ -31,14 +31,11 @@ def counted(number: int, word: str) -> str:
 class Flows:
     """The flows of a report's packets, the one with the most packets first.
 
-    `names` is the flow of each packet of the capture, as flows.read_file gives it. `ranks` has the
+    `names` is the flow of each packet of the capture, as flows.of_report gives it. `ranks` has the
     number of a packet's flow in this order, which is that of `rows` up to FLOWS_SHOWN.
     """
 
-    def __init__(self, rep: report.Report, names: Sequence[str], source: str) -> None:
-        if len(names) != rep.end.total:
-            raise cli.Refused(source, "has %d packets, and the report is of %d"
-                              % (len(names), rep.end.total))
+    def __init__(self, rep: report.Report, names: Sequence[str]) -> None:
         count = Counter(names[:len(rep.packets)])
         ranked = count.most_common()
         rank = {flow: number for number, (flow, _) in enumerate(ranked)}

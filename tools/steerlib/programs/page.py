@@ -33,9 +33,7 @@ def words_of(words: list[str]) -> argparse.Namespace:
     parser.add_argument("report", metavar="REPORT",
                         help="output of `steer replay` or `steer run`; - is input")
     parser.add_argument("--capture", metavar="CAPTURE", help="the capture of the report")
-    parser.add_argument("--hash", metavar="HASH",
-                        help="output of `steer hash` or `steer place` on the same capture, or "
-                             "on that from which steer-remap made it, which has the first names")
+    parser.add_argument("--hash", metavar="HASH", help=flows.HELP)
     parser.add_argument("--plan", metavar="PLAN", help="the plan of the report, with its steps")
     told = parser.parse_args(words)
     if [told.report, told.capture, told.hash, told.plan].count("-") > 1:
@@ -51,7 +49,7 @@ def main(words: list[str]) -> None:
     if told.plan is not None:
         lengths = backlogs.follow(rep, plan.read_plan(told.plan), cli.source_name(told.plan))
     if told.hash is not None:
-        found = Flows(rep, flows.read_file(told.hash), cli.source_name(told.hash))
+        found = Flows(rep, flows.of_report(told.hash, rep))
     title = cli.printable(cli.source_name(told.report))
     for line in document.lines(rep, title, places, lengths, found):
         sys.stdout.write(line + "\n")

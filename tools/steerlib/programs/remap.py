@@ -31,7 +31,8 @@ with a random key: --draw N draws it, so try several. Packets without IP stay as
 
 The result is replayed by steer and compared with the kernel's rule in each packet; where one is
 elsewhere nothing is written, and the status is 3. Flows in a report have rewritten addresses; give
-steer-top the hashes of the first CAPTURE, and it names them as they were.
+steer-top, steer-page, steer-rows, steer-diff and steer-draw the hashes of the first CAPTURE, and
+they name them as they were.
 
 steer-steps and steer-try do all of this in one go with --kernel.
 

@@ -2,10 +2,11 @@
 
 from __future__ import annotations
 
+import argparse
 import sys
-from typing import Iterable, NoReturn
+from typing import Any, Iterable, NoReturn, Sequence
 
-from .. import cli, report, tables, waits
+from .. import cli, flows, report, tables, waits
 
 DESCRIPTION = """\
 Writes the lines of one kind in a report of `steer replay` as rows, for a spreadsheet, jq or pandas.
@@ -15,6 +16,8 @@ null in JSON. A drop's number and its two counts are `drop`, `drop_accepted`, `d
 
 KIND is p (packets), r (replies), queue, cpu, tx, w (writes of the socket table) or c (commands).
 
+With HASH packets and replies have one more column, the last: `flow`, as steer-top names it.
+
 With the times of the schedule (steer-steps --times) packets have four more columns, in nanoseconds
 from the first packet by the clock of the schedule: `arrival`, `begin` and `end` of the service,
 and `wait` from the arrival to the begin; and processors have the column `load`, the part of the
@@ -23,6 +26,8 @@ time from the first packet to the last in which they served, from 0 to 1."""
 EXAMPLE = """\
 steer-rows csv p report > packets.csv
 steer-rows csv p report --times times | cut -d , -f 1,8,21
+steer hash own.pcap > hash.txt
+steer-rows csv p report hash.txt | cut -d , -f 1,8,18
 steer-rows json p report | jq -r 'select(.place == "drop") | .id'"""
 
 
@@ -32,21 +37,34 @@ def main(words: list[str]) -> None:
     parser.add_argument("kind", choices=tables.KINDS, metavar="KIND",
                         help="one of " + ", ".join(tables.KINDS))
     parser.add_argument("report", metavar="REPORT", help="output of `steer replay`; - is input")
+    parser.add_argument("hash", metavar="HASH", nargs="?",
+                        help=flows.HELP + "; of the kinds p and r")
     parser.add_argument("--times", metavar="FILE",
                         help="what steer-steps --times wrote for the schedule of the report; of "
                              "the kinds p and cpu")
-    given = parser.parse_args(words)
-    if given.times is not None and given.kind not in ("p", "cpu"):
-        raise cli.WrongWords("--times goes with the kinds p and cpu")
-    if given.report == given.times == "-":
-        raise cli.WrongWords("REPORT and --times cannot both be standard input")
+    given = parser.parse_intermixed_args(words)
+    check(given)
     rep = report.read_file(given.report)
     rows, names = rep.by_kind()[given.kind], tables.columns(given.kind)
+    further = []
     if given.times is not None:
-        more, columns = with_times(rep, given.kind, given.times)
+        further.append(with_times(rep, given.kind, given.times))
+    if given.hash is not None:
+        further.append(with_flows(rep, rows, given.hash))
+    for more, columns in further:
         rows, names = [(*row, *others) for row, others in zip(rows, more)], names + columns
     write = tables.write_csv if given.form == "csv" else tables.write_json
     write(rows, names, sys.stdout)
+
+
+def check(given: argparse.Namespace) -> None:
+    """Raises WrongWords where words do not go together."""
+    if given.times is not None and given.kind not in ("p", "cpu"):
+        raise cli.WrongWords("--times goes with the kinds p and cpu")
+    if given.hash is not None and given.kind not in ("p", "r"):
+        raise cli.WrongWords("HASH goes with the kinds p and r")
+    if [given.report, given.hash, given.times].count("-") > 1:
+        raise cli.WrongWords("only one of REPORT, HASH and --times can be standard input")
 
 
 def with_times(rep: report.Report, kind: str, name: str) -> tuple[Iterable[tuple], list[str]]:
@@ -56,6 +74,13 @@ def with_times(rep: report.Report, kind: str, name: str) -> tuple[Iterable[tuple
         return [(load,) for load in waits.of_report(times, rep, source).loads], ["load"]
     waits.check(times, rep, source)
     return zip(*times, waits.waits_of(times)), ["arrival", "begin", "end", "wait"]
+
+
+def with_flows(rep: report.Report, rows: Sequence[Any],
+               name: str) -> tuple[Iterable[tuple], list[str]]:
+    """The further column that the flows in a file give packets or replies, and its name."""
+    found = flows.of_report(name, rep)
+    return [(flows.name(found[row.id]),) for row in rows], ["flow"]
 
 
 def entry() -> NoReturn:

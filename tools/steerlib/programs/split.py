@@ -70,8 +70,8 @@ def main(words: list[str]) -> int:
     given = words_of(words)
     if given.join is not None:
         rep = splitting.joined(given.join, given.files)
-        names = None if given.hash is None else flows.read_file(given.hash)
-        for line in summary.screen(rep, names, cli.source_name(given.hash or "HASH")):
+        names = None if given.hash is None else flows.of_report(given.hash, rep)
+        for line in summary.screen(rep, names):
             print(line)
         return cli.DONE
     wide = plan.read_plan(given.files[0], limits.WIDE)

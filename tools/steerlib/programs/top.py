@@ -29,23 +29,20 @@ steer replay timed.json own.pcap | steer-top --times times -"""
 def main(words: list[str]) -> None:
     parser = cli.parser(DESCRIPTION, EXAMPLE)
     parser.add_argument("report", metavar="REPORT", help="output of `steer replay`; - is input")
-    parser.add_argument("hash", metavar="HASH", nargs="?",
-                        help="output of `steer hash` or `steer place` on the same capture, or "
-                             "on that from which steer-remap made it, which has the first names")
+    parser.add_argument("hash", metavar="HASH", nargs="?", help=flows.HELP)
     parser.add_argument("--plan", metavar="PLAN", help="the plan that was replayed")
     parser.add_argument("--times", metavar="FILE",
                         help="what steer-steps --times wrote for the schedule of the report")
-    given = parser.parse_args(words)
+    given = parser.parse_intermixed_args(words)
     if [given.report, given.hash, given.plan, given.times].count("-") > 1:
         raise cli.WrongWords("only one of REPORT, HASH, PLAN and --times can be standard input")
     rep = report.read_file(given.report)
-    names = None if given.hash is None else flows.read_file(given.hash)
+    names = None if given.hash is None else flows.of_report(given.hash, rep)
     of = None if given.plan is None else plan.read_plan(given.plan)
     times = None
     if given.times is not None:
         times = waits.of_report(waits.read_file(given.times), rep, cli.source_name(given.times))
-    for line in summary.screen(rep, names, cli.source_name(given.hash or "HASH"), of,
-                               cli.source_name(given.plan or "PLAN"), times):
+    for line in summary.screen(rep, names, of, cli.source_name(given.plan or "PLAN"), times):
         print(line)
 
 
