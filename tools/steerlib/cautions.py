@@ -90,9 +90,9 @@ def of_readers(plan: Plan) -> str | None:
               and _reads_where_put(plan, table, number)]
     if not queues:
         return None
-    return ("the readers of rx %s are picked by the same bits of the hash as the members of the "
-            "mask, and are always where RPS sends the packet: RFS moves no flow there (name other "
-            "readers: --apps, apps=)" % list_text(queues))
+    return ("by the manual's modulo the readers of rx %s are picked by the same bits of the hash "
+            "as the members of the mask, and are always where RPS sends the packet: RFS moves no "
+            "flow there (name other readers: --apps, apps=)" % list_text(queues))
 
 
 def picks_by_hash(plan: Plan) -> bool:

@@ -113,9 +113,9 @@ NOTED = (
      "rx 1,3,5 without RPS and RFS: a kernel handles a card's packets there at once, without a "
      "backlog, so that netdev_max_backlog does nothing and drops on cpu 1,3,5 for them are none of "
      "a machine's"),
-    (r"rps_cpus .*", "rps_cpus ffff", "the readers of rx 0-7 are picked by the same bits of the "
-     "hash as the members of the mask, and are always where RPS sends the packet: RFS moves no "
-     "flow there (name other readers: --apps, apps=)"),
+    (r"rps_cpus .*", "rps_cpus ffff", "by the manual's modulo the readers of rx 0-7 are picked by "
+     "the same bits of the hash as the members of the mask, and are always where RPS sends the "
+     "packet: RFS moves no flow there (name other readers: --apps, apps=)"),
     (r"end", "end", "the steps are one `sweep`, which drops nothing"),
 )
 

@@ -75,9 +75,9 @@ WRONG = (
     ("rps_sock_flow_entries", "no setting of the form NAME=VALUE"),
 )
 
-BIT = "the readers of rx 0-7 are picked by the same bits of the hash as the members of the mask, " \
-    "and are always where RPS sends the packet: RFS moves no flow there (name other readers: " \
-    "--apps, apps=)"
+BIT = "by the manual's modulo the readers of rx 0-7 are picked by the same bits of the hash as the " \
+    "members of the mask, and are always where RPS sends the packet: RFS moves no flow there " \
+    "(name other readers: --apps, apps=)"
 ONE_MORE = "backlog %d: a kernel lets one packet more wait than netdev_max_backlog %d says"
 NO_BACKLOG = "rx %s without RPS and RFS: a kernel handles a card's packets there at once, " \
     "without a backlog, so that netdev_max_backlog does nothing and drops on cpu %s for them are " \

@@ -20,7 +20,8 @@ queue  packets   share
 tx  replies   share
  0        3  100.0%  ########################
 no packets on tx 1
-picked by the reader's processor and the receive hash; a kernel takes others (docs/kernel.md)
+picked by the reader's processor and the receive hash; a kernel takes others unless --tx drew its \
+hash (docs/kernel.md)
 """
 
 THREE_SCREEN = """\

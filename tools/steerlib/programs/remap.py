@@ -34,7 +34,7 @@ elsewhere nothing is written, and the status is 3. Flows in a report have rewrit
 steer-top, steer-page, steer-rows, steer-diff and steer-draw the hashes of the first CAPTURE, and
 they name them as they were.
 
-steer-steps and steer-try do all of this in one go with --kernel.
+steer-steps, steer-try and steer-best do all of this in one go with --kernel.
 
 One of PLAN and CAPTURE may be - for standard input, and both may be packed as gz, xz or zst."""
 
