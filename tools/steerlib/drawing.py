@@ -7,7 +7,7 @@ those with the most packets have rows too, and the texts that a pointer shows na
 
 from __future__ import annotations
 
-from collections import Counter
+from collections import Counter, defaultdict
 from typing import Callable, Iterator, NamedTuple, Sequence
 from xml.etree import ElementTree
 
@@ -53,10 +53,9 @@ class Cells:
         self.dropped = {}
         self.moves = [0] * self.count
         self.unsent = [0] * self.count
-        self.names = names
         self.flows: dict[str, list[int]] = {}
         self.flow_drops: dict[str, list[int]] = {}
-        self.of_cpu: dict[tuple[int, int], Counter[str]] = {}
+        self.of_cpu: dict[tuple[int, int], Counter[str]] = defaultdict(Counter)
         self.of_moves: list[Counter[str]] = [Counter() for _ in self.moves]
         for flow, _ in Counter((names or ())[:self.packets]).most_common(FLOWS_SHOWN):
             self.flows[flow] = [0] * self.count
@@ -86,7 +85,7 @@ class Cells:
             self.flows[flow][cell] += 1
             self.flow_drops[flow][cell] += packet.place == "drop"
         if packet.cpu is not None:
-            self.of_cpu.setdefault((packet.cpu, cell), Counter())[flow] += 1
+            self.of_cpu[packet.cpu, cell][flow] += 1
         if packet.why in report.MOVES:
             self.of_moves[cell][flow] += 1
 
@@ -194,7 +193,7 @@ def _cpu_row(cells, cpu):
     def hover(cell):
         return "packets %d to %d: %d on cpu %d, %d of them dropped%s" % (
             cells.bounds(cell) + (offered[cell], cpu, dropped[cell],
-                                  _named(cells.of_cpu.get((cpu, cell), Counter()))))
+                                  _named(cells.of_cpu[cpu, cell])))
 
     return _Row("cpu %d" % cpu, offered, dropped, cells.largest, ROW_HEIGHT, hover)
 

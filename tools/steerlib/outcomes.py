@@ -31,7 +31,7 @@ class Outcome(NamedTuple):
 
 def outcome_of(name: str) -> Outcome:
     """The Outcome that the report in the file `name` has, and the file of times beside it."""
-    rep = report.read_file(name)
+    rep = report.read_file(name, told=False)
     beside = os.path.splitext(name)[0] + TIMES
     found = None
     if os.path.exists(beside):

@@ -12,13 +12,14 @@ TO_LINE_START = "\r\x1b[K"      # and what is on the line is erased
 
 
 class Progress:
-    """Counts work of a known amount; says each two seconds how much is done, and how long it takes.
+    """Counts work; says each two seconds how much is done, and how long it takes.
 
-    What is left is taken to be as fast as what is done. A terminal has it all on one line, which
-    `end` erases; elsewhere each is a line, or nothing is said with `only_terminal`.
+    What is left of a `total` is taken to be as fast as what is done; with None nothing is said of
+    it. A terminal has it all on one line, which `end` erases; elsewhere each is a line, or nothing
+    is said with `only_terminal`.
     """
 
-    def __init__(self, what: str, total: int, only_terminal: bool = False) -> None:
+    def __init__(self, what: str, total: int | None, only_terminal: bool = False) -> None:
         self.what = what
         self.total = total
         self.begun = self.told = time.monotonic()
@@ -32,9 +33,11 @@ class Progress:
         if self.silent or now - self.told < PATIENCE:
             return
         self.told = now
-        rest = (now - self.begun) * (self.total - done) / done if done else 0
-        text = "%s: %d of %d%s" % (self.what, done, self.total,
-                                   ", about %s more" % time_text(rest) if rest >= 1 else "")
+        text = "%s: %d" % (self.what, done)
+        if self.total is not None:
+            rest = (now - self.begun) * (self.total - done) / done if done else 0
+            text += " of %d%s" % (self.total,
+                                  ", about %s more" % time_text(rest) if rest >= 1 else "")
         if self.terminal:
             self._write(TO_LINE_START + text)
             self.shown = True

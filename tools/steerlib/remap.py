@@ -336,12 +336,15 @@ def _rewritten(flows, hashes):
 
 def _new_frames(frames, places, flow_of, flows):
     """The frames with the new bytes of their flows."""
+    tell = progress.Progress("packets rewritten", len(frames))
     made = []
     for frame, place, at in zip(frames, places, flow_of):
         flow = flows[at]
         if flow.new is not flow.data and flow.new != flow.data:
             frame = frame._replace(data=framing.with_tuple(frame.data, place, flow.new))
         made.append(frame)
+        if not len(made) & 4095:
+            tell.at(len(made))
     return made
 
 

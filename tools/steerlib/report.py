@@ -11,10 +11,11 @@ import re
 import tempfile
 from typing import IO, Any, Dict, Iterator, NamedTuple, Sequence
 
-from . import cli
+from . import cli, progress
 
 FIRST_LINE = b"steer 1\n"
 LONGEST_LINE = 512
+TOLD_LINES = 8192             # after so many lines it is said how many are read
 
 
 class Packet(NamedTuple):
@@ -214,18 +215,24 @@ class Report:
 
 
 class _Lines:
-    """The lines of a stream: `line` is the one that is read next, `number` counts from 1."""
+    """The lines of a stream: `line` is the one that is read next, `number` counts from 1.
 
-    def __init__(self, stream, source):
+    `tell` is the Progress of reading, or None.
+    """
+
+    def __init__(self, stream, source, tell):
         self.stream = stream
         self.source = source
         self.number = 0
+        self.tell = tell
         self.advance()
 
     def advance(self):
         """Goes on to the next line; it has no line feed if it is cut or too long."""
         self.line = self.stream.readline(LONGEST_LINE)
         self.number += 1
+        if self.tell is not None and not self.number % TOLD_LINES:
+            self.tell.at(self.number)
 
     def skip(self, size):
         """The next `size` bytes, which are whole lines or none."""
@@ -323,13 +330,15 @@ def _read_end(lines, values):
     return End._make(map(values.__getitem__, found.groups()))
 
 
-def read(stream: IO[bytes], source: str = "report") -> Report:
+def read(stream: IO[bytes], source: str = "report",
+         tell: progress.Progress | None = None) -> Report:
     """The report that a binary stream has; `source` names it in messages.
 
-    Raises NotThatFile if the first line is not that of a report, and Refused if it is cut short, a
-    line has another form, or a sum is not that of its packets.
+    `tell` is given the number of lines that are read. Raises NotThatFile if the first line is not
+    that of a report, and Refused if it is cut short, a line has another form, or a sum is not that
+    of its packets.
     """
-    lines = _Lines(stream, source)
+    lines = _Lines(stream, source, tell)
     if lines.line != FIRST_LINE:
         raise cli.NotThatFile(source, "is no report: its first line is not `steer 1`")
     lines.advance()
@@ -342,10 +351,19 @@ def read(stream: IO[bytes], source: str = "report") -> Report:
     return report
 
 
-def read_file(name: str) -> Report:
-    """The report in the file `name`; `-` is standard input, and gz is opened through."""
-    with cli.open_bytes(name) as stream:
-        return read(stream, cli.source_name(name))
+def read_file(name: str, told: bool = True) -> Report:
+    """The report in the file `name`; `-` is standard input, and gz is opened through.
+
+    A terminal has how many lines were read, where that takes long and `told` is true.
+    """
+    source = cli.source_name(name)
+    tell = progress.Progress("%s: lines read" % source, None, only_terminal=True) if told else None
+    try:
+        with cli.open_bytes(name) as stream:
+            return read(stream, source, tell)
+    finally:
+        if tell is not None:
+            tell.end()
 
 
 def replay(plan: str, capture: str) -> Report:

@@ -97,8 +97,8 @@ def _replies(rep):
     yield ""
     yield from tables.aligned(("tx", "replies", "share", ""), rows)
     yield from _without("tx", [row.tx for row in rep.tx if not row.accepted])
-    yield "picked by the reader's processor and the receive hash; a kernel takes others unless --tx " \
-          "drew its hash (docs/kernel.md)"
+    yield "picked by the reader's processor and the receive hash; a kernel takes others unless " \
+          "--tx drew its hash (docs/kernel.md)"
 
 
 def _flows(rep, names):

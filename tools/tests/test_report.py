@@ -2,7 +2,10 @@
 
 import io
 import re
+import sys
+import time
 import unittest
+from unittest import mock
 
 from reporting import REPLIED, Folder, example, random_plan, write_capture
 
@@ -51,6 +54,22 @@ class Reading(unittest.TestCase):
             (2, "stand 0 3", "done"), (3, "expire", "expired 0"), (4, "online 3", "idle online"),
             (5, "xcpus 0 -", "busy inside 1")])
         self.assertEqual(found.end, (3, 3, 73))
+
+    def test_a_terminal_has_how_many_lines_are_read(self):
+        """At 1 s nothing is said, at 3 s and at 6 s the lines that were read by then."""
+        writes = b"w app 0 entry 376 cpu 2\n" * 30000
+        data = REPLIED.replace(b"tap 0 bytes", writes + b"tap 0 bytes")
+        with Folder() as folder:
+            path = folder.write("report", data)
+            for terminal, told, text in (
+                    (True, True, "\r\x1b[K%s: lines read: 16384\r\x1b[K%s: lines read: 24576\r\x1b[K"
+                     % (path, path)), (True, False, ""), (False, True, "")):
+                said = io.StringIO()
+                said.isatty = lambda: terminal
+                with mock.patch.object(sys, "stderr", said), \
+                        mock.patch.object(time, "monotonic", side_effect=[0, 1, 3, 6]):
+                    self.assertEqual(len(report.read_file(path, told).writes), 30000)
+                self.assertEqual(said.getvalue(), text)
 
     def test_a_report_cut_anywhere_is_refused_with_its_last_whole_line(self):
         for size in range(len(REPLIED)):
