@@ -106,13 +106,18 @@ def kinds_of(plan: Plan) -> int:
     return plan.get("kinds", DEFAULTS["kinds"])
 
 
-def of_hashes(plan: Plan, without_ports: int, packets: int) -> str | None:
-    """A note on packets of a capture that are not hashed by their ports, or None."""
+def of_hashes(plan: Plan, without_ports: int, packets: int, drawn: bool = False) -> str | None:
+    """A note on packets of a capture that are not hashed by their ports, or None.
+
+    `drawn` is whether the hash is drawn that a kernel makes for them.
+    """
     if not without_ports:
         return None
+    then = ("so here it is drawn: try several draws" if drawn else
+            "so their processors are not to be foretold")
     return ("%d of %d packets (%s) are hashed without ports (kinds %d): a kernel steers them by a "
-            "hash of its own, so their processors are not to be foretold"
-            % (without_ports, packets, share(without_ports, packets), kinds_of(plan)))
+            "hash of its own, %s"
+            % (without_ports, packets, share(without_ports, packets), kinds_of(plan), then))
 
 
 def of_kinds(plan: Plan) -> str | None:

@@ -351,19 +351,27 @@ def hashed_without_ports(capture: str, kinds: int) -> tuple[int, int]:
             int(out.splitlines()[-1].split()[1]))
 
 
-def notes_about(settings: plans.Plan, load: Load | None, capture: str,
-                kernel: bool = False) -> list[str]:
+def note_of_hashes(settings: plans.Plan, capture: str, drawn: bool) -> str | None:
+    """A note on the packets of a capture for which a kernel makes a hash of its own, or None."""
+    if not cautions.picks_by_hash(settings):
+        return None
+    counts = hashed_without_ports(capture, cautions.kinds_of(settings))
+    return cautions.of_hashes(settings, *counts, drawn)
+
+
+def notes_about(settings: plans.Plan, load: Load | None, capture: str, kernel: bool = False,
+                remap_notes: bool = False) -> list[str]:
     """What a replay of a plan over a capture does not show, or shows otherwise than a kernel.
 
     `load` is None for steps by chance. Those of a plan itself are not used. `kernel` is whether
-    packets are rewritten so that they go where a kernel sends them.
+    packets are rewritten so that they go where a kernel sends them, and `remap_notes` whether the
+    notes of that are said too.
     """
     notes = [cautions.of_backlog(settings)]
     if not kernel:
         notes.append(cautions.of_readers(settings))
-        if cautions.picks_by_hash(settings):
-            counts = hashed_without_ports(capture, cautions.kinds_of(settings))
-            notes.append(cautions.of_hashes(settings, *counts))
+    if not remap_notes:
+        notes.append(note_of_hashes(settings, capture, kernel))
     steps = settings["steps"] if isinstance(settings["steps"], list) else []
     commands = sum(step.split(" ")[0] in COMMANDS for step in steps)
     if commands and load is not None:

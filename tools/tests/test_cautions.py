@@ -83,7 +83,13 @@ class Cautions(unittest.TestCase):
         self.assertIsNone(cautions.of_kinds(one))       # a mask of one member needs no hash
         self.assertIsNotNone(cautions.of_kinds(dict(plan_of([(0, [1, 2], 0)]), kinds=27)))
         self.assertIsNone(cautions.of_kinds(plan_of([(0, [1, 2], 0)])))
-
+        two = plan_of([(0, [1, 2], 0)], kinds=27)
+        for drawn, end in ((False, "so their processors are not to be foretold"),
+                           (True, "so here it is drawn: try several draws")):
+            self.assertIsNone(schedule.note_of_hashes(one, example("web.pcap"), drawn))
+            self.assertEqual(schedule.note_of_hashes(two, example("web.pcap"), drawn),
+                             "5 of 177 packets (2.8%) are hashed without ports (kinds 27): a "
+                             "kernel steers them by a hash of its own, " + end)
 
 def mutated(draw, text):
     """The text with a few bytes, words or lines taken out, doubled or changed."""

@@ -288,6 +288,7 @@ class Program(unittest.TestCase):
             words = (WEB, name, "--pps", "1000", "--kernel", "--draws", "3-4")
             status, out, messages = running.inside("steer-try", *words)
             self.assertEqual(status, cli.DONE, messages)
+            self.assertEqual(messages.count("5 of 177 packets (2.8%) are hashed without ports"), 1)
             for draw in (3, 4):
                 row = next(line for line in out.split("busiest")[1].splitlines()
                            if line.endswith("draw %d" % draw))

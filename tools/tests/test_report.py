@@ -62,8 +62,8 @@ class Reading(unittest.TestCase):
         with Folder() as folder:
             path = folder.write("report", data)
             for terminal, told, text in (
-                    (True, True, "\r\x1b[K%s: lines read: 16384\r\x1b[K%s: lines read: 24576\r\x1b[K"
-                     % (path, path)), (True, False, ""), (False, True, "")):
+                    (True, True, "\r\x1b[K%s: lines read: 16384\r\x1b[K%s: lines read: 24576"
+                     "\r\x1b[K" % (path, path)), (True, False, ""), (False, True, "")):
                 said = io.StringIO()
                 said.isatty = lambda: terminal
                 with mock.patch.object(sys, "stderr", said), \

@@ -131,7 +131,7 @@ def main(words: list[str]) -> None:
         if told.fit:
             times, capture = fitting(times, load, capture, source, folder)
         schedule.check_fit(times, load, source, "; --fit takes them")
-        for text in schedule.notes_about(settings, load, capture, told.kernel):
+        for text in schedule.notes_about(settings, load, capture, told.kernel, told.kernel):
             cli.note("%s: %s" % (plan_source, text))
         if told.kernel:
             settings, capture = by_kernel(told, settings, plan_source, capture, folder)
