@@ -12,7 +12,7 @@ import re
 ROOT = os.path.dirname(os.path.dirname(os.path.abspath(__file__)))
 USE = re.compile(r"^\s*(?:pub )?use ([\w.]+?)(?:\.\{([^}]*)\}| as (\w+))", re.M)
 HEAD = re.compile(r"(?:(?:abbrev|unfoldable|opaque) )?(?:pub )?(?:record |data )?(?:pub )?"
-                  r"([^\s:({]+)(?=\s*[:({]|\s*$)")
+                  r"([^\s:(){}]+)(?=\s*[:({]|\s*$)")
 PUBLIC = re.compile(r"\s*(?:(?:abbrev|unfoldable|opaque) pub|pub (?:record|data)) ")
 WORD = re.compile(r"[^\s(){}\[\],;.λ→×⊎≡≤<∷]+")
 QUALIFIED = re.compile(r"(?<![\w.)])(\w+)\.([^\s(){}\[\],;.]+)")
