@@ -3,6 +3,7 @@
 A definition names the type `History` of src/history.rt by `specs.declared.history.History`, its
 cases by `..History.TheVariants`, and the constants of a file by `..FILE.TheConstants`.
 """
+import functools
 import os
 import re
 
@@ -42,7 +43,7 @@ class Declaration:
         """The fields with their types, or the types that the cases of an enum hold."""
         text = re.sub(r"//.*", "", "\n".join(self.lines))
         if self.kind == "enum":
-            return [(None, text)]
+            return [(None, re.sub(r"^    \w+", "", text, flags=re.M))]
         return re.findall(r"(\w+): ([^;{}]+?)(?:,\n|\n\}|$)", text)
 
 
@@ -121,6 +122,12 @@ class Sources:
                             yield found
 
 
+@functools.lru_cache(maxsize=None)
+def all_sources():
+    """The sources, read once."""
+    return Sources()
+
+
 def words_of(found, pairs):
     """The words of definitions, and the fields that they read or set."""
     words, fields = set(), set()
@@ -145,7 +152,7 @@ def types_of(found, pairs):
     Those that they name come first, then what these hold in fields that are read. Held types that
     no definition looks into are only named, second, and third those that are numbers.
     """
-    sources, listed, closed, numbers = Sources(), [], set(), set()
+    sources, listed, closed, numbers = all_sources(), [], set(), set()
     words, fields = words_of(found, pairs)
     left = [(sources.named(*pair), True) for module, name in pairs
             for pair in found[module].uses(name)]

@@ -7,6 +7,12 @@ COVERED = {
     "<", "≤", "⊎", "if◌then◌else",
 }
 
+# Names that Haskell, Rust or Agda have too, with the same meaning.
+USUAL = {
+    "bit_and", "bit_or", "bit_xor", "drop", "filter", "filter_map", "find", "is_some", "length",
+    "map", "nat_le", "nat_lt", "not", "option_map", "take", "unwrap_or",
+}
+
 LIBRARY = {
     "All": "All P xs: P holds of each item of xs",
     "Data": "a JSON value: null, a truth value, a number, a string, an array or an object",

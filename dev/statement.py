@@ -1,20 +1,21 @@
 """Writes docs/statement/: for a theorem one page with every definition that it rests on.
 
-A page has a head, the types of the code that the definitions read, and the definitions, those of
-one file together. The fields of the theorem come in their order, and what a definition uses comes
-after it or is of an earlier field, so a reader goes from top to bottom and stops where the words
-are plain.
+A page has a head, the parts of dev/reading_parts.py, each group with the types of the code that it
+needs first, and at the end what is for looking up: placeholders, types with the comments on their
+fields, names of the libraries, and where each definition stands. Definitions are laid out by
+dev/typeset.py, and the words of the page are compared with those of the sources.
 """
+import hashlib
 import re
 import sys
 
 import declared
+import reading_parts
 import specs
-from library import COVERED, LIBRARY
-from statement_words import NOTATION, PAGES, SAYINGS, WORDS
-
-# The clauses of a good history, each by its number.
-CLAUSES = ("steer_model.specs.Good.GoodHistory", "Clause")
+import typeset
+from library import COVERED, LIBRARY, USUAL
+from statement_words import (ALONE, EXPLAINED, NOTATION, PAGES, PARTS, PLACEHOLDERS, PLAINER,
+                             READING, SAYINGS, WORDS)
 
 
 def module_path(module):
@@ -22,95 +23,48 @@ def module_path(module):
     return module.replace(".", "/")
 
 
-def order(found, roots):
-    """The definitions that these rest on, each before those that it uses, first used first."""
-    marked, done = set(), []
-
-    def visit(pair):
-        if pair in marked:
-            return
-        marked.add(pair)
-        for used in reversed(found[pair[0]].uses(pair[1])):
-            below = specs.owner(found, *used)
-            if below:
-                visit(below)
-        done.append(pair)
-
-    for root in roots:
-        visit(root)
-    return done[::-1]
+def anchor(title):
+    """The place of a heading in a page, as GitHub makes it."""
+    return re.sub(r"[^\w\- ]", "", title).replace(" ", "-").lower()
 
 
-def field_files(found, pairs):
-    """The files that a theorem's fields are stated in, each with the file of the theorem.
-
-    The theorems are those of all pages and `Clause`, as far as they are among the definitions.
-    """
-    above = {}
-    roots = [about["root"] for about in PAGES.values()] + [CLAUSES]
-    for root in [pairs[0]] + [root for root in roots if root in pairs]:
-        for used in found[root[0]].uses(root[1]):
-            pair = specs.owner(found, *used)
-            if pair and pair[1][0].isupper() and not is_values(found, *pair):
-                above.setdefault(pair[0], root[0])
-    return above
+def named(names):
+    """Names as a list in a sentence."""
+    return ", ".join(f"`{name.strip('◌')}`" for name in names)
 
 
-def by_file(found, pairs):
-    """The same definitions, those of a file together: the fields of a theorem in their order.
-
-    After the file of a field come the files that it alone uses, and at the end those that several
-    use. So a file comes before those that it uses, unless these are of an earlier field.
-    """
-    within, marked, done = {}, set(), []
-    for module, name in pairs:
-        within.setdefault(module, []).append(name)
-    above = field_files(found, pairs)
-
-    def visit(module):
-        if module in marked:
-            return
-        marked.add(module)
-        used = [specs.owner(found, *pair) for name in within[module]
-                for pair in found[module].uses(name)]
-        for below in reversed(used):
-            if below and above.get(below[0], module) == module:
-                visit(below[0])
-        done.append(module)
-
-    visit(pairs[0][0])
-    assert len(done) == len(within), "a file of a field that its theorem does not name"
-    return [(module, within[module]) for module in done[::-1]]
+def first_sentence(text):
+    """The first sentence of a comment."""
+    return re.split(r"(?<=\.) (?=[A-Z])", " ".join(text.split()))[0]
 
 
-def escaped(text):
-    """Words of a comment as Markdown shows them."""
-    return re.sub(r"(?<!`)([<*])(?!`)", r"\\\1", text)
-
-
-def block(lines):
-    """Lines as a block of code."""
-    return ["    " + line if line else "" for line in lines]
-
-
-def shown_definition(found, module, name, place="", note=""):
-    """A definition: its comment with a note, and below it its own lines."""
-    definition = found[module].definitions[name]
-    words = " ".join(row[2:].strip() for row in definition.comment)
-    said = SAYINGS.get((module, name)) or words
+def comment_on(found, module, name):
+    """What a definition says in words: of a theorem, whose parts say the rest, one sentence."""
+    said = " ".join(row[2:].strip() for row in found[module].definitions[name].comment)
+    if (module, name) in PLAINER:
+        digest, shorter = PLAINER[module, name]
+        if hashlib.sha256(said.encode()).hexdigest()[:len(digest)] != digest:
+            sys.exit(f"proof-map.py: the comment on {module}.{name} has changed; look at PLAINER")
+        return shorter
+    said = SAYINGS.get((module, name), said)
     if not said:
         sys.exit(f"proof-map.py: {module}.{name} has no comment, and SAYINGS no sentence on it")
-    scope = definition.scope
-    said = said.rstrip(".") + "." + note if note else said
-    return [f"**`{name.strip('◌')}`**{place}: {escaped(said)}",
-            ""] + block(scope + definition.shown) + [""]
+    return first_sentence(said) if (module, name) in PARTS else said
 
 
-def shown_type(declaration, fields):
-    """A type or a constant of the code: its comment and its declaration without ghost facts.
+def shown_definition(found, module, name, notes=()):
+    """A definition: its comment, notes in brackets, and its own lines laid out."""
+    definition = found[module].definitions[name]
+    said = typeset.comment(comment_on(found, module, name), "-- ")
+    said += typeset.comment(f"[{'; '.join(notes)}]", "-- ") if notes else []
+    lines = definition.shown
+    if lines == definition.lines:
+        lines = typeset.definition(lines, reading_parts.is_values(found, module, name))
+    return said + definition.scope + lines + [""]
 
-    Of a struct only these fields are shown.
-    """
+
+def seen_lines(declaration, fields):
+    """The lines of a type without ghost facts, and of a struct with these fields alone."""
     lines, skipping = [], None
     for line in declaration.read_lines(fields):
         indent = len(line) - len(line.lstrip())
@@ -120,124 +74,57 @@ def shown_type(declaration, fields):
             lines.append(line)
         if skipping is not None and indent == skipping and line.rstrip().endswith(","):
             skipping = None
-    said = " ".join(declaration.comment)
-    return [f"**`{declaration.name}`** ({declaration.path[len('crates/'):]}): {escaped(said)}",
-            ""] + block(lines) + [""]
+    return lines
 
 
-def library_rows(found, pairs):
-    """The definitions of the libraries that occur: name, module, and one sentence each."""
+def short_type(declaration, fields):
+    """A type or a constant of the code: a sentence, and its declaration, if EXPLAINED in full."""
+    is_explained = declaration.name in EXPLAINED
+    lay_out = typeset.declaration if is_explained else typeset.short_declaration
+    said = first_sentence(" ".join(declaration.comment))
+    return typeset.comment(said, "// ") + lay_out(seen_lines(declaration, fields)) + [""]
+
+
+def full_type(declaration, fields):
+    """A type or a constant of the code: its comment, and its declaration with all comments."""
+    lines = typeset.declaration(seen_lines(declaration, fields))
+    return typeset.comment(" ".join(declaration.comment), "// ") + lines + [""]
+
+
+def fence(language, lines):
+    """Lines as a block of code, without the blank line at their end."""
+    return [f"```{language}"] + lines[:-1] + ["```", ""] if lines else []
+
+
+def unfenced(text, language):
+    """The lines of the blocks of code of a language, without comments."""
+    blocks = re.findall(rf"^```{language}\n(.*?)^```$", text, re.M | re.S)
+    return [line for block in blocks for line in block.split("\n")
+            if not line.lstrip().startswith("--")]
+
+
+def library_names(found, pairs):
+    """The definitions of the libraries that occur, each with its module and its first user."""
     names = {}
     for module, name in pairs:
         for of, used in found[module].uses(name):
             used = used.strip("◌")
-            own = of.partition(".")[0] in specs.crates()
-            if not own and used not in COVERED:
-                names.setdefault(used, of)
+            if of.partition(".")[0] not in specs.crates() and used not in COVERED:
+                names.setdefault(used, (of, (module, name)))
     unknown = sorted(name for name in names if name not in LIBRARY)
     if unknown:
         sys.exit(f"proof-map.py: dev/library.py says nothing of {', '.join(unknown)}")
-    return [f"| `{name}` | {names[name]} | {LIBRARY[name]} |" for name in sorted(names)]
+    return names
 
 
-def head(found, page, pairs, files):
-    """What comes before the theorem."""
-    about = PAGES[page]
-    lines = sum(len(found[m].definitions[n].lines) for m, n in pairs)
-    out = [f"# {about['title']}", "", "Generated by `dev/proof-map.py`; do not edit.", "",
-           about["states"], "", f"**Promised by.** {about['promised']}", "",
-           f"**Here** are all {len(pairs)} definitions that `{about['root'][1]}` rests on, from "
-           f"{len(files)} files, {lines} lines without comments, as they are in `crates/*/specs`. "
-           "To know what it says, nothing else of the repository has to be read. The theorem "
-           "comes first, then the types. Then its fields follow in their order, each with what it "
-           "alone rests on, and after them what several rest on; the definitions of a file are "
-           "together. So what a definition uses is below it, or belongs to an earlier field: read "
-           "downwards, and stop where the words are plain to you. The names of the libraries are "
-           "at the end.", "", "**Words**, of those in [glossary.md](../glossary.md):", ""]
-    out += [f"- {row}" for row in WORDS] + ["", "**Notation.**", ""]
-    out += [f"{n}. {row}" for n, row in enumerate(NOTATION, 1)] + [""]
-    names = aliases(found, pairs)
-    if names:
-        out += ["Short names before a dot, as in `says.Done`: " + "; ".join(names) + ".", ""]
-    return out
-
-
-def fields(found, page):
-    """The fields of a theorem that name definitions: each with its label and these definitions."""
-    module, name = PAGES[page]["root"]
-    title, labels = PAGES[page].get("labels", (None, ()))
-    text = "\n".join(found[module].definitions[name].lines)
-    rows = []
-    for field in re.split(r"\n  pub ", text)[1:]:
-        used = [specs.owner(found, *pair) for pair in found[module].meanings(field, name)]
-        if any(used):
-            label = f", {title} {labels[len(rows)]}" if title else ""
-            rows.append((f"`{field.split(' :')[0]}`{label}", [pair for pair in used if pair]))
-    if title and len(labels) != len(rows):
-        sys.exit(f"proof-map.py: {page} has {len(rows)} fields, and {len(labels)} labels")
-    return rows
-
-
-def field_table(found, page):
-    """For each field of the theorem the definitions that it names, and on how many it rests."""
-    out = [f"| field of `{PAGES[page]['root'][1]}` | says it by | definitions that it rests on |",
-           "|---|---|---|"]
-    for field, first in fields(found, page):
-        links = ", ".join(f"[`{n}`](#{anchor(found, page, m, n)})" for m, n in first)
-        out.append(f"| {field} | {links} | {len(specs.closure(found, first))} |")
-    return out + [""]
-
-
-def field_notes(found, page):
-    """For each file that a field of the theorem is stated in, a line that names the field."""
+def library_notes(names):
+    """What names of the libraries are that not all languages have, by their first users."""
     notes = {}
-    for field, first in fields(found, page):
-        for module, name in first:
-            row = f"{field}, by `{name}`"
-            if name[0].isupper() and not is_values(found, module, name):
-                rows = notes.setdefault(module, [])
-                rows += [row] if row not in rows else []
-    return {module: [f"*Stated here: {'; '.join(rows)}.*", ""] for module, rows in notes.items()}
-
-
-def anchor(found, page, module, name=None):
-    """The place in a page of a definition's file, as GitHub makes it of the heading."""
-    if name and (module, name) != PAGES[page]["root"] and is_values(found, module, name):
-        return "types"
-    return module_path(module).replace("/", "").lower()
-
-
-CLOSURES = {}
-
-
-def closure_of(found, page):
-    """The definitions of a page."""
-    if page not in CLOSURES:
-        CLOSURES[page] = specs.closure(found, [PAGES[page]["root"]])
-    return CLOSURES[page]
-
-
-def seen_before(found, page, module, names):
-    """Says where the definitions of a file are read already, if all of them are."""
-    for earlier in PAGES[page]["after"]:
-        known = closure_of(found, earlier)
-        if all((module, name) in known for name in names):
-            link = f"{earlier}.md#{anchor(found, earlier, module)}"
-            return [f"*The same as on [{earlier}]({link}).*", ""]
-    return []
-
-
-def is_values(found, module, name):
-    """Whether a definition is a record of values or a list of cases, and no statement."""
-    definition = found[module].definitions[name]
-    if not re.match(r"\s*pub (record|data) ", definition.lines[0]):
-        return False
-    fields = re.sub(r"\w+ (?=:)", "", definition.text().partition(" where")[2])
-    for pair in found[module].meanings(fields, name):
-        below = specs.owner(found, *pair)
-        if below and not is_values(found, *below):
-            return False
-    return not re.search("[≡≢≤<×⊎↔]", fields)
+    for name, (_, user) in names.items():
+        if name not in USUAL:
+            said = LIBRARY[name] if LIBRARY[name].startswith(name) else f"{name}: {LIBRARY[name]}"
+            notes.setdefault(user, {})[name] = said
+    return notes
 
 
 def aliases(found, pairs):
@@ -255,10 +142,10 @@ def place_of(found, module, name):
     """What a name is of, in words: a file of definitions, a type of the code, or a library."""
     owner = specs.owner(found, module, name)
     if owner:
-        return f"that of `{module_path(owner[0])}`"
+        return f"that of {module_path(owner[0])}"
     crate, _, rest = module.partition(".specs.declared.")
     if rest and crate in specs.crates():
-        return f"that of `{re.sub('[.]TheVariants$', '', rest).split('.')[-1]}`"
+        return f"that of {re.sub('[.]TheVariants$', '', rest).split('.')[-1]}"
     return "the library's"
 
 
@@ -273,54 +160,158 @@ def twice(found, pairs):
         if len(places) > 1 and used not in COVERED and used[0].islower():
             for place, users in places.items():
                 for user in users:
-                    out.setdefault(user, []).append(f" Here `{used}` is {place}.")
+                    out.setdefault(user, {})[used] = f"{used}: {place}"
     return out
 
 
-def type_part(found, pairs, values):
-    """The records of values of the definitions, and the types and constants of the code."""
-    types, closed, numbers = declared.types_of(found, pairs)
-    _, fields = declared.words_of(found, pairs)
-    out = ["## Types", "",
-           "First those of the definitions, then those of the code as they are declared in "
-           "`crates/`, without facts that they carry (`ghost`) and without what no other crate "
-           "sees. In definitions a `List` or a slice is a list, and numbers of any width are ℕ; "
-           "so are "
-           + ", ".join(f"`{name}`" for name in numbers) + "."]
-    if closed:
-        out[-1] += (" No definition looks into "
-                    + ", ".join(f"`{name}`" for name in closed) + ".")
-    out.append("")
-    for pair in values:
-        out += shown_definition(found, *pair, f" ({module_path(pair[0])})")
-    for declaration in types:
-        out += shown_type(declaration, fields)
-    return out
+def line_count(found, pairs):
+    """How many lines definitions have on a page, without comments and blank lines."""
+    lines = [line for pair in pairs for line in shown_definition(found, *pair)]
+    return sum(1 for line in lines if line and not line.lstrip().startswith("--"))
+
+
+class Page:
+    """A page: its parts, its placeholders, and the types that each group of a part needs first."""
+
+    def __init__(self, found, name):
+        self.found, self.about = found, PAGES[name]
+        self.parts, self.placeholders = reading_parts.page_parts(found, name)
+        self.read = [pair for part in self.parts for pair in part.pairs]
+        self.pairs = self.read + self.placeholders
+        self.names = library_names(found, self.pairs)
+        self.notes = twice(found, self.pairs)
+        for user, said in library_notes(self.names).items():
+            self.notes.setdefault(user, {}).update(said)
+        self.fields = declared.words_of(found, self.read)[1]
+        self.types, self.first_types = [], {}
+        for pairs in (pairs for part in self.parts for pairs in part.groups):
+            so_far = self.read[:self.read.index(pairs[-1]) + 1]
+            needed, self.closed, self.numbers = declared.types_of(found, so_far)
+            self.first_types[pairs[0]] = [of for of in needed if of not in self.types]
+            self.types += self.first_types[pairs[0]]
+
+    def definitions(self, pairs):
+        """Definitions as lines of code."""
+        return [line for pair in pairs
+                for line in shown_definition(self.found, *pair, self.notes.get(pair, {}).values())]
+
+    def group(self, part, pairs):
+        """A group of a part: the types that it needs first and its definitions.
+
+        A theorem comes before its types. After the first group each has a heading.
+        """
+        rust = fence("rust", [line for of in self.first_types[pairs[0]]
+                              for line in short_type(of, self.fields)])
+        if pairs[0] == part.theorem:
+            return fence("agda", self.definitions(pairs)) + rust
+        heading = [f"### {named([pairs[0][1]])}", ""] if pairs is not part.groups[0] else []
+        return heading + rust + fence("agda", self.definitions(pairs))
+
+    def earlier(self, part):
+        """Which definitions of a part are on pages that are read before this one."""
+        out, left = [], part.pairs
+        for page in self.about["after"]:
+            known = specs.closure(self.found, [PAGES[page]["root"]])
+            names = [pair[1] for pair in left if pair in known]
+            left = [pair for pair in left if pair not in known]
+            if names:
+                which = "all of this" if len(names) == len(part.pairs) else named(names)
+                out.append(f"on [{page}]({page}.md): {which}")
+        return [f"*Read already {'; '.join(out)}.*", ""] if out else []
+
+    def shown_part(self, part):
+        """A part: its heading, words, what of it is on other pages, and its groups."""
+        out = [f"## {part.title}", ""]
+        out += [f"- {WORDS[word]}" for word in part.words] + ([""] if part.words else [])
+        out += self.earlier(part)
+        return out + [line for group in part.groups for line in self.group(part, group)]
+
+    def table(self):
+        """The parts with their sizes: what each has, and what has to be read for it alone."""
+        out = ["| part | fields | definitions | lines | lines so far | to read it alone |",
+               "|---|---|---|---|---|---|"]
+        so_far = 0
+        for part in self.parts:
+            lines = line_count(self.found, part.pairs)
+            so_far += lines
+            alone = specs.closure(self.found, part.roots).intersection(self.read)
+            out.append(f"| [{part.title}](#{anchor(part.title)}) | {named(part.fields)} | "
+                       f"{len(part.pairs)} | {lines} | {so_far} | "
+                       f"{line_count(self.found, alone)} |")
+        return out + [""]
+
+    def head(self):
+        """What comes before the theorem."""
+        about, names = self.about, aliases(self.found, self.read)
+        notation = NOTATION.format(numbers=named(self.numbers))
+        notation += f" No definition looks into {named(self.closed)}." if self.closed else ""
+        notation += f" Short names before a dot: {'; '.join(names)}." if names else ""
+        reading = READING.format(count=len(self.pairs), name=about["root"][1])
+        return [f"# {about['title']}", "", "Generated by `dev/proof-map.py`; do not edit.", "",
+                about["states"], "", f"**Promised by.** {about['promised']}", "",
+                f"**How to read.** {reading}", "", *self.table(), f"**Notation.** {notation}", ""]
+
+    def alone(self):
+        """For each part what its definitions name of earlier parts."""
+        out = ["## Parts alone", "", ALONE, "", "| part | of earlier parts |", "|---|---|"]
+        for part in self.parts[1:]:
+            used = {pair for own in part.pairs for pair in reading_parts.used_by(self.found, own)}
+            rest = [pair[1] for pair in self.read if pair in used and pair not in part.pairs]
+            out.append(f"| {part.title} | {named(rest)} |")
+        return out + [""]
+
+    def places(self):
+        """For each file the definitions and types of the page that it has."""
+        out = ["## Where each definition stands", "", "| file | definitions, types |", "|---|---|"]
+        places = [(module_path(module), name) for module, name in self.pairs]
+        places += [(of.path.partition("/")[2], of.name) for of in self.types]
+        for file in sorted({file for file, _ in places}):
+            names = sorted(name for of, name in places if of == file)
+            out.append(f"| `{file}` | {named(names)} |")
+        return out
+
+    def tail(self):
+        """What need not be read."""
+        out = ["## Placeholders", "", PLACEHOLDERS, ""] if self.placeholders else []
+        out += fence("agda", self.definitions(self.placeholders))
+        out += ["## Types in full", ""] + fence("rust", [
+            line for of in self.types if of.name not in EXPLAINED
+            for line in full_type(of, self.fields)])
+        out += [*self.alone(), "## Names of the libraries", "", "| name | module | what it is |",
+                "|---|---|---|"]
+        out += [f"| `{name}` | {self.names[name][0]} | {LIBRARY[name]} |"
+                for name in sorted(self.names)]
+        return out + ["", *self.places()]
+
+    def text(self):
+        """The text of the page."""
+        parts = [line for part in self.parts for line in self.shown_part(part)]
+        return "\n".join(self.head() + parts + self.tail()) + "\n"
+
+
+def check_words(found, page, pairs, text):
+    """Compares the words of the definitions of a page with those of their files."""
+    own = []
+    for module, name in pairs:
+        definition = found[module].definitions[name]
+        words = typeset.words_of(definition.scope + definition.lines)
+        rows = specs.read(found[module].path).split("\n")
+        file = typeset.words_of(row for row in rows if not row.lstrip().startswith("--"))
+        sign = " ".join(typeset.words_of(definition.lines))
+        is_whole = all(sign.count(begin) == sign.count(end) for begin, end in ("()", "[]", "{}"))
+        if f" {sign} " not in f" {' '.join(file)} " or not is_whole:
+            sys.exit(f"proof-map.py: {module}.{name} is not whole")
+        own += words
+    if typeset.words_of(unfenced(text, "agda")) != own:
+        sys.exit(f"proof-map.py: definitions of {page} have other words than in the sources")
 
 
 def page_text(found, page):
-    """The text of a page."""
-    root = PAGES[page]["root"]
-    pairs = order(found, [root])
-    files = by_file(found, pairs)
-    out = head(found, page, pairs, files)
-    out += field_table(found, page)
-    notes, stated = twice(found, pairs), field_notes(found, page)
-    first = found[root[0]].uses(root[1])
-    values = sorted((pair for pair in pairs[1:] if is_values(found, *pair)),
-                    key=lambda pair: pair not in first)
-    for number, (module, names) in enumerate(files):
-        shown = [name for name in names if (module, name) not in values]
-        if shown:
-            out += [f"## {module_path(module)}", ""]
-            out += stated.get(module, []) + seen_before(found, page, module, names)
-        for name in shown:
-            note = "".join(notes.get((module, name), ()))
-            out += shown_definition(found, module, name, note=note)
-        if number == 0:
-            out += type_part(found, pairs, values)
-    out += ["## Names of the libraries", "", "| name | module | what it is |", "|---|---|---|"]
-    return "\n".join(out + library_rows(found, pairs)) + "\n"
+    """The text of a page, whose definitions have the words that they have in the sources."""
+    made = Page(found, page)
+    text = made.text()
+    check_words(found, page, made.pairs, text)
+    return text
 
 
 def path_of(page):
