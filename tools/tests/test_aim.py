@@ -104,6 +104,15 @@ class Flows(unittest.TestCase):
             _, rows, _ = aimed("tcp", "192.0.2.1:1", "198.51.100.7:2", to=name)
         self.assertEqual([row[:5] for row in rows], [["-", "none", "0", "4", "?"]])
 
+    def test_what_a_snapshot_has_not(self):
+        """A device without ethtool: what is taken in place of the card's own is said."""
+        status, rows, said = aimed("tcp", *SUITE[0][:2], to=sample("snap", "virtio-1q.snap"))
+        self.assertEqual((status, rows[0][0]), (0, "%08x" % SUITE[0][2]))
+        self.assertEqual(said, "".join(
+            "note: the snapshot has no %s of the card; %s taken\n" % pair for pair in (
+                ("key", "the verification key is"), ("kinds", "kinds 63 are"),
+                ("table", "an even one is"))))
+
     def test_rules_and_wide_machines(self):
         """A rule of the samples leads TCP to port 80 of 10.9.0.1; 32 queues are no plan's."""
         text = running.sample_text("snap", "ixgbe-8q-rules.snap")

@@ -194,6 +194,13 @@ class Plan(unittest.TestCase):
         table = [7] + [i % 8 for i in range(1, 112)]
         self.assertEqual((made["reta"], found.refusals), (table + table[:16], []))
 
+    def test_nearest_leaves_contexts_to_steer_remap(self):
+        pattern, new = [row[:2] for row in REFUSED if "RSS contexts" in row[2]][0]
+        _, found = machine.plan_of(parsed(re.sub(pattern, new, BASE)), nearest=True)
+        self.assertEqual(found.refusals, [])
+        self.assertIn("several RSS contexts: a rule leads to a table of its own, which steer-remap "
+                      "--snap follows and a plan does not", found.notes)
+
     def test_refusals(self):
         for pattern, new, reason in REFUSED:
             text = re.sub(pattern, new, BASE)

@@ -222,6 +222,27 @@ class Program(unittest.TestCase):
                 self.assertEqual(status, cli.DONE, messages)
                 self.assertIn(text, messages)
 
+    def test_notes_on_a_capture(self):
+        """A record that is cut is left out, and blocks that steer passes over."""
+        whole = cli.read_bytes(WEB)
+        first = struct.unpack_from("<I", whole, 32)[0]
+        obsolete = struct.pack("<HHIIII", 0, 0, 0, 0, 60, 60) + bytes(60)
+        blocks = struct.pack("<IIIHHqI", 0x0a0d0d0a, 28, 0x1a2b3c4d, 1, 0, -1, 28)
+        blocks += struct.pack("<IIHHII", 1, 20, 1, 0, 0, 20)
+        for kind, body in ((2, obsolete), (6, struct.pack("<IIIII", 0, 0, 0, 60, 60) + bytes(60))):
+            size = struct.pack("<I", len(body) + 12)
+            blocks += struct.pack("<I", kind) + size + body + size
+        for data, packets, text in (
+                (whole[:40 + first + 20], 1, "the last record is cut and left out: 20 bytes of it "
+                                             "are there"),
+                (blocks, 1, "1 obsolete packet blocks are left out, since steer passes them over")):
+            with self.subTest(text), reporting.Folder() as folder:
+                status, messages, (_, new) = ran(folder, plan_of_snap(folder),
+                                                 folder.write("a", data))
+                self.assertEqual(status, cli.DONE, messages)
+                self.assertIn("note: %s\n" % text, messages)
+                self.assertTrue(running.steer("hash", new)[1].endswith("packets %d\n" % packets))
+
     def test_wrong_words(self):
         for words, text in ((("--reader", "80"), "not PORT=CPU"), (("--reader", "x=1"), "`x`"),
                             (("--reader", "80=16"), "the plan has 0 to 15"),

@@ -189,6 +189,23 @@ class Words(unittest.TestCase):
                 self.assertEqual(found[:2], (4, ""), index)
 
 
+    def test_what_is_left_out(self):
+        """Of the plan's own keys, each said in a note."""
+        left = "note: %s\n"
+        steps = "its steps are left out: steer-steps makes those of each part"
+        detached = "detach is left out: it counts the packets of the whole machine"
+        bare = "replies, transmit queues and readers are left out (no RFS)"
+        for changes, texts in (
+                ({}, [bare]), ({"steps": {"seed": 1, "count": 9}}, [steps, bare]),
+                ({"detach": [{"tap": 0, "after": 5}]}, [detached, bare])):
+            with Folder() as folder:
+                name = folder.write("whole.json", json.dumps(dict(halves(), **changes)).encode())
+                capture = folder.write("own.pcap", capture_of(1, 5))
+                status, _, said = running.inside("steer-split", name, capture, "--to",
+                                                 folder.path("parts"))
+            self.assertEqual((status, said), (0, "".join(left % text for text in texts)))
+
+
 class Files(unittest.TestCase):
     def test_the_capture_is_not_written_over(self):
         with Folder() as folder:
