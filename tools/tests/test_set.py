@@ -75,8 +75,8 @@ WRONG = (
     ("rps_sock_flow_entries", "no setting of the form NAME=VALUE"),
 )
 
-BIT = "by the manual's modulo the readers of rx 0-7 are picked by the same bits of the hash as the " \
-    "members of the mask, and are always where RPS sends the packet: RFS moves no flow there " \
+BIT = "by the manual's modulo the readers of rx 0-7 are picked by the same bits of the hash as " \
+    "the members of the mask, and are always where RPS sends the packet: RFS moves no flow there " \
     "(name other readers: --apps, apps=)"
 ONE_MORE = "backlog %d: a kernel lets one packet more wait than netdev_max_backlog %d says"
 NO_BACKLOG = "rx %s without RPS and RFS: a kernel handles a card's packets there at once, " \
