@@ -17,6 +17,9 @@ from library import COVERED, LIBRARY, USUAL
 from statement_words import (ALONE, EXPLAINED, NOTATION, PAGES, PARTS, PLACEHOLDERS, PLAINER,
                              READING, SAYINGS, WORDS)
 
+# After so many lines a reader may have forgotten what a name is.
+FAR = 200
+
 
 def module_path(module):
     """The file of a module as documents name it: crate/specs/File."""
@@ -164,6 +167,21 @@ def twice(found, pairs):
     return out
 
 
+def recalled(found, pairs):
+    """What names are that were met last far above, by the definitions that use them again."""
+    at, met, notes = 0, {}, {}
+    for pair in pairs:
+        for used in reading_parts.used_by(found, pair):
+            if at - met.get(used, at) > FAR and not reading_parts.is_values(found, *used):
+                said = first_sentence(comment_on(found, *used)).rstrip(".")
+                notes.setdefault(pair, {})[used[1]] = f"{used[1]}: {said}"
+            if used in met:
+                met[used] = at
+        met[pair] = at
+        at += len(shown_definition(found, *pair))
+    return notes
+
+
 def line_count(found, pairs):
     """How many lines definitions have on a page, without comments and blank lines."""
     lines = [line for pair in pairs for line in shown_definition(found, *pair)]
@@ -180,7 +198,7 @@ class Page:
         self.pairs = self.read + self.placeholders
         self.names = library_names(found, self.pairs)
         self.notes = twice(found, self.pairs)
-        for user, said in library_notes(self.names).items():
+        for user, said in [*library_notes(self.names).items(), *recalled(found, self.read).items()]:
             self.notes.setdefault(user, {}).update(said)
         self.fields = declared.words_of(found, self.read)[1]
         self.types, self.first_types = [], {}

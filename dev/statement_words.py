@@ -120,20 +120,20 @@ READING = joined("""
     All {count} definitions that `{name}` rests on are here; nothing else of the repository has to
     be read. After the theorem, each part takes up some of its fields, with what they rest on and no
     earlier part has; a definition comes soon after the first that uses it. A search for `f :` finds
-    f. What comes after the parts is for looking up. The words of the definitions are those of
-    `crates/*/specs`, as a check compares; line breaks and spaces are others, and some comments are
-    plainer. The table counts lines of definitions, without comments and types.""")
+    f. What comes after the parts is for looking up. The definitions have the words of
+    `crates/*/specs`, which a check compares; line breaks and spaces are others, and some comments
+    are plainer. The table counts lines of definitions, without comments and types.""")
 NOTATION = joined("""
-    Definitions read as in Agda: `f : A → B`, behind `abbrev pub` or `unfoldable pub`, gives the
+    Definitions read as in Agda: `f : A → B`, after `abbrev pub` or `unfoldable pub`, gives the
     types of f, and `f x = ..` its value, an equation for each case. A name with a capital letter is
     a type or a statement (of `Type 0`). `×` is and, `⊎` or, `→ ⊥` not, `↔` if and only if;
     `(x : ℕ) → P x` is for every x, `(x : ℕ) × P x` for some x. The fields of a statement's record
     all hold; one such as `at : ℕ → ℕ` says that there is such a value. `record s {{ f = v }}` is s
     with another f, and a field without a name is `0`. Numbers do not wrap, and `a - b` is 0 where b
-    is the greater. Names of the libraries are explained in brackets where they occur first.
-    [0-reading](../model/0-reading.md) has examples. Types are those of the code, without `pub`,
-    facts that they carry (`ghost`) and what no other crate sees; a `List` or a slice is a list, and numbers of
-    any width are ℕ, as are {numbers}.""")
+    is the greater. Brackets say what a name of the libraries is where it occurs first, and recall
+    names from far above. [0-reading](../model/0-reading.md) has examples. Types are those of the
+    code, without `pub`, facts that they carry (`ghost`) and what no other crate sees; a `List` or a
+    slice is a list, and numbers of any width are ℕ, as are {numbers}.""")
 ALONE = joined("""
     For whoever begins with a later part: what its definitions name of earlier ones.""")
 PLACEHOLDERS = joined("""
