@@ -9,6 +9,7 @@ from typing import Callable
 from . import limits
 
 MOST_SEEDS = 100000
+LEAST_RATE, MOST_RATE = 0.001, 1e12
 
 
 def whole_number(least: int, most: int | None = None) -> Callable[[str], int]:
@@ -24,14 +25,16 @@ def whole_number(least: int, most: int | None = None) -> Callable[[str], int]:
     return read
 
 
-def positive_number(text: str) -> float:
-    """The type of a number above 0, with a decimal point or without, such as 2000, 0.5, 1e6."""
+def rate(text: str) -> float:
+    """The type of a rate or a factor, with a decimal point or without, such as 2000, 0.5, 1e6."""
     try:
         number = float(text)
     except ValueError:
         number = math.nan
     if not 0 < number < math.inf:
         raise argparse.ArgumentTypeError("%s is not a number above 0" % text)
+    if not LEAST_RATE <= number <= MOST_RATE:
+        raise argparse.ArgumentTypeError("%s is not in %g to %g" % (text, LEAST_RATE, MOST_RATE))
     return number
 
 
@@ -52,15 +55,15 @@ def seeds(text: str) -> range:
 
 def rates(text: str) -> list[float]:
     """The type of A,B,..: positive numbers, each once."""
-    return list(dict.fromkeys(positive_number(part) for part in text.split(",")))
+    return list(dict.fromkeys(rate(part) for part in text.split(",")))
 
 
 def own_rate(text: str) -> tuple[int, float]:
     """The type of C=N: a processor, and a rate of its own."""
-    cpu, equals, rate = text.partition("=")
+    cpu, equals, own = text.partition("=")
     if not equals:
         raise argparse.ArgumentTypeError("%s is not C=N, a processor and its rate" % text)
-    return whole_number(0)(cpu), positive_number(rate)
+    return whole_number(0)(cpu), rate(own)
 
 
 def add_load(parser: argparse.ArgumentParser) -> None:
@@ -73,5 +76,5 @@ def add_load(parser: argparse.ArgumentParser) -> None:
     parser.add_argument("--reply", dest="replies", action="store_true",
                         help="the reader replies at once; the replies leave the transmit queues at "
                              "the end")
-    parser.add_argument("--speed", metavar="X", default=1.0, type=positive_number,
+    parser.add_argument("--speed", metavar="X", default=1.0, type=rate,
                         help="the packets come X times as fast as they were recorded")

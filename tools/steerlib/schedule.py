@@ -16,13 +16,14 @@ import gc
 import json
 import operator
 import os
+import re
 import shutil
 import tempfile
 from itertools import accumulate, compress, count, islice
 from typing import Callable, Dict, Iterable, Iterator, List, NamedTuple, Union
 
 from . import capture as captures
-from . import cautions, cli, ethtool, flows, limits, packed, progress, report
+from . import cautions, cli, ethtool, flows, limits, packed, progress
 from . import plan as plans
 from .serving import Desk, Places, Service, steps_each
 
@@ -60,26 +61,43 @@ class Load(NamedTuple):
     speed: float
 
 
-_PLACE = ("q", "cpu", "drop", "flow_offers")
+_QUEUE = re.compile(rb" q (\d+) via ")
+_APP = re.compile(rb" app (\d+) in ")
+# The processor of a packet that was put, and a `d` where it was dropped; the other pattern goes on
+# to an `f` where the flow limit dropped it.
+_PUT = re.compile(rb"cpu (\d+ why [a-z]+ at d?)")
+_PUT_WITH_LIMIT = re.compile(rb"cpu (\d+ why [a-z]+ at (?:d(?:rop \d+ \d+ \d+ f)?)?)")
 _NUMBERS = {b"%d" % number: number for number in range(limits.MOST_PROCESSORS)}
 
 
-def places_of(data: bytes, known: Places | None = None, first: int = 0) -> Places:
+def _numbers_of(pattern, data, start, end):
+    return [_NUMBERS[number] for number in pattern.findall(data, start, end)]
+
+
+def places_of(data: bytes, settings: plans.Plan, known: Places | None = None,
+              first: int = 0) -> Places:
     """The Places that the bytes of a report name, of packets that were all put.
 
-    Those before the packet `first`, and the applications of all, are taken from `known`.
+    Those before the packet `first`, the applications of all, and the queues where no filter leads
+    to others, are taken from `known`. This is for reports that were just made by these settings:
+    nothing is checked, and a packet that was not put is left out.
     """
-    start = data.find(b"\np %d " % first)
-    found = report.fields_of(data, "p", _PLACE, start) if start >= 0 else []
-    queue, cpu, drop, limit = zip(*found) if found else ((), (), (), ())
-    queues = (known.queues[:first] if known else []) + list(map(_NUMBERS.__getitem__, queue))
-    cpus = (known.cpus[:first] if known else []) + [
-        _NUMBERS[number] for number in cpu if number != b"-"]
-    dropped, limited = set(compress(count(first), drop)), set(compress(count(first), limit))
+    start, end = max(0, data.find(b"\np %d " % first)), data.rfind(b"\np ")
+    end = data.find(b"\n", end + 1)
+    put = (_PUT_WITH_LIMIT if settings.get("limited") else _PUT).findall(data, start, end)
+    cpu_of = {text: int(text.split(b" ")[0]) for text in set(put)}
+    cpus = [cpu_of[text] for text in put]
+    drops = {text for text in cpu_of if b" at d" in text}
+    dropped = set(compress(count(first), map(drops.__contains__, put))) if drops else set()
+    limited = {packet for packet in dropped if put[packet - first].endswith(b"f")} if (
+        settings.get("limited")) else set()
     if known is None:
-        apps = [int(app) for _, app in report.fields_of(data, "p", ("q", "app"))]
-        return Places(queues, cpus, apps, dropped, limited)
-    return Places(queues, cpus, known.apps,
+        return Places(_numbers_of(_QUEUE, data, start, end), cpus,
+                      _numbers_of(_APP, data, start, end), dropped, limited)
+    queues = known.queues
+    if settings.get("filters"):
+        queues = queues[:first] + _numbers_of(_QUEUE, data, start, end)
+    return Places(queues, known.cpus[:first] + cpus, known.apps,
                   dropped.union(packet for packet in known.dropped if packet < first),
                   limited.union(packet for packet in known.limited if packet < first))
 
@@ -211,7 +229,7 @@ def agree(arrivals: list[float], guess: Places, service: Service, replay: Replay
     for number in range(1, MOST_ROUNDS + 1):
         desk.serve(guess, first)
         _check_steps(desk, source)
-        answer = replay(desk.text(), guess, first)
+        answer = replay(desk.text_of_round(), guess, first)
         _check_count(answer, arrivals, source)
         wrong = elsewhere(guess, desk.drops, answer, first)
         if say is not None:
@@ -258,7 +276,7 @@ class Replays:
         text = steps if isinstance(steps, str) else json.dumps(steps)
         others = {name: value for name, value in self.settings.items() if name != "steps"}
         with open(self.plan, "w", encoding="ascii") as out:
-            out.write(json.dumps(others)[:-1] + ', "steps": ' + text + "}")
+            out.writelines((json.dumps(others)[:-1], ', "steps": ', text, "}"))
         with open(self.report, "wb") as out:
             try:
                 cli.run_steer(["replay", self.plan, self.capture], out)
@@ -272,7 +290,7 @@ class Replays:
         """The Places of a replay of these steps, as places_of has them."""
         self.run(steps)
         with open(self.report, "rb") as stream:
-            return places_of(stream.read(), known, first)
+            return places_of(stream.read(), self.settings, known, first)
 
 
 def flow_numbers(capture: str, folder: str) -> list[int]:
@@ -317,7 +335,8 @@ def service_of(settings: plans.Plan, load: Load, flows: list[int] | None) -> Ser
             raise cli.WrongWords("--cpu %d=%g: the plan has the processors 0 to %d"
                                  % (cpu, rate, cpus - 1))
         rates[cpu] = rate
-    return Service(rates, settings.get("backlog", plans.DEFAULTS["backlog"]), flows, load.replies)
+    return Service(rates, settings.get("backlog", plans.DEFAULTS["backlog"]), flows, load.replies,
+                   bool(settings.get("filters")))
 
 
 def timed_steps(replays: Replays, times: list[int], load: Load,

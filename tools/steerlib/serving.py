@@ -1,21 +1,28 @@
 """Processors that each serve one packet at a time: the steps of a plan, and the times of service.
 
 Times are nanoseconds from the first packet. The steps are kept as one text each for what happens
-at once, with SEPARATOR between two of them, which is how they stand in a plan.
+at once, as they stand in a plan: with SEPARATOR behind each step but the last.
 """
 
 from __future__ import annotations
 
+import operator
+import sys
 from collections import deque
 from heapq import heappop, heappush, heapreplace
-from itertools import chain, islice
-from typing import NamedTuple
+from itertools import chain
+from typing import Iterable, NamedTuple, Tuple
 
 from . import limits
 
 SEPARATOR = '","'
 MARKS = 16
-FOREVER = float("inf")
+LEAST_BETWEEN_MARKS = 2048
+AFTER_ALL, NEVER = sys.float_info.max, float("inf")
+
+# A service that is under way: its end, a number that grows with each service that begins, the
+# processor and the packet.
+UnderWay = Tuple[float, int, int, int]
 
 
 class Places(NamedTuple):
@@ -34,28 +41,36 @@ class Places(NamedTuple):
 class Service(NamedTuple):
     """What serves packets: a rate for each processor, in packets a second, and the backlog.
 
-    `flows` has the flow number of each packet where packets are read, else it is None.
+    `flows` has the flow number of each packet where packets are read, else it is None. `filters`
+    is whether filters lead packets to other queues than the card's table.
     """
 
     rates: list[float]
     backlog: int
     flows: list[int] | None
     replies: bool
+    filters: bool = False
 
 
-class _Mark(NamedTuple):
-    """What there was before a packet.
+class _State(NamedTuple):
+    """What there is before a packet arrives.
 
-    `begun` is how many services had begun, `waiting` has the packets that waited for each
-    processor, `under_way` the services; `texts` and `drops` are how many of them there were.
+    `waiting` has the packets that wait for each processor, `idle` whether it serves none, and
+    `under_way` is a heap of the services, of which the last one never ends. `texts` and `drops`
+    are how many of them there are.
     """
 
     packet: int
-    begun: int
     waiting: list[deque[int]]
-    under_way: list[tuple[float, int, int, int]]
+    idle: list[bool]
+    under_way: list[UnderWay]
     texts: int
     drops: int
+
+    def copy(self) -> _State:
+        """The same state, which changes apart from this one."""
+        return self._replace(waiting=[packets.copy() for packets in self.waiting],
+                             idle=list(self.idle), under_way=list(self.under_way))
 
 
 def steps_each(service: Service) -> int:
@@ -63,93 +78,117 @@ def steps_each(service: Service) -> int:
     return 3 + (service.flows is not None) + bool(service.replies)
 
 
+def _text(*steps: str) -> str:
+    """The text of steps that others follow."""
+    return "".join(step + SEPARATOR for step in steps)
+
+
+def _texts(form: str, numbers: Iterable[int]) -> list[str]:
+    """The texts of steps of one form, a step for each number; equal ones are one object."""
+    known = {number: _text(form % number) for number in set(numbers)}
+    return [known[number] for number in numbers]
+
+
 class Desk:
     """Serves packets that arrive at these times, where the places of packets are guessed.
 
-    After serve(): `drops` are the packets that were dropped, ascending; `begins` and `ends` have
-    the times of service of each packet, None where it was dropped.
+    After serve(): `drops` are the packets that were dropped, ascending.
     """
 
     def __init__(self, arrivals: list[float], service: Service, apps: list[int]) -> None:
         self.arrivals = arrivals
         self.service = service
+        self.cpus: list[int] = []
         self.texts: list[str] = []
         self.drops: list[int] = []
-        self.begins: list[float | None] = [None] * len(arrivals)
-        self.ends: list[float | None] = [None] * len(arrivals)
         cpus = range(len(service.rates))
         self.cost = [1e9 / rate for rate in service.rates]
-        self.pull = ["pull %d" % cpu for cpu in cpus]
-        self.finish = [SEPARATOR.join(("deliver %d" % cpu, "retire %d" % cpu)) for cpu in cpus]
-        self.poll = [SEPARATOR.join(("arrive", "poll %d" % queue))
-                     for queue in range(limits.MOST_QUEUES)]
+        self.pull = [_text("pull %d" % cpu) for cpu in cpus]
+        self.finish = [_text("deliver %d" % cpu, "retire %d" % cpu) for cpu in cpus]
+        self.poll = [_text("arrive", "poll %d" % queue) for queue in range(limits.MOST_QUEUES)]
         self.after = self._after(apps)
-        self.every = max(2048, len(arrivals) // MARKS + 1)
-        self.marks = [_Mark(0, 0, [deque() for _ in cpus], [], 0, 0)]
+        self.every = max(LEAST_BETWEEN_MARKS, len(arrivals) // MARKS + 1)
+        self.marks = [_State(0, [deque() for _ in cpus], [True for _ in cpus],
+                             [(NEVER, 0, 0, 0)], 0, 0)]
 
     def _after(self, apps):
-        """The text of the steps that follow the service of each packet, or None where none do."""
-        texts = []
-        if self.service.flows is not None:
-            texts.append(["record %d" % flow for flow in self.service.flows])
-        if self.service.replies:
-            texts.append(["reply %d" % app for app in apps])
-        return [SEPARATOR.join(pair) for pair in zip(*texts)] if texts else None
+        """The text of the steps that follow the service of each packet; empty where none do."""
+        flows = self.service.flows
+        reads = [""] * len(apps) if flows is None else _texts("record %d", flows)
+        replies = _texts("reply %d", apps) if self.service.replies else None
+        return reads if replies is None else list(map(operator.add, reads, replies))
 
     def serve(self, places: Places, first: int = 0) -> None:
         """Serves all packets by these places, which have not changed before the packet `first`."""
         while self.marks[1:] and self.marks[-1].packet > first:
             self.marks.pop()
-        mark = self.marks[-1]
-        del self.texts[mark.texts:], self.drops[mark.drops:]
-        waiting = [packets.copy() for packets in mark.waiting]
-        self._serve(places, mark, waiting, list(mark.under_way))
-        self.texts.append("sweep")
+        state = self.marks[-1].copy()
+        del self.texts[state.texts:], self.drops[state.drops:]
+        self.cpus = places.cpus
+        packets = len(self.arrivals)
+        while state.packet + self.every < packets:
+            state = self._serve(places, state, state.packet + self.every)
+            self.marks.append(state.copy())
+        self._serve(places, state, packets)
 
-    def _serve(self, places, mark, waiting, under_way):
-        """All that happens after a mark; service that ends as a packet arrives comes before it."""
-        begins, ends, after, poll = self.begins, self.ends, self.after, self.poll
-        cost, pull, finish, backlog = self.cost, self.pull, self.finish, self.service.backlog
-        queues, cpus, limited, add = places.queues, places.cpus, places.limited, self.texts.append
-        begun, busy = mark.begun, {cpu for _, _, cpu, _ in under_way}
-        times = chain(islice(self.arrivals, mark.packet, None), (FOREVER,))
-        for packet, time in enumerate(times, mark.packet):
-            while under_way and under_way[0][0] <= time:
-                end, _, cpu, served = under_way[0]
-                add(finish[cpu])
-                if after is not None:
-                    add(after[served])
-                if not waiting[cpu]:
+    def _arriving(self, places, first, last):
+        """Number, arrival, queue and processor of these packets; a time after all behind the last.
+
+        That is the last packet of all.
+        """
+        some = slice(first, last)
+        packets = zip(range(first, last), self.arrivals[some], places.queues[some],
+                      places.cpus[some])
+        return chain(packets, [(last, AFTER_ALL, 0, 0)] if last == len(self.arrivals) else [])
+
+    def _serve(self, places, state, last):
+        """Serves the packets before `last`, with the last one of all to the end; the state then.
+
+        A service that ends as a packet arrives comes before it.
+        """
+        _, waiting, idle, under_way, _, _ = state
+        cost, pull, finish, after, poll = self.cost, self.pull, self.finish, self.after, self.poll
+        texts, drops, backlog, limited = (self.texts, self.drops, self.service.backlog,
+                                          places.limited)
+        next_end = under_way[0][0]
+        for packet, time, queue, cpu in self._arriving(places, state.packet, last):
+            while next_end <= time:
+                end, _, at, served = under_way[0]
+                if waiting[at]:
+                    heapreplace(under_way, (end + cost[at], len(texts), at,
+                                            waiting[at].popleft()))
+                    texts += (finish[at], after[served], pull[at])
+                else:
                     heappop(under_way)
-                    busy.discard(cpu)
-                    continue
-                served = waiting[cpu].popleft()
-                add(pull[cpu])
-                begun += 1
-                begins[served], ends[served] = end, end + cost[cpu]
-                heapreplace(under_way, (end + cost[cpu], begun, cpu, served))
-            if time == FOREVER:
-                return
-            if not packet % self.every:
-                self._mark(packet, begun, waiting, under_way)
-            add(poll[queues[packet]])
-            cpu = cpus[packet]
-            if packet in limited or len(waiting[cpu]) >= backlog:
-                self.drops.append(packet)
-                begins[packet] = ends[packet] = None
-            elif cpu in busy:
+                    idle[at] = True
+                    texts += (finish[at], after[served])
+                next_end = under_way[0][0]
+            if time == AFTER_ALL:
+                break
+            texts.append(poll[queue])
+            if packet in limited:
+                drops.append(packet)
+            elif idle[cpu]:
+                idle[cpu] = False
+                heappush(under_way, (time + cost[cpu], len(texts), cpu, packet))
+                next_end = under_way[0][0]
+                texts.append(pull[cpu])
+            elif len(waiting[cpu]) < backlog:
                 waiting[cpu].append(packet)
             else:
-                busy.add(cpu)
-                add(pull[cpu])
-                begun += 1
-                begins[packet], ends[packet] = time, time + cost[cpu]
-                heappush(under_way, (time + cost[cpu], begun, cpu, packet))
+                drops.append(packet)
+        return _State(last, waiting, idle, under_way, len(texts), len(drops))
 
-    def _mark(self, packet, begun, waiting, under_way):
-        if packet > self.marks[-1].packet:
-            self.marks.append(_Mark(packet, begun, [packets.copy() for packets in waiting],
-                                    list(under_way), len(self.texts), len(self.drops)))
+    def times(self) -> tuple[list[float | None], list[float | None]]:
+        """When the service of each packet begins and ends, None where it was dropped."""
+        begins: list[float | None] = [None] * len(self.arrivals)
+        ends = begins.copy()
+        dropped, free = set(self.drops), [0.0 for _ in self.cost]
+        for packet, (time, cpu) in enumerate(zip(self.arrivals, self.cpus)):
+            if packet not in dropped:
+                begins[packet] = begin = max(time, free[cpu])
+                ends[packet] = free[cpu] = begin + self.cost[cpu]
+        return begins, ends
 
     def count(self) -> int:
         """How many steps there are."""
@@ -158,8 +197,18 @@ class Desk:
 
     def text(self) -> str:
         """The steps as they stand in a plan, a list in JSON."""
-        return '["' + SEPARATOR.join(self.texts) + '"]'
+        return '["' + "".join(self.texts) + 'sweep"]'
+
+    def text_of_round(self) -> str:
+        """As text(), and without the sweep at the end where no packet has its place by it.
+
+        Each packet is polled as it arrives, and only one that a filter led to another queue than
+        was guessed may be left for the sweep.
+        """
+        if self.service.filters or not self.texts:
+            return self.text()
+        return '["' + "".join(self.texts)[:-len(SEPARATOR)] + '"]'
 
     def steps(self) -> list[str]:
         """The steps as a list."""
-        return SEPARATOR.join(self.texts).split(SEPARATOR)
+        return ("".join(self.texts) + "sweep").split(SEPARATOR)

@@ -126,6 +126,8 @@ def _replay(trial, setting, folder):
     else:
         load = setting.load._replace(rate=trial.value)
         agreed = schedule.timed_steps(replays, setting.times, load)
+        if setting.folder is not None:
+            replays.run(agreed.desk.text())
         with open(replays.report + TIMES, "wb") as out:
             waits.write(waits.times_of(agreed.desk), out)
     return replays.report

@@ -21,7 +21,7 @@ from .report import Report
 from .serving import Desk
 
 FIRST_LINE = b"steer-times 1\n"
-_LINE = re.compile(rb"(\d{1,19}) (?:(\d{1,19}) (\d{1,19})|- -)\n")
+_LINE = re.compile(rb"(\d{1,32}) (?:(\d{1,32}) (\d{1,32})|- -)\n")
 _END = re.compile(rb"end (\d{1,9})\n")
 
 
@@ -57,8 +57,8 @@ def check_name(name: str, read: Sequence[str]) -> None:
 
 def times_of(desk: Desk) -> Times:
     """The Times of the packets that a serving.Desk has served."""
-    begins = [None if time is None else round(time) for time in desk.begins]
-    ends = [None if time is None else round(time) for time in desk.ends]
+    begins, ends = ([None if time is None else round(time) for time in times]
+                    for times in desk.times())
     return Times([round(time) for time in desk.arrivals], begins, ends)
 
 

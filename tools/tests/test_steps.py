@@ -204,6 +204,24 @@ class Agreement(unittest.TestCase):
                 most = max(most, rounds)
         self.assertGreater(most, 3)
 
+    def test_each_packet_is_where_a_replay_of_the_whole_plan_has_it(self):
+        """Read by steerlib.report; the rounds read their reports by themselves."""
+        with Folder() as folder:
+            capture = write_capture(folder.path("c.pcap"), [
+                (137 * number, frame(number * number % 23)) for number in range(300)])
+            for seed in range(6):
+                plan = dict(random_plan(seed), filters=(0, 64)[seed % 2], steps=[])
+                load = schedule.Load(2000.0, [], seed < 4, seed > 1, 1.0)
+                replays = schedule.Replays(plan, "plan", capture, capture, folder.name)
+                agreed = schedule.timed_steps(replays, schedule.times_of(capture, capture), load)
+                made = json.loads(agreed.desk.text())
+                self.assertEqual((made, made[-1]), (agreed.desk.steps(), "sweep"))
+                packets = report.read_file(
+                    folder.replay(dict(plan, steps=made), capture)).packets
+                self.assertEqual(agreed.desk.cpus, [packet.cpu for packet in packets])
+                self.assertEqual(agreed.desk.drops, [
+                    packet.id for packet in packets if packet.place == "drop"])
+
     def test_drops_by_the_flow_limit(self):
         plan = {"cpus": 4, "queues": [{"home": 0, "mask": [1, 2, 3], "flows": 64}], "sock": 64,
                 "backlog": 200, "limited": [1, 2, 3], "apps": [1, 2],
@@ -248,6 +266,26 @@ class Rounds(unittest.TestCase):
 
     def places(self, cpu):
         return schedule.Places([0], [cpu], [0], set(), set())
+
+    def test_what_is_read_of_a_report(self):
+        """A packet that moves, one that is dropped, and one that the flow limit drops."""
+        data = (b"steer 1\n"
+                b"p 0 q 11 via reta class - want - head - tail - cpu 7 why plain at 1 app 0 in 1 "
+                b"place inbox\n"
+                b"p 1 q 2 via filter class 5 want 2 head 0 tail 1 cpu 12 why kept at drop 1 42 26 "
+                b"app 31 in - place drop\n"
+                b"p 2 q 0 via none class 5 want 2 head 0 tail 1 cpu 0 why passed at drop 2 42 26 "
+                b"flow 9 app 3 in - place drop\n"
+                b"r 0 app 0 rxq 0 cpu 2 pick 0 head - tail 0 tx 0 why unset at 1 port 1\n"
+                b"queue 0 arrived 3 taken 3\nend 3 of 3\n")
+        settings = {"limited": [0], "filters": 4}
+        whole = schedule.Places([11, 2, 0], [7, 12, 0], [0, 31, 3], {1, 2}, {2})
+        self.assertEqual(schedule.places_of(data, settings), whole)
+        known = schedule.Places([1, 1, 1], [3, 3, 3], [4, 5, 6], {0, 1}, {0})
+        self.assertEqual(schedule.places_of(data, settings, known, 1), schedule.Places(
+            [1, 2, 0], [3, 12, 0], [4, 5, 6], {0, 1, 2}, {0, 2}))
+        self.assertEqual(schedule.places_of(data, {}, known, 2), schedule.Places(
+            [1, 1, 1], [3, 3, 0], [4, 5, 6], {0, 1, 2}, {0}))
 
     def test_packets_that_are_elsewhere(self):
         places = schedule.Places([0, 1, 2, 3], [5, 5, 5, 5], [0] * 4, set(), set())
@@ -357,8 +395,8 @@ class Rounds(unittest.TestCase):
                 desk.serve(places, first)
                 anew = serving.Desk(arrivals, service, places.apps)
                 anew.serve(places)
-                self.assertEqual((desk.text(), desk.drops, desk.begins, desk.ends),
-                                 (anew.text(), anew.drops, anew.begins, anew.ends), first)
+                self.assertEqual((desk.text(), desk.drops, desk.times()),
+                                 (anew.text(), anew.drops, anew.times()), first)
 
 
 class Words(unittest.TestCase):
@@ -371,6 +409,8 @@ class Words(unittest.TestCase):
                 (["--pps", "0"], "argument --pps: 0 is not a number above 0"),
                 (["--pps", "inf"], "argument --pps: inf is not a number above 0"),
                 (["--pps", "x"], "argument --pps: x is not a number above 0"),
+                (["--pps", "1e-320"], "argument --pps: 1e-320 is not in 0.001 to 1e+12"),
+                (["--cpu", "0=1e13"], "argument --cpu: 1e13 is not in 0.001 to 1e+12"),
                 (["--speed", "-2"], "argument --speed: -2 is not a number above 0"),
                 (["--cpu", "3"], "argument --cpu: 3 is not C=N, a processor and its rate"),
                 (["--cpu", "x=3"], "argument --cpu: x is not a whole number from 0 on"),

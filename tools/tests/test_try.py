@@ -179,6 +179,17 @@ class Elsewhere(unittest.TestCase):
                 self.assertEqual(lines[-1], trial.EITHER)
                 shutil.rmtree(out)
 
+    def test_a_kept_report_is_that_of_the_whole_plan(self):
+        """By steer, of the plan that steer-steps writes."""
+        words = ["--pps", "500", "--read"]
+        with Folder() as folder:
+            tried(WEB, *words, "--reports", folder.path("out"), PLANS[2])
+            _, plan, _ = inside("steer-steps", PLANS[2], WEB, *words)
+            wanted = cli.run_steer(["replay", folder.write("plan.json", plan), WEB])
+            name, = (name for name in os.listdir(folder.path("out")) if name.endswith(".report"))
+            with open(os.path.join(folder.path("out"), name), "rb") as stream:
+                self.assertEqual(stream.read(), wanted)
+
     def test_reports_of_trials_that_were_refused(self):
         with Folder() as folder:
             out = folder.path("out")

@@ -53,7 +53,7 @@ def words_of(words: list[str]) -> argparse.Namespace:
     parser = cli.parser(DESCRIPTION, EXAMPLE)
     parser.add_argument("capture", metavar="CAPTURE", help="pcap or pcapng of Ethernet frames")
     parser.add_argument("plan", metavar="PLAN", help="a plan, whose own steps are not used")
-    parser.add_argument("--pps", metavar="N", required=True, type=numbers.positive_number,
+    parser.add_argument("--pps", metavar="N", required=True, type=numbers.rate,
                         help="packets that a processor serves in a second")
     add_settings(parser)
     parser.add_argument("--least", choices=sorted(best.LEAST),

@@ -48,7 +48,7 @@ def words_of(words: list[str]) -> argparse.Namespace:
     parser.add_argument("plan", metavar="PLAN", help="a plan of steer, with any steps")
     parser.add_argument("capture", metavar="CAPTURE",
                         help="pcap or pcapng of Ethernet frames with times")
-    parser.add_argument("--pps", metavar="N", required=True, type=numbers.positive_number,
+    parser.add_argument("--pps", metavar="N", required=True, type=numbers.rate,
                         help="packets that a processor serves in a second")
     parser.add_argument("--times", metavar="FILE",
                         help="write there when each packet arrives and is served, for --times of "
