@@ -14,6 +14,39 @@ IN_ORDER = ("ring", "poller", "backlog", "hand")
 """Places of packets that are still under way, in the order in which they are passed."""
 
 
+def _at_once(dropped):
+    """How many drops by a full backlog found their processor where its drop before had found it.
+
+    Between the two it had taken no packet, so more came than it could take.
+    """
+    by_cpu: dict[int, list[report.Packet]] = {}
+    for packet in dropped:
+        by_cpu.setdefault(packet.cpu, []).append(packet)
+    count = 0
+    for drops in by_cpu.values():
+        drops.sort(key=lambda packet: packet.drop)
+        count += sum(later.flow_offers is None and later.drop_pulled == earlier.drop_pulled
+                     for earlier, later in zip(drops, drops[1:]))
+    return count
+
+
+def _overload(dropped):
+    """A line that says so, if most drops are of packets that came faster than they were taken."""
+    count = _at_once(dropped)
+    if 2 * count > len(dropped):
+        yield ("overload: at %d of %d drops the processor had taken no packet since its drop "
+               "before; in a run with threads that says nothing of a rate" % (count, len(dropped)))
+
+
+def _busy(answers):
+    """A line with how often each kind of command found its gate busy, if one did."""
+    busy = Counter(answer.step.split()[0] for answer in answers
+                   if answer.answer.startswith("busy"))
+    if busy:
+        yield ("busy: %s; in a run with threads each try counts as a command"
+               % ", ".join("%s %d times" % counted for counted in busy.most_common()))
+
+
 def headline(rep: Report) -> Iterator[str]:
     """The first lines: what arrived, was dropped, moved and replied to, and what is under way."""
     packets = rep.packets
@@ -26,6 +59,7 @@ def headline(rep: Report) -> Iterator[str]:
         by_limit)
     yield "flows moved %d times, kept %d times   replies %d" % (
         sum(why[reason] for reason in report.MOVES), why["kept"], len(rep.replies))
+    yield from _overload(dropped)
     places = Counter(packet.place for packet in packets)
     waiting = ["%s %d" % (place, places[place]) for place in IN_ORDER if places[place]]
     if waiting:
@@ -34,6 +68,7 @@ def headline(rep: Report) -> Iterator[str]:
                   not answer.answer.startswith("expired") for answer in rep.answers)
     if rep.answers:
         yield "commands %d, of which %d were not done" % (len(rep.answers), refused)
+    yield from _busy(rep.answers)
 
 
 def _bypassed(rep, plan, source):

@@ -102,6 +102,35 @@ class Top(unittest.TestCase):
                 more = [text for text in shown.splitlines() if text not in bare.splitlines()]
                 self.assertEqual(more, [wanted] if wanted else [])
 
+    def test_drops_of_an_overload_are_told(self):
+        """A backlog holds one packet: of five packets four are dropped while none is taken."""
+        plan = {"cpus": 2, "queues": [{"home": 1, "mask": [], "flows": 0}], "sock": 0,
+                "backlog": 1, "apps": [0], "tx": [{"cpus": [], "queues": []}]}
+        at_once = ["arrive"] * 5 + ["poll 0"] * 5
+        taken_between = ["arrive", "poll 0", "arrive", "poll 0", "drain 1"] * 2
+        line = ("overload: at 3 of 4 drops the processor had taken no packet since its drop "
+                "before; in a run with threads that says nothing of a rate")
+        with Folder() as folder:
+            for steps, dropped, wanted in ((at_once, "4 (80.0%)", [line]),
+                                           (taken_between, "2 (50.0%)", [])):
+                report = folder.replay(dict(plan, steps=steps), example("web.pcap"))
+                shown = run("steer-top", report).stdout.splitlines()
+                self.assertIn("dropped " + dropped, shown[0])
+                self.assertEqual([text for text in shown if text.startswith("overload")], wanted)
+
+    def test_busy_commands_are_counted_by_their_kind(self):
+        """A poller in the gate refuses both commands, a packet in the backlog one of them."""
+        steps = ["arrive", "take 0", "enter 0", "mask 0 2", "flows 0 4", "look 0", "weigh 0",
+                 "put 0", "leave 0", "mask 0 2", "drain 1", "mask 0 2"]
+        plan = {"cpus": 4, "queues": [{"home": 0, "mask": [1], "flows": 1}], "sock": 4,
+                "apps": [2], "tx": [{"cpus": [], "queues": []}], "steps": steps}
+        with Folder() as folder:
+            shown = run("steer-top", folder.replay(plan, example("three.pcap"))).stdout
+        self.assertEqual(shown.splitlines()[2:4], [
+            "commands 4, of which 3 were not done",
+            "busy: mask 2 times, flows 1 times; in a run with threads each try counts as a "
+            "command"])
+
     def test_packets_by_a_filter_are_counted(self):
         shown = run("steer-top", "-", data=REPLIED.replace(b"via reta", b"via filter", 2)).stdout
         self.assertIn("\nby a filter of accelerated RFS: 2 packets\n", shown)

@@ -10,6 +10,8 @@ DESCRIPTION = """\
 Shows a report of `steer replay` on one screen: drops, moves, and the packets of each processor,
 receive queue and transmit queue. With HASH, the ten flows that have the most packets as well. The
 sums are recounted from the packets' lines; a report whose own sums are others is refused.
+It says so where most drops are of an overload: since the drop before on the same processor that one
+had taken no packet. Of commands that found their gate busy it counts the tries by their kind.
 With --plan, drops are marked where a kernel has no backlog: a queue without RPS.
 `cpus` of a flow are those that it was sent to, in ascending order.
 
