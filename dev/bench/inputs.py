@@ -7,6 +7,7 @@ import sys
 
 WORD = (1 << 64) - 1
 PACKETS = 262_144
+WORKERS = [1, 2, 4, 8]
 
 
 def words(seed):
@@ -83,6 +84,23 @@ def wide(seed):
     }
 
 
+def threads(plan, workers):
+    """A plan for a run with so many workers."""
+    return dict(plan, workers=workers, steps=[])
+
+
+def spread():
+    """One receive queue whose packets are spread over four processors."""
+    every = [0, 1, 2, 3]
+    return {
+        "apps": every,
+        "cpus": 4,
+        "queues": [{"flows": 256, "home": 0, "mask": every}],
+        "sock": 1024,
+        "tx": [{"cpus": [t], "queues": []} for t in every],
+    }
+
+
 def step_texts(seed, count):
     """The steps of a seed on the wide plan, as texts, and a last `sweep`."""
     kinds = 5 * ["arrive"] + 4 * ["poll"] + 3 * ["drain"] + 2 * ["serve"] + ["ship"]
@@ -134,6 +152,9 @@ def main():
         "rules1069": rules(1069),
         "rules4096": rules(4096),
     }
+    for workers in WORKERS:
+        plans[f"spread{workers}"] = threads(spread(), workers)
+        plans[f"wide{workers}"] = threads(wide(7), workers)
     captures = {
         "ipv6": capture(7, PACKETS, 20_000, frame6),
         "large": capture(7, PACKETS, 20_000, more=953),

@@ -1,6 +1,7 @@
 #!/bin/sh
-# Times the program on generated input and on two large replays: for each run the command, its seconds (of
-# the clock, of the processor) and its largest memory. The first word names the program, and is the one of
+# Times the program on generated input, on two large replays, and on runs with threads: for each the command,
+# its seconds (of the clock, of the processor) and its largest memory; of runs with threads also the packets
+# that were dropped, which differ from run to run. The first word names the program, and is the one of
 # this clone by default; the second says how often each is run, 3 by default.
 root=$(cd "$(dirname "$0")/../.." && pwd) || exit 1
 steer=$(realpath "${1:-$root/crates/steer/out/steer}") || exit 1
@@ -23,7 +24,24 @@ run() {
     tail -n 1 "$inputs/out"
 }
 
+run_threads() {
+    count=0
+    while [ "$count" -lt "$times" ]; do
+        /usr/bin/time -o "$inputs/took" -f "run $1 $2: %e s, %U s user, %S s system, %M KB" \
+            "$steer" run "$1" "$2" >"$inputs/out" || exit 1
+        echo "$(cat "$inputs/took"), $(grep -c '^p .* place drop$' "$inputs/out") dropped" >&2
+        count=$((count + 1))
+    done
+    tail -n 1 "$inputs/out"
+}
+
 cd "$inputs" || exit 1
 run gen 7 131072 512
 run replay generated.json generated.pcap
 run replay wide.json wide.pcap
+for workers in 1 2 4 8; do
+    run_threads "spread$workers.json" generated.pcap
+done
+for workers in 1 2 4 8; do
+    run_threads "wide$workers.json" wide.pcap
+done
