@@ -173,7 +173,7 @@ def recalled(found, pairs):
     for pair in pairs:
         for used in reading_parts.used_by(found, pair):
             if at - met.get(used, at) > FAR and not reading_parts.is_values(found, *used):
-                said = first_sentence(comment_on(found, *used)).rstrip(".")
+                said = re.split(r"[:.](?: |$)", comment_on(found, *used))[0]
                 notes.setdefault(pair, {})[used[1]] = f"{used[1]}: {said}"
             if used in met:
                 met[used] = at
