@@ -13,10 +13,13 @@ import tempfile
 from typing import Callable, Iterator, NamedTuple, Sequence, Tuple, Union
 
 from . import limits, plan, processors, remap_files, remap_words, report, schedule, settings, waits
+from .serving import Desk
 
 Words = Tuple[str, ...]
 
 MOST_TRIED = 1000
+MOST_LENGTH = limits.MOST_BACKLOG - 1   # of netdev_max_backlog
+MOST_RATE = 1000000000
 MASK, BACKLOG = "rx-*/rps_cpus=", "netdev_max_backlog="
 
 
@@ -68,7 +71,7 @@ def plan_with(question: Question, words: Words) -> plan.Plan:
     changed = settings.Settings(question.data, question.source)
     for word in words:
         changed.set(word)
-    return dict(changed.plan, steps=[])
+    return dict(changed.made(), steps=[])
 
 
 def sense_of(settings: plan.Plan) -> plan.Plan:
@@ -110,81 +113,139 @@ def choices(parts: Sequence[Sequence[Words]]) -> list[Words]:
     return [tuple(itertools.chain(*chosen)) for chosen in itertools.product(*parts)]
 
 
+class Trials:
+    """Trials of one setting, which differ in the rate and the backlog alone: a context.
+
+    Its plan and capture are made once, by a kernel's rule where that is asked for. Each schedule
+    begins with the places of the one before it.
+    """
+
+    def __init__(self, words: Words, question: Question) -> None:
+        self.words = words
+        self.made = tempfile.TemporaryDirectory(dir=question.work)
+        try:
+            wanted = plan_with(question, words)
+            self.cpus = wanted["cpus"]
+            self.schedules = schedule.Schedules(self._replays(wanted, question), question.times,
+                                                question.load)
+        except BaseException:
+            self.made.cleanup()
+            raise
+
+    def __enter__(self) -> Trials:
+        return self
+
+    def __exit__(self, *_: object) -> None:
+        self.made.cleanup()
+
+    def _replays(self, wanted, question):
+        """The Replays of the plan, and of the capture that goes with it."""
+        shown, folder, capture = question.source, self.made.name, question.capture
+        if self.words:
+            shown = "%s with %s" % (shown, " ".join(self.words))
+        if question.told.kernel:
+            capture = os.path.join(folder, "kernel.pcap")
+            options = remap_words.options_of(question.told, wanted)
+            wanted = remap_files.remapped(wanted, shown, question.capture, question.shown, options,
+                                          capture, folder).plan
+        return schedule.Replays(wanted, shown, capture, question.shown, folder)
+
+    def desk(self, rate: float, backlog: int | None = None, until_drop: bool = False) -> Desk:
+        """The Desk of a schedule at a rate, with a netdev_max_backlog where that is not the plan's.
+
+        With `until_drop` it says no more than whether there is a drop, where there is one.
+        """
+        room = None if backlog is None else backlog + 1
+        return self.schedules.agreed(rate, room, until_drop=until_drop).desk
+
+    def row(self, rate: float, backlog: int | None = None) -> Row:
+        """The Row of such a schedule."""
+        words = self.words if backlog is None else self.words + (BACKLOG + "%d" % backlog,)
+        desk = self.desk(rate, backlog)
+        with open(self.schedules.replays.report, "rb") as stream:
+            return row_of(stream.read(), desk, words, rate, self.cpus)
+
+    def loses(self, rate: float, backlog: int | None = None) -> bool:
+        """Whether packets are dropped then."""
+        return bool(self.desk(rate, backlog, until_drop=True).drops)
+
+
 def trial(words: Words, rate: float, question: Question) -> Row:
     """The Row of one setting at a rate."""
-    load = question.load._replace(rate=rate)
-    wanted = plan_with(question, words)
-    shown = "%s with %s" % (question.source, " ".join(words)) if words else question.source
-    with tempfile.TemporaryDirectory(dir=question.work) as folder:
-        capture, cpus = question.capture, wanted["cpus"]
-        if question.told.kernel:
-            name = os.path.join(folder, "kernel.pcap")
-            options = remap_words.options_of(question.told, wanted)
-            wanted = remap_files.remapped(wanted, shown, capture, question.shown, options, name,
-                                          folder).plan
-            capture = name
-        replays = schedule.Replays(wanted, shown, capture, question.shown, folder)
-        agreed = schedule.timed_steps(replays, question.times, load)
-        with open(replays.report, "rb") as stream:
-            return row_of(stream.read(), agreed, words, rate, cpus)
+    with Trials(words, question) as trials:
+        return trials.row(rate)
 
 
-def row_of(data: bytes, agreed: schedule.Agreed, words: Words, rate: float, cpus: int) -> Row:
-    """The Row of the report that a schedule was agreed upon with, of a plan's processors."""
+def row_of(data: bytes, desk: Desk, words: Words, rate: float, cpus: int) -> Row:
+    """The Row of the report that the schedule of a Desk was agreed upon with."""
     sums = report.fields_of(data, "cpu", ("accepted", "dropped"))[:cpus]
     packets = report.fields_of(data, "p", ("cpu", "why"))
     moves = sum(why.decode() in report.MOVES for _, why in packets)
-    times = waits.times_of(agreed.desk)
+    times = waits.times_of(desk)
     return Row(words, rate, sum(int(dropped) for _, dropped in sums), moves,
                [int(accepted) + int(dropped) for accepted, dropped in sums],
                waits.summary(times, [int(cpu) for cpu, _ in packets], cpus))
 
 
-def smallest(probe: Callable[[int], Row], start: int, low: int, high: int,
-             exact: bool) -> Least:
-    """The Least of the values from `low` to `high` by bisection, which begins at `start`.
+def smallest(loses: Callable[[int], bool], start: int, low: int, high: int,
+             exact: bool) -> tuple[int | None, int | None]:
+    """The smallest value from `low` to `high` that loses nothing, and the next smaller one tried.
 
-    It takes for granted that no value loses packets where a smaller one loses none. Unless `exact`
-    it ends where the values are within one in a hundred.
+    The first is None where all lose packets, the other where none was smaller. The values are
+    bisected, from `start` on, which takes for granted that none loses packets where a smaller one
+    loses none. Unless `exact` it ends where the two are within one in a hundred.
     """
-    found, below = None, None
+    found: int | None = None
+    below: int | None = None
     value = start
     while found is None or below is None:
-        row = probe(value)
-        if row.drops:
-            below, at_least = row, value
+        if loses(value):
+            below = value
             if found is None and value == high:
-                return Least(None, row)
+                return None, below
             value = min(high, max(1, 2 * value))
         else:
-            found, at_most = row, value
+            found = value
             if below is None and value == low:
-                return Least(row, None)
+                return found, None
             value = max(low, value // 2)
-    while at_most - at_least > (1 if exact else max(1, at_most // 100)):
-        middle = (at_least + at_most) // 2
-        row = probe(middle)
-        if row.drops:
-            below, at_least = row, middle
+    while found - below > (1 if exact else max(1, found // 100)):
+        middle = (below + found) // 2
+        if loses(middle):
+            below = middle
         else:
-            found, at_most = row, middle
-    return Least(found, below)
+            found = middle
+    return found, below
 
 
 def least_backlog(words: Words, rate: float, question: Question) -> Least:
     """The smallest netdev_max_backlog without drops, to the packet.
 
-    The backlog of the plan has room for one packet more, as a kernel's has.
+    As long as nothing is lost, a backlog changes nothing. So where the longest one loses nothing,
+    the smallest has room for as many packets as wait at once there. The flow limit acts by the
+    length of the backlog, so with it the value is bisected.
     """
-    start = plan_with(question, words).get("backlog", plan.DEFAULTS["backlog"]) - 1
-    return smallest(lambda value: trial(words + (BACKLOG + "%d" % value,), rate, question),
-                    start, 0, limits.MOST_BACKLOG - 1, True)
+    settings = plan_with(question, words)
+    with Trials(words, question) as trials:
+        found: int | None
+        below: int | None
+        if settings.get("limited"):
+            start = settings.get("backlog", plan.DEFAULTS["backlog"]) - 1
+            found, below = smallest(lambda value: trials.loses(rate, value), start, 0, MOST_LENGTH,
+                                    True)
+        else:
+            desk = trials.desk(rate, MOST_LENGTH, until_drop=True)
+            found = None if desk.drops else max(0, desk.deepest() - 1)
+            below = MOST_LENGTH if found is None else found - 1 if found else None
+        return Least(*(None if value is None else trials.row(rate, value)
+                       for value in (found, below)))
 
 
 def least_rate(words: Words, rate: float, question: Question) -> Least:
     """The smallest rate without drops, whole packets a second, to one in a hundred."""
-    return smallest(lambda value: trial(words, value, question), max(1, round(rate)), 1,
-                    1000000000, False)
+    with Trials(words, question) as trials:
+        values = smallest(trials.loses, max(1, round(rate)), 1, MOST_RATE, False)
+        return Least(*(None if value is None else trials.row(value) for value in values))
 
 
 def least_members(words: Words, rate: float, question: Question) -> Least:
@@ -192,13 +253,14 @@ def least_members(words: Words, rate: float, question: Question) -> Least:
 
     More members may lose packets where fewer lose none, so this is no bisection.
     """
-    below = None
-    for mask in masks_of(plan_with(question, words)):
-        row = trial(words + (MASK + mask,), rate, question)
-        if not row.drops:
-            return Least(row, below)
-        below = row
-    return Least(None, below)
+    masks = masks_of(plan_with(question, words))
+    tried = [words + (MASK + mask,) for mask in masks]
+    for number, each in enumerate(tried):
+        with Trials(each, question) as trials:
+            if not trials.loses(rate):
+                below = trial(tried[number - 1], rate, question) if number else None
+                return Least(trials.row(rate), below)
+    return Least(None, trial(tried[-1], rate, question))
 
 
 LEAST = {"backlog": least_backlog, "pps": least_rate, "members": least_members}

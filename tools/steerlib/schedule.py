@@ -40,10 +40,16 @@ Replay = Callable[[str, Places, int], Places]
 
 
 class Agreed(NamedTuple):
-    """The Desk with the steps that were agreed upon, and after how many rounds."""
+    """The Desk with the steps that were agreed upon, after how many rounds, and the Places then.
+
+    `whole` is false where a drop was enough: then there are packets elsewhere than the steps
+    assume, behind the first one that is dropped.
+    """
 
     desk: Desk
     rounds: int
+    places: Places
+    whole: bool = True
 
 
 class Load(NamedTuple):
@@ -214,13 +220,13 @@ def _check_count(places, arrivals, source):
 
 
 def agree(arrivals: list[float], guess: Places, service: Service, replay: Replay, source: str,
-          say: Callable[[str], None] | None = None) -> Agreed:
+          say: Callable[[str], None] | None = None, until_drop: bool = False) -> Agreed:
     """The steps that serve these arrivals at these rates, agreed upon with the replay: Agreed.
 
     `guess` are the Places to begin with; replay(text, guess, first) gives those of steer's report
     of the steps of this text, of which those before the packet `first` are the guess's. `say` is
-    shown a line for each round. Refused(source, ..) where a plan has no room for the steps, or
-    after 500 rounds.
+    shown a line for each round. With `until_drop` it ends as soon as a packet is dropped for
+    certain. Refused(source, ..) where a plan has no room for the steps, or after 500 rounds.
     """
     _check_count(guess, arrivals, source)
     desk = Desk(arrivals, service, guess.apps)
@@ -236,7 +242,9 @@ def agree(arrivals: list[float], guess: Places, service: Service, replay: Replay
             say("round %d: %d packets elsewhere than assumed%s"
                 % (number, len(wrong), ", the first is %d" % wrong[0] if wrong else ""))
         if not wrong:
-            return Agreed(desk, number)
+            return Agreed(desk, number, answer)
+        if until_drop and desk.drops and desk.drops[0] < wrong[0]:
+            return Agreed(desk, number, answer, False)
         guess, first = answer, wrong[0]
         if say is not None and len(arrivals) >= MANY_PACKETS:
             tell.at(first)
@@ -339,15 +347,39 @@ def service_of(settings: plans.Plan, load: Load, flows: list[int] | None) -> Ser
                    bool(settings.get("filters")))
 
 
+class Schedules:
+    """Schedules of a plan (its Replays) for packets of these times under a load.
+
+    The first one begins with the places of a replay of a single sweep, each other one with those
+    of the one before. That spares rounds, and what is agreed upon is the same.
+    """
+
+    def __init__(self, replays: Replays, times: list[int], load: Load) -> None:
+        self.replays = replays
+        self.load = load
+        self.arrivals = arrivals_of(times, load.speed)
+        self.flows = flow_numbers(replays.capture, replays.folder) if load.reads else None
+        self.guess: Places | None = None
+
+    def agreed(self, rate: float, backlog: int | None = None,
+               say: Callable[[str], None] | None = None, until_drop: bool = False) -> Agreed:
+        """The Agreed steps at a rate, as `agree` has them; with another backlog than the plan's."""
+        replays = self.replays
+        if backlog is not None:
+            replays.settings = dict(replays.settings, backlog=backlog)
+        with _uncollected():
+            service = service_of(replays.settings, self.load._replace(rate=rate), self.flows)
+            guess = self.guess or replays.places(["sweep"])
+            found = agree(self.arrivals, guess, service, replays.places, replays.shown_capture,
+                          say, until_drop)
+        self.guess = found.places
+        return found
+
+
 def timed_steps(replays: Replays, times: list[int], load: Load,
                 say: Callable[[str], None] | None = None) -> Agreed:
     """The Agreed steps of a plan (its Replays) for packets of these times under a load."""
-    with _uncollected():
-        numbers = flow_numbers(replays.capture, replays.folder) if load.reads else None
-        service = service_of(replays.settings, load, numbers)
-        guess = replays.places(["sweep"])
-        arrivals = arrivals_of(times, load.speed)
-        return agree(arrivals, guess, service, replays.places, replays.shown_capture, say)
+    return Schedules(replays, times, load).agreed(load.rate, say=say)
 
 
 @contextlib.contextmanager

@@ -190,6 +190,20 @@ class Desk:
                 ends[packet] = free[cpu] = begin + self.cost[cpu]
         return begins, ends
 
+    def deepest(self) -> int:
+        """The most packets that waited for one processor at once."""
+        waiting: list[deque[float]] = [deque() for _ in self.cost]
+        most = 0
+        for time, begin, cpu in zip(self.arrivals, self.times()[0], self.cpus):
+            if begin is None or begin <= time:
+                continue
+            begins = waiting[cpu]
+            while begins and begins[0] <= time:
+                begins.popleft()
+            begins.append(begin)
+            most = max(most, len(begins))
+        return most
+
     def count(self) -> int:
         """How many steps there are."""
         packets, dropped = len(self.arrivals), len(self.drops)

@@ -226,6 +226,11 @@ class Settings:
                                                       cautions.targets(self.plan))
             self._put(("limited",), limited)
 
+    def made(self) -> plan.Plan:
+        """The plan with all settings made."""
+        self._limit()
+        return self.plan
+
     def written(self) -> str:
         """The text of the plan with all settings made."""
         self._limit()

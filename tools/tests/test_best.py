@@ -11,7 +11,8 @@ from reporting import Folder, run_closed
 from running import ENVIRONMENT, TOOLS, example
 from test_try import drops_of_steps
 
-from steerlib import best, cli, waits
+from steerlib import best, cli, schedule, waits
+from steerlib.programs import best as programs
 
 WEB = example("web.pcap")
 PLAN = example("rfs.json")
@@ -36,6 +37,15 @@ def rows_of(lines):
 def commands_of(lines):
     """The command lines that make the rows again."""
     return [line.partition(" again: ")[2] for line in lines if " again: " in line]
+
+
+def asked(folder, plan, *words):
+    """The Question of these words about a plan, as an object, and the recording of a web server."""
+    name = folder.write("asked.json", json.dumps(dict(plan, steps=[])).encode())
+    told = programs.words_of([WEB, name, *words])
+    load = schedule.Load(told.pps, told.cpu, told.reads, told.replies, told.speed)
+    return best.Question(cli.read_bytes(name), name, WEB, WEB, schedule.times_of(WEB, WEB), load,
+                         told, folder.name)
 
 
 class Rows(unittest.TestCase):
@@ -112,22 +122,18 @@ class Search(unittest.TestCase):
                 (0, 3, 0, 65535, (3, 2)), (9, 0, 0, 65535, (0, None)), (0, 0, 0, 9, (0, None))):
             asked = []
 
-            def probe(value):
+            def loses(value):
                 asked.append(value)
-                return best.Row((), value, int(value < limit), 0, [1],
-                                waits.Waits(0, 0, 0, [0.0]))
+                return value < limit
 
-            found = best.smallest(probe, start, low, high, True)
-            self.assertEqual(tuple(row and row.rate for row in found), wanted)
+            self.assertEqual(best.smallest(loses, start, low, high, True), wanted)
             self.assertEqual(len(asked), len(set(asked)))
             self.assertLess(len(asked), 34)
 
     def test_smallest_to_one_in_a_hundred(self):
-        found = best.smallest(lambda value: best.Row((), value, int(value < 12345), 0, [1],
-                                                     waits.Waits(0, 0, 0, [0.0])),
-                              20000, 1, 10 ** 9, False)
-        self.assertTrue(found.below.rate < 12345 <= found.found.rate, found)
-        self.assertLessEqual(found.found.rate - found.below.rate, found.found.rate // 100)
+        found, below = best.smallest(lambda value: value < 12345, 20000, 1, 10 ** 9, False)
+        self.assertTrue(below < 12345 <= found)
+        self.assertLessEqual(found - below, found // 100)
 
     def test_least(self):
         """The smallest value loses nothing, and the one below as many as steer-steps says."""
@@ -148,6 +154,53 @@ class Search(unittest.TestCase):
                     load = ["--pps", rate] + LOAD[2:]
                     self.assertEqual(int(drops_of_steps(plan, WEB, *load)), lost)
 
+    def test_least_as_by_a_whole_schedule_for_each_value(self):
+        """Each schedule of the other way begins anew, and none ends at the first drop."""
+        def rows(question, rate, values, words_of):
+            return best.Least(*(None if value is None else best.trial(*words_of(value), question)
+                                for value in values))
+
+        with Folder() as folder:
+            for name, change, rates in (("rps", {}, (2000, 20000, 300000)),
+                                        ("rfs", {}, (2000, 20000, 1000000)),
+                                        ("rfs", {"filters": 64}, (20000,)),
+                                        ("rps", {"backlog": 40, "limited": [1, 2, 3]}, (20000,))):
+                with open(example(name + ".json")) as stream:
+                    plan = dict(json.load(stream), **change)
+                question = asked(folder, plan, "--pps", "9", *LOAD[2:])
+                for rate in rates:
+                    def loses(value, words_of):
+                        return bool(best.trial(*words_of(value), question).drops)
+
+                    def backlog(value):
+                        return (best.BACKLOG + "%d" % value,), rate
+
+                    def other(value):
+                        return (), value
+
+                    values = best.smallest(lambda value: loses(value, backlog), 7, 0, 65535, True)
+                    self.assertEqual(best.least_backlog((), rate, question),
+                                     rows(question, rate, values, backlog))
+                    values = best.smallest(lambda value: loses(value, other), rate, 1, 10 ** 9,
+                                           False)
+                    self.assertEqual(best.least_rate((), rate, question),
+                                     rows(question, rate, values, other))
+
+    def test_fewest_members_as_by_a_whole_schedule_for_each_mask(self):
+        with Folder() as folder:
+            with open(PLAN) as stream:
+                question = asked(folder, json.load(stream), "--pps", "9", *LOAD[2:])
+            for rate in (20000, 300000, 3000000):
+                tried = [best.trial((best.MASK + mask,), rate, question)
+                         for mask in ("2", "6", "e", "f")]
+                below = None
+                for row in tried:
+                    if not row.drops:
+                        break
+                    below = row
+                wanted = best.Least(None if row is below else row, below)
+                self.assertEqual(best.least_members((), rate, question), wanted)
+
     def test_no_setting_without_drops(self):
         """All packets at once, and too many for any mask."""
         with Folder() as folder:
@@ -159,6 +212,16 @@ class Search(unittest.TestCase):
 
 
 class Parts(unittest.TestCase):
+    def test_the_plan_is_that_of_steer_set(self):
+        """The bitmap of the flow limit names those that put, and a plan those that are put to."""
+        for words in (("flow_limit_cpu_bitmap=3",), ("rx-*/rps_cpus=6", "netdev_max_backlog=9"),
+                      ("flow_limit_cpu_bitmap=2", "rx-1/home=0", "apps=1-2", "indir=equal:1")):
+            with Folder() as folder:
+                with open(PLAN) as stream:
+                    question = asked(folder, json.load(stream), "--pps", "9")
+                _, text, _ = inside("steer-set", question.source, *words)
+                self.assertEqual(best.plan_with(question, words), json.loads(text))
+
     def test_masks(self):
         """The first processors of the masks, then those above them, then all."""
         for cpus, masks, wanted in (
