@@ -40,7 +40,7 @@ class Recipes:
         self.stands = shape.stands + [{cpu} for cpu in apps[len(shape.stands):]]
         self.flows = [flow for flow in flows if flow.value is not None]
         self._check_maps()
-        self.keeps_readers = self._keeps_readers()
+        self.keeps_readers = self._keeps_readers(len(apps))
         self.kinds_of_flow = {(flow.queue, flow.app) for flow in self.flows}
         self.apart = False
         try:
@@ -72,12 +72,16 @@ class Recipes:
             raise cli.Refused("steps", "they change the maps of XPS (xcpus, xqueues), and the "
                               "transmit queues are asked for; it fits without --tx")
 
-    def _keeps_readers(self):
-        """Whether the plan's readers stay, since the low bits give their factors of two."""
-        count = len(self.old["apps"])
+    def _keeps_readers(self, count):
+        """Whether so many readers of the plan stay, since the low bits give their factors of two.
+
+        They are the plan's where none is told: the card's hash modulo their number.
+        """
+        told = len(self.apps) != len(self.old["apps"]) or any(
+            flow.app != (flow.card or 0) % len(self.apps) for flow in self.flows)
         twos = count & -count
-        return len(self.apps) == count and all(
-            flow.entry % twos == flow.app % twos for flow in self.flows)
+        return not told and all(flow.entry % twos == (flow.card or 0) % twos
+                                for flow in self.flows)
 
     # Names and groups of sizes.
 
@@ -108,10 +112,7 @@ class Recipes:
         most = limits.MOST_PROCESSORS
         for name in names:
             if name == READERS:
-                count = len(self.apps)
-                kept = [sizes.odd_part(count)] if self.keeps_readers else []
-                choices[name] = kept + [size for size in sizes.odd_from(count, most)
-                                        if size not in kept]
+                choices[name] = self._reader_sizes(len(self.apps))
             elif name[0] == "mask":
                 choices[name] = list(sizes.odd_from(name[1], most))
             elif name[1] == len(self.of_queues):
@@ -119,6 +120,12 @@ class Recipes:
             else:
                 choices[name] = list(sizes.odd_from(name[1], name[1] + more))
         return choices
+
+    def _reader_sizes(self, count):
+        """The sizes that so many readers may have."""
+        kept = [sizes.odd_part(count)] if self._keeps_readers(count) else []
+        return kept + [size for size in sizes.odd_from(count, limits.MOST_READERS)
+                       if size not in kept]
 
     def _choose(self, low_bits):
         """Chooses the sizes, with as few spare transmit queues as can be."""
@@ -141,24 +148,36 @@ class Recipes:
                 break
         raise cli.Refused("plan", self._advice(fault.group, room))
 
-    def _fits(self, group, room):
-        """Whether there are sizes for these names alone."""
+    def _fits(self, group, room, readers=None):
+        """Whether there are sizes for these names alone, with so many readers or all."""
+        choices = self._choices(group, 0)
+        if readers is not None:
+            choices[READERS] = self._reader_sizes(readers)
         try:
-            sizes.chosen_sizes(self._choices(group, 0), [group], room)
+            sizes.chosen_sizes(choices, [group], room)
         except sizes.NoSizes:
             return False
         return True
+
+    def _fewer_readers(self, group, room):
+        """How many readers, at most and fewer than now, let these names have sizes; or None."""
+        for count in range(len(self.apps) - 1, 0, -1):
+            if self._fits(group, room, count):
+                return count
+        return None
 
     def _advice(self, group, room):
         """Why a group of names has no sizes, and by what it would have some."""
         largest = max(sorted(group, key=str), key=lambda name: (
             name != READERS and name[0] == "mask" and name[1]))
         less = (("without --tx", {name for name in group if name[0] != "tx"}),
-                ("with a number of readers that is a power of two", set(group) - {READERS}),
                 ("with masks of one number of members",
                  {name for name in group if name[0] != "mask"} | {largest}))
         fits = [text for text, names in less
                 if names < group and self._fits(frozenset(names), room)]
+        readers = self._fewer_readers(group, room) if READERS in group else None
+        if readers is not None:
+            fits.append("with %d reader%s in all" % (readers, "" if readers == 1 else "s"))
         return ("%s: no odd sizes without a common divisor have a product of at most %d, for which "
                 "the high bits of a hash have room; it fits %s" % (
                     ", ".join(size_name(name) for name in sorted(group, key=str)), room,

@@ -228,8 +228,8 @@ def _give_readers(plan, flows, readers):
                 break
     if len(apps) > limits.MOST_READERS:
         raise cli.Refused("readers", "they are on %d processors beside the plan's %d readers, and "
-                          "a plan has at most %d" % (len(apps) - count, count,
-                                                      limits.MOST_READERS))
+                          "a plan has at most %d; it fits with fewer readers in the plan"
+                          % (len(apps) - count, count, limits.MOST_READERS))
     return apps
 
 

@@ -178,7 +178,12 @@ class Program(unittest.TestCase):
                 (dict(tx=tx * 32), ("--tx",), "a transmit map of 32 has no spare member"),
                 (dict(steps=["xcpus 0 1"]), ("--tx",), "it fits without --tx"),
                 (dict(steps=["reta 3 1"]), ("--hash32",), "it fits without these steps"),
-                (dict(apps=[0] * 32), ("--reader", "80=9"), "at most 32")):
+                (dict(apps=[0] * 32), ("--reader", "80=9"), "they are on 1 processors beside the "
+                 "plan's 32 readers, and a plan has at most 32; it fits with fewer readers in the "
+                 "plan"),
+                (dict(apps=[0] * 31), ("--reader", "80=9"), "it fits with 31 readers in all"),
+                (dict(cpus=32, queues=two[:3], apps=[0] * 25, tx=tx, filters=1, sock=65536), (),
+                 "it fits with masks of one number of members or with 8 readers in all")):
             with self.subTest(text), reporting.Folder() as folder:
                 name = folder.path("new.json")
                 plan_name = plan_of_snap(folder, **changes)
@@ -186,6 +191,19 @@ class Program(unittest.TestCase):
                 self.assertEqual(status, cli.REFUSED, messages)
                 self.assertIn(text, messages)
                 self.assertFalse(os.path.exists(name))
+
+    def test_what_is_said_to_fit_does(self):
+        """The readers of two of the refusals, as many as they name, and one more."""
+        tx = [{"cpus": [], "queues": []}]
+        queues = [{"home": 0, "mask": list(range(size)), "flows": 32768} for size in (31, 29, 27)]
+        for changes, words, fits in (
+                ({}, ("--reader", "80=9"), 30),     # and the one that is told
+                (dict(cpus=32, queues=queues, tx=tx, filters=1, sock=65536), (), 8)):
+            for count, wanted in ((fits, cli.DONE), (fits + 1, cli.REFUSED)):
+                with self.subTest(count), reporting.Folder() as folder:
+                    status, messages, _ = ran(
+                        folder, plan_of_snap(folder, apps=[0] * count, **changes), WEB, *words)
+                    self.assertEqual(status, wanted, messages)
 
     def test_notes(self):
         ethernet = bytes(12) + b"\x08\x00"
