@@ -5,6 +5,7 @@ pub mod MembersLemmas
 pub mod OthersLemmas
 pub mod PairsLemmas
 pub mod PartsLemmas
+pub mod PlacesLemmas
 pub mod PutsLemmas
 pub mod SectionsLemmas
 pub mod SeenLemmas

@@ -59,6 +59,11 @@ abbrev pub place_for : ℕ → Option Slot → Option ℕ
 place_for list None = None
 place_for list (Some slot) = if slot.list == list then Some slot.place else None
 
+-- 1 for a packet that stands there
+abbrev pub one_at : Option ℕ → ℕ
+one_at None = 0
+one_at (Some place) = 1
+
 -- The list with this number of a kind has each packet at the place that the report shows, and none
 -- beyond those that arrived.
 pub record IsShelved (start : ℕ) (kind : Kind) (seen : List Seen) (number : ℕ) (list : List ℕ)

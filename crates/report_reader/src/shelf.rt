@@ -1,47 +1,55 @@
-//! A list of packets that is filled by their places.
-ghost use Rattle.std.specs.Prelude.{ℕ, ◌≡◌, ◌≤◌, ◌<◌, ◌-◌, List, None, Some, IfOk, length};
-ghost use Rattle.std.specs.Prelude.{slice_set};
+//! Lists of packets that are filled by their places.
+ghost use Rattle.std.specs.Prelude.{ℕ, ◌≡◌, ◌≤◌, ◌<◌, ◌-◌, ◌+◌, List, Some, IfOk, length};
+ghost use Rattle.std.specs.Prelude.{slice_index_or, slice_set};
 ghost use Rattle.steer_base.specs.declared.limits.TheConstants.{MAX_PACKETS};
-ghost use Rattle.report_reader.specs.Slots.{IsShelved, place_for, slot_of};
+ghost use Rattle.history.specs.Lists.{list_at};
+ghost use Rattle.report_reader.specs.Slots.{IsShelved, one_at, place_for};
+ghost use Rattle.report_reader.specs.declared.shelf.TheConstants.{LISTS};
 
-use crate::slots::{Kind, Seen, slot_of_kind};
+use crate::slots::{Kind, Seen, Slot, slot_of_kind};
 use std::alloc::Global;
-use steer_base::{OutOfMemory, PacketId};
+use std::marker::Model;
+use steer_base::{List as Items, OutOfMemory, PacketId};
 
-// The place of a packet in the list with this number, from 1.
-fn place_of(seen: &Seen, kind: Kind, list: usize, start: u32) -> Option<u32>
-    ensures { result ≡ place_for list (slot_of start kind seen.now) }
+/// The lists that a number of 8 bits names.
+const LISTS: usize = 256;
+
+// Counts a packet in the list where it stands.
+fn count_one(counts: &mut Vec<u32>, slot: Option<Slot>)
+    requires lists { length counts.old.items ≡ LISTS }
+    requires few { (n : ℕ) → n < LISTS → slice_index_or counts.old.items n 0 < MAX_PACKETS }
+    ensures lists { length counts.new.items ≡ LISTS }
+    ensures each { (n : ℕ) → n < LISTS → slice_index_or counts.new.items n 0
+        ≡ slice_index_or counts.old.items n 0 + one_at (place_for n slot) }
 {
-    let slot = slot_of_kind(seen, kind, start)?;
-    if slot.list as usize == list {
-        Some(slot.place)
-    } else {
-        None
+    if let Some(slot) = slot {
+        counts[usize::from(slot.list)] += 1;
     }
 }
 
-// 1 for a packet that stands there.
-fn one_if(place: Option<u32>) -> usize
-    ensures none { place ≡ None → result ≡ 0 }
-    ensures some { (p : ℕ) → place ≡ Some p → result ≡ 1 }
-    ensures most { result ≤ 1 }
+// How many packets stand in each list of a kind.
+fn counts(alloc: Global, seen: &[Seen], kind: Kind, start: u32) -> Result<Vec<u32>, OutOfMemory>
+    requires { length seen.now ≤ MAX_PACKETS }
+    ensures { IfOk result (λ counts. (n : ℕ) (wanted : List ℕ)
+        → IsShelved start kind seen.now n wanted
+        → slice_index_or counts.items n 0 ≡ length wanted) }
 {
-    match place {
-        None => 0,
-        Some(_) => 1,
+    let mut counts = Vec::new(alloc);
+    counts.resize(LISTS, 0)?;
+    for x in 0..seen.len() {
+        count_one(&mut counts, slot_of_kind(&seen[x], kind, start));
     }
+    Ok(counts)
 }
 
 // How many packets stand in the list with this number.
-fn count_in(seen: &[Seen], kind: Kind, list: usize, start: u32) -> usize
-    ensures { (wanted : List ℕ) → IsShelved start kind seen.now list wanted
-        → result ≡ length wanted }
+fn count_at(counts: &[u32], list: usize) -> usize
+    ensures { result ≡ slice_index_or counts.now list 0 }
 {
-    let mut count = 0;
-    for x in 0..seen.len() {
-        count += one_if(place_of(&seen[x], kind, list, start));
+    match counts.get(list) {
+        Some(count) => *count as usize,
+        None => 0,
     }
-    count
 }
 
 // So many zeros.
@@ -55,20 +63,94 @@ fn zeros(alloc: Global, count: usize) -> Result<Vec<PacketId>, OutOfMemory>
     Ok(ids)
 }
 
-// Puts a packet at its place, if the list has that place.
-fn put(ids: &mut Vec<PacketId>, place: Option<u32>, id: PacketId)
-    ensures long { length ids.new.items ≡ length ids.old.items }
-    ensures set { (p : ℕ) → place ≡ Some p → 0 < p → p ≤ length ids.old.items
-        → ids.new.items ≡ slice_set ids.old.items (p - 1) id }
-    ensures same { place ≡ None → ids.new.items ≡ ids.old.items }
+// Puts a packet at a place, if the list has that place.
+fn put_at(ids: &mut Vec<PacketId>, place: u32, id: PacketId)
+    ensures { 0 < place → place ≤ length ids.old.items
+        → ids.new.items ≡ slice_set ids.old.items (place - 1) id }
 {
-    let Some(place) = place else {
-        return;
-    };
     if place == 0 || place as usize > ids.len() {
         return;
     }
     ids[place as usize - 1] = id;
+}
+
+/// Lists side by side with a place for each packet. Contracts see the list of the lists.
+#[derive(Drop)]
+struct Places {
+    lists: Vec<Vec<PacketId>>,
+}
+
+impl Model for Places {
+    ghost use Rattle.std.specs.Prelude.{ℕ, List, map};
+
+    ghost Value = { List (List ℕ) };
+
+    ghost view = { λ s. map (λ list. list.items) s.lists.items };
+}
+
+impl Places {
+    // So many lists, each with as many places as are counted.
+    fn make(alloc: Global, count: usize, counts: &[u32]) -> Result<Places, OutOfMemory>
+        ensures lists { IfOk result (λ s. length s ≡ count) }
+        ensures long { IfOk result (λ s. (n : ℕ) → n < count
+            → length (list_at s n) ≡ slice_index_or counts.now n 0) }
+    {
+        let mut lists = Vec::with_capacity(alloc, count)?;
+        for n in 0..count {
+            lists.push(zeros(alloc, count_at(counts, n))?)?;
+        }
+        Ok(Places { lists })
+    }
+
+    // Puts a packet where it stands, if there is that place.
+    fn put(&mut self, slot: Option<Slot>, id: PacketId)
+        ensures lists { length self.new ≡ length self.old }
+        ensures set { (n p : ℕ) → n < length self.old → place_for n slot ≡ Some p → 0 < p
+            → p ≤ length (list_at self.old n)
+            → list_at self.new n ≡ slice_set (list_at self.old n) (p - 1) id }
+        ensures same { (n : ℕ) → place_for n slot ≡ None
+            → list_at self.new n ≡ list_at self.old n }
+    {
+        let Some(slot) = slot else {
+            return;
+        };
+        let list = usize::from(slot.list);
+        if list >= self.lists.len() {
+            return;
+        }
+        put_at(&mut self.lists[list], slot.place, id);
+    }
+
+    // The lists, without copying.
+    fn into_lists(self, alloc: Global) -> Result<Vec<Items<PacketId>>, OutOfMemory>
+        ensures { IfOk result (λ v. v.items ≡ self) }
+    {
+        let Places { lists } = self;
+        Ok(lists.into_iter().map(Items::from_vec).collect(alloc)?)
+    }
+}
+
+/// The lists of a kind with the numbers below `count`, in two walks over the packets: each packet
+/// stands at its place. The memory of each list is allocated once.
+pub fn shelves(
+    alloc: Global,
+    seen: &[Seen],
+    kind: Kind,
+    count: usize,
+    start: u32,
+) -> Result<Vec<Items<PacketId>>, OutOfMemory>
+    requires { length seen.now ≤ MAX_PACKETS }
+    ensures lists { IfOk result (λ v. length v.items ≡ count) }
+    ensures each { IfOk result (λ v. (n : ℕ) (wanted : List ℕ) → n < count
+        → IsShelved start kind seen.now n wanted → list_at v.items n ≡ wanted) }
+{
+    let counts = counts(alloc, seen, kind, start)?;
+    let mut shelves = Places::make(alloc, count, &counts)?;
+    for x in 0..seen.len() {
+        shelves.put(slot_of_kind(&seen[x], kind, start), PacketId(x as u32));
+    }
+    let lists = shelves.into_lists(alloc)?;
+    Ok(lists)
 }
 
 /// The list of a kind with this number: each packet stands at its place.
@@ -86,10 +168,6 @@ pub fn shelf(
     if list > usize::from(u8::MAX) {
         return Ok(Vec::new(alloc));
     }
-    let mut ids = zeros(alloc, count_in(seen, kind, list, start))?;
-    for x in 0..seen.len() {
-        let place = place_of(&seen[x], kind, list, start);
-        put(&mut ids, place, PacketId(x as u32));
-    }
-    Ok(ids)
+    let mut lists = shelves(alloc, seen, kind, list + 1, start)?;
+    Ok(lists.swap_remove(list).into_vec())
 }
