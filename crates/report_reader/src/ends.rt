@@ -1,6 +1,14 @@
 //! Where a field ends.
-ghost use Rattle.std.specs.Prelude.{◌≡◌, ◌≤◌, length};
+ghost use Rattle.std.specs.Prelude.{◌≡◌, ◌≢◌, ◌≤◌, ◌⊎◌, false, length, true};
 ghost use Rattle.report_reader.specs.Ends.{IsEnd};
+
+// Whether a byte ends a field. Most do not, and one comparison tells.
+fn is_stop(byte: u8) -> bool
+    ensures yes { result ≡ true → (byte ≡ 32) ⊎ (byte ≡ 10) }
+    ensures no { result ≡ false → (byte ≢ 32) × (byte ≢ 10) }
+{
+    byte <= b' ' && (byte == b' ' || byte == b'\n')
+}
 
 /// Where the field that begins at this place ends: at the first space or line feed, or where the
 /// bytes end.
@@ -10,7 +18,7 @@ pub fn field_end(bytes: &[u8], at: usize) -> usize
 {
     let mut end = at;
     while end < bytes.len() {
-        if bytes[end] == b' ' || bytes[end] == b'\n' {
+        if is_stop(bytes[end]) {
             return end;
         }
         end += 1;
