@@ -1,8 +1,8 @@
 -- Lists that are built item by item.
 use Rattle.std.proofs.Common.{ℕ, ◌+◌, ◌<◌, ◌≡◌, List, [], ◌∷◌, ◌++◌, length, take, ap}
 use Rattle.std.proofs.Common.{◌∙◌, sym, get_or, arith, subst}
-use Rattle.std.proofs.lemmas.List.{get_or-map, length-map, length_push, take_more}
-use Rattle.history.specs.Lists.{lane_at, no_lane}
+use Rattle.std.proofs.lemmas.List.{ext_get_or, get_or-map, length-map, length_push, take_more}
+use Rattle.history.specs.Lists.{lane_at, list_at, no_lane}
 use Rattle.history.specs.declared.lane_list.LaneList.{LaneList}
 use Rattle.report_reader.specs.Parts.{lane_sums}
 use Rattle.report_reader.specs.declared.sums.LaneSums.{LaneSums}
@@ -18,6 +18,13 @@ pub one-longer : {A : Type 0} (built new : List A) (x : A) (n : ℕ) → new ≡
     → length built ≡ n → length new ≡ n + 1
 one-longer built new x n e l =
     let f : length new ≡ length built + 1 = ap length e ∙ length_push built x in omega (arith, f, l)
+
+-- lists that are the same one by one
+pub same-by-number : (built lists : List (List ℕ)) (count : ℕ) → length built ≡ count
+    → length lists ≡ count
+    → ((n : ℕ) → n < length lists → list_at built n ≡ list_at lists n) → built ≡ lists
+same-by-number built lists count b l same =
+    ext_get_or [] built lists (b ∙ sym l) (λ i k. same i (omega (arith, k, b, l)))
 
 -- lanes with these sums, one by one
 module _ (IsLane : ℕ → LaneSums → LaneList → Type 0) (sums : List LaneSums) (lanes : List LaneList)

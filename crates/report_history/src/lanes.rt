@@ -1,16 +1,18 @@
 //! The lanes and the inboxes.
-ghost use Rattle.std.specs.Prelude.{ℕ, ◌≡◌, ◌≤◌, List as Items, IfOk, length};
+ghost use Rattle.std.specs.Prelude.{ℕ, ◌≡◌, ◌≤◌, ◌<◌, List as Items, IfOk, length};
 ghost use Rattle.std.specs.List.{filter_map};
 ghost use Rattle.steer_base.specs.declared.limits.TheConstants.{MAX_PACKETS};
+ghost use Rattle.history.specs.Lists.{list_at};
 ghost use Rattle.history.specs.declared.lane_list.LaneList.{LaneList as Lane};
 ghost use Rattle.report_history.specs.Lists.{AreInboxes, AreLanes, IsBacklog, IsTxQueue};
 ghost use Rattle.report_history.specs.Shown.{shown_drop};
 
 use crate::lookup::shown_drop;
 use history::LaneList;
-use report_reader::shelf::shelf;
+use report_reader::shelf::shelves;
 use report_reader::{Kind, LaneSums, Seen};
 use std::alloc::Global;
+use std::mem;
 use steer_base::{LaneDrop, List, OutOfMemory, PacketId};
 
 // The drops of these packets.
@@ -27,15 +29,15 @@ fn drops(alloc: Global, seen: &[Seen], ids: &[PacketId]) -> Result<Vec<LaneDrop>
 }
 
 // A lane with these packets and sums.
-fn lane_of(accepted: Vec<PacketId>, drops: Vec<LaneDrop>, sums: LaneSums) -> LaneList
-    ensures accepted { result.accepted ≡ accepted.items }
+fn lane_of(accepted: List<PacketId>, drops: Vec<LaneDrop>, sums: LaneSums) -> LaneList
+    ensures accepted { result.accepted ≡ accepted }
     ensures drops { result.drops ≡ drops.items }
     ensures pulled { result.pulled ≡ sums.pulled }
     ensures delivered { result.delivered ≡ sums.delivered }
     ensures retired { result.retired ≡ sums.retired }
 {
     LaneList {
-        accepted: List::from_vec(accepted),
+        accepted,
         drops: List::from_vec(drops),
         pulled: sums.pulled,
         delivered: sums.delivered,
@@ -43,38 +45,14 @@ fn lane_of(accepted: Vec<PacketId>, drops: Vec<LaneDrop>, sums: LaneSums) -> Lan
     }
 }
 
-// The backlog of a processor.
-fn backlog(
-    alloc: Global,
-    seen: &[Seen],
-    number: usize,
-    sums: LaneSums,
-    start: u32,
-) -> Result<LaneList, OutOfMemory>
-    requires { length seen.now ≤ MAX_PACKETS }
-    ensures { IfOk result (λ found. (lane : Lane)
-        → IsBacklog start seen.now number sums lane → found ≡ lane) }
+// Takes a list out of others, and leaves an empty one.
+fn take_list(alloc: Global, lists: &mut Vec<List<PacketId>>, at: usize) -> List<PacketId>
+    requires { at < length lists.old.items }
+    ensures taken { result ≡ list_at lists.old.items at }
+    ensures long { length lists.new.items ≡ length lists.old.items }
+    ensures others { (n : ℕ) → at < n → list_at lists.new.items n ≡ list_at lists.old.items n }
 {
-    let accepted = shelf(alloc, seen, Kind::Accepted, number, start)?;
-    let dropped = shelf(alloc, seen, Kind::Dropped, number, start)?;
-    let drops = drops(alloc, seen, &dropped)?;
-    Ok(lane_of(accepted, drops, sums))
-}
-
-// A transmit queue.
-fn tx_queue(
-    alloc: Global,
-    seen: &[Seen],
-    number: usize,
-    sums: LaneSums,
-    start: u32,
-) -> Result<LaneList, OutOfMemory>
-    requires { length seen.now ≤ MAX_PACKETS }
-    ensures { IfOk result (λ found. (lane : Lane)
-        → IsTxQueue start seen.now number sums lane → found ≡ lane) }
-{
-    let accepted = shelf(alloc, seen, Kind::Shipped, number, start)?;
-    Ok(lane_of(accepted, Vec::new(alloc), sums))
+    mem::replace(&mut lists[at], List::from_vec(Vec::new(alloc)))
 }
 
 /// The backlogs of the processors with these sums.
@@ -88,10 +66,13 @@ pub fn backlogs(
     ensures { IfOk result (λ v. (lanes : Items Lane)
         → AreLanes (IsBacklog start seen.now) sums.now lanes → v.items ≡ lanes) }
 {
+    let mut accepted = shelves(alloc, seen, Kind::Accepted, sums.len(), start)?;
+    let dropped = shelves(alloc, seen, Kind::Dropped, sums.len(), start)?;
     let mut lanes = Vec::with_capacity(alloc, sums.len())?;
     for c in 0..sums.len() {
-        let own = sums[c];
-        lanes.push(backlog(alloc, seen, c, own, start)?)?;
+        let own = take_list(alloc, &mut accepted, c);
+        let drops = drops(alloc, seen, dropped[c].as_slice())?;
+        lanes.push(lane_of(own, drops, sums[c]))?;
     }
     Ok(lanes)
 }
@@ -107,10 +88,11 @@ pub fn tx_queues(
     ensures { IfOk result (λ v. (lanes : Items Lane)
         → AreLanes (IsTxQueue start seen.now) sums.now lanes → v.items ≡ lanes) }
 {
+    let mut accepted = shelves(alloc, seen, Kind::Shipped, sums.len(), start)?;
     let mut lanes = Vec::with_capacity(alloc, sums.len())?;
     for t in 0..sums.len() {
-        let own = sums[t];
-        lanes.push(tx_queue(alloc, seen, t, own, start)?)?;
+        let own = take_list(alloc, &mut accepted, t);
+        lanes.push(lane_of(own, Vec::new(alloc), sums[t]))?;
     }
     Ok(lanes)
 }
@@ -126,10 +108,6 @@ pub fn inboxes(
     ensures { IfOk result (λ v. (lists : Items (Items ℕ))
         → AreInboxes start seen.now apps lists → v.items ≡ lists) }
 {
-    let mut lists = Vec::with_capacity(alloc, apps as usize)?;
-    for a in 0..apps {
-        let list = shelf(alloc, seen, Kind::Inbox, a as usize, start)?;
-        lists.push(List::from_vec(list))?;
-    }
+    let lists = shelves(alloc, seen, Kind::Inbox, apps as usize, start)?;
     Ok(lists)
 }
