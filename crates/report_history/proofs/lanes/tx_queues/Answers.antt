@@ -17,7 +17,8 @@ loop-t-preserved c =
     record {
       long = c.take_list-own.ensures.long ∙ c.loop-t.invariant.long;
       rest = λ n wanted a b s.
-          c.take_list-own.ensures.others n (omega (arith, a)) ∙ rest n wanted (omega (arith, a)) b s;
+          c.take_list-own.ensures.others n (omega (arith, a)) ∙ rest n wanted (omega
+          (arith, a)) b s;
       built = λ all s.
           one-lane (IsTxQueue c.args.start c.args.seen.now) c.args.sums.now all s at _
           c.loop-t.lanes.items _ c.lane_of.result c.loop-t-test.true
