@@ -1,4 +1,5 @@
 //! Files that are read whole, from the system and from memory.
+use crate::equal::{same, same_items};
 use outside_io::{Begin, Desk, FileDesk, Got, MemoryDesk, ReadWhole, SureDesk, read_whole};
 use std::alloc::{AllocError, Global};
 use std::fs;
@@ -29,10 +30,10 @@ fn a_file_is_read_whole_up_to_its_limit(rt: HostRuntime) -> Result<(), Fail> {
         ("none", 9, Err(ReadWhole::Fault)),
     ] {
         let got = read_whole(alloc, &mut desk, name, limit).map(|bytes| bytes.len());
-        assert_eq!(rt; got, want, "{name} with limit {limit}");
+        same(&rt, &got, &want, limit);
     }
     let bytes = read_whole(alloc, &mut desk, "three", 3)?;
-    assert_eq!(rt; bytes.as_slice(), [7, 8, 9].as_slice());
+    same_items(&rt, &bytes, &[7, 8, 9]);
     Ok(())
 }
 
@@ -51,8 +52,8 @@ fn reads_and_their_bytes_are_counted(rt: HostRuntime) -> Result<(), Fail> {
     ] {
         let mut desk = desk(alloc, Vec::new(alloc))?;
         let _ = read_whole(alloc, &mut desk, name, limit);
-        assert_eq!(rt; desk.reads(), reads, "{name} with limit {limit}");
-        assert_eq!(rt; desk.taken(), taken, "{name} with limit {limit}");
+        same(&rt, &desk.reads(), &reads, limit);
+        same(&rt, &desk.taken(), &taken, limit);
     }
     Ok(())
 }
@@ -69,7 +70,7 @@ fn a_call_that_is_listed_fails(rt: HostRuntime) -> Result<(), Fail> {
     ] {
         let mut desk = desk(alloc, vec![in alloc; call]?)?;
         let got = read_whole(alloc, &mut desk, "three", 3).map(|bytes| bytes.len());
-        assert_eq!(rt; got, want, "where call {call} fails");
+        same(&rt, &got, &want, call as usize);
     }
     Ok(())
 }
@@ -79,13 +80,13 @@ fn nothing_is_begun_at_first_and_after_a_failed_begin(rt: HostRuntime) -> Result
     let alloc = rt.alloc();
     let mut desk = desk(alloc, vec![in alloc; 3]?)?;
     let mut buffer = [0; 2];
-    assert_eq!(rt; desk.read(&mut buffer), Got::End);
-    assert_eq!(rt; desk.begin("three"), Begin::Ok);
-    assert_eq!(rt; desk.begin("three"), Begin::Failed);
-    assert_eq!(rt; desk.read(&mut buffer), Got::End);
-    assert_eq!(rt; desk.begin("three"), Begin::Ok);
-    assert_eq!(rt; desk.read(&mut buffer), Got::Bytes(2));
-    assert_eq!(rt; buffer.as_slice(), [7, 8].as_slice());
+    same(&rt, &desk.read(&mut buffer), &Got::End, 0);
+    same(&rt, &desk.begin("three"), &Begin::Ok, 1);
+    same(&rt, &desk.begin("three"), &Begin::Failed, 2);
+    same(&rt, &desk.read(&mut buffer), &Got::End, 3);
+    same(&rt, &desk.begin("three"), &Begin::Ok, 4);
+    same(&rt, &desk.read(&mut buffer), &Got::Bytes(2), 5);
+    same_items(&rt, &buffer, &[7, 8]);
     Ok(())
 }
 
@@ -97,7 +98,7 @@ fn files_are_read_and_folders_and_missing_names_fail(rt: HostRuntime) -> Result<
     fs::write(&rt, "short", b"abc")?;
     let mut desk = FileDesk::make(rt.clone()?);
     let bytes = read_whole(alloc, &mut desk, "long", 10_000)?;
-    assert_eq!(rt; bytes.as_slice(), long.as_slice());
+    same_items(&rt, &bytes, &long);
     for (name, limit, want) in [
         ("short", 3, Ok(3)),
         ("short", 2, Err(ReadWhole::TooLong)),
@@ -105,10 +106,10 @@ fn files_are_read_and_folders_and_missing_names_fail(rt: HostRuntime) -> Result<
         ("missing", 3, Err(ReadWhole::Fault)),
     ] {
         let got = read_whole(alloc, &mut desk, name, limit).map(|bytes| bytes.len());
-        assert_eq!(rt; got, want, "{name} with limit {limit}");
+        same(&rt, &got, &want, limit);
     }
-    assert_eq!(rt; desk.begin("missing"), Begin::Failed);
-    assert_eq!(rt; desk.read(&mut [0]), Got::End);
+    same(&rt, &desk.begin("missing"), &Begin::Failed, 2);
+    same(&rt, &desk.read(&mut [0]), &Got::End, 3);
     fs::remove_file(&rt, "long")?;
     fs::remove_file(&rt, "short")?;
     Ok(())
@@ -121,7 +122,7 @@ fn a_name_that_is_not_held_is_an_empty_file(rt: HostRuntime) -> Result<(), Fail>
     files.push((String::from_str(alloc, "a")?, vec![in alloc; 1, 2]?))?;
     let mut desk = SureDesk::make(files);
     let held = read_whole(alloc, &mut desk, "a", 2)?;
-    assert_eq!(rt; held.as_slice(), [1, 2].as_slice());
+    same_items(&rt, &held, &[1, 2]);
     let unknown = read_whole(alloc, &mut desk, "b", 2)?;
     assert!(rt; unknown.is_empty());
     Ok(())

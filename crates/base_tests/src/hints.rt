@@ -2,6 +2,7 @@
 ghost use Rattle.std.specs.Prelude.{◌≡◌, ◌<◌, ◌≤◌};
 ghost use Rattle.std.specs.Vec.{vec_len, vec_capacity};
 
+use crate::equal::same;
 use hint_words::{HintSeat, Hints};
 use std::thread::join;
 
@@ -13,15 +14,15 @@ fn each_seat_finds_the_last_write(rt: HostRuntime) {
     let (Some(mut one), Some(mut zero)) = (seats.pop(), seats.pop()) else {
         panic!(rt; "fewer than two seats")
     };
-    assert_eq!(rt; hints.load(&mut zero, 0), 0);
+    same(&rt, &hints.load(&mut zero, 0), &0, 0);
     hints.store(&mut zero, 0, 5);
-    assert_eq!(rt; hints.load(&mut one, 0), 5);
-    assert_eq!(rt; hints.load(&mut one, 1), 0);
+    same(&rt, &hints.load(&mut one, 0), &5, 1);
+    same(&rt, &hints.load(&mut one, 1), &0, 2);
     assert!(rt; !hints.clear_if(&mut one, 0, 4));
-    assert_eq!(rt; hints.load(&mut one, 0), 5);
+    same(&rt, &hints.load(&mut one, 0), &5, 3);
     assert!(rt; hints.clear_if(&mut one, 0, 5));
-    assert_eq!(rt; hints.load(&mut zero, 0), 0);
-    assert_eq!(rt; hints.load(&mut zero, 1), 0);
+    same(&rt, &hints.load(&mut zero, 0), &0, 4);
+    same(&rt, &hints.load(&mut zero, 1), &0, 5);
     close_two(hints, seats, zero, one);
 }
 
@@ -30,7 +31,7 @@ fn hints_may_have_no_word(rt: HostRuntime) {
     let Ok((hints, seats)) = Hints::make(rt.alloc(), 0, 3) else {
         panic!(rt; "no memory")
     };
-    assert_eq!(rt; seats.len(), 3);
+    same(&rt, &seats.len(), &3, 0);
     hints.close_hints(seats);
 }
 

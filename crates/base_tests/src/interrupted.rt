@@ -1,4 +1,5 @@
 //! Calls that a signal interrupts: they are made again, until they were made too often.
+use crate::equal::{same, same_items};
 use outside_io::{Begin, Desk, FileDesk, Got, Sink, StdSink, Took, WriteFault};
 use std::alloc::Allocator;
 use std::fs::{Files, Metadata, OpenFile, OpenOptions};
@@ -147,16 +148,16 @@ fn an_interrupted_read_is_made_again(rt: HostRuntime) {
         (ALWAYS, Got::Failed),
     ] {
         let mut desk = FileDesk::make(DisturbedFiles { often });
-        assert_eq!(rt; desk.begin("a"), Begin::Ok);
+        same(&rt, &desk.begin("a"), &Begin::Ok, often as usize);
         let mut buffer = [0; 2];
-        assert_eq!(rt; desk.read(&mut buffer), want, "interrupted {often} times");
+        same(&rt, &desk.read(&mut buffer), &want, often as usize);
     }
     let mut desk = FileDesk::make(DisturbedFiles { often: 1 });
-    assert_eq!(rt; desk.begin("a"), Begin::Ok);
+    same(&rt, &desk.begin("a"), &Begin::Ok, 0);
     let mut buffer = [0; 2];
-    assert_eq!(rt; desk.read(&mut buffer), Got::Bytes(1));
-    assert_eq!(rt; buffer, [7, 0]);
-    assert_eq!(rt; desk.read(&mut buffer), Got::End);
+    same(&rt, &desk.read(&mut buffer), &Got::Bytes(1), 1);
+    same_items(&rt, &buffer, &[7, 0]);
+    same(&rt, &desk.read(&mut buffer), &Got::End, 2);
 }
 
 #[test]
@@ -168,8 +169,8 @@ fn an_interrupted_write_or_flush_is_made_again(rt: HostRuntime) {
         (ALWAYS, Took::Failed, Err(WriteFault)),
     ] {
         let mut out = StdSink::make(Disturbed::make(often));
-        assert_eq!(rt; out.write(b"p 0\n"), took, "interrupted {often} times");
+        same(&rt, &out.write(b"p 0\n"), &took, often as usize);
         let mut out = StdSink::make(Disturbed::make(often));
-        assert_eq!(rt; out.flush(), flushed, "interrupted {often} times");
+        same(&rt, &out.flush(), &flushed, often as usize);
     }
 }

@@ -5,6 +5,8 @@
 #[cfg(test)]
 mod desks;
 #[cfg(test)]
+mod equal;
+#[cfg(test)]
 mod hints;
 #[cfg(test)]
 mod interrupted;

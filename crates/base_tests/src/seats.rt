@@ -2,6 +2,7 @@
 ghost use Rattle.std.specs.Prelude.{◌≡◌, [], ◌∷◌, IfOk};
 ghost use Rattle.linearization.specs.Views.{all_hands};
 
+use crate::equal::same;
 use atomic_table::{Seat, Table};
 use linearization::{Gathered, Hands, OneOrder, StepRule, close, deal};
 use std::alloc::{AllocError, Global};
@@ -35,9 +36,9 @@ fn a_table_closes_with_the_seats_that_were_dealt(rt: HostRuntime) {
     let Ok(seats) = deal(rt.alloc(), &table.shared, main, 3) else {
         panic!(rt; "no memory")
     };
-    assert_eq!(rt; seats.len(), 3);
+    same(&rt, &seats.len(), &3, 0);
     let closed = close(table, seats);
-    assert_eq!(rt; closed.word(0), 7);
+    same(&rt, &closed.word(0), &7, 1);
     closed.free();
 }
 
@@ -57,6 +58,6 @@ fn seats_are_taken_back_one_by_one(rt: HostRuntime) {
     all.join(&table.shared, zero);
     all.join(&table.shared, two);
     let closed = all.finish(table);
-    assert_eq!(rt; closed.word(0), 7);
+    same(&rt, &closed.word(0), &7, 0);
     closed.free();
 }

@@ -1,4 +1,5 @@
 //! What the shared names and types do, by values that were worked out by hand.
+use crate::equal::{same, same_items};
 use std::test::Fail;
 use steer_base::{
     AppId, Cpu, CpuMask, Journal, Journals, List, RxQueue, Why, app_of, decimal_number,
@@ -17,14 +18,14 @@ fn bit_c_is_processor_c(rt: HostRuntime) {
 
 #[test]
 fn sets_are_made(rt: HostRuntime) {
-    assert_eq!(rt; CpuMask::first_n(0), CpuMask(0));
-    assert_eq!(rt; CpuMask::first_n(3), CpuMask(0b111));
-    assert_eq!(rt; CpuMask::first_n(32), CpuMask(0xffff_ffff));
+    same(&rt, &CpuMask::first_n(0), &CpuMask(0), 0);
+    same(&rt, &CpuMask::first_n(3), &CpuMask(0b111), 1);
+    same(&rt, &CpuMask::first_n(32), &CpuMask(0xffff_ffff), 2);
     let some = CpuMask::from_cpus(&[Cpu(3), Cpu(31), Cpu(0), Cpu(3), Cpu(32)]);
-    assert_eq!(rt; some, CpuMask(0x8000_0009));
-    assert_eq!(rt; some.with(Cpu(1)), CpuMask(0x8000_000b));
-    assert_eq!(rt; some.without(Cpu(31)), CpuMask(0b1001));
-    assert_eq!(rt; some.without(Cpu(1)), some);
+    same(&rt, &some, &CpuMask(0x8000_0009), 3);
+    same(&rt, &some.with(Cpu(1)), &CpuMask(0x8000_000b), 4);
+    same(&rt, &some.without(Cpu(31)), &CpuMask(0b1001), 5);
+    same(&rt, &some.without(Cpu(1)), &some, 6);
 }
 
 #[test]
@@ -42,7 +43,12 @@ fn a_head_reaches_a_tail_across_the_wrap(rt: HostRuntime) {
     ];
     for (head, tail, more, wanted) in cases {
         assert!(rt; more <= 400000);
-        assert_eq!(rt; reached(head, tail, more), wanted, "{head} {tail} {more}");
+        same(
+            &rt,
+            &(head, tail, reached(head, tail, more)),
+            &(head, tail, wanted),
+            more as usize,
+        );
     }
 }
 
@@ -59,7 +65,7 @@ fn sizes_are_rounded_up(rt: HostRuntime) {
     ];
     for (given, wanted) in cases {
         assert!(rt; given <= 65536);
-        assert_eq!(rt; round_up(given), wanted, "{given}");
+        same(&rt, &round_up(given), &wanted, given as usize);
     }
 }
 
@@ -76,11 +82,18 @@ fn digits_make_a_number(rt: HostRuntime) {
         ("0x1", None),
     ];
     for (text, wanted) in cases {
-        assert_eq!(rt; decimal_number(text.as_bytes(), 10), wanted, "{text}");
+        same(
+            &rt,
+            &(text, decimal_number(text.as_bytes(), 10)),
+            &(text, wanted),
+            0,
+        );
     }
-    assert_eq!(rt;
-        decimal_number(b"99999999999999999999", 20),
-        Some(99_999_999_999_999_999_999)
+    same(
+        &rt,
+        &decimal_number(b"99999999999999999999", 20),
+        &Some(99_999_999_999_999_999_999),
+        1,
     );
 }
 
@@ -94,15 +107,20 @@ fn a_hash_has_a_place(rt: HostRuntime) {
         (None, 8, None),
     ];
     for (hash, size, place) in cases {
-        assert_eq!(rt; place_of_hash(hash, size), place, "{hash:?} {size}");
+        same(
+            &rt,
+            &(hash, place_of_hash(hash, size)),
+            &(hash, place),
+            size as usize,
+        );
     }
 }
 
 #[test]
 fn a_hash_names_an_application(rt: HostRuntime) {
-    assert_eq!(rt; app_of(Some(0x51cc_c178), 32), AppId(24));
-    assert_eq!(rt; app_of(Some(7), 1), AppId(0));
-    assert_eq!(rt; app_of(None, 5), AppId(0));
+    same(&rt, &app_of(Some(0x51cc_c178), 32), &AppId(24), 0);
+    same(&rt, &app_of(Some(7), 1), &AppId(0), 1);
+    same(&rt, &app_of(None, 5), &AppId(0), 2);
 }
 
 #[test]
@@ -110,10 +128,11 @@ fn queues_get_entries_in_turn(rt: HostRuntime) {
     let entries = even_entries(3);
     let cases = [(0usize, 0u8), (5, 2), (127, 1)];
     for (place, queue) in cases {
-        assert_eq!(rt;
-            entries.as_slice().get(place),
-            Some(&RxQueue(queue)),
-            "{place}"
+        same(
+            &rt,
+            &entries.as_slice().get(place),
+            &Some(&RxQueue(queue)),
+            place,
         );
     }
 }
@@ -135,11 +154,11 @@ fn a_journal_grows_at_its_end(rt: HostRuntime) -> Result<(), Fail> {
     let mut journal = Journal::make(rt.alloc(), 3)?;
     journal.push(7u32);
     journal.push(5);
-    assert_eq!(rt; (journal.len(), journal.room()), (2, 3));
-    assert_eq!(rt; journal.get(1), Some(5));
-    assert_eq!(rt; journal.get(2), None);
-    assert_eq!(rt; journal.as_slice(), [7, 5].as_slice());
-    assert_eq!(rt; journal.into_vec().as_slice(), [7, 5].as_slice());
+    same(&rt, &(journal.len(), journal.room()), &(2, 3), 0);
+    same(&rt, &journal.get(1), &Some(5), 1);
+    same(&rt, &journal.get(2), &None, 2);
+    same_items(&rt, journal.as_slice(), &[7, 5]);
+    same_items(&rt, &journal.into_vec(), &[7, 5]);
     Ok(())
 }
 
@@ -149,19 +168,19 @@ fn each_list_grows_at_its_end(rt: HostRuntime) -> Result<(), Fail> {
     lists.push(1, 7u32);
     lists.push(1, 5);
     lists.push(0, 9);
-    assert_eq!(rt; (lists.count(), lists.room()), (2, 2));
-    assert_eq!(rt; (lists.len_of(0), lists.len_of(1)), (1, 2));
-    assert_eq!(rt; (lists.get(1, 0), lists.get(1, 1)), (7, 5));
-    assert_eq!(rt; lists.list(0), [9].as_slice());
+    same(&rt, &(lists.count(), lists.room()), &(2, 2), 0);
+    same(&rt, &(lists.len_of(0), lists.len_of(1)), &(1, 2), 1);
+    same(&rt, &(lists.get(1, 0), lists.get(1, 1)), &(7, 5), 2);
+    same_items(&rt, lists.list(0), &[9]);
     Ok(())
 }
 
 #[test]
 fn a_list_has_the_items_of_its_vector(rt: HostRuntime) -> Result<(), Fail> {
     let list = List::from_vec([7u32, 5].to_vec(rt.alloc())?);
-    assert_eq!(rt; list.len(), 2);
-    assert_eq!(rt; *list.get(1), 5);
-    assert_eq!(rt; list.as_slice(), [7, 5].as_slice());
-    assert_eq!(rt; list.into_vec().as_slice(), [7, 5].as_slice());
+    same(&rt, &list.len(), &2, 0);
+    same(&rt, list.get(1), &5, 1);
+    same_items(&rt, list.as_slice(), &[7, 5]);
+    same_items(&rt, &list.into_vec(), &[7, 5]);
     Ok(())
 }

@@ -1,4 +1,5 @@
 //! Pieces that are written whole, to the system and to memory.
+use crate::equal::{same, same_items};
 use outside_io::{MemorySink, Sink, StdSink, SureSink, Took, WriteFault, write_whole};
 use std::fs;
 use std::io::BufWriter;
@@ -16,9 +17,9 @@ fn the_third_write_fails(rt: HostRuntime) -> Result<(), Fail> {
         (b"end\n", Ok(())),
     ];
     for (piece, want) in pieces {
-        assert_eq!(rt; write_whole(&mut out, piece), want);
+        same(&rt, &write_whole(&mut out, piece), &want, 0);
     }
-    assert_eq!(rt; out.bytes(), b"steer 1\np 0\nend\n".as_slice());
+    same_items(&rt, out.bytes(), b"steer 1\np 0\nend\n");
     Ok(())
 }
 
@@ -26,36 +27,46 @@ fn the_third_write_fails(rt: HostRuntime) -> Result<(), Fail> {
 fn a_piece_beyond_the_room_fails_whole(rt: HostRuntime) -> Result<(), Fail> {
     let alloc = rt.alloc();
     let mut out = MemorySink::make(alloc, 4, Vec::new(alloc))?;
-    assert_eq!(rt; write_whole(&mut out, b"ab"), Ok(()));
-    assert_eq!(rt; write_whole(&mut out, b"cde"), Err(WriteFault));
-    assert_eq!(rt; write_whole(&mut out, b"cd"), Ok(()));
-    assert_eq!(rt; out.bytes(), b"abcd".as_slice());
+    same(&rt, &write_whole(&mut out, b"ab"), &Ok(()), 0);
+    same(&rt, &write_whole(&mut out, b"cde"), &Err(WriteFault), 1);
+    same(&rt, &write_whole(&mut out, b"cd"), &Ok(()), 2);
+    same_items(&rt, out.bytes(), b"abcd");
     Ok(())
 }
 
 #[test]
 fn bytes_are_counted(rt: HostRuntime) {
     let mut out = SureSink::make();
-    assert_eq!(rt; write_whole(&mut out, b"steer"), Ok(()));
-    assert_eq!(rt; write_whole(&mut out, b" 1\n"), Ok(()));
-    assert_eq!(rt; out.count(), 8);
+    same(&rt, &write_whole(&mut out, b"steer"), &Ok(()), 0);
+    same(&rt, &write_whole(&mut out, b" 1\n"), &Ok(()), 1);
+    same(&rt, &out.count(), &8, 2);
 }
 
 #[test]
 fn streams_take_whole_pieces(rt: HostRuntime) -> Result<(), Fail> {
     let mut file = StdSink::make(fs::create(&rt, "stream")?);
-    assert_eq!(rt; write_whole(&mut file, b"steer 1\n"), Ok(()));
-    assert_eq!(rt; write_whole(&mut file, b"p 0\n"), Ok(()));
+    same(&rt, &write_whole(&mut file, b"steer 1\n"), &Ok(()), 0);
+    same(&rt, &write_whole(&mut file, b"p 0\n"), &Ok(()), 1);
     let written = fs::read(&rt, "stream")?;
-    assert_eq!(rt; written.as_slice(), b"steer 1\np 0\n".as_slice());
+    same_items(&rt, &written, b"steer 1\np 0\n");
 
     let mut out = StdSink::make(rt.stdout());
-    assert_eq!(rt; write_whole(&mut out, b"to standard output\n"), Ok(()));
+    same(
+        &rt,
+        &write_whole(&mut out, b"to standard output\n"),
+        &Ok(()),
+        3,
+    );
     let mut err = StdSink::make(rt.stderr());
-    assert_eq!(rt; write_whole(&mut err, b"to standard error\n"), Ok(()));
+    same(
+        &rt,
+        &write_whole(&mut err, b"to standard error\n"),
+        &Ok(()),
+        4,
+    );
 
     let mut read_only = StdSink::make(fs::open(&rt, "stream")?);
-    assert_eq!(rt; read_only.write(b"p 1\n"), Took::Failed);
+    same(&rt, &read_only.write(b"p 1\n"), &Took::Failed, 5);
     fs::remove_file(&rt, "stream")?;
     Ok(())
 }
@@ -65,16 +76,16 @@ fn bytes_that_are_held_back_go_out_at_the_flush(rt: HostRuntime) -> Result<(), F
     let alloc = rt.alloc();
     let file = fs::create(&rt, "held")?;
     let mut out = StdSink::make(BufWriter::with_capacity(alloc, 64, file)?);
-    assert_eq!(rt; write_whole(&mut out, b"steer 1\n"), Ok(()));
+    same(&rt, &write_whole(&mut out, b"steer 1\n"), &Ok(()), 0);
     assert!(rt; fs::read(&rt, "held")?.is_empty());
-    assert_eq!(rt; out.flush(), Ok(()));
+    same(&rt, &out.flush(), &Ok(()), 1);
     let written = fs::read(&rt, "held")?;
-    assert_eq!(rt; written.as_slice(), b"steer 1\n".as_slice());
+    same_items(&rt, &written, b"steer 1\n");
 
     let file = fs::open(&rt, "held")?;
     let mut read_only = StdSink::make(BufWriter::with_capacity(alloc, 64, file)?);
-    assert_eq!(rt; read_only.write(b"p 0\n"), Took::Bytes(4));
-    assert_eq!(rt; read_only.flush(), Err(WriteFault));
+    same(&rt, &read_only.write(b"p 0\n"), &Took::Bytes(4), 3);
+    same(&rt, &read_only.flush(), &Err(WriteFault), 4);
     fs::remove_file(&rt, "held")?;
     Ok(())
 }
