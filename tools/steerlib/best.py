@@ -1,18 +1,21 @@
 """Settings of a plan tried one after another over one capture, and the best of them.
 
-A setting is a list of words as steer-set takes them. Each is a trial: a schedule by the times of
-the capture, agreed upon with the replay by steer, whose report gives the numbers.
+Each is a trial: a schedule by the times of the capture, agreed upon with the replay by steer, whose
+report gives the numbers.
 """
 
 from __future__ import annotations
 
 import argparse
+import functools
 import itertools
 import os
 import tempfile
 from typing import Callable, Iterator, NamedTuple, Sequence, Tuple, Union
 
-from . import limits, plan, processors, remap_files, remap_words, report, schedule, settings, waits
+from . import limits, plan, processors, readers, ready, remap_words, report, schedule, settings
+from . import offline as offlines
+from . import waits
 from .serving import Desk
 
 Words = Tuple[str, ...]
@@ -23,12 +26,29 @@ MOST_RATE = 1000000000
 MASK, BACKLOG = "rx-*/rps_cpus=", "netdev_max_backlog="
 
 
+class Setting(NamedTuple):
+    """What is tried: words as steer-set takes them, and what steer-steps is told beside a plan.
+
+    `readers` are words of --reader, and `offline` is that of --offline, empty where none is.
+    """
+
+    words: Words = ()
+    readers: Words = ()
+    offline: str = ""
+
+    def joined(self, other: Setting) -> Setting:
+        """This setting and then another one."""
+        return Setting(self.words + other.words, self.readers + other.readers,
+                       other.offline or self.offline)
+
+
 class Question(NamedTuple):
     """What all trials share.
 
     `data` is the plan as it was read, which messages name `source`; `capture` is a file that steer
-    reads, named `shown`, with the `times` of its packets. `told` has the words of a remap, and
-    whether there is one. `work` is a folder for what is made underway.
+    reads, named `shown`, with the `times` of its packets, and their `flows` where these are asked
+    for. `told` has the words of a remap, and whether there is one. `work` is a folder for what is
+    made underway.
     """
 
     data: bytes
@@ -36,20 +56,25 @@ class Question(NamedTuple):
     capture: str
     shown: str
     times: list[int]
+    flows: list[int]
     load: schedule.Load
     told: argparse.Namespace
     work: str
 
 
 class Row(NamedTuple):
-    """What a trial gave; `offered` are the packets of each processor, dropped ones among them."""
+    """What a trial gave; `offered` are the packets of each processor, dropped ones among them.
 
-    words: Words
+    `cpus` has the processor of each packet.
+    """
+
+    setting: Setting
     rate: float
     drops: int
     moves: int
     offered: list[int]
     waits: waits.Waits
+    cpus: bytes
 
 
 class Least(NamedTuple):
@@ -108,9 +133,31 @@ def flow_words(settings: plan.Plan, flows: int) -> Words:
     return ("rx-*/rps_flow_cnt=%d" % flows, "rps_sock_flow_entries=%d" % entries)
 
 
-def choices(parts: Sequence[Sequence[Words]]) -> list[Words]:
-    """Each combination of one of each part's words."""
-    return [tuple(itertools.chain(*chosen)) for chosen in itertools.product(*parts)]
+def choices(parts: Sequence[Sequence[Setting]]) -> list[Setting]:
+    """Each combination of one setting of each part."""
+    return [functools.reduce(Setting.joined, chosen, Setting())
+            for chosen in itertools.product(*parts)]
+
+
+def with_offline(setting: Setting, offline: offlines.Offline,
+                 question: Question) -> Iterator[Setting]:
+    """A setting with processors offline, and where that is from the beginning, and some mask has
+    them, with the masks written again without them."""
+    yield setting.joined(Setting(offline=offline.text))
+    settings = plan_with(question, setting.words)
+    if not offline.time and any(set(queue["mask"]) & set(offline.cpus)
+                                for queue in settings["queues"]):
+        yield setting.joined(Setting(without(settings, offline.cpus), offline=offline.text))
+
+
+def without(settings: plan.Plan, cpus: Sequence[int]) -> Words:
+    """The words that take processors out of the masks of a plan."""
+    left = [[cpu for cpu in queue["mask"] if cpu not in cpus] for queue in settings["queues"]]
+    texts = [processors.mask_text(mask, settings["cpus"]) for mask in left]
+    if len(set(texts)) == 1:
+        return (MASK + texts[0],)
+    return tuple("rx-%d/rps_cpus=%s" % (number, text) for number, (text, mask, queue) in enumerate(
+        zip(texts, left, settings["queues"])) if mask != queue["mask"])
 
 
 class Trials:
@@ -120,14 +167,14 @@ class Trials:
     begins with the places of the one before it.
     """
 
-    def __init__(self, words: Words, question: Question) -> None:
-        self.words = words
+    def __init__(self, setting: Setting, question: Question) -> None:
+        self.setting = setting
         self.made = tempfile.TemporaryDirectory(dir=question.work)
         try:
-            wanted = plan_with(question, words)
-            self.cpus = wanted["cpus"]
-            self.schedules = schedule.Schedules(self._replays(wanted, question), question.times,
-                                                question.load)
+            offline = offlines.told(setting.offline) if setting.offline else None
+            replays, self.cpus = self._replays(question, offline)
+            self.schedules = schedule.Schedules(replays, question.times,
+                                                question.load._replace(offline=offline))
         except BaseException:
             self.made.cleanup()
             raise
@@ -138,17 +185,20 @@ class Trials:
     def __exit__(self, *_: object) -> None:
         self.made.cleanup()
 
-    def _replays(self, wanted, question):
-        """The Replays of the plan, and of the capture that goes with it."""
-        shown, folder, capture = question.source, self.made.name, question.capture
-        if self.words:
-            shown = "%s with %s" % (shown, " ".join(self.words))
-        if question.told.kernel:
-            capture = os.path.join(folder, "kernel.pcap")
-            options = remap_words.options_of(question.told, wanted)
-            wanted = remap_files.remapped(wanted, shown, question.capture, question.shown, options,
-                                          capture, folder).plan
-        return schedule.Replays(wanted, shown, capture, question.shown, folder)
+    def _replays(self, question, offline):
+        """The Replays of the plan, and how many processors it has before it is rewritten."""
+        setting, told = self.setting, question.told
+        wanted, shown = plan_with(question, setting.words), question.source
+        if setting.words:
+            shown = "%s with %s" % (shown, " ".join(setting.words))
+        options = None
+        if told.kernel:
+            first = [readers.told(text) for text in setting.readers]
+            options = remap_words.options_of(told, wanted, first)
+        made = ready.made(wanted, shown, question.capture, question.shown, options, offline,
+                          self.made.name)
+        return schedule.Replays(made.plan, shown, made.capture, question.shown,
+                                self.made.name), wanted["cpus"]
 
     def desk(self, rate: float, backlog: int | None = None, until_drop: bool = False) -> Desk:
         """The Desk of a schedule at a rate, with a netdev_max_backlog where that is not the plan's.
@@ -160,31 +210,33 @@ class Trials:
 
     def row(self, rate: float, backlog: int | None = None) -> Row:
         """The Row of such a schedule."""
-        words = self.words if backlog is None else self.words + (BACKLOG + "%d" % backlog,)
+        setting = self.setting
+        if backlog is not None:
+            setting = setting.joined(Setting((BACKLOG + "%d" % backlog,)))
         desk = self.desk(rate, backlog)
         with open(self.schedules.replays.report, "rb") as stream:
-            return row_of(stream.read(), desk, words, rate, self.cpus)
+            return row_of(stream.read(), desk, setting, rate, self.cpus)
 
     def loses(self, rate: float, backlog: int | None = None) -> bool:
         """Whether packets are dropped then."""
         return bool(self.desk(rate, backlog, until_drop=True).drops)
 
 
-def trial(words: Words, rate: float, question: Question) -> Row:
+def trial(setting: Setting, rate: float, question: Question) -> Row:
     """The Row of one setting at a rate."""
-    with Trials(words, question) as trials:
+    with Trials(setting, question) as trials:
         return trials.row(rate)
 
 
-def row_of(data: bytes, desk: Desk, words: Words, rate: float, cpus: int) -> Row:
+def row_of(data: bytes, desk: Desk, setting: Setting, rate: float, cpus: int) -> Row:
     """The Row of the report that the schedule of a Desk was agreed upon with."""
     sums = report.fields_of(data, "cpu", ("accepted", "dropped"))[:cpus]
     packets = report.fields_of(data, "p", ("cpu", "why"))
     moves = sum(why.decode() in report.MOVES for _, why in packets)
-    times = waits.times_of(desk)
-    return Row(words, rate, sum(int(dropped) for _, dropped in sums), moves,
+    places = bytes(int(cpu) for cpu, _ in packets)
+    return Row(setting, rate, sum(int(dropped) for _, dropped in sums), moves,
                [int(accepted) + int(dropped) for accepted, dropped in sums],
-               waits.summary(times, [int(cpu) for cpu, _ in packets], cpus))
+               waits.summary(waits.times_of(desk), places, cpus), places)
 
 
 def smallest(loses: Callable[[int], bool], start: int, low: int, high: int,
@@ -218,15 +270,15 @@ def smallest(loses: Callable[[int], bool], start: int, low: int, high: int,
     return found, below
 
 
-def least_backlog(words: Words, rate: float, question: Question) -> Least:
+def least_backlog(setting: Setting, rate: float, question: Question) -> Least:
     """The smallest netdev_max_backlog without drops, to the packet.
 
     As long as nothing is lost, a backlog changes nothing. So where the longest one loses nothing,
     the smallest has room for as many packets as wait at once there. The flow limit acts by the
     length of the backlog, so with it the value is bisected.
     """
-    settings = plan_with(question, words)
-    with Trials(words, question) as trials:
+    settings = plan_with(question, setting.words)
+    with Trials(setting, question) as trials:
         found: int | None
         below: int | None
         if settings.get("limited"):
@@ -241,20 +293,20 @@ def least_backlog(words: Words, rate: float, question: Question) -> Least:
                        for value in (found, below)))
 
 
-def least_rate(words: Words, rate: float, question: Question) -> Least:
+def least_rate(setting: Setting, rate: float, question: Question) -> Least:
     """The smallest rate without drops, whole packets a second, to one in a hundred."""
-    with Trials(words, question) as trials:
+    with Trials(setting, question) as trials:
         values = smallest(trials.loses, max(1, round(rate)), 1, MOST_RATE, False)
         return Least(*(None if value is None else trials.row(value) for value in values))
 
 
-def least_members(words: Words, rate: float, question: Question) -> Least:
+def least_members(setting: Setting, rate: float, question: Question) -> Least:
     """The fewest members of a mask without drops: each number of them is tried from 1 on.
 
     More members may lose packets where fewer lose none, so this is no bisection.
     """
-    masks = masks_of(plan_with(question, words))
-    tried = [words + (MASK + mask,) for mask in masks]
+    masks = masks_of(plan_with(question, setting.words))
+    tried = [setting.joined(Setting((MASK + mask,))) for mask in masks]
     for number, each in enumerate(tried):
         with Trials(each, question) as trials:
             if not trials.loses(rate):
@@ -264,6 +316,12 @@ def least_members(words: Words, rate: float, question: Question) -> Least:
 
 
 LEAST = {"backlog": least_backlog, "pps": least_rate, "members": least_members}
+
+
+def elsewhere(row: Row, other: Row, flows: Sequence[int]) -> tuple[int, int]:
+    """How many packets have another processor in a row than in another one, and how many flows."""
+    moved = [flow for flow, cpu, before in zip(flows, row.cpus, other.cpus) if cpu != before]
+    return len(moved), len(set(moved))
 
 
 def busiest(row: Row) -> tuple[int, int, int]:
@@ -294,7 +352,7 @@ def _least_order(result):
 
 def _value(row):
     """What is to be small in a row that was searched: its rate, and its own last word's value."""
-    last = row.words[-1] if row.words else ""
+    last = row.setting.words[-1] if row.setting.words else ""
     if last.startswith(BACKLOG):
         return int(last[len(BACKLOG):])
     if last.startswith(MASK):

@@ -61,7 +61,10 @@ class OfNetwork:
         return None
 
 
-def told(text: str) -> OfPort | OfNetwork:
+Told = Union[OfPort, OfNetwork]
+
+
+def told(text: str) -> Told:
     """The reader of the words PORT=CPU, ADDRESS=CPU or ADDRESS/LENGTH=CPU. A type for argparse."""
     what, equals, cpu = text.rpartition("=")
     if not (equals and re.fullmatch("[0-9]{1,6}", cpu)):

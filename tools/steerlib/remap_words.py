@@ -3,6 +3,7 @@
 from __future__ import annotations
 
 import argparse
+from typing import Sequence
 
 from . import cli, limits, numbers, processors, readers, remap, snapshot, steering
 from .plan import Plan
@@ -72,12 +73,16 @@ def check_kernel(told: argparse.Namespace, parser: argparse.ArgumentParser) -> N
                 raise cli.WrongWords("%s goes with --kernel" % word)
 
 
-def options_of(told: argparse.Namespace, settings: Plan) -> remap.Options:
-    """The Options of these words for a plan. WrongWords where they do not go with it."""
-    cpus = settings["cpus"]
+def options_of(told: argparse.Namespace, settings: Plan,
+               first: Sequence[readers.Told] = ()) -> remap.Options:
+    """The Options of these words for a plan. WrongWords where they do not go with it.
+
+    The readers `first` come before those of --reader.
+    """
+    cpus, said = settings["cpus"], [*first, *told.reader]
     options = remap.Options(seed=told.draw, hash32=told.hash32, transmit=told.tx,
-                            rxhash=told.rxhash, readers=list(told.reader))
-    for reader in told.reader:
+                            rxhash=told.rxhash, readers=list(said))
+    for reader in said:
         if reader.cpu >= cpus:
             raise cli.WrongWords("--reader: processor %d, and the plan has 0 to %d"
                                  % (reader.cpu, cpus - 1))

@@ -11,6 +11,7 @@ Times are nanoseconds, rates packets a second.
 
 from __future__ import annotations
 
+import argparse
 import contextlib
 import gc
 import json
@@ -24,6 +25,7 @@ from typing import Callable, Dict, Iterable, Iterator, List, NamedTuple, Union
 
 from . import capture as captures
 from . import cautions, cli, ethtool, flows, limits, packed, progress
+from . import offline as offlines
 from . import plan as plans
 from .serving import Desk, Places, Service, steps_each
 
@@ -57,7 +59,8 @@ class Load(NamedTuple):
 
     `rate` is that of each processor but those of `own_rates`, which are pairs of a number and its
     rate; it is 0 where each trial has its own. `reads`, `replies`: whether packets are read,
-    and replied to, once they are delivered. `speed` is how many times as fast they come.
+    and replied to, once they are delivered. `speed` is how many times as fast they come. `offline`
+    says which processors go offline, None where none does.
     """
 
     rate: float
@@ -65,10 +68,18 @@ class Load(NamedTuple):
     reads: bool
     replies: bool
     speed: float
+    offline: offlines.Offline | None = None
+
+
+def load_of(told: argparse.Namespace, rate: float = 0) -> Load:
+    """The Load of the words that numbers.add_load adds, and offline.add_option where it did."""
+    return Load(rate, told.cpu, told.reads, told.replies, told.speed,
+                getattr(told, "offline", None))
 
 
 _QUEUE = re.compile(rb" q (\d+) via ")
 _APP = re.compile(rb" app (\d+) in ")
+_COMMAND = re.compile(rb"\nc \d+ ([^\n]+)")
 # The processor of a packet that was put, and a `d` where it was dropped; the other pattern goes on
 # to an `f` where the flow limit dropped it.
 _PUT = re.compile(rb"cpu (\d+ why [a-z]+ at d?)")
@@ -171,6 +182,8 @@ def arrivals_of(times: list[int], speed: float) -> list[float]:
 def packets_that_fit(drops: Iterable[int], service: Service) -> int:
     """How many of the first packets have no more steps than a plan has, where these are dropped."""
     steps, dropped = 1, set(drops)
+    if service.leave is not None:
+        steps += len(service.leave.stands) + len(service.leave.cpus)
     for packet in count():
         steps += 2 if packet in dropped else 2 + steps_each(service)
         if steps > limits.MOST_STEPS:
@@ -187,13 +200,18 @@ def check_fit(times: list[int], load: Load, source: str, hint: str) -> None:
     if len(times) > most:
         raise cli.Refused(source, "%d packets have up to %d steps, and a plan has at most %d; the "
                           "first %d packets fit in any case%s"
-                          % (len(times), 1 + len(times) * (2 + _steps_each(load)),
-                             limits.MOST_STEPS, most, hint))
+                          % (len(times), 1 + _commands(load) + len(times) * (
+                              2 + _steps_each(load)), limits.MOST_STEPS, most, hint))
 
 
 def most_packets(load: Load) -> int:
     """How many packets have no more steps than a plan has, whatever is dropped."""
-    return (limits.MOST_STEPS - 1) // (2 + _steps_each(load))
+    return (limits.MOST_STEPS - 1 - _commands(load)) // (2 + _steps_each(load))
+
+
+def _commands(load):
+    """How many commands a schedule may have."""
+    return limits.MOST_READERS + len(load.offline.cpus) if load.offline is not None else 0
 
 
 def _steps_each(load):
@@ -343,8 +361,9 @@ def service_of(settings: plans.Plan, load: Load, flows: list[int] | None) -> Ser
             raise cli.WrongWords("--cpu %d=%g: the plan has the processors 0 to %d"
                                  % (cpu, rate, cpus - 1))
         rates[cpu] = rate
+    leave = None if load.offline is None else offlines.leave_of(settings, load.offline)
     return Service(rates, settings.get("backlog", plans.DEFAULTS["backlog"]), flows, load.replies,
-                   bool(settings.get("filters")))
+                   bool(settings.get("filters")), leave)
 
 
 class Schedules:
@@ -369,11 +388,29 @@ class Schedules:
             replays.settings = dict(replays.settings, backlog=backlog)
         with _uncollected():
             service = service_of(replays.settings, self.load._replace(rate=rate), self.flows)
+            self._check_time(service.leave)
             guess = self.guess or replays.places(["sweep"])
             found = agree(self.arrivals, guess, service, replays.places, replays.shown_capture,
                           say, until_drop)
+            if service.leave is not None and found.whole:
+                self._check_answers()
         self.guess = found.places
         return found
+
+    def _check_answers(self):
+        """Refuses a schedule in whose replay a command is not done."""
+        with open(self.replays.report, "rb") as stream:
+            for answer in _COMMAND.findall(stream.read()):
+                if not answer.endswith(b" done"):
+                    raise cli.Refused(self.replays.source, "steer answers the command `%s`"
+                                      % answer.decode())
+
+    def _check_time(self, leave):
+        """Refuses processors that leave behind the last packet."""
+        last = self.arrivals[-1] if self.arrivals else 0
+        if leave is not None and leave.time > last:
+            raise cli.WrongWords("--offline %s: the last packet comes %g s after the first"
+                                 % (self.load.offline.text, last / 1e9))
 
 
 def timed_steps(replays: Replays, times: list[int], load: Load,
@@ -430,4 +467,6 @@ def notes_about(settings: plans.Plan, load: Load | None, capture: str, kernel: b
     if settings.get("sock") and load is not None and not load.reads:
         notes.append("it has a table of readers (sock), and without --read no reader is ever seen, "
                      "so that RFS moves no flow")
+    if load is not None and load.offline is not None:
+        notes += offlines.notes(settings, load.offline)
     return [text for text in notes if text is not None]

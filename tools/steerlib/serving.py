@@ -8,8 +8,9 @@ from __future__ import annotations
 
 import operator
 import sys
+from bisect import bisect_left
 from collections import deque
-from heapq import heappop, heappush, heapreplace
+from heapq import heapify, heappop, heappush, heapreplace
 from itertools import chain
 from typing import Iterable, NamedTuple, Tuple
 
@@ -38,11 +39,23 @@ class Places(NamedTuple):
     limited: set[int]
 
 
+class Leave(NamedTuple):
+    """Processors that go offline at a time, behind the steps `stands`.
+
+    What they have in hand then, and what waits there, is served at once.
+    """
+
+    time: float
+    stands: list[str]
+    cpus: list[int]
+
+
 class Service(NamedTuple):
     """What serves packets: a rate for each processor, in packets a second, and the backlog.
 
     `flows` has the flow number of each packet where packets are read, else it is None. `filters`
-    is whether filters lead packets to other queues than the card's table.
+    is whether filters lead packets to other queues than the card's table. `leave` says which
+    processors go offline, None where none does.
     """
 
     rates: list[float]
@@ -50,6 +63,7 @@ class Service(NamedTuple):
     flows: list[int] | None
     replies: bool
     filters: bool = False
+    leave: Leave | None = None
 
 
 class _State(NamedTuple):
@@ -92,7 +106,8 @@ def _texts(form: str, numbers: Iterable[int]) -> list[str]:
 class Desk:
     """Serves packets that arrive at these times, where the places of packets are guessed.
 
-    After serve(): `drops` are the packets that were dropped, ascending.
+    After serve(): `drops` are the packets that were dropped, ascending, and `hurried` is how many
+    waited, or were in hand, where processors went offline.
     """
 
     def __init__(self, arrivals: list[float], service: Service, apps: list[int]) -> None:
@@ -101,13 +116,16 @@ class Desk:
         self.cpus: list[int] = []
         self.texts: list[str] = []
         self.drops: list[int] = []
+        self.hurried = 0
         cpus = range(len(service.rates))
         self.cost = [1e9 / rate for rate in service.rates]
         self.pull = [_text("pull %d" % cpu) for cpu in cpus]
         self.finish = [_text("deliver %d" % cpu, "retire %d" % cpu) for cpu in cpus]
         self.poll = [_text("arrive", "poll %d" % queue) for queue in range(limits.MOST_QUEUES)]
         self.after = self._after(apps)
-        self.every = max(LEAST_BETWEEN_MARKS, len(arrivals) // MARKS + 1)
+        self.leave_before = -1
+        if service.leave is not None:
+            self.leave_before = bisect_left(arrivals, service.leave.time)
         self.marks = [_State(0, [deque() for _ in cpus], [True for _ in cpus],
                              [(NEVER, 0, 0, 0)], 0, 0)]
 
@@ -125,24 +143,49 @@ class Desk:
         state = self.marks[-1].copy()
         del self.texts[state.texts:], self.drops[state.drops:]
         self.cpus = places.cpus
-        packets = len(self.arrivals)
-        while state.packet + self.every < packets:
-            state = self._serve(places, state, state.packet + self.every)
+        for last in self._ends(state.packet):
+            if state.packet == self.leave_before:
+                self._leave(state)
+            state = self._serve(places, state, last)
             self.marks.append(state.copy())
-        self._serve(places, state, packets)
+
+    def _ends(self, packet):
+        """Before which packets there are marks behind this one; the last is before none."""
+        packets = len(self.arrivals)
+        every = max(LEAST_BETWEEN_MARKS, packets // MARKS + 1)
+        ends = {*range(every, packets, every), min(self.leave_before, packets), packets}
+        return sorted(end for end in ends if end > packet)
+
+    def _leave(self, state):
+        """Processors go offline, and have nothing left to serve."""
+        leave, texts = self.service.leave, self.texts
+        texts += map(_text, leave.stands)
+        in_hand = [each for each in state.under_way if each[2] in leave.cpus and each[0] != NEVER]
+        self.hurried = len(in_hand)
+        for _, _, cpu, served in sorted(in_hand):
+            texts += (self.finish[cpu], self.after[served])
+            self.hurried += len(state.waiting[cpu])
+            for packet in state.waiting[cpu]:
+                texts += (self.pull[cpu], self.finish[cpu], self.after[packet])
+            state.waiting[cpu].clear()
+            state.idle[cpu] = True
+        state.under_way[:] = [each for each in state.under_way if each not in in_hand]
+        heapify(state.under_way)
+        texts += [_text("offline %d" % cpu) for cpu in leave.cpus]
 
     def _arriving(self, places, first, last):
-        """Number, arrival, queue and processor of these packets; a time after all behind the last.
+        """Number, arrival, queue and processor of these packets; then `last` with a time.
 
-        That is the last packet of all.
+        That is up to when services end before the next packet, where it matters.
         """
         some = slice(first, last)
-        packets = zip(range(first, last), self.arrivals[some], places.queues[some],
-                      places.cpus[some])
-        return chain(packets, [(last, AFTER_ALL, 0, 0)] if last == len(self.arrivals) else [])
+        until = (AFTER_ALL if last == len(self.arrivals) else
+                 self.service.leave.time if last == self.leave_before else -1)
+        return chain(zip(range(first, last), self.arrivals[some], places.queues[some],
+                         places.cpus[some]), [(last, until, 0, 0)])
 
     def _serve(self, places, state, last):
-        """Serves the packets before `last`, with the last one of all to the end; the state then.
+        """Serves the packets before `last`; the state then.
 
         A service that ends as a packet arrives comes before it.
         """
@@ -163,7 +206,7 @@ class Desk:
                     idle[at] = True
                     texts += (finish[at], after[served])
                 next_end = under_way[0][0]
-            if time == AFTER_ALL:
+            if packet == last:
                 break
             texts.append(poll[queue])
             if packet in limited:
@@ -184,11 +227,18 @@ class Desk:
         begins: list[float | None] = [None] * len(self.arrivals)
         ends = begins.copy()
         dropped, free = set(self.drops), [0.0 for _ in self.cost]
+        latest = self._latest()
         for packet, (time, cpu) in enumerate(zip(self.arrivals, self.cpus)):
             if packet not in dropped:
-                begins[packet] = begin = max(time, free[cpu])
-                ends[packet] = free[cpu] = begin + self.cost[cpu]
+                begins[packet] = begin = min(max(time, free[cpu]), latest[cpu])
+                ends[packet] = free[cpu] = min(begin + self.cost[cpu], latest[cpu])
         return begins, ends
+
+    def _latest(self):
+        """When each processor serves for the last time."""
+        leave = self.service.leave
+        return [NEVER if leave is None or cpu not in leave.cpus else leave.time
+                for cpu in range(len(self.cost))]
 
     def deepest(self) -> int:
         """The most packets that waited for one processor at once."""
@@ -206,8 +256,9 @@ class Desk:
 
     def count(self) -> int:
         """How many steps there are."""
-        packets, dropped = len(self.arrivals), len(self.drops)
-        return 2 * packets + steps_each(self.service) * (packets - dropped) + 1
+        packets, dropped, leave = len(self.arrivals), len(self.drops), self.service.leave
+        commands = len(leave.stands) + len(leave.cpus) if leave is not None and packets else 0
+        return commands + 2 * packets + steps_each(self.service) * (packets - dropped) + 1
 
     def text(self) -> str:
         """The steps as they stand in a plan, a list in JSON."""

@@ -19,7 +19,7 @@ from concurrent.futures.process import BrokenProcessPool
 from typing import Any, Callable, Dict, Iterator, NamedTuple, Sequence, Tuple, Union
 from urllib.parse import quote, unquote
 
-from . import cli, limits, numbers, outcomes, remap, remap_files, schedule, tables, waits
+from . import cli, limits, numbers, outcomes, ready, remap, schedule, tables, waits
 from .outcomes import TIMES, Outcome, outcome_of, outcome_or_text
 from .plan import Plan
 
@@ -110,14 +110,13 @@ def _replay(trial, setting, folder):
     """Replays a trial; the name of its report. Refused too where its plan cannot be read."""
     if isinstance(trial.settings, Exception):
         raise trial.settings
-    settings, capture = trial.settings, setting.capture
+    settings = trial.settings
     if trial.kind == KEY:
         settings = dict(settings, key=drawn_key(int(trial.value)))
-    if trial.options is not None:
-        capture = os.path.join(folder, "kernel.pcap")
-        settings = remap_files.remapped(settings, trial.plan, setting.capture, setting.shown,
-                                        trial.options, capture, folder).plan
-    replays = schedule.Replays(settings, trial.plan, capture, setting.shown, folder)
+    offline = None if setting.load is None else setting.load.offline
+    made = ready.made(settings, trial.plan, setting.capture, setting.shown, trial.options, offline,
+                      folder)
+    replays = schedule.Replays(made.plan, trial.plan, made.capture, setting.shown, folder)
     if trial.kind == SEED:
         count = min(limits.MOST_COUNT, STEPS_PER_PACKET * setting.packets)
         replays.run({"seed": trial.value, "count": count})

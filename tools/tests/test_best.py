@@ -43,9 +43,9 @@ def asked(folder, plan, *words):
     """The Question of these words about a plan, as an object, and the recording of a web server."""
     name = folder.write("asked.json", json.dumps(dict(plan, steps=[])).encode())
     told = programs.words_of([WEB, name, *words])
-    load = schedule.Load(told.pps, told.cpu, told.reads, told.replies, told.speed)
-    return best.Question(cli.read_bytes(name), name, WEB, WEB, schedule.times_of(WEB, WEB), load,
-                         told, folder.name)
+    load = schedule.load_of(told, told.pps)._replace(offline=None)
+    return best.Question(cli.read_bytes(name), name, WEB, WEB, schedule.times_of(WEB, WEB), [],
+                         load, told, folder.name)
 
 
 class Rows(unittest.TestCase):
@@ -85,6 +85,23 @@ class Rows(unittest.TestCase):
         self.assertTrue(lines[-5].startswith("by a kernel's rule"), lines)
         _, by_manual, _ = answered(WEB, PLAN, *LOAD, "--mask", "6,e")
         self.assertNotEqual(sorted(rows), sorted(rows_of(by_manual)))
+
+    def test_readers_on_named_processors(self):
+        """With RFS and without; one placement is in force at a time, before that of --reader."""
+        rows, _ = self.check_again(*LOAD, "--kernel", "--flows", "0,256", "--readers", "80=3",
+                                   "--readers", "80=1 53=2", "--reader", "53=3")
+        settings = {setting: row for *row, setting in rows}
+        flows = ("rx-*/rps_flow_cnt=0 rps_sock_flow_entries=0",
+                 "rx-*/rps_flow_cnt=256 rps_sock_flow_entries=1024")
+        self.assertEqual(sorted(settings), sorted(["(as it is)"] + [
+            "readers %s %s" % (who, of) for who in ("80=3", "80=1 53=2") for of in flows]))
+        without, with_rfs = ([settings["readers %s %s" % (who, of)]
+                              for who in ("80=3", "80=1 53=2")] for of in flows)
+        self.assertEqual(without[0], without[1])
+        self.assertNotEqual(with_rfs[0], with_rfs[1])
+
+    def test_processors_that_are_offline(self):
+        self.check_again(*LOAD, "--offline", "3@0.001", "--offline", "2")
 
     def test_all_kinds_of_settings(self):
         """Each setting that is tried, by its words; the plan as it is has 256 flows a queue."""
@@ -173,17 +190,17 @@ class Search(unittest.TestCase):
                         return bool(best.trial(*words_of(value), question).drops)
 
                     def backlog(value):
-                        return (best.BACKLOG + "%d" % value,), rate
+                        return best.Setting((best.BACKLOG + "%d" % value,)), rate
 
                     def other(value):
-                        return (), value
+                        return best.Setting(), value
 
                     values = best.smallest(lambda value: loses(value, backlog), 7, 0, 65535, True)
-                    self.assertEqual(best.least_backlog((), rate, question),
+                    self.assertEqual(best.least_backlog(best.Setting(), rate, question),
                                      rows(question, rate, values, backlog))
                     values = best.smallest(lambda value: loses(value, other), rate, 1, 10 ** 9,
                                            False)
-                    self.assertEqual(best.least_rate((), rate, question),
+                    self.assertEqual(best.least_rate(best.Setting(), rate, question),
                                      rows(question, rate, values, other))
 
     def test_fewest_members_as_by_a_whole_schedule_for_each_mask(self):
@@ -191,7 +208,7 @@ class Search(unittest.TestCase):
             with open(PLAN) as stream:
                 question = asked(folder, json.load(stream), "--pps", "9", *LOAD[2:])
             for rate in (20000, 300000, 3000000):
-                tried = [best.trial((best.MASK + mask,), rate, question)
+                tried = [best.trial(best.Setting((best.MASK + mask,)), rate, question)
                          for mask in ("2", "6", "e", "f")]
                 below = None
                 for row in tried:
@@ -199,7 +216,7 @@ class Search(unittest.TestCase):
                         break
                     below = row
                 wanted = best.Least(None if row is below else row, below)
-                self.assertEqual(best.least_members((), rate, question), wanted)
+                self.assertEqual(best.least_members(best.Setting(), rate, question), wanted)
 
     def test_no_setting_without_drops(self):
         """All packets at once, and too many for any mask."""
@@ -241,8 +258,8 @@ class Parts(unittest.TestCase):
     def test_order(self):
         """Drops count first, then the wait, the busiest processor, the moves."""
         keys = [(0, 5, 60, 9), (0, 5, 61, 1), (0, 6, 50, 0), (1, 0, 50, 0)]
-        rows = [best.Row(("x",), 1.0, drops, moves, [most, 100 - most],
-                         waits.Waits(0, wait, wait, [0.0, 0.0]))
+        rows = [best.Row(best.Setting(("x",)), 1.0, drops, moves, [most, 100 - most],
+                         waits.Waits(0, wait, wait, [0.0, 0.0]), b"")
                 for drops, wait, most, moves in keys]
         rows.insert(1, rows[0]._replace(moves=10))
         self.assertEqual(list(best.ranked(rows[::-1] + ["refused"])), rows)
@@ -263,6 +280,9 @@ class Words(unittest.TestCase):
                 ([WEB, PLAN, "--set", "'"], "argument --set: ': No closing quotation (--help says "
                  "more)"),
                 ([WEB, PLAN, "--draw", "3"], "--draw goes with --kernel"),
+                ([WEB, PLAN, "--readers", "80=1"], "--readers goes with --kernel"),
+                ([WEB, PLAN, "--kernel", "--readers", "80=1 x"], "argument --readers: x is not "
+                 "PORT=CPU or ADDRESS=CPU (--help says more)"),
                 ([WEB, PLAN, "--backlog", ",".join(map(str, range(1, 1003)))],
                  "1002 settings, and at most 1000 are tried")):
             status, out, said = inside("steer-best", *words, "--pps", "5", "--read")

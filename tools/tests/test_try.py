@@ -268,7 +268,7 @@ class Words(unittest.TestCase):
                  "CAPTURE, and not with --commands"),
                 (["--commands", WEB, "p"],
                  "--commands needs --results FOLDER or --reports FOLDER"),
-                (["--read", WEB, "p"], "--cpu, --read, --reply and --speed go with --pps"),
+                (["--read", WEB, "p"], "--cpu, --read, --reply, --speed and --offline go with --pps"),
                 (["--collect", "x", WEB], "--collect takes a folder, and neither files nor trials"),
                 (["--pps", "5", "--seeds", "2", WEB, "p"], "argument --seeds: not allowed with "
                  "argument --pps (--help says more)"),

@@ -11,8 +11,9 @@ import sys
 import tempfile
 from typing import Iterator, NoReturn, Sequence
 
-from .. import best, cli, limits, numbers, plan, progress, remap_words, schedule, tables, trial
-from .. import waits
+from .. import best, cli, limits, numbers, plan, progress, readers, remap_words, schedule, tables
+from .. import offline as offlines
+from .. import trial, waits
 
 DESCRIPTION = """\
 Tries settings of PLAN over CAPTURE at a rate of service, and shows them with the best one first:
@@ -24,6 +25,11 @@ none is named, these are the masks of the first processor of the plan's masks, t
 so on, and then of twice as many up to all.
 All receive queues get the same mask and flow count. Each is a schedule as steer-steps makes it and
 a replay by steer, and each row has the command line that makes its numbers again.
+
+--offline tries each setting with all processors online and with these offline, once with the masks
+as they are, and once written again without them. Their interrupts and readers go to the first
+processor that stays. It shows as well how many packets and flows are elsewhere then. Below the
+table stands what a kernel does otherwise.
 
 A packet waits from its arrival until its processor begins with it. The load of a processor is the
 part of the time from the first packet to the last in which it serves.
@@ -87,6 +93,12 @@ def add_settings(parser: argparse.ArgumentParser) -> None:
     parser.add_argument("--set", metavar="WORDS", action="append", default=[], type=parts,
                         help="settings as steer-set takes them, several with blanks between; may "
                              "be repeated, and one of them is in force at a time")
+    parser.add_argument("--readers", metavar="WORDS", action="append", default=[],
+                        type=placement,
+                        help="who reads where, with --kernel: WHAT=CPU as of --reader, several "
+                             "with blanks between; may be repeated as --set")
+    parser.add_argument("--offline", metavar="LIST[@S]", action="append", default=[],
+                        type=offlines.told, help=offlines.HELP + "; may be repeated as --set")
 
 
 def counts(text: str) -> list[int]:
@@ -102,10 +114,20 @@ def parts(text: str) -> best.Words:
         raise argparse.ArgumentTypeError("%s: %s" % (text, fault)) from None
 
 
+def placement(text: str) -> best.Words:
+    """The type of words WHAT=CPU with blanks between them."""
+    found = parts(text)
+    for word in found:
+        readers.told(word)
+    return found
+
+
 def check(told: argparse.Namespace) -> None:
     """Raises WrongWords where words do not go together."""
     if "-" in (told.capture, told.plan):
         raise cli.WrongWords("CAPTURE and PLAN are files, which the command lines name again")
+    if told.readers and not told.kernel:
+        raise cli.WrongWords("--readers goes with --kernel")
     for least, name in (("backlog", "backlog"), ("members", "mask")):
         if told.least == least and getattr(told, name):
             raise cli.WrongWords("--least %s does not go with --%s" % (least, name))
@@ -116,47 +138,66 @@ def split(texts: Sequence[str]) -> list[str]:
     return list(dict.fromkeys(part for text in texts for part in text.split(",")))
 
 
-def tried(told: argparse.Namespace, question: best.Question) -> list[best.Words]:
-    """The words of each setting that is tried, each plan once, the plan as it is among them."""
+def tried(told: argparse.Namespace,
+          question: best.Question) -> dict[best.Setting, best.Setting | None]:
+    """The settings that are tried, each plan once, the plan as it is among them.
+
+    For one with processors offline it has the same with all of them online, else None.
+    """
     settings = best.plan_with(question, ())
     masks = split(told.mask)
-    named = masks or told.queues or told.table or told.flows or told.backlog or told.set
+    named = (masks or told.queues or told.table or told.flows or told.backlog or told.set
+             or told.readers or told.offline)
     if not named and told.least is None:
         masks = best.masks_of(settings)
     tables_of = ["equal:" + queues for queues in split(told.queues)] + told.table
-    kinds: list[list[best.Words]] = [
+    words: list[list[best.Words]] = [
         [(best.MASK + mask,) for mask in masks], [("indir=" + name,) for name in tables_of],
         [best.flow_words(settings, count) for count in dict.fromkeys(told.flows)],
         [(best.BACKLOG + length,) for length in split(told.backlog)],
         list(told.set)]
-    combinations = best.choices([kind for kind in kinds if kind])
-    if len(combinations) > best.MOST_TRIED:
+    kinds = [[best.Setting(each) for each in kind] for kind in words if kind]
+    if told.readers:
+        kinds.append([best.Setting(readers=each) for each in told.readers])
+    found: dict[best.Setting, best.Setting | None] = {}
+    for setting in [*best.choices(kinds), best.Setting()]:
+        found.setdefault(setting, None)
+        for offline in told.offline:
+            for each in best.with_offline(setting, offline, question):
+                found.setdefault(each, setting)
+    if len(found) > best.MOST_TRIED + 1:
         raise cli.WrongWords("%d settings, and at most %d are tried"
-                             % (len(combinations), best.MOST_TRIED))
-    plans = {sense(words, question): words for words in reversed(combinations + [()])}
-    kept = set(plans.values())
-    return [words for words in dict.fromkeys(combinations + [()]) if words in kept]
+                             % (len(found) - 1, best.MOST_TRIED))
+    first: dict[str, best.Setting] = {}
+    for setting in found:
+        first.setdefault(sense(setting, question), setting)
+    return {setting: base and first[sense(base, question)] for setting, base in found.items()
+            if first[sense(setting, question)] == setting}
 
 
-def sense(words: best.Words, question: best.Question) -> str:
-    """What the plan with these settings says, as text."""
-    return json.dumps(best.sense_of(best.plan_with(question, words)), sort_keys=True)
+def sense(setting: best.Setting, question: best.Question) -> str:
+    """What the plan with these settings says, and what is said beside it, as text."""
+    wanted = best.sense_of(best.plan_with(question, setting.words))
+    return json.dumps([wanted, setting.readers, setting.offline], sort_keys=True)
 
 
-def attempt(words: best.Words, question: best.Question) -> best.Result:
+def attempt(setting: best.Setting, question: best.Question) -> best.Result:
     """The row of a setting, or the text of why it was refused."""
     try:
         if question.told.least is None:
-            return best.trial(words, question.load.rate, question)
-        return best.LEAST[question.told.least](words, question.load.rate, question)
+            return best.trial(setting, question.load.rate, question)
+        return best.LEAST[question.told.least](setting, question.load.rate, question)
     except (cli.Refused, cli.NotThatFile, cli.WrongWords) as fault:
         return str(fault)
 
 
 def label(row: best.Row, question: best.Question) -> str:
     """How a row names its setting."""
-    plain = sense(row.words, question) == sense((), question)
-    words = " ".join(row.words)
+    plain = sense(row.setting, question) == sense(best.Setting(), question)
+    said = ["readers " + " ".join(row.setting.readers)] if row.setting.readers else []
+    if row.setting.offline:
+        said.insert(0, offlines.name(offlines.told(row.setting.offline)))
+    words = " ".join([*said, *row.setting.words])
     return ("%s (as it is)" % words).strip() if plain else words
 
 
@@ -169,17 +210,20 @@ def line_of(row: best.Row, told: argparse.Namespace, number: int) -> str:
     load += ["--read"] * told.reads + ["--reply"] * told.replies
     if told.speed != 1:
         load += ["--speed", numbers.number_text(told.speed)]
+    if row.setting.offline:
+        load += ["--offline", row.setting.offline]
     capture = told.capture
     if told.kernel:
         capture = "best-%d.pcap" % number
-        load += ["--kernel", "--capture", capture] + remap_words.again(told)
-        load += ["--draw", "%d" % told.draw] if told.draw != 1 else []
+        load += ["--kernel", "--capture", capture]
+        load += [word for reader in row.setting.readers for word in ("--reader", reader)]
+        load += remap_words.again(told)
     files = {"plan": "best-%d.json" % number, "times": "best-%d.times" % number}
     source = shlex.quote(told.plan)
-    if row.words:
+    if row.setting.words:
         source = "-"
         first = "%s %s %s | " % (named("steer-set"), shlex.quote(told.plan),
-                                 " ".join(shlex.quote(word) for word in row.words))
+                                 " ".join(shlex.quote(word) for word in row.setting.words))
     else:
         first = ""
     quoted = " ".join(shlex.quote(word) for word in [
@@ -215,6 +259,23 @@ def table_of(rows: Sequence[best.Row], question: best.Question) -> Iterator[str]
          + [label(row, question)] for number, row in enumerate(rows, 1)])
 
 
+def elsewhere_table(rows: Sequence[best.Row], bases: dict[best.Setting, best.Setting | None],
+                    question: best.Question) -> Iterator[str]:
+    """The lines of the table of what is elsewhere where processors are offline."""
+    by_setting = {row.setting: row for row in rows}
+    cells = []
+    for number, row in enumerate(rows, 1):
+        base = by_setting.get(bases.get(row.setting) or row.setting)
+        if base is not None and base is not row:
+            packets, flows = best.elsewhere(row, base, question.flows)
+            cells.append((number, "%d of %d" % (packets, len(row.cpus)),
+                          "%d of %d" % (flows, len(set(question.flows))), label(row, question)))
+    if cells:
+        yield ""
+        yield from tables.aligned(
+            ("", "packets elsewhere", "flows", "than with all processors online"), cells)
+
+
 def least_table(results: Sequence[best.Least], question: best.Question) -> Iterator[str]:
     """The lines of the table of the smallest settings without drops."""
     def shown(row):
@@ -230,6 +291,7 @@ def least_table(results: Sequence[best.Least], question: best.Question) -> Itera
 
 
 def screen(told: argparse.Namespace, results: Sequence[best.Result],
+           bases: dict[best.Setting, best.Setting | None],
            question: best.Question) -> Iterator[str]:
     """All lines of the answer."""
     order = list(best.ranked(results))
@@ -242,18 +304,22 @@ def screen(told: argparse.Namespace, results: Sequence[best.Result],
     if not rows:
         return
     yield from table_of(rows, question)
+    yield from elsewhere_table(rows, bases, question)
     yield ""
     for number, row in enumerate(rows, 1):
         yield "%d again: %s" % (number, line_of(row, told, number))
     yield ""
     yield trial.KERNEL if told.kernel else trial.MANUAL + "; --kernel goes by its rule"
+    settings = best.plan_with(question, ())
+    for offline in told.offline:
+        yield from offlines.notes(settings, offline)
     for text in UNKNOWN:
         yield "not known, " + text
 
 
 def main(words: list[str]) -> int:
     told = words_of(words)
-    load = schedule.Load(told.pps, told.cpu, told.reads, told.replies, told.speed)
+    load = schedule.load_of(told, told.pps)._replace(offline=None)
     shown = cli.source_name(told.capture)
     settings = plan.read_plan(told.plan)
     with schedule.plain_file(told.capture) as capture, \
@@ -262,15 +328,16 @@ def main(words: list[str]) -> int:
         schedule.check_fit(times, load, shown, "; steer-cap --count takes them")
         for text in schedule.notes_about(settings, load, capture, told.kernel):
             cli.note("%s: %s" % (told.plan, text))
-        question = best.Question(cli.read_bytes(told.plan), told.plan, capture, shown, times, load,
-                                 told, work)
+        flows = schedule.flow_numbers(capture, work) if told.offline else []
+        question = best.Question(cli.read_bytes(told.plan), told.plan, capture, shown, times, flows,
+                                 load, told, work)
         some = tried(told, question)
         tell = progress.Progress("settings tried", len(some))
         results = trial.at_once(attempt, told.jobs, [(each, question) for each in some], tell.at)
     texts = [result for result in results if isinstance(result, str)]
     for text in dict.fromkeys(texts):
         cli.say("%s: %s" % (cli.program_name(), text))
-    for line in screen(told, results, question):
+    for line in screen(told, results, some, question):
         print(line)
     return cli.REFUSED if texts else cli.DONE
 

@@ -9,7 +9,8 @@ import sys
 import tempfile
 from typing import NoReturn
 
-from .. import cli, numbers, plan, remap_check, remap_files, remap_words, schedule, waits
+from .. import cli, numbers, offline, plan, ready, remap_check, remap_files, remap_words, schedule
+from .. import waits
 
 DESCRIPTION = """\
 Writes PLAN with the steps that the times of CAPTURE and a rate of service for each processor give,
@@ -54,6 +55,7 @@ def words_of(words: list[str]) -> argparse.Namespace:
                         help="write there when each packet arrives and is served, for --times of "
                              "steer-top, steer-rows and steer-diff")
     numbers.add_load(parser)
+    offline.add_option(parser)
     parser.add_argument("--fit", action="store_true",
                         help="take the first packets where not all fit into a plan")
     parser.add_argument("--kernel", action="store_true",
@@ -87,6 +89,9 @@ def say_result(times: list[int], load: schedule.Load, agreed: schedule.Agreed) -
     if agreed.desk.drops:
         cli.note("a kernel takes a whole backlog off at once, so there drops come in runs and hit "
                  "other packets (docs/kernel.md)")
+    if agreed.desk.hurried:
+        cli.note("--offline %s: packets that waited there or were in hand, and are handled at once: %d"
+                 % (load.offline and load.offline.text, agreed.desk.hurried))
     cli.note("%d packets in %.3f s, %d steps, %g packets/s a processor%s, %d dropped"
              % (len(times), seconds, agreed.desk.count(), load.rate, own, len(agreed.desk.drops)))
 
@@ -109,21 +114,9 @@ def write_times(name: str, agreed: schedule.Agreed) -> None:
         waits.write(waits.times_of(agreed.desk), out)
 
 
-def by_kernel(told: argparse.Namespace, settings: plan.Plan, source: str, capture: str,
-              folder: str) -> tuple[plan.Plan, str]:
-    """The plan and the name of the capture by which steer gives a kernel's choices."""
-    settings = dict(settings, steps=[])
-    name = os.path.join(folder, "kernel.pcap")
-    result = remap_files.remapped(settings, source, capture, cli.source_name(told.capture),
-                                  remap_words.options_of(told, settings), name, folder)
-    for text in result.notes:
-        cli.note(text)
-    return result.plan, name
-
-
 def main(words: list[str]) -> None:
     told = words_of(words)
-    load = schedule.Load(told.pps, told.cpu, told.reads, told.replies, told.speed)
+    load = schedule.load_of(told, told.pps)
     with tempfile.TemporaryDirectory() as folder, schedule.plain_file(told.capture) as capture:
         source = cli.source_name(told.capture)
         settings, plan_source = plan.read_plan(told.plan), cli.source_name(told.plan)
@@ -133,15 +126,18 @@ def main(words: list[str]) -> None:
         schedule.check_fit(times, load, source, "; --fit takes them")
         for text in schedule.notes_about(settings, load, capture, told.kernel, told.kernel):
             cli.note("%s: %s" % (plan_source, text))
-        if told.kernel:
-            settings, capture = by_kernel(told, settings, plan_source, capture, folder)
-        replays = schedule.Replays(settings, plan_source, capture, source, folder)
+        settings = dict(settings, steps=[])
+        options = remap_words.options_of(told, settings) if told.kernel else None
+        made = ready.made(settings, plan_source, capture, source, options, told.offline, folder)
+        for text in made.notes:
+            cli.note(text)
+        replays = schedule.Replays(made.plan, plan_source, made.capture, source, folder)
         agreed = schedule.timed_steps(replays, times, load, cli.say)
         if told.new_capture is not None:
-            shutil.copyfile(capture, told.new_capture)
+            shutil.copyfile(made.capture, told.new_capture)
         if told.times is not None:
             write_times(told.times, agreed)
-        sys.stdout.write(plan.plan_text(dict(settings, steps=agreed.desk.steps())))
+        sys.stdout.write(plan.plan_text(dict(made.plan, steps=agreed.desk.steps())))
     say_result(times, load, agreed)
 
 

@@ -10,7 +10,8 @@ import sys
 import tempfile
 from typing import Any, Iterator, NamedTuple, NoReturn, Sequence
 
-from .. import cli, cluster, numbers, outcomes, plan, progress, remap_words, schedule, trial
+from .. import cli, cluster, numbers, offline, outcomes, plan, progress, remap_words, schedule
+from .. import trial
 
 DESCRIPTION = """\
 Replays each PLAN over CAPTURE, once for each seed, rate of service or key, and shows the plans
@@ -73,6 +74,7 @@ def words_of(words: list[str]) -> argparse.Namespace:
     kind.add_argument("--pps", metavar="A,B,..", type=numbers.rates,
                       help="packets that a processor serves in a second")
     numbers.add_load(parser)
+    offline.add_option(parser)
     parser.add_argument("--kernel", action="store_true",
                         help="by a kernel's own choices; --draws and the words from --reader on "
                              "go with it")
@@ -139,8 +141,9 @@ def check(told: argparse.Namespace) -> None:
         raise cli.WrongWords("standard input can only be the CAPTURE, and not with --commands")
     if told.draws and not told.kernel:
         raise cli.WrongWords("--draws goes with --kernel")
-    if not told.pps and (told.cpu or told.reads or told.replies or told.speed != 1):
-        raise cli.WrongWords("--cpu, --read, --reply and --speed go with --pps")
+    if not told.pps and (told.cpu or told.reads or told.replies or told.speed != 1
+                         or told.offline):
+        raise cli.WrongWords("--cpu, --read, --reply, --speed and --offline go with --pps")
     check_work(told)
 
 
@@ -166,6 +169,8 @@ def again(told: argparse.Namespace) -> list[str]:
     words += ["--read"] * told.reads + ["--reply"] * told.replies
     if told.speed != 1:
         words += ["--speed", numbers.number_text(told.speed)]
+    if told.offline is not None:
+        words += ["--offline", told.offline.text]
     return words + ["--kernel"] * told.kernel + remap_words.again(told)
 
 
@@ -251,7 +256,7 @@ def wanted(told: argparse.Namespace) -> Wanted:
 def rows_of(told: argparse.Namespace) -> list[trial.Row]:
     """Makes all trials: rows of (plan, results by kind and value)."""
     shown = cli.source_name(told.files[0])
-    load = told.pps and schedule.Load(0, told.cpu, told.reads, told.replies, told.speed)
+    load = told.pps and schedule.load_of(told)
     want = wanted(told)
     chosen = [(want.drawn[number // len(want.values)], want.values[number % len(want.values)])
               for number in want.numbers]
