@@ -1,6 +1,7 @@
 //! A visit, a close and a look at lanes, on a board of two seats.
 ghost use Rattle.std.specs.Prelude.{◌≡◌};
 
+use crate::equal::same;
 use board_api::{CloseAnswer, Emptied, EnterAnswer, Hold, LaneId};
 use hop_board::Board;
 use hop_core::HopShape;
@@ -91,13 +92,14 @@ fn answers_of(
     })
 }
 
+fn numbers_of(answers: &Answers) -> (u32, u64, u32, u64) {
+    (answers.room, answers.held, answers.head, answers.gate)
+}
+
 fn agree(rt: &impl Abort, got: &Answers, wanted: &Answers) {
-    assert_eq!(rt; got.put, wanted.put);
-    assert_eq!(rt; got.emptied, wanted.emptied);
-    assert_eq!(rt;
-        (got.room, got.held, got.head, got.gate),
-        (wanted.room, wanted.held, wanted.head, wanted.gate)
-    );
+    same(rt, &got.put, &wanted.put, 0);
+    same(rt, &got.emptied, &wanted.emptied, 1);
+    same(rt, &numbers_of(got), &numbers_of(wanted), 2);
 }
 
 #[test]

@@ -7,6 +7,8 @@ mod closer;
 #[cfg(test)]
 mod crew;
 #[cfg(test)]
+mod equal;
+#[cfg(test)]
 mod gate;
 #[cfg(test)]
 mod held;

@@ -9,6 +9,7 @@ ghost use Rattle.board_tests.specs.Stands.{IsDone, SeatIsOutside, opened_by};
 
 use crate::closer::change_often;
 use crate::crew::{add_seat, last_seat, last_worker, lists_of, wide_shape};
+use crate::equal::same;
 use crate::notes::Notes;
 use crate::rounds::Stuck;
 use crate::told::{
@@ -132,7 +133,7 @@ fn agree(rt: &impl Abort, lists: &BoardLists, notes: &[Notes], last: u64) {
     for out in 0..2u8 {
         let given = given_to(notes, out);
         let left = lists.outs.as_slice().get(out as usize).map(|all| all.len());
-        assert_eq!(rt; left, Some(given), "out lane {out}");
+        same(rt, &left, &Some(given), out as u64);
     }
 }
 
@@ -140,11 +141,8 @@ fn lane_agrees(rt: &impl Abort, lists: &BoardLists, notes: &[Notes], number: u8)
     let Some(lane) = lists.lanes.as_slice().get(number as usize) else {
         panic!(rt; "no lane {number}")
     };
-    assert_eq!(rt;
-        (lane.accepted.len(), lane.drops.len()),
-        put_to(notes, number),
-        "lane {number}"
-    );
+    let left = (lane.accepted.len(), lane.drops.len());
+    same(rt, &left, &put_to(notes, number), number as u64);
     for (index, own) in notes.iter().enumerate() {
         assert!(rt;
             heads_rise(own, number, lane),

@@ -4,6 +4,7 @@ ghost use Rattle.board_tests.specs.Stands.{SeatIsOutside};
 
 use crate::closer::{change, look_in};
 use crate::crew::{add_seat, last_seat, lists_of, wide_shape};
+use crate::equal::same;
 use crate::rounds::{Seen, read, room_of, serve, tail_of, visit};
 use crate::told::START;
 use board_api::{BoardSeat, LaneId};
@@ -22,32 +23,42 @@ fn packets_go_through_and_a_setting_is_changed(rt: HostRuntime) -> Result<(), Fa
     ) else {
         panic!(rt; "fewer than two seats")
     };
-    assert_eq!(rt; room_of(&board, &mut zero, 1), Some(40_000));
+    same(&rt, &room_of(&board, &mut zero, 1), &Some(40_000), 1);
     let seen = Seen {
         setting: 5,
         head: START,
         answer: Some(Put::At(0)),
     };
-    assert_eq!(rt; visit(&board, &mut zero, 1, PacketId(3)), Some(seen));
-    assert_eq!(rt; room_of(&board, &mut zero, 1), Some(39_999));
+    same(
+        &rt,
+        &visit(&board, &mut zero, 1, PacketId(3)),
+        &Some(seen),
+        2,
+    );
+    same(&rt, &room_of(&board, &mut zero, 1), &Some(39_999), 3);
     assert!(rt; !change(&board, &mut gate, CpuMask(2), 8), "a packet waits");
     let Ok(served) = serve(&board, &mut zero, 1, 1) else {
         panic!(rt; "an out lane that is held")
     };
-    assert_eq!(rt; served, Some((PacketId(3), 1)));
+    same(&rt, &served, &Some((PacketId(3), 1)), 4);
     assert!(rt; change(&board, &mut gate, CpuMask(2), 9), "nothing waits");
     let seen = Seen {
         setting: 9,
         head: 0,
         answer: Some(Put::At(1)),
     };
-    assert_eq!(rt; visit(&board, &mut zero, 1, PacketId(4)), Some(seen));
-    assert_eq!(rt; read(&board, &mut zero, 1, 0), Some(PacketId(3)));
-    assert_eq!(rt; read(&board, &mut zero, 1, 1), None);
+    same(
+        &rt,
+        &visit(&board, &mut zero, 1, PacketId(4)),
+        &Some(seen),
+        5,
+    );
+    same(&rt, &read(&board, &mut zero, 1, 0), &Some(PacketId(3)), 6);
+    same(&rt, &read(&board, &mut zero, 1, 1), &None, 7);
     add_seat(&board, &mut seats, zero)?;
     add_seat(&board, &mut seats, gate)?;
     let lists = lists_of(board, seats);
-    assert_eq!(rt; lists.lanes.len(), 4);
+    same(&rt, &lists.lanes.len(), &4, 8);
     Ok(())
 }
 
@@ -77,15 +88,15 @@ fn tails_and_visits_are_counted(rt: HostRuntime) -> Result<(), Fail> {
     ) else {
         panic!(rt; "fewer than two seats")
     };
-    assert_eq!(rt; counts_of(&board, &mut zero), (START, START, 0));
+    same(&rt, &counts_of(&board, &mut zero), &(START, START, 0), 9);
     let _ = visit(&board, &mut zero, 1, PacketId(3));
-    assert_eq!(rt; counts_of(&board, &mut zero), (0, START, 0));
+    same(&rt, &counts_of(&board, &mut zero), &(0, START, 0), 10);
     let _ = change(&board, &mut gate, CpuMask(2), 8);
     let Ok(_) = serve(&board, &mut zero, 1, 1) else {
         panic!(rt; "an out lane that is held")
     };
     let _ = visit(&board, &mut zero, 1, PacketId(4));
-    assert_eq!(rt; counts_of(&board, &mut zero), (1, 0, 1));
-    assert_eq!(rt; look_in(&board, &mut gate), 1);
+    same(&rt, &counts_of(&board, &mut zero), &(1, 0, 1), 11);
+    same(&rt, &look_in(&board, &mut gate), &1, 12);
     Ok(())
 }

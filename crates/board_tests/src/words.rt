@@ -1,5 +1,20 @@
 //! Words of lanes, heads and gates, with counters that start at 0 and that wrap.
+use crate::equal::same;
 use board_api::{GateWord, HeadWord, LaneWord};
+use std::process::Abort;
+
+// A lane word has these two parts.
+fn shows_lane(rt: &impl Abort, word: u64, held: bool, tail: u32) {
+    let shown = LaneWord(word);
+    same(rt, &(shown.is_held(), shown.tail()), &(held, tail), word);
+}
+
+// A gate word has these three.
+fn shows_gate(rt: &impl Abort, word: u64, visits: u32, closed: bool, openings: u32) {
+    let shown = GateWord(word);
+    let parts = (shown.visits(), shown.is_closed(), shown.openings());
+    same(rt, &parts, &(visits, closed, openings), word);
+}
 
 // The first three are a lane of a board that starts at 0: before its hold, while it is held, and
 // after a put. The others wrap: their start is the last number of 32 bits, or the one before it.
@@ -15,8 +30,7 @@ fn a_lane_word_shows_its_holder_and_its_tail(rt: HostRuntime) {
         (8_589_934_593, true, 0),
         (8_589_934_594, false, 1),
     ] {
-        assert_eq!(rt; LaneWord(word).is_held(), held, "word {word}");
-        assert_eq!(rt; LaneWord(word).tail(), tail, "word {word}");
+        shows_lane(&rt, word, held, tail);
     }
 }
 
@@ -30,11 +44,7 @@ fn a_lane_at_rest_has_twice_its_tail(rt: HostRuntime) {
         (4_294_967_294, 3, 8_589_934_594),
         (4_294_967_295, 262_144, 8_590_458_878),
     ] {
-        assert_eq!(rt;
-            LaneWord::resting(start, count).0,
-            word,
-            "{start} and {count}"
-        );
+        same(&rt, &LaneWord::resting(start, count).0, &word, word);
     }
 }
 
@@ -47,7 +57,7 @@ fn a_head_word_shows_its_head(rt: HostRuntime) {
         (4_294_967_296, 0),
         (4_294_967_297, 1),
     ] {
-        assert_eq!(rt; HeadWord(word).head(), head, "word {word}");
+        same(&rt, &HeadWord(word).head(), &head, word);
     }
 }
 
@@ -65,10 +75,8 @@ fn a_gate_word_shows_visits_closes_and_openings(rt: HostRuntime) {
         (6_442_450_944, 2_147_483_648, true, 1),
         (4_294_967_296_000_000_000, 0, false, 1_000_000_000),
     ] {
-        assert_eq!(rt; GateWord(word).visits(), visits, "word {word}");
-        assert_eq!(rt; GateWord(word).is_closed(), closed, "word {word}");
-        assert_eq!(rt; GateWord(word).openings(), openings, "word {word}");
+        shows_gate(&rt, word, visits, closed, openings);
     }
-    assert_eq!(rt; GateWord::empty(0), GateWord(0));
-    assert_eq!(rt; GateWord::empty(1), GateWord(4_294_967_296));
+    same(&rt, &GateWord::empty(0), &GateWord(0), 0);
+    same(&rt, &GateWord::empty(1), &GateWord(4_294_967_296), 1);
 }

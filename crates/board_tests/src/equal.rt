@@ -1,0 +1,8 @@
+//! An assertion that what was got is what is wanted.
+use std::fmt::Debug;
+use std::process::Abort;
+
+/// In a case of a table.
+pub(crate) fn same<T: PartialEq + Debug>(rt: &impl Abort, got: &T, wanted: &T, case: u64) {
+    assert!(rt; *got == *wanted, "case {case}: {got:?}, and not {wanted:?}");
+}
