@@ -457,7 +457,7 @@ class InABrowser(unittest.TestCase):
         return {(kind, of): text for kind, of, text in self.browser.run(VALUES)}
 
     def test_the_values_beside_the_charts(self):
-        """Sums of the whole report; the drops of processor 3 are those of the tutorial."""
+        """Sums of the whole report; processor 3 has the drops that grep counts in it."""
         values = self.values()
         for row in self.report.cpus:
             packets = row.accepted + row.dropped
