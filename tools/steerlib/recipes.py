@@ -75,11 +75,13 @@ class Recipes:
     def _keeps_readers(self, count):
         """Whether so many readers of the plan stay, since the low bits give their factors of two.
 
-        They are the plan's where none is told: the card's hash modulo their number.
+        Of another number than there are, a flow's is the card's hash modulo it where none is told.
         """
+        twos = count & -count
+        if count == len(self.apps) == len(self.old["apps"]):
+            return all(flow.entry % twos == flow.app % twos for flow in self.flows)
         told = len(self.apps) != len(self.old["apps"]) or any(
             flow.app != (flow.card or 0) % len(self.apps) for flow in self.flows)
-        twos = count & -count
         return not told and all(flow.entry % twos == (flow.card or 0) % twos
                                 for flow in self.flows)
 
