@@ -57,7 +57,7 @@ class Aim:
 
     def hashed(self, flow: remap.Flow) -> bytes | None:
         """The bytes of a flow that its card hashes, or None."""
-        return remap.hashed_bytes(flow, self.kinds)
+        return remap.hashed_bytes(flow.kind, flow.data, self.kinds)
 
     def way_of(self, flow: remap.Flow) -> Way:
         """Where this flow comes in."""

@@ -155,14 +155,14 @@ def address_bytes(kind: str) -> int:
     return 8 if kind[-1] == "4" else 32
 
 
-def hashed_bytes(flow: Flow, kinds: int) -> bytes | None:
+def hashed_bytes(kind: str, data: bytes, kinds: int) -> bytes | None:
     """The bytes of a flow that are hashed where these kinds are, or None."""
-    if flow.kind == NO_IP:
+    if kind == NO_IP:
         return None
-    if kinds >> KIND_BITS[flow.kind] & 1:
-        return flow.data
-    if kinds >> KIND_BITS["two" + flow.kind[-1]] & 1:
-        return flow.data[:address_bytes(flow.kind)]
+    if kinds >> KIND_BITS[kind] & 1:
+        return data
+    if kinds >> KIND_BITS["two" + kind[-1]] & 1:
+        return data[:address_bytes(kind)]
     return None
 
 
@@ -185,7 +185,7 @@ class _Hashes:
             if flow.own and flow.kind != NO_IP:
                 self.new_kinds |= 1 << KIND_BITS[flow.kind]
         for flow in flows:
-            if flow.own or flow.card is None and hashed_bytes(flow, self.new_kinds) is not None:
+            if flow.own or flow.card is None and self._is_hashed_anew(flow):
                 flow.own = True
                 flow.value = kernel.drawn_hash(self.options.seed, flow.software_key())
             else:
@@ -193,8 +193,12 @@ class _Hashes:
             if self.options.transmit and flow.value is not None:
                 flow.sends = kernel.drawn_hash(self.options.seed, b"tx" + flow.software_key())
 
+    def _is_hashed_anew(self, flow):
+        """Whether a flow has a hash by the kinds of the new plan."""
+        return hashed_bytes(flow.kind, flow.data, self.new_kinds) is not None
+
     def _by_card(self, flow):
-        hashed = hashed_bytes(flow, self.kinds)
+        hashed = hashed_bytes(flow.kind, flow.data, self.kinds)
         flow.card = None if hashed is None else self.toeplitz.hash(hashed)
         if self.options.card is not None and flow.kind != NO_IP:
             flow.queue, flow.card = self.options.card.lead(flow.kind, flow.data, flow.card, hashed)
@@ -287,8 +291,8 @@ class _Rewriter:
 
     def reaches(self, flows):
         """Whether each flow can have any hash by this key."""
-        lengths = {(flow.kind, len(hashed_bytes(flow, self.kinds))) for flow in flows
-                   if flow.value is not None}
+        lengths = {(flow.kind, len(hashed_bytes(flow.kind, flow.data, self.kinds)))
+                   for flow in flows if flow.value is not None}
         return all(self.solver(*each).rank == toeplitz.BITS for each in lengths)
 
     def rewrite(self, flows):
@@ -299,7 +303,7 @@ class _Rewriter:
             if flow.value is None:
                 self.taken.add((flow.kind, flow.data))
                 continue
-            hashed = hashed_bytes(flow, self.kinds)
+            hashed = hashed_bytes(flow.kind, flow.data, self.kinds)
             difference = self.toeplitz.hash(hashed) ^ flow.target
             if difference:
                 moving.append((flow, hashed, difference))

@@ -24,7 +24,7 @@ from itertools import accumulate, compress, count, islice
 from typing import Callable, Dict, Iterable, Iterator, List, NamedTuple, Union
 
 from . import capture as captures
-from . import cautions, cli, ethtool, flows, limits, packed, progress
+from . import cautions, cli, ethtool, flows, foretelling, limits, packed, progress
 from . import offline as offlines
 from . import plan as plans
 from .serving import Desk, Places, Service, steps_each
@@ -319,15 +319,19 @@ class Replays:
             return places_of(stream.read(), self.settings, known, first)
 
 
-def flow_numbers(capture: str, folder: str) -> list[int]:
-    """The flow number of each packet of a capture, as `record` takes it."""
+def flow_texts(capture: str, folder: str) -> list[bytes]:
+    """The flow of each packet of a capture, as `steer hash` writes it."""
     name = os.path.join(folder, "hash")
     with open(name, "wb") as out:
         cli.run_steer(["hash", capture], out)
     with open(name, "rb") as text:
-        found = flows.FLOW.findall(text.read())
-    numbers = dict(zip(dict.fromkeys(found), count()))
-    return [numbers[flow] for flow in found]
+        return flows.FLOW.findall(text.read())
+
+
+def numbers_of(texts: Iterable[bytes]) -> list[int]:
+    """The flow number of each packet of these flows, as `record` takes it."""
+    numbers: Dict[bytes, int] = {}
+    return [numbers.setdefault(text, len(numbers)) for text in texts]
 
 
 @contextlib.contextmanager
@@ -369,16 +373,21 @@ def service_of(settings: plans.Plan, load: Load, flows: list[int] | None) -> Ser
 class Schedules:
     """Schedules of a plan (its Replays) for packets of these times under a load.
 
-    The first one begins with the places of a replay of a single sweep, each other one with those
-    of the one before. That spares rounds, and what is agreed upon is the same.
+    The first guess is what the rule of RFS foretells where it decides, and else the places of a
+    replay of a single sweep, or of the schedule before. Which it is changes the number of rounds,
+    and not what is agreed upon.
     """
 
     def __init__(self, replays: Replays, times: list[int], load: Load) -> None:
         self.replays = replays
         self.load = load
         self.arrivals = arrivals_of(times, load.speed)
-        self.flows = flow_numbers(replays.capture, replays.folder) if load.reads else None
-        self.guess: Places | None = None
+        texts = flow_texts(replays.capture, replays.folder) if load.reads else []
+        self.flows = numbers_of(texts) if load.reads else None
+        self.guess = replays.places(["sweep"])
+        self.ways: List[foretelling.Way] = []
+        if load.reads and foretelling.is_followed(replays.settings):
+            self.ways = foretelling.ways_of(replays.settings, texts, self.guess.queues)
 
     def agreed(self, rate: float, backlog: int | None = None,
                say: Callable[[str], None] | None = None, until_drop: bool = False) -> Agreed:
@@ -389,7 +398,10 @@ class Schedules:
         with _uncollected():
             service = service_of(replays.settings, self.load._replace(rate=rate), self.flows)
             self._check_time(service.leave)
-            guess = self.guess or replays.places(["sweep"])
+            guess = self.guess
+            if self.ways:
+                guess = foretelling.Foretelling(self.arrivals, service, replays.settings, guess,
+                                                self.ways).foretold()
             found = agree(self.arrivals, guess, service, replays.places, replays.shown_capture,
                           say, until_drop)
             if service.leave is not None and found.whole:

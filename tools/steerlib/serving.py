@@ -174,15 +174,16 @@ class Desk:
         texts += [_text("offline %d" % cpu) for cpu in leave.cpus]
 
     def _arriving(self, places, first, last):
-        """Number, arrival, queue and processor of these packets; then `last` with a time.
-
-        That is up to when services end before the next packet, where it matters.
-        """
+        """Number, arrival, queue and processor of these packets; then `last` with a time."""
         some = slice(first, last)
-        until = (AFTER_ALL if last == len(self.arrivals) else
-                 self.service.leave.time if last == self.leave_before else -1)
         return chain(zip(range(first, last), self.arrivals[some], places.queues[some],
-                         places.cpus[some]), [(last, until, 0, 0)])
+                         places.cpus[some]), [(last, self._until(last), 0, 0)])
+
+    def _until(self, last):
+        """Up to when services end before what comes between this packet and the one before it."""
+        if last == len(self.arrivals):
+            return AFTER_ALL
+        return self.service.leave.time if last == self.leave_before else -1
 
     def _serve(self, places, state, last):
         """Serves the packets before `last`; the state then.

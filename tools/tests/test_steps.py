@@ -13,7 +13,7 @@ from inside import inside
 from reporting import Folder, frame, random_plan, run, run_closed
 from running import example, sample
 
-from steerlib import cli, limits, report, schedule, serving
+from steerlib import cli, foretelling, limits, offline, report, schedule, serving
 
 OWN = sample("cap", "own-first3000.pcap")
 ROUND = re.compile(r"round \d+: (\d+) packets elsewhere than assumed(?:, the first is (\d+))?")
@@ -313,7 +313,8 @@ class Rounds(unittest.TestCase):
                          "elsewhere than the steps assume")
 
     def test_nothing_is_written_without_agreement(self):
-        with mock.patch.object(schedule, "MOST_ROUNDS", 2):
+        with mock.patch.object(schedule, "MOST_ROUNDS", 2), \
+                mock.patch.object(foretelling, "is_followed", return_value=False):
             status, out, said = inside("steer-steps", sample("plan", "ix5.json"), OWN, "--pps",
                                        "2000", "--read")
         self.assertEqual((status, out), (3, b""))
@@ -397,6 +398,60 @@ class Rounds(unittest.TestCase):
                 anew.serve(places)
                 self.assertEqual((desk.text(), desk.drops, desk.times()),
                                  (anew.text(), anew.drops, anew.times()), first)
+
+
+class Foretold(unittest.TestCase):
+    """Where RFS has each packet by its rule, held to the replay."""
+
+    def places(self, plan, capture, load, folder):
+        """The agreed Places, and how many rounds it took."""
+        replays = schedule.Replays(plan, "plan", capture, capture, folder.name)
+        agreed = schedule.timed_steps(replays, schedule.times_of(capture, capture), load)
+        return agreed.places, agreed.rounds
+
+    def test_the_first_round_agrees(self):
+        """With tables that flows share, counters that wrap, replies and processors that leave."""
+        moves = set()
+        with Folder() as folder:
+            capture = write_capture(folder.path("c.pcap"), [
+                (137 * number, frame(number * number % 23)) for number in range(400)])
+            for seed in range(30):
+                plan = dict(random_plan(seed), filters=0, limited=[], steps=[])
+                if not foretelling.is_followed(plan):
+                    continue
+                gone = None
+                if seed % 3 and plan["cpus"] > 2:
+                    gone = offline.told("1" if seed % 3 == 1 else "0-1@0.02")
+                    plan = offline.moved(plan, gone)
+                rate = (700.0, 3000.0, 20000.0)[seed % 4 % 3]
+                load = schedule.Load(rate, [(0, 900.0)], True, seed % 2 > 0, 1.0, gone)
+                places, rounds = self.places(plan, capture, load, folder)
+                self.assertEqual(rounds, 1, seed)
+                with mock.patch.object(foretelling, "is_followed", return_value=False):
+                    slow, rounds = self.places(plan, capture, load, folder)
+                self.assertEqual(places, slow)
+                if rounds > 2:
+                    moves.add(gone and gone.time > 0)
+        self.assertEqual(moves, {None, False, True})
+
+    def test_what_is_not_followed(self):
+        plan = {"sock": 4, "queues": [{"flows": 0}, {"flows": 4}]}
+        for change, wanted in (({}, True), ({"filters": 0}, True), ({"filters": 4}, False),
+                               ({"sock": 0}, False), ({"queues": [{"flows": 0}]}, False)):
+            self.assertIs(foretelling.is_followed(dict(plan, **change)), wanted)
+
+    def test_the_way_of_a_flow(self):
+        """The first row of Microsoft's verification suite: its hash is 51ccc178, by ports."""
+        flow = b"tcp4 420995bb a18e6450 2794 1766"
+        plan = {"sock": 100, "queues": [{"home": 1, "mask": [7, 3, 4], "flows": 0},
+                                        {"home": 2, "mask": [], "flows": 60}]}
+        value = 0x51ccc178
+        for queue, change, wanted in (
+                (0, {}, ((3, 4, 7)[value % 3], -1, value % 128)),
+                (1, {}, (2, 1 << 32 | value % 64, value % 128)),
+                (1, {"kinds": 1}, (2, 1 << 32 | 0x323e8fc2 % 64, 0x323e8fc2 % 128)),
+                (1, {"kinds": 8}, (2, -1, -1))):
+            self.assertEqual(foretelling.ways_of(dict(plan, **change), [flow], [queue]), [wanted])
 
 
 class Words(unittest.TestCase):

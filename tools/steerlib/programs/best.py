@@ -328,7 +328,7 @@ def main(words: list[str]) -> int:
         schedule.check_fit(times, load, shown, "; steer-cap --count takes them")
         for text in schedule.notes_about(settings, load, capture, told.kernel):
             cli.note("%s: %s" % (told.plan, text))
-        flows = schedule.flow_numbers(capture, work) if told.offline else []
+        flows = schedule.numbers_of(schedule.flow_texts(capture, work)) if told.offline else []
         question = best.Question(cli.read_bytes(told.plan), told.plan, capture, shown, times, flows,
                                  load, told, work)
         some = tried(told, question)

@@ -21,9 +21,10 @@ processor that is idle takes the first one that waits, and is done with it 1/N s
 the rate is high enough, nothing waits; where a backlog is full, the packet is dropped.
 
 By RFS and its filters the place of a packet depends on the steps themselves. So the places are
-guessed, steer replays the steps of the guess, and what its report says is the next guess, until
-the report agrees with the guess in the queue, the processor and the drop of each packet. Standard
-error shows each round. Without agreement after 500 rounds there is no plan and the status is 3.
+guessed, at first by the rule of RFS; steer replays the steps of the guess, and what its report
+says is the next guess, until the report agrees with the guess in the queue, the processor and the
+drop of each packet. Standard error shows each round. Without agreement after 500 rounds there is
+no plan and the status is 3.
 
 A processor serves all packets at one rate, whatever their size; a kernel takes them from the
 backlog by batches of 64, and a plan without masks has its backlog where a kernel has the ring of
