@@ -6,12 +6,13 @@ or whose lengths contradict each other, raises NotThatFile.
 
 from __future__ import annotations
 
+import os
 import struct
 from collections import Counter
 from typing import BinaryIO, Iterator, NamedTuple
 
 from . import limits
-from .cli import NotThatFile, Refused, note
+from .cli import NotThatFile, Refused, note, open_bytes
 
 MOST_FRAME = 262144
 MOST_FILE = 268435456
@@ -32,6 +33,18 @@ OUTGOING = 4
 NO_ADDRESSES = bytes(12)
 LONGEST_UNMERGED = 1514
 TCP_HEADERS, TCP_PAYLOAD = 66, 1448
+
+
+def is_capture(name: str) -> bool:
+    """Whether this is a file, and none that is read only once, that begins as captures do.
+
+    It may be packed.
+    """
+    if not os.path.isfile(name):
+        return False
+    with open_bytes(name) as stream:
+        start = stream.read(4)
+    return start == SECTION_BYTES or start in MAGICS
 
 
 class Frame(NamedTuple):

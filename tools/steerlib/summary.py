@@ -136,20 +136,28 @@ def _replies(rep):
           "--tx drew its hash (docs/kernel.md)"
 
 
+def _numbers(found):
+    """A set of numbers in ascending order, with commas."""
+    return ",".join(str(number) for number in sorted(found))
+
+
 def _flows(rep, names):
     """The flows with the most packets; `names` has the flow of each packet of the capture."""
-    count, dropped, cpus = Counter(), Counter(), {}
+    count, dropped = Counter(), Counter()
+    queues, cpus = {}, {}
     for packet in rep.packets:
         flow = names[packet.id]
         count[flow] += 1
         dropped[flow] += packet.place == "drop"
+        queues.setdefault(flow, set()).add(packet.q)
         if packet.cpu is not None:
             cpus.setdefault(flow, set()).add(packet.cpu)
     shown = count.most_common(FLOWS_SHOWN)
-    rows = [(packets, dropped[flow], ",".join(str(cpu) for cpu in sorted(cpus.get(flow, ()))),
-             flows.name(flow)) for flow, packets in shown]
+    rows = [(packets, tables.share(packets, len(rep.packets)), dropped[flow],
+             _numbers(queues[flow]), _numbers(cpus.get(flow, ())), flows.name(flow))
+            for flow, packets in shown]
     yield ""
-    yield from tables.aligned(("packets", "dropped", "cpus", "flow"), rows)
+    yield from tables.aligned(("packets", "share", "dropped", "queues", "cpus", "flow"), rows)
     if len(count) > len(shown):
         yield "%d more flows with %d packets" % (
             len(count) - len(shown), len(rep.packets) - sum(packets for _, packets in shown))

@@ -190,7 +190,7 @@ class Numbers(unittest.TestCase):
                          self.rows(top, "  cpu  ", 4) if len(page.tables["Processors"]) > 1 else [])
         self.assertEqual([row[:3] for row in page.tables["Receive queues"][1:]],
                          self.rows(top, "queue  ", 3))
-        flows = [line.split(None, 2)[:2] for line in top.split("cpus  flow\n")[1].splitlines()]
+        flows = [line.split()[0:3:2] for line in top.split("cpus  flow\n")[1].splitlines()]
         shown = page.tables["Flows with the most packets"][1:]
         for row, wanted in zip(shown, flows[:10]):
             self.assertEqual([row[0], row[2]], wanted, seed)

@@ -1,5 +1,8 @@
 """Tests of steer-top."""
 
+import gzip
+import os
+import threading
 import unittest
 
 from reporting import REPLIED, Folder, example, replayed, run, run_closed
@@ -36,9 +39,15 @@ no packets on cpu 0
 queue  packets   share
     0        3  100.0%  ########################
 
-packets  dropped  cpus  flow
-      3        1   1,2  tcp4 66.9.149.187:2794 > 161.142.100.80:1766
+packets   share  dropped  queues  cpus  flow
+      3  100.0%        1       0   1,2  tcp4 66.9.149.187:2794 > 161.142.100.80:1766
 """
+
+
+def contents(name):
+    """The bytes of a file."""
+    with open(name, "rb") as stream:
+        return stream.read()
 
 
 class Top(unittest.TestCase):
@@ -141,7 +150,7 @@ class Top(unittest.TestCase):
             names = folder.write("hash", cli.run_steer(["hash", example("web.pcap")]))
             lines = run("steer-top", path, names).stdout.splitlines()
             self.check_flow(path, names, lines)
-            self.assertEqual(lines[-1], "      4        0     0  no IP")
+            self.assertEqual(lines[-1], "      4   2.3%        0       0     0  no IP")
             many = "".join("packet %d udp4 0a000001 0a000002 %d 53 hash 00000000 entry 0 queue 0\n"
                            % (number, number) for number in range(177)) + "packets 177\n"
             lines = run("steer-top", path, folder.write("many", many.encode())).stdout.splitlines()
@@ -154,7 +163,8 @@ class Top(unittest.TestCase):
         with open(path) as stream:
             drops = sum(line.split()[1] in of_it for line in stream if " at drop " in line)
         self.assertEqual((len(of_it), drops > 0), (65, True))
-        self.assertIn("%7d  %7d  %4s  tcp4 10.0.0.11:40001 > 10.0.0.1:80" % (65, drops, "3"), lines)
+        self.assertIn("     65  36.7%%  %7d       1     3  tcp4 10.0.0.11:40001 > 10.0.0.1:80"
+                      % drops, lines)
 
     def test_faults(self):
         with Folder() as folder:
@@ -190,6 +200,78 @@ class Top(unittest.TestCase):
         self.assertEqual((ended.returncode, ended.stderr), (0, ""))
         self.assertIn("not part of the proved program", ended.stdout)
         self.assertIn("steer-top report hash.txt", ended.stdout)
+
+
+class OfACapture(unittest.TestCase):
+    """A capture and a plan at once, held to the programs that do it in turn."""
+
+    def test_the_screen_is_that_of_a_report_that_was_made_in_turn(self):
+        with Folder() as folder:
+            packed = folder.write("web.gz", gzip.compress(contents(example("web.pcap"))))
+            names = folder.write("hash", cli.run_steer(["hash", example("web.pcap")]))
+            for words in ([], ["--cpu", "1=900", "--speed", "50"], ["--kernel"],
+                          ["--kernel", "--reader", "80=2", "--offline", "1"]):
+                words = ["--pps", "20000", "--read", *words]
+                times, capture = folder.path("times"), example("web.pcap")
+                more = []
+                if "--kernel" in words:
+                    capture = folder.path("k.pcap")
+                    more = ["--capture", capture]
+                made = run("steer-steps", example("rfs.json"), example("web.pcap"), "--times",
+                           times, *words, *more)
+                report = folder.write("report", cli.run_steer(
+                    ["replay", folder.write("plan.json", made.stdout.encode()), capture]))
+                wanted = run("steer-top", report, names, "--times", times, "--plan",
+                             folder.path("plan.json")).stdout
+                for name in (example("web.pcap"), packed):
+                    ended = run("steer-top", name, *words, example("rfs.json"))
+                    self.assertEqual(ended.returncode, 0)
+                    screen, rule = ended.stdout.rsplit("\n\n", 1)
+                    self.assertEqual(screen + "\n", wanted)
+                    self.assertEqual(rule.startswith("by a kernel's"), "--kernel" in words)
+
+    def test_the_steps_of_the_plan_itself(self):
+        with Folder() as folder:
+            report = folder.write("report", replayed("three", "three"))
+            names = folder.write("hash", cli.run_steer(["hash", example("three.pcap")]))
+            wanted = run("steer-top", report, names, "--plan", example("three.json")).stdout
+        ended = run("steer-top", example("three.pcap"), example("three.json"))
+        self.assertEqual(ended.stdout, wanted + "\nby the manual's rule, hash modulo size; a "
+                         "kernel picks other members (docs/kernel.md)\n")
+        self.assertEqual(run("steer-top", example("three.pcap"), "-", data=contents(
+            example("three.json"))).stdout, ended.stdout)
+
+    def test_wrong_words(self):
+        web, plan = example("web.pcap"), example("rfs.json")
+        with Folder() as folder:
+            report = folder.write("report", REPLIED)
+            for words, text in (
+                    ([web], "web.pcap is a capture, and a PLAN goes with it"),
+                    ([web, plan, "--times", "x"], "--plan and --times go with a REPORT, and "),
+                    ([web, plan, "--plan", plan], "--plan and --times go with a REPORT, and "),
+                    ([web, plan, "--read"], "--cpu, --read, --reply, --speed and --offline go with "
+                                            "--pps"),
+                    ([web, plan, "--pps", "9", "--tx"], "--tx goes with --kernel"),
+                    ([report, "--pps", "9"], "--pps, --kernel and what goes with them are for a "
+                                             "CAPTURE and a PLAN, and "),
+                    (["-", "--read"], "--pps, --kernel and what goes with them are for a CAPTURE "
+                                      "and a PLAN, and standard input is no capture")):
+                ended = run("steer-top", *words)
+                self.assertEqual((ended.returncode, ended.stdout), (2, ""), words)
+                self.assertIn(text, ended.stderr)
+            ended = run("steer-top", web, report)
+        self.assertEqual((ended.returncode, ended.stdout), (4, ""))
+
+    def test_a_report_of_a_pipe_is_read_once(self):
+        """As bash gives the output of a command where a file is named."""
+        with Folder() as folder:
+            pipe = folder.path("pipe")
+            os.mkfifo(pipe)
+            writer = threading.Thread(target=lambda: folder.write("pipe", REPLIED))
+            writer.start()
+            ended = run("steer-top", pipe)
+            writer.join()
+        self.assertEqual(ended.stdout, REPLIED_SCREEN)
 
 
 class Names(unittest.TestCase):
