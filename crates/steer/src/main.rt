@@ -4,12 +4,12 @@
 
 use outside_io::{Desk, FileDesk, Sink, StdSink};
 use run_words::Pace;
-use std::{env, io};
 use std::alloc::Global;
 use std::io::BufWriter;
 use std::process::ExitCode;
 use std::sync::Wait;
 use std::thread::Threads;
+use std::{env, io};
 use steer_base::OutOfMemory;
 use steer_top::steer;
 use taps::{Tap, standard_taps};
