@@ -11,11 +11,14 @@ from __future__ import annotations
 import argparse
 import math
 import re
-from typing import NamedTuple
+from typing import TYPE_CHECKING, NamedTuple
 
 from . import cli, processors
 from .plan import Plan
 from .serving import Leave
+
+if TYPE_CHECKING:
+    from .remap import Reader
 
 NANOSECONDS = 1e9
 HELP = ("the processors of LIST are offline from the beginning, or from S seconds on after the "
@@ -94,7 +97,7 @@ def leave_of(settings: Plan, offline: Offline) -> Leave:
 class Moved:
     """A reader that is not on a processor that is offline, but on the one that stands in for it."""
 
-    def __init__(self, reader, cpus: list[int], target: int) -> None:
+    def __init__(self, reader: Reader, cpus: list[int], target: int) -> None:
         self.reader = reader
         self.cpus = cpus
         self.target = target
