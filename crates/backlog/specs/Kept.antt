@@ -8,7 +8,8 @@ use Rattle.backlog.specs.Queues.{QueueLists}
 use Rattle.backlog.specs.declared.limits.TheConstants.{MAX_LANE_ROOM}
 
 -- the lists of a lane from its parts
-abbrev pub lane_lists : QueueLists → OfferedBuckets → List LaneDrop → ℕ → ℕ → ℕ → LaneLists
+abbrev pub lane_lists : QueueLists → OfferedBuckets → List LaneDrop → (limit room start : ℕ)
+    → LaneLists
 lane_lists queue offers drops limit room start =
     record {
       accepted = queue.accepted;

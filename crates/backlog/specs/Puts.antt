@@ -9,7 +9,7 @@ use Rattle.steer_base.specs.declared.put.Put.{Put}
 use Rattle.steer_base.specs.declared.put.Put.TheVariants.{At, Dropped}
 
 -- an empty lane
-abbrev pub new_lane : ℕ → ℕ → ℕ → Bool → LaneLists
+abbrev pub new_lane : (limit room start : ℕ) → Bool → LaneLists
 new_lane limit room start limited =
     record {
       accepted = [];

@@ -49,7 +49,7 @@ HasTaken board number lane (Some id) seat =
 HasTaken board number lane None seat = SeatIsOutside board number seat
 
 -- The seat has the packet of the lane that it delivered, if it found the out lane free.
-abbrev pub HasGiven : BoardView → ℕ → ℕ → ℕ → Option ℕ → BoardSeatView → Type 0
+abbrev pub HasGiven : BoardView → (number lane id : ℕ) → Option ℕ → BoardSeatView → Type 0
 HasGiven board number lane id (Some place) seat =
     SeatIs board number outside 0 (hand_of lane gave) seat
 HasGiven board number lane id None seat = HasTaken board number lane (Some id) seat

@@ -35,7 +35,7 @@ unfoldable pub generated_frame : ℕ → List ℕ
 generated_frame flow = ethernet ++ (ip_header flow ++ tcp_header flow)
 
 -- packet i of a seed: its flow is word i modulo the number of flows, and its time is second i
-abbrev pub packet_of : ℕ → ℕ → ℕ → Packet
+abbrev pub packet_of : (seed flows index : ℕ) → Packet
 packet_of seed flows i = record {
   sec = i;
   frac = 0;
@@ -43,5 +43,5 @@ packet_of seed flows i = record {
 }
 
 -- the first n packets of a seed, one word of the generator for each
-abbrev pub packets_of : ℕ → ℕ → ℕ → List Packet
+abbrev pub packets_of : (seed flows count : ℕ) → List Packet
 packets_of seed flows n = map (packet_of seed flows) (range_with_len 0 n)

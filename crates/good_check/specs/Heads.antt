@@ -8,7 +8,7 @@ use Rattle.history.specs.declared.lane_list.LaneList.{LaneList}
 use Rattle.steer_model.specs.Good.Choices.{lane_seen}
 
 -- Choice k saw this head at this lane.
-abbrev pub Saw : List Chosen → ℕ → ℕ → ℕ → Type 0
+abbrev pub Saw : List Chosen → (index head lane : ℕ) → Type 0
 Saw cs k head lane = ((chosen_at cs k).choice.head ≡ Some head) × (lane_seen cs k ≡ Some lane)
 
 -- Along the first n choices the heads seen at one lane never fall, and none is over what the lane

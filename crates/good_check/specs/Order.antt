@@ -15,7 +15,7 @@ LeftInOrder classes came left =
     (class : ℕ) → IsPrefix (in_class classes class left) (in_class classes class came)
 
 -- a receive queue and a flow as one class, where there are `flows` flow numbers
-abbrev pub queue_and_flow : ℕ → ℕ → ℕ → ℕ
+abbrev pub queue_and_flow : (flows queue flow : ℕ) → ℕ
 queue_and_flow flows queue flow = queue * flows + flow
 
 -- the class of each packet that arrived, by its receive queue and its flow

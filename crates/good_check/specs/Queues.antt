@@ -19,14 +19,14 @@ is_number (Some m) n = m == n
 
 -- whether a choice asks for a filter at a place that sends to a queue: it moved to a processor
 -- whose lowest queue this is, its packet was accepted there, and the packet's hash finds this place
-abbrev pub asks_for : Setup → History → ℕ → ℕ → ℕ → Chosen → Bool
+abbrev pub asks_for : Setup → History → (filters place queue : ℕ) → Chosen → Bool
 asks_for p h filters place queue c =
     (has_moved c.choice.why && is_some (rx_position h c))
     && (is_number (home_queue p.homes c.choice.lane) queue
     && is_number (filter_place filters (packet_hash p c.id)) place)
 
 -- whether some choice does
-abbrev pub is_asked_for : Setup → History → ℕ → ℕ → ℕ → List (List Chosen) → Bool
+abbrev pub is_asked_for : Setup → History → (filters place queue : ℕ) → List (List Chosen) → Bool
 is_asked_for p h filters place queue choices =
     list_any (λ cs. list_any (asks_for p h filters place queue) cs) choices
 

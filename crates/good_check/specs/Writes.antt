@@ -7,7 +7,7 @@ use Rattle.history.specs.declared.sock_write.SockWrite.{SockWrite}
 use Rattle.steer_model.specs.State.Setup.{Setup, packet_hash}
 
 -- the write for a packet: at the entry of its hash, if it has one and the table has entries
-abbrev pub write_for : Setup → ℕ → ℕ → ℕ → Option SockWrite
+abbrev pub write_for : Setup → (size cpu packet : ℕ) → Option SockWrite
 write_for p size cpu x =
     option_map (λ place. record { entry = place; cpu = cpu }) (class_of size (packet_hash p x))
 

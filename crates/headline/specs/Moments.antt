@@ -69,7 +69,7 @@ left_for i events (Some class) None = None
 left_for i events None place = None
 
 -- what the first n events of a run left at the entry of a packet of a queue
-abbrev pub last_want : Input → List Step → ℕ → ℕ → ℕ → Option ℕ
+abbrev pub last_want : Input → List Step → (count queue packet : ℕ) → Option ℕ
 last_want i events n q x =
     let m : Machine = state_at i events n in
     left_for i (take n events) (class_at m.setup m.settings q x)
@@ -148,12 +148,12 @@ ProcessorDrops i c j d m n =
     HasDroppedNext (fresh_rx i.plan i.packets).fixed (packet_hash (setup_in i) d.id) c j d m.rx n.rx
 
 -- a packet was accepted by a processor as packet k, by the limits of the plan
-abbrev pub ProcessorAccepts : Input → ℕ → ℕ → ℕ → Machine → Machine → Type 0
+abbrev pub ProcessorAccepts : Input → (cpu index packet : ℕ) → Machine → Machine → Type 0
 ProcessorAccepts i c k x m n =
     HasAcceptedNext (fresh_rx i.plan i.packets).fixed (packet_hash (setup_in i) x) c k x m.rx n.rx
 
 -- a reply was accepted by a transmit queue as reply k
-abbrev pub QueueAccepts : Input → ℕ → ℕ → ℕ → Machine → Machine → Type 0
+abbrev pub QueueAccepts : Input → (tx index packet : ℕ) → Machine → Machine → Type 0
 QueueAccepts i t k x m n =
     HasAcceptedNext (fresh_tx i.plan i.packets).fixed (packet_hash (setup_in i) x) t k x m.tx n.tx
 

@@ -7,7 +7,7 @@ use Rattle.steer_base.specs.Orders.{InOrder, was_dropped}
 use Rattle.steer_base.specs.declared.packet.Packet.{Packet}
 
 -- Whether packet y came by receive queue q and is of the flow of packet x.
-abbrev pub came_by : List Packet → History → ℕ → ℕ → ℕ → Bool
+abbrev pub came_by : List Packet → History → (queue packet other : ℕ) → Bool
 came_by packets h q x y =
     is_in y (arrivals_at h.arrivals q)
     && (packet_at packets y).flow_number == (packet_at packets x).flow_number

@@ -17,7 +17,8 @@ use Rattle.steer_model.specs.State.Settings.{Settings, plain_lane}
 
 -- The entry of a class before choice k of a list: the lane that the class has, if it has one, and
 -- its recorded tail, by the choices from `since` on.
-abbrev pub entry_before : ℕ → List LaneList → List Chosen → ℕ → ℕ → ℕ → Entry
+abbrev pub entry_before : (start : ℕ) → List LaneList → List Chosen → (since index class : ℕ)
+    → Entry
 entry_before start lanes choices since k class =
     entry start (accepted_in lanes) (drop since (take k choices)) class
 

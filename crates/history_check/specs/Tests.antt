@@ -79,14 +79,14 @@ drop_number (Dropped number accepted pulled cause) = number
 
 -- the test of packet x at index i of the packets that processor c accepted: its choice is this
 -- processor, this is its first place, and no processor dropped it
-abbrev pub is_accepted : History → ℕ → ℕ → ℕ → Bool
+abbrev pub is_accepted : History → (cpu index packet : ℕ) → Bool
 is_accepted h c i x =
     is_arrived h x && is_number (option_map (λ d. d.lane) (choice_of h x)) c
     && is_place (accepted_place h.lanes x) i
     && not (is_some (first_some (drop_in x) h.lanes))
 
 -- the test of packet x at index i of the packets that processor c dropped
-abbrev pub is_fallen : History → ℕ → ℕ → ℕ → Bool
+abbrev pub is_fallen : History → (cpu index packet : ℕ) → Bool
 is_fallen h c i x =
     is_arrived h x && is_number (option_map (λ d. d.lane) (choice_of h x)) c
     && is_place (option_map drop_number (first_some (drop_in x) h.lanes)) i
@@ -101,7 +101,7 @@ are_steered h =
 
 -- the test of packet x at index i of the inbox of application a: this is its first place, it is of
 -- this application, and some processor accepted it
-abbrev pub is_delivered : List Packet → ℕ → History → ℕ → ℕ → ℕ → Bool
+abbrev pub is_delivered : List Packet → (apps : ℕ) → History → (app index packet : ℕ) → Bool
 is_delivered packets apps h a i x =
     is_arrived h x && is_place (inbox_place_of h x) i && (app_at packets apps x == a)
     && is_some (accepted_place h.lanes x)
@@ -136,7 +136,7 @@ have_replies packets apps h = list_all (has_replies packets h) (range_with_len 0
 
 -- the test of packet x at index i of the replies that transmit queue t accepted: its choice is this
 -- queue, and this is its first place
-abbrev pub is_queued : History → ℕ → ℕ → ℕ → Bool
+abbrev pub is_queued : History → (tx index packet : ℕ) → Bool
 is_queued h t i x =
     is_arrived h x && is_number (option_map (λ d. d.lane) (tx_choice_of h x)) t
     && is_place (accepted_place h.tx_lanes x) i

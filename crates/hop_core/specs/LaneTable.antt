@@ -44,7 +44,7 @@ with_lane t c l =
     }
 
 -- `count` empty lanes
-abbrev pub new_lanes : ℕ → ℕ → ℕ → ℕ → CpuMask → LaneTable
+abbrev pub new_lanes : (count limit room start : ℕ) → CpuMask → LaneTable
 new_lanes count limit room start limited =
     record {
       accepted = replicate count [];
@@ -58,7 +58,7 @@ new_lanes count limit room start limited =
     }
 
 -- Each lane has this limit, room and first counter number, and the flow limit if it is in the set.
-abbrev pub AreShaped : ℕ → ℕ → ℕ → CpuMask → List LaneLists → Type 0
+abbrev pub AreShaped : (limit room start : ℕ) → CpuMask → List LaneLists → Type 0
 AreShaped limit room start limited lanes =
     (c : ℕ) (d : LaneLists) → c < length lanes
     → SameShape (new_lane limit room start (has limited c)) (slice_index_or lanes c d)

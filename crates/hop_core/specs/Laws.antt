@@ -224,7 +224,7 @@ EachKeepsAmple = (s : HopState) (e : HopEvent) → Sound s → Ample s → Ample
 -- ---- choices
 
 -- the entries that a producer's first i choices give, without those before a resize
-abbrev pub entries_before : HopState → ℕ → ℕ → ℕ → ℕ → Entry
+abbrev pub entries_before : HopState → (producer from count class : ℕ) → Entry
 entries_before s p from i =
     entry s.fixed.start (accepted_at s.bare) (drop from (take i (choices_of s p)))
 

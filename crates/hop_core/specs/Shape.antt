@@ -36,7 +36,7 @@ abbrev pub classes_for : Bool → ℕ → ℕ
 classes_for exact count = if exact then count else rounded_up count
 
 -- a hop in which nothing has happened, with one producer for each of these numbers of classes
-abbrev pub fresh_hop : Fixed → List ℕ → ℕ → ℕ → ℕ → HopState
+abbrev pub fresh_hop : Fixed → List ℕ → (guests lanes outs : ℕ) → HopState
 fresh_hop fixed counts guests lanes outs =
     record {
       fixed = fixed;

@@ -1,5 +1,5 @@
--- The moments of a seat's own steps, which rise along its list: what a story says of moments can be
--- said of own lists.
+-- The moments of a seat's own steps, which rise along its list: what an execution says of moments
+-- can be said of own lists.
 use Rattle.std.proofs.Common.{◌≡◌, ℕ, suc, ◌<◌, ◌==◌, List, [], ◌∷◌, length, if◌then◌else◌, sym}
 use Rattle.std.proofs.Common.{refl, ap, ◌∙◌, subst, arith, Some}
 use mathlib.Core.Logic.{dite}

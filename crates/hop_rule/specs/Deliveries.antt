@@ -11,7 +11,7 @@ pub record Delivery : Type 0 where
   pub place : ℕ
 
 -- The delivery of a packet to the out lane o at this place.
-abbrev pub delivery : ℕ → ℕ → ℕ → Delivery
+abbrev pub delivery : (out id place : ℕ) → Delivery
 delivery o id place = record { to = o; id = id; place = place }
 
 -- The deliveries from the middle lane l after a step.

@@ -111,7 +111,7 @@ abbrev pub gate_word : List (StepBy GateStep) → ℕ
 gate_word es = visits es + 2 ^ 31 * all_closed es + 2 ^ 32 * all_openings es
 
 -- The settings with one of them changed.
-abbrev pub with_setting : (ℕ → ℕ) → ℕ → ℕ → ℕ → ℕ
+abbrev pub with_setting : (ℕ → ℕ) → (word value other : ℕ) → ℕ
 with_setting s word value i = if word == i then value else s i
 
 -- The settings after a step.

@@ -36,14 +36,14 @@ out_after o _ xs = xs
 
 -- The holder of the middle lane l after a step of the seat p: 0 for nobody, otherwise the holder's
 -- number plus 1.
-abbrev pub holder_after : ℕ → ℕ → LaneStep → ℕ → ℕ
+abbrev pub holder_after : (lane seat : ℕ) → LaneStep → (holder : ℕ) → ℕ
 holder_after l p (Held i w x) h = if i == l then suc p else h
 holder_after l p (Freed i c) h = if i == l then 0 else h
 holder_after l p _ h = h
 
 -- The holder of the out lane o after a step of the seat p: 0 for nobody, otherwise the holder's
 -- number plus 1.
-abbrev pub out_holder_after : ℕ → ℕ → LaneStep → ℕ → ℕ
+abbrev pub out_holder_after : (out seat : ℕ) → LaneStep → (holder : ℕ) → ℕ
 out_holder_after o p (OutHeld i w x) h = if i == o then suc p else h
 out_holder_after o p (OutFreed i) h = if i == o then 0 else h
 out_holder_after o p (Given i from id place) h = if i == o then 0 else h

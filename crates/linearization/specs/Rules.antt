@@ -10,7 +10,8 @@ use Rattle.linearization.specs.Views.{one, number_in, steps_in}
 
 -- The hand at place m of view j has its seat's steps of the order, and no other place has a hand of
 -- this number.
-abbrev pub IsPart : {D : Type 0} → ℕ → List (StepBy D) → (ℕ → ℕ × ℕ) → ℕ → ℕ → Hand D → Type 0
+abbrev pub IsPart : {D : Type 0} → (seats : ℕ) → List (StepBy D) → (ℕ → ℕ × ℕ) → (view place : ℕ)
+    → Hand D → Type 0
 IsPart seats order place j m h =
     (h.number < seats) × (place h.number ≡ (j, m)) × (h.steps ≡ steps_of h.number order)
 

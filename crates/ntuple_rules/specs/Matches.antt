@@ -13,7 +13,7 @@ use Rattle.ntuple_rules.specs.declared.rule.RuleKind.TheVariants.{Tcp4, Udp4, Tc
 use Rattle.ntuple_rules.specs.declared.rule.Rule.{Rule}
 
 -- whether two numbers are equal in the bits of a mask
-abbrev pub agree : ℕ → ℕ → ℕ → Bool
+abbrev pub agree : (mask a b : ℕ) → Bool
 agree mask a b = bit_and a mask == bit_and b mask
 
 -- whether a kind is that of all packets of this IP version, whatever they carry

@@ -43,7 +43,7 @@ pub record Keeps (old new : List ℕ) : Type 0 where
 
 -- the sets of a number's digits have the group at this place; those of the lowest digit are in this
 -- row, with a set for each value
-abbrev pub AllowsNumber : List ℕ → ℕ → ℕ → ℕ → ℕ → Type 0
+abbrev pub AllowsNumber : List ℕ → (row digits place number : ℕ) → Type 0
 AllowsNumber sets row digits place number =
     (k : ℕ) → k < digits → IsIn sets (VALUES * (row + k) + digit_at number k) place
 

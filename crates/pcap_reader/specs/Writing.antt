@@ -14,7 +14,7 @@ header_bytes =
     ∷ 1 ∷ 0 ∷ 0 ∷ 0 ∷ []
 
 -- the 16 bytes before a written frame of this length
-unfoldable pub record_header : ℕ → ℕ → ℕ → List ℕ
+unfoldable pub record_header : (sec frac len : ℕ) → List ℕ
 record_header sec frac len = ((little_bytes 4 sec ++ little_bytes 4 frac) ++ little_bytes 4 len)
     ++ little_bytes 4 len
 

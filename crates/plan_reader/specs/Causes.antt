@@ -15,7 +15,7 @@ abbrev pub kind : {A : Type 0} → Option A → Result A Cause
 kind found = ok_or found WrongKind
 
 -- a number from low to high
-abbrev pub in_range : ℕ → ℕ → ℕ → Result ℕ Cause
+abbrev pub in_range : (low high number : ℕ) → Result ℕ Cause
 in_range low high n = if nat_le low n && nat_le n high then Ok n else Err (Range n)
 
 -- a number below a limit

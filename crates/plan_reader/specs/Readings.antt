@@ -65,7 +65,7 @@ list_of read low high d = do
   each read 0 members
 
 -- The set with the numbers from this position on added, all below the limit: bit n is number n.
-abbrev pub set_from : ℕ → ℕ → ℕ → Items → Result ℕ Fault
+abbrev pub set_from : (limit position bits : ℕ) → Items → Result ℕ Fault
 set_from limit position bits no_items = Ok bits
 set_from limit position bits (item d ds) = do
   n ← under (decimal position) (here (number_below limit d))

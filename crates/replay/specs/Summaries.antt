@@ -16,7 +16,7 @@ use Rattle.replay.specs.declared.counts.Counts.{Counts}
 use Rattle.replay.specs.declared.summary.Summary.{Summary}
 
 -- The bytes of the capture that is generated.
-abbrev pub generated_capture : ℕ → ℕ → ℕ → List ℕ
+abbrev pub generated_capture : (seed packets flows : ℕ) → List ℕ
 generated_capture seed packets flows = capture_bytes (packets_of seed flows packets)
 
 -- The bytes of the plan that is generated.
@@ -40,7 +40,7 @@ pub record IsSummaryOf (seed packets flows : ℕ) (s : Summary) : Type 0 where
   }
 
 -- The line of what was generated.
-unfoldable pub input_line : ℕ → ℕ → ℕ → List ℕ
+unfoldable pub input_line : (seed packets flows : ℕ) → List ℕ
 input_line seed packets flows =
     codes "gen " ++ decimal seed ++ codes " packets " ++ decimal packets
     ++ codes " flows " ++ decimal flows ++ codes "\n"

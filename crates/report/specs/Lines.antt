@@ -122,7 +122,7 @@ abbrev pub reply_row : ReplyLine → Row
 reply_row r = Line (codes "r") (reply_fields r)
 
 -- the row of a receive queue: the numbers of packets that arrived there and that were taken
-abbrev pub queue_row : ℕ → ℕ → ℕ → Row
+abbrev pub queue_row : (queue arrived taken : ℕ) → Row
 queue_row queue arrived taken =
     Line (codes "queue")
     (decimal queue ∷ codes "arrived" ∷ decimal arrived ∷ codes "taken" ∷ decimal taken ∷ [])

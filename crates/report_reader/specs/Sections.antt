@@ -40,8 +40,8 @@ pub record IsOther (first : List ℕ) (rows : List Row) : Type 0 where
 
 -- Bytes from a place on are the text of a section with these items and of further rows; then what
 -- was read is just these items, and from the next place on there is the text of the further rows.
-abbrev pub Reads : {T : Type 0} → List ℕ → ℕ → (T → List (List ℕ) → Type 0) → List ℕ → ℕ → ℕ
-    → List T → ℕ → Type 0
+abbrev pub Reads : {T : Type 0} → List ℕ → (least : ℕ) → (T → List (List ℕ) → Type 0) → List ℕ
+    → (at most : ℕ) → List T → (next : ℕ) → Type 0
 Reads {T} first least shows bytes at most found next =
     (items : List T) (rows rest : List Row) → AreShown first least shows items rows
     → length items ≤ most → IsOther first rest → drop at bytes ≡ text_of (rows ++ rest)

@@ -49,7 +49,7 @@ use Rattle.run_crew.proofs.ReplyLemmas.{applications_keep_coupling}
 use Rattle.run_crew.proofs.StoreLemmas.{arrivals-meant, commands-meant}
 use Rattle.run_crew.proofs.ExecutionLemmas.{actor-is, actor-seat, by-seat}
 
--- What is known of records, that the laws of `run_records` say.
+-- What is known of records, in the words of the laws of `coupling_laws` and `laws`.
 pub record RecordLaws : Type 0 where
   pub pollers : PollersAreCoupled
   pub applications : ApplicationsAreCoupled

@@ -1,4 +1,4 @@
--- What the journals of the threads of a run say at its closing.
+-- What the journals of the wire and the pollers say of arrivals at the closing of a run.
 use Rattle.std.specs.Prelude.{◌≡◌, ◌⊎◌, ℕ, List, [], length, map, All}
 use Rattle.std.specs.List.{Contains, range_with_len}
 use Rattle.hint_words.specs.declared.step.HintStep.TheVariants.{Store}

@@ -24,7 +24,7 @@ use Rattle.run_coupling.specs.Coupling.Queues.{FitReceiveWords}
 use Rattle.run_workers.specs.Records.Polling.{IsPolling, PolledTurn}
 
 -- The values of the setting words that a poller of queue q has read, by word, of so many queues.
-abbrev pub words_read : ℕ → ℕ → Reading → ℕ → ℕ
+abbrev pub words_read : (queues queue : ℕ) → Reading → (word : ℕ) → ℕ
 words_read queues q r word =
     if word == q then r.mask else
     if word == queues + q then r.flows else
@@ -32,12 +32,12 @@ words_read queues q r word =
     if word == 2 * queues + 1 then r.online else 0
 
 -- The same of a turn, if there is one.
-abbrev pub words_of_turn : ℕ → ℕ → Option PolledTurn → ℕ → ℕ
+abbrev pub words_of_turn : (queues queue : ℕ) → Option PolledTurn → (word : ℕ) → ℕ
 words_of_turn queues q None word = 0
 words_of_turn queues q (Some s) word = words_read queues q s.reading word
 
 -- The values that the k-th turn has read.
-abbrev pub words_seen : ℕ → ℕ → List PolledTurn → ℕ → ℕ → ℕ
+abbrev pub words_seen : (queues queue : ℕ) → List PolledTurn → (turn word : ℕ) → ℕ
 words_seen queues q polled k = words_of_turn queues q (nth_step polled k)
 
 -- The coupling invariants of queue p with its turns: each packet is put with its hash; each turn

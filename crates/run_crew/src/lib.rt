@@ -1,5 +1,5 @@
-//! All workers of a run: the sweep that ends it, and what their records say together at the
-//! closing.
+//! All workers of a run together: the sweep that ends it, what the wire says at the hint words, the
+//! coupling of the actors' records with the boards, and what the records say at the closing.
 #![tactic(auto)]
 
 mod counts;

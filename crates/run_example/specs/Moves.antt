@@ -27,7 +27,7 @@ of_two x y z (suc zero) = y
 of_two x y z (suc (suc p)) = z
 
 -- A packet with its choice.
-abbrev pub choice_for : ℕ → ℕ → Option ℕ → Option ℕ → ℕ → ℕ → Why → Chosen
+abbrev pub choice_for : (id class : ℕ) → Option ℕ → Option ℕ → (tail lane : ℕ) → Why → Chosen
 choice_for id class want head tail lane why =
     record {
       id = id;
@@ -47,7 +47,8 @@ between order e u = take (u - (e + 1)) (past u (own_of order 0))
 
 -- The turn of the first producer whose visit begins at the worker's own step e and whose put is its
 -- step u.
-abbrev pub turn : List (StepBy BoardStep) → Chosen → ℕ → ℕ → ℕ → Option ℕ → Put → StepBy Turn
+abbrev pub turn : List (StepBy BoardStep) → Chosen → (word entered put : ℕ) → Option ℕ → Put
+    → StepBy Turn
 turn order chosen word e u hash answer =
     step_by 0
     (record {

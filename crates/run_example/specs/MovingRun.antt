@@ -117,7 +117,7 @@ moving_tx = record {
 }
 
 -- In a visit for the queue p the worker reads the settings and puts a packet to the lane l.
-abbrev pub polls : ℕ → ℕ → ℕ → List Move
+abbrev pub polls : (producer lane id : ℕ) → List Move
 polls p l id =
     play.enters moving_rx 0 ∷ reads moving_rx p ∷ reads moving_rx (2 + p) ∷ reads moving_rx 4
     ∷ reads moving_rx 5 ∷ play.holds moving_rx 0 l ∷ play.puts moving_rx 0 l id (Some 2)

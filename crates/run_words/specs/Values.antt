@@ -20,7 +20,7 @@ abbrev pub filter_word : Filter → ℕ
 filter_word f = 1 + f.queue + 16 * f.cpu + 512 * f.mark
 
 -- the filter of a word, of so many queues and processors
-abbrev pub filter_in : ℕ → ℕ → ℕ → Option Filter
+abbrev pub filter_in : (word queues cpus : ℕ) → Option Filter
 filter_in word queues cpus =
     if word == 0 then None
     else

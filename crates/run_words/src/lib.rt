@@ -1,5 +1,6 @@
-//! The numbers of the words that threads share and of the settings of their boards, what the values
-//! there mean, and the values that a plan begins with.
+//! What the threads of a run share: the hint words and the settings of the boards by their numbers,
+//! what their values mean and which a plan begins with, the seats at the boards, and the pace that a
+//! caller sets.
 #![tactic(auto)]
 
 mod first;

@@ -33,7 +33,7 @@ IsTurnOfOne about number count e =
     (k : ℕ) × (k < count) × (e.by ≡ actor_at about number k)
 
 -- The lane is none of the first so many that a seat serves.
-abbrev pub IsForeign : BoardSizes → ℕ → ℕ → ℕ → Type 0
+abbrev pub IsForeign : BoardSizes → (number count lane : ℕ) → Type 0
 IsForeign about number count lane = (k : ℕ) → k < count → lane ≢ actor_at about number k
 
 -- A poller has its own queue, room for all packets, and its record over the turns of its seat.

@@ -28,7 +28,7 @@ abbrev pub after_notes : ℕ → List Note → List (Option ℕ)
 after_notes size notes = fold (λ entries note. noted entries note.hash note.cpu) (unset size) notes
 
 -- whether two hashes share an entry in a table of this many entries
-abbrev pub share_entry : ℕ → ℕ → ℕ → Bool
+abbrev pub share_entry : (size a b : ℕ) → Bool
 share_entry size a b = nat_lt 0 size && a % size == b % size
 
 -- the processor of the last of these notes whose hash shares the entry of this hash, if any

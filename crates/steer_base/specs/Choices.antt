@@ -47,7 +47,8 @@ desired_cpu (Some class) (Some cpu) online rps = online_or online cpu rps
 
 -- The migration rule for a class with this current lane and recorded tail, the first case that
 -- holds. The head of a lane and the recorded tail are counter numbers.
-abbrev pub by_entry : ℕ → Option ℕ → ℕ → ℕ → (ℕ → ℕ) → (ℕ → Bool) → Option ℕ → Choice
+abbrev pub by_entry : (class : ℕ) → Option ℕ → (desired tail : ℕ) → (ℕ → ℕ) → (ℕ → Bool) → Option ℕ
+    → Choice
 by_entry class want desired tail head online None =
     record {
       class = Some class;

@@ -18,7 +18,7 @@ use Rattle.steer_base.specs.declared.cpu_mask.CpuMask.{CpuMask}
 -- Whether a lane has to be empty for a command: every processor for a mask, flow counts and the
 -- socket size, the named one for offline, the homes of all queues for online, every transmit queue
 -- for its maps, and none otherwise.
-abbrev pub is_affected : Command → List ℕ → ℕ → ℕ → ℕ → Bool
+abbrev pub is_affected : Command → List ℕ → (cpus txs lane : ℕ) → Bool
 is_affected (Mask queue mask) homes cpus txs lane = nat_lt lane cpus
 is_affected (Flows queue count) homes cpus txs lane = nat_lt lane cpus
 is_affected (Sock size) homes cpus txs lane = nat_lt lane cpus

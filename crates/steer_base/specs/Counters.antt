@@ -14,7 +14,7 @@ abbrev pub distance : ℕ → ℕ → ℕ
 distance head tail = (head + (2 ^ 32 - tail)) % 2 ^ 32
 
 -- the head is less than half of the range past the tail, and at least so many
-abbrev pub has_reached : ℕ → ℕ → ℕ → Bool
+abbrev pub has_reached : (head tail more : ℕ) → Bool
 has_reached head tail more =
     nat_lt (distance head tail) (2 ^ 31) && nat_le more (distance head tail)
 

@@ -11,7 +11,7 @@ first_filled first second third =
 
 -- The candidates among so many transmit queues, ascending: those whose receive-queue map has the
 -- queue; with none, those whose processor map has the processor; with none of these either, all.
-abbrev pub candidates : ℕ → (ℕ → ℕ → Bool) → (ℕ → ℕ → Bool) → ℕ → ℕ → List ℕ
+abbrev pub candidates : (count : ℕ) → (ℕ → ℕ → Bool) → (ℕ → ℕ → Bool) → (rxq cpu : ℕ) → List ℕ
 candidates count by_queue by_cpu rxq cpu =
     first_filled
     (those_below count (λ tx. by_queue tx rxq))
@@ -19,6 +19,6 @@ candidates count by_queue by_cpu rxq cpu =
     (those_below count (λ tx. true))
 
 -- The pick: the candidate at `hash mod k` among k, and the first without a hash.
-abbrev pub pick_of : ℕ → (ℕ → ℕ → Bool) → (ℕ → ℕ → Bool) → ℕ → ℕ → Option ℕ → ℕ
+abbrev pub pick_of : (count : ℕ) → (ℕ → ℕ → Bool) → (ℕ → ℕ → Bool) → (rxq cpu : ℕ) → Option ℕ → ℕ
 pick_of count by_queue by_cpu rxq cpu hash =
     at_hash (candidates count by_queue by_cpu rxq cpu) (unwrap_or hash 0)

@@ -6,7 +6,7 @@ use Rattle.std.specs.List.{range_with_len}
 use Rattle.steer_base.specs.declared.cpu_mask.CpuMask.{CpuMask}
 
 -- whether a number is in the set: bit n, for numbers below the width
-abbrev pub in_bits : ℕ → ℕ → ℕ → Bool
+abbrev pub in_bits : (width bits number : ℕ) → Bool
 in_bits width bits n = nat_lt n width && bit_at bits n == 1
 
 -- whether a processor is in the set; 32 and more are in none

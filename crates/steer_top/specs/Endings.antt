@@ -150,8 +150,8 @@ pub record Course : Type 0 where
   pub written_after : Option (List ℕ)
 
 -- The course of a call, from each of its parts.
-abbrev pub course_of : (List ℕ → Option (List ℕ)) → List Meaning → Option (List ℕ) → ℕ → ℕ → ℕ → ℕ
-    → Option (List ℕ) → Option (List ℕ) → Course
+abbrev pub course_of : (List ℕ → Option (List ℕ)) → List Meaning → Option (List ℕ)
+    → (desk_before desk_after out_before out_after : ℕ) → Option (List ℕ) → Option (List ℕ) → Course
 course_of held taps asked desk desk' out out' written written' = record {
   held = held;
   taps = taps;

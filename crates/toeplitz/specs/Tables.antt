@@ -7,7 +7,7 @@ use Rattle.toeplitz.specs.Toeplitz.{key_window}
 
 -- the XOR of the key's windows at those of the first n bits of an input byte that are 1; the byte
 -- is at index `place` of the input
-unfoldable pub xor_of_byte : ℕ → ℕ → ℕ → ℕ → ℕ
+unfoldable pub xor_of_byte : (key place byte count : ℕ) → ℕ
 xor_of_byte key place byte zero = 0
 xor_of_byte key place byte (suc k) =
     if bit_at byte (7 - k) == 1 then bit_xor (xor_of_byte key place byte k)
@@ -15,7 +15,7 @@ xor_of_byte key place byte (suc k) =
     else xor_of_byte key place byte k
 
 -- what a byte at an index of the input adds to the hash
-abbrev pub word_of : ℕ → ℕ → ℕ → ℕ
+abbrev pub word_of : (key place byte : ℕ) → ℕ
 word_of key place byte = xor_of_byte key place byte 8
 
 -- the XOR of what some bytes add to the hash, the first of them at an index of the input

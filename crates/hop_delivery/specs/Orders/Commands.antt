@@ -53,8 +53,8 @@ NamesCpu _ = Unit {0}
 
 -- For each change of a setting by a command, the lanes that have to be empty are among those that
 -- the command affects.
-abbrev pub AreAffected : Steering → (ℕ → ℕ) → Command → List ℕ → ℕ → ℕ → ℕ → List SettingChange
-    → Type 0
+abbrev pub AreAffected : Steering → (ℕ → ℕ) → Command → List ℕ → (cpus txs lane : ℕ)
+    → List SettingChange → Type 0
 AreAffected r s c homes cpus txs l sets =
     All (λ m. r.affects s m.word m.value l ≡ true → is_affected c homes cpus txs l ≡ true) sets
 

@@ -12,7 +12,7 @@ use Rattle.hop_delivery.specs.Orders.Premises.{MeetsPremises}
 use Rattle.hop_delivery.specs.Orders.Runs.{Execution, Steering, IsSteering}
 
 -- The packets of the flow f that arrived at the producer p.
-abbrev pub came_by : Execution → Steering → ℕ → ℕ → ℕ → Bool
+abbrev pub came_by : Execution → Steering → (producer flow packet : ℕ) → Bool
 came_by t r p f x = list_any (λ y. y == x) (t.arrivals p) && (r.flow x == f)
 
 -- If the premises hold of the own lists that a lawful order has as its parts, then for each

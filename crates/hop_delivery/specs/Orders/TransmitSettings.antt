@@ -25,6 +25,6 @@ transmit_steering flow =
 
 -- The transmit queue that is picked by settings: the words are the processor masks of the transmit
 -- queues, then their receive-queue masks.
-abbrev pub pick_by : ℕ → (ℕ → ℕ) → ℕ → ℕ → Option ℕ → ℕ
+abbrev pub pick_by : (count : ℕ) → (ℕ → ℕ) → (rxq cpu : ℕ) → Option ℕ → ℕ
 pick_by count s rxq cpu hash =
     pick_of count (λ tx q. has_queue (s (count + tx)) q) (λ tx c. has (mask (s tx)) c) rxq cpu hash

@@ -62,15 +62,15 @@ pub record Peeks (about : BoardSizes) (o n : ℕ) (answer : Option ℕ) (old new
 -- ---- the record
 
 -- The processor of an application is that of its word, of so many, or its home.
-abbrev pub Stands : ℕ → ℕ → ℕ → HintView → HintView → ℕ → Type 0
+abbrev pub Stands : (cpus app home : ℕ) → HintView → HintView → (cpu : ℕ) → Type 0
 Stands cpus app home old new cpu =
     (word : ℕ) × (cpu ≡ unwrap_or (place_in word cpus) home)
     × (new ≡ record old { steps = Load (STAND_WORDS + app) word ∷ old.steps })
 
 -- The processor of the application was written to the entry of the socket flow table, and noted;
 -- without an entry nothing was.
-abbrev pub Writes : ℕ → ℕ → ℕ → Option ℕ → Journal SockWrite → Journal SockWrite → HintView
-    → HintView → Type 0
+abbrev pub Writes : (cpus app home : ℕ) → Option ℕ → Journal SockWrite → Journal SockWrite
+    → HintView → HintView → Type 0
 Writes cpus app home None before after old new = (after ≡ before) × (new ≡ old)
 Writes cpus app home (Some entry) before after old new =
     (cpu : ℕ) × (mid : HintView) × Stands cpus app home old mid cpu
@@ -78,7 +78,7 @@ Writes cpus app home (Some entry) before after old new =
     × (after ≡ grown before (record { entry = entry; cpu = cpu }))
 
 -- The socket size was read, and the entry of the packet's hash by this size was written.
-abbrev pub Notes : Setup → ℕ → ℕ → ℕ → Journal SockWrite → Journal SockWrite → BoardSeatView
+abbrev pub Notes : Setup → (id app home : ℕ) → Journal SockWrite → Journal SockWrite → BoardSeatView
     → BoardSeatView → HintView → HintView → Type 0
 Notes given id app home before after old new hint_old hint_new =
     (size : ℕ) × Adds (Gate (Read (2 * length given.homes) size) ∷ []) old new
@@ -171,7 +171,7 @@ pub record HasTransmitSettings (about : BoardSizes) (given : Setup) : Type 0 whe
   pub lanes : about.lanes ≡ given.txs
 
 -- the maps with what the two words of a transmit queue say
-abbrev pub with_map : ℕ → ℕ → Maps → ℕ → ℕ → ℕ → Maps
+abbrev pub with_map : (cpus queues : ℕ) → Maps → (tx cpu_word queue_word : ℕ) → Maps
 with_map cpus queues maps tx cpu_word queue_word = record {
   count = maps.count;
   cpus = slice_set maps.cpus tx (cpus_in cpu_word cpus);

@@ -56,13 +56,13 @@ taken_by s = map (λ (r : Sent). r.id) s.sent.items ++ held s.hand
 -- ---- what was loaded, held and read
 
 -- The processor is that of the application's word, which was loaded, or the home.
-abbrev pub HasStood : ℕ → ℕ → ℕ → List HintStep → ℕ → Type 0
+abbrev pub HasStood : (cpus app home : ℕ) → List HintStep → (cpu : ℕ) → Type 0
 HasStood cpus app home hints cpu =
     (word : ℕ) × (cpu ≡ unwrap_or (place_in word cpus) home)
     × Contains hints (Load (STAND_WORDS + app) word)
 
 -- The receive queue is that of the packet's word, which was loaded, or of its arrival.
-abbrev pub HasCome : ℕ → List Arrival → List HintStep → ℕ → ℕ → Type 0
+abbrev pub HasCome : (queues : ℕ) → List Arrival → List HintStep → (id rxq : ℕ) → Type 0
 HasCome queues arrivals hints id rxq =
     (word : ℕ) × (queue_by (place_in word queues) arrivals id ≡ Some rxq)
     × Contains hints (Load (QUEUE_WORDS + id) word)

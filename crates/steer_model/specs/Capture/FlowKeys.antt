@@ -27,7 +27,7 @@ kind_of Tcp = TCP
 kind_of Udp = UDP
 
 -- the kind of a flow and its ports in one number
-abbrev pub head_of : ℕ → ℕ → ℕ → ℕ
+abbrev pub head_of : (kind src dst : ℕ) → ℕ
 head_of kind src dst = (kind * PORTS + src) * PORTS + dst
 
 -- the key of a flow with these addresses, by its kind and ports

@@ -24,7 +24,7 @@ accepted_in lanes c = (lane_at lanes c).accepted
 
 -- Choice k of queue q is the migration rule over the entry that the choices before it give from
 -- `since` on, with these settings, its own want and its own head.
-abbrev pub IsByRule : Input → History → ℕ → ℕ → Settings → ℕ → Type 0
+abbrev pub IsByRule : Input → History → (queue index : ℕ) → Settings → (since : ℕ) → Type 0
 IsByRule i h q k s since =
     let p : Setup = setup_in i in
     let c : Chosen = chosen_at (list_at h.choices q) k in

@@ -14,7 +14,7 @@ use Rattle.steer_model.specs.State.Setup.{app_for, flow_number_of}
 -- ---- clause 7
 
 -- whether a packet arrived at this queue and has the flow of packet x
-abbrev pub of_flow : Input → History → ℕ → ℕ → ℕ → Bool
+abbrev pub of_flow : Input → History → (queue packet other : ℕ) → Bool
 of_flow i h q x y =
     is_in y (arrivals_at h.arrivals q) && flow_number_of (setup_in i) y == flow_number_of
     (setup_in i) x

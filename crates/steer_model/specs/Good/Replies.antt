@@ -40,7 +40,7 @@ abbrev pub replies_of : History → ℕ → List ℕ
 replies_of h a = map (λ s. s.id) (list_at h.sent a)
 
 -- whether a packet has the flow of packet x and this application replied to it
-abbrev pub of_reply : Input → History → ℕ → ℕ → ℕ → Bool
+abbrev pub of_reply : Input → History → (app packet other : ℕ) → Bool
 of_reply i h a x y =
     is_in y (replies_of h a) && flow_number_of (setup_in i) y == flow_number_of (setup_in i) x
 

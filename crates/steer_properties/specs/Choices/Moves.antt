@@ -22,7 +22,7 @@ use Rattle.steer_model.specs.State.Setup.{flow_number_of, packet_hash}
 
 -- Choice k of a receive queue moves its class exactly by the three conditions, with these settings,
 -- over the entry that the choices before it from `since` on give, and with the head that it kept.
-abbrev pub MovesClass : Input → History → ℕ → ℕ → Settings → ℕ → ℕ → Type 0
+abbrev pub MovesClass : Input → History → (queue index : ℕ) → Settings → (since class : ℕ) → Type 0
 MovesClass i h q k s since class =
     let c : Chosen = chosen_at (list_at h.choices q) k in
     let before : Entry =
