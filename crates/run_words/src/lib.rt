@@ -1,5 +1,5 @@
 //! What the threads of a run share: the hint words and the settings of the boards by their numbers,
-//! what their values mean and which a plan begins with, the seats at the boards, and the pace that a
+//! what the values mean and which a plan begins with, the seats at the boards, and the pace that a
 //! caller sets.
 #![tactic(auto)]
 
