@@ -8,6 +8,8 @@ mod commands;
 #[cfg(test)]
 mod events;
 #[cfg(test)]
+mod filter_rows;
+#[cfg(test)]
 mod flow_limit;
 #[cfg(test)]
 mod frames;

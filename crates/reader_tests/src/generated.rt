@@ -1,6 +1,11 @@
 //! Captures and plans worked out by hand.
+ghost use Rattle.std.specs.Prelude.{◌≤◌};
+ghost use Rattle.steer_base.specs.declared.limits.TheConstants.{MAX_PACKETS};
+
 use crate::pieces::{HEADER, same, same_items};
 use cap_gen::{Generated, a_frame_is_of_its_flow, generate};
+use plan_reader::{Steps, read_plan};
+use std::alloc::Global;
 use std::process::Abort;
 use std::test::Fail;
 
@@ -66,5 +71,27 @@ fn sources_of_a_seed(rt: HostRuntime) -> Result<(), Fail> {
     has_ends(&rt, &made.capture, 40, [10, 0, 2, 183], 1719);
     has_ends(&rt, &made.capture, 110, [10, 0, 244, 9], 30_729);
     has_ends(&rt, &made.capture, 180, [10, 0, 51, 48], 14_128);
+    Ok(())
+}
+
+// The plan that goes with so many packets has so many steps, which are drawn from its seed.
+fn steps_of(alloc: Global, packets: u32) -> Result<u32, Fail>
+    requires { packets ≤ MAX_PACKETS }
+{
+    let Generated { plan, .. } = generate(alloc, 9, packets, 512)?;
+    match read_plan(alloc, &plan)
+        .map_err(|_| Fail::new("a fault"))?
+        .steps
+    {
+        Steps::Seed { count, .. } => Ok(count),
+        Steps::List(_) => Err(Fail::new("a list of steps")),
+    }
+}
+
+// Four steps a packet, and never more than 999,999, since the sweep is a step too.
+#[test]
+fn a_plan_has_four_steps_a_packet(rt: HostRuntime) -> Result<(), Fail> {
+    same(&rt, &steps_of(rt.alloc(), 131_072)?, &524_288, 0);
+    same(&rt, &steps_of(rt.alloc(), 262_144)?, &999_999, 1);
     Ok(())
 }

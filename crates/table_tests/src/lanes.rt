@@ -62,6 +62,51 @@ fn a_large_flow_is_limited(rt: HostRuntime) -> Result<(), Fail> {
     Ok(())
 }
 
+// Puts `total` packets to a limited lane, the first `large` of a large flow and the others of
+// `hash`, which are all accepted, and then one more of the large flow, with the answer `last`.
+fn fill(rt: &impl Abort, lane: &mut Lane, total: u32, large: u32, hash: Option<u32>, last: &Put)
+    requires { put_count lane.old + total + 1 ≤ lane.old.room }
+{
+    for at in 0..total {
+        let put = lane.put(PacketId(at), if at < large { Some(FIRST) } else { hash });
+        same(rt, &put, &Put::At(at.saturating_add(1)), at as usize);
+    }
+    same(
+        rt,
+        &lane.put(PacketId(total), Some(FIRST)),
+        last,
+        total as usize,
+    );
+}
+
+// The large flow has 130 of the last 256 offers that have a hash, though the last 200 have none.
+#[test]
+fn offers_without_a_hash_leave_the_window_as_it_is(rt: HostRuntime) -> Result<(), Fail> {
+    let mut lane = Lane::make(rt.alloc(), 600, 330, 0, true)?;
+    let last = Put::Dropped {
+        number: 1,
+        accepted: 329,
+        pulled: 0,
+        cause: DropCause::Flow(130),
+    };
+    fill(&rt, &mut lane, 329, 129, None, &last);
+    Ok(())
+}
+
+// The last offer is the 129th of its flow, and 130 packets wait, which is the limit.
+#[test]
+fn a_full_backlog_is_the_cause_before_the_flow_limit(rt: HostRuntime) -> Result<(), Fail> {
+    let mut lane = Lane::make(rt.alloc(), 130, 131, 0, true)?;
+    let last = Put::Dropped {
+        number: 1,
+        accepted: 130,
+        pulled: 0,
+        cause: DropCause::Full,
+    };
+    fill(&rt, &mut lane, 130, 128, Some(SECOND), &last);
+    Ok(())
+}
+
 // What is done to a lane, with the answer that is wanted.
 #[derive(Drop)]
 enum Deed {
