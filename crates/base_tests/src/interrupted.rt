@@ -1,13 +1,14 @@
 //! Calls that a signal interrupts: they are made again, until they were made too often.
 use crate::equal::{same, same_items};
-use outside_io::{Begin, Desk, FileDesk, Got, Sink, StdSink, Took, WriteFault};
+use outside_io::{Begin, BufferedSink, Desk, FileDesk, Got, Sink, StdSink, Took, WriteFault};
 use std::alloc::Allocator;
 use std::fs::{Files, Metadata, OpenFile, OpenOptions};
 use std::io;
 use std::io::{Empty, ErrorKind, Read, Seek, SeekFrom, Write};
+use std::test::Fail;
 
-// More often than a call is made.
-const ALWAYS: u32 = 1_000_001;
+// The most times that a call is made.
+const TRIES: u32 = 1_000_000;
 
 // A file of one byte. Each of its calls is interrupted this often before it is made.
 #[derive(Drop)]
@@ -144,8 +145,8 @@ fn an_interrupted_read_is_made_again(rt: HostRuntime) {
     for (often, want) in [
         (0, Got::Bytes(1)),
         (1, Got::Bytes(1)),
-        (1_000, Got::Bytes(1)),
-        (ALWAYS, Got::Failed),
+        (TRIES - 1, Got::Bytes(1)),
+        (TRIES, Got::Failed),
     ] {
         let mut desk = FileDesk::make(DisturbedFiles { often });
         same(&rt, &desk.begin("a"), &Begin::Ok, often as usize);
@@ -161,16 +162,38 @@ fn an_interrupted_read_is_made_again(rt: HostRuntime) {
 }
 
 #[test]
-fn an_interrupted_write_or_flush_is_made_again(rt: HostRuntime) {
-    for (often, took, flushed) in [
-        (0, Took::Bytes(4), Ok(())),
-        (1, Took::Bytes(4), Ok(())),
-        (1_000, Took::Bytes(4), Ok(())),
-        (ALWAYS, Took::Failed, Err(WriteFault)),
+fn an_interrupted_write_is_made_again(rt: HostRuntime) {
+    for (often, want) in [
+        (0, Took::Bytes(4)),
+        (1, Took::Bytes(4)),
+        (TRIES - 1, Took::Bytes(4)),
+        (TRIES, Took::Failed),
     ] {
         let mut out = StdSink::make(Disturbed::make(often));
-        same(&rt, &out.write(b"p 0\n"), &took, often as usize);
-        let mut out = StdSink::make(Disturbed::make(often));
-        same(&rt, &out.flush(), &flushed, often as usize);
+        same(&rt, &out.write(b"p 0\n"), &want, often as usize);
     }
+}
+
+#[test]
+fn an_interrupted_flush_is_made_again(rt: HostRuntime) {
+    for (often, want) in [
+        (0, Ok(())),
+        (1, Ok(())),
+        (TRIES - 1, Ok(())),
+        (TRIES, Err(WriteFault)),
+    ] {
+        let mut out = StdSink::make(Disturbed::make(often));
+        same(&rt, &out.flush(), &want, often as usize);
+    }
+}
+
+#[test]
+fn interruptions_without_end_end_a_buffered_write(rt: HostRuntime) -> Result<(), Fail> {
+    for (often, want) in [(1_000, Ok(())), (TRIES, Err(WriteFault))] {
+        let behind = StdSink::make(Disturbed::make(often));
+        let mut out = BufferedSink::make(rt.alloc(), 4, behind)?;
+        same(&rt, &out.write(b"p 0\n"), &Took::Bytes(4), often as usize);
+        same(&rt, &out.flush(), &want, often as usize);
+    }
+    Ok(())
 }

@@ -1,8 +1,9 @@
 //! Pieces that are written whole, to the system and to memory.
 use crate::equal::{same, same_items};
-use outside_io::{MemorySink, Sink, StdSink, SureSink, Took, WriteFault, write_whole};
+use outside_io::{
+    BufferedSink, MemorySink, Sink, StdSink, SureSink, Took, WriteFault, write_whole,
+};
 use std::fs;
-use std::io::BufWriter;
 use std::test::Fail;
 
 #[test]
@@ -74,16 +75,16 @@ fn streams_take_whole_pieces(rt: HostRuntime) -> Result<(), Fail> {
 #[test]
 fn bytes_that_are_held_back_go_out_at_the_flush(rt: HostRuntime) -> Result<(), Fail> {
     let alloc = rt.alloc();
-    let file = fs::create(&rt, "held")?;
-    let mut out = StdSink::make(BufWriter::with_capacity(alloc, 64, file)?);
+    let file = StdSink::make(fs::create(&rt, "held")?);
+    let mut out = BufferedSink::make(alloc, 64, file)?;
     same(&rt, &write_whole(&mut out, b"steer 1\n"), &Ok(()), 0);
     assert!(rt; fs::read(&rt, "held")?.is_empty());
     same(&rt, &out.flush(), &Ok(()), 1);
     let written = fs::read(&rt, "held")?;
     same_items(&rt, &written, b"steer 1\n");
 
-    let file = fs::open(&rt, "held")?;
-    let mut read_only = StdSink::make(BufWriter::with_capacity(alloc, 64, file)?);
+    let file = StdSink::make(fs::open(&rt, "held")?);
+    let mut read_only = BufferedSink::make(alloc, 64, file)?;
     same(&rt, &read_only.write(b"p 0\n"), &Took::Bytes(4), 3);
     same(&rt, &read_only.flush(), &Err(WriteFault), 4);
     fs::remove_file(&rt, "held")?;

@@ -1,3 +1,4 @@
+pub mod BufferedSink
 pub mod Counts
 pub mod Desk
 pub mod Failures

@@ -1,10 +1,14 @@
 -- The parts of a sink over an output stream.
-use Rattle.std.specs.Prelude.{ℕ}
+use Rattle.std.specs.Prelude.{ℕ, List, Option}
 use Rattle.outside_io.specs.declared.std_sink.StdSink.{StdSink}
 
 -- the writer that a sink writes to
 abbrev pub writer_of : {W : Type 0} → StdSink W → W
 writer_of sink = sink.writer
+
+-- what the writer of a sink observes of its bytes
+abbrev pub known_contents : {W : Type 0} → (W → Option (List ℕ)) → StdSink W → Option (List ℕ)
+known_contents contents sink = contents (writer_of sink)
 
 -- the number of failed writes and flushes of a sink over an output stream
 abbrev pub std_sink_faults : {W : Type 0} → StdSink W → ℕ

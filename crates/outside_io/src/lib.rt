@@ -2,6 +2,7 @@
 //! operating system and in memory.
 #![tactic(auto)]
 
+mod buffered_sink;
 mod desk;
 mod failures;
 mod file_desk;
@@ -16,6 +17,7 @@ mod sure_desk;
 mod sure_sink;
 mod writing;
 
+pub use buffered_sink::BufferedSink;
 pub use desk::{Begin, Desk, Got};
 pub use file_desk::FileDesk;
 pub use memory_desk::MemoryDesk;

@@ -4,7 +4,8 @@ ghost use Rattle.std.specs.Io.KnownBytes.{Keeps, ReadConsumes, WriteAppends};
 
 use std::io::{Error, ErrorKind, Read, Result, Write};
 
-// The most times that a call is made. If all of these were interrupted, that is its error.
+// The most times that a call is made, whether it reads, writes or flushes. If all of these were
+// interrupted, that is its error.
 const MAX_TRIES: u32 = 1_000_000;
 
 /// Reads once into `buf`. An interrupted call takes no byte, and is made again.

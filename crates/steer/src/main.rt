@@ -2,10 +2,9 @@
 //! chapter describes it, or runs it through with threads, and reports what happened to each packet.
 #![tactic(auto)]
 
-use outside_io::{Desk, FileDesk, Sink, StdSink};
+use outside_io::{BufferedSink, Desk, FileDesk, Sink, StdSink};
 use run_words::Pace;
 use std::alloc::Global;
-use std::io::BufWriter;
 use std::process::ExitCode;
 use std::sync::Wait;
 use std::thread::Threads;
@@ -54,10 +53,9 @@ fn call<R: Threads + Wait + Sync, D: Desk, K: Sink, E: Sink>(
 
 fn main(rt: HostRuntime) -> ExitCode {
     let alloc = rt.alloc();
-    let Ok(gathering) = BufWriter::with_capacity(alloc, GATHERED, rt.stdout()) else {
+    let Ok(mut out) = BufferedSink::make(alloc, GATHERED, StdSink::make(rt.stdout())) else {
         return ExitCode::from(OUT_OF_MEMORY);
     };
-    let mut out = StdSink::make(gathering);
     let mut err = StdSink::make(rt.stderr());
     let words = match words_of(&rt) {
         Ok(words) => words,
