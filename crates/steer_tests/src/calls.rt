@@ -43,6 +43,8 @@ pub struct Outcome {
     pub out: Vec<u8>,
     /// What went to standard error.
     pub err: Vec<u8>,
+    /// How many bytes of the one and of the other were not sent on.
+    pub unsent: (usize, usize),
 }
 
 /// The status of a call of these words.
@@ -101,6 +103,7 @@ fn outcome_of(
         status,
         out: out.bytes().to_vec(alloc)?,
         err: err.bytes().to_vec(alloc)?,
+        unsent: (out.unsent().len(), err.unsent().len()),
     })
 }
 
@@ -114,9 +117,12 @@ pub fn same_bytes(rt: &impl Abort, got: &[u8], wanted: &[u8], case: usize) {
     assert!(rt; got == wanted, "case {case}: {got:?}, and not {wanted:?}");
 }
 
-/// Asserts that a call of a case came to this status and these texts.
+/// Asserts that a call of a case came to this status and these texts, and that it sent on its line,
+/// and its text if it was done.
 pub fn comes_to(rt: &impl Abort, got: &Outcome, status: u8, out: &[u8], err: &[u8], case: usize) {
     same(rt, &got.status, &status, case);
     same_bytes(rt, &got.out, out, case);
     same_bytes(rt, &got.err, err, case);
+    let text = if status == 0 { 0 } else { got.unsent.0 };
+    same(rt, &got.unsent, &(text, 0), case);
 }

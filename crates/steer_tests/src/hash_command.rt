@@ -280,8 +280,17 @@ impl Sink for Flushed {
     }
 }
 
+// A sink of which each flush fails, or none.
+fn flushed(alloc: Global, fails: bool) -> Result<Flushed, Fail> {
+    Ok(Flushed {
+        inner: sink(alloc, &[])?,
+        flushes: 0,
+        fails,
+    })
+}
+
 #[test]
-fn a_text_is_flushed_once_and_a_flush_may_fail(rt: HostRuntime) -> Result<(), Fail> {
+fn a_text_and_a_line_are_flushed_once_and_a_flush_may_fail(rt: HostRuntime) -> Result<(), Fail> {
     let alloc = rt.alloc();
     let bytes = file(alloc, &[&FRAME_A])?;
     let cases: [(&[u8], bool, u8, u64); 3] = [
@@ -291,17 +300,14 @@ fn a_text_is_flushed_once_and_a_flush_may_fail(rt: HostRuntime) -> Result<(), Fa
     ];
     for (case, (bytes, fails, wanted, flushes)) in cases.into_iter().enumerate() {
         let mut desk = desk_with(alloc, bytes, &[])?;
-        let mut out = Flushed {
-            inner: sink(alloc, &[])?,
-            flushes: 0,
-            fails,
-        };
-        let mut err = sink(alloc, &[])?;
+        let mut out = flushed(alloc, fails)?;
+        let mut err = flushed(alloc, true)?;
         let status = hashed(alloc, &mut desk, &mut out, &mut err)?;
-        same(&rt, &(status, out.flushes), &(wanted, flushes), case);
+        let got = (status, out.flushes, err.flushes);
+        same(&rt, &got, &(wanted, flushes, 1), case);
         if wanted == 6 {
             same_bytes(&rt, out.inner.bytes(), LINE_A, case);
-            same_bytes(&rt, err.bytes(), b"write fault\n", case);
+            same_bytes(&rt, err.inner.bytes(), b"write fault\n", case);
         }
     }
     Ok(())

@@ -259,11 +259,6 @@ all_is_some : (before after : Option (List ℕ)) (text : List ℕ) → Appends b
 all_is_some before after text took =
     (length text, omega arith, rw (take_all (length text) text (omega arith)) took)
 
-some_kept : (before mid after : Option (List ℕ)) (text : List ℕ) → AppendsSome before mid text
-    → Keeps mid after → AppendsSome before after text
-some_kept before mid after text (n, within, took) kept =
-    (n, within, Appends-kept before mid after (take n text) took kept)
-
 -- the course with the count and the bytes of the sink after its flush
 abbrev flushed : Course → ℕ → Option (List ℕ) → Course
 flushed course faults written = record course { out_after = faults; written_after = written }
@@ -290,7 +285,7 @@ module _ (command : CommandWords) (files : Files) (course : Course) (faults : �
     omega (arith, failed, later),
     text,
     is,
-    some_kept course.written_before
+    AppendsSome-kept course.written_before
         course.written_after written text took kept,
   )
   stays ending.OutOfMemory nothing =
@@ -304,7 +299,7 @@ module _ (command : CommandWords) (files : Files) (course : Course) (faults : �
     omega (arith, rose, before),
     text,
     is,
-    some_kept course.written_before
+    AppendsSome-kept course.written_before
         course.written_after written text
         (all_is_some course.written_before course.written_after text took) kept,
   )

@@ -1,15 +1,16 @@
--- A line that is written in pieces.
-use Rattle.std.proofs.Common.{◌≡◌, ◌<◌, ℕ, ◌+◌, List, [], ◌∷◌, ◌++◌, length, take, drop, get_or}
+-- A line that is written in pieces, and then sent on.
+use Rattle.std.proofs.Common.{◌≡◌, ◌<◌, ◌≤◌, inl, inr, ℕ, ◌+◌, List, [], ◌∷◌, ◌++◌, length, take, drop, get_or}
 use Rattle.std.proofs.Common.{Option, Result, Ok, Err}
 use Rattle.std.proofs.Common.{length-append, append-nil, arith, sym, ap, subst, ◌∙◌}
 use Rattle.std.specs.List.{flat_map}
 use Rattle.std.specs.Prelude.{OnErr}
-use Rattle.std.specs.Io.KnownBytes.{Appends}
-use Rattle.std.proofs.KnownBytes.{Appends-trans}
+use Rattle.std.specs.Io.KnownBytes.{Appends, Keeps}
+use Rattle.std.proofs.KnownBytes.{Appends-kept, Appends-trans}
 use Rattle.std.proofs.lemmas.List.{take-append-le, take_more, take-append-drop}
 use Rattle.std.proofs.lemmas.Grind.{flat_map-append}
 use Rattle.std.proofs.Math.Seq.{take-append-add}
 use Rattle.outside_io.specs.Sink.{AppendsSome}
+use Rattle.steer_top.specs.Endings.{Told}
 
 -- a prefix of the first piece is a prefix of the line
 pub AppendsSome-first : (w w' : Option (List ℕ)) (x y : List ℕ) → AppendsSome w w' x
@@ -30,6 +31,24 @@ AppendsSome-next w w' w'' x y first (n, within, some) = (
   subst (Appends w w'') (sym (take-append-add x y n))
       (Appends-trans w w' w'' x (take n y) first some),
 )
+
+-- a prefix that was written stays so where the bytes are kept
+pub AppendsSome-kept : (w w' w'' : Option (List ℕ)) (x : List ℕ) → AppendsSome w w' x → Keeps w' w''
+    → AppendsSome w w'' x
+AppendsSome-kept w w' w'' x (n, within, took) kept =
+    (n, within, Appends-kept w w' w'' (take n x) took kept)
+
+-- a line that was taken stays so behind a call that keeps the bytes
+pub Told-kept : (f f' f'' : ℕ) (w w' w'' : Option (List ℕ)) (line : List ℕ) → Told f f' w w' line
+    → f' ≤ f'' → Keeps w' w'' → Told f f'' w w'' line
+Told-kept f f' f'' w w' w'' line told later kept = record {
+  later = omega (arith, told.later, later);
+  took = elim told.took [
+    | inl all ↦ inl (Appends-kept w w' w'' line all kept)
+    | inr (rose, some) ↦
+        inr (omega (arith, rose, later), AppendsSome-kept w w' w'' line some kept)
+  ];
+}
 
 -- what holds anyhow holds at an error
 pub OnErr-of : {T E : Type 0} (r : Result T E) (P : Type 0) → P → OnErr r P

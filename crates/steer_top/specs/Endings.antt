@@ -283,6 +283,10 @@ pub record Flushes (e e' : Ending) (faults faults' : ℕ) (written written' unse
   pub kept : Keeps written written'
   pub later : faults ≤ faults'
 
+-- Nothing that a sink took is unsent, or its count of faults rose.
+abbrev pub SentOn : (faults faults' : ℕ) (unsent' : Option (List ℕ)) → Type 0
+SentOn faults faults' unsent' = IsAtEnd unsent' ⊎ Rose faults faults'
+
 -- A sink took the whole line, or its count of faults rose and it took a prefix of the line.
 pub record Told (faults faults' : ℕ) (written written' : Option (List ℕ)) (line : List ℕ)
     : Type 0 where

@@ -3,7 +3,7 @@ ghost use Rattle.std.specs.Prelude.{◌≡◌, ◌≤◌, map};
 ghost use Rattle.std.specs.Io.KnownBytes.{IsAtEnd};
 ghost use Rattle.outside_io.specs.Desk.{GoesOnTelling};
 ghost use Rattle.steer_top.specs.Calls.{IsAnswered, TakesLine, course};
-ghost use Rattle.steer_top.specs.Endings.{Ends};
+ghost use Rattle.steer_top.specs.Endings.{Ends, SentOn};
 ghost use Rattle.steer_top.specs.Words.{live_command_of};
 
 use crate::ending::Ending;
@@ -36,6 +36,7 @@ pub fn steer_live<R: Threads + Wait + Sync, D: Desk, K: Sink, E: Sink, P: Pace +
         (course D.held D.asked D.faults desk.old desk.new K.faults K.written out.old out.new
         (map text taps.items)) (TakesLine E.faults E.written err.old err.new) result }
     ensures sent { result ≡ 0 → IsAtEnd (K.unsent out.new) }
+    ensures err_sent { SentOn (E.faults err.old) (E.faults err.new) (E.unsent err.new) }
     ensures held { D.held desk.new ≡ D.held desk.old }
     ensures told { GoesOnTelling (D.left desk.old) (D.left desk.new) }
     ensures desk_later { D.faults desk.old ≤ D.faults desk.new }

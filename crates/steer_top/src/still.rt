@@ -4,7 +4,7 @@ ghost use Rattle.std.specs.Io.KnownBytes.{IsAtEnd};
 ghost use Rattle.outside_io.specs.Desk.{GoesOnTelling};
 ghost use Rattle.steer_top.specs.Calls.{IsAnswered, TakesLine, course};
 ghost use Rattle.steer_top.specs.Commands.{words_of};
-ghost use Rattle.steer_top.specs.Endings.{Ends, EndsCommand};
+ghost use Rattle.steer_top.specs.Endings.{Ends, EndsCommand, SentOn};
 ghost use Rattle.steer_top.specs.Words.{still_command_of};
 
 use crate::check_command::check_file;
@@ -38,6 +38,7 @@ pub fn steer_still<D: Desk, K: Sink, E: Sink>(
         (course D.held D.asked D.faults desk.old desk.new K.faults K.written out.old out.new
         (map text taps.items)) (TakesLine E.faults E.written err.old err.new) result }
     ensures sent { result ≡ 0 → IsAtEnd (K.unsent out.new) }
+    ensures err_sent { SentOn (E.faults err.old) (E.faults err.new) (E.unsent err.new) }
     ensures held { D.held desk.new ≡ D.held desk.old }
     ensures told { GoesOnTelling (D.left desk.old) (D.left desk.new) }
     ensures desk_later { D.faults desk.old ≤ D.faults desk.new }

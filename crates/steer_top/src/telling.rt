@@ -2,7 +2,7 @@
 ghost use Rattle.std.specs.Prelude.{◌++◌, codes, decimal};
 ghost use Rattle.std.specs.List.{flat_map};
 ghost use Rattle.steer_top.specs.Calls.{TakesLine};
-ghost use Rattle.steer_top.specs.Endings.{line_of, line_of_fault, line_of_ng_fault};
+ghost use Rattle.steer_top.specs.Endings.{SentOn, line_of, line_of_fault, line_of_ng_fault};
 ghost use Rattle.steer_top.specs.Endings.{line_of_plan_fault, line_of_refusal};
 
 use crate::ending::{Ending, Refusal};
@@ -17,8 +17,18 @@ const USAGE: &[u8] =
     b"usage: steer hash CAPTURE [QUEUES [KINDS]] | replay PLAN CAPTURE | run PLAN CAPTURE | gen \
         SEED PACKETS FLOWS | check PLAN CAPTURE REPORT | place RULES CAPTURE\n";
 
-/// Writes the line of an ending, as much of it as the sink takes.
+/// Writes the line of an ending, as much of it as the sink takes, and sends on what the sink took.
 pub fn tell<E: Sink>(err: &mut E, ending: &Ending)
+    ensures line { TakesLine E.faults E.written err.old err.new (line_of ending.now) }
+    ensures sent { SentOn (E.faults err.old) (E.faults err.new) (E.unsent err.new) }
+{
+    tell_ending(err, ending);
+    match err.flush() {
+        Ok(()) | Err(WriteFault) => {}
+    }
+}
+
+fn tell_ending<E: Sink>(err: &mut E, ending: &Ending)
     ensures { TakesLine E.faults E.written err.old err.new (line_of ending.now) }
 {
     match ending {

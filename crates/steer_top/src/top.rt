@@ -3,6 +3,7 @@ ghost use Rattle.std.specs.Prelude.{◌≡◌, ◌≤◌, map};
 ghost use Rattle.std.specs.Io.KnownBytes.{IsAtEnd};
 ghost use Rattle.outside_io.specs.Desk.{GoesOnTelling};
 ghost use Rattle.steer_top.specs.Calls.{IsAnswered, TakesLine, course};
+ghost use Rattle.steer_top.specs.Endings.{SentOn};
 ghost use Rattle.steer_top.specs.Words.{command_of};
 
 use crate::live::steer_live;
@@ -22,13 +23,15 @@ use taps::Tap;
 /// `pace` called; every other command returns always.
 ///
 /// All memory is taken before the first byte goes to `out`, which is flushed once, after the whole
-/// text. `err` takes one line for every status but 0. A replay and a run show their packet lines to
-/// the taps, and their reports have the taps' texts in their order; the other commands drop them.
+/// text. `err` takes one line for every status but 0, and is flushed at the end. A replay and a run
+/// show their packet lines to the taps, and their reports have the taps' texts in their order; the
+/// other commands drop them.
 ///
 /// Contract. `call`: status, text and error line are determined by words and files unless I/O or
 /// memory failed; a replay's and a run's text satisfy their main theorems. `sent`: with status 0
-/// nothing is left unsent. `held`, `told`: what was observed of files stays known. `desk_later`,
-/// `out_later`: fault counters never decrease.
+/// nothing of the text is left unsent. `err_sent`: nothing of the line is, unless `err` failed.
+/// `held`, `told`: what was observed of files stays known. `desk_later`, `out_later`: fault counters
+/// never decrease.
 pub fn steer<R: Threads + Wait + Sync, D: Desk, K: Sink, E: Sink, P: Pace + Sync>(
     rt: &R,
     alloc: Global,
@@ -43,6 +46,7 @@ pub fn steer<R: Threads + Wait + Sync, D: Desk, K: Sink, E: Sink, P: Pace + Sync
         (course D.held D.asked D.faults desk.old desk.new K.faults K.written out.old out.new
         (map text taps.items)) (TakesLine E.faults E.written err.old err.new) result }
     ensures sent { result ≡ 0 → IsAtEnd (K.unsent out.new) }
+    ensures err_sent { SentOn (E.faults err.old) (E.faults err.new) (E.unsent err.new) }
     ensures held { D.held desk.new ≡ D.held desk.old }
     ensures told { GoesOnTelling (D.left desk.old) (D.left desk.new) }
     ensures desk_later { D.faults desk.old ≤ D.faults desk.new }

@@ -9,7 +9,7 @@ returns-clause-call g c =
     rw c.status.ensures
     (answered law.once law.apart c.every_report_has_the_headline.ensures
     c.every_run_has_the_headline.ensures _ _ _ c.carry_out-ending.result
-    c.carry_out-ending.ensures.ends c.tell.ensures)
+    c.carry_out-ending.ensures.ends c.tell.ensures.line)
 
 pub returns-clause-sent : goal.returns-clause-sent
 returns-clause-sent g c = λ status.
