@@ -1,9 +1,7 @@
 //! A sink that gathers bytes before it passes them on.
-ghost use Rattle.std.specs.Prelude.{◌≡◌, ◌<◌, ◌≤◌, [], ◌++◌, false, true, length, is_err, vec_len};
-ghost use Rattle.std.specs.Prelude.{IfOk, OnErr, OnOk, vec_capacity};
+ghost use Rattle.std.specs.Prelude.{◌≡◌, ◌<◌, ◌≤◌, ◌+◌, [], ◌++◌, false, true, length, vec_len};
+ghost use Rattle.std.specs.Prelude.{IfOk, OnErr, OnOk, is_err, vec_capacity};
 ghost use Rattle.std.specs.Io.KnownBytes.{IsAtEnd, Keeps};
-ghost use Rattle.outside_io.specs.BufferedSink.{ClosesAtFault, and_held_back, held_back};
-ghost use Rattle.outside_io.specs.BufferedSink.{buffered_sink_faults, is_closed, sink_behind};
 ghost use Rattle.outside_io.specs.Counts.{Rose, counted};
 ghost use Rattle.outside_io.specs.Sink.{Takes, write_failed};
 
@@ -16,7 +14,7 @@ use steer_base::OutOfMemory;
 /// on then, also not when it is dropped, and every further call fails. So the sink behind never
 /// gets a byte twice, nor one after a gap.
 #[derive(Drop)]
-pub struct BufferedSink<K: Sink + Drop> {
+pub struct BufferedSink<K> {
     behind: K,
     buffer: Vec<u8>,
     passed: usize,
@@ -27,6 +25,9 @@ pub struct BufferedSink<K: Sink + Drop> {
 }
 
 impl<K: Sink + Drop> BufferedSink<K> {
+    ghost use Rattle.outside_io.specs.BufferedSink.{ClosesAtFault, and_held_back, held_back};
+    ghost use Rattle.outside_io.specs.BufferedSink.{buffered_sink_faults, is_closed, sink_behind};
+
     /// A sink with room for this many bytes, all reserved here, on which no call has failed.
     pub fn make(alloc: Global, room: usize, behind: K) -> Result<Self, OutOfMemory>
         requires { 0 < room }
@@ -113,6 +114,9 @@ impl<K: Sink + Drop> BufferedSink<K> {
 }
 
 impl<K: Sink + Drop> Sink for BufferedSink<K> {
+    ghost use Rattle.outside_io.specs.BufferedSink.{ClosesAtFault, and_held_back, held_back};
+    ghost use Rattle.outside_io.specs.BufferedSink.{buffered_sink_faults};
+
     ghost written = { λ sink. and_held_back K.written sink };
 
     ghost unsent = { λ sink. and_held_back K.unsent sink };
