@@ -28,7 +28,8 @@ Keeps-next a b c bytes seen done count same kept more =
     let piece : take count (take (length seen - done) (drop done seen)) ≡ take count rest =
     ap (take count) (take_rest seen done ∙ ap (drop done) same) in
     let split : rest ≡ take count rest ++ drop (done + count) bytes =
-    sym (take-append-drop count rest) ∙ ap (λ l. take count rest ++ l) (drop-drop count done bytes) in
+    sym (take-append-drop count rest)
+    ∙ ap (λ l. take count rest ++ l) (drop-drop count done bytes) in
     Keeps-trans a (append_known b rest) (append_known c (drop (done + count) bytes)) kept
     (append_known-moved b c (take count rest) (drop (done + count) bytes) rest
     (subst (Appends b c) piece more) split)

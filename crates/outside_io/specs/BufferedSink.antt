@@ -25,8 +25,8 @@ abbrev pub and_held_back
     : {K : Type 0} → (K → Option (List ℕ)) → BufferedSink K → Option (List ℕ)
 and_held_back known sink = append_known (known (sink_behind sink)) (held_back sink)
 
--- A call that failed closes the sink and is counted. A closed sink passes nothing on, and each of its
--- calls fails.
+-- A call that failed closes the sink and is counted. A closed sink passes nothing on, and each of
+-- its calls fails.
 pub record ClosesAtFault {K : Type 0} (old new : BufferedSink K) (failed : Bool) : Type 0 where
   pub counted : buffered_sink_faults new ≡ counted failed (buffered_sink_faults old)
   pub closed : is_closed new ≡ (is_closed old || failed)

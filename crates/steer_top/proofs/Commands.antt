@@ -7,6 +7,7 @@ use Rattle.std.proofs.KnownBytes.{Appends-kept, Keeps-trans}
 use Rattle.std.proofs.lemmas.List.{take_all}
 use Rattle.outside_io.specs.Counts.{Rose}
 use Rattle.outside_io.specs.Sink.{AppendsSome}
+use Rattle.steer_top.proofs.Tellings.{AppendsSome-kept}
 use Rattle.steer_top.specs.Files.{Accepted, Files, IsBad, IsNot, Refused, limit_of}
 use Rattle.steer_top.specs.Outcomes.{Writes, name_of, roles_of, file_bytes}
 use Rattle.steer_top.specs.Words.{CheckWords, CommandWords, GenWords, HashWords, PlaceWords}

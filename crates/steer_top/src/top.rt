@@ -30,8 +30,8 @@ use taps::Tap;
 /// Contract. `call`: status, text and error line are determined by words and files unless I/O or
 /// memory failed; a replay's and a run's text satisfy their main theorems. `sent`: with status 0
 /// nothing of the text is left unsent. `err_sent`: nothing of the line is, unless `err` failed.
-/// `held`, `told`: what was observed of files stays known. `desk_later`, `out_later`: fault counters
-/// never decrease.
+/// `held`, `told`: what was observed of files stays known. `desk_later`, `out_later`: fault
+/// counters never decrease.
 pub fn steer<R: Threads + Wait + Sync, D: Desk, K: Sink, E: Sink, P: Pace + Sync>(
     rt: &R,
     alloc: Global,
