@@ -9,7 +9,6 @@ from __future__ import annotations
 import argparse
 import functools
 import itertools
-import os
 import tempfile
 from typing import Callable, Iterator, NamedTuple, Sequence, Tuple, Union
 

@@ -9,7 +9,6 @@ runs, and once nothing waits there.
 from __future__ import annotations
 
 import argparse
-import math
 import re
 from typing import TYPE_CHECKING, NamedTuple
 
