@@ -191,6 +191,32 @@ class Progress(unittest.TestCase):
                 shown.end()
             self.assertEqual(said.getvalue(), text)
 
+    def said(self, shown, clock, done):
+        """What is said elsewhere than on a terminal, where so much is done at these seconds."""
+        said = io.StringIO()
+        with mock.patch.object(sys, "stderr", said), \
+                mock.patch.object(time, "monotonic", side_effect=[0, *clock]):
+            tell = shown()
+            for each in done:
+                tell.at(each)
+        return said.getvalue().splitlines()
+
+    def test_no_time_to_go_of_the_first_packets(self):
+        """A slow first packet in a thousand would say 42 minutes of work that takes 40 s."""
+        self.assertEqual(
+            self.said(lambda: progress.Progress("some", 1000), (2.5, 4.5, 6.6, 9),
+                      (1, 19, 100, 200)),
+            ["some: 1 of 1000", "some: 19 of 1000", "some: 100 of 1000, about 59 s more",
+             "some: 200 of 1000, about 36 s more"])
+
+    def test_the_time_to_go_of_what_is_done_at_once(self):
+        """Sixteen of 3 s, four at once, take 12 s; the first of each four is said at their end."""
+        self.assertEqual(
+            self.said(lambda: progress.Progress("some", 16, at_once=4), (3, 3, 6, 6, 9, 12),
+                      (1, 4, 5, 8, 9, 13)),
+            ["some: 1 of 16, about 16 s more", "some: 5 of 16, about 9 s more",
+             "some: 9 of 16, about 5 s more", "some: 13 of 16, about 1 s more"])
+
     def test_times(self):
         for seconds, text in ((1, "1 s"), (119, "119 s"), (120, "2 min"), (7100, "118 min"),
                               (7200, "2 h 0 min"), (12000, "3 h 20 min")):

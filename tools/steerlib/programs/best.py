@@ -332,7 +332,7 @@ def main(words: list[str]) -> int:
         question = best.Question(cli.read_bytes(told.plan), told.plan, capture, shown, times, flows,
                                  load, told, work)
         some = tried(told, question)
-        tell = progress.Progress("settings tried", len(some))
+        tell = progress.Progress("settings tried", len(some), at_once=told.jobs)
         results = trial.at_once(attempt, told.jobs, [(each, question) for each in some], tell.at)
     texts = [result for result in results if isinstance(result, str)]
     for text in dict.fromkeys(texts):

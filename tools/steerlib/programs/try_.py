@@ -293,7 +293,8 @@ def made(told: argparse.Namespace, trials: list[trial.Trial],
     if told.resume:
         cli.note("%d of %d trials are in %s and are not made again"
                  % (len(trials) - len(left), len(trials), told.results))
-    shown = progress.Progress("trials", len(left), only_terminal=True)
+    shown = progress.Progress("trials", len(left), only_terminal=True,
+                              at_once=1 if told.dask else told.jobs)
     try:
         if not left:
             new: list[trial.Outcome | str] = []
