@@ -2,6 +2,7 @@ pub mod Hands
 pub mod Records
 pub mod Stages
 pub mod Actors
+pub mod Tally
 pub mod Workers
 pub mod Looks
 pub mod Parts

@@ -1,6 +1,6 @@
 -- What a worker keeps of its seats and of its actors. Lists of turns and of steps have the newest
 -- first.
-use Rattle.std.specs.Prelude.{◌≡◌, ℕ, Bool, ◌&&◌, List, Some, None, All, length, slice_get}
+use Rattle.std.specs.Prelude.{◌≡◌, ◌≤◌, ℕ, Bool, ◌&&◌, List, Some, None, All, length, slice_get}
 use Rattle.std.specs.List.{Contains, list_all}
 use Rattle.std.specs.Option.{is_none}
 use Rattle.rtrb.specs.Ring.{SameConsumer}
@@ -22,6 +22,7 @@ use Rattle.run_workers.specs.Records.Storing.{StoresAreFor}
 use Rattle.run_workers.specs.Actors.{Each, IsForeign, IsTurnOfOne, KeepsDrain, KeepsPoller}
 use Rattle.run_workers.specs.Actors.{KeepsServer}
 use Rattle.run_workers.specs.Stages.{HasSizes, StageView}
+use Rattle.run_workers.specs.Tally.{dropped_by}
 use Rattle.run_words.specs.declared.seats.Seats.{Seats}
 use Rattle.run_workers.specs.declared.worker.Worker.{Worker}
 
@@ -74,19 +75,25 @@ abbrev pub HasRings : List Poller → List Poller → Type 0
 HasRings before after =
     Each (λ k q. (p : Poller) → slice_get before k ≡ Some p → SameConsumer p.ring q.ring) after
 
+-- No poller has fewer drops than it had.
+abbrev pub HasDrops : List Poller → List Poller → Type 0
+HasDrops before after =
+    Each (λ k q. (p : Poller) → slice_get before k ≡ Some p → dropped_by p ≤ dropped_by q) after
+
 -- The applications have the homes that they had.
 abbrev pub HasHomes : List Server → List Server → Type 0
 HasHomes before after =
     Each (λ k u. (v : Server) → slice_get before k ≡ Some v → u.home ≡ v.home) after
 
--- A worker has as many actors of each kind as before, with the same rings and homes, and its seats
--- are the same seats, with more steps.
+-- A worker has as many actors of each kind as before, with the same rings and homes and no fewer
+-- drops, and its seats are the same seats, with more steps.
 pub record IsSame (before after : Worker) (old new : Seats) : Type 0 where
   pub pollers : length after.pollers.items ≡ length before.pollers.items
   pub drains : length after.drains.items ≡ length before.drains.items
   pub servers : length after.servers.items ≡ length before.servers.items
   pub ships : length after.ships.items ≡ length before.ships.items
   pub rings : HasRings before.pollers.items after.pollers.items
+  pub drops : HasDrops before.pollers.items after.pollers.items
   pub homes : HasHomes before.servers.items after.servers.items
   pub rx_table : new.rx.table ≡ old.rx.table
   pub rx_number : new.rx.number ≡ old.rx.number

@@ -3,6 +3,7 @@
 #![tactic(auto)]
 
 mod drain;
+mod finish;
 mod hand_laws;
 mod holding;
 mod laws;
@@ -10,6 +11,7 @@ mod poller;
 mod record_laws;
 mod server;
 mod stage;
+mod tally;
 mod work;
 mod worker;
 
@@ -27,5 +29,6 @@ pub use record_laws::{
 };
 pub use server::Server;
 pub use stage::Stage;
-pub use work::{Ended, MAX_IDLE_TURNS};
+pub use tally::{Counter, Tally};
+pub use work::{BUSY_IDLE_TURNS, Ended, MAX_IDLE_TURNS};
 pub use worker::Worker;

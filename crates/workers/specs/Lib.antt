@@ -15,4 +15,5 @@ pub mod BoardEnds
 pub mod Overs
 pub mod Left
 pub mod EndLaws
+pub mod Posts
 pub mod Threads

@@ -5,10 +5,12 @@ ghost use Rattle.steer_model.specs.State.Ranges.{AreOfFlows};
 ghost use Rattle.run_crew.specs.CountLaws.{IsFull};
 ghost use Rattle.run_crew.specs.Sweeps.{GoOn, all_free};
 ghost use Rattle.workers.specs.Overs.{IsBack, IsOver};
+ghost use Rattle.workers.specs.Posts.{ArePosts, HaveStayed};
 ghost use Rattle.workers.specs.Starts.{IsStart};
 ghost use Rattle.workers.specs.Threads.{CrewCan, workers_stage};
 
 use crate::board_laws::boards_have_their_settings;
+use crate::posts::{Posts, dismiss, man};
 use crate::start::Run;
 use crate::threads::run_beside;
 use hop_board::Board;
@@ -25,14 +27,18 @@ pub(crate) fn run_all<R: Threads + Wait + Sync, P: Pace + Sync>(
     rt: &R,
     plan: &Plan,
     run: Run,
+    posts: Posts,
     pace: &P,
 ) -> Run
     ghost i: { Input }
     requires plan { i.plan ≡ plan.now }
     requires flows { AreOfFlows i.packets }
     requires start { IsStart i.plan i.packets i.cut run }
+    requires posts { ArePosts i.plan.workers posts }
     ensures back { IsBack i result result.wire.wire.arrivals.items }
     ensures late { result.stage.late.items ≡ [] }
+    ensures free { all_free result.crew.items ≡ true }
+    ensures stayed { HaveStayed result.crew.items (length i.packets) }
 {
     crews_go_on();
     boards_have_their_settings();
@@ -42,7 +48,19 @@ pub(crate) fn run_all<R: Threads + Wait + Sync, P: Pace + Sync>(
         wire,
         controller,
     } = run;
-    let (wire, (crew, controller)) = run_beside(rt, &stage, plan, crew, wire, controller, pace);
+    let Posts {
+        tally,
+        counters,
+        posts,
+        crew: back,
+        seats,
+    } = posts;
+    let posts = man(crew, counters, posts);
+    let (wire, (posts, controller)) = run_beside(
+        rt, &stage, plan, &tally, posts, wire, controller, pace,
+    );
+    let (crew, seats) = dismiss(posts, back, seats);
+    tally.close(seats);
     Run {
         stage,
         crew,

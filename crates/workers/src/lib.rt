@@ -12,6 +12,7 @@ mod end_laws;
 mod ends;
 mod lists;
 mod parts;
+mod posts;
 mod round_robin;
 mod running;
 mod seats;

@@ -6,11 +6,13 @@ ghost use Rattle.steer_model.specs.Good.Inputs.{Input};
 ghost use Rattle.steer_model.specs.State.Ranges.{AreOfFlows};
 ghost use Rattle.run_coupling.specs.Coupling.Runs.{IsRun};
 ghost use Rattle.run_crew.specs.RunLaws.{RunEnds};
+ghost use Rattle.workers.specs.Posts.{ArePosts};
 ghost use Rattle.workers.specs.Starts.{IsStart};
 ghost use Rattle.workers.specs.Spares.{IsSpare};
 
 use crate::closing::close;
 use crate::ends::{run_all, sweep_all};
+use crate::posts::Posts;
 use crate::spare::Spare;
 use crate::start::Run;
 use history::History;
@@ -58,8 +60,9 @@ pub fn run_threads<R: Threads + Wait + Sync, P: Pace + Sync>(
     ended_runs_are_runs();
     a_run_is_good();
     let spare = Spare::make(alloc, plan)?;
+    let posts = Posts::make(alloc, plan.workers)?;
     let run = Run::make(alloc, plan, packets, cut)?;
-    Ok(run_to_the_end(rt, plan, run, spare, pace))
+    Ok(run_to_the_end(rt, plan, run, posts, spare, pace))
 }
 
 // Runs what a run begins with to its end.
@@ -67,6 +70,7 @@ fn run_to_the_end<R: Threads + Wait + Sync, P: Pace + Sync>(
     rt: &R,
     plan: &Plan,
     run: Run,
+    posts: Posts,
     spare: Spare,
     pace: &P,
 ) -> History
@@ -74,11 +78,12 @@ fn run_to_the_end<R: Threads + Wait + Sync, P: Pace + Sync>(
     requires plan { i.plan ≡ plan.now }
     requires flows { AreOfFlows i.packets }
     requires start { IsStart i.plan i.packets i.cut run }
+    requires posts { ArePosts i.plan.workers posts }
     requires spare { IsSpare (length plan.now.queues) (length plan.now.apps) plan.now.workers
         spare }
     ensures { RunEnds i result }
 {
-    let run = run_all(rt, plan, run, pace);
+    let run = run_all(rt, plan, run, posts, pace);
     let run = sweep_all(rt, run);
     close(plan, run, spare)
 }

@@ -1,46 +1,46 @@
 //! The wire, the workers and the controller, each in a thread of its own where one can be made.
 ghost use Rattle.std.specs.Thread.{IsSync};
-ghost use Rattle.run_workers.specs.Workers.{GoesOn, IsWorking};
-ghost use Rattle.run_crew.specs.Sweeps.{GoOn};
-ghost use Rattle.workers.specs.Threads.{ControllerCan, ControllerRan, CrewCan, WireCan, WireRan};
+ghost use Rattle.workers.specs.Posts.{CanBeManned, HasWorked, HaveWorked, IsPosted};
+ghost use Rattle.workers.specs.Threads.{ControllerCan, ControllerRan, WireCan, WireRan};
 ghost use Rattle.workers.specs.Threads.{commands_stage, workers_stage};
 
+use crate::posts::Post;
 use crate::start::{SeatedController, SeatedWire};
 use hop_board::Board;
 use plan_reader::Plan;
-use run_crew::Seated;
 use run_words::Pace;
-use run_workers::Stage;
+use run_workers::{Stage, Tally};
 use std::sync::Wait;
 use std::thread::{Threads, for_each_mut, join};
 
-// Runs all workers beside each other.
+// Runs all workers beside each other, at their posts.
 fn run_workers<R: Threads + Wait + Sync, P: Pace + Sync>(
     rt: &R,
     stage: &Stage<Board>,
-    mut crew: Vec<Seated>,
+    tally: &Tally,
+    mut posts: Vec<Post>,
     pace: &P,
-) -> Vec<Seated>
-    requires can { CrewCan (workers_stage stage.now) crew.items }
-    ensures { GoOn (workers_stage stage.now) crew.items result.items }
+) -> Vec<Post>
+    requires can { CanBeManned (workers_stage stage.now) tally.now posts.items }
+    ensures { HaveWorked (workers_stage stage.now) tally.now posts.items result.items }
 {
-    let threads = crew.len();
+    let threads = posts.len();
     for_each_mut(
         rt,
-        crew.as_mut_slice(),
+        posts.as_mut_slice(),
         threads,
-        &|number: usize, seated: &mut Seated|
-            requires { IsWorking (workers_stage stage.now) seated.now.worker seated.now.seats }
-            ensures { GoesOn (workers_stage stage.entry.now) seated.entry.now.worker
-                seated.exit.now.worker seated.entry.now.seats seated.exit.now.seats }
+        &|_: usize, post: &mut Post|
+            requires { IsPosted (workers_stage stage.now) tally.now post.now }
+            ensures { HasWorked (workers_stage stage.entry.now) tally.entry.now post.entry.now
+                post.exit.now }
         {
-            let number = u32::try_from(number).unwrap_or(u32::MAX);
-            seated
-                .worker
-                .work(rt, stage, &mut seated.seats, pace, number);
+            let seated = &mut post.seated;
+            let seats = &mut seated.seats;
+            let counter = &mut post.counter;
+            seated.worker.work(rt, stage, seats, tally, counter, pace);
         },
     );
-    crew
+    posts
 }
 
 // Runs the controller.
@@ -77,21 +77,24 @@ fn run_with_controller<R: Threads + Wait + Sync, P: Pace + Sync>(
     rt: &R,
     stage: &Stage<Board>,
     plan: &Plan,
-    crew: Vec<Seated>,
+    tally: &Tally,
+    posts: Vec<Post>,
     controller: SeatedController,
     pace: &P,
-) -> (Vec<Seated>, SeatedController)
-    requires crew { CrewCan (workers_stage stage.now) crew.items }
+) -> (Vec<Post>, SeatedController)
+    requires posts { CanBeManned (workers_stage stage.now) tally.now posts.items }
     requires controller { ControllerCan plan.now (commands_stage stage.now) controller }
-    ensures crew { GoOn (workers_stage stage.now) crew.items result.0.items }
+    ensures posts { HaveWorked (workers_stage stage.now) tally.now posts.items result.0.items }
     ensures controller { ControllerRan plan.now (commands_stage stage.now) controller result.1 }
 {
     join(
         rt,
-        move || -> Vec<Seated>
-            requires { IsSync R.row × CrewCan (workers_stage stage.now) crew.items }
-            ensures { GoOn (workers_stage stage.entry.now) crew.items result.items }
-        { run_workers(rt, stage, crew, pace) },
+        move || -> Vec<Post>
+            requires { IsSync R.row
+                × CanBeManned (workers_stage stage.now) tally.now posts.items }
+            ensures { HaveWorked (workers_stage stage.entry.now) tally.entry.now posts.items
+                result.items }
+        { run_workers(rt, stage, tally, posts, pace) },
         move || -> SeatedController
             requires { ControllerCan plan.now (commands_stage stage.now) controller }
             ensures { ControllerRan plan.entry.now (commands_stage stage.entry.now) controller
@@ -107,16 +110,17 @@ pub(crate) fn run_beside<R: Threads + Wait + Sync, P: Pace + Sync>(
     rt: &R,
     stage: &Stage<Board>,
     plan: &Plan,
-    crew: Vec<Seated>,
+    tally: &Tally,
+    posts: Vec<Post>,
     wire: SeatedWire,
     controller: SeatedController,
     pace: &P,
-) -> (SeatedWire, (Vec<Seated>, SeatedController))
-    requires crew { CrewCan (workers_stage stage.now) crew.items }
+) -> (SeatedWire, (Vec<Post>, SeatedController))
+    requires posts { CanBeManned (workers_stage stage.now) tally.now posts.items }
     requires wire { WireCan stage.now.shared wire }
     requires controller { ControllerCan plan.now (commands_stage stage.now) controller }
     ensures wire { WireRan stage.now.shared wire result.0 }
-    ensures crew { GoOn (workers_stage stage.now) crew.items result.1.0.items }
+    ensures posts { HaveWorked (workers_stage stage.now) tally.now posts.items result.1.0.items }
     ensures controller { ControllerRan plan.now (commands_stage stage.now) controller result.1.1 }
 {
     join(
@@ -125,12 +129,14 @@ pub(crate) fn run_beside<R: Threads + Wait + Sync, P: Pace + Sync>(
             requires { WireCan stage.now.shared wire }
             ensures { WireRan stage.entry.now.shared wire result }
         { run_wire(stage, plan, wire, pace) },
-        move || -> (Vec<Seated>, SeatedController)
-            requires { IsSync R.row × CrewCan (workers_stage stage.now) crew.items
+        move || -> (Vec<Post>, SeatedController)
+            requires { IsSync R.row
+                × CanBeManned (workers_stage stage.now) tally.now posts.items
                 × ControllerCan plan.now (commands_stage stage.now) controller }
-            ensures { GoOn (workers_stage stage.entry.now) crew.items result.0.items
+            ensures { HaveWorked (workers_stage stage.entry.now) tally.entry.now posts.items
+                result.0.items
                 × ControllerRan plan.entry.now (commands_stage stage.entry.now) controller
                 result.1 }
-        { run_with_controller(rt, stage, plan, crew, controller, pace) },
+        { run_with_controller(rt, stage, plan, tally, posts, controller, pace) },
     )
 }
