@@ -18,7 +18,8 @@ use Rattle.run_workers.proofs.KeepLemmas.{KeepsReceive, KeepsTransmit, pollers_s
 use Rattle.run_workers.proofs.KeepLemmas.{received, servers_stay, stores_stay, transmit_stays}
 use Rattle.run_workers.proofs.KeepLemmas.{transmitted, works}
 use Rattle.run_workers.proofs.LaneLemmas.{lane_goes_on, same_seat}
-use Rattle.run_workers.proofs.SameLemmas.{SameSeat, homes_stay, is_same, rings_stay, seat_stays}
+use Rattle.run_workers.proofs.SameLemmas.{SameSeat, drops_stay, homes_stay, is_same}
+use Rattle.run_workers.proofs.SameLemmas.{rings_stay, seat_stays}
 
 abbrev Hint : Type 0
 Hint = SeatView HintStep
@@ -60,6 +61,7 @@ module _ (t : StageView) (w v : Worker) (s r : Seats)
           same = is_same w v s r (ap length pollers)
               (ap length drains ∙ length-set w.drains.items i e) (ap length servers)
               (ap length ships) (rings_stay w.pollers.items v.pollers.items pollers)
+              (drops_stay w.pollers.items v.pollers.items pollers)
               (homes_stay w.servers.items v.servers.items servers) rx (seat_stays s.tx r.tx tx)
               hint_table hint_grow;
         }
@@ -89,6 +91,7 @@ module _ (t : StageView) (w v : Worker) (s r : Seats)
           same = is_same w v s r (ap length pollers) (ap length drains) (ap length servers)
               (ap length ships ∙ length-set w.ships.items i e)
               (rings_stay w.pollers.items v.pollers.items pollers)
+              (drops_stay w.pollers.items v.pollers.items pollers)
               (homes_stay w.servers.items v.servers.items servers) (seat_stays s.rx r.rx rx) tx
               hint_table hint_grow;
         }

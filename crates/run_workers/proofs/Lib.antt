@@ -14,3 +14,4 @@ pub mod SameLemmas
 pub mod SeatLemmas
 pub mod StayLemmas
 pub mod TakeLemmas
+pub mod TallyLemmas

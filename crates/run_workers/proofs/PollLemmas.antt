@@ -1,5 +1,5 @@
 -- A worker after a poll of one of its pollers.
-use Rattle.std.proofs.Common.{◌≡◌, ◌≢◌, ℕ, ◌<◌, Some, sym, ap, subst, ◌∙◌}
+use Rattle.std.proofs.Common.{◌≡◌, ◌≢◌, ℕ, ◌<◌, ◌≤◌, Some, sym, ap, subst, ◌∙◌}
 use Rattle.std.proofs.Common.{length, length-set, slice_get, slice_set}
 use Rattle.std.proofs.lemmas.Option.{slice_get_within}
 use Rattle.rtrb.specs.Ring.{SameConsumer}
@@ -9,7 +9,7 @@ use Rattle.run_workers.specs.Hands.Laws.{Stays}
 use Rattle.run_workers.specs.Hands.Pollers.{IsPoller, Polls}
 use Rattle.run_workers.specs.declared.drain.Exit.TheVariants.{Inboxes}
 use Rattle.run_workers.specs.declared.poller.Poller.{Poller}
-use Rattle.run_workers.proofs.Hands.StayLemmas.{polls_stay}
+use Rattle.run_workers.proofs.Hands.StayLemmas.{polls_drop, polls_stay}
 use Rattle.run_workers.proofs.Hands.VisitLemmas.{polls_leave}
 use Rattle.run_workers.specs.Records.Growth.{Grows}
 use Rattle.run_workers.specs.Records.Polling.{IsPolling}
@@ -19,13 +19,15 @@ use Rattle.run_workers.proofs.Records.ListLemmas.{others_stay}
 use Rattle.run_workers.proofs.Records.PollingLemmas.{pollers_go_on}
 use Rattle.run_workers.specs.Actors.{KeepsPoller, actor_at}
 use Rattle.run_workers.specs.Stages.{StageView}
-use Rattle.run_workers.specs.Workers.{GoesOn, HasRings, IsNotedBy, IsWorking}
+use Rattle.run_workers.specs.Tally.{dropped_by}
+use Rattle.run_workers.specs.Workers.{GoesOn, HasDrops, HasRings, IsNotedBy, IsWorking}
 use Rattle.run_words.specs.declared.seats.Seats.{Seats}
 use Rattle.run_workers.specs.declared.worker.Worker.{Worker}
 use Rattle.run_workers.proofs.EachLemmas.{actors_differ, each_same, each_set, turns_of_ones}
 use Rattle.run_workers.proofs.KeepLemmas.{KeepsReceive, board_calls, received, transmit_stays}
 use Rattle.run_workers.proofs.KeepLemmas.{works}
-use Rattle.run_workers.proofs.SameLemmas.{homes_stay, is_same, rings_set, seat_stays}
+use Rattle.run_workers.proofs.SameLemmas.{drops_set, homes_stay, is_same, rings_set}
+use Rattle.run_workers.proofs.SameLemmas.{seat_stays}
 use Rattle.run_workers.proofs.SeatLemmas.{polls_move}
 use Rattle.run_workers.proofs.StayLemmas.{poller_stays}
 
@@ -54,6 +56,9 @@ module _ (t : StageView) (w v : Worker) (s r : Seats) (i : ℕ) (p q : Poller)
 
   grow : Grows s.rx.steps r.rx.steps × Grows s.hint.steps r.hint.steps
   grow = calls_add_steps.polls given t.shared.filters p q s.rx r.rx s.hint r.hint polls
+
+  drops : dropped_by p ≤ dropped_by q
+  drops = polls_drop given t.shared.filters p q s.rx r.rx s.hint r.hint polls
 
   many : length v.pollers.items ≡ length w.pollers.items
   many = ap length pollers ∙ length-set w.pollers.items i q
@@ -108,6 +113,8 @@ module _ (t : StageView) (w v : Worker) (s r : Seats) (i : ℕ) (p q : Poller)
         same = is_same w v s r many (ap length drains) (ap length servers) (ap length ships)
             (subst (HasRings w.pollers.items) (sym pollers)
             (rings_set w.pollers.items i p q there ring))
+            (subst (HasDrops w.pollers.items) (sym pollers)
+            (drops_set w.pollers.items i p q there drops))
             (homes_stay w.servers.items v.servers.items servers)
             (record { table = stay.table; number = stay.number; steps = grow.0 })
             (seat_stays s.tx r.tx tx) stay.hint_table grow.1;

@@ -32,7 +32,8 @@ use Rattle.run_workers.proofs.EachLemmas.{actors_differ, each_same, each_set, on
 use Rattle.run_workers.proofs.EachLemmas.{turns_of_ones}
 use Rattle.run_workers.proofs.KeepLemmas.{KeepsTransmit, board_calls, receive_stays, transmitted}
 use Rattle.run_workers.proofs.KeepLemmas.{works}
-use Rattle.run_workers.proofs.SameLemmas.{homes_set, is_same, rings_stay, seat_stays}
+use Rattle.run_workers.proofs.SameLemmas.{drops_stay, homes_set, is_same, rings_stay}
+use Rattle.run_workers.proofs.SameLemmas.{seat_stays}
 use Rattle.run_workers.proofs.SeatLemmas.{replies_move}
 use Rattle.run_workers.proofs.StayLemmas.{server_stays}
 
@@ -139,6 +140,7 @@ module _ (t : StageView) (w v : Worker) (s r : Seats) (i : ℕ) (y u : Server) (
               });
           same = is_same w v s r (ap length pollers) (ap length drains) many (ap length ships)
               (rings_stay w.pollers.items v.pollers.items pollers)
+              (drops_stay w.pollers.items v.pollers.items pollers)
               (subst (HasHomes w.servers.items) (sym servers)
               (homes_set w.servers.items i y u there stay.home))
               (seat_stays s.rx r.rx rx)

@@ -1,6 +1,6 @@
 -- A worker stays the same while it goes on.
-use Rattle.std.proofs.Common.{◌≡◌, ℕ, ◌<◌, List, refl, sym, ap, subst, ◌∙◌, length}
-use Rattle.std.proofs.Common.{[], Some, slice_get, slice_set}
+use Rattle.std.proofs.Common.{◌≡◌, ℕ, ◌<◌, ◌≤◌, List, refl, sym, ap, subst, ◌∙◌, length}
+use Rattle.std.proofs.Common.{[], Some, arith, slice_get, slice_set}
 use Rattle.std.proofs.lemmas.Option.{slice_get_within}
 use Rattle.rtrb.specs.Ring.{SameConsumer}
 use Rattle.board_api.specs.Seats.{BoardSeatView}
@@ -10,7 +10,8 @@ use Rattle.run_workers.specs.Records.Growth.{Grows}
 use Rattle.run_workers.proofs.Records.ListLemmas.{grows_both}
 use Rattle.run_workers.specs.Parts.{actor_count}
 use Rattle.run_workers.specs.Stages.{StageView}
-use Rattle.run_workers.specs.Workers.{GoesOn, HasHomes, HasRings, IsSame, IsWorking}
+use Rattle.run_workers.specs.Tally.{dropped_by}
+use Rattle.run_workers.specs.Workers.{GoesOn, HasDrops, HasHomes, HasRings, IsSame, IsWorking}
 use Rattle.run_words.specs.declared.seats.Seats.{Seats}
 use Rattle.run_workers.specs.declared.worker.Part.{Part}
 use Rattle.run_workers.specs.declared.worker.Part.TheVariants as part
@@ -50,6 +51,35 @@ rings_both a b c many first second k z got p there =
     let within = slice_get_within a k p there in
     let mid = item_at b k (subst (λ n. k < n) (sym many) within) in
     two_rings p mid.0 z (first k mid.0 mid.1 p there) (second k z got mid.0 mid.1)
+
+-- ---- drops
+
+pub drops_stay : (before after : List Poller) → after ≡ before → HasDrops before after
+drops_stay before after same =
+    each_same (λ k q. (p : Poller) → slice_get before k ≡ Some p → dropped_by p ≤ dropped_by q)
+    before after same
+    (λ k q got p there.
+    let is = ap dropped_by (one_there before k p q there got) in omega (arith, is))
+
+-- one poller was set, which has no fewer drops
+pub drops_set : (before : List Poller) (i : ℕ) (p q : Poller) → slice_get before i ≡ Some p
+    → dropped_by p ≤ dropped_by q → HasDrops before (slice_set before i q)
+drops_set before i p q there more =
+    each_set (λ k y. (x : Poller) → slice_get before k ≡ Some x → dropped_by x ≤ dropped_by y)
+    (λ k y. slice_get before k ≡ Some y) before i q
+    (λ x got. let is = ap dropped_by (one_there before i p x there got) in omega (arith, is, more))
+    (λ k y apart got x found.
+    let is = ap dropped_by (one_there before k x y found got) in omega (arith, is))
+    (λ k y got. got)
+
+drops_both : (a b c : List Poller) → length b ≡ length a → HasDrops a b → HasDrops b c
+    → HasDrops a c
+drops_both a b c many first second k z got p there =
+    let within = slice_get_within a k p there in
+    let mid = item_at b k (subst (λ n. k < n) (sym many) within) in
+    let one = first k mid.0 mid.1 p there in
+    let two = second k z got mid.0 mid.1 in
+    omega (arith, one, two)
 
 -- ---- homes
 
@@ -95,15 +125,17 @@ pub is_same : (w v : Worker) (s r : Seats) → length v.pollers.items ≡ length
     → length v.drains.items ≡ length w.drains.items
     → length v.servers.items ≡ length w.servers.items
     → length v.ships.items ≡ length w.ships.items → HasRings w.pollers.items v.pollers.items
-    → HasHomes w.servers.items v.servers.items → SameSeat s.rx r.rx → SameSeat s.tx r.tx
+    → HasDrops w.pollers.items v.pollers.items → HasHomes w.servers.items v.servers.items
+    → SameSeat s.rx r.rx → SameSeat s.tx r.tx
     → r.hint.table ≡ s.hint.table → Grows s.hint.steps r.hint.steps → IsSame w v s r
-is_same w v s r pollers drains servers ships rings homes rx tx table steps = assumption
+is_same w v s r pollers drains servers ships rings drops homes rx tx table steps = assumption
 
 -- the same worker at the same seats, which has made more steps at the hint words
 pub same_worker : (w : Worker) (s r : Seats) → r.rx ≡ s.rx → r.tx ≡ s.tx
     → r.hint.table ≡ s.hint.table → Grows s.hint.steps r.hint.steps → IsSame w w s r
 same_worker w s r rx tx =
     is_same w w s r refl refl refl refl (rings_stay w.pollers.items w.pollers.items refl)
+    (drops_stay w.pollers.items w.pollers.items refl)
     (homes_stay w.servers.items w.servers.items refl) (seat_stays s.rx r.rx rx)
     (seat_stays s.tx r.tx tx)
 
@@ -133,6 +165,8 @@ goes_both t a b c r s u first second =
         ships = y.ships ∙ x.ships;
         rings = rings_both a.pollers.items b.pollers.items c.pollers.items x.pollers x.rings
             y.rings;
+        drops = drops_both a.pollers.items b.pollers.items c.pollers.items x.pollers x.drops
+            y.drops;
         homes = homes_both a.servers.items b.servers.items c.servers.items x.servers x.homes
             y.homes;
         rx_table = y.rx_table ∙ x.rx_table;

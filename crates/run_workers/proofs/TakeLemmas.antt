@@ -31,7 +31,8 @@ use Rattle.run_workers.specs.declared.worker.Worker.{Worker}
 use Rattle.run_workers.proofs.EachLemmas.{each_same, each_set, one_kept, set_there}
 use Rattle.run_workers.proofs.KeepLemmas.{KeepsReceive, KeepsTransmit, board_calls, board_stays}
 use Rattle.run_workers.proofs.KeepLemmas.{pollers_stay, received, transmitted, works}
-use Rattle.run_workers.proofs.SameLemmas.{homes_set, is_same, rings_stay, seat_stays}
+use Rattle.run_workers.proofs.SameLemmas.{drops_stay, homes_set, is_same, rings_stay}
+use Rattle.run_workers.proofs.SameLemmas.{seat_stays}
 use Rattle.run_workers.proofs.SeatLemmas.{takes_move}
 use Rattle.run_workers.proofs.StayLemmas.{server_stays}
 
@@ -154,6 +155,7 @@ module _ (t : StageView) (w v : Worker) (s r : Seats) (i : ℕ) (y u : Server) (
               });
           same = is_same w v s r (ap length pollers) (ap length drains) many (ap length ships)
               (rings_stay w.pollers.items v.pollers.items pollers)
+              (drops_stay w.pollers.items v.pollers.items pollers)
               (subst (HasHomes w.servers.items) (sym servers)
               (homes_set w.servers.items i y u there stay.home))
               (record { table = stay.table; number = stay.number; steps = grow.0 })

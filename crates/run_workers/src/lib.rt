@@ -21,7 +21,7 @@ pub use hand_laws::{
     turns_go_on,
 };
 pub use holding::hold;
-pub use laws::{arrivals_become_known, free_workers_rest, workers_begin};
+pub use laws::{arrivals_become_known, free_workers_rest, loaded_counts_hold, workers_begin};
 pub use poller::{Poller, Reading};
 pub use record_laws::{
     applications_store_writes, calls_add_steps, pollers_begin, pollers_keep_their_turns,

@@ -1,5 +1,7 @@
 -- What a poll leaves as it was.
-use Rattle.std.proofs.Common.{◌≡◌, ◌⊎◌, inl, inr, ℕ, [], ◌∷◌, Option, None, Some, ap, ◌∙◌}
+use Rattle.std.proofs.Common.{◌≡◌, ◌⊎◌, inl, inr, ℕ, ◌+◌, ◌≤◌, [], ◌∷◌, ◌++◌, Option, None}
+use Rattle.std.proofs.Common.{Some, ap, ◌∙◌, length, arith}
+use Rattle.std.proofs.lemmas.List.{length-append}
 use Rattle.linearization.specs.Seats.{SeatView}
 use Rattle.steer_base.specs.declared.choice.Choice.{Choice}
 use Rattle.steer_base.specs.declared.filter.Filter.{Filter}
@@ -13,7 +15,9 @@ use Rattle.steer_base.specs.Arrivals.{filter_place}
 use Rattle.steer_model.specs.State.Setup.{Setup, packet_hash}
 use Rattle.steer_model.specs.Steps.Pollers.{filter_for}
 use Rattle.run_workers.specs.Hands.Laws.{PollsStay, Stays}
-use Rattle.run_workers.specs.Hands.Pollers.{AsksFilter, LooksUp, SteersHand, StoresFilter, Waits}
+use Rattle.run_workers.specs.Hands.Pollers.{AsksFilter, LooksUp, Polls, SteersHand}
+use Rattle.run_workers.specs.Hands.Pollers.{StoresFilter, Waits, count_after}
+use Rattle.run_workers.specs.Tally.{dropped_by}
 use Rattle.run_workers.specs.declared.poller.Poller.{Poller}
 
 abbrev Hint : Type 0
@@ -81,3 +85,36 @@ polls_stay given filters p q old new hint_old hint_new polls = by_case polls.ste
               steers.turn.answer v.hint_mid hint_new v.asks
               ∙ looks_there given.cpus _ hint_old v.hint_mid v.want v.looks;
         }
+
+-- ---- drops
+
+count_by_one : (count : ℕ) (answer : Put) → count_after count answer ≤ count + 1
+count_by_one count (At position) = omega arith
+count_by_one count (Dropped number accepted pulled cause) = omega arith
+
+-- a poll leaves the poller with no fewer drops
+pub polls_drop : (given : Setup) (filters : ℕ) (p q : Poller) (old new : BoardSeatView)
+    (hint_old hint_new : Hint) → Polls given filters p q old new hint_old hint_new
+    → dropped_by p ≤ dropped_by q
+polls_drop given filters p q old new hint_old hint_new polls = by_case polls.steers
+  where
+    taken : dropped_by polls.mid ≡ dropped_by p
+    taken = ap dropped_by polls.same
+
+    by_case : Waits polls.mid q old new hint_old hint_new
+        ⊎ ((id : ℕ) × (polls.mid.hand ≡ Some id)
+        × SteersHand given filters id polls.mid q old new hint_old hint_new)
+        → dropped_by p ≤ dropped_by q
+    by_case (inl waits) =
+        let same = ap dropped_by waits.same in
+        let before = taken in
+        omega (arith, same, before)
+    by_case (inr (id, hand, steers)) =
+        let before = taken in
+        let items = polls.mid.choices.items in
+        let longer = length-append items (steers.turn.chosen ∷ []) in
+        let after : length q.choices.items ≡ length (items ++ steers.turn.chosen ∷ []) =
+        ap (λ j. length j.items) steers.choices in
+        let count = steers.visit.count in
+        let one = count_by_one polls.mid.accepted steers.turn.answer in
+        omega (arith, before, longer, after, count, one)
