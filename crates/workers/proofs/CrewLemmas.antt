@@ -1,12 +1,8 @@
--- A crew whose workers went on each in a thread.
+-- Lists that threads wrote item by item.
 use Rattle.std.proofs.Common.{◌≡◌, ℕ, zero, suc, ◌<◌, List, [], ◌∷◌, ◌++◌, Some, length}
-use Rattle.std.proofs.Common.{take, drop, sym, ap, subst, arith}
+use Rattle.std.proofs.Common.{take, drop, sym, ap, arith}
 use Rattle.std.specs.Prelude.{slice_get, slice_index_or}
-use Rattle.run_workers.specs.Stages.{StageView}
-use Rattle.run_workers.specs.Workers.{GoesOn}
-use Rattle.run_crew.specs.Sweeps.{GoOn}
-use Rattle.run_crew.specs.declared.seated.Seated.{Seated}
-use Rattle.run_crew.proofs.ChoiceFunctions.{is-within, none-some, some-is}
+use Rattle.run_crew.proofs.ChoiceFunctions.{none-some, some-is}
 
 pub at-place : {A : Type 0} (xs : List A) (k : ℕ) (x : A) → k < length xs
     → x ≡ slice_index_or xs k x → slice_get xs k ≡ Some x
@@ -14,7 +10,7 @@ at-place [] k x less is = absurd (omega (arith, less))
 at-place (y ∷ ys) zero x less is = ap Some (sym is)
 at-place (y ∷ ys) (suc k) x less is = at-place ys k x (omega (arith, less)) is
 
-read-at : {A : Type 0} (xs : List A) (k : ℕ) (d x : A) → slice_get xs k ≡ Some x
+pub read-at : {A : Type 0} (xs : List A) (k : ℕ) (d x : A) → slice_get xs k ≡ Some x
     → slice_index_or xs k d ≡ x
 read-at [] k d x there = none-some x there
 read-at (y ∷ ys) zero d x there = some-is y x there
@@ -29,19 +25,3 @@ written-whole n (x ∷ xs) [] count same = absurd (omega (arith, same))
 written-whole zero (x ∷ xs) (y ∷ ys) count same = absurd (omega (arith, count))
 written-whole (suc n) (x ∷ xs) (y ∷ ys) count same =
     ap (λ zs. x ∷ zs) (written-whole n xs ys (omega (arith, count)) (omega (arith, same)))
-
-pub all-went-on : (t : StageView) (before after : List Seated) → length after ≡ length before
-    → ((i : ℕ) (d : Seated) → i < length before
-    → GoesOn t (slice_index_or before i d).worker (slice_index_or after i d).worker
-    (slice_index_or before i d).seats (slice_index_or after i d).seats)
-    → GoOn t before after
-all-went-on t before after count each =
-    record {
-      count = count;
-      each = λ w y there x was.
-          let less = is-within before w x was in
-          subst (λ (z : Seated). GoesOn t z.worker y.worker z.seats y.seats)
-          (read-at before w x x was)
-          (subst (λ (z : Seated). GoesOn t (slice_index_or before w x).worker z.worker
-          (slice_index_or before w x).seats z.seats) (read-at after w x y there) (each w x less));
-    }

@@ -14,6 +14,10 @@ use Rattle.run_words.proofs.Crosses.{shared_part_sync as shared_sync}
 use Rattle.run_workers.specs.contracts.stage.Stage as stage
 use Rattle.run_workers.proofs.worker.Worker.TheSendSync as worker
 use Rattle.run_crew.specs.contracts.seated.Seated.{the_row as seated_row}
+use Rattle.hint_words.proofs.hints.Hints.TheSendSync as hints
+use Rattle.run_workers.specs.contracts.tally.Counter.{the_row as counter_row}
+use Rattle.run_workers.specs.contracts.tally.Tally.{the_row as tally_row}
+use Rattle.workers.specs.contracts.posts.Post as post
 
 late_sync : IsSync (journal_row arrival_row)
 late_sync = search (sendable, journal.the_sync, arrival.the_sync) depth 60
@@ -32,3 +36,12 @@ seated_send = search (
   seat_send,
   ordered.the_send,
 ) depth 60
+
+pub tally_sync : IsSync tally_row
+tally_sync = search (sendable, crosses, hints.the_sync) depth 60
+
+counter_send : IsSend counter_row
+counter_send = search (sendable, crosses, ordered.the_send) depth 60
+
+pub post_send : IsSend post.the_row
+post_send = search (sendable, crosses, seated_send, counter_send) depth 60

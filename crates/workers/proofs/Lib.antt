@@ -22,4 +22,5 @@ pub mod LastSeatLemmas
 pub mod TakenLemmas
 pub mod BackLemmas
 pub mod CrewLemmas
+pub mod PostLemmas
 pub mod Crosses

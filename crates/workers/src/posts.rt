@@ -1,5 +1,5 @@
 //! The posts of the workers: where each works while the threads run, with its place at the tally.
-ghost use Rattle.std.specs.Prelude.{◌≡◌, ◌≤◌, [], IfOk, length, map};
+ghost use Rattle.std.specs.Prelude.{◌≡◌, [], IfOk, length, map};
 ghost use Rattle.steer_base.specs.Journals.{journal};
 ghost use Rattle.workers.specs.Posts.{ArePosts, AreFirstCounters};
 
@@ -42,7 +42,7 @@ impl Posts {
         let (tally, seats) = Tally::make(alloc, workers)?;
         Ok(Posts {
             tally,
-            counters: counters_of(alloc, seats)?,
+            counters: counters_of(alloc, seats, workers)?,
             posts: Journal::make(alloc, workers)?,
             crew: Journal::make(alloc, workers)?,
             seats: Journal::make(alloc, workers)?,
@@ -51,14 +51,19 @@ impl Posts {
 }
 
 // A counter at each of these seats, by number.
-fn counters_of(alloc: Global, seats: Vec<HintSeat>) -> Result<Vec<Counter>, OutOfMemory>
+fn counters_of(
+    alloc: Global,
+    seats: Vec<HintSeat>,
+    workers: u32,
+) -> Result<Vec<Counter>, OutOfMemory>
+    requires { length seats.items ≡ workers }
     ensures { IfOk result (λ counters. AreFirstCounters seats.items counters.items) }
 {
-    let mut counters = Vec::with_capacity(alloc, seats.len())?;
-    let mut number = 0;
-    for seat in seats {
+    let mut left = seats;
+    let mut counters = Vec::with_capacity(alloc, workers as usize)?;
+    for number in 0..workers {
+        let seat = left.remove(0);
         counters.push(Counter::new(seat, number))?;
-        number += 1;
     }
     Ok(counters)
 }

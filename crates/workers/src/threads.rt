@@ -13,6 +13,18 @@ use run_workers::{Stage, Tally};
 use std::sync::Wait;
 use std::thread::{Threads, for_each_mut, join};
 
+// Lets a worker work at its post.
+fn work_at<R: Wait, P: Pace>(rt: &R, stage: &Stage<Board>, tally: &Tally, post: &mut Post, pace: &P)
+    requires { IsPosted (workers_stage stage.now) tally.now post.old }
+    ensures { HasWorked (workers_stage stage.now) tally.now post.old post.new }
+{
+    let seats = &mut post.seated.seats;
+    let counter = &mut post.counter;
+    post.seated
+        .worker
+        .work(rt, stage, seats, tally, counter, pace);
+}
+
 // Runs all workers beside each other, at their posts.
 fn run_workers<R: Threads + Wait + Sync, P: Pace + Sync>(
     rt: &R,
@@ -34,10 +46,7 @@ fn run_workers<R: Threads + Wait + Sync, P: Pace + Sync>(
             ensures { HasWorked (workers_stage stage.entry.now) tally.entry.now post.entry.now
                 post.exit.now }
         {
-            let seated = &mut post.seated;
-            let seats = &mut seated.seats;
-            let counter = &mut post.counter;
-            seated.worker.work(rt, stage, seats, tally, counter, pace);
+            work_at(rt, stage, tally, post, pace);
         },
     );
     posts

@@ -1,11 +1,11 @@
 use denote.Param.Send.{sendable}
 use Rattle.std.proofs.Crossing.{crosses}
-use Rattle.workers.proofs.Crosses.{seated_send, stage_sync}
+use Rattle.workers.proofs.Crosses.{post_send, stage_sync, tally_sync}
 use Rattle.workers.proofs.threads.run_with_controller.Goals as goal
 
 pub join-requires-send-F : goal.join-requires-send-F
 join-requires-send-F g c κs within =
-    search (sendable, crosses, seated_send, stage_sync) depth 60
+    search (sendable, crosses, post_send, stage_sync, tally_sync) depth 60
 
 pub join-requires-send-A : goal.join-requires-send-A
-join-requires-send-A g c κs within = search (sendable, crosses, seated_send) depth 60
+join-requires-send-A g c κs within = search (sendable, crosses, post_send) depth 60

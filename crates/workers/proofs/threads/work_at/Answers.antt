@@ -1,0 +1,12 @@
+use Rattle.workers.proofs.PostLemmas.{seen-or-looked}
+use Rattle.workers.proofs.threads.work_at.Goals as goal
+
+pub returns : goal.returns
+returns g c =
+    record {
+      goes = c.work.ensures.goes;
+      counts = c.work.ensures.counts;
+      free = c.work.ensures.free;
+      ended = seen-or-looked _ _ _ _ _ c.work.result c.work.ensures.finished
+          c.work.ensures.idle;
+    }
