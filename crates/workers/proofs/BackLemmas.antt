@@ -48,7 +48,7 @@ module _ (i : Input) (s : Run) (start : IsStart i.plan i.packets i.cut s)
   given-is : s.stage.shared.given ≡ setup_in i
   given-is = start.boards.given
 
-  packets-are : length s.stage.shared.given.packets ≡ length i.packets
+  pub packets-are : length s.stage.shared.given.packets ≡ length i.packets
   packets-are = ap (λ (g : Setup). length g.packets) given-is
 
   homes-are : length s.stage.shared.given.homes ≡ length i.plan.queues

@@ -1,10 +1,11 @@
 -- The workers at their posts: how they went on there, and how they have stayed.
 use Rattle.std.proofs.Common.{◌≡◌, ◌⊎◌, inl, inr, ℕ, zero, suc, ◌+◌, ◌<◌, ◌≤◌, List, [], ◌∷◌}
-use Rattle.std.proofs.Common.{Some, true, false, refl, sym, ap, subst, ◌∙◌, length, map, arith}
+use Rattle.std.proofs.Common.{All, Some, true, false, refl, sym, ap, subst, ◌∙◌, length, map, arith}
 use Rattle.std.specs.Prelude.{slice_get, slice_index_or}
 use Rattle.std.specs.List.{Contains, fold, sum, sum_by}
 use Rattle.std.proofs.lemmas.Bool.{and_from}
 use Rattle.std.proofs.lemmas.List.{length-map}
+use Rattle.std.proofs.lemmas.List.Elements.{All-cons, All-map, All-nil}
 use Rattle.atomic_table.specs.Seated.{TableId}
 use Rattle.linearization.specs.Seats.{SeatView, new_seats, seat_view}
 use Rattle.hint_words.specs.Loads.{LoadsAreStored}
@@ -15,7 +16,8 @@ use Rattle.run_words.specs.declared.seats.Seats.{Seats}
 use Rattle.run_workers.specs.Actors.{Each}
 use Rattle.run_workers.specs.Looks.{look_count}
 use Rattle.run_workers.specs.Stages.{StageView}
-use Rattle.run_workers.specs.Tally.{HasFinished, IsCounter, IsTally, LoadedCountsHold}
+use Rattle.run_workers.specs.Tally.{AreSeatsOf, HasFinished, IsCounter, IsTally}
+use Rattle.run_workers.specs.Tally.{LoadedCountsHold}
 use Rattle.run_workers.specs.Tally.{SawFinished, StoreAtMostTheirs, StoresAtMost, finished_by}
 use Rattle.run_workers.specs.Workers.{GoesOn, is_free}
 use Rattle.run_workers.specs.declared.tally.Counter.{Counter}
@@ -72,6 +74,11 @@ module _ {A : Type 0} where
       → Each (λ k y. Is (suc k) y) xs → Each Is (x ∷ xs)
   each-first Is x xs first rest zero y there = subst (Is 0) (some-is x y there) first
   each-first Is x xs first rest (suc k) y there = rest k y there
+
+  all-each : (P : A → Type 0) (xs : List A) → Each (λ k x. P x) xs → All P xs
+  all-each P [] each = All-nil P
+  all-each P (x ∷ xs) each =
+      All-cons P x xs (each 0 x refl) (all-each P xs (λ k y there. each (suc k) y there))
 
 -- ---- the threads
 
@@ -137,17 +144,20 @@ module _ (t : StageView) (tally : Tally) where
           let p = post-before k q there in
           (worked.each k q there p.0 p.1).counts.same ∙ (can.each k p.0 p.1).0
 
-      -- these are all seats of the tally
-      pub seats-come-back : length (map seat_at after) ≡ tally.workers
-      seats-come-back = length-map after seat_at ∙ (worked.count ∙ can.count)
+      seat-of-tally : (k : ℕ) (q : Post) → slice_get after k ≡ Some q
+          → q.counter.seat.table ≡ tally.words.table
+      seat-of-tally k q there =
+          let p = post-before k q there in (worked.each k q there p.0 p.1).counts.is.table
 
-      pub seats-of-tally : (k : ℕ) (s : Hint) → slice_get (map seat_at after) k ≡ Some s
-          → s.table ≡ tally.words.table
-      seats-of-tally k s there =
-          let q = image-at seat_at after k s there in
-          let p = post-before k q.0 q.1.0 in
-          subst (λ (z : Hint). z.table ≡ tally.words.table) q.1.1
-          (worked.each k q.0 q.1.0 p.0 p.1).counts.is.table
+      -- these are all seats of the tally
+      pub seats-of-tally : AreSeatsOf tally (map seat_at after)
+      seats-of-tally =
+          record {
+            table = All-map (λ (s : Hint). s.table ≡ tally.words.table) seat_at after
+                (all-each (λ (q : Post). q.counter.seat.table ≡ tally.words.table) after
+                seat-of-tally);
+            count = length-map after seat_at ∙ (worked.count ∙ can.count);
+          }
 
       abbrev counts : List ℕ
       counts = map (λ (q : Post). finished_by q.seated.worker) after
@@ -243,7 +253,7 @@ new-seat-at z n (suc count) zero s there =
     (sym (ap (λ (h : Hint). h.table) is), sym (ap (λ (h : Hint). h.steps) is))
 new-seat-at z n (suc count) (suc k) s there = new-seat-at z (n + 1) count k s there
 
-new-seats-count : (z : TableId) (n count : ℕ) → length (new_seats z n count) ≡ count
+pub new-seats-count : (z : TableId) (n count : ℕ) → length (new_seats z n count) ≡ count
 new-seats-count z n zero = refl
 new-seats-count z n (suc count) = ap suc (new-seats-count z (n + 1) count)
 

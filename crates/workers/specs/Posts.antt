@@ -9,7 +9,7 @@ use Rattle.run_words.specs.declared.seats.Seats.{Seats}
 use Rattle.run_workers.specs.Actors.{Each}
 use Rattle.run_workers.specs.Looks.{look_count}
 use Rattle.run_workers.specs.Stages.{StageView}
-use Rattle.run_workers.specs.Tally.{CountsOn, IsCounter, SawFinished, finished_by}
+use Rattle.run_workers.specs.Tally.{CountsOn, IsCounter, IsTally, SawFinished, finished_by}
 use Rattle.run_workers.specs.Workers.{GoesOn, IsWorking, is_free}
 use Rattle.run_workers.specs.declared.tally.Counter.{Counter}
 use Rattle.run_workers.specs.declared.tally.Tally.{Tally}
@@ -28,6 +28,7 @@ pub record AreFirstCounters (seats : List (SeatView HintStep)) (counters : List 
 
 -- A counter for each of so many workers, which has told nothing, and empty lists with room.
 pub record ArePosts (workers : ℕ) (p : Posts) : Type 0 where
+  pub is_tally : IsTally p.tally
   pub count : length p.counters.items ≡ workers
   pub workers_are : p.tally.workers ≡ workers
   pub counters : Each (λ k (c : Counter). (c.number ≡ k) × IsCounter p.tally c 0) p.counters.items

@@ -17,7 +17,7 @@ use hop_board::Board;
 use plan_reader::Plan;
 use run_crew::{Seated, crews_go_on, crews_learn_arrivals, sweep};
 use run_words::Pace;
-use run_workers::Stage;
+use run_workers::{Stage, loaded_counts_hold};
 use std::mem;
 use std::sync::Wait;
 use std::thread::Threads;
@@ -42,6 +42,7 @@ pub(crate) fn run_all<R: Threads + Wait + Sync, P: Pace + Sync>(
 {
     crews_go_on();
     boards_have_their_settings();
+    loaded_counts_hold();
     let Run {
         stage,
         crew,

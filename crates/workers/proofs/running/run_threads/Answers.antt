@@ -25,7 +25,7 @@ run_to_the_end-requires g c κs within =
               refl,
               (
                 own-flows i run start c.requires.flows,
-                (own-start i run start, c.in_ok-spare.ensures),
+                (own-start i run start, (c.in_ok-posts.ensures, c.in_ok-spare.ensures)),
               ),
             ),
           ),

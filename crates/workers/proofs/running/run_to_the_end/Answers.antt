@@ -13,7 +13,7 @@ run_all-run-requires g c κs within = (
           c.requires.1.1.1.1.0,
           (
             c.requires.1.1.1.1.1.0,
-            c.requires.1.1.1.1.1.1.0,
+            (c.requires.1.1.1.1.1.1.0, c.requires.1.1.1.1.1.1.1.0),
           ),
         ),
       ),
