@@ -11,7 +11,7 @@ use Rattle.std.proofs.lemmas.List.Sums.{sum_by-cons, sum_by-take-le}
 use Rattle.linearization.specs.Seats.{SeatView}
 use Rattle.hint_words.specs.Loads.{ComesFrom, LoadsAreStored}
 use Rattle.hint_words.specs.declared.step.HintStep.{HintStep}
-use Rattle.hint_words.specs.declared.step.HintStep.TheVariants.{Load, Store}
+use Rattle.hint_words.specs.declared.step.HintStep.TheVariants.{ClearIf, Load, Store}
 use Rattle.hop_rule.proofs.Lists.{none-some, some-is}
 use Rattle.hop_rule.specs.declared.step.BoardStep.{BoardStep}
 use Rattle.board_api.specs.OwnSteps.{retired_by, retired_in as retired_step}
@@ -72,15 +72,15 @@ module _ (t : StageView) (w v : Worker) (s r : Seats) (x : IsWorking t w s)
       let more = retired_more d.lane s.tx.steps r.tx.steps goes.same.tx_steps in
       let was_retired = old.is.retired in
       let is_retired = new.is.retired
-          ∙ ap (λ l. length (retired_by l r.tx.steps)) lane in
+      ∙ ap (λ l. length (retired_by l r.tx.steps)) lane in
       omega (arith, more, was_retired, is_retired)
 
   pub finished_rises : finished_by w ≤ finished_by v
   finished_rises =
       let drops = sums_rise dropped_by w.pollers.items v.pollers.items goes.same.pollers
-          goes.same.drops in
+      goes.same.drops in
       let retired = sums_rise (λ (d : Drain). d.retired) w.ships.items v.ships.items
-          goes.same.ships (λ k e there d was. ship_rises k e d there was) in
+      goes.same.ships (λ k e there d was. ship_rises k e d there was) in
       omega (arith, drops, retired)
 
 -- ---- what was told
@@ -146,14 +146,62 @@ module _ (t : Tally) (c d : Counter) (count : ℕ) (step : HintStep)
         same = same;
       }
 
+-- the word and the value of a step
+abbrev word_of : HintStep → ℕ
+word_of (Load word value) = word
+word_of (Store word value) = word
+word_of (ClearIf word value done) = word
+
+abbrev value_of : HintStep → ℕ
+value_of (Load word value) = value
+value_of (Store word value) = value
+value_of (ClearIf word value done) = value
+
+-- the counter told a count that is no more than this
+pub counter_tells : (t : Tally) (c d : Counter) (count told : ℕ)
+    → d.seat ≡ record c.seat { steps = Store c.number told ∷ c.seat.steps }
+    → d.number ≡ c.number → told ≤ count → IsCounter t c count → CountsOn t c d count
+counter_tells t c d count told seat same most x =
+    counts_more t c d count (Store c.number told) seat same x
+    (λ word value is.
+    let here = ap word_of is in
+    let what = ap value_of is in
+    (sym here, omega (arith, most, what)))
+
+-- the counter loaded a word
+pub counter_loads : (t : Tally) (c d : Counter) (count word value : ℕ)
+    → d.seat ≡ record c.seat { steps = Load word value ∷ c.seat.steps }
+    → d.number ≡ c.number → IsCounter t c count → CountsOn t c d count
+counter_loads t c d count word value seat same x =
+    counts_more t c d count (Load word value) seat same x (λ other v is. no_store word value other v is)
+  where
+    no_store : {A : Type 0} (a b i n : ℕ) → Load a b ≡ Store i n → A
+    no_store a b i n e = cc
+
 -- ---- what was loaded
 
 pub loaded_later : (before after : List HintStep) (w total : ℕ) → Grows before after
     → Loaded before w total → Loaded after w total
 loaded_later before after zero total grows loaded = loaded
-loaded_later before after (suc w) total grows (rest, value, lower, has, is) =
-    (rest, value, loaded_later before after w rest grows lower,
-        contains_later before after (Load w value) grows has, is)
+loaded_later before after (suc w) total grows (rest, value, lower, has, is) = (
+  rest,
+  value,
+  loaded_later before after w rest grows lower,
+  contains_later before after (Load w value) grows has,
+  is,
+)
+
+-- with one word more
+pub loaded_more : (before after : List HintStep) (w total value : ℕ)
+    → after ≡ Load w value ∷ before → Loaded before w total → Loaded after (suc w) (total + value)
+loaded_more before after w total value is loaded = (
+  total,
+  value,
+  loaded_later before after w total (Load w value ∷ [], is) loaded,
+  subst (λ ds. Contains ds (Load w value)) (sym is)
+      (contains_first (Load w value) before),
+  refl,
+)
 
 -- ---- the closing
 
@@ -175,7 +223,7 @@ module _ (counts : List ℕ) (seats : List Hint) (stored : LoadsAreStored seats)
       let told = mine.1.1 word value has in
       let most = told.1 in
       let same = some-is mine.0 count
-          (sym mine.1.0 ∙ (ap (slice_get counts) (sym told.0) ∙ there)) in
+      (sym mine.1.0 ∙ (ap (slice_get counts) (sym told.0) ∙ there)) in
       omega (arith, most, same)
 
   -- so is a value that was loaded
@@ -188,8 +236,8 @@ module _ (counts : List ℕ) (seats : List Hint) (stored : LoadsAreStored seats)
       by_value (inl none) = omega (arith, none)
       by_value (inr some) =
           let from = All-contains (ComesFrom seats) seat.steps (Load word value)
-              (All-contains (λ (s : Hint). All (ComesFrom seats) s.steps) seats seat stored among)
-              has some in
+          (All-contains (λ (s : Hint). All (ComesFrom seats) s.steps) seats seat stored among)
+          has some in
           stored_most word value count from.seat from.among from.stores there
 
   front_more : (xs : List ℕ) (i n : ℕ) → slice_get xs i ≡ Some n
@@ -215,6 +263,6 @@ module _ (counts : List ℕ) (seats : List Hint) (stored : LoadsAreStored seats)
 pub loaded_counts_hold : LoadedCountsHold
 loaded_counts_hold counts seats seat packets stored own among (total, loaded, enough) =
     let front = loaded_front counts seats stored own seat among (length counts) total
-        (omega arith) loaded in
+    (omega arith) loaded in
     let all = sum_by-take-le (λ (n : ℕ). n) counts (length counts) in
     omega (arith, enough, front, all)
