@@ -15,6 +15,8 @@ mod DrainLemmas
 mod AcceptedLemmas
 mod ArrivalLemmas
 mod CountLemmas
+mod DealtSumLemmas
+mod FinishedLemmas
 mod StoreLemmas
 mod RunLemmas
 mod RoundLemmas

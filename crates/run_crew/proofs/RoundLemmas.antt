@@ -1,6 +1,7 @@
 -- How all workers go on, one after the other.
 use Rattle.std.proofs.Common.{◌≡◌, ◌≢◌, ◌⊎◌, inl, inr, ℕ, zero, suc, ◌/◌, ◌%◌, ◌<◌, List, [], ◌∷◌}
-use Rattle.std.proofs.Common.{Some, length, sym, refl, ap, ◌∙◌, subst, arith, slice_set}
+use Rattle.std.proofs.Common.{Bool, false, true, Some, length, sym, refl, ap, ◌∙◌, subst, arith}
+use Rattle.std.proofs.Common.{slice_set}
 use Rattle.std.specs.Prelude.{slice_get}
 use Rattle.std.proofs.lemmas.Bool.{cases_eq}
 use Rattle.std.proofs.lemmas.List.{length-set}
@@ -28,6 +29,10 @@ get-other (x ∷ xs) zero zero z ne = absurd (ne refl)
 get-other (x ∷ xs) zero (suc k) z ne = refl
 get-other (x ∷ xs) (suc i) zero z ne = refl
 get-other (x ∷ xs) (suc i) (suc k) z ne = get-other xs i k z (λ same. ne (ap suc same))
+
+-- what is false and true is everything
+pub both_ways : {A : Type 0} (b : Bool) → b ≡ false → b ≡ true → A
+both_ways b no_ yes_ = cc
 
 module _ (t : StageView) where
   -- the worker at a place before

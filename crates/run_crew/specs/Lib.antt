@@ -10,6 +10,7 @@ pub mod ReplyLaws
 pub mod DrainLaws
 pub mod CountLaws
 pub mod Counts
+pub mod Finished
 pub mod ThreadLaws
 pub mod RunLaws
 pub mod Sweeps

@@ -1,6 +1,7 @@
 //! Lemmas on the workers of a run together: functions without code whose contracts state them.
 ghost use Rattle.run_crew.specs.CountLaws.{FullCountsSuffice};
 ghost use Rattle.run_crew.specs.DrainLaws.{DrainsKeepCoupling};
+ghost use Rattle.run_crew.specs.Finished.{FinishedCrewsAreFull};
 ghost use Rattle.run_crew.specs.QueueLaws.{CrewsHaveTurns, QueuesKeepCoupling, QueuesKeepTurns};
 ghost use Rattle.run_crew.specs.ReplyLaws.{ApplicationsKeepCoupling};
 ghost use Rattle.run_crew.specs.RunLaws.{EndedRunsAreRuns};
@@ -60,6 +61,12 @@ pub fn drains_keep_their_coupling()
 /// are equal.
 pub fn full_counts_suffice()
     ensures { FullCountsSuffice }
+{}
+
+/// Lemma: if the workers have finished as many packets as there are, by their counts, the count of
+/// the sweep is full.
+pub fn finished_crews_are_full()
+    ensures { FinishedCrewsAreFull }
 {}
 
 /// Lemma: what the contracts of the controller, of the wire and of a ring say of what the end of a

@@ -13,7 +13,7 @@ pub use coupling_laws::{
 };
 pub use laws::{
     applications_keep_their_coupling, crews_go_on, crews_have_turns, crews_learn_arrivals,
-    drains_keep_their_coupling, ended_runs_are_runs, full_counts_suffice,
+    drains_keep_their_coupling, ended_runs_are_runs, finished_crews_are_full, full_counts_suffice,
     queues_keep_their_coupling, threads_keep_their_parts,
 };
 pub use rounds::sweep;

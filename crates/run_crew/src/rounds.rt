@@ -13,8 +13,8 @@ use std::sync::Wait;
 use steer_model::Given;
 
 /// Repeats the turns of all workers, in their order, until each packet is on the port or was
-/// dropped and no packet is in a hand. The caller has taken all threads back, and the stage has all
-/// arrivals.
+/// dropped and no packet is in a hand. Looks before each round: where that is so at first, no worker
+/// has a turn. The caller has taken all threads back, and the stage has all arrivals.
 pub fn sweep<R: Wait, B: Board>(rt: &R, stage: &Stage<B>, crew: &mut [Seated])
     requires some { 0 < length crew.old }
     requires work { AllWork (stage_view (B.view stage.now.rx) (B.view stage.now.tx)
@@ -24,12 +24,14 @@ pub fn sweep<R: Wait, B: Board>(rt: &R, stage: &Stage<B>, crew: &mut [Seated])
     ensures free { all_free crew.new ≡ true }
     ensures full { IsFull crew.new (length stage.now.shared.given.homes) stage.now.shared.given.txs
         (length stage.now.shared.given.packets) }
+    ensures rests { IsFull crew.old (length stage.now.shared.given.homes) stage.now.shared.given.txs
+        (length stage.now.shared.given.packets) → all_free crew.old ≡ true → crew.new ≡ crew.old }
 {
     for _ in rt.forever() {
-        play_each(rt, stage, crew);
         if is_over(stage, crew) {
             return;
         }
+        play_each(rt, stage, crew);
     }
     unreachable!()
 }
@@ -64,6 +66,8 @@ fn is_over<B>(stage: &Stage<B>, crew: &[Seated]) -> bool
     ensures full { result ≡ true
         → IsFull crew.now (length stage.now.shared.given.homes) stage.now.shared.given.txs
         (length stage.now.shared.given.packets) }
+    ensures rests { IsFull crew.now (length stage.now.shared.given.homes) stage.now.shared.given.txs
+        (length stage.now.shared.given.packets) → all_free crew.now ≡ true → result ≡ true }
 {
     is_full(&stage.shared.given, crew) && are_free(crew)
 }
@@ -71,14 +75,16 @@ fn is_over<B>(stage: &Stage<B>, crew: &[Seated]) -> bool
 // Whether each packet is on the port or was dropped, by the counts of the workers.
 fn is_full(given: &Given, crew: &[Seated]) -> bool
     requires some { 0 < length crew.now }
-    ensures { result ≡ true
+    ensures full { result ≡ true
         → IsFull crew.now (length given.now.homes) given.now.txs (length given.now.packets) }
+    ensures rests { IsFull crew.now (length given.now.homes) given.now.txs
+        (length given.now.packets) → result ≡ true }
 {
     let queues = given.queues();
     let due = given.packet_count() as u64 + count_below(crew, Count::Accepted, queues);
     let shipped = count_below(crew, Count::Retired, given.txs());
     let done = shipped + count_below(crew, Count::Chosen, queues);
-    due == done
+    due <= done
 }
 
 // Whether no worker has a packet in hand.

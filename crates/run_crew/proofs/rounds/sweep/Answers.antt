@@ -1,19 +1,30 @@
-use Rattle.run_crew.proofs.RoundLemmas.{all_after, go_both, go_first}
+use Rattle.std.proofs.Common.{◌≡◌, ◌∙◌, ap, false, length, refl, subst, sym, true}
+use Rattle.run_crew.specs.CountLaws.{IsFull}
+use Rattle.run_crew.specs.Sweeps.{all_free}
+use Rattle.run_crew.proofs.RoundLemmas.{all_after, both_ways, go_both, go_first}
 use Rattle.run_crew.proofs.rounds.sweep.Goals as goal
 
 pub loop-init : goal.loop-init
-loop-init g c = go_first _ c.args.crew.now c.requires.work
+loop-init g c =
+    record {
+      goes = go_first _ c.args.crew.now c.requires.work;
+      rests = λ full free. refl;
+    }
 
 pub play_each-requires : goal.play_each-requires
 play_each-requires g c =
-    record { work = all_after _ c.args.crew.now c.loop.crew c.loop.invariant }
-
-pub returns-then-is_over-clause-goes : goal.returns-then-is_over-clause-goes
-returns-then-is_over-clause-goes g c =
-    go_both _ c.args.crew.now c.loop.crew c.play_each.new.crew c.loop.invariant
-    c.play_each.ensures.goes
+    record { work = all_after _ c.args.crew.now c.loop.crew c.loop.invariant.goes }
 
 pub loop-preserved : goal.loop-preserved
 loop-preserved g c =
-    go_both _ c.args.crew.now c.loop.crew c.play_each.new.crew c.loop.invariant
-    c.play_each.ensures.goes
+    record {
+      goes = go_both _ c.args.crew.now c.loop.crew c.play_each.new.crew c.loop.invariant.goes
+          c.play_each.ensures.goes;
+      rests = λ full free.
+          let same = c.loop.invariant.rests full free in
+          let given = c.args.stage.now.shared.given in
+          both_ways c.is_over.result c.if-is_over.false
+          (c.is_over.ensures.rests
+          (subst (λ xs. IsFull xs (length given.homes) given.txs (length given.packets)) (sym same)
+          full) (ap all_free same ∙ free));
+    }
