@@ -47,7 +47,7 @@ chosen_of (Some p) = length p.choices.items
 -- Of n packets each was retired at the transmit board or dropped: the packets that were chosen for
 -- and not accepted are those that were dropped. No more are finished than there are, which is known
 -- at the closing of the boards.
-abbrev pub IsFull : List Seated → ℕ → ℕ → ℕ → Type 0
+abbrev pub IsFull : List Seated → (queues lanes packets : ℕ) → Type 0
 IsFull crew queues lanes n =
     n + sum_below (λ q. accepted_of (played crew pollers_of q)) queues
     ≤ sum_below (λ l. retired_of (played crew ships_of l)) lanes
