@@ -22,6 +22,7 @@ use Rattle.run_controller.specs.Stages.{stage}
 use Rattle.run_workers.specs.Stages.{stage_view}
 use Rattle.run_crew.specs.CountLaws.{IsFull}
 use Rattle.run_crew.specs.Crews.{AreWorking}
+use Rattle.run_crew.specs.Finished.{FinishedCrewsAreFull, finished_by_all}
 use Rattle.run_crew.specs.Sweeps.{CrewsGoOn, CrewsLearnArrivals, CrewsPlayOn, GoOn}
 use Rattle.run_crew.specs.Sweeps.{PlayOn, all_free}
 use Rattle.run_crew.specs.declared.seated.Seated.{Seated}
@@ -202,6 +203,16 @@ module _ (i : Input) (s : Run) (back : IsBack i s s.wire.wire.arrivals.items)
       (length i.plan.apps)
       (subst (λ (l : List Arrival). AreWorking (stage_view s.stage.rx s.stage.tx s.stage.shared l)
       s.crew.items (length i.plan.queues) (length i.plan.apps)) none back.work)
+
+  -- workers that have finished all packets have a full count
+  pub crew-full : FinishedCrewsAreFull → length i.packets ≤ finished_by_all s.crew.items
+      → IsFull s.crew.items (length s.stage.shared.given.homes) s.stage.shared.given.txs
+      (length s.stage.shared.given.packets)
+  crew-full full all =
+      let packets = ap (λ (g : Setup). length g.packets) back.boards.given in
+      full (stage_view s.stage.rx s.stage.tx s.stage.shared late) s.crew.items
+      (length i.plan.queues) (length i.plan.apps) (length s.stage.shared.given.packets) late-work
+      (subst (λ n. n ≤ finished_by_all s.crew.items) (sym packets) all)
 
   module _ (keep : CrewsGoOn) (play : CrewsPlayOn) (t : Run)
       (late-is : t.stage.late.items ≡ late) (known : late ≡ s.wire.wire.arrivals.items)

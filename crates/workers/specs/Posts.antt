@@ -1,7 +1,6 @@
 -- The posts of the workers while their threads run, and how they have stayed there.
 use Rattle.std.specs.Prelude.{◌≡◌, ◌⊎◌, ℕ, ◌+◌, ◌<◌, ◌≤◌, List, [], Some, true, length, map}
 use Rattle.std.specs.Prelude.{slice_get}
-use Rattle.std.specs.List.{sum_by}
 use Rattle.linearization.specs.Seats.{SeatView}
 use Rattle.steer_base.specs.Journals.{journal}
 use Rattle.hint_words.specs.declared.step.HintStep.{HintStep}
@@ -14,6 +13,7 @@ use Rattle.run_workers.specs.Workers.{GoesOn, IsWorking, is_free}
 use Rattle.run_workers.specs.declared.tally.Counter.{Counter}
 use Rattle.run_workers.specs.declared.tally.Tally.{Tally}
 use Rattle.run_workers.specs.declared.work.TheConstants.{MAX_IDLE_TURNS}
+use Rattle.run_crew.specs.Finished.{finished_by_all}
 use Rattle.run_crew.specs.declared.seated.Seated.{Seated}
 use Rattle.workers.specs.declared.posts.Post.{Post}
 use Rattle.workers.specs.declared.posts.Posts.{Posts}
@@ -70,10 +70,6 @@ pub record HaveWorked (t : StageView) (tally : Tally) (before after : List Post)
   pub each : Each (λ k q. (p : Post) → slice_get before k ≡ Some p → HasWorked t tally p q) after
 
 -- ---- the end
-
--- how many packets all workers together have finished
-abbrev pub finished_by_all : List Seated → ℕ
-finished_by_all crew = sum_by (λ (x : Seated). finished_by x.worker) crew
 
 -- The workers stayed until all packets were finished, or each of them looked `MAX_IDLE_TURNS`
 -- times whether all had arrived.

@@ -28,4 +28,12 @@ returns g c =
       full = subst (λ xs. IsFull xs (length c.args.stage.now.shared.given.homes)
           c.args.stage.now.shared.given.txs (length c.args.stage.now.shared.given.packets)) whole
           c.sweep.ensures.full;
+      rests = λ full free.
+          let given = c.args.stage.now.shared.given in
+          let before = sym c.as_mut_slice.ensures.value in
+          sym whole
+          ∙ (c.sweep.ensures.rests
+          (subst (λ xs. IsFull xs (length given.homes) given.txs (length given.packets)) before
+          full) (subst (λ xs. all_free xs ≡ true) before free)
+          ∙ c.as_mut_slice.ensures.value);
     }
