@@ -26,11 +26,12 @@ use Rattle.run_workers.specs.declared.work.Ended.{Ended}
 use Rattle.run_workers.specs.declared.work.Ended.TheVariants as ended
 use Rattle.run_workers.specs.declared.work.TheConstants.{MAX_IDLE_TURNS}
 use Rattle.run_workers.proofs.TallyLemmas.{counts_rise}
+use Rattle.run_crew.specs.Finished.{finished_by_all}
 use Rattle.run_crew.specs.Sweeps.{AllWork, GoOn, all_free}
 use Rattle.run_crew.specs.declared.seated.Seated.{Seated}
 use Rattle.run_crew.proofs.ChoiceFunctions.{is-within, item-at}
 use Rattle.workers.specs.Posts.{AreFirstCounters, ArePosts, CanBeManned, HasSeenOrLooked}
-use Rattle.workers.specs.Posts.{HasWorked, HaveStayed, HaveWorked, finished_by_all}
+use Rattle.workers.specs.Posts.{HasWorked, HaveStayed, HaveWorked}
 use Rattle.workers.specs.declared.posts.Post.{Post}
 use Rattle.workers.specs.declared.posts.Posts.{Posts}
 use Rattle.workers.proofs.CrewLemmas.{read-at}
