@@ -13,8 +13,8 @@ use std::sync::Wait;
 use steer_model::Given;
 
 /// Repeats the turns of all workers, in their order, until each packet is on the port or was
-/// dropped and no packet is in a hand. Looks before each round: where that is so at first, no worker
-/// has a turn. The caller has taken all threads back, and the stage has all arrivals.
+/// dropped and no packet is in a hand. It looks before each round: where that is so at first, no
+/// worker has a turn. The caller has taken all threads back, and the stage has all arrivals.
 pub fn sweep<R: Wait, B: Board>(rt: &R, stage: &Stage<B>, crew: &mut [Seated])
     requires some { 0 < length crew.old }
     requires work { AllWork (stage_view (B.view stage.now.rx) (B.view stage.now.tx)
