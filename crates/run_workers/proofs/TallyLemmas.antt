@@ -20,15 +20,17 @@ use Rattle.run_workers.specs.declared.poller.Poller.{Poller}
 use Rattle.run_workers.specs.declared.tally.Counter.{Counter}
 use Rattle.run_workers.specs.declared.tally.Tally.{Tally}
 use Rattle.run_workers.specs.declared.worker.Worker.{Worker}
+use Rattle.run_words.specs.declared.hint_word.TheConstants.{DONE_WORD}
+use Rattle.run_words.specs.declared.values.TheConstants.{DONE as DONE_VALUE}
 use Rattle.run_words.specs.declared.seats.Seats.{Seats}
 use Rattle.run_workers.specs.Actors.{Each, KeepsDrain, actor_at}
 use Rattle.run_workers.specs.declared.drain.Exit.TheVariants.{Port}
 use Rattle.run_workers.specs.Records.Growth.{Grows}
 use Rattle.run_workers.specs.Stages.{StageView}
-use Rattle.run_workers.specs.Tally.{CountsOn, IsCounter, Loaded, LoadedCountsHold, SawFinished}
-use Rattle.run_workers.specs.Tally.{StoreAtMostTheirs, StoresAtMost, dropped_by, dropped_in}
-use Rattle.run_workers.specs.Tally.{finished_by, retired_in}
-use Rattle.run_workers.specs.Workers.{GoesOn, HasDrops, IsWorking}
+use Rattle.run_workers.specs.Tally.{CountsOn, HasFinished, IsCounter, Loaded}
+use Rattle.run_workers.specs.Tally.{LoadedCountsHold, StoreAtMostTheirs, StoresAtMost}
+use Rattle.run_workers.specs.Tally.{dropped_by, finished_by}
+use Rattle.run_workers.specs.Workers.{GoesOn, IsWorking}
 use Rattle.run_workers.proofs.EachLemmas.{item_at}
 use Rattle.run_workers.proofs.Records.ListLemmas.{contains_first, contains_later}
 
@@ -45,8 +47,8 @@ sums_rise f [] (y ∷ ys) same each = absurd (omega (arith, same))
 sums_rise f (x ∷ xs) [] same each = absurd (omega (arith, same))
 sums_rise f (x ∷ xs) (y ∷ ys) same each =
     let one = each 0 y refl x refl in
-    let rest = sums_rise f xs ys (omega (arith, same)) (λ k z got w there. each (suc k) z got w there)
-    in
+    let rest = sums_rise f xs ys (omega (arith, same))
+    (λ k z got w there. each (suc k) z got w there) in
     let first = sum_by-cons f x xs in
     let last = sum_by-cons f y ys in
     omega (arith, one, rest, first, last)
@@ -173,7 +175,8 @@ pub counter_loads : (t : Tally) (c d : Counter) (count word value : ℕ)
     → d.seat ≡ record c.seat { steps = Load word value ∷ c.seat.steps }
     → d.number ≡ c.number → IsCounter t c count → CountsOn t c d count
 counter_loads t c d count word value seat same x =
-    counts_more t c d count (Load word value) seat same x (λ other v is. no_store word value other v is)
+    counts_more t c d count (Load word value) seat same x
+    (λ other v is. no_store word value other v is)
   where
     no_store : {A : Type 0} (a b i n : ℕ) → Load a b ≡ Store i n → A
     no_store a b i n e = cc
@@ -202,6 +205,18 @@ loaded_more before after w total value is loaded = (
       (contains_first (Load w value) before),
   refl,
 )
+
+-- all packets were finished before these steps at the hint words
+pub finished_later : (workers packets : ℕ) (old mid new : Seats) (c : Counter)
+    → Grows old.hint.steps mid.hint.steps → Grows mid.hint.steps new.hint.steps
+    → HasFinished workers packets old c → HasFinished workers packets new c
+finished_later workers packets old mid new c first second x =
+    record {
+      arrived = contains_later mid.hint.steps new.hint.steps (Load DONE_WORD DONE_VALUE) second
+          (contains_later old.hint.steps mid.hint.steps (Load DONE_WORD DONE_VALUE) first
+          x.arrived);
+      saw = x.saw;
+    }
 
 -- ---- the closing
 

@@ -1,5 +1,6 @@
 //! The posts of the workers: where each works while the threads run, with its place at the tally.
-ghost use Rattle.std.specs.Prelude.{◌≡◌, [], IfOk, length, map};
+ghost use Rattle.std.specs.Prelude.{◌≡◌, ◌<◌, ◌∷◌, [], IfOk, length, map};
+ghost use Rattle.std.specs.Vec.{vec_len};
 ghost use Rattle.steer_base.specs.Journals.{journal};
 ghost use Rattle.workers.specs.Posts.{ArePosts, AreFirstCounters};
 
@@ -62,7 +63,7 @@ fn counters_of(
     let mut left = seats;
     let mut counters = Vec::with_capacity(alloc, workers as usize)?;
     for number in 0..workers {
-        let seat = left.remove(0);
+        let seat = next(&mut left);
         counters.push(Counter::new(seat, number))?;
     }
     Ok(counters)
@@ -78,7 +79,7 @@ pub fn man(crew: Vec<Seated>, counters: Vec<Counter>, posts: Journal<Post>) -> V
     let mut left = counters;
     let mut manned = posts;
     for seated in crew {
-        let counter = left.remove(0);
+        let counter = next(&mut left);
         manned.push(Post { seated, counter });
     }
     manned.into_vec()
@@ -102,4 +103,12 @@ pub fn dismiss(
         free.push(counter.seat);
     }
     (back.into_vec(), free.into_vec())
+}
+
+// Takes the first item.
+fn next<T>(left: &mut Vec<T>) -> T
+    requires { 0 < vec_len left.old }
+    ensures { left.old.items ≡ result ∷ left.new.items }
+{
+    left.remove(0)
 }
