@@ -196,15 +196,18 @@ loaded_later before after (suc w) total grows (rest, value, lower, has, is) = (
 
 -- with one word more
 pub loaded_more : (before after : List HintStep) (w total value : ℕ)
-    → after ≡ Load w value ∷ before → Loaded before w total → Loaded after (suc w) (total + value)
-loaded_more before after w total value is loaded = (
-  total,
-  value,
-  loaded_later before after w total (Load w value ∷ [], is) loaded,
-  subst (λ ds. Contains ds (Load w value)) (sym is)
-      (contains_first (Load w value) before),
-  refl,
-)
+    → after ≡ Load w value ∷ before → Loaded before w total → Loaded after (w + 1) (total + value)
+loaded_more before after w total value is loaded =
+    subst (λ n. Loaded after n (total + value)) one_more (
+      total,
+      value,
+      loaded_later before after w total (Load w value ∷ [], is) loaded,
+      subst (λ ds. Contains ds (Load w value)) (sym is) (contains_first (Load w value) before),
+      refl,
+    )
+  where
+    one_more : suc w ≡ w + 1
+    one_more = omega arith
 
 -- all packets were finished before these steps at the hint words
 pub finished_later : (workers packets : ℕ) (old mid new : Seats) (c : Counter)
@@ -235,10 +238,10 @@ module _ (counts : List ℕ) (seats : List Hint) (stored : LoadsAreStored seats)
   stored_most word value count s among has there =
       let place = place_of seats s among in
       let mine = own place.0 s place.1 in
-      let told = mine.1.1 word value has in
+      let told = mine.2 word value has in
       let most = told.1 in
       let same = some-is mine.0 count
-      (sym mine.1.0 ∙ (ap (slice_get counts) (sym told.0) ∙ there)) in
+      (sym mine.1 ∙ (ap (slice_get counts) (sym told.0) ∙ there)) in
       omega (arith, most, same)
 
   -- so is a value that was loaded
