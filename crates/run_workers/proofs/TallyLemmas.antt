@@ -1,9 +1,9 @@
 -- What a worker has finished never falls, and what it has told is no more.
 use Rattle.std.proofs.Common.{◌≡◌, ◌≢◌, ◌⊎◌, inl, inr, ℕ, zero, suc, ◌+◌, ◌<◌, ◌≤◌, List, [], ◌∷◌}
-use Rattle.std.proofs.Common.{◌++◌, All, Some, refl, sym, ap, subst, ◌∙◌, length, arith}
+use Rattle.std.proofs.Common.{All, Some, refl, sym, ap, subst, ◌∙◌, length, arith}
 use Rattle.std.proofs.Common.{take}
 use Rattle.std.specs.Prelude.{slice_get}
-use Rattle.std.specs.List.{Contains, filter_map, sum, sum_by}
+use Rattle.std.specs.List.{Contains, sum, sum_by}
 use Rattle.std.proofs.lemmas.Bool.{cases_eq}
 use Rattle.std.proofs.lemmas.List.{length-append}
 use Rattle.std.proofs.lemmas.List.Elements.{All-contains, filter_map-append}
@@ -16,7 +16,6 @@ use Rattle.hop_rule.proofs.Lists.{none-some, some-is}
 use Rattle.hop_rule.specs.declared.step.BoardStep.{BoardStep}
 use Rattle.board_api.specs.OwnSteps.{retired_by, retired_in as retired_step}
 use Rattle.run_workers.specs.declared.drain.Drain.{Drain}
-use Rattle.run_workers.specs.declared.poller.Poller.{Poller}
 use Rattle.run_workers.specs.declared.tally.Counter.{Counter}
 use Rattle.run_workers.specs.declared.tally.Tally.{Tally}
 use Rattle.run_workers.specs.declared.worker.Worker.{Worker}
