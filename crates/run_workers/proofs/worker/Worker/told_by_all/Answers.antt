@@ -14,7 +14,7 @@ loop-word-preserved c =
           (counter_loads c.args.tally.now c.loop-word.counter _ (finished_by c.args.self.now)
           c.loop-word.word c.load-count.result c.load-count.ensures.step refl i.counts.is);
       sum = i.sum + c.load-count.result;
-      loaded = loaded_more c.loop-word.counter.seat.steps c.load-count.new.seat.steps c.loop-word.word i.sum
-          c.load-count.result seat i.loaded;
+      loaded = loaded_more c.loop-word.counter.seat.steps c.load-count.new.seat.steps
+          c.loop-word.word i.sum c.load-count.result seat i.loaded;
       most = omega (arith, most);
     }
