@@ -12,6 +12,8 @@ const SEGMENT_PAIR: Pair = Pair::V4 {
     dst: 0xa18e6450,
 };
 
+const SEGMENT_FLOW: Flow = Flow::Four(SEGMENT_PAIR, Proto::Tcp, 2794, 1766);
+
 // A SYN between the same ends, as an operating system writes it: with an identification, "do not
 // fragment", checksums, and 20 bytes of options (segment size, selective acknowledgement,
 // timestamps, scale).
@@ -93,18 +95,19 @@ fn has_payload(rt: &impl Abort, packet: &[u8], kind: u16, payload: Option<Payloa
     same(rt, &payload_of(packet, kind), &payload, packet.len());
 }
 
+const WHOLE: [(&[u8], Flow); 7] = [
+    (&SEGMENT, SEGMENT_FLOW),
+    (&SYN, SEGMENT_FLOW),
+    (&TCP6, Flow::Four(TCP6_PAIR, Proto::Tcp, 14230, 4739)),
+    (&ARP, Flow::Bare),
+    (&THREE_TAGS, Flow::Bare),
+    (&[], Flow::Bare),
+    (&[0; 14], Flow::Bare),
+];
+
 #[test]
 fn whole_frames(rt: HostRuntime) {
-    let cases: [(&[u8], Flow); 7] = [
-        (&SEGMENT, Flow::Four(SEGMENT_PAIR, Proto::Tcp, 2794, 1766)),
-        (&SYN, Flow::Four(SEGMENT_PAIR, Proto::Tcp, 2794, 1766)),
-        (&TCP6, Flow::Four(TCP6_PAIR, Proto::Tcp, 14230, 4739)),
-        (&ARP, Flow::Bare),
-        (&THREE_TAGS, Flow::Bare),
-        (&[], Flow::Bare),
-        (&[0; 14], Flow::Bare),
-    ];
-    for (i, (frame, flow)) in cases.iter().enumerate() {
+    for (i, (frame, flow)) in WHOLE.iter().enumerate() {
         has_flow(&rt, frame, *flow, i);
     }
 }
@@ -118,28 +121,29 @@ fn changed(at: usize, byte: u8) -> [u8; 54] {
     frame
 }
 
+const SEGMENT_ENDS: Flow = Flow::Two(SEGMENT_PAIR);
+
+const BYTES: [(usize, u8, Flow); 15] = [
+    (12, 0x86, Flow::Bare),
+    (14, 0x44, Flow::Bare), // four words of header
+    (14, 0x46, Flow::Four(SEGMENT_PAIR, Proto::Tcp, 0, 0)), // six words: ports come later
+    (14, 0x4f, Flow::Bare), // fifteen words, of which ten are there
+    (14, 0x55, Flow::Bare),
+    (14, 0x65, Flow::Bare),
+    (20, 0x20, SEGMENT_ENDS), // more fragments
+    (20, 0x1f, SEGMENT_ENDS), // an offset's high bits
+    (21, 0x01, SEGMENT_ENDS), // its lowest bit
+    (21, 0xb9, SEGMENT_ENDS),
+    (20, 0x40, SEGMENT_FLOW), // do not fragment
+    (20, 0x80, SEGMENT_FLOW), // the bit that is reserved
+    (23, 1, SEGMENT_ENDS),
+    (23, 17, Flow::Four(SEGMENT_PAIR, Proto::Udp, 2794, 1766)),
+    (23, 47, SEGMENT_ENDS),
+];
+
 #[test]
 fn one_byte_of_the_ipv4_header(rt: HostRuntime) {
-    let two = Flow::Two(SEGMENT_PAIR);
-    let tcp = Flow::Four(SEGMENT_PAIR, Proto::Tcp, 2794, 1766);
-    let cases = [
-        (12, 0x86, Flow::Bare),
-        (14, 0x44, Flow::Bare), // four words of header
-        (14, 0x46, Flow::Four(SEGMENT_PAIR, Proto::Tcp, 0, 0)), // six words: ports come later
-        (14, 0x4f, Flow::Bare), // fifteen words, of which ten are there
-        (14, 0x55, Flow::Bare),
-        (14, 0x65, Flow::Bare),
-        (20, 0x20, two), // more fragments
-        (20, 0x1f, two), // an offset's high bits
-        (21, 0x01, two), // its lowest bit
-        (21, 0xb9, two),
-        (20, 0x40, tcp), // do not fragment
-        (20, 0x80, tcp), // the bit that is reserved
-        (23, 1, two),
-        (23, 17, Flow::Four(SEGMENT_PAIR, Proto::Udp, 2794, 1766)),
-        (23, 47, two),
-    ];
-    for (i, (at, byte, flow)) in cases.into_iter().enumerate() {
+    for (i, &(at, byte, flow)) in BYTES.iter().enumerate() {
         has_flow(&rt, &changed(at, byte), flow, i);
     }
 }
@@ -151,98 +155,126 @@ fn between(ends: [u8; 12]) -> [u8; 54] {
     frame
 }
 
-// The other IPv4 vectors of the Toeplitz hash.
+// The other IPv4 vectors of the Toeplitz hash: bytes, and the numbers that they are.
+const ENDS: [([u8; 12], (u32, u32, u16, u16)); 4] = [
+    (
+        [199, 92, 111, 2, 65, 69, 140, 83, 0x37, 0x96, 0x12, 0x83],
+        (0xc75c6f02, 0x41458c53, 14230, 4739),
+    ),
+    (
+        [24, 19, 198, 95, 12, 22, 207, 184, 0x32, 0x62, 0x94, 0x88],
+        (0x1813c65f, 0x0c16cfb8, 12898, 38024),
+    ),
+    (
+        [38, 27, 205, 30, 209, 142, 163, 6, 0xbc, 0x64, 0x08, 0xa9],
+        (0x261bcd1e, 0xd18ea306, 48228, 2217),
+    ),
+    (
+        [153, 39, 163, 191, 202, 188, 127, 2, 0xac, 0xdb, 0x05, 0x17],
+        (0x9927a3bf, 0xcabc7f02, 44251, 1303),
+    ),
+];
+
 #[test]
 fn other_ends(rt: HostRuntime) {
-    let cases = [
-        (
-            [199, 92, 111, 2, 65, 69, 140, 83, 0x37, 0x96, 0x12, 0x83],
-            (0xc75c6f02, 0x41458c53, 14230, 4739),
-        ),
-        (
-            [24, 19, 198, 95, 12, 22, 207, 184, 0x32, 0x62, 0x94, 0x88],
-            (0x1813c65f, 0x0c16cfb8, 12898, 38024),
-        ),
-        (
-            [38, 27, 205, 30, 209, 142, 163, 6, 0xbc, 0x64, 0x08, 0xa9],
-            (0x261bcd1e, 0xd18ea306, 48228, 2217),
-        ),
-        (
-            [153, 39, 163, 191, 202, 188, 127, 2, 0xac, 0xdb, 0x05, 0x17],
-            (0x9927a3bf, 0xcabc7f02, 44251, 1303),
-        ),
-    ];
-    for (ends, (src, dst, sport, dport)) in cases {
+    for &(ends, (src, dst, sport, dport)) in &ENDS {
         let flow = Flow::Four(Pair::V4 { src, dst }, Proto::Tcp, sport, dport);
         has_flow(&rt, &between(ends), flow, 0);
     }
 }
 
-// The row of the last bound that is at most n.
-fn row_at<T: Copy>(rows: [(usize, T); 3], n: usize) -> T {
-    let [(_, first), (second_from, second), (third_from, third)] = rows;
-    if n < second_from {
-        first
-    } else if n < third_from {
-        second
-    } else {
-        third
+const TAGGED_PAIR: Pair = Pair::V4 {
+    src: 0x0a000001,
+    dst: 0x0a000002,
+};
+
+const EXTENDED_PAIR: Pair = Pair::V6 {
+    src: 0xfe80_0000_0000_0000_0000_0000_0000_0001,
+    dst: 0xfe80_0000_0000_0000_0000_0000_0000_0002,
+};
+
+// What the first bytes of a frame are read as: the least length from which there is an IP header
+// and from which there are ports, the flow without and with ports, and the length from which it is
+// seen where the packet is.
+#[derive(Clone, Copy)]
+struct Growing {
+    header: usize,
+    ports: usize,
+    two: Flow,
+    four: Flow,
+    at: IpAt,
+}
+
+impl Growing {
+    fn flow(&self, len: usize) -> Flow {
+        if len < self.header {
+            Flow::Bare
+        } else if len < self.ports {
+            self.two
+        } else {
+            self.four
+        }
+    }
+
+    fn at(&self, len: usize) -> Option<IpAt> {
+        if len < self.at.start {
+            None
+        } else {
+            Some(self.at)
+        }
+    }
+}
+
+// Asserts that each length of a frame is read as is wanted.
+fn grows(rt: &impl Abort, frame: &[u8], wanted: &Growing) {
+    for n in 0..=frame.len() {
+        let (front, _) = frame.split_at(n);
+        is_read(rt, front, wanted.flow(n), wanted.at(n));
     }
 }
 
 #[test]
 fn every_length_of_a_tagged_frame(rt: HostRuntime) {
-    let pair = Pair::V4 {
-        src: 0x0a000001,
-        dst: 0x0a000002,
+    let wanted = Growing {
+        header: 42,
+        ports: 46,
+        two: Flow::Two(TAGGED_PAIR),
+        four: Flow::Four(TAGGED_PAIR, Proto::Tcp, 5, 6),
+        at: IpAt {
+            kind: 0x0800,
+            start: 18,
+        },
     };
-    for n in 0..=TAGGED.len() {
-        let (frame, _) = TAGGED.split_at(n);
-        let flow = row_at(
-            [
-                (0, Flow::Bare),
-                (42, Flow::Two(pair)),
-                (46, Flow::Four(pair, Proto::Tcp, 5, 6)),
-            ],
-            n,
-        );
-        let at = if n < 18 {
-            None
-        } else {
-            Some(IpAt {
-                kind: 0x0800,
-                start: 18,
-            })
-        };
-        is_read(&rt, frame, flow, at);
-    }
+    grows(&rt, &TAGGED, &wanted);
 }
 
 #[test]
 fn every_length_of_an_extended_frame(rt: HostRuntime) {
-    let pair = Pair::V6 {
-        src: 0xfe80_0000_0000_0000_0000_0000_0000_0001,
-        dst: 0xfe80_0000_0000_0000_0000_0000_0000_0002,
+    let wanted = Growing {
+        header: 54,
+        ports: 82,
+        two: Flow::Two(EXTENDED_PAIR),
+        four: Flow::Four(EXTENDED_PAIR, Proto::Udp, 53, 54),
+        at: IpAt {
+            kind: 0x86dd,
+            start: 14,
+        },
     };
-    for n in 0..=EXTENDED.len() {
-        let (frame, _) = EXTENDED.split_at(n);
-        let flow = row_at(
-            [
-                (0, Flow::Bare),
-                (54, Flow::Two(pair)),
-                (82, Flow::Four(pair, Proto::Udp, 53, 54)),
-            ],
-            n,
-        );
-        let at = if n < 14 {
+    grows(&rt, &EXTENDED, &wanted);
+}
+
+// Asserts that a packet of one kind has this payload once its bytes reach it, and that as one of
+// the other kind it has none.
+fn packet_grows(rt: &impl Abort, packet: &[u8], kind: u16, other: u16, payload: Payload) {
+    for n in 0..=packet.len() {
+        let (front, _) = packet.split_at(n);
+        let reached = if n < payload.start {
             None
         } else {
-            Some(IpAt {
-                kind: 0x86dd,
-                start: 14,
-            })
+            Some(payload)
         };
-        is_read(&rt, frame, flow, at);
+        has_payload(rt, front, kind, reached);
+        has_payload(rt, front, other, None);
     }
 }
 
@@ -250,33 +282,17 @@ fn every_length_of_an_extended_frame(rt: HostRuntime) {
 #[test]
 fn every_length_of_a_packet(rt: HostRuntime) {
     let (_, ipv4) = TAGGED.split_at(18);
-    for n in 0..=ipv4.len() {
-        let (packet, _) = ipv4.split_at(n);
-        let payload = if n < 24 {
-            None
-        } else {
-            Some(Payload {
-                proto: 6,
-                start: 24,
-            })
-        };
-        has_payload(&rt, packet, ETHERTYPE_IPV4, payload);
-        has_payload(&rt, packet, ETHERTYPE_IPV6, None);
-    }
+    let tcp = Payload {
+        proto: 6,
+        start: 24,
+    };
+    packet_grows(&rt, ipv4, ETHERTYPE_IPV4, ETHERTYPE_IPV6, tcp);
     let (_, ipv6) = EXTENDED.split_at(14);
-    for n in 0..=ipv6.len() {
-        let (packet, _) = ipv6.split_at(n);
-        let payload = if n < 64 {
-            None
-        } else {
-            Some(Payload {
-                proto: 17,
-                start: 64,
-            })
-        };
-        has_payload(&rt, packet, ETHERTYPE_IPV6, payload);
-        has_payload(&rt, packet, ETHERTYPE_IPV4, None);
-    }
+    let udp = Payload {
+        proto: 17,
+        start: 64,
+    };
+    packet_grows(&rt, ipv6, ETHERTYPE_IPV6, ETHERTYPE_IPV4, udp);
 }
 
 // An IPv6 packet with zero addresses: at most nine empty hop-by-hop options, of which the last
@@ -302,44 +318,46 @@ fn has_extensions(
     has_payload(rt, packet, ETHERTYPE_IPV6, payload);
 }
 
+const NO_PAIR: Pair = Pair::V6 { src: 0, dst: 0 };
+
+// How many extensions, what follows them, the flow, and the payload.
+const EXTENSIONS: [(usize, u8, Flow, Option<Payload>); 7] = [
+    (
+        8,
+        6,
+        Flow::Four(NO_PAIR, Proto::Tcp, 7, 8),
+        Some(Payload {
+            proto: 6,
+            start: 104,
+        }),
+    ),
+    (9, 6, Flow::Two(NO_PAIR), None),
+    (0, 44, Flow::Two(NO_PAIR), None),
+    (1, 44, Flow::Two(NO_PAIR), None),
+    (8, 44, Flow::Two(NO_PAIR), None),
+    (
+        0,
+        59,
+        Flow::Two(NO_PAIR),
+        Some(Payload {
+            proto: 59,
+            start: 40,
+        }),
+    ),
+    (
+        8,
+        41,
+        Flow::Two(NO_PAIR),
+        Some(Payload {
+            proto: 41,
+            start: 104,
+        }),
+    ),
+];
+
 #[test]
 fn extensions(rt: HostRuntime) {
-    let pair = Pair::V6 { src: 0, dst: 0 };
-    let two = Flow::Two(pair);
-    let cases = [
-        (
-            8,
-            6,
-            Flow::Four(pair, Proto::Tcp, 7, 8),
-            Some(Payload {
-                proto: 6,
-                start: 104,
-            }),
-        ),
-        (9, 6, two, None),
-        (0, 44, two, None),
-        (1, 44, two, None),
-        (8, 44, two, None),
-        (
-            0,
-            59,
-            two,
-            Some(Payload {
-                proto: 59,
-                start: 40,
-            }),
-        ),
-        (
-            8,
-            41,
-            two,
-            Some(Payload {
-                proto: 41,
-                start: 104,
-            }),
-        ),
-    ];
-    for (count, follows, flow, payload) in cases {
+    for &(count, follows, flow, payload) in &EXTENSIONS {
         let packet = with_extensions(count, follows);
         has_extensions(&rt, &packet, flow, payload, count);
     }
@@ -350,22 +368,14 @@ fn payloads(rt: HostRuntime) {
     let (_, whole) = SEGMENT.split_at(14);
     let changed = changed(21, 0xb9);
     let (_, fragment) = changed.split_at(14);
-    let cases = [
-        (
-            whole,
-            0x0800,
-            Some(Payload {
-                proto: 6,
-                start: 20,
-            }),
-        ),
-        (fragment, 0x0800, None),
-        (whole, 0x86dd, None),
-        (whole, 0x0806, None),
-    ];
-    for (packet, kind, payload) in cases {
-        has_payload(&rt, packet, kind, payload);
-    }
+    let tcp = Payload {
+        proto: 6,
+        start: 20,
+    };
+    has_payload(&rt, whole, 0x0800, Some(tcp));
+    has_payload(&rt, fragment, 0x0800, None);
+    has_payload(&rt, whole, 0x86dd, None);
+    has_payload(&rt, whole, 0x0806, None);
     same(
         &rt,
         &dissect_ip(fragment, ETHERTYPE_IPV4),

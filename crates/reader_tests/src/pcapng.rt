@@ -5,6 +5,7 @@ use pcapng_reader::{
     NgFault, a_block_is_four_pieces, a_block_is_read_as_written, a_file_is_read_as_written,
     frames_are_read_back, is_pcapng, one_capture_or_fault, put_enhanced, put_section, read_ng,
 };
+use std::alloc::Global;
 use std::process::Abort;
 use std::test::Fail;
 
@@ -33,26 +34,48 @@ const BIG_SECTION: [u8; 28] = [
     0xff, 0xff, 0xff, 0xff, 0xff, 0, 0, 0, 0x1c,
 ];
 
+/// A section and an interface.
+const BEGUN: [&[u8]; 2] = [&SECTION, &INTERFACE];
+
+/// Two sections, the first of them big-endian.
+const BIG_FIRST: [&[u8]; 2] = [&BIG_SECTION, &SECTION];
+
+/// A file of one packet, 136 bytes.
+const ONE_PACKET: [&[u8]; 5] = [&SECTION, &INTERFACE, &BEFORE, &SEGMENT, &BEHIND];
+
+/// How many records a file has, and how many bytes of a last block that is cut.
 type Counts = Result<(usize, Option<u32>), NgFault>;
 
-fn capture_of(rt: &HostRuntime, file: &[u8]) -> Result<Result<Capture, NgFault>, Fail> {
+fn capture_of(alloc: Global, file: &[u8]) -> Result<Result<Capture, NgFault>, Fail> {
     if !is_pcapng(file) {
         return Err("not a pcapng file".into());
     }
-    Ok(read_ng(rt.alloc(), file))
+    Ok(read_ng(alloc, file))
 }
 
 /// The capture of a file that is one.
-fn sure_capture_of(rt: &HostRuntime, file: &[u8]) -> Result<Capture, Fail> {
-    Ok(capture_of(rt, file)?.ok().ok_or("no capture")?)
+fn sure_capture_of(alloc: Global, file: &[u8]) -> Result<Capture, Fail> {
+    Ok(capture_of(alloc, file)?.ok().ok_or("no capture")?)
 }
 
-/// How many records a file has, and how many bytes of a last block that is cut.
-fn counts(rt: &HostRuntime, file: &[u8]) -> Result<Counts, Fail> {
-    Ok(match capture_of(rt, file)? {
+fn counts(alloc: Global, file: &[u8]) -> Result<Counts, Fail> {
+    Ok(match capture_of(alloc, file)? {
         Ok(capture) => Ok((capture.records.len(), capture.cut)),
         Err(fault) => Err(fault),
     })
+}
+
+/// Asserts that the file of a case has these counts.
+fn has_counts(
+    rt: &impl Abort,
+    alloc: Global,
+    file: &[u8],
+    want: &Counts,
+    case: usize,
+) -> Result<(), Fail> {
+    let got = counts(alloc, file)?;
+    same(rt, &got, want, case);
+    Ok(())
 }
 
 /// The first bytes of a file, all of them where it has fewer.
@@ -60,40 +83,60 @@ fn front(file: &[u8], len: usize) -> &[u8] {
     file.get(..len).unwrap_or(file)
 }
 
+/// The counts of the first bytes of a file of one packet.
+fn counts_of_prefix(end: u32) -> Counts {
+    match end {
+        4..=27 => Ok((0, Some(end))),
+        28 | 48 => Ok((0, None)),
+        29..=47 => Ok((0, Some(end - 28))),
+        49..=135 => Ok((0, Some(end - 48))),
+        _ => Ok((1, None)),
+    }
+}
+
 #[test]
 fn each_prefix_is_read(rt: HostRuntime) -> Result<(), Fail> {
-    let file = joined(
-        rt.alloc(),
-        &[&SECTION, &INTERFACE, &BEFORE, &SEGMENT, &BEHIND],
-    )?;
+    let file = joined(rt.alloc(), &ONE_PACKET)?;
     same(&rt, &file.len(), &136, 0);
-    for end in 4..137usize {
-        let want = match end {
-            4..=27 => Ok((0, Some(end as u32))),
-            28 | 48 => Ok((0, None)),
-            29..=47 => Ok((0, Some(end as u32 - 28))),
-            49..=135 => Ok((0, Some(end as u32 - 48))),
-            _ => Ok((1, None)),
-        };
-        let got = counts(&rt, front(&file, end))?;
-        same(&rt, &got, &want, end);
+    for end in 4..137u32 {
+        let prefix = front(&file, end as usize);
+        has_counts(
+            &rt,
+            rt.alloc(),
+            prefix,
+            &counts_of_prefix(end),
+            end as usize,
+        )?;
     }
     Ok(())
 }
 
 #[test]
 fn writes_the_file_that_is_read(rt: HostRuntime) -> Result<(), Fail> {
-    let mut file = Vec::new(rt.alloc());
+    let file = written(rt.alloc())?;
+    let want = joined(rt.alloc(), &ONE_PACKET)?;
+    same_items(&rt, &file, &want);
+    has_records(&rt, rt.alloc(), &file, &[simple(76, 54, 54)])
+}
+
+fn written(alloc: Global) -> Result<Vec<u8>, Fail> {
+    let mut file = Vec::new(alloc);
     put_section(&mut file)?;
     put_enhanced(&mut file, &SEGMENT)?;
-    let want = joined(
-        rt.alloc(),
-        &[&SECTION, &INTERFACE, &BEFORE, &SEGMENT, &BEHIND],
-    )?;
-    same_items(&rt, &file, &want);
-    let capture = sure_capture_of(&rt, &file)?;
-    same_items(&rt, capture.records.as_slice(), &[simple(76, 54, 54)]);
-    same(&rt, &(capture.big, capture.nano), &(false, false), 0);
+    Ok(file)
+}
+
+/// Asserts that a file is a whole little-endian capture in microseconds with these records.
+fn has_records(
+    rt: &impl Abort,
+    alloc: Global,
+    file: &[u8],
+    want: &[PcapRecord],
+) -> Result<(), Fail> {
+    let capture = sure_capture_of(alloc, file)?;
+    same_items(rt, capture.records.as_slice(), want);
+    same(rt, &capture.cut, &None, 0);
+    same(rt, &(capture.big, capture.nano), &(false, false), 1);
     Ok(())
 }
 
@@ -131,7 +174,6 @@ fn simple(start: usize, len: u32, orig: u32) -> PcapRecord {
 
 #[test]
 fn reads_sections_of_both_orders(rt: HostRuntime) -> Result<(), Fail> {
-    let capture = sure_capture_of(&rt, &SECTIONS)?;
     let enhanced = PcapRecord {
         sec: 0x0102_0304,
         frac: 0x0506_0708,
@@ -145,147 +187,166 @@ fn reads_sections_of_both_orders(rt: HostRuntime) -> Result<(), Fail> {
         simple(216, 2, 2),
         simple(284, 5, 5),
     ];
-    same_items(&rt, capture.records.as_slice(), &want);
-    same(&rt, &capture.cut, &None, 0);
-    same(&rt, &(capture.big, capture.nano), &(false, false), 1);
-    Ok(())
+    has_records(&rt, rt.alloc(), &SECTIONS, &want)
 }
 
 #[test]
 fn the_first_section_tells_the_order(rt: HostRuntime) -> Result<(), Fail> {
-    let big = joined(rt.alloc(), &[&BIG_SECTION, &SECTION])?;
-    let capture = sure_capture_of(&rt, &big)?;
+    let big = joined(rt.alloc(), &BIG_FIRST)?;
+    let capture = sure_capture_of(rt.alloc(), &big)?;
     same(&rt, &(capture.big, capture.records.len()), &(true, 0), 0);
     Ok(())
 }
 
-#[test]
-fn names_the_first_fault_of_a_block(rt: HostRuntime) -> Result<(), Fail> {
-    let cases: [(&[u8], Counts); 20] = [
-        (
-            &[0x0a, 0x0d, 0x0d, 0x0a, 13, 0, 0, 0, 0x4e, 0x3c, 0x2b, 0x1a],
-            Err(NgFault::BadOrder { magic: 0x1a2b_3c4e }),
-        ),
-        (
-            &[0x0a, 0x0d, 0x0d, 0x0a, 13, 0, 0, 0, 0x4e, 0x3c, 0x2b],
-            Ok((0, Some(11))),
-        ),
-        (
-            &[9, 0, 0, 0, 13, 0, 0, 0, 0, 0, 0, 0],
-            Err(NgFault::BadBlock { block: 2, len: 13 }),
-        ),
-        (
-            &[9, 0, 0, 0, 8, 0, 0, 0, 8, 0, 0, 0],
-            Err(NgFault::BadBlock { block: 2, len: 8 }),
-        ),
-        (
-            &[0x0a, 0x0d, 0x0d, 0x0a, 24, 0, 0, 0, 0x4d, 0x3c, 0x2b, 0x1a],
-            Err(NgFault::BadBlock { block: 2, len: 24 }),
-        ),
-        (
-            &[1, 0, 0, 0, 16, 0, 0, 0, 0, 0, 0, 0],
-            Err(NgFault::BadBlock { block: 2, len: 16 }),
-        ),
-        (
-            &[6, 0, 0, 0, 28, 0, 0, 0, 0, 0, 0, 0],
-            Err(NgFault::BadBlock { block: 2, len: 28 }),
-        ),
-        (
-            &[3, 0, 0, 0, 12, 0, 0, 0, 12, 0, 0, 0],
-            Err(NgFault::BadBlock { block: 2, len: 12 }),
-        ),
-        (&[9, 0, 0, 0, 16, 0, 0, 0, 16, 0, 0, 0], Ok((0, Some(12)))),
-        (
-            &[9, 0, 0, 0, 12, 0, 0, 0, 16, 0, 0, 0],
-            Err(NgFault::BadTail { block: 2, len: 16 }),
-        ),
-        (
-            &[
-                0x0a, 0x0d, 0x0d, 0x0a, 28, 0, 0, 0, 0x4d, 0x3c, 0x2b, 0x1a, 2, 0, 0, 0, 0, 0, 0,
-                0, 0, 0, 0, 0, 28, 0, 0, 0,
-            ],
-            Err(NgFault::BadMajor { major: 2 }),
-        ),
-        (
-            &[
-                6, 0, 0, 0, 32, 0, 0, 0, 1, 0, 0, 0, 0, 0, 0, 0, 0, 0, 0, 0, 0, 0, 0, 0, 0, 0, 0,
-                0, 32, 0, 0, 0,
-            ],
-            Err(NgFault::BadInterface { block: 2, id: 1 }),
-        ),
-        (
-            &[
-                0x0a, 0x0d, 0x0d, 0x0a, 28, 0, 0, 0, 0x4d, 0x3c, 0x2b, 0x1a, 1, 0, 0, 0, 0, 0, 0,
-                0, 0, 0, 0, 0, 28, 0, 0, 0, 3, 0, 0, 0, 16, 0, 0, 0, 0, 0, 0, 0, 16, 0, 0, 0,
-            ],
-            Err(NgFault::BadInterface { block: 3, id: 0 }),
-        ),
-        (
-            &[
-                1, 0, 0, 0, 20, 0, 0, 0, 101, 0, 0, 0, 0, 0, 0, 0, 20, 0, 0, 0, 6, 0, 0, 0, 32, 0,
-                0, 0, 1, 0, 0, 0, 0, 0, 0, 0, 0, 0, 0, 0, 1, 0, 4, 0, 0, 0, 0, 0, 32, 0, 0, 0,
-            ],
-            Err(NgFault::BadNgLink {
-                block: 3,
-                link: 101,
-            }),
-        ),
-        (
-            &[
-                6, 0, 0, 0, 32, 0, 0, 0, 0, 0, 0, 0, 0, 0, 0, 0, 0, 0, 0, 0, 1, 0, 4, 0, 0, 0, 0,
-                0, 32, 0, 0, 0,
-            ],
-            Err(NgFault::RecordTooLong {
-                at: 0,
-                len: 262_145,
-            }),
-        ),
-        (
-            &[
-                6, 0, 0, 0, 32, 0, 0, 0, 0, 0, 0, 0, 0, 0, 0, 0, 0, 0, 0, 0, 0, 0, 4, 0, 0, 0, 0,
-                0, 32, 0, 0, 0,
-            ],
-            Err(NgFault::BadBlock { block: 2, len: 32 }),
-        ),
-        (
-            &[
-                6, 0, 0, 0, 36, 0, 0, 0, 0, 0, 0, 0, 0, 0, 0, 0, 0, 0, 0, 0, 5, 0, 0, 0, 5, 0, 0,
-                0, 1, 2, 3, 4, 36, 0, 0, 0,
-            ],
-            Err(NgFault::BadBlock { block: 2, len: 36 }),
-        ),
-        (
-            &[3, 0, 0, 0, 16, 0, 0, 0, 1, 0, 0, 0, 16, 0, 0, 0],
-            Err(NgFault::BadBlock { block: 2, len: 16 }),
-        ),
-        (
-            &[3, 0, 0, 0, 16, 0, 0, 0, 0, 0, 0, 0, 16, 0, 0, 0],
-            Ok((1, None)),
-        ),
-        (&[9, 0, 0, 0, 12, 0, 0, 0, 12, 0, 0, 0, 1], Ok((0, Some(1)))),
-    ];
-    for (i, (end, want)) in cases.iter().enumerate() {
-        let file = joined(rt.alloc(), &[&SECTION, &INTERFACE, end])?;
-        let got = counts(&rt, file.as_slice())?;
-        same(&rt, &got, want, i);
+/// What stands behind a section and an interface, and what the whole file is read as.
+const ENDS: [(&[u8], Counts); 20] = [
+    (
+        &[0x0a, 0x0d, 0x0d, 0x0a, 13, 0, 0, 0, 0x4e, 0x3c, 0x2b, 0x1a],
+        Err(NgFault::BadOrder { magic: 0x1a2b_3c4e }),
+    ),
+    (
+        &[0x0a, 0x0d, 0x0d, 0x0a, 13, 0, 0, 0, 0x4e, 0x3c, 0x2b],
+        Ok((0, Some(11))),
+    ),
+    (
+        &[9, 0, 0, 0, 13, 0, 0, 0, 0, 0, 0, 0],
+        Err(NgFault::BadBlock { block: 2, len: 13 }),
+    ),
+    (
+        &[9, 0, 0, 0, 8, 0, 0, 0, 8, 0, 0, 0],
+        Err(NgFault::BadBlock { block: 2, len: 8 }),
+    ),
+    (
+        &[0x0a, 0x0d, 0x0d, 0x0a, 24, 0, 0, 0, 0x4d, 0x3c, 0x2b, 0x1a],
+        Err(NgFault::BadBlock { block: 2, len: 24 }),
+    ),
+    (
+        &[1, 0, 0, 0, 16, 0, 0, 0, 0, 0, 0, 0],
+        Err(NgFault::BadBlock { block: 2, len: 16 }),
+    ),
+    (
+        &[6, 0, 0, 0, 28, 0, 0, 0, 0, 0, 0, 0],
+        Err(NgFault::BadBlock { block: 2, len: 28 }),
+    ),
+    (
+        &[3, 0, 0, 0, 12, 0, 0, 0, 12, 0, 0, 0],
+        Err(NgFault::BadBlock { block: 2, len: 12 }),
+    ),
+    (&[9, 0, 0, 0, 16, 0, 0, 0, 16, 0, 0, 0], Ok((0, Some(12)))),
+    (
+        &[9, 0, 0, 0, 12, 0, 0, 0, 16, 0, 0, 0],
+        Err(NgFault::BadTail { block: 2, len: 16 }),
+    ),
+    (
+        &[
+            0x0a, 0x0d, 0x0d, 0x0a, 28, 0, 0, 0, 0x4d, 0x3c, 0x2b, 0x1a, 2, 0, 0, 0, 0, 0, 0, 0, 0,
+            0, 0, 0, 28, 0, 0, 0,
+        ],
+        Err(NgFault::BadMajor { major: 2 }),
+    ),
+    (
+        &[
+            6, 0, 0, 0, 32, 0, 0, 0, 1, 0, 0, 0, 0, 0, 0, 0, 0, 0, 0, 0, 0, 0, 0, 0, 0, 0, 0, 0,
+            32, 0, 0, 0,
+        ],
+        Err(NgFault::BadInterface { block: 2, id: 1 }),
+    ),
+    (
+        &[
+            0x0a, 0x0d, 0x0d, 0x0a, 28, 0, 0, 0, 0x4d, 0x3c, 0x2b, 0x1a, 1, 0, 0, 0, 0, 0, 0, 0, 0,
+            0, 0, 0, 28, 0, 0, 0, 3, 0, 0, 0, 16, 0, 0, 0, 0, 0, 0, 0, 16, 0, 0, 0,
+        ],
+        Err(NgFault::BadInterface { block: 3, id: 0 }),
+    ),
+    (
+        &[
+            1, 0, 0, 0, 20, 0, 0, 0, 101, 0, 0, 0, 0, 0, 0, 0, 20, 0, 0, 0, 6, 0, 0, 0, 32, 0, 0,
+            0, 1, 0, 0, 0, 0, 0, 0, 0, 0, 0, 0, 0, 1, 0, 4, 0, 0, 0, 0, 0, 32, 0, 0, 0,
+        ],
+        Err(NgFault::BadNgLink {
+            block: 3,
+            link: 101,
+        }),
+    ),
+    (
+        &[
+            6, 0, 0, 0, 32, 0, 0, 0, 0, 0, 0, 0, 0, 0, 0, 0, 0, 0, 0, 0, 1, 0, 4, 0, 0, 0, 0, 0,
+            32, 0, 0, 0,
+        ],
+        Err(NgFault::RecordTooLong {
+            at: 0,
+            len: 262_145,
+        }),
+    ),
+    (
+        &[
+            6, 0, 0, 0, 32, 0, 0, 0, 0, 0, 0, 0, 0, 0, 0, 0, 0, 0, 0, 0, 0, 0, 4, 0, 0, 0, 0, 0,
+            32, 0, 0, 0,
+        ],
+        Err(NgFault::BadBlock { block: 2, len: 32 }),
+    ),
+    (
+        &[
+            6, 0, 0, 0, 36, 0, 0, 0, 0, 0, 0, 0, 0, 0, 0, 0, 0, 0, 0, 0, 5, 0, 0, 0, 5, 0, 0, 0, 1,
+            2, 3, 4, 36, 0, 0, 0,
+        ],
+        Err(NgFault::BadBlock { block: 2, len: 36 }),
+    ),
+    (
+        &[3, 0, 0, 0, 16, 0, 0, 0, 1, 0, 0, 0, 16, 0, 0, 0],
+        Err(NgFault::BadBlock { block: 2, len: 16 }),
+    ),
+    (
+        &[3, 0, 0, 0, 16, 0, 0, 0, 0, 0, 0, 0, 16, 0, 0, 0],
+        Ok((1, None)),
+    ),
+    (&[9, 0, 0, 0, 12, 0, 0, 0, 12, 0, 0, 0, 1], Ok((0, Some(1)))),
+];
+
+/// Asserts that a section and an interface with each of these ends are read as is wanted.
+fn ends_are_read(rt: &impl Abort, alloc: Global, ends: &[(&[u8], Counts)]) -> Result<(), Fail> {
+    for (i, &(end, want)) in ends.iter().enumerate() {
+        end_is_read(rt, alloc, end, &want, i)?;
     }
     Ok(())
 }
 
+fn end_is_read(
+    rt: &impl Abort,
+    alloc: Global,
+    end: &[u8],
+    want: &Counts,
+    case: usize,
+) -> Result<(), Fail> {
+    let mut file = joined(alloc, &BEGUN)?;
+    file.extend_from_slice(end)?;
+    has_counts(rt, alloc, &file, want, case)
+}
+
 #[test]
-fn counts_at_most_262144_packets(rt: HostRuntime) -> Result<(), Fail> {
-    let mut file = Vec::new(rt.alloc());
+fn names_the_first_fault_of_a_block(rt: HostRuntime) -> Result<(), Fail> {
+    ends_are_read(&rt, rt.alloc(), &ENDS)
+}
+
+/// A section with as many packets as a capture has at most, and another section.
+fn full(alloc: Global) -> Result<Vec<u8>, Fail> {
+    let mut file = Vec::new(alloc);
     put_section(&mut file)?;
     for _ in 0..262_144u32 {
         put_enhanced(&mut file, &[])?;
     }
     file.extend_from_slice(&SECTION)?;
-    same(&rt, &counts(&rt, &file)?, &Ok((262_144, None)), 0);
+    Ok(file)
+}
+
+#[test]
+fn counts_at_most_262144_packets(rt: HostRuntime) -> Result<(), Fail> {
+    let mut file = full(rt.alloc())?;
+    has_counts(&rt, rt.alloc(), &file, &Ok((262_144, None)), 0)?;
     file.extend_from_slice(&[3, 0, 0, 0, 16, 0, 0, 0, 1, 0, 0, 0, 16, 0, 0])?;
-    same(&rt, &counts(&rt, &file)?, &Ok((262_144, Some(15))), 15);
+    has_counts(&rt, rt.alloc(), &file, &Ok((262_144, Some(15))), 15)?;
     file.push(0)?;
-    same(&rt, &counts(&rt, &file)?, &Err(NgFault::TooManyPackets), 16);
-    Ok(())
+    has_counts(&rt, rt.alloc(), &file, &Err(NgFault::TooManyPackets), 16)
 }
 
 #[test]
