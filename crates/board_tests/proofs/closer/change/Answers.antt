@@ -1,6 +1,6 @@
 use Rattle.std.proofs.Common.{refl}
 use Rattle.hop_rule.specs.Gates.{outside}
-use Rattle.board_tests.proofs.Calls.{by_number, has_opened}
+use Rattle.board_tests.proofs.rounds.Calls.{by_number, has_opened}
 use Rattle.board_tests.specs.Stands.{no_hand}
 use Rattle.board_tests.proofs.closer.change.Goals as goal
 

@@ -1,6 +1,6 @@
 use Rattle.std.proofs.Common.{◌∙◌, ap}
 use Rattle.board_api.specs.declared.answers.Emptied.TheVariants as emptied
-use Rattle.board_tests.proofs.Calls.{has_looked, has_set, opened-looking}
+use Rattle.board_tests.proofs.rounds.Calls.{has_looked, has_set, opened-looking}
 use Rattle.board_tests.specs.Stands.{no_hand, opened_by}
 use Rattle.board_tests.proofs.closer.change_behind.Goals as goal
 

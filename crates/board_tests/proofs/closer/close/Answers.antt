@@ -1,4 +1,4 @@
-use Rattle.board_tests.proofs.Calls.{has_not_shut, has_shut}
+use Rattle.board_tests.proofs.rounds.Calls.{has_not_shut, has_shut}
 use Rattle.board_tests.specs.Stands.{no_hand}
 use Rattle.board_tests.proofs.closer.close.Goals as goal
 

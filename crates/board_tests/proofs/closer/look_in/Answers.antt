@@ -1,4 +1,4 @@
-use Rattle.board_tests.proofs.Calls.{entered, has_left}
+use Rattle.board_tests.proofs.rounds.Calls.{entered, has_left}
 use Rattle.board_tests.specs.Stands.{no_hand}
 use Rattle.board_tests.proofs.closer.look_in.Goals as goal
 

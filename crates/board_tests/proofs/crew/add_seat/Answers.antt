@@ -1,5 +1,5 @@
 use Rattle.std.proofs.Common.{All, sym, subst}
-use Rattle.board_tests.proofs.Crews.{all_done}
+use Rattle.board_tests.proofs.crew.Crews.{all_done}
 use Rattle.board_tests.specs.Stands.{IsDone}
 use Rattle.board_tests.proofs.crew.add_seat.Goals as goal
 

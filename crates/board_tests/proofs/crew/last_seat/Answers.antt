@@ -1,6 +1,6 @@
 use Rattle.std.proofs.Common.{◌≡◌, ◌-◌, IfSome, Option, slice_index_or, take, vec_len, sym, ap, ◌∙◌}
 use Rattle.std.proofs.Common.{subst, arith}
-use Rattle.board_tests.proofs.Crews.{Seat, fresh_out, front_is, last_is, new_seat}
+use Rattle.board_tests.proofs.crew.Crews.{Seat, fresh_out, front_is, last_is, new_seat}
 use Rattle.board_tests.specs.Stands.{SeatIsOutside, opened_by}
 use Rattle.board_tests.proofs.crew.last_seat.Goals as goal
 

@@ -1,4 +1,4 @@
-use Rattle.board_tests.proofs.Crews.{all_rest}
+use Rattle.board_tests.proofs.crew.Crews.{all_rest}
 use Rattle.board_tests.proofs.crew.lists_of.Goals as goal
 
 pub close_board-requires-clause-rest : goal.close_board-requires-clause-rest

@@ -1,4 +1,4 @@
-use Rattle.board_tests.proofs.Crews.{new_rest}
+use Rattle.board_tests.proofs.crew.Crews.{new_rest}
 use Rattle.board_tests.proofs.largest.unused.Goals as goal
 
 pub close_board-requires-clause-rest : goal.close_board-requires-clause-rest

@@ -1,7 +1,8 @@
 use Rattle.hop_rule.specs.Gates.{outside}
 use Rattle.hop_rule.specs.Lanes.{has_pulled}
 use Rattle.board_api.specs.declared.held_lane.LaneId.TheVariants as id
-use Rattle.board_tests.proofs.Calls.{delivered, given_back, missed, pulled_here, took_keeps}
+use Rattle.board_tests.proofs.rounds.Calls.{delivered, given_back, missed, pulled_here}
+use Rattle.board_tests.proofs.rounds.Calls.{took_keeps}
 use Rattle.board_tests.specs.Stands.{hand_of}
 use Rattle.board_tests.proofs.rounds.give.Goals as goal
 

@@ -1,6 +1,6 @@
 use Rattle.hop_rule.specs.Gates.{outside}
 use Rattle.hop_rule.specs.Lanes.{gave}
-use Rattle.board_tests.proofs.Calls.{raised}
+use Rattle.board_tests.proofs.rounds.Calls.{raised}
 use Rattle.board_tests.proofs.rounds.raise.Goals as goal
 
 pub returns : goal.returns

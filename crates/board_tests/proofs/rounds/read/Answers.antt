@@ -1,6 +1,6 @@
 use Rattle.hop_rule.specs.Gates.{outside}
 use Rattle.board_api.specs.declared.held_lane.LaneId.TheVariants as id
-use Rattle.board_tests.proofs.Calls.{given_back, missed}
+use Rattle.board_tests.proofs.rounds.Calls.{given_back, missed}
 use Rattle.board_tests.specs.Stands.{no_hand}
 use Rattle.board_tests.proofs.rounds.read.Goals as goal
 

@@ -1,4 +1,4 @@
-use Rattle.board_tests.proofs.Calls.{counted}
+use Rattle.board_tests.proofs.rounds.Calls.{counted}
 use Rattle.board_tests.specs.Stands.{no_hand}
 use Rattle.board_tests.proofs.rounds.tail_of.Goals as goal
 

@@ -1,6 +1,6 @@
 use Rattle.hop_rule.specs.Gates.{outside}
 use Rattle.board_api.specs.declared.held_lane.LaneId.TheVariants as id
-use Rattle.board_tests.proofs.Calls.{missed, pulled_none, pulled_one, took_none}
+use Rattle.board_tests.proofs.rounds.Calls.{missed, pulled_none, pulled_one, took_none}
 use Rattle.board_tests.specs.Stands.{no_hand}
 use Rattle.board_tests.proofs.rounds.take.Goals as goal
 

@@ -1,6 +1,6 @@
 use Rattle.std.proofs.Common.{sym}
 use Rattle.hop_rule.specs.Gates.{inside}
-use Rattle.board_tests.proofs.Calls.{by_number, has_left, has_seen, refused}
+use Rattle.board_tests.proofs.rounds.Calls.{by_number, has_left, has_seen, refused}
 use Rattle.board_tests.specs.Stands.{no_hand}
 use Rattle.board_tests.proofs.rounds.visit.Goals as goal
 

@@ -1,7 +1,7 @@
 use Rattle.std.proofs.Common.{◌-◌, IfSome, Option, slice_index_or, take, vec_len, sym, ap, ◌∙◌}
 use Rattle.std.proofs.Common.{subst, arith}
 use Rattle.hand_tests.specs.Benches.{IsFresh}
-use Rattle.hand_tests.proofs.Fresh.{Seat, fresh_is, front_is, last_is, new_seat}
+use Rattle.hand_tests.proofs.bench.Fresh.{Seat, fresh_is, front_is, last_is, new_seat}
 use Rattle.hand_tests.proofs.bench.last_seat.Goals as goal
 
 pub returns-clause-fresh : goal.returns-clause-fresh

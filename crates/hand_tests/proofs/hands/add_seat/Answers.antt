@@ -1,6 +1,6 @@
 use Rattle.std.proofs.Common.{All, sym, subst}
 use Rattle.hand_tests.specs.Benches.{IsDone}
-use Rattle.hand_tests.proofs.Resting.{all_done}
+use Rattle.hand_tests.proofs.hands.Resting.{all_done}
 use Rattle.hand_tests.proofs.hands.add_seat.Goals as goal
 
 pub returns-clause-seats : goal.returns-clause-seats

@@ -1,5 +1,5 @@
 use Rattle.run_workers.specs.Hands.Deltas.{no_lane}
-use Rattle.hand_tests.proofs.Closing.{made_closed, made_rests, refused_rests}
+use Rattle.hand_tests.proofs.hands.Closing.{made_closed, made_rests, refused_rests}
 use Rattle.hand_tests.proofs.hands.change_beside.Goals as goal
 
 pub set_and_open-requires-clause-closed : goal.set_and_open-requires-clause-closed

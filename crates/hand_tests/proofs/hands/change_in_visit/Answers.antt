@@ -1,4 +1,4 @@
-use Rattle.hand_tests.proofs.Resting.{visit_rests}
+use Rattle.hand_tests.proofs.hands.Resting.{visit_rests}
 use Rattle.hand_tests.proofs.hands.change_in_visit.Goals as goal
 
 pub returns-clause-visitor : goal.returns-clause-visitor

@@ -2,7 +2,7 @@ use Rattle.std.proofs.Common.{◌<◌, ◌-◌, ◌%◌, max, ℕ, sym, ap, subs
 use Rattle.run_workers.specs.Hands.Deltas.{this_lane}
 use Rattle.run_workers.specs.Hands.Drains.{outs_of}
 use Rattle.hand_tests.specs.Benches.{RestsBut}
-use Rattle.hand_tests.proofs.Resting.{serves_rest}
+use Rattle.hand_tests.proofs.hands.Resting.{serves_rest}
 use Rattle.hand_tests.proofs.hands.drain.Goals as goal
 
 pub drain-requires-clause-mine : goal.drain-requires-clause-mine

@@ -1,4 +1,4 @@
-use Rattle.hand_tests.proofs.Resting.{back_rests, kind_holds, missed_rests}
+use Rattle.hand_tests.proofs.hands.Resting.{back_rests, kind_holds, missed_rests}
 use Rattle.hand_tests.proofs.hands.drain_beside.Goals as goal
 
 pub give_back-requires-clause-held : goal.give_back-requires-clause-held

@@ -1,4 +1,4 @@
-use Rattle.hand_tests.proofs.Resting.{all_rest}
+use Rattle.hand_tests.proofs.hands.Resting.{all_rest}
 use Rattle.hand_tests.proofs.hands.lists_of.Goals as goal
 
 pub close_board-requires-clause-rest : goal.close_board-requires-clause-rest

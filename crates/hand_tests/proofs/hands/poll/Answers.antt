@@ -2,7 +2,7 @@ use Rattle.std.proofs.Common.{◌∙◌}
 use Rattle.run_workers.specs.Hands.Deltas.{this_lane}
 use Rattle.run_workers.proofs.Hands.StayLemmas.{polls_stay}
 use Rattle.run_workers.proofs.Hands.VisitLemmas.{polls_leave}
-use Rattle.hand_tests.proofs.Resting.{polls_rest}
+use Rattle.hand_tests.proofs.hands.Resting.{polls_rest}
 use Rattle.hand_tests.proofs.hands.poll.Goals as goal
 
 pub returns : goal.returns

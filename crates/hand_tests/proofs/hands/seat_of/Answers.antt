@@ -1,4 +1,4 @@
-use Rattle.hand_tests.proofs.Resting.{worker_done}
+use Rattle.hand_tests.proofs.hands.Resting.{worker_done}
 use Rattle.hand_tests.proofs.hands.seat_of.Goals as goal
 
 pub returns : goal.returns

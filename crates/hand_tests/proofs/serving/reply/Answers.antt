@@ -1,4 +1,4 @@
-use Rattle.hand_tests.proofs.Clerks.{replied}
+use Rattle.hand_tests.proofs.serving.Clerks.{replied}
 use Rattle.hand_tests.proofs.serving.reply.Goals as goal
 
 pub invariant_of-office : goal.invariant_of-office

@@ -1,6 +1,6 @@
 use Rattle.run_workers.specs.Hands.Deltas.{no_lane}
-use Rattle.hand_tests.proofs.Clerks.{replied, transmit_opened}
-use Rattle.hand_tests.proofs.Closing.{made_closed}
+use Rattle.hand_tests.proofs.serving.Clerks.{replied, transmit_opened}
+use Rattle.hand_tests.proofs.hands.Closing.{made_closed}
 use Rattle.hand_tests.proofs.serving.reply_at_closed.Goals as goal
 
 pub set_and_open-requires-clause-closed : goal.set_and_open-requires-clause-closed

@@ -1,4 +1,4 @@
-use Rattle.hand_tests.proofs.Clerks.{took}
+use Rattle.hand_tests.proofs.serving.Clerks.{took}
 use Rattle.hand_tests.proofs.serving.take.Goals as goal
 
 pub invariant_of-office : goal.invariant_of-office

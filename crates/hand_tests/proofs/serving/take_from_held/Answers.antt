@@ -1,4 +1,4 @@
-use Rattle.hand_tests.proofs.Clerks.{given_back, took}
+use Rattle.hand_tests.proofs.serving.Clerks.{given_back, took}
 use Rattle.hand_tests.proofs.serving.take_from_held.Goals as goal
 
 pub invariant_of-office : goal.invariant_of-office

@@ -28,8 +28,8 @@ use Rattle.run_words.specs.declared.shared.Shared.{Shared}
 use Rattle.run_workers.proofs.Hands.ServerLaws.{applications_stay}
 use Rattle.hand_tests.specs.Benches.{Rests, opened_by}
 use Rattle.hand_tests.specs.Offices.{IsClerk, IsDesk, IsOffice}
-use Rattle.hand_tests.proofs.Closing.{RestsOpened, made_rests}
-use Rattle.hand_tests.proofs.Resting.{back_rests, rests_on, serves_rest}
+use Rattle.hand_tests.proofs.hands.Closing.{RestsOpened, made_rests}
+use Rattle.hand_tests.proofs.hands.Resting.{back_rests, rests_on, serves_rest}
 
 abbrev pub Seat : Type 0
 Seat = BoardSeatView

@@ -10,7 +10,7 @@ use Rattle.board_api.specs.Seats.{BoardSeatView}
 use Rattle.board_api.specs.Views.{BoardView}
 use Rattle.hop_board.specs.Made.{new_board_seats}
 use Rattle.hop_board.specs.Named.{board_seat}
-use Rattle.board_tests.proofs.Calls.{rests}
+use Rattle.board_tests.proofs.rounds.Calls.{rests}
 use Rattle.board_tests.specs.Stands.{IsDone, SeatIsOutside}
 
 abbrev pub Seat : Type 0

@@ -1,4 +1,2 @@
-pub mod Clerks
 pub mod Closing
-pub mod Fresh
 pub mod Resting
