@@ -1,11 +1,13 @@
 //! The flow limit: many packets of one flow, and one of another, at a processor that is limited and
 //! at one that is not.
+use crate::equal::same;
 use crate::frames::Frame;
 use crate::machine::{packets_of, played};
 use crate::wanted::at;
-use history::History;
+use history::{History, LaneList};
 use plan_reader::{Plan, read_plan};
 use std::alloc::{AllocError, Global};
+use std::process::Abort;
 use std::test::Fail;
 use steer_base::{DropCause, LaneDrop, PacketId};
 
@@ -43,26 +45,37 @@ fn flooded(alloc: Global, start: &str) -> Result<History, Fail> {
 #[test]
 fn the_flow_limit_drops(rt: HostRuntime) -> Result<(), Fail> {
     let left = flooded(rt.alloc(), LIMITED)?;
-    let lane = at(&rt, &left.lanes, 1);
-    assert_eq!(rt; (lane.accepted.len(), lane.drops.len()), (152, 49));
-    assert_eq!(rt; *lane.accepted.get(150), PacketId(150));
-    assert_eq!(rt; *lane.accepted.get(151), PacketId(200));
-    for (place, id, offers) in [(0usize, 151u32, 152u32), (48, 199, 200)] {
-        let wanted = LaneDrop {
-            id: PacketId(id),
-            accepted: 151,
-            pulled: 0,
-            cause: DropCause::Flow(offers),
-        };
-        assert_eq!(rt; lane.drops.as_slice().get(place), Some(&wanted));
-    }
+    is_limited(&rt, at(&rt, &left.lanes, 1));
     Ok(())
+}
+
+fn is_limited(rt: &impl Abort, lane: &LaneList) {
+    has_counts(rt, lane, 152, 49);
+    same(rt, &lane.accepted.as_slice().get(150), &Some(&PacketId(150)), 1);
+    same(rt, &lane.accepted.as_slice().get(151), &Some(&PacketId(200)), 2);
+    has_drop(rt, lane, 0, 151, 152);
+    has_drop(rt, lane, 48, 199, 200);
+}
+
+fn has_counts(rt: &impl Abort, lane: &LaneList, accepted: usize, dropped: usize) {
+    let found = (lane.accepted.len(), lane.drops.len());
+    same(rt, &found, &(accepted, dropped), 0);
+}
+
+// The drop at this place is of the packet with this number, which was the offer of this number.
+fn has_drop(rt: &impl Abort, lane: &LaneList, place: usize, id: u32, offers: u32) {
+    let wanted = LaneDrop {
+        id: PacketId(id),
+        accepted: 151,
+        pulled: 0,
+        cause: DropCause::Flow(offers),
+    };
+    same(rt, &lane.drops.as_slice().get(place), &Some(&wanted), place);
 }
 
 #[test]
 fn without_the_flow_limit_none_is_dropped(rt: HostRuntime) -> Result<(), Fail> {
     let left = flooded(rt.alloc(), UNLIMITED)?;
-    let lane = at(&rt, &left.lanes, 1);
-    assert_eq!(rt; (lane.accepted.len(), lane.drops.len()), (201, 0));
+    has_counts(&rt, at(&rt, &left.lanes, 1), 201, 0);
     Ok(())
 }

@@ -3,6 +3,7 @@ ghost use Rattle.std.specs.Prelude.{◌≤◌, length};
 ghost use Rattle.steer_base.specs.declared.limits.TheConstants.{MAX_PACKETS};
 ghost use Rattle.steer_model.specs.State.Ranges.{AreOfFlows};
 
+use crate::equal::same;
 use crate::frames::Frame;
 use crate::machine::{begun, left_by, packets_of};
 use history::History;
@@ -69,19 +70,16 @@ fn arrived(
 }
 
 fn arrives(rt: &impl Abort, steering: &mut Steering) {
-    assert_eq!(rt; (steering.made(), steering.steps()), (0, 1_000_000));
-    assert_eq!(rt; steering.step(&Step::Arrive), Answer::Done);
+    same(rt, &(steering.made(), steering.steps()), &(0, 1_000_000), 0);
+    same(rt, &steering.step(&Step::Arrive), &Answer::Done, 1);
 }
 
 // A history of one arrival has the lists of the largest plan.
 fn has_its_sizes(rt: &impl Abort, left: &History) {
-    assert_eq!(rt;
-        (left.total, left.cut, left.arrivals.len()),
-        (262_144, Some(7), 1)
-    );
-    assert_eq!(rt;
-        (left.choices.len(), left.lanes.len(), left.inboxes.len()),
-        (16, 32, 32)
-    );
-    assert_eq!(rt; (left.tx_choices.len(), left.tx_lanes.len()), (32, 32));
+    let of_packets = (left.total, left.cut, left.arrivals.len());
+    same(rt, &of_packets, &(262_144, Some(7), 1), 0);
+    let received = (left.choices.len(), left.lanes.len(), left.inboxes.len());
+    same(rt, &received, &(16, 32, 32), 1);
+    let sent = (left.tx_choices.len(), left.tx_lanes.len());
+    same(rt, &sent, &(32, 32), 2);
 }

@@ -6,6 +6,8 @@ mod changes;
 #[cfg(test)]
 mod commands;
 #[cfg(test)]
+mod equal;
+#[cfg(test)]
 mod events;
 #[cfg(test)]
 mod filter_rows;

@@ -13,7 +13,7 @@ use plan_reader::{Plan, read_plan};
 use std::alloc::{AllocError, Global};
 use std::process::Abort;
 use std::test::Fail;
-use steer_base::{OutOfMemory, Packet};
+use steer_base::{Answer, OutOfMemory, Packet};
 use steer_core::Steering;
 
 /// A worked replay: a plan, whose text is without its end, the steps that end it, each with its
@@ -75,11 +75,11 @@ impl Worked {
         requires steps { steering.old.steps ≡ step_count plan.now }
         requires sizes { sizes_in steering.old.machine.setup ≡ sizes_of plan.now }
     {
-        assert_eq!(rt; plan.step_count() as usize, self.steps.len());
+        assert!(rt; plan.step_count() as usize == self.steps.len());
         for i in 0..plan.step_count() {
             let answer = answer_of(steering, plan, i);
             let (step, said) = self.steps[i as usize];
-            assert_eq!(rt; answer, said.answer(), "{step}");
+            answers(rt, step, &answer, &said.answer());
         }
     }
 
@@ -88,6 +88,11 @@ impl Worked {
             wanted.is_in(rt, history);
         }
     }
+}
+
+// A step is answered as is wanted.
+fn answers(rt: &impl Abort, step: &str, got: &Answer, wanted: &Answer) {
+    assert!(rt; *got == *wanted, "{step}: {got:?}, and not {wanted:?}");
 }
 
 // Appends a step to the text of a plan.

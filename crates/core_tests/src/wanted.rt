@@ -1,10 +1,11 @@
 //! What a step must answer, and what a history must have at a queue, a processor, an application or
 //! a transmit queue, in plain numbers.
+use crate::equal::{same, same_items};
 use history::{Arrival, Commanded, History, LaneList, Sent, SockWrite};
+use std::fmt::Debug;
 use std::process::Abort;
 use steer_base::{
-    Answer, AppId, Busy, Choice, Chosen, Cpu, DropCause, Idle, LaneDrop, List, PacketId, RxQueue,
-    User,
+    Answer, AppId, Busy, Choice, Chosen, DropCause, Idle, LaneDrop, List, PacketId, RxQueue, User,
 };
 
 /// An answer.
@@ -74,7 +75,7 @@ impl Wanted {
     pub fn is_in(&self, rt: &impl Abort, left: &History) {
         match *self {
             Wanted::Arrivals(rows) => are_arrivals(rt, &left.arrivals, rows),
-            Wanted::Taken(counts) => assert_eq!(rt; left.taken.as_slice(), counts),
+            Wanted::Taken(counts) => same_items(rt, left.taken.as_slice(), counts),
             Wanted::Choices(q, rows) => are_choices(rt, at(rt, &left.choices, q), rows),
             Wanted::Lane(c, ids, counts) => is_lane(rt, at(rt, &left.lanes, c), ids, counts),
             Wanted::Drops(c, rows) => are_drops(rt, &at(rt, &left.lanes, c).drops, rows),
@@ -95,18 +96,27 @@ pub fn at<'a, T>(rt: &impl Abort, items: &'a List<T>, i: usize) -> &'a T {
     items.get(i)
 }
 
-fn are_packets(rt: &impl Abort, found: &List<PacketId>, ids: &[u32]) {
-    assert_eq!(rt; found.len(), ids.len());
-    for (packet, id) in found.as_slice().iter().zip(ids) {
-        assert_eq!(rt; packet.0, *id);
+/// The items of a list, as they are shown, are these.
+fn are<T: Copy, R: PartialEq + Debug + Copy, F: Fn(T) -> R>(
+    rt: &impl Abort,
+    found: &List<T>,
+    rows: &[R],
+    shown: F,
+)
+    requires { F.IsAlwaysCallable shown }
+{
+    same(rt, &found.len(), &rows.len(), 0);
+    for (i, (item, row)) in found.as_slice().iter().zip(rows).enumerate() {
+        same(rt, &shown(*item), row, i);
     }
 }
 
+fn are_packets(rt: &impl Abort, found: &List<PacketId>, ids: &[u32]) {
+    are(rt, found, ids, |packet| packet.0);
+}
+
 fn are_choices(rt: &impl Abort, found: &List<Chosen>, rows: &[(u32, Choice)]) {
-    assert_eq!(rt; found.len(), rows.len());
-    for (chosen, row) in found.as_slice().iter().zip(rows) {
-        assert_eq!(rt; (chosen.id.0, chosen.choice), *row);
-    }
+    are(rt, found, rows, |chosen| (chosen.id.0, chosen.choice));
 }
 
 fn are_arrivals(
@@ -114,52 +124,48 @@ fn are_arrivals(
     found: &List<Arrival>,
     rows: &[(u32, u8, Option<u8>, Option<u8>)],
 ) {
-    assert_eq!(rt; found.len(), rows.len());
-    for (arrival, (id, queue, filter, entry)) in found.as_slice().iter().zip(rows) {
-        let wanted = Arrival {
-            id: PacketId(*id),
-            queue: RxQueue(*queue),
-            filter: filter.map(|q| RxQueue(q)),
-            entry: entry.map(|q| RxQueue(q)),
-        };
-        assert_eq!(rt; *arrival, wanted);
+    are(rt, found, rows, |arrival| shown_arrival(arrival));
+}
+
+fn shown_arrival(arrival: Arrival) -> (u32, u8, Option<u8>, Option<u8>) {
+    let (filter, entry) = (number_of(arrival.filter), number_of(arrival.entry));
+    (arrival.id.0, arrival.queue.0, filter, entry)
+}
+
+fn number_of(queue: Option<RxQueue>) -> Option<u8> {
+    match queue {
+        Some(queue) => Some(queue.0),
+        None => None,
     }
 }
 
 fn are_drops(rt: &impl Abort, found: &List<LaneDrop>, rows: &[(u32, u32, u32, DropCause)]) {
-    assert_eq!(rt; found.len(), rows.len());
-    for (drop, row) in found.as_slice().iter().zip(rows) {
-        assert_eq!(rt; (drop.id.0, drop.accepted, drop.pulled, drop.cause), *row);
-    }
+    are(
+        rt,
+        found,
+        rows,
+        |drop| (drop.id.0, drop.accepted, drop.pulled, drop.cause),
+    );
 }
 
 fn are_replies(rt: &impl Abort, found: &List<Sent>, rows: &[(u32, u8, u8)]) {
-    assert_eq!(rt; found.len(), rows.len());
-    for (sent, row) in found.as_slice().iter().zip(rows) {
-        assert_eq!(rt; (sent.id.0, sent.rxq.0, sent.cpu.0), *row);
-    }
+    are(rt, found, rows, |sent| (sent.id.0, sent.rxq.0, sent.cpu.0));
 }
 
 fn are_writes(rt: &impl Abort, found: &List<SockWrite>, rows: &[(u32, u8)]) {
-    assert_eq!(rt; found.len(), rows.len());
-    for (write, row) in found.as_slice().iter().zip(rows) {
-        assert_eq!(rt; (write.entry, write.cpu.0), *row);
-    }
+    are(rt, found, rows, |write| (write.entry, write.cpu.0));
 }
 
 fn are_answered(rt: &impl Abort, found: &List<Commanded>, answers: &[Said]) {
-    assert_eq!(rt; found.len(), answers.len());
-    for (commanded, said) in found.as_slice().iter().zip(answers) {
-        assert_eq!(rt; commanded.answer, said.answer());
+    same(rt, &found.len(), &answers.len(), 0);
+    for (i, (commanded, said)) in found.as_slice().iter().zip(answers).enumerate() {
+        same(rt, &commanded.answer, &said.answer(), i);
     }
 }
 
 fn is_lane(rt: &impl Abort, lane: &LaneList, accepted: &[u32], counts: [u32; 4]) {
     are_packets(rt, &lane.accepted, accepted);
     let [pulled, delivered, retired, dropped] = counts;
-    assert_eq!(rt;
-        (lane.pulled, lane.delivered, lane.retired),
-        (pulled, delivered, retired)
-    );
-    assert_eq!(rt; lane.drops.len(), dropped as usize);
+    let found = (lane.pulled, lane.delivered, lane.retired, lane.drops.len());
+    same(rt, &found, &(pulled, delivered, retired, dropped as usize), 0);
 }

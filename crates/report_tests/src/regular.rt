@@ -111,6 +111,21 @@ fn has_passed(rt: &impl Abort, alloc: Global, h: &History, packets: &[Packet], a
     is_regular(alloc, h, packets, apps).expect(rt, "memory")
 }
 
+const FAULTS: [Fault; 12] = [
+    Fault::MoreTakenThanArrived,
+    Fault::OtherLaneChosen,
+    Fault::AlsoDropped,
+    Fault::TwiceDelivered,
+    Fault::NotDelivered,
+    Fault::OtherQueue,
+    Fault::NoClass,
+    Fault::NoWant,
+    Fault::NotChosen,
+    Fault::NotQueued,
+    Fault::NoText,
+    Fault::MoreInboxes,
+];
+
 #[test]
 fn each_fault_is_irregular(rt: HostRuntime) {
     let alloc = rt.alloc();
@@ -119,22 +134,12 @@ fn each_fault_is_irregular(rt: HostRuntime) {
     assert!(&rt; has_passed(&rt, alloc, &whole, &packets, 1));
     assert!(&rt; !has_passed(&rt, alloc, &whole, &packets, 2));
     assert!(&rt; !has_passed(&rt, alloc, &whole, &[], 1));
-    let faults = [
-        Fault::MoreTakenThanArrived,
-        Fault::OtherLaneChosen,
-        Fault::AlsoDropped,
-        Fault::TwiceDelivered,
-        Fault::NotDelivered,
-        Fault::OtherQueue,
-        Fault::NoClass,
-        Fault::NoWant,
-        Fault::NotChosen,
-        Fault::NotQueued,
-        Fault::NoText,
-        Fault::MoreInboxes,
-    ];
-    for fault in faults {
-        let h = faulty(&rt, alloc, fault);
-        assert!(&rt; !has_passed(&rt, alloc, &h, &packets, 1), "{fault:?}");
+    for fault in &FAULTS {
+        is_irregular(&rt, alloc, *fault);
     }
+}
+
+fn is_irregular(rt: &impl Abort, alloc: Global, fault: Fault) {
+    let h = faulty(rt, alloc, fault);
+    assert!(rt; !has_passed(rt, alloc, &h, &[SEGMENT], 1), "{fault:?}");
 }

@@ -277,55 +277,63 @@ end 3 of 3
     );
 }
 
-fn mask(cpus: u32) -> Command {
-    Command::Mask(RxQueue(0), CpuMask(cpus))
+const MASK: Command = Command::Mask(RxQueue(0), CpuMask(4));
+
+// A command and its answer.
+macro_rules! commanded {
+    ($command:expr, $answer:expr $(,)?) => {
+        Commanded {
+            command: $command,
+            answer: $answer,
+        }
+    };
 }
 
-fn not_empty(head: u32, tail: u32) -> Answer {
-    Answer::Busy(Busy::NotEmpty {
-        lane: 1,
-        head,
-        tail,
-    })
+// Lane 1 is not empty.
+macro_rules! not_empty {
+    ($head:expr, $tail:expr) => {
+        Answer::Busy(Busy::NotEmpty {
+            lane: 1,
+            head: $head,
+            tail: $tail,
+        })
+    };
 }
 
-fn commanded(command: Command, answer: Answer) -> Commanded {
-    Commanded { command, answer }
-}
+const COMMANDS: [Commanded; 16] = [
+    commanded!(MASK, not_empty!(0, 1)),
+    commanded!(MASK, not_empty!(4294967295, 0)),
+    commanded!(MASK, Answer::Busy(Busy::Inside(1))),
+    commanded!(MASK, Answer::Done),
+    commanded!(
+        Command::Offline(Cpu(0)),
+        Answer::CpuInUse(User::Queue(RxQueue(0))),
+    ),
+    commanded!(
+        Command::Offline(Cpu(2)),
+        Answer::CpuInUse(User::App(AppId(0))),
+    ),
+    commanded!(Command::Stand(AppId(0), Cpu(2)), Answer::CpuOffline),
+    commanded!(Command::Online(Cpu(3)), Answer::Idle(Idle::AlreadyOnline)),
+    commanded!(Command::Expire, Answer::Expired(0)),
+    commanded!(Command::Expire, Answer::Expired(1)),
+    commanded!(Command::Reta(120, RxQueue(1)), Answer::Done),
+    commanded!(Command::Flows(RxQueue(1), 3), Answer::Done),
+    commanded!(Command::Sock(16), Answer::Done),
+    commanded!(
+        Command::XCpus(TxQueue(0), CpuMask(0x8000_0009)),
+        Answer::Done,
+    ),
+    commanded!(Command::XQueues(TxQueue(1), 0x8001), Answer::Done),
+    commanded!(Command::Mask(RxQueue(0), CpuMask(0)), Answer::Done),
+];
 
 #[test]
 fn commands_are_listed_with_their_answers(rt: HostRuntime) {
     let alloc = rt.alloc();
-    let commands = [
-        commanded(mask(4), not_empty(0, 1)),
-        commanded(mask(4), not_empty(4294967295, 0)),
-        commanded(mask(4), Answer::Busy(Busy::Inside(1))),
-        commanded(mask(4), Answer::Done),
-        commanded(
-            Command::Offline(Cpu(0)),
-            Answer::CpuInUse(User::Queue(RxQueue(0))),
-        ),
-        commanded(
-            Command::Offline(Cpu(2)),
-            Answer::CpuInUse(User::App(AppId(0))),
-        ),
-        commanded(Command::Stand(AppId(0), Cpu(2)), Answer::CpuOffline),
-        commanded(Command::Online(Cpu(3)), Answer::Idle(Idle::AlreadyOnline)),
-        commanded(Command::Expire, Answer::Expired(0)),
-        commanded(Command::Expire, Answer::Expired(1)),
-        commanded(Command::Reta(120, RxQueue(1)), Answer::Done),
-        commanded(Command::Flows(RxQueue(1), 3), Answer::Done),
-        commanded(Command::Sock(16), Answer::Done),
-        commanded(
-            Command::XCpus(TxQueue(0), CpuMask(0x8000_0009)),
-            Answer::Done,
-        ),
-        commanded(Command::XQueues(TxQueue(1), 0x8001), Answer::Done),
-        commanded(mask(0), Answer::Done),
-    ];
     let lanes = one(&rt, alloc, lane(&rt, alloc, &[], 0));
     let mut h = received(&rt, alloc, &[], &[], lanes, &[]);
-    h.commands = list(&rt, alloc, &commands);
+    h.commands = list(&rt, alloc, &COMMANDS);
     let wanted = b"steer 1
 queue 0 arrived 0 taken 0
 cpu 0 accepted 0 pulled 0 delivered 0 retired 0 dropped 0
@@ -433,37 +441,53 @@ fn goes_out(
     goes_out_whole(rt, alloc, h, lines, texts, &wanted);
 }
 
+// The lines of a flow that moved.
+const MOVED_LINES: [&[u8]; 13] = [
+    b"steer 1\n",
+    b"p 0 q 0 via reta class 0 want - head - tail 0 cpu 1 why unset at 1 \
+        app 0 in 1 place inbox\n",
+    b"p 1 q 0 via reta class 0 want 2 head 0 tail 1 cpu 1 why kept at 2 app \
+        0 in 2 place inbox\n",
+    b"p 2 q 0 via reta class 0 want 2 head 0 tail 2 cpu 1 why kept at 3 app \
+        0 in 3 place inbox\n",
+    b"p 3 q 0 via reta class 0 want 2 head 3 tail 3 cpu 2 why passed at 1 \
+        app 0 in - place backlog\n",
+    b"queue 0 arrived 4 taken 4\n",
+    b"cpu 0 accepted 0 pulled 0 delivered 0 retired 0 dropped 0\n",
+    b"cpu 1 accepted 3 pulled 3 delivered 3 retired 3 dropped 0\n",
+    b"cpu 2 accepted 1 pulled 0 delivered 0 retired 0 dropped 0\n",
+    b"cpu 3 accepted 0 pulled 0 delivered 0 retired 0 dropped 0\n",
+    b"tx 0 accepted 0 pulled 0 delivered 0 retired 0\n",
+    b"w app 0 entry 0 cpu 2\n",
+    b"end 4 of 4\n",
+];
+
 #[test]
 fn a_report_goes_out_line_by_line(rt: HostRuntime) {
     let alloc = rt.alloc();
     let h = moved(&rt, alloc, 0);
     let packets = [SEGMENT; 4];
     let lines = lines_of(&rt, alloc, &h, &packets, 1);
-    let pieces = [
-        b"steer 1\n".as_slice(),
-        b"p 0 q 0 via reta class 0 want - head - tail 0 cpu 1 why unset at 1 \
-            app 0 in 1 place inbox\n"
-            .as_slice(),
-        b"p 1 q 0 via reta class 0 want 2 head 0 tail 1 cpu 1 why kept at 2 app \
-            0 in 2 place inbox\n"
-            .as_slice(),
-        b"p 2 q 0 via reta class 0 want 2 head 0 tail 2 cpu 1 why kept at 3 app \
-            0 in 3 place inbox\n"
-            .as_slice(),
-        b"p 3 q 0 via reta class 0 want 2 head 3 tail 3 cpu 2 why passed at 1 \
-            app 0 in - place backlog\n"
-            .as_slice(),
-        b"queue 0 arrived 4 taken 4\n".as_slice(),
-        b"cpu 0 accepted 0 pulled 0 delivered 0 retired 0 dropped 0\n".as_slice(),
-        b"cpu 1 accepted 3 pulled 3 delivered 3 retired 3 dropped 0\n".as_slice(),
-        b"cpu 2 accepted 1 pulled 0 delivered 0 retired 0 dropped 0\n".as_slice(),
-        b"cpu 3 accepted 0 pulled 0 delivered 0 retired 0 dropped 0\n".as_slice(),
-        b"tx 0 accepted 0 pulled 0 delivered 0 retired 0\n".as_slice(),
-        b"w app 0 entry 0 cpu 2\n".as_slice(),
-        b"end 4 of 4\n".as_slice(),
-    ];
-    goes_out(&rt, alloc, &h, &lines, &[], &pieces);
+    goes_out(&rt, alloc, &h, &lines, &[], &MOVED_LINES);
 }
+
+// The pieces of a report with two packets that wait, a command and a tap.
+const WAITING_LINES: [&[u8]; 12] = [
+    b"steer 1\n",
+    b"p 0 q 0 via reta class - want - head - tail - cpu - why - at - app 0 \
+        in - place ring\n",
+    b"p 1 q 0 via reta class - want - head - tail - cpu - why - at - app 0 \
+        in - place ring\n",
+    b"queue 0 arrived 2 taken 0\n",
+    b"cpu 0 accepted 0 pulled 0 delivered 0 retired 0 dropped 0\n",
+    b"cpu 1 accepted 0 pulled 0 delivered 0 retired 0 dropped 0\n",
+    b"tx 0 accepted 0 pulled 0 delivered 0 retired 0\n",
+    b"w app 0 entry 3 cpu 1\n",
+    b"c 0 mask 0 1 done\n",
+    b"tap 0 bytes 34\n",
+    b"flow 0 packets 2\nflow 1 packets 1\n",
+    b"end 2 of 3 cut 9\n",
+];
 
 #[test]
 fn each_section_goes_out_line_by_line(rt: HostRuntime) {
@@ -476,23 +500,5 @@ fn each_section_goes_out_line_by_line(rt: HostRuntime) {
             &rt, "memory",
         ),
     }];
-    let pieces = [
-        b"steer 1\n".as_slice(),
-        b"p 0 q 0 via reta class - want - head - tail - cpu - why - at - app 0 \
-            in - place ring\n"
-            .as_slice(),
-        b"p 1 q 0 via reta class - want - head - tail - cpu - why - at - app 0 \
-            in - place ring\n"
-            .as_slice(),
-        b"queue 0 arrived 2 taken 0\n".as_slice(),
-        b"cpu 0 accepted 0 pulled 0 delivered 0 retired 0 dropped 0\n".as_slice(),
-        b"cpu 1 accepted 0 pulled 0 delivered 0 retired 0 dropped 0\n".as_slice(),
-        b"tx 0 accepted 0 pulled 0 delivered 0 retired 0\n".as_slice(),
-        b"w app 0 entry 3 cpu 1\n".as_slice(),
-        b"c 0 mask 0 1 done\n".as_slice(),
-        b"tap 0 bytes 34\n".as_slice(),
-        b"flow 0 packets 2\nflow 1 packets 1\n".as_slice(),
-        b"end 2 of 3 cut 9\n".as_slice(),
-    ];
-    goes_out(&rt, alloc, &h, &lines, &texts, &pieces);
+    goes_out(&rt, alloc, &h, &lines, &texts, &WAITING_LINES);
 }
