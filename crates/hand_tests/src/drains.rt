@@ -3,7 +3,7 @@ ghost use Rattle.hand_tests.specs.Benches.{IsWorker, Rests};
 
 use crate::bench::{Worker, begun};
 use crate::frames::packets_of;
-use crate::hands::{arrive, closed, drains, drains_beside, ids, note, steers};
+use crate::hands::{Act, arrive, closed, drains_beside, ids, works};
 use board_api::{BoardSeat, LaneId};
 use hop_board::Board;
 use plan_reader::read_plan;
@@ -18,44 +18,15 @@ const PLAN: &[u8] = b"{\"cpus\": 2, \"queues\": [{\"home\": 0, \"mask\": [0], \"
     \"sock\": 1024, \"backlog\": 8, \"apps\": [0, 1], \"tx\": [{\"cpus\": [], \"queues\": []}], \
     \"steps\": []}";
 
-// Drains three packets, and steers one more.
-fn drain_three<R: Wait + Abort>(rt: &R, board: &Board, shared: &Shared, worker: &mut Worker)
-    requires worker { IsWorker board.now shared.now worker.old.poller worker.old.drain
-        worker.old.seat worker.old.hint }
-    ensures worker { IsWorker board.now shared.now worker.new.poller worker.new.drain
-        worker.new.seat worker.new.hint }
-{
-    steers(
-        rt,
-        board,
-        shared,
-        worker,
-        (Some(120), None, None, 0, Why::Unset),
-    );
-    steers(
-        rt,
-        board,
-        shared,
-        worker,
-        (Some(127), None, None, 0, Why::Unset),
-    );
-    steers(
-        rt,
-        board,
-        shared,
-        worker,
-        (Some(120), None, None, 0, Why::Same),
-    );
-    drains(rt, board, shared, worker, (true, None, 3));
-    note(board, shared, worker, 376, 1);
-    steers(
-        rt,
-        board,
-        shared,
-        worker,
-        (Some(120), Some(1), Some(3), 1, Why::Passed),
-    );
-}
+// Three packets are drained, and one more is steered.
+const DRAINS_THREE: [Act; 6] = [
+    Act::Steers((Some(120), None, None, 0, Why::Unset)),
+    Act::Steers((Some(127), None, None, 0, Why::Unset)),
+    Act::Steers((Some(120), None, None, 0, Why::Same)),
+    Act::Drains((true, None, 3)),
+    Act::Note(376, 1),
+    Act::Steers((Some(120), Some(1), Some(3), 1, Why::Passed)),
+];
 
 // Packets 0, 2 and 3 are of flow 0 with an even hash, for application 0, and packet 1 is of flow 1
 // with an odd one, for application 1. The first three wait on processor 0. Once they are retired
@@ -68,12 +39,17 @@ fn packets_go_to_their_inboxes(rt: HostRuntime) -> Result<(), Fail> {
     let packets = packets_of(alloc, &plan, &[0, 1, 0, 0])?;
     let mut b = begun(&rt, alloc, &plan, &packets)?;
     arrive(&rt, &mut b.rings.0, 0, 4);
-    drain_three(&rt, &b.board, &b.shared, &mut b.zero);
+    works(&rt, &b.board, &b.shared, &mut b.zero, &DRAINS_THREE);
     let lists = closed(&rt, alloc, b)?;
     assert!(rt; ids(&lists.outs, 0) == [PacketId(0), PacketId(2)].as_slice());
     assert!(rt; ids(&lists.outs, 1) == [PacketId(1)].as_slice());
     Ok(())
 }
+
+const STEERS_TWO: [Act; 2] = [
+    Act::Steers((Some(120), None, None, 0, Why::Unset)),
+    Act::Steers((Some(127), None, None, 0, Why::Unset)),
+];
 
 // Drains two packets, while another seat holds a lane and then an inbox.
 fn drain_beside_a_holder<R: Wait + Abort>(
@@ -90,27 +66,14 @@ fn drain_beside_a_holder<R: Wait + Abort>(
         worker.new.seat worker.new.hint }
     ensures visitor { Rests board.now 2 visitor.new }
 {
-    steers(
-        rt,
-        board,
-        shared,
-        worker,
-        (Some(120), None, None, 0, Why::Unset),
-    );
-    steers(
-        rt,
-        board,
-        shared,
-        worker,
-        (Some(127), None, None, 0, Why::Unset),
-    );
+    works(rt, board, shared, worker, &STEERS_TWO);
     let wanted = (false, None, 0);
     let lane = LaneId::Middle(0);
     drains_beside(rt, board, shared, worker, visitor, lane, wanted);
     let wanted = (true, Some(PacketId(1)), 1);
     let lane = LaneId::Out(1);
     drains_beside(rt, board, shared, worker, visitor, lane, wanted);
-    drains(rt, board, shared, worker, (true, None, 2));
+    works(rt, board, shared, worker, &[Act::Drains((true, None, 2))]);
 }
 
 // Packet 0 is for application 0, and packet 1 for application 1. While their lane is held nothing

@@ -4,7 +4,7 @@ ghost use Rattle.hand_tests.specs.Benches.{IsWorker, Rests, opened_by};
 
 use crate::bench::{Worker, begun};
 use crate::frames::packets_of;
-use crate::hands::{arrive, change, change_beside, change_in_visit, drains, steers};
+use crate::hands::{Act, arrive, change, change_beside, change_in_visit, works};
 use board_api::BoardSeat;
 use hop_board::Board;
 use plan_reader::read_plan;
@@ -21,6 +21,18 @@ const PLAN: &[u8] = b"{\"cpus\": 2, \"queues\": [{\"home\": 0, \"mask\": [0], \"
 
 // The number of the flow count of queue 0 among the settings of two queues.
 const FLOWS: u32 = 2;
+
+// The first packet of a class of 256.
+const STEERS_FIRST: [Act; 1] = [Act::Steers((Some(120), None, None, 0, Why::Unset))];
+
+// Two packets of a class of 16, which had none before.
+const STEERS_TWO: [Act; 2] = [
+    Act::Steers((Some(8), None, None, 0, Why::Unset)),
+    Act::Steers((Some(8), None, None, 0, Why::Same)),
+];
+
+// The first packet of a class of 16.
+const STEERS_ANEW: [Act; 1] = [Act::Steers((Some(8), None, None, 0, Why::Unset))];
 
 // Tries a change in a visit, beside a packet that waits, and when it is gone.
 fn refuse<R: Wait + Abort>(
@@ -43,13 +55,7 @@ fn refuse<R: Wait + Abort>(
 {
     let busy = change_in_visit(rt, board, closer, visitor, CpuMask(0));
     assert!(rt; busy == Some(Busy::Inside(1)));
-    steers(
-        rt,
-        board,
-        shared,
-        worker,
-        (Some(120), None, None, 0, Why::Unset),
-    );
+    works(rt, board, shared, worker, &STEERS_FIRST);
     let busy = change(board, closer, CpuMask(3), FLOWS, 16);
     assert!(rt;
         busy == Some(Busy::NotEmpty {
@@ -58,7 +64,7 @@ fn refuse<R: Wait + Abort>(
             tail: 1
         })
     );
-    drains(rt, board, shared, worker, (true, None, 1));
+    works(rt, board, shared, worker, &[Act::Drains((true, None, 1))]);
     assert!(rt; change(board, closer, CpuMask(3), FLOWS, 16).is_none());
 }
 
@@ -97,39 +103,14 @@ fn renew<R: Wait + Abort>(
         worker.new.seat worker.new.hint }
     ensures closer { Rests board.now 3 closer.new }
 {
-    steers(
-        rt,
-        board,
-        shared,
-        worker,
-        (Some(120), None, None, 0, Why::Unset),
-    );
+    works(rt, board, shared, worker, &STEERS_FIRST);
     let word = flows_word(16, 1);
     let polled = change_beside(rt, board, shared, closer, worker, FLOWS, word);
     assert!(rt; polled.ok() == Some((true, false)));
-    steers(
-        rt,
-        board,
-        shared,
-        worker,
-        (Some(8), None, None, 0, Why::Unset),
-    );
-    steers(
-        rt,
-        board,
-        shared,
-        worker,
-        (Some(8), None, None, 0, Why::Same),
-    );
+    works(rt, board, shared, worker, &STEERS_TWO);
     let word = flows_word(16, 2);
     assert!(rt; change(board, closer, CpuMask(0), FLOWS, word).is_none());
-    steers(
-        rt,
-        board,
-        shared,
-        worker,
-        (Some(8), None, None, 0, Why::Unset),
-    );
+    works(rt, board, shared, worker, &STEERS_ANEW);
 }
 
 // Flow 0 has class 120 of 256 and class 8 of 16. The packet that meets the closed gate stays in

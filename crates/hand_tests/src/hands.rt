@@ -14,7 +14,7 @@ use run_words::{HintWord, Shared, place_word};
 use std::alloc::Global;
 use std::process::Abort;
 use std::sync::Wait;
-use steer_base::{Busy, CpuMask, List, OutOfMemory, PacketId, Why};
+use steer_base::{Busy, CpuMask, List, MAX_SOCKET_SIZE, OutOfMemory, PacketId, Why};
 
 /// Of a choice the class, the processor that was wanted, the head that was looked at, the processor
 /// that was chosen, and why.
@@ -75,8 +75,59 @@ fn drain_beside(
     }
 }
 
-/// Polls once, and a packet is steered by this choice.
-pub fn steers<R: Wait + Abort>(
+/// What a worker does, and what comes of it.
+#[derive(Clone, Copy)]
+pub enum Act {
+    /// It polls, and a packet is steered by this choice.
+    Steers(Shown),
+    /// It drains, with this result, packet in hand and count of retired packets.
+    Drains((bool, Option<PacketId>, u32)),
+    /// It stores the processor of an entry of the socket flow table.
+    Note(u32, u8),
+}
+
+/// Does what a table of worked steps says, and compares.
+pub fn works<R: Wait + Abort>(
+    rt: &R,
+    board: &Board,
+    shared: &Shared,
+    worker: &mut Worker,
+    acts: &[Act],
+)
+    requires { IsWorker board.now shared.now worker.old.poller worker.old.drain
+        worker.old.seat worker.old.hint }
+    ensures { IsWorker board.now shared.now worker.new.poller worker.new.drain
+        worker.new.seat worker.new.hint }
+{
+    for act in acts {
+        perform(rt, board, shared, worker, *act);
+    }
+}
+
+fn perform<R: Wait + Abort>(
+    rt: &R,
+    board: &Board,
+    shared: &Shared,
+    worker: &mut Worker,
+    act: Act,
+)
+    requires { IsWorker board.now shared.now worker.old.poller worker.old.drain
+        worker.old.seat worker.old.hint }
+    ensures { IsWorker board.now shared.now worker.new.poller worker.new.drain
+        worker.new.seat worker.new.hint }
+{
+    match act {
+        Act::Steers(wanted) => steers(rt, board, shared, worker, wanted),
+        Act::Drains(wanted) => drains(rt, board, shared, worker, wanted),
+        Act::Note(entry, cpu) => {
+            assert!(rt; entry < MAX_SOCKET_SIZE);
+            note(board, shared, worker, entry, cpu);
+        }
+    }
+}
+
+// Polls once, and a packet is steered by this choice.
+fn steers<R: Wait + Abort>(
     rt: &R,
     board: &Board,
     shared: &Shared,
@@ -93,8 +144,8 @@ pub fn steers<R: Wait + Abort>(
     assert!(rt; chosen(worker, index) == Some(wanted));
 }
 
-/// Drains once, with this result, packet in hand and count of retired packets.
-pub fn drains(
+// Drains once, with this result, packet in hand and count of retired packets.
+fn drains(
     rt: &impl Abort,
     board: &Board,
     shared: &Shared,
@@ -110,7 +161,8 @@ pub fn drains(
     assert!(rt; (did, worker.drain.hand, worker.drain.retired) == wanted);
 }
 
-/// The same while another seat holds a lane.
+/// Drains once while another seat holds a lane, with this result, packet in hand and count of
+/// retired packets.
 pub fn drains_beside(
     rt: &impl Abort,
     board: &Board,

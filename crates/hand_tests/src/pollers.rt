@@ -3,7 +3,7 @@ ghost use Rattle.hand_tests.specs.Benches.{IsWorker};
 
 use crate::bench::{Worker, begun};
 use crate::frames::packets_of;
-use crate::hands::{arrive, filter_at, note, poll, steers};
+use crate::hands::{Act, arrive, filter_at, poll, works};
 use hop_board::Board;
 use plan_reader::read_plan;
 use run_words::Shared;
@@ -17,6 +17,13 @@ const PLAN: &[u8] = b"{\"cpus\": 2, \"queues\": [{\"home\": 1, \"mask\": [1], \"
     \"sock\": 1024, \"backlog\": 1, \"apps\": [0, 1], \"tx\": [{\"cpus\": [], \"queues\": []}], \
     \"steps\": []}";
 
+const MOVES: [Act; 1] = [Act::Steers((Some(120), None, None, 1, Why::Unset))];
+
+const IS_KEPT: [Act; 2] = [
+    Act::Note(376, 0),
+    Act::Steers((Some(120), Some(0), Some(0), 1, Why::Kept)),
+];
+
 // Steers two packets, with a reader on processor 0 at the second, and finds no third.
 fn move_and_keep<R: Wait + Abort>(rt: &R, board: &Board, shared: &Shared, worker: &mut Worker)
     requires worker { IsWorker board.now shared.now worker.old.poller worker.old.drain
@@ -24,23 +31,10 @@ fn move_and_keep<R: Wait + Abort>(rt: &R, board: &Board, shared: &Shared, worker
     ensures worker { IsWorker board.now shared.now worker.new.poller worker.new.drain
         worker.new.seat worker.new.hint }
 {
-    steers(
-        rt,
-        board,
-        shared,
-        worker,
-        (Some(120), None, None, 1, Why::Unset),
-    );
+    works(rt, board, shared, worker, &MOVES);
     assert!(rt; worker.poller.accepted == 1);
     assert!(rt; filter_at(board, shared, worker, 0) == 529);
-    note(board, shared, worker, 376, 0);
-    steers(
-        rt,
-        board,
-        shared,
-        worker,
-        (Some(120), Some(0), Some(0), 1, Why::Kept),
-    );
+    works(rt, board, shared, worker, &IS_KEPT);
     assert!(rt; worker.poller.accepted == 1);
     assert!(rt; !poll(rt, board, shared, worker));
 }

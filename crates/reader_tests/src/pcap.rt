@@ -194,7 +194,7 @@ const HEADERS: [(usize, &[u8], Counts); 8] = [
 
 /// The header with some bytes written over.
 fn header_with(rt: &impl Abort, place: usize, bytes: &[u8]) -> [u8; 24] {
-    assert!(rt; place <= 24 && bytes.len() <= 24 - place);
+    assert!(rt; place <= 24 && bytes.len() <= 24 && place + bytes.len() <= 24);
     let mut header = HEADER;
     header[place..place + bytes.len()].copy_from_slice(bytes);
     header
