@@ -1,5 +1,5 @@
-//! Histories written out by hand, and the lists that they are made of. Each maker ends the test
-//! where there is no memory.
+//! Histories written out by hand, as constants, and the values that they stand for. Each maker ends
+//! the test where there is no memory.
 ghost use Rattle.std.specs.Prelude.{◌≤◌, length};
 ghost use Rattle.report.specs.Made.{AreLinesOf};
 
@@ -28,22 +28,6 @@ pub(crate) const SEGMENT: Packet = Packet {
     flow_number: 0,
 };
 
-// One from 199.92.111.2:14230 to 65.69.140.83:4739.
-pub(crate) const OTHER_SEGMENT: Packet = Packet {
-    flow: Flow::Four(
-        Pair::V4 {
-            src: 0xc75c_6f02,
-            dst: 0x4145_8c53,
-        },
-        Proto::Tcp,
-        14230,
-        4739,
-    ),
-    hash: Some(0xc626_b0ea),
-    len: 54,
-    flow_number: 1,
-};
-
 // Processor 1, without a class.
 pub(crate) const PLAIN: Choice = Choice {
     class: None,
@@ -54,383 +38,396 @@ pub(crate) const PLAIN: Choice = Choice {
     why: Why::Plain,
 };
 
+/// A lane in a history that is written out.
+#[derive(Clone, Copy)]
+pub(crate) struct WrittenLane {
+    pub(crate) accepted: &'static [PacketId],
+    pub(crate) drops: &'static [LaneDrop],
+    /// How many packets were pulled, delivered and retired.
+    pub(crate) counts: (u32, u32, u32),
+}
+
+/// A history that is written out: its fields, with their lists as slices.
+#[derive(Clone, Copy)]
+pub(crate) struct Written {
+    pub(crate) total: u32,
+    pub(crate) cut: Option<u32>,
+    pub(crate) arrivals: &'static [Arrival],
+    pub(crate) taken: &'static [u32],
+    pub(crate) choices: &'static [&'static [Chosen]],
+    pub(crate) lanes: &'static [WrittenLane],
+    pub(crate) inboxes: &'static [&'static [PacketId]],
+    pub(crate) sent: &'static [&'static [Sent]],
+    pub(crate) tx_choices: &'static [&'static [Chosen]],
+    pub(crate) tx_lanes: &'static [WrittenLane],
+    pub(crate) port: &'static [PacketId],
+    pub(crate) writes: &'static [&'static [SockWrite]],
+    pub(crate) commands: &'static [Commanded],
+    pub(crate) start: u32,
+}
+
+/// The history that is written out.
+pub(crate) fn history_of(rt: &impl Abort, alloc: Global, written: &Written) -> History {
+    History {
+        total: written.total,
+        cut: written.cut,
+        arrivals: list(rt, alloc, written.arrivals),
+        taken: list(rt, alloc, written.taken),
+        choices: lists(rt, alloc, written.choices),
+        lanes: lanes(rt, alloc, written.lanes),
+        inboxes: lists(rt, alloc, written.inboxes),
+        sent: lists(rt, alloc, written.sent),
+        tx_choices: lists(rt, alloc, written.tx_choices),
+        tx_lanes: lanes(rt, alloc, written.tx_lanes),
+        port: list(rt, alloc, written.port),
+        writes: lists(rt, alloc, written.writes),
+        commands: list(rt, alloc, written.commands),
+        start: written.start,
+    }
+}
+
 pub(crate) fn none<T>(alloc: Global) -> List<T> {
     List::from_vec(Vec::new(alloc))
-}
-
-// A list of one.
-pub(crate) fn one<T: Drop>(rt: &impl Abort, alloc: Global, item: T) -> List<T> {
-    let mut items = Vec::new(alloc);
-    items.push(item).expect(rt, "memory");
-    List::from_vec(items)
-}
-
-pub(crate) fn two<T: Drop>(rt: &impl Abort, alloc: Global, first: T, second: T) -> List<T> {
-    let mut items = Vec::new(alloc);
-    items.push(first).expect(rt, "memory");
-    items.push(second).expect(rt, "memory");
-    List::from_vec(items)
 }
 
 pub(crate) fn list<T: Copy>(rt: &impl Abort, alloc: Global, items: &[T]) -> List<T> {
     List::from_vec(Vec::from_slice(alloc, items).expect(rt, "memory"))
 }
 
-// The packets of these numbers.
-pub(crate) fn ids(rt: &impl Abort, alloc: Global, numbers: &[u32]) -> List<PacketId> {
-    let mut packets = Vec::new(alloc);
-    for number in numbers {
-        packets.push(PacketId(*number)).expect(rt, "memory");
+fn lists<T: Copy>(rt: &impl Abort, alloc: Global, rows: &[&[T]]) -> List<List<T>> {
+    let mut items = Vec::new(alloc);
+    for row in rows {
+        items.push(list(rt, alloc, row)).expect(rt, "memory");
     }
-    List::from_vec(packets)
+    List::from_vec(items)
 }
 
-// A lane whose first packets were retired.
-pub(crate) fn lane(rt: &impl Abort, alloc: Global, accepted: &[u32], retired: u32) -> LaneList {
+fn lanes(rt: &impl Abort, alloc: Global, rows: &[WrittenLane]) -> List<LaneList> {
+    let mut items = Vec::new(alloc);
+    for row in rows {
+        items.push(lane(rt, alloc, row)).expect(rt, "memory");
+    }
+    List::from_vec(items)
+}
+
+fn lane(rt: &impl Abort, alloc: Global, written: &WrittenLane) -> LaneList {
+    let (pulled, delivered, retired) = written.counts;
     LaneList {
-        accepted: ids(rt, alloc, accepted),
-        drops: none(alloc),
-        pulled: retired,
-        delivered: retired,
+        accepted: list(rt, alloc, written.accepted),
+        drops: list(rt, alloc, written.drops),
+        pulled,
+        delivered,
         retired,
     }
 }
 
-// The lanes of so many processors, of which only 1 and 2 have packets.
-pub(crate) fn lanes(
-    rt: &impl Abort,
-    alloc: Global,
-    cpus: u32,
-    second: LaneList,
-    third: LaneList,
-) -> List<LaneList> {
-    let mut lanes = Vec::new(alloc);
-    lanes.push(lane(rt, alloc, &[], 0)).expect(rt, "memory");
-    lanes.push(second).expect(rt, "memory");
-    lanes.push(third).expect(rt, "memory");
-    for _ in 3..cpus {
-        lanes.push(lane(rt, alloc, &[], 0)).expect(rt, "memory");
-    }
-    List::from_vec(lanes)
-}
+/// A lane without packets.
+pub(crate) const EMPTY: WrittenLane = WrittenLane {
+    accepted: &[],
+    drops: &[],
+    counts: (0, 0, 0),
+};
 
-// The arrivals of packets 0, 1 and so on at these queues, by the redirection table.
-pub(crate) fn arrivals(rt: &impl Abort, alloc: Global, queues: &[u8]) -> List<Arrival> {
-    let mut arrivals = Vec::new(alloc);
-    for (queue, id) in queues.iter().zip(0u32..) {
-        let arrival = Arrival {
-            id: PacketId(id),
-            queue: RxQueue(*queue),
+// The packet of this number arrived at this queue, by the redirection table.
+macro_rules! arrived {
+    ($id:expr, $queue:expr) => {
+        Arrival {
+            id: PacketId($id),
+            queue: RxQueue($queue),
             filter: None,
-            entry: Some(RxQueue(*queue)),
-        };
-        arrivals.push(arrival).expect(rt, "memory");
-    }
-    List::from_vec(arrivals)
+            entry: Some(RxQueue($queue)),
+        }
+    };
 }
 
-// The first choice is for packet 0, the next for packet 1 and so on.
-pub(crate) fn chosen(rt: &impl Abort, alloc: Global, choices: &[Choice]) -> List<Chosen> {
-    let mut list = Vec::new(alloc);
-    for (choice, id) in choices.iter().zip(0u32..) {
-        let chosen = Chosen {
-            id: PacketId(id),
-            choice: *choice,
-        };
-        list.push(chosen).expect(rt, "memory");
-    }
-    List::from_vec(list)
+pub(crate) use arrived;
+
+// The packet of this number gets this choice.
+macro_rules! chosen {
+    ($id:expr, $choice:expr) => {
+        Chosen {
+            id: PacketId($id),
+            choice: $choice,
+        }
+    };
 }
 
-// The packets that arrived at these queues were taken from the one queue as many as there are, and
-// were weighed. The one application has not replied.
-pub(crate) fn received(
-    rt: &impl Abort,
-    alloc: Global,
-    queues: &[u8],
-    choices: &[Choice],
-    lanes: List<LaneList>,
-    inbox: &[u32],
-) -> History {
-    let count = u32::try_from(queues.len()).expect(rt, "few packets");
-    History {
-        total: count,
-        cut: None,
-        arrivals: arrivals(rt, alloc, queues),
-        taken: one(rt, alloc, count),
-        choices: one(rt, alloc, chosen(rt, alloc, choices)),
-        lanes,
-        inboxes: one(rt, alloc, ids(rt, alloc, inbox)),
-        sent: one(rt, alloc, none(alloc)),
-        tx_choices: one(rt, alloc, none(alloc)),
-        tx_lanes: one(rt, alloc, lane(rt, alloc, &[], 0)),
-        port: none(alloc),
-        writes: one(rt, alloc, none(alloc)),
-        commands: none(alloc),
-        start: 0,
-    }
-}
+pub(crate) use chosen;
 
 // A choice with class 0.
-pub(crate) fn classed(
-    want: Option<u8>,
-    head: Option<u32>,
-    tail: u32,
-    lane: u8,
-    why: Why,
-) -> Choice {
-    Choice {
-        class: Some(0),
-        want,
-        head,
-        tail: Some(tail),
-        lane,
-        why,
-    }
+macro_rules! classed {
+    ($want:expr, $head:expr, $tail:expr, $lane:expr, $why:ident) => {
+        Choice {
+            class: Some(0),
+            want: $want,
+            head: $head,
+            tail: Some($tail),
+            lane: $lane,
+            why: Why::$why,
+        }
+    };
 }
 
-// Four packets of one flow, whose application stands on processor 2. Processor 1 keeps the flow
-// until it has retired three of them, and then the fourth moves. The counters begin at `start`.
-pub(crate) fn moved(rt: &impl Abort, alloc: Global, start: u32) -> History {
-    let third = start.wrapping_add(3);
-    let choices = [
-        classed(None, None, start, 1, Why::Unset),
-        classed(Some(2), Some(start), start.wrapping_add(1), 1, Why::Kept),
-        classed(Some(2), Some(start), start.wrapping_add(2), 1, Why::Kept),
-        classed(Some(2), Some(third), third, 2, Why::Passed),
-    ];
-    let lanes = lanes(
-        rt,
-        alloc,
-        4,
-        lane(rt, alloc, &[0, 1, 2], 3),
-        lane(rt, alloc, &[3], 0),
-    );
-    let mut h = received(rt, alloc, &[0; 4], &choices, lanes, &[0, 1, 2]);
-    let write = SockWrite {
+pub(crate) use classed;
+
+/// One application that has nothing, and one transmit queue.
+pub(crate) const NOTHING: Written = Written {
+    total: 0,
+    cut: None,
+    arrivals: &[],
+    taken: &[0],
+    choices: &[&[]],
+    lanes: &[EMPTY],
+    inboxes: &[&[]],
+    sent: &[&[]],
+    tx_choices: &[&[]],
+    tx_lanes: &[EMPTY],
+    port: &[],
+    writes: &[&[]],
+    commands: &[],
+    start: 0,
+};
+
+const FOUR_ARRIVALS: [Arrival; 4] = [
+    arrived!(0, 0),
+    arrived!(1, 0),
+    arrived!(2, 0),
+    arrived!(3, 0),
+];
+
+/// Four packets of one flow, whose application stands on processor 2. Processor 1 keeps the flow
+/// until it has retired three of them, and then the fourth moves.
+pub(crate) const MOVED: Written = Written {
+    total: 4,
+    arrivals: &FOUR_ARRIVALS,
+    taken: &[4],
+    choices: &[&[
+        chosen!(0, classed!(None, None, 0, 1, Unset)),
+        chosen!(1, classed!(Some(2), Some(0), 1, 1, Kept)),
+        chosen!(2, classed!(Some(2), Some(0), 2, 1, Kept)),
+        chosen!(3, classed!(Some(2), Some(3), 3, 2, Passed)),
+    ]],
+    lanes: &[
+        EMPTY,
+        WrittenLane {
+            accepted: &[PacketId(0), PacketId(1), PacketId(2)],
+            drops: &[],
+            counts: (3, 3, 3),
+        },
+        WrittenLane {
+            accepted: &[PacketId(3)],
+            drops: &[],
+            counts: (0, 0, 0),
+        },
+        EMPTY,
+    ],
+    inboxes: &[&[PacketId(0), PacketId(1), PacketId(2)]],
+    writes: &[&[SockWrite {
         entry: 0,
         cpu: Cpu(2),
-    };
-    h.writes = one(rt, alloc, one(rt, alloc, write));
-    h.start = start;
-    h
-}
+    }]],
+    ..NOTHING
+};
 
-// Three packets for a backlog of one: the second is dropped, the first pulled, and the third waits.
-pub(crate) fn full(rt: &impl Abort, alloc: Global) -> History {
-    let fallen = LaneDrop {
-        id: PacketId(1),
-        accepted: 1,
-        pulled: 0,
-        cause: DropCause::Full,
-    };
-    let second = LaneList {
-        accepted: ids(rt, alloc, &[0, 2]),
-        drops: one(rt, alloc, fallen),
-        pulled: 1,
-        delivered: 0,
-        retired: 0,
-    };
-    let lanes = lanes(rt, alloc, 4, second, lane(rt, alloc, &[], 0));
-    received(rt, alloc, &[0; 3], &[PLAIN; 3], lanes, &[])
-}
+/// The same where the counters begin two below the end of their range.
+pub(crate) const MOVED_WRAPPED: Written = Written {
+    choices: &[&[
+        chosen!(0, classed!(None, None, 4294967294, 1, Unset)),
+        chosen!(1, classed!(Some(2), Some(4294967294), 4294967295, 1, Kept)),
+        chosen!(2, classed!(Some(2), Some(4294967294), 0, 1, Kept)),
+        chosen!(3, classed!(Some(2), Some(1), 1, 2, Passed)),
+    ]],
+    start: 4294967294,
+    ..MOVED
+};
 
-// One packet steered without a flow table, and delivered.
-pub(crate) fn delivered(rt: &impl Abort, alloc: Global, cpus: u32) -> History {
-    let lanes = lanes(
-        rt,
-        alloc,
-        cpus,
-        lane(rt, alloc, &[0], 1),
-        lane(rt, alloc, &[], 0),
-    );
-    received(rt, alloc, &[0; 1], &[PLAIN], lanes, &[0])
-}
+/// Three packets for a backlog of one: the second is dropped, the first pulled, and the third
+/// waits.
+pub(crate) const FULL: Written = Written {
+    total: 3,
+    arrivals: &[arrived!(0, 0), arrived!(1, 0), arrived!(2, 0)],
+    taken: &[3],
+    choices: &[&[chosen!(0, PLAIN), chosen!(1, PLAIN), chosen!(2, PLAIN)]],
+    lanes: &[
+        EMPTY,
+        WrittenLane {
+            accepted: &[PacketId(0), PacketId(2)],
+            drops: &[LaneDrop {
+                id: PacketId(1),
+                accepted: 1,
+                pulled: 0,
+                cause: DropCause::Full,
+            }],
+            counts: (1, 0, 0),
+        },
+        EMPTY,
+        EMPTY,
+    ],
+    ..NOTHING
+};
 
-// The same with three processors, replied to and sent.
-pub(crate) fn replied(rt: &impl Abort, alloc: Global, start: u32) -> History {
-    let mut h = delivered(rt, alloc, 3);
-    let sent = Sent {
+/// The lane of packet 0 alone, which was retired.
+pub(crate) const RETIRED: WrittenLane = WrittenLane {
+    accepted: &[PacketId(0)],
+    drops: &[],
+    counts: (1, 1, 1),
+};
+
+/// One packet steered without a flow table, and delivered.
+pub(crate) const DELIVERED: Written = Written {
+    total: 1,
+    arrivals: &[arrived!(0, 0)],
+    taken: &[1],
+    choices: &[&[chosen!(0, PLAIN)]],
+    lanes: &[EMPTY, RETIRED, EMPTY, EMPTY],
+    inboxes: &[&[PacketId(0)]],
+    ..NOTHING
+};
+
+/// The same with three processors, replied to and sent.
+pub(crate) const REPLIED: Written = Written {
+    lanes: &[EMPTY, RETIRED, EMPTY],
+    sent: &[&[Sent {
         id: PacketId(0),
         rxq: RxQueue(0),
         cpu: Cpu(2),
-    };
-    h.sent = one(rt, alloc, one(rt, alloc, sent));
-    let first = classed(Some(0), None, start, 0, Why::Unset);
-    h.tx_choices = one(rt, alloc, chosen(rt, alloc, &[first]));
-    h.tx_lanes = one(rt, alloc, lane(rt, alloc, &[0], 1));
-    h.port = ids(rt, alloc, &[0]);
-    h.start = start;
-    h
-}
+    }]],
+    tx_choices: &[&[chosen!(0, classed!(Some(0), None, 0, 0, Unset))]],
+    tx_lanes: &[RETIRED],
+    port: &[PacketId(0)],
+    ..DELIVERED
+};
 
-// The lane of processor 1 under the flow limit: 151 packets of a flow were accepted, the next 49
-// dropped, and one of another flow accepted.
-fn limited_lane(rt: &impl Abort, alloc: Global) -> LaneList {
-    let mut accepted = Vec::new(alloc);
-    let mut drops = Vec::new(alloc);
-    for id in 0..200 {
-        if id < 151 {
-            accepted.push(PacketId(id)).expect(rt, "memory");
-        } else {
-            let fallen = LaneDrop {
-                id: PacketId(id),
-                accepted: 151,
-                pulled: 0,
-                cause: DropCause::Flow(id + 1),
-            };
-            drops.push(fallen).expect(rt, "memory");
-        }
-    }
-    accepted.push(PacketId(200)).expect(rt, "memory");
-    LaneList {
-        accepted: List::from_vec(accepted),
-        drops: List::from_vec(drops),
-        pulled: 0,
-        delivered: 0,
-        retired: 0,
-    }
-}
+/// The same where the counters begin at the end of their range.
+pub(crate) const REPLIED_WRAPPED: Written = Written {
+    tx_choices: &[&[chosen!(0, classed!(Some(0), None, 4294967295, 0, Unset))]],
+    start: 4294967295,
+    ..REPLIED
+};
 
-// 200 packets of one flow and one of another, with that lane.
-pub(crate) fn limited(rt: &impl Abort, alloc: Global) -> History {
-    let lanes = lanes(
-        rt,
-        alloc,
-        4,
-        limited_lane(rt, alloc),
-        lane(rt, alloc, &[], 0),
-    );
-    received(rt, alloc, &[0; 201], &[PLAIN; 201], lanes, &[])
-}
-
-// Two packets of three wait in the ring. The capture has a cut.
-pub(crate) fn waiting(rt: &impl Abort, alloc: Global) -> History {
-    let lanes = two(rt, alloc, lane(rt, alloc, &[], 0), lane(rt, alloc, &[], 0));
-    let mut h = received(rt, alloc, &[0; 2], &[], lanes, &[]);
-    h.total = 3;
-    h.cut = Some(9);
-    h.taken = one(rt, alloc, 0);
-    let write = SockWrite {
+/// Two packets of three wait in the ring. The capture has a cut.
+pub(crate) const WAITING: Written = Written {
+    total: 3,
+    cut: Some(9),
+    arrivals: &[arrived!(0, 0), arrived!(1, 0)],
+    lanes: &[EMPTY, EMPTY],
+    writes: &[&[SockWrite {
         entry: 3,
         cpu: Cpu(1),
-    };
-    h.writes = one(rt, alloc, one(rt, alloc, write));
-    let command = Commanded {
+    }]],
+    commands: &[Commanded {
         command: Command::Mask(RxQueue(0), CpuMask(2)),
         answer: Answer::Done,
-    };
-    h.commands = one(rt, alloc, command);
-    h
-}
+    }],
+    ..NOTHING
+};
 
-// Packets of two queues: one without a hash, two that a filter sent to queue 1, one that left an
-// offline processor, and one in the hand of its poller.
-pub(crate) fn filtered(rt: &impl Abort, alloc: Global) -> History {
-    let lanes = two(
-        rt,
-        alloc,
-        lane(rt, alloc, &[0, 3], 0),
-        lane(rt, alloc, &[1, 2], 1),
-    );
-    let mut h = received(rt, alloc, &[0, 1, 1, 1, 0], &[], lanes, &[1]);
-    let plain = Arrival {
-        id: PacketId(0),
-        queue: RxQueue(0),
-        filter: None,
-        entry: None,
-    };
-    let by_filter = Arrival {
-        id: PacketId(1),
-        queue: RxQueue(1),
-        filter: Some(RxQueue(1)),
-        ..plain
-    };
-    let by_entry = Arrival {
-        id: PacketId(3),
-        queue: RxQueue(1),
-        entry: Some(RxQueue(1)),
-        ..plain
-    };
-    let arrivals = [
-        plain,
-        by_filter,
+// A packet without a hash.
+const UNHASHED: Arrival = Arrival {
+    id: PacketId(0),
+    queue: RxQueue(0),
+    filter: None,
+    entry: None,
+};
+
+const BY_FILTER: Arrival = Arrival {
+    id: PacketId(1),
+    queue: RxQueue(1),
+    filter: Some(RxQueue(1)),
+    entry: None,
+};
+
+/// Packets of two queues: one without a hash, two that a filter sent to queue 1, one that left an
+/// offline processor, and one in the hand of its poller.
+pub(crate) const FILTERED: Written = Written {
+    total: 5,
+    arrivals: &[
+        UNHASHED,
+        BY_FILTER,
         Arrival {
             id: PacketId(2),
-            ..by_filter
+            ..BY_FILTER
         },
-        by_entry,
+        arrived!(3, 1),
         Arrival {
             id: PacketId(4),
             queue: RxQueue(0),
-            ..by_entry
+            filter: None,
+            entry: Some(RxQueue(1)),
         },
-    ];
-    h.arrivals = list(rt, alloc, &arrivals);
-    h.taken = list(rt, alloc, &[2, 3]);
-    let first = Chosen {
-        id: PacketId(0),
-        choice: Choice { lane: 0, ..PLAIN },
-    };
-    let others = [
-        Chosen {
-            id: PacketId(1),
-            choice: classed(Some(1), None, 0, 1, Why::Unset),
+    ],
+    taken: &[2, 3],
+    choices: &[
+        &[chosen!(0, Choice { lane: 0, ..PLAIN })],
+        &[
+            chosen!(1, classed!(Some(1), None, 0, 1, Unset)),
+            chosen!(2, classed!(Some(1), None, 1, 1, Same)),
+            chosen!(3, classed!(Some(0), None, 2, 0, Offline)),
+        ],
+    ],
+    lanes: &[
+        WrittenLane {
+            accepted: &[PacketId(0), PacketId(3)],
+            drops: &[],
+            counts: (0, 0, 0),
         },
-        Chosen {
-            id: PacketId(2),
-            choice: classed(Some(1), None, 1, 1, Why::Same),
+        WrittenLane {
+            accepted: &[PacketId(1), PacketId(2)],
+            drops: &[],
+            counts: (1, 1, 1),
         },
-        Chosen {
-            id: PacketId(3),
-            choice: classed(Some(0), None, 2, 0, Why::Offline),
-        },
-    ];
-    h.choices = two(rt, alloc, one(rt, alloc, first), list(rt, alloc, &others));
-    h
-}
+    ],
+    inboxes: &[&[PacketId(1)]],
+    ..NOTHING
+};
 
-// Three replies: one left by the port, one waits in its transmit queue, and one was begun.
-pub(crate) fn replying(rt: &impl Abort, alloc: Global) -> History {
-    let lanes = two(
-        rt,
-        alloc,
-        lane(rt, alloc, &[], 0),
-        lane(rt, alloc, &[0, 1, 2], 3),
-    );
-    let mut h = received(rt, alloc, &[0; 3], &[PLAIN; 3], lanes, &[0, 1, 2]);
-    let begun = Sent {
-        id: PacketId(0),
-        rxq: RxQueue(0),
-        cpu: Cpu(2),
-    };
-    let sent = [
-        begun,
+/// Three replies: one left by the port, one waits in its transmit queue, and one was begun.
+pub(crate) const REPLYING: Written = Written {
+    total: 3,
+    arrivals: &[arrived!(0, 0), arrived!(1, 0), arrived!(2, 0)],
+    taken: &[3],
+    choices: &[&[chosen!(0, PLAIN), chosen!(1, PLAIN), chosen!(2, PLAIN)]],
+    lanes: &[
+        EMPTY,
+        WrittenLane {
+            accepted: &[PacketId(0), PacketId(1), PacketId(2)],
+            drops: &[],
+            counts: (3, 3, 3),
+        },
+    ],
+    inboxes: &[&[PacketId(0), PacketId(1), PacketId(2)]],
+    sent: &[&[
+        Sent {
+            id: PacketId(0),
+            rxq: RxQueue(0),
+            cpu: Cpu(2),
+        },
         Sent {
             id: PacketId(1),
+            rxq: RxQueue(0),
             cpu: Cpu(3),
-            ..begun
         },
         Sent {
             id: PacketId(2),
-            ..begun
+            rxq: RxQueue(0),
+            cpu: Cpu(2),
         },
-    ];
-    h.sent = one(rt, alloc, list(rt, alloc, &sent));
-    let choices = [
-        classed(Some(0), None, 0, 0, Why::Unset),
-        classed(Some(1), Some(2), 2, 1, Why::Passed),
-    ];
-    h.tx_choices = one(rt, alloc, chosen(rt, alloc, &choices));
-    h.tx_lanes = two(
-        rt,
-        alloc,
-        lane(rt, alloc, &[0], 1),
-        lane(rt, alloc, &[1], 0),
-    );
-    h.port = ids(rt, alloc, &[0]);
-    h
-}
+    ]],
+    tx_choices: &[&[
+        chosen!(0, classed!(Some(0), None, 0, 0, Unset)),
+        chosen!(1, classed!(Some(1), Some(2), 2, 1, Passed)),
+    ]],
+    tx_lanes: &[
+        RETIRED,
+        WrittenLane {
+            accepted: &[PacketId(1)],
+            drops: &[],
+            counts: (0, 0, 0),
+        },
+    ],
+    port: &[PacketId(0)],
+    ..NOTHING
+};
 
 // The lines of a history that the test made for these packets and so many applications. It has to
 // be regular.

@@ -3,10 +3,11 @@ ghost use Rattle.std.specs.Prelude.{◌≤◌, length};
 ghost use Rattle.history.specs.Places.{IsInReach};
 
 use crate::equal::same;
-use crate::histories::{full, lane, lanes, moved, none, one, received};
-use history::{History, Place};
+use crate::histories::{EMPTY, FULL, MOVED, NOTHING, Written, WrittenLane, arrived, history_of};
+use history::{Arrival, History, Place};
+use std::alloc::Global;
 use std::process::Abort;
-use steer_base::{AppId, Cpu, PacketId};
+use steer_base::{AppId, Cpu, PacketId, RxQueue};
 
 // A history with few lanes has each packet in reach.
 fn is_in_reach(h: &History, id: PacketId)
@@ -23,7 +24,8 @@ fn has_place(rt: &impl Abort, h: &History, id: u32, place: Place) {
 }
 
 // Each packet has its place, the first one that of number 0.
-fn has_places(rt: &impl Abort, h: History, places: &[Place]) {
+fn has_places(rt: &impl Abort, alloc: Global, written: &Written, places: &[Place]) {
+    let h = history_of(rt, alloc, written);
     for (place, id) in places.iter().zip(0u32..) {
         has_place(rt, &h, id, *place);
     }
@@ -36,7 +38,7 @@ fn packets_are_in_hand_dropped_and_waiting(rt: HostRuntime) {
         Place::Dropped(Cpu(1)),
         Place::Backlog(Cpu(1)),
     ];
-    has_places(&rt, full(&rt, rt.alloc()), &places);
+    has_places(&rt, rt.alloc(), &FULL, &places);
 }
 
 #[test]
@@ -47,27 +49,40 @@ fn delivered_packets_are_in_the_inbox(rt: HostRuntime) {
         Place::Inbox(AppId(0)),
         Place::Backlog(Cpu(2)),
     ];
-    has_places(&rt, moved(&rt, rt.alloc(), 0), &places);
+    has_places(&rt, rt.alloc(), &MOVED, &places);
 }
+
+// One packet of queue 0 was taken.
+const TAKEN: Written = Written {
+    total: 3,
+    arrivals: &[arrived!(0, 0), arrived!(1, 1), arrived!(2, 0)],
+    taken: &[1],
+    lanes: &[],
+    ..NOTHING
+};
 
 #[test]
 fn the_poller_takes_the_first_of_its_queue(rt: HostRuntime) {
-    let alloc = rt.alloc();
-    let mut h = received(&rt, alloc, &[0, 1, 0], &[], none(alloc), &[]);
-    h.taken = one(&rt, alloc, 1);
-    has_places(&rt, h, &[Place::Poller, Place::Ring, Place::Ring]);
+    let places = [Place::Poller, Place::Ring, Place::Ring];
+    has_places(&rt, rt.alloc(), &TAKEN, &places);
 }
+
+// Two lanes accepted the packet.
+const TWICE: Written = Written {
+    total: 1,
+    arrivals: &[arrived!(0, 0)],
+    taken: &[1],
+    lanes: &[EMPTY, ACCEPTED, ACCEPTED],
+    ..NOTHING
+};
+
+const ACCEPTED: WrittenLane = WrittenLane {
+    accepted: &[PacketId(0)],
+    drops: &[],
+    counts: (0, 0, 0),
+};
 
 #[test]
 fn the_least_processor_is_shown(rt: HostRuntime) {
-    let alloc = rt.alloc();
-    let lanes = lanes(
-        &rt,
-        alloc,
-        3,
-        lane(&rt, alloc, &[0], 0),
-        lane(&rt, alloc, &[0], 0),
-    );
-    let h = received(&rt, alloc, &[0], &[], lanes, &[]);
-    has_places(&rt, h, &[Place::Backlog(Cpu(1))]);
+    has_places(&rt, rt.alloc(), &TWICE, &[Place::Backlog(Cpu(1))]);
 }

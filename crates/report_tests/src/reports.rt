@@ -4,13 +4,13 @@ ghost use Rattle.report.specs.Made.{AreLinesOf};
 
 use crate::equal::same_items;
 use crate::histories::{
-    OTHER_SEGMENT, SEGMENT, delivered, filtered, full, lane, limited, lines_of, list, moved, one,
-    received, replied, replying, waiting,
+    DELIVERED, FILTERED, FULL, MOVED, MOVED_WRAPPED, NOTHING, REPLIED, REPLIED_WRAPPED, REPLYING,
+    SEGMENT, WAITING, Written, history_of, lines_of,
 };
 use history::{Commanded, History, Lines};
 use outside_io::MemorySink;
 use report::{LineBuf, render};
-use std::alloc::{AllocError, Global};
+use std::alloc::Global;
 use std::process::Abort;
 use steer_base::{
     Answer, AppId, Busy, Command, Cpu, CpuMask, Detach, Idle, Packet, RxQueue, TxQueue, User,
@@ -36,7 +36,7 @@ fn written(
 }
 
 // The report of a history with one application, without taps, is this text.
-fn reads(rt: &impl Abort, alloc: Global, h: &History, packets: &[Packet], wanted: &[u8])
+pub(crate) fn reads(rt: &impl Abort, alloc: Global, h: &History, packets: &[Packet], wanted: &[u8])
     requires few { length packets.now ≤ 262144 }
 {
     let lines = lines_of(rt, alloc, h, packets, 1);
@@ -45,9 +45,16 @@ fn reads(rt: &impl Abort, alloc: Global, h: &History, packets: &[Packet], wanted
     same_items(rt, out.bytes(), wanted);
 }
 
+// The same of a history that is written out, of packets of one flow.
+fn is_reported(rt: &impl Abort, alloc: Global, written: &Written, wanted: &[u8]) {
+    let h = history_of(rt, alloc, written);
+    let packets = Vec::from_elem(alloc, SEGMENT, written.total as usize).expect(rt, "memory");
+    assert!(rt; packets.len() <= 262_144);
+    reads(rt, alloc, &h, &packets, wanted);
+}
+
 #[test]
 fn a_flow_moves_when_its_packets_are_retired(rt: HostRuntime) {
-    let alloc = rt.alloc();
     let wanted = b"steer 1
 p 0 q 0 via reta class 0 want - head - tail 0 cpu 1 why unset at 1 app 0 in 1 place inbox
 p 1 q 0 via reta class 0 want 2 head 0 tail 1 cpu 1 why kept at 2 app 0 in 2 place inbox
@@ -62,13 +69,7 @@ tx 0 accepted 0 pulled 0 delivered 0 retired 0
 w app 0 entry 0 cpu 2
 end 4 of 4
 ";
-    reads(
-        &rt,
-        alloc,
-        &moved(&rt, alloc, 0),
-        &[SEGMENT; 4],
-        wanted.as_slice(),
-    );
+    is_reported(&rt, rt.alloc(), &MOVED, wanted);
     let wanted = b"steer 1
 p 0 q 0 via reta class 0 want - head - tail 4294967294 cpu 1 why unset at 4294967295 \
 app 0 in 1 place inbox
@@ -86,18 +87,11 @@ tx 0 accepted 0 pulled 0 delivered 0 retired 0
 w app 0 entry 0 cpu 2
 end 4 of 4
 ";
-    reads(
-        &rt,
-        alloc,
-        &moved(&rt, alloc, 4294967294),
-        &[SEGMENT; 4],
-        wanted.as_slice(),
-    );
+    is_reported(&rt, rt.alloc(), &MOVED_WRAPPED, wanted);
 }
 
 #[test]
 fn a_full_backlog_drops(rt: HostRuntime) {
-    let alloc = rt.alloc();
     let wanted = b"steer 1
 p 0 q 0 via reta class - want - head - tail - cpu 1 why plain at 1 app 0 in - place hand
 p 1 q 0 via reta class - want - head - tail - cpu 1 why plain at drop 1 1 0 app 0 in - place drop
@@ -110,18 +104,11 @@ cpu 3 accepted 0 pulled 0 delivered 0 retired 0 dropped 0
 tx 0 accepted 0 pulled 0 delivered 0 retired 0
 end 3 of 3
 ";
-    reads(
-        &rt,
-        alloc,
-        &full(&rt, alloc),
-        &[SEGMENT; 3],
-        wanted.as_slice(),
-    );
+    is_reported(&rt, rt.alloc(), &FULL, wanted);
 }
 
 #[test]
 fn a_packet_is_delivered(rt: HostRuntime) {
-    let alloc = rt.alloc();
     let wanted = b"steer 1
 p 0 q 0 via reta class - want - head - tail - cpu 1 why plain at 1 app 0 in 1 place inbox
 queue 0 arrived 1 taken 1
@@ -132,18 +119,11 @@ cpu 3 accepted 0 pulled 0 delivered 0 retired 0 dropped 0
 tx 0 accepted 0 pulled 0 delivered 0 retired 0
 end 1 of 1
 ";
-    reads(
-        &rt,
-        alloc,
-        &delivered(&rt, alloc, 4),
-        &[SEGMENT],
-        wanted.as_slice(),
-    );
+    is_reported(&rt, rt.alloc(), &DELIVERED, wanted);
 }
 
 #[test]
 fn a_reply_is_sent(rt: HostRuntime) {
-    let alloc = rt.alloc();
     let wanted = b"steer 1
 p 0 q 0 via reta class - want - head - tail - cpu 1 why plain at 1 app 0 in 1 place inbox
 r 0 app 0 rxq 0 cpu 2 pick 0 head - tail 0 tx 0 why unset at 1 port 1
@@ -154,13 +134,7 @@ cpu 2 accepted 0 pulled 0 delivered 0 retired 0 dropped 0
 tx 0 accepted 1 pulled 1 delivered 1 retired 1
 end 1 of 1
 ";
-    reads(
-        &rt,
-        alloc,
-        &replied(&rt, alloc, 0),
-        &[SEGMENT],
-        wanted.as_slice(),
-    );
+    is_reported(&rt, rt.alloc(), &REPLIED, wanted);
     let wanted = b"steer 1
 p 0 q 0 via reta class - want - head - tail - cpu 1 why plain at 0 app 0 in 1 place inbox
 r 0 app 0 rxq 0 cpu 2 pick 0 head - tail 4294967295 tx 0 why unset at 0 port 1
@@ -171,64 +145,11 @@ cpu 2 accepted 0 pulled 0 delivered 0 retired 0 dropped 0
 tx 0 accepted 1 pulled 1 delivered 1 retired 1
 end 1 of 1
 ";
-    reads(
-        &rt,
-        alloc,
-        &replied(&rt, alloc, 4294967295),
-        &[SEGMENT],
-        wanted.as_slice(),
-    );
-}
-
-// What the flow limit leaves of 201 packets, of which the last is of another flow.
-fn limited_text(alloc: Global) -> Result<String, AllocError> {
-    let mut text = String::new(alloc);
-    text.push_str("steer 1\n")?;
-    let head = "q 0 via reta class - want - head - tail - cpu 1 why plain at";
-    for id in 0u32..151 {
-        let position = id + 1;
-        write!(text, "p {id} {head} {position} app 0 in - place backlog\n")?;
-    }
-    for id in 151u32..200 {
-        let number = id - 150;
-        let offers = id + 1;
-        write!(
-            text,
-            "p {id} {head} drop {number} 151 0 flow {offers} app 0 in - place drop\n"
-        )?;
-    }
-    write!(text, "p 200 {head} 152 app 0 in - place backlog\n")?;
-    text.push_str(
-        "queue 0 arrived 201 taken 201
-cpu 0 accepted 0 pulled 0 delivered 0 retired 0 dropped 0
-cpu 1 accepted 152 pulled 0 delivered 0 retired 0 dropped 49
-cpu 2 accepted 0 pulled 0 delivered 0 retired 0 dropped 0
-cpu 3 accepted 0 pulled 0 delivered 0 retired 0 dropped 0
-tx 0 accepted 0 pulled 0 delivered 0 retired 0
-end 201 of 201
-",
-    )?;
-    Ok(text)
-}
-
-#[test]
-fn the_flow_limit_drops(rt: HostRuntime) {
-    let alloc = rt.alloc();
-    let mut packets = [SEGMENT; 201];
-    packets[200] = OTHER_SEGMENT;
-    let wanted = limited_text(alloc).expect(&rt, "memory");
-    reads(
-        &rt,
-        alloc,
-        &limited(&rt, alloc),
-        &packets,
-        wanted.as_bytes(),
-    );
+    is_reported(&rt, rt.alloc(), &REPLIED_WRAPPED, wanted);
 }
 
 #[test]
 fn packets_come_by_each_way(rt: HostRuntime) {
-    let alloc = rt.alloc();
     let wanted = b"steer 1
 p 0 q 0 via none class - want - head - tail - cpu 0 why plain at 1 app 0 in - place backlog
 p 1 q 1 via filter class 0 want 1 head - tail 0 cpu 1 why unset at 1 app 0 in 1 place inbox
@@ -242,18 +163,11 @@ cpu 1 accepted 2 pulled 1 delivered 1 retired 1 dropped 0
 tx 0 accepted 0 pulled 0 delivered 0 retired 0
 end 5 of 5
 ";
-    reads(
-        &rt,
-        alloc,
-        &filtered(&rt, alloc),
-        &[SEGMENT; 5],
-        wanted.as_slice(),
-    );
+    is_reported(&rt, rt.alloc(), &FILTERED, wanted);
 }
 
 #[test]
 fn replies_are_at_each_stage(rt: HostRuntime) {
-    let alloc = rt.alloc();
     let wanted = b"steer 1
 p 0 q 0 via reta class - want - head - tail - cpu 1 why plain at 1 app 0 in 1 place inbox
 p 1 q 0 via reta class - want - head - tail - cpu 1 why plain at 2 app 0 in 2 place inbox
@@ -268,13 +182,7 @@ tx 0 accepted 1 pulled 1 delivered 1 retired 1
 tx 1 accepted 1 pulled 0 delivered 0 retired 0
 end 3 of 3
 ";
-    reads(
-        &rt,
-        alloc,
-        &replying(&rt, alloc),
-        &[SEGMENT; 3],
-        wanted.as_slice(),
-    );
+    is_reported(&rt, rt.alloc(), &REPLYING, wanted);
 }
 
 const MASK: Command = Command::Mask(RxQueue(0), CpuMask(4));
@@ -330,10 +238,6 @@ const COMMANDS: [Commanded; 16] = [
 
 #[test]
 fn commands_are_listed_with_their_answers(rt: HostRuntime) {
-    let alloc = rt.alloc();
-    let lanes = one(&rt, alloc, lane(&rt, alloc, &[], 0));
-    let mut h = received(&rt, alloc, &[], &[], lanes, &[]);
-    h.commands = list(&rt, alloc, &COMMANDS);
     let wanted = b"steer 1
 queue 0 arrived 0 taken 0
 cpu 0 accepted 0 pulled 0 delivered 0 retired 0 dropped 0
@@ -356,7 +260,11 @@ c 14 xqueues 1 0,15 done
 c 15 mask 0 - done
 end 0 of 0
 ";
-    reads(&rt, alloc, &h, &[], wanted.as_slice());
+    let commanded = Written {
+        commands: &COMMANDS,
+        ..NOTHING
+    };
+    is_reported(&rt, rt.alloc(), &commanded, wanted);
 }
 
 // The texts of a tap of processors, which is shown two lines of four, and a tap of flows.
@@ -373,7 +281,7 @@ fn two_texts(rt: &impl Abort, alloc: Global, lines: &Lines) -> Vec<TapText> {
 #[test]
 fn two_taps_stand_before_the_end(rt: HostRuntime) {
     let alloc = rt.alloc();
-    let h = moved(&rt, alloc, 0);
+    let h = history_of(&rt, alloc, &MOVED);
     let packets = [SEGMENT; 4];
     let lines = lines_of(&rt, alloc, &h, &packets, 1);
     let texts = two_texts(&rt, alloc, &lines);
@@ -465,7 +373,7 @@ const MOVED_LINES: [&[u8]; 13] = [
 #[test]
 fn a_report_goes_out_line_by_line(rt: HostRuntime) {
     let alloc = rt.alloc();
-    let h = moved(&rt, alloc, 0);
+    let h = history_of(&rt, alloc, &MOVED);
     let packets = [SEGMENT; 4];
     let lines = lines_of(&rt, alloc, &h, &packets, 1);
     goes_out(&rt, alloc, &h, &lines, &[], &MOVED_LINES);
@@ -492,7 +400,7 @@ const WAITING_LINES: [&[u8]; 12] = [
 #[test]
 fn each_section_goes_out_line_by_line(rt: HostRuntime) {
     let alloc = rt.alloc();
-    let h = waiting(&rt, alloc);
+    let h = history_of(&rt, alloc, &WAITING);
     let packets = [SEGMENT; 3];
     let lines = lines_of(&rt, alloc, &h, &packets, 1);
     let texts = [TapText {
