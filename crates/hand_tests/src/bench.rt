@@ -20,7 +20,6 @@ use run_words::{Shared, first_receive_settings, word_count};
 use run_workers::{Drain, Exit, Poller};
 use std::alloc::Global;
 use std::process::Abort;
-use std::test::Fail;
 use steer_base::{OutOfMemory, Packet};
 use steer_model::Given;
 
@@ -91,7 +90,7 @@ fn board_of(
     alloc: Global,
     plan: &Plan,
     given: &Given,
-) -> Result<(Board, Vec<BoardSeat>), Fail>
+) -> Result<(Board, Vec<BoardSeat>), OutOfMemory>
     ensures lanes { IfOk result (λ r. r.0.sizes.lanes ≡ 2) }
     ensures cpus { IfOk result (λ r. r.0.sizes.lanes ≡ given.now.cpus) }
     ensures queues { IfOk result (λ r. length given.now.homes ≡ 2) }
@@ -108,7 +107,7 @@ fn board_of(
     assert!(rt; given.cpus() == 2);
     assert!(rt; given.apps() == 2);
     assert!(rt; settings.len() == 6);
-    Ok(Board::make(alloc, &shape_of(alloc, plan, given), &settings, 4)?)
+    Board::make(alloc, &shape_of(alloc, plan, given), &settings, 4)
 }
 
 // What the threads share.
@@ -174,7 +173,7 @@ fn last_worker(
     number: u8,
     seats: &mut Vec<BoardSeat>,
     hint: HintSeat,
-) -> Result<(Worker, Producer<u32, Global>), Fail>
+) -> Result<(Worker, Producer<u32, Global>), OutOfMemory>
     requires bench { IsBench board.now.sizes shared.now }
     requires room { board.now.sizes.room ≡ length shared.now.given.packets }
     requires number { number < 2 }
@@ -203,7 +202,12 @@ fn last_worker(
 }
 
 /// A bench for a plan with two receive queues and two processors.
-pub fn begun(rt: &impl Abort, alloc: Global, plan: &Plan, packets: &[Packet]) -> Result<Bench, Fail>
+pub fn begun(
+    rt: &impl Abort,
+    alloc: Global,
+    plan: &Plan,
+    packets: &[Packet],
+) -> Result<Bench, OutOfMemory>
     requires few { length packets.now ≤ MAX_PACKETS }
     requires flows { AreOfFlows packets.now }
     ensures zero { IfOk result (λ b. IsWorker b.board b.shared b.zero.poller b.zero.drain
@@ -218,14 +222,14 @@ pub fn begun(rt: &impl Abort, alloc: Global, plan: &Plan, packets: &[Packet]) ->
         (λ b. QUEUE_WORDS + length b.shared.given.packets ≤ b.shared.hints.words) }
 {
     let given = Given::of_plan(alloc, plan, packets, None)?;
-    let (board, mut seats) = board_of(rt, alloc, plan, &given)?;
-    let (shared, hint_zero, hint_one) = shared_of(rt, alloc, given)?;
+    let (board, mut seats) = board_of(rt, alloc, plan, &given).expect(rt, "memory");
+    let (shared, hint_zero, hint_one) = shared_of(rt, alloc, given).expect(rt, "memory");
     let closer = last_seat(&board, &mut seats, 4).expect(rt, "the closer's seat");
     let visitor = last_seat(&board, &mut seats, 3).expect(rt, "the visitor's seat");
-    let (one, ring_one) = last_worker(rt, alloc, &board, &shared, plan, 1, &mut seats, hint_one)?;
-    let (zero, ring_zero) = last_worker(
-        rt, alloc, &board, &shared, plan, 0, &mut seats, hint_zero,
-    )?;
+    let one = last_worker(rt, alloc, &board, &shared, plan, 1, &mut seats, hint_one);
+    let (one, ring_one) = one.expect(rt, "memory");
+    let zero = last_worker(rt, alloc, &board, &shared, plan, 0, &mut seats, hint_zero);
+    let (zero, ring_zero) = zero.expect(rt, "memory");
     Ok(Bench {
         board,
         shared,

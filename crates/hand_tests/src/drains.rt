@@ -40,7 +40,7 @@ fn packets_go_to_their_inboxes(rt: HostRuntime) -> Result<(), Fail> {
     let mut b = begun(&rt, alloc, &plan, &packets)?;
     arrive(&rt, &mut b.rings.0, 0, 4);
     works(&rt, &b.board, &b.shared, &mut b.zero, &DRAINS_THREE);
-    let lists = closed(&rt, alloc, b)?;
+    let lists = closed(&rt, alloc, b);
     assert!(rt; ids(&lists.outs, 0) == [PacketId(0), PacketId(2)].as_slice());
     assert!(rt; ids(&lists.outs, 1) == [PacketId(1)].as_slice());
     Ok(())

@@ -104,13 +104,7 @@ pub fn works<R: Wait + Abort>(
     }
 }
 
-fn perform<R: Wait + Abort>(
-    rt: &R,
-    board: &Board,
-    shared: &Shared,
-    worker: &mut Worker,
-    act: Act,
-)
+fn perform<R: Wait + Abort>(rt: &R, board: &Board, shared: &Shared, worker: &mut Worker, act: Act)
     requires { IsWorker board.now shared.now worker.old.poller worker.old.drain
         worker.old.seat worker.old.hint }
     ensures { IsWorker board.now shared.now worker.new.poller worker.new.drain
@@ -336,7 +330,7 @@ pub fn lists_of(board: Board, seats: Vec<BoardSeat>) -> BoardLists
 }
 
 /// What a board leaves when its workers have no packet in hand.
-pub fn closed(rt: &impl Abort, alloc: Global, bench: Bench) -> Result<BoardLists, OutOfMemory>
+pub fn closed(rt: &impl Abort, alloc: Global, bench: Bench) -> BoardLists
     requires zero { IsWorker bench.board bench.shared bench.zero.poller bench.zero.drain
         bench.zero.seat bench.zero.hint }
     requires one { IsWorker bench.board bench.shared bench.one.poller bench.one.drain
@@ -354,11 +348,13 @@ pub fn closed(rt: &impl Abort, alloc: Global, bench: Bench) -> Result<BoardLists
         rings: _,
     } = bench;
     let mut seats = Vec::new(alloc);
-    add_seat(&board, &mut seats, seat_of(rt, &board, &shared, zero))?;
-    add_seat(&board, &mut seats, seat_of(rt, &board, &shared, one))?;
-    add_seat(&board, &mut seats, visitor)?;
-    add_seat(&board, &mut seats, closer)?;
-    Ok(lists_of(board, seats))
+    let zero = seat_of(rt, &board, &shared, zero);
+    add_seat(&board, &mut seats, zero).expect(rt, "memory");
+    let one = seat_of(rt, &board, &shared, one);
+    add_seat(&board, &mut seats, one).expect(rt, "memory");
+    add_seat(&board, &mut seats, visitor).expect(rt, "memory");
+    add_seat(&board, &mut seats, closer).expect(rt, "memory");
+    lists_of(board, seats)
 }
 
 /// The packets of a list among lists, none beyond them.

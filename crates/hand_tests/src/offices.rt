@@ -88,7 +88,7 @@ fn transmit_of(
     alloc: Global,
     plan: &Plan,
     given: &Given,
-) -> Result<(Board, BoardSeat, BoardSeat), Fail>
+) -> Result<(Board, BoardSeat, BoardSeat), OutOfMemory>
     ensures desk { IfOk result (λ r. IsDesk 0 r.0 r.1 r.2 0) }
     ensures maps { IfOk result (λ r. HasTransmitSettings r.0.sizes given.now) }
     ensures room { IfOk result (λ r. r.0.sizes.room ≡ length given.now.packets) }
@@ -132,17 +132,13 @@ fn fill<R: Wait + Abort>(rt: &R, board: &Board, shared: &Shared, worker: &mut Wo
 pub fn office_of<R: Wait + Abort>(rt: &R, alloc: Global, flows: &[u8]) -> Result<Office, Fail> {
     let plan = read_plan(alloc, PLAN)?;
     let packets = packets_of(alloc, &plan, flows)?;
-    let mut bench = begun(rt, alloc, &plan, &packets)?;
+    let mut bench = begun(rt, alloc, &plan, &packets).expect(rt, "memory");
     let count = bench.shared.given.packet_count();
     arrive(rt, &mut bench.rings.0, 0, count);
     fill(rt, &bench.board, &bench.shared, &mut bench.zero, count);
-    let (transmit, transmit_seat, transmit_closer) = transmit_of(
-        rt,
-        alloc,
-        &plan,
-        &bench.shared.given,
-    )?;
-    let server = server_of(alloc, &plan, &bench.shared.given)?;
+    let desk = transmit_of(rt, alloc, &plan, &bench.shared.given);
+    let (transmit, transmit_seat, transmit_closer) = desk.expect(rt, "memory");
+    let server = server_of(alloc, &plan, &bench.shared.given).expect(rt, "memory");
     Ok(Office {
         receive: bench.board,
         receive_seat: bench.visitor,

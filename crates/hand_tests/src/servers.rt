@@ -93,7 +93,7 @@ fn packets_are_recorded_and_replied_to(rt: HostRuntime) -> Result<(), Fail> {
     );
     assert!(rt; socket_word(&mut office, 376) == 2);
     assert!(rt; socket_word(&mut office, 234) == 2);
-    let lists = transmitted(alloc, office)?;
+    let lists = transmitted(&rt, alloc, office);
     assert!(rt; accepted(&lists, 0) == [PacketId(0), PacketId(2)].as_slice());
     assert!(rt; accepted(&lists, 1) == [PacketId(1)].as_slice());
     Ok(())
@@ -122,7 +122,7 @@ fn a_packet_in_hand_waits_for_the_gate(rt: HostRuntime) -> Result<(), Fail> {
         &[sent(0, 0, 0)],
         &[first(0, 0, 0)],
     );
-    let lists = transmitted(alloc, office)?;
+    let lists = transmitted(&rt, alloc, office);
     assert!(rt; accepted(&lists, 0) == [PacketId(0)].as_slice());
     Ok(())
 }
@@ -153,7 +153,7 @@ fn a_packet_is_left_for_later(rt: HostRuntime) -> Result<(), Fail> {
         &[sent(0, 0, 0), sent(1, 1, 0)],
         &[first(0, 0, 0), first(1, 1, 0)],
     );
-    let lists = transmitted(alloc, office)?;
+    let lists = transmitted(&rt, alloc, office);
     assert!(rt; accepted(&lists, 0) == [PacketId(0), PacketId(1)].as_slice());
     Ok(())
 }
@@ -183,7 +183,7 @@ fn a_reply_waits_for_the_packets_queue(rt: HostRuntime) -> Result<(), Fail> {
         &[sent(0, 0, 1), sent(1, 1, 1)],
         &[first(0, 0, 1), first(1, 1, 0)],
     );
-    let lists = transmitted(alloc, office)?;
+    let lists = transmitted(&rt, alloc, office);
     assert!(rt; accepted(&lists, 0) == [PacketId(1)].as_slice());
     assert!(rt; accepted(&lists, 1) == [PacketId(0)].as_slice());
     Ok(())
@@ -199,7 +199,7 @@ fn an_empty_inbox_gives_nothing(rt: HostRuntime) -> Result<(), Fail> {
     works(&rt, &mut office, &RESTS);
     noted(&rt, &office, &[], &[], &[]);
     assert!(rt; socket_word(&mut office, 639) == 0);
-    let lists = transmitted(alloc, office)?;
+    let lists = transmitted(&rt, alloc, office);
     assert!(rt; accepted(&lists, 0).is_empty() && accepted(&lists, 1).is_empty());
     Ok(())
 }

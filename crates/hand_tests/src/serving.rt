@@ -11,7 +11,7 @@ use run_words::{HintWord, place_word};
 use std::alloc::Global;
 use std::process::Abort;
 use std::sync::Wait;
-use steer_base::{AppId, Chosen, CpuMask, OutOfMemory, PacketId, RxQueue};
+use steer_base::{AppId, Chosen, CpuMask, PacketId, RxQueue};
 
 /// The arrivals of two packets, each at a queue of its own.
 const ARRIVALS: [Arrival; 2] = [
@@ -199,7 +199,7 @@ pub fn socket_word(office: &mut Office, entry: u32) -> u64
 }
 
 /// The lists of the transmit board.
-pub fn transmitted(alloc: Global, office: Office) -> Result<BoardLists, OutOfMemory> {
+pub fn transmitted(rt: &impl Abort, alloc: Global, office: Office) -> BoardLists {
     let Office {
         transmit,
         transmit_seat,
@@ -207,9 +207,9 @@ pub fn transmitted(alloc: Global, office: Office) -> Result<BoardLists, OutOfMem
         ..
     } = office;
     let mut seats = Vec::new(alloc);
-    add_seat(&transmit, &mut seats, transmit_seat)?;
-    add_seat(&transmit, &mut seats, transmit_closer)?;
-    Ok(lists_of(transmit, seats))
+    add_seat(&transmit, &mut seats, transmit_seat).expect(rt, "memory");
+    add_seat(&transmit, &mut seats, transmit_closer).expect(rt, "memory");
+    lists_of(transmit, seats)
 }
 
 /// The packets that a lane accepted, none beyond the lanes.

@@ -127,7 +127,7 @@ fn each_packet_comes_once_and_in_order(rt: HostRuntime) -> Result<(), Fail> {
         closer,
         rings,
     };
-    let lists = closed(&rt, alloc, bench)?;
+    let lists = closed(&rt, alloc, bench);
     let (inbox_0, inbox_1) = (ids(&lists.outs, 0), ids(&lists.outs, 1));
     assert!(rt; (inbox_0.len(), inbox_1.len()) == (48, 16));
     assert!(rt; has_flow(inbox_0, 0) && has_flow(inbox_0, 2) && has_flow(inbox_0, 3));
