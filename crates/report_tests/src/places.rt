@@ -3,11 +3,11 @@ ghost use Rattle.std.specs.Prelude.{◌≤◌, length};
 ghost use Rattle.history.specs.Places.{IsInReach};
 
 use crate::equal::same;
-use crate::histories::{EMPTY, FULL, MOVED, NOTHING, Written, WrittenLane, arrived, history_of};
-use history::{Arrival, History, Place};
+use crate::histories::{EMPTY, FULL, MOVED, NOTHING, Written, WrittenLane, history_of};
+use history::{History, Place};
 use std::alloc::Global;
 use std::process::Abort;
-use steer_base::{AppId, Cpu, PacketId, RxQueue};
+use steer_base::{AppId, Cpu, PacketId};
 
 // A history with few lanes has each packet in reach.
 fn is_in_reach(h: &History, id: PacketId)
@@ -55,7 +55,11 @@ fn delivered_packets_are_in_the_inbox(rt: HostRuntime) {
 // One packet of queue 0 was taken.
 const TAKEN: Written = Written {
     total: 3,
-    arrivals: &[arrived!(0, 0), arrived!(1, 1), arrived!(2, 0)],
+    arrivals: &[
+        (0, 0, None, Some(0)),
+        (1, 1, None, Some(1)),
+        (2, 0, None, Some(0)),
+    ],
     taken: &[1],
     lanes: &[],
     ..NOTHING
@@ -70,14 +74,14 @@ fn the_poller_takes_the_first_of_its_queue(rt: HostRuntime) {
 // Two lanes accepted the packet.
 const TWICE: Written = Written {
     total: 1,
-    arrivals: &[arrived!(0, 0)],
+    arrivals: &[(0, 0, None, Some(0))],
     taken: &[1],
     lanes: &[EMPTY, ACCEPTED, ACCEPTED],
     ..NOTHING
 };
 
 const ACCEPTED: WrittenLane = WrittenLane {
-    accepted: &[PacketId(0)],
+    accepted: &[0],
     drops: &[],
     counts: (0, 0, 0),
 };

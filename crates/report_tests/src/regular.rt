@@ -2,15 +2,13 @@
 ghost use Rattle.std.specs.Prelude.{◌≤◌, length};
 
 use crate::histories::{
-    EMPTY, PLAIN, REPLIED, RETIRED, SEGMENT, Written, WrittenLane, chosen, classed, history_of,
+    EMPTY, PLAIN, REPLIED, RETIRED, SEGMENT, Written, WrittenLane, classed, history_of, list,
 };
-use history::{Commanded, History, Sent};
+use history::{Commanded, History};
 use history_check::is_regular;
 use std::alloc::Global;
 use std::process::Abort;
-use steer_base::{
-    Answer, Choice, Chosen, Command, Cpu, DropCause, Idle, LaneDrop, Packet, PacketId, RxQueue, Why,
-};
+use steer_base::{Answer, Choice, Command, DropCause, Idle, Packet, Why};
 
 // The one choice of packet 0 for a transmit queue, but for what is wrong.
 const FIRST: Choice = classed!(Some(0), None, 0, 0, Unset);
@@ -18,7 +16,7 @@ const FIRST: Choice = classed!(Some(0), None, 0, 0, Unset);
 // What is wrong in a history, and the history.
 type Faulty = (&'static str, Written);
 
-const FAULTY: [Faulty; 12] = [
+const FAULTY: [Faulty; 11] = [
     (
         "MoreTakenThanArrived",
         Written {
@@ -29,7 +27,7 @@ const FAULTY: [Faulty; 12] = [
     (
         "OtherLaneChosen",
         Written {
-            choices: &[&[chosen!(0, Choice { lane: 2, ..PLAIN })]],
+            choices: &[&[(0, Choice { lane: 2, ..PLAIN })]],
             ..REPLIED
         },
     ),
@@ -43,7 +41,7 @@ const FAULTY: [Faulty; 12] = [
     (
         "TwiceDelivered",
         Written {
-            inboxes: &[&[PacketId(0), PacketId(0)]],
+            inboxes: &[&[0, 0]],
             ..REPLIED
         },
     ),
@@ -57,23 +55,19 @@ const FAULTY: [Faulty; 12] = [
     (
         "OtherQueue",
         Written {
-            sent: &[&[Sent {
-                id: PacketId(0),
-                rxq: RxQueue(1),
-                cpu: Cpu(2),
-            }]],
+            sent: &[&[(0, 1, 2)]],
             ..REPLIED
         },
     ),
     (
         "NoClass",
         Written {
-            tx_choices: &[&[chosen!(
+            tx_choices: &[&[(
                 0,
                 Choice {
                     class: None,
                     ..FIRST
-                }
+                },
             )]],
             ..REPLIED
         },
@@ -81,12 +75,12 @@ const FAULTY: [Faulty; 12] = [
     (
         "NoWant",
         Written {
-            tx_choices: &[&[chosen!(
+            tx_choices: &[&[(
                 0,
                 Choice {
                     want: None,
                     ..FIRST
-                }
+                },
             )]],
             ..REPLIED
         },
@@ -105,21 +99,10 @@ const FAULTY: [Faulty; 12] = [
             ..REPLIED
         },
     ),
-    // A report cannot show this answer to a command.
-    (
-        "NoText",
-        Written {
-            commands: &[Commanded {
-                command: Command::Expire,
-                answer: Answer::Idle(Idle::Nothing),
-            }],
-            ..REPLIED
-        },
-    ),
     (
         "MoreInboxes",
         Written {
-            inboxes: &[&[PacketId(0)], &[]],
+            inboxes: &[&[0], &[]],
             ..REPLIED
         },
     ),
@@ -127,12 +110,7 @@ const FAULTY: [Faulty; 12] = [
 
 // The lane of packet 0, which was retired and dropped.
 const ALSO_DROPPED: WrittenLane = WrittenLane {
-    drops: &[LaneDrop {
-        id: PacketId(0),
-        accepted: 1,
-        pulled: 0,
-        cause: DropCause::Full,
-    }],
+    drops: &[(0, 1, 0, DropCause::Full)],
     ..RETIRED
 };
 
@@ -151,11 +129,19 @@ fn each_fault_is_irregular(rt: HostRuntime) {
     assert!(&rt; !has_passed(&rt, alloc, &whole, &[SEGMENT], 2));
     assert!(&rt; !has_passed(&rt, alloc, &whole, &[], 1));
     for (fault, written) in &FAULTY {
-        is_irregular(&rt, alloc, *fault, written);
+        is_irregular(&rt, alloc, *fault, &history_of(&rt, alloc, written));
     }
+    let mut without_text = whole;
+    without_text.commands = list(&rt, alloc, &[IDLE]);
+    is_irregular(&rt, alloc, "NoText", &without_text);
 }
 
-fn is_irregular(rt: &impl Abort, alloc: Global, fault: &str, written: &Written) {
-    let h = history_of(rt, alloc, written);
-    assert!(rt; !has_passed(rt, alloc, &h, &[SEGMENT], 1), "{fault}");
+// A command with an answer that a report cannot show.
+const IDLE: Commanded = Commanded {
+    command: Command::Expire,
+    answer: Answer::Idle(Idle::Nothing),
+};
+
+fn is_irregular(rt: &impl Abort, alloc: Global, fault: &str, h: &History) {
+    assert!(rt; !has_passed(rt, alloc, h, &[SEGMENT], 1), "{fault}");
 }

@@ -5,7 +5,7 @@ ghost use Rattle.report.specs.Made.{AreLinesOf};
 use crate::equal::same_items;
 use crate::histories::{
     DELIVERED, FILTERED, FULL, MOVED, MOVED_WRAPPED, NOTHING, REPLIED, REPLIED_WRAPPED, REPLYING,
-    SEGMENT, WAITING, Written, history_of, lines_of,
+    SEGMENT, WAITING, Written, history_of, lines_of, list,
 };
 use history::{Commanded, History, Lines};
 use outside_io::MemorySink;
@@ -47,10 +47,9 @@ pub(crate) fn reads(rt: &impl Abort, alloc: Global, h: &History, packets: &[Pack
 
 // The same of a history that is written out, of packets of one flow.
 fn is_reported(rt: &impl Abort, alloc: Global, written: &Written, wanted: &[u8]) {
-    let h = history_of(rt, alloc, written);
     let packets = Vec::from_elem(alloc, SEGMENT, written.total as usize).expect(rt, "memory");
     assert!(rt; packets.len() <= 262_144);
-    reads(rt, alloc, &h, &packets, wanted);
+    reads(rt, alloc, &history_of(rt, alloc, written), &packets, wanted);
 }
 
 #[test]
@@ -260,11 +259,10 @@ c 14 xqueues 1 0,15 done
 c 15 mask 0 - done
 end 0 of 0
 ";
-    let commanded = Written {
-        commands: &COMMANDS,
-        ..NOTHING
-    };
-    is_reported(&rt, rt.alloc(), &commanded, wanted);
+    let alloc = rt.alloc();
+    let mut h = history_of(&rt, alloc, &NOTHING);
+    h.commands = list(&rt, alloc, &COMMANDS);
+    reads(&rt, alloc, &h, &[], wanted);
 }
 
 // The texts of a tap of processors, which is shown two lines of four, and a tap of flows.
@@ -400,7 +398,9 @@ const WAITING_LINES: [&[u8]; 12] = [
 #[test]
 fn each_section_goes_out_line_by_line(rt: HostRuntime) {
     let alloc = rt.alloc();
-    let h = history_of(&rt, alloc, &WAITING);
+    let mut h = history_of(&rt, alloc, &WAITING);
+    let command = commanded!(Command::Mask(RxQueue(0), CpuMask(2)), Answer::Done);
+    h.commands = list(&rt, alloc, &[command]);
     let packets = [SEGMENT; 3];
     let lines = lines_of(&rt, alloc, &h, &packets, 1);
     let texts = [TapText {

@@ -2,8 +2,8 @@
 ghost use Rattle.std.specs.Prelude.{◌≡◌, length};
 
 use crate::equal::{same, same_items};
-use crate::histories::{NOTHING, PLAIN, SEGMENT, Written, arrived, history_of, lines_of};
-use history::{Arrival, History, Lines, PacketLine, Place, Via};
+use crate::histories::{NOTHING, PLAIN, SEGMENT, Written, history_of, lines_of};
+use history::{History, Lines, PacketLine, Place, Via};
 use std::alloc::Global;
 use std::cell::Cell;
 use std::process::Abort;
@@ -203,7 +203,11 @@ fn fed(alloc: Global, lines: &Lines, failing: u32) -> Result<(bool, u32, u32, u3
 // Three packets were taken from their queue, and not weighed.
 const IN_RING: Written = Written {
     total: 3,
-    arrivals: &[arrived!(0, 0), arrived!(1, 0), arrived!(2, 0)],
+    arrivals: &[
+        (0, 0, None, Some(0)),
+        (1, 0, None, Some(0)),
+        (2, 0, None, Some(0)),
+    ],
     taken: &[3],
     lanes: &[],
     ..NOTHING
