@@ -140,14 +140,16 @@ fn unsupported<T>() -> io::Result<T> {
     Err(io::Error::from(ErrorKind::Unsupported))
 }
 
+const READS: [(u32, Got); 4] = [
+    (0, Got::Bytes(1)),
+    (1, Got::Bytes(1)),
+    (TRIES - 1, Got::Bytes(1)),
+    (TRIES, Got::Failed),
+];
+
 #[test]
 fn an_interrupted_read_is_made_again(rt: HostRuntime) {
-    for (often, want) in [
-        (0, Got::Bytes(1)),
-        (1, Got::Bytes(1)),
-        (TRIES - 1, Got::Bytes(1)),
-        (TRIES, Got::Failed),
-    ] {
+    for &(often, want) in &READS {
         let mut desk = FileDesk::make(DisturbedFiles { often });
         same(&rt, &desk.begin("a"), &Begin::Ok, often as usize);
         let mut buffer = [0; 2];
@@ -161,35 +163,28 @@ fn an_interrupted_read_is_made_again(rt: HostRuntime) {
     same(&rt, &desk.read(&mut buffer), &Got::End, 2);
 }
 
+const WRITES: [(u32, Took, Result<(), WriteFault>); 4] = [
+    (0, Took::Bytes(4), Ok(())),
+    (1, Took::Bytes(4), Ok(())),
+    (TRIES - 1, Took::Bytes(4), Ok(())),
+    (TRIES, Took::Failed, Err(WriteFault)),
+];
+
 #[test]
-fn an_interrupted_write_is_made_again(rt: HostRuntime) {
-    for (often, want) in [
-        (0, Took::Bytes(4)),
-        (1, Took::Bytes(4)),
-        (TRIES - 1, Took::Bytes(4)),
-        (TRIES, Took::Failed),
-    ] {
+fn an_interrupted_write_or_flush_is_made_again(rt: HostRuntime) {
+    for &(often, took, flushed) in &WRITES {
         let mut out = StdSink::make(Disturbed::make(often));
-        same(&rt, &out.write(b"p 0\n"), &want, often as usize);
+        same(&rt, &out.write(b"p 0\n"), &took, often as usize);
+        let mut out = StdSink::make(Disturbed::make(often));
+        same(&rt, &out.flush(), &flushed, often as usize);
     }
 }
 
-#[test]
-fn an_interrupted_flush_is_made_again(rt: HostRuntime) {
-    for (often, want) in [
-        (0, Ok(())),
-        (1, Ok(())),
-        (TRIES - 1, Ok(())),
-        (TRIES, Err(WriteFault)),
-    ] {
-        let mut out = StdSink::make(Disturbed::make(often));
-        same(&rt, &out.flush(), &want, often as usize);
-    }
-}
+const BUFFERED: [(u32, Result<(), WriteFault>); 2] = [(1_000, Ok(())), (TRIES, Err(WriteFault))];
 
 #[test]
 fn interruptions_without_end_end_a_buffered_write(rt: HostRuntime) -> Result<(), Fail> {
-    for (often, want) in [(1_000, Ok(())), (TRIES, Err(WriteFault))] {
+    for &(often, want) in &BUFFERED {
         let behind = StdSink::make(Disturbed::make(often));
         let mut out = BufferedSink::make(rt.alloc(), 4, behind)?;
         same(&rt, &out.write(b"p 0\n"), &Took::Bytes(4), often as usize);

@@ -28,20 +28,21 @@ fn sets_are_made(rt: HostRuntime) {
     same(&rt, &some.without(Cpu(1)), &some, 6);
 }
 
+const HEADS: [(u32, u32, u32, bool); 9] = [
+    (0u32, 0u32, 0u32, true),
+    (4294967294, 4294967295, 0, false),
+    (4294967294, 0, 0, false),
+    (1, 1, 0, true),
+    (1, 4294967294, 3, true),
+    (1, 4294967294, 4, false),
+    (0, 4294967295, 1, true),
+    (2147483647, 0, 400000, true),
+    (2147483648, 0, 0, false),
+];
+
 #[test]
 fn a_head_reaches_a_tail_across_the_wrap(rt: HostRuntime) {
-    let cases = [
-        (0u32, 0u32, 0u32, true),
-        (4294967294, 4294967295, 0, false),
-        (4294967294, 0, 0, false),
-        (1, 1, 0, true),
-        (1, 4294967294, 3, true),
-        (1, 4294967294, 4, false),
-        (0, 4294967295, 1, true),
-        (2147483647, 0, 400000, true),
-        (2147483648, 0, 0, false),
-    ];
-    for (head, tail, more, wanted) in cases {
+    for &(head, tail, more, wanted) in &HEADS {
         assert!(rt; more <= 400000);
         same(
             &rt,
@@ -52,36 +53,38 @@ fn a_head_reaches_a_tail_across_the_wrap(rt: HostRuntime) {
     }
 }
 
+const SIZES: [(u32, u32); 7] = [
+    (0u32, 0u32),
+    (1, 1),
+    (3, 4),
+    (256, 256),
+    (257, 512),
+    (32767, 32768),
+    (65536, 65536),
+];
+
 #[test]
 fn sizes_are_rounded_up(rt: HostRuntime) {
-    let cases = [
-        (0u32, 0u32),
-        (1, 1),
-        (3, 4),
-        (256, 256),
-        (257, 512),
-        (32767, 32768),
-        (65536, 65536),
-    ];
-    for (given, wanted) in cases {
+    for &(given, wanted) in &SIZES {
         assert!(rt; given <= 65536);
         same(&rt, &round_up(given), &wanted, given as usize);
     }
 }
 
+const DIGITS: [(&str, Option<u128>); 8] = [
+    ("0", Some(0u128)),
+    ("007", Some(7)),
+    ("1234567890", Some(1_234_567_890)),
+    ("12345678901", None),
+    ("", None),
+    ("+1", None),
+    ("1 ", None),
+    ("0x1", None),
+];
+
 #[test]
 fn digits_make_a_number(rt: HostRuntime) {
-    let cases = [
-        ("0", Some(0u128)),
-        ("007", Some(7)),
-        ("1234567890", Some(1_234_567_890)),
-        ("12345678901", None),
-        ("", None),
-        ("+1", None),
-        ("1 ", None),
-        ("0x1", None),
-    ];
-    for (text, wanted) in cases {
+    for &(text, wanted) in &DIGITS {
         same(
             &rt,
             &(text, decimal_number(text.as_bytes(), 10)),
@@ -97,16 +100,17 @@ fn digits_make_a_number(rt: HostRuntime) {
     );
 }
 
+const PLACES: [(Option<u32>, u32, Option<u32>); 5] = [
+    (Some(0x51cc_c178u32), 128u32, Some(120u32)),
+    (Some(4294967295), 4096, Some(4095)),
+    (Some(7), 1, Some(0)),
+    (Some(7), 0, None),
+    (None, 8, None),
+];
+
 #[test]
 fn a_hash_has_a_place(rt: HostRuntime) {
-    let cases = [
-        (Some(0x51cc_c178u32), 128u32, Some(120u32)),
-        (Some(4294967295), 4096, Some(4095)),
-        (Some(7), 1, Some(0)),
-        (Some(7), 0, None),
-        (None, 8, None),
-    ];
-    for (hash, size, place) in cases {
+    for &(hash, size, place) in &PLACES {
         same(
             &rt,
             &(hash, place_of_hash(hash, size)),

@@ -151,6 +151,24 @@ fn captured(alloc: Global, count: u32) -> Result<Vec<u8>, OutOfMemory> {
     Ok(bytes)
 }
 
+const CLAUSES: [(Change, Option<u8>); 15] = [
+    (Change::TotalOfMore, Some(1u8)),
+    (Change::NoEntry, Some(2)),
+    (Change::OtherReason, Some(3)),
+    (Change::UnwrittenWant, Some(4)),
+    (Change::HeadBeyondRetired, Some(5)),
+    (Change::PulledBeforeDrop, Some(6)),
+    (Change::NotDelivered, Some(7)),
+    (Change::InboxTurned, Some(7)),
+    (Change::NotRetired, Some(8)),
+    (Change::OtherWriter, Some(9)),
+    (Change::Commanded, Some(10)),
+    (Change::OtherSender, Some(11)),
+    (Change::OtherPick, Some(11)),
+    (Change::PortTurned, Some(11)),
+    (Change::Nothing, None),
+];
+
 #[test]
 fn each_clause_fails_for_its_own_reason(rt: HostRuntime) -> Result<(), Fail> {
     let alloc = rt.alloc();
@@ -158,24 +176,7 @@ fn each_clause_fails_for_its_own_reason(rt: HostRuntime) -> Result<(), Fail> {
     let capture = read_capture(alloc, &bytes)?;
     let found = packets(alloc, &capture, &bytes, &verification_key(), Kinds(2))?;
     let plan = read_plan(alloc, PLAN)?;
-    let cases = [
-        (Change::TotalOfMore, Some(1u8)),
-        (Change::NoEntry, Some(2)),
-        (Change::OtherReason, Some(3)),
-        (Change::UnwrittenWant, Some(4)),
-        (Change::HeadBeyondRetired, Some(5)),
-        (Change::PulledBeforeDrop, Some(6)),
-        (Change::NotDelivered, Some(7)),
-        (Change::InboxTurned, Some(7)),
-        (Change::NotRetired, Some(8)),
-        (Change::OtherWriter, Some(9)),
-        (Change::Commanded, Some(10)),
-        (Change::OtherSender, Some(11)),
-        (Change::OtherPick, Some(11)),
-        (Change::PortTurned, Some(11)),
-        (Change::Nothing, None),
-    ];
-    for (change, wanted) in cases {
+    for &(change, wanted) in &CLAUSES {
         let h = changed(&rt, alloc, change);
         let failed = first_failed(&rt, alloc, &plan, &found, &h);
         same(&rt, &failed, &wanted, usize::from(wanted.unwrap_or(0)));

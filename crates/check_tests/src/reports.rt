@@ -83,22 +83,23 @@ fn is_of(rt: &impl Abort, alloc: Global, bytes: &[u8], start: u32, h: &History) 
     is_report(alloc, bytes, &[SEGMENT], 1, start, h, &[]).expect(rt, "memory")
 }
 
+const CASES: [(&[u8], bool); 5] = [
+    (REPORT, true),
+    (UNENDED, false),
+    (LONGER, false),
+    (ELSEWHERE, false),
+    (OTHERWISE, false),
+];
+
 #[test]
 fn a_report_is_its_bytes(rt: HostRuntime) {
     let alloc = rt.alloc();
     let h = replied(&rt, alloc);
-    let cases = [
-        (REPORT, true),
-        (UNENDED, false),
-        (LONGER, false),
-        (ELSEWHERE, false),
-        (OTHERWISE, false),
-    ];
-    for (case, (bytes, wanted)) in cases.iter().enumerate() {
+    for (case, (bytes, wanted)) in CASES.iter().enumerate() {
         same(&rt, &is_of(&rt, alloc, *bytes, 0, &h), wanted, case);
     }
     // The counters of the history begin at 0.
-    same(&rt, &is_of(&rt, alloc, REPORT, 1, &h), &false, cases.len());
+    same(&rt, &is_of(&rt, alloc, REPORT, 1, &h), &false, CASES.len());
 }
 
 #[test]

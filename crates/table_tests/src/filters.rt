@@ -8,31 +8,35 @@ use std::alloc::Global;
 use std::test::Fail;
 use steer_base::{Cpu, Filter, MAX_FLOW_COUNT, RxQueue, Why};
 
+const MOVES: [(Why, u8, Option<(u8, u8)>); 7] = [
+    (Why::Unset, 1, Some((1, 1))),
+    (Why::Offline, 2, Some((0, 2))),
+    (Why::Passed, 1, Some((1, 1))),
+    // No queue has its home here.
+    (Why::Passed, 3, None),
+    // The class did not move.
+    (Why::Same, 1, None),
+    (Why::Kept, 1, None),
+    (Why::Plain, 1, None),
+];
+
 #[test]
 fn a_move_to_a_home_writes_a_filter(rt: HostRuntime) {
     let homes = [Cpu(2), Cpu(1), Cpu(1)];
-    let filter = |queue, cpu| {
-        Some(Filter {
-            queue: RxQueue(queue),
-            cpu: Cpu(cpu),
-            mark: 9,
-        })
-    };
-    let cases = [
-        (Why::Unset, 1u8, filter(1, 1)),
-        (Why::Offline, 2, filter(0, 2)),
-        (Why::Passed, 1, filter(1, 1)),
-        // No queue has its home here.
-        (Why::Passed, 3, None),
-        // The class did not move.
-        (Why::Same, 1, None),
-        (Why::Kept, 1, None),
-        (Why::Plain, 1, None),
-    ];
-    for (why, cpu, wanted) in cases {
+    for &(why, cpu, wanted) in &MOVES {
         let found = filter_written(&homes, why, Cpu(cpu), 9);
-        same(&rt, &(why, found), &(why, wanted), cpu as usize);
+        same(&rt, &(why, found), &(why, filter_of(wanted)), cpu as usize);
     }
+}
+
+// The filter of a queue and a processor, with the mark 9.
+fn filter_of(row: Option<(u8, u8)>) -> Option<Filter> {
+    let (queue, cpu) = row?;
+    Some(Filter {
+        queue: RxQueue(queue),
+        cpu: Cpu(cpu),
+        mark: 9,
+    })
 }
 
 const HASH: u32 = 0x51cc_c178;
@@ -83,23 +87,24 @@ fn goes(alloc: Global, head: u32, entries: u32) -> Result<(bool, bool), Fail>
     Ok((expired, table.look(HASH).is_none()))
 }
 
+const MARKS: [(u32, u32, bool); 9] = [
+    (4294967294u32, 1u32, false),
+    (4294967295, 0, true),
+    (0, 1, true),
+    // With two entries the head must be ten past the mark: at 9.
+    (0, 2, false),
+    (8, 2, false),
+    (9, 2, true),
+    (9, 3, false),
+    // Half of the number range past the mark is behind it.
+    (2147483646, 1, true),
+    (2147483647, 1, false),
+];
+
 #[test]
 fn marks_wrap(rt: HostRuntime) -> Result<(), Fail> {
     // The counters start at 4294967294, so the first accepted packet is at 4294967295.
-    let cases = [
-        (4294967294u32, 1u32, false),
-        (4294967295, 0, true),
-        (0, 1, true),
-        // With two entries the head must be ten past the mark: at 9.
-        (0, 2, false),
-        (8, 2, false),
-        (9, 2, true),
-        (9, 3, false),
-        // Half of the number range past the mark is behind it.
-        (2147483646, 1, true),
-        (2147483647, 1, false),
-    ];
-    for (head, entries, wanted) in cases {
+    for &(head, entries, wanted) in &MARKS {
         assert!(rt; entries <= MAX_FLOW_COUNT);
         let gone = goes(rt.alloc(), head, entries)?;
         same(

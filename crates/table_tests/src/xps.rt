@@ -9,27 +9,28 @@ const A: u32 = 0x51cc_c178;
 
 const D: u32 = 0xafc7_327f;
 
+const PICKS: [(u8, u8, Option<u32>, u8); 9] = [
+    // The candidates are 1 and 2: A is even and D is odd.
+    (0u8, 2u8, Some(A), 1u8),
+    (0, 2, Some(D), 2),
+    (0, 2, None, 1),
+    // No map has receive queue 1, and the map of transmit queue 3 has processor 2.
+    (1, 2, Some(A), 3),
+    (1, 2, Some(D), 3),
+    (1, 2, None, 3),
+    // No map has either, so all four are candidates: A is 0 and D is 3 modulo 4.
+    (1, 1, Some(A), 0),
+    (1, 1, Some(D), 3),
+    (1, 1, None, 0),
+];
+
 #[test]
 fn receive_queue_maps_come_first(rt: HostRuntime) {
     let mut maps = XpsMaps::make(4);
     maps.set_queues(TxQueue(1), 0b1);
     maps.set_queues(TxQueue(2), 0b1);
     maps.set_cpus(TxQueue(3), CpuMask(0b100));
-    let cases = [
-        // The candidates are 1 and 2: A is even and D is odd.
-        (0u8, 2u8, Some(A), 1u8),
-        (0, 2, Some(D), 2),
-        (0, 2, None, 1),
-        // No map has receive queue 1, and the map of transmit queue 3 has processor 2.
-        (1, 2, Some(A), 3),
-        (1, 2, Some(D), 3),
-        (1, 2, None, 3),
-        // No map has either, so all four are candidates: A is 0 and D is 3 modulo 4.
-        (1, 1, Some(A), 0),
-        (1, 1, Some(D), 3),
-        (1, 1, None, 0),
-    ];
-    for (rxq, cpu, hash, wanted) in cases {
+    for &(rxq, cpu, hash, wanted) in &PICKS {
         picks(&rt, &maps, (rxq, cpu, hash), wanted);
     }
 }
