@@ -116,10 +116,10 @@ module _ (t : StageView) (tally : Tally) where
           each = λ w y there x was.
               let q = image-at worker_at after w y there in
               let p = image-at worker_at before w x was in
-              let goes = (worked.each w q.0 q.1.0 p.0 p.1.0).goes in
-              subst (λ (z : Seated). GoesOn t x.worker z.worker x.seats z.seats) q.1.1
+              let goes = (worked.each w q.0 q.1 p.0 p.1).goes in
+              subst (λ (z : Seated). GoesOn t x.worker z.worker x.seats z.seats) q.2
               (subst (λ (z : Seated). GoesOn t z.worker q.0.seated.worker z.seats
-              q.0.seated.seats) p.1.1 goes);
+              q.0.seated.seats) p.2 goes);
         }
 
     -- their hands are empty
@@ -166,14 +166,14 @@ module _ (t : StageView) (tally : Tally) where
       told-theirs : StoreAtMostTheirs counts (map seat_at after)
       told-theirs k s there =
           let q = image-at seat_at after k s there in
-          let p = post-before k q.0 q.1.0 in
-          let is = (worked.each k q.0 q.1.0 p.0 p.1).counts.is in
+          let p = post-before k q.0 q.1 in
+          let is = (worked.each k q.0 q.1 p.0 p.1).counts.is in
           let own : StoresAtMost k (finished_by q.0.seated.worker) q.0.counter.seat.steps =
           subst (λ n. StoresAtMost n (finished_by q.0.seated.worker) q.0.counter.seat.steps)
-          (numbered k q.0 q.1.0) is.stores in (
+          (numbered k q.0 q.1) is.stores in (
             finished_by q.0.seated.worker,
-            at-image (λ (z : Post). finished_by z.seated.worker) after k q.0 q.1.0,
-            subst (λ (z : Hint). StoresAtMost k (finished_by q.0.seated.worker) z.steps) q.1.1
+            at-image (λ (z : Post). finished_by z.seated.worker) after k q.0 q.1,
+            subst (λ (z : Hint). StoresAtMost k (finished_by q.0.seated.worker) z.steps) q.2
                 own,
           )
 
@@ -236,8 +236,8 @@ module _ (t : StageView) (tally : Tally) where
               | inl saw ↦ inl saw
               | inr all ↦ inr (λ w x there.
                   let q = image-at worker_at after w x there in
-                  subst (λ (z : Seated). MAX_IDLE_TURNS ≤ look_count z.seats.hint.steps) q.1.1
-                  (all w q.0 q.1.0))
+                  subst (λ (z : Seated). MAX_IDLE_TURNS ≤ look_count z.seats.hint.steps) q.2
+                  (all w q.0 q.1))
             ]
 
 -- ---- the start
