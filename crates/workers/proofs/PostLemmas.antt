@@ -254,7 +254,8 @@ new-seat-at z n (suc count) zero s there =
     (sym (ap (λ (h : Hint). h.table) is), sym (ap (λ (h : Hint). h.steps) is))
 new-seat-at z n (suc count) (suc k) s there = new-seat-at z (n + 1) count k s there
 
-pub new-seats-count : (z : TableId) (n count : ℕ) → length (new_seats z n count) ≡ count
+pub new-seats-count : (z : TableId) (n count : ℕ)
+    → length (new_seats {D = HintStep} z n count) ≡ count
 new-seats-count z n zero = refl
 new-seats-count z n (suc count) = ap suc (new-seats-count z (n + 1) count)
 
