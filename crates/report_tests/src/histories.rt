@@ -381,10 +381,6 @@ pub(crate) const WAITING: Written = Written {
     arrivals: &[(0, 0, None, Some(0)), (1, 0, None, Some(0))],
     lanes: &[EMPTY, EMPTY],
     writes: &[&[(3, 1)]],
-    commands: &[Commanded {
-        command: Command::Mask(RxQueue(0), CpuMask(2)),
-        answer: Answer::Done,
-    }],
     ..NOTHING
 };
 
