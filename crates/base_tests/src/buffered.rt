@@ -50,16 +50,16 @@ impl Write for Listed<'_> {
 // six calls failed.
 fn write_pieces(alloc: Global, writer: Listed) -> Result<u32, Fail> {
     let mut out = BufferedSink::make(alloc, 4, StdSink::make(writer))?;
-    let mut failed = 0;
+    let mut failed = 0_u32;
     let pieces: [&[u8]; 4] = [b"ab", b"cd", b"e", b"fghij"];
     for piece in pieces {
         if write_whole(&mut out, piece) == Err(WriteFault) {
-            failed += 1;
+            failed = failed.saturating_add(1);
         }
     }
     for _ in 0..2 {
         if out.flush() == Err(WriteFault) {
-            failed += 1;
+            failed = failed.saturating_add(1);
         }
     }
     Ok(failed)
