@@ -51,8 +51,18 @@ fn the_flow_limit_drops(rt: HostRuntime) -> Result<(), Fail> {
 
 fn is_limited(rt: &impl Abort, lane: &LaneList) {
     has_counts(rt, lane, 152, 49);
-    same(rt, &lane.accepted.as_slice().get(150), &Some(&PacketId(150)), 1);
-    same(rt, &lane.accepted.as_slice().get(151), &Some(&PacketId(200)), 2);
+    same(
+        rt,
+        &lane.accepted.as_slice().get(150),
+        &Some(&PacketId(150)),
+        1,
+    );
+    same(
+        rt,
+        &lane.accepted.as_slice().get(151),
+        &Some(&PacketId(200)),
+        2,
+    );
     has_drop(rt, lane, 0, 151, 152);
     has_drop(rt, lane, 48, 199, 200);
 }

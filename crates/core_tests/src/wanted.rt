@@ -167,5 +167,10 @@ fn is_lane(rt: &impl Abort, lane: &LaneList, accepted: &[u32], counts: [u32; 4])
     are_packets(rt, &lane.accepted, accepted);
     let [pulled, delivered, retired, dropped] = counts;
     let found = (lane.pulled, lane.delivered, lane.retired, lane.drops.len());
-    same(rt, &found, &(pulled, delivered, retired, dropped as usize), 0);
+    same(
+        rt,
+        &found,
+        &(pulled, delivered, retired, dropped as usize),
+        0,
+    );
 }
