@@ -1,8 +1,7 @@
 -- Workers that have finished all packets have a full count.
-use Rattle.std.proofs.Common.{◌≡◌, ℕ, zero, suc, ◌+◌, ◌-◌, ◌*◌, ◌/◌, ◌%◌, ◌<◌, ◌≤◌, List, []}
+use Rattle.std.proofs.Common.{◌≡◌, ℕ, suc, ◌+◌, ◌-◌, ◌*◌, ◌/◌, ◌%◌, ◌<◌, ◌≤◌, List, []}
 use Rattle.std.proofs.Common.{◌∷◌, Option, Some, None, length, sym, refl, ap, ◌∙◌, arith}
 use Rattle.std.specs.Prelude.{slice_get}
-use Rattle.std.specs.List.{sum_by}
 use Rattle.std.proofs.lemmas.List.{length-map}
 use Rattle.linearization.specs.Orders.{StepBy, steps_of}
 use Rattle.steer_base.specs.declared.put.Put.{Put}
@@ -18,7 +17,7 @@ use Rattle.run_workers.specs.Actors.{actor_at}
 use Rattle.run_workers.specs.Hands.Pollers.{count_after}
 use Rattle.run_workers.specs.Records.Polling.{IsPolling, PolledTurn, accepted_turns}
 use Rattle.run_workers.specs.Stages.{StageView}
-use Rattle.run_workers.specs.Tally.{dropped_in, finished_by, retired_in}
+use Rattle.run_workers.specs.Tally.{dropped_in, retired_in}
 use Rattle.run_workers.specs.declared.drain.Drain.{Drain}
 use Rattle.run_workers.specs.declared.poller.Poller.{Poller}
 use Rattle.run_crew.specs.CountLaws.{IsFull, accepted_of, actor_of, chosen_of, played, retired_of}

@@ -1,4 +1,4 @@
-use Rattle.std.proofs.Common.{◌≡◌, ◌∙◌, ap, false, length, refl, subst, sym, true}
+use Rattle.std.proofs.Common.{◌∙◌, ap, length, refl, subst, sym}
 use Rattle.run_crew.specs.CountLaws.{IsFull}
 use Rattle.run_crew.specs.Sweeps.{all_free}
 use Rattle.run_crew.proofs.RoundLemmas.{all_after, both_ways, go_both, go_first}
