@@ -13,9 +13,9 @@ use Rattle.linearization.proofs.seat.OrderedSeat.TheSendSync as ordered
 use Rattle.run_words.proofs.Crosses.{shared_part_sync as shared_sync}
 use Rattle.run_workers.specs.contracts.stage.Stage as stage
 use Rattle.run_workers.proofs.worker.Worker.TheSendSync as worker
-use Rattle.run_crew.specs.contracts.seated.Seated.{the_row as seated_row}
+use Rattle.run_crew.specs.contracts.seated.Seated as seated
 use Rattle.hint_words.proofs.hints.Hints.TheSendSync as hints
-use Rattle.run_workers.specs.contracts.tally.Counter.{the_row as counter_row}
+use Rattle.run_workers.specs.contracts.tally.Counter as counter
 use Rattle.run_workers.specs.contracts.tally.Tally.{the_row as tally_row}
 use Rattle.workers.specs.contracts.posts.Post as post
 
@@ -28,8 +28,11 @@ stage_sync =
     let all : AllSync (fields T) = (board_sync, (board_sync, (shared_sync, (late_sync, tt)))) in
     recorded_sync _ _ _ T.to_one (struct_sync (shape T) all)
 
-pub seated_send : IsSend seated_row
-seated_send = search (
+pub tally_sync : IsSync tally_row
+tally_sync = search (sendable, crosses, hints.the_sync) depth 60
+
+seated_part_send : IsSend (seated.the_field).row
+seated_part_send = search (
   sendable,
   crosses,
   worker.the_field_send,
@@ -37,11 +40,8 @@ seated_send = search (
   ordered.the_send,
 ) depth 60
 
-pub tally_sync : IsSync tally_row
-tally_sync = search (sendable, crosses, hints.the_sync) depth 60
-
-counter_send : IsSend counter_row
-counter_send = search (sendable, crosses, ordered.the_send) depth 60
+counter_part_send : IsSend (counter.the_field).row
+counter_part_send = search (sendable, crosses, ordered.the_send) depth 60
 
 pub post_send : IsSend post.the_row
-post_send = search (sendable, crosses, seated_send, counter_send) depth 60
+post_send = search (sendable, crosses, seated_part_send, counter_part_send) depth 60

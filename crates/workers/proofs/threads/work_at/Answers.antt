@@ -1,3 +1,4 @@
+use Rattle.std.proofs.Common.{length}
 use Rattle.workers.proofs.PostLemmas.{seen-or-looked}
 use Rattle.workers.proofs.threads.work_at.Goals as goal
 
@@ -7,6 +8,8 @@ returns g c =
       goes = c.work.ensures.goes;
       counts = c.work.ensures.counts;
       free = c.work.ensures.free;
-      ended = seen-or-looked _ _ _ _ _ c.work.result c.work.ensures.finished
+      ended = seen-or-looked c.args.tally.now.workers
+          (length c.args.stage.now.shared.given.packets) c.args.post.now.seated.seats
+          c.work.new.seats c.work.new.counter c.work.result c.work.ensures.finished
           c.work.ensures.idle;
     }
