@@ -1,4 +1,4 @@
-use Rattle.std.proofs.Common.{◌≡◌, true, length, map, subst, sym, ap, ◌∙◌}
+use Rattle.std.proofs.Common.{◌≡◌, true, [], length, map, subst, sym, ap, ◌∙◌}
 use Rattle.hint_words.specs.Loads.{LoadsAreStored}
 use Rattle.steer_base.specs.Journals.{journal}
 use Rattle.plan_reader.specs.declared.plan.Plan.{Plan}
@@ -15,21 +15,21 @@ use Rattle.workers.proofs.PostLemmas.{seats-of-tally, worker_at}
 use Rattle.workers.proofs.ends.run_all.Goals as goal
 
 pub man-posts-requires-clause-counters : goal.man-posts-requires-clause-counters
-man-posts-requires-clause-counters g c κs within =
-    let start : IsStart g.i.plan g.i.packets g.i.cut c.args.run = search in
-    let posts : ArePosts g.i.plan.workers c.args.posts = search in
+man-posts-requires-clause-counters g c =
+    let start : IsStart g.i.plan g.i.packets g.i.cut c.args.run = c.requires.1.1.1.1.1.1.0 in
+    let posts : ArePosts g.i.plan.workers c.args.posts = c.requires.1.1.1.1.1.1.1 in
     posts.count ∙ sym start.crew.count
 
 pub man-posts-requires-clause-posts : goal.man-posts-requires-clause-posts
-man-posts-requires-clause-posts g c κs within =
-    let start : IsStart g.i.plan g.i.packets g.i.cut c.args.run = search in
-    let posts : ArePosts g.i.plan.workers c.args.posts = search in
+man-posts-requires-clause-posts g c =
+    let start : IsStart g.i.plan g.i.packets g.i.cut c.args.run = c.requires.1.1.1.1.1.1.0 in
+    let posts : ArePosts g.i.plan.workers c.args.posts = c.requires.1.1.1.1.1.1.1 in
     posts.posts ∙ ap (journal []) (sym start.crew.count)
 
 pub run_beside-wire-requires-clause-posts : goal.run_beside-wire-requires-clause-posts
 run_beside-wire-requires-clause-posts g c κs within =
-    let start : IsStart g.i.plan g.i.packets g.i.cut c.args.run = search in
-    let posts : ArePosts g.i.plan.workers c.args.posts = search in
+    let start : IsStart g.i.plan g.i.packets g.i.cut c.args.run = c.requires.1.1.1.1.1.1.0 in
+    let posts : ArePosts g.i.plan.workers c.args.posts = c.requires.1.1.1.1.1.1.1 in
     let work = first-work g.i c.args.run start c.boards_have_their_settings.ensures in
     can-be-manned (workers_stage c.args.run.stage) c.args.posts g.i.plan.workers
     c.args.run.crew.items c.man-posts.result.items posts start.crew.count work.some work.work
@@ -37,25 +37,25 @@ run_beside-wire-requires-clause-posts g c κs within =
 
 pub run_beside-wire-requires-clause-wire : goal.run_beside-wire-requires-clause-wire
 run_beside-wire-requires-clause-wire g c κs within =
-    let start : IsStart g.i.plan g.i.packets g.i.cut c.args.run = search in
+    let start : IsStart g.i.plan g.i.packets g.i.cut c.args.run = c.requires.1.1.1.1.1.1.0 in
     wire-can g.i c.args.run start c.boards_have_their_settings.ensures
 
 pub run_beside-wire-requires-clause-controller : goal.run_beside-wire-requires-clause-controller
 run_beside-wire-requires-clause-controller g c κs within =
-    let start : IsStart g.i.plan g.i.packets g.i.cut c.args.run = search in
-    let plan : g.i.plan ≡ c.args.plan.now = search in
+    let start : IsStart g.i.plan g.i.packets g.i.cut c.args.run = c.requires.1.1.1.1.1.1.0 in
+    let plan : g.i.plan ≡ c.args.plan.now = c.requires.1.1.1.1.0 in
     subst (λ (p : Plan). ControllerCan p (stage c.args.run.stage.shared c.args.run.stage.rx
     c.args.run.stage.tx) c.args.run.controller) plan
     (controller-can g.i c.args.run start c.boards_have_their_settings.ensures)
 
 pub close-requires-clause-is : goal.close-requires-clause-is
-close-requires-clause-is g c κs within =
-    let posts : ArePosts g.i.plan.workers c.args.posts = search in posts.is_tally
+close-requires-clause-is g c =
+    let posts : ArePosts g.i.plan.workers c.args.posts = c.requires.1.1.1.1.1.1.1 in posts.is_tally
 
 pub close-requires-clause-seats : goal.close-requires-clause-seats
-close-requires-clause-seats g c κs within =
-    let start : IsStart g.i.plan g.i.packets g.i.cut c.args.run = search in
-    let posts : ArePosts g.i.plan.workers c.args.posts = search in
+close-requires-clause-seats g c =
+    let start : IsStart g.i.plan g.i.packets g.i.cut c.args.run = c.requires.1.1.1.1.1.1.0 in
+    let posts : ArePosts g.i.plan.workers c.args.posts = c.requires.1.1.1.1.1.1.1 in
     let work = first-work g.i c.args.run start c.boards_have_their_settings.ensures in
     let t = workers_stage c.args.run.stage in
     let can : CanBeManned t c.args.posts.tally c.man-posts.result.items =
