@@ -340,7 +340,11 @@ fn flushing(alloc: Global, fails: bool) -> Result<Flushed, Fail> {
 
 // What the command on this capture comes to, and how often its text and its line were flushed. No
 // flush of the line succeeds.
-fn flushed(alloc: Global, capture: &[u8], fails: bool) -> Result<(Outcome, (u64, u64)), Fail> {
+fn outcome_with_flushes(
+    alloc: Global,
+    capture: &[u8],
+    fails: bool,
+) -> Result<(Outcome, (u64, u64)), Fail> {
     let mut desk = desk_of(alloc, &[("a.pcap", capture)], &[])?;
     let mut out = flushing(alloc, fails)?;
     let mut err = flushing(alloc, true)?;
@@ -353,12 +357,12 @@ fn flushed(alloc: Global, capture: &[u8], fails: bool) -> Result<(Outcome, (u64,
 fn a_text_and_a_line_are_flushed_once_and_a_flush_may_fail(rt: HostRuntime) -> Result<(), Fail> {
     let alloc = rt.alloc();
     let bytes = joined(alloc, &ONE)?;
-    let (got, flushes) = flushed(alloc, &bytes, false)?;
+    let (got, flushes) = outcome_with_flushes(alloc, &bytes, false)?;
     same(&rt, &(got.status, flushes), &(0, (1, 1)), 0);
-    let (got, flushes) = flushed(alloc, &bytes, true)?;
+    let (got, flushes) = outcome_with_flushes(alloc, &bytes, true)?;
     same(&rt, &flushes, &(1, 1), 1);
     comes_to(&rt, &got, 6, LINE_A, b"write fault\n", 1);
-    let (got, flushes) = flushed(alloc, front(&HEADER, 23), true)?;
+    let (got, flushes) = outcome_with_flushes(alloc, front(&HEADER, 23), true)?;
     same(&rt, &(got.status, flushes), &(4, (0, 1)), 2);
     Ok(())
 }
