@@ -121,19 +121,32 @@ fn has_passed(rt: &impl Abort, alloc: Global, h: &History, packets: &[Packet], a
     is_regular(alloc, h, packets, apps).expect(rt, "memory")
 }
 
+// This is regular as it is, and not with another number of applications or without its packet.
+fn is_regular_alone(rt: &impl Abort, alloc: Global, whole: &History) {
+    assert!(rt; has_passed(rt, alloc, whole, &[SEGMENT], 1));
+    assert!(rt; !has_passed(rt, alloc, whole, &[SEGMENT], 2));
+    assert!(rt; !has_passed(rt, alloc, whole, &[], 1));
+}
+
+fn written_is_irregular(rt: &impl Abort, alloc: Global, fault: &str, written: &Written) {
+    let h = history_of(rt, alloc, written);
+    is_irregular(rt, alloc, fault, &h);
+}
+
 #[test]
 fn each_fault_is_irregular(rt: HostRuntime) {
-    let alloc = rt.alloc();
-    let whole = history_of(&rt, alloc, &REPLIED);
-    assert!(&rt; has_passed(&rt, alloc, &whole, &[SEGMENT], 1));
-    assert!(&rt; !has_passed(&rt, alloc, &whole, &[SEGMENT], 2));
-    assert!(&rt; !has_passed(&rt, alloc, &whole, &[], 1));
+    let whole = history_of(&rt, rt.alloc(), &REPLIED);
+    is_regular_alone(&rt, rt.alloc(), &whole);
     for (fault, written) in &FAULTY {
-        is_irregular(&rt, alloc, *fault, &history_of(&rt, alloc, written));
+        written_is_irregular(&rt, rt.alloc(), *fault, written);
     }
-    let mut without_text = whole;
-    without_text.commands = list(&rt, alloc, &[IDLE]);
-    is_irregular(&rt, alloc, "NoText", &without_text);
+}
+
+#[test]
+fn an_answer_without_a_text_is_irregular(rt: HostRuntime) {
+    let mut without_text = history_of(&rt, rt.alloc(), &REPLIED);
+    without_text.commands = list(&rt, rt.alloc(), &[IDLE]);
+    is_irregular(&rt, rt.alloc(), "NoText", &without_text);
 }
 
 // A command with an answer that a report cannot show.
