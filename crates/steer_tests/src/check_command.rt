@@ -46,10 +46,11 @@ fn checked(
 ) -> Result<Outcome, Fail> {
     let plan = plan_of(alloc, settings, steps)?;
     let capture = capture_of(alloc, letters)?;
+    let report = report.to_vec(alloc)?;
     let files = [
         ("p.json", plan.as_slice()),
         ("a.pcap", capture.as_slice()),
-        ("r.txt", report),
+        ("r.txt", report.as_slice()),
     ];
     called_over(alloc, &CHECK, &files, &[])
 }
@@ -214,10 +215,12 @@ fn reports_of_replays_are_judged(rt: HostRuntime) -> Result<(), Fail> {
 /// writes fail.
 fn failing(alloc: Global, capture: &[u8], reads: &[u64], writes: &[u64]) -> Result<Outcome, Fail> {
     let plan = plan_of(alloc, ONE_FLOW, FOUR_STEPS)?;
+    let capture = capture.to_vec(alloc)?;
+    let report = Vec::new(alloc);
     let files = [
         ("p.json", plan.as_slice()),
-        ("a.pcap", capture),
-        ("r.txt", b"".as_slice()),
+        ("a.pcap", capture.as_slice()),
+        ("r.txt", report.as_slice()),
     ];
     let mut desk = desk_of(alloc, &files, reads)?;
     called_failing(alloc, &CHECK, &mut desk, writes, &[])
