@@ -16,7 +16,7 @@ const FIRST: Choice = classed!(Some(0), None, 0, 0, Unset);
 // What is wrong in a history, and the history.
 type Faulty = (&'static str, Written);
 
-const FAULTY: [Faulty; 11] = [
+const FAULTY_PACKETS: [Faulty; 3] = [
     (
         "MoreTakenThanArrived",
         Written {
@@ -38,6 +38,9 @@ const FAULTY: [Faulty; 11] = [
             ..REPLIED
         },
     ),
+];
+
+const FAULTY_INBOXES: [Faulty; 3] = [
     (
         "TwiceDelivered",
         Written {
@@ -53,12 +56,15 @@ const FAULTY: [Faulty; 11] = [
         },
     ),
     (
-        "OtherQueue",
+        "MoreInboxes",
         Written {
-            sent: &[&[(0, 1, 2)]],
+            inboxes: &[&[0], &[]],
             ..REPLIED
         },
     ),
+];
+
+const FAULTY_CHOICES: [Faulty; 3] = [
     (
         "NoClass",
         Written {
@@ -92,17 +98,20 @@ const FAULTY: [Faulty; 11] = [
             ..REPLIED
         },
     ),
+];
+
+const FAULTY_REPLIES: [Faulty; 2] = [
     (
-        "NotQueued",
+        "OtherQueue",
         Written {
-            tx_lanes: &[EMPTY],
+            sent: &[&[(0, 1, 2)]],
             ..REPLIED
         },
     ),
     (
-        "MoreInboxes",
+        "NotQueued",
         Written {
-            inboxes: &[&[0], &[]],
+            tx_lanes: &[EMPTY],
             ..REPLIED
         },
     ),
@@ -134,12 +143,35 @@ fn written_is_irregular(rt: &impl Abort, alloc: Global, fault: &str, written: &W
 }
 
 #[test]
-fn each_fault_is_irregular(rt: HostRuntime) {
+fn only_a_whole_history_is_regular(rt: HostRuntime) {
     let whole = history_of(&rt, rt.alloc(), &REPLIED);
     is_regular_alone(&rt, rt.alloc(), &whole);
-    for (fault, written) in &FAULTY {
-        written_is_irregular(&rt, rt.alloc(), *fault, written);
+}
+
+fn are_irregular(rt: &impl Abort, alloc: Global, faulty: &[Faulty]) {
+    for (fault, written) in faulty {
+        written_is_irregular(rt, alloc, *fault, written);
     }
+}
+
+#[test]
+fn packets_in_two_places_are_irregular(rt: HostRuntime) {
+    are_irregular(&rt, rt.alloc(), &FAULTY_PACKETS);
+}
+
+#[test]
+fn inboxes_of_other_packets_are_irregular(rt: HostRuntime) {
+    are_irregular(&rt, rt.alloc(), &FAULTY_INBOXES);
+}
+
+#[test]
+fn choices_without_their_fields_are_irregular(rt: HostRuntime) {
+    are_irregular(&rt, rt.alloc(), &FAULTY_CHOICES);
+}
+
+#[test]
+fn replies_elsewhere_are_irregular(rt: HostRuntime) {
+    are_irregular(&rt, rt.alloc(), &FAULTY_REPLIES);
 }
 
 #[test]
